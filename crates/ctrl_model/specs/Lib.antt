@@ -1,0 +1,3 @@
+pub mod NameForm
+pub mod Words
+pub mod Walks

@@ -1,0 +1,23 @@
+//! The words of the controller: names and lists of them, commands, replies and refusals, and the definitions of what the
+//! controller is. Every other crate cites these definitions, so they are what a reader must believe.
+#![tactic(auto)]
+
+mod claims;
+mod commands;
+mod kinds;
+mod numbering;
+mod refusals;
+mod replies;
+mod texts;
+mod worked;
+
+pub use claims::{Explanation, Potentials, Reach, Reaches};
+pub use commands::Command;
+pub use kinds::{Kind, Precedence, Relation, Role, RouterSeen, Semantic, Side, Who};
+pub use numbering::{
+    CircuitNo, IdentityNo, LinkNo, Numbers, PolicyNo, RouterNo, ServiceNo, TermNo,
+};
+pub use refusals::{Denial, Field, Reason, Refusal};
+pub use replies::{Reply, Tallies, Tally};
+pub use texts::{Bytes, Instance, Name, NameFault, Names};
+pub use worked::names_and_words;

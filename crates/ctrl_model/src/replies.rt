@@ -1,0 +1,138 @@
+ghost use Rattle.std.specs.Prelude.{◌≡◌, IfOk};
+
+use crate::claims::Explanation;
+use crate::numbering::{CircuitNo, Numbers, TermNo};
+use crate::refusals::Refusal;
+use crate::texts::{Name, Names};
+use std::alloc::{AllocError, Global};
+use std::marker::Model;
+
+/// A name and how many policies grant it.
+#[derive(Debug, Drop)]
+pub struct Tally {
+    pub name: Name,
+    pub count: u32,
+}
+
+impl Tally {
+    /// An equal tally.
+    pub fn copy(&self) -> Result<Tally, AllocError>
+        ensures { IfOk result (λ t. t ≡ self.now) }
+    {
+        let name = self.name.copy()?;
+        Ok(Tally {
+            name,
+            count: self.count,
+        })
+    }
+}
+
+/// A list of tallies. Contracts see the list.
+#[derive(Debug, Drop)]
+pub struct Tallies {
+    pub items: Vec<Tally>,
+}
+
+impl Model for Tallies {
+    ghost use Rattle.std.specs.Prelude.{List};
+    ghost use Rattle.ctrl_model.specs.declared.replies.Tally.{Tally};
+
+    ghost Value = { List Tally };
+
+    ghost view = { λ t. t.items.items };
+}
+
+fn copy_tallies(alloc: Global, tallies: &[Tally]) -> Result<Vec<Tally>, AllocError>
+    ensures { IfOk result (λ v. v.items ≡ tallies.now) }
+{
+    let mut copied = Vec::new(alloc);
+    for tally in tallies {
+        copied.push(tally.copy()?)?;
+    }
+    Ok(copied)
+}
+
+impl Tallies {
+    /// The tallies of a vector.
+    pub fn of(items: Vec<Tally>) -> Tallies
+        ensures { result ≡ items.items }
+    {
+        Tallies { items }
+    }
+
+    /// The tallies as a slice.
+    pub fn as_slice(&self) -> &[Tally]
+        ensures { result.now ≡ self.now }
+    {
+        self.items.as_slice()
+    }
+
+    /// An equal list.
+    pub fn copy(&self) -> Result<Tallies, AllocError>
+        ensures { IfOk result (λ t. t ≡ self.now) }
+    {
+        let items = copy_tallies(*self.items.allocator(), self.items.as_slice())?;
+        Ok(Tallies { items })
+    }
+}
+
+/// The reply to a command (docs/FORMATS.md, "Replies").
+#[derive(Debug, Drop)]
+pub enum Reply {
+    /// To Hello.
+    Empty,
+    /// The command was carried out, and there is nothing to show.
+    Done,
+    /// A record was made, with this number within its kind.
+    Made {
+        no: u32,
+    },
+    /// A circuit was granted.
+    Circuit {
+        circuit: CircuitNo,
+        ingress: Name,
+        links: Numbers,
+        terminator: TermNo,
+        total: u32,
+    },
+    /// The route that a circuit would get, with what shows that it is the least.
+    Explained {
+        ingress: Name,
+        claim: Explanation,
+    },
+    /// Whether a claimed route is certified.
+    Verified {
+        certified: bool,
+    },
+    /// The services that an identity may dial.
+    Services {
+        names: Names,
+    },
+    /// What an identity is granted, each with its count.
+    Grants {
+        bind: Tallies,
+        dial: Tallies,
+        routers: Tallies,
+    },
+    /// A circuit.
+    Shown {
+        identity: Name,
+        ingress: Name,
+        links: Numbers,
+        service: Name,
+        terminator: TermNo,
+    },
+    /// How many there are of each kind, and of granted pairs.
+    Counts {
+        circuits: u32,
+        grants: u64,
+        identities: u32,
+        links: u32,
+        policies: u32,
+        routers: u32,
+        services: u32,
+        terminators: u32,
+    },
+    /// The command was refused, and nothing changed.
+    Refused(Refusal),
+}

@@ -1,0 +1,15 @@
+//! What the controller asks of the world outside: a source of input bytes, and a desk that takes replies and notes.
+//!
+//! The traits say what each call may do and when it may fail. Everything above reaches the world through them alone, so
+//! a proof above holds over memory, over files and over whatever else meets them.
+#![tactic(auto)]
+
+mod desk;
+mod failed;
+mod laws;
+mod source;
+
+pub use desk::{Desk, Part};
+pub use failed::Failed;
+pub use laws::worked_examples;
+pub use source::Source;
