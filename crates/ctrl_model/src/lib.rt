@@ -20,4 +20,8 @@ pub use numbering::{
 pub use refusals::{Denial, Field, Reason, Refusal};
 pub use replies::{Reply, Tallies, Tally};
 pub use texts::{Bytes, Instance, Name, NameFault, Names};
-pub use worked::names_and_words;
+pub use worked::{
+    a_circuit_on_a_line, a_nearer_terminator, counted_grants, deleted_and_made_again, denials,
+    equal_paths, hosts, limits_and_links, names_and_words, no_traversal, permissions, precedences,
+    role_lists,
+};

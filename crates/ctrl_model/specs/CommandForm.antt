@@ -1,0 +1,124 @@
+-- Which commands some body spells: the kinds, ranges and lengths of their fields (docs/FORMATS.md, "Commands").
+use Rattle.std.specs.Prelude.{ℕ, ◌+◌, Bool, true, false, not, ◌&&◌, ◌||◌, ◌==◌, nat_le, nat_lt, List, [], ◌∷◌, length, codes, None, Some}
+use Rattle.std.specs.declared.option.Option.{Option}
+use Rattle.std.specs.Option.{option_map_or}
+use Rattle.std.specs.List.{list_all}
+use Rattle.ctrl_model.specs.declared.commands.Command.{Command}
+use Rattle.ctrl_model.specs.declared.commands.Command.TheVariants as command
+use Rattle.ctrl_model.specs.declared.kinds.Side.{Side}
+use Rattle.ctrl_model.specs.declared.kinds.Relation.{Relation}
+use Rattle.ctrl_model.specs.declared.kinds.Relation.TheVariants.{Dial, Bind, IdentityRouter, ServiceRouter}
+use Rattle.ctrl_model.specs.declared.claims.Reach.{Reach}
+use Rattle.ctrl_model.specs.NameForm.{is_name, is_instance}
+use Rattle.ctrl_model.specs.Matches.{has_name, is_nothing}
+
+-- A number in a range, its ends included.
+abbrev pub in_range : ℕ → ℕ → ℕ → Bool
+in_range low high n = nat_le low n && nat_le n high
+
+-- No name stands twice in a list.
+abbrev pub is_distinct : List (List ℕ) → Bool
+is_distinct [] = true
+is_distinct (n ∷ ns) = not (has_name ns n) && is_distinct ns
+
+-- A list of names without repeats.
+abbrev pub are_names : List (List ℕ) → Bool
+are_names ns = list_all is_name ns && is_distinct ns
+
+-- A list of attributes: at most 64 names without repeats.
+abbrev pub are_attributes : List (List ℕ) → Bool
+are_attributes ns = nat_le (length ns) 64 && are_names ns
+
+-- A side as it may be stored: `#all` stands alone, and there are at most 64 entries without repeats.
+abbrev pub is_stored_side : Side → Bool
+is_stored_side side =
+    (not side.all || (is_nothing side.ids && is_nothing side.attributes))
+    && (nat_le (length side.ids + length side.attributes) 64 && (are_names side.ids && are_names side.attributes))
+
+-- A side that a role list says: no entry refers to an attribute named `all`.
+abbrev pub is_side : Side → Bool
+is_side side = is_stored_side side && not (has_name side.attributes (codes "all"))
+
+-- A relation that a service policy may have.
+abbrev pub is_service_relation : Relation → Bool
+is_service_relation Dial = true
+is_service_relation Bind = true
+is_service_relation IdentityRouter = false
+is_service_relation ServiceRouter = false
+
+-- A cost of a router or of a terminator.
+abbrev pub is_cost : ℕ → Bool
+is_cost n = in_range 0 65535 n
+
+-- The static cost of a link, and the least router cost.
+abbrev pub is_link_cost : ℕ → Bool
+is_link_cost n = in_range 1 65535 n
+
+-- The latency that one end of a link reports.
+abbrev pub is_latency : ℕ → Bool
+is_latency n = in_range 0 60000 n
+
+-- The number of a record.
+abbrev pub is_number : ℕ → Bool
+is_number n = in_range 1 4294967295 n
+
+-- A name that may be left out.
+abbrev pub is_name_or_none : Option (List ℕ) → Bool
+is_name_or_none n = option_map_or is_name n true
+
+-- A value of a claim: a number of 32 bits, or no path.
+abbrev pub is_value : ℕ → Bool
+is_value n = nat_le n 4294967295 || (n == 18446744073709551615)
+
+-- An entry of a claim: at most 256 values.
+abbrev pub is_reach : Reach → Bool
+is_reach e = is_number e.router.0 && (nat_le (length e.values) 256 && list_all is_value e.values)
+
+-- Some numbers of records, at most so many.
+abbrev pub are_numbers : ℕ → List ℕ → Bool
+are_numbers most ns = nat_le (length ns) most && list_all is_number ns
+
+-- Whether some body spells a command.
+abbrev pub is_spelled : Command → Bool
+is_spelled command.Hello = true
+is_spelled (command.CreateIdentity name attributes) = is_name name && are_attributes attributes
+is_spelled (command.UpdateIdentity name attributes) = is_name name && are_attributes attributes
+is_spelled (command.DeleteIdentity name) = is_name name
+is_spelled (command.CreateService name attributes) = is_name name && are_attributes attributes
+is_spelled (command.UpdateService name attributes) = is_name name && are_attributes attributes
+is_spelled (command.DeleteService name) = is_name name
+is_spelled (command.CreateRouter name attributes cost no_traversal) = is_name name && (are_attributes attributes && is_cost cost)
+is_spelled (command.UpdateRouter name attributes cost no_traversal) = is_name name && (are_attributes attributes && is_cost cost)
+is_spelled (command.DeleteRouter name) = is_name name
+is_spelled (command.ConnectRouter name) = is_name name
+is_spelled (command.DisconnectRouter name) = is_name name
+is_spelled (command.CreateServicePolicy name relation semantic left right) = is_name name && (is_service_relation relation && (is_side left && is_side right))
+is_spelled (command.UpdateServicePolicy name relation semantic left right) = is_name name && (is_service_relation relation && (is_side left && is_side right))
+is_spelled (command.DeleteServicePolicy name) = is_name name
+is_spelled (command.CreateEdgeRouterPolicy name semantic left right) = is_name name && (is_side left && is_side right)
+is_spelled (command.UpdateEdgeRouterPolicy name semantic left right) = is_name name && (is_side left && is_side right)
+is_spelled (command.DeleteEdgeRouterPolicy name) = is_name name
+is_spelled (command.CreateServiceEdgeRouterPolicy name semantic left right) = is_name name && (is_side left && is_side right)
+is_spelled (command.UpdateServiceEdgeRouterPolicy name semantic left right) = is_name name && (is_side left && is_side right)
+is_spelled (command.DeleteServiceEdgeRouterPolicy name) = is_name name
+is_spelled (command.CreateLink name a b cost latency_a latency_b) = is_name name && (is_name a && (is_name b && (is_link_cost cost && (is_latency latency_a && is_latency latency_b))))
+is_spelled (command.SetLinkCost link cost) = is_name link && is_link_cost cost
+is_spelled (command.ReportLatency link router latency) = is_name link && (is_name router && is_latency latency)
+is_spelled (command.ReportState link router up) = is_name link && is_name router
+is_spelled (command.DeleteLink link) = is_name link
+is_spelled (command.SetLeastRouterCost cost) = is_link_cost cost
+is_spelled (command.CreateTerminator service router instance host cost precedence) = is_name service && (is_name router && (is_instance instance && (is_name_or_none host && is_cost cost)))
+is_spelled (command.UpdateTerminator n cost precedence) = is_number n && is_cost cost
+is_spelled (command.DeleteTerminator n) = is_number n
+is_spelled (command.CreateCircuit identity service ingress instance) = is_name identity && (is_name service && (is_name_or_none ingress && is_instance instance))
+is_spelled (command.DeleteCircuit n) = is_number n
+is_spelled (command.Explain identity service ingress instance) = is_name identity && (is_name service && (is_name_or_none ingress && is_instance instance))
+is_spelled (command.VerifyRoute identity service ingress instance chosen links potentials routers terminator total) =
+    is_name identity && (is_name service && (is_name_or_none ingress && (is_instance instance && (is_name chosen
+    && (are_numbers 255 links && (nat_le (length potentials) 256 && (list_all is_reach potentials
+    && (are_numbers 256 routers && (is_number terminator && nat_le total 4294967295)))))))))
+is_spelled (command.ShowGrants identity) = is_name identity
+is_spelled (command.ListServices identity) = is_name identity
+is_spelled command.ShowCounts = true
+is_spelled (command.ShowCircuit n) = is_number n
+is_spelled command.Compact = true

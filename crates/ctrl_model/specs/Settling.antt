@@ -1,0 +1,43 @@
+-- Settling: what stands no longer is removed after each change (docs/RULES.md, "Settling").
+use Rattle.std.specs.Prelude.{ℕ, Bool, true, false, ◌&&◌, List, filter}
+use Rattle.std.specs.Option.{option_map_or}
+use Rattle.ctrl_model.specs.Numbered.{at, is_present}
+use Rattle.ctrl_model.specs.State.{State, Link, Terminator, Circuit}
+use Rattle.ctrl_model.specs.Networks.{network_of, is_path}
+
+-- A link stays whose two routers are present.
+abbrev pub link_stays : State → ℕ × Link → Bool
+link_stays s row = is_present s.routers row.1.a && is_present s.routers row.1.b
+
+-- A terminator stays whose service and router are present, and its host, if it has one.
+abbrev pub terminator_stays : State → ℕ × Terminator → Bool
+terminator_stays s row =
+    is_present s.services row.1.service
+    && (is_present s.routers row.1.router && option_map_or (is_present s.identities) row.1.host true)
+
+-- The links are still a path from the circuit's ingress to its terminator's router.
+abbrev pub circuit_reaches : State → Circuit → Terminator → Bool
+circuit_reaches s c e = is_path (network_of s) c.ingress c.links e.router
+
+-- A circuit stays whose identity, service and terminator are present and whose links are still a path from its ingress to
+-- the terminator's router.
+abbrev pub circuit_stays : State → ℕ × Circuit → Bool
+circuit_stays s row =
+    is_present s.identities row.1.identity
+    && (is_present s.services row.1.service && option_map_or (circuit_reaches s row.1) (at s.terminators row.1.terminator) false)
+
+-- The first filter.
+abbrev pub settle_links : State → State
+settle_links s = record s { links = filter (link_stays s) s.links }
+
+-- The second filter.
+abbrev pub settle_terminators : State → State
+settle_terminators s = record s { terminators = filter (terminator_stays s) s.terminators }
+
+-- The third filter.
+abbrev pub settle_circuits : State → State
+settle_circuits s = record s { circuits = filter (circuit_stays s) s.circuits }
+
+-- The state settled: links, then terminators, then circuits are filtered.
+abbrev pub settle : State → State
+settle s = settle_circuits (settle_terminators (settle_links s))

@@ -1,0 +1,75 @@
+-- The commands on terminators (docs/RULES.md, "Commands on terminators").
+use Rattle.std.specs.Prelude.{ℕ, ◌+◌, Bool, true, false, not, List, None, Some, is_none}
+use Rattle.std.specs.declared.option.Option.{Option}
+use Rattle.std.specs.Option.{option_map_or}
+use Rattle.ctrl_model.specs.declared.kinds.Kind.TheVariants as kind
+use Rattle.ctrl_model.specs.declared.kinds.Precedence.{Precedence}
+use Rattle.ctrl_model.specs.declared.kinds.Relation.TheVariants.{Bind}
+use Rattle.ctrl_model.specs.declared.refusals.Field.TheVariants as field
+use Rattle.ctrl_model.specs.declared.refusals.Refusal.{Refusal}
+use Rattle.ctrl_model.specs.declared.refusals.Refusal.TheVariants.{Full, NotBindable, Unknown}
+use Rattle.ctrl_model.specs.declared.replies.Reply.{Reply}
+use Rattle.ctrl_model.specs.declared.replies.Reply.TheVariants.{Done, Made}
+use Rattle.ctrl_model.specs.Numbered.{is_present, with_last, edit_at, without}
+use Rattle.ctrl_model.specs.State.{State, Terminator, entity_named, router_named}
+use Rattle.ctrl_model.specs.Grants.{is_granted}
+use Rattle.ctrl_model.specs.Rules.{or_then, refuse_if, carried_out, unknown_if_absent, at_number, has_room}
+
+-- The number of the host that a terminator names; none where it names none.
+abbrev pub host_number : State → Option (List ℕ) → Option ℕ
+host_number s host = option_map_or (entity_named s.identities) host None
+
+-- A terminator names a host that is absent.
+abbrev pub is_host_absent : State → Option (List ℕ) → Bool
+is_host_absent s host = option_map_or (λ name. is_none (entity_named s.identities name)) host false
+
+-- A host lacks Bind on the service.
+abbrev pub lacks_bind : State → Option ℕ → Option ℕ → Bool
+lacks_bind s host service = option_map_or (λ h. option_map_or (λ n. not (is_granted Bind s h n)) service false) host false
+
+-- Making a terminator adds it under the next number.
+abbrev pub after_create_terminator : List ℕ → List ℕ → List ℕ → Option (List ℕ) → ℕ → Precedence → State → State
+after_create_terminator service router instance host cost precedence s =
+    at_number (entity_named s.services service) s (λ n. at_number (router_named s.routers router) s (λ r. record s {
+      terminators = with_last s.terminators s.next_terminator
+          (record { service = n; router = r; instance = instance; host = host_number s host; cost = cost; precedence = precedence });
+      next_terminator = s.next_terminator + 1;
+    }))
+
+-- A terminator is not made where its service, its router or its host is absent, where 4,096 are present, or where its host
+-- lacks Bind on the service.
+abbrev pub refusal_of_create_terminator : List ℕ → List ℕ → Option (List ℕ) → State → Option Refusal
+refusal_of_create_terminator service router host s =
+    or_then (unknown_if_absent field.Service (entity_named s.services service))
+    (or_then (unknown_if_absent field.Router (router_named s.routers router))
+    (or_then (refuse_if (is_host_absent s host) (Unknown field.Host))
+    (or_then (refuse_if (not (has_room 4096 s.terminators s.next_terminator)) (Full kind.Terminator))
+    (refuse_if (lacks_bind s (host_number s host) (entity_named s.services service)) NotBindable))))
+
+-- The answer to CreateTerminator.
+abbrev pub create_terminator : List ℕ → List ℕ → List ℕ → Option (List ℕ) → ℕ → Precedence → State → Reply × State
+create_terminator service router instance host cost precedence s =
+    carried_out (refusal_of_create_terminator service router host s) s (Made s.next_terminator)
+    (after_create_terminator service router instance host cost precedence s)
+
+-- The refusal of a number that no terminator has.
+abbrev pub no_such_terminator : ℕ → State → Option Refusal
+no_such_terminator n s = refuse_if (not (is_present s.terminators n)) (Unknown field.No)
+
+-- Updating a terminator replaces its cost and its precedence.
+abbrev pub after_update_terminator : ℕ → ℕ → Precedence → State → State
+after_update_terminator n cost precedence s =
+    record s { terminators = edit_at s.terminators n (λ e. record e { cost = cost; precedence = precedence }) }
+
+-- The answer to UpdateTerminator.
+abbrev pub update_terminator : ℕ → ℕ → Precedence → State → Reply × State
+update_terminator n cost precedence s =
+    carried_out (no_such_terminator n s) s Done (after_update_terminator n cost precedence s)
+
+-- Deleting a terminator removes it.
+abbrev pub after_delete_terminator : ℕ → State → State
+after_delete_terminator n s = record s { terminators = without s.terminators n }
+
+-- The answer to DeleteTerminator.
+abbrev pub delete_terminator : ℕ → State → Reply × State
+delete_terminator n s = carried_out (no_such_terminator n s) s Done (after_delete_terminator n s)
