@@ -1,2 +1,6 @@
 pub mod Members
 pub mod WalkLaws
+pub mod PathLaws
+pub mod BestLaws
+pub mod CandidateLaws
+pub mod RuleLaws

@@ -1,10 +1,11 @@
 -- Membership in a list by recursion on the list, and what it says of lists that are made of others.
 -- The laws named `by_..` give what follows from a membership; so what a membership gives is a variable there.
-use Rattle.std.proofs.Common.{◌≡◌, ℕ, zero, suc, ◌<◌, ◌==◌, ◌||◌, Bool, true, false, cond, ◌⊎◌, inl, inr, ⊎_elim, List, [], ◌∷◌, ◌++◌, map, length, get_or, Option, Some, refl, sym, ◌∙◌, ap, subst, arith, eqb-true, eq-eqb}
+use Rattle.std.proofs.Common.{◌≡◌, ℕ, zero, suc, ◌<◌, ◌==◌, ◌||◌, ◌&&◌, Bool, true, false, cond, ◌⊎◌, ◌↔◌, inl, inr, ⊎_elim, List, [], ◌∷◌, ◌++◌, map, length, get_or, Option, Some, None, refl, sym, ◌∙◌, ap, subst, arith, eqb-true, eq-eqb}
 use Rattle.std.proofs.lemmas.Bool.{and_parts, and_from, or_cases, cases_eq, cond-true, false≢true}
 use Rattle.std.proofs.lemmas.Option.{same_Some}
 use Rattle.std.specs.List.{list_all, list_any, flat_map, filter, find, AllByRecursion}
 use Rattle.ctrl_model.specs.Membership.{Among}
+use Rattle.ctrl_model.specs.Numbered.{at, numbers}
 use Rattle.ctrl_model.specs.Walks.{is_among}
 
 pub Among-append_left : {X : Type 0} (xs ys : List X) (x : X) → Among x xs → Among x (xs ++ ys)
@@ -102,6 +103,26 @@ find_among p (z ∷ xs) x e = found (p z) (find p xs) z x (Among x xs) e (find_a
     found : {X : Type 0} (b : Bool) (o : Option X) (z x : X) (M : Type 0) → cond b (Some z) o ≡ Some x → (o ≡ Some x → M) → (z ≡ x) ⊎ M
     found true o z x M e k = inl (same_Some z x e)
     found false o z x M e k = inr (k e)
+
+pub at-among : {R : Type 0} (rows : List (ℕ × R)) (n : ℕ) (r : R) → at rows n ≡ Some r → Among n (numbers rows)
+at-among [] n r e = absurd (cc)
+at-among (x ∷ rows) n r e = found (x.0 == n) (at rows n) refl e (at-among rows n r)
+  where
+    found : (b : Bool) (o : Option _) → (x.0 == n) ≡ b → cond b (Some x.1) o ≡ Some r → (o ≡ Some r → Among n (numbers rows)) → Among n (numbers (x ∷ rows))
+    found true o is e k = inl (eqb-true x.0 n is)
+    found false o is e k = inr (k e)
+
+-- ---- what a test keeps
+
+-- what is there only where a test passes
+pub by_kept : {A P : Type 0} (b : Bool) (o : Option A) (x : A) → cond b o None ≡ Some x → (b ≡ true → o ≡ Some x → P) → P
+by_kept true o x e k = k refl e
+by_kept false o x e k = absurd (cc)
+
+-- a list that is there only where a test passes has the elements that pass both that test and another
+pub guarded : {X : Type 0} (b g : Bool) (xs : List X) (x : X) → (b ≡ true → Among x xs ↔ (g ≡ true)) → Among x (cond b xs []) ↔ ((b && g) ≡ true)
+guarded true g xs x k = k refl
+guarded false g xs x k = (λ h. absurd h, λ e. absurd (false≢true e))
 
 -- ---- the test of membership
 
