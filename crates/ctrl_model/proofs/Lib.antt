@@ -4,3 +4,4 @@ pub mod PathLaws
 pub mod BestLaws
 pub mod CandidateLaws
 pub mod RuleLaws
+pub mod PlainPathLaws

@@ -7,6 +7,7 @@ pub mod State
 pub mod Matches
 pub mod Grants
 pub mod Networks
+pub mod PlainPaths
 pub mod Choices
 pub mod Claims
 pub mod Settling

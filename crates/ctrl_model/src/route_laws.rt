@@ -1,11 +1,18 @@
 ghost use Rattle.std.specs.Prelude.{◌≡◌, ◌↔◌, ℕ, List, true, None, Some};
 ghost use Rattle.ctrl_model.specs.Membership.{Among};
 ghost use Rattle.ctrl_model.specs.Networks.{Network, is_path, paths};
+ghost use Rattle.ctrl_model.specs.PlainPaths.{IsPlainPath};
 ghost use Rattle.ctrl_model.specs.Choices.{Ask, Candidate, IsCandidate, IsBest, IsGranted, best, first_rule};
 
 /// A list of links is among the enumerated paths exactly where it is a path.
 pub fn each_path()
     ensures { (w : Network) (r t : ℕ) (links : List ℕ) → (Among links (paths w r t) ↔ (is_path w r links t ≡ true)) }
+{}
+
+/// The test of a path says what a path is by the routers that it visits: each link is usable and leads on from the router
+/// before, no router is visited twice, both ends are present and connected, and each one between may be passed through.
+pub fn plain_path()
+    ensures { (w : Network) (r t : ℕ) (links : List ℕ) → ((is_path w r links t ≡ true) ↔ IsPlainPath w r links t) }
 {}
 
 /// The best candidate is a candidate that none precedes, any candidate that none precedes is it, and there is none exactly
