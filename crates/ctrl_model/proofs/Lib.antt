@@ -3,5 +3,6 @@ pub mod WalkLaws
 pub mod PathLaws
 pub mod BestLaws
 pub mod CandidateLaws
+pub mod PairLaws
 pub mod RuleLaws
 pub mod PlainPathLaws

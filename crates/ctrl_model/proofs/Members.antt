@@ -1,7 +1,7 @@
 -- Membership in a list by recursion on the list, and what it says of lists that are made of others.
 -- The laws named `by_..` give what follows from a membership; so what a membership gives is a variable there.
-use Rattle.std.proofs.Common.{◌≡◌, ℕ, zero, suc, ◌<◌, ◌==◌, ◌||◌, ◌&&◌, Bool, true, false, cond, ◌⊎◌, ◌↔◌, inl, inr, ⊎_elim, List, [], ◌∷◌, ◌++◌, map, length, get_or, Option, Some, None, refl, sym, ◌∙◌, ap, subst, arith, eqb-true, eq-eqb}
-use Rattle.std.proofs.lemmas.Bool.{and_parts, and_from, or_cases, cases_eq, cond-true, false≢true}
+use Rattle.std.proofs.Common.{◌≡◌, ℕ, zero, suc, ◌<◌, ◌==◌, ◌||◌, ◌&&◌, Bool, true, false, cond, ◌⊎◌, ◌↔◌, inl, inr, ⊎_elim, List, [], ◌∷◌, ◌++◌, map, length, get_or, Option, Some, None, refl, sym, ◌∙◌, ap, ap₂, subst, arith, eqb-true, eq-eqb}
+use Rattle.std.proofs.lemmas.Bool.{and_parts, and_from, or_cases, or_left, or_right, cases_eq, cond-true, false≢true}
 use Rattle.std.proofs.lemmas.Option.{same_Some}
 use Rattle.std.specs.List.{list_all, list_any, flat_map, filter, find, AllByRecursion}
 use Rattle.ctrl_model.specs.Membership.{Among}
@@ -81,6 +81,15 @@ by_list_any p [] a k = absurd (false≢true a)
 by_list_any p (z ∷ xs) a k =
     ⊎_elim (λ e. k z (inl refl) e) (λ e. by_list_any p xs e (λ x m. k x (inr m))) (or_cases (p z) (list_any p xs) a)
 
+pub list_any-from_among : {X : Type 0} (p : X → Bool) (xs : List X) (x : X) → Among x xs → p x ≡ true → list_any p xs ≡ true
+list_any-from_among p [] x h e = absurd h
+list_any-from_among p (z ∷ xs) x (inl s) e = or_left (p z) (list_any p xs) (ap p s ∙ e)
+list_any-from_among p (z ∷ xs) x (inr h) e = or_right (p z) (list_any p xs) (list_any-from_among p xs x h e)
+
+pub empty_list : {X : Type 0} (xs : List X) → ((x : X) → Among x xs → ⊥) → xs ≡ []
+empty_list [] k = refl
+empty_list (x ∷ xs) k = absurd (k x (inl refl))
+
 pub each_among : {X : Type 0} (P : X → Type 0) (xs : List X) (x : X) → AllByRecursion P xs → Among x xs → P x
 each_among P [] x a h = absurd h
 each_among P (z ∷ xs) x a (inl e) = subst P e a.0
@@ -104,13 +113,16 @@ find_among p (z ∷ xs) x e = found (p z) (find p xs) z x (Among x xs) e (find_a
     found true o z x M e k = inl (same_Some z x e)
     found false o z x M e k = inr (k e)
 
-pub at-among : {R : Type 0} (rows : List (ℕ × R)) (n : ℕ) (r : R) → at rows n ≡ Some r → Among n (numbers rows)
-at-among [] n r e = absurd (cc)
-at-among (x ∷ rows) n r e = found (x.0 == n) (at rows n) refl e (at-among rows n r)
+pub at-row : {R : Type 0} (rows : List (ℕ × R)) (n : ℕ) (r : R) → at rows n ≡ Some r → Among {X = ℕ × R} (n, r) rows
+at-row [] n r e = absurd (cc)
+at-row {R} (x ∷ rows) n r e = found (x.0 == n) (at rows n) refl e (at-row rows n r)
   where
-    found : (b : Bool) (o : Option _) → (x.0 == n) ≡ b → cond b (Some x.1) o ≡ Some r → (o ≡ Some r → Among n (numbers rows)) → Among n (numbers (x ∷ rows))
-    found true o is e k = inl (eqb-true x.0 n is)
+    found : (b : Bool) (o : Option R) → (x.0 == n) ≡ b → cond b (Some x.1) o ≡ Some r → (o ≡ Some r → Among {X = ℕ × R} (n, r) rows) → (◌≡◌ {A = ℕ × R} x (n, r)) ⊎ Among {X = ℕ × R} (n, r) rows
+    found true o is e k = inl (ap₂ (λ a b. (a, b)) (eqb-true x.0 n is) (same_Some x.1 r e))
     found false o is e k = inr (k e)
+
+pub at-among : {R : Type 0} (rows : List (ℕ × R)) (n : ℕ) (r : R) → at rows n ≡ Some r → Among n (numbers rows)
+at-among {R} rows n r e = Among-map (λ (x : ℕ × R). x.0) rows (n, r) (at-row rows n r e)
 
 -- ---- what a test keeps
 
