@@ -4,5 +4,6 @@ pub mod PathLaws
 pub mod BestLaws
 pub mod CandidateLaws
 pub mod PairLaws
+pub mod ClaimLaws
 pub mod RuleLaws
 pub mod PlainPathLaws

@@ -10,6 +10,7 @@ pub mod Networks
 pub mod PlainPaths
 pub mod Choices
 pub mod Claims
+pub mod ClaimedRoutes
 pub mod Settling
 pub mod CommandForm
 pub mod Permitted

@@ -1,8 +1,13 @@
 ghost use Rattle.std.specs.Prelude.{◌≡◌, ◌↔◌, ℕ, List, true, None, Some};
+ghost use Rattle.ctrl_model.specs.declared.claims.Explanation.{Explanation};
 ghost use Rattle.ctrl_model.specs.Membership.{Among};
+ghost use Rattle.ctrl_model.specs.Numbered.{at};
+ghost use Rattle.ctrl_model.specs.State.{Terminator};
 ghost use Rattle.ctrl_model.specs.Networks.{Network, is_path, paths};
 ghost use Rattle.ctrl_model.specs.PlainPaths.{IsPlainPath};
-ghost use Rattle.ctrl_model.specs.Choices.{Ask, Candidate, IsCandidate, IsBest, IsGranted, best, first_rule};
+ghost use Rattle.ctrl_model.specs.Choices.{Ask, Candidate, IsCandidate, IsBest, IsGranted, place_of, best, first_rule};
+ghost use Rattle.ctrl_model.specs.Claims.{justified};
+ghost use Rattle.ctrl_model.specs.ClaimedRoutes.{has_small_costs, IsNoBetter};
 
 /// A list of links is among the enumerated paths exactly where it is a path.
 pub fn each_path()
@@ -26,4 +31,10 @@ pub fn the_best()
 /// not full.
 pub fn the_rule()
     ensures { (w : Network) (ask : Ask) → ((first_rule w ask ≡ None) ↔ IsGranted w ask) }
+{}
+
+/// No candidate is better than a justified claim: none has an earlier precedence than the terminator that the claim names,
+/// or the same precedence and a lower total.
+pub fn no_better()
+    ensures { (w : Network) (ask : Ask) (claim : Explanation) (e : Terminator) → has_small_costs w ≡ true → at w.terminators claim.terminator.0 ≡ Some e → justified w ask claim ≡ true → (c : Candidate) → IsCandidate w ask c → IsNoBetter (place_of e.precedence) claim.total c }
 {}
