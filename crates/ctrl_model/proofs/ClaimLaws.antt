@@ -1,7 +1,7 @@
 -- Laws on claims: what a justified claim consists of, that settled values are at most what paths cost, that no candidate is
 -- better than a justified claim, and that the claimed route is a candidate.
-use Rattle.std.proofs.Common.{◌≡◌, ℕ, ◌+◌, ◌*◌, ◌<◌, ◌≤◌, ◌==◌, min, ◌||◌, ◌&&◌, nat_lt, nat_le, Bool, true, false, cond, ◌⊎◌, inl, inr, List, [], ◌∷◌, length, map, filter, Option, Some, None, refl, sym, ◌∙◌, ap, subst, subst₂, arith, eqb-true, eq-eqb, ltb-true, leb-true, bytes_eq, le_trans}
-use Rattle.std.proofs.lemmas.Bool.{and_parts, and_from, or_cases, cases_order, cases_eq, cond-true, cond-false, lt-ltb, le-ltb, ne_eqb, le-leb, false≢true}
+use Rattle.std.proofs.Common.{◌≡◌, ℕ, ◌+◌, ◌*◌, ◌<◌, ◌≤◌, ◌==◌, min, ◌||◌, ◌&&◌, nat_lt, nat_le, Bool, true, false, cond, ◌⊎◌, inl, inr, List, [], ◌∷◌, length, map, filter, Option, Some, None, refl, sym, ◌∙◌, ap, subst, subst₂, arith, eqb-true, eq-eqb, ltb-true, leb-true, bytes_eq, le_trans, le_refl, le_of_eq, le_of_lt, ap₂}
+use Rattle.std.proofs.lemmas.Bool.{false_from_ne_true, and_parts, and_from, or_cases, cases_order, cases_eq, cond-true, cond-false, lt-ltb, le-ltb, ne_eqb, le-leb, false≢true}
 use Rattle.std.proofs.lemmas.Option.{same_Some}
 use Rattle.std.proofs.lemmas.List.{length-map}
 use Rattle.std.proofs.lemmas.Slice.Eq.{bytes_eq-Decides}
@@ -13,15 +13,20 @@ use Rattle.ctrl_model.specs.declared.claims.Explanation.{Explanation}
 use Rattle.ctrl_model.specs.declared.claims.Reach.{Reach}
 use Rattle.ctrl_model.specs.Membership.{Among}
 use Rattle.ctrl_model.specs.Numbered.{at, numbers}
-use Rattle.ctrl_model.specs.State.{Link, Terminator}
-use Rattle.ctrl_model.specs.Walks.{Hops, goes, cost_along}
-use Rattle.ctrl_model.specs.Networks.{Network, is_on, may_host, is_in_service, link_cost, entry_cost, hops, is_path, path_cost, admissible}
+use Rattle.ctrl_model.specs.State.{State, Link, Terminator}
+use Rattle.ctrl_model.specs.Walks.{Hops, is_among, goes, cost_along}
+use Rattle.ctrl_model.specs.Networks.{Network, network_of, is_on, may_host, is_in_service, link_cost, entry_cost, hops, is_path, path_cost, admissible}
 use Rattle.ctrl_model.specs.Choices.{Ask, Wanted, Candidate, IsIngress, IsAdmissible, IsCandidate, place_of, terminator_cost, ingresses, candidate}
+use Rattle.ctrl_model.specs.PlainPaths.{NoneTwice}
 use Rattle.ctrl_model.specs.Claims.{no_path, router_numbers, carries, explained_routers, value_at, reach_over, does_not_improve, is_settled, is_tight, entry_for, claimed, is_no_better, is_entitled, is_complete, is_route, justified_for, justified}
 use Rattle.ctrl_model.specs.ClaimedRoutes.{has_small_costs, IsNoBetter, claimed_candidate}
+use Rattle.ctrl_model.specs.ValidState.{ValidState}
+use Rattle.ctrl_model.proofs.CostLaws.{three_parts, path_cost-lt, hops_cost, valid-least, valid-small_costs}
+use Rattle.ctrl_model.proofs.NumberLaws.{at-unique, Between-none_twice}
 use Rattle.ctrl_model.proofs.Members.{Among-map, Among-filter, find_among, list_all-among, list_any-from_among, by_list_any, at-row}
-use Rattle.ctrl_model.proofs.WalkLaws.{by_there, by_goes, cost_along-more, cost_along-le, length-path, StaysAmong}
+use Rattle.ctrl_model.proofs.WalkLaws.{by_there, by_goes, goes_more, cost_along-more, cost_along-le, length-path, StaysAmong}
 use Rattle.ctrl_model.proofs.PathLaws.{is_on-among, router_at-among, by_router_at, by_hops, hops_stay, hops_named}
+use Rattle.ctrl_model.proofs.PlainPathLaws.{is_on-start}
 use Rattle.ctrl_model.proofs.CandidateLaws.{by_ingresses, Among-ingresses, by_admissible, Among-admissible}
 
 -- ---- what a justified claim consists of
@@ -96,12 +101,6 @@ value-le_cost hop t places value stays settles (l ∷ ls) seen v place g = by_go
 abbrev pub values_of : Network → Reach → ℕ → ℕ
 values_of w e = value_at (router_numbers w) e.values
 
-three_parts : (a b c : Bool) → (a && (b && c)) ≡ true → (a ≡ true) × (b ≡ true) × (c ≡ true)
-three_parts true true true h = (refl, refl, refl)
-three_parts true true false h = absurd (false≢true h)
-three_parts true false c h = absurd (false≢true h)
-three_parts false b c h = absurd (false≢true h)
-
 pub settled-Settles : (w : Network) (e : Reach) → is_settled w e ≡ true → Settles (hops w e.router.0) e.router.0 (router_numbers w) (values_of w e)
 settled-Settles w e h = record { zero = eqb-true (values_of w e e.router.0) 0 parts.1; least = least }
   where
@@ -161,38 +160,6 @@ justified-Settles w ask claim j e a early =
     same : map (λ (e : Reach). e.router.0) claim.potentials ≡ explained_routers w ask j.service (place_of j.named.precedence)
     same = (bytes_eq-Decides (map (λ (e : Reach). e.router.0) claim.potentials) (explained_routers w ask j.service (place_of j.named.precedence))).0
         (and_parts (bytes_eq claim.routers (router_numbers w)) (bytes_eq (map (λ (e : Reach). e.router.0) claim.potentials) (explained_routers w ask j.service (place_of j.named.precedence))) j.complete).1
-
--- ---- small costs
-
--- with small costs each path costs less than what stands for no path
-pub path_cost-lt : (w : Network) (r t : ℕ) (links : List ℕ) → has_small_costs w ≡ true → is_path w r links t ≡ true → path_cost w r links t < no_path
-path_cost-lt w r t links small path =
-    below (length links) (length (router_numbers w)) (length w.routers) (path_cost w r links t) (length-map w.routers (λ (r : RouterSeen). r.no.0))
-    (leb-true (length w.routers) 256 parts.0)
-    (length-path (hops w t) t (router_numbers w) (hops_stay w t) links r (is_on-among w r (and_parts (is_on w r) (is_on w t) ways.0).0) ways.1)
-    (cost_along-le (hops w t) 4294967294 most links r)
-  where
-    parts : (nat_le (length w.routers) 256 ≡ true) × (list_all (λ (row : ℕ × Link). nat_lt (link_cost row.1) 2147483648) w.links ≡ true)
-        × (list_all (λ (r : RouterSeen). nat_lt (entry_cost w r) 2147483648) w.routers ≡ true)
-    parts = three_parts (nat_le (length w.routers) 256) (list_all (λ (row : ℕ × Link). nat_lt (link_cost row.1) 2147483648) w.links)
-        (list_all (λ (r : RouterSeen). nat_lt (entry_cost w r) 2147483648) w.routers) small
-
-    ways : ((is_on w r && is_on w t) ≡ true) × (goes (hops w t) t (r ∷ []) r links ≡ true)
-    ways = and_parts (is_on w r && is_on w t) (goes (hops w t) t (r ∷ []) r links) path
-
-    below : (n places routers cost : ℕ) → places ≡ routers → routers ≤ 256 → n + 1 ≤ places → cost ≤ n * 4294967294 → cost < no_path
-    below n places routers cost same few short most = omega arith
-
-    together : (a b n : ℕ) → a < 2147483648 → b < 2147483648 → a + b ≡ n → n ≤ 4294967294
-    together a b n p q s = omega arith
-
-    most : (v l : ℕ) (h : ℕ × ℕ) → hops w t v l ≡ Some h → h.1 ≤ 4294967294
-    most v l h is = by_hops w t v l h is (λ link x q there usable end found allowed told.
-        by_router_at w x q found (λ among _.
-        together (link_cost link) (entry_cost w q) h.1
-        (ltb-true (link_cost link) 2147483648 (list_all-among (λ (row : ℕ × Link). nat_lt (link_cost row.1) 2147483648) w.links (l, link) parts.1 (at-row w.links l link there)))
-        (ltb-true (entry_cost w q) 2147483648 (list_all-among (λ (r : RouterSeen). nat_lt (entry_cost w r) 2147483648) w.routers q parts.2 among))
-        (ap (λ (g : ℕ × ℕ). g.1) told)))
 
 -- ---- no candidate is better
 
@@ -258,3 +225,143 @@ no_better_than w ask claim e small named holds c k = by_parts (justified-parts w
   where
     by_parts : IsJustified w ask claim → IsNoBetter (place_of e.precedence) claim.total c
     by_parts j = subst (λ (x : Terminator). IsNoBetter (place_of x.precedence) claim.total c) (same_Some j.named e (sym j.present ∙ named)) (justified-unbeaten w ask claim j small c k)
+
+-- ---- the claimed route is a candidate
+
+-- where each hop costs something, tight links lead to places of ever lower values, so to new ones
+pub tight_goes : (hop : Hops) (value : ℕ → ℕ) (t : ℕ) → ((v l : ℕ) (h : ℕ × ℕ) → hop v l ≡ Some h → 1 ≤ h.1)
+    → (ls seen : List ℕ) (v : ℕ) → ((x : ℕ) → is_among x seen ≡ true → value v ≤ value x) → is_tight hop value t v ls ≡ true → goes hop t seen v ls ≡ true
+tight_goes hop value t costs [] seen v least g = g
+tight_goes hop value t costs (l ∷ ls) seen v least g =
+    by_there (λ (h : ℕ × ℕ). (value v == h.1 + value h.0) && (nat_lt (value v) no_path && is_tight hop value t h.0 ls)) (hop v l) g (λ h is all.
+    step h is (three_parts (value v == h.1 + value h.0) (nat_lt (value v) no_path) (is_tight hop value t h.0 ls) all) (tight_goes hop value t costs ls (h.0 ∷ seen) h.0))
+  where
+    lower : (h : ℕ × ℕ) → hop v l ≡ Some h → (value v == h.1 + value h.0) ≡ true → value h.0 < value v
+    lower h is e = falls (value v) h.1 (value h.0) (eqb-true (value v) (h.1 + value h.0) e) (costs v l h is)
+      where
+        falls : (a b c : ℕ) → a ≡ b + c → 1 ≤ b → c < a
+        falls a b c s p = omega arith
+
+    step : (h : ℕ × ℕ) → hop v l ≡ Some h
+        → ((value v == h.1 + value h.0) ≡ true) × (nat_lt (value v) no_path ≡ true) × (is_tight hop value t h.0 ls ≡ true)
+        → (((x : ℕ) → is_among x (h.0 ∷ seen) ≡ true → value h.0 ≤ value x) → is_tight hop value t h.0 ls ≡ true → goes hop t (h.0 ∷ seen) h.0 ls ≡ true)
+        → goes hop t seen v (l ∷ ls) ≡ true
+    step h is p on = goes_more hop t seen v l ls h is new (on still p.2)
+      where
+        new : is_among h.0 seen ≡ false
+        new = false_from_ne_true (is_among h.0 seen) (λ e. not_both (value h.0) (value v) (lower h is p.0) (least h.0 e))
+          where
+            not_both : (a b : ℕ) → a < b → b ≤ a → ⊥
+            not_both a b p q = absurd (omega arith)
+
+        still : (x : ℕ) → is_among x (h.0 ∷ seen) ≡ true → value h.0 ≤ value x
+        still x e = either (or_cases (h.0 == x) (is_among x seen) e)
+          where
+            either : ((h.0 == x) ≡ true) ⊎ (is_among x seen ≡ true) → value h.0 ≤ value x
+            either (inl s) = le_of_eq (ap value (eqb-true h.0 x s))
+            either (inr m) = le_trans (le_of_lt (lower h is p.0)) (least x m)
+
+-- tight links cost what the value is
+pub tight_cost : (hop : Hops) (value : ℕ → ℕ) (t : ℕ) → value t ≡ 0 → (ls : List ℕ) (v : ℕ) → is_tight hop value t v ls ≡ true → cost_along hop v ls ≡ value v
+tight_cost hop value t zero [] v g = sym (ap value (eqb-true v t g) ∙ zero)
+tight_cost hop value t zero (l ∷ ls) v g =
+    by_there (λ (h : ℕ × ℕ). (value v == h.1 + value h.0) && (nat_lt (value v) no_path && is_tight hop value t h.0 ls)) (hop v l) g (λ h is all.
+    step h is (three_parts (value v == h.1 + value h.0) (nat_lt (value v) no_path) (is_tight hop value t h.0 ls) all) (tight_cost hop value t zero ls h.0))
+  where
+    step : (h : ℕ × ℕ) → hop v l ≡ Some h
+        → ((value v == h.1 + value h.0) ≡ true) × (nat_lt (value v) no_path ≡ true) × (is_tight hop value t h.0 ls ≡ true)
+        → (is_tight hop value t h.0 ls ≡ true → cost_along hop h.0 ls ≡ value h.0) → cost_along hop v (l ∷ ls) ≡ value v
+    step h is p rest = cost_along-more hop v l ls h is ∙ (ap (λ n. h.1 + n) (rest p.2) ∙ sym (eqb-true (value v) (h.1 + value h.0) p.0))
+
+-- where entering a router costs something and terminators have different numbers, the route of a justified claim is a candidate
+pub justified-candidate : (w : Network) (ask : Ask) (claim : Explanation) (j : IsJustified w ask claim) → 1 ≤ w.least → NoneTwice (numbers w.terminators)
+    → IsCandidate w ask (claimed_candidate claim j.named)
+justified-candidate w ask claim j costs apart =
+    by_list_any (λ (r : RouterSeen). r.no.0 == claim.ingress.0) (ingresses w ask.ingress j.identity j.service) entitled.1 (λ r enters is_ingress.
+    by_list_any (λ (e : ℕ × Terminator). e.0 == claim.terminator.0) (admissible w j.service ask.instance) entitled.2 (λ e ends is_named.
+    with_parts r (by_ingresses w ask.ingress j.identity j.service r enters) (eqb-true r.no.0 claim.ingress.0 is_ingress)
+    (is_same e (by_admissible w j.service ask.instance e ends) (eqb-true e.0 claim.terminator.0 is_named))))
+  where
+    entitled : (nat_lt 0 (w.dial j.identity j.service) ≡ true) × (list_any (λ (r : RouterSeen). r.no.0 == claim.ingress.0) (ingresses w ask.ingress j.identity j.service) ≡ true)
+        × (list_any (λ (e : ℕ × Terminator). e.0 == claim.terminator.0) (admissible w j.service ask.instance) ≡ true)
+    entitled = three_parts (nat_lt 0 (w.dial j.identity j.service)) (list_any (λ (r : RouterSeen). r.no.0 == claim.ingress.0) (ingresses w ask.ingress j.identity j.service))
+        (list_any (λ (e : ℕ × Terminator). e.0 == claim.terminator.0) (admissible w j.service ask.instance)) j.entitled
+
+    is_same : (e : ℕ × Terminator) → IsAdmissible w j.service ask.instance e → e.0 ≡ claim.terminator.0 → IsAdmissible w j.service ask.instance (claim.terminator.0, j.named)
+    is_same e a same =
+        subst (IsAdmissible w j.service ask.instance) (ap₂ {C = ℕ × Terminator} (λ n x. (n, x)) same
+        (same_Some e.1 j.named (sym (at-unique w.terminators apart e a.present) ∙ (ap (at w.terminators) same ∙ j.present)))) a
+
+    routed : (is_tight (hops w j.named.router) (claimed w claim.potentials j.named.router) j.named.router claim.ingress.0 claim.links ≡ true)
+        × ((claim.total == j.named.cost + claimed w claim.potentials j.named.router claim.ingress.0) ≡ true)
+    routed = and_parts (is_tight (hops w j.named.router) (claimed w claim.potentials j.named.router) j.named.router claim.ingress.0 claim.links)
+        (claim.total == j.named.cost + claimed w claim.potentials j.named.router claim.ingress.0) j.routed
+
+    with_parts : (r : RouterSeen) → IsIngress w ask.ingress j.identity j.service r → r.no.0 ≡ claim.ingress.0 → IsAdmissible w j.service ask.instance (claim.terminator.0, j.named)
+        → IsCandidate w ask (claimed_candidate claim j.named)
+    with_parts r enters same ends = record {
+      identity = j.identity;
+      service = j.service;
+      router = r;
+      terminator = (claim.terminator.0, j.named);
+      who = j.who;
+      what = j.what;
+      enters = enters;
+      ends = ends;
+      path = subst (λ n. is_path w n claim.links j.named.router ≡ true) (sym same) path;
+      told = ap₂ (λ n i. record {
+        precedence = place_of j.named.precedence;
+        total = n;
+        terminator = claim.terminator.0;
+        ingress = i;
+        links = claim.links;
+      }) total same;
+    }
+      where
+        settles : Settles (hops w j.named.router) j.named.router (router_numbers w) (claimed w claim.potentials j.named.router)
+        settles = justified-Settles w ask claim j (claim.terminator.0, j.named) ends (le_refl (place_of j.named.precedence))
+
+        walk : goes (hops w j.named.router) j.named.router (claim.ingress.0 ∷ []) claim.ingress.0 claim.links ≡ true
+        walk =
+            tight_goes (hops w j.named.router) (claimed w claim.potentials j.named.router) j.named.router (hops_cost w j.named.router costs) claim.links (claim.ingress.0 ∷ []) claim.ingress.0
+            (λ x e. le_of_eq (ap (claimed w claim.potentials j.named.router) (only x e))) routed.0
+          where
+            only : (x : ℕ) → is_among x (claim.ingress.0 ∷ []) ≡ true → claim.ingress.0 ≡ x
+            only x e = either (or_cases (claim.ingress.0 == x) false e)
+              where
+                either : ((claim.ingress.0 == x) ≡ true) ⊎ (false ≡ true) → claim.ingress.0 ≡ x
+                either (inl s) = eqb-true claim.ingress.0 x s
+                either (inr s) = absurd (false≢true s)
+
+        ends_on : is_on w j.named.router ≡ true
+        ends_on = (and_parts (is_on w j.named.router) (option_map_or (may_host w j.named) j.named.host true) ends.serves).0
+
+        path : is_path w claim.ingress.0 claim.links j.named.router ≡ true
+        path =
+            and_from (is_on w claim.ingress.0 && is_on w j.named.router) (goes (hops w j.named.router) j.named.router (claim.ingress.0 ∷ []) claim.ingress.0 claim.links)
+            (and_from (is_on w claim.ingress.0) (is_on w j.named.router) (is_on-start w j.named.router claim.links (claim.ingress.0 ∷ []) claim.ingress.0 ends_on walk) ends_on) walk
+
+        total : terminator_cost w (claim.terminator.0, j.named) + path_cost w r.no.0 claim.links j.named.router ≡ claim.total
+        total =
+            ap (λ n. j.named.cost + n) (ap (λ v. path_cost w v claim.links j.named.router) same
+            ∙ tight_cost (hops w j.named.router) (claimed w claim.potentials j.named.router) j.named.router settles.zero claim.links claim.ingress.0 routed.0)
+            ∙ sym (eqb-true claim.total (j.named.cost + claimed w claim.potentials j.named.router claim.ingress.0) routed.1)
+
+-- the same for the terminator that the claim names
+pub claimed_is_candidate : (w : Network) (ask : Ask) (claim : Explanation) (e : Terminator) → 1 ≤ w.least → NoneTwice (numbers w.terminators)
+    → at w.terminators claim.terminator.0 ≡ Some e → justified w ask claim ≡ true → IsCandidate w ask (claimed_candidate claim e)
+claimed_is_candidate w ask claim e costs apart named holds = by_parts (justified-parts w ask claim holds)
+  where
+    by_parts : IsJustified w ask claim → IsCandidate w ask (claimed_candidate claim e)
+    by_parts j = subst (λ x. IsCandidate w ask (claimed_candidate claim x)) (same_Some j.named e (sym j.present ∙ named)) (justified-candidate w ask claim j costs apart)
+
+-- ---- in a valid state
+
+pub valid-no_better : (s : State) (ask : Ask) (claim : Explanation) (e : Terminator) → ValidState s → at s.terminators claim.terminator.0 ≡ Some e → justified (network_of s) ask claim ≡ true
+    → (c : Candidate) → IsCandidate (network_of s) ask c → IsNoBetter (place_of e.precedence) claim.total c
+valid-no_better s ask claim e valid = no_better_than (network_of s) ask claim e (valid-small_costs s valid)
+
+pub valid-candidate : (s : State) (ask : Ask) (claim : Explanation) (e : Terminator) → ValidState s → at s.terminators claim.terminator.0 ≡ Some e → justified (network_of s) ask claim ≡ true
+    → IsCandidate (network_of s) ask (claimed_candidate claim e)
+valid-candidate s ask claim e valid =
+    claimed_is_candidate (network_of s) ask claim e (valid-least s valid) (Between-none_twice 1 s.next_terminator s.terminators valid.terminators.ordered)

@@ -4,6 +4,8 @@ pub mod PathLaws
 pub mod BestLaws
 pub mod CandidateLaws
 pub mod PairLaws
+pub mod NumberLaws
+pub mod CostLaws
 pub mod ClaimLaws
 pub mod RuleLaws
 pub mod PlainPathLaws

@@ -44,7 +44,20 @@ is_on-end w link v x usable j = apart (and_parts (is_on w link.a) (is_on w link.
     apart on (inl k) = subst (λ y. is_on w y ≡ true) k.1 on.1
     apart on (inr k) = subst (λ y. is_on w y ≡ true) k.1 on.0
 
+-- and comes from one that is
+is_on-hop : (w : Network) (t v l : ℕ) (h : ℕ × ℕ) → hops w t v l ≡ Some h → is_on w v ≡ true
+is_on-hop w t v l h is = by_hops w t v l h is (λ link x q there usable end found allowed told. is_on-end w link x v usable (turned link x (by_other_end v link x end)))
+  where
+    turned : (link : Link) (x : ℕ) → Joins link v x → Joins link x v
+    turned link x (inl j) = inr (j.1, j.0)
+    turned link x (inr j) = inl (j.1, j.0)
+
 -- ---- walks
+
+-- a walk to a router that is present and connected begins at one
+pub is_on-start : (w : Network) (t : ℕ) (links seen : List ℕ) (v : ℕ) → is_on w t ≡ true → goes (hops w t) t seen v links ≡ true → is_on w v ≡ true
+is_on-start w t [] seen v on g = subst (λ x. is_on w x ≡ true) (sym (eqb-true v t g)) on
+is_on-start w t (l ∷ ls) seen v on g = by_goes (hops w t) t seen v l ls g (λ h is _ _. is_on-hop w t v l h is)
 
 -- what a walk that keeps off some routers is in plain words
 record IsPlainWalk (w : Network) (t : ℕ) (seen : List ℕ) (v : ℕ) (links : List ℕ) : Type 0 where

@@ -20,7 +20,7 @@ pub use numbering::{
 };
 pub use refusals::{Denial, Field, Reason, Refusal};
 pub use replies::{Reply, Tallies, Tally};
-pub use route_laws::{each_path, no_better, plain_path, the_best, the_rule};
+pub use route_laws::{claimed_route, each_path, no_better, plain_path, the_best, the_rule};
 pub use texts::{Bytes, Instance, Name, NameFault, Names};
 pub use worked::{
     a_circuit_on_a_line, a_nearer_terminator, counted_grants, deleted_and_made_again, denials,

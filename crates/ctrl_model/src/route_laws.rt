@@ -1,13 +1,14 @@
-ghost use Rattle.std.specs.Prelude.{◌≡◌, ◌↔◌, ℕ, List, true, None, Some};
+ghost use Rattle.std.specs.Prelude.{◌≡◌, ◌≤◌, ◌↔◌, ℕ, List, true, None, Some};
 ghost use Rattle.ctrl_model.specs.declared.claims.Explanation.{Explanation};
 ghost use Rattle.ctrl_model.specs.Membership.{Among};
-ghost use Rattle.ctrl_model.specs.Numbered.{at};
-ghost use Rattle.ctrl_model.specs.State.{Terminator};
-ghost use Rattle.ctrl_model.specs.Networks.{Network, is_path, paths};
-ghost use Rattle.ctrl_model.specs.PlainPaths.{IsPlainPath};
+ghost use Rattle.ctrl_model.specs.Numbered.{at, numbers};
+ghost use Rattle.ctrl_model.specs.State.{State, Terminator};
+ghost use Rattle.ctrl_model.specs.Networks.{Network, network_of, is_path, paths};
+ghost use Rattle.ctrl_model.specs.PlainPaths.{NoneTwice, IsPlainPath};
 ghost use Rattle.ctrl_model.specs.Choices.{Ask, Candidate, IsCandidate, IsBest, IsGranted, place_of, best, first_rule};
 ghost use Rattle.ctrl_model.specs.Claims.{justified};
-ghost use Rattle.ctrl_model.specs.ClaimedRoutes.{has_small_costs, IsNoBetter};
+ghost use Rattle.ctrl_model.specs.ClaimedRoutes.{has_small_costs, IsNoBetter, claimed_candidate};
+ghost use Rattle.ctrl_model.specs.ValidState.{ValidState};
 
 /// A list of links is among the enumerated paths exactly where it is a path.
 pub fn each_path()
@@ -34,7 +35,16 @@ pub fn the_rule()
 {}
 
 /// No candidate is better than a justified claim: none has an earlier precedence than the terminator that the claim names,
-/// or the same precedence and a lower total.
+/// or the same precedence and a lower total. Costs have to be so small that no path costs as much as the number that stands
+/// for no path; those of a valid state are.
 pub fn no_better()
-    ensures { (w : Network) (ask : Ask) (claim : Explanation) (e : Terminator) → has_small_costs w ≡ true → at w.terminators claim.terminator.0 ≡ Some e → justified w ask claim ≡ true → (c : Candidate) → IsCandidate w ask c → IsNoBetter (place_of e.precedence) claim.total c }
+    ensures small { (w : Network) (ask : Ask) (claim : Explanation) (e : Terminator) → has_small_costs w ≡ true → at w.terminators claim.terminator.0 ≡ Some e → justified w ask claim ≡ true → (c : Candidate) → IsCandidate w ask c → IsNoBetter (place_of e.precedence) claim.total c }
+    ensures valid { (s : State) (ask : Ask) (claim : Explanation) (e : Terminator) → ValidState s → at s.terminators claim.terminator.0 ≡ Some e → justified (network_of s) ask claim ≡ true → (c : Candidate) → IsCandidate (network_of s) ask c → IsNoBetter (place_of e.precedence) claim.total c }
+{}
+
+/// The route of a justified claim is a candidate itself, with the links and the total that the claim gives. Entering a router
+/// has to cost something, and terminators to have different numbers, as in a valid state.
+pub fn claimed_route()
+    ensures apart { (w : Network) (ask : Ask) (claim : Explanation) (e : Terminator) → 1 ≤ w.least → NoneTwice (numbers w.terminators) → at w.terminators claim.terminator.0 ≡ Some e → justified w ask claim ≡ true → IsCandidate w ask (claimed_candidate claim e) }
+    ensures valid { (s : State) (ask : Ask) (claim : Explanation) (e : Terminator) → ValidState s → at s.terminators claim.terminator.0 ≡ Some e → justified (network_of s) ask claim ≡ true → IsCandidate (network_of s) ask (claimed_candidate claim e) }
 {}
