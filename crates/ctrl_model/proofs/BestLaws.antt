@@ -1,47 +1,11 @@
 -- Laws on the order of candidates, and on the first of some.
-use Rattle.std.proofs.Common.{◌≡◌, ℕ, Bool, true, false, cond, ◌⊎◌, ◌↔◌, inl, inr, List, [], ◌∷◌, ◌++◌, flat_map, option_to_list, Option, Some, None, refl, sym, ◌∙◌, ap, ap₂, subst, Ordering, Less, Equal, Greater, is_lt, is_gt, nat_cmp}
-use Rattle.std.proofs.lemmas.Bool.{both_ways, false_from_ne_true, false≢true}
+use Rattle.std.proofs.Common.{◌≡◌, ℕ, Bool, true, false, cond, ◌⊎◌, ◌↔◌, inl, inr, List, [], ◌∷◌, Option, Some, None, refl, ap, subst, is_lt}
 use Rattle.std.proofs.lemmas.Option.{same_Some}
-use Rattle.std.proofs.lemmas.Cmp.{upto, tied_itself, nat_list_cmp_total}
+use Rattle.std.proofs.lemmas.Cmp.{tied_itself, nat_list_cmp_total}
 use Rattle.std.proofs.lemmas.Map.Lookups.{exact_bytes}
-use Rattle.std.specs.Cmp.{IsTotalOrder}
-use Rattle.std.specs.Cmp.Lexicographic.{slice_cmp}
-use Rattle.std.specs.Ordering.{ordering_reverse}
 use Rattle.ctrl_model.specs.Membership.{Among}
 use Rattle.ctrl_model.specs.Choices.{Candidate, rank, precedes, better, least_of}
-
--- ---- total orders
-
--- one is below another exactly where that one is above it
-pub lt-gt : {K : Type 0} {R : K → K → Ordering} (o : IsTotalOrder R) (x y : K) → is_lt (R x y) ≡ is_gt (R y x)
-lt-gt {R = R} o x y = ap is_lt (o.antisymm x y) ∙ turned (R y x)
-  where
-    turned : (r : Ordering) → is_lt (ordering_reverse r) ≡ is_gt r
-    turned Less = refl
-    turned Equal = refl
-    turned Greater = refl
-
--- not below goes on from one to the next
-pub not_below : {K : Type 0} {R : K → K → Ordering} (o : IsTotalOrder R) (x y z : K) → is_lt (R x y) ≡ false → is_lt (R y z) ≡ false → is_lt (R x z) ≡ false
-not_below o x y z a b = lt-gt o x z ∙ upto o z y x (sym (lt-gt o y z) ∙ b) (sym (lt-gt o x y) ∙ a)
-
--- one that is below another is not above it
-pub below_one_way : {K : Type 0} {R : K → K → Ordering} (o : IsTotalOrder R) (x y : K) → is_lt (R x y) ≡ true → is_lt (R y x) ≡ false
-below_one_way {R = R} o x y a = lt-gt o y x ∙ apart (R x y) a
-  where
-    apart : (r : Ordering) → is_lt r ≡ true → is_gt r ≡ false
-    apart Less e = refl
-    apart Equal e = absurd (false≢true e)
-    apart Greater e = absurd (false≢true e)
-
--- of which neither is below the other, they are level
-pub level : {K : Type 0} {R : K → K → Ordering} (o : IsTotalOrder R) (x y : K) → is_lt (R x y) ≡ false → is_lt (R y x) ≡ false → R x y ≡ Equal
-level {R = R} o x y a b = apart (R x y) a (sym (lt-gt o y x) ∙ b)
-  where
-    apart : (r : Ordering) → is_lt r ≡ false → is_gt r ≡ false → r ≡ Equal
-    apart Less e f = absurd (false≢true (sym e))
-    apart Equal e f = refl
-    apart Greater e f = absurd (false≢true (sym f))
+use Rattle.ctrl_model.proofs.Orders.{not_below, below_one_way, level}
 
 -- ---- the order of candidates
 

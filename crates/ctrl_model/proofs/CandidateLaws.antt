@@ -1,14 +1,13 @@
 -- Laws on the candidates of a request: which ingresses, terminators and candidates the lists have, and the best one.
-use Rattle.std.proofs.Common.{◌≡◌, ℕ, ◌&&◌, true, ◌↔◌, List, [], Option, Some, None, refl, sym, ◌∙◌, ap, subst}
+use Rattle.std.proofs.Common.{◌≡◌, ℕ, ◌&&◌, ◌↔◌, List, [], Option, Some, None, refl, sym, ◌∙◌, ap, subst}
 use Rattle.std.proofs.lemmas.Bool.{and_parts, and_from}
-use Rattle.std.proofs.lemmas.Option.{same_Some}
 use Rattle.std.specs.Option.{option_map_or}
 use Rattle.std.specs.List.{flat_map}
 use Rattle.ctrl_model.specs.declared.kinds.RouterSeen.{RouterSeen}
 use Rattle.ctrl_model.specs.Membership.{Among}
 use Rattle.ctrl_model.specs.State.{Terminator}
 use Rattle.ctrl_model.specs.Networks.{Network, is_shared, is_counted, is_in_service, counted, admissible, paths}
-use Rattle.ctrl_model.specs.Choices.{Ask, Wanted, Candidate, IsIngress, IsAdmissible, IsCandidate, IsBest, is_wanted, shared, ingresses, candidate, candidates_between, candidates_for, candidates, precedes, best}
+use Rattle.ctrl_model.specs.Choices.{Ask, Wanted, Candidate, IsIngress, IsAdmissible, IsCandidate, IsBest, is_wanted, shared, ingresses, candidate, candidates_between, candidates_for, candidates, best}
 use Rattle.ctrl_model.proofs.Members.{by_filter, Among-filter, by_map, Among-map, by_flat_map, Among-flat_map}
 use Rattle.ctrl_model.proofs.PathLaws.{paths-is_path}
 use Rattle.ctrl_model.proofs.BestLaws.{IsFirst, least_of-is, least_of-none}
@@ -104,6 +103,7 @@ best-is w ask c = (λ e. is ((least_of-is (candidates w ask) c).0 e), λ b. (lea
     first b = ((candidates-are w ask c).1 b.is_candidate, λ d m. b.first d ((candidates-are w ask d).0 m))
 
 pub best-none : (w : Network) (ask : Ask) → (best w ask ≡ None) ↔ ((c : Candidate) → IsCandidate w ask c → ⊥)
-best-none w ask =
-    (λ e c k. (least_of-none (candidates w ask)).0 e c ((candidates-are w ask c).1 k),
-    λ none. (least_of-none (candidates w ask)).1 (λ c m. none c ((candidates-are w ask c).0 m)))
+best-none w ask = (
+  λ e c k. (least_of-none (candidates w ask)).0 e c ((candidates-are w ask c).1 k),
+  λ none. (least_of-none (candidates w ask)).1 (λ c m. none c ((candidates-are w ask c).0 m)),
+)

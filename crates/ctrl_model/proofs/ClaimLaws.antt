@@ -1,9 +1,8 @@
 -- Laws on claims: what a justified claim consists of, that settled values are at most what paths cost, that no candidate is
 -- better than a justified claim, and that the claimed route is a candidate.
-use Rattle.std.proofs.Common.{◌≡◌, ℕ, ◌+◌, ◌*◌, ◌<◌, ◌≤◌, ◌==◌, min, ◌||◌, ◌&&◌, nat_lt, nat_le, Bool, true, false, cond, ◌⊎◌, inl, inr, List, [], ◌∷◌, length, map, filter, Option, Some, None, refl, sym, ◌∙◌, ap, subst, subst₂, arith, eqb-true, eq-eqb, ltb-true, leb-true, bytes_eq, le_trans, le_refl, le_of_eq, le_of_lt, ap₂}
+use Rattle.std.proofs.Common.{◌≡◌, ℕ, ◌+◌, ◌<◌, ◌≤◌, ◌==◌, ◌||◌, ◌&&◌, nat_lt, nat_le, true, false, cond, ◌⊎◌, inl, inr, List, [], ◌∷◌, length, map, Option, Some, refl, sym, ◌∙◌, ap, subst, subst₂, arith, eqb-true, eq-eqb, leb-true, bytes_eq, le_trans, le_refl, le_of_eq, le_of_lt, ap₂}
 use Rattle.std.proofs.lemmas.Bool.{false_from_ne_true, and_parts, and_from, or_cases, cases_order, cases_eq, cond-true, cond-false, lt-ltb, le-ltb, ne_eqb, le-leb, false≢true}
 use Rattle.std.proofs.lemmas.Option.{same_Some}
-use Rattle.std.proofs.lemmas.List.{length-map}
 use Rattle.std.proofs.lemmas.Slice.Eq.{bytes_eq-Decides}
 use Rattle.std.proofs.Math.Nat.{min-le_left}
 use Rattle.std.specs.Option.{option_map_or}
@@ -13,19 +12,20 @@ use Rattle.ctrl_model.specs.declared.claims.Explanation.{Explanation}
 use Rattle.ctrl_model.specs.declared.claims.Reach.{Reach}
 use Rattle.ctrl_model.specs.Membership.{Among}
 use Rattle.ctrl_model.specs.Numbered.{at, numbers}
-use Rattle.ctrl_model.specs.State.{State, Link, Terminator}
+use Rattle.ctrl_model.specs.State.{State, Terminator}
 use Rattle.ctrl_model.specs.Walks.{Hops, is_among, goes, cost_along}
-use Rattle.ctrl_model.specs.Networks.{Network, network_of, is_on, may_host, is_in_service, link_cost, entry_cost, hops, is_path, path_cost, admissible}
-use Rattle.ctrl_model.specs.Choices.{Ask, Wanted, Candidate, IsIngress, IsAdmissible, IsCandidate, place_of, terminator_cost, ingresses, candidate}
+use Rattle.ctrl_model.specs.Networks.{Network, network_of, is_on, may_host, hops, is_path, path_cost, admissible}
+use Rattle.ctrl_model.specs.Choices.{Ask, Candidate, IsIngress, IsAdmissible, IsCandidate, place_of, terminator_cost, ingresses}
 use Rattle.ctrl_model.specs.PlainPaths.{NoneTwice}
 use Rattle.ctrl_model.specs.Claims.{no_path, router_numbers, carries, explained_routers, value_at, reach_over, does_not_improve, is_settled, is_tight, entry_for, claimed, is_no_better, is_entitled, is_complete, is_route, justified_for, justified}
-use Rattle.ctrl_model.specs.ClaimedRoutes.{has_small_costs, IsNoBetter, claimed_candidate}
+use Rattle.ctrl_model.specs.ClaimedRoutes.{has_small_costs, NoneIsBetter, claimed_candidate}
 use Rattle.ctrl_model.specs.ValidState.{ValidState}
-use Rattle.ctrl_model.proofs.CostLaws.{three_parts, path_cost-lt, hops_cost, valid-least, valid-small_costs}
+use Rattle.ctrl_model.proofs.Tests.{three_parts, five_parts}
+use Rattle.ctrl_model.proofs.CostLaws.{path_cost-lt, hops_cost, valid-least, valid-small_costs}
 use Rattle.ctrl_model.proofs.NumberLaws.{at-unique, Between-none_twice}
-use Rattle.ctrl_model.proofs.Members.{Among-map, Among-filter, find_among, list_all-among, list_any-from_among, by_list_any, at-row}
-use Rattle.ctrl_model.proofs.WalkLaws.{by_there, by_goes, goes_more, cost_along-more, cost_along-le, length-path, StaysAmong}
-use Rattle.ctrl_model.proofs.PathLaws.{is_on-among, router_at-among, by_router_at, by_hops, hops_stay, hops_named}
+use Rattle.ctrl_model.proofs.Members.{Among-filter, list_all-among, list_any-from_among, by_list_any}
+use Rattle.ctrl_model.proofs.WalkLaws.{by_there, by_goes, goes_more, cost_along-more, StaysAmong}
+use Rattle.ctrl_model.proofs.PathLaws.{is_on-among, hops_stay, hops_named}
 use Rattle.ctrl_model.proofs.PlainPathLaws.{is_on-start}
 use Rattle.ctrl_model.proofs.CandidateLaws.{by_ingresses, Among-ingresses, by_admissible, Among-admissible}
 
@@ -43,14 +43,6 @@ pub record IsJustified (w : Network) (ask : Ask) (claim : Explanation) : Type 0 
   pub settled : list_all (is_settled w) claim.potentials ≡ true
   pub routed : is_route w claim (claim.terminator.0, named) ≡ true
   pub unbeaten : list_all (λ (r : RouterSeen). list_all (is_no_better w claim (place_of named.precedence) r.no.0) (admissible w service ask.instance)) (ingresses w ask.ingress identity service) ≡ true
-
-five_parts : (a b c d e : Bool) → (a && (b && (c && (d && e)))) ≡ true → (a ≡ true) × (b ≡ true) × (c ≡ true) × (d ≡ true) × (e ≡ true)
-five_parts true true true true true h = (refl, refl, refl, refl, refl)
-five_parts true true true true false h = absurd (false≢true h)
-five_parts true true true false e h = absurd (false≢true h)
-five_parts true true false d e h = absurd (false≢true h)
-five_parts true false c d e h = absurd (false≢true h)
-five_parts false b c d e h = absurd (false≢true h)
 
 pub justified-parts : (w : Network) (ask : Ask) (claim : Explanation) → justified w ask claim ≡ true → IsJustified w ask claim
 justified-parts w ask claim h =
@@ -186,8 +178,9 @@ outcome none p place value cost total own h most small = apart (cases_order p pl
 
 -- with small costs no candidate is better than a justified claim
 pub justified-unbeaten : (w : Network) (ask : Ask) (claim : Explanation) (j : IsJustified w ask claim) → has_small_costs w ≡ true → (c : Candidate) → IsCandidate w ask c
-    → IsNoBetter (place_of j.named.precedence) claim.total c
-justified-unbeaten w ask claim j small c k = subst (IsNoBetter (place_of j.named.precedence) claim.total) k.told against
+    → (place_of j.named.precedence < c.precedence) ⊎ ((c.precedence ≡ place_of j.named.precedence) × (claim.total ≤ c.total))
+justified-unbeaten w ask claim j small c k =
+    subst (λ (d : Candidate). (place_of j.named.precedence < d.precedence) ⊎ ((d.precedence ≡ place_of j.named.precedence) × (claim.total ≤ d.total))) k.told against
   where
     enters : IsIngress w ask.ingress j.identity j.service k.router
     enters = subst₂ (λ i s. IsIngress w ask.ingress i s k.router) (same_Some k.identity j.identity (sym k.who ∙ j.who)) (same_Some k.service j.service (sym k.what ∙ j.what)) k.enters
@@ -212,7 +205,8 @@ justified-unbeaten w ask claim j small c k = subst (IsNoBetter (place_of j.named
         (justified-Settles w ask claim j k.terminator ends early) c.links (k.router.no.0 ∷ []) k.router.no.0
         (is_on-among w k.router.no.0 (and_parts (is_on w k.router.no.0) (is_on w k.terminator.1.router) ways.0).0) ways.1
 
-    against : IsNoBetter (place_of j.named.precedence) claim.total (candidate w k.router k.terminator c.links)
+    against : (place_of j.named.precedence < place_of k.terminator.1.precedence)
+        ⊎ ((place_of k.terminator.1.precedence ≡ place_of j.named.precedence) × (claim.total ≤ terminator_cost w k.terminator + path_cost w k.router.no.0 c.links k.terminator.1.router))
     against =
         outcome no_path (place_of k.terminator.1.precedence) (place_of j.named.precedence) (claimed w claim.potentials k.terminator.1.router k.router.no.0)
         (path_cost w k.router.no.0 c.links k.terminator.1.router) claim.total (terminator_cost w k.terminator) test most
@@ -220,11 +214,11 @@ justified-unbeaten w ask claim j small c k = subst (IsNoBetter (place_of j.named
 
 -- the same for the terminator that the claim names
 pub no_better_than : (w : Network) (ask : Ask) (claim : Explanation) (e : Terminator) → has_small_costs w ≡ true → at w.terminators claim.terminator.0 ≡ Some e → justified w ask claim ≡ true
-    → (c : Candidate) → IsCandidate w ask c → IsNoBetter (place_of e.precedence) claim.total c
-no_better_than w ask claim e small named holds c k = by_parts (justified-parts w ask claim holds)
+    → NoneIsBetter w ask (place_of e.precedence) claim.total
+no_better_than w ask claim e small named holds = by_parts (justified-parts w ask claim holds)
   where
-    by_parts : IsJustified w ask claim → IsNoBetter (place_of e.precedence) claim.total c
-    by_parts j = subst (λ (x : Terminator). IsNoBetter (place_of x.precedence) claim.total c) (same_Some j.named e (sym j.present ∙ named)) (justified-unbeaten w ask claim j small c k)
+    by_parts : IsJustified w ask claim → NoneIsBetter w ask (place_of e.precedence) claim.total
+    by_parts j = subst (λ (x : Terminator). NoneIsBetter w ask (place_of x.precedence) claim.total) (same_Some j.named e (sym j.present ∙ named)) (justified-unbeaten w ask claim j small)
 
 -- ---- the claimed route is a candidate
 
@@ -358,7 +352,7 @@ claimed_is_candidate w ask claim e costs apart named holds = by_parts (justified
 -- ---- in a valid state
 
 pub valid-no_better : (s : State) (ask : Ask) (claim : Explanation) (e : Terminator) → ValidState s → at s.terminators claim.terminator.0 ≡ Some e → justified (network_of s) ask claim ≡ true
-    → (c : Candidate) → IsCandidate (network_of s) ask c → IsNoBetter (place_of e.precedence) claim.total c
+    → NoneIsBetter (network_of s) ask (place_of e.precedence) claim.total
 valid-no_better s ask claim e valid = no_better_than (network_of s) ask claim e (valid-small_costs s valid)
 
 pub valid-candidate : (s : State) (ask : Ask) (claim : Explanation) (e : Terminator) → ValidState s → at s.terminators claim.terminator.0 ≡ Some e → justified (network_of s) ask claim ≡ true

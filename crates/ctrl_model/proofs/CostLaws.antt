@@ -1,10 +1,9 @@
 -- Laws on what paths cost: with small costs each path costs less than what stands for no path, and a valid state's are small.
-use Rattle.std.proofs.Common.{◌≡◌, ℕ, ◌+◌, ◌*◌, ◌<◌, ◌≤◌, max, ◌==◌, not, ◌&&◌, nat_lt, nat_le, Bool, true, false, List, [], ◌∷◌, length, map, Some, refl, sym, ◌∙◌, ap, subst, arith, ltb-true, lt-ltb, leb-true}
-use Rattle.std.proofs.lemmas.Bool.{and_parts, and_from, le-leb, false≢true}
+use Rattle.std.proofs.Common.{◌≡◌, ℕ, ◌+◌, ◌*◌, ◌<◌, ◌≤◌, max, ◌==◌, not, ◌&&◌, nat_lt, nat_le, true, List, [], ◌∷◌, length, map, Some, ap, subst, arith, ltb-true, lt-ltb, leb-true}
+use Rattle.std.proofs.lemmas.Bool.{and_parts, and_from, le-leb}
 use Rattle.std.proofs.lemmas.List.{length-map}
 use Rattle.std.specs.List.{list_all}
 use Rattle.ctrl_model.specs.declared.kinds.RouterSeen.{RouterSeen}
-use Rattle.ctrl_model.specs.Membership.{Among}
 use Rattle.ctrl_model.specs.NameForm.{is_name}
 use Rattle.ctrl_model.specs.CommandForm.{are_attributes, is_cost, is_link_cost, is_latency}
 use Rattle.ctrl_model.specs.State.{State, Router, Link}
@@ -13,17 +12,12 @@ use Rattle.ctrl_model.specs.Networks.{Network, is_on, link_cost, entry_cost, hop
 use Rattle.ctrl_model.specs.Claims.{no_path, router_numbers}
 use Rattle.ctrl_model.specs.ClaimedRoutes.{has_small_costs}
 use Rattle.ctrl_model.specs.ValidState.{ValidState, is_valid_router, is_valid_link}
+use Rattle.ctrl_model.proofs.Tests.{three_parts, in_bounds}
 use Rattle.ctrl_model.proofs.Members.{list_all-among, list_all-from_among, by_map, at-row}
 use Rattle.ctrl_model.proofs.WalkLaws.{cost_along-le, length-path}
 use Rattle.ctrl_model.proofs.PathLaws.{is_on-among, by_router_at, by_hops, hops_stay}
 
 -- ---- small costs
-
-pub three_parts : (a b c : Bool) → (a && (b && c)) ≡ true → (a ≡ true) × (b ≡ true) × (c ≡ true)
-three_parts true true true h = (refl, refl, refl)
-three_parts true true false h = absurd (false≢true h)
-three_parts true false c h = absurd (false≢true h)
-three_parts false b c h = absurd (false≢true h)
 
 -- with small costs each path costs less than what stands for no path
 pub path_cost-lt : (w : Network) (r t : ℕ) (links : List ℕ) → has_small_costs w ≡ true → is_path w r links t ≡ true → path_cost w r links t < no_path
@@ -63,9 +57,6 @@ hops_cost w t least v l h is = by_hops w t v l h is (λ link x q there usable en
     more a b c n p s = omega arith
 
 -- ---- a valid state
-
-in_bounds : (low high n : ℕ) → (nat_le low n && nat_le n high) ≡ true → (low ≤ n) × (n ≤ high)
-in_bounds low high n h = (leb-true low n (and_parts (nat_le low n) (nat_le n high) h).0, leb-true n high (and_parts (nat_le low n) (nat_le n high) h).1)
 
 -- the least cost of entering a router is at least 1
 pub valid-least : (s : State) → ValidState s → 1 ≤ s.least_router_cost

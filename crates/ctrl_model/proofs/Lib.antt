@@ -1,11 +1,13 @@
+pub mod Tests
+pub mod Orders
 pub mod Members
 pub mod WalkLaws
 pub mod PathLaws
+pub mod PlainPathLaws
 pub mod BestLaws
 pub mod CandidateLaws
 pub mod PairLaws
+pub mod RuleLaws
 pub mod NumberLaws
 pub mod CostLaws
 pub mod ClaimLaws
-pub mod RuleLaws
-pub mod PlainPathLaws

@@ -1,10 +1,11 @@
 -- Membership in a list by recursion on the list, and what it says of lists that are made of others.
 -- The laws named `by_..` give what follows from a membership; so what a membership gives is a variable there.
-use Rattle.std.proofs.Common.{◌≡◌, ℕ, zero, suc, ◌<◌, ◌==◌, ◌||◌, ◌&&◌, Bool, true, false, cond, ◌⊎◌, ◌↔◌, inl, inr, ⊎_elim, List, [], ◌∷◌, ◌++◌, map, length, get_or, Option, Some, None, refl, sym, ◌∙◌, ap, ap₂, subst, arith, eqb-true, eq-eqb}
+use Rattle.std.proofs.Common.{◌≡◌, ℕ, zero, suc, ◌<◌, ◌==◌, ◌||◌, ◌&&◌, Bool, true, false, cond, ◌⊎◌, ◌↔◌, inl, inr, ⊎_elim, List, [], ◌∷◌, ◌++◌, map, length, get_or, Option, Some, refl, sym, ◌∙◌, ap, ap₂, subst, arith, eqb-true, eq-eqb}
 use Rattle.std.proofs.lemmas.Bool.{and_parts, and_from, or_cases, or_left, or_right, cases_eq, cond-true, false≢true}
 use Rattle.std.proofs.lemmas.Option.{same_Some}
 use Rattle.std.specs.List.{list_all, list_any, flat_map, filter, find, AllByRecursion}
 use Rattle.ctrl_model.specs.Membership.{Among}
+use Rattle.ctrl_model.specs.Matches.{is_nothing}
 use Rattle.ctrl_model.specs.Numbered.{at, numbers}
 use Rattle.ctrl_model.specs.Walks.{is_among}
 
@@ -64,6 +65,15 @@ pub Among-get_or : {X : Type 0} (xs : List X) (i : ℕ) (d : X) → i < length x
 Among-get_or [] i d h = absurd (omega arith)
 Among-get_or (x ∷ xs) zero d h = inl refl
 Among-get_or (x ∷ xs) (suc i) d h = inr (Among-get_or xs i d (omega arith))
+
+-- a list that has something in it has an element, and the other way round
+pub by_something : {X P : Type 0} (xs : List X) → is_nothing xs ≡ false → ((x : X) → Among x xs → P) → P
+by_something [] e k = absurd (false≢true (sym e))
+by_something (x ∷ xs) e k = k x (inl refl)
+
+pub something : {X : Type 0} (xs : List X) (x : X) → Among x xs → is_nothing xs ≡ false
+something [] x m = absurd m
+something (y ∷ xs) x m = refl
 
 -- ---- what holds of each element
 
@@ -125,11 +135,6 @@ pub at-among : {R : Type 0} (rows : List (ℕ × R)) (n : ℕ) (r : R) → at ro
 at-among {R} rows n r e = Among-map (λ (x : ℕ × R). x.0) rows (n, r) (at-row rows n r e)
 
 -- ---- what a test keeps
-
--- what is there only where a test passes
-pub by_kept : {A P : Type 0} (b : Bool) (o : Option A) (x : A) → cond b o None ≡ Some x → (b ≡ true → o ≡ Some x → P) → P
-by_kept true o x e k = k refl e
-by_kept false o x e k = absurd (cc)
 
 -- a list that is there only where a test passes has the elements that pass both that test and another
 pub guarded : {X : Type 0} (b g : Bool) (xs : List X) (x : X) → (b ≡ true → Among x xs ↔ (g ≡ true)) → Among x (cond b xs []) ↔ ((b && g) ≡ true)

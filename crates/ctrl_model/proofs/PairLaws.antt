@@ -1,6 +1,6 @@
 -- Laws by which the best candidate is found pair by pair: the first of parts, the first so far, and the first of one pair of an
 -- ingress and a terminator.
-use Rattle.std.proofs.Common.{◌≡◌, ℕ, ◌+◌, ◌<◌, ◌≤◌, Bool, true, false, cond, ◌⊎◌, inl, inr, List, [], ◌∷◌, ◌++◌, map, flat_map, option_to_list, Option, Some, None, refl, sym, ◌∙◌, ap, subst, arith, Ordering, Less, Equal, Greater, is_lt, nat_cmp}
+use Rattle.std.proofs.Common.{◌≡◌, ℕ, ◌+◌, ◌<◌, ◌≤◌, Bool, true, false, cond, ◌⊎◌, inl, inr, List, [], ◌∷◌, ◌++◌, map, flat_map, option_to_list, Option, Some, None, refl, sym, ◌∙◌, ap, subst, arith, Ordering, Equal, Greater, is_lt, nat_cmp}
 use Rattle.std.proofs.lemmas.Bool.{cases_order}
 use Rattle.std.specs.Cmp.{nat_cmp_is}
 use Rattle.std.specs.Cmp.Lexicographic.{slice_cmp}
@@ -9,7 +9,7 @@ use Rattle.ctrl_model.specs.declared.kinds.RouterSeen.{RouterSeen}
 use Rattle.ctrl_model.specs.Membership.{Among}
 use Rattle.ctrl_model.specs.State.{Terminator}
 use Rattle.ctrl_model.specs.Networks.{Network, is_path, path_cost, paths}
-use Rattle.ctrl_model.specs.Choices.{Candidate, candidate, candidates_between, rank, precedes, terminator_cost, least_of}
+use Rattle.ctrl_model.specs.Choices.{Candidate, candidate, candidates_between, precedes, terminator_cost, least_of}
 use Rattle.ctrl_model.proofs.Members.{Among-append_left, Among-append_right, by_append, Among-map, by_map, Among-flat_map, by_flat_map, empty_list}
 use Rattle.ctrl_model.proofs.PathLaws.{paths-is_path}
 use Rattle.ctrl_model.proofs.BestLaws.{IsFirst, precedes-itself, not_precedes, precedes_one_way, same_candidate, least_of-there, least_of-first, least_of-is, least_of-none}

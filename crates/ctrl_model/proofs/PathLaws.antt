@@ -10,7 +10,8 @@ use Rattle.ctrl_model.specs.State.{Link}
 use Rattle.ctrl_model.specs.Walks.{goes, walks}
 use Rattle.ctrl_model.specs.Networks.{Network, router_at, is_on, other_end, link_cost, is_usable, entry_cost, hop_to, across, hops, is_path, paths}
 use Rattle.ctrl_model.specs.Claims.{router_numbers}
-use Rattle.ctrl_model.proofs.Members.{Among-map, find_passes, find_among, by_kept, guarded, at-among}
+use Rattle.ctrl_model.proofs.Members.{Among-map, find_passes, find_among, guarded, at-among}
+use Rattle.ctrl_model.proofs.Tests.{by_kept}
 use Rattle.ctrl_model.proofs.WalkLaws.{by_there, StaysAmong, LinksAmong, paths_are}
 
 -- ---- routers
@@ -37,7 +38,7 @@ is_on-among w x on = by_is_on w x on (λ q is _. router_at-among w x q is)
 -- a hop goes over a present and usable link to the router at its other end, which is the target or may be passed through
 pub by_hops : {P : Type 0} (w : Network) (t v l : ℕ) (h : ℕ × ℕ) → hops w t v l ≡ Some h
     → ((link : Link) (x : ℕ) (q : RouterSeen) → at w.links l ≡ Some link → is_usable w link ≡ true → other_end v link ≡ Some x → router_at w x ≡ Some q
-      → ((x == t) || q.through) ≡ true → (x, link_cost link + entry_cost w q) ≡ h → P) → P
+    → ((x == t) || q.through) ≡ true → (x, link_cost link + entry_cost w q) ≡ h → P) → P
 by_hops w t v l h e k =
     option_and_then_some (across w t v) (at w.links l) h e (λ link is over.
     by_kept (is_usable w link) (option_and_then (hop_to w t link) (option_and_then (router_at w) (other_end v link))) h over (λ usable step.

@@ -1,6 +1,6 @@
 -- That the test of a path is what a path is in plain words.
-use Rattle.std.proofs.Common.{◌≡◌, ℕ, ◌+◌, ◌==◌, ◌||◌, ◌&&◌, Bool, true, false, cond, ◌⊎◌, ◌↔◌, inl, inr, List, [], ◌∷◌, Option, Some, None, refl, sym, ◌∙◌, ap, subst, eqb-true, eq-eqb, ne_eqb}
-use Rattle.std.proofs.lemmas.Bool.{and_parts, and_from, or_parts, or_cases, or_right, or_left, cases_eq, both_ways, false_from_ne_true, cond-true, cond-false}
+use Rattle.std.proofs.Common.{◌≡◌, ℕ, ◌+◌, ◌==◌, ◌||◌, ◌&&◌, Bool, true, false, cond, ◌⊎◌, ◌↔◌, inl, inr, List, [], ◌∷◌, Some, None, refl, sym, ◌∙◌, ap, subst, eqb-true, eq-eqb, ne_eqb}
+use Rattle.std.proofs.lemmas.Bool.{and_parts, and_from, or_parts, or_right, or_left, cases_eq, both_ways, cond-true, cond-false}
 use Rattle.std.proofs.lemmas.Option.{same_Some}
 use Rattle.std.specs.Option.{option_map_or}
 use Rattle.ctrl_model.specs.declared.kinds.RouterSeen.{RouterSeen}
@@ -9,8 +9,7 @@ use Rattle.ctrl_model.specs.Numbered.{at}
 use Rattle.ctrl_model.specs.State.{Link}
 use Rattle.ctrl_model.specs.Walks.{is_among, goes}
 use Rattle.ctrl_model.specs.Networks.{Network, router_at, is_on, other_end, link_cost, is_usable, entry_cost, hops, is_path}
-use Rattle.ctrl_model.specs.PlainPaths.{Joins, LeadsTo, LeadThrough, NoneTwice, last_after, may_be_passed, IsPlainPath}
-use Rattle.ctrl_model.proofs.Members.{is_among-from, Among-from_test}
+use Rattle.ctrl_model.specs.PlainPaths.{Joins, LeadThrough, NoneTwice, last_after, may_be_passed, IsPlainPath}
 use Rattle.ctrl_model.proofs.WalkLaws.{by_goes, goes_more}
 use Rattle.ctrl_model.proofs.PathLaws.{by_is_on, by_hops, hops_from}
 

@@ -1,5 +1,5 @@
 -- Laws on the rules of a request: none fails exactly where the request is granted.
-use Rattle.std.proofs.Common.{◌≡◌, ℕ, ◌==◌, Bool, true, false, cond, ◌↔◌, List, [], ◌∷◌, Option, Some, None, refl, sym, ◌∙◌, ap, subst, subst₂, inl}
+use Rattle.std.proofs.Common.{◌≡◌, ℕ, ◌==◌, Bool, true, false, cond, ◌↔◌, List, [], ◌∷◌, Option, Some, None, refl, sym, ◌∙◌, ap, subst, subst₂}
 use Rattle.std.proofs.lemmas.Bool.{false≢true}
 use Rattle.std.proofs.lemmas.Option.{same_Some}
 use Rattle.std.specs.Option.{option_map_or}
@@ -7,9 +7,9 @@ use Rattle.std.specs.List.{AllByRecursion}
 use Rattle.ctrl_model.specs.declared.refusals.Denial.{Denial}
 use Rattle.ctrl_model.specs.declared.refusals.Denial.TheVariants.{UnknownIdentity, UnknownService}
 use Rattle.ctrl_model.specs.Membership.{Among}
-use Rattle.ctrl_model.specs.Matches.{is_nothing}
 use Rattle.ctrl_model.specs.Networks.{Network}
 use Rattle.ctrl_model.specs.Choices.{Ask, Wanted, Any, Absent, One, Candidate, IsCandidate, IsGranted, is_wanted, is_absent, candidates, candidates_for, best, first_denial, failing, first_rule}
+use Rattle.ctrl_model.proofs.Members.{by_something, something}
 use Rattle.ctrl_model.proofs.BestLaws.{least_of-there}
 use Rattle.ctrl_model.proofs.CandidateLaws.{Among-shared, Among-ingresses, Among-counted, Among-admissible, Among-candidates_for, candidates-for, best-is}
 
@@ -38,14 +38,6 @@ by_given : {A B P : Type 0} (f : A → Option B) (o : Option A) (d : B) → opti
 by_given f None d e k = absurd (cc)
 by_given f (Some x) d e k = k x refl e
 
-pub by_something : {X P : Type 0} (xs : List X) → is_nothing xs ≡ false → ((x : X) → Among x xs → P) → P
-by_something [] e k = absurd (false≢true (sym e))
-by_something (x ∷ xs) e k = k x (inl refl)
-
-pub something : {X : Type 0} (xs : List X) (x : X) → Among x xs → is_nothing xs ≡ false
-something [] x m = absurd m
-something (y ∷ xs) x m = refl
-
 -- a wanted ingress is not absent
 is_wanted-there : (wanted : Wanted) (r : ℕ) → is_wanted wanted r ≡ true → is_absent wanted ≡ false
 is_wanted-there Any r e = refl
@@ -66,6 +58,7 @@ granted w ask e =
     chosen i s who what dials room c m (Some b) is =
         record { identity = i; service = s; who = who; what = what; dials = dials; chosen = b; is_chosen = is; room = room }
 
+    -- the seventh rule is on candidates, and the eighth on room
     passed : (i s : ℕ) → ask.identity ≡ Some i → ask.service ≡ Some s → NoneFails (failing w ask i s) → IsGranted w ask
     passed i s who what a =
         by_something (candidates_for w ask i s) a.1.1.1.1.1.1.0 (λ c m.
@@ -78,15 +71,28 @@ no_rule_fails w ask g = with_candidate ((best-is w ask g.chosen).0 g.is_chosen).
     with_candidate k =
         ap (λ o. option_map_or (λ i. option_map_or (λ s. first_denial (failing w ask i s)) ask.service (Some UnknownService)) o (Some UnknownIdentity)) k.who
         ∙ (ap (λ o. option_map_or (λ s. first_denial (failing w ask k.identity s)) o (Some UnknownService)) k.what
-        ∙ none_first_denial (failing w ask k.identity k.service)
-        (is_wanted-there ask.ingress k.router.no.0 k.enters.wanted,
-        (dials,
-        (something _ k.router (Among-shared w ask.ingress k.identity k.service k.router k.enters),
-        (something _ k.router (Among-ingresses w ask.ingress k.identity k.service k.router k.enters),
-        (something _ k.terminator (Among-counted w k.service ask.instance k.terminator k.ends),
-        (something _ k.terminator (Among-admissible w k.service ask.instance k.terminator k.ends),
-        (something _ g.chosen (Among-candidates_for w ask g.chosen k),
-        (g.room, tt)))))))))
+        ∙ none_first_denial (failing w ask k.identity k.service) (
+          is_wanted-there ask.ingress k.router.no.0 k.enters.wanted,
+          (
+            dials,
+            (
+              something _ k.router (Among-shared w ask.ingress k.identity k.service k.router k.enters),
+              (
+                something _ k.router (Among-ingresses w ask.ingress k.identity k.service k.router k.enters),
+                (
+                  something _ k.terminator (Among-counted w k.service ask.instance k.terminator k.ends),
+                  (
+                    something _ k.terminator (Among-admissible w k.service ask.instance k.terminator k.ends),
+                    (
+                      something _ g.chosen (Among-candidates_for w ask g.chosen k),
+                      (g.room, tt),
+                    ),
+                  ),
+                ),
+              ),
+            ),
+          ),
+        ))
       where
         dials : (w.dial k.identity k.service == 0) ≡ false
         dials = subst₂ (λ i s. (w.dial i s == 0) ≡ false) (same_Some g.identity k.identity (sym g.who ∙ k.who)) (same_Some g.service k.service (sym g.what ∙ k.what)) g.dials

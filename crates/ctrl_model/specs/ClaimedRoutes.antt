@@ -1,11 +1,11 @@
 -- What a justified claim says of the route that it claims (docs/RULES.md, "Explanations and claims").
-use Rattle.std.specs.Prelude.{◌≡◌, ℕ, ◌<◌, ◌≤◌, Bool, true, false, ◌&&◌, nat_lt, nat_le, ◌⊎◌, List, length}
+use Rattle.std.specs.Prelude.{◌≡◌, ℕ, ◌<◌, ◌≤◌, Bool, ◌&&◌, nat_lt, nat_le, ◌⊎◌, length}
 use Rattle.std.specs.List.{list_all}
 use Rattle.ctrl_model.specs.declared.kinds.RouterSeen.{RouterSeen}
 use Rattle.ctrl_model.specs.declared.claims.Explanation.{Explanation}
 use Rattle.ctrl_model.specs.State.{Link, Terminator}
 use Rattle.ctrl_model.specs.Networks.{Network, link_cost, entry_cost}
-use Rattle.ctrl_model.specs.Choices.{Candidate, place_of}
+use Rattle.ctrl_model.specs.Choices.{Ask, Candidate, IsCandidate, place_of}
 
 -- Whether costs are so small that each path costs less than the number that stands for no path: there are at most 256
 -- routers, and each link, and the entry into each router, costs less than 2 ^ 31. A state's costs are far below.
@@ -15,9 +15,10 @@ has_small_costs w =
     && (list_all (λ (row : ℕ × Link). nat_lt (link_cost row.1) 2147483648) w.links
     && list_all (λ (r : RouterSeen). nat_lt (entry_cost w r) 2147483648) w.routers)
 
--- A candidate is no better than a precedence and a total: its precedence comes later, or is the same, with no lower total.
-abbrev pub IsNoBetter : ℕ → ℕ → Candidate → Type 0
-IsNoBetter place total c = (place < c.precedence) ⊎ ((c.precedence ≡ place) × (total ≤ c.total))
+-- No candidate is better than a precedence and a total: each one's precedence comes later, or is the same, with no lower total.
+abbrev pub NoneIsBetter : Network → Ask → ℕ → ℕ → Type 0
+NoneIsBetter w ask place total =
+    (c : Candidate) → IsCandidate w ask c → (place < c.precedence) ⊎ ((c.precedence ≡ place) × (total ≤ c.total))
 
 -- The candidate that a claim names, with its terminator.
 abbrev pub claimed_candidate : Explanation → Terminator → Candidate

@@ -7,7 +7,7 @@ ghost use Rattle.ctrl_model.specs.Networks.{Network, network_of, is_path, paths}
 ghost use Rattle.ctrl_model.specs.PlainPaths.{NoneTwice, IsPlainPath};
 ghost use Rattle.ctrl_model.specs.Choices.{Ask, Candidate, IsCandidate, IsBest, IsGranted, place_of, best, first_rule};
 ghost use Rattle.ctrl_model.specs.Claims.{justified};
-ghost use Rattle.ctrl_model.specs.ClaimedRoutes.{has_small_costs, IsNoBetter, claimed_candidate};
+ghost use Rattle.ctrl_model.specs.ClaimedRoutes.{has_small_costs, NoneIsBetter, claimed_candidate};
 ghost use Rattle.ctrl_model.specs.ValidState.{ValidState};
 
 /// A list of links is among the enumerated paths exactly where it is a path.
@@ -38,8 +38,8 @@ pub fn the_rule()
 /// or the same precedence and a lower total. Costs have to be so small that no path costs as much as the number that stands
 /// for no path; those of a valid state are.
 pub fn no_better()
-    ensures small { (w : Network) (ask : Ask) (claim : Explanation) (e : Terminator) → has_small_costs w ≡ true → at w.terminators claim.terminator.0 ≡ Some e → justified w ask claim ≡ true → (c : Candidate) → IsCandidate w ask c → IsNoBetter (place_of e.precedence) claim.total c }
-    ensures valid { (s : State) (ask : Ask) (claim : Explanation) (e : Terminator) → ValidState s → at s.terminators claim.terminator.0 ≡ Some e → justified (network_of s) ask claim ≡ true → (c : Candidate) → IsCandidate (network_of s) ask c → IsNoBetter (place_of e.precedence) claim.total c }
+    ensures small { (w : Network) (ask : Ask) (claim : Explanation) (e : Terminator) → has_small_costs w ≡ true → at w.terminators claim.terminator.0 ≡ Some e → justified w ask claim ≡ true → NoneIsBetter w ask (place_of e.precedence) claim.total }
+    ensures valid { (s : State) (ask : Ask) (claim : Explanation) (e : Terminator) → ValidState s → at s.terminators claim.terminator.0 ≡ Some e → justified (network_of s) ask claim ≡ true → NoneIsBetter (network_of s) ask (place_of e.precedence) claim.total }
 {}
 
 /// The route of a justified claim is a candidate itself, with the links and the total that the claim gives. Entering a router
