@@ -63,7 +63,7 @@ pub goes_less : (hop : Hops) (t : ℕ) (ls : List ℕ) (v : ℕ) (seen less : Li
 goes_less hop t [] v seen less sub g = g
 goes_less hop t (l ∷ ls) v seen less sub g = by_goes hop t seen v l ls g (λ h is new rest.
     goes_more hop t less v l ls h is (false_from_ne_true (is_among h.0 less) (λ e. both_ways (is_among h.0 seen) new (sub h.0 e)))
-      (goes_less hop t ls h.0 (h.0 ∷ seen) (h.0 ∷ less) (λ x e. or_more (h.0 == x) (is_among x less) (is_among x seen) (sub x) e) rest))
+    (goes_less hop t ls h.0 (h.0 ∷ seen) (h.0 ∷ less) (λ x e. or_more (h.0 == x) (is_among x less) (is_among x seen) (sub x) e) rest))
   where
     or_more : (a b c : Bool) → (b ≡ true → c ≡ true) → (a || b) ≡ true → (a || c) ≡ true
     or_more true b c k e = refl
@@ -84,18 +84,21 @@ around hop t x (l ∷ ls) v seen more sub g = by_goes hop t seen v l ls g (λ h 
     or_more : (a b c : Bool) (E : Type 0) → (b ≡ true → E ⊎ (c ≡ true)) → (a || b) ≡ true → E ⊎ ((a || c) ≡ true)
     or_more true b c E k e = inr refl
     or_more false b c E k e = k e
+
     one_of : (y : ℕ) (s : List ℕ) → (x : ℕ) → is_among x (y ∷ []) ≡ true → is_among x (y ∷ s) ≡ true
     one_of y s x e = wider (y == x) (is_among x s) e
       where
         wider : (a b : Bool) → (a || false) ≡ true → (a || b) ≡ true
         wider true b e = refl
         wider false b e = absurd (false≢true e)
+
     off : (h : ℕ × ℕ) → is_among h.0 seen ≡ false → (x ≡ h.0 → ⊥) → (is_among h.0 more ≡ true) → ⊥
     off h new ne e = apart (sub h.0 e)
       where
         apart : (x ≡ h.0) ⊎ (is_among h.0 seen ≡ true) → ⊥
         apart (inl s) = ne s
         apart (inr s) = both_ways (is_among h.0 seen) new s
+
     at : (h : ℕ × ℕ) → hop v l ≡ Some h → is_among h.0 seen ≡ false → goes hop t (h.0 ∷ seen) h.0 ls ≡ true
         → (x ≡ h.0) ⊎ (x ≡ h.0 → ⊥) → (goes hop t (h.0 ∷ more) h.0 ls ≡ true) ⊎ Shorter hop t x (cost_along hop h.0 ls)
         → (goes hop t more v (l ∷ ls) ≡ true) ⊎ Shorter hop t x (cost_along hop v (l ∷ ls))
@@ -201,17 +204,18 @@ walks_go hop names t zero seen v ls m = none (by_here v t ls m)
     none e = subst (λ ks. (goes hop t seen v ks ≡ true) × (length ks ≤ 0)) (sym e.0) (e.1, omega arith)
 walks_go hop names t (suc n) seen v ls m =
     by_append (here v t) (flat_map (behind hop names t n seen v) names) ls m (λ k. none (by_here v t ls k)) (λ k.
-      by_flat_map (behind hop names t n seen v) names ls k (λ l among j.
-        by_option (λ (h : ℕ × ℕ). map (λ ls. l ∷ ls) (walks hop names t n (h.0 ∷ seen) h.0)) (fresh hop seen v l) ls j (λ h is i.
-          by_map (λ ls. l ∷ ls) (walks hop names t n (h.0 ∷ seen) h.0) ls i (λ rest listed e.
-            some l h rest is (walks_go hop names t n (h.0 ∷ seen) h.0 rest listed) e))))
+    by_flat_map (behind hop names t n seen v) names ls k (λ l among j.
+    by_option (λ (h : ℕ × ℕ). map (λ ls. l ∷ ls) (walks hop names t n (h.0 ∷ seen) h.0)) (fresh hop seen v l) ls j (λ h is i.
+    by_map (λ ls. l ∷ ls) (walks hop names t n (h.0 ∷ seen) h.0) ls i (λ rest listed e.
+    some l h rest is (walks_go hop names t n (h.0 ∷ seen) h.0 rest listed) e))))
   where
     none : (ls ≡ []) × ((v == t) ≡ true) → (goes hop t seen v ls ≡ true) × (length ls ≤ suc n)
     none e = subst (λ ks. (goes hop t seen v ks ≡ true) × (length ks ≤ suc n)) (sym e.0) (e.1, omega arith)
+
     some : (l : ℕ) (h : ℕ × ℕ) (rest : List ℕ) → fresh hop seen v l ≡ Some h → (goes hop t (h.0 ∷ seen) h.0 rest ≡ true) × (length rest ≤ n) → l ∷ rest ≡ ls
         → (goes hop t seen v ls ≡ true) × (length ls ≤ suc n)
     some l h rest is g e = subst (λ ks. (goes hop t seen v ks ≡ true) × (length ks ≤ suc n)) e
-      (by_fresh hop seen v l h is (λ on new. goes_more hop t seen v l rest h on new g.0), omega (arith, g.1))
+        (by_fresh hop seen v l h is (λ on new. goes_more hop t seen v l rest h on new g.0), omega (arith, g.1))
 
 -- a walk of at most so many links is listed, where each hop's link is one of the names
 pub go_walks : (hop : Hops) (names : List ℕ) (t : ℕ) → LinksAmong hop names → (ls : List ℕ) (n : ℕ) (seen : List ℕ) (v : ℕ) → goes hop t seen v ls ≡ true → length ls ≤ n
@@ -221,12 +225,12 @@ go_walks hop names t named [] (suc n) seen v g few = Among-append_left (here v t
 go_walks hop names t named (l ∷ ls) zero seen v g few = absurd (omega arith)
 go_walks hop names t named (l ∷ ls) (suc n) seen v g few =
     Among-append_right (here v t) (flat_map (behind hop names t n seen v) names) (l ∷ ls) (by_goes hop t seen v l ls g (λ h is new rest.
-      Among-flat_map (behind hop names t n seen v) names l (l ∷ ls) (named v l h is)
-        (listed l h (fresh_from hop seen v l h is new) (go_walks hop names t named ls n (h.0 ∷ seen) h.0 rest (omega arith)))))
+    Among-flat_map (behind hop names t n seen v) names l (l ∷ ls) (named v l h is)
+    (listed l h (fresh_from hop seen v l h is new) (go_walks hop names t named ls n (h.0 ∷ seen) h.0 rest (omega arith)))))
   where
     listed : (l : ℕ) (h : ℕ × ℕ) → fresh hop seen v l ≡ Some h → Among ls (walks hop names t n (h.0 ∷ seen) h.0) → Among (l ∷ ls) (behind hop names t n seen v l)
     listed l h is m = subst (λ o. Among (l ∷ ls) (option_map_or (λ (h : ℕ × ℕ). map (λ ks. l ∷ ks) (walks hop names t n (h.0 ∷ seen) h.0)) o [])) (sym is)
-      (Among-map (λ ks. l ∷ ks) (walks hop names t n (h.0 ∷ seen) h.0) ls m)
+        (Among-map (λ ks. l ∷ ks) (walks hop names t n (h.0 ∷ seen) h.0) ls m)
 
 -- the paths from a place are the listed walks of so many links as there are places, or one less
 pub paths_are : (hop : Hops) (places names : List ℕ) (t n v : ℕ) → StaysAmong hop places → LinksAmong hop names → Among v places → length places ≤ n + 1 → (ls : List ℕ)
