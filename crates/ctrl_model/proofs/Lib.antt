@@ -1,2 +1,6 @@
 pub mod Members
 pub mod WalkLaws
+pub mod NumberedLaws
+pub mod DistinctLaws
+pub mod RefusalLaws
+pub mod SettleLaws
