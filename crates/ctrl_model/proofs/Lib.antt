@@ -4,3 +4,5 @@ pub mod NumberedLaws
 pub mod DistinctLaws
 pub mod RefusalLaws
 pub mod SettleLaws
+mod RefusedStates
+mod NextNumbers

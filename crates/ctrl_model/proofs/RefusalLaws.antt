@@ -1,12 +1,16 @@
 -- What follows from how a command is carried out: from its refusals, from a name that is looked up, and from permission.
 use Rattle.std.proofs.Common.{◌≡◌, ℕ, ◌<◌, Bool, true, false, cond, not, List, length, is_some, is_none, Option, None, Some, refl, sym, ◌∙◌, ap, subst, arith, ltb-true}
 use Rattle.std.proofs.lemmas.Bool.{and_parts, true≢false, false≢true, not-false}
+use Rattle.ctrl_model.specs.declared.refusals.Denial.{Denial}
+use Rattle.ctrl_model.specs.declared.refusals.Denial.TheVariants.{NoPath}
 use Rattle.ctrl_model.specs.declared.refusals.Field.{Field}
 use Rattle.ctrl_model.specs.declared.refusals.Refusal.{Refusal}
 use Rattle.ctrl_model.specs.declared.replies.Reply.{Reply}
 use Rattle.ctrl_model.specs.declared.replies.Reply.TheVariants.{Refused}
 use Rattle.ctrl_model.specs.State.{State}
 use Rattle.ctrl_model.specs.Settling.{settle}
+use Rattle.ctrl_model.specs.Choices.{Candidate}
+use Rattle.ctrl_model.specs.CircuitCommands.{decided}
 use Rattle.ctrl_model.specs.Rules.{or_then, refuse_if, carried_out, shown, unknown_if_absent, exists_if_present, at_number, has_room}
 
 -- ---- where no refusal comes, none of its parts comes
@@ -63,3 +67,11 @@ pub carried_out-leaves : (o : Option Refusal) (s : State) (reply : Reply) (effec
     → LeavesIfRefused s (carried_out o s reply effect)
 carried_out-leaves None s reply effect apart r e = absurd (apart r e)
 carried_out-leaves (Some q) s reply effect apart r e = refl
+
+-- ---- a route request is denied or granted
+
+pub decided-holds : (P : Reply × State → Type 0) (o : Option Denial) (c : Option Candidate) (denied : Denial → Reply × State) (granted : Candidate → Reply × State)
+    → ((d : Denial) → P (denied d)) → ((c : Candidate) → o ≡ None → P (granted c)) → P (decided o c denied granted)
+decided-holds P (Some d) c denied granted when_denied when_granted = when_denied d
+decided-holds P None None denied granted when_denied when_granted = when_denied NoPath
+decided-holds P None (Some c) denied granted when_denied when_granted = when_granted c refl
