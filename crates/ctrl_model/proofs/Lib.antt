@@ -2,6 +2,8 @@ pub mod Members
 pub mod WalkLaws
 pub mod NumberedLaws
 pub mod DistinctLaws
+pub mod TableLaws
+pub mod NamedLaws
 pub mod RefusalLaws
 pub mod SettleLaws
 mod RefusedStates
