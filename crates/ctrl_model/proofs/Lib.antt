@@ -6,5 +6,6 @@ pub mod TableLaws
 pub mod NamedLaws
 pub mod RefusalLaws
 pub mod SettleLaws
+pub mod ValidLaws
 mod RefusedStates
 mod NextNumbers
