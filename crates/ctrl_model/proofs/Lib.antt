@@ -7,5 +7,6 @@ pub mod NamedLaws
 pub mod RefusalLaws
 pub mod SettleLaws
 pub mod ValidLaws
+mod EntityCommandLaws
 mod RefusedStates
 mod NextNumbers

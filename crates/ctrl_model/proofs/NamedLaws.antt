@@ -8,14 +8,14 @@ use Rattle.ctrl_model.specs.declared.kinds.Side.{Side}
 use Rattle.ctrl_model.specs.declared.kinds.Relation.{Relation}
 use Rattle.ctrl_model.specs.NameForm.{is_name}
 use Rattle.ctrl_model.specs.Matches.{is_nothing}
-use Rattle.ctrl_model.specs.Numbered.{at, with_last, edit_at, without, first_where, Between}
+use Rattle.ctrl_model.specs.Numbered.{at, with_last, edit_at, without, map_each, first_where, Between}
 use Rattle.ctrl_model.specs.State.{State, Policy}
 use Rattle.ctrl_model.specs.CommandForm.{is_stored_side, are_names, is_distinct}
 use Rattle.ctrl_model.specs.ValidState.{are_found, is_valid_policy}
 use Rattle.ctrl_model.specs.Rules.{without_name, forget_left, forget_right}
-use Rattle.ctrl_model.proofs.NumberedLaws.{at-without, at-with_last, Found, first_where-found, found_too, is_found-from, by_is_some, length-filter-le, at-past, at-within}
+use Rattle.ctrl_model.proofs.NumberedLaws.{at-without, at-with_last, Found, first_where-found, found_too, is_found-from, by_is_some, length-filter-le, at-past, at-within, first_where-map}
 use Rattle.ctrl_model.proofs.DistinctLaws.{same_name, same_bytes, is_distinct-filter}
-use Rattle.ctrl_model.proofs.TableLaws.{Kept, list_all-filter, each_passes-more}
+use Rattle.ctrl_model.proofs.TableLaws.{Kept, Kept-test, Kept-map_each, list_all-filter}
 
 pub and_more : (a b c d : Bool) → (a ≡ true → c ≡ true) → (b ≡ true → d ≡ true) → (a && b) ≡ true → (c && d) ≡ true
 and_more a b c d f g e = let both = and_parts a b e in and_from c d (f both.0) (g both.1)
@@ -107,3 +107,30 @@ pub is_fitting-forget_right : (relates : Relation → Bool) (gone : List ℕ) (l
 is_fitting-forget_right relates gone left right right_after others p e =
     and_more _ _ _ _ (and_more _ _ _ _ (λ v. v) (and_more _ _ _ _ (λ v. v) (is_stored_side-without gone p.right)))
     (and_more _ _ _ _ (λ v. v) (and_more _ _ _ _ (λ v. v) (are_found-without gone right right_after others p.right))) e
+
+-- a change that keeps each name finds the same
+pub edit_at-finds : {R : Type 0} (name_of : R → List ℕ) (rows : List (ℕ × R)) (n : ℕ) (f : R → R) → ((r : R) → name_of (f r) ≡ name_of r)
+    → FindsToo (λ name. first_where (λ t. bytes_eq (name_of t) name) rows) (λ name. first_where (λ t. bytes_eq (name_of t) name) (edit_at rows n f))
+edit_at-finds {R = R} name_of rows n f keeps name e =
+    ap is_some (first_where-map (λ t. bytes_eq (name_of t) name) (λ t. bytes_eq (name_of t) name) (λ x. cond (x.0 == n) (f x.1) x.1) (λ x. same (x.0 == n) x.1) rows) ∙ e
+  where
+    same : (b : Bool) (r : R) → bytes_eq (name_of (cond b (f r) r)) name ≡ bytes_eq (name_of r) name
+    same true r = ap (λ m. bytes_eq m name) (keeps r)
+    same false r = refl
+
+-- ---- tables of policies
+
+module _ (relates : Relation → Bool) (left right : List ℕ → Option ℕ) {most : ℕ} {rows : List (ℕ × Policy)} {next : ℕ} (k : Kept (λ (p : Policy). p.name) (is_fitting relates left right) most rows next) where
+  pub policies-more : (left_after right_after : List ℕ → Option ℕ) → FindsToo left left_after → FindsToo right right_after
+      → Kept (λ (p : Policy). p.name) (is_fitting relates left_after right_after) most rows next
+  policies-more left_after right_after l r = Kept-test k (is_fitting relates left_after right_after) (is_fitting-more relates left right left_after right_after l r)
+
+  pub policies-forget_left : (gone : List ℕ) (left_after : List ℕ → Option ℕ) → FindsOthers gone left left_after
+      → Kept (λ (p : Policy). p.name) (is_fitting relates left_after right) most (map_each (forget_left gone) rows) next
+  policies-forget_left gone left_after others =
+      Kept-map_each k (forget_left gone) (is_fitting relates left_after right) (λ p. refl) (is_fitting-forget_left relates gone left right left_after others)
+
+  pub policies-forget_right : (gone : List ℕ) (right_after : List ℕ → Option ℕ) → FindsOthers gone right right_after
+      → Kept (λ (p : Policy). p.name) (is_fitting relates left right_after) most (map_each (forget_right gone) rows) next
+  policies-forget_right gone right_after others =
+      Kept-map_each k (forget_right gone) (is_fitting relates left right_after) (λ p. refl) (is_fitting-forget_right relates gone left right right_after others)
