@@ -8,5 +8,6 @@ pub mod RefusalLaws
 pub mod SettleLaws
 pub mod ValidLaws
 mod EntityCommandLaws
+mod PolicyCommandLaws
 mod RefusedStates
 mod NextNumbers
