@@ -17,7 +17,7 @@ use Rattle.ctrl_model.specs.ValidState.{ValidState, is_valid_router}
 use Rattle.ctrl_model.proofs.DistinctLaws.{Includes-filter, Includes-map}
 use Rattle.ctrl_model.proofs.TableLaws.{Kept-with_last, Kept-edit_at, Kept-filter}
 use Rattle.ctrl_model.proofs.NamedLaws.{with_last-finds, without-finds, edit_at-finds, policies-more, policies-forget_left, policies-forget_right}
-use Rattle.ctrl_model.proofs.RefusalLaws.{or_then-none, refuse_if-none, exists_if_present-none, has_room-parts, at_number-holds}
+use Rattle.ctrl_model.proofs.RefusalLaws.{or_then-none, refuse_if-none, exists_if_present-none, full-none, at_number-holds}
 use Rattle.ctrl_model.proofs.ValidLaws.{Orderly, Orderly-from_valid, carried_out-valid, at_number-orderly, Orderly-identities, with_identities, Orderly-services, with_services, Orderly-routers, with_routers, attributes_fewer}
 
 -- ---- identities
@@ -32,7 +32,7 @@ create_identity-valid name attributes s spelled v =
     let limits = or_then-none _ _ rules.1 in
     Orderly-identities s (with_last s.identities s.next_identity new) (s.next_identity + 1) s.service_policies s.edge_router_policies o
         (Kept-with_last o.identities new (exists_if_present-none (entity_named s.identities name) rules.0)
-            (has_room-parts 2048 s.identities s.next_identity (Full kind.Identity) limits.0) spelled)
+            (full-none 2048 s.identities s.next_identity (Full kind.Identity) limits.0) spelled)
         (policies-more is_service_relation (entity_named s.identities) (entity_named s.services) o.service_policies _ (entity_named s.services) (with_last-finds o.identities new) (λ n e. e))
         (policies-more (same_relation IdentityRouter) (entity_named s.identities) (router_named s.routers) o.edge_router_policies _ (router_named s.routers) (with_last-finds o.identities new) (λ n e. e))
         (refuse_if-none _ (Full kind.Attribute) limits.1))
@@ -78,7 +78,7 @@ create_service-valid name attributes s spelled v =
     let limits = or_then-none _ _ rules.1 in
     Orderly-services s (with_last s.services s.next_service new) (s.next_service + 1) s.service_policies s.service_edge_router_policies o
         (Kept-with_last o.services new (exists_if_present-none (entity_named s.services name) rules.0)
-            (has_room-parts 512 s.services s.next_service (Full kind.Service) limits.0) spelled)
+            (full-none 512 s.services s.next_service (Full kind.Service) limits.0) spelled)
         (policies-more is_service_relation (entity_named s.identities) (entity_named s.services) o.service_policies (entity_named s.identities) _
             (λ n e. e) (with_last-finds o.services new))
         (policies-more (same_relation ServiceRouter) (entity_named s.services) (router_named s.routers) o.service_edge_router_policies _ (router_named s.routers)
@@ -126,7 +126,7 @@ create_router-valid name attributes cost no_traversal s spelled v =
     let limits = or_then-none _ _ rules.1 in
     Orderly-routers s (with_last s.routers s.next_router new) (s.next_router + 1) s.edge_router_policies s.service_edge_router_policies o
         (Kept-with_last o.routers new (exists_if_present-none (router_named s.routers name) rules.0)
-            (has_room-parts 256 s.routers s.next_router (Full kind.Router) limits.0) spelled)
+            (full-none 256 s.routers s.next_router (Full kind.Router) limits.0) spelled)
         (policies-more (same_relation IdentityRouter) (entity_named s.identities) (router_named s.routers) o.edge_router_policies (entity_named s.identities) _
             (λ n e. e) (with_last-finds o.routers new))
         (policies-more (same_relation ServiceRouter) (entity_named s.services) (router_named s.routers) o.service_edge_router_policies (entity_named s.services) _

@@ -9,5 +9,8 @@ pub mod SettleLaws
 pub mod ValidLaws
 mod EntityCommandLaws
 mod PolicyCommandLaws
+mod LinkCommandLaws
+mod TerminatorCommandLaws
+mod CircuitCommandLaws
 mod RefusedStates
 mod NextNumbers

@@ -23,7 +23,7 @@ use Rattle.ctrl_model.specs.ValidState.{ValidState, is_valid_policy, are_found}
 use Rattle.ctrl_model.proofs.DistinctLaws.{Includes-filter}
 use Rattle.ctrl_model.proofs.TableLaws.{Kept, Kept-with_last, Kept-edit_at, Kept-filter}
 use Rattle.ctrl_model.proofs.NamedLaws.{is_fitting}
-use Rattle.ctrl_model.proofs.RefusalLaws.{or_then-none, refuse_if-none, exists_if_present-none, has_room-parts, at_number-holds}
+use Rattle.ctrl_model.proofs.RefusalLaws.{or_then-none, refuse_if-none, exists_if_present-none, full-none, at_number-holds}
 use Rattle.ctrl_model.proofs.ValidLaws.{Orderly, Orderly-from_valid, carried_out-valid, at_number-orderly, Orderly-policies, with_policies, attributes_fewer}
 
 -- where no `@` name is absent, each is found
@@ -70,7 +70,7 @@ create_service_policy-valid p s valid related v =
     let limits = or_then-none _ _ names.1 in
     Orderly-policies s (with_last s.service_policies s.next_service_policy p) (s.next_service_policy + 1) s.edge_router_policies s.next_edge_router_policy s.service_edge_router_policies s.next_service_edge_router_policy o
         (Kept-with_last o.service_policies p (exists_if_present-none (policy_named s.service_policies p.name) rules.0)
-            (has_room-parts 512 s.service_policies s.next_service_policy (Full kind.ServicePolicy) limits.0)
+            (full-none 512 s.service_policies s.next_service_policy (Full kind.ServicePolicy) limits.0)
             (fitting is_service_relation (entity_named s.identities) (entity_named s.services) field.IdentityRoles field.ServiceRoles p valid related names.0)) o.edge_router_policies o.service_edge_router_policies
         (refuse_if-none _ (Full kind.Attribute) limits.1))
 
@@ -107,7 +107,7 @@ create_edge_router_policy-valid p s valid related v =
     let limits = or_then-none _ _ names.1 in
     Orderly-policies s s.service_policies s.next_service_policy (with_last s.edge_router_policies s.next_edge_router_policy p) (s.next_edge_router_policy + 1) s.service_edge_router_policies s.next_service_edge_router_policy o
         o.service_policies (Kept-with_last o.edge_router_policies p (exists_if_present-none (policy_named s.edge_router_policies p.name) rules.0)
-            (has_room-parts 256 s.edge_router_policies s.next_edge_router_policy (Full kind.EdgeRouterPolicy) limits.0)
+            (full-none 256 s.edge_router_policies s.next_edge_router_policy (Full kind.EdgeRouterPolicy) limits.0)
             (fitting (same_relation IdentityRouter) (entity_named s.identities) (router_named s.routers) field.IdentityRoles field.RouterRoles p valid related names.0)) o.service_edge_router_policies
         (refuse_if-none _ (Full kind.Attribute) limits.1))
 
@@ -144,7 +144,7 @@ create_service_edge_router_policy-valid p s valid related v =
     let limits = or_then-none _ _ names.1 in
     Orderly-policies s s.service_policies s.next_service_policy s.edge_router_policies s.next_edge_router_policy (with_last s.service_edge_router_policies s.next_service_edge_router_policy p) (s.next_service_edge_router_policy + 1) o
         o.service_policies o.edge_router_policies (Kept-with_last o.service_edge_router_policies p (exists_if_present-none (policy_named s.service_edge_router_policies p.name) rules.0)
-            (has_room-parts 256 s.service_edge_router_policies s.next_service_edge_router_policy (Full kind.ServiceEdgeRouterPolicy) limits.0)
+            (full-none 256 s.service_edge_router_policies s.next_service_edge_router_policy (Full kind.ServiceEdgeRouterPolicy) limits.0)
             (fitting (same_relation ServiceRouter) (entity_named s.services) (router_named s.routers) field.ServiceRoles field.RouterRoles p valid related names.0))
         (refuse_if-none _ (Full kind.Attribute) limits.1))
 

@@ -31,11 +31,14 @@ pub unknown_if_absent-none : {P : Type 0} (field : Field) (found : Option ℕ) �
 unknown_if_absent-none field None e k = absurd (cc)
 unknown_if_absent-none field (Some n) e k = k n refl
 
-pub has_room-parts : {R : Type 0} (most : ℕ) (rows : List (ℕ × R)) (next : ℕ) (r : Refusal) → refuse_if (not (has_room most rows next)) r ≡ None
-    → (length rows < most) × (next < 4294967295)
-has_room-parts most rows next r e =
-    let both = and_parts _ _ (not-false (has_room most rows next) (refuse_if-none (not (has_room most rows next)) r e)) in
+pub has_room-parts : {R : Type 0} (most : ℕ) (rows : List (ℕ × R)) (next : ℕ) → not (has_room most rows next) ≡ false → (length rows < most) × (next < 4294967295)
+has_room-parts most rows next e =
+    let both = and_parts _ _ (not-false (has_room most rows next) e) in
     (ltb-true (length rows) most both.0, ltb-true next 4294967295 both.1)
+
+pub full-none : {R : Type 0} (most : ℕ) (rows : List (ℕ × R)) (next : ℕ) (r : Refusal) → refuse_if (not (has_room most rows next)) r ≡ None
+    → (length rows < most) × (next < 4294967295)
+full-none most rows next r e = has_room-parts most rows next (refuse_if-none (not (has_room most rows next)) r e)
 
 -- ---- what holds of the old state and of the effect holds of the next state
 
