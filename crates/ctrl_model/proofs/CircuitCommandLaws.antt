@@ -1,17 +1,17 @@
 -- The commands on circuits keep a state valid. Which circuits stand is said by settling; here only their numbers and their
 -- limit are shown.
-use Rattle.std.proofs.Common.{◌≡◌, ℕ, ◌+◌, ◌==◌, Bool, true, false, cond, not, List, [], ◌∷◌, ◌⊎◌, inl, inr, Option, None, Some, refl, sym, ◌∙◌, ap, unwrap_or}
+use Rattle.std.proofs.Common.{◌≡◌, ℕ, ◌+◌, ◌==◌, Bool, true, false, cond, not, List, [], ◌∷◌, ◌⊎◌, inl, inr, Option, None, Some, refl, sym, ◌∙◌, ap}
 use Rattle.std.specs.Option.{option_map_or}
 use Rattle.ctrl_model.specs.declared.refusals.Denial.{Denial}
 use Rattle.ctrl_model.specs.declared.refusals.Denial.TheVariants.{UnknownIdentity, UnknownService, CircuitsFull}
 use Rattle.ctrl_model.specs.declared.refusals.Refusal.TheVariants.{Denied}
 use Rattle.ctrl_model.specs.declared.replies.Reply.TheVariants.{Done, Refused}
 use Rattle.ctrl_model.specs.Membership.{Among}
-use Rattle.ctrl_model.specs.Numbered.{with_last, without}
+use Rattle.ctrl_model.specs.Numbered.{without}
 use Rattle.ctrl_model.specs.State.{State, Circuit}
 use Rattle.ctrl_model.specs.Settling.{settle}
 use Rattle.ctrl_model.specs.Networks.{Network, network_of}
-use Rattle.ctrl_model.specs.Choices.{Ask, Candidate, best, failing, first_denial, first_rule}
+use Rattle.ctrl_model.specs.Choices.{Ask, best, failing, first_denial, first_rule}
 use Rattle.ctrl_model.specs.CircuitCommands.{create_circuit, after_create_circuit, granted_reply, delete_circuit, no_such_circuit}
 use Rattle.ctrl_model.specs.ValidState.{ValidState, ValidNumbers}
 use Rattle.ctrl_model.proofs.TableLaws.{ValidNumbers-with_last, ValidNumbers-filter}
@@ -48,7 +48,7 @@ create_circuit-valid ask s v = decided-holds (λ a. ValidState a.1) (first_rule 
     (λ d. (Refused (Denied d), s)) (λ c. (granted_reply c s, settle (after_create_circuit ask c s))) (λ d. v) (λ c none.
     let o = Orderly-from_valid s v in
     ValidState-settle (after_create_circuit ask c s) (circuits-orderly s (after_create_circuit ask c s).circuits (s.next_circuit + 1) o
-        (ValidNumbers-with_last o.circuits _ (has_room-parts 16384 s.circuits s.next_circuit (first_rule-full (network_of s) ask none)))))
+    (ValidNumbers-with_last o.circuits _ (has_room-parts 16384 s.circuits s.next_circuit (first_rule-full (network_of s) ask none)))))
 
 pub delete_circuit-valid : (n : ℕ) (s : State) → ValidState s → ValidState (delete_circuit n s).1
 delete_circuit-valid n s v =

@@ -1,12 +1,10 @@
 -- Laws on how many different names a list has: a list whose names all stand in another has no more of them.
-use Rattle.std.proofs.Common.{◌≡◌, ℕ, ◌+◌, ◌≤◌, Bool, true, false, cond, not, ◌&&◌, ◌||◌, ◌⊎◌, inl, inr, List, [], ◌∷◌, ◌++◌, map, length, refl, sym, ◌∙◌, ap, subst, arith, bytes_eq}
-use Rattle.std.proofs.lemmas.Bool.{and_parts, and_from, both_ways, false≢true, true≢false, not-true, or_right, false_from_ne_true}
+use Rattle.std.proofs.Common.{◌≡◌, ℕ, ◌≤◌, Bool, true, false, cond, not, ◌||◌, inl, inr, List, [], ◌∷◌, ◌++◌, map, refl, sym, ◌∙◌, ap, subst, bytes_eq}
+use Rattle.std.proofs.lemmas.Bool.{and_parts, and_from, both_ways, true≢false, not-true, or_right, false_from_ne_true}
 use Rattle.std.proofs.lemmas.Map.Made.{length-le_from_is_member}
 use Rattle.std.proofs.lemmas.Slice.Eq.{bytes_eq-Decides}
-use Rattle.std.proofs.lemmas.List.Folds.{flat_map-map}
-use Rattle.std.specs.Cmp.{IsEquivalence}
 use Rattle.std.specs.Cmp.Lexicographic.{nat_list_eq_equiv}
-use Rattle.std.specs.List.{filter, flat_map, list_any, AllByRecursion, IsDistinct}
+use Rattle.std.specs.List.{filter, flat_map, AllByRecursion, IsDistinct}
 use Rattle.std.specs.Set.{is_member, unique_keys, distinct_count}
 use Rattle.ctrl_model.specs.Membership.{Among}
 use Rattle.ctrl_model.specs.Matches.{has_name}
@@ -67,9 +65,10 @@ is_member-unique_keys-from (x ∷ xs) q e = by (is_member bytes_eq xs x) (bytes_
 
 apart_from_absent : (x : List ℕ) (ys : List (List ℕ)) → (is_member bytes_eq ys x ≡ true → ⊥) → AllByRecursion (λ y. bytes_eq x y ≡ false) ys
 apart_from_absent x [] n = tt
-apart_from_absent x (y ∷ ys) n =
-    (false_from_ne_true (bytes_eq x y) (λ e. n (ap (λ b. b || is_member bytes_eq ys x) e)),
-    apart_from_absent x ys (λ e. n (or_right (bytes_eq x y) (is_member bytes_eq ys x) e)))
+apart_from_absent x (y ∷ ys) n = (
+  false_from_ne_true (bytes_eq x y) (λ e. n (ap (λ b. b || is_member bytes_eq ys x) e)),
+  apart_from_absent x ys (λ e. n (or_right (bytes_eq x y) (is_member bytes_eq ys x) e)),
+)
 
 IsDistinct-unique_keys : (xs : List (List ℕ)) → IsDistinct bytes_eq (unique_keys bytes_eq xs)
 unfolding IsDistinct

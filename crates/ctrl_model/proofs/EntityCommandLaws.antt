@@ -1,5 +1,5 @@
 -- The commands on identities, services and routers keep a state valid.
-use Rattle.std.proofs.Common.{◌≡◌, ℕ, ◌+◌, ◌==◌, Bool, true, false, cond, not, ◌&&◌, List, Option, None, Some, refl, sym, ◌∙◌, ap, subst}
+use Rattle.std.proofs.Common.{◌≡◌, ℕ, ◌+◌, ◌==◌, Bool, true, false, cond, not, ◌&&◌, List, refl}
 use Rattle.std.proofs.lemmas.Bool.{and_parts, and_from}
 use Rattle.ctrl_model.specs.declared.kinds.Relation.TheVariants.{IdentityRouter, ServiceRouter}
 use Rattle.ctrl_model.specs.declared.kinds.Kind.TheVariants as kind
@@ -31,11 +31,11 @@ create_identity-valid name attributes s spelled v =
     let rules = or_then-none _ _ none in
     let limits = or_then-none _ _ rules.1 in
     Orderly-identities s (with_last s.identities s.next_identity new) (s.next_identity + 1) s.service_policies s.edge_router_policies o
-        (Kept-with_last o.identities new (exists_if_present-none (entity_named s.identities name) rules.0)
-            (full-none 2048 s.identities s.next_identity (Full kind.Identity) limits.0) spelled)
-        (policies-more is_service_relation (entity_named s.identities) (entity_named s.services) o.service_policies _ (entity_named s.services) (with_last-finds o.identities new) (λ n e. e))
-        (policies-more (same_relation IdentityRouter) (entity_named s.identities) (router_named s.routers) o.edge_router_policies _ (router_named s.routers) (with_last-finds o.identities new) (λ n e. e))
-        (refuse_if-none _ (Full kind.Attribute) limits.1))
+    (Kept-with_last o.identities new (exists_if_present-none (entity_named s.identities name) rules.0)
+    (full-none 2048 s.identities s.next_identity (Full kind.Identity) limits.0) spelled)
+    (policies-more is_service_relation (entity_named s.identities) (entity_named s.services) o.service_policies _ (entity_named s.services) (with_last-finds o.identities new) (λ n e. e))
+    (policies-more (same_relation IdentityRouter) (entity_named s.identities) (router_named s.routers) o.edge_router_policies _ (router_named s.routers) (with_last-finds o.identities new) (λ n e. e))
+    (refuse_if-none _ (Full kind.Attribute) limits.1))
 
 pub update_identity-valid : (name : List ℕ) (attributes : List (List ℕ)) (s : State) → (is_name name && are_attributes attributes) ≡ true → ValidState s
     → ValidState (update_identity name attributes s).1
@@ -46,10 +46,10 @@ update_identity-valid name attributes s spelled v =
     let rules = or_then-none _ _ none in
     at_number-orderly (entity_named s.identities name) s _ o (λ n is few.
     Orderly-identities s (edit_at s.identities n f) s.next_identity s.service_policies s.edge_router_policies o
-        (Kept-edit_at o.identities n f (λ e. refl) (λ e t. and_from _ _ (and_parts (is_name e.name) (are_attributes e.attributes) t).0 (and_parts (is_name name) (are_attributes attributes) spelled).1))
-        (policies-more is_service_relation (entity_named s.identities) (entity_named s.services) o.service_policies _ (entity_named s.services) (edit_at-finds (λ (e : Entity). e.name) s.identities n f (λ e. refl)) (λ n e. e))
-        (policies-more (same_relation IdentityRouter) (entity_named s.identities) (router_named s.routers) o.edge_router_policies _ (router_named s.routers) (edit_at-finds (λ (e : Entity). e.name) s.identities n f (λ e. refl)) (λ n e. e))
-        few) (refuse_if-none _ (Full kind.Attribute) rules.1))
+    (Kept-edit_at o.identities n f (λ e. refl) (λ e t. and_from _ _ (and_parts (is_name e.name) (are_attributes e.attributes) t).0 (and_parts (is_name name) (are_attributes attributes) spelled).1))
+    (policies-more is_service_relation (entity_named s.identities) (entity_named s.services) o.service_policies _ (entity_named s.services) (edit_at-finds (λ (e : Entity). e.name) s.identities n f (λ e. refl)) (λ n e. e))
+    (policies-more (same_relation IdentityRouter) (entity_named s.identities) (router_named s.routers) o.edge_router_policies _ (router_named s.routers) (edit_at-finds (λ (e : Entity). e.name) s.identities n f (λ e. refl)) (λ n e. e))
+    few) (refuse_if-none _ (Full kind.Attribute) rules.1))
 
 pub delete_identity-valid : (name : List ℕ) (s : State) → ValidState s → ValidState (delete_identity name s).1
 delete_identity-valid name s v =
@@ -57,14 +57,14 @@ delete_identity-valid name s v =
     carried_out-valid (unknown_if_absent field.Name (entity_named s.identities name)) s Done (after_delete_identity name s) v (λ none.
     at_number-holds Orderly (entity_named s.identities name) s _ o (λ n is.
     Orderly-identities s (without s.identities n) s.next_identity (map_each (forget_left name) s.service_policies) (map_each (forget_left name) s.edge_router_policies) o
-        (Kept-filter o.identities (λ x. not (x.0 == n)))
-        (policies-forget_left is_service_relation (entity_named s.identities) (entity_named s.services) o.service_policies name _ (without-finds o.identities name n is))
-        (policies-forget_left (same_relation IdentityRouter) (entity_named s.identities) (router_named s.routers) o.edge_router_policies name _ (without-finds o.identities name n is))
-        (attributes_fewer s (with_identities s (without s.identities n) s.next_identity (map_each (forget_left name) s.service_policies) (map_each (forget_left name) s.edge_router_policies))
-            (Includes-filter (λ row. row.1.attributes) (λ x. not (x.0 == n)) s.identities) (λ x m. m) (λ x m. m)
-            (Includes-map side_attributes (λ x. (x.0, forget_left name x.1)) side_attributes (λ x. refl) s.service_policies)
-            (Includes-map side_attributes (λ x. (x.0, forget_left name x.1)) side_attributes (λ x. refl) s.edge_router_policies)
-            (λ x m. m) o.attributes)))
+    (Kept-filter o.identities (λ x. not (x.0 == n)))
+    (policies-forget_left is_service_relation (entity_named s.identities) (entity_named s.services) o.service_policies name _ (without-finds o.identities name n is))
+    (policies-forget_left (same_relation IdentityRouter) (entity_named s.identities) (router_named s.routers) o.edge_router_policies name _ (without-finds o.identities name n is))
+    (attributes_fewer s (with_identities s (without s.identities n) s.next_identity (map_each (forget_left name) s.service_policies) (map_each (forget_left name) s.edge_router_policies))
+    (Includes-filter (λ row. row.1.attributes) (λ x. not (x.0 == n)) s.identities) (λ x m. m) (λ x m. m)
+    (Includes-map side_attributes (λ x. (x.0, forget_left name x.1)) side_attributes (λ x. refl) s.service_policies)
+    (Includes-map side_attributes (λ x. (x.0, forget_left name x.1)) side_attributes (λ x. refl) s.edge_router_policies)
+    (λ x m. m) o.attributes)))
 
 -- ---- services
 
@@ -77,13 +77,13 @@ create_service-valid name attributes s spelled v =
     let rules = or_then-none _ _ none in
     let limits = or_then-none _ _ rules.1 in
     Orderly-services s (with_last s.services s.next_service new) (s.next_service + 1) s.service_policies s.service_edge_router_policies o
-        (Kept-with_last o.services new (exists_if_present-none (entity_named s.services name) rules.0)
-            (full-none 512 s.services s.next_service (Full kind.Service) limits.0) spelled)
-        (policies-more is_service_relation (entity_named s.identities) (entity_named s.services) o.service_policies (entity_named s.identities) _
-            (λ n e. e) (with_last-finds o.services new))
-        (policies-more (same_relation ServiceRouter) (entity_named s.services) (router_named s.routers) o.service_edge_router_policies _ (router_named s.routers)
-            (with_last-finds o.services new) (λ n e. e))
-        (refuse_if-none _ (Full kind.Attribute) limits.1))
+    (Kept-with_last o.services new (exists_if_present-none (entity_named s.services name) rules.0)
+    (full-none 512 s.services s.next_service (Full kind.Service) limits.0) spelled)
+    (policies-more is_service_relation (entity_named s.identities) (entity_named s.services) o.service_policies (entity_named s.identities) _
+    (λ n e. e) (with_last-finds o.services new))
+    (policies-more (same_relation ServiceRouter) (entity_named s.services) (router_named s.routers) o.service_edge_router_policies _ (router_named s.routers)
+    (with_last-finds o.services new) (λ n e. e))
+    (refuse_if-none _ (Full kind.Attribute) limits.1))
 
 pub update_service-valid : (name : List ℕ) (attributes : List (List ℕ)) (s : State) → (is_name name && are_attributes attributes) ≡ true → ValidState s
     → ValidState (update_service name attributes s).1
@@ -95,10 +95,10 @@ update_service-valid name attributes s spelled v =
     at_number-orderly (entity_named s.services name) s _ o (λ n is few.
     let finds = edit_at-finds (λ (e : Entity). e.name) s.services n f (λ e. refl) in
     Orderly-services s (edit_at s.services n f) s.next_service s.service_policies s.service_edge_router_policies o
-        (Kept-edit_at o.services n f (λ e. refl) (λ e t. and_from _ _ (and_parts (is_name e.name) (are_attributes e.attributes) t).0 (and_parts (is_name name) (are_attributes attributes) spelled).1))
-        (policies-more is_service_relation (entity_named s.identities) (entity_named s.services) o.service_policies (entity_named s.identities) _ (λ n e. e) finds)
-        (policies-more (same_relation ServiceRouter) (entity_named s.services) (router_named s.routers) o.service_edge_router_policies _ (router_named s.routers) finds (λ n e. e))
-        few) (refuse_if-none _ (Full kind.Attribute) rules.1))
+    (Kept-edit_at o.services n f (λ e. refl) (λ e t. and_from _ _ (and_parts (is_name e.name) (are_attributes e.attributes) t).0 (and_parts (is_name name) (are_attributes attributes) spelled).1))
+    (policies-more is_service_relation (entity_named s.identities) (entity_named s.services) o.service_policies (entity_named s.identities) _ (λ n e. e) finds)
+    (policies-more (same_relation ServiceRouter) (entity_named s.services) (router_named s.routers) o.service_edge_router_policies _ (router_named s.routers) finds (λ n e. e))
+    few) (refuse_if-none _ (Full kind.Attribute) rules.1))
 
 pub delete_service-valid : (name : List ℕ) (s : State) → ValidState s → ValidState (delete_service name s).1
 delete_service-valid name s v =
@@ -107,12 +107,12 @@ delete_service-valid name s v =
     at_number-holds Orderly (entity_named s.services name) s _ o (λ n is.
     let t = with_services s (without s.services n) s.next_service (map_each (forget_right name) s.service_policies) (map_each (forget_left name) s.service_edge_router_policies) in
     Orderly-services s t.services s.next_service t.service_policies t.service_edge_router_policies o
-        (Kept-filter o.services (λ x. not (x.0 == n)))
-        (policies-forget_right is_service_relation (entity_named s.identities) (entity_named s.services) o.service_policies name _ (without-finds o.services name n is))
-        (policies-forget_left (same_relation ServiceRouter) (entity_named s.services) (router_named s.routers) o.service_edge_router_policies name _ (without-finds o.services name n is))
-        (attributes_fewer s t (λ x m. m) (Includes-filter (λ row. row.1.attributes) (λ x. not (x.0 == n)) s.services) (λ x m. m)
-            (Includes-map side_attributes (λ x. (x.0, forget_right name x.1)) side_attributes (λ x. refl) s.service_policies) (λ x m. m)
-            (Includes-map side_attributes (λ x. (x.0, forget_left name x.1)) side_attributes (λ x. refl) s.service_edge_router_policies) o.attributes)))
+    (Kept-filter o.services (λ x. not (x.0 == n)))
+    (policies-forget_right is_service_relation (entity_named s.identities) (entity_named s.services) o.service_policies name _ (without-finds o.services name n is))
+    (policies-forget_left (same_relation ServiceRouter) (entity_named s.services) (router_named s.routers) o.service_edge_router_policies name _ (without-finds o.services name n is))
+    (attributes_fewer s t (λ x m. m) (Includes-filter (λ row. row.1.attributes) (λ x. not (x.0 == n)) s.services) (λ x m. m)
+    (Includes-map side_attributes (λ x. (x.0, forget_right name x.1)) side_attributes (λ x. refl) s.service_policies) (λ x m. m)
+    (Includes-map side_attributes (λ x. (x.0, forget_left name x.1)) side_attributes (λ x. refl) s.service_edge_router_policies) o.attributes)))
 
 -- ---- routers
 
@@ -125,13 +125,13 @@ create_router-valid name attributes cost no_traversal s spelled v =
     let rules = or_then-none _ _ none in
     let limits = or_then-none _ _ rules.1 in
     Orderly-routers s (with_last s.routers s.next_router new) (s.next_router + 1) s.edge_router_policies s.service_edge_router_policies o
-        (Kept-with_last o.routers new (exists_if_present-none (router_named s.routers name) rules.0)
-            (full-none 256 s.routers s.next_router (Full kind.Router) limits.0) spelled)
-        (policies-more (same_relation IdentityRouter) (entity_named s.identities) (router_named s.routers) o.edge_router_policies (entity_named s.identities) _
-            (λ n e. e) (with_last-finds o.routers new))
-        (policies-more (same_relation ServiceRouter) (entity_named s.services) (router_named s.routers) o.service_edge_router_policies (entity_named s.services) _
-            (λ n e. e) (with_last-finds o.routers new))
-        (refuse_if-none _ (Full kind.Attribute) limits.1))
+    (Kept-with_last o.routers new (exists_if_present-none (router_named s.routers name) rules.0)
+    (full-none 256 s.routers s.next_router (Full kind.Router) limits.0) spelled)
+    (policies-more (same_relation IdentityRouter) (entity_named s.identities) (router_named s.routers) o.edge_router_policies (entity_named s.identities) _
+    (λ n e. e) (with_last-finds o.routers new))
+    (policies-more (same_relation ServiceRouter) (entity_named s.services) (router_named s.routers) o.service_edge_router_policies (entity_named s.services) _
+    (λ n e. e) (with_last-finds o.routers new))
+    (refuse_if-none _ (Full kind.Attribute) limits.1))
 
 -- a change of one router that keeps its name, and keeps it valid
 edit_router-orderly : (n : ℕ) (f : Router → Router) (s : State) → Orderly s → ((r : Router) → (f r).name ≡ r.name)
@@ -140,10 +140,10 @@ edit_router-orderly : (n : ℕ) (f : Router → Router) (s : State) → Orderly 
 edit_router-orderly n f s o keeps passes few =
     let finds = edit_at-finds (λ (r : Router). r.name) s.routers n f keeps in
     Orderly-routers s (edit_at s.routers n f) s.next_router s.edge_router_policies s.service_edge_router_policies o
-        (Kept-edit_at o.routers n f keeps passes)
-        (policies-more (same_relation IdentityRouter) (entity_named s.identities) (router_named s.routers) o.edge_router_policies (entity_named s.identities) _ (λ n e. e) finds)
-        (policies-more (same_relation ServiceRouter) (entity_named s.services) (router_named s.routers) o.service_edge_router_policies (entity_named s.services) _ (λ n e. e) finds)
-        few
+    (Kept-edit_at o.routers n f keeps passes)
+    (policies-more (same_relation IdentityRouter) (entity_named s.identities) (router_named s.routers) o.edge_router_policies (entity_named s.identities) _ (λ n e. e) finds)
+    (policies-more (same_relation ServiceRouter) (entity_named s.services) (router_named s.routers) o.service_edge_router_policies (entity_named s.services) _ (λ n e. e) finds)
+    few
 
 pub update_router-valid : (name : List ℕ) (attributes : List (List ℕ)) (cost : ℕ) (no_traversal : Bool) (s : State)
     → (is_name name && (are_attributes attributes && is_cost cost)) ≡ true → ValidState s → ValidState (update_router name attributes cost no_traversal s).1
@@ -153,8 +153,8 @@ update_router-valid name attributes cost no_traversal s spelled v =
     let rules = or_then-none _ _ none in
     at_number-orderly (router_named s.routers name) s _ o (λ n is few.
     edit_router-orderly n (λ r. record r { attributes = attributes; cost = cost; through = not no_traversal }) s o (λ r. refl)
-        (λ r t. and_from _ _ (and_parts (is_name r.name) (are_attributes r.attributes && is_cost r.cost) t).0 (and_parts (is_name name) (are_attributes attributes && is_cost cost) spelled).1)
-        few) (refuse_if-none _ (Full kind.Attribute) rules.1))
+    (λ r t. and_from _ _ (and_parts (is_name r.name) (are_attributes r.attributes && is_cost r.cost) t).0 (and_parts (is_name name) (are_attributes attributes && is_cost cost) spelled).1)
+    few) (refuse_if-none _ (Full kind.Attribute) rules.1))
 
 pub mark_router-valid : (name : List ℕ) (connected : Bool) (s : State) → ValidState s → ValidState (mark_router name connected s).1
 mark_router-valid name connected s v =
@@ -163,9 +163,9 @@ mark_router-valid name connected s v =
     carried_out-valid (unknown_if_absent field.Name (router_named s.routers name)) s Done (after_mark_router name connected s) v (λ none.
     at_number-holds Orderly (router_named s.routers name) s _ o (λ n is.
     edit_router-orderly n f s o (λ r. refl) (λ r t. t)
-        (attributes_fewer s (record s { routers = edit_at s.routers n f }) (λ x m. m) (λ x m. m)
-            (Includes-map (λ row. row.1.attributes) (λ x. (x.0, cond (x.0 == n) (f x.1) x.1)) (λ row. row.1.attributes) (λ x. same (x.0 == n) x.1) s.routers)
-            (λ x m. m) (λ x m. m) (λ x m. m) o.attributes)))
+    (attributes_fewer s (record s { routers = edit_at s.routers n f }) (λ x m. m) (λ x m. m)
+    (Includes-map (λ row. row.1.attributes) (λ x. (x.0, cond (x.0 == n) (f x.1) x.1)) (λ row. row.1.attributes) (λ x. same (x.0 == n) x.1) s.routers)
+    (λ x m. m) (λ x m. m) (λ x m. m) o.attributes)))
   where
     same : (b : Bool) (r : Router) → (cond b (record r { connected = connected }) r).attributes ≡ r.attributes
     same true r = refl
@@ -178,9 +178,9 @@ delete_router-valid name s v =
     at_number-holds Orderly (router_named s.routers name) s _ o (λ n is.
     let t = with_routers s (without s.routers n) s.next_router (map_each (forget_right name) s.edge_router_policies) (map_each (forget_right name) s.service_edge_router_policies) in
     Orderly-routers s t.routers s.next_router t.edge_router_policies t.service_edge_router_policies o
-        (Kept-filter o.routers (λ x. not (x.0 == n)))
-        (policies-forget_right (same_relation IdentityRouter) (entity_named s.identities) (router_named s.routers) o.edge_router_policies name _ (without-finds o.routers name n is))
-        (policies-forget_right (same_relation ServiceRouter) (entity_named s.services) (router_named s.routers) o.service_edge_router_policies name _ (without-finds o.routers name n is))
-        (attributes_fewer s t (λ x m. m) (λ x m. m) (Includes-filter (λ row. row.1.attributes) (λ x. not (x.0 == n)) s.routers) (λ x m. m)
-            (Includes-map side_attributes (λ x. (x.0, forget_right name x.1)) side_attributes (λ x. refl) s.edge_router_policies)
-            (Includes-map side_attributes (λ x. (x.0, forget_right name x.1)) side_attributes (λ x. refl) s.service_edge_router_policies) o.attributes)))
+    (Kept-filter o.routers (λ x. not (x.0 == n)))
+    (policies-forget_right (same_relation IdentityRouter) (entity_named s.identities) (router_named s.routers) o.edge_router_policies name _ (without-finds o.routers name n is))
+    (policies-forget_right (same_relation ServiceRouter) (entity_named s.services) (router_named s.routers) o.service_edge_router_policies name _ (without-finds o.routers name n is))
+    (attributes_fewer s t (λ x m. m) (λ x m. m) (Includes-filter (λ row. row.1.attributes) (λ x. not (x.0 == n)) s.routers) (λ x m. m)
+    (Includes-map side_attributes (λ x. (x.0, forget_right name x.1)) side_attributes (λ x. refl) s.edge_router_policies)
+    (Includes-map side_attributes (λ x. (x.0, forget_right name x.1)) side_attributes (λ x. refl) s.service_edge_router_policies) o.attributes)))

@@ -12,5 +12,6 @@ mod PolicyCommandLaws
 mod LinkCommandLaws
 mod TerminatorCommandLaws
 mod CircuitCommandLaws
+mod ValidCommands
 mod RefusedStates
 mod NextNumbers

@@ -1,6 +1,6 @@
 -- The commands on links and on the least router cost keep a state valid.
-use Rattle.std.proofs.Common.{◌≡◌, ℕ, ◌+◌, ◌==◌, Bool, true, false, cond, not, ◌&&◌, List, Option, None, Some, refl, sym, ◌∙◌, ap, subst, ne_eqb, bytes_eq}
-use Rattle.std.proofs.lemmas.Bool.{and_parts, and_from, both_ways}
+use Rattle.std.proofs.Common.{◌≡◌, ℕ, ◌+◌, ◌==◌, Bool, true, false, cond, not, ◌&&◌, List, None, Some, refl, sym, ◌∙◌, ap, ne_eqb, bytes_eq}
+use Rattle.std.proofs.lemmas.Bool.{and_from, both_ways}
 use Rattle.ctrl_model.specs.declared.kinds.Kind.TheVariants as kind
 use Rattle.ctrl_model.specs.declared.refusals.Field.TheVariants as field
 use Rattle.ctrl_model.specs.declared.refusals.Refusal.TheVariants.{Full, SameRouter}
@@ -44,9 +44,9 @@ create_link-valid name a b cost latency_a latency_b s named costs v =
     at_number-holds Orderly (router_named s.routers a) s _ o (λ from is_a. at_number-holds Orderly (router_named s.routers b) s _ o (λ to is_b.
     let new : Link = record { name = name; a = from; b = to; cost = cost; latency_a = latency_a; latency_b = latency_b; up = true } in
     links-orderly s (with_last s.links s.next_link new) (s.next_link + 1) o
-        (Kept-with_last o.links new (exists_if_present-none (link_named s.links name) rules.0)
-            (full-none 4096 s.links s.next_link (Full kind.Link) limits.0)
-            (and_from _ _ named (and_from _ _ (ap not (ends_apart s o a b from to is_a is_b (refuse_if-none (bytes_eq a b) SameRouter limits.1))) costs))))))
+    (Kept-with_last o.links new (exists_if_present-none (link_named s.links name) rules.0)
+    (full-none 4096 s.links s.next_link (Full kind.Link) limits.0)
+    (and_from _ _ named (and_from _ _ (ap not (ends_apart s o a b from to is_a is_b (refuse_if-none (bytes_eq a b) SameRouter limits.1))) costs))))))
 
 -- a change of one link that keeps its name, and keeps it valid
 edit_link-orderly : (n : ℕ) (f : Link → Link) (s : State) → Orderly s → ((l : Link) → (f l).name ≡ l.name)
@@ -59,7 +59,7 @@ set_link_cost-valid link cost s fits v =
     carried_out-valid (unknown_if_absent field.Link (link_named s.links link)) s Done (after_set_link_cost link cost s) v (λ none.
     at_number-holds Orderly (link_named s.links link) s _ o (λ n is.
     edit_link-orderly n (λ l. record l { cost = cost }) s o (λ l. refl)
-        (λ l t. and_more _ _ _ _ (λ u. u) (and_more _ _ _ _ (λ u. u) (and_more _ _ _ _ (λ u. fits) (λ u. u))) t)))
+    (λ l t. and_more _ _ _ _ (λ u. u) (and_more _ _ _ _ (λ u. u) (and_more _ _ _ _ (λ u. fits) (λ u. u))) t)))
 
 pub report_latency-valid : (link router : List ℕ) (latency : ℕ) (s : State) → is_latency latency ≡ true → ValidState s
     → ValidState (report_latency link router latency s).1
@@ -68,8 +68,8 @@ report_latency-valid link router latency s fits v =
     carried_out-valid (refusal_of_report link router s) s Done (after_report_latency link router latency s) v (λ none.
     at_number-holds Orderly (link_named s.links link) s _ o (λ n is. at_number-holds Orderly (router_named s.routers router) s _ o (λ r at_end.
     edit_link-orderly n (with_latency r latency) s o (λ l. refl)
-        (λ l t. and_more (is_name l.name) _ _ _ (λ u. u) (and_more (not (l.a == l.b)) _ _ _ (λ u. u) (and_more (is_link_cost l.cost) _ _ _ (λ u. u)
-            (and_more _ _ _ _ (either (l.a == r) l.latency_a) (either (l.b == r) l.latency_b)))) t))))
+    (λ l t. and_more (is_name l.name) _ _ _ (λ u. u) (and_more (not (l.a == l.b)) _ _ _ (λ u. u) (and_more (is_link_cost l.cost) _ _ _ (λ u. u)
+    (and_more _ _ _ _ (either (l.a == r) l.latency_a) (either (l.b == r) l.latency_b)))) t))))
   where
     either : (b : Bool) (old : ℕ) → is_latency old ≡ true → is_latency (cond b latency old) ≡ true
     either true old e = fits

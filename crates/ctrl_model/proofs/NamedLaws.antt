@@ -1,19 +1,19 @@
 -- Laws on names in the sides of policies: names that are found are found after each change of what they name, but for the
 -- name that is forgotten with its entity.
-use Rattle.std.proofs.Common.{◌≡◌, ◌≢◌, ℕ, ◌+◌, ◌≤◌, ◌==◌, Bool, true, false, cond, not, ◌&&◌, ◌||◌, nat_le, List, [], ◌∷◌, map, length, is_some, Option, None, Some, refl, sym, ◌∙◌, ap, subst, arith, leb-true, le-leb, ne_eqb}
-use Rattle.std.proofs.lemmas.Bool.{and_parts, and_from, both_ways, cond-false, true≢false, false≢true, not-true}
+use Rattle.std.proofs.Common.{◌≡◌, ℕ, ◌+◌, ◌==◌, Bool, true, false, cond, not, ◌&&◌, ◌||◌, nat_le, List, [], ◌∷◌, length, is_some, Option, None, Some, refl, sym, ◌∙◌, ap, arith, leb-true, le-leb, ne_eqb}
+use Rattle.std.proofs.lemmas.Bool.{and_parts, and_from, both_ways, cond-false, false≢true, not-true}
 use Rattle.std.specs.List.{filter, list_all}
 use Rattle.std.specs.Str.{bytes_eq}
 use Rattle.ctrl_model.specs.declared.kinds.Side.{Side}
 use Rattle.ctrl_model.specs.declared.kinds.Relation.{Relation}
 use Rattle.ctrl_model.specs.NameForm.{is_name}
 use Rattle.ctrl_model.specs.Matches.{is_nothing}
-use Rattle.ctrl_model.specs.Numbered.{at, with_last, edit_at, without, map_each, first_where, Between}
-use Rattle.ctrl_model.specs.State.{State, Policy}
-use Rattle.ctrl_model.specs.CommandForm.{is_stored_side, are_names, is_distinct}
+use Rattle.ctrl_model.specs.Numbered.{at, with_last, edit_at, without, map_each, first_where}
+use Rattle.ctrl_model.specs.State.{Policy}
+use Rattle.ctrl_model.specs.CommandForm.{is_stored_side, are_names}
 use Rattle.ctrl_model.specs.ValidState.{are_found, is_valid_policy}
 use Rattle.ctrl_model.specs.Rules.{without_name, forget_left, forget_right}
-use Rattle.ctrl_model.proofs.NumberedLaws.{at-without, at-with_last, Found, first_where-found, found_too, is_found-from, by_is_some, length-filter-le, at-past, at-within, first_where-map}
+use Rattle.ctrl_model.proofs.NumberedLaws.{at-without, at-with_last, Found, first_where-found, found_too, length-filter-le, at-past, at-within, first_where-map}
 use Rattle.ctrl_model.proofs.DistinctLaws.{same_name, same_bytes, is_distinct-filter}
 use Rattle.ctrl_model.proofs.TableLaws.{Kept, Kept-test, Kept-map_each, list_all-filter}
 
@@ -33,18 +33,24 @@ FindsOthers gone finds after = (name : List ℕ) → bytes_eq name gone ≡ fals
 module _ {R : Type 0} {name_of : R → List ℕ} {test : R → Bool} {most : ℕ} {rows : List (ℕ × R)} {next : ℕ} (k : Kept name_of test most rows next) where
   pub with_last-finds : (r : R) → FindsToo (λ name. first_where (λ t. bytes_eq (name_of t) name) rows) (λ name. first_where (λ t. bytes_eq (name_of t) name) (with_last rows next r))
   with_last-finds r name e = found_too (λ t. bytes_eq (name_of t) name) next rows (with_last rows next r) 1 k.table.numbers.ordered (λ m t stands passes.
-      let within = at-within next rows 1 m t k.table.numbers.ordered stands in
-      (t, at-with_last rows next m r (at-past next rows 1 next k.table.numbers.ordered (omega arith))
-          ∙ cond-false (next == m) (Some r) (at rows m) (ne_eqb next m (λ s. absurd (omega arith))) ∙ stands, passes)) e
+      let within = at-within next rows 1 m t k.table.numbers.ordered stands in (
+        t,
+        at-with_last rows next m r (at-past next rows 1 next k.table.numbers.ordered (omega arith))
+            ∙ cond-false (next == m) (Some r) (at rows m) (ne_eqb next m (λ s. absurd (omega arith))) ∙ stands,
+        passes,
+      )) e
 
   -- where a record is removed, every other name is found
   pub without-finds : (gone : List ℕ) (n : ℕ) → first_where (λ t. bytes_eq (name_of t) gone) rows ≡ Some n
       → FindsOthers gone (λ name. first_where (λ t. bytes_eq (name_of t) name) rows) (λ name. first_where (λ t. bytes_eq (name_of t) name) (without rows n))
   without-finds gone n is name other e =
       let f = first_where-found (λ t. bytes_eq (name_of t) gone) next rows 1 n k.table.numbers.ordered is in
-      found_too (λ t. bytes_eq (name_of t) name) next rows (without rows n) 1 k.table.numbers.ordered (λ m t stands passes.
-      (t, at-without next rows 1 n m k.table.numbers.ordered
-          ∙ cond-false (n == m) None (at rows m) (ne_eqb n m (λ s. apart f m t stands passes s)) ∙ stands, passes)) e
+      found_too (λ t. bytes_eq (name_of t) name) next rows (without rows n) 1 k.table.numbers.ordered (λ m t stands passes. (
+        t,
+        at-without next rows 1 n m k.table.numbers.ordered
+            ∙ cond-false (n == m) None (at rows m) (ne_eqb n m (λ s. apart f m t stands passes s)) ∙ stands,
+        passes,
+      )) e
     where
       apart : Found (λ t. bytes_eq (name_of t) gone) rows n → (m : ℕ) (t : R) → at rows m ≡ Some t → bytes_eq (name_of t) name ≡ true → n ≡ m → ⊥
       apart f m t stands passes s =

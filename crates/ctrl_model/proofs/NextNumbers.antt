@@ -1,5 +1,5 @@
 -- No next number falls: each command that makes a record raises one of them by 1, and no command lowers one.
-use Rattle.std.proofs.Common.{◌≡◌, ℕ, ◌+◌, ◌≤◌, Bool, true, false, List, Option, None, Some, refl, arith, rules}
+use Rattle.std.proofs.Common.{◌≡◌, ℕ, ◌+◌, ◌≤◌, Option, None, Some, rules}
 use Rattle.ctrl_model.specs.declared.commands.Command.{Command}
 use Rattle.ctrl_model.specs.declared.commands.Command.TheVariants as command
 use Rattle.ctrl_model.specs.declared.kinds.Who.{Who}
@@ -13,7 +13,7 @@ use Rattle.ctrl_model.specs.LinkCommands.{refusal_of_create_link, after_create_l
 use Rattle.ctrl_model.specs.TerminatorCommands.{refusal_of_create_terminator, after_create_terminator}
 use Rattle.ctrl_model.specs.Permitted.{is_permitted}
 use Rattle.ctrl_model.specs.Controller.{carry, answer}
-use Rattle.ctrl_model.proofs.RefusalLaws.{carried_out-holds, at_number-holds, shown-leaves, cond-holds, decided-holds}
+use Rattle.ctrl_model.proofs.RefusalLaws.{carried_out-holds, at_number-holds, cond-holds, decided-holds}
 
 -- the next numbers of a state are at most those of another
 abbrev pub NoneFalls : State → State → Type 0

@@ -1,13 +1,12 @@
 -- Laws on numbered maps: what stands at a number after each change, that the numbers stay in order, and what a search by a
 -- test finds. The laws named `..-back` tell from what stands after a change what stood before it.
-use Rattle.std.proofs.Common.{◌≡◌, ◌≢◌, ℕ, ◌+◌, ◌<◌, ◌≤◌, ◌==◌, Bool, true, false, cond, not, ◌⊎◌, inl, inr, ⊎_elim, List, [], ◌∷◌, ◌++◌, map, length, is_some, Option, None, Some, refl, sym, ◌∙◌, ap, subst, arith, eqb-true, eq-eqb, ne_eqb, length-append, suc}
+use Rattle.std.proofs.Common.{◌≡◌, ◌≢◌, ℕ, ◌+◌, ◌<◌, ◌≤◌, ◌==◌, Bool, true, false, cond, ◌⊎◌, inl, inr, List, [], ◌∷◌, map, length, is_some, Option, None, Some, refl, sym, ◌∙◌, ap, arith, eqb-true, eq-eqb, ne_eqb, length-append, suc}
 use Rattle.std.proofs.lemmas.Bool.{cases_eq, cond-true, cond-false, false≢true, both_ways}
 use Rattle.std.proofs.lemmas.Bool.Decides.{nat_tests}
 use Rattle.std.proofs.lemmas.Option.{same_Some, none-some}
 use Rattle.std.specs.Option.{option_map}
 use Rattle.std.specs.List.{filter}
-use Rattle.ctrl_model.specs.Membership.{Among}
-use Rattle.ctrl_model.specs.Numbered.{at, is_present, with_last, edit_at, without, map_each, numbers, first_where, Between}
+use Rattle.ctrl_model.specs.Numbered.{at, with_last, edit_at, without, map_each, first_where, Between}
 
 -- ---- what stands at a number
 
@@ -129,7 +128,7 @@ same_numbered high (x ∷ xs) [] low b c e = absurd (none-some x.1 (sym (e x.0) 
 same_numbered high (x ∷ xs) (y ∷ ys) low b c e =
     let heads : (x.0 ≡ y.0) × (x.1 ≡ y.1) = grind (arith, nat_tests, e x.0, e y.0, at-below high xs (x.0 + 1) y.0 b.2, at-below high ys (y.0 + 1) x.0 c.2) in
     let rest = same_numbered high xs ys (x.0 + 1) b.2 (Between-more high ys (y.0 + 1) (x.0 + 1) high (omega arith) (omega arith) c.2)
-        (λ n. grind (arith, nat_tests, e n, at-below high xs (x.0 + 1) n b.2, at-below high ys (y.0 + 1) n c.2)) in
+    (λ n. grind (arith, nat_tests, e n, at-below high xs (x.0 + 1) n b.2, at-below high ys (y.0 + 1) n c.2)) in
     λ i. (heads.0 i, heads.1 i) ∷ rest i
 
 -- ---- what a search by a test finds

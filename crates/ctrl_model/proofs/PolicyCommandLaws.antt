@@ -1,5 +1,5 @@
 -- The commands on policies keep a state valid.
-use Rattle.std.proofs.Common.{◌≡◌, ℕ, ◌+◌, ◌<◌, ◌==◌, Bool, true, false, cond, not, ◌&&◌, List, [], ◌∷◌, length, is_some, Option, None, Some, refl, sym, ◌∙◌, ap, subst}
+use Rattle.std.proofs.Common.{◌≡◌, ℕ, ◌+◌, ◌==◌, Bool, true, false, cond, not, ◌&&◌, List, [], ◌∷◌, is_some, Option, None, Some, refl}
 use Rattle.std.proofs.lemmas.Bool.{and_parts, and_from}
 use Rattle.std.specs.List.{list_all}
 use Rattle.ctrl_model.specs.declared.kinds.Relation.{Relation}
@@ -21,10 +21,10 @@ use Rattle.ctrl_model.specs.PolicyCommands.{first_absent, replaced_by, create_se
 use Rattle.ctrl_model.specs.Controller.{policy}
 use Rattle.ctrl_model.specs.ValidState.{ValidState, is_valid_policy, are_found}
 use Rattle.ctrl_model.proofs.DistinctLaws.{Includes-filter}
-use Rattle.ctrl_model.proofs.TableLaws.{Kept, Kept-with_last, Kept-edit_at, Kept-filter}
+use Rattle.ctrl_model.proofs.TableLaws.{Kept-with_last, Kept-edit_at, Kept-filter}
 use Rattle.ctrl_model.proofs.NamedLaws.{is_fitting}
 use Rattle.ctrl_model.proofs.RefusalLaws.{or_then-none, refuse_if-none, exists_if_present-none, full-none, at_number-holds}
-use Rattle.ctrl_model.proofs.ValidLaws.{Orderly, Orderly-from_valid, carried_out-valid, at_number-orderly, Orderly-policies, with_policies, attributes_fewer}
+use Rattle.ctrl_model.proofs.ValidLaws.{Orderly, Orderly-from_valid, carried_out-valid, at_number-orderly, Orderly-policies, attributes_fewer}
 
 -- where no `@` name is absent, each is found
 first_absent-none : (f : Field) (finds : List ℕ → Option ℕ) (ns : List (List ℕ)) → first_absent f finds ns ≡ None → list_all (λ n. is_some (finds n)) ns ≡ true
@@ -69,10 +69,10 @@ create_service_policy-valid p s valid related v =
     let names = or_then-none (absent_in_service_policy p s) _ rules.1 in
     let limits = or_then-none _ _ names.1 in
     Orderly-policies s (with_last s.service_policies s.next_service_policy p) (s.next_service_policy + 1) s.edge_router_policies s.next_edge_router_policy s.service_edge_router_policies s.next_service_edge_router_policy o
-        (Kept-with_last o.service_policies p (exists_if_present-none (policy_named s.service_policies p.name) rules.0)
-            (full-none 512 s.service_policies s.next_service_policy (Full kind.ServicePolicy) limits.0)
-            (fitting is_service_relation (entity_named s.identities) (entity_named s.services) field.IdentityRoles field.ServiceRoles p valid related names.0)) o.edge_router_policies o.service_edge_router_policies
-        (refuse_if-none _ (Full kind.Attribute) limits.1))
+    (Kept-with_last o.service_policies p (exists_if_present-none (policy_named s.service_policies p.name) rules.0)
+    (full-none 512 s.service_policies s.next_service_policy (Full kind.ServicePolicy) limits.0)
+    (fitting is_service_relation (entity_named s.identities) (entity_named s.services) field.IdentityRoles field.ServiceRoles p valid related names.0)) o.edge_router_policies o.service_edge_router_policies
+    (refuse_if-none _ (Full kind.Attribute) limits.1))
 
 pub update_service_policy-valid : (p : Policy) (s : State) → is_valid_policy p ≡ true → is_service_relation p.relation ≡ true → ValidState s → ValidState (update_service_policy p s).1
 update_service_policy-valid p s valid related v =
@@ -83,8 +83,8 @@ update_service_policy-valid p s valid related v =
     let fits = fitting is_service_relation (entity_named s.identities) (entity_named s.services) field.IdentityRoles field.ServiceRoles p valid related names.0 in
     at_number-orderly (policy_named s.service_policies p.name) s _ o (λ n is few.
     Orderly-policies s (edit_at s.service_policies n (replaced_by p)) s.next_service_policy s.edge_router_policies s.next_edge_router_policy s.service_edge_router_policies s.next_service_edge_router_policy o
-        (Kept-edit_at o.service_policies n (replaced_by p) (λ q. refl) (λ q t. fitting-replaced is_service_relation (entity_named s.identities) (entity_named s.services) p q fits t)) o.edge_router_policies o.service_edge_router_policies
-        few) (refuse_if-none _ (Full kind.Attribute) names.1))
+    (Kept-edit_at o.service_policies n (replaced_by p) (λ q. refl) (λ q t. fitting-replaced is_service_relation (entity_named s.identities) (entity_named s.services) p q fits t)) o.edge_router_policies o.service_edge_router_policies
+    few) (refuse_if-none _ (Full kind.Attribute) names.1))
 
 pub delete_service_policy-valid : (name : List ℕ) (s : State) → ValidState s → ValidState (delete_service_policy name s).1
 delete_service_policy-valid name s v =
@@ -93,8 +93,8 @@ delete_service_policy-valid name s v =
     at_number-holds Orderly (policy_named s.service_policies name) s _ o (λ n is.
     let t = record s { service_policies = without s.service_policies n } in
     Orderly-policies s t.service_policies s.next_service_policy s.edge_router_policies s.next_edge_router_policy s.service_edge_router_policies s.next_service_edge_router_policy o
-        (Kept-filter o.service_policies (λ x. not (x.0 == n))) o.edge_router_policies o.service_edge_router_policies
-        (attributes_fewer s t (λ x m. m) (λ x m. m) (λ x m. m) (Includes-filter side_attributes (λ x. not (x.0 == n)) s.service_policies) (λ x m. m) (λ x m. m) o.attributes)))
+    (Kept-filter o.service_policies (λ x. not (x.0 == n))) o.edge_router_policies o.service_edge_router_policies
+    (attributes_fewer s t (λ x m. m) (λ x m. m) (λ x m. m) (Includes-filter side_attributes (λ x. not (x.0 == n)) s.service_policies) (λ x m. m) (λ x m. m) o.attributes)))
 
 -- ---- edge-router policies
 
@@ -106,10 +106,10 @@ create_edge_router_policy-valid p s valid related v =
     let names = or_then-none (absent_in_edge_router_policy p s) _ rules.1 in
     let limits = or_then-none _ _ names.1 in
     Orderly-policies s s.service_policies s.next_service_policy (with_last s.edge_router_policies s.next_edge_router_policy p) (s.next_edge_router_policy + 1) s.service_edge_router_policies s.next_service_edge_router_policy o
-        o.service_policies (Kept-with_last o.edge_router_policies p (exists_if_present-none (policy_named s.edge_router_policies p.name) rules.0)
-            (full-none 256 s.edge_router_policies s.next_edge_router_policy (Full kind.EdgeRouterPolicy) limits.0)
-            (fitting (same_relation IdentityRouter) (entity_named s.identities) (router_named s.routers) field.IdentityRoles field.RouterRoles p valid related names.0)) o.service_edge_router_policies
-        (refuse_if-none _ (Full kind.Attribute) limits.1))
+    o.service_policies (Kept-with_last o.edge_router_policies p (exists_if_present-none (policy_named s.edge_router_policies p.name) rules.0)
+    (full-none 256 s.edge_router_policies s.next_edge_router_policy (Full kind.EdgeRouterPolicy) limits.0)
+    (fitting (same_relation IdentityRouter) (entity_named s.identities) (router_named s.routers) field.IdentityRoles field.RouterRoles p valid related names.0)) o.service_edge_router_policies
+    (refuse_if-none _ (Full kind.Attribute) limits.1))
 
 pub update_edge_router_policy-valid : (p : Policy) (s : State) → is_valid_policy p ≡ true → (same_relation IdentityRouter) p.relation ≡ true → ValidState s → ValidState (update_edge_router_policy p s).1
 update_edge_router_policy-valid p s valid related v =
@@ -120,8 +120,8 @@ update_edge_router_policy-valid p s valid related v =
     let fits = fitting (same_relation IdentityRouter) (entity_named s.identities) (router_named s.routers) field.IdentityRoles field.RouterRoles p valid related names.0 in
     at_number-orderly (policy_named s.edge_router_policies p.name) s _ o (λ n is few.
     Orderly-policies s s.service_policies s.next_service_policy (edit_at s.edge_router_policies n (replaced_by p)) s.next_edge_router_policy s.service_edge_router_policies s.next_service_edge_router_policy o
-        o.service_policies (Kept-edit_at o.edge_router_policies n (replaced_by p) (λ q. refl) (λ q t. fitting-replaced (same_relation IdentityRouter) (entity_named s.identities) (router_named s.routers) p q fits t)) o.service_edge_router_policies
-        few) (refuse_if-none _ (Full kind.Attribute) names.1))
+    o.service_policies (Kept-edit_at o.edge_router_policies n (replaced_by p) (λ q. refl) (λ q t. fitting-replaced (same_relation IdentityRouter) (entity_named s.identities) (router_named s.routers) p q fits t)) o.service_edge_router_policies
+    few) (refuse_if-none _ (Full kind.Attribute) names.1))
 
 pub delete_edge_router_policy-valid : (name : List ℕ) (s : State) → ValidState s → ValidState (delete_edge_router_policy name s).1
 delete_edge_router_policy-valid name s v =
@@ -130,8 +130,8 @@ delete_edge_router_policy-valid name s v =
     at_number-holds Orderly (policy_named s.edge_router_policies name) s _ o (λ n is.
     let t = record s { edge_router_policies = without s.edge_router_policies n } in
     Orderly-policies s s.service_policies s.next_service_policy t.edge_router_policies s.next_edge_router_policy s.service_edge_router_policies s.next_service_edge_router_policy o
-        o.service_policies (Kept-filter o.edge_router_policies (λ x. not (x.0 == n))) o.service_edge_router_policies
-        (attributes_fewer s t (λ x m. m) (λ x m. m) (λ x m. m) (λ x m. m) (Includes-filter side_attributes (λ x. not (x.0 == n)) s.edge_router_policies) (λ x m. m) o.attributes)))
+    o.service_policies (Kept-filter o.edge_router_policies (λ x. not (x.0 == n))) o.service_edge_router_policies
+    (attributes_fewer s t (λ x m. m) (λ x m. m) (λ x m. m) (λ x m. m) (Includes-filter side_attributes (λ x. not (x.0 == n)) s.edge_router_policies) (λ x m. m) o.attributes)))
 
 -- ---- service-edge-router policies
 
@@ -143,10 +143,10 @@ create_service_edge_router_policy-valid p s valid related v =
     let names = or_then-none (absent_in_service_edge_router_policy p s) _ rules.1 in
     let limits = or_then-none _ _ names.1 in
     Orderly-policies s s.service_policies s.next_service_policy s.edge_router_policies s.next_edge_router_policy (with_last s.service_edge_router_policies s.next_service_edge_router_policy p) (s.next_service_edge_router_policy + 1) o
-        o.service_policies o.edge_router_policies (Kept-with_last o.service_edge_router_policies p (exists_if_present-none (policy_named s.service_edge_router_policies p.name) rules.0)
-            (full-none 256 s.service_edge_router_policies s.next_service_edge_router_policy (Full kind.ServiceEdgeRouterPolicy) limits.0)
-            (fitting (same_relation ServiceRouter) (entity_named s.services) (router_named s.routers) field.ServiceRoles field.RouterRoles p valid related names.0))
-        (refuse_if-none _ (Full kind.Attribute) limits.1))
+    o.service_policies o.edge_router_policies (Kept-with_last o.service_edge_router_policies p (exists_if_present-none (policy_named s.service_edge_router_policies p.name) rules.0)
+    (full-none 256 s.service_edge_router_policies s.next_service_edge_router_policy (Full kind.ServiceEdgeRouterPolicy) limits.0)
+    (fitting (same_relation ServiceRouter) (entity_named s.services) (router_named s.routers) field.ServiceRoles field.RouterRoles p valid related names.0))
+    (refuse_if-none _ (Full kind.Attribute) limits.1))
 
 pub update_service_edge_router_policy-valid : (p : Policy) (s : State) → is_valid_policy p ≡ true → (same_relation ServiceRouter) p.relation ≡ true → ValidState s → ValidState (update_service_edge_router_policy p s).1
 update_service_edge_router_policy-valid p s valid related v =
@@ -157,8 +157,8 @@ update_service_edge_router_policy-valid p s valid related v =
     let fits = fitting (same_relation ServiceRouter) (entity_named s.services) (router_named s.routers) field.ServiceRoles field.RouterRoles p valid related names.0 in
     at_number-orderly (policy_named s.service_edge_router_policies p.name) s _ o (λ n is few.
     Orderly-policies s s.service_policies s.next_service_policy s.edge_router_policies s.next_edge_router_policy (edit_at s.service_edge_router_policies n (replaced_by p)) s.next_service_edge_router_policy o
-        o.service_policies o.edge_router_policies (Kept-edit_at o.service_edge_router_policies n (replaced_by p) (λ q. refl) (λ q t. fitting-replaced (same_relation ServiceRouter) (entity_named s.services) (router_named s.routers) p q fits t))
-        few) (refuse_if-none _ (Full kind.Attribute) names.1))
+    o.service_policies o.edge_router_policies (Kept-edit_at o.service_edge_router_policies n (replaced_by p) (λ q. refl) (λ q t. fitting-replaced (same_relation ServiceRouter) (entity_named s.services) (router_named s.routers) p q fits t))
+    few) (refuse_if-none _ (Full kind.Attribute) names.1))
 
 pub delete_service_edge_router_policy-valid : (name : List ℕ) (s : State) → ValidState s → ValidState (delete_service_edge_router_policy name s).1
 delete_service_edge_router_policy-valid name s v =
@@ -167,5 +167,5 @@ delete_service_edge_router_policy-valid name s v =
     at_number-holds Orderly (policy_named s.service_edge_router_policies name) s _ o (λ n is.
     let t = record s { service_edge_router_policies = without s.service_edge_router_policies n } in
     Orderly-policies s s.service_policies s.next_service_policy s.edge_router_policies s.next_edge_router_policy t.service_edge_router_policies s.next_service_edge_router_policy o
-        o.service_policies o.edge_router_policies (Kept-filter o.service_edge_router_policies (λ x. not (x.0 == n)))
-        (attributes_fewer s t (λ x m. m) (λ x m. m) (λ x m. m) (λ x m. m) (λ x m. m) (Includes-filter side_attributes (λ x. not (x.0 == n)) s.service_edge_router_policies) o.attributes)))
+    o.service_policies o.edge_router_policies (Kept-filter o.service_edge_router_policies (λ x. not (x.0 == n)))
+    (attributes_fewer s t (λ x m. m) (λ x m. m) (λ x m. m) (λ x m. m) (λ x m. m) (Includes-filter side_attributes (λ x. not (x.0 == n)) s.service_edge_router_policies) o.attributes)))

@@ -1,6 +1,6 @@
 -- What follows from how a command is carried out: from its refusals, from a name that is looked up, and from permission.
-use Rattle.std.proofs.Common.{◌≡◌, ℕ, ◌<◌, Bool, true, false, cond, not, List, length, is_some, is_none, Option, None, Some, refl, sym, ◌∙◌, ap, subst, arith, ltb-true}
-use Rattle.std.proofs.lemmas.Bool.{and_parts, true≢false, false≢true, not-false}
+use Rattle.std.proofs.Common.{◌≡◌, ℕ, ◌<◌, Bool, true, false, cond, not, List, length, Option, None, Some, refl, ltb-true}
+use Rattle.std.proofs.lemmas.Bool.{and_parts, not-false}
 use Rattle.ctrl_model.specs.declared.refusals.Denial.{Denial}
 use Rattle.ctrl_model.specs.declared.refusals.Denial.TheVariants.{NoPath}
 use Rattle.ctrl_model.specs.declared.refusals.Field.{Field}

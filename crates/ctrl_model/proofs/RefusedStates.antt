@@ -1,16 +1,15 @@
 -- A refused command leaves the state: for each command, its reply is a refusal only where the state is the old one.
-use Rattle.std.proofs.Common.{◌≡◌, ℕ, Bool, true, false, cond, List, Option, None, Some, refl, sym, ap}
+use Rattle.std.proofs.Common.{ℕ, Option, None, refl}
 use Rattle.ctrl_model.specs.declared.commands.Command.{Command}
 use Rattle.ctrl_model.specs.declared.commands.Command.TheVariants as command
 use Rattle.ctrl_model.specs.declared.kinds.Who.{Who}
 use Rattle.ctrl_model.specs.declared.refusals.Refusal.{Refusal}
 use Rattle.ctrl_model.specs.declared.refusals.Refusal.TheVariants.{NotPermitted, Denied}
-use Rattle.ctrl_model.specs.declared.replies.Reply.{Reply}
 use Rattle.ctrl_model.specs.declared.replies.Reply.TheVariants.{Refused, Done, Made}
 use Rattle.ctrl_model.specs.State.{State}
 use Rattle.ctrl_model.specs.Settling.{settle}
 use Rattle.ctrl_model.specs.Networks.{network_of}
-use Rattle.ctrl_model.specs.Rules.{carried_out, shown}
+use Rattle.ctrl_model.specs.Rules.{carried_out}
 use Rattle.ctrl_model.specs.Permitted.{is_permitted}
 use Rattle.ctrl_model.specs.Choices.{Ask, Candidate, first_rule, best}
 use Rattle.ctrl_model.specs.CircuitCommands.{ask_of, create_circuit, after_create_circuit, explain, granted_reply}

@@ -1,15 +1,15 @@
 -- Laws on the tables of a valid state: what adding a record, changing one, changing all, and leaving out some keep of them.
-use Rattle.std.proofs.Common.{◌≡◌, ◌≢◌, ℕ, ◌+◌, ◌<◌, ◌≤◌, ◌==◌, Bool, true, false, cond, not, ◌&&◌, ◌⊎◌, inl, inr, ⊎_elim, List, [], ◌∷◌, ◌++◌, map, length, is_some, Option, None, Some, refl, sym, ◌∙◌, ap, subst, arith}
+use Rattle.std.proofs.Common.{◌≡◌, ◌≢◌, ℕ, ◌+◌, ◌<◌, ◌==◌, Bool, true, false, cond, ◌&&◌, ◌⊎◌, inl, inr, List, [], ◌∷◌, map, length, None, Some, refl, sym, ◌∙◌, ap, arith}
 use Rattle.std.proofs.lemmas.List.{length-map}
-use Rattle.std.proofs.lemmas.Bool.{and_parts, and_from, both_ways, true≢false, false≢true}
-use Rattle.std.proofs.lemmas.List.Folds.{list_all-append, list_all-map}
+use Rattle.std.proofs.lemmas.Bool.{and_parts, and_from, both_ways}
+use Rattle.std.proofs.lemmas.List.Folds.{list_all-append}
 use Rattle.std.specs.List.{filter, list_all}
 use Rattle.std.specs.Str.{bytes_eq}
-use Rattle.ctrl_model.specs.Numbered.{at, with_last, edit_at, without, map_each, first_where, Between}
+use Rattle.ctrl_model.specs.Numbered.{at, with_last, edit_at, map_each, first_where, Between}
 use Rattle.ctrl_model.specs.ValidState.{ValidNumbers, ValidTable, HaveUniqueNames, each_passes}
 use Rattle.ctrl_model.proofs.Members.{list_all-among, list_all-from_among, by_filter}
 use Rattle.ctrl_model.proofs.NumberedLaws.{at-past, at-map-back, at-with_last-back, at-filter-back, Between-with_last, Between-map, Between-filter, length-with_last, length-filter-le, first_where-none, first_where-found, Found}
-use Rattle.ctrl_model.proofs.DistinctLaws.{same_name, same_bytes}
+use Rattle.ctrl_model.proofs.DistinctLaws.{same_bytes}
 
 -- ---- numbers
 

@@ -1,6 +1,6 @@
 -- Laws on valid states: what is left to show of a state is all but that it is settled, since settling keeps the rest; and
 -- what each kind of change has to show.
-use Rattle.std.proofs.Common.{◌≡◌, ℕ, ◌+◌, ◌<◌, ◌≤◌, Bool, true, false, cond, not, ◌&&◌, List, [], ◌∷◌, ◌++◌, length, Option, None, Some, refl, sym, ◌∙◌, ap, subst, arith, ltb-false, bytes_eq}
+use Rattle.std.proofs.Common.{◌≡◌, ℕ, true, false, List, Option, None, Some, arith, ltb-false, bytes_eq}
 use Rattle.std.proofs.lemmas.Bool.{false_from_ne_true, ltb-true}
 use Rattle.std.specs.List.{flat_map}
 use Rattle.std.specs.Set.{distinct_count}
@@ -281,7 +281,7 @@ pub attributes_fewer : (s t : State) → Includes (entity_attributes t.identitie
     → attributes_full s ≡ false → attributes_full t ≡ false
 attributes_fewer s t a b c d e f few =
     let all : Includes (attributes_in_use t) (attributes_in_use s) =
-        Includes-append _ _ _ _ a (Includes-append _ _ _ _ b (Includes-append _ _ _ _ c (Includes-append _ _ _ _ d (Includes-append _ _ _ _ e f)))) in
+    Includes-append _ _ _ _ a (Includes-append _ _ _ _ b (Includes-append _ _ _ _ c (Includes-append _ _ _ _ d (Includes-append _ _ _ _ e f)))) in
     let le = distinct_count-le (attributes_in_use t) (attributes_in_use s) all in
     let most = ltb-false 1024 (distinct_count bytes_eq (attributes_in_use s)) few in
     false_from_ne_true (attributes_full t) (λ more. let lt = ltb-true 1024 (distinct_count bytes_eq (attributes_in_use t)) more in absurd (omega arith))
