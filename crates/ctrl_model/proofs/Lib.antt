@@ -11,3 +11,18 @@ pub mod RuleLaws
 pub mod NumberLaws
 pub mod CostLaws
 pub mod ClaimLaws
+pub mod NumberedLaws
+pub mod DistinctLaws
+pub mod TableLaws
+pub mod NamedLaws
+pub mod RefusalLaws
+pub mod SettleLaws
+pub mod ValidLaws
+mod EntityCommandLaws
+mod PolicyCommandLaws
+mod LinkCommandLaws
+mod TerminatorCommandLaws
+mod CircuitCommandLaws
+mod ValidCommands
+mod RefusedStates
+mod NextNumbers

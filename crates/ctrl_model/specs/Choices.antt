@@ -1,5 +1,5 @@
 -- Candidates of a circuit request, the best of them, and the first rule that fails (docs/RULES.md, "Circuits").
-use Rattle.std.specs.Prelude.{◌≡◌, ℕ, ◌+◌, ◌==◌, Bool, true, false, not, ◌&&◌, cond, List, [], ◌∷◌, map, filter, None, Some, option_and_then}
+use Rattle.std.specs.Prelude.{◌≡◌, ℕ, ◌+◌, ◌==◌, Bool, true, false, ◌&&◌, cond, List, [], ◌∷◌, map, filter, None, Some}
 use Rattle.std.specs.declared.option.Option.{Option}
 use Rattle.std.specs.Option.{option_map_or}
 use Rattle.std.specs.List.{flat_map}
@@ -13,7 +13,7 @@ use Rattle.ctrl_model.specs.declared.refusals.Denial.TheVariants.{UnknownIdentit
 use Rattle.ctrl_model.specs.Membership.{Among}
 use Rattle.ctrl_model.specs.State.{Terminator}
 use Rattle.ctrl_model.specs.Matches.{is_nothing}
-use Rattle.ctrl_model.specs.Networks.{Network, is_on, is_shared, is_counted, is_in_service, counted, admissible, is_path, path_cost, paths}
+use Rattle.ctrl_model.specs.Networks.{Network, is_shared, is_counted, is_in_service, counted, admissible, is_path, path_cost, paths}
 
 -- The ingress that a request names: none, one that is absent, or one that is present.
 pub data Wanted : Type 0 where

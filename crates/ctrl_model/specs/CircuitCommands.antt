@@ -1,6 +1,6 @@
 -- The commands on circuits, and what explains and verifies their routes (docs/RULES.md, "Circuits", "Explanations and
 -- claims").
-use Rattle.std.specs.Prelude.{ℕ, ◌+◌, Bool, true, false, not, List, [], None, Some, unwrap_or}
+use Rattle.std.specs.Prelude.{ℕ, ◌+◌, false, not, List, [], None, Some, unwrap_or}
 use Rattle.std.specs.declared.option.Option.{Option}
 use Rattle.std.specs.Option.{option_map_or}
 use Rattle.ctrl_model.specs.declared.claims.Reach.{Reach}

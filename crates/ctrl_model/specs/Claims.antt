@@ -1,7 +1,7 @@
 -- The explanation of a route, and when a claimed route is justified (docs/RULES.md, "Explanations and claims").
-use Rattle.std.specs.Prelude.{◌≡◌, ℕ, ◌+◌, ◌==◌, min, Bool, true, false, not, ◌&&◌, ◌||◌, nat_lt, nat_le, cond, List, [], ◌∷◌, length, map, filter, None, Some, option_and_then}
+use Rattle.std.specs.Prelude.{ℕ, ◌+◌, ◌==◌, min, Bool, true, false, ◌&&◌, ◌||◌, nat_lt, nat_le, cond, List, [], ◌∷◌, length, map, filter, None, Some}
 use Rattle.std.specs.declared.option.Option.{Option}
-use Rattle.std.specs.Option.{option_map, option_map_or}
+use Rattle.std.specs.Option.{option_map_or}
 use Rattle.std.specs.List.{list_all, list_any}
 use Rattle.std.specs.Str.{bytes_eq}
 use Rattle.ctrl_model.specs.declared.kinds.RouterSeen.{RouterSeen}
@@ -11,7 +11,7 @@ use Rattle.ctrl_model.specs.Walks.{Hops}
 use Rattle.ctrl_model.specs.Numbered.{at, numbers}
 use Rattle.ctrl_model.specs.State.{Terminator}
 use Rattle.ctrl_model.specs.Networks.{Network, hops, paths, path_cost, admissible}
-use Rattle.ctrl_model.specs.Choices.{Ask, Wanted, Candidate, place_of, terminator_cost, ingresses, best}
+use Rattle.ctrl_model.specs.Choices.{Ask, Candidate, place_of, terminator_cost, ingresses}
 
 -- The potential that says that there is no path: the greatest number of 64 bits, written `null`.
 abbrev pub no_path : ℕ

@@ -1,6 +1,6 @@
 -- The controller: who sends which command in which state gets which reply, and which state is next
 -- (docs/RULES.md, "The controller"). Each command names one definition of its family.
-use Rattle.std.specs.Prelude.{ℕ, Bool, true, false, cond, List, None}
+use Rattle.std.specs.Prelude.{ℕ, true, false, cond, List, None}
 use Rattle.ctrl_model.specs.declared.commands.Command.{Command}
 use Rattle.ctrl_model.specs.declared.commands.Command.TheVariants as command
 use Rattle.ctrl_model.specs.declared.kinds.Who.{Who}

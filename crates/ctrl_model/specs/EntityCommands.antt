@@ -1,6 +1,6 @@
 -- The commands on identities, services and edge routers: what refuses each, and what each changes
 -- (docs/RULES.md, "Commands on entities").
-use Rattle.std.specs.Prelude.{ℕ, ◌+◌, Bool, true, false, not, List, None, Some}
+use Rattle.std.specs.Prelude.{ℕ, ◌+◌, Bool, false, not, List}
 use Rattle.std.specs.declared.option.Option.{Option}
 use Rattle.ctrl_model.specs.declared.kinds.Kind.TheVariants as kind
 use Rattle.ctrl_model.specs.declared.refusals.Field.TheVariants as field
@@ -9,7 +9,7 @@ use Rattle.ctrl_model.specs.declared.refusals.Refusal.TheVariants.{Full}
 use Rattle.ctrl_model.specs.declared.replies.Reply.{Reply}
 use Rattle.ctrl_model.specs.declared.replies.Reply.TheVariants.{Done, Made}
 use Rattle.ctrl_model.specs.Numbered.{with_last, edit_at, without, map_each}
-use Rattle.ctrl_model.specs.State.{State, Entity, Router, entity_named, router_named}
+use Rattle.ctrl_model.specs.State.{State, entity_named, router_named}
 use Rattle.ctrl_model.specs.Rules.{or_then, refuse_if, carried_out, unknown_if_absent, exists_if_present, at_number, has_room, attributes_full, forget_left, forget_right}
 
 -- Making an identity adds it under the next number.

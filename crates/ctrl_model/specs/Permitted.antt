@@ -1,7 +1,5 @@
 -- Who may send a command (docs/RULES.md, "Who may send what").
 use Rattle.std.specs.Prelude.{ℕ, Bool, true, false, List, None, Some}
-use Rattle.std.specs.declared.option.Option.{Option}
-use Rattle.std.specs.Option.{option_map_or}
 use Rattle.std.specs.Str.{bytes_eq}
 use Rattle.ctrl_model.specs.declared.commands.Command.{Command}
 use Rattle.ctrl_model.specs.declared.commands.Command.TheVariants as command

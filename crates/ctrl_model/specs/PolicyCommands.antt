@@ -1,11 +1,7 @@
 -- The commands on the three kinds of policy (docs/RULES.md, "Commands on policies").
-use Rattle.std.specs.Prelude.{ℕ, ◌+◌, Bool, true, false, not, cond, List, [], ◌∷◌, None, Some, is_some}
+use Rattle.std.specs.Prelude.{ℕ, ◌+◌, not, cond, List, [], ◌∷◌, None, Some, is_some}
 use Rattle.std.specs.declared.option.Option.{Option}
 use Rattle.ctrl_model.specs.declared.kinds.Kind.TheVariants as kind
-use Rattle.ctrl_model.specs.declared.kinds.Side.{Side}
-use Rattle.ctrl_model.specs.declared.kinds.Semantic.{Semantic}
-use Rattle.ctrl_model.specs.declared.kinds.Relation.{Relation}
-use Rattle.ctrl_model.specs.declared.kinds.Relation.TheVariants.{IdentityRouter, ServiceRouter}
 use Rattle.ctrl_model.specs.declared.refusals.Field.{Field}
 use Rattle.ctrl_model.specs.declared.refusals.Field.TheVariants as field
 use Rattle.ctrl_model.specs.declared.refusals.Refusal.{Refusal}

@@ -1,6 +1,6 @@
 -- What the rules of commands have in common: how a refusal is found and what it leaves, names looked up, and limits
 -- (docs/RULES.md, "Refusals", "Limits").
-use Rattle.std.specs.Prelude.{ℕ, ◌+◌, Bool, true, false, not, ◌&&◌, nat_lt, cond, List, [], ◌∷◌, ◌++◌, length, map, filter, None, Some, is_some, is_none}
+use Rattle.std.specs.Prelude.{ℕ, Bool, not, ◌&&◌, nat_lt, cond, List, ◌++◌, length, filter, None, Some, is_some, is_none}
 use Rattle.std.specs.declared.option.Option.{Option}
 use Rattle.std.specs.Option.{option_map_or}
 use Rattle.std.specs.List.{flat_map}

@@ -1,5 +1,5 @@
 -- Settling: what stands no longer is removed after each change (docs/RULES.md, "Settling").
-use Rattle.std.specs.Prelude.{ℕ, Bool, true, false, ◌&&◌, List, filter}
+use Rattle.std.specs.Prelude.{ℕ, Bool, true, false, ◌&&◌, filter}
 use Rattle.std.specs.Option.{option_map_or}
 use Rattle.ctrl_model.specs.Numbered.{at, is_present}
 use Rattle.ctrl_model.specs.State.{State, Link, Terminator, Circuit}

@@ -1,13 +1,11 @@
 -- The commands that show what is granted and how much there is (docs/RULES.md, "What is shown").
-use Rattle.std.specs.Prelude.{ℕ, ◌+◌, nat_lt, List, length, map, filter, None, Some, unwrap_or}
-use Rattle.std.specs.declared.option.Option.{Option}
-use Rattle.ctrl_model.specs.declared.kinds.Relation.{Relation}
+use Rattle.std.specs.Prelude.{ℕ, ◌+◌, nat_lt, List, length, map, filter, None, unwrap_or}
 use Rattle.ctrl_model.specs.declared.kinds.Relation.TheVariants.{Dial, Bind, IdentityRouter, ServiceRouter}
 use Rattle.ctrl_model.specs.declared.refusals.Field.TheVariants as field
 use Rattle.ctrl_model.specs.declared.replies.Reply.{Reply}
 use Rattle.ctrl_model.specs.declared.replies.Reply.TheVariants as reply
 use Rattle.ctrl_model.specs.declared.replies.Tally.{Tally}
-use Rattle.ctrl_model.specs.State.{State, Entity, Router, entity_named, as_entity}
+use Rattle.ctrl_model.specs.State.{State, Entity, entity_named, as_entity}
 use Rattle.ctrl_model.specs.Grants.{count, is_granted, granted_pairs}
 use Rattle.ctrl_model.specs.Rules.{shown, unknown_if_absent}
 

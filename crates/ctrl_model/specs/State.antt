@@ -1,14 +1,13 @@
 -- The state of a controller: its records by kind, the next number of each kind, and the one setting
 -- (docs/RULES.md, "Records and numbers"). It holds no grants and no indexes: all else is computed from it.
-use Rattle.std.specs.Prelude.{ℕ, Bool, false, List, [], None, Some}
+use Rattle.std.specs.Prelude.{ℕ, Bool, List, []}
 use Rattle.std.specs.declared.option.Option.{Option}
-use Rattle.std.specs.Option.{option_map}
 use Rattle.std.specs.Str.{bytes_eq}
 use Rattle.ctrl_model.specs.declared.kinds.Side.{Side}
 use Rattle.ctrl_model.specs.declared.kinds.Semantic.{Semantic}
 use Rattle.ctrl_model.specs.declared.kinds.Relation.{Relation}
 use Rattle.ctrl_model.specs.declared.kinds.Precedence.{Precedence}
-use Rattle.ctrl_model.specs.Numbered.{at, first_where}
+use Rattle.ctrl_model.specs.Numbered.{first_where}
 
 -- An identity or a service: its name and its attributes.
 pub record Entity : Type 0 where

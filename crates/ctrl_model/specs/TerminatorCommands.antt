@@ -1,5 +1,5 @@
 -- The commands on terminators (docs/RULES.md, "Commands on terminators").
-use Rattle.std.specs.Prelude.{ℕ, ◌+◌, Bool, true, false, not, List, None, Some, is_none}
+use Rattle.std.specs.Prelude.{ℕ, ◌+◌, Bool, false, not, List, None, is_none}
 use Rattle.std.specs.declared.option.Option.{Option}
 use Rattle.std.specs.Option.{option_map_or}
 use Rattle.ctrl_model.specs.declared.kinds.Kind.TheVariants as kind
@@ -11,7 +11,7 @@ use Rattle.ctrl_model.specs.declared.refusals.Refusal.TheVariants.{Full, NotBind
 use Rattle.ctrl_model.specs.declared.replies.Reply.{Reply}
 use Rattle.ctrl_model.specs.declared.replies.Reply.TheVariants.{Done, Made}
 use Rattle.ctrl_model.specs.Numbered.{is_present, with_last, edit_at, without}
-use Rattle.ctrl_model.specs.State.{State, Terminator, entity_named, router_named}
+use Rattle.ctrl_model.specs.State.{State, entity_named, router_named}
 use Rattle.ctrl_model.specs.Grants.{is_granted}
 use Rattle.ctrl_model.specs.Rules.{or_then, refuse_if, carried_out, unknown_if_absent, at_number, has_room}
 

@@ -1,15 +1,13 @@
 -- When a state is valid (docs/RULES.md, "Valid states").
-use Rattle.std.specs.Prelude.{◌≡◌, ℕ, ◌<◌, ◌≤◌, ◌==◌, Bool, true, false, not, ◌&&◌, List, length, None, Some, is_some}
+use Rattle.std.specs.Prelude.{◌≡◌, ℕ, ◌≤◌, ◌==◌, Bool, true, false, not, ◌&&◌, List, length, Some, is_some}
 use Rattle.std.specs.declared.option.Option.{Option}
 use Rattle.std.specs.List.{list_all}
-use Rattle.std.specs.Option.{option_map_or}
 use Rattle.ctrl_model.specs.declared.kinds.Side.{Side}
-use Rattle.ctrl_model.specs.declared.kinds.Relation.{Relation}
 use Rattle.ctrl_model.specs.declared.kinds.Relation.TheVariants.{IdentityRouter, ServiceRouter}
 use Rattle.ctrl_model.specs.NameForm.{is_name, is_instance}
 use Rattle.ctrl_model.specs.CommandForm.{are_attributes, is_stored_side, is_service_relation, is_cost, is_link_cost, is_latency}
 use Rattle.ctrl_model.specs.Numbered.{at, Between}
-use Rattle.ctrl_model.specs.State.{State, Entity, Router, Link, Policy, Terminator, Circuit, entity_named, router_named}
+use Rattle.ctrl_model.specs.State.{State, Entity, Router, Link, Policy, Terminator, entity_named, router_named}
 use Rattle.ctrl_model.specs.Grants.{same_relation}
 use Rattle.ctrl_model.specs.Rules.{attributes_full}
 use Rattle.ctrl_model.specs.Settling.{settle}

@@ -1,11 +1,9 @@
 -- States and commands of the worked examples: what an operator would send, and what stands then.
-use Rattle.std.specs.Prelude.{ℕ, ◌+◌, Bool, true, false, List, [], ◌∷◌, codes, None, Some}
-use Rattle.std.specs.declared.option.Option.{Option}
+use Rattle.std.specs.Prelude.{ℕ, true, false, List, [], ◌∷◌, codes, None, Some}
 use Rattle.ctrl_model.specs.declared.commands.Command.{Command}
 use Rattle.ctrl_model.specs.declared.commands.Command.TheVariants.{CreateIdentity, CreateService, CreateRouter, UpdateRouter, ConnectRouter, CreateServicePolicy, CreateEdgeRouterPolicy, CreateServiceEdgeRouterPolicy, CreateLink, CreateTerminator, CreateCircuit, Explain, VerifyRoute, DeleteTerminator}
-use Rattle.ctrl_model.specs.declared.claims.Reach.{Reach}
 use Rattle.ctrl_model.specs.declared.kinds.Side.{Side}
-use Rattle.ctrl_model.specs.declared.kinds.Semantic.TheVariants.{AnyOf, AllOf}
+use Rattle.ctrl_model.specs.declared.kinds.Semantic.TheVariants.{AnyOf}
 use Rattle.ctrl_model.specs.declared.kinds.Relation.{Relation}
 use Rattle.ctrl_model.specs.declared.kinds.Relation.TheVariants.{Dial, Bind}
 use Rattle.ctrl_model.specs.declared.kinds.Precedence.{Precedence}

@@ -9,7 +9,9 @@ mod numbering;
 mod refusals;
 mod replies;
 mod route_laws;
+mod state_laws;
 mod texts;
+mod validity;
 mod worked;
 
 pub use claims::{Explanation, Potentials, Reach, Reaches};
@@ -21,7 +23,11 @@ pub use numbering::{
 pub use refusals::{Denial, Field, Reason, Refusal};
 pub use replies::{Reply, Tallies, Tally};
 pub use route_laws::{claimed_route, each_path, no_better, plain_path, the_best, the_rule};
+pub use state_laws::{
+    absent_pairs_count_nothing, numbers_never_fall, refused_leaves_the_state, settled_once,
+};
 pub use texts::{Bytes, Instance, Name, NameFault, Names};
+pub use validity::valid_stays_valid;
 pub use worked::{
     a_circuit_on_a_line, a_nearer_terminator, counted_grants, deleted_and_made_again, denials,
     equal_paths, hosts, limits_and_links, names_and_words, no_traversal, permissions, precedences,

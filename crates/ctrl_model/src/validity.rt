@@ -1,0 +1,14 @@
+ghost use Rattle.std.specs.Prelude.{◌≡◌, true};
+ghost use Rattle.ctrl_model.specs.declared.commands.Command.{Command};
+ghost use Rattle.ctrl_model.specs.declared.kinds.Who.{Who};
+ghost use Rattle.ctrl_model.specs.State.{State, start};
+ghost use Rattle.ctrl_model.specs.CommandForm.{is_spelled};
+ghost use Rattle.ctrl_model.specs.Controller.{answer};
+ghost use Rattle.ctrl_model.specs.ValidState.{ValidState};
+
+/// The state at the start is valid, and a valid state stays valid: for every role and every command that some body spells,
+/// the next state of a valid one is valid.
+pub fn valid_stays_valid()
+    ensures at_start { ValidState start }
+    ensures stays { (who : Who) (c : Command) (s : State) → is_spelled c ≡ true → ValidState s → ValidState (answer who c s).1 }
+{}
