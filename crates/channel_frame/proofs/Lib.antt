@@ -1,0 +1,5 @@
+pub mod NumberLaws
+pub mod HeaderLaws
+pub mod SpellingLaws
+pub mod HeadLaws
+pub mod FrontLaws

@@ -1,0 +1,2 @@
+pub mod FrameSpelling
+pub mod StreamReading
