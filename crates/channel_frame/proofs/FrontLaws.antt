@@ -226,3 +226,70 @@ pub bad_unspelled : (bytes : List ℕ) (f : Frame) (e : FrameFault) → front by
 bad_unspelled bytes f e bad is spelled =
     let whole = front_spelled f bytes is spelled in
     cc
+
+-- ---- what stands stays
+
+pub front_short : (bytes : List ℕ) → length bytes < 20 → front bytes ≡ Short
+front_short bytes lt =
+    let e : ltb (length bytes) 20 ≡ true = lt-ltb _ _ lt in
+    ap (λ (t : Bool). cond t Short (with_head bytes (head_of bytes))) e
+
+front_headed : (bytes : List ℕ) (r : Result Head FrameFault) → 20 ≤ length bytes → head_of bytes ≡ r → front bytes ≡ with_head bytes r
+front_headed bytes r long e =
+    let a : ltb (length bytes) 20 ≡ false = le-ltb _ _ long in
+    ap (λ (t : Bool). cond t Short (with_head bytes (head_of bytes))) a ∙ ap (with_head bytes) e
+
+front_cut : (bytes : List ℕ) (h : Head) → 20 ≤ length bytes → head_of bytes ≡ Ok h → length bytes < frame_len h → front bytes ≡ Short
+front_cut bytes h long e lt =
+    let b : ltb (length bytes) (frame_len h) ≡ true = lt-ltb _ _ lt in
+    front_headed bytes (Ok h) long e ∙ ap (λ (t : Bool). cond t Short (with_headers h bytes (headers_of (headers_part h bytes)))) b
+
+with_headers-same : (h : Head) (xs ys : List ℕ) (o : Option (List Header)) → take h.body_len (drop (20 + h.headers_len) xs) ≡ take h.body_len (drop (20 + h.headers_len) ys)
+    → with_headers h xs o ≡ with_headers h ys o
+with_headers-same h xs ys None e = refl
+with_headers-same h xs ys (Some hs) e = ap (λ (body : List ℕ). Whole (record { content = h.content; sequence = h.sequence; headers = hs; body = body }) (frame_len h)) e
+
+take_within : (n m : ℕ) (bytes more : List ℕ) → n + m ≤ length bytes → take m (drop n (bytes ++ more)) ≡ take m (drop n bytes)
+take_within n m bytes more le =
+    let here : n ≤ length bytes = omega arith in
+    let there : m ≤ length (drop n bytes) = omega (arith, length-drop n bytes) in
+    ap (take m) (drop-append-le n bytes more here) ∙ take-append-le m (drop n bytes) more there
+
+stays_behind : (bytes more : List ℕ) (h : Head) → 20 ≤ length bytes → head_of bytes ≡ Ok h → head_of (bytes ++ more) ≡ Ok h → frame_len h ≤ length bytes
+    → front (bytes ++ more) ≡ front bytes
+stays_behind bytes more h long a b there =
+    let len = length-append bytes more in
+    let part : headers_part h (bytes ++ more) ≡ headers_part h bytes = take_within 20 h.headers_len bytes more (omega arith) in
+    let body = take_within (20 + h.headers_len) h.body_len bytes more there in
+    front_behind (bytes ++ more) h (omega (arith, len)) b (omega (arith, len))
+        ∙ ap (λ (xs : List ℕ). with_headers h (bytes ++ more) (headers_of xs)) part
+        ∙ with_headers-same h (bytes ++ more) bytes (headers_of (headers_part h bytes)) body
+        ∙ sym (front_behind bytes h long a there)
+
+stays_headed : (bytes more : List ℕ) (r : Result Head FrameFault) → 20 ≤ length bytes → head_of bytes ≡ r → head_of (bytes ++ more) ≡ r → (front bytes ≡ Short → ⊥)
+    → front (bytes ++ more) ≡ front bytes
+stays_headed bytes more (Err d) long a b stands = front_headed (bytes ++ more) (Err d) (omega (arith, length-append bytes more)) b ∙ sym (front_headed bytes (Err d) long a)
+stays_headed bytes more (Ok h) long a b stands =
+    elim (cases_lt (length bytes) (frame_len h)) [
+      | inl lt ↦ absurd (stands (front_cut bytes h long a lt))
+      | inr le ↦ stays_behind bytes more h long a b le
+    ]
+
+pub front_stays : (bytes more : List ℕ) → (front bytes ≡ Short → ⊥) → front (bytes ++ more) ≡ front bytes
+front_stays bytes more stands =
+    elim (cases_lt (length bytes) 20) [
+      | inl lt ↦ absurd (stands (front_short bytes lt))
+      | inr le ↦ stays_headed bytes more (head_of bytes) le refl (head_of-same (bytes ++ more) bytes (λ i lt. get_or_append_left bytes more 0 i (omega arith))) stands
+    ]
+
+-- a whole frame has at least its head, and lies in the bytes
+pub whole_within : (bytes : List ℕ) (f : Frame) (n : ℕ) → front bytes ≡ Whole f n → (20 ≤ n) × (n ≤ length bytes)
+whole_within bytes f n e =
+    let s = front_stands bytes f n e in
+    (omega (arith, s.len), omega (arith, s.len, s.there))
+
+-- no spelling begins another
+pub spelled_apart : (f g : Frame) (more others : List ℕ) → IsFrame f → IsFrame g → spelling f ++ more ≡ spelling g ++ others → (f ≡ g) × (more ≡ others)
+spelled_apart f g more others is_f is_g e =
+    let same = same_whole f g (length (spelling f)) (length (spelling g)) (sym (front_again f more is_f) ∙ ap front e ∙ front_again g others is_g) in
+    (same.0, append_cancel_left (spelling g) more others (ap (λ (x : Frame). spelling x ++ more) (sym same.0) ∙ e))

@@ -3,3 +3,4 @@ pub mod HeaderLaws
 pub mod SpellingLaws
 pub mod HeadLaws
 pub mod FrontLaws
+pub mod ReadingLaws
