@@ -11,7 +11,7 @@ use Rattle.channel_frame.specs.declared.frames.FrameFault.{FrameFault}
 use Rattle.channel_frame.specs.declared.frames.FrameFault.TheVariants.{BadHeaders}
 use Rattle.channel_frame.specs.declared.frames.Front.{Front}
 use Rattle.channel_frame.specs.declared.frames.Front.TheVariants.{Short, Bad, Whole}
-use Rattle.channel_frame.specs.FrameSpelling.{number, head_for, head_spelling, headers_spelling, spelling, IsHead, IsFrame}
+use Rattle.channel_frame.specs.FrameSpelling.{number, head_for, head_spelling, headers_spelling, spelling, IsHead, IsFrame, KeepsLimits}
 use Rattle.channel_frame.specs.StreamReading.{AreBytes, IsAnnounced, head_of, frame_len, headers_of, headers_part, with_headers, with_head, front}
 use Rattle.channel_frame.proofs.NumberLaws.{AreBytes-take, AreBytes-drop}
 use Rattle.channel_frame.proofs.HeadLaws.{made_head, head_again, head_takes, head_of-same}
@@ -181,6 +181,12 @@ same_head bytes h announced e =
     let is_head : head_of bytes ≡ Ok h = sym same ∙ e in
     (is_head, announced.whole ∙ ap frame_len (same_Ok announced.head h (sym announced.is_head ∙ is_head)))
 
+-- bytes of the length that their first 20 announce
+pub is_announced : (bytes first : List ℕ) (h : Head) → first ≡ take 20 bytes → Ok h ≡ head_of first → length bytes ≡ frame_len h → IsAnnounced bytes
+is_announced bytes first h cut e len =
+    let same : head_of (take 20 bytes) ≡ head_of bytes = head_of-same (take 20 bytes) bytes (λ i lt. get_or-take 20 bytes i 0 lt) in
+    record { head = h; is_head = sym same ∙ ap head_of (sym cut) ∙ sym e; whole = len }
+
 -- what the code has in its hands behind the headers
 pub record Cut (bytes front after part : List ℕ) (h : Head) : Type 0 where
   pub first : front ≡ take 20 bytes
@@ -234,12 +240,12 @@ front_short bytes lt =
     let e : ltb (length bytes) 20 ≡ true = lt-ltb _ _ lt in
     ap (λ (t : Bool). cond t Short (with_head bytes (head_of bytes))) e
 
-front_headed : (bytes : List ℕ) (r : Result Head FrameFault) → 20 ≤ length bytes → head_of bytes ≡ r → front bytes ≡ with_head bytes r
+pub front_headed : (bytes : List ℕ) (r : Result Head FrameFault) → 20 ≤ length bytes → head_of bytes ≡ r → front bytes ≡ with_head bytes r
 front_headed bytes r long e =
     let a : ltb (length bytes) 20 ≡ false = le-ltb _ _ long in
     ap (λ (t : Bool). cond t Short (with_head bytes (head_of bytes))) a ∙ ap (with_head bytes) e
 
-front_cut : (bytes : List ℕ) (h : Head) → 20 ≤ length bytes → head_of bytes ≡ Ok h → length bytes < frame_len h → front bytes ≡ Short
+pub front_cut : (bytes : List ℕ) (h : Head) → 20 ≤ length bytes → head_of bytes ≡ Ok h → length bytes < frame_len h → front bytes ≡ Short
 front_cut bytes h long e lt =
     let b : ltb (length bytes) (frame_len h) ≡ true = lt-ltb _ _ lt in
     front_headed bytes (Ok h) long e ∙ ap (λ (t : Bool). cond t Short (with_headers h bytes (headers_of (headers_part h bytes)))) b
@@ -293,3 +299,10 @@ pub spelled_apart : (f g : Frame) (more others : List ℕ) → IsFrame f → IsF
 spelled_apart f g more others is_f is_g e =
     let same = same_whole f g (length (spelling f)) (length (spelling g)) (sym (front_again f more is_f) ∙ ap front e ∙ front_again g others is_g) in
     (same.0, append_cancel_left (spelling g) more others (ap (λ (x : Frame). spelling x ++ more) (sym same.0) ∙ e))
+
+-- what stands in a front part of the bytes stands in all of them
+pub front_taken : (n : ℕ) (bytes : List ℕ) → (front (take n bytes) ≡ Short → ⊥) → front bytes ≡ front (take n bytes)
+front_taken n bytes stands = ap front (sym (take-append-drop n bytes)) ∙ front_stays (take n bytes) (drop n bytes) stands
+
+pub limits_from_frame : (f : Frame) → IsFrame f → KeepsLimits f
+limits_from_frame f is = record { headers_len = is.headers_len; body_len = is.body_len }
