@@ -1,6 +1,5 @@
 -- What stands at the front of some bytes.
-use Rattle.std.proofs.Common.{◌≡◌, ℕ, zero, suc, ◌+◌, ◌-◌, ◌^◌, ◌<◌, ◌≤◌, Bool, true, false, cond, ltb, List, [], ◌∷◌, ◌++◌, length, get_or, take, drop, Option, Some, None, Result, Ok, Err, refl, sym, ap, subst, ◌∙◌, append_assoc, arith, inl, inr}
-use Rattle.std.specs.Option.{option_map}
+use Rattle.std.proofs.Common.{◌≡◌, ℕ, ◌+◌, ◌<◌, ◌≤◌, Bool, true, false, cond, ltb, List, [], ◌++◌, length, take, drop, Option, Some, None, Result, Ok, Err, refl, sym, ap, subst, ◌∙◌, append_assoc, arith, inl, inr}
 use Rattle.std.proofs.Math.Seq.{take-add}
 use Rattle.std.proofs.lemmas.Bool.{ltb-false, le-ltb, lt-ltb, cases_lt}
 use Rattle.std.proofs.lemmas.List.{append-nil, take-append-drop, get_or-take, take_at, drop_at, drop-drop, take_all, length-append, length-drop, length-take-le, get_or_append_left, take-append-le, drop-append-le, append_cancel_left}
@@ -11,7 +10,7 @@ use Rattle.channel_frame.specs.declared.frames.FrameFault.{FrameFault}
 use Rattle.channel_frame.specs.declared.frames.FrameFault.TheVariants.{BadHeaders}
 use Rattle.channel_frame.specs.declared.frames.Front.{Front}
 use Rattle.channel_frame.specs.declared.frames.Front.TheVariants.{Short, Bad, Whole}
-use Rattle.channel_frame.specs.FrameSpelling.{number, head_for, head_spelling, headers_spelling, spelling, IsHead, IsFrame, KeepsLimits}
+use Rattle.channel_frame.specs.FrameSpelling.{head_for, head_spelling, headers_spelling, spelling, IsHead, IsFrame, KeepsLimits}
 use Rattle.channel_frame.specs.StreamReading.{AreBytes, IsAnnounced, head_of, frame_len, headers_of, headers_part, with_headers, with_head, front}
 use Rattle.channel_frame.proofs.NumberLaws.{AreBytes-take, AreBytes-drop}
 use Rattle.channel_frame.proofs.HeadLaws.{made_head, head_again, head_takes, head_of-same}
@@ -187,7 +186,7 @@ is_announced bytes first h cut e len =
     let same : head_of (take 20 bytes) ≡ head_of bytes = head_of-same (take 20 bytes) bytes (λ i lt. get_or-take 20 bytes i 0 lt) in
     record { head = h; is_head = sym same ∙ ap head_of (sym cut) ∙ sym e; whole = len }
 
--- what the code has in its hands behind the headers
+-- the pieces into which the code cuts the bytes of a frame
 pub record Cut (bytes front after part : List ℕ) (h : Head) : Type 0 where
   pub first : front ≡ take 20 bytes
   pub is_head : Ok h ≡ head_of front
@@ -268,9 +267,9 @@ stays_behind bytes more h long a b there =
     let part : headers_part h (bytes ++ more) ≡ headers_part h bytes = take_within 20 h.headers_len bytes more (omega arith) in
     let body = take_within (20 + h.headers_len) h.body_len bytes more there in
     front_behind (bytes ++ more) h (omega (arith, len)) b (omega (arith, len))
-        ∙ ap (λ (xs : List ℕ). with_headers h (bytes ++ more) (headers_of xs)) part
-        ∙ with_headers-same h (bytes ++ more) bytes (headers_of (headers_part h bytes)) body
-        ∙ sym (front_behind bytes h long a there)
+    ∙ ap (λ (xs : List ℕ). with_headers h (bytes ++ more) (headers_of xs)) part
+    ∙ with_headers-same h (bytes ++ more) bytes (headers_of (headers_part h bytes)) body
+    ∙ sym (front_behind bytes h long a there)
 
 stays_headed : (bytes more : List ℕ) (r : Result Head FrameFault) → 20 ≤ length bytes → head_of bytes ≡ r → head_of (bytes ++ more) ≡ r → (front bytes ≡ Short → ⊥)
     → front (bytes ++ more) ≡ front bytes

@@ -1,17 +1,17 @@
 -- The headers part: what is spelled is read, and what is read is spelled so.
 use Rattle.std.proofs.Common.{◌≡◌, ℕ, zero, suc, ◌+◌, ◌^◌, ◌<◌, ◌≤◌, Bool, true, false, cond, ltb, ◌||◌, List, [], ◌∷◌, ◌++◌, length, get_or, take, drop, Option, Some, None, refl, sym, ap, subst, ◌∙◌, append_assoc, arith}
 use Rattle.std.specs.Option.{option_map}
-use Rattle.std.specs.List.{flat_map, AllByRecursion}
+use Rattle.std.specs.List.{AllByRecursion}
 use Rattle.std.proofs.Math.Seq.{take-add}
-use Rattle.std.proofs.lemmas.Bool.{ltb-false, le-ltb, or_parts, or_from}
-use Rattle.std.proofs.lemmas.List.{append-nil, take-append-drop, take_at, drop_at, drop-drop, length-append, length-drop, length-take-le}
+use Rattle.std.proofs.lemmas.Bool.{ltb-false, le-ltb}
+use Rattle.std.proofs.lemmas.List.{take-append-drop, take_at, drop_at, drop-drop, length-append, length-drop, length-take-le}
 use Rattle.std.proofs.lemmas.List.Folds.{length-flat_map-take}
 use Rattle.std.proofs.lemmas.Option.{same_Some}
 use Rattle.std.proofs.lemmas.Nat.{from_le_bytes-to_le_bytes_4}
 use Rattle.channel_frame.specs.declared.frames.Header.{Header}
 use Rattle.channel_frame.specs.FrameSpelling.{number, header_spelling, headers_spelling, IsHeader}
 use Rattle.channel_frame.specs.StreamReading.{AreBytes, number_at, header_at, headers_past, headers_of, and_then_headers, with_front}
-use Rattle.channel_frame.proofs.NumberLaws.{AreBytes-drop, number_fits, number_takes, number_takes_at}
+use Rattle.channel_frame.proofs.NumberLaws.{number_fits, number_takes, number_takes_at}
 
 pub length-header_spelling : (h : Header) → length (header_spelling h) ≡ 8 + length h.value
 length-header_spelling h = omega arith

@@ -1,5 +1,5 @@
 -- A session's bytes have one reading as frames and a tail, and it goes a frame at a time.
-use Rattle.std.proofs.Common.{◌≡◌, ℕ, zero, suc, ◌+◌, ◌-◌, ◌<◌, ◌≤◌, List, [], ◌∷◌, ◌++◌, length, take, drop, refl, sym, ap, ◌∙◌, append_assoc, arith}
+use Rattle.std.proofs.Common.{◌≡◌, ℕ, zero, suc, ◌-◌, ◌<◌, List, [], ◌∷◌, ◌++◌, length, take, drop, refl, sym, ap, ◌∙◌, append_assoc, arith}
 use Rattle.std.specs.List.{flat_map, AllByRecursion}
 use Rattle.std.proofs.lemmas.List.{take-append-drop, drop_at}
 use Rattle.channel_frame.specs.declared.frames.Frame.{Frame}
@@ -111,17 +111,25 @@ has_reading bytes fits = reads_past bytes 0 fits
 
 -- ---- and no other
 
+-- behind a spelled frame the reading goes on with what follows it
+pub spelled_step : (f : Frame) (more : List ℕ) → IsFrame f → (frames_of (spelling f ++ more) ≡ f ∷ frames_of more) × (rest_of (spelling f ++ more) ≡ rest_of more)
+spelled_step f more is =
+    let n : ℕ = length (spelling f) in
+    let first = front_again f more is in
+    let behind : drop n (spelling f ++ more) ≡ more = drop_at (spelling f) more n refl in (
+      frames_step (spelling f ++ more) f n first ∙ ap (λ (xs : List ℕ). f ∷ frames_of xs) behind,
+      rest_step (spelling f ++ more) f n first ∙ ap rest_of behind,
+    )
+
 spelled_reads : (frames : List Frame) (rest : List ℕ) → AllByRecursion IsFrame frames → HasNone rest
     → (frames_of (flat_map spelling frames ++ rest) ≡ frames) × (rest_of (flat_map spelling frames ++ rest) ≡ rest)
 spelled_reads [] rest each none = reading_stops rest none
 spelled_reads (f ∷ frames) rest each none =
     let others : List ℕ = flat_map spelling frames ++ rest in
     let parts : flat_map spelling (f ∷ frames) ++ rest ≡ spelling f ++ others = append_assoc (spelling f) (flat_map spelling frames) rest in
-    let first = front_again f others each.0 in
-    let behind : drop (length (spelling f)) (spelling f ++ others) ≡ others = drop_at (spelling f) others (length (spelling f)) refl in
+    let step = spelled_step f others each.0 in
     let later = spelled_reads frames rest each.1 none in
-    (ap frames_of parts ∙ frames_step (spelling f ++ others) f (length (spelling f)) first ∙ ap (λ (fs : List Frame). f ∷ fs) (ap frames_of behind ∙ later.0),
-     ap rest_of parts ∙ rest_step (spelling f ++ others) f (length (spelling f)) first ∙ ap rest_of behind ∙ later.1)
+    (ap frames_of parts ∙ step.0 ∙ ap (λ (fs : List Frame). f ∷ fs) later.0, ap rest_of parts ∙ step.1 ∙ later.1)
 
 pub has_one_reading : (bytes : List ℕ) (frames : List Frame) (rest : List ℕ) → AreBytes rest → Reads bytes frames rest → (frames_of bytes ≡ frames) × (rest_of bytes ≡ rest)
 has_one_reading bytes frames rest fits reads =

@@ -5,12 +5,9 @@ ghost use Rattle.channel_frame.specs.declared.frames.Front.TheVariants.{Bad, Who
 ghost use Rattle.channel_frame.specs.FrameSpelling.{IsFrame, IsHead, spelling, head_spelling};
 ghost use Rattle.channel_frame.specs.StreamReading.{head_of, IsAnnounced, header_at, headers_of, front, starts_with_marker};
 
-use crate::frames::{Frame, FrameFault, Head, Header, Headers};
+use crate::frames::{Frame, FrameFault, Head, Header, Headers, MARKER};
 use ctrl_model::Bytes;
 use std::alloc::Global;
-
-/// The marker with which each frame begins.
-const MARKER: [u8; 4] = [3, 6, 9, 12];
 
 fn has_marker(bytes: &[u8; 20]) -> bool
     ensures { result ≡ starts_with_marker bytes.now }

@@ -1,12 +1,9 @@
 ghost use Rattle.std.specs.Prelude.{◌≡◌, ◌++◌, ◌≤◌, OnOk, IfOk, length};
 ghost use Rattle.channel_frame.specs.FrameSpelling.{number, header_spelling, headers_spelling, head_spelling, spelling, KeepsLimits};
 
-use crate::frames::{Frame, Head, Header};
+use crate::frames::{Frame, Head, Header, MARKER};
 use ctrl_model::Bytes;
 use std::alloc::{AllocError, Global};
-
-/// The marker with which each frame begins.
-const MARKER: [u8; 4] = [3, 6, 9, 12];
 
 fn push_number(out: &mut Vec<u8>, n: u32) -> Result<(), AllocError>
     ensures { OnOk result (out.new.items ≡ out.old.items ++ number n) }

@@ -169,6 +169,9 @@ impl Frames {
     }
 }
 
+/// The marker with which each frame begins.
+pub(crate) const MARKER: [u8; 4] = [3, 6, 9, 12];
+
 /// What the first 20 bytes of a frame say: its content type, its sequence number and the lengths of its two parts.
 #[derive(Clone, Copy, Debug, PartialEq, Eq)]
 pub struct Head {

@@ -24,8 +24,8 @@ pub fn what_stands()
 
 /// Every list of bytes has exactly one reading as frames and a tail.
 ///
-/// (A list of numbers that are no bytes may begin as a frame does and yet be no frame's spelling: so the tail's numbers are
-/// to be bytes. Those of the frames need not be.)
+/// Any reading whose tail is made of bytes is this one. Numbers above 255 may be read as a head that no frame spells, so of
+/// them a tail would not be told from a frame.
 pub fn one_reading()
     ensures reads { (bytes : List ℕ) → AreBytes bytes → Reads bytes (frames_of bytes) (rest_of bytes) }
     ensures only { (bytes : List ℕ) (frames : List Frame) (rest : List ℕ) → AreBytes rest → Reads bytes frames rest

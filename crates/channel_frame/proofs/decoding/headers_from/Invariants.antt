@@ -1,4 +1,4 @@
-use Rattle.std.proofs.Common.{◌≡◌, ◌++◌, length}
+use Rattle.std.proofs.Common.{◌≡◌, length}
 use Rattle.channel_frame.specs.StreamReading.{headers_of, with_front}
 use Rattle.channel_frame.proofs.decoding.headers_from.Given as goal
 

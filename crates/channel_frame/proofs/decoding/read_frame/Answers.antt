@@ -1,8 +1,6 @@
-use Rattle.std.proofs.Common.{◌≡◌, length, List, Option, Some, None, sym, ◌∙◌, arith}
-use Rattle.channel_frame.specs.declared.frames.Header.{Header}
+use Rattle.std.proofs.Common.{◌≡◌, Some, None, sym, ◌∙◌, arith}
 use Rattle.channel_frame.specs.declared.frames.FrameFault.TheVariants.{BadHeaders}
-use Rattle.channel_frame.specs.declared.frames.Front.TheVariants.{Bad, Whole}
-use Rattle.channel_frame.specs.StreamReading.{AreBytes, front, headers_of}
+use Rattle.channel_frame.specs.StreamReading.{headers_of}
 use Rattle.channel_frame.proofs.NumberLaws.{AreBytes-from}
 use Rattle.channel_frame.proofs.FrontLaws.{Cut, reads_whole, reads_bad, alone_spelled, alone_read, bad_unspelled}
 use Rattle.channel_frame.proofs.decoding.read_frame.Goals as goal
