@@ -1,0 +1,6 @@
+pub mod NumberLaws
+pub mod HeaderLaws
+pub mod SpellingLaws
+pub mod HeadLaws
+pub mod FrontLaws
+pub mod ReadingLaws

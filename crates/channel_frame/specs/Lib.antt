@@ -1,0 +1,3 @@
+pub mod FrameSpelling
+pub mod StreamReading
+pub mod WorkedFrames

@@ -1,0 +1,17 @@
+//! One frame of a channel: its bytes, read and written (docs/FORMATS.md, "Channel frame").
+#![tactic(auto)]
+
+mod decoding;
+mod encoding;
+mod frames;
+mod laws;
+mod worked;
+
+pub use decoding::{read_frame, read_head};
+pub use encoding::encode;
+pub use frames::{Frame, FrameFault, Frames, Front, Head, Header, Headers};
+pub use laws::{one_reading, one_spelling, what_stands};
+pub use worked::{worked_faults, worked_readings, worked_spellings, worked_unfinished};
+
+#[cfg(test)]
+mod tests;

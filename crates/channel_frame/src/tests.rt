@@ -1,0 +1,44 @@
+ghost use Rattle.std.specs.Prelude.{IfSome};
+ghost use Rattle.channel_frame.specs.FrameSpelling.{KeepsLimits};
+
+use super::*;
+use std::alloc::Global;
+use std::test::*;
+
+const FRAME: [u8; 34] = [
+    3, 6, 9, 12, 232, 3, 0, 0, 7, 0, 0, 0, 0, 0, 0, 0, 14, 0, 0, 0, 123, 34, 110, 97, 109, 101, 34,
+    58, 34, 97, 110, 110, 34, 125,
+];
+
+const REPLY: [u8; 49] = [
+    3, 6, 9, 12, 2, 0, 0, 0, 0, 0, 0, 0, 21, 0, 0, 0, 8, 0, 0, 0, 1, 0, 0, 0, 4, 0, 0, 0, 7, 0, 0,
+    0, 2, 0, 0, 0, 1, 0, 0, 0, 1, 123, 34, 110, 111, 34, 58, 49, 125,
+];
+
+// The frame that the bytes are, where they have the length that their head announces.
+#[tactic(auto, using(crate::proofs::FrontLaws::limits_from_frame))]
+fn frame_of(alloc: Global, bytes: &[u8]) -> Option<Frame>
+    ensures { IfSome result (λ f. KeepsLimits f) }
+{
+    let first = bytes.first_chunk::<20>()?;
+    let head = read_head(first).ok()?;
+    if bytes.len() != 20 + head.headers_len as usize + head.body_len as usize {
+        return None;
+    }
+    read_frame(alloc, bytes).ok()
+}
+
+#[test]
+fn frames_are_read_and_spelled(rt: HostRuntime) -> Result<(), Fail> {
+    let alloc = rt.alloc();
+    let frame = frame_of(alloc, &FRAME).ok_or("the bytes are a frame")?;
+    assert_eq!(rt; frame.content, 1000);
+    assert_eq!(rt; frame.sequence, 7);
+    assert_eq!(rt; frame.headers.len(), 0);
+    assert_eq!(rt; frame.body.as_slice(), b"{\"name\":\"ann\"}".as_slice());
+    let reply = frame_of(alloc, &REPLY).ok_or("the bytes are a reply")?;
+    assert_eq!(rt; reply.headers.len(), 2);
+    let again = encode(alloc, &reply).ok().ok_or("there is memory")?;
+    assert_eq!(rt; again.as_slice(), REPLY.as_slice());
+    Ok(())
+}

@@ -1,0 +1,48 @@
+ghost use Rattle.std.specs.Prelude.{◌≡◌, [], ◌∷◌, ◌++◌, length, take, None, Some};
+ghost use Rattle.channel_frame.specs.declared.frames.FrameFault.TheVariants.{BadMarker, TooLong, BadHeaders};
+ghost use Rattle.channel_frame.specs.FrameSpelling.{spelling};
+ghost use Rattle.channel_frame.specs.StreamReading.{frames_of, rest_of, fault_of};
+ghost use Rattle.channel_frame.specs.WorkedFrames.{ann_frame, ann_bytes, reply_frame, reply_bytes, cut_bytes, unmarked_bytes, longest_body, longer_body, negative_body, longest_headers, longer_headers, short_header};
+
+/// A frame and its reply, spelled.
+pub fn worked_spellings()
+    ensures frame { spelling ann_frame ≡ ann_bytes }
+    ensures reply { spelling reply_frame ≡ reply_bytes }
+{}
+
+/// The same bytes read: once, twice in a row, and the reply.
+pub fn worked_readings()
+    ensures one { frames_of ann_bytes ≡ ann_frame ∷ [] }
+    ensures one_rest { rest_of ann_bytes ≡ [] }
+    ensures one_fault { fault_of ann_bytes ≡ None }
+    ensures two { frames_of (ann_bytes ++ ann_bytes) ≡ ann_frame ∷ ann_frame ∷ [] }
+    ensures two_count { length (frames_of (ann_bytes ++ ann_bytes)) ≡ 2 }
+    ensures two_rest { rest_of (ann_bytes ++ ann_bytes) ≡ [] }
+    ensures reply { frames_of reply_bytes ≡ reply_frame ∷ [] }
+{}
+
+/// Each fault, with its place.
+pub fn worked_faults()
+    ensures marker_frames { frames_of (ann_bytes ++ unmarked_bytes) ≡ ann_frame ∷ [] }
+    ensures marker { fault_of (ann_bytes ++ unmarked_bytes) ≡ Some (BadMarker, 34) }
+    ensures body { fault_of longer_body ≡ Some (TooLong, 0) }
+    ensures unsigned_body { fault_of negative_body ≡ Some (TooLong, 0) }
+    ensures headers { fault_of longer_headers ≡ Some (TooLong, 0) }
+    ensures cut_header { fault_of short_header ≡ Some (BadHeaders, 0) }
+    ensures cut_header_frames { frames_of short_header ≡ [] }
+{}
+
+/// Bytes that are unfinished: no frame and no fault.
+pub fn worked_unfinished()
+    ensures cut { frames_of cut_bytes ≡ [] }
+    ensures cut_rest { rest_of cut_bytes ≡ cut_bytes }
+    ensures cut_fault { fault_of cut_bytes ≡ None }
+    ensures behind { frames_of (ann_bytes ++ cut_bytes) ≡ ann_frame ∷ [] }
+    ensures behind_rest { rest_of (ann_bytes ++ cut_bytes) ≡ cut_bytes }
+    ensures body { frames_of longest_body ≡ [] }
+    ensures body_fault { fault_of longest_body ≡ None }
+    ensures headers { frames_of longest_headers ≡ [] }
+    ensures headers_fault { fault_of longest_headers ≡ None }
+    ensures few { frames_of (take 19 unmarked_bytes) ≡ [] }
+    ensures few_fault { fault_of (take 19 unmarked_bytes) ≡ None }
+{}
