@@ -1,9 +1,9 @@
 -- Walks over any rule of hops. The network of routers and a graph of places both are such a rule, so that they share
 -- what a path is, what it costs, and every law on it (docs/RULES.md, "Paths").
-use Rattle.std.specs.Prelude.{ℕ, zero, suc, ◌+◌, ◌==◌, Bool, false, ◌||◌, cond, List, [], ◌∷◌, ◌++◌, None, Some, option_and_then, map}
+use Rattle.std.specs.Prelude.{ℕ, zero, suc, ◌+◌, ◌==◌, Bool, true, false, ◌||◌, cond, List, [], ◌∷◌, ◌++◌, None, Some, option_and_then, map}
 use Rattle.std.specs.declared.option.Option.{Option}
 use Rattle.std.specs.Option.{option_map_or}
-use Rattle.std.specs.List.{flat_map}
+use Rattle.std.specs.List.{list_any, flat_map}
 
 -- A rule of hops: from a place over a link it leads to a place at a cost, or nowhere. The cost is that of the link and of
 -- entering the place together.
