@@ -4,5 +4,5 @@
 mod checking;
 mod graph;
 
-pub use checking::check;
+pub use checking::{check, improves, is_tight, reach};
 pub use graph::{Graph, Step};
