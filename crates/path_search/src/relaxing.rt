@@ -59,10 +59,10 @@ fn settle(graph: &Graph, target: u16, potentials: &mut [u64])
     'turns: while relax(graph, target, potentials) {}
 }
 
-fn settled(alloc: Global, graph: &Graph, target: u16) -> Result<Vec<u64>, AllocError>
+fn least_costs(alloc: Global, graph: &Graph, target: u16) -> Result<Vec<u64>, AllocError>
     requires { target < length graph.now.through }
-    ensures supported { IfOk result (λ v. Supported graph.now target v.items) }
-    ensures settled { IfOk result (λ v. none_improves graph.now target v.items ≡ true) }
+    ensures least { IfOk result (λ v. IsLeast graph.now target v.items) }
+    ensures few { IfOk result (λ v. AreFew graph.now v.items) }
 {
     let mut potentials = start(alloc, graph.places(), target)?;
     settle(graph, target, potentials.as_mut_slice());
@@ -76,7 +76,6 @@ pub fn least(alloc: Global, graph: &Graph, target: u16) -> Result<Potentials, Al
     // A path has fewer steps than there are places, so its cost has a bound.
     ensures few { IfOk result (λ p. AreFew graph.now p) }
 {
-    let _places = graph.places();
-    let potentials = settled(alloc, graph, target)?;
+    let potentials = least_costs(alloc, graph, target)?;
     Ok(Potentials::of(potentials))
 }

@@ -43,8 +43,8 @@ fn first_links(
     requires there { potential potentials.now from < absent }
     ensures { IfOk result (λ links. IsFirst graph.now target potentials.now from links.items) }
 {
-    let _places = graph.places();
-    let mut links = Vec::new(alloc);
+    // A path has fewer links than there are places.
+    let mut links = Vec::with_capacity(alloc, graph.places())?;
     let mut at = from;
     'links: while at != target {
         let Some(step) = first_tight(graph, target, potentials, at) else {
