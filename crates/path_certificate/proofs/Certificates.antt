@@ -1,6 +1,6 @@
 -- What a certificate is for.
-use Rattle.std.proofs.Common.{◌≡◌, ℕ, ◌<◌, ◌≤◌, true, List, [], ◌∷◌, length, arith}
-use Rattle.path_certificate.specs.Graphs.{GraphSeen, absent, graph_hops, IsGraph, potential, Certified, IsPath, cost_of, IsLeastPath, IsLower, AreLeast, none_improves}
+use Rattle.std.proofs.Common.{◌≡◌, ℕ, ◌<◌, ◌≤◌, true, List, [], ◌∷◌, arith}
+use Rattle.path_certificate.specs.Graphs.{GraphSeen, absent, graph_hops, IsGraph, potential, Certified, cost_of, IsLeastPath, AreLeast, none_improves}
 use Rattle.path_certificate.proofs.StepLaws.{hop_is}
 use Rattle.path_certificate.proofs.LowerBounds.{below_walk, path_cost_few}
 use Rattle.path_certificate.proofs.TightChains.{tight_cost, tight_path}
@@ -17,9 +17,9 @@ pub settled_least : (g : GraphSeen) (t : ℕ) (p : List ℕ) → IsGraph g.throu
 settled_least g t p graph zero_at settled = λ v place. record {
   below = λ links path. below_walk g t p settled zero_at links (v ∷ []) v path;
   none = λ is links path.
-    let low : potential p v ≤ cost_of g t v links = below_walk g t p settled zero_at links (v ∷ []) v path in
-    let few : cost_of g t v links < absent = path_cost_few g t v links graph place path in
-    omega arith;
+      let low : potential p v ≤ cost_of g t v links = below_walk g t p settled zero_at links (v ∷ []) v path in
+      let few : cost_of g t v links < absent = path_cost_few g t v links graph place path in
+      omega arith;
 }
 
 pub certified_least : (g : GraphSeen) (t : ℕ) (p : List ℕ) (from : ℕ) (path : List ℕ) → IsGraph g.through g.steps → Certified g t p from path → AreLeast g t p

@@ -1,6 +1,6 @@
 -- Potentials that no step improves are lower bounds of what paths cost.
-use Rattle.std.proofs.Common.{◌≡◌, ℕ, suc, ◌+◌, ◌-◌, ◌*◌, ◌<◌, ◌≤◌, ◌^◌, ◌==◌, min, not, Bool, true, false, List, [], ◌∷◌, length, Some, refl, sym, ◌∙◌, ap, subst, arith, ltb, eqb-true, ltb-false, le-ltb}
-use Rattle.std.proofs.lemmas.Bool.{and_from, false_from_ne_true, not-true, both_ways, lt-ltb}
+use Rattle.std.proofs.Common.{◌≡◌, ℕ, ◌+◌, ◌*◌, ◌<◌, ◌≤◌, not, true, List, [], ◌∷◌, length, Some, ◌∙◌, ap, subst, arith, ltb, eqb-true, ltb-false}
+use Rattle.std.proofs.lemmas.Bool.{and_from, false_from_ne_true, not-true, both_ways}
 use Rattle.ctrl_model.specs.Walks.{goes, cost_along}
 use Rattle.ctrl_model.proofs.Members.{Among, list_all-among, upto, length-upto, Among-upto}
 use Rattle.ctrl_model.proofs.WalkLaws.{by_goes, cost_along-more, cost_along-le, length-path}
@@ -13,15 +13,15 @@ pub settled_step : (g : GraphSeen) (t : ℕ) (p : List ℕ) (s : Step) → none_
     → potential p s.from ≤ reach s.cost (potential p s.to)
 settled_step g t p s settled m c =
     ltb-false (reach s.cost (potential p s.to)) (potential p s.from)
-      (false_from_ne_true (ltb (reach s.cost (potential p s.to)) (potential p s.from)) (λ e.
-        both_ways (improves g.through t p s) (not-true (improves g.through t p s) (list_all-among (λ u. not (improves g.through t p u)) g.steps s settled m))
-          (and_from (counts g.through t s) (ltb (reach s.cost (potential p s.to)) (potential p s.from)) c e)))
+    (false_from_ne_true (ltb (reach s.cost (potential p s.to)) (potential p s.from)) (λ e.
+    both_ways (improves g.through t p s) (not-true (improves g.through t p s) (list_all-among (λ u. not (improves g.through t p u)) g.steps s settled m))
+    (and_from (counts g.through t s) (ltb (reach s.cost (potential p s.to)) (potential p s.from)) c e)))
 
 -- and so is a hop's
 pub settled_hop : (g : GraphSeen) (t : ℕ) (p : List ℕ) (v l : ℕ) (h : ℕ × ℕ) → none_improves g t p ≡ true → graph_hops g t v l ≡ Some h → potential p v ≤ reach h.1 (potential p h.0)
 settled_hop g t p v l h settled is = by_hop g t v l h is (λ s m from link c e.
     subst (λ (x : ℕ × ℕ). potential p v ≤ reach x.1 (potential p x.0)) e
-      (subst (λ x. potential p x ≤ reach s.cost (potential p s.to)) from (settled_step g t p s settled m c)))
+    (subst (λ x. potential p x ≤ reach s.cost (potential p s.to)) from (settled_step g t p s settled m c)))
 
 -- then no walk costs less than its first place's potential
 pub below_walk : (g : GraphSeen) (t : ℕ) (p : List ℕ) → none_improves g t p ≡ true → potential p t ≡ 0 → (ls seen : List ℕ) (v : ℕ)
@@ -40,9 +40,9 @@ below_walk g t p settled zero_at (l ∷ ls) seen v walk = by_goes (graph_hops g 
 pub path_cost_few : (g : GraphSeen) (t v : ℕ) (ls : List ℕ) → IsGraph g.through g.steps → v < length g.through → IsPath g t v ls → cost_of g t v ls < absent
 path_cost_few g t v ls graph place path =
     few (length ls) (length g.through) (cost_of g t v ls)
-      (subst (λ n. length ls + 1 ≤ n) (length-upto (length g.through)) (length-path (graph_hops g t) t (upto (length g.through)) (hops_stay g t graph) ls v (Among-upto (length g.through) v place) path))
-      graph.few
-      (cost_along-le (graph_hops g t) 4294967296 (λ u l h is. let hop = hop_is g t u l h graph is in omega (arith, hop.small)) ls v)
+    (subst (λ n. length ls + 1 ≤ n) (length-upto (length g.through)) (length-path (graph_hops g t) t (upto (length g.through)) (hops_stay g t graph) ls v (Among-upto (length g.through) v place) path))
+    graph.few
+    (cost_along-le (graph_hops g t) 4294967296 (λ u l h is. let hop = hop_is g t u l h graph is in omega (arith, hop.small)) ls v)
   where
     few : (k n c : ℕ) → k + 1 ≤ n → n ≤ 256 → c ≤ k * 4294967296 → c < absent
     few k n c a b h = omega arith

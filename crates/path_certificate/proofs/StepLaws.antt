@@ -1,6 +1,6 @@
 -- What a hop of a graph says of its steps, and a step of the hops.
-use Rattle.std.proofs.Common.{◌≡◌, ℕ, suc, ◌<◌, ◌≤◌, ◌^◌, ◌==◌, ◌&&◌, ◌||◌, Bool, true, false, cond, inl, inr, ⊎_elim, List, [], ◌∷◌, length, get_or, Option, Some, None, refl, sym, ◌∙◌, ap, subst, arith, eqb, ltb, eqb-true, eq-eqb}
-use Rattle.std.proofs.lemmas.Bool.{and_parts, and_from, cond-true, cond-false, false_from_ne_true, false≢true}
+use Rattle.std.proofs.Common.{◌≡◌, ℕ, ◌<◌, ◌≤◌, ◌^◌, ◌==◌, ◌&&◌, ◌||◌, true, inl, inr, List, [], ◌∷◌, length, get_or, Some, None, refl, sym, ◌∙◌, ap, subst, arith, eqb, ltb, eqb-true, eq-eqb}
+use Rattle.std.proofs.lemmas.Bool.{and_parts, and_from, cond-true, cond-false, false_from_ne_true}
 use Rattle.std.proofs.lemmas.Bool.Decides.{nat_tests}
 use Rattle.std.proofs.lemmas.Option.{option_and_then_some, cond_some}
 use Rattle.std.specs.Option.{option_and_then}
@@ -32,12 +32,12 @@ pub find_itself : (xs : List Step) (s : Step) → is_ordered xs ≡ true → Amo
 find_itself [] s o m = absurd m
 find_itself (x ∷ xs) s o (inl e) =
     cond-true (leaves s.from s.link x) (Some x) (find (leaves s.from s.link) xs)
-      (subst (λ y. leaves s.from s.link y ≡ true) (sym e) (and_from (s.from == s.from) (s.link == s.link) (eq-eqb s.from s.from refl) (eq-eqb s.link s.link refl)))
+    (subst (λ y. leaves s.from s.link y ≡ true) (sym e) (and_from (s.from == s.from) (s.link == s.link) (eq-eqb s.from s.from refl) (eq-eqb s.link s.link refl)))
     ∙ ap Some e
 find_itself (x ∷ xs) s o (inr m) =
     let parts = and_parts (list_all (before x) xs) (is_ordered xs) o in
     cond-false (leaves s.from s.link x) (Some x) (find (leaves s.from s.link) xs)
-      (false_from_ne_true (leaves s.from s.link x) (before_apart x s (list_all-among (before x) xs s parts.0 m)))
+    (false_from_ne_true (leaves s.from s.link x) (before_apart x s (list_all-among (before x) xs s parts.0 m)))
     ∙ find_itself xs s parts.1 m
 
 -- and so a counting step is a hop

@@ -1,5 +1,5 @@
 -- Chains of tight hops: they are paths, and cost what the potential of their first place says.
-use Rattle.std.proofs.Common.{◌≡◌, ℕ, ◌+◌, ◌<◌, ◌≤◌, ◌==◌, ◌&&◌, ◌||◌, min, Bool, true, false, List, [], ◌∷◌, Option, Some, None, refl, sym, ◌∙◌, ap, subst, arith, eqb, ltb, eqb-true, eq-eqb, ltb-true, inl, inr, ⊎_elim}
+use Rattle.std.proofs.Common.{◌≡◌, ℕ, ◌+◌, ◌<◌, ◌≤◌, ◌==◌, ◌&&◌, true, false, List, [], ◌∷◌, Some, sym, ◌∙◌, ap, arith, eqb, ltb, eqb-true, eq-eqb, ltb-true, ⊎_elim}
 use Rattle.std.proofs.lemmas.Bool.{and_parts, and_from, or_cases, false_from_ne_true, lt-ltb}
 use Rattle.std.proofs.lemmas.Bool.Decides.{nat_tests}
 use Rattle.std.specs.Option.{option_map_or}
@@ -49,11 +49,11 @@ tight_goes hop p t costs [] seen v above e = e
 tight_goes hop p t costs (l ∷ ls) seen v above e = by_tight hop p t v l ls e (λ h is falls rest.
     let less : potential p h.0 < potential p v = omega (arith, costs v l h is, falls.falls) in
     goes_more hop t seen v l ls h is
-      (false_from_ne_true (is_among h.0 seen) (λ among. let no : potential p v ≤ potential p h.0 = above h.0 among in omega arith))
-      (tight_goes hop p t costs ls (h.0 ∷ seen) h.0 (λ x among.
-        ⊎_elim (λ s. let same : potential p h.0 ≡ potential p x = ap (potential p) (eqb-true h.0 x s) in omega arith)
-          (λ s. let far : potential p v ≤ potential p x = above x s in omega arith)
-          (or_cases (h.0 == x) (is_among x seen) among)) rest))
+    (false_from_ne_true (is_among h.0 seen) (λ among. let no : potential p v ≤ potential p h.0 = above h.0 among in omega arith))
+    (tight_goes hop p t costs ls (h.0 ∷ seen) h.0 (λ x among.
+    ⊎_elim (λ s. let same : potential p h.0 ≡ potential p x = ap (potential p) (eqb-true h.0 x s) in omega arith)
+    (λ s. let far : potential p v ≤ potential p x = above x s in omega arith)
+    (or_cases (h.0 == x) (is_among x seen) among)) rest))
 
 -- so a chain is a path
 pub tight_path : (hop : Hops) (p : List ℕ) (t : ℕ) → ((v l : ℕ) (h : ℕ × ℕ) → hop v l ≡ Some h → 1 ≤ h.1) → (ls : List ℕ) (v : ℕ) → tight hop p t v ls ≡ true → goes hop t (v ∷ []) v ls ≡ true

@@ -3,6 +3,10 @@
 
 mod checking;
 mod graph;
+mod worked;
 
 pub use checking::{check, improves, is_tight, reach};
 pub use graph::{Graph, Step};
+pub use worked::{
+    line_of_three, middle_not_through, shorter_way_beside, target_not_through, two_ways_and_none,
+};

@@ -1,4 +1,4 @@
-use Rattle.std.proofs.Common.{◌∙◌, sym, length}
+use Rattle.std.proofs.Common.{length}
 use Rattle.path_certificate.proofs.StepLaws.{step_found, found_from}
 use Rattle.path_certificate.proofs.checking.step_over.Goals as goal
 
