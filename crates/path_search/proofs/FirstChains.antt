@@ -52,11 +52,11 @@ chain_first hop p t zero_at costs (l ∷ ls) [] v c e = absurd (
     omega arith)
 chain_first hop p t zero_at costs (l ∷ ls) (m ∷ ms) v c e = by_tight hop p t v m ms e (λ k is falls rest.
     ⊎_elim
-      (λ (same : m ≡ l).
-        let one : k ≡ c.0 = same_Some k c.0 (sym is ∙ ap (hop v) same ∙ c.1.is) in
-        same_link m l (slice_cmp nat_cmp ms ls) same ∙ chain_first hop p t zero_at costs ls ms c.0.0 c.2 (subst (λ (h : ℕ × ℕ). tight hop p t h.0 ms ≡ true) one rest))
-      (λ order. ⊎_elim (λ (less : m < l). absurd (c.1.first m k less is falls)) (λ (more : l < m). later_link m l (slice_cmp nat_cmp ms ls) more) order)
-      (cases_order m l))
+    (λ (same : m ≡ l).
+    let one : k ≡ c.0 = same_Some k c.0 (sym is ∙ ap (hop v) same ∙ c.1.is) in
+    same_link m l (slice_cmp nat_cmp ms ls) same ∙ chain_first hop p t zero_at costs ls ms c.0.0 c.2 (subst (λ (h : ℕ × ℕ). tight hop p t h.0 ms ≡ true) one rest))
+    (λ order. ⊎_elim (λ (less : m < l). absurd (c.1.first m k less is falls)) (λ (more : l < m). later_link m l (slice_cmp nat_cmp ms ls) more) order)
+    (cases_order m l))
 
 -- ---- a least path is a chain of tight hops
 
@@ -133,8 +133,8 @@ Falls-from_test g t p v s e =
 falls_of : (g : GraphSeen) (t : ℕ) (p : List ℕ) (v : ℕ) (s : Step) → s.from ≡ v → counts g.through t s ≡ true → IsTight p v (s.to, s.cost) → falls_from g.through t p v s ≡ true
 falls_of g t p v s from c falls =
     and_from ((s.from == v) && counts g.through t s) (is_tight_hop p s.from (s.to, s.cost))
-      (and_from (s.from == v) (counts g.through t s) (eq-eqb s.from v from) c)
-      (is_tight_hop-from p s.from (s.to, s.cost) (subst (λ x. IsTight p x (s.to, s.cost)) (sym from) falls))
+    (and_from (s.from == v) (counts g.through t s) (eq-eqb s.from v from) c)
+    (is_tight_hop-from p s.from (s.to, s.cost) (subst (λ x. IsTight p x (s.to, s.cost)) (sym from) falls))
 
 -- the first step that falls from a place is a first hop
 pub first_hop : (g : GraphSeen) (t : ℕ) (p : List ℕ) (v : ℕ) (s : Step) → IsGraph g.through g.steps → find (falls_from g.through t p v) g.steps ≡ Some s
@@ -146,8 +146,8 @@ first_hop g t p v s graph found =
       is = subst (λ x. graph_hops g t x s.link ≡ Some (s.to, s.cost)) this.from (hop_of g t s graph.ordered among this.counted);
       falls = this.falls;
       first = λ m k less is falls. by_hop g t v m k is (λ u among_u from link c e.
-        let passes = falls_of g t p v u from c (subst (λ (x : ℕ × ℕ). IsTight p v x) (sym e) falls) in
-        ⊎_elim (λ (same : s ≡ u). let one : s.link ≡ m = ap (λ (x : Step). x.link) same ∙ link in omega arith)
+          let passes = falls_of g t p v u from c (subst (λ (x : ℕ × ℕ). IsTight p v x) (sym e) falls) in
+          ⊎_elim (λ (same : s ≡ u). let one : s.link ≡ m = ap (λ (x : Step). x.link) same ∙ link in omega arith)
           (λ (order : before s u ≡ true). not_before s.from u.from u.link s.link (this.from ∙ sym from) (rw link less) order)
           (found_first (falls_from g.through t p v) g.steps s u graph.ordered found among_u passes));
     }
@@ -163,7 +163,7 @@ not_stuck g t p v graph target least place there apart none =
     stuck : (ls : List ℕ) → tight (graph_hops g t) p t v ls ≡ true → ⊥
     stuck [] e = apart (eqb-true v t e)
     stuck (l ∷ ls) e = by_tight (graph_hops g t) p t v l ls e (λ h is falls rest. by_hop g t v l h is (λ s m from link c s_is.
-      found_some (falls_from g.through t p v) g.steps s m (falls_of g t p v s from c (subst (λ (x : ℕ × ℕ). IsTight p v x) (sym s_is) falls)) none))
+        found_some (falls_from g.through t p v) g.steps s m (falls_of g t p v s from c (subst (λ (x : ℕ × ℕ). IsTight p v x) (sym s_is) falls)) none))
 
 -- the walk goes on: the chain grows by the step's link, and the potential falls
 pub chain_more : (hop : Hops) (p : List ℕ) (t from v l : ℕ) (h : ℕ × ℕ) (links : List ℕ) → IsFirstHop hop p v l h

@@ -20,32 +20,32 @@ chain_of : (g : GraphSeen) (t : ℕ) (p : List ℕ) → IsGraph g.through g.step
     → (n v : ℕ) → v < length g.through → potential p v < absent → potential p v ≤ n → Chained g t p v
 chain_of g t p graph kept settled zero v place there few =
     ⊎_elim (λ e. ([], eq-eqb v t e))
-      (λ (q : Paid g t p v). absurd (let cost : 1 ≤ q.hop.1 = (hop_is g t v q.link q.hop graph q.is).cost in let enough : q.hop.1 + potential p q.hop.0 ≤ potential p v = q.enough in omega arith))
-      (kept.paid v place there)
+    (λ (q : Paid g t p v). absurd (let cost : 1 ≤ q.hop.1 = (hop_is g t v q.link q.hop graph q.is).cost in let enough : q.hop.1 + potential p q.hop.0 ≤ potential p v = q.enough in omega arith))
+    (kept.paid v place there)
 chain_of g t p graph kept settled (suc n) v place there few =
     ⊎_elim (λ e. ([], eq-eqb v t e))
-      (λ (q : Paid g t p v).
-        let hop = hop_is g t v q.link q.hop graph q.is in
-        let cost : 1 ≤ q.hop.1 = hop.cost in
-        let enough : q.hop.1 + potential p q.hop.0 ≤ potential p v = q.enough in
-        let low : potential p v ≤ reach q.hop.1 (potential p q.hop.0) = settled_hop g t p v q.link q.hop settled q.is in
-        let rest = chain_of g t p graph kept settled n q.hop.0 hop.to (omega arith) (omega arith) in
-        (q.link ∷ rest.0, tight_more (graph_hops g t) p t v q.link rest.0 q.hop q.is (record { falls = omega arith; there = there }) rest.1))
-      (kept.paid v place there)
+    (λ (q : Paid g t p v).
+    let hop = hop_is g t v q.link q.hop graph q.is in
+    let cost : 1 ≤ q.hop.1 = hop.cost in
+    let enough : q.hop.1 + potential p q.hop.0 ≤ potential p v = q.enough in
+    let low : potential p v ≤ reach q.hop.1 (potential p q.hop.0) = settled_hop g t p v q.link q.hop settled q.is in
+    let rest = chain_of g t p graph kept settled n q.hop.0 hop.to (omega arith) (omega arith) in
+    (q.link ∷ rest.0, tight_more (graph_hops g t) p t v q.link rest.0 q.hop q.is (record { falls = omega arith; there = there }) rest.1))
+    (kept.paid v place there)
 
 pub supported_least : (g : GraphSeen) (t : ℕ) (p : List ℕ) → IsGraph g.through g.steps → Supported g t p → none_improves g t p ≡ true → IsLeast g t p
 supported_least g t p graph kept settled = record {
   places = kept.places;
   each = λ v place.
-    let lower = settled_least g t p graph kept.zero_at_target settled v place in
-    record {
-      within = kept.within v;
-      none = lower.none;
-      some = λ there.
-        let chain = chain_of g t p graph kept settled (potential p v) v place there (omega arith) in
-        (chain.0, tight_path (graph_hops g t) p t (λ u l h is. (hop_is g t u l h graph is).cost) chain.0 v chain.1, tight_cost (graph_hops g t) p t kept.zero_at_target chain.0 v chain.1);
-      below = lower.below;
-    };
+      let lower = settled_least g t p graph kept.zero_at_target settled v place in
+      record {
+        within = kept.within v;
+        none = lower.none;
+        some = λ there.
+            let chain = chain_of g t p graph kept settled (potential p v) v place there (omega arith) in
+            (chain.0, tight_path (graph_hops g t) p t (λ u l h is. (hop_is g t u l h graph is).cost) chain.0 v chain.1, tight_cost (graph_hops g t) p t kept.zero_at_target chain.0 v chain.1);
+        below = lower.below;
+      };
 }
 
 -- no step costs more than the greatest cost
@@ -59,9 +59,9 @@ pub least_few : (g : GraphSeen) (t : ℕ) (p : List ℕ) → IsGraph g.through g
 least_few g t p graph least = λ v place there.
     let path = (least.each v place).some there in
     let short : length path.0 + 1 ≤ length g.through =
-          subst (λ n. length path.0 + 1 ≤ n) (length-upto (length g.through)) (length-path (graph_hops g t) t (upto (length g.through)) (hops_stay g t graph) path.0 v (Among-upto (length g.through) v place) path.1) in
+    subst (λ n. length path.0 + 1 ≤ n) (length-upto (length g.through)) (length-path (graph_hops g t) t (upto (length g.through)) (hops_stay g t graph) path.0 v (Among-upto (length g.through) v place) path.1) in
     let most : cost_of g t v path.0 ≤ length path.0 * greatest_cost g.steps =
-          cost_along-le (graph_hops g t) (greatest_cost g.steps) (λ u l h is. by_hop g t u l h is (λ s m from link c e. subst (λ (x : ℕ × ℕ). x.1 ≤ greatest_cost g.steps) e (greatest g.steps s m))) path.0 v in
+    cost_along-le (graph_hops g t) (greatest_cost g.steps) (λ u l h is. by_hop g t u l h is (λ s m from link c e. subst (λ (x : ℕ × ℕ). x.1 ≤ greatest_cost g.steps) e (greatest g.steps s m))) path.0 v in
     few (length path.0) (length g.through) (greatest_cost g.steps) (cost_of g t v path.0) (potential p v) short most path.2
   where
     few : (k n m c a : ℕ) → k + 1 ≤ n → c ≤ k * m → c ≡ a → a ≤ (n - 1) * m

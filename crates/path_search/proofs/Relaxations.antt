@@ -30,8 +30,8 @@ improving g t p s e =
 lowered-le : (p : List ℕ) (s : Step) (v : ℕ) → s.from < length p → reach s.cost (potential p s.to) ≤ potential p s.from → potential (lowered p s) v ≤ potential p v
 lowered-le p s v place less =
     ⊎_elim (λ e. subst (λ x. potential (lowered p s) x ≤ potential p x) (sym e) (let same : potential (lowered p s) s.from ≡ reach s.cost (potential p s.to) = get_or-set_same p s.from (reach s.cost (potential p s.to)) 0 place in omega arith))
-      (λ ne. let same : potential (lowered p s) v ≡ potential p v = get_or-set_other p s.from v (reach s.cost (potential p s.to)) 0 ne in omega arith)
-      (cases_eq v s.from)
+    (λ ne. let same : potential (lowered p s) v ≡ potential p v = get_or-set_other p s.from v (reach s.cost (potential p s.to)) 0 ne in omega arith)
+    (cases_eq v s.from)
 
 lowered_paid : (g : GraphSeen) (t : ℕ) (p : List ℕ) (s : Step) → IsGraph g.through g.steps → Among s g.steps → Supported g t p → Improves g t p s
     → (v : ℕ) → v < length g.through → potential (lowered p s) v < absent → (v ≡ s.from) ⊎ (v ≡ s.from → ⊥) → (v ≡ t) ⊎ Paid g t (lowered p s) v
@@ -51,11 +51,11 @@ lowered_paid g t p s graph m kept better v place there (inr ne) =
     let same : potential (lowered p s) v ≡ potential p v = get_or-set_other p s.from v (reach s.cost (potential p s.to)) 0 ne in
     let before : potential p v < absent = rw same at there in
     ⊎_elim (λ e. inl e)
-      (λ (old : Paid g t p v).
-        let fall : potential (lowered p s) old.hop.0 ≤ potential p old.hop.0 = lowered-le p s old.hop.0 within (let less = better.less in omega arith) in
-        let enough : old.hop.1 + potential p old.hop.0 ≤ potential p v = old.enough in
-        inr (record { link = old.link; hop = old.hop; is = old.is; enough = rw same (omega arith) }))
-      (kept.paid v place before)
+    (λ (old : Paid g t p v).
+    let fall : potential (lowered p s) old.hop.0 ≤ potential p old.hop.0 = lowered-le p s old.hop.0 within (let less = better.less in omega arith) in
+    let enough : old.hop.1 + potential p old.hop.0 ≤ potential p v = old.enough in
+    inr (record { link = old.link; hop = old.hop; is = old.is; enough = rw same (omega arith) }))
+    (kept.paid v place before)
 
 -- a relaxed step leaves each potential supported
 pub lowered_supported : (g : GraphSeen) (t : ℕ) (p : List ℕ) (s : Step) → IsGraph g.through g.steps → Among s g.steps → Supported g t p → improves g.through t p s ≡ true → Supported g t (lowered p s)
@@ -102,6 +102,7 @@ kept_more g t first now next fell true i d graph h kept is set_to same =
   where
     fall : sum (lowered now (get_or g.steps i d)) < sum now
     fall = lowered_less g t now (get_or g.steps i d) (rw kept.supported.places (each_among (IsStep (length g.through)) g.steps (get_or g.steps i d) graph.each (Among-get_or g.steps i d h)).from) (sym is)
+
     fallen : (b : Bool) → (b || true) ≡ false → ⊥
     fallen true e = absurd (false≢true (sym e))
     fallen false e = absurd (false≢true (sym e))
@@ -112,7 +113,7 @@ kept_more g t first now next fell false i d graph h kept is set_to same =
       less = λ e. kept.less (unchanged fell ∙ e);
       settled = λ e. list_all_more (λ s. not (improves g.through t now s)) g.steps i d h
           ∙ and_from (list_all (λ s. not (improves g.through t now s)) (take i g.steps)) (not (improves g.through t now (get_or g.steps i d)))
-              (kept.settled (unchanged fell ∙ e)) (not_from_false (improves g.through t now (get_or g.steps i d)) (sym is));
+          (kept.settled (unchanged fell ∙ e)) (not_from_false (improves g.through t now (get_or g.steps i d)) (sym is));
     })
   where
     unchanged : (b : Bool) → b ≡ (b || false)
@@ -124,7 +125,7 @@ pub kept_next : (g : GraphSeen) (t : ℕ) (xs : List Step) (first now next : Lis
     → low ≡ improves g.through t now (get_or xs i d) → OnTrue low (next ≡ lowered now (get_or xs i d)) → OnFalse low (next ≡ now) → Kept g t first next (fell || low) (i + 1)
 kept_next g t xs first now next fell low i d graph steps =
     subst (λ ys. i < length ys → Kept g t first now fell i → low ≡ improves g.through t now (get_or ys i d) → OnTrue low (next ≡ lowered now (get_or ys i d)) → OnFalse low (next ≡ now)
-        → Kept g t first next (fell || low) (i + 1)) (sym steps) (kept_more g t first now next fell low i d graph)
+    → Kept g t first next (fell || low) (i + 1)) (sym steps) (kept_more g t first now next fell low i d graph)
 
 -- the potentials at the start: 0 at the target, and absent elsewhere
 pub start_supported : (g : GraphSeen) (t : ℕ) → t < length g.through → Supported g t (set (replicate (length g.through) absent) t 0)
@@ -137,9 +138,11 @@ start_supported g t h = record {
   where
     inside : t < length (replicate (length g.through) absent)
     inside = rw (length-replicate (length g.through) absent) h
+
     most : (n v : ℕ) → potential (replicate n absent) v ≤ absent
     most n v = ⊎_elim (λ i. let e : potential (replicate n absent) v ≡ absent = get_or-replicate n v absent 0 i in omega arith)
-      (λ i. let e : potential (replicate n absent) v ≡ 0 = get_or_past (replicate n absent) v 0 (rw (length-replicate n absent) i) in omega arith) (cases_lt v n)
+        (λ i. let e : potential (replicate n absent) v ≡ 0 = get_or_past (replicate n absent) v 0 (rw (length-replicate n absent) i) in omega arith) (cases_lt v n)
+
     top : (v : ℕ) → (v ≡ t) ⊎ (v ≡ t → ⊥) → potential (set (replicate (length g.through) absent) t 0) v ≤ absent
     top v (inl e) = let same : potential (set (replicate (length g.through) absent) t 0) v ≡ 0 = ap (potential (set (replicate (length g.through) absent) t 0)) e ∙ get_or-set_same (replicate (length g.through) absent) t 0 0 inside in omega arith
     top v (inr ne) = let far : potential (set (replicate (length g.through) absent) t 0) v ≡ potential (replicate (length g.through) absent) v = get_or-set_other (replicate (length g.through) absent) t v 0 0 ne in let old : potential (replicate (length g.through) absent) v ≤ absent = most (length g.through) v in omega arith

@@ -31,17 +31,17 @@ least_step g t p s graph least m c =
     let step = each_among (IsStep (length g.through)) g.steps s graph.each m in
     let top : potential p s.from ≤ absent = (least.each s.from step.from).within in
     ⊎_elim
-      (λ (there : potential p s.to < absent).
-        let path = (least.each s.to step.to).some there in
-        let low : potential p s.from ≤ s.cost + potential p s.to =
-              ⊎_elim (λ walk. over g t p s path.0 graph least m c path.2 walk)
-                (λ (back : Shorter (graph_hops g t) t s.from (cost_of g t s.to path.0)).
-                  let less : potential p s.from ≤ cost_of g t s.from back.0 = (least.each s.from step.from).below back.0 back.1 in
-                  omega (arith, less, back.2, path.2))
-                (around (graph_hops g t) t s.from path.0 s.to (s.to ∷ []) (s.to ∷ s.from ∷ []) (added s.to s.from) path.1) in
-        omega arith)
-      (λ (past : absent ≤ potential p s.to). omega arith)
-      (cases_lt (potential p s.to) absent)
+    (λ (there : potential p s.to < absent).
+    let path = (least.each s.to step.to).some there in
+    let low : potential p s.from ≤ s.cost + potential p s.to =
+    ⊎_elim (λ walk. over g t p s path.0 graph least m c path.2 walk)
+    (λ (back : Shorter (graph_hops g t) t s.from (cost_of g t s.to path.0)).
+    let less : potential p s.from ≤ cost_of g t s.from back.0 = (least.each s.from step.from).below back.0 back.1 in
+    omega (arith, less, back.2, path.2))
+    (around (graph_hops g t) t s.from path.0 s.to (s.to ∷ []) (s.to ∷ s.from ∷ []) (added s.to s.from) path.1) in
+    omega arith)
+    (λ (past : absent ≤ potential p s.to). omega arith)
+    (cases_lt (potential p s.to) absent)
   where
     added : (w v y : ℕ) → is_among y (w ∷ v ∷ []) ≡ true → (v ≡ y) ⊎ (is_among y (w ∷ []) ≡ true)
     added w v y e = apart (w == y) (v == y) e (eqb-true v y)
@@ -54,7 +54,7 @@ least_step g t p s graph least m c =
 pub least_settled : (g : GraphSeen) (t : ℕ) (p : List ℕ) → IsGraph g.through g.steps → IsLeast g t p → none_improves g t p ≡ true
 least_settled g t p graph least = list_all-from_among (λ s. not (improves g.through t p s)) g.steps (λ s m.
     not_from_false (improves g.through t p s) (false_from_ne_true (improves g.through t p s) (λ e.
-      let both = and_parts (counts g.through t s) (ltb (reach s.cost (potential p s.to)) (potential p s.from)) e in
-      let less : reach s.cost (potential p s.to) < potential p s.from = ltb-true (reach s.cost (potential p s.to)) (potential p s.from) both.1 in
-      let low : potential p s.from ≤ reach s.cost (potential p s.to) = least_step g t p s graph least m both.0 in
-      omega arith)))
+    let both = and_parts (counts g.through t s) (ltb (reach s.cost (potential p s.to)) (potential p s.from)) e in
+    let less : reach s.cost (potential p s.to) < potential p s.from = ltb-true (reach s.cost (potential p s.to)) (potential p s.from) both.1 in
+    let low : potential p s.from ≤ reach s.cost (potential p s.to) = least_step g t p s graph least m both.0 in
+    omega arith)))

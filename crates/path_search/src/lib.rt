@@ -2,7 +2,11 @@
 #![tactic(auto)]
 
 mod relaxing;
+#[cfg(test)]
+mod tests;
 mod walking;
+mod worked;
 
 pub use relaxing::least;
 pub use walking::walk;
+pub use worked::{bound_of_three, lesser_links_first};

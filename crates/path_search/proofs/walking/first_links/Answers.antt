@@ -6,12 +6,12 @@ use Rattle.path_search.proofs.walking.first_links.Goals as goal
 pub unreachable-requires : goal.unreachable-requires
 unreachable-requires c =
     not_stuck c.args.graph.now c.args.target c.args.potentials.now c.links.at c.places.ensures.graph c.requires.target c.requires.least c.links.invariant.place c.links.invariant.there c.links-test.true
-      (sym c.first_tight.ensures ∙ c.in_default.is)
+    (sym c.first_tight.ensures ∙ c.in_default.is)
 
 pub links-smaller : goal.links-smaller
 links-smaller c =
     (next_step c.args.graph.now c.args.target c.args.potentials.now c.links.at c.in-Some.step c.places.ensures.graph
-      (first_hop c.args.graph.now c.args.target c.args.potentials.now c.links.at c.in-Some.step c.places.ensures.graph (sym c.in-Some.ensures))).less
+    (first_hop c.args.graph.now c.args.target c.args.potentials.now c.links.at c.in-Some.step c.places.ensures.graph (sym c.in-Some.ensures))).less
 
 pub links-preserved : goal.links-preserved
 links-preserved c =
@@ -26,4 +26,4 @@ links-preserved c =
 pub returns : goal.returns
 returns c =
     first_path _ _ _ _ _ c.places.ensures.graph c.requires.target c.requires.there c.requires.least
-      (chain_whole (graph_hops c.args.graph.now c.args.target) c.args.potentials.now c.args.target c.args.from c.links.at c.links.links.items c.links-test.false c.links.invariant.told)
+    (chain_whole (graph_hops c.args.graph.now c.args.target) c.args.potentials.now c.args.target c.args.from c.links.at c.links.links.items c.links-test.false c.links.invariant.told)
