@@ -30,17 +30,20 @@ Among-map f [] y h = absurd h
 Among-map f (z ∷ ys) y (inl e) = inl (ap f e)
 Among-map f (z ∷ ys) y (inr h) = inr (Among-map f ys y h)
 
-pub by_map : {A X P : Type 0} (f : A → X) (ys : List A) (x : X) → Among x (map f ys) → ((y : A) → Among y ys → f y ≡ x → P) → P
+pub by_map : {A X P : Type 0} (f : A → X) (ys : List A) (x : X) → Among x (map f ys) → ((y : A) → Among y ys → f y ≡ x → P)
+    → P
 by_map f [] x h k = absurd h
 by_map f (z ∷ ys) x (inl e) k = k z (inl refl) e
 by_map f (z ∷ ys) x (inr h) k = by_map f ys x h (λ y m. k y (inr m))
 
-pub Among-flat_map : {A X : Type 0} (f : A → List X) (ys : List A) (y : A) (x : X) → Among y ys → Among x (f y) → Among x (flat_map f ys)
+pub Among-flat_map : {A X : Type 0} (f : A → List X) (ys : List A) (y : A) (x : X) → Among y ys → Among x (f y)
+    → Among x (flat_map f ys)
 Among-flat_map f [] y x h m = absurd h
 Among-flat_map f (z ∷ ys) y x (inl e) m = Among-append_left (f z) (flat_map f ys) x (subst (λ a. Among x (f a)) (sym e) m)
 Among-flat_map f (z ∷ ys) y x (inr h) m = Among-append_right (f z) (flat_map f ys) x (Among-flat_map f ys y x h m)
 
-pub by_flat_map : {A X P : Type 0} (f : A → List X) (ys : List A) (x : X) → Among x (flat_map f ys) → ((y : A) → Among y ys → Among x (f y) → P) → P
+pub by_flat_map : {A X P : Type 0} (f : A → List X) (ys : List A) (x : X) → Among x (flat_map f ys)
+    → ((y : A) → Among y ys → Among x (f y) → P) → P
 by_flat_map f [] x h k = absurd h
 by_flat_map f (z ∷ ys) x h k =
     by_append (f z) (flat_map f ys) x h (λ m. k z (inl refl) m) (λ m. by_flat_map f ys x m (λ y n. k y (inr n)))
@@ -54,11 +57,13 @@ Among-filter p (z ∷ xs) x (inr h) e = kept (p z) z (filter p xs) x (Among-filt
     kept true z ys x m = inr m
     kept false z ys x m = m
 
-pub by_filter : {X P : Type 0} (p : X → Bool) (xs : List X) (x : X) → Among x (filter p xs) → (Among x xs → p x ≡ true → P) → P
+pub by_filter : {X P : Type 0} (p : X → Bool) (xs : List X) (x : X) → Among x (filter p xs) → (Among x xs → p x ≡ true → P)
+    → P
 by_filter p [] x h k = absurd h
 by_filter p (z ∷ xs) x h k = apart (p z) z (filter p xs) x h (λ b s. k (inl s) (ap p (sym s) ∙ b)) (λ m. by_filter p xs x m (λ n. k (inr n))) refl
   where
-    apart : {X P : Type 0} (b : Bool) (z : X) (ys : List X) (x : X) → Among x (cond b (z ∷ ys) ys) → (b ≡ true → z ≡ x → P) → (Among x ys → P) → b ≡ b → P
+    apart : {X P : Type 0} (b : Bool) (z : X) (ys : List X) (x : X) → Among x (cond b (z ∷ ys) ys) → (b ≡ true → z ≡ x → P)
+        → (Among x ys → P) → b ≡ b → P
     apart true z ys x (inl s) k j e = k refl s
     apart true z ys x (inr m) k j e = j m
     apart false z ys x m k j e = j m
@@ -75,11 +80,13 @@ list_all-among p [] x a h = absurd h
 list_all-among p (z ∷ xs) x a (inl e) = ap p (sym e) ∙ (and_parts (p z) (list_all p xs) a).0
 list_all-among p (z ∷ xs) x a (inr h) = list_all-among p xs x (and_parts (p z) (list_all p xs) a).1 h
 
-pub list_all-from_among : {X : Type 0} (p : X → Bool) (xs : List X) → ((x : X) → Among x xs → p x ≡ true) → list_all p xs ≡ true
+pub list_all-from_among : {X : Type 0} (p : X → Bool) (xs : List X) → ((x : X) → Among x xs → p x ≡ true)
+    → list_all p xs ≡ true
 list_all-from_among p [] a = refl
 list_all-from_among p (z ∷ xs) a = and_from (p z) (list_all p xs) (a z (inl refl)) (list_all-from_among p xs (λ x h. a x (inr h)))
 
-pub by_list_any : {X P : Type 0} (p : X → Bool) (xs : List X) → list_any p xs ≡ true → ((x : X) → Among x xs → p x ≡ true → P) → P
+pub by_list_any : {X P : Type 0} (p : X → Bool) (xs : List X) → list_any p xs ≡ true
+    → ((x : X) → Among x xs → p x ≡ true → P) → P
 by_list_any p [] a k = absurd (false≢true a)
 by_list_any p (z ∷ xs) a k =
     ⊎_elim (λ e. k z (inl refl) e) (λ e. by_list_any p xs e (λ x m. k x (inr m))) (or_cases (p z) (list_any p xs) a)
@@ -103,7 +110,8 @@ pub find_among : {X : Type 0} (p : X → Bool) (xs : List X) (x : X) → find p 
 find_among p [] x e = absurd (cc)
 find_among p (z ∷ xs) x e = found (p z) (find p xs) z x (Among x xs) e (find_among p xs x)
   where
-    found : {X : Type 0} (b : Bool) (o : Option X) (z x : X) (M : Type 0) → cond b (Some z) o ≡ Some x → (o ≡ Some x → M) → (z ≡ x) ⊎ M
+    found : {X : Type 0} (b : Bool) (o : Option X) (z x : X) (M : Type 0) → cond b (Some z) o ≡ Some x → (o ≡ Some x → M)
+        → (z ≡ x) ⊎ M
     found true o z x M e k = inl (same_Some z x e)
     found false o z x M e k = inr (k e)
 

@@ -10,7 +10,8 @@ use Rattle.ctrl_model.proofs.Members.{Among, Among-append_left, Among-append_rig
 -- ---- one hop
 
 -- a test of what may be there passes only where it is there
-pub by_there : {A P : Type 0} (f : A → Bool) (o : Option A) → option_map_or f o false ≡ true → ((x : A) → o ≡ Some x → f x ≡ true → P) → P
+pub by_there : {A P : Type 0} (f : A → Bool) (o : Option A) → option_map_or f o false ≡ true
+    → ((x : A) → o ≡ Some x → f x ≡ true → P) → P
 by_there f None e k = absurd (false≢true e)
 by_there f (Some x) e k = k x refl e
 
@@ -20,14 +21,16 @@ there_le f None n k = omega arith
 there_le f (Some x) n k = k x refl
 
 -- a hop to a place that was not visited is a hop, and its place was not visited
-pub by_fresh : {P : Type 0} (hop : Hops) (seen : List ℕ) (v l : ℕ) (h : ℕ × ℕ) → fresh hop seen v l ≡ Some h → (hop v l ≡ Some h → is_among h.0 seen ≡ false → P) → P
+pub by_fresh : {P : Type 0} (hop : Hops) (seen : List ℕ) (v l : ℕ) (h : ℕ × ℕ) → fresh hop seen v l ≡ Some h
+    → (hop v l ≡ Some h → is_among h.0 seen ≡ false → P) → P
 by_fresh {P = P} hop seen v l h e k = option_and_then_some (where_new seen) (hop v l) h e (λ o is new. apart (is_among o.0 seen) o is refl new)
   where
     apart : (b : Bool) (o : ℕ × ℕ) → hop v l ≡ Some o → is_among o.0 seen ≡ b → cond b None (Some o) ≡ Some h → P
     apart true o is b new = absurd (cc)
     apart false o is b new = k (is ∙ ap Some (same_Some o h new)) (subst (λ (x : ℕ × ℕ). is_among x.0 seen ≡ false) (same_Some o h new) b)
 
-pub fresh_from : (hop : Hops) (seen : List ℕ) (v l : ℕ) (h : ℕ × ℕ) → hop v l ≡ Some h → is_among h.0 seen ≡ false → fresh hop seen v l ≡ Some h
+pub fresh_from : (hop : Hops) (seen : List ℕ) (v l : ℕ) (h : ℕ × ℕ) → hop v l ≡ Some h → is_among h.0 seen ≡ false
+    → fresh hop seen v l ≡ Some h
 fresh_from hop seen v l h is new = ap (option_and_then (where_new seen)) is ∙ ap (λ b. cond b None (Some h)) new
 
 -- a walk of one link and more begins with a hop to a new place, and goes on from there
@@ -36,17 +39,20 @@ pub by_goes : {P : Type 0} (hop : Hops) (t : ℕ) (seen : List ℕ) (v l : ℕ) 
 by_goes hop t seen v l ls g k =
     by_there (λ (h : ℕ × ℕ). goes hop t (h.0 ∷ seen) h.0 ls) (fresh hop seen v l) g (λ h is rest. by_fresh hop seen v l h is (λ on new. k h on new rest))
 
-pub goes_more : (hop : Hops) (t : ℕ) (seen : List ℕ) (v l : ℕ) (ls : List ℕ) (h : ℕ × ℕ) → hop v l ≡ Some h → is_among h.0 seen ≡ false
+pub goes_more : (hop : Hops) (t : ℕ) (seen : List ℕ) (v l : ℕ) (ls : List ℕ) (h : ℕ × ℕ) → hop v l ≡ Some h
+    → is_among h.0 seen ≡ false
     → goes hop t (h.0 ∷ seen) h.0 ls ≡ true → goes hop t seen v (l ∷ ls) ≡ true
 goes_more hop t seen v l ls h is new rest = ap (λ o. option_map_or (λ (h : ℕ × ℕ). goes hop t (h.0 ∷ seen) h.0 ls) o false) (fresh_from hop seen v l h is new) ∙ rest
 
-pub cost_along-more : (hop : Hops) (v l : ℕ) (ls : List ℕ) (h : ℕ × ℕ) → hop v l ≡ Some h → cost_along hop v (l ∷ ls) ≡ h.1 + cost_along hop h.0 ls
+pub cost_along-more : (hop : Hops) (v l : ℕ) (ls : List ℕ) (h : ℕ × ℕ) → hop v l ≡ Some h
+    → cost_along hop v (l ∷ ls) ≡ h.1 + cost_along hop h.0 ls
 cost_along-more hop v l ls h is = ap (λ o. option_map_or (λ (h : ℕ × ℕ). h.1 + cost_along hop h.0 ls) o 0) is
 
 -- ---- what a walk costs
 
 -- where no hop costs more than m, links cost at most m each
-pub cost_along-le : (hop : Hops) (m : ℕ) → ((v l : ℕ) (h : ℕ × ℕ) → hop v l ≡ Some h → h.1 ≤ m) → (ls : List ℕ) (v : ℕ) → cost_along hop v ls ≤ length ls * m
+pub cost_along-le : (hop : Hops) (m : ℕ) → ((v l : ℕ) (h : ℕ × ℕ) → hop v l ≡ Some h → h.1 ≤ m) → (ls : List ℕ) (v : ℕ)
+    → cost_along hop v ls ≤ length ls * m
 cost_along-le hop m most [] v = omega arith
 cost_along-le hop m most (l ∷ ls) v =
     there_le (λ (h : ℕ × ℕ). h.1 + cost_along hop h.0 ls) (hop v l) (length (l ∷ ls) * m) (λ h is. one_more h.1 (cost_along hop h.0 ls) (length ls) m (most v l h is) (cost_along-le hop m most ls h.0))
@@ -57,7 +63,8 @@ cost_along-le hop m most (l ∷ ls) v =
 -- ---- which places a walk keeps off
 
 -- a walk that keeps off some places keeps off fewer
-pub goes_less : (hop : Hops) (t : ℕ) (ls : List ℕ) (v : ℕ) (seen less : List ℕ) → ((x : ℕ) → is_among x less ≡ true → is_among x seen ≡ true)
+pub goes_less : (hop : Hops) (t : ℕ) (ls : List ℕ) (v : ℕ) (seen less : List ℕ)
+    → ((x : ℕ) → is_among x less ≡ true → is_among x seen ≡ true)
     → goes hop t seen v ls ≡ true → goes hop t less v ls ≡ true
 goes_less hop t [] v seen less sub g = g
 goes_less hop t (l ∷ ls) v seen less sub g = by_goes hop t seen v l ls g (λ h is new rest.
@@ -130,7 +137,8 @@ unseen-less x seen (n ∷ names) = one (x == n) (is_among n seen) (unseen (x ∷
     one false false m k h = omega arith
 
 -- and one less, if it is one of them and was not visited before
-unseen-fewer : (x : ℕ) (seen names : List ℕ) → Among x names → is_among x seen ≡ false → unseen (x ∷ seen) names + 1 ≤ unseen seen names
+unseen-fewer : (x : ℕ) (seen names : List ℕ) → Among x names → is_among x seen ≡ false
+    → unseen (x ∷ seen) names + 1 ≤ unseen seen names
 unseen-fewer x seen [] h new = absurd h
 unseen-fewer x seen (n ∷ names) (inl e) new =
     one (x == n) (is_among n seen) (unseen (x ∷ seen) names) (unseen seen names) (eq-eqb x n (sym e)) (subst (λ y. is_among y seen ≡ false) (sym e) new) (unseen-less x seen names)
@@ -152,7 +160,8 @@ abbrev pub StaysAmong : Hops → List ℕ → Type 0
 StaysAmong hop names = (v l : ℕ) (h : ℕ × ℕ) → hop v l ≡ Some h → Among h.0 names
 
 -- a walk has at most as many links as there are places that it may still visit
-pub length-goes : (hop : Hops) (t : ℕ) (names : List ℕ) → StaysAmong hop names → (ls seen : List ℕ) (v : ℕ) → goes hop t seen v ls ≡ true → length ls ≤ unseen seen names
+pub length-goes : (hop : Hops) (t : ℕ) (names : List ℕ) → StaysAmong hop names → (ls seen : List ℕ) (v : ℕ)
+    → goes hop t seen v ls ≡ true → length ls ≤ unseen seen names
 length-goes hop t names stays [] seen v g = omega arith
 length-goes hop t names stays (l ∷ ls) seen v g = by_goes hop t seen v l ls g (λ h is new rest.
     let fewer : unseen (h.0 ∷ seen) names + 1 ≤ unseen seen names = unseen-fewer h.0 seen names (stays v l h is) new in
@@ -160,7 +169,8 @@ length-goes hop t names stays (l ∷ ls) seen v g = by_goes hop t seen v l ls g 
     omega arith)
 
 -- so a path has fewer links than there are places
-pub length-path : (hop : Hops) (t : ℕ) (names : List ℕ) → StaysAmong hop names → (ls : List ℕ) (v : ℕ) → Among v names → goes hop t (v ∷ []) v ls ≡ true → length ls + 1 ≤ length names
+pub length-path : (hop : Hops) (t : ℕ) (names : List ℕ) → StaysAmong hop names → (ls : List ℕ) (v : ℕ) → Among v names
+    → goes hop t (v ∷ []) v ls ≡ true → length ls + 1 ≤ length names
 length-path hop t names stays ls v place g =
     let fewer : unseen (v ∷ []) names + 1 ≤ unseen [] names = unseen-fewer v [] names place refl in
     let few : unseen [] names ≤ length names = unseen-le [] names in
@@ -188,12 +198,14 @@ Among-here v t e = subst (λ b. Among {X = List ℕ} [] (cond b ([] ∷ []) []))
 abbrev behind : Hops → List ℕ → ℕ → ℕ → List ℕ → ℕ → ℕ → List (List ℕ)
 behind hop names t n seen v l = option_map_or (λ (h : ℕ × ℕ). map (λ ls. l ∷ ls) (walks hop names t n (h.0 ∷ seen) h.0)) (fresh hop seen v l) []
 
-by_option : {A X P : Type 0} (f : A → List X) (o : Option A) (x : X) → Among x (option_map_or f o []) → ((a : A) → o ≡ Some a → Among x (f a) → P) → P
+by_option : {A X P : Type 0} (f : A → List X) (o : Option A) (x : X) → Among x (option_map_or f o [])
+    → ((a : A) → o ≡ Some a → Among x (f a) → P) → P
 by_option f None x m k = absurd m
 by_option f (Some a) x m k = k a refl m
 
 -- a listed walk is a walk, of at most so many links
-pub walks_go : (hop : Hops) (names : List ℕ) (t n : ℕ) (seen : List ℕ) (v : ℕ) (ls : List ℕ) → Among ls (walks hop names t n seen v) → (goes hop t seen v ls ≡ true) × (length ls ≤ n)
+pub walks_go : (hop : Hops) (names : List ℕ) (t n : ℕ) (seen : List ℕ) (v : ℕ) (ls : List ℕ)
+    → Among ls (walks hop names t n seen v) → (goes hop t seen v ls ≡ true) × (length ls ≤ n)
 walks_go hop names t zero seen v ls m = none (by_here v t ls m)
   where
     none : (ls ≡ []) × ((v == t) ≡ true) → (goes hop t seen v ls ≡ true) × (length ls ≤ 0)
@@ -207,13 +219,15 @@ walks_go hop names t (suc n) seen v ls m =
   where
     none : (ls ≡ []) × ((v == t) ≡ true) → (goes hop t seen v ls ≡ true) × (length ls ≤ suc n)
     none e = subst (λ ks. (goes hop t seen v ks ≡ true) × (length ks ≤ suc n)) (sym e.0) (e.1, omega arith)
-    some : (l : ℕ) (h : ℕ × ℕ) (rest : List ℕ) → fresh hop seen v l ≡ Some h → (goes hop t (h.0 ∷ seen) h.0 rest ≡ true) × (length rest ≤ n) → l ∷ rest ≡ ls
+    some : (l : ℕ) (h : ℕ × ℕ) (rest : List ℕ) → fresh hop seen v l ≡ Some h
+        → (goes hop t (h.0 ∷ seen) h.0 rest ≡ true) × (length rest ≤ n) → l ∷ rest ≡ ls
         → (goes hop t seen v ls ≡ true) × (length ls ≤ suc n)
     some l h rest is g e = subst (λ ks. (goes hop t seen v ks ≡ true) × (length ks ≤ suc n)) e
       (by_fresh hop seen v l h is (λ on new. goes_more hop t seen v l rest h on new g.0), omega (arith, g.1))
 
 -- a walk of at most so many links is listed, where each hop's link is one of the names
-pub go_walks : (hop : Hops) (names : List ℕ) (t : ℕ) → LinksAmong hop names → (ls : List ℕ) (n : ℕ) (seen : List ℕ) (v : ℕ) → goes hop t seen v ls ≡ true → length ls ≤ n
+pub go_walks : (hop : Hops) (names : List ℕ) (t : ℕ) → LinksAmong hop names → (ls : List ℕ) (n : ℕ) (seen : List ℕ) (v : ℕ)
+    → goes hop t seen v ls ≡ true → length ls ≤ n
     → Among ls (walks hop names t n seen v)
 go_walks hop names t named [] zero seen v g few = Among-here v t g
 go_walks hop names t named [] (suc n) seen v g few = Among-append_left (here v t) (flat_map (behind hop names t n seen v) names) [] (Among-here v t g)
@@ -223,12 +237,14 @@ go_walks hop names t named (l ∷ ls) (suc n) seen v g few =
       Among-flat_map (behind hop names t n seen v) names l (l ∷ ls) (named v l h is)
         (listed l h (fresh_from hop seen v l h is new) (go_walks hop names t named ls n (h.0 ∷ seen) h.0 rest (omega arith)))))
   where
-    listed : (l : ℕ) (h : ℕ × ℕ) → fresh hop seen v l ≡ Some h → Among ls (walks hop names t n (h.0 ∷ seen) h.0) → Among (l ∷ ls) (behind hop names t n seen v l)
+    listed : (l : ℕ) (h : ℕ × ℕ) → fresh hop seen v l ≡ Some h → Among ls (walks hop names t n (h.0 ∷ seen) h.0)
+        → Among (l ∷ ls) (behind hop names t n seen v l)
     listed l h is m = subst (λ o. Among (l ∷ ls) (option_map_or (λ (h : ℕ × ℕ). map (λ ks. l ∷ ks) (walks hop names t n (h.0 ∷ seen) h.0)) o [])) (sym is)
       (Among-map (λ ks. l ∷ ks) (walks hop names t n (h.0 ∷ seen) h.0) ls m)
 
 -- the paths from a place are the listed walks of so many links as there are places, or one less
-pub paths_are : (hop : Hops) (places names : List ℕ) (t n v : ℕ) → StaysAmong hop places → LinksAmong hop names → Among v places → length places ≤ n + 1 → (ls : List ℕ)
+pub paths_are : (hop : Hops) (places names : List ℕ) (t n v : ℕ) → StaysAmong hop places → LinksAmong hop names
+    → Among v places → length places ≤ n + 1 → (ls : List ℕ)
     → Among ls (walks hop names t n (v ∷ []) v) ↔ (goes hop t (v ∷ []) v ls ≡ true)
 paths_are hop places names t n v stays named place few ls =
     (λ m. (walks_go hop names t n (v ∷ []) v ls m).0, λ g. go_walks hop names t named ls n (v ∷ []) v g (short g))

@@ -6,14 +6,16 @@ use Rattle.path_certificate.proofs.LowerBounds.{below_walk, path_cost_few}
 use Rattle.path_certificate.proofs.TightChains.{tight_cost, tight_path}
 
 -- a certified path is a path, and costs its first place's potential
-pub certified_path : (g : GraphSeen) (t : ℕ) (p : List ℕ) (from : ℕ) (path : List ℕ) → IsGraph g.through g.steps → Certified g t p from path → IsLeastPath g t p from path
+pub certified_path : (g : GraphSeen) (t : ℕ) (p : List ℕ) (from : ℕ) (path : List ℕ) → IsGraph g.through g.steps
+    → Certified g t p from path → IsLeastPath g t p from path
 certified_path g t p from path graph c = record {
   path_is = tight_path (graph_hops g t) p t (λ v l h is. (hop_is g t v l h graph is).cost) path from c.chain;
   cost_is = tight_cost (graph_hops g t) p t c.zero_at_target path from c.chain;
 }
 
 -- and where no step improves a potential, each is a lower bound, and an absent one says that there is no path
-pub settled_least : (g : GraphSeen) (t : ℕ) (p : List ℕ) → IsGraph g.through g.steps → potential p t ≡ 0 → none_improves g t p ≡ true → AreLeast g t p
+pub settled_least : (g : GraphSeen) (t : ℕ) (p : List ℕ) → IsGraph g.through g.steps → potential p t ≡ 0
+    → none_improves g t p ≡ true → AreLeast g t p
 settled_least g t p graph zero_at settled = λ v place. record {
   below = λ links path. below_walk g t p settled zero_at links (v ∷ []) v path;
   none = λ is links path.
@@ -22,5 +24,6 @@ settled_least g t p graph zero_at settled = λ v place. record {
       omega arith;
 }
 
-pub certified_least : (g : GraphSeen) (t : ℕ) (p : List ℕ) (from : ℕ) (path : List ℕ) → IsGraph g.through g.steps → Certified g t p from path → AreLeast g t p
+pub certified_least : (g : GraphSeen) (t : ℕ) (p : List ℕ) (from : ℕ) (path : List ℕ) → IsGraph g.through g.steps
+    → Certified g t p from path → AreLeast g t p
 certified_least g t p from path graph c = settled_least g t p graph c.zero_at_target c.settled

@@ -9,7 +9,8 @@ use Rattle.path_certificate.specs.Graphs.{GraphSeen, absent, counts, graph_hops,
 use Rattle.path_certificate.proofs.StepLaws.{by_hop, hop_is, hops_stay}
 
 -- where no step improves a potential, a counting step's start is at most what it reaches
-pub settled_step : (g : GraphSeen) (t : ℕ) (p : List ℕ) (s : Step) → none_improves g t p ≡ true → Among s g.steps → counts g.through t s ≡ true
+pub settled_step : (g : GraphSeen) (t : ℕ) (p : List ℕ) (s : Step) → none_improves g t p ≡ true → Among s g.steps
+    → counts g.through t s ≡ true
     → potential p s.from ≤ reach s.cost (potential p s.to)
 settled_step g t p s settled m c =
     ltb-false (reach s.cost (potential p s.to)) (potential p s.from)
@@ -18,13 +19,15 @@ settled_step g t p s settled m c =
     (and_from (counts g.through t s) (ltb (reach s.cost (potential p s.to)) (potential p s.from)) c e)))
 
 -- and so is a hop's
-pub settled_hop : (g : GraphSeen) (t : ℕ) (p : List ℕ) (v l : ℕ) (h : ℕ × ℕ) → none_improves g t p ≡ true → graph_hops g t v l ≡ Some h → potential p v ≤ reach h.1 (potential p h.0)
+pub settled_hop : (g : GraphSeen) (t : ℕ) (p : List ℕ) (v l : ℕ) (h : ℕ × ℕ) → none_improves g t p ≡ true
+    → graph_hops g t v l ≡ Some h → potential p v ≤ reach h.1 (potential p h.0)
 settled_hop g t p v l h settled is = by_hop g t v l h is (λ s m from link c e.
     subst (λ (x : ℕ × ℕ). potential p v ≤ reach x.1 (potential p x.0)) e
     (subst (λ x. potential p x ≤ reach s.cost (potential p s.to)) from (settled_step g t p s settled m c)))
 
 -- then no walk costs less than its first place's potential
-pub below_walk : (g : GraphSeen) (t : ℕ) (p : List ℕ) → none_improves g t p ≡ true → potential p t ≡ 0 → (ls seen : List ℕ) (v : ℕ)
+pub below_walk : (g : GraphSeen) (t : ℕ) (p : List ℕ) → none_improves g t p ≡ true → potential p t ≡ 0
+    → (ls seen : List ℕ) (v : ℕ)
     → goes (graph_hops g t) t seen v ls ≡ true → potential p v ≤ cost_along (graph_hops g t) v ls
 below_walk g t p settled zero_at [] seen v walk =
     let here : potential p v ≡ 0 = ap (potential p) (eqb-true v t walk) ∙ zero_at in omega arith
@@ -37,7 +40,8 @@ below_walk g t p settled zero_at (l ∷ ls) seen v walk = by_goes (graph_hops g 
     further a c b d h k = omega arith
 
 -- a path costs less than what stands for no path
-pub path_cost_few : (g : GraphSeen) (t v : ℕ) (ls : List ℕ) → IsGraph g.through g.steps → v < length g.through → IsPath g t v ls → cost_of g t v ls < absent
+pub path_cost_few : (g : GraphSeen) (t v : ℕ) (ls : List ℕ) → IsGraph g.through g.steps → v < length g.through
+    → IsPath g t v ls → cost_of g t v ls < absent
 path_cost_few g t v ls graph place path =
     few (length ls) (length g.through) (cost_of g t v ls)
     (subst (λ n. length ls + 1 ≤ n) (length-upto (length g.through)) (length-path (graph_hops g t) t (upto (length g.through)) (hops_stay g t graph) ls v (Among-upto (length g.through) v place) path))

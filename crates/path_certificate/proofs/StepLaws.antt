@@ -41,7 +41,8 @@ find_itself (x ∷ xs) s o (inr m) =
     ∙ find_itself xs s parts.1 m
 
 -- and so a counting step is a hop
-pub hop_of : (g : GraphSeen) (t : ℕ) (s : Step) → is_ordered g.steps ≡ true → Among s g.steps → counts g.through t s ≡ true → graph_hops g t s.from s.link ≡ Some (s.to, s.cost)
+pub hop_of : (g : GraphSeen) (t : ℕ) (s : Step) → is_ordered g.steps ≡ true → Among s g.steps → counts g.through t s ≡ true
+    → graph_hops g t s.from s.link ≡ Some (s.to, s.cost)
 hop_of g t s o m c =
     ap (option_and_then (taken g.through t)) (find_itself g.steps s o m) ∙ cond-true (counts g.through t s) (Some (s.to, s.cost)) None c
 
@@ -52,7 +53,8 @@ pub record IsHop (places v : ℕ) (h : ℕ × ℕ) : Type 0 where
   pub cost : 1 ≤ h.1
   pub small : h.1 < 2 ^ 32
 
-pub hop_is : (g : GraphSeen) (t v l : ℕ) (h : ℕ × ℕ) → IsGraph g.through g.steps → graph_hops g t v l ≡ Some h → IsHop (length g.through) v h
+pub hop_is : (g : GraphSeen) (t v l : ℕ) (h : ℕ × ℕ) → IsGraph g.through g.steps → graph_hops g t v l ≡ Some h
+    → IsHop (length g.through) v h
 hop_is g t v l h graph is = by_hop g t v l h is (λ s m from link c e.
     let step = each_among (IsStep (length g.through)) g.steps s graph.each m in
     let itself : IsHop (length g.through) s.from (s.to, s.cost) = record { from = step.from; to = step.to; cost = step.cost; small = step.small } in
@@ -63,11 +65,13 @@ hops_stay g t graph = λ v l h is. Among-upto (length g.through) h.0 (hop_is g t
 
 -- ---- a step of the list
 
-pub step_at : (places : ℕ) (xs : List Step) (i : ℕ) (d : Step) → AllByRecursion (IsStep places) xs → i < length xs → IsStep places (get_or xs i d)
+pub step_at : (places : ℕ) (xs : List Step) (i : ℕ) (d : Step) → AllByRecursion (IsStep places) xs → i < length xs
+    → IsStep places (get_or xs i d)
 step_at places xs i d each h = each_among (IsStep places) xs (get_or xs i d) each (Among-get_or xs i d h)
 
 -- the step that a search finds
-pub step_found : (places v l : ℕ) (xs ys : List Step) (s : Step) → AllByRecursion (IsStep places) ys → xs ≡ ys → Some s ≡ find (leaves v l) xs → IsStep places s
+pub step_found : (places v l : ℕ) (xs ys : List Step) (s : Step) → AllByRecursion (IsStep places) ys → xs ≡ ys
+    → Some s ≡ find (leaves v l) xs → IsStep places s
 step_found places v l xs ys s each same e =
     each_among (IsStep places) ys s each (subst (λ zs. Among s zs) same (find_among (leaves v l) xs s (sym e)))
 
@@ -75,10 +79,12 @@ pub found_from : (v l : ℕ) (xs : List Step) (s : Step) → Some s ≡ find (le
 found_from v l xs s e = eqb-true s.from v (and_parts (s.from == v) (s.link == l) (find_passes (leaves v l) xs s (sym e))).0
 
 -- the ends of a step of the list are within a list of as many elements as there are places
-pub start_within : (places n : ℕ) (xs ys : List Step) (i : ℕ) (d : Step) → AllByRecursion (IsStep places) ys → xs ≡ ys → n ≡ places → i < length xs → (get_or xs i d).from < n
+pub start_within : (places n : ℕ) (xs ys : List Step) (i : ℕ) (d : Step) → AllByRecursion (IsStep places) ys → xs ≡ ys
+    → n ≡ places → i < length xs → (get_or xs i d).from < n
 start_within places n xs ys i d each same few h =
     subst (λ k. (get_or xs i d).from < k) (sym few) (step_at places xs i d (subst (λ zs. AllByRecursion (IsStep places) zs) (sym same) each) h).from
 
-pub end_within : (places n : ℕ) (xs ys : List Step) (i : ℕ) (d : Step) → AllByRecursion (IsStep places) ys → xs ≡ ys → n ≡ places → i < length xs → (get_or xs i d).to < n
+pub end_within : (places n : ℕ) (xs ys : List Step) (i : ℕ) (d : Step) → AllByRecursion (IsStep places) ys → xs ≡ ys
+    → n ≡ places → i < length xs → (get_or xs i d).to < n
 end_within places n xs ys i d each same few h =
     subst (λ k. (get_or xs i d).to < k) (sym few) (step_at places xs i d (subst (λ zs. AllByRecursion (IsStep places) zs) (sym same) each) h).to

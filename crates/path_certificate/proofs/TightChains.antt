@@ -32,19 +32,23 @@ by_tight hop p t v l ls e k = by_there (λ (h : ℕ × ℕ). is_tight_hop p v h 
     let parts = and_parts (is_tight_hop p v h) (tight hop p t h.0 ls) both in
     k h is (IsTight-from_test p v h parts.0) parts.1)
 
-pub tight_more : (hop : Hops) (p : List ℕ) (t v l : ℕ) (ls : List ℕ) (h : ℕ × ℕ) → hop v l ≡ Some h → IsTight p v h → tight hop p t h.0 ls ≡ true → tight hop p t v (l ∷ ls) ≡ true
+pub tight_more : (hop : Hops) (p : List ℕ) (t v l : ℕ) (ls : List ℕ) (h : ℕ × ℕ) → hop v l ≡ Some h → IsTight p v h
+    → tight hop p t h.0 ls ≡ true → tight hop p t v (l ∷ ls) ≡ true
 tight_more hop p t v l ls h is e rest =
     ap (λ o. option_map_or (λ (h : ℕ × ℕ). is_tight_hop p v h && tight hop p t h.0 ls) o false) is
     ∙ and_from (is_tight_hop p v h) (tight hop p t h.0 ls) (is_tight_hop-from p v h e) rest
 
-pub tight_cost : (hop : Hops) (p : List ℕ) (t : ℕ) → potential p t ≡ 0 → (ls : List ℕ) (v : ℕ) → tight hop p t v ls ≡ true → cost_along hop v ls ≡ potential p v
+pub tight_cost : (hop : Hops) (p : List ℕ) (t : ℕ) → potential p t ≡ 0 → (ls : List ℕ) (v : ℕ) → tight hop p t v ls ≡ true
+    → cost_along hop v ls ≡ potential p v
 tight_cost hop p t zero_at [] v e = sym (ap (potential p) (eqb-true v t e) ∙ zero_at)
 tight_cost hop p t zero_at (l ∷ ls) v e = by_tight hop p t v l ls e (λ h is falls rest.
     cost_along-more hop v l ls h is ∙ ap (λ c. h.1 + c) (tight_cost hop p t zero_at ls h.0 rest) ∙ sym falls.falls)
 
 -- the places of a chain fall, so where each hop costs something none is visited twice
-pub tight_goes : (hop : Hops) (p : List ℕ) (t : ℕ) → ((v l : ℕ) (h : ℕ × ℕ) → hop v l ≡ Some h → 1 ≤ h.1) → (ls seen : List ℕ) (v : ℕ)
-    → ((x : ℕ) → is_among x seen ≡ true → potential p v ≤ potential p x) → tight hop p t v ls ≡ true → goes hop t seen v ls ≡ true
+pub tight_goes : (hop : Hops) (p : List ℕ) (t : ℕ) → ((v l : ℕ) (h : ℕ × ℕ) → hop v l ≡ Some h → 1 ≤ h.1)
+    → (ls seen : List ℕ) (v : ℕ)
+    → ((x : ℕ) → is_among x seen ≡ true → potential p v ≤ potential p x) → tight hop p t v ls ≡ true
+        → goes hop t seen v ls ≡ true
 tight_goes hop p t costs [] seen v above e = e
 tight_goes hop p t costs (l ∷ ls) seen v above e = by_tight hop p t v l ls e (λ h is falls rest.
     let less : potential p h.0 < potential p v = omega (arith, costs v l h is, falls.falls) in
@@ -56,6 +60,7 @@ tight_goes hop p t costs (l ∷ ls) seen v above e = by_tight hop p t v l ls e (
     (or_cases (h.0 == x) (is_among x seen) among)) rest))
 
 -- so a chain is a path
-pub tight_path : (hop : Hops) (p : List ℕ) (t : ℕ) → ((v l : ℕ) (h : ℕ × ℕ) → hop v l ≡ Some h → 1 ≤ h.1) → (ls : List ℕ) (v : ℕ) → tight hop p t v ls ≡ true → goes hop t (v ∷ []) v ls ≡ true
+pub tight_path : (hop : Hops) (p : List ℕ) (t : ℕ) → ((v l : ℕ) (h : ℕ × ℕ) → hop v l ≡ Some h → 1 ≤ h.1)
+    → (ls : List ℕ) (v : ℕ) → tight hop p t v ls ≡ true → goes hop t (v ∷ []) v ls ≡ true
 tight_path hop p t costs ls v e = tight_goes hop p t costs ls (v ∷ []) v (λ x among.
     ⊎_elim (λ s. let same : potential p v ≡ potential p x = ap (potential p) (eqb-true v x s) in omega arith) (λ s. absurd (cc)) (or_cases (v == x) false among)) e

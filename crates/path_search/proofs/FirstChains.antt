@@ -1,6 +1,6 @@
 -- The chain that takes at each place the tight hop over the least link comes first among the least paths.
-use Rattle.std.proofs.Common.{◌≡◌, ℕ, ◌+◌, ◌<◌, ◌≤◌, ◌⊎◌, ◌==◌, ◌&&◌, ◌||◌, Bool, min, cond, true, false, inl, inr, ⊎_elim, List, [], ◌∷◌, ◌++◌, length, Option, Some, None, refl, sym, ◌∙◌, ap, subst, arith, eqb, ltb, ltb-true, ltb-false, eqb-true, eq-eqb, Ordering, Less, Equal, Greater, nat_cmp, is_lt, append_assoc, append-nil}
-use Rattle.std.proofs.lemmas.Bool.{and_parts, and_from, or_cases, cases_lt, cases_order, cases_Bool, false≢true, cond-true, cond-false}
+use Rattle.std.proofs.Common.{◌≡◌, ℕ, ◌+◌, ◌<◌, ◌≤◌, ◌⊎◌, ◌==◌, ◌&&◌, ◌||◌, Bool, cond, true, false, inl, inr, ⊎_elim, List, [], ◌∷◌, ◌++◌, length, Some, None, refl, sym, ◌∙◌, ap, subst, arith, eqb, ltb, eqb-true, eq-eqb, Ordering, nat_cmp, is_lt, append_assoc, append-nil}
+use Rattle.std.proofs.lemmas.Bool.{and_parts, and_from, cases_order, false≢true}
 use Rattle.std.proofs.lemmas.Bool.Decides.{nat_tests}
 use Rattle.std.proofs.lemmas.Option.{same_Some}
 use Rattle.std.specs.Ordering.{ordering_then}
@@ -10,9 +10,9 @@ use Rattle.ctrl_model.specs.Walks.{Hops, goes, cost_along}
 use Rattle.ctrl_model.proofs.Members.{Among, list_all-among, find_passes, find_among}
 use Rattle.ctrl_model.proofs.WalkLaws.{by_goes, cost_along-more}
 use Rattle.path_certificate.specs.declared.graph.Step.{Step}
-use Rattle.path_certificate.specs.Graphs.{GraphSeen, absent, leaves, counts, graph_hops, before, is_ordered, IsGraph, potential, reach, none_improves, is_tight_hop, tight, IsPath, cost_of}
+use Rattle.path_certificate.specs.Graphs.{GraphSeen, absent, counts, graph_hops, before, is_ordered, IsGraph, potential, reach, none_improves, is_tight_hop, tight}
 use Rattle.path_certificate.proofs.StepLaws.{by_hop, hop_of, hop_is}
-use Rattle.path_certificate.proofs.LowerBounds.{settled_hop, below_walk, path_cost_few}
+use Rattle.path_certificate.proofs.LowerBounds.{settled_hop, below_walk}
 use Rattle.path_certificate.proofs.TightChains.{IsTight, IsTight-from_test, is_tight_hop-from, by_tight, tight_more, tight_cost, tight_path}
 use Rattle.path_search.specs.Supports.{falls_from}
 use Rattle.path_search.specs.Searches.{IsLeast, IsFirst}
@@ -42,7 +42,8 @@ later_link : (m l : ℕ) (o : Ordering) → l < m → is_lt (ordering_then (nat_
 later_link m l o h = grind (arith, nat_tests)
 
 chain_first : (hop : Hops) (p : List ℕ) (t : ℕ) → potential p t ≡ 0 → ((v l : ℕ) (h : ℕ × ℕ) → hop v l ≡ Some h → 1 ≤ h.1)
-    → (ls other : List ℕ) (v : ℕ) → FirstChain hop p t v ls → tight hop p t v other ≡ true → is_lt (slice_cmp nat_cmp other ls) ≡ false
+    → (ls other : List ℕ) (v : ℕ) → FirstChain hop p t v ls → tight hop p t v other ≡ true
+        → is_lt (slice_cmp nat_cmp other ls) ≡ false
 chain_first hop p t zero_at costs [] [] v c e = refl
 chain_first hop p t zero_at costs [] (m ∷ ms) v c e = refl
 chain_first hop p t zero_at costs (l ∷ ls) [] v c e = absurd (
@@ -60,8 +61,10 @@ chain_first hop p t zero_at costs (l ∷ ls) (m ∷ ms) v c e = by_tight hop p t
 
 -- ---- a least path is a chain of tight hops
 
-least_tight : (g : GraphSeen) (t : ℕ) (p : List ℕ) → none_improves g t p ≡ true → potential p t ≡ 0 → (ls seen : List ℕ) (v : ℕ)
-    → goes (graph_hops g t) t seen v ls ≡ true → cost_along (graph_hops g t) v ls ≡ potential p v → potential p v < absent → tight (graph_hops g t) p t v ls ≡ true
+least_tight : (g : GraphSeen) (t : ℕ) (p : List ℕ) → none_improves g t p ≡ true → potential p t ≡ 0
+    → (ls seen : List ℕ) (v : ℕ)
+    → goes (graph_hops g t) t seen v ls ≡ true → cost_along (graph_hops g t) v ls ≡ potential p v → potential p v < absent
+        → tight (graph_hops g t) p t v ls ≡ true
 least_tight g t p settled zero_at [] seen v walk cost there = walk
 least_tight g t p settled zero_at (l ∷ ls) seen v walk cost there = by_goes (graph_hops g t) t seen v l ls walk (λ h is new rest.
     let price : cost_along (graph_hops g t) v (l ∷ ls) ≡ h.1 + cost_along (graph_hops g t) h.0 ls = cost_along-more (graph_hops g t) v l ls h is in
@@ -73,7 +76,8 @@ least_tight g t p settled zero_at (l ∷ ls) seen v walk cost there = by_goes (g
     exact : (a c b d : ℕ) → c + d ≡ a → b ≤ d → a ≤ reach c b → a < absent → (a ≡ c + b) × (d ≡ b) × (b < absent)
     exact a c b d e l s t = (omega arith, omega arith, omega arith)
 
-pub first_path : (g : GraphSeen) (t : ℕ) (p : List ℕ) (v : ℕ) (ls : List ℕ) → IsGraph g.through g.steps → t < length g.through → potential p v < absent → IsLeast g t p
+pub first_path : (g : GraphSeen) (t : ℕ) (p : List ℕ) (v : ℕ) (ls : List ℕ) → IsGraph g.through g.steps
+    → t < length g.through → potential p v < absent → IsLeast g t p
     → FirstChain (graph_hops g t) p t v ls → IsFirst g t p v ls
 first_path g t p v ls graph target there least chain =
     let costs = λ (u l : ℕ) (h : ℕ × ℕ) (is : graph_hops g t u l ≡ Some h). (hop_is g t u l h graph is).cost in
@@ -89,13 +93,15 @@ first_path g t p v ls graph target there least chain =
 -- ---- the first tight step in the order of links
 
 -- of two steps that pass, the one that a search finds stands before the other
-found_first : (q : Step → Bool) (xs : List Step) (s u : Step) → is_ordered xs ≡ true → find q xs ≡ Some s → Among u xs → q u ≡ true → (s ≡ u) ⊎ (before s u ≡ true)
+found_first : (q : Step → Bool) (xs : List Step) (s u : Step) → is_ordered xs ≡ true → find q xs ≡ Some s → Among u xs
+    → q u ≡ true → (s ≡ u) ⊎ (before s u ≡ true)
 found_first q [] s u o f m e = absurd m
 found_first q (x ∷ xs) s u o f m e =
     let parts = and_parts (list_all (before x) xs) (is_ordered xs) o in
     apart (q x) refl f m (λ g n. found_first q xs s u parts.1 g n e) (λ n. list_all-among (before x) xs u parts.0 n)
   where
-    apart : (b : Bool) → q x ≡ b → cond b (Some x) (find q xs) ≡ Some s → (x ≡ u) ⊎ Among u xs → (find q xs ≡ Some s → Among u xs → (s ≡ u) ⊎ (before s u ≡ true)) → (Among u xs → before x u ≡ true)
+    apart : (b : Bool) → q x ≡ b → cond b (Some x) (find q xs) ≡ Some s → (x ≡ u) ⊎ Among u xs
+        → (find q xs ≡ Some s → Among u xs → (s ≡ u) ⊎ (before s u ≡ true)) → (Among u xs → before x u ≡ true)
         → (s ≡ u) ⊎ (before s u ≡ true)
     apart true b f (inl x_is) k j = inl (sym (same_Some x s f) ∙ x_is)
     apart true b f (inr n) k j = inr (subst (λ y. before y u ≡ true) (same_Some x s f) (j n))
@@ -107,7 +113,8 @@ found_some : (q : Step → Bool) (xs : List Step) (u : Step) → Among u xs → 
 found_some q [] u m e f = absurd m
 found_some q (x ∷ xs) u m e f = apart (q x) refl f m (λ n. found_some q xs u n e)
   where
-    apart : (b : Bool) → q x ≡ b → cond b (Some x) (find q xs) ≡ None → (x ≡ u) ⊎ Among u xs → (Among u xs → find q xs ≡ None → ⊥) → ⊥
+    apart : (b : Bool) → q x ≡ b → cond b (Some x) (find q xs) ≡ None → (x ≡ u) ⊎ Among u xs
+        → (Among u xs → find q xs ≡ None → ⊥) → ⊥
     apart true b f m k = absurd (cc)
     apart false b f (inl x_is) k = false≢true (sym b ∙ ap q x_is ∙ e)
     apart false b f (inr n) k = k n f
@@ -122,7 +129,8 @@ pub record Falls (g : GraphSeen) (t : ℕ) (p : List ℕ) (v : ℕ) (s : Step) :
   pub counted : counts g.through t s ≡ true
   pub falls : IsTight p v (s.to, s.cost)
 
-Falls-from_test : (g : GraphSeen) (t : ℕ) (p : List ℕ) (v : ℕ) (s : Step) → falls_from g.through t p v s ≡ true → Falls g t p v s
+Falls-from_test : (g : GraphSeen) (t : ℕ) (p : List ℕ) (v : ℕ) (s : Step) → falls_from g.through t p v s ≡ true
+    → Falls g t p v s
 Falls-from_test g t p v s e =
     let outer = and_parts ((s.from == v) && counts g.through t s) (is_tight_hop p s.from (s.to, s.cost)) e in
     let inner = and_parts (s.from == v) (counts g.through t s) outer.0 in
@@ -130,14 +138,16 @@ Falls-from_test g t p v s e =
     record { from = from; counted = inner.1; falls = subst (λ x. IsTight p x (s.to, s.cost)) from (IsTight-from_test p s.from (s.to, s.cost) outer.1) }
 
 -- a tight hop is a step that falls from its place
-falls_of : (g : GraphSeen) (t : ℕ) (p : List ℕ) (v : ℕ) (s : Step) → s.from ≡ v → counts g.through t s ≡ true → IsTight p v (s.to, s.cost) → falls_from g.through t p v s ≡ true
+falls_of : (g : GraphSeen) (t : ℕ) (p : List ℕ) (v : ℕ) (s : Step) → s.from ≡ v → counts g.through t s ≡ true
+    → IsTight p v (s.to, s.cost) → falls_from g.through t p v s ≡ true
 falls_of g t p v s from c falls =
     and_from ((s.from == v) && counts g.through t s) (is_tight_hop p s.from (s.to, s.cost))
     (and_from (s.from == v) (counts g.through t s) (eq-eqb s.from v from) c)
     (is_tight_hop-from p s.from (s.to, s.cost) (subst (λ x. IsTight p x (s.to, s.cost)) (sym from) falls))
 
 -- the first step that falls from a place is a first hop
-pub first_hop : (g : GraphSeen) (t : ℕ) (p : List ℕ) (v : ℕ) (s : Step) → IsGraph g.through g.steps → find (falls_from g.through t p v) g.steps ≡ Some s
+pub first_hop : (g : GraphSeen) (t : ℕ) (p : List ℕ) (v : ℕ) (s : Step) → IsGraph g.through g.steps
+    → find (falls_from g.through t p v) g.steps ≡ Some s
     → IsFirstHop (graph_hops g t) p v s.link (s.to, s.cost)
 first_hop g t p v s graph found =
     let this = Falls-from_test g t p v s (find_passes (falls_from g.through t p v) g.steps s found) in
@@ -153,7 +163,8 @@ first_hop g t p v s graph found =
     }
 
 -- from a place with a potential, other than the target, some step falls
-pub not_stuck : (g : GraphSeen) (t : ℕ) (p : List ℕ) (v : ℕ) → IsGraph g.through g.steps → t < length g.through → IsLeast g t p → v < length g.through → potential p v < absent → (v ≡ t → ⊥)
+pub not_stuck : (g : GraphSeen) (t : ℕ) (p : List ℕ) (v : ℕ) → IsGraph g.through g.steps → t < length g.through
+    → IsLeast g t p → v < length g.through → potential p v < absent → (v ≡ t → ⊥)
     → find (falls_from g.through t p v) g.steps ≡ None → ⊥
 not_stuck g t p v graph target least place there apart none =
     let path = (least.each v place).some there in
@@ -167,7 +178,8 @@ not_stuck g t p v graph target least place there apart none =
 
 -- the walk goes on: the chain grows by the step's link, and the potential falls
 pub chain_more : (hop : Hops) (p : List ℕ) (t from v l : ℕ) (h : ℕ × ℕ) (links : List ℕ) → IsFirstHop hop p v l h
-    → ((rest : List ℕ) → FirstChain hop p t v rest → FirstChain hop p t from (links ++ rest)) → (rest : List ℕ) → FirstChain hop p t h.0 rest → FirstChain hop p t from ((links ++ l ∷ []) ++ rest)
+    → ((rest : List ℕ) → FirstChain hop p t v rest → FirstChain hop p t from (links ++ rest)) → (rest : List ℕ)
+        → FirstChain hop p t h.0 rest → FirstChain hop p t from ((links ++ l ∷ []) ++ rest)
 chain_more hop p t from v l h links first told rest chain =
     subst (λ ls. FirstChain hop p t from ls) (sym (append_assoc links (l ∷ []) rest)) (told (l ∷ rest) (h, first, chain))
 
@@ -177,7 +189,8 @@ pub record IsNext (g : GraphSeen) (p : List ℕ) (v : ℕ) (s : Step) : Type 0 w
   pub less : potential p s.to < potential p v
   pub there : potential p s.to < absent
 
-pub next_step : (g : GraphSeen) (t : ℕ) (p : List ℕ) (v : ℕ) (s : Step) → IsGraph g.through g.steps → IsFirstHop (graph_hops g t) p v s.link (s.to, s.cost) → IsNext g p v s
+pub next_step : (g : GraphSeen) (t : ℕ) (p : List ℕ) (v : ℕ) (s : Step) → IsGraph g.through g.steps
+    → IsFirstHop (graph_hops g t) p v s.link (s.to, s.cost) → IsNext g p v s
 next_step g t p v s graph first =
     let hop = hop_is g t v s.link (s.to, s.cost) graph first.is in
     let cost : 1 ≤ s.cost = hop.cost in

@@ -1,15 +1,15 @@
 -- Potentials that are supported and that no step improves are the least costs of paths.
-use Rattle.std.proofs.Common.{◌≡◌, ℕ, zero, suc, ◌+◌, ◌-◌, ◌*◌, ◌<◌, ◌≤◌, ◌⊎◌, max, true, inl, inr, ⊎_elim, List, [], ◌∷◌, length, Some, refl, sym, ◌∙◌, ap, subst, arith, eqb-true, eq-eqb}
+use Rattle.std.proofs.Common.{◌≡◌, ℕ, zero, suc, ◌+◌, ◌-◌, ◌*◌, ◌<◌, ◌≤◌, max, true, inl, inr, ⊎_elim, List, [], ◌∷◌, length, subst, arith, eq-eqb}
 use Rattle.ctrl_model.proofs.Members.{Among, upto, length-upto, Among-upto}
 use Rattle.ctrl_model.proofs.WalkLaws.{cost_along-le, length-path}
 use Rattle.path_certificate.specs.declared.graph.Step.{Step}
-use Rattle.path_certificate.specs.Graphs.{GraphSeen, absent, graph_hops, IsGraph, potential, reach, none_improves, tight, IsPath, cost_of}
+use Rattle.path_certificate.specs.Graphs.{GraphSeen, absent, graph_hops, IsGraph, potential, reach, none_improves, tight, cost_of}
 use Rattle.path_certificate.proofs.StepLaws.{by_hop, hop_is, hops_stay}
 use Rattle.path_certificate.proofs.LowerBounds.{settled_hop}
 use Rattle.path_certificate.proofs.TightChains.{tight_more, tight_cost, tight_path}
 use Rattle.path_certificate.proofs.Certificates.{settled_least}
 use Rattle.path_search.specs.Supports.{Paid, Supported}
-use Rattle.path_search.specs.Searches.{IsLeastAt, IsLeast, AreFew, greatest_cost}
+use Rattle.path_search.specs.Searches.{IsLeast, AreFew, greatest_cost}
 
 -- a chain of tight hops from the place
 abbrev Chained : GraphSeen → ℕ → List ℕ → ℕ → Type 0
@@ -33,7 +33,8 @@ chain_of g t p graph kept settled (suc n) v place there few =
     (q.link ∷ rest.0, tight_more (graph_hops g t) p t v q.link rest.0 q.hop q.is (record { falls = omega arith; there = there }) rest.1))
     (kept.paid v place there)
 
-pub supported_least : (g : GraphSeen) (t : ℕ) (p : List ℕ) → IsGraph g.through g.steps → Supported g t p → none_improves g t p ≡ true → IsLeast g t p
+pub supported_least : (g : GraphSeen) (t : ℕ) (p : List ℕ) → IsGraph g.through g.steps → Supported g t p
+    → none_improves g t p ≡ true → IsLeast g t p
 supported_least g t p graph kept settled = record {
   places = kept.places;
   each = λ v place.

@@ -1,7 +1,8 @@
 -- What the private functions of the search keep. No public contract cites it.
 use Rattle.std.specs.Prelude.{◌≡◌, ℕ, ◌+◌, ◌<◌, ◌≤◌, ◌==◌, ◌&&◌, ◌⊎◌, Bool, List, length, Some}
 use Rattle.path_certificate.specs.declared.graph.Step.{Step}
-use Rattle.path_certificate.specs.Graphs.{GraphSeen, absent, counts, graph_hops, potential, is_tight_hop}
+use Rattle.std.specs.List.{slice_set}
+use Rattle.path_certificate.specs.Graphs.{GraphSeen, absent, counts, graph_hops, potential, reach, is_tight_hop}
 
 -- A place's potential is at least what some hop from it gives.
 pub record Paid (g : GraphSeen) (target : ℕ) (p : List ℕ) (v : ℕ) : Type 0 where
@@ -16,6 +17,14 @@ pub record Supported (g : GraphSeen) (target : ℕ) (p : List ℕ) : Type 0 wher
   pub within : (v : ℕ) → potential p v ≤ absent
   pub zero_at_target : potential p target ≡ 0
   pub paid : (v : ℕ) → v < length g.through → potential p v < absent → (v ≡ target) ⊎ Paid g target p v
+
+-- What the start of a step reaches over it.
+abbrev pub reached : List ℕ → Step → ℕ
+reached p s = reach s.cost (potential p s.to)
+
+-- The potentials after the start of a step was lowered to what it reaches.
+abbrev pub lowered : List ℕ → Step → List ℕ
+lowered p s = slice_set p s.from (reached p s)
 
 -- The step leaves the place, counts, and falls from the place's potential by exactly its cost.
 abbrev pub falls_from : List Bool → ℕ → List ℕ → ℕ → Step → Bool

@@ -1,9 +1,9 @@
 ghost use Rattle.std.specs.Prelude.{◌≡◌, ◌<◌, length, sum, IfOk, true, replicate};
 ghost use Rattle.std.specs.Bool.{OnTrue, OnFalse};
 ghost use Rattle.std.specs.List.{slice_set};
-ghost use Rattle.path_certificate.specs.Graphs.{absent, potential, reach, improves, none_improves};
+ghost use Rattle.path_certificate.specs.Graphs.{absent, improves, none_improves};
 ghost use Rattle.path_search.specs.Searches.{IsLeast, AreFew};
-ghost use Rattle.path_search.specs.Supports.{Supported};
+ghost use Rattle.path_search.specs.Supports.{Supported, lowered};
 
 use ctrl_model::Potentials;
 use path_certificate::{Graph, Step, improves, reach};
@@ -23,8 +23,8 @@ fn relax_step(graph: &Graph, target: u16, potentials: &mut [u64], step: &Step) -
     requires places { length potentials.old ≡ length graph.now.through }
     requires from { step.now.from < length potentials.old }
     requires to { step.now.to < length potentials.old }
-    ensures lowered { result ≡ improves graph.now.through target potentials.old step.now }
-    ensures set { OnTrue result (potentials.new ≡ slice_set potentials.old step.now.from (reach step.now.cost (potential potentials.old step.now.to))) }
+    ensures improved { result ≡ improves graph.now.through target potentials.old step.now }
+    ensures set { OnTrue result (potentials.new ≡ lowered potentials.old step.now) }
     ensures same { OnFalse result (potentials.new ≡ potentials.old) }
 {
     if improves(graph, target, potentials, step) {
@@ -44,8 +44,8 @@ fn relax(graph: &Graph, target: u16, potentials: &mut [u64]) -> bool
 {
     let mut fell = false;
     'steps: for step in graph.steps() {
-        let lowered = relax_step(graph, target, potentials, step);
-        fell |= lowered;
+        let improved = relax_step(graph, target, potentials, step);
+        fell |= improved;
     }
     fell
 }

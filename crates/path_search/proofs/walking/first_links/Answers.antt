@@ -1,6 +1,6 @@
-use Rattle.std.proofs.Common.{ℕ, List, ◌++◌, [], ◌∷◌, ◌∙◌, sym, subst}
+use Rattle.std.proofs.Common.{◌∙◌, sym}
 use Rattle.path_certificate.specs.Graphs.{graph_hops}
-use Rattle.path_search.proofs.FirstChains.{FirstChain, first_hop, next_step, chain_more, chain_whole, not_stuck, first_path}
+use Rattle.path_search.proofs.FirstChains.{first_hop, next_step, chain_more, chain_whole, not_stuck, first_path}
 use Rattle.path_search.proofs.walking.first_links.Goals as goal
 
 pub unreachable-requires : goal.unreachable-requires
