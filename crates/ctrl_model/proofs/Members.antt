@@ -50,7 +50,8 @@ by_flat_map f (z ∷ ys) x h k =
 
 pub Among-filter : {X : Type 0} (p : X → Bool) (xs : List X) (x : X) → Among x xs → p x ≡ true → Among x (filter p xs)
 Among-filter p [] x h e = absurd h
-Among-filter p (z ∷ xs) x (inl s) e = subst (λ ys. Among x ys) (sym (cond-true (p z) (z ∷ filter p xs) (filter p xs) (ap p s ∙ e))) (inl s)
+Among-filter p (z ∷ xs) x (inl s) e = subst (λ ys. Among x ys)
+    (sym (cond-true (p z) (z ∷ filter p xs) (filter p xs) (ap p s ∙ e))) (inl s)
 Among-filter p (z ∷ xs) x (inr h) e = kept (p z) z (filter p xs) x (Among-filter p xs x h e)
   where
     kept : {X : Type 0} (b : Bool) (z : X) (ys : List X) (x : X) → Among x ys → Among x (cond b (z ∷ ys) ys)
@@ -60,7 +61,8 @@ Among-filter p (z ∷ xs) x (inr h) e = kept (p z) z (filter p xs) x (Among-filt
 pub by_filter : {X P : Type 0} (p : X → Bool) (xs : List X) (x : X) → Among x (filter p xs) → (Among x xs → p x ≡ true → P)
     → P
 by_filter p [] x h k = absurd h
-by_filter p (z ∷ xs) x h k = apart (p z) z (filter p xs) x h (λ b s. k (inl s) (ap p (sym s) ∙ b)) (λ m. by_filter p xs x m (λ n. k (inr n))) refl
+by_filter p (z ∷ xs) x h k = apart (p z) z (filter p xs) x h (λ b s. k (inl s) (ap p (sym s) ∙ b))
+    (λ m. by_filter p xs x m (λ n. k (inr n))) refl
   where
     apart : {X P : Type 0} (b : Bool) (z : X) (ys : List X) (x : X) → Among x (cond b (z ∷ ys) ys) → (b ≡ true → z ≡ x → P)
         → (Among x ys → P) → b ≡ b → P

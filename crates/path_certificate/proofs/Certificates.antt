@@ -1,7 +1,7 @@
 -- What a certificate is for.
 use Rattle.std.proofs.Common.{◌≡◌, ℕ, ◌<◌, ◌≤◌, true, List, [], ◌∷◌, arith}
 use Rattle.path_certificate.specs.Graphs.{GraphSeen, absent, graph_hops, IsGraph, potential, Certified, cost_of, IsLeastPath, AreLeast, none_improves}
-use Rattle.path_certificate.proofs.StepLaws.{hop_is}
+use Rattle.path_certificate.proofs.StepLaws.{hops_cost}
 use Rattle.path_certificate.proofs.LowerBounds.{below_walk, path_cost_few}
 use Rattle.path_certificate.proofs.TightChains.{tight_cost, tight_path}
 
@@ -9,7 +9,7 @@ use Rattle.path_certificate.proofs.TightChains.{tight_cost, tight_path}
 pub certified_path : (g : GraphSeen) (t : ℕ) (p : List ℕ) (from : ℕ) (path : List ℕ) → IsGraph g.through g.steps
     → Certified g t p from path → IsLeastPath g t p from path
 certified_path g t p from path graph c = record {
-  path_is = tight_path (graph_hops g t) p t (λ v l h is. (hop_is g t v l h graph is).cost) path from c.chain;
+  path_is = tight_path (graph_hops g t) p t (hops_cost g t graph) path from c.chain;
   cost_is = tight_cost (graph_hops g t) p t c.zero_at_target path from c.chain;
 }
 

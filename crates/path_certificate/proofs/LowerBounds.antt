@@ -2,11 +2,11 @@
 use Rattle.std.proofs.Common.{◌≡◌, ℕ, ◌+◌, ◌*◌, ◌<◌, ◌≤◌, not, true, List, [], ◌∷◌, length, Some, ◌∙◌, ap, subst, arith, ltb, eqb-true, ltb-false}
 use Rattle.std.proofs.lemmas.Bool.{and_from, false_from_ne_true, not-true, both_ways}
 use Rattle.ctrl_model.specs.Walks.{goes, cost_along}
-use Rattle.ctrl_model.proofs.Members.{Among, list_all-among, upto, length-upto, Among-upto}
-use Rattle.ctrl_model.proofs.WalkLaws.{by_goes, cost_along-more, cost_along-le, length-path}
+use Rattle.ctrl_model.proofs.Members.{Among, list_all-among}
+use Rattle.ctrl_model.proofs.WalkLaws.{by_goes, cost_along-more, cost_along-le}
 use Rattle.path_certificate.specs.declared.graph.Step.{Step}
 use Rattle.path_certificate.specs.Graphs.{GraphSeen, absent, counts, graph_hops, IsGraph, potential, reach, improves, none_improves, IsPath, cost_of}
-use Rattle.path_certificate.proofs.StepLaws.{by_hop, hop_is, hops_stay}
+use Rattle.path_certificate.proofs.StepLaws.{by_hop, hop_is, path_short}
 
 -- where no step improves a potential, a counting step's start is at most what it reaches
 pub settled_step : (g : GraphSeen) (t : ℕ) (p : List ℕ) (s : Step) → none_improves g t p ≡ true → Among s g.steps
@@ -15,7 +15,8 @@ pub settled_step : (g : GraphSeen) (t : ℕ) (p : List ℕ) (s : Step) → none_
 settled_step g t p s settled m c =
     ltb-false (reach s.cost (potential p s.to)) (potential p s.from)
     (false_from_ne_true (ltb (reach s.cost (potential p s.to)) (potential p s.from)) (λ e.
-    both_ways (improves g.through t p s) (not-true (improves g.through t p s) (list_all-among (λ u. not (improves g.through t p u)) g.steps s settled m))
+    both_ways (improves g.through t p s) (not-true (improves g.through t p s)
+    (list_all-among (λ u. not (improves g.through t p u)) g.steps s settled m))
     (and_from (counts g.through t s) (ltb (reach s.cost (potential p s.to)) (potential p s.from)) c e)))
 
 -- and so is a hop's
@@ -34,7 +35,8 @@ below_walk g t p settled zero_at [] seen v walk =
 below_walk g t p settled zero_at (l ∷ ls) seen v walk = by_goes (graph_hops g t) t seen v l ls walk (λ h is new rest.
     let cost = cost_along-more (graph_hops g t) v l ls h is in
     let on = below_walk g t p settled zero_at ls (h.0 ∷ seen) h.0 rest in
-    rw cost (further (potential p v) h.1 (potential p h.0) (cost_along (graph_hops g t) h.0 ls) (settled_hop g t p v l h settled is) on))
+    rw cost (further (potential p v) h.1 (potential p h.0) (cost_along (graph_hops g t) h.0 ls)
+    (settled_hop g t p v l h settled is) on))
   where
     further : (a c b d : ℕ) → a ≤ reach c b → b ≤ d → a ≤ c + d
     further a c b d h k = omega arith
@@ -44,7 +46,7 @@ pub path_cost_few : (g : GraphSeen) (t v : ℕ) (ls : List ℕ) → IsGraph g.th
     → IsPath g t v ls → cost_of g t v ls < absent
 path_cost_few g t v ls graph place path =
     few (length ls) (length g.through) (cost_of g t v ls)
-    (subst (λ n. length ls + 1 ≤ n) (length-upto (length g.through)) (length-path (graph_hops g t) t (upto (length g.through)) (hops_stay g t graph) ls v (Among-upto (length g.through) v place) path))
+    (path_short g t v ls graph place path)
     graph.few
     (cost_along-le (graph_hops g t) 4294967296 (λ u l h is. let hop = hop_is g t u l h graph is in omega (arith, hop.small)) ls v)
   where

@@ -19,7 +19,8 @@ IsTight-from_test p v h e =
 
 pub is_tight_hop-from : (p : List ℕ) (v : ℕ) (h : ℕ × ℕ) → IsTight p v h → is_tight_hop p v h ≡ true
 is_tight_hop-from p v h e =
-    and_from (potential p v == (h.1 + potential p h.0)) (ltb (potential p v) absent) (eq-eqb (potential p v) (h.1 + potential p h.0) e.falls) (lt-ltb (potential p v) absent e.there)
+    and_from (potential p v == (h.1 + potential p h.0)) (ltb (potential p v) absent)
+    (eq-eqb (potential p v) (h.1 + potential p h.0) e.falls) (lt-ltb (potential p v) absent e.there)
 
 -- a saturated sum tells the same
 pub tight_is : (a c b : ℕ) → (eqb a (reach c b) && ltb a absent) ≡ (eqb a (c + b) && ltb a absent)
@@ -48,7 +49,7 @@ tight_cost hop p t zero_at (l ∷ ls) v e = by_tight hop p t v l ls e (λ h is f
 pub tight_goes : (hop : Hops) (p : List ℕ) (t : ℕ) → ((v l : ℕ) (h : ℕ × ℕ) → hop v l ≡ Some h → 1 ≤ h.1)
     → (ls seen : List ℕ) (v : ℕ)
     → ((x : ℕ) → is_among x seen ≡ true → potential p v ≤ potential p x) → tight hop p t v ls ≡ true
-        → goes hop t seen v ls ≡ true
+    → goes hop t seen v ls ≡ true
 tight_goes hop p t costs [] seen v above e = e
 tight_goes hop p t costs (l ∷ ls) seen v above e = by_tight hop p t v l ls e (λ h is falls rest.
     let less : potential p h.0 < potential p v = omega (arith, costs v l h is, falls.falls) in
@@ -63,4 +64,5 @@ tight_goes hop p t costs (l ∷ ls) seen v above e = by_tight hop p t v l ls e (
 pub tight_path : (hop : Hops) (p : List ℕ) (t : ℕ) → ((v l : ℕ) (h : ℕ × ℕ) → hop v l ≡ Some h → 1 ≤ h.1)
     → (ls : List ℕ) (v : ℕ) → tight hop p t v ls ≡ true → goes hop t (v ∷ []) v ls ≡ true
 tight_path hop p t costs ls v e = tight_goes hop p t costs ls (v ∷ []) v (λ x among.
-    ⊎_elim (λ s. let same : potential p v ≡ potential p x = ap (potential p) (eqb-true v x s) in omega arith) (λ s. absurd (cc)) (or_cases (v == x) false among)) e
+    ⊎_elim (λ s. let same : potential p v ≡ potential p x = ap (potential p) (eqb-true v x s) in omega arith)
+    (λ s. absurd (cc)) (or_cases (v == x) false among)) e

@@ -11,7 +11,7 @@ use Rattle.ctrl_model.proofs.Members.{Among, list_all-among, find_passes, find_a
 use Rattle.ctrl_model.proofs.WalkLaws.{by_goes, cost_along-more}
 use Rattle.path_certificate.specs.declared.graph.Step.{Step}
 use Rattle.path_certificate.specs.Graphs.{GraphSeen, absent, counts, graph_hops, before, is_ordered, IsGraph, potential, reach, none_improves, is_tight_hop, tight}
-use Rattle.path_certificate.proofs.StepLaws.{by_hop, hop_of, hop_is}
+use Rattle.path_certificate.proofs.StepLaws.{by_hop, hop_of, hop_is, hops_cost}
 use Rattle.path_certificate.proofs.LowerBounds.{settled_hop, below_walk}
 use Rattle.path_certificate.proofs.TightChains.{IsTight, IsTight-from_test, is_tight_hop-from, by_tight, tight_more, tight_cost, tight_path}
 use Rattle.path_search.specs.Supports.{falls_from}
@@ -43,7 +43,7 @@ later_link m l o h = grind (arith, nat_tests)
 
 chain_first : (hop : Hops) (p : List ℕ) (t : ℕ) → potential p t ≡ 0 → ((v l : ℕ) (h : ℕ × ℕ) → hop v l ≡ Some h → 1 ≤ h.1)
     → (ls other : List ℕ) (v : ℕ) → FirstChain hop p t v ls → tight hop p t v other ≡ true
-        → is_lt (slice_cmp nat_cmp other ls) ≡ false
+    → is_lt (slice_cmp nat_cmp other ls) ≡ false
 chain_first hop p t zero_at costs [] [] v c e = refl
 chain_first hop p t zero_at costs [] (m ∷ ms) v c e = refl
 chain_first hop p t zero_at costs (l ∷ ls) [] v c e = absurd (
@@ -55,8 +55,10 @@ chain_first hop p t zero_at costs (l ∷ ls) (m ∷ ms) v c e = by_tight hop p t
     ⊎_elim
     (λ (same : m ≡ l).
     let one : k ≡ c.0 = same_Some k c.0 (sym is ∙ ap (hop v) same ∙ c.1.is) in
-    same_link m l (slice_cmp nat_cmp ms ls) same ∙ chain_first hop p t zero_at costs ls ms c.0.0 c.2 (subst (λ (h : ℕ × ℕ). tight hop p t h.0 ms ≡ true) one rest))
-    (λ order. ⊎_elim (λ (less : m < l). absurd (c.1.first m k less is falls)) (λ (more : l < m). later_link m l (slice_cmp nat_cmp ms ls) more) order)
+    same_link m l (slice_cmp nat_cmp ms ls) same ∙ chain_first hop p t zero_at costs ls ms c.0.0 c.2
+    (subst (λ (h : ℕ × ℕ). tight hop p t h.0 ms ≡ true) one rest))
+    (λ order. ⊎_elim (λ (less : m < l). absurd (c.1.first m k less is falls))
+    (λ (more : l < m). later_link m l (slice_cmp nat_cmp ms ls) more) order)
     (cases_order m l))
 
 -- ---- a least path is a chain of tight hops
@@ -64,14 +66,16 @@ chain_first hop p t zero_at costs (l ∷ ls) (m ∷ ms) v c e = by_tight hop p t
 least_tight : (g : GraphSeen) (t : ℕ) (p : List ℕ) → none_improves g t p ≡ true → potential p t ≡ 0
     → (ls seen : List ℕ) (v : ℕ)
     → goes (graph_hops g t) t seen v ls ≡ true → cost_along (graph_hops g t) v ls ≡ potential p v → potential p v < absent
-        → tight (graph_hops g t) p t v ls ≡ true
+    → tight (graph_hops g t) p t v ls ≡ true
 least_tight g t p settled zero_at [] seen v walk cost there = walk
 least_tight g t p settled zero_at (l ∷ ls) seen v walk cost there = by_goes (graph_hops g t) t seen v l ls walk (λ h is new rest.
-    let price : cost_along (graph_hops g t) v (l ∷ ls) ≡ h.1 + cost_along (graph_hops g t) h.0 ls = cost_along-more (graph_hops g t) v l ls h is in
+    let price : cost_along (graph_hops g t) v (l ∷ ls) ≡ h.1 + cost_along (graph_hops g t) h.0 ls =
+    cost_along-more (graph_hops g t) v l ls h is in
     let low : potential p h.0 ≤ cost_along (graph_hops g t) h.0 ls = below_walk g t p settled zero_at ls (h.0 ∷ seen) h.0 rest in
     let step : potential p v ≤ reach h.1 (potential p h.0) = settled_hop g t p v l h settled is in
     let sums = exact (potential p v) h.1 (potential p h.0) (cost_along (graph_hops g t) h.0 ls) (sym price ∙ cost) low step there in
-    tight_more (graph_hops g t) p t v l ls h is (record { falls = sums.0; there = there }) (least_tight g t p settled zero_at ls (h.0 ∷ seen) h.0 rest sums.1 sums.2))
+    tight_more (graph_hops g t) p t v l ls h is (record { falls = sums.0; there = there })
+    (least_tight g t p settled zero_at ls (h.0 ∷ seen) h.0 rest sums.1 sums.2))
   where
     exact : (a c b d : ℕ) → c + d ≡ a → b ≤ d → a ≤ reach c b → a < absent → (a ≡ c + b) × (d ≡ b) × (b < absent)
     exact a c b d e l s t = (omega arith, omega arith, omega arith)
@@ -80,14 +84,15 @@ pub first_path : (g : GraphSeen) (t : ℕ) (p : List ℕ) (v : ℕ) (ls : List �
     → t < length g.through → potential p v < absent → IsLeast g t p
     → FirstChain (graph_hops g t) p t v ls → IsFirst g t p v ls
 first_path g t p v ls graph target there least chain =
-    let costs = λ (u l : ℕ) (h : ℕ × ℕ) (is : graph_hops g t u l ≡ Some h). (hop_is g t u l h graph is).cost in
+    let costs = hops_cost g t graph in
     let zero_at = least_zero g t p target least in
     let settled = least_settled g t p graph least in
     let falls = first_tight (graph_hops g t) p t ls v chain in
     record {
       path_is = tight_path (graph_hops g t) p t costs ls v falls;
       cost_is = tight_cost (graph_hops g t) p t zero_at ls v falls;
-      first = λ other path cost. chain_first (graph_hops g t) p t zero_at costs ls other v chain (least_tight g t p settled zero_at other (v ∷ []) v path cost there);
+      first = λ other path cost. chain_first (graph_hops g t) p t zero_at costs ls other v chain
+          (least_tight g t p settled zero_at other (v ∷ []) v path cost there);
     }
 
 -- ---- the first tight step in the order of links
@@ -135,7 +140,8 @@ Falls-from_test g t p v s e =
     let outer = and_parts ((s.from == v) && counts g.through t s) (is_tight_hop p s.from (s.to, s.cost)) e in
     let inner = and_parts (s.from == v) (counts g.through t s) outer.0 in
     let from = eqb-true s.from v inner.0 in
-    record { from = from; counted = inner.1; falls = subst (λ x. IsTight p x (s.to, s.cost)) from (IsTight-from_test p s.from (s.to, s.cost) outer.1) }
+    let falls = subst (λ x. IsTight p x (s.to, s.cost)) from (IsTight-from_test p s.from (s.to, s.cost) outer.1) in
+    record { from = from; counted = inner.1; falls = falls }
 
 -- a tight hop is a step that falls from its place
 falls_of : (g : GraphSeen) (t : ℕ) (p : List ℕ) (v : ℕ) (s : Step) → s.from ≡ v → counts g.through t s ≡ true
@@ -168,18 +174,21 @@ pub not_stuck : (g : GraphSeen) (t : ℕ) (p : List ℕ) (v : ℕ) → IsGraph g
     → find (falls_from g.through t p v) g.steps ≡ None → ⊥
 not_stuck g t p v graph target least place there apart none =
     let path = (least.each v place).some there in
-    let chain = least_tight g t p (least_settled g t p graph least) (least_zero g t p target least) path.0 (v ∷ []) v path.1 path.2 there in
+    let settled = least_settled g t p graph least in
+    let zero_at = least_zero g t p target least in
+    let chain = least_tight g t p settled zero_at path.0 (v ∷ []) v path.1 path.2 there in
     stuck path.0 chain
   where
     stuck : (ls : List ℕ) → tight (graph_hops g t) p t v ls ≡ true → ⊥
     stuck [] e = apart (eqb-true v t e)
     stuck (l ∷ ls) e = by_tight (graph_hops g t) p t v l ls e (λ h is falls rest. by_hop g t v l h is (λ s m from link c s_is.
-        found_some (falls_from g.through t p v) g.steps s m (falls_of g t p v s from c (subst (λ (x : ℕ × ℕ). IsTight p v x) (sym s_is) falls)) none))
+        found_some (falls_from g.through t p v) g.steps s m
+        (falls_of g t p v s from c (subst (λ (x : ℕ × ℕ). IsTight p v x) (sym s_is) falls)) none))
 
 -- the walk goes on: the chain grows by the step's link, and the potential falls
 pub chain_more : (hop : Hops) (p : List ℕ) (t from v l : ℕ) (h : ℕ × ℕ) (links : List ℕ) → IsFirstHop hop p v l h
     → ((rest : List ℕ) → FirstChain hop p t v rest → FirstChain hop p t from (links ++ rest)) → (rest : List ℕ)
-        → FirstChain hop p t h.0 rest → FirstChain hop p t from ((links ++ l ∷ []) ++ rest)
+    → FirstChain hop p t h.0 rest → FirstChain hop p t from ((links ++ l ∷ []) ++ rest)
 chain_more hop p t from v l h links first told rest chain =
     subst (λ ls. FirstChain hop p t from ls) (sym (append_assoc links (l ∷ []) rest)) (told (l ∷ rest) (h, first, chain))
 

@@ -35,10 +35,10 @@ lowered-le : (p : List ℕ) (s : Step) (v : ℕ) → s.from < length p → reach
     → potential (lowered p s) v ≤ potential p v
 lowered-le p s v within less =
     ⊎_elim
-      (λ e. subst (λ x. potential (lowered p s) x ≤ potential p x) (sym e)
-        (let at : potential (lowered p s) s.from ≡ reached p s = lowered_at p s within in omega arith))
-      (λ ne. let off : potential (lowered p s) v ≡ potential p v = lowered_off p s v ne in omega arith)
-      (cases_eq v s.from)
+    (λ e. subst (λ x. potential (lowered p s) x ≤ potential p x) (sym e)
+    (let at : potential (lowered p s) s.from ≡ reached p s = lowered_at p s within in omega arith))
+    (λ ne. let off : potential (lowered p s) v ≡ potential p v = lowered_off p s v ne in omega arith)
+    (cases_eq v s.from)
 
 -- the step itself pays for its start, and what paid for another place still does
 lowered_paid : (g : GraphSeen) (t : ℕ) (p : List ℕ) (s : Step) → IsGraph g.through g.steps → Among s g.steps
@@ -62,11 +62,11 @@ lowered_paid g t p s graph m kept better within v place there (inr ne) =
     let off : potential (lowered p s) v ≡ potential p v = lowered_off p s v ne in
     let before : potential p v < absent = rw off at there in
     ⊎_elim (λ e. inl e)
-      (λ (old : Paid g t p v).
-        let fall : potential (lowered p s) old.hop.0 ≤ potential p old.hop.0 = lowered-le p s old.hop.0 within better.less in
-        let enough : old.hop.1 + potential p old.hop.0 ≤ potential p v = old.enough in
-        inr (record { link = old.link; hop = old.hop; is = old.is; enough = rw off (omega arith) }))
-      (kept.paid v place before)
+    (λ (old : Paid g t p v).
+    let fall : potential (lowered p s) old.hop.0 ≤ potential p old.hop.0 = lowered-le p s old.hop.0 within better.less in
+    let enough : old.hop.1 + potential p old.hop.0 ≤ potential p v = old.enough in
+    inr (record { link = old.link; hop = old.hop; is = old.is; enough = rw off (omega arith) }))
+    (kept.paid v place before)
 
 start_within : (g : GraphSeen) (t : ℕ) (p : List ℕ) (s : Step) → IsGraph g.through g.steps → Among s g.steps → Supported g t p
     → s.from < length p
@@ -81,13 +81,13 @@ lowered_supported g t p s graph m kept e =
     record {
       places = length-set p s.from (reached p s) ∙ kept.places;
       within = λ v.
-        let fall : potential (lowered p s) v ≤ potential p v = lowered-le p s v within better.less in
-        let top : potential p v ≤ absent = kept.within v in
-        omega arith;
+          let fall : potential (lowered p s) v ≤ potential p v = lowered-le p s v within better.less in
+          let top : potential p v ≤ absent = kept.within v in
+          omega arith;
       zero_at_target =
-        let fall : potential (lowered p s) t ≤ potential p t = lowered-le p s t within better.less in
-        let bottom : potential p t ≡ 0 = kept.zero_at_target in
-        omega arith;
+          let fall : potential (lowered p s) t ≤ potential p t = lowered-le p s t within better.less in
+          let bottom : potential p t ≡ 0 = kept.zero_at_target in
+          omega arith;
       paid = λ v place there. lowered_paid g t p s graph m kept better within v place there (cases_eq v s.from);
     }
 
@@ -123,8 +123,10 @@ kept_more g t first now next fell true i d graph h kept is put same =
   where
     among : Among (get_or g.steps i d) g.steps
     among = Among-get_or g.steps i d h
+
     fall : sum (lowered now (get_or g.steps i d)) < sum now
     fall = lowered_less g t now (get_or g.steps i d) (start_within g t now (get_or g.steps i d) graph among kept.supported) (sym is)
+
     fallen : (b : Bool) → (b || true) ≡ false → ⊥
     fallen true e = absurd (false≢true (sym e))
     fallen false e = absurd (false≢true (sym e))
@@ -134,8 +136,9 @@ kept_more g t first now next fell false i d graph h kept is put same =
       total = kept.total;
       less = λ e. kept.less (unchanged fell ∙ e);
       settled = λ e. list_all_more (λ s. not (improves g.through t now s)) g.steps i d h
-          ∙ and_from (list_all (λ s. not (improves g.through t now s)) (take i g.steps)) (not (improves g.through t now (get_or g.steps i d)))
-              (kept.settled (unchanged fell ∙ e)) (not_from_false (improves g.through t now (get_or g.steps i d)) (sym is));
+          ∙ and_from (list_all (λ s. not (improves g.through t now s)) (take i g.steps))
+          (not (improves g.through t now (get_or g.steps i d)))
+          (kept.settled (unchanged fell ∙ e)) (not_from_false (improves g.through t now (get_or g.steps i d)) (sym is));
     })
   where
     unchanged : (b : Bool) → b ≡ (b || false)
@@ -149,7 +152,7 @@ pub kept_next : (g : GraphSeen) (t : ℕ) (xs : List Step) (first now next : Lis
     → OnFalse improved (next ≡ now) → Kept g t first next (fell || improved) (i + 1)
 kept_next g t xs first now next fell improved i d graph steps =
     subst
-      (λ ys. i < length ys → Kept g t first now fell i → improved ≡ improves g.through t now (get_or ys i d)
-        → OnTrue improved (next ≡ lowered now (get_or ys i d)) → OnFalse improved (next ≡ now)
-        → Kept g t first next (fell || improved) (i + 1))
-      (sym steps) (kept_more g t first now next fell improved i d graph)
+    (λ ys. i < length ys → Kept g t first now fell i → improved ≡ improves g.through t now (get_or ys i d)
+    → OnTrue improved (next ≡ lowered now (get_or ys i d)) → OnFalse improved (next ≡ now)
+    → Kept g t first next (fell || improved) (i + 1))
+    (sym steps) (kept_more g t first now next fell improved i d graph)

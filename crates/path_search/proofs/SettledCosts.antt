@@ -17,14 +17,16 @@ least_zero g t p place least =
 over : (g : GraphSeen) (t : ℕ) (p : List ℕ) (s : Step) (ls : List ℕ) → IsGraph g.through g.steps → IsLeast g t p
     → Among s g.steps → counts g.through t s ≡ true
     → cost_of g t s.to ls ≡ potential p s.to → goes (graph_hops g t) t (s.to ∷ s.from ∷ []) s.to ls ≡ true
-        → potential p s.from ≤ s.cost + potential p s.to
+    → potential p s.from ≤ s.cost + potential p s.to
 over g t p s ls graph least m c cost walk =
     let step = each_among (IsStep (length g.through)) g.steps s graph.each m in
     let is = hop_of g t s graph.ordered m c in
     let new : is_among s.to (s.from ∷ []) ≡ false = or_from (s.from == s.to) false (ne_eqb s.from s.to step.apart) refl in
-    let path : IsPath g t s.from (s.link ∷ ls) = goes_more (graph_hops g t) t (s.from ∷ []) s.from s.link ls (s.to, s.cost) is new walk in
+    let path : IsPath g t s.from (s.link ∷ ls) =
+    goes_more (graph_hops g t) t (s.from ∷ []) s.from s.link ls (s.to, s.cost) is new walk in
     let low : potential p s.from ≤ cost_of g t s.from (s.link ∷ ls) = (least.each s.from step.from).below (s.link ∷ ls) path in
-    let price : cost_of g t s.from (s.link ∷ ls) ≡ s.cost + cost_of g t s.to ls = cost_along-more (graph_hops g t) s.from s.link ls (s.to, s.cost) is in
+    let price : cost_of g t s.from (s.link ∷ ls) ≡ s.cost + cost_of g t s.to ls =
+    cost_along-more (graph_hops g t) s.from s.link ls (s.to, s.cost) is in
     omega (arith, low, price, cost)
 
 least_step : (g : GraphSeen) (t : ℕ) (p : List ℕ) (s : Step) → IsGraph g.through g.steps → IsLeast g t p → Among s g.steps
@@ -59,6 +61,7 @@ pub least_settled : (g : GraphSeen) (t : ℕ) (p : List ℕ) → IsGraph g.throu
 least_settled g t p graph least = list_all-from_among (λ s. not (improves g.through t p s)) g.steps (λ s m.
     not_from_false (improves g.through t p s) (false_from_ne_true (improves g.through t p s) (λ e.
     let both = and_parts (counts g.through t s) (ltb (reach s.cost (potential p s.to)) (potential p s.from)) e in
-    let less : reach s.cost (potential p s.to) < potential p s.from = ltb-true (reach s.cost (potential p s.to)) (potential p s.from) both.1 in
+    let less : reach s.cost (potential p s.to) < potential p s.from =
+    ltb-true (reach s.cost (potential p s.to)) (potential p s.from) both.1 in
     let low : potential p s.from ≤ reach s.cost (potential p s.to) = least_step g t p s graph least m both.0 in
     omega arith)))

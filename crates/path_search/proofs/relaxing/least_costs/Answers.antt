@@ -8,4 +8,5 @@ returns-clause-least c = supported_least _ _ _ c.places.ensures.graph (grind (ar
 
 pub returns-clause-few : goal.returns-clause-few
 returns-clause-few c =
-    least_few c.args.graph.now c.args.target _ c.places.ensures.graph (supported_least _ _ _ c.places.ensures.graph (grind (arith, common_steps)) (grind (arith, common_steps)))
+    least_few c.args.graph.now c.args.target _ c.places.ensures.graph
+    (supported_least _ _ _ c.places.ensures.graph (grind (arith, common_steps)) (grind (arith, common_steps)))
