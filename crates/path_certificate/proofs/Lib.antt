@@ -1,0 +1,4 @@
+pub mod StepLaws
+pub mod LowerBounds
+pub mod TightChains
+pub mod Certificates

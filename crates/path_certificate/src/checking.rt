@@ -1,0 +1,108 @@
+ghost use Rattle.std.specs.Prelude.{◌↔◌, ◌≡◌, ◌<◌, length, find, option_map, IfSome, IsTrue};
+ghost use Rattle.path_certificate.specs.Graphs.{leaves, reach, potential, improves, none_improves, is_tight_hop, graph_hops, tight, Certified, IsLeastPath, AreLeast};
+
+use crate::graph::{Graph, Step};
+use ctrl_model::Potentials;
+
+/// The step's cost and the potential of its end together, at most `u64::MAX`.
+pub fn reach(potentials: &[u64], step: &Step) -> u64
+    requires { step.now.to < length potentials.now }
+    ensures { result ≡ reach step.now.cost (potential potentials.now step.now.to) }
+{
+    u64::from(step.cost).saturating_add(potentials[step.to as usize])
+}
+
+/// Whether the step improves the potential of its start.
+pub fn improves(graph: &Graph, target: u16, potentials: &[u64], step: &Step) -> bool
+    requires places { length potentials.now ≡ length graph.now.through }
+    requires from { step.now.from < length potentials.now }
+    requires to { step.now.to < length potentials.now }
+    ensures { result ≡ improves graph.now.through target potentials.now step.now }
+{
+    graph.counts(target, step) && reach(potentials, step) < potentials[step.from as usize]
+}
+
+/// Whether the step falls from the potential of its start by exactly its cost.
+pub fn is_tight(potentials: &[u64], step: &Step) -> bool
+    requires from { step.now.from < length potentials.now }
+    requires to { step.now.to < length potentials.now }
+    ensures { result ≡ is_tight_hop potentials.now step.now.from (step.now.to, step.now.cost) }
+{
+    let start = potentials[step.from as usize];
+    start == reach(potentials, step) && start < u64::MAX
+}
+
+fn is_settled(graph: &Graph, target: u16, potentials: &[u64]) -> bool
+    requires { length potentials.now ≡ length graph.now.through }
+    ensures { result ≡ none_improves graph.now target potentials.now }
+{
+    let steps = graph.steps();
+    'steps: for step in steps {
+        if improves(graph, target, potentials, step) {
+            return false;
+        }
+    }
+    true
+}
+
+fn find_step(steps: &[Step], place: u16, link: u32) -> Option<Step>
+    ensures { result ≡ find (leaves place link) steps.now }
+{
+    'steps: for step in steps {
+        if step.from == place && step.link == link {
+            return Some(*step);
+        }
+    }
+    None
+}
+
+fn step_over(graph: &Graph, target: u16, place: u16, link: u32) -> Option<Step>
+    ensures hop { option_map (λ s. (s.to, s.cost)) result ≡ graph_hops graph.now target place link }
+    ensures from { IfSome result (λ s. s.from ≡ place) }
+    ensures to { IfSome result (λ s. s.to < length graph.now.through) }
+{
+    let step = find_step(graph.steps(), place, link)?;
+    if graph.counts(target, &step) {
+        Some(step)
+    } else {
+        None
+    }
+}
+
+fn is_chain(graph: &Graph, target: u16, potentials: &[u64], from: u16, path: &[u32]) -> bool
+    requires places { length potentials.now ≡ length graph.now.through }
+    requires from { from < length graph.now.through }
+    ensures { result ≡ tight (graph_hops graph.now target) potentials.now target from path.now }
+{
+    let mut at = from;
+    'links: for link in path {
+        match step_over(graph, target, at, *link) {
+            Some(step) if is_tight(potentials, &step) => at = step.to,
+            _ => return false,
+        }
+    }
+    at == target
+}
+
+fn is_certified(graph: &Graph, target: u16, potentials: &[u64], from: u16, path: &[u32]) -> bool
+    requires { length potentials.now ≡ length graph.now.through }
+    ensures { IsTrue result ↔ Certified graph.now target potentials.now from path.now }
+{
+    (target as usize) < potentials.len()
+        && (from as usize) < potentials.len()
+        && potentials[target as usize] == 0
+        && is_settled(graph, target, potentials)
+        && is_chain(graph, target, potentials, from, path)
+}
+
+/// Whether the potentials certify that the path from `from` to `target` is a least one. Takes no memory.
+pub fn check(graph: &Graph, target: u16, potentials: &Potentials, from: u16, path: &[u32]) -> bool
+    ensures certified { IsTrue result ↔ Certified graph.now target potentials.now from path.now }
+    // A yes says what it is for: the path is a path, it costs its first place's potential, and no path from any place costs
+    // less than that place's potential, where an absent potential says that there is no path.
+    ensures path { IsTrue result → IsLeastPath graph.now target potentials.now from path.now }
+    ensures least { IsTrue result → AreLeast graph.now target potentials.now }
+{
+    let potentials = potentials.as_slice();
+    potentials.len() == graph.places() && is_certified(graph, target, potentials, from, path)
+}

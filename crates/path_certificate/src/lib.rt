@@ -1,0 +1,14 @@
+//! A graph of places and steps, and the check of a path's certificate: potentials which show that no path is cheaper.
+#![tactic(auto)]
+
+mod checking;
+mod graph;
+#[cfg(test)]
+mod tests;
+mod worked;
+
+pub use checking::{check, improves, is_tight, reach};
+pub use graph::{Graph, Step};
+pub use worked::{
+    line_of_three, middle_not_through, shorter_way_beside, target_not_through, two_ways_and_none,
+};

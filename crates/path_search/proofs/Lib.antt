@@ -1,0 +1,4 @@
+pub mod Relaxations
+pub mod LeastCosts
+pub mod SettledCosts
+pub mod FirstChains

@@ -1,0 +1,12 @@
+//! The search for least paths in a graph: the least cost from each place to a target, and the first of the least paths.
+#![tactic(auto)]
+
+mod relaxing;
+#[cfg(test)]
+mod tests;
+mod walking;
+mod worked;
+
+pub use relaxing::least;
+pub use walking::walk;
+pub use worked::{bound_of_three, lesser_links_first};
