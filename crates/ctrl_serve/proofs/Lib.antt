@@ -1,0 +1,5 @@
+pub mod JsonLaws
+pub mod ReplyLengths
+pub mod NameLaws
+pub mod FrontParts
+pub mod TurnLaws

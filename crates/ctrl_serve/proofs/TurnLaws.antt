@@ -1,0 +1,90 @@
+-- How the turns of the serving loop make up the run.
+use Rattle.std.proofs.Common.{◌≡◌, ℕ, ◌+◌, ◌%◌, ◌^◌, ◌++◌, Bool, List, [], ◌∷◌, length, drop, eqb, refl, sym, ap, ◌∙◌, subst, append_assoc, append-nil, arith}
+use Rattle.std.proofs.lemmas.Bool.Decides.{nat_tests}
+use Rattle.std.specs.declared.option.Option.{Option}
+use Rattle.ziti_outside.specs.Told.{Took, TookFront, IsFront}
+use Rattle.ziti_outside.proofs.Moves.{Took-none, Took-then, IsFront-then, IsFront-longer}
+use Rattle.channel_frame.specs.declared.frames.Frame.{Frame}
+use Rattle.channel_frame.specs.declared.frames.Front.TheVariants.{Whole}
+use Rattle.channel_frame.specs.FrameSpelling.{spelling}
+use Rattle.channel_frame.specs.StreamReading.{front, frames_of, rest_of}
+use Rattle.channel_frame.proofs.ReadingLaws.{HasNone, frames_step, rest_step, reading_stops}
+use Rattle.ctrl_model.specs.declared.kinds.Who.TheVariants.{Admin}
+use Rattle.ctrl_model.specs.declared.replies.Reply.{Reply}
+use Rattle.ctrl_model.specs.State.{State, start}
+use Rattle.ctrl_model.specs.Matches.{is_nothing}
+use Rattle.ctrl_serve.specs.FrameAnswer.{frame_answer, reply_frame, answers, replies}
+use Rattle.ctrl_serve.specs.declared.serving.Cut.{Cut}
+use Rattle.ctrl_serve.specs.declared.serving.Cut.TheVariants.{NoMemory, Unsaid}
+use Rattle.ctrl_serve.specs.Turns.{TakesTurn, CutsTurn, reply_to_frame}
+
+-- A turn whose reply was taken.
+pub turn_taken : (n : ℕ) (f : Frame) (before now : State) (reply : Reply) (bytes : List ℕ) (a b : Option (List ℕ))
+    → (reply, now) ≡ frame_answer Admin f before → bytes ≡ spelling (reply_frame n f.sequence reply) → Took a b bytes → TakesTurn n f before now a b
+turn_taken n f before now reply bytes a b e h took = record {
+  next = ap (λ (p : Reply × State). p.1) e;
+  said = subst (λ (x : List ℕ). Took a b x) (h ∙ ap (λ (p : Reply × State). spelling (reply_frame n f.sequence p.0)) e) took;
+}
+
+-- A turn of which a front of the reply was taken.
+pub turn_cut : (n : ℕ) (f : Frame) (before now : State) (reply : Reply) (bytes : List ℕ) (a b : Option (List ℕ))
+    → (reply, now) ≡ frame_answer Admin f before → bytes ≡ spelling (reply_frame n f.sequence reply) → TookFront a b bytes → TookFront a b (reply_to_frame n f before)
+turn_cut n f before now reply bytes a b e h took =
+    subst (λ (x : List ℕ). TookFront a b x) (h ∙ ap (λ (p : Reply × State). spelling (reply_frame n f.sequence p.0)) e) took
+
+-- So far: what was said, and what the rest of the bytes still gives, are all replies to the bytes.
+pub record Told (n : ℕ) (s : State) (rest bytes : List ℕ) (a b : Option (List ℕ)) : Type 0 where
+  pub done : List ℕ
+  pub took : Took a b done
+  pub same : done ++ answers Admin n s (frames_of rest) ≡ replies bytes
+  pub tail : rest_of rest ≡ rest_of bytes
+
+-- Nothing was said at the start.
+pub told_start : (bytes : List ℕ) (a : Option (List ℕ)) → Told 0 start bytes bytes a a
+told_start bytes a = record { done = []; took = Took-none a; same = refl; tail = refl }
+
+-- One more turn.
+pub told_more : (n k : ℕ) (f : Frame) (s t : State) (rest bytes : List ℕ) (a b c : Option (List ℕ))
+    → front rest ≡ Whole f k → Told n s rest bytes a b → TakesTurn n f s t b c → Told ((n + 1) % 2 ^ 32) t (drop k rest) bytes a c
+told_more n k f s t rest bytes a b c e told turn = record {
+  done = told.done ++ reply_to_frame n f s;
+  took = Took-then a b c told.done (reply_to_frame n f s) told.took turn.said;
+  same =
+      append_assoc told.done (reply_to_frame n f s) _
+      ∙ ap (λ (u : State). told.done ++ (reply_to_frame n f s ++ answers Admin ((n + 1) % 2 ^ 32) u (frames_of (drop k rest)))) turn.next
+      ∙ ap (λ (fs : List Frame). told.done ++ answers Admin n s fs) (sym (frames_step rest f k e)) ∙ told.same;
+  tail = sym (rest_step rest f k e) ∙ told.tail;
+}
+
+-- What was said so far is a front of all replies.
+pub told_front : (n : ℕ) (s : State) (rest bytes : List ℕ) (a b : Option (List ℕ)) → Told n s rest bytes a b → TookFront a b (replies bytes)
+told_front n s rest bytes a b told = (told.done, (answers Admin n s (frames_of rest), told.same), told.took)
+
+-- So it is with a front of the next reply.
+pub told_less : (n k : ℕ) (f : Frame) (s : State) (rest bytes : List ℕ) (a b c : Option (List ℕ))
+    → front rest ≡ Whole f k → Told n s rest bytes a b → TookFront b c (reply_to_frame n f s) → TookFront a c (replies bytes)
+told_less n k f s rest bytes a b c e told cut =
+    let all : told.done ++ answers Admin n s (f ∷ frames_of (drop k rest)) ≡ replies bytes =
+    ap (λ (fs : List Frame). told.done ++ answers Admin n s fs) (sym (frames_step rest f k e)) ∙ told.same in
+    let next : IsFront cut.0 (answers Admin n s (f ∷ frames_of (drop k rest))) = IsFront-longer cut.0 (reply_to_frame n f s) _ _ cut.1 refl in
+    (told.done ++ cut.0, IsFront-then told.done cut.0 _ _ next all, Took-then a b c told.done cut.0 told.took cut.2)
+
+-- Where no frame stands at the front of the rest, all replies were said, and the rest is the tail.
+pub told_all : (n : ℕ) (s : State) (rest bytes : List ℕ) (a b : Option (List ℕ)) → HasNone rest → Told n s rest bytes a b
+    → Took a b (replies bytes) × (rest ≡ rest_of bytes)
+told_all n s rest bytes a b none told =
+    let stops = reading_stops rest none in
+    let all : told.done ≡ replies bytes =
+    sym (append-nil told.done) ∙ ap (λ (fs : List Frame). told.done ++ answers Admin n s fs) (sym stops.0) ∙ told.same in
+    (subst (λ (x : List ℕ). Took a b x) all told.took, sym stops.1 ∙ told.tail)
+
+-- A list is empty where it has no length.
+pub is_nothing-length : (xs : List ℕ) → eqb (length xs) 0 ≡ is_nothing xs
+is_nothing-length [] = refl
+is_nothing-length (x ∷ xs) = grind (arith, nat_tests)
+
+-- Where a turn was cut short, what was said is a front of all replies.
+pub cut_served : (cut : Cut) (n k : ℕ) (f : Frame) (s : State) (rest bytes : List ℕ) (a b c : Option (List ℕ))
+    → front rest ≡ Whole f k → Told n s rest bytes a b → CutsTurn cut n f s b c → TookFront a c (replies bytes)
+cut_served NoMemory n k f s rest bytes a b c e told same = subst (λ (x : Option (List ℕ)). TookFront a x (replies bytes)) (sym same) (told_front n s rest bytes a b told)
+cut_served Unsaid n k f s rest bytes a b c e told cut = told_less n k f s rest bytes a b c e told cut

@@ -1,0 +1,47 @@
+-- One turn of the serving loop, and the loop as a whole.
+use Rattle.std.specs.Prelude.{◌≡◌, ℕ, ◌≤◌, ⊤, Bool, List, length, Ok, Err}
+use Rattle.std.specs.declared.option.Option.{Option}
+use Rattle.std.specs.declared.result.Result.{Result}
+use Rattle.ziti_outside.specs.Told.{Took, TookFront, IsFront}
+use Rattle.channel_frame.specs.declared.frames.Frame.{Frame}
+use Rattle.channel_frame.specs.declared.frames.Head.{Head}
+use Rattle.channel_frame.specs.FrameSpelling.{spelling}
+use Rattle.channel_frame.specs.StreamReading.{head_of, frame_len, rest_of}
+use Rattle.ctrl_model.specs.declared.kinds.Who.TheVariants.{Admin}
+use Rattle.ctrl_model.specs.State.{State}
+use Rattle.ctrl_model.specs.Matches.{is_nothing}
+use Rattle.ctrl_serve.specs.declared.serving.Cut.{Cut}
+use Rattle.ctrl_serve.specs.declared.serving.Cut.TheVariants.{NoMemory, Unsaid}
+use Rattle.ctrl_serve.specs.FrameAnswer.{frame_answer, reply_frame, replies}
+
+-- The bytes begin with a good head, and all the bytes that it announces are there.
+pub record IsAnnouncedAt (len : ℕ) (bytes : List ℕ) : Type 0 where
+  pub head : Head
+  pub is_head : head_of bytes ≡ Ok head
+  pub is_len : frame_len head ≡ len
+  pub enough : len ≤ length bytes
+
+-- The bytes of the reply to a frame.
+abbrev pub reply_to_frame : ℕ → Frame → State → List ℕ
+reply_to_frame n f s = spelling (reply_frame n f.sequence (frame_answer Admin f s).0)
+
+-- A whole turn: the state is the controller's next one, and the reply was taken.
+pub record TakesTurn (n : ℕ) (f : Frame) (before now : State) (said_before said_now : Option (List ℕ)) : Type 0 where
+  pub next : now ≡ (frame_answer Admin f before).1
+  pub said : Took said_before said_now (reply_to_frame n f before)
+
+-- A turn that was cut short: nothing was said for want of memory, or a front of the reply.
+abbrev pub CutsTurn : Cut → ℕ → Frame → State → Option (List ℕ) → Option (List ℕ) → Type 0
+CutsTurn NoMemory n f before said_before said_now = said_now ≡ said_before
+CutsTurn Unsaid n f before said_before said_now = TookFront said_before said_now (reply_to_frame n f before)
+
+-- The failure of a say, if that is what cut a turn short.
+abbrev pub unsaid : {T : Type 0} → Result T Cut → Result ⊤ Cut
+unsaid (Ok x) = Ok tt
+unsaid (Err NoMemory) = Ok tt
+unsaid (Err Unsaid) = Err Unsaid
+
+-- What serving some bytes said: all replies, with whether a tail is left behind the frames; or a front of them.
+abbrev pub IsServed : Result Bool Cut → List ℕ → Option (List ℕ) → Option (List ℕ) → Type 0
+IsServed (Ok clean) bytes said_before said_now = Took said_before said_now (replies bytes) × (clean ≡ is_nothing (rest_of bytes))
+IsServed (Err c) bytes said_before said_now = TookFront said_before said_now (replies bytes)

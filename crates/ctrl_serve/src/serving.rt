@@ -1,0 +1,139 @@
+ghost use Rattle.std.specs.Prelude.{◌≡◌, ◌≢◌, ◌≤◌, ◌<◌, true, IfOk, IfErr, OnErr, OnOk, length};
+ghost use Rattle.ziti_outside.specs.Told.{Took};
+ghost use Rattle.channel_frame.specs.declared.frames.Front.TheVariants.{Bad};
+ghost use Rattle.channel_frame.specs.FrameSpelling.{spelling};
+ghost use Rattle.channel_frame.specs.StreamReading.{front};
+ghost use Rattle.ctrl_model.specs.declared.kinds.Who.TheVariants.{Admin};
+ghost use Rattle.ctrl_serve.specs.FrameAnswer.{frame_answer, reply_frame};
+ghost use Rattle.ctrl_serve.specs.ReplyBody.{is_given};
+ghost use Rattle.ziti_outside.specs.Causes.{HasCause};
+ghost use Rattle.ctrl_serve.specs.Turns.{IsAnnouncedAt, TakesTurn, CutsTurn, IsServed, unsaid};
+
+use crate::body_reading::created_name;
+use crate::kept_names::Core;
+use crate::reply_writing::reply_bytes;
+use channel_frame::{Frame, FrameFault, Front, read_frame, read_head};
+use ctrl_model::{Field, Reason, Refusal, Reply};
+use std::alloc::{AllocError, Global};
+use ziti_outside::{Desk, Failed};
+
+/// The content type of CreateIdentity.
+const CREATE_IDENTITY: u32 = 1_000;
+
+/// How many bytes the head of a frame has.
+const HEAD: usize = 20;
+
+/// Why serving was cut short.
+#[derive(Clone, Copy)]
+pub enum Cut {
+    /// There is no memory.
+    NoMemory,
+    /// The desk failed to take a reply.
+    Unsaid,
+}
+
+impl From<AllocError> for Cut {
+    ghost use Rattle.std.specs.Prelude.{◌≡◌};
+    ghost use Rattle.ctrl_serve.specs.declared.serving.Cut.TheVariants.{NoMemory};
+
+    ghost from_gives = { λ _ e. e ≡ NoMemory };
+
+    fn from(_error: AllocError) -> Cut {
+        Cut::NoMemory
+    }
+}
+
+fn answer_frame(alloc: Global, core: &mut Core, frame: &Frame) -> Result<Reply, AllocError>
+    ensures ok { IfOk result (λ r. (r, core.new) ≡ frame_answer Admin frame.now core.old) }
+    ensures given { IfOk result (λ r. is_given r ≡ true) }
+    ensures err { OnErr result (core.new ≡ core.old) }
+{
+    if frame.content != CREATE_IDENTITY {
+        return Ok(Reply::Refused(Refusal::UnsupportedType));
+    }
+    match created_name(alloc, frame.body.as_slice())? {
+        None => Ok(Reply::Refused(Refusal::BadBody {
+            field: Field::Nothing,
+            reason: Reason::Unknown,
+        })),
+        Some(name) => core.create_identity(name),
+    }
+}
+
+fn bad_front(fault: FrameFault) -> Result<Front, AllocError>
+    ensures { IfOk result (λ f. (fault ≢ FrameFault.NoMemory) × (f ≡ Bad fault)) }
+{
+    match fault {
+        FrameFault::NoMemory => Err(AllocError),
+        _ => Ok(Front::Bad(fault)),
+    }
+}
+
+fn whole_front(alloc: Global, bytes: &[u8], len: usize) -> Result<Front, AllocError>
+    requires { IsAnnouncedAt len bytes.now }
+    ensures { IfOk result (λ f. f ≡ front bytes.now) }
+{
+    let (whole, _) = bytes.split_at(len);
+    match read_frame(alloc, whole) {
+        Ok(frame) => Ok(Front::Whole(frame, len as u64)),
+        Err(fault) => bad_front(fault),
+    }
+}
+
+fn front_of(alloc: Global, bytes: &[u8]) -> Result<Front, AllocError>
+    ensures { IfOk result (λ f. f ≡ front bytes.now) }
+{
+    let Some(first) = bytes.first_chunk::<20>() else {
+        return Ok(Front::Short);
+    };
+    let head = match read_head(first) {
+        Ok(head) => head,
+        Err(fault) => return Ok(Front::Bad(fault)),
+    };
+    let len = HEAD + head.headers_len as usize + head.body_len as usize;
+    if bytes.len() < len {
+        return Ok(Front::Short);
+    }
+    whole_front(alloc, bytes, len)
+}
+
+/// Answers one frame and says the reply.
+fn serve_frame<D: Desk>(
+    alloc: Global,
+    desk: &mut D,
+    core: &mut Core,
+    sequence: u32,
+    frame: &Frame,
+) -> Result<(), Cut>
+    ensures ok { OnOk result (TakesTurn sequence frame.now core.old core.new (D.said desk.old) (D.said desk.new)) }
+    ensures cut { IfErr result (λ c. CutsTurn c sequence frame.now core.old (D.said desk.old) (D.said desk.new)) }
+    ensures cause { HasCause (D.say_faults desk.old) (D.say_faults desk.new) (unsaid result) }
+    ensures notes { D.noted desk.new ≡ D.noted desk.old }
+    ensures note_faults { D.note_faults desk.new ≡ D.note_faults desk.old }
+{
+    let reply = answer_frame(alloc, core, frame)?;
+    let bytes = reply_bytes(alloc, sequence, frame.sequence, &reply)?;
+    match desk.say(bytes.as_slice()) {
+        Ok(()) => Ok(()),
+        Err(Failed) => Err(Cut::Unsaid),
+    }
+}
+
+/// Answers the whole frames of the bytes in order and says their replies. Answers whether no tail is left behind them.
+pub fn serve<D: Desk>(alloc: Global, desk: &mut D, bytes: &[u8]) -> Result<bool, Cut>
+    ensures said { IsServed result bytes.now (D.said desk.old) (D.said desk.new) }
+    ensures cause { HasCause (D.say_faults desk.old) (D.say_faults desk.new) (unsaid result) }
+    ensures notes { D.noted desk.new ≡ D.noted desk.old }
+    ensures note_faults { D.note_faults desk.new ≡ D.note_faults desk.old }
+{
+    let mut core = Core::new(alloc);
+    let mut sequence = 0u32;
+    let mut rest = bytes;
+    'frames: while let Front::Whole(frame, len) = front_of(alloc, rest)? {
+        serve_frame(alloc, desk, &mut core, sequence, &frame)?;
+        sequence = sequence.wrapping_add(1);
+        let (_, after) = rest.split_at(len as usize);
+        rest = after;
+    }
+    Ok(rest.is_empty())
+}
