@@ -7,9 +7,13 @@ mod command_line;
 mod intake;
 mod kept_names;
 mod laws;
+#[cfg(test)]
+mod memory_forms;
 mod reply_writing;
 mod serving;
 mod status;
+#[cfg(test)]
+mod tests;
 mod top;
 mod worked;
 

@@ -1,0 +1,218 @@
+use crate::bounds::Bounds;
+use crate::memory_forms::{MemoryDesk, MemorySource, NEVER};
+use crate::status::Status;
+use crate::top::{run, run_within};
+use std::alloc::{AllocError, Global};
+use std::test::Fail;
+
+/// A frame that creates ann: content type 1000, sequence 7, no headers.
+const ANN: &[u8] = b"\x03\x06\x09\x0c\xe8\x03\0\0\x07\0\0\0\0\0\0\0\x0e\0\0\0{\"name\":\"ann\"}";
+
+/// Its reply as the first one: content type 2, reply for 7, success, the number 1.
+const MADE: &[u8] =
+    b"\x03\x06\x09\x0c\x02\0\0\0\0\0\0\0\x15\0\0\0\x08\0\0\0\x01\0\0\0\x04\0\0\0\x07\0\0\0\x02\0\0\0\x01\0\0\0\x01{\"no\":1}";
+
+/// Its reply as the second one, after itself: the name exists.
+const EXISTS: &[u8] =
+    b"\x03\x06\x09\x0c\x02\0\0\0\x01\0\0\0\x15\0\0\0\x1b\0\0\0\x01\0\0\0\x04\0\0\0\x07\0\0\0\x02\0\0\0\x01\0\0\0\0{\"code\":20,\"name\":\"Exists\"}";
+
+/// A frame of content type 2, and its reply as the first one.
+const RESULT: &[u8] = b"\x03\x06\x09\x0c\x02\0\0\0\x05\0\0\0\0\0\0\0\0\0\0\0";
+
+const UNSUPPORTED: &[u8] =
+    b"\x03\x06\x09\x0c\x02\0\0\0\0\0\0\0\x15\0\0\0\x24\0\0\0\x01\0\0\0\x04\0\0\0\x05\0\0\0\x02\0\0\0\x01\0\0\0\0{\"code\":10,\"name\":\"UnsupportedType\"}";
+
+/// A CreateIdentity with the body `{}`, and its reply as the first one.
+const NAMELESS: &[u8] = b"\x03\x06\x09\x0c\xe8\x03\0\0\x05\0\0\0\0\0\0\0\x02\0\0\0{}";
+
+const BAD_BODY: &[u8] =
+    b"\x03\x06\x09\x0c\x02\0\0\0\0\0\0\0\x15\0\0\0\x3a\0\0\0\x01\0\0\0\x04\0\0\0\x05\0\0\0\x02\0\0\0\x01\0\0\0\0{\"code\":11,\"field\":\"\",\"name\":\"BadBody\",\"reason\":\"Unknown\"}";
+
+/// The reply to ann's frame as the second one, after a refusal, which made nothing.
+const MADE_SECOND: &[u8] =
+    b"\x03\x06\x09\x0c\x02\0\0\0\x01\0\0\0\x15\0\0\0\x08\0\0\0\x01\0\0\0\x04\0\0\0\x07\0\0\0\x02\0\0\0\x01\0\0\0\x01{\"no\":1}";
+
+/// Tails: a cut frame, a wrong marker, a body of 1,048,577 bytes, and a headers part of 9 bytes that no row of headers fills.
+const CUT: &[u8] = b"\x03\x06\x09\x0c\xe8\x03\0\0\x07\0\0\0\0\0\0\0\x0e\0\0";
+
+const UNMARKED: &[u8] = b"\x03\x06\x09\x0d\xe8\x03\0\0\x07\0\0\0\0\0\0\0\0\0\0\0";
+
+const LONG: &[u8] = b"\x03\x06\x09\x0c\xe8\x03\0\0\x07\0\0\0\0\0\0\0\x01\0\x10\0";
+
+const HEADERS: &[u8] =
+    b"\x03\x06\x09\x0c\xe8\x03\0\0\x07\0\0\0\x09\0\0\0\0\0\0\0\x05\0\0\0\x02\0\0\0a";
+
+/// A run: the input as its parts, how it is given and where the outside fails, and what must come of it.
+#[derive(Clone, Copy)]
+struct Row {
+    what: &'static str,
+    input: [&'static [u8]; 2],
+    piece: usize,
+    most: u64,
+    failing_take: u64,
+    failing_say: u64,
+    said: [&'static [u8]; 2],
+    status: Status,
+}
+
+const fn make_row(
+    what: &'static str,
+    input: [&'static [u8]; 2],
+    said: [&'static [u8]; 2],
+    status: Status,
+) -> Row {
+    Row {
+        what,
+        input,
+        piece: 4_096,
+        most: 1_000,
+        failing_take: NEVER,
+        failing_say: NEVER,
+        said,
+        status,
+    }
+}
+
+fn joined(alloc: Global, parts: [&[u8]; 2]) -> Result<Vec<u8>, AllocError> {
+    let mut bytes = Vec::from_slice(alloc, parts[0])?;
+    bytes.extend_from_slice(parts[1])?;
+    Ok(bytes)
+}
+
+fn words(alloc: Global, word: &str) -> Result<Vec<String>, AllocError> {
+    let mut words = Vec::new(alloc);
+    words.push(String::from_str(alloc, word)?)?;
+    Ok(words)
+}
+
+fn outcome(alloc: Global, row: &Row) -> Result<(MemoryDesk, Status), AllocError> {
+    let piece = row.piece.max(1);
+    let mut source = MemorySource::new(joined(alloc, row.input)?, piece, row.failing_take);
+    let mut desk = MemoryDesk::new(alloc, row.failing_say);
+    let bounds = Bounds {
+        input: row.most.min(1_000),
+        slot: 64,
+        mark: 1,
+    };
+    let words = words(alloc, "dry")?;
+    let status = run_within(alloc, &words, bounds, &mut source, &mut desk);
+    Ok((desk, status))
+}
+
+fn rows() -> [Row; 17] {
+    [
+        make_row("nothing at all", [b"", b""], [b"", b""], Status::Done),
+        make_row("ann", [ANN, b""], [MADE, b""], Status::Done),
+        Row {
+            piece: 1,
+            ..make_row("ann in 34 pieces", [ANN, b""], [MADE, b""], Status::Done)
+        },
+        make_row(
+            "ann twice in one piece",
+            [ANN, ANN],
+            [MADE, EXISTS],
+            Status::Done,
+        ),
+        make_row(
+            "a frame of another type",
+            [RESULT, ANN],
+            [UNSUPPORTED, MADE_SECOND],
+            Status::Done,
+        ),
+        make_row(
+            "a bad body",
+            [NAMELESS, ANN],
+            [BAD_BODY, MADE_SECOND],
+            Status::Done,
+        ),
+        make_row("a cut frame", [ANN, CUT], [MADE, b""], Status::BadInput),
+        make_row(
+            "a wrong marker",
+            [ANN, UNMARKED],
+            [MADE, b""],
+            Status::BadInput,
+        ),
+        make_row(
+            "a body too long",
+            [ANN, LONG],
+            [MADE, b""],
+            Status::BadInput,
+        ),
+        make_row("bad headers", [ANN, HEADERS], [MADE, b""], Status::BadInput),
+        Row {
+            most: 34,
+            ..make_row("exactly the bound", [ANN, b""], [MADE, b""], Status::Done)
+        },
+        Row {
+            most: 34,
+            ..make_row(
+                "one byte more",
+                [ANN, b"\x03"],
+                [MADE, b""],
+                Status::InputTooLong,
+            )
+        },
+        Row {
+            most: 34,
+            piece: 34,
+            ..make_row(
+                "two frames, one used",
+                [ANN, ANN],
+                [MADE, b""],
+                Status::InputTooLong,
+            )
+        },
+        Row {
+            failing_take: 1,
+            ..make_row("a failing take", [ANN, b""], [MADE, b""], Status::ReadFault)
+        },
+        Row {
+            failing_take: 0,
+            ..make_row("no take at all", [ANN, b""], [b"", b""], Status::ReadFault)
+        },
+        Row {
+            failing_say: 0,
+            ..make_row("a failing say", [ANN, ANN], [b"", b""], Status::WriteFault)
+        },
+        Row {
+            failing_say: 1,
+            ..make_row(
+                "the second say fails",
+                [ANN, ANN],
+                [MADE, b""],
+                Status::WriteFault,
+            )
+        },
+    ]
+}
+
+#[test]
+fn answers_with_ample_memory(rt: HostRuntime) -> Result<(), Fail> {
+    for row in &rows() {
+        let (desk, status) = outcome(rt.alloc(), row)?;
+        let said = joined(rt.alloc(), row.said)?;
+        let what = row.what;
+        assert_eq!(rt; desk.said(), said.as_slice(), "{what}");
+        assert_eq!(rt; status, row.status, "{what}");
+        assert!(rt; desk.noted().is_empty(), "{what}");
+    }
+    Ok(())
+}
+
+#[test]
+fn tells_other_words_the_usage(rt: HostRuntime) -> Result<(), Fail> {
+    for word in ["", "Dry", "replay", "--help"] {
+        let words = words(rt.alloc(), word)?;
+        let mut source = MemorySource::new(Vec::from_slice(rt.alloc(), ANN)?, 1, 0);
+        let mut desk = MemoryDesk::new(rt.alloc(), 0);
+        let status = run(rt.alloc(), &words, &mut source, &mut desk);
+        assert_eq!(rt; status, Status::Usage, "{word}");
+        assert!(rt; desk.said().is_empty(), "{word}");
+        assert_eq!(rt;
+            desk.noted(),
+            b"zitictl: usage: zitictl dry | replay [--sessions] | audit | compact | load N\n".as_slice(),
+            "{word}"
+        );
+    }
+    Ok(())
+}
