@@ -13,5 +13,6 @@ mod LinkCommandLaws
 mod TerminatorCommandLaws
 mod CircuitCommandLaws
 mod ValidCommands
+mod TouchedLaws
 mod RefusedStates
 mod NextNumbers

@@ -20,5 +20,6 @@ pub mod TerminatorCommands
 pub mod CircuitCommands
 pub mod ShowCommands
 pub mod Controller
+pub mod TouchedTables
 pub mod ValidState
 pub mod WorkedStates

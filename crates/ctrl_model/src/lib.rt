@@ -22,7 +22,9 @@ pub use numbering::{
 pub use refusals::{Denial, Field, Reason, Refusal};
 pub use replies::{Reply, Tallies, Tally};
 pub use state_laws::{
-    absent_pairs_count_nothing, numbers_never_fall, refused_leaves_the_state, settled_once,
+    absent_pairs_count_nothing, names_find_their_records, next_numbers_have_an_end,
+    numbers_never_fall, one_record_a_name, refused_leaves_the_state, settled_once,
+    settling_only_removes, untouched_tables,
 };
 pub use texts::{Bytes, Instance, Name, NameFault, Names};
 pub use validity::valid_stays_valid;

@@ -1,0 +1,142 @@
+-- Each command changes what it may change and settles, or leaves the state.
+use Rattle.std.proofs.Common.{◌≡◌, ℕ, Bool, true, false, ◌⊎◌, inl, inr, List, Option, None, Some, refl}
+use Rattle.ctrl_model.specs.declared.commands.Command.{Command}
+use Rattle.ctrl_model.specs.declared.commands.Command.TheVariants as command
+use Rattle.ctrl_model.specs.declared.kinds.Who.{Who}
+use Rattle.ctrl_model.specs.declared.kinds.Relation.TheVariants.{IdentityRouter, ServiceRouter}
+use Rattle.ctrl_model.specs.declared.refusals.Refusal.{Refusal}
+use Rattle.ctrl_model.specs.declared.refusals.Refusal.TheVariants.{NotPermitted, Denied}
+use Rattle.ctrl_model.specs.declared.replies.Reply.{Reply}
+use Rattle.ctrl_model.specs.declared.replies.Reply.TheVariants.{Refused, Done, Made}
+use Rattle.ctrl_model.specs.State.{State, entity_named, router_named, link_named, policy_named}
+use Rattle.ctrl_model.specs.Settling.{settle}
+use Rattle.ctrl_model.specs.Rules.{carried_out, at_number, unknown_if_absent}
+use Rattle.ctrl_model.specs.Networks.{network_of}
+use Rattle.ctrl_model.specs.Choices.{Ask, first_rule, best}
+use Rattle.ctrl_model.specs.EntityCommands.{after_create_identity, refusal_of_create_identity, after_update_identity, refusal_of_update_identity, after_delete_identity, after_create_service, refusal_of_create_service, after_update_service, refusal_of_update_service, after_delete_service, after_create_router, refusal_of_create_router, after_update_router, refusal_of_update_router, after_delete_router, after_mark_router}
+use Rattle.ctrl_model.specs.PolicyCommands.{after_create_service_policy, refusal_of_create_service_policy, after_update_service_policy, refusal_of_update_service_policy, after_delete_service_policy, after_create_edge_router_policy, refusal_of_create_edge_router_policy, after_update_edge_router_policy, refusal_of_update_edge_router_policy, after_delete_edge_router_policy, after_create_service_edge_router_policy, refusal_of_create_service_edge_router_policy, after_update_service_edge_router_policy, refusal_of_update_service_edge_router_policy, after_delete_service_edge_router_policy}
+use Rattle.ctrl_model.specs.LinkCommands.{after_create_link, refusal_of_create_link, after_set_link_cost, refusal_of_report, after_report_latency, after_report_state, after_delete_link}
+use Rattle.ctrl_model.specs.TerminatorCommands.{after_create_terminator, refusal_of_create_terminator, no_such_terminator, after_update_terminator, after_delete_terminator}
+use Rattle.ctrl_model.specs.CircuitCommands.{ask_of, after_create_circuit, granted_reply, create_circuit, explain, no_such_circuit}
+use Rattle.ctrl_model.specs.declared.refusals.Field.TheVariants as field
+use Rattle.ctrl_model.specs.Numbered.{without}
+use Rattle.ctrl_model.specs.Permitted.{is_permitted}
+use Rattle.ctrl_model.specs.Controller.{policy, carry, answer}
+use Rattle.ctrl_model.specs.TouchedTables.{Touched, Identities, Services, Routers, ServicePolicies, EdgeRouterPolicies, ServiceEdgeRouterPolicies, Links, Setting, Terminators, Circuits, Nothing, touched_by, put_back, ChangesOnly}
+use Rattle.ctrl_model.proofs.RefusalLaws.{carried_out-holds, at_number-holds, shown-leaves, cond-holds, decided-holds}
+
+-- the state is the old one, or only what may be changed is
+abbrev pub LeavesOrChanges : Touched → State → Reply × State → Type 0
+LeavesOrChanges touched s a = (a.1 ≡ s) ⊎ ChangesOnly touched s a.1
+
+step : (touched : Touched) (s : State) (o : Option Refusal) (reply : Reply) (effect : State) → put_back touched s effect ≡ s
+    → LeavesOrChanges touched s (carried_out o s reply effect)
+step touched s None reply effect e = inr (record { effect = effect; is_next = refl; all_else_stays = e })
+step touched s (Some r) reply effect e = inl refl
+
+there : (touched : Touched) (s : State) (found : Option ℕ) (effect : ℕ → State) → put_back touched s s ≡ s → ((n : ℕ) → put_back touched s (effect n) ≡ s)
+    → put_back touched s (at_number found s effect) ≡ s
+there touched s found effect old new = at_number-holds (λ t. put_back touched s t ≡ s) found s effect old (λ n is. new n)
+
+create_circuit-changes : (ask : Ask) (s : State) → LeavesOrChanges Circuits s (create_circuit ask s)
+create_circuit-changes ask s = decided-holds (LeavesOrChanges Circuits s) (first_rule (network_of s) ask) (best (network_of s) ask)
+    (λ d. (Refused (Denied d), s)) (λ c. (granted_reply c s, settle (after_create_circuit ask c s))) (λ d. inl refl)
+    (λ c none. inr (record { effect = after_create_circuit ask c s; is_next = refl; all_else_stays = refl }))
+
+explain-changes : (ask : Ask) (s : State) → LeavesOrChanges Nothing s (explain ask s)
+explain-changes ask s = decided-holds (LeavesOrChanges Nothing s) (first_rule (network_of s) ask) (best (network_of s) ask)
+    (λ d. (Refused (Denied d), s)) _ (λ d. inl refl) (λ c none. inl refl)
+
+carry-changes : (c : Command) (s : State) → LeavesOrChanges (touched_by c) s (carry c s)
+carry-changes command.Hello s = inl refl
+carry-changes (command.CreateIdentity name attributes) s =
+    step Identities s (refusal_of_create_identity name attributes s) (Made s.next_identity) (after_create_identity name attributes s) refl
+carry-changes (command.UpdateIdentity name attributes) s =
+    step Identities s (refusal_of_update_identity name attributes s) Done (after_update_identity name attributes s)
+    (there Identities s (entity_named s.identities name) _ refl (λ n. refl))
+carry-changes (command.DeleteIdentity name) s =
+    step Identities s (unknown_if_absent field.Name (entity_named s.identities name)) Done (after_delete_identity name s)
+    (there Identities s (entity_named s.identities name) _ refl (λ n. refl))
+carry-changes (command.CreateService name attributes) s =
+    step Services s (refusal_of_create_service name attributes s) (Made s.next_service) (after_create_service name attributes s) refl
+carry-changes (command.UpdateService name attributes) s =
+    step Services s (refusal_of_update_service name attributes s) Done (after_update_service name attributes s)
+    (there Services s (entity_named s.services name) _ refl (λ n. refl))
+carry-changes (command.DeleteService name) s =
+    step Services s (unknown_if_absent field.Name (entity_named s.services name)) Done (after_delete_service name s)
+    (there Services s (entity_named s.services name) _ refl (λ n. refl))
+carry-changes (command.CreateRouter name attributes cost no_traversal) s =
+    step Routers s (refusal_of_create_router name attributes cost no_traversal s) (Made s.next_router) (after_create_router name attributes cost no_traversal s) refl
+carry-changes (command.UpdateRouter name attributes cost no_traversal) s =
+    step Routers s (refusal_of_update_router name attributes cost no_traversal s) Done (after_update_router name attributes cost no_traversal s)
+    (there Routers s (router_named s.routers name) _ refl (λ n. refl))
+carry-changes (command.DeleteRouter name) s =
+    step Routers s (unknown_if_absent field.Name (router_named s.routers name)) Done (after_delete_router name s)
+    (there Routers s (router_named s.routers name) _ refl (λ n. refl))
+carry-changes (command.ConnectRouter name) s =
+    step Routers s (unknown_if_absent field.Name (router_named s.routers name)) Done (after_mark_router name true s)
+    (there Routers s (router_named s.routers name) _ refl (λ n. refl))
+carry-changes (command.DisconnectRouter name) s =
+    step Routers s (unknown_if_absent field.Name (router_named s.routers name)) Done (after_mark_router name false s)
+    (there Routers s (router_named s.routers name) _ refl (λ n. refl))
+carry-changes (command.CreateServicePolicy name relation semantic left right) s =
+    step ServicePolicies s (refusal_of_create_service_policy (policy name relation semantic left right) s) (Made s.next_service_policy) (after_create_service_policy (policy name relation semantic left right) s) refl
+carry-changes (command.UpdateServicePolicy name relation semantic left right) s =
+    step ServicePolicies s (refusal_of_update_service_policy (policy name relation semantic left right) s) Done (after_update_service_policy (policy name relation semantic left right) s)
+    (there ServicePolicies s (policy_named s.service_policies name) _ refl (λ n. refl))
+carry-changes (command.DeleteServicePolicy name) s =
+    step ServicePolicies s (unknown_if_absent field.Name (policy_named s.service_policies name)) Done (after_delete_service_policy name s)
+    (there ServicePolicies s (policy_named s.service_policies name) _ refl (λ n. refl))
+carry-changes (command.CreateEdgeRouterPolicy name semantic left right) s =
+    step EdgeRouterPolicies s (refusal_of_create_edge_router_policy (policy name IdentityRouter semantic left right) s) (Made s.next_edge_router_policy) (after_create_edge_router_policy (policy name IdentityRouter semantic left right) s) refl
+carry-changes (command.UpdateEdgeRouterPolicy name semantic left right) s =
+    step EdgeRouterPolicies s (refusal_of_update_edge_router_policy (policy name IdentityRouter semantic left right) s) Done (after_update_edge_router_policy (policy name IdentityRouter semantic left right) s)
+    (there EdgeRouterPolicies s (policy_named s.edge_router_policies name) _ refl (λ n. refl))
+carry-changes (command.DeleteEdgeRouterPolicy name) s =
+    step EdgeRouterPolicies s (unknown_if_absent field.Name (policy_named s.edge_router_policies name)) Done (after_delete_edge_router_policy name s)
+    (there EdgeRouterPolicies s (policy_named s.edge_router_policies name) _ refl (λ n. refl))
+carry-changes (command.CreateServiceEdgeRouterPolicy name semantic left right) s =
+    step ServiceEdgeRouterPolicies s (refusal_of_create_service_edge_router_policy (policy name ServiceRouter semantic left right) s) (Made s.next_service_edge_router_policy) (after_create_service_edge_router_policy (policy name ServiceRouter semantic left right) s) refl
+carry-changes (command.UpdateServiceEdgeRouterPolicy name semantic left right) s =
+    step ServiceEdgeRouterPolicies s (refusal_of_update_service_edge_router_policy (policy name ServiceRouter semantic left right) s) Done (after_update_service_edge_router_policy (policy name ServiceRouter semantic left right) s)
+    (there ServiceEdgeRouterPolicies s (policy_named s.service_edge_router_policies name) _ refl (λ n. refl))
+carry-changes (command.DeleteServiceEdgeRouterPolicy name) s =
+    step ServiceEdgeRouterPolicies s (unknown_if_absent field.Name (policy_named s.service_edge_router_policies name)) Done (after_delete_service_edge_router_policy name s)
+    (there ServiceEdgeRouterPolicies s (policy_named s.service_edge_router_policies name) _ refl (λ n. refl))
+carry-changes (command.CreateLink name a b cost latency_a latency_b) s =
+    step Links s (refusal_of_create_link name a b s) (Made s.next_link) (after_create_link name a b cost latency_a latency_b s)
+    (there Links s (router_named s.routers a) _ refl (λ n. there Links s (router_named s.routers b) _ refl (λ m. refl)))
+carry-changes (command.SetLinkCost link cost) s =
+    step Links s (unknown_if_absent field.Link (link_named s.links link)) Done (after_set_link_cost link cost s)
+    (there Links s (link_named s.links link) _ refl (λ n. refl))
+carry-changes (command.ReportLatency link router latency) s =
+    step Links s (refusal_of_report link router s) Done (after_report_latency link router latency s)
+    (there Links s (link_named s.links link) _ refl (λ n. there Links s (router_named s.routers router) _ refl (λ m. refl)))
+carry-changes (command.ReportState link router up) s =
+    step Links s (refusal_of_report link router s) Done (after_report_state link up s)
+    (there Links s (link_named s.links link) _ refl (λ n. refl))
+carry-changes (command.DeleteLink link) s =
+    step Links s (unknown_if_absent field.Link (link_named s.links link)) Done (after_delete_link link s)
+    (there Links s (link_named s.links link) _ refl (λ n. refl))
+carry-changes (command.SetLeastRouterCost cost) s =
+    step Setting s None Done (record s { least_router_cost = cost }) refl
+carry-changes (command.CreateTerminator service router instance host cost precedence) s =
+    step Terminators s (refusal_of_create_terminator service router host s) (Made s.next_terminator) (after_create_terminator service router instance host cost precedence s)
+    (there Terminators s (entity_named s.services service) _ refl (λ n. there Terminators s (router_named s.routers router) _ refl (λ m. refl)))
+carry-changes (command.UpdateTerminator n cost precedence) s =
+    step Terminators s (no_such_terminator n s) Done (after_update_terminator n cost precedence s) refl
+carry-changes (command.DeleteTerminator n) s =
+    step Terminators s (no_such_terminator n s) Done (after_delete_terminator n s) refl
+carry-changes (command.CreateCircuit identity service ingress instance) s = create_circuit-changes (ask_of identity service ingress instance s) s
+carry-changes (command.DeleteCircuit n) s =
+    step Circuits s (no_such_circuit n s) Done (record s { circuits = without s.circuits n }) refl
+carry-changes (command.Explain identity service ingress instance) s = explain-changes (ask_of identity service ingress instance s) s
+carry-changes (command.VerifyRoute identity service ingress instance chosen links potentials routers terminator total) s = inl refl
+carry-changes (command.ShowGrants identity) s = inl (shown-leaves _ s _)
+carry-changes (command.ListServices identity) s = inl (shown-leaves _ s _)
+carry-changes command.ShowCounts s = inl refl
+carry-changes (command.ShowCircuit n) s = inl (shown-leaves _ s _)
+carry-changes command.Compact s = inl refl
+
+pub answer-changes : (who : Who) (c : Command) (s : State) → LeavesOrChanges (touched_by c) s (answer who c s)
+answer-changes who c s = cond-holds (LeavesOrChanges (touched_by c) s) (is_permitted who c) (carry c s) (Refused NotPermitted, s) (carry-changes c s) (inl refl)
