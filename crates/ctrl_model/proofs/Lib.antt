@@ -12,7 +12,7 @@ mod PolicyCommandLaws
 mod LinkCommandLaws
 mod TerminatorCommandLaws
 mod CircuitCommandLaws
-mod ValidCommands
-mod TouchedLaws
-mod RefusedStates
-mod NextNumbers
+pub mod ValidCommands
+pub mod TouchedLaws
+pub mod RefusedStates
+pub mod NextNumbers

@@ -47,6 +47,27 @@ pub at-without : {R : Type 0} (high : ℕ) (xs : List (ℕ × R)) (low n m : ℕ
 at-without high [] low n m b = grind (arith, nat_tests)
 at-without high (x ∷ xs) low n m b = grind (arith, nat_tests, at-without high xs (x.0 + 1) n m b.2, at-below high xs (x.0 + 1) m b.2)
 
+-- ---- a change at one number leaves the others
+
+pub at-with_last-other : {R : Type 0} (xs : List (ℕ × R)) (n m : ℕ) (r : R) → m ≢ n → at (with_last xs n r) m ≡ at xs m
+at-with_last-other [] n m r ne = cond-false (n == m) (Some r) None (ne_eqb n m (λ s. ne (sym s)))
+at-with_last-other (x ∷ xs) n m r ne = λ i. cond (x.0 == m) (Some x.1) (at-with_last-other xs n m r ne i)
+
+pub at-edit_at-other : {R : Type 0} (xs : List (ℕ × R)) (n m : ℕ) (f : R → R) → m ≢ n → at (edit_at xs n f) m ≡ at xs m
+at-edit_at-other xs n m f ne = at-edit_at xs n m f ∙ by (at xs m)
+  where
+    by : (o : Option _) → option_map (λ r. cond (m == n) (f r) r) o ≡ o
+    by None = refl
+    by (Some r) = ap Some (cond-false (m == n) (f r) r (ne_eqb m n ne))
+
+pub at-without-other : {R : Type 0} (xs : List (ℕ × R)) (n m : ℕ) → m ≢ n → at (without xs n) m ≡ at xs m
+at-without-other [] n m ne = refl
+at-without-other (x ∷ xs) n m ne = by (x.0 == n) refl (at-without-other xs n m ne)
+  where
+    by : (b : Bool) → (x.0 == n) ≡ b → at (without xs n) m ≡ at xs m → at (cond (not b) (x ∷ without xs n) (without xs n)) m ≡ cond (x.0 == m) (Some x.1) (at xs m)
+    by true is e = e ∙ sym (cond-false (x.0 == m) (Some x.1) (at xs m) (ne_eqb x.0 m (λ s. ne (sym s ∙ eqb-true x.0 n is))))
+    by false is e = λ i. cond (x.0 == m) (Some x.1) (e i)
+
 -- ---- from what stands after a change to what stood before it
 
 pub at-with_last-back : {R : Type 0} (xs : List (ℕ × R)) (n m : ℕ) (r t : R) → at xs n ≡ None → at (with_last xs n r) m ≡ Some t

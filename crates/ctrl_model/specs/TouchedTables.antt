@@ -1,7 +1,8 @@
 -- Which tables a command may change before what stands no longer is removed. All else it leaves alone.
-use Rattle.std.specs.Prelude.{◌≡◌}
+use Rattle.std.specs.Prelude.{◌≡◌, ◌≢◌, ℕ, List, ⊤}
 use Rattle.ctrl_model.specs.declared.commands.Command.{Command}
 use Rattle.ctrl_model.specs.declared.commands.Command.TheVariants as command
+use Rattle.ctrl_model.specs.Numbered.{at}
 use Rattle.ctrl_model.specs.State.{State}
 use Rattle.ctrl_model.specs.Settling.{settle}
 
@@ -94,8 +95,33 @@ put_back Terminators old new = record new { terminators = old.terminators; next_
 put_back Circuits old new = record new { circuits = old.circuits; next_circuit = old.next_circuit }
 put_back Nothing old new = new
 
--- The next state is an effect, settled; and with what may be changed put back, the effect is the old state.
+-- The same records stand at every number but one.
+abbrev pub StayBut : {R : Type 0} → ℕ → List (ℕ × R) → List (ℕ × R) → Type 0
+StayBut n old new = (m : ℕ) → m ≢ n → at new m ≡ at old m
+
+-- Of the kind that may be changed, the same records stand at every number but one.
+abbrev pub OthersStay : Touched → ℕ → State → State → Type 0
+OthersStay Identities n old new = StayBut n old.identities new.identities
+OthersStay Services n old new = StayBut n old.services new.services
+OthersStay Routers n old new = StayBut n old.routers new.routers
+OthersStay ServicePolicies n old new = StayBut n old.service_policies new.service_policies
+OthersStay EdgeRouterPolicies n old new = StayBut n old.edge_router_policies new.edge_router_policies
+OthersStay ServiceEdgeRouterPolicies n old new = StayBut n old.service_edge_router_policies new.service_edge_router_policies
+OthersStay Links n old new = StayBut n old.links new.links
+OthersStay Setting n old new = ⊤
+OthersStay Terminators n old new = StayBut n old.terminators new.terminators
+OthersStay Circuits n old new = StayBut n old.circuits new.circuits
+OthersStay Nothing n old new = ⊤
+
+-- An effect changes one record at most: with what may be changed put back it is the old state, and of that kind all other
+-- numbers stay.
+pub record ChangesOne (touched : Touched) (old effect : State) : Type 0 where
+  pub number : ℕ
+  pub all_else_stays : put_back touched old effect ≡ old
+  pub others_stay : OthersStay touched number old effect
+
+-- The next state is such an effect, settled.
 pub record ChangesOnly (touched : Touched) (old next : State) : Type 0 where
   pub effect : State
+  pub changes : ChangesOne touched old effect
   pub is_next : next ≡ settle effect
-  pub all_else_stays : put_back touched old effect ≡ old
