@@ -89,8 +89,8 @@ pub Among-from_is_member : (xs : List (List ℕ)) (x : List ℕ) → is_member b
 Among-from_is_member xs x e = by_list_any (bytes_eq x) xs e (λ y m s. subst (λ n. Among n xs) (sym (same_name x y s)) m)
 
 -- a list whose names all stand in another has no more different names
-pub distinct_count-le : (xs ys : List (List ℕ)) → Includes xs ys → distinct_count bytes_eq xs ≤ distinct_count bytes_eq ys
-distinct_count-le xs ys sub =
+pub distinct_count-Includes : (xs ys : List (List ℕ)) → Includes xs ys → distinct_count bytes_eq xs ≤ distinct_count bytes_eq ys
+distinct_count-Includes xs ys sub =
     length-le_from_is_member nat_list_eq_equiv (unique_keys bytes_eq xs) (unique_keys bytes_eq ys) (IsDistinct-unique_keys xs) (λ q e.
     is_member-unique_keys-from ys q (is_member-from_among ys q (sub q (Among-from_is_member xs q (is_member-unique_keys xs q e)))))
 

@@ -45,10 +45,11 @@ update_identity-valid name attributes s spelled v =
     carried_out-valid (refusal_of_update_identity name attributes s) s Done (after_update_identity name attributes s) v (λ none.
     let rules = or_then-none _ _ none in
     at_number-orderly (entity_named s.identities name) s _ o (λ n is few.
+    let finds = edit_at-finds (λ (e : Entity). e.name) s.identities n f (λ e. refl) in
     Orderly-identities s (edit_at s.identities n f) s.next_identity s.service_policies s.edge_router_policies o
     (Kept-edit_at o.identities n f (λ e. refl) (λ e t. and_from _ _ (and_parts (is_name e.name) (are_attributes e.attributes) t).0 (and_parts (is_name name) (are_attributes attributes) spelled).1))
-    (policies-more is_service_relation (entity_named s.identities) (entity_named s.services) o.service_policies _ (entity_named s.services) (edit_at-finds (λ (e : Entity). e.name) s.identities n f (λ e. refl)) (λ n e. e))
-    (policies-more (same_relation IdentityRouter) (entity_named s.identities) (router_named s.routers) o.edge_router_policies _ (router_named s.routers) (edit_at-finds (λ (e : Entity). e.name) s.identities n f (λ e. refl)) (λ n e. e))
+    (policies-more is_service_relation (entity_named s.identities) (entity_named s.services) o.service_policies _ (entity_named s.services) finds (λ n e. e))
+    (policies-more (same_relation IdentityRouter) (entity_named s.identities) (router_named s.routers) o.edge_router_policies _ (router_named s.routers) finds (λ n e. e))
     few) (refuse_if-none _ (Full kind.Attribute) rules.1))
 
 pub delete_identity-valid : (name : List ℕ) (s : State) → ValidState s → ValidState (delete_identity name s).1

@@ -23,6 +23,7 @@ mod PolicyCommandLaws
 mod LinkCommandLaws
 mod TerminatorCommandLaws
 mod CircuitCommandLaws
-mod ValidCommands
-mod RefusedStates
-mod NextNumbers
+pub mod ValidCommands
+pub mod TouchedLaws
+pub mod RefusedStates
+pub mod NextNumbers

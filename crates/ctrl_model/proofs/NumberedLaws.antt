@@ -1,7 +1,7 @@
 -- Laws on numbered maps: what stands at a number after each change, that the numbers stay in order, and what a search by a
 -- test finds. The laws named `..-back` tell from what stands after a change what stood before it.
-use Rattle.std.proofs.Common.{◌≡◌, ◌≢◌, ℕ, ◌+◌, ◌<◌, ◌≤◌, ◌==◌, Bool, true, false, cond, ◌⊎◌, inl, inr, List, [], ◌∷◌, map, length, is_some, Option, None, Some, refl, sym, ◌∙◌, ap, arith, eqb-true, eq-eqb, ne_eqb, length-append, suc}
-use Rattle.std.proofs.lemmas.Bool.{cases_eq, cond-true, cond-false, false≢true, both_ways}
+use Rattle.std.proofs.Common.{◌≡◌, ◌≢◌, ℕ, ◌+◌, ◌<◌, ◌≤◌, ◌==◌, Bool, true, false, cond, not, ◌⊎◌, inl, inr, List, [], ◌∷◌, map, length, is_some, Option, None, Some, refl, sym, ◌∙◌, ap, arith, eqb-true, eq-eqb, ne_eqb, length-append, suc}
+use Rattle.std.proofs.lemmas.Bool.{cases_eq, cond-true, cond-false, false≢true, not-true, both_ways}
 use Rattle.std.proofs.lemmas.Bool.Decides.{nat_tests}
 use Rattle.std.proofs.lemmas.Option.{same_Some, none-some}
 use Rattle.std.specs.Option.{option_map}
@@ -47,6 +47,27 @@ pub at-without : {R : Type 0} (high : ℕ) (xs : List (ℕ × R)) (low n m : ℕ
 at-without high [] low n m b = grind (arith, nat_tests)
 at-without high (x ∷ xs) low n m b = grind (arith, nat_tests, at-without high xs (x.0 + 1) n m b.2, at-below high xs (x.0 + 1) m b.2)
 
+-- ---- a change at one number leaves the others
+
+pub at-with_last-other : {R : Type 0} (xs : List (ℕ × R)) (n m : ℕ) (r : R) → m ≢ n → at (with_last xs n r) m ≡ at xs m
+at-with_last-other [] n m r ne = cond-false (n == m) (Some r) None (ne_eqb n m (λ s. ne (sym s)))
+at-with_last-other (x ∷ xs) n m r ne = λ i. cond (x.0 == m) (Some x.1) (at-with_last-other xs n m r ne i)
+
+pub at-edit_at-other : {R : Type 0} (xs : List (ℕ × R)) (n m : ℕ) (f : R → R) → m ≢ n → at (edit_at xs n f) m ≡ at xs m
+at-edit_at-other xs n m f ne = at-edit_at xs n m f ∙ by (at xs m)
+  where
+    by : (o : Option _) → option_map (λ r. cond (m == n) (f r) r) o ≡ o
+    by None = refl
+    by (Some r) = ap Some (cond-false (m == n) (f r) r (ne_eqb m n ne))
+
+pub at-without-other : {R : Type 0} (xs : List (ℕ × R)) (n m : ℕ) → m ≢ n → at (without xs n) m ≡ at xs m
+at-without-other [] n m ne = refl
+at-without-other (x ∷ xs) n m ne = by (x.0 == n) refl (at-without-other xs n m ne)
+  where
+    by : (b : Bool) → (x.0 == n) ≡ b → at (without xs n) m ≡ at xs m → at (cond (not b) (x ∷ without xs n) (without xs n)) m ≡ cond (x.0 == m) (Some x.1) (at xs m)
+    by true is e = e ∙ sym (cond-false (x.0 == m) (Some x.1) (at xs m) (ne_eqb x.0 m (λ s. ne (sym s ∙ eqb-true x.0 n is))))
+    by false is e = λ i. cond (x.0 == m) (Some x.1) (e i)
+
 -- ---- from what stands after a change to what stood before it
 
 pub at-with_last-back : {R : Type 0} (xs : List (ℕ × R)) (n m : ℕ) (r t : R) → at xs n ≡ None → at (with_last xs n r) m ≡ Some t
@@ -84,6 +105,19 @@ at-filter-back p high (x ∷ xs) low m r b e = by (p x) refl e (at-filter-back p
         let later = at-within high xs (x.0 + 1) m r b.2 (h k).0 in
         (cond-false (x.0 == m) (Some x.1) (at xs m) (ne_eqb x.0 m (λ s. absurd (omega arith))) ∙ (h k).0, (h k).1)
 
+pub at-edit_at-back : {R : Type 0} (xs : List (ℕ × R)) (n m : ℕ) (f : R → R) (t : R) → at (edit_at xs n f) m ≡ Some t
+    → (r : R) × (at xs m ≡ Some r) × (cond (m == n) (f r) r ≡ t)
+at-edit_at-back xs n m f t e = at-map-back (λ x. cond (x.0 == n) (f x.1) x.1) xs m t e
+
+pub at-map_each-back : {R : Type 0} (f : R → R) (xs : List (ℕ × R)) (m : ℕ) (t : R) → at (map_each f xs) m ≡ Some t → (r : R) × (at xs m ≡ Some r) × (f r ≡ t)
+at-map_each-back f xs m t e = at-map-back (λ x. f x.1) xs m t e
+
+pub at-without-back : {R : Type 0} (high : ℕ) (xs : List (ℕ × R)) (low n m : ℕ) (r : R) → Between low high xs → at (without xs n) m ≡ Some r
+    → (at xs m ≡ Some r) × (m ≢ n)
+at-without-back high xs low n m r b e =
+    let back = at-filter-back (λ x. not (x.0 == n)) high xs low m r b e in
+    (back.0, λ s. both_ways (m == n) (not-true (m == n) back.1) (eq-eqb m n s))
+
 -- ---- the numbers stay in order
 
 pub Between-more : {R : Type 0} (high : ℕ) (xs : List (ℕ × R)) (low least most : ℕ) → least ≤ low → high ≤ most → Between low high xs → Between least most xs
@@ -105,6 +139,15 @@ Between-filter p high (x ∷ xs) low b = kept (p x) (Between-filter p high xs (x
     kept : (c : Bool) → Between (x.0 + 1) high (filter p xs) → Between low high (cond c (x ∷ filter p xs) (filter p xs))
     kept true h = (b.0, b.1, h)
     kept false h = Between-more high (filter p xs) (x.0 + 1) low high (omega arith) (omega arith) h
+
+pub Between-edit_at : {R : Type 0} (high : ℕ) (xs : List (ℕ × R)) (low n : ℕ) (f : R → R) → Between low high xs → Between low high (edit_at xs n f)
+Between-edit_at high xs low n f b = Between-map (λ x. cond (x.0 == n) (f x.1) x.1) high xs low b
+
+pub Between-map_each : {R : Type 0} (f : R → R) (high : ℕ) (xs : List (ℕ × R)) (low : ℕ) → Between low high xs → Between low high (map_each f xs)
+Between-map_each f high xs low b = Between-map (λ x. f x.1) high xs low b
+
+pub Between-without : {R : Type 0} (high : ℕ) (xs : List (ℕ × R)) (low n : ℕ) → Between low high xs → Between low high (without xs n)
+Between-without high xs low n b = Between-filter (λ x. not (x.0 == n)) high xs low b
 
 -- ---- how many records there are
 

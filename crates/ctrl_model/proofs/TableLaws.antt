@@ -8,8 +8,8 @@ use Rattle.std.specs.Str.{bytes_eq}
 use Rattle.ctrl_model.specs.Numbered.{at, with_last, edit_at, map_each, first_where, Between}
 use Rattle.ctrl_model.specs.ValidState.{ValidNumbers, ValidTable, HaveUniqueNames, each_passes}
 use Rattle.ctrl_model.proofs.Members.{list_all-among, list_all-from_among, by_filter}
-use Rattle.ctrl_model.proofs.NumberedLaws.{at-past, at-map-back, at-with_last-back, at-filter-back, Between-with_last, Between-map, Between-filter, length-with_last, length-filter-le, first_where-none, first_where-found, Found}
-use Rattle.ctrl_model.proofs.DistinctLaws.{same_bytes}
+use Rattle.ctrl_model.proofs.NumberedLaws.{at-past, at-map-back, at-with_last-back, at-filter-back, Between-with_last, Between-map, Between-filter, length-with_last, length-filter-le, first_where-none, first_where-found, is_found-from, by_is_some, Found}
+use Rattle.ctrl_model.proofs.DistinctLaws.{same_name, same_bytes}
 
 -- ---- numbers
 
@@ -113,6 +113,24 @@ each_passes-at test (x ∷ rows) n r e k = by (x.0 == n) (and_parts (test x.1) (
         → (each_passes test rows ≡ true → at rows n ≡ Some r → test r ≡ true) → test r ≡ true
     by true both k h = let same : x.1 ≡ r = cc in ap test (sym same) ∙ both.0
     by false both k h = h both.1 k
+
+-- ---- names and numbers
+
+-- the name of a record finds its number
+pub named-finds : {R : Type 0} (name_of : R → List ℕ) (rows : List (ℕ × R)) (n : ℕ) (r : R) → HaveUniqueNames name_of rows → at rows n ≡ Some r
+    → (high low : ℕ) → Between low high rows → first_where (λ t. bytes_eq (name_of t) (name_of r)) rows ≡ Some n
+named-finds name_of rows n r unique stands high low b =
+    by_is_some (first_where (λ t. bytes_eq (name_of t) (name_of r)) rows)
+    (is_found-from (λ t. bytes_eq (name_of t) (name_of r)) rows n r stands (same_bytes (name_of r) (name_of r) refl)) (λ m is.
+    let f = first_where-found (λ t. bytes_eq (name_of t) (name_of r)) high rows low m b is in
+    is ∙ ap Some (unique m n f.record_found r f.stands stands (same_name (name_of f.record_found) (name_of r) f.passes)))
+
+-- the number that a name finds is that of a record of the name
+pub found-named : {R : Type 0} (name_of : R → List ℕ) (rows : List (ℕ × R)) (n : ℕ) (name : List ℕ) (high low : ℕ) → Between low high rows
+    → first_where (λ t. bytes_eq (name_of t) name) rows ≡ Some n → (r : R) × (at rows n ≡ Some r) × (name_of r ≡ name)
+found-named name_of rows n name high low b is =
+    let f = first_where-found (λ t. bytes_eq (name_of t) name) high rows low n b is in
+    (f.record_found, f.stands, same_name (name_of f.record_found) name f.passes)
 
 -- ---- a table with names, each of whose records passes a test
 

@@ -13,7 +13,7 @@ use Rattle.ctrl_model.specs.Grants.{same_relation}
 use Rattle.ctrl_model.specs.Settling.{settle, link_stays, terminator_stays, circuit_stays, settle_links, settle_terminators}
 use Rattle.ctrl_model.specs.Rules.{carried_out, at_number, attributes_full, attributes_in_use, side_attributes}
 use Rattle.ctrl_model.specs.ValidState.{ValidState, ValidNumbers, is_valid_entity, is_valid_router, is_valid_link, is_valid_terminator, each_passes}
-use Rattle.ctrl_model.proofs.DistinctLaws.{Includes, Includes-append, distinct_count-le}
+use Rattle.ctrl_model.proofs.DistinctLaws.{Includes, Includes-append, distinct_count-Includes}
 use Rattle.ctrl_model.proofs.TableLaws.{Kept, Kept-filter, ValidNumbers-filter, each_passes-filter}
 use Rattle.ctrl_model.proofs.NamedLaws.{is_fitting}
 use Rattle.ctrl_model.proofs.SettleLaws.{settle-settle}
@@ -282,6 +282,6 @@ pub attributes_fewer : (s t : State) → Includes (entity_attributes t.identitie
 attributes_fewer s t a b c d e f few =
     let all : Includes (attributes_in_use t) (attributes_in_use s) =
     Includes-append _ _ _ _ a (Includes-append _ _ _ _ b (Includes-append _ _ _ _ c (Includes-append _ _ _ _ d (Includes-append _ _ _ _ e f)))) in
-    let le = distinct_count-le (attributes_in_use t) (attributes_in_use s) all in
+    let le = distinct_count-Includes (attributes_in_use t) (attributes_in_use s) all in
     let most = ltb-false 1024 (distinct_count bytes_eq (attributes_in_use s)) few in
     false_from_ne_true (attributes_full t) (λ more. let lt = ltb-true 1024 (distinct_count bytes_eq (attributes_in_use t)) more in absurd (omega arith))

@@ -22,5 +22,6 @@ pub mod TerminatorCommands
 pub mod CircuitCommands
 pub mod ShowCommands
 pub mod Controller
+pub mod TouchedTables
 pub mod ValidState
 pub mod WorkedStates

@@ -24,7 +24,9 @@ pub use refusals::{Denial, Field, Reason, Refusal};
 pub use replies::{Reply, Tallies, Tally};
 pub use route_laws::{claimed_route, each_path, no_better, plain_path, the_best, the_rule};
 pub use state_laws::{
-    absent_pairs_count_nothing, numbers_never_fall, refused_leaves_the_state, settled_once,
+    absent_pairs_count_nothing, names_find_their_records, next_numbers_have_an_end,
+    numbers_never_fall, one_record_a_name, refused_leaves_the_state, settled_once,
+    settling_only_removes, untouched_tables,
 };
 pub use texts::{Bytes, Instance, Name, NameFault, Names};
 pub use validity::valid_stays_valid;
