@@ -3,6 +3,7 @@ use crate::memory_forms::{MemoryDesk, MemorySource, NEVER};
 use crate::status::Status;
 use crate::top::{run, run_within};
 use std::alloc::{AllocError, Global};
+use std::process::Abort;
 use std::test::Fail;
 
 /// A frame that creates ann: content type 1000, sequence 7, no headers.
@@ -42,34 +43,61 @@ const LONG: &[u8] = b"\x03\x06\x09\x0c\xe8\x03\0\0\x07\0\0\0\0\0\0\0\x01\0\x10\0
 const HEADERS: &[u8] =
     b"\x03\x06\x09\x0c\xe8\x03\0\0\x07\0\0\0\x09\0\0\0\0\0\0\0\x05\0\0\0\x02\0\0\0a";
 
+/// No bytes.
+const NONE: &[u8] = b"";
+
 /// A run: the input as its parts, how it is given and where the outside fails, and what must come of it.
 #[derive(Clone, Copy)]
 struct Row {
     what: &'static str,
     input: [&'static [u8]; 2],
+    said: [&'static [u8]; 2],
+    status: Status,
     piece: usize,
     most: u64,
     failing_take: u64,
     failing_say: u64,
-    said: [&'static [u8]; 2],
-    status: Status,
 }
 
-const fn make_row(
-    what: &'static str,
-    input: [&'static [u8]; 2],
-    said: [&'static [u8]; 2],
-    status: Status,
-) -> Row {
-    Row {
-        what,
-        input,
-        piece: 4_096,
-        most: 1_000,
-        failing_take: NEVER,
-        failing_say: NEVER,
-        said,
-        status,
+impl Row {
+    fn of(
+        what: &'static str,
+        input: [&'static [u8]; 2],
+        said: [&'static [u8]; 2],
+        status: Status,
+    ) -> Row {
+        Row {
+            what,
+            input,
+            said,
+            status,
+            piece: 4_096,
+            most: 1_000,
+            failing_take: NEVER,
+            failing_say: NEVER,
+        }
+    }
+
+    fn in_pieces(self, piece: usize) -> Row {
+        Row { piece, ..self }
+    }
+
+    fn of_which_used(self, most: u64) -> Row {
+        Row { most, ..self }
+    }
+
+    fn failing_take(self, failing_take: u64) -> Row {
+        Row {
+            failing_take,
+            ..self
+        }
+    }
+
+    fn failing_say(self, failing_say: u64) -> Row {
+        Row {
+            failing_say,
+            ..self
+        }
     }
 }
 
@@ -99,104 +127,65 @@ fn outcome(alloc: Global, row: &Row) -> Result<(MemoryDesk, Status), AllocError>
     Ok((desk, status))
 }
 
-fn rows() -> [Row; 17] {
+fn whole_inputs() -> [Row; 6] {
+    let done = Status::Done;
     [
-        make_row("nothing at all", [b"", b""], [b"", b""], Status::Done),
-        make_row("ann", [ANN, b""], [MADE, b""], Status::Done),
-        Row {
-            piece: 1,
-            ..make_row("ann in 34 pieces", [ANN, b""], [MADE, b""], Status::Done)
-        },
-        make_row(
-            "ann twice in one piece",
-            [ANN, ANN],
-            [MADE, EXISTS],
-            Status::Done,
-        ),
-        make_row(
-            "a frame of another type",
+        Row::of("nothing at all", [NONE, NONE], [NONE, NONE], done),
+        Row::of("ann", [ANN, NONE], [MADE, NONE], done),
+        Row::of("ann in 34 pieces", [ANN, NONE], [MADE, NONE], done).in_pieces(1),
+        Row::of("ann twice", [ANN, ANN], [MADE, EXISTS], done),
+        Row::of(
+            "another type",
             [RESULT, ANN],
             [UNSUPPORTED, MADE_SECOND],
-            Status::Done,
+            done,
         ),
-        make_row(
-            "a bad body",
-            [NAMELESS, ANN],
-            [BAD_BODY, MADE_SECOND],
-            Status::Done,
-        ),
-        make_row("a cut frame", [ANN, CUT], [MADE, b""], Status::BadInput),
-        make_row(
-            "a wrong marker",
-            [ANN, UNMARKED],
-            [MADE, b""],
-            Status::BadInput,
-        ),
-        make_row(
-            "a body too long",
-            [ANN, LONG],
-            [MADE, b""],
-            Status::BadInput,
-        ),
-        make_row("bad headers", [ANN, HEADERS], [MADE, b""], Status::BadInput),
-        Row {
-            most: 34,
-            ..make_row("exactly the bound", [ANN, b""], [MADE, b""], Status::Done)
-        },
-        Row {
-            most: 34,
-            ..make_row(
-                "one byte more",
-                [ANN, b"\x03"],
-                [MADE, b""],
-                Status::InputTooLong,
-            )
-        },
-        Row {
-            most: 34,
-            piece: 34,
-            ..make_row(
-                "two frames, one used",
-                [ANN, ANN],
-                [MADE, b""],
-                Status::InputTooLong,
-            )
-        },
-        Row {
-            failing_take: 1,
-            ..make_row("a failing take", [ANN, b""], [MADE, b""], Status::ReadFault)
-        },
-        Row {
-            failing_take: 0,
-            ..make_row("no take at all", [ANN, b""], [b"", b""], Status::ReadFault)
-        },
-        Row {
-            failing_say: 0,
-            ..make_row("a failing say", [ANN, ANN], [b"", b""], Status::WriteFault)
-        },
-        Row {
-            failing_say: 1,
-            ..make_row(
-                "the second say fails",
-                [ANN, ANN],
-                [MADE, b""],
-                Status::WriteFault,
-            )
-        },
+        Row::of("a bad body", [NAMELESS, ANN], [BAD_BODY, MADE_SECOND], done),
     ]
 }
 
-#[test]
-fn answers_with_ample_memory(rt: HostRuntime) -> Result<(), Fail> {
-    for row in &rows() {
-        let (desk, status) = outcome(rt.alloc(), row)?;
-        let said = joined(rt.alloc(), row.said)?;
+fn tails_and_bounds() -> [Row; 7] {
+    let bad = Status::BadInput;
+    let long = Status::InputTooLong;
+    [
+        Row::of("a cut frame", [ANN, CUT], [MADE, NONE], bad),
+        Row::of("a wrong marker", [ANN, UNMARKED], [MADE, NONE], bad),
+        Row::of("a body too long", [ANN, LONG], [MADE, NONE], bad),
+        Row::of("bad headers", [ANN, HEADERS], [MADE, NONE], bad),
+        Row::of("the bound", [ANN, NONE], [MADE, NONE], Status::Done).of_which_used(34),
+        Row::of("one byte more", [ANN, b"\x03"], [MADE, NONE], long).of_which_used(34),
+        Row::of("one frame used", [ANN, ANN], [MADE, NONE], long).of_which_used(34),
+    ]
+}
+
+fn failing_calls() -> [Row; 4] {
+    let read = Status::ReadFault;
+    let write = Status::WriteFault;
+    [
+        Row::of("the second take", [ANN, NONE], [MADE, NONE], read).failing_take(1),
+        Row::of("the first take", [ANN, NONE], [NONE, NONE], read).failing_take(0),
+        Row::of("the first say", [ANN, ANN], [NONE, NONE], write).failing_say(0),
+        Row::of("the second say", [ANN, ANN], [MADE, NONE], write).failing_say(1),
+    ]
+}
+
+fn check_rows(rt: &impl Abort, alloc: Global, rows: &[Row]) -> Result<(), Fail> {
+    for row in rows {
+        let (desk, status) = outcome(alloc, row)?;
+        let said = joined(alloc, row.said)?;
         let what = row.what;
         assert_eq!(rt; desk.said(), said.as_slice(), "{what}");
         assert_eq!(rt; status, row.status, "{what}");
         assert!(rt; desk.noted().is_empty(), "{what}");
     }
     Ok(())
+}
+
+#[test]
+fn answers_with_ample_memory(rt: HostRuntime) -> Result<(), Fail> {
+    check_rows(&rt, rt.alloc(), &whole_inputs())?;
+    check_rows(&rt, rt.alloc(), &tails_and_bounds())?;
+    check_rows(&rt, rt.alloc(), &failing_calls())
 }
 
 #[test]
