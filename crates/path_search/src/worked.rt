@@ -3,7 +3,7 @@ ghost use Rattle.std.specs.Ordering.{nat_cmp, is_lt};
 ghost use Rattle.std.specs.Cmp.Lexicographic.{slice_cmp};
 ghost use Rattle.path_certificate.specs.Graphs.{absent, IsPath, cost_of};
 ghost use Rattle.path_certificate.specs.WorkedGraphs.{row, blocked_row, square};
-ghost use Rattle.path_search.specs.Searches.{IsLeast, greatest_cost};
+ghost use Rattle.path_search.specs.Searches.{IsLeast, IsFirst, greatest_cost};
 
 /// The least costs along a row of three places, and where the middle may not be passed through.
 pub fn least_costs_of_a_row()
@@ -25,4 +25,5 @@ pub fn lesser_links_first()
     ensures equal_costs { cost_of square 3 0 (1 ∷ 4 ∷ []) ≡ cost_of square 3 0 (2 ∷ 3 ∷ []) }
     ensures first { is_lt (slice_cmp nat_cmp (1 ∷ 4 ∷ []) (2 ∷ 3 ∷ [])) ≡ true }
     ensures second { is_lt (slice_cmp nat_cmp (2 ∷ 3 ∷ []) (1 ∷ 4 ∷ [])) ≡ false }
+    ensures walk { IsFirst square 3 (42 ∷ 21 ∷ 21 ∷ 0 ∷ []) 0 (1 ∷ 4 ∷ []) }
 {}
