@@ -1,11 +1,10 @@
 -- Chains of tight hops: they are paths, and cost what the potential of their first place says.
-use Rattle.std.proofs.Common.{◌≡◌, ℕ, ◌+◌, ◌<◌, ◌≤◌, ◌==◌, ◌&&◌, true, false, List, [], ◌∷◌, Some, sym, ◌∙◌, ap, arith, eqb, ltb, eqb-true, eq-eqb, ltb-true, ⊎_elim}
+use Rattle.std.proofs.Common.{◌≡◌, ℕ, ◌+◌, ◌<◌, ◌≤◌, ◌==◌, ◌&&◌, true, false, List, [], ◌∷◌, Some, sym, ◌∙◌, ap, arith, ltb, eqb-true, eq-eqb, ltb-true, ⊎_elim}
 use Rattle.std.proofs.lemmas.Bool.{and_parts, and_from, or_cases, false_from_ne_true, lt-ltb}
-use Rattle.std.proofs.lemmas.Bool.Decides.{nat_tests}
 use Rattle.std.specs.Option.{option_map_or}
 use Rattle.ctrl_model.specs.Walks.{Hops, is_among, goes, cost_along}
 use Rattle.ctrl_model.proofs.WalkLaws.{by_there, goes_more, cost_along-more}
-use Rattle.path_certificate.specs.Graphs.{absent, potential, reach, is_tight_hop, tight}
+use Rattle.path_certificate.specs.Graphs.{absent, potential, is_tight_hop, tight}
 
 -- what a tight hop says in numbers
 pub record IsTight (p : List ℕ) (v : ℕ) (h : ℕ × ℕ) : Type 0 where
@@ -21,10 +20,6 @@ pub is_tight_hop-from : (p : List ℕ) (v : ℕ) (h : ℕ × ℕ) → IsTight p 
 is_tight_hop-from p v h e =
     and_from (potential p v == (h.1 + potential p h.0)) (ltb (potential p v) absent)
     (eq-eqb (potential p v) (h.1 + potential p h.0) e.falls) (lt-ltb (potential p v) absent e.there)
-
--- a saturated sum tells the same
-pub tight_is : (a c b : ℕ) → (eqb a (reach c b) && ltb a absent) ≡ (eqb a (c + b) && ltb a absent)
-tight_is a c b = grind (arith, nat_tests)
 
 -- a chain of one link and more begins with a tight hop, and goes on from there
 pub by_tight : {P : Type 0} (hop : Hops) (p : List ℕ) (t v l : ℕ) (ls : List ℕ) → tight hop p t v (l ∷ ls) ≡ true

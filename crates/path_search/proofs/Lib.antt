@@ -2,3 +2,4 @@ pub mod Relaxations
 pub mod LeastCosts
 pub mod SettledCosts
 pub mod FirstChains
+pub mod WorkedCosts

@@ -9,4 +9,4 @@ mod worked;
 
 pub use relaxing::least;
 pub use walking::walk;
-pub use worked::{bound_of_three, lesser_links_first};
+pub use worked::{bound_of_three, least_costs_of_a_row, lesser_links_first};
