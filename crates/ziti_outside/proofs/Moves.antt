@@ -1,8 +1,8 @@
 -- How what several calls did to told bytes joins up. A crate above joins the calls of its loops by these.
-use Rattle.std.proofs.Common.{◌≡◌, ℕ, List, [], ◌∷◌, ◌++◌, None, Some, refl, sym, ap, ◌∙◌, append_assoc, append-nil}
+use Rattle.std.proofs.Common.{◌≡◌, ℕ, List, [], ◌++◌, None, Some, refl, sym, ap, ◌∙◌, append_assoc, append-nil}
 use Rattle.std.specs.declared.option.Option.{Option}
 use Rattle.std.specs.Io.KnownBytes.{prepend_known, append_known}
-use Rattle.ziti_outside.specs.Told.{Gave, Took, IsFront, TookFront}
+use Rattle.ziti_outside.specs.Told.{Gave, Took, IsFront}
 
 -- Nothing was given where the same is left.
 pub Gave-none : (a : Option (List ℕ)) → Gave a a []

@@ -13,5 +13,4 @@ pub fn worked_examples()
     ensures rose { Rose 4 5 }
     ensures stands_at_its_end { Rose 18446744073709551615 18446744073709551615 }
     ensures did_not_rise { Rose 4 4 → ⊥ }
-{
-}
+{}
