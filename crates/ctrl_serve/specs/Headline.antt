@@ -37,6 +37,16 @@ pub record NotesUsage (noted_before noted_now : Option (List ℕ)) (faults_befor
   pub part : TookFront noted_before noted_now usage_note
   pub whole : (Rose faults_before faults_now → ⊥) → Took noted_before noted_now usage_note
 
--- A run without faults is complete: it was not cut short, or memory was wanting.
-abbrev pub IsComplete : Status → Type 0
-IsComplete status = (is_cut status ≡ false) ⊎ (status ≡ NoMemory)
+-- A complete run: it ended as the used bytes decide, all replies to their whole frames were said, and nothing is left or more
+-- than `most` bytes were given.
+pub record Completes (most : ℕ) (left_before left_now said_before said_now : Option (List ℕ)) (status : Status) : Type 0 where
+  pub taken : List ℕ
+  pub gave : Gave left_before left_now taken
+  pub ends : status ≡ ending (take most taken) (nat_lt most (length taken))
+  pub said : Took said_before said_now (replies (take most taken))
+  pub read_on : IsAtEnd left_now ⊎ (most < length taken)
+
+-- A run without faults is complete, unless memory was wanting.
+abbrev pub IsComplete : ℕ → Option (List ℕ) → Option (List ℕ) → Option (List ℕ) → Option (List ℕ) → Status → Type 0
+IsComplete most left_before left_now said_before said_now status =
+    (status ≡ NoMemory) ⊎ Completes most left_before left_now said_before said_now status

@@ -109,7 +109,7 @@ pub fn run_within<S: Source, D: Desk>(
         → (D.noted desk.new ≡ D.noted desk.old) × (D.note_faults desk.new ≡ D.note_faults desk.old) }
     ensures complete { form_of (texts words.now.items) ≡ Some Dry
         → (Rose (S.faults source.old) (S.faults source.new) → ⊥) → (Rose (D.say_faults desk.old) (D.say_faults desk.new) → ⊥)
-        → IsComplete result }
+        → IsComplete bounds.input (S.left source.old) (S.left source.new) (D.said desk.old) (D.said desk.new) result }
     ensures read_to_the_end { result ≡ Status.Done → IsAtEnd (S.left source.new) }
 {
     if is_in_table(words.as_slice()) {
@@ -150,7 +150,7 @@ pub fn run<S: Source, D: Desk>(
         → (D.noted desk.new ≡ D.noted desk.old) × (D.note_faults desk.new ≡ D.note_faults desk.old) }
     ensures complete { form_of (texts words.now.items) ≡ Some Dry
         → (Rose (S.faults source.old) (S.faults source.new) → ⊥) → (Rose (D.say_faults desk.old) (D.say_faults desk.new) → ⊥)
-        → IsComplete result }
+        → IsComplete 4294967296 (S.left source.old) (S.left source.new) (D.said desk.old) (D.said desk.new) result }
     ensures read_to_the_end { result ≡ Status.Done → IsAtEnd (S.left source.new) }
 {
     run_within(alloc, words, Bounds::PROGRAM, source, desk)
