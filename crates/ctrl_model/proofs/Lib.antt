@@ -11,6 +11,7 @@ pub mod RuleLaws
 pub mod NumberLaws
 pub mod CostLaws
 pub mod ClaimLaws
+pub mod LeastCostLaws
 pub mod NumberedLaws
 pub mod DistinctLaws
 pub mod TableLaws
