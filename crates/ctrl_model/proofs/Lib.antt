@@ -12,6 +12,7 @@ pub mod NumberLaws
 pub mod CostLaws
 pub mod ClaimLaws
 pub mod LeastCostLaws
+pub mod ExplanationLaws
 pub mod NumberedLaws
 pub mod DistinctLaws
 pub mod TableLaws
