@@ -16,11 +16,11 @@ use Rattle.ctrl_model.specs.State.{State, Terminator}
 use Rattle.ctrl_model.specs.Networks.{Network, network_of, is_on, may_host, hops, is_path, path_cost, admissible}
 use Rattle.ctrl_model.specs.Choices.{Ask, Candidate, IsIngress, IsAdmissible, IsCandidate, IsBest, IsGranted, place_of, terminator_cost, ingresses, candidate, precedes, best, first_rule}
 use Rattle.ctrl_model.specs.PlainPaths.{NoneTwice}
-use Rattle.ctrl_model.specs.Claims.{no_path, least_cost, router_numbers, reach_of, carries, explained_routers, explanation_of, value_at, reach_over, does_not_improve, is_settled, is_tight, entry_for, claimed, is_no_better, is_entitled, is_complete, is_route, justified}
+use Rattle.ctrl_model.specs.Claims.{no_path, least_cost, router_numbers, reach_of, carries, explained_routers, explanation_of, value_at, does_not_improve, is_settled, is_tight, entry_for, claimed, is_no_better, is_entitled, is_complete, is_route, justified}
 use Rattle.ctrl_model.specs.ClaimedRoutes.{has_small_costs}
 use Rattle.ctrl_model.specs.ValidState.{ValidState}
 use Rattle.ctrl_model.proofs.Members.{by_map, by_filter, list_all-from_among, list_any-from_among, by_list_any}
-use Rattle.ctrl_model.proofs.PathLaws.{is_on-among, hops_stay}
+use Rattle.ctrl_model.proofs.PathLaws.{is_on-among}
 use Rattle.ctrl_model.proofs.BestLaws.{not_precedes-precedence, not_precedes-total}
 use Rattle.ctrl_model.proofs.CandidateLaws.{by_ingresses, Among-ingresses, by_admissible, Among-admissible, best-is}
 use Rattle.ctrl_model.proofs.RuleLaws.{first_rule-none}

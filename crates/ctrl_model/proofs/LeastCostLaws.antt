@@ -1,6 +1,6 @@
 -- Laws on least costs: the least of some numbers, that a network's least costs are the least that walks cost, that least costs
 -- allow no hop that improves one, and that a least walk is a chain of tight hops.
-use Rattle.std.proofs.Common.{◌≡◌, ℕ, ◌+◌, ◌<◌, ◌≤◌, min, ◌==◌, ◌||◌, ◌&&◌, nat_lt, Bool, true, false, ◌⊎◌, inl, inr, ⊎_elim, List, [], ◌∷◌, map, length, Some, refl, sym, ◌∙◌, ap, subst, arith, eqb-true, eq-eqb, ne_eqb, lt-ltb, le_refl, le_of_eq, cond}
+use Rattle.std.proofs.Common.{◌≡◌, ℕ, ◌+◌, ◌<◌, ◌≤◌, min, ◌==◌, ◌||◌, ◌&&◌, nat_lt, Bool, true, false, ◌⊎◌, inl, inr, List, [], ◌∷◌, map, length, Some, refl, ◌∙◌, ap, subst, arith, eqb-true, eq-eqb, ne_eqb, lt-ltb, le_refl, le_of_eq, cond}
 use Rattle.std.proofs.lemmas.Bool.{and_parts, and_from, cases_eq, cases_order, false≢true, or_from}
 use Rattle.std.specs.Option.{option_map_or}
 use Rattle.ctrl_model.specs.Membership.{Among}

@@ -2,6 +2,7 @@ pub mod Tests
 pub mod Orders
 pub mod Members
 pub mod WalkLaws
+pub mod MirrorLaws
 pub mod PathLaws
 pub mod PlainPathLaws
 pub mod BestLaws

@@ -23,7 +23,8 @@ pub use numbering::{
 pub use refusals::{Denial, Field, Reason, Refusal};
 pub use replies::{Reply, Tallies, Tally};
 pub use route_laws::{
-    claimed_route, each_path, explanations_are_justified, no_better, plain_path, the_best, the_rule,
+    claimed_route, each_path, explanations_are_justified, mirrored_walks, no_better, plain_path,
+    the_best, the_rule,
 };
 pub use state_laws::{
     absent_pairs_count_nothing, names_find_their_records, next_numbers_have_an_end,
