@@ -1,11 +1,30 @@
 -- Laws on the order of candidates, and on the first of some.
-use Rattle.std.proofs.Common.{◌≡◌, ℕ, Bool, true, false, cond, ◌⊎◌, ◌↔◌, inl, inr, List, [], ◌∷◌, Option, Some, None, refl, ap, subst, is_lt}
+use Rattle.std.proofs.Common.{◌≡◌, ℕ, ◌<◌, ◌≤◌, Bool, true, false, cond, ◌⊎◌, ◌↔◌, inl, inr, List, [], ◌∷◌, Option, Some, None, refl, sym, ◌∙◌, ap, subst, arith, Less, Equal, is_lt, nat_cmp}
+use Rattle.std.proofs.lemmas.Bool.{cases_order, false≢true}
 use Rattle.std.proofs.lemmas.Option.{same_Some}
 use Rattle.std.proofs.lemmas.Cmp.{tied_itself, nat_list_cmp_total}
 use Rattle.std.proofs.lemmas.Map.Lookups.{exact_bytes}
+use Rattle.std.specs.Cmp.{nat_cmp_is}
+use Rattle.std.specs.Cmp.Lexicographic.{slice_cmp}
+use Rattle.std.specs.Ordering.{ordering_then}
 use Rattle.ctrl_model.specs.Membership.{Among}
 use Rattle.ctrl_model.specs.Choices.{Candidate, rank, precedes, better, least_of}
 use Rattle.ctrl_model.proofs.Orders.{not_below, below_one_way, level}
+
+-- ---- the order of lists of numbers
+
+-- a list that is not below another does not begin with less
+pub head_le : (a b : ℕ) (xs ys : List ℕ) → is_lt (slice_cmp nat_cmp (a ∷ xs) (b ∷ ys)) ≡ false → b ≤ a
+head_le a b xs ys e = apart (cases_order a b)
+  where
+    apart : (a ≡ b) ⊎ ((a < b) ⊎ (b < a)) → b ≤ a
+    apart (inl s) = omega arith
+    apart (inr (inl h)) = absurd (false≢true (sym e ∙ ap (λ o. is_lt (ordering_then o (slice_cmp nat_cmp xs ys))) (sym (nat_cmp_is a b Less h))))
+    apart (inr (inr h)) = omega arith
+
+-- and where both begin alike, what follows is not below either
+pub tail_not_below : (a b : ℕ) (xs ys : List ℕ) → a ≡ b → is_lt (slice_cmp nat_cmp (a ∷ xs) (b ∷ ys)) ≡ false → is_lt (slice_cmp nat_cmp xs ys) ≡ false
+tail_not_below a b xs ys s e = ap (λ o. is_lt (ordering_then o (slice_cmp nat_cmp xs ys))) (nat_cmp_is a b Equal s) ∙ e
 
 -- ---- the order of candidates
 
@@ -17,6 +36,16 @@ not_precedes a b c = not_below nat_list_cmp_total (rank a) (rank b) (rank c)
 
 pub precedes_one_way : (a b : Candidate) → precedes a b ≡ true → precedes b a ≡ false
 precedes_one_way a b = below_one_way nat_list_cmp_total (rank a) (rank b)
+
+-- one that does not precede another has no earlier precedence
+pub not_precedes-precedence : (d c : Candidate) → precedes d c ≡ false → c.precedence ≤ d.precedence
+not_precedes-precedence d c = head_le d.precedence c.precedence (d.total ∷ d.terminator ∷ d.ingress ∷ d.links) (c.total ∷ c.terminator ∷ c.ingress ∷ c.links)
+
+-- and with the same precedence no lower total
+pub not_precedes-total : (d c : Candidate) → d.precedence ≡ c.precedence → precedes d c ≡ false → c.total ≤ d.total
+not_precedes-total d c same e =
+    head_le d.total c.total (d.terminator ∷ d.ingress ∷ d.links) (c.terminator ∷ c.ingress ∷ c.links)
+    (tail_not_below d.precedence c.precedence (d.total ∷ d.terminator ∷ d.ingress ∷ d.links) (c.total ∷ c.terminator ∷ c.ingress ∷ c.links) same e)
 
 -- the candidate of a rank
 abbrev from_rank : List ℕ → Candidate → Candidate

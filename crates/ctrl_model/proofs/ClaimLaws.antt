@@ -20,7 +20,7 @@ use Rattle.ctrl_model.specs.PlainPaths.{NoneTwice}
 use Rattle.ctrl_model.specs.Claims.{no_path, router_numbers, carries, explained_routers, value_at, reach_over, does_not_improve, is_settled, is_tight, entry_for, claimed, is_no_better, is_entitled, is_complete, is_route, justified_for, justified}
 use Rattle.ctrl_model.specs.ClaimedRoutes.{has_small_costs, NoneIsBetter, claimed_candidate}
 use Rattle.ctrl_model.specs.ValidState.{ValidState}
-use Rattle.ctrl_model.proofs.Tests.{three_parts, five_parts}
+use Rattle.ctrl_model.proofs.Tests.{three_parts, five_parts, five_from}
 use Rattle.ctrl_model.proofs.CostLaws.{path_cost-lt, hops_cost, valid-least, valid-small_costs}
 use Rattle.ctrl_model.proofs.NumberLaws.{at-unique, Between-none_twice}
 use Rattle.ctrl_model.proofs.Members.{Among-filter, list_all-among, list_any-from_among, by_list_any}
@@ -71,6 +71,16 @@ justified-parts w ask claim h =
       routed = p.3;
       unbeaten = p.4;
     }
+
+pub justified-from : (w : Network) (ask : Ask) (claim : Explanation) → IsJustified w ask claim → justified w ask claim ≡ true
+justified-from w ask claim j =
+    ap (λ o. option_map_or (λ i. option_map_or (λ s. option_map_or (λ e. justified_for w ask claim i s (claim.terminator.0, e)) (at w.terminators claim.terminator.0) false) ask.service false) o false) j.who
+    ∙ (ap (λ o. option_map_or (λ s. option_map_or (λ e. justified_for w ask claim j.identity s (claim.terminator.0, e)) (at w.terminators claim.terminator.0) false) o false) j.what
+    ∙ (ap (λ o. option_map_or (λ e. justified_for w ask claim j.identity j.service (claim.terminator.0, e)) o false) j.present
+    ∙ five_from (is_entitled w ask claim j.identity j.service) (is_complete w ask claim j.service (place_of j.named.precedence)) (list_all (is_settled w) claim.potentials)
+    (is_route w claim (claim.terminator.0, j.named))
+    (list_all (λ (r : RouterSeen). list_all (is_no_better w claim (place_of j.named.precedence) r.no.0) (admissible w j.service ask.instance)) (ingresses w ask.ingress j.identity j.service))
+    j.entitled j.complete j.settled j.routed j.unbeaten))
 
 -- ---- values that no hop improves
 

@@ -2,6 +2,7 @@ pub mod Tests
 pub mod Orders
 pub mod Members
 pub mod WalkLaws
+pub mod MirrorLaws
 pub mod PathLaws
 pub mod PlainPathLaws
 pub mod BestLaws
@@ -11,6 +12,8 @@ pub mod RuleLaws
 pub mod NumberLaws
 pub mod CostLaws
 pub mod ClaimLaws
+pub mod LeastCostLaws
+pub mod ExplanationLaws
 pub mod NumberedLaws
 pub mod DistinctLaws
 pub mod TableLaws

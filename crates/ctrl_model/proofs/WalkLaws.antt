@@ -69,6 +69,14 @@ goes_less hop t (l ∷ ls) v seen less sub g = by_goes hop t seen v l ls g (λ h
     or_more true b c k e = refl
     or_more false b c k e = k e
 
+-- so a walk keeps off only the place where it begins
+pub goes_alone : (hop : Hops) (t : ℕ) (ls : List ℕ) (v : ℕ) (seen : List ℕ) → goes hop t (v ∷ seen) v ls ≡ true → goes hop t (v ∷ []) v ls ≡ true
+goes_alone hop t ls v seen g = goes_less hop t ls v (v ∷ seen) (v ∷ []) (λ x e. wider (v == x) (is_among x seen) e) g
+  where
+    wider : (a b : Bool) → (a || false) ≡ true → (a || b) ≡ true
+    wider true b e = refl
+    wider false b e = absurd (false≢true e)
+
 -- a walk of some links from a place that costs no more than so much
 abbrev pub Shorter : Hops → ℕ → ℕ → ℕ → Type 0
 Shorter hop t v c = (rest : List ℕ) × (goes hop t (v ∷ []) v rest ≡ true) × (cost_along hop v rest ≤ c)
@@ -85,13 +93,6 @@ around hop t x (l ∷ ls) v seen more sub g = by_goes hop t seen v l ls g (λ h 
     or_more true b c E k e = inr refl
     or_more false b c E k e = k e
 
-    one_of : (y : ℕ) (s : List ℕ) → (x : ℕ) → is_among x (y ∷ []) ≡ true → is_among x (y ∷ s) ≡ true
-    one_of y s x e = wider (y == x) (is_among x s) e
-      where
-        wider : (a b : Bool) → (a || false) ≡ true → (a || b) ≡ true
-        wider true b e = refl
-        wider false b e = absurd (false≢true e)
-
     off : (h : ℕ × ℕ) → is_among h.0 seen ≡ false → (x ≡ h.0 → ⊥) → (is_among h.0 more ≡ true) → ⊥
     off h new ne e = apart (sub h.0 e)
       where
@@ -103,7 +104,7 @@ around hop t x (l ∷ ls) v seen more sub g = by_goes hop t seen v l ls g (λ h 
         → (x ≡ h.0) ⊎ (x ≡ h.0 → ⊥) → (goes hop t (h.0 ∷ more) h.0 ls ≡ true) ⊎ Shorter hop t x (cost_along hop h.0 ls)
         → (goes hop t more v (l ∷ ls) ≡ true) ⊎ Shorter hop t x (cost_along hop v (l ∷ ls))
     at h is new rest (inl e) _ =
-        inr (subst (λ y. Shorter hop t y (cost_along hop v (l ∷ ls))) (sym e) (ls, goes_less hop t ls h.0 (h.0 ∷ seen) (h.0 ∷ []) (one_of h.0 seen) rest, rw (cost_along-more hop v l ls h is) (omega arith)))
+        inr (subst (λ y. Shorter hop t y (cost_along hop v (l ∷ ls))) (sym e) (ls, goes_alone hop t ls h.0 seen rest, rw (cost_along-more hop v l ls h is) (omega arith)))
     at h is new rest (inr ne) (inl g) = inl (goes_more hop t more v l ls h is (false_from_ne_true (is_among h.0 more) (off h new ne)) g)
     at h is new rest (inr ne) (inr s) = inr (s.0, s.1, rw (cost_along-more hop v l ls h is) (omega (arith, s.2)))
 

@@ -2,6 +2,7 @@ pub mod NameForm
 pub mod Words
 pub mod Membership
 pub mod Walks
+pub mod Mirrors
 pub mod Numbered
 pub mod State
 pub mod Matches

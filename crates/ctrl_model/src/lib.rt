@@ -22,7 +22,10 @@ pub use numbering::{
 };
 pub use refusals::{Denial, Field, Reason, Refusal};
 pub use replies::{Reply, Tallies, Tally};
-pub use route_laws::{claimed_route, each_path, no_better, plain_path, the_best, the_rule};
+pub use route_laws::{
+    claimed_route, each_path, explanations_are_justified, mirrored_walks, no_better, plain_path,
+    the_best, the_rule,
+};
 pub use state_laws::{
     absent_pairs_count_nothing, names_find_their_records, next_numbers_have_an_end,
     numbers_never_fall, one_record_a_name, refused_leaves_the_state, settled_once,

@@ -1,12 +1,14 @@
-ghost use Rattle.std.specs.Prelude.{◌≡◌, ◌≤◌, ◌↔◌, ℕ, List, true, None, Some};
+ghost use Rattle.std.specs.Prelude.{◌≡◌, ◌<◌, ◌≤◌, ◌↔◌, ℕ, List, map, true, None, Some};
 ghost use Rattle.ctrl_model.specs.declared.claims.Explanation.{Explanation};
 ghost use Rattle.ctrl_model.specs.Membership.{Among};
 ghost use Rattle.ctrl_model.specs.Numbered.{at, numbers};
 ghost use Rattle.ctrl_model.specs.State.{State, Terminator};
+ghost use Rattle.ctrl_model.specs.Walks.{Hops, goes, cost_along};
+ghost use Rattle.ctrl_model.specs.Mirrors.{Mirrors, ArePlaces};
 ghost use Rattle.ctrl_model.specs.Networks.{Network, network_of, is_path, paths};
 ghost use Rattle.ctrl_model.specs.PlainPaths.{NoneTwice, IsPlainPath};
 ghost use Rattle.ctrl_model.specs.Choices.{Ask, Candidate, IsCandidate, IsBest, IsGranted, place_of, best, first_rule};
-ghost use Rattle.ctrl_model.specs.Claims.{justified};
+ghost use Rattle.ctrl_model.specs.Claims.{justified, explanation_of};
 ghost use Rattle.ctrl_model.specs.ClaimedRoutes.{has_small_costs, NoneIsBetter, claimed_candidate};
 ghost use Rattle.ctrl_model.specs.ValidState.{ValidState};
 
@@ -47,4 +49,19 @@ pub fn no_better()
 pub fn claimed_route()
     ensures apart { (w : Network) (ask : Ask) (claim : Explanation) (e : Terminator) → 1 ≤ w.least → NoneTwice (numbers w.terminators) → at w.terminators claim.terminator.0 ≡ Some e → justified w ask claim ≡ true → IsCandidate w ask (claimed_candidate claim e) }
     ensures valid { (s : State) (ask : Ask) (claim : Explanation) (e : Terminator) → ValidState s → at s.terminators claim.terminator.0 ≡ Some e → justified (network_of s) ask claim ≡ true → IsCandidate (network_of s) ask (claimed_candidate claim e) }
+{}
+
+/// The explanation of the best candidate is justified, where no rule of the request fails. So a controller that gives
+/// explanations and one that checks claims agree. Costs have to be small and terminators to have different numbers, as in a
+/// valid state.
+pub fn explanations_are_justified()
+    ensures apart { (w : Network) (ask : Ask) (service : ℕ) (c : Candidate) → has_small_costs w ≡ true → NoneTwice (numbers w.terminators) → first_rule w ask ≡ None → ask.service ≡ Some service → best w ask ≡ Some c → justified w ask (explanation_of w ask service c) ≡ true }
+    ensures valid { (s : State) (ask : Ask) (service : ℕ) (c : Candidate) → ValidState s → first_rule (network_of s) ask ≡ None → ask.service ≡ Some service → best (network_of s) ask ≡ Some c → justified (network_of s) ask (explanation_of (network_of s) ask service c) ≡ true }
+{}
+
+/// Where one rule of hops mirrors another, the same links are walks, and they cost the same. So what is found of paths in a
+/// graph by places holds of a network by router numbers.
+pub fn mirrored_walks()
+    ensures same_walks { (places : ℕ) (rename : ℕ → ℕ) (a b : Hops) (t v : ℕ) (seen links : List ℕ) → Mirrors places rename a b → t < places → v < places → ArePlaces places seen → goes b (rename t) (map rename seen) (rename v) links ≡ goes a t seen v links }
+    ensures same_costs { (places : ℕ) (rename : ℕ → ℕ) (a b : Hops) (v : ℕ) (links : List ℕ) → Mirrors places rename a b → v < places → cost_along b (rename v) links ≡ cost_along a v links }
 {}
