@@ -1,7 +1,7 @@
 -- States and commands of the worked examples: what an operator would send, and what stands then.
-use Rattle.std.specs.Prelude.{ℕ, true, false, List, [], ◌∷◌, codes, None, Some}
+use Rattle.std.specs.Prelude.{ℕ, true, false, List, [], ◌∷◌, codes, None, Some, map, drop}
 use Rattle.ctrl_model.specs.declared.commands.Command.{Command}
-use Rattle.ctrl_model.specs.declared.commands.Command.TheVariants.{CreateIdentity, CreateService, CreateRouter, UpdateRouter, ConnectRouter, CreateServicePolicy, CreateEdgeRouterPolicy, CreateServiceEdgeRouterPolicy, CreateLink, CreateTerminator, CreateCircuit, Explain, VerifyRoute, DeleteTerminator}
+use Rattle.ctrl_model.specs.declared.commands.Command.TheVariants.{CreateIdentity, CreateService, CreateRouter, UpdateRouter, ConnectRouter, CreateServicePolicy, CreateEdgeRouterPolicy, CreateServiceEdgeRouterPolicy, CreateLink, CreateTerminator, CreateCircuit, Explain, VerifyRoute, DeleteTerminator, DeleteServiceEdgeRouterPolicy}
 use Rattle.ctrl_model.specs.declared.kinds.Side.{Side}
 use Rattle.ctrl_model.specs.declared.kinds.Semantic.TheVariants.{AnyOf}
 use Rattle.ctrl_model.specs.declared.kinds.Relation.{Relation}
@@ -9,6 +9,7 @@ use Rattle.ctrl_model.specs.declared.kinds.Relation.TheVariants.{Dial, Bind}
 use Rattle.ctrl_model.specs.declared.kinds.Precedence.{Precedence}
 use Rattle.ctrl_model.specs.declared.kinds.Precedence.TheVariants.{Required, Normal, Failed}
 use Rattle.ctrl_model.specs.declared.kinds.Who.TheVariants.{Admin}
+use Rattle.ctrl_model.specs.declared.claims.Reach.{Reach}
 use Rattle.ctrl_model.specs.declared.replies.Reply.{Reply}
 use Rattle.ctrl_model.specs.State.{State, start}
 use Rattle.ctrl_model.specs.Controller.{answer}
@@ -130,3 +131,64 @@ hosted_line = after (
     ∷ CreateEdgeRouterPolicy (codes "bobs") AnyOf (only (codes "bob")) everyone
     ∷ CreateTerminator (codes "web") (codes "r3") [] (Some (codes "bob")) 0 Normal
     ∷ []) line_without_terminator
+
+-- The least costs of paths to a router, as an entry of a claim.
+abbrev pub towards : ℕ → List ℕ → Reach
+towards router values = record { router = record { 0 = router }; values = values }
+
+-- The claim, for ann and web and any ingress, that a route from r1 to a terminator is the least.
+abbrev pub claim_from_r1 : List ℕ → List Reach → List ℕ → ℕ → ℕ → Command
+claim_from_r1 links potentials routers terminator total =
+    VerifyRoute (codes "ann") (codes "web") None [] (codes "r1") links potentials routers terminator total
+
+-- The claim that the route of the line is the least, for a request that names its ingress, from a router.
+abbrev pub claim_by_ingress : List ℕ → List ℕ → Command
+claim_by_ingress ingress chosen =
+    VerifyRoute (codes "ann") (codes "web") (Some ingress) [] chosen (1 ∷ 2 ∷ []) (towards 3 (42 ∷ 21 ∷ 0 ∷ []) ∷ []) (1 ∷ 2 ∷ 3 ∷ []) 1 42
+
+-- The line, on which ann may use r2 too.
+abbrev pub line_from_two : State
+line_from_two = after (CreateEdgeRouterPolicy (codes "second") AnyOf (only (codes "ann")) (only (codes "r2")) ∷ []) line
+
+-- The line, on which web may use r2 alone.
+abbrev pub narrow_line : State
+narrow_line = after (
+    CreateServiceEdgeRouterPolicy (codes "narrow") AnyOf (only (codes "web")) (only (codes "r2"))
+    ∷ DeleteServiceEdgeRouterPolicy (codes "all")
+    ∷ []) line
+
+-- Two routers without links; everyone may dial web and use every router; terminator 1 is on r2, and terminator 2 on r1.
+abbrev pub two_terminators : State
+two_terminators = after (
+    CreateRouter (codes "r1") [] 0 false ∷ ConnectRouter (codes "r1")
+    ∷ CreateRouter (codes "r2") [] 0 false ∷ ConnectRouter (codes "r2")
+    ∷ CreateIdentity (codes "ann") [] ∷ CreateService (codes "web") []
+    ∷ service_policy (codes "dial") Dial everyone everyone
+    ∷ CreateEdgeRouterPolicy (codes "edge") AnyOf everyone everyone
+    ∷ CreateServiceEdgeRouterPolicy (codes "all") AnyOf everyone everyone
+    ∷ offered (codes "web") (codes "r2") 0 Normal
+    ∷ offered (codes "web") (codes "r1") 0 Normal
+    ∷ []) start
+
+-- Link 1 leads from r2 to r3, and link 2 from r1 to r3, at one cost; ann may use r1 and r2; web is on r3.
+abbrev pub fork : State
+fork = after (
+    CreateRouter (codes "r1") [] 0 false ∷ ConnectRouter (codes "r1")
+    ∷ CreateRouter (codes "r2") [] 0 false ∷ ConnectRouter (codes "r2")
+    ∷ CreateRouter (codes "r3") [] 0 false ∷ ConnectRouter (codes "r3")
+    ∷ link_of_eleven (codes "l1") (codes "r2") (codes "r3")
+    ∷ link_of_eleven (codes "l2") (codes "r1") (codes "r3")
+    ∷ CreateIdentity (codes "ann") [] ∷ CreateService (codes "web") []
+    ∷ service_policy (codes "dial") Dial everyone everyone
+    ∷ CreateEdgeRouterPolicy (codes "edge") AnyOf everyone (record { all = false; ids = codes "r1" ∷ codes "r2" ∷ []; attributes = [] })
+    ∷ CreateServiceEdgeRouterPolicy (codes "all") AnyOf everyone everyone
+    ∷ offered (codes "web") (codes "r3") 0 Normal
+    ∷ []) start
+
+-- The names of one byte: 65 of them, as many as there are bytes of names.
+abbrev pub names_of_one_byte : List (List ℕ)
+names_of_one_byte = map (λ b. b ∷ []) (codes "ABCDEFGHIJKLMNOPQRSTUVWXYZabcdefghijklmnopqrstuvwxyz0123456789._-")
+
+-- All of these but the first.
+abbrev pub names_of_one_byte_but_one : List (List ℕ)
+names_of_one_byte_but_one = drop 1 names_of_one_byte
