@@ -31,7 +31,7 @@ use Rattle.ctrl_model.proofs.ClaimLaws.{IsJustified, justified-from, explained-a
 
 -- ---- look-ups
 
--- of values that are made from routers, the one at a router is made from that router, if no other stands for an absent one
+-- of values that are made from routers, the one at a router is made from that router, where that of an absent router is no path
 value_at-map : (value : ℕ → ℕ) (ns : List ℕ) (r : ℕ) → ((Among r ns → ⊥) → value r ≡ no_path) → value_at ns (map value ns) r ≡ value r
 value_at-map value [] r off = sym (off (λ m. m))
 value_at-map value (n ∷ ns) r off = apart (cases_eq n r) (value_at-map value ns r)
@@ -197,6 +197,7 @@ explained_for w ask s e = explained_routers w ask s (place_of e.1.precedence)
 abbrev entries_for : Network → Ask → ℕ → ℕ × Terminator → List Reach
 entries_for w ask s e = map (reach_of w) (explained_for w ask s e)
 
+-- the explanation of such a candidate is justified
 chosen-justified : (w : Network) (ask : Ask) (i s : ℕ) (r : RouterSeen) (e : ℕ × Terminator) (links : List ℕ) → has_small_costs w ≡ true → IsChosen w ask i s r e links
     → IsJustified w ask (claim_of w ask s r e links)
 chosen-justified w ask i s r e links small k = record {
@@ -302,8 +303,8 @@ chosen-justified w ask i s r e links small k = record {
             level same (inr p) = inr (subst (λ n. (candidate w r e links).total ≤ terminator_cost w x + n) (p.2 ∙ sym (value (le_of_eq same)))
                 (not_precedes-total (candidate w q x p.0) (candidate w r e links) same (other q x p.0 enters ends p.1)))
 
--- with small costs and terminators of different numbers, the explanation of the best candidate of a request that no rule of which
--- fails is justified
+-- with small costs and terminators of different numbers, where no rule of a request fails, the explanation of its best candidate
+-- is justified
 pub best-justified : (w : Network) (ask : Ask) (service : ℕ) (c : Candidate) → has_small_costs w ≡ true → NoneTwice (numbers w.terminators) → first_rule w ask ≡ None
     → ask.service ≡ Some service → best w ask ≡ Some c → justified w ask (explanation_of w ask service c) ≡ true
 best-justified w ask service c small apart none what is = with_parts ((first_rule-none w ask).0 none) ((best-is w ask c).0 is)
