@@ -1,6 +1,8 @@
 //! The program zitictl: the controller over standard input, standard output and standard error.
 #![tactic(auto)]
 
+ghost use Rattle.std.specs.Prelude.{◌≡◌, IfErr};
+
 mod standard;
 
 use crate::standard::{StandardDesk, StandardInput};
@@ -14,7 +16,9 @@ fn stored_words(rt: &HostRuntime) -> io::Result<Vec<String>> {
 }
 
 // Words that cannot be stored for want of memory end the program so; words that are not text are no line of the table.
-fn words_or_status(rt: &HostRuntime) -> Result<Vec<String>, Status> {
+fn words_or_status(rt: &HostRuntime) -> Result<Vec<String>, Status>
+    ensures { IfErr result (λ status. status ≡ Status.NoMemory) }
+{
     match stored_words(rt) {
         Ok(words) => Ok(words),
         Err(error) => {

@@ -1,6 +1,10 @@
 ghost use Rattle.std.specs.Prelude.{◌≡◌, None};
+ghost use Rattle.std.specs.Io.KnownBytes.{ReadConsumes};
+ghost use Rattle.ziti_outside.specs.Told.{Takes};
+ghost use Rattle.ziti_outside.specs.Causes.{HasCause};
+ghost use Rattle.zitictl.specs.Writes.{Writes};
 
-use std::io::Read;
+use std::io::{self, Read, Write};
 use ziti_outside::{Desk, Failed, Source};
 
 /// Standard input as a source. It tells no content, and counts each read that fails.
@@ -26,7 +30,11 @@ impl<R: Read> Source for StandardInput<R> {
 
     ghost faults = { λ s. s.faults };
 
-    fn take(&mut self, buf: &mut [u8]) -> Result<usize, Failed> {
+    fn take(&mut self, buf: &mut [u8]) -> Result<usize, Failed>
+        ensures bytes { Takes None None result buf.new }
+        ensures cause { HasCause self.old.faults self.new.faults result }
+        ensures reads { ReadConsumes (R.remaining self.old.reader) (R.remaining self.new.reader) result buf.new }
+    {
         match self.reader.read(buf) {
             Ok(count) => Ok(count),
             Err(_) => {
@@ -60,10 +68,12 @@ impl<'a, R> StandardDesk<'a, R> {
     }
 }
 
-fn write_whole<R: Print>(rt: &R, bytes: &[u8]) -> Result<(), Failed> {
+fn write_whole<W: Write>(writer: &mut W, bytes: &[u8]) -> Result<(), Failed>
+    ensures { Writes (W.contents writer.old) (W.contents writer.new) result bytes.now }
+{
     let mut rest = bytes;
     'pieces: while !rest.is_empty() {
-        match rt.write_some(rest) {
+        match writer.write(rest) {
             Ok(0) | Err(_) => return Err(Failed),
             Ok(count) => {
                 let (_, after) = rest.split_at(count);
@@ -96,7 +106,7 @@ impl<'a, R: Print + Eprint> Desk for StandardDesk<'a, R> {
     ghost note_faults = { λ d. d.note_faults };
 
     fn say(&mut self, bytes: &[u8]) -> Result<(), Failed> {
-        let written = write_whole(self.rt, bytes);
+        let written = write_whole(&mut io::writer(self.rt), bytes);
         if written.is_err() {
             self.say_faults = self.say_faults.saturating_add(1);
         }
