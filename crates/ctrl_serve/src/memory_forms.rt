@@ -1,6 +1,6 @@
 //! A source and a desk over memory, for tests: they tell their contents, and fail at the call that they are told to.
 
-ghost use Rattle.std.specs.Prelude.{◌<◌, ◌≤◌, length};
+ghost use Rattle.std.specs.Prelude.{◌≡◌, ◌<◌, ◌≤◌, [], length};
 
 use std::alloc::{AllocError, Global};
 use ziti_outside::{Desk, Failed, Source};
@@ -25,6 +25,8 @@ impl MemorySource {
     /// The source of these bytes in pieces of at most `piece`, which fails at the call `failing`, counted from 0.
     pub fn new(bytes: Vec<u8>, piece: usize, failing: u64) -> MemorySource
         requires { 0 < piece }
+        ensures bytes { result.bytes.items ≡ bytes.items }
+        ensures start { result.at ≡ 0 }
     {
         MemorySource {
             bytes,
@@ -74,7 +76,10 @@ pub struct MemoryDesk {
 
 impl MemoryDesk {
     /// An empty desk, which fails at the say `failing`, counted from 0.
-    pub fn new(alloc: Global, failing: u64) -> MemoryDesk {
+    pub fn new(alloc: Global, failing: u64) -> MemoryDesk
+        ensures said { result.said.items ≡ [] }
+        ensures noted { result.noted.items ≡ [] }
+    {
         MemoryDesk {
             said: Vec::new(alloc),
             noted: Vec::new(alloc),
@@ -86,12 +91,16 @@ impl MemoryDesk {
     }
 
     /// The reply bytes that were taken.
-    pub fn said(&self) -> &[u8] {
+    pub fn said(&self) -> &[u8]
+        ensures { result.now ≡ self.now.said.items }
+    {
         self.said.as_slice()
     }
 
     /// The notes that were taken.
-    pub fn noted(&self) -> &[u8] {
+    pub fn noted(&self) -> &[u8]
+        ensures { result.now ≡ self.now.noted.items }
+    {
         self.noted.as_slice()
     }
 }
