@@ -1,19 +1,16 @@
 -- What the controller answers to CreateIdentity where its state is a list of names.
-use Rattle.std.proofs.Common.{◌≡◌, ℕ, suc, ◌+◌, ◌<◌, ◌≤◌, Bool, true, false, not, cond, ◌&&◌, ◌||◌, ltb, List, [], ◌∷◌, ◌++◌, length, None, Some, refl, sym, ap, ◌∙◌, arith, length-append, append-nil}
+use Rattle.std.proofs.Common.{◌≡◌, ℕ, suc, ◌+◌, Bool, true, false, cond, ◌||◌, ltb, List, [], ◌∷◌, ◌++◌, length, Some, refl, ap, ◌∙◌, arith, length-append}
 use Rattle.std.specs.Option.{is_some}
-use Rattle.std.specs.declared.option.Option.{Option}
 use Rattle.std.specs.List.{flat_map}
 use Rattle.std.specs.Str.{bytes_eq}
-use Rattle.std.proofs.lemmas.Bool.Decides.{nat_tests}
 use Rattle.ctrl_model.specs.declared.commands.Command.TheVariants.{CreateIdentity}
 use Rattle.ctrl_model.specs.declared.kinds.Kind.TheVariants as kind
 use Rattle.ctrl_model.specs.declared.kinds.Who.TheVariants.{Admin}
 use Rattle.ctrl_model.specs.declared.refusals.Refusal.TheVariants.{Exists, Full}
-use Rattle.ctrl_model.specs.declared.replies.Reply.{Reply}
 use Rattle.ctrl_model.specs.declared.replies.Reply.TheVariants.{Made, Refused}
 use Rattle.ctrl_model.specs.Matches.{has_name}
 use Rattle.ctrl_model.specs.Numbered.{with_last}
-use Rattle.ctrl_model.specs.State.{State, Entity, entity_named}
+use Rattle.ctrl_model.specs.State.{Entity, entity_named}
 use Rattle.ctrl_model.specs.Controller.{answer}
 use Rattle.ctrl_serve.specs.KeptNames.{rows_from, state_of}
 

@@ -1,11 +1,9 @@
 -- The answer to a frame, and a run of the controller along frames (docs/RULES.md, "The controller").
-use Rattle.std.specs.Prelude.{ℕ, ◌+◌, ◌%◌, ◌^◌, ◌==◌, cond, if◌then◌else◌, List, [], ◌∷◌, ◌++◌, None, Some, Ok, Err}
+use Rattle.std.specs.Prelude.{ℕ, ◌+◌, ◌%◌, ◌^◌, ◌==◌, if◌then◌else◌, List, [], ◌∷◌, None, Some, Ok, Err}
 use Rattle.std.specs.declared.option.Option.{Option}
 use Rattle.std.specs.declared.result.Result.{Result}
-use Rattle.std.specs.Option.{option_map_or}
 use Rattle.std.specs.List.{flat_map}
 use Rattle.channel_frame.specs.declared.frames.Frame.{Frame}
-use Rattle.channel_frame.specs.declared.frames.Header.{Header}
 use Rattle.channel_frame.specs.FrameSpelling.{number, spelling}
 use Rattle.channel_frame.specs.StreamReading.{frames_of}
 use Rattle.ctrl_model.specs.declared.commands.Command.{Command}

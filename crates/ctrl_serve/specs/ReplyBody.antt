@@ -1,5 +1,5 @@
 -- The bodies of the replies that are given so far: compact JSON with keys in ascending order (docs/FORMATS.md, "Replies").
-use Rattle.std.specs.Prelude.{ℕ, nat_lt, Bool, true, false, List, [], codes}
+use Rattle.std.specs.Prelude.{ℕ, nat_lt, Bool, true, false, List, codes}
 use Rattle.serde_json.specs.Data.{Data, null, number, unsigned, string, object, no_members, member}
 use Rattle.serde_json.specs.Written.{compact_text}
 use Rattle.ctrl_model.specs.Words.{word_of}

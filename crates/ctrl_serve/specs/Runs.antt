@@ -1,7 +1,7 @@
 -- What the parts of a run do, up to the headline.
 use Rattle.std.specs.Prelude.{◌≡◌, ℕ, ◌≤◌, Bool, true, false, ⊤, List, take}
 use Rattle.std.specs.declared.option.Option.{Option}
-use Rattle.ziti_outside.specs.Told.{Took, TookFront}
+use Rattle.ziti_outside.specs.Told.{Took}
 use Rattle.ziti_outside.specs.Causes.{Rose}
 use Rattle.channel_frame.specs.StreamReading.{rest_of}
 use Rattle.ctrl_model.specs.Matches.{is_nothing}

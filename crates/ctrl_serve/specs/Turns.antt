@@ -2,7 +2,7 @@
 use Rattle.std.specs.Prelude.{◌≡◌, ℕ, ◌≤◌, ⊤, Bool, List, length, Ok, Err}
 use Rattle.std.specs.declared.option.Option.{Option}
 use Rattle.std.specs.declared.result.Result.{Result}
-use Rattle.ziti_outside.specs.Told.{Took, TookFront, IsFront}
+use Rattle.ziti_outside.specs.Told.{Took, TookFront}
 use Rattle.channel_frame.specs.declared.frames.Frame.{Frame}
 use Rattle.channel_frame.specs.declared.frames.Head.{Head}
 use Rattle.channel_frame.specs.FrameSpelling.{spelling}

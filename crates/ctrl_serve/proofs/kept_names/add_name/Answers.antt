@@ -1,4 +1,4 @@
-use Rattle.std.proofs.Common.{◌≡◌, ◌+◌, ◌<◌, ◌≤◌, ◌∷◌, [], true, false, ltb, length, sym, ◌∙◌, arith, le-ltb, lt-ltb, length-append}
+use Rattle.std.proofs.Common.{◌≡◌, ◌+◌, ◌<◌, false, length, sym, ◌∙◌, arith, le-ltb, lt-ltb}
 use Rattle.ctrl_model.specs.Matches.{has_name}
 use Rattle.ctrl_serve.proofs.NameLaws.{create_known, create_full, create_fresh}
 use Rattle.ctrl_serve.proofs.kept_names.add_name.Goals as goal

@@ -1,5 +1,5 @@
 use Rattle.std.proofs.lemmas.Grind.{common_steps}
-use Rattle.std.proofs.Common.{◌≡◌, ◌++◌, List, [], ℕ, Some, arith, ap, ◌∙◌, refl}
+use Rattle.std.proofs.Common.{◌≡◌, ◌++◌, List, [], Some, arith, ap, ◌∙◌}
 use Rattle.channel_frame.proofs.ReadingLaws.{has_one_reading}
 use Rattle.channel_frame.specs.declared.frames.Frame.{Frame}
 use Rattle.ctrl_model.specs.declared.kinds.Who.TheVariants.{Admin}
