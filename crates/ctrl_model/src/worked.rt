@@ -19,10 +19,14 @@ ghost use Rattle.ctrl_model.specs.Matches.{matches};
 ghost use Rattle.ctrl_model.specs.Grants.{count};
 ghost use Rattle.ctrl_model.specs.Networks.{network_of, paths, circuits_full};
 ghost use Rattle.ctrl_model.specs.EntityCommands.{refusal_of_create_identity, refusal_of_create_service, refusal_of_create_router};
+ghost use Rattle.ctrl_model.specs.LinkCommands.{refusal_of_create_link};
+ghost use Rattle.ctrl_model.specs.PolicyCommands.{refusal_of_create_service_policy, refusal_of_create_edge_router_policy, refusal_of_create_service_edge_router_policy};
+ghost use Rattle.ctrl_model.specs.Rules.{attributes_full};
+ghost use Rattle.ctrl_model.specs.TerminatorCommands.{refusal_of_create_terminator};
 ghost use Rattle.ctrl_model.specs.Claims.{least_cost, no_path};
 ghost use Rattle.ctrl_model.specs.Permitted.{is_permitted};
 ghost use Rattle.ctrl_model.specs.Controller.{answer};
-ghost use Rattle.ctrl_model.specs.WorkedStates.{reply_to, after, everyone, only, carrying, service_policy, link_of_eleven, offered, line, line_without_terminator, line_stopped_at_r2, line_of_precedences, square, two_policies, hosted_line, narrow_line, line_from_two, two_terminators, fork, ann_to_web, explain_ann_to_web, claim_on_line, claim_from_r1, claim_by_ingress, towards, names_of_one_byte, names_of_one_byte_but_one};
+ghost use Rattle.ctrl_model.specs.WorkedStates.{reply_to, after, everyone, only, carrying, service_policy, link_of_eleven, offered, line, line_without_terminator, line_stopped_at_r2, line_of_precedences, square, two_policies, hosted_line, narrow_line, line_from_two, two_terminators, fork, ann_to_web, explain_ann_to_web, claim_on_line, claim_from_r1, claim_by_ingress, towards, names_of_one_byte, names_of_one_byte_but_one, names_of_two_bytes};
 
 /// Examples of names and instances, from the rule alone.
 pub fn names_and_words()
@@ -452,6 +456,23 @@ pub fn limits_of_kinds()
     ensures one_more_service { refusal_of_create_service (codes "b") [] (record start { services = replicate 511 (1, record { name = codes "a"; attributes = [] }) }) ≡ None }
     ensures no_more_routers { refusal_of_create_router (codes "b") [] 0 false (record start { routers = replicate 256 (1, record { name = codes "a"; attributes = []; cost = 0; through = true; connected = false }) }) ≡ Some (refusal.Full kind.Router) }
     ensures one_more_router { refusal_of_create_router (codes "b") [] 0 false (record start { routers = replicate 255 (1, record { name = codes "a"; attributes = []; cost = 0; through = true; connected = false }) }) ≡ None }
+    ensures no_more_service_policies { refusal_of_create_service_policy (record { name = codes "b"; relation = Dial; semantic = AnyOf; left = everyone; right = everyone }) (record start { service_policies = replicate 512 (1, record { name = codes "a"; relation = Dial; semantic = AnyOf; left = carrying []; right = carrying [] }) }) ≡ Some (refusal.Full kind.ServicePolicy) }
+    ensures one_more_service_policy { refusal_of_create_service_policy (record { name = codes "b"; relation = Dial; semantic = AnyOf; left = everyone; right = everyone }) (record start { service_policies = replicate 511 (1, record { name = codes "a"; relation = Dial; semantic = AnyOf; left = carrying []; right = carrying [] }) }) ≡ None }
+    ensures no_more_edge_router_policies { refusal_of_create_edge_router_policy (record { name = codes "b"; relation = Dial; semantic = AnyOf; left = everyone; right = everyone }) (record start { edge_router_policies = replicate 256 (1, record { name = codes "a"; relation = Dial; semantic = AnyOf; left = carrying []; right = carrying [] }) }) ≡ Some (refusal.Full kind.EdgeRouterPolicy) }
+    ensures one_more_edge_router_policy { refusal_of_create_edge_router_policy (record { name = codes "b"; relation = Dial; semantic = AnyOf; left = everyone; right = everyone }) (record start { edge_router_policies = replicate 255 (1, record { name = codes "a"; relation = Dial; semantic = AnyOf; left = carrying []; right = carrying [] }) }) ≡ None }
+    ensures no_more_service_edge_router_policies { refusal_of_create_service_edge_router_policy (record { name = codes "b"; relation = Dial; semantic = AnyOf; left = everyone; right = everyone }) (record start { service_edge_router_policies = replicate 256 (1, record { name = codes "a"; relation = Dial; semantic = AnyOf; left = carrying []; right = carrying [] }) }) ≡ Some (refusal.Full kind.ServiceEdgeRouterPolicy) }
+    ensures one_more_service_edge_router_policy { refusal_of_create_service_edge_router_policy (record { name = codes "b"; relation = Dial; semantic = AnyOf; left = everyone; right = everyone }) (record start { service_edge_router_policies = replicate 255 (1, record { name = codes "a"; relation = Dial; semantic = AnyOf; left = carrying []; right = carrying [] }) }) ≡ None }
+    ensures no_more_links { refusal_of_create_link (codes "b") (codes "r1") (codes "r2") (record line { links = replicate 4096 (1, record { name = codes "a"; a = 1; b = 2; cost = 1; latency_a = 0; latency_b = 0; up = true }) }) ≡ Some (refusal.Full kind.Link) }
+    ensures one_more_link { refusal_of_create_link (codes "b") (codes "r1") (codes "r2") (record line { links = replicate 4095 (1, record { name = codes "a"; a = 1; b = 2; cost = 1; latency_a = 0; latency_b = 0; up = true }) }) ≡ None }
+    ensures no_more_terminators { refusal_of_create_terminator (codes "web") (codes "r1") None (record line { terminators = replicate 4096 (1, record { service = 1; router = 1; instance = []; host = None; cost = 0; precedence = Normal }) }) ≡ Some (refusal.Full kind.Terminator) }
+    ensures one_more_terminator { refusal_of_create_terminator (codes "web") (codes "r1") None (record line { terminators = replicate 4095 (1, record { service = 1; router = 1; instance = []; host = None; cost = 0; precedence = Normal }) }) ≡ None }
     ensures circuits { circuits_full (record start { circuits = replicate 16383 (1, record { identity = 1; service = 1; terminator = 1; ingress = 1; links = [] }) }) ≡ false }
     ensures no_more_circuits { circuits_full (record start { circuits = replicate 16384 (1, record { identity = 1; service = 1; terminator = 1; ingress = 1; links = [] }) }) ≡ true }
+{}
+
+/// At most 1,024 attributes are in use, each counted once however often it is used.
+pub fn limit_of_attributes()
+    ensures as_many { attributes_full (record start { identities = (1, record { name = codes "a"; attributes = names_of_two_bytes }) ∷ [] }) ≡ false }
+    ensures one_more { attributes_full (record start { identities = (1, record { name = codes "a"; attributes = names_of_two_bytes }) ∷ []; services = (1, record { name = codes "a"; attributes = codes "a" ∷ [] }) ∷ [] }) ≡ true }
+    ensures used_twice { attributes_full (record start { identities = (1, record { name = codes "a"; attributes = names_of_two_bytes }) ∷ []; services = (1, record { name = codes "a"; attributes = codes "AA" ∷ [] }) ∷ [] }) ≡ false }
 {}
