@@ -1,5 +1,6 @@
 -- States and commands of the worked examples: what an operator would send, and what stands then.
-use Rattle.std.specs.Prelude.{ℕ, true, false, List, [], ◌∷◌, codes, None, Some, map, drop}
+use Rattle.std.specs.Prelude.{ℕ, true, false, List, [], ◌∷◌, codes, None, Some, map, drop, take, ◌++◌}
+use Rattle.std.specs.List.{flat_map}
 use Rattle.ctrl_model.specs.declared.commands.Command.{Command}
 use Rattle.ctrl_model.specs.declared.commands.Command.TheVariants.{CreateIdentity, CreateService, CreateRouter, UpdateRouter, ConnectRouter, CreateServicePolicy, CreateEdgeRouterPolicy, CreateServiceEdgeRouterPolicy, CreateLink, CreateTerminator, CreateCircuit, Explain, VerifyRoute, DeleteTerminator, DeleteServiceEdgeRouterPolicy}
 use Rattle.ctrl_model.specs.declared.kinds.Side.{Side}
@@ -192,3 +193,7 @@ names_of_one_byte = map (λ b. b ∷ []) (codes "ABCDEFGHIJKLMNOPQRSTUVWXYZabcde
 -- All of these but the first.
 abbrev pub names_of_one_byte_but_one : List (List ℕ)
 names_of_one_byte_but_one = drop 1 names_of_one_byte
+
+-- Names of two bytes, each of which is one of the first 32 bytes of these: 1,024 of them.
+abbrev pub names_of_two_bytes : List (List ℕ)
+names_of_two_bytes = flat_map (λ a. map (λ b. a ++ b) (take 32 names_of_one_byte)) (take 32 names_of_one_byte)

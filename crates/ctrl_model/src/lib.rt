@@ -36,7 +36,7 @@ pub use validity::valid_stays_valid;
 pub use worked::{
     a_circuit_on_a_line, a_nearer_terminator, absent_in_role_lists, claims_beside_others,
     claims_of_a_line, counted_grants, deleted_and_made_again, denials, equal_paths, equal_totals,
-    forgotten_names, full_kinds, hosts, limits_and_links, names_and_words, new_records,
-    no_traversal, own_and_others, permissions, precedences, ranges, ranges_of_claims, role_lists,
-    settled_circuits, shown_grants, sides, unknown_names, updates,
+    forgotten_names, full_kinds, hosts, limit_of_attributes, limits_and_links, limits_of_kinds,
+    names_and_words, new_records, no_traversal, own_and_others, permissions, precedences, ranges,
+    ranges_of_claims, role_lists, settled_circuits, shown_grants, sides, unknown_names, updates,
 };

@@ -17,11 +17,16 @@ ghost use Rattle.ctrl_model.specs.Numbered.{at, numbers};
 ghost use Rattle.ctrl_model.specs.State.{Entity, start};
 ghost use Rattle.ctrl_model.specs.Matches.{matches};
 ghost use Rattle.ctrl_model.specs.Grants.{count};
-ghost use Rattle.ctrl_model.specs.Networks.{network_of, paths};
+ghost use Rattle.ctrl_model.specs.Networks.{network_of, paths, circuits_full};
+ghost use Rattle.ctrl_model.specs.EntityCommands.{refusal_of_create_identity, refusal_of_create_service, refusal_of_create_router};
+ghost use Rattle.ctrl_model.specs.LinkCommands.{refusal_of_create_link};
+ghost use Rattle.ctrl_model.specs.PolicyCommands.{refusal_of_create_service_policy, refusal_of_create_edge_router_policy, refusal_of_create_service_edge_router_policy};
+ghost use Rattle.ctrl_model.specs.Rules.{attributes_full};
+ghost use Rattle.ctrl_model.specs.TerminatorCommands.{refusal_of_create_terminator};
 ghost use Rattle.ctrl_model.specs.Claims.{least_cost, no_path};
 ghost use Rattle.ctrl_model.specs.Permitted.{is_permitted};
 ghost use Rattle.ctrl_model.specs.Controller.{answer};
-ghost use Rattle.ctrl_model.specs.WorkedStates.{reply_to, after, everyone, only, carrying, service_policy, link_of_eleven, offered, line, line_without_terminator, line_stopped_at_r2, line_of_precedences, square, two_policies, hosted_line, narrow_line, line_from_two, two_terminators, fork, ann_to_web, explain_ann_to_web, claim_on_line, claim_from_r1, claim_by_ingress, towards, names_of_one_byte, names_of_one_byte_but_one};
+ghost use Rattle.ctrl_model.specs.WorkedStates.{reply_to, after, everyone, only, carrying, service_policy, link_of_eleven, offered, line, line_without_terminator, line_stopped_at_r2, line_of_precedences, square, two_policies, hosted_line, narrow_line, line_from_two, two_terminators, fork, ann_to_web, explain_ann_to_web, claim_on_line, claim_from_r1, claim_by_ingress, towards, names_of_one_byte, names_of_one_byte_but_one, names_of_two_bytes};
 
 /// Examples of names and instances, from the rule alone.
 pub fn names_and_words()
@@ -252,6 +257,7 @@ pub fn claims_of_a_line()
     ensures ingress_absent { reply_to (claim_by_ingress (codes "r9") (codes "r1")) line ≡ reply.Verified false }
     ensures chosen_absent { reply_to (claim_by_ingress (codes "r1") (codes "r9")) line ≡ reply.Verified false }
     ensures chosen_is_not_shared { reply_to (VerifyRoute (codes "ann") (codes "web") None [] (codes "r2") (2 ∷ []) (towards 3 (42 ∷ 21 ∷ 0 ∷ []) ∷ []) (1 ∷ 2 ∷ 3 ∷ []) 1 21) line ≡ reply.Verified false }
+    ensures loose_link { reply_to (claim_from_r1 (3 ∷ []) (towards 3 (42 ∷ 21 ∷ 0 ∷ []) ∷ []) (1 ∷ 2 ∷ 3 ∷ []) 1 42) (after (CreateLink (codes "l3") (codes "r1") (codes "r3") 60 0 0 ∷ []) line) ≡ reply.Verified false }
     ensures cheaper_link { reply_to (claim_on_line (42 ∷ 21 ∷ 0 ∷ [])) (after (CreateLink (codes "l3") (codes "r1") (codes "r3") 10 0 0 ∷ []) line) ≡ reply.Verified false }
 {}
 
@@ -295,6 +301,9 @@ pub fn forgotten_names()
     ensures narrow_router { count ServiceRouter (after (DeleteRouter (codes "r2") ∷ CreateRouter (codes "r2") [] 0 false ∷ []) narrow_line) 1 4 ≡ 0 }
     ensures policy_number { reply_to (service_policy (codes "dial") Dial everyone everyone) (after (DeleteServicePolicy (codes "dial") ∷ []) line) ≡ reply.Made 2 }
     ensures link_number { reply_to (link_of_eleven (codes "l2") (codes "r1") (codes "r3")) (after (DeleteLink (codes "l2") ∷ []) line) ≡ reply.Made 3 }
+    ensures edge_router_policy_number { reply_to (CreateEdgeRouterPolicy (codes "edge") AnyOf everyone everyone) (after (DeleteEdgeRouterPolicy (codes "edge") ∷ []) line) ≡ reply.Made 2 }
+    ensures service_edge_router_policy_number { reply_to (CreateServiceEdgeRouterPolicy (codes "all") AnyOf everyone everyone) (after (DeleteServiceEdgeRouterPolicy (codes "all") ∷ []) line) ≡ reply.Made 2 }
+    ensures terminator_number { reply_to (offered (codes "web") (codes "r3") 0 Normal) (after (DeleteTerminator 1 ∷ []) line) ≡ reply.Made 2 }
     ensures circuit_number { reply_to ann_to_web (after (ann_to_web ∷ DeleteCircuit 1 ∷ []) line) ≡ reply.Circuit (record { 0 = 2 }) (codes "r1") (1 ∷ 2 ∷ []) (record { 0 = 1 }) 42 }
 {}
 
@@ -401,6 +410,7 @@ pub fn settled_circuits()
     ensures identity_gone { reply_to ShowCounts (after (ann_to_web ∷ DeleteIdentity (codes "ann") ∷ []) line) ≡ reply.Counts 0 3 0 2 3 3 1 1 }
     ensures disconnected { reply_to (ShowCircuit 1) (after (ann_to_web ∷ DisconnectRouter (codes "r2") ∷ ConnectRouter (codes "r2") ∷ []) line) ≡ reply.Refused (refusal.Unknown field.No) }
     ensures link_down { reply_to (ShowCircuit 1) (after (ann_to_web ∷ ReportState (codes "l2") (codes "r3") false ∷ []) line) ≡ reply.Refused (refusal.Unknown field.No) }
+    ensures links_of_a_router { reply_to ShowCounts (after (DeleteRouter (codes "r1") ∷ []) line) ≡ reply.Counts 0 3 1 1 3 2 1 1 }
     ensures no_dial { reply_to (ShowCircuit 1) (after (ann_to_web ∷ DeleteServicePolicy (codes "dial") ∷ []) line) ≡ reply.Shown (codes "ann") (codes "r1") (1 ∷ 2 ∷ []) (codes "web") (record { 0 = 1 }) }
     ensures no_bind { reply_to (ShowCircuit 1) (after (ann_to_web ∷ DeleteServicePolicy (codes "bind") ∷ []) hosted_line) ≡ reply.Shown (codes "ann") (codes "r1") (1 ∷ 2 ∷ []) (codes "web") (record { 0 = 1 }) }
     ensures dearer { reply_to (ShowCircuit 1) (after (ann_to_web ∷ CreateLink (codes "l3") (codes "r1") (codes "r3") 1 0 0 ∷ []) line) ≡ reply.Shown (codes "ann") (codes "r1") (1 ∷ 2 ∷ []) (codes "web") (record { 0 = 1 }) }
@@ -436,4 +446,33 @@ pub fn own_and_others()
     ensures link_cost { is_permitted (Router (codes "r1")) (SetLinkCost (codes "r1") 1) ≡ false }
     ensures update_itself { is_permitted (Router (codes "r1")) (UpdateRouter (codes "r1") [] 0 false) ≡ false }
     ensures identity_itself { is_permitted (Identity (codes "ann")) (UpdateIdentity (codes "ann") []) ≡ false }
+{}
+
+/// The limits of kinds: with one record fewer there is room, at the limit there is none.
+pub fn limits_of_kinds()
+    ensures no_more_identities { refusal_of_create_identity (codes "b") [] (record start { identities = replicate 2048 (1, record { name = codes "a"; attributes = [] }) }) ≡ Some (refusal.Full kind.Identity) }
+    ensures one_more_identity { refusal_of_create_identity (codes "b") [] (record start { identities = replicate 2047 (1, record { name = codes "a"; attributes = [] }) }) ≡ None }
+    ensures no_more_services { refusal_of_create_service (codes "b") [] (record start { services = replicate 512 (1, record { name = codes "a"; attributes = [] }) }) ≡ Some (refusal.Full kind.Service) }
+    ensures one_more_service { refusal_of_create_service (codes "b") [] (record start { services = replicate 511 (1, record { name = codes "a"; attributes = [] }) }) ≡ None }
+    ensures no_more_routers { refusal_of_create_router (codes "b") [] 0 false (record start { routers = replicate 256 (1, record { name = codes "a"; attributes = []; cost = 0; through = true; connected = false }) }) ≡ Some (refusal.Full kind.Router) }
+    ensures one_more_router { refusal_of_create_router (codes "b") [] 0 false (record start { routers = replicate 255 (1, record { name = codes "a"; attributes = []; cost = 0; through = true; connected = false }) }) ≡ None }
+    ensures no_more_service_policies { refusal_of_create_service_policy (record { name = codes "b"; relation = Dial; semantic = AnyOf; left = everyone; right = everyone }) (record start { service_policies = replicate 512 (1, record { name = codes "a"; relation = Dial; semantic = AnyOf; left = carrying []; right = carrying [] }) }) ≡ Some (refusal.Full kind.ServicePolicy) }
+    ensures one_more_service_policy { refusal_of_create_service_policy (record { name = codes "b"; relation = Dial; semantic = AnyOf; left = everyone; right = everyone }) (record start { service_policies = replicate 511 (1, record { name = codes "a"; relation = Dial; semantic = AnyOf; left = carrying []; right = carrying [] }) }) ≡ None }
+    ensures no_more_edge_router_policies { refusal_of_create_edge_router_policy (record { name = codes "b"; relation = Dial; semantic = AnyOf; left = everyone; right = everyone }) (record start { edge_router_policies = replicate 256 (1, record { name = codes "a"; relation = Dial; semantic = AnyOf; left = carrying []; right = carrying [] }) }) ≡ Some (refusal.Full kind.EdgeRouterPolicy) }
+    ensures one_more_edge_router_policy { refusal_of_create_edge_router_policy (record { name = codes "b"; relation = Dial; semantic = AnyOf; left = everyone; right = everyone }) (record start { edge_router_policies = replicate 255 (1, record { name = codes "a"; relation = Dial; semantic = AnyOf; left = carrying []; right = carrying [] }) }) ≡ None }
+    ensures no_more_service_edge_router_policies { refusal_of_create_service_edge_router_policy (record { name = codes "b"; relation = Dial; semantic = AnyOf; left = everyone; right = everyone }) (record start { service_edge_router_policies = replicate 256 (1, record { name = codes "a"; relation = Dial; semantic = AnyOf; left = carrying []; right = carrying [] }) }) ≡ Some (refusal.Full kind.ServiceEdgeRouterPolicy) }
+    ensures one_more_service_edge_router_policy { refusal_of_create_service_edge_router_policy (record { name = codes "b"; relation = Dial; semantic = AnyOf; left = everyone; right = everyone }) (record start { service_edge_router_policies = replicate 255 (1, record { name = codes "a"; relation = Dial; semantic = AnyOf; left = carrying []; right = carrying [] }) }) ≡ None }
+    ensures no_more_links { refusal_of_create_link (codes "b") (codes "r1") (codes "r2") (record line { links = replicate 4096 (1, record { name = codes "a"; a = 1; b = 2; cost = 1; latency_a = 0; latency_b = 0; up = true }) }) ≡ Some (refusal.Full kind.Link) }
+    ensures one_more_link { refusal_of_create_link (codes "b") (codes "r1") (codes "r2") (record line { links = replicate 4095 (1, record { name = codes "a"; a = 1; b = 2; cost = 1; latency_a = 0; latency_b = 0; up = true }) }) ≡ None }
+    ensures no_more_terminators { refusal_of_create_terminator (codes "web") (codes "r1") None (record line { terminators = replicate 4096 (1, record { service = 1; router = 1; instance = []; host = None; cost = 0; precedence = Normal }) }) ≡ Some (refusal.Full kind.Terminator) }
+    ensures one_more_terminator { refusal_of_create_terminator (codes "web") (codes "r1") None (record line { terminators = replicate 4095 (1, record { service = 1; router = 1; instance = []; host = None; cost = 0; precedence = Normal }) }) ≡ None }
+    ensures circuits { circuits_full (record start { circuits = replicate 16383 (1, record { identity = 1; service = 1; terminator = 1; ingress = 1; links = [] }) }) ≡ false }
+    ensures no_more_circuits { circuits_full (record start { circuits = replicate 16384 (1, record { identity = 1; service = 1; terminator = 1; ingress = 1; links = [] }) }) ≡ true }
+{}
+
+/// At most 1,024 attributes are in use, each counted once however often it is used.
+pub fn limit_of_attributes()
+    ensures as_many { attributes_full (record start { identities = (1, record { name = codes "a"; attributes = names_of_two_bytes }) ∷ [] }) ≡ false }
+    ensures one_more { attributes_full (record start { identities = (1, record { name = codes "a"; attributes = names_of_two_bytes }) ∷ []; services = (1, record { name = codes "a"; attributes = codes "a" ∷ [] }) ∷ [] }) ≡ true }
+    ensures used_twice { attributes_full (record start { identities = (1, record { name = codes "a"; attributes = names_of_two_bytes }) ∷ []; services = (1, record { name = codes "a"; attributes = codes "AA" ∷ [] }) ∷ [] }) ≡ false }
 {}
