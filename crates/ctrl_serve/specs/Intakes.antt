@@ -1,5 +1,5 @@
 -- What the taking of the input did.
-use Rattle.std.specs.Prelude.{ℕ, ◌+◌, ◌<◌, ◌≤◌, ⊤, List, length}
+use Rattle.std.specs.Prelude.{◌≡◌, ℕ, ◌+◌, ◌<◌, ◌≤◌, List, length}
 use Rattle.std.specs.declared.option.Option.{Option}
 use Rattle.std.specs.Io.KnownBytes.{IsAtEnd}
 use Rattle.ziti_outside.specs.Told.{Gave}
@@ -28,6 +28,6 @@ pub record IsCutIntake (most : ℕ) (before now : Option (List ℕ)) : Type 0 wh
 
 -- The count of faults rose where the source failed, and stayed where it did not.
 abbrev pub HasFault : End → ℕ → ℕ → Type 0
-HasFault Whole before now = ⊤
-HasFault More before now = ⊤
+HasFault Whole before now = now ≡ before
+HasFault More before now = now ≡ before
 HasFault Fault before now = Rose before now

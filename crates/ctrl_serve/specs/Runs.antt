@@ -28,9 +28,10 @@ EndsAs WriteFault clean end = ⊤
 EndsAs NoMemory clean end = ⊤
 EndsAs status clean end = status ≡ status_at clean end
 
--- A write fault came only where the count of failed says rose, which never falls.
+-- A write fault came only where the count of failed says rose, which never falls, and stays where no write fault came.
 pub record IsWriteCaused (before now : ℕ) (status : Status) : Type 0 where
   pub later : before ≤ now
+  pub calm : (status ≡ WriteFault → ⊥) → now ≡ before
   pub rose : status ≡ WriteFault → Rose before now
 
 -- What answering the taken bytes said, and the status: that of the taking and the tail, or of what cut it short.

@@ -1,8 +1,9 @@
-ghost use Rattle.std.specs.Prelude.{◌≡◌, ◌↔◌, ◌≤◌, ◌^◌, None, Some, take};
+ghost use Rattle.std.specs.Prelude.{◌≡◌, ◌↔◌, ◌≤◌, ◌^◌, false, None, Some, take};
 ghost use Rattle.std.specs.Io.KnownBytes.{IsAtEnd};
 ghost use Rattle.ziti_outside.specs.Causes.{Rose};
 ghost use Rattle.ctrl_serve.specs.CommandLine.{Dry, form_of, texts};
 ghost use Rattle.ctrl_serve.specs.Runs.{status_at, SaysIntake, IsWriteCaused};
+ghost use Rattle.ctrl_serve.specs.Ending.{is_cut};
 ghost use Rattle.ctrl_serve.specs.Headline.{AreBounds, Serves, NotesUsage, IsComplete};
 
 use crate::bounds::Bounds;
@@ -53,6 +54,7 @@ fn run_dry<S: Source, D: Desk>(alloc: Global, most: u64, source: &mut S, desk: &
     ensures serves { Serves most (S.left source.old) (S.left source.new) (D.said desk.old) (D.said desk.new) result }
     ensures read_fault { result ≡ Status.ReadFault → Rose (S.faults source.old) (S.faults source.new) }
     ensures write_fault { result ≡ Status.WriteFault → Rose (D.say_faults desk.old) (D.say_faults desk.new) }
+    ensures calm { is_cut result ≡ false → (S.faults source.new ≡ S.faults source.old) × (D.say_faults desk.new ≡ D.say_faults desk.old) }
     ensures reads_later { S.faults source.old ≤ S.faults source.new }
     ensures says_later { D.say_faults desk.old ≤ D.say_faults desk.new }
     ensures notes { D.noted desk.new ≡ D.noted desk.old }
@@ -95,9 +97,11 @@ pub fn run_within<S: Source, D: Desk>(
     ensures usage_note { form_of (texts words.now.items) ≡ None
         → NotesUsage (D.noted desk.old) (D.noted desk.new) (D.note_faults desk.old) (D.note_faults desk.new) }
 
-    // A fault comes only where its count rose in this call, and no count falls.
+    // A fault comes only where its count rose in this call, and where the run was not cut short no count rose. None falls.
     ensures read_fault { result ≡ Status.ReadFault → Rose (S.faults source.old) (S.faults source.new) }
     ensures write_fault { result ≡ Status.WriteFault → Rose (D.say_faults desk.old) (D.say_faults desk.new) }
+    ensures no_fault_is_swallowed { is_cut result ≡ false
+        → (S.faults source.new ≡ S.faults source.old) × (D.say_faults desk.new ≡ D.say_faults desk.old) }
     ensures read_faults_later { S.faults source.old ≤ S.faults source.new }
     ensures say_faults_later { D.say_faults desk.old ≤ D.say_faults desk.new }
     ensures note_faults_later { D.note_faults desk.old ≤ D.note_faults desk.new }
@@ -136,9 +140,11 @@ pub fn run<S: Source, D: Desk>(
     ensures usage_note { form_of (texts words.now.items) ≡ None
         → NotesUsage (D.noted desk.old) (D.noted desk.new) (D.note_faults desk.old) (D.note_faults desk.new) }
 
-    // A fault comes only where its count rose in this call, and no count falls.
+    // A fault comes only where its count rose in this call, and where the run was not cut short no count rose. None falls.
     ensures read_fault { result ≡ Status.ReadFault → Rose (S.faults source.old) (S.faults source.new) }
     ensures write_fault { result ≡ Status.WriteFault → Rose (D.say_faults desk.old) (D.say_faults desk.new) }
+    ensures no_fault_is_swallowed { is_cut result ≡ false
+        → (S.faults source.new ≡ S.faults source.old) × (D.say_faults desk.new ≡ D.say_faults desk.old) }
     ensures read_faults_later { S.faults source.old ≤ S.faults source.new }
     ensures say_faults_later { D.say_faults desk.old ≤ D.say_faults desk.new }
     ensures note_faults_later { D.note_faults desk.old ≤ D.note_faults desk.new }

@@ -1,12 +1,13 @@
 -- When a call on the outside may fail.
-use Rattle.std.specs.Prelude.{ℕ, ◌+◌, ◌-◌, ◌^◌, ◌≤◌, min, OnErr}
+use Rattle.std.specs.Prelude.{◌≡◌, ℕ, ◌+◌, ◌-◌, ◌^◌, ◌≤◌, min, OnOk, OnErr}
 use Rattle.std.specs.declared.result.Result.{Result}
 
 -- The count of faults rose: it is greater now, or it stands at the last value of a counter of 64 bits.
 abbrev pub Rose : ℕ → ℕ → Type 0
 Rose before now = min (before + 1) (2 ^ 64 - 1) ≤ now
 
--- The count of faults did not fall in a call, and the call failed only where the count rose.
+-- The count of faults did not fall in a call; it stayed where the call succeeded, and the call failed only where it rose.
 pub record HasCause {T E : Type 0} (before now : ℕ) (result : Result T E) : Type 0 where
   pub later : before ≤ now
+  pub calm : OnOk result (now ≡ before)
   pub failed : OnErr result (Rose before now)

@@ -15,7 +15,7 @@ frames-preserved g c =
     let front = sym c.in_ok-frame.ensures ∙ c.in-Whole.is in
     record {
       told = rw c.split_at.ensures.back (told_more c.frames.sequence c.in-Whole.len c.in-Whole.frame c.frames.core c.serve_frame.new.core c.frames.rest.now c.args.bytes.now _ _ _ front c.frames.invariant.told c.in_ok-serve_frame.ensures.ok);
-      later = omega (arith, c.frames.invariant.later, c.serve_frame.ensures.cause.later);
+      calm = c.in_ok-serve_frame.ensures.cause.calm ∙ c.frames.invariant.calm;
       notes = c.serve_frame.ensures.notes ∙ c.frames.invariant.notes;
       note_faults = c.serve_frame.ensures.note_faults ∙ c.frames.invariant.note_faults;
     }
@@ -26,7 +26,7 @@ returns g c =
     (λ f n e. c.in_default.not-Whole f n (c.in_ok-frame.ensures ∙ e)) c.frames.invariant.told in
     record {
       said = (all.0, c.is_empty.ensures ∙ is_nothing-length c.frames.rest.now ∙ ap (λ xs. is_nothing xs) all.1);
-      cause = record { later = c.frames.invariant.later; failed = tt };
+      cause = record { later = omega (arith, c.frames.invariant.calm); calm = c.frames.invariant.calm; failed = tt };
       notes = c.frames.invariant.notes;
       note_faults = c.frames.invariant.note_faults;
     }

@@ -6,7 +6,7 @@ use Rattle.ctrl_serve.proofs.serving.serve.Given as goal
 abbrev pub invariant-frames : goal.invariant-frames
 invariant-frames g l = record {
   told : Told l.sequence l.core l.rest l.bytes (g.D.Desk.said l.fn.desk) (g.D.Desk.said l.desk);
-  later : g.D.Desk.say_faults l.fn.desk ≤ g.D.Desk.say_faults l.desk;
+  calm : g.D.Desk.say_faults l.desk ≡ g.D.Desk.say_faults l.fn.desk;
   notes : g.D.Desk.noted l.desk ≡ g.D.Desk.noted l.fn.desk;
   note_faults : g.D.Desk.note_faults l.desk ≡ g.D.Desk.note_faults l.fn.desk;
 }
