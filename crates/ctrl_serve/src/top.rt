@@ -54,7 +54,8 @@ fn run_dry<S: Source, D: Desk>(alloc: Global, most: u64, source: &mut S, desk: &
     ensures serves { Serves most (S.left source.old) (S.left source.new) (D.said desk.old) (D.said desk.new) result }
     ensures read_fault { result ≡ Status.ReadFault → Rose (S.faults source.old) (S.faults source.new) }
     ensures write_fault { result ≡ Status.WriteFault → Rose (D.say_faults desk.old) (D.say_faults desk.new) }
-    ensures calm { is_cut result ≡ false → (S.faults source.new ≡ S.faults source.old) × (D.say_faults desk.new ≡ D.say_faults desk.old) }
+    ensures failed_take { is_cut result ≡ false → S.faults source.new ≡ S.faults source.old }
+    ensures failed_say { (result ≡ Status.WriteFault → ⊥) → D.say_faults desk.new ≡ D.say_faults desk.old }
     ensures reads_later { S.faults source.old ≤ S.faults source.new }
     ensures says_later { D.say_faults desk.old ≤ D.say_faults desk.new }
     ensures notes { D.noted desk.new ≡ D.noted desk.old }
@@ -97,11 +98,12 @@ pub fn run_within<S: Source, D: Desk>(
     ensures usage_note { form_of (texts words.now.items) ≡ None
         → NotesUsage (D.noted desk.old) (D.noted desk.new) (D.note_faults desk.old) (D.note_faults desk.new) }
 
-    // A fault comes only where its count rose in this call, and where the run was not cut short no count rose. None falls.
+    // A fault comes only where its count rose in this call. A failed take cuts the run short, and a failed say ends it with
+    // WriteFault. No count falls.
     ensures read_fault { result ≡ Status.ReadFault → Rose (S.faults source.old) (S.faults source.new) }
     ensures write_fault { result ≡ Status.WriteFault → Rose (D.say_faults desk.old) (D.say_faults desk.new) }
-    ensures no_fault_is_swallowed { is_cut result ≡ false
-        → (S.faults source.new ≡ S.faults source.old) × (D.say_faults desk.new ≡ D.say_faults desk.old) }
+    ensures failed_take { is_cut result ≡ false → S.faults source.new ≡ S.faults source.old }
+    ensures failed_say { (result ≡ Status.WriteFault → ⊥) → D.say_faults desk.new ≡ D.say_faults desk.old }
     ensures read_faults_later { S.faults source.old ≤ S.faults source.new }
     ensures say_faults_later { D.say_faults desk.old ≤ D.say_faults desk.new }
     ensures note_faults_later { D.note_faults desk.old ≤ D.note_faults desk.new }
@@ -140,11 +142,12 @@ pub fn run<S: Source, D: Desk>(
     ensures usage_note { form_of (texts words.now.items) ≡ None
         → NotesUsage (D.noted desk.old) (D.noted desk.new) (D.note_faults desk.old) (D.note_faults desk.new) }
 
-    // A fault comes only where its count rose in this call, and where the run was not cut short no count rose. None falls.
+    // A fault comes only where its count rose in this call. A failed take cuts the run short, and a failed say ends it with
+    // WriteFault. No count falls.
     ensures read_fault { result ≡ Status.ReadFault → Rose (S.faults source.old) (S.faults source.new) }
     ensures write_fault { result ≡ Status.WriteFault → Rose (D.say_faults desk.old) (D.say_faults desk.new) }
-    ensures no_fault_is_swallowed { is_cut result ≡ false
-        → (S.faults source.new ≡ S.faults source.old) × (D.say_faults desk.new ≡ D.say_faults desk.old) }
+    ensures failed_take { is_cut result ≡ false → S.faults source.new ≡ S.faults source.old }
+    ensures failed_say { (result ≡ Status.WriteFault → ⊥) → D.say_faults desk.new ≡ D.say_faults desk.old }
     ensures read_faults_later { S.faults source.old ≤ S.faults source.new }
     ensures say_faults_later { D.say_faults desk.old ≤ D.say_faults desk.new }
     ensures note_faults_later { D.note_faults desk.old ≤ D.note_faults desk.new }

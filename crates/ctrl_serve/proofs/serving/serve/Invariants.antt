@@ -1,4 +1,4 @@
-use Rattle.std.proofs.Common.{◌≡◌, ◌≤◌, length}
+use Rattle.std.proofs.Common.{◌≡◌, length}
 use Rattle.ctrl_serve.proofs.TurnLaws.{Told}
 use Rattle.ctrl_serve.proofs.serving.serve.Given as goal
 
