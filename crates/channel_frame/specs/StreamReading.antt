@@ -1,5 +1,5 @@
 -- A session's bytes read as frames and a tail. The reading is given twice: as a relation on whole lists of bytes (`Reads`),
--- and as functions that compute it; a law says that they are one.
+-- and as functions that compute it; a law says that they are one (docs/FORMATS.md, "Channel frame").
 use Rattle.std.specs.Prelude.{◌≡◌, ℕ, zero, suc, ◌+◌, ◌-◌, ◌<◌, ◌==◌, nat_lt, Bool, ◌&&◌, ◌||◌, if◌then◌else◌, List, [], ◌∷◌, ◌++◌, length, take, drop, slice_index, None, Some, Ok, Err}
 use Rattle.std.specs.declared.option.Option.{Option}
 use Rattle.std.specs.declared.result.Result.{Result}

@@ -3,7 +3,7 @@ use Rattle.std.proofs.Common.{◌≡◌, ℕ, Bool, true, false, cond, List, [],
 use Rattle.std.proofs.lemmas.Bool.{cond-true}
 use Rattle.std.specs.List.{filter}
 use Rattle.ctrl_model.specs.State.{State, Link, Terminator, Circuit}
-use Rattle.ctrl_model.specs.Settling.{settle, link_stays, terminator_stays, circuit_stays, settle_links, settle_terminators}
+use Rattle.ctrl_model.specs.Settling.{settle, link_stays, terminator_stays, stays_in, settle_links, settle_terminators}
 
 pub filter-filter : {X : Type 0} (p : X → Bool) (xs : List X) → filter p (filter p xs) ≡ filter p xs
 filter-filter p [] = refl
@@ -18,7 +18,7 @@ abbrev with_circuits_of : State → List (ℕ × Link) → List (ℕ × Terminat
 with_circuits_of s links terminators circuits = record s {
   links = links;
   terminators = terminators;
-  circuits = filter (circuit_stays (record s { links = links; terminators = terminators })) circuits;
+  circuits = filter (stays_in (record s { links = links; terminators = terminators })) circuits;
 }
 
 -- settling twice is settling once
@@ -26,4 +26,4 @@ pub settle-settle : (s : State) → settle (settle s) ≡ settle s
 settle-settle s =
     ap (λ links. with_circuits_of s links (filter (terminator_stays s) (settle s).terminators) (settle s).circuits) (filter-filter (link_stays s) s.links)
     ∙ ap (λ terminators. with_circuits_of s (settle s).links terminators (settle s).circuits) (filter-filter (terminator_stays s) s.terminators)
-    ∙ ap (λ circuits. record (settle s) { circuits = circuits }) (filter-filter (circuit_stays (settle_terminators (settle_links s))) s.circuits)
+    ∙ ap (λ circuits. record (settle s) { circuits = circuits }) (filter-filter (stays_in (settle_terminators (settle_links s))) s.circuits)

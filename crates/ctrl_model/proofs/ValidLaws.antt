@@ -10,7 +10,7 @@ use Rattle.ctrl_model.specs.declared.kinds.Relation.TheVariants.{IdentityRouter,
 use Rattle.ctrl_model.specs.State.{State, Entity, Router, Link, Policy, Terminator, Circuit, entity_named, router_named}
 use Rattle.ctrl_model.specs.CommandForm.{is_service_relation, is_link_cost}
 use Rattle.ctrl_model.specs.Grants.{same_relation}
-use Rattle.ctrl_model.specs.Settling.{settle, link_stays, terminator_stays, circuit_stays, settle_links, settle_terminators}
+use Rattle.ctrl_model.specs.Settling.{settle, link_stays, terminator_stays, stays_in, settle_links, settle_terminators}
 use Rattle.ctrl_model.specs.Rules.{carried_out, at_number, attributes_full, attributes_in_use, side_attributes}
 use Rattle.ctrl_model.specs.ValidState.{ValidState, ValidNumbers, is_valid_entity, is_valid_router, is_valid_link, is_valid_terminator, each_passes}
 use Rattle.ctrl_model.proofs.DistinctLaws.{Includes, Includes-append, distinct_count-Includes}
@@ -91,7 +91,7 @@ ValidState-settle s o =
       edge_router_policies = o.edge_router_policies.table;
       service_edge_router_policies = o.service_edge_router_policies.table;
       terminators = ValidNumbers-filter o.terminators.numbers (terminator_stays (settle_links s));
-      circuits = ValidNumbers-filter o.circuits (circuit_stays (settle_terminators (settle_links s)));
+      circuits = ValidNumbers-filter o.circuits (stays_in (settle_terminators (settle_links s)));
       each_identity = o.identities.each;
       each_service = o.services.each;
       each_router = o.routers.each;

@@ -90,8 +90,8 @@ entry_for (e ∷ es) t = cond (e.router.0 == t) (Some e) (entry_for es t)
 abbrev pub claimed : Network → List Reach → ℕ → ℕ → ℕ
 claimed w es t v = option_map_or (λ (e : Reach). value_at (router_numbers w) e.values v) (entry_for es t) no_path
 
--- The terminator beats no total of its precedence: from this ingress it has no path, or with a better precedence none, or
--- with the same precedence none of a lower total.
+-- The terminator does not beat the claim: from this ingress, one of a better precedence has no path, and one of the claim's
+-- precedence has none of a lower total.
 abbrev pub is_no_better : Network → Explanation → ℕ → ℕ → ℕ × Terminator → Bool
 is_no_better w claim place ingress e =
     cond (nat_lt (place_of e.1.precedence) place)

@@ -1,4 +1,4 @@
--- What stands in a list.
+-- What stands in a list (docs/PROMISES.md, "The controller").
 use Rattle.std.specs.Prelude.{◌≡◌, ◌⊎◌, List, [], ◌∷◌}
 
 -- The element is one of the list's.

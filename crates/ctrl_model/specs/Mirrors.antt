@@ -1,5 +1,5 @@
 -- When one rule of hops mirrors another: it has the same hops between places under other names. So a graph by places can stand
--- for a network by router numbers.
+-- for a network by router numbers (docs/RULES.md, "Paths").
 use Rattle.std.specs.Prelude.{◌≡◌, ℕ, ◌<◌, List, Some}
 use Rattle.std.specs.Option.{option_map}
 use Rattle.std.specs.List.{AllByRecursion}

@@ -1,4 +1,4 @@
--- Which bytes are a name, and which an instance.
+-- Which bytes are a name, and which an instance (docs/RULES.md, "Names").
 use Rattle.std.specs.Prelude.{ℕ, Bool, ◌&&◌, ◌||◌, ◌==◌, nat_le, List, length}
 use Rattle.std.specs.List.{list_all}
 

@@ -1,4 +1,4 @@
--- What a path of the network is, in plain words: by the routers that it visits, in order.
+-- What a path of the network is, in plain words: by the routers that it visits, in order (docs/RULES.md, "Links and paths").
 use Rattle.std.specs.Prelude.{◌≡◌, ℕ, ⊤, Bool, true, false, ◌⊎◌, List, [], ◌∷◌, Some}
 use Rattle.std.specs.Option.{option_map_or}
 use Rattle.ctrl_model.specs.declared.kinds.RouterSeen.{RouterSeen}

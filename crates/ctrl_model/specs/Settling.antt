@@ -1,9 +1,10 @@
 -- Settling: what stands no longer is removed after each change (docs/RULES.md, "Settling").
-use Rattle.std.specs.Prelude.{ℕ, Bool, true, false, ◌&&◌, filter}
+use Rattle.std.specs.Prelude.{ℕ, Bool, true, false, ◌&&◌, List, filter}
 use Rattle.std.specs.Option.{option_map_or}
-use Rattle.ctrl_model.specs.Numbered.{at, is_present}
+use Rattle.ctrl_model.specs.Numbered.{at, is_present, numbers}
 use Rattle.ctrl_model.specs.State.{State, Link, Terminator, Circuit}
-use Rattle.ctrl_model.specs.Networks.{network_of, is_path}
+use Rattle.ctrl_model.specs.Walks.{is_among}
+use Rattle.ctrl_model.specs.Networks.{Network, network_of, is_path}
 
 -- A link stays whose two routers are present.
 abbrev pub link_stays : State → ℕ × Link → Bool
@@ -16,15 +17,20 @@ terminator_stays s row =
     && (is_present s.routers row.1.router && option_map_or (is_present s.identities) row.1.host true)
 
 -- The links are still a path from the circuit's ingress to its terminator's router.
-abbrev pub circuit_reaches : State → Circuit → Terminator → Bool
-circuit_reaches s c e = is_path (network_of s) c.ingress c.links e.router
+abbrev pub circuit_reaches : Network → Circuit → Terminator → Bool
+circuit_reaches w c e = is_path w c.ingress c.links e.router
 
 -- A circuit stays whose identity, service and terminator are present and whose links are still a path from its ingress to
--- the terminator's router.
-abbrev pub circuit_stays : State → ℕ × Circuit → Bool
-circuit_stays s row =
-    is_present s.identities row.1.identity
-    && (is_present s.services row.1.service && option_map_or (circuit_reaches s row.1) (at s.terminators row.1.terminator) false)
+-- the terminator's router. It is said over the network and the numbers of the present identities and services, so that
+-- whoever keeps circuits without a state says it in the same words.
+abbrev pub circuit_stays : Network → List ℕ → List ℕ → ℕ × Circuit → Bool
+circuit_stays w identities services row =
+    is_among row.1.identity identities
+    && (is_among row.1.service services && option_map_or (circuit_reaches w row.1) (at w.terminators row.1.terminator) false)
+
+-- The circuit stays in the state.
+abbrev pub stays_in : State → ℕ × Circuit → Bool
+stays_in s = circuit_stays (network_of s) (numbers s.identities) (numbers s.services)
 
 -- The first filter.
 abbrev pub settle_links : State → State
@@ -36,7 +42,7 @@ settle_terminators s = record s { terminators = filter (terminator_stays s) s.te
 
 -- The third filter.
 abbrev pub settle_circuits : State → State
-settle_circuits s = record s { circuits = filter (circuit_stays s) s.circuits }
+settle_circuits s = record s { circuits = filter (stays_in s) s.circuits }
 
 -- The state settled: links, then terminators, then circuits are filtered.
 abbrev pub settle : State → State

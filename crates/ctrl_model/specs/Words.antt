@@ -1,4 +1,4 @@
--- The words of fields, as bodies and refusals spell them.
+-- The words of fields, as bodies and refusals spell them (docs/FORMATS.md, "Refusals").
 use Rattle.std.specs.Prelude.{ℕ, List, [], codes}
 use Rattle.ctrl_model.specs.declared.refusals.Field.{Field}
 use Rattle.ctrl_model.specs.declared.refusals.Field.TheVariants as field

@@ -7,7 +7,7 @@ ghost use Rattle.ctrl_model.specs.declared.replies.Reply.TheVariants.{Refused};
 ghost use Rattle.ctrl_model.specs.Numbered.{at, Between};
 ghost use Rattle.ctrl_model.specs.State.{State, Entity, Router, Link, Policy, Terminator, Circuit, entity_named, router_named, link_named, policy_named};
 ghost use Rattle.ctrl_model.specs.Grants.{count, left_entity, right_entity};
-ghost use Rattle.ctrl_model.specs.Settling.{settle, link_stays, terminator_stays, circuit_stays};
+ghost use Rattle.ctrl_model.specs.Settling.{settle, link_stays, terminator_stays, stays_in};
 ghost use Rattle.ctrl_model.specs.TouchedTables.{touched_by, ChangesOnly};
 ghost use Rattle.ctrl_model.specs.Controller.{answer};
 ghost use Rattle.ctrl_model.specs.ValidState.{ValidState};
@@ -47,15 +47,17 @@ pub fn settling_only_removes()
     ensures rest { (s : State) → record (settle s) { links = s.links; terminators = s.terminators; circuits = s.circuits } ≡ s }
     ensures links { (s : State) → (settle s).links ≡ filter (link_stays s) s.links }
     ensures terminators { (s : State) → (settle s).terminators ≡ filter (terminator_stays s) s.terminators }
-    ensures circuits { (s : State) → (settle s).circuits ≡ filter (circuit_stays (record s { links = (settle s).links; terminators = (settle s).terminators })) s.circuits }
+    ensures circuits { (s : State) → (settle s).circuits ≡ filter (stays_in (record s { links = (settle s).links; terminators = (settle s).terminators })) s.circuits }
     ensures link_stood { (s : State) (n : ℕ) (l : Link) → Between 1 s.next_link s.links → at (settle s).links n ≡ Some l → at s.links n ≡ Some l }
     ensures terminator_stood { (s : State) (n : ℕ) (e : Terminator) → Between 1 s.next_terminator s.terminators → at (settle s).terminators n ≡ Some e → at s.terminators n ≡ Some e }
     ensures circuit_stood { (s : State) (n : ℕ) (c : Circuit) → Between 1 s.next_circuit s.circuits → at (settle s).circuits n ≡ Some c → at s.circuits n ≡ Some c }
 {}
 
-/// A command leaves the state, or changes no more than the tables of its kind and settles.
+/// A command leaves the state, or has an effect that is then settled: it adds, changes or deletes one record, that which it names,
+/// and leaves every other record, every other table and every other next number. Deleting an entity also takes its name out of the
+/// `@` names of the policies that could name it.
 pub fn untouched_tables()
-    ensures { (who : Who) (c : Command) (s : State) → ((answer who c s).1 ≡ s) ⊎ ChangesOnly (touched_by c) s (answer who c s).1 }
+    ensures { (who : Who) (c : Command) (s : State) → ((answer who c s).1 ≡ s) ⊎ ChangesOnly (touched_by c s) s (answer who c s).1 }
 {}
 
 /// A next number has an end.

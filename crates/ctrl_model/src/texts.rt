@@ -2,7 +2,7 @@ ghost use Rattle.std.specs.Prelude.{◌≡◌, ◌↔◌, true, false, IfOk, IsE
 ghost use Rattle.std.specs.List.{list_all};
 ghost use Rattle.ctrl_model.specs.NameForm.{is_name, is_name_byte, is_instance};
 
-use std::alloc::{AllocError, AllocFailed, Global};
+use std::alloc::{AllocError, Global};
 use std::marker::Model;
 use thiserror::Error;
 

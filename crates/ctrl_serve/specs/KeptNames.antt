@@ -1,4 +1,5 @@
--- The state that a list of names stands for: identities numbered from 1 in this order, without attributes.
+-- The state that a list of names stands for: identities numbered from 1 in this order, without attributes
+-- (docs/PROMISES.md, "What a frame is answered").
 use Rattle.std.specs.Prelude.{ℕ, ◌+◌, List, [], ◌∷◌, length}
 use Rattle.ctrl_model.specs.State.{State, Entity, start}
 

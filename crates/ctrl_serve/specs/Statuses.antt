@@ -1,4 +1,4 @@
--- The numbers of the statuses.
+-- The numbers of the statuses (docs/FORMATS.md, "Statuses").
 use Rattle.std.specs.Prelude.{ℕ}
 use Rattle.ctrl_serve.specs.declared.status.Status.{Status}
 use Rattle.ctrl_serve.specs.declared.status.Status.TheVariants.{Done, Usage, BadInput, Truncated, ReadFault, WriteFault, DiskFault, Damaged, NoMemory, InputTooLong, FolderFull}

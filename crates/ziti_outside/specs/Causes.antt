@@ -1,4 +1,4 @@
--- When a call on the outside may fail.
+-- When a call on the outside may fail (docs/PROMISES.md, "The outside").
 use Rattle.std.specs.Prelude.{◌≡◌, ℕ, ◌+◌, ◌-◌, ◌^◌, ◌≤◌, min, OnOk, OnErr}
 use Rattle.std.specs.declared.result.Result.{Result}
 

@@ -1,4 +1,5 @@
--- What a call did to contents that may be told or untold. Each is an equation, so that both sides are told or neither is.
+-- What a call did to contents that may be told or untold. Each is an equation, so that both sides are told or neither is
+-- (docs/PROMISES.md, "The outside").
 use Rattle.std.specs.Prelude.{◌≡◌, ℕ, ◌≤◌, List, ◌++◌, length, take, ⊤, MatchResult}
 use Rattle.std.specs.declared.option.Option.{Option}
 use Rattle.std.specs.declared.result.Result.{Result}

@@ -1,4 +1,4 @@
-use Rattle.ctrl_model.specs.Settling.{link_stays, terminator_stays, circuit_stays, settle_links, settle_terminators}
+use Rattle.ctrl_model.specs.Settling.{link_stays, terminator_stays, stays_in, settle_links, settle_terminators}
 use Rattle.ctrl_model.proofs.NumberedLaws.{at-filter-back}
 use Rattle.ctrl_model.proofs.state_laws.settling_only_removes.Goals as goal
 
@@ -9,4 +9,4 @@ pub returns-clause-terminator_stood : goal.returns-clause-terminator_stood
 returns-clause-terminator_stood c s n t b e = (at-filter-back (terminator_stays (settle_links s)) s.next_terminator s.terminators 1 n t b e).0
 
 pub returns-clause-circuit_stood : goal.returns-clause-circuit_stood
-returns-clause-circuit_stood c s n t b e = (at-filter-back (circuit_stays (settle_terminators (settle_links s))) s.next_circuit s.circuits 1 n t b e).0
+returns-clause-circuit_stood c s n t b e = (at-filter-back (stays_in (settle_terminators (settle_links s))) s.next_circuit s.circuits 1 n t b e).0
