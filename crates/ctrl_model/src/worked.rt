@@ -25,6 +25,7 @@ ghost use Rattle.ctrl_model.specs.Rules.{attributes_full};
 ghost use Rattle.ctrl_model.specs.TerminatorCommands.{refusal_of_create_terminator};
 ghost use Rattle.ctrl_model.specs.Claims.{least_cost, no_path};
 ghost use Rattle.ctrl_model.specs.Permitted.{is_permitted};
+ghost use Rattle.ctrl_model.specs.Settling.{circuit_stays};
 ghost use Rattle.ctrl_model.specs.Controller.{answer};
 ghost use Rattle.ctrl_model.specs.WorkedStates.{reply_to, after, everyone, only, carrying, service_policy, link_of_eleven, offered, line, line_without_terminator, line_stopped_at_r2, line_of_precedences, square, two_policies, hosted_line, narrow_line, line_from_two, two_terminators, fork, ann_to_web, explain_ann_to_web, claim_on_line, claim_from_r1, claim_by_ingress, towards, names_of_one_byte, names_of_one_byte_but_one, names_of_two_bytes};
 
@@ -415,6 +416,16 @@ pub fn settled_circuits()
     ensures no_bind { reply_to (ShowCircuit 1) (after (ann_to_web ∷ DeleteServicePolicy (codes "bind") ∷ []) hosted_line) ≡ reply.Shown (codes "ann") (codes "r1") (1 ∷ 2 ∷ []) (codes "web") (record { 0 = 1 }) }
     ensures dearer { reply_to (ShowCircuit 1) (after (ann_to_web ∷ CreateLink (codes "l3") (codes "r1") (codes "r3") 1 0 0 ∷ []) line) ≡ reply.Shown (codes "ann") (codes "r1") (1 ∷ 2 ∷ []) (codes "web") (record { 0 = 1 }) }
     ensures host_without_router { reply_to ann_to_web (after (DeleteEdgeRouterPolicy (codes "bobs") ∷ []) hosted_line) ≡ reply.Refused (refusal.Denied denial.NoAdmissibleTerminator) }
+{}
+
+/// Whether a circuit of the line stays, said of a network and the present identities and services: each of the two must be
+/// present under its own number, and the terminator too, and the links must still be a path.
+pub fn circuits_that_stay()
+    ensures stays { circuit_stays (network_of line) (1 ∷ 3 ∷ []) (1 ∷ 2 ∷ []) (7, record { identity = 3; service = 2; terminator = 1; ingress = 1; links = 1 ∷ 2 ∷ [] }) ≡ true }
+    ensures identity_gone { circuit_stays (network_of line) (1 ∷ 2 ∷ []) (2 ∷ 3 ∷ []) (7, record { identity = 3; service = 2; terminator = 1; ingress = 1; links = 1 ∷ 2 ∷ [] }) ≡ false }
+    ensures service_gone { circuit_stays (network_of line) (2 ∷ 3 ∷ []) (1 ∷ 3 ∷ []) (7, record { identity = 3; service = 2; terminator = 1; ingress = 1; links = 1 ∷ 2 ∷ [] }) ≡ false }
+    ensures terminator_gone { circuit_stays (network_of line) (3 ∷ []) (2 ∷ []) (7, record { identity = 3; service = 2; terminator = 2; ingress = 1; links = 1 ∷ 2 ∷ [] }) ≡ false }
+    ensures no_path { circuit_stays (network_of line) (3 ∷ []) (2 ∷ []) (7, record { identity = 3; service = 2; terminator = 1; ingress = 1; links = 2 ∷ 1 ∷ [] }) ≡ false }
 {}
 
 /// Who may send what: each command that a router or an identity may send at all, for itself and for another.
