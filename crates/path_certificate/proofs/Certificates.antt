@@ -1,6 +1,7 @@
 -- What a certificate is for.
 use Rattle.std.proofs.Common.{◌≡◌, ℕ, ◌<◌, ◌≤◌, true, List, [], ◌∷◌, arith}
-use Rattle.path_certificate.specs.Graphs.{GraphSeen, absent, graph_hops, IsGraph, potential, Certified, cost_of, IsLeastPath, AreLeast, none_improves}
+use Rattle.ctrl_model.specs.Claims.{no_path}
+use Rattle.path_certificate.specs.Graphs.{GraphSeen, graph_hops, IsGraph, potential, Certified, cost_of, IsLeastPath, AreLeast, none_improves}
 use Rattle.path_certificate.proofs.StepLaws.{hops_cost}
 use Rattle.path_certificate.proofs.LowerBounds.{below_walk, path_cost_few}
 use Rattle.path_certificate.proofs.TightChains.{tight_cost, tight_path}
@@ -20,7 +21,7 @@ settled_least g t p graph zero_at settled = λ v place. record {
   below = λ links path. below_walk g t p settled zero_at links (v ∷ []) v path;
   none = λ is links path.
       let low : potential p v ≤ cost_of g t v links = below_walk g t p settled zero_at links (v ∷ []) v path in
-      let few : cost_of g t v links < absent = path_cost_few g t v links graph place path in
+      let few : cost_of g t v links < no_path = path_cost_few g t v links graph place path in
       omega arith;
 }
 
