@@ -1,6 +1,7 @@
-ghost use Rattle.std.specs.Prelude.{◌↔◌, ◌≡◌, ◌<◌, length, find, option_map, IfSome, IsTrue};
-ghost use Rattle.ctrl_model.specs.Claims.{is_tight, reach_over};
-ghost use Rattle.path_certificate.specs.Graphs.{leaves, potential, improves, none_improves, is_tight_hop, graph_hops, Certified, IsLeastPath, AreLeast};
+ghost use Rattle.std.specs.Prelude.{◌↔◌, ◌≡◌, ◌+◌, ◌<◌, length, find, option_map, IfSome, IsTrue};
+ghost use Rattle.ctrl_model.specs.Claims.{no_path, is_tight, reach_over};
+ghost use Rattle.path_certificate.specs.Graphs.{leaves, potential, improves, none_improves, graph_hops};
+ghost use Rattle.path_certificate.specs.Certified.{Certified, IsLeastPath, AreLeast};
 
 use crate::graph::{Graph, Step};
 use ctrl_model::Potentials;
@@ -27,7 +28,7 @@ pub fn improves(graph: &Graph, target: u16, potentials: &[u64], step: &Step) -> 
 pub fn is_tight(potentials: &[u64], step: &Step) -> bool
     requires from { step.now.from < length potentials.now }
     requires to { step.now.to < length potentials.now }
-    ensures { result ≡ is_tight_hop potentials.now step.now.from (step.now.to, step.now.cost) }
+    ensures { IsTrue result ↔ (potential potentials.now step.now.from ≡ step.now.cost + potential potentials.now step.now.to) × (potential potentials.now step.now.from < no_path) }
 {
     let start = potentials[step.from as usize];
     start == reach(potentials, step) && start < u64::MAX

@@ -1,6 +1,7 @@
 ghost use Rattle.std.specs.Prelude.{◌≡◌, [], ◌∷◌, None, Some, true, false};
 ghost use Rattle.ctrl_model.specs.Claims.{no_path};
-ghost use Rattle.path_certificate.specs.Graphs.{graph_hops, none_improves, is_ordered, Certified, IsPath, cost_of};
+ghost use Rattle.path_certificate.specs.Graphs.{graph_hops, none_improves, is_ordered, IsPath, cost_of};
+ghost use Rattle.path_certificate.specs.Certified.{Certified};
 ghost use Rattle.path_certificate.specs.WorkedGraphs.{row, blocked_row, triangle, square, single};
 ghost use Rattle.ctrl_model.specs.Walks.{goes};
 

@@ -1,6 +1,6 @@
 -- The chain that takes at each place the tight hop over the least link comes first among the least paths.
-use Rattle.std.proofs.Common.{◌≡◌, ℕ, ◌+◌, ◌<◌, ◌≤◌, ◌⊎◌, ◌==◌, ◌&&◌, ◌||◌, Bool, cond, true, false, inl, inr, ⊎_elim, List, [], ◌∷◌, ◌++◌, length, Some, None, refl, sym, ◌∙◌, ap, subst, arith, eqb, ltb, eqb-true, eq-eqb, Ordering, nat_cmp, is_lt, append_assoc, append-nil}
-use Rattle.std.proofs.lemmas.Bool.{and_parts, and_from, cases_order, false≢true}
+use Rattle.std.proofs.Common.{◌≡◌, ℕ, ◌+◌, ◌<◌, ◌≤◌, ◌⊎◌, ◌==◌, ◌&&◌, ◌||◌, Bool, cond, true, false, inl, inr, ⊎_elim, List, [], ◌∷◌, ◌++◌, length, Some, None, refl, sym, ◌∙◌, ap, subst, arith, eqb, ltb, eqb-true, eq-eqb, ltb-true, Ordering, nat_cmp, is_lt, append_assoc, append-nil}
+use Rattle.std.proofs.lemmas.Bool.{and_parts, and_from, cases_order, false≢true, lt-ltb}
 use Rattle.std.proofs.lemmas.Bool.Decides.{nat_tests}
 use Rattle.std.proofs.lemmas.Option.{same_Some}
 use Rattle.std.specs.Ordering.{ordering_then}
@@ -10,12 +10,13 @@ use Rattle.ctrl_model.specs.Walks.{Hops, goes, cost_along}
 use Rattle.ctrl_model.specs.Membership.{Among}
 use Rattle.ctrl_model.proofs.Members.{list_all-among, find_passes, find_among}
 use Rattle.ctrl_model.proofs.WalkLaws.{by_goes, cost_along-more}
+use Rattle.ctrl_model.proofs.ClaimLaws.{tight_cost}
 use Rattle.path_certificate.specs.declared.graph.Step.{Step}
 use Rattle.ctrl_model.specs.Claims.{is_tight, no_path, reach_over}
-use Rattle.path_certificate.specs.Graphs.{GraphSeen, counts, graph_hops, before, is_ordered, IsGraph, potential, none_improves, is_tight_hop}
+use Rattle.path_certificate.specs.Graphs.{GraphSeen, counts, graph_hops, before, is_ordered, IsGraph, potential, none_improves}
 use Rattle.path_certificate.proofs.StepLaws.{by_hop, hop_of, hop_is, hops_cost}
 use Rattle.path_certificate.proofs.LowerBounds.{settled_hop, below_walk}
-use Rattle.path_certificate.proofs.TightChains.{IsTight, IsTight-from_test, is_tight_hop-from, by_tight, tight_more, tight_cost, tight_path}
+use Rattle.path_certificate.proofs.TightChains.{IsTight, by_tight, tight_more, tight_path}
 use Rattle.path_search.specs.Supports.{falls_from}
 use Rattle.path_search.specs.Searches.{IsLeast, IsFirst}
 use Rattle.path_search.proofs.SettledCosts.{least_zero, least_settled}
@@ -92,7 +93,7 @@ first_path g t p v ls graph target there least chain =
     let falls = first_tight (graph_hops g t) p t ls v chain in
     record {
       path_is = tight_path (graph_hops g t) p t costs ls v falls;
-      cost_is = tight_cost (graph_hops g t) p t zero_at ls v falls;
+      cost_is = tight_cost (graph_hops g t) (potential p) t zero_at ls v falls;
       first = λ other path cost. chain_first (graph_hops g t) p t zero_at costs ls other v chain
           (least_tight g t p settled zero_at other (v ∷ []) v path cost there);
     }
@@ -139,19 +140,33 @@ pub record Falls (g : GraphSeen) (t : ℕ) (p : List ℕ) (v : ℕ) (s : Step) :
 Falls-from_test : (g : GraphSeen) (t : ℕ) (p : List ℕ) (v : ℕ) (s : Step) → falls_from g.through t p v s ≡ true
     → Falls g t p v s
 Falls-from_test g t p v s e =
-    let outer = and_parts ((s.from == v) && counts g.through t s) (is_tight_hop p s.from (s.to, s.cost)) e in
-    let inner = and_parts (s.from == v) (counts g.through t s) outer.0 in
+    let outer = and_parts ((s.from == v) && counts g.through t s && falls) there e in
+    let middle = and_parts ((s.from == v) && counts g.through t s) falls outer.0 in
+    let inner = and_parts (s.from == v) (counts g.through t s) middle.0 in
     let from = eqb-true s.from v inner.0 in
-    let falls = subst (λ x. IsTight p x (s.to, s.cost)) from (IsTight-from_test p s.from (s.to, s.cost) outer.1) in
-    record { from = from; counted = inner.1; falls = falls }
+    let tight : IsTight p s.from (s.to, s.cost) = record {
+      falls = eqb-true (potential p s.from) (s.cost + potential p s.to) middle.1;
+      there = ltb-true (potential p s.from) no_path outer.1;
+    } in
+    record { from = from; counted = inner.1; falls = subst (λ x. IsTight p x (s.to, s.cost)) from tight }
+  where
+    falls : Bool
+    falls = potential p s.from == (s.cost + potential p s.to)
+
+    there : Bool
+    there = ltb (potential p s.from) no_path
 
 -- a tight hop is a step that falls from its place
 falls_of : (g : GraphSeen) (t : ℕ) (p : List ℕ) (v : ℕ) (s : Step) → s.from ≡ v → counts g.through t s ≡ true
     → IsTight p v (s.to, s.cost) → falls_from g.through t p v s ≡ true
 falls_of g t p v s from c falls =
-    and_from ((s.from == v) && counts g.through t s) (is_tight_hop p s.from (s.to, s.cost))
+    let tight : IsTight p s.from (s.to, s.cost) = subst (λ x. IsTight p x (s.to, s.cost)) (sym from) falls in
+    and_from ((s.from == v) && counts g.through t s && (potential p s.from == (s.cost + potential p s.to)))
+    (ltb (potential p s.from) no_path)
+    (and_from ((s.from == v) && counts g.through t s) (potential p s.from == (s.cost + potential p s.to))
     (and_from (s.from == v) (counts g.through t s) (eq-eqb s.from v from) c)
-    (is_tight_hop-from p s.from (s.to, s.cost) (subst (λ x. IsTight p x (s.to, s.cost)) (sym from) falls))
+    (eq-eqb (potential p s.from) (s.cost + potential p s.to) tight.falls))
+    (lt-ltb (potential p s.from) no_path tight.there)
 
 -- the first step that falls from a place is a first hop
 pub first_hop : (g : GraphSeen) (t : ℕ) (p : List ℕ) (v : ℕ) (s : Step) → IsGraph g.through g.steps

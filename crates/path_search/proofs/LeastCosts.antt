@@ -2,12 +2,13 @@
 use Rattle.std.proofs.Common.{◌≡◌, ℕ, zero, suc, ◌+◌, ◌-◌, ◌*◌, ◌<◌, ◌≤◌, max, true, inl, inr, ⊎_elim, List, [], ◌∷◌, length, subst, arith, eq-eqb}
 use Rattle.ctrl_model.specs.Membership.{Among}
 use Rattle.ctrl_model.proofs.WalkLaws.{cost_along-le}
+use Rattle.ctrl_model.proofs.ClaimLaws.{tight_cost}
 use Rattle.path_certificate.specs.declared.graph.Step.{Step}
 use Rattle.ctrl_model.specs.Claims.{is_tight, no_path, reach_over}
 use Rattle.path_certificate.specs.Graphs.{GraphSeen, graph_hops, IsGraph, potential, none_improves, cost_of}
 use Rattle.path_certificate.proofs.StepLaws.{by_hop, hop_is, hops_cost, path_short}
 use Rattle.path_certificate.proofs.LowerBounds.{settled_hop}
-use Rattle.path_certificate.proofs.TightChains.{tight_more, tight_cost, tight_path}
+use Rattle.path_certificate.proofs.TightChains.{tight_more, tight_path}
 use Rattle.path_certificate.proofs.Certificates.{settled_least}
 use Rattle.path_search.specs.Supports.{Paid, Supported}
 use Rattle.path_search.specs.Searches.{IsLeast, AreFew, greatest_cost}
@@ -52,7 +53,7 @@ supported_least g t p graph kept settled = record {
         some = λ there.
             let chain = chain_of g t p graph kept settled (potential p v) v place there (omega arith) in
             let path = tight_path (graph_hops g t) p t (hops_cost g t graph) chain.0 v chain.1 in
-            let cost = tight_cost (graph_hops g t) p t kept.zero_at_target chain.0 v chain.1 in
+            let cost = tight_cost (graph_hops g t) (potential p) t kept.zero_at_target chain.0 v chain.1 in
             (chain.0, path, cost);
         below = lower.below;
       };

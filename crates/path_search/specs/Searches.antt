@@ -1,4 +1,4 @@
--- What a search for least paths finds, said of all paths of the graph.
+-- What a search for least paths finds, said of all paths of the graph (docs/PROMISES.md, "Paths of a graph").
 use Rattle.std.specs.Prelude.{◌≡◌, ℕ, ◌-◌, ◌*◌, ◌<◌, ◌≤◌, max, List, [], ◌∷◌, length, false}
 use Rattle.std.specs.Cmp.Lexicographic.{slice_cmp}
 use Rattle.std.specs.Ordering.{nat_cmp, is_lt}

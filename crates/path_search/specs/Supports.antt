@@ -1,9 +1,9 @@
 -- What the private functions of the search keep. No public contract cites it.
-use Rattle.std.specs.Prelude.{◌≡◌, ℕ, ◌+◌, ◌<◌, ◌≤◌, ◌==◌, ◌&&◌, ◌⊎◌, Bool, List, length, Some}
+use Rattle.std.specs.Prelude.{◌≡◌, ℕ, ◌+◌, ◌<◌, ◌≤◌, ◌==◌, ◌&&◌, ◌⊎◌, nat_lt, Bool, List, length, Some}
 use Rattle.path_certificate.specs.declared.graph.Step.{Step}
 use Rattle.std.specs.List.{slice_set}
 use Rattle.ctrl_model.specs.Claims.{no_path, reach_over}
-use Rattle.path_certificate.specs.Graphs.{GraphSeen, counts, graph_hops, potential, is_tight_hop}
+use Rattle.path_certificate.specs.Graphs.{GraphSeen, counts, graph_hops, potential}
 
 -- A place's potential is at least what some hop from it gives.
 pub record Paid (g : GraphSeen) (target : ℕ) (p : List ℕ) (v : ℕ) : Type 0 where
@@ -27,6 +27,7 @@ reached p s = reach_over s.cost (potential p s.to)
 abbrev pub lowered : List ℕ → Step → List ℕ
 lowered p s = slice_set p s.from (reached p s)
 
--- The step leaves the place, counts, and falls from the place's potential by exactly its cost.
+-- The step leaves the place, counts, and falls from the place's potential, which is not `no_path`, by exactly its cost.
 abbrev pub falls_from : List Bool → ℕ → List ℕ → ℕ → Step → Bool
-falls_from through t p v s = (s.from == v) && counts through t s && is_tight_hop p s.from (s.to, s.cost)
+falls_from through t p v s =
+    (s.from == v) && counts through t s && (potential p s.from == s.cost + potential p s.to) && nat_lt (potential p s.from) no_path
