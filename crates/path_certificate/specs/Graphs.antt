@@ -1,19 +1,15 @@
--- Graphs, their paths, and what certifies a path.
-use Rattle.std.specs.Prelude.{◌≡◌, ◌≢◌, ℕ, ◌+◌, ◌^◌, ◌<◌, ◌≤◌, ◌==◌, min, nat_lt, Bool, true, false, not, ◌&&◌, ◌||◌, cond, List, [], ◌∷◌, length, None, Some, option_and_then, slice_index, slice_index_or, find}
+-- Graphs and their paths (docs/PROMISES.md, "Paths of a graph").
+use Rattle.std.specs.Prelude.{◌≡◌, ◌≢◌, ℕ, ◌^◌, ◌<◌, ◌≤◌, ◌==◌, nat_lt, Bool, true, false, not, ◌&&◌, ◌||◌, cond, List, [], ◌∷◌, length, None, Some, option_and_then, slice_index, slice_index_or, find}
 use Rattle.std.specs.declared.option.Option.{Option}
-use Rattle.std.specs.Option.{option_map_or}
 use Rattle.std.specs.List.{list_all, AllByRecursion}
 use Rattle.path_certificate.specs.declared.graph.Step.{Step}
 use Rattle.ctrl_model.specs.Walks.{Hops, goes, cost_along}
+use Rattle.ctrl_model.specs.Claims.{reach_over}
 
 -- A graph: for each place whether it may be passed through, and the steps.
 pub record GraphSeen : Type 0 where
   pub through : List Bool
   pub steps : List Step
-
--- The potential that says that there is no path: the greatest number of 64 bits.
-abbrev pub absent : ℕ
-absent = 18446744073709551615
 
 -- The step leaves the place over the link.
 abbrev pub leaves : ℕ → ℕ → Step → Bool
@@ -59,36 +55,13 @@ pub record IsGraph (through : List Bool) (steps : List Step) : Type 0 where
 abbrev pub potential : List ℕ → ℕ → ℕ
 potential p v = slice_index p v
 
--- A cost and a potential together; what reaches the greatest number counts as absent.
-abbrev pub reach : ℕ → ℕ → ℕ
-reach c p = min (c + p) absent
-
 -- A step improves a potential where it counts and its cost with the potential of its end is less than that of its start.
 abbrev pub improves : List Bool → ℕ → List ℕ → Step → Bool
-improves through t p s = counts through t s && nat_lt (reach s.cost (potential p s.to)) (potential p s.from)
+improves through t p s = counts through t s && nat_lt (reach_over s.cost (potential p s.to)) (potential p s.from)
 
 -- No counting step improves a potential.
 abbrev pub none_improves : GraphSeen → ℕ → List ℕ → Bool
 none_improves g t p = list_all (λ s. not (improves g.through t p s)) g.steps
-
--- A hop from a place is tight: it costs exactly what the potential falls, and the potential is not absent.
-abbrev pub is_tight_hop : List ℕ → ℕ → ℕ × ℕ → Bool
-is_tight_hop p v h = (potential p v == h.1 + potential p h.0) && nat_lt (potential p v) absent
-
--- The links are a chain of tight hops from a place to the target.
-abbrev pub tight : Hops → List ℕ → ℕ → ℕ → List ℕ → Bool
-tight hop p t v [] = v == t
-tight hop p t v (l ∷ ls) = option_map_or (λ (h : ℕ × ℕ). is_tight_hop p v h && tight hop p t h.0 ls) (hop v l) false
-
--- The potentials certify the path: there is one for each place, the target's is 0, no counting step improves one, and the
--- path is a chain of tight counting steps from its place to the target.
-pub record Certified (g : GraphSeen) (target : ℕ) (p : List ℕ) (from : ℕ) (path : List ℕ) : Type 0 where
-  pub places : length p ≡ length g.through
-  pub target_is_place : target < length g.through
-  pub from_is_place : from < length g.through
-  pub zero_at_target : potential p target ≡ 0
-  pub settled : none_improves g target p ≡ true
-  pub chain : tight (graph_hops g target) p target from path ≡ true
 
 -- The links are a path of the graph from a place to the target.
 abbrev pub IsPath : GraphSeen → ℕ → ℕ → List ℕ → Type 0
@@ -97,17 +70,3 @@ IsPath g target from path = goes (graph_hops g target) target (from ∷ []) from
 -- What the links cost from a place.
 abbrev pub cost_of : GraphSeen → ℕ → ℕ → List ℕ → ℕ
 cost_of g target from path = cost_along (graph_hops g target) from path
-
--- The path is a path of the graph and costs its first place's potential.
-pub record IsLeastPath (g : GraphSeen) (target : ℕ) (p : List ℕ) (from : ℕ) (path : List ℕ) : Type 0 where
-  pub path_is : IsPath g target from path
-  pub cost_is : cost_of g target from path ≡ potential p from
-
--- No path from a place costs less than its potential, and where the potential is absent there is no path.
-pub record IsLower (g : GraphSeen) (target : ℕ) (p : List ℕ) (v : ℕ) : Type 0 where
-  pub below : (links : List ℕ) → IsPath g target v links → potential p v ≤ cost_of g target v links
-  pub none : potential p v ≡ absent → (links : List ℕ) → IsPath g target v links → ⊥
-
--- That holds of each place.
-abbrev pub AreLeast : GraphSeen → ℕ → List ℕ → Type 0
-AreLeast g target p = (v : ℕ) → v < length g.through → IsLower g target p v

@@ -1,5 +1,7 @@
-ghost use Rattle.std.specs.Prelude.{◌↔◌, ◌≡◌, ◌<◌, length, find, option_map, IfSome, IsTrue};
-ghost use Rattle.path_certificate.specs.Graphs.{leaves, reach, potential, improves, none_improves, is_tight_hop, graph_hops, tight, Certified, IsLeastPath, AreLeast};
+ghost use Rattle.std.specs.Prelude.{◌↔◌, ◌≡◌, ◌+◌, ◌<◌, length, find, option_map, IfSome, IsTrue};
+ghost use Rattle.ctrl_model.specs.Claims.{no_path, is_tight, reach_over};
+ghost use Rattle.path_certificate.specs.Graphs.{leaves, potential, improves, none_improves, graph_hops};
+ghost use Rattle.path_certificate.specs.Certified.{Certified, IsLeastPath, AreLeast};
 
 use crate::graph::{Graph, Step};
 use ctrl_model::Potentials;
@@ -7,7 +9,7 @@ use ctrl_model::Potentials;
 /// The step's cost and the potential of its end together, at most `u64::MAX`.
 pub fn reach(potentials: &[u64], step: &Step) -> u64
     requires { step.now.to < length potentials.now }
-    ensures { result ≡ reach step.now.cost (potential potentials.now step.now.to) }
+    ensures { result ≡ reach_over step.now.cost (potential potentials.now step.now.to) }
 {
     u64::from(step.cost).saturating_add(potentials[step.to as usize])
 }
@@ -26,7 +28,7 @@ pub fn improves(graph: &Graph, target: u16, potentials: &[u64], step: &Step) -> 
 pub fn is_tight(potentials: &[u64], step: &Step) -> bool
     requires from { step.now.from < length potentials.now }
     requires to { step.now.to < length potentials.now }
-    ensures { result ≡ is_tight_hop potentials.now step.now.from (step.now.to, step.now.cost) }
+    ensures { IsTrue result ↔ (potential potentials.now step.now.from ≡ step.now.cost + potential potentials.now step.now.to) × (potential potentials.now step.now.from < no_path) }
 {
     let start = potentials[step.from as usize];
     start == reach(potentials, step) && start < u64::MAX
@@ -72,7 +74,7 @@ fn step_over(graph: &Graph, target: u16, place: u16, link: u32) -> Option<Step>
 fn is_chain(graph: &Graph, target: u16, potentials: &[u64], from: u16, path: &[u32]) -> bool
     requires places { length potentials.now ≡ length graph.now.through }
     requires from { from < length graph.now.through }
-    ensures { result ≡ tight (graph_hops graph.now target) potentials.now target from path.now }
+    ensures { result ≡ is_tight (graph_hops graph.now target) (potential potentials.now) target from path.now }
 {
     let mut at = from;
     'links: for link in path {

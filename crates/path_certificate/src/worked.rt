@@ -1,5 +1,7 @@
 ghost use Rattle.std.specs.Prelude.{◌≡◌, [], ◌∷◌, None, Some, true, false};
-ghost use Rattle.path_certificate.specs.Graphs.{absent, graph_hops, none_improves, is_ordered, Certified, IsPath, cost_of};
+ghost use Rattle.ctrl_model.specs.Claims.{no_path};
+ghost use Rattle.path_certificate.specs.Graphs.{graph_hops, none_improves, is_ordered, IsPath, cost_of};
+ghost use Rattle.path_certificate.specs.Certified.{Certified};
 ghost use Rattle.path_certificate.specs.WorkedGraphs.{row, blocked_row, triangle, square, single};
 ghost use Rattle.ctrl_model.specs.Walks.{goes};
 
@@ -25,9 +27,9 @@ pub fn line_of_three()
 pub fn middle_not_through()
     ensures no_hop { graph_hops blocked_row 2 0 1 ≡ None }
     ensures no_path { goes (graph_hops blocked_row 2) 2 (0 ∷ []) 0 (1 ∷ 2 ∷ []) ≡ false }
-    ensures from_the_middle { Certified blocked_row 2 (absent ∷ 21 ∷ 0 ∷ []) 1 (2 ∷ []) }
-    ensures settled { none_improves blocked_row 2 (absent ∷ 21 ∷ 0 ∷ []) ≡ true }
-    ensures absent_start { ¬ (Certified blocked_row 2 (absent ∷ 21 ∷ 0 ∷ []) 0 (1 ∷ 2 ∷ [])) }
+    ensures from_the_middle { Certified blocked_row 2 (no_path ∷ 21 ∷ 0 ∷ []) 1 (2 ∷ []) }
+    ensures settled { none_improves blocked_row 2 (no_path ∷ 21 ∷ 0 ∷ []) ≡ true }
+    ensures absent_start { ¬ (Certified blocked_row 2 (no_path ∷ 21 ∷ 0 ∷ []) 0 (1 ∷ 2 ∷ [])) }
 {}
 
 /// A target counts though it may not be passed through.

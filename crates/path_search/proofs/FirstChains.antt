@@ -1,6 +1,6 @@
 -- The chain that takes at each place the tight hop over the least link comes first among the least paths.
-use Rattle.std.proofs.Common.{◌≡◌, ℕ, ◌+◌, ◌<◌, ◌≤◌, ◌⊎◌, ◌==◌, ◌&&◌, ◌||◌, Bool, cond, true, false, inl, inr, ⊎_elim, List, [], ◌∷◌, ◌++◌, length, Some, None, refl, sym, ◌∙◌, ap, subst, arith, eqb, ltb, eqb-true, eq-eqb, Ordering, nat_cmp, is_lt, append_assoc, append-nil}
-use Rattle.std.proofs.lemmas.Bool.{and_parts, and_from, cases_order, false≢true}
+use Rattle.std.proofs.Common.{◌≡◌, ℕ, ◌+◌, ◌<◌, ◌≤◌, ◌⊎◌, ◌==◌, ◌&&◌, ◌||◌, Bool, cond, true, false, inl, inr, ⊎_elim, List, [], ◌∷◌, ◌++◌, length, Some, None, refl, sym, ◌∙◌, ap, subst, arith, eqb, ltb, eqb-true, eq-eqb, ltb-true, Ordering, nat_cmp, is_lt, append_assoc, append-nil}
+use Rattle.std.proofs.lemmas.Bool.{and_parts, and_from, cases_order, false≢true, lt-ltb}
 use Rattle.std.proofs.lemmas.Bool.Decides.{nat_tests}
 use Rattle.std.proofs.lemmas.Option.{same_Some}
 use Rattle.std.specs.Ordering.{ordering_then}
@@ -10,11 +10,13 @@ use Rattle.ctrl_model.specs.Walks.{Hops, goes, cost_along}
 use Rattle.ctrl_model.specs.Membership.{Among}
 use Rattle.ctrl_model.proofs.Members.{list_all-among, find_passes, find_among}
 use Rattle.ctrl_model.proofs.WalkLaws.{by_goes, cost_along-more}
+use Rattle.ctrl_model.proofs.ClaimLaws.{tight_cost}
 use Rattle.path_certificate.specs.declared.graph.Step.{Step}
-use Rattle.path_certificate.specs.Graphs.{GraphSeen, absent, counts, graph_hops, before, is_ordered, IsGraph, potential, reach, none_improves, is_tight_hop, tight}
+use Rattle.ctrl_model.specs.Claims.{is_tight, no_path, reach_over}
+use Rattle.path_certificate.specs.Graphs.{GraphSeen, counts, graph_hops, before, is_ordered, IsGraph, potential, none_improves}
 use Rattle.path_certificate.proofs.StepLaws.{by_hop, hop_of, hop_is, hops_cost}
 use Rattle.path_certificate.proofs.LowerBounds.{settled_hop, below_walk}
-use Rattle.path_certificate.proofs.TightChains.{IsTight, IsTight-from_test, is_tight_hop-from, by_tight, tight_more, tight_cost, tight_path}
+use Rattle.path_certificate.proofs.TightChains.{IsTight, by_tight, tight_more, tight_path}
 use Rattle.path_search.specs.Supports.{falls_from}
 use Rattle.path_search.specs.Searches.{IsLeast, IsFirst}
 use Rattle.path_search.proofs.SettledCosts.{least_zero, least_settled}
@@ -32,7 +34,7 @@ FirstChain hop p t v (l ∷ ls) = (h : ℕ × ℕ) × IsFirstHop hop p v l h × 
 
 -- ---- such a chain comes first
 
-first_tight : (hop : Hops) (p : List ℕ) (t : ℕ) (ls : List ℕ) (v : ℕ) → FirstChain hop p t v ls → tight hop p t v ls ≡ true
+first_tight : (hop : Hops) (p : List ℕ) (t : ℕ) (ls : List ℕ) (v : ℕ) → FirstChain hop p t v ls → is_tight hop (potential p) t v ls ≡ true
 first_tight hop p t [] v e = eq-eqb v t e
 first_tight hop p t (l ∷ ls) v c = tight_more hop p t v l ls c.0 c.1.is c.1.falls (first_tight hop p t ls c.0.0 c.2)
 
@@ -43,7 +45,7 @@ later_link : (m l : ℕ) (o : Ordering) → l < m → is_lt (ordering_then (nat_
 later_link m l o h = grind (arith, nat_tests)
 
 chain_first : (hop : Hops) (p : List ℕ) (t : ℕ) → potential p t ≡ 0 → ((v l : ℕ) (h : ℕ × ℕ) → hop v l ≡ Some h → 1 ≤ h.1)
-    → (ls other : List ℕ) (v : ℕ) → FirstChain hop p t v ls → tight hop p t v other ≡ true
+    → (ls other : List ℕ) (v : ℕ) → FirstChain hop p t v ls → is_tight hop (potential p) t v other ≡ true
     → is_lt (slice_cmp nat_cmp other ls) ≡ false
 chain_first hop p t zero_at costs [] [] v c e = refl
 chain_first hop p t zero_at costs [] (m ∷ ms) v c e = refl
@@ -57,7 +59,7 @@ chain_first hop p t zero_at costs (l ∷ ls) (m ∷ ms) v c e = by_tight hop p t
     (λ (same : m ≡ l).
     let one : k ≡ c.0 = same_Some k c.0 (sym is ∙ ap (hop v) same ∙ c.1.is) in
     same_link m l (slice_cmp nat_cmp ms ls) same ∙ chain_first hop p t zero_at costs ls ms c.0.0 c.2
-    (subst (λ (h : ℕ × ℕ). tight hop p t h.0 ms ≡ true) one rest))
+    (subst (λ (h : ℕ × ℕ). is_tight hop (potential p) t h.0 ms ≡ true) one rest))
     (λ order. ⊎_elim (λ (less : m < l). absurd (c.1.first m k less is falls))
     (λ (more : l < m). later_link m l (slice_cmp nat_cmp ms ls) more) order)
     (cases_order m l))
@@ -66,23 +68,23 @@ chain_first hop p t zero_at costs (l ∷ ls) (m ∷ ms) v c e = by_tight hop p t
 
 least_tight : (g : GraphSeen) (t : ℕ) (p : List ℕ) → none_improves g t p ≡ true → potential p t ≡ 0
     → (ls seen : List ℕ) (v : ℕ)
-    → goes (graph_hops g t) t seen v ls ≡ true → cost_along (graph_hops g t) v ls ≡ potential p v → potential p v < absent
-    → tight (graph_hops g t) p t v ls ≡ true
+    → goes (graph_hops g t) t seen v ls ≡ true → cost_along (graph_hops g t) v ls ≡ potential p v → potential p v < no_path
+    → is_tight (graph_hops g t) (potential p) t v ls ≡ true
 least_tight g t p settled zero_at [] seen v walk cost there = walk
 least_tight g t p settled zero_at (l ∷ ls) seen v walk cost there = by_goes (graph_hops g t) t seen v l ls walk (λ h is new rest.
     let price : cost_along (graph_hops g t) v (l ∷ ls) ≡ h.1 + cost_along (graph_hops g t) h.0 ls =
     cost_along-more (graph_hops g t) v l ls h is in
     let low : potential p h.0 ≤ cost_along (graph_hops g t) h.0 ls = below_walk g t p settled zero_at ls (h.0 ∷ seen) h.0 rest in
-    let step : potential p v ≤ reach h.1 (potential p h.0) = settled_hop g t p v l h settled is in
+    let step : potential p v ≤ reach_over h.1 (potential p h.0) = settled_hop g t p v l h settled is in
     let sums = exact (potential p v) h.1 (potential p h.0) (cost_along (graph_hops g t) h.0 ls) (sym price ∙ cost) low step there in
     tight_more (graph_hops g t) p t v l ls h is (record { falls = sums.0; there = there })
     (least_tight g t p settled zero_at ls (h.0 ∷ seen) h.0 rest sums.1 sums.2))
   where
-    exact : (a c b d : ℕ) → c + d ≡ a → b ≤ d → a ≤ reach c b → a < absent → (a ≡ c + b) × (d ≡ b) × (b < absent)
+    exact : (a c b d : ℕ) → c + d ≡ a → b ≤ d → a ≤ reach_over c b → a < no_path → (a ≡ c + b) × (d ≡ b) × (b < no_path)
     exact a c b d e l s t = (omega arith, omega arith, omega arith)
 
 pub first_path : (g : GraphSeen) (t : ℕ) (p : List ℕ) (v : ℕ) (ls : List ℕ) → IsGraph g.through g.steps
-    → t < length g.through → potential p v < absent → IsLeast g t p
+    → t < length g.through → potential p v < no_path → IsLeast g t p
     → FirstChain (graph_hops g t) p t v ls → IsFirst g t p v ls
 first_path g t p v ls graph target there least chain =
     let costs = hops_cost g t graph in
@@ -91,7 +93,7 @@ first_path g t p v ls graph target there least chain =
     let falls = first_tight (graph_hops g t) p t ls v chain in
     record {
       path_is = tight_path (graph_hops g t) p t costs ls v falls;
-      cost_is = tight_cost (graph_hops g t) p t zero_at ls v falls;
+      cost_is = tight_cost (graph_hops g t) (potential p) t zero_at ls v falls;
       first = λ other path cost. chain_first (graph_hops g t) p t zero_at costs ls other v chain
           (least_tight g t p settled zero_at other (v ∷ []) v path cost there);
     }
@@ -138,19 +140,33 @@ pub record Falls (g : GraphSeen) (t : ℕ) (p : List ℕ) (v : ℕ) (s : Step) :
 Falls-from_test : (g : GraphSeen) (t : ℕ) (p : List ℕ) (v : ℕ) (s : Step) → falls_from g.through t p v s ≡ true
     → Falls g t p v s
 Falls-from_test g t p v s e =
-    let outer = and_parts ((s.from == v) && counts g.through t s) (is_tight_hop p s.from (s.to, s.cost)) e in
-    let inner = and_parts (s.from == v) (counts g.through t s) outer.0 in
+    let outer = and_parts ((s.from == v) && counts g.through t s && falls) there e in
+    let middle = and_parts ((s.from == v) && counts g.through t s) falls outer.0 in
+    let inner = and_parts (s.from == v) (counts g.through t s) middle.0 in
     let from = eqb-true s.from v inner.0 in
-    let falls = subst (λ x. IsTight p x (s.to, s.cost)) from (IsTight-from_test p s.from (s.to, s.cost) outer.1) in
-    record { from = from; counted = inner.1; falls = falls }
+    let tight : IsTight p s.from (s.to, s.cost) = record {
+      falls = eqb-true (potential p s.from) (s.cost + potential p s.to) middle.1;
+      there = ltb-true (potential p s.from) no_path outer.1;
+    } in
+    record { from = from; counted = inner.1; falls = subst (λ x. IsTight p x (s.to, s.cost)) from tight }
+  where
+    falls : Bool
+    falls = potential p s.from == (s.cost + potential p s.to)
+
+    there : Bool
+    there = ltb (potential p s.from) no_path
 
 -- a tight hop is a step that falls from its place
 falls_of : (g : GraphSeen) (t : ℕ) (p : List ℕ) (v : ℕ) (s : Step) → s.from ≡ v → counts g.through t s ≡ true
     → IsTight p v (s.to, s.cost) → falls_from g.through t p v s ≡ true
 falls_of g t p v s from c falls =
-    and_from ((s.from == v) && counts g.through t s) (is_tight_hop p s.from (s.to, s.cost))
+    let tight : IsTight p s.from (s.to, s.cost) = subst (λ x. IsTight p x (s.to, s.cost)) (sym from) falls in
+    and_from ((s.from == v) && counts g.through t s && (potential p s.from == (s.cost + potential p s.to)))
+    (ltb (potential p s.from) no_path)
+    (and_from ((s.from == v) && counts g.through t s) (potential p s.from == (s.cost + potential p s.to))
     (and_from (s.from == v) (counts g.through t s) (eq-eqb s.from v from) c)
-    (is_tight_hop-from p s.from (s.to, s.cost) (subst (λ x. IsTight p x (s.to, s.cost)) (sym from) falls))
+    (eq-eqb (potential p s.from) (s.cost + potential p s.to) tight.falls))
+    (lt-ltb (potential p s.from) no_path tight.there)
 
 -- the first step that falls from a place is a first hop
 pub first_hop : (g : GraphSeen) (t : ℕ) (p : List ℕ) (v : ℕ) (s : Step) → IsGraph g.through g.steps
@@ -171,7 +187,7 @@ first_hop g t p v s graph found =
 
 -- from a place with a potential, other than the target, some step falls
 pub not_stuck : (g : GraphSeen) (t : ℕ) (p : List ℕ) (v : ℕ) → IsGraph g.through g.steps → t < length g.through
-    → IsLeast g t p → v < length g.through → potential p v < absent → (v ≡ t → ⊥)
+    → IsLeast g t p → v < length g.through → potential p v < no_path → (v ≡ t → ⊥)
     → find (falls_from g.through t p v) g.steps ≡ None → ⊥
 not_stuck g t p v graph target least place there apart none =
     let path = (least.each v place).some there in
@@ -180,7 +196,7 @@ not_stuck g t p v graph target least place there apart none =
     let chain = least_tight g t p settled zero_at path.0 (v ∷ []) v path.1 path.2 there in
     stuck path.0 chain
   where
-    stuck : (ls : List ℕ) → tight (graph_hops g t) p t v ls ≡ true → ⊥
+    stuck : (ls : List ℕ) → is_tight (graph_hops g t) (potential p) t v ls ≡ true → ⊥
     stuck [] e = apart (eqb-true v t e)
     stuck (l ∷ ls) e = by_tight (graph_hops g t) p t v l ls e (λ h is falls rest. by_hop g t v l h is (λ s m from link c s_is.
         found_some (falls_from g.through t p v) g.steps s m
@@ -197,7 +213,7 @@ chain_more hop p t from v l h links first told rest chain =
 pub record IsNext (g : GraphSeen) (p : List ℕ) (v : ℕ) (s : Step) : Type 0 where
   pub place : s.to < length g.through
   pub less : potential p s.to < potential p v
-  pub there : potential p s.to < absent
+  pub there : potential p s.to < no_path
 
 pub next_step : (g : GraphSeen) (t : ℕ) (p : List ℕ) (v : ℕ) (s : Step) → IsGraph g.through g.steps
     → IsFirstHop (graph_hops g t) p v s.link (s.to, s.cost) → IsNext g p v s
@@ -205,7 +221,7 @@ next_step g t p v s graph first =
     let hop = hop_is g t v s.link (s.to, s.cost) graph first.is in
     let cost : 1 ≤ s.cost = hop.cost in
     let falls : potential p v ≡ s.cost + potential p s.to = first.falls.falls in
-    let there : potential p v < absent = first.falls.there in
+    let there : potential p v < no_path = first.falls.there in
     record { place = hop.to; less = omega arith; there = omega arith }
 
 -- a chain that has come to the target is whole

@@ -2,22 +2,24 @@
 use Rattle.std.proofs.Common.{◌≡◌, ℕ, zero, suc, ◌+◌, ◌-◌, ◌*◌, ◌<◌, ◌≤◌, max, true, inl, inr, ⊎_elim, List, [], ◌∷◌, length, subst, arith, eq-eqb}
 use Rattle.ctrl_model.specs.Membership.{Among}
 use Rattle.ctrl_model.proofs.WalkLaws.{cost_along-le}
+use Rattle.ctrl_model.proofs.ClaimLaws.{tight_cost}
 use Rattle.path_certificate.specs.declared.graph.Step.{Step}
-use Rattle.path_certificate.specs.Graphs.{GraphSeen, absent, graph_hops, IsGraph, potential, reach, none_improves, tight, cost_of}
+use Rattle.ctrl_model.specs.Claims.{is_tight, no_path, reach_over}
+use Rattle.path_certificate.specs.Graphs.{GraphSeen, graph_hops, IsGraph, potential, none_improves, cost_of}
 use Rattle.path_certificate.proofs.StepLaws.{by_hop, hop_is, hops_cost, path_short}
 use Rattle.path_certificate.proofs.LowerBounds.{settled_hop}
-use Rattle.path_certificate.proofs.TightChains.{tight_more, tight_cost, tight_path}
+use Rattle.path_certificate.proofs.TightChains.{tight_more, tight_path}
 use Rattle.path_certificate.proofs.Certificates.{settled_least}
 use Rattle.path_search.specs.Supports.{Paid, Supported}
 use Rattle.path_search.specs.Searches.{IsLeast, AreFew, greatest_cost}
 
 -- a chain of tight hops from the place
 abbrev Chained : GraphSeen → ℕ → List ℕ → ℕ → Type 0
-Chained g t p v = (links : List ℕ) × (tight (graph_hops g t) p t v links ≡ true)
+Chained g t p v = (links : List ℕ) × (is_tight (graph_hops g t) (potential p) t v links ≡ true)
 
 -- from each place with a potential there is a chain, by recursion on a bound on the potential
 chain_of : (g : GraphSeen) (t : ℕ) (p : List ℕ) → IsGraph g.through g.steps → Supported g t p → none_improves g t p ≡ true
-    → (n v : ℕ) → v < length g.through → potential p v < absent → potential p v ≤ n → Chained g t p v
+    → (n v : ℕ) → v < length g.through → potential p v < no_path → potential p v ≤ n → Chained g t p v
 chain_of g t p graph kept settled zero v place there few =
     ⊎_elim (λ e. ([], eq-eqb v t e))
     (λ (q : Paid g t p v). absurd (
@@ -31,7 +33,7 @@ chain_of g t p graph kept settled (suc n) v place there few =
     let hop = hop_is g t v q.link q.hop graph q.is in
     let cost : 1 ≤ q.hop.1 = hop.cost in
     let enough : q.hop.1 + potential p q.hop.0 ≤ potential p v = q.enough in
-    let low : potential p v ≤ reach q.hop.1 (potential p q.hop.0) = settled_hop g t p v q.link q.hop settled q.is in
+    let low : potential p v ≤ reach_over q.hop.1 (potential p q.hop.0) = settled_hop g t p v q.link q.hop settled q.is in
     let rest = chain_of g t p graph kept settled n q.hop.0 hop.to (omega arith) (omega arith) in (
       q.link ∷ rest.0,
       tight_more (graph_hops g t) p t v q.link rest.0 q.hop q.is
@@ -51,7 +53,7 @@ supported_least g t p graph kept settled = record {
         some = λ there.
             let chain = chain_of g t p graph kept settled (potential p v) v place there (omega arith) in
             let path = tight_path (graph_hops g t) p t (hops_cost g t graph) chain.0 v chain.1 in
-            let cost = tight_cost (graph_hops g t) p t kept.zero_at_target chain.0 v chain.1 in
+            let cost = tight_cost (graph_hops g t) (potential p) t kept.zero_at_target chain.0 v chain.1 in
             (chain.0, path, cost);
         below = lower.below;
       };

@@ -8,7 +8,8 @@ use Rattle.std.specs.List.{list_all}
 use Rattle.ctrl_model.specs.Membership.{Among}
 use Rattle.ctrl_model.proofs.Members.{each_among, Among-get_or}
 use Rattle.path_certificate.specs.declared.graph.Step.{Step}
-use Rattle.path_certificate.specs.Graphs.{GraphSeen, absent, counts, IsStep, IsGraph, potential, reach, improves}
+use Rattle.ctrl_model.specs.Claims.{no_path, reach_over}
+use Rattle.path_certificate.specs.Graphs.{GraphSeen, counts, IsStep, IsGraph, potential, improves}
 use Rattle.path_certificate.proofs.StepLaws.{hop_of}
 use Rattle.path_search.specs.Supports.{Paid, Supported, reached, lowered}
 
@@ -44,12 +45,12 @@ lowered-le p s v within less =
 -- the step itself pays for its start, and what paid for another place still does
 lowered_paid : (g : GraphSeen) (t : ℕ) (p : List ℕ) (s : Step) → IsGraph g.through g.steps → Among s g.steps
     → Supported g t p → Improves g t p s → s.from < length p → (v : ℕ) → v < length g.through
-    → potential (lowered p s) v < absent → (v ≡ s.from) ⊎ (v ≡ s.from → ⊥) → (v ≡ t) ⊎ Paid g t (lowered p s) v
+    → potential (lowered p s) v < no_path → (v ≡ s.from) ⊎ (v ≡ s.from → ⊥) → (v ≡ t) ⊎ Paid g t (lowered p s) v
 lowered_paid g t p s graph m kept better within v place there (inl e) =
     let step = each_among (IsStep (length g.through)) g.steps s graph.each m in
     let at : potential (lowered p s) s.from ≡ reached p s = lowered_at p s within in
     let off : potential (lowered p s) s.to ≡ potential p s.to = lowered_off p s s.to (λ x. step.apart (sym x)) in
-    let low : potential (lowered p s) s.from < absent = subst (λ x. potential (lowered p s) x < absent) e there in
+    let low : potential (lowered p s) s.from < no_path = subst (λ x. potential (lowered p s) x < no_path) e there in
     inr (subst (λ x. Paid g t (lowered p s) x) (sym e) (record {
       link = s.link;
       hop = (s.to, s.cost);
@@ -57,11 +58,11 @@ lowered_paid g t p s graph m kept better within v place there (inl e) =
       enough = rw (at, off) (whole s.cost (potential p s.to) (rw at at low));
     }))
   where
-    whole : (c b : ℕ) → reach c b < absent → c + b ≤ reach c b
+    whole : (c b : ℕ) → reach_over c b < no_path → c + b ≤ reach_over c b
     whole c b h = omega arith
 lowered_paid g t p s graph m kept better within v place there (inr ne) =
     let off : potential (lowered p s) v ≡ potential p v = lowered_off p s v ne in
-    let before : potential p v < absent = rw off at there in
+    let before : potential p v < no_path = rw off at there in
     ⊎_elim (λ e. inl e)
     (λ (old : Paid g t p v).
     let fall : potential (lowered p s) old.hop.0 ≤ potential p old.hop.0 = lowered-le p s old.hop.0 within better.less in
@@ -83,7 +84,7 @@ lowered_supported g t p s graph m kept e =
       places = length-set p s.from (reached p s) ∙ kept.places;
       within = λ v.
           let fall : potential (lowered p s) v ≤ potential p v = lowered-le p s v within better.less in
-          let top : potential p v ≤ absent = kept.within v in
+          let top : potential p v ≤ no_path = kept.within v in
           omega arith;
       zero_at_target =
           let fall : potential (lowered p s) t ≤ potential p t = lowered-le p s t within better.less in

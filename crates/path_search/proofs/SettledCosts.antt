@@ -6,7 +6,8 @@ use Rattle.ctrl_model.specs.Membership.{Among}
 use Rattle.ctrl_model.proofs.Members.{each_among, list_all-from_among}
 use Rattle.ctrl_model.proofs.WalkLaws.{goes_more, cost_along-more, around, Shorter}
 use Rattle.path_certificate.specs.declared.graph.Step.{Step}
-use Rattle.path_certificate.specs.Graphs.{GraphSeen, absent, counts, graph_hops, IsStep, IsGraph, potential, reach, improves, none_improves, IsPath, cost_of}
+use Rattle.ctrl_model.specs.Claims.{no_path, reach_over}
+use Rattle.path_certificate.specs.Graphs.{GraphSeen, counts, graph_hops, IsStep, IsGraph, potential, improves, none_improves, IsPath, cost_of}
 use Rattle.path_certificate.proofs.StepLaws.{hop_of}
 use Rattle.path_search.specs.Searches.{IsLeast}
 
@@ -32,12 +33,12 @@ over g t p s ls graph least m c cost walk =
 
 least_step : (g : GraphSeen) (t : ℕ) (p : List ℕ) (s : Step) → IsGraph g.through g.steps → IsLeast g t p → Among s g.steps
     → counts g.through t s ≡ true
-    → potential p s.from ≤ reach s.cost (potential p s.to)
+    → potential p s.from ≤ reach_over s.cost (potential p s.to)
 least_step g t p s graph least m c =
     let step = each_among (IsStep (length g.through)) g.steps s graph.each m in
-    let top : potential p s.from ≤ absent = (least.each s.from step.from).within in
+    let top : potential p s.from ≤ no_path = (least.each s.from step.from).within in
     ⊎_elim
-    (λ (there : potential p s.to < absent).
+    (λ (there : potential p s.to < no_path).
     let path = (least.each s.to step.to).some there in
     let low : potential p s.from ≤ s.cost + potential p s.to =
     ⊎_elim (λ walk. over g t p s path.0 graph least m c path.2 walk)
@@ -46,8 +47,8 @@ least_step g t p s graph least m c =
     omega (arith, less, back.2, path.2))
     (around (graph_hops g t) t s.from path.0 s.to (s.to ∷ []) (s.to ∷ s.from ∷ []) (added s.to s.from) path.1) in
     omega arith)
-    (λ (past : absent ≤ potential p s.to). omega arith)
-    (cases_lt (potential p s.to) absent)
+    (λ (past : no_path ≤ potential p s.to). omega arith)
+    (cases_lt (potential p s.to) no_path)
   where
     added : (w v y : ℕ) → is_among y (w ∷ v ∷ []) ≡ true → (v ≡ y) ⊎ (is_among y (w ∷ []) ≡ true)
     added w v y e = apart (w == y) (v == y) e (eqb-true v y)
@@ -61,8 +62,8 @@ pub least_settled : (g : GraphSeen) (t : ℕ) (p : List ℕ) → IsGraph g.throu
     → none_improves g t p ≡ true
 least_settled g t p graph least = list_all-from_among (λ s. not (improves g.through t p s)) g.steps (λ s m.
     not_from_false (improves g.through t p s) (false_from_ne_true (improves g.through t p s) (λ e.
-    let both = and_parts (counts g.through t s) (ltb (reach s.cost (potential p s.to)) (potential p s.from)) e in
-    let less : reach s.cost (potential p s.to) < potential p s.from =
-    ltb-true (reach s.cost (potential p s.to)) (potential p s.from) both.1 in
-    let low : potential p s.from ≤ reach s.cost (potential p s.to) = least_step g t p s graph least m both.0 in
+    let both = and_parts (counts g.through t s) (ltb (reach_over s.cost (potential p s.to)) (potential p s.from)) e in
+    let less : reach_over s.cost (potential p s.to) < potential p s.from =
+    ltb-true (reach_over s.cost (potential p s.to)) (potential p s.from) both.1 in
+    let low : potential p s.from ≤ reach_over s.cost (potential p s.to) = least_step g t p s graph least m both.0 in
     omega arith)))

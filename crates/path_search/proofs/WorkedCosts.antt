@@ -1,6 +1,7 @@
 -- That the potentials of the worked rows are the least costs.
 use Rattle.std.proofs.Common.{◌≡◌, ℕ, Some, sym, subst, zero, suc, ◌<◌, ◌≤◌, ◌⊎◌, inl, inr, List, [], ◌∷◌, refl, arith, lit<, lit≤}
-use Rattle.path_certificate.specs.Graphs.{absent, IsStep, IsGraph, potential, graph_hops, IsPath}
+use Rattle.ctrl_model.specs.Claims.{no_path}
+use Rattle.path_certificate.specs.Graphs.{IsStep, IsGraph, potential, graph_hops, IsPath}
 use Rattle.path_certificate.specs.WorkedGraphs.{step, row, blocked_row, square}
 use Rattle.path_search.specs.Supports.{Paid}
 use Rattle.path_search.specs.Searches.{IsLeast, IsFirst}
@@ -23,13 +24,13 @@ row_is =
 blocked_row_is : IsGraph blocked_row.through blocked_row.steps
 blocked_row_is = record { few = lit≤ tt; each = row_is.each; ordered = refl }
 
-row_within : (v : ℕ) → potential (42 ∷ 21 ∷ 0 ∷ []) v ≤ absent
+row_within : (v : ℕ) → potential (42 ∷ 21 ∷ 0 ∷ []) v ≤ no_path
 row_within zero = lit≤ tt
 row_within (suc zero) = lit≤ tt
 row_within (suc (suc zero)) = lit≤ tt
 row_within (suc (suc (suc v))) = lit≤ tt
 
-row_paid : (v : ℕ) → v < 3 → potential (42 ∷ 21 ∷ 0 ∷ []) v < absent → (v ≡ 2) ⊎ Paid row 2 (42 ∷ 21 ∷ 0 ∷ []) v
+row_paid : (v : ℕ) → v < 3 → potential (42 ∷ 21 ∷ 0 ∷ []) v < no_path → (v ≡ 2) ⊎ Paid row 2 (42 ∷ 21 ∷ 0 ∷ []) v
 row_paid zero place there = inr (record { link = 1; hop = (1, 21); is = refl; enough = lit≤ tt })
 row_paid (suc zero) place there = inr (record { link = 2; hop = (2, 21); is = refl; enough = lit≤ tt })
 row_paid (suc (suc zero)) place there = inl refl
@@ -40,22 +41,22 @@ row_least =
     supported_least row 2 (42 ∷ 21 ∷ 0 ∷ []) row_is
     (record { places = refl; within = row_within; zero_at_target = refl; paid = row_paid }) refl
 
-blocked_within : (v : ℕ) → potential (absent ∷ 21 ∷ 0 ∷ []) v ≤ absent
+blocked_within : (v : ℕ) → potential (no_path ∷ 21 ∷ 0 ∷ []) v ≤ no_path
 blocked_within zero = lit≤ tt
 blocked_within (suc zero) = lit≤ tt
 blocked_within (suc (suc zero)) = lit≤ tt
 blocked_within (suc (suc (suc v))) = lit≤ tt
 
-blocked_paid : (v : ℕ) → v < 3 → potential (absent ∷ 21 ∷ 0 ∷ []) v < absent
-    → (v ≡ 2) ⊎ Paid blocked_row 2 (absent ∷ 21 ∷ 0 ∷ []) v
+blocked_paid : (v : ℕ) → v < 3 → potential (no_path ∷ 21 ∷ 0 ∷ []) v < no_path
+    → (v ≡ 2) ⊎ Paid blocked_row 2 (no_path ∷ 21 ∷ 0 ∷ []) v
 blocked_paid zero place there = absurd (omega arith)
 blocked_paid (suc zero) place there = inr (record { link = 2; hop = (2, 21); is = refl; enough = lit≤ tt })
 blocked_paid (suc (suc zero)) place there = inl refl
 blocked_paid (suc (suc (suc v))) place there = absurd (omega arith)
 
-pub blocked_row_least : IsLeast blocked_row 2 (absent ∷ 21 ∷ 0 ∷ [])
+pub blocked_row_least : IsLeast blocked_row 2 (no_path ∷ 21 ∷ 0 ∷ [])
 blocked_row_least =
-    supported_least blocked_row 2 (absent ∷ 21 ∷ 0 ∷ []) blocked_row_is
+    supported_least blocked_row 2 (no_path ∷ 21 ∷ 0 ∷ []) blocked_row_is
     (record { places = refl; within = blocked_within; zero_at_target = refl; paid = blocked_paid }) refl
 
 pub blocked_row_no_path : (links : List ℕ) → IsPath blocked_row 2 0 links → ⊥
@@ -78,14 +79,14 @@ square_is =
 abbrev square_costs : List ℕ
 square_costs = 42 ∷ 21 ∷ 21 ∷ 0 ∷ []
 
-square_within : (v : ℕ) → potential square_costs v ≤ absent
+square_within : (v : ℕ) → potential square_costs v ≤ no_path
 square_within zero = lit≤ tt
 square_within (suc zero) = lit≤ tt
 square_within (suc (suc zero)) = lit≤ tt
 square_within (suc (suc (suc zero))) = lit≤ tt
 square_within (suc (suc (suc (suc v)))) = lit≤ tt
 
-square_paid : (v : ℕ) → v < 4 → potential square_costs v < absent → (v ≡ 3) ⊎ Paid square 3 square_costs v
+square_paid : (v : ℕ) → v < 4 → potential square_costs v < no_path → (v ≡ 3) ⊎ Paid square 3 square_costs v
 square_paid zero place there = inr (record { link = 1; hop = (1, 21); is = refl; enough = lit≤ tt })
 square_paid (suc zero) place there = inr (record { link = 4; hop = (3, 21); is = refl; enough = lit≤ tt })
 square_paid (suc (suc zero)) place there = inr (record { link = 3; hop = (3, 21); is = refl; enough = lit≤ tt })

@@ -1,16 +1,17 @@
--- What a search for least paths finds, said of all paths of the graph.
+-- What a search for least paths finds, said of all paths of the graph (docs/PROMISES.md, "Paths of a graph").
 use Rattle.std.specs.Prelude.{◌≡◌, ℕ, ◌-◌, ◌*◌, ◌<◌, ◌≤◌, max, List, [], ◌∷◌, length, false}
 use Rattle.std.specs.Cmp.Lexicographic.{slice_cmp}
 use Rattle.std.specs.Ordering.{nat_cmp, is_lt}
 use Rattle.path_certificate.specs.declared.graph.Step.{Step}
-use Rattle.path_certificate.specs.Graphs.{GraphSeen, absent, potential, IsPath, cost_of}
+use Rattle.ctrl_model.specs.Claims.{no_path}
+use Rattle.path_certificate.specs.Graphs.{GraphSeen, potential, IsPath, cost_of}
 
--- A place's potential is the least cost of a path: it is absent where there is no path; else some path costs it, and none
+-- A place's potential is the least cost of a path: it is `no_path` where there is no path; else some path costs it, and none
 -- costs less.
 pub record IsLeastAt (g : GraphSeen) (target : ℕ) (p : List ℕ) (v : ℕ) : Type 0 where
-  pub within : potential p v ≤ absent
-  pub none : potential p v ≡ absent → (links : List ℕ) → IsPath g target v links → ⊥
-  pub some : potential p v < absent → (links : List ℕ) × IsPath g target v links × (cost_of g target v links ≡ potential p v)
+  pub within : potential p v ≤ no_path
+  pub none : potential p v ≡ no_path → (links : List ℕ) → IsPath g target v links → ⊥
+  pub some : potential p v < no_path → (links : List ℕ) × IsPath g target v links × (cost_of g target v links ≡ potential p v)
   pub below : (links : List ℕ) → IsPath g target v links → potential p v ≤ cost_of g target v links
 
 -- There is one potential for each place, and each is the least cost of a path.
@@ -26,7 +27,7 @@ greatest_cost (s ∷ ss) = max s.cost (greatest_cost ss)
 -- Each potential that is there is at most what one step less than there are places can cost.
 abbrev pub AreFew : GraphSeen → List ℕ → Type 0
 AreFew g p =
-    (v : ℕ) → v < length g.through → potential p v < absent → potential p v ≤ (length g.through - 1) * greatest_cost g.steps
+    (v : ℕ) → v < length g.through → potential p v < no_path → potential p v ≤ (length g.through - 1) * greatest_cost g.steps
 
 -- The links are a path of the potential's cost, and no other path of that cost comes before it in lexicographic order.
 pub record IsFirst (g : GraphSeen) (target : ℕ) (p : List ℕ) (from : ℕ) (links : List ℕ) : Type 0 where

@@ -1,8 +1,9 @@
 -- What the private functions of the search keep. No public contract cites it.
-use Rattle.std.specs.Prelude.{◌≡◌, ℕ, ◌+◌, ◌<◌, ◌≤◌, ◌==◌, ◌&&◌, ◌⊎◌, Bool, List, length, Some}
+use Rattle.std.specs.Prelude.{◌≡◌, ℕ, ◌+◌, ◌<◌, ◌≤◌, ◌==◌, ◌&&◌, ◌⊎◌, nat_lt, Bool, List, length, Some}
 use Rattle.path_certificate.specs.declared.graph.Step.{Step}
 use Rattle.std.specs.List.{slice_set}
-use Rattle.path_certificate.specs.Graphs.{GraphSeen, absent, counts, graph_hops, potential, reach, is_tight_hop}
+use Rattle.ctrl_model.specs.Claims.{no_path, reach_over}
+use Rattle.path_certificate.specs.Graphs.{GraphSeen, counts, graph_hops, potential}
 
 -- A place's potential is at least what some hop from it gives.
 pub record Paid (g : GraphSeen) (target : ℕ) (p : List ℕ) (v : ℕ) : Type 0 where
@@ -14,18 +15,19 @@ pub record Paid (g : GraphSeen) (target : ℕ) (p : List ℕ) (v : ℕ) : Type 0
 -- There is one potential for each place, the target's is 0, and each other that is there is paid for by a hop.
 pub record Supported (g : GraphSeen) (target : ℕ) (p : List ℕ) : Type 0 where
   pub places : length p ≡ length g.through
-  pub within : (v : ℕ) → potential p v ≤ absent
+  pub within : (v : ℕ) → potential p v ≤ no_path
   pub zero_at_target : potential p target ≡ 0
-  pub paid : (v : ℕ) → v < length g.through → potential p v < absent → (v ≡ target) ⊎ Paid g target p v
+  pub paid : (v : ℕ) → v < length g.through → potential p v < no_path → (v ≡ target) ⊎ Paid g target p v
 
 -- What the start of a step reaches over it.
 abbrev pub reached : List ℕ → Step → ℕ
-reached p s = reach s.cost (potential p s.to)
+reached p s = reach_over s.cost (potential p s.to)
 
 -- The potentials after the start of a step was lowered to what it reaches.
 abbrev pub lowered : List ℕ → Step → List ℕ
 lowered p s = slice_set p s.from (reached p s)
 
--- The step leaves the place, counts, and falls from the place's potential by exactly its cost.
+-- The step leaves the place, counts, and falls from the place's potential, which is not `no_path`, by exactly its cost.
 abbrev pub falls_from : List Bool → ℕ → List ℕ → ℕ → Step → Bool
-falls_from through t p v s = (s.from == v) && counts through t s && is_tight_hop p s.from (s.to, s.cost)
+falls_from through t p v s =
+    (s.from == v) && counts through t s && (potential p s.from == s.cost + potential p s.to) && nat_lt (potential p s.from) no_path

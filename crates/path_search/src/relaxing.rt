@@ -1,7 +1,8 @@
 ghost use Rattle.std.specs.Prelude.{◌≡◌, ◌<◌, length, sum, IfOk, true, replicate};
 ghost use Rattle.std.specs.Bool.{OnTrue, OnFalse};
 ghost use Rattle.std.specs.List.{slice_set};
-ghost use Rattle.path_certificate.specs.Graphs.{absent, improves, none_improves};
+ghost use Rattle.ctrl_model.specs.Claims.{no_path};
+ghost use Rattle.path_certificate.specs.Graphs.{improves, none_improves};
 ghost use Rattle.path_search.specs.Searches.{IsLeast, AreFew};
 ghost use Rattle.path_search.specs.Supports.{Supported, lowered};
 
@@ -11,7 +12,7 @@ use std::alloc::{AllocError, Global};
 
 fn start(alloc: Global, places: usize, target: u16) -> Result<Vec<u64>, AllocError>
     requires { target < places }
-    ensures { IfOk result (λ v. v.items ≡ slice_set (replicate places absent) target 0) }
+    ensures { IfOk result (λ v. v.items ≡ slice_set (replicate places no_path) target 0) }
 {
     let mut potentials = vec![in alloc; u64::MAX; places]?;
     potentials[target as usize] = 0;

@@ -1,5 +1,6 @@
 ghost use Rattle.std.specs.Prelude.{◌≡◌, ◌↔◌, ◌<◌, length, find, IfOk, IfSome, IsNone};
-ghost use Rattle.path_certificate.specs.Graphs.{absent, potential};
+ghost use Rattle.ctrl_model.specs.Claims.{no_path};
+ghost use Rattle.path_certificate.specs.Graphs.{potential};
 ghost use Rattle.path_search.specs.Searches.{IsLeast, IsFirst};
 ghost use Rattle.path_search.specs.Supports.{falls_from};
 
@@ -40,7 +41,7 @@ fn first_links(
     requires target { target < length graph.now.through }
     requires from { from < length graph.now.through }
     requires least { IsLeast graph.now target potentials.now }
-    requires there { potential potentials.now from < absent }
+    requires there { potential potentials.now from < no_path }
     ensures { IfOk result (λ links. IsFirst graph.now target potentials.now from links.items) }
 {
     // A path has fewer links than there are places.
@@ -68,7 +69,7 @@ pub fn walk(
     requires target { target < length graph.now.through }
     requires from { from < length graph.now.through }
     requires least { IsLeast graph.now target potentials.now }
-    ensures none { IfOk result (λ walk. IsNone walk ↔ (potential potentials.now from ≡ absent)) }
+    ensures none { IfOk result (λ walk. IsNone walk ↔ (potential potentials.now from ≡ no_path)) }
     ensures first { IfOk result (λ walk. IfSome walk (IsFirst graph.now target potentials.now from)) }
 {
     let potentials = potentials.as_slice();

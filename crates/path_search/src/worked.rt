@@ -1,14 +1,15 @@
 ghost use Rattle.std.specs.Prelude.{◌≡◌, ◌-◌, ◌*◌, ℕ, List, length, [], ◌∷◌, true, false};
 ghost use Rattle.std.specs.Ordering.{nat_cmp, is_lt};
 ghost use Rattle.std.specs.Cmp.Lexicographic.{slice_cmp};
-ghost use Rattle.path_certificate.specs.Graphs.{absent, IsPath, cost_of};
+ghost use Rattle.ctrl_model.specs.Claims.{no_path};
+ghost use Rattle.path_certificate.specs.Graphs.{IsPath, cost_of};
 ghost use Rattle.path_certificate.specs.WorkedGraphs.{row, blocked_row, square};
 ghost use Rattle.path_search.specs.Searches.{IsLeast, IsFirst, greatest_cost};
 
 /// The least costs along a row of three places, and where the middle may not be passed through.
 pub fn least_costs_of_a_row()
     ensures all_through { IsLeast row 2 (42 ∷ 21 ∷ 0 ∷ []) }
-    ensures middle_blocked { IsLeast blocked_row 2 (absent ∷ 21 ∷ 0 ∷ []) }
+    ensures middle_blocked { IsLeast blocked_row 2 (no_path ∷ 21 ∷ 0 ∷ []) }
     ensures no_path { (links : List ℕ) → IsPath blocked_row 2 0 links → ⊥ }
 {}
 

@@ -1,5 +1,5 @@
 use Rattle.std.proofs.Common.{subst}
-use Rattle.path_certificate.specs.Graphs.{Certified}
+use Rattle.path_certificate.specs.Certified.{Certified}
 use Rattle.path_certificate.proofs.Certificates.{certified_path, certified_least}
 use Rattle.path_certificate.proofs.checking.check.Goals as goal
 
