@@ -13,6 +13,7 @@ mod state_laws;
 mod texts;
 mod validity;
 mod worked;
+mod worked_laws;
 
 pub use claims::{Explanation, Potentials, Reach, Reaches};
 pub use commands::Command;
@@ -34,9 +35,14 @@ pub use state_laws::{
 pub use texts::{Bytes, Instance, Name, NameFault, Names};
 pub use validity::valid_stays_valid;
 pub use worked::{
-    a_circuit_on_a_line, a_nearer_terminator, absent_in_role_lists, claims_beside_others,
-    claims_of_a_line, counted_grants, deleted_and_made_again, denials, equal_paths, equal_totals,
-    forgotten_names, full_kinds, hosts, limit_of_attributes, limits_and_links, limits_of_kinds,
-    names_and_words, new_records, no_traversal, own_and_others, permissions, precedences, ranges,
-    ranges_of_claims, role_lists, settled_circuits, shown_grants, sides, unknown_names, updates,
+    a_circuit_on_a_line, a_nearer_terminator, absent_in_role_lists, circuits_that_stay,
+    claims_beside_others, claims_of_a_line, counted_grants, deleted_and_made_again, denials,
+    equal_paths, equal_totals, forgotten_names, full_kinds, hosts, limit_of_attributes,
+    limits_and_links, limits_of_kinds, names_and_words, new_records, no_traversal, own_and_others,
+    permissions, precedences, ranges, ranges_of_claims, role_lists, settled_circuits, shown_grants,
+    sides, unknown_names, updates,
+};
+pub use worked_laws::{
+    lists_of_numbers, plain_paths_of_a_line, ranks_and_small_costs, records_of_no_valid_state,
+    touched_records, words_of_fields,
 };

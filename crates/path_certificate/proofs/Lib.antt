@@ -2,3 +2,4 @@ pub mod StepLaws
 pub mod LowerBounds
 pub mod TightChains
 pub mod Certificates
+pub mod WorkedRows

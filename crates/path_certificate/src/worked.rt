@@ -1,9 +1,12 @@
-ghost use Rattle.std.specs.Prelude.{◌≡◌, [], ◌∷◌, None, Some, true, false};
+ghost use Rattle.std.specs.Prelude.{◌≡◌, ◌+◌, [], ◌∷◌, None, Some, true, false};
 ghost use Rattle.ctrl_model.specs.Claims.{no_path};
-ghost use Rattle.path_certificate.specs.Graphs.{graph_hops, none_improves, is_ordered, IsPath, cost_of};
+ghost use Rattle.path_certificate.specs.Graphs.{IsGraph, graph_hops, none_improves, is_ordered, IsPath, cost_of};
 ghost use Rattle.path_certificate.specs.Certified.{Certified};
 ghost use Rattle.path_certificate.specs.WorkedGraphs.{row, blocked_row, triangle, square, single};
+ghost use Rattle.ctrl_model.specs.Mirrors.{Mirrors};
+ghost use Rattle.ctrl_model.specs.Networks.{network_of, hops};
 ghost use Rattle.ctrl_model.specs.Walks.{goes};
+ghost use Rattle.ctrl_model.specs.WorkedStates.{line};
 
 /// Three places in a row, each of which may be passed through: what certifies the path from one end to the other.
 pub fn line_of_three()
@@ -49,4 +52,11 @@ pub fn two_ways_and_none()
     ensures one_way { Certified square 3 (42 ∷ 21 ∷ 21 ∷ 0 ∷ []) 0 (1 ∷ 4 ∷ []) }
     ensures other_way { Certified square 3 (42 ∷ 21 ∷ 21 ∷ 0 ∷ []) 0 (2 ∷ 3 ∷ []) }
     ensures single { Certified single 0 (0 ∷ []) 0 [] }
+{}
+
+/// The row of three places stands for a network of three routers in a line: each hop of the one is a hop of the other between
+/// the routers numbered one higher, at the same cost of 21, which is a link of 11 and a router of 10.
+pub fn row_for_a_line()
+    ensures graph { IsGraph row.through row.steps }
+    ensures same_hops { Mirrors 3 (λ v. v + 1) (graph_hops row 2) (hops (network_of line) 3) }
 {}

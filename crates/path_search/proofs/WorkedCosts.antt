@@ -1,25 +1,15 @@
 -- That the potentials of the worked rows are the least costs.
 use Rattle.std.proofs.Common.{◌≡◌, ℕ, Some, sym, subst, zero, suc, ◌<◌, ◌≤◌, ◌⊎◌, inl, inr, List, [], ◌∷◌, refl, arith, lit<, lit≤}
 use Rattle.ctrl_model.specs.Claims.{no_path}
-use Rattle.path_certificate.specs.Graphs.{IsStep, IsGraph, potential, graph_hops, IsPath}
-use Rattle.path_certificate.specs.WorkedGraphs.{step, row, blocked_row, square}
+use Rattle.path_certificate.specs.Graphs.{IsGraph, potential, graph_hops, IsPath}
+use Rattle.path_certificate.specs.WorkedGraphs.{row, blocked_row, square}
 use Rattle.path_search.specs.Supports.{Paid}
 use Rattle.path_search.specs.Searches.{IsLeast, IsFirst}
 use Rattle.std.proofs.lemmas.Option.{same_Some}
 use Rattle.path_certificate.proofs.TightChains.{IsTight}
+use Rattle.path_certificate.proofs.WorkedRows.{joins, row_is}
 use Rattle.path_search.proofs.LeastCosts.{supported_least}
 use Rattle.path_search.proofs.FirstChains.{IsFirstHop, first_path}
-
-joins : (places from link to : ℕ) → from < places → to < places → (from ≡ to → ⊥) → IsStep places (step from link to)
-joins places from link to f t ne = record { from = f; to = t; apart = ne; cost = lit≤ tt; small = lit< tt }
-
-row_is : IsGraph row.through row.steps
-row_is =
-    let first = joins 3 0 1 1 (lit< tt) (lit< tt) (λ e. absurd (cc)) in
-    let first_back = joins 3 1 1 0 (lit< tt) (lit< tt) (λ e. absurd (cc)) in
-    let second = joins 3 1 2 2 (lit< tt) (lit< tt) (λ e. absurd (cc)) in
-    let second_back = joins 3 2 2 1 (lit< tt) (lit< tt) (λ e. absurd (cc)) in
-    record { few = lit≤ tt; each = (first, (first_back, (second, (second_back, tt)))); ordered = refl }
 
 blocked_row_is : IsGraph blocked_row.through blocked_row.steps
 blocked_row_is = record { few = lit≤ tt; each = row_is.each; ordered = refl }
