@@ -1,0 +1,4 @@
+mod NameListLaws
+mod BodyValues
+mod SpelledLaws
+mod CarriedLaws

@@ -1,0 +1,4 @@
+pub mod NameLists
+pub mod ReadResults
+pub mod BodyMeaning
+pub mod SpelledBodies

@@ -1,0 +1,109 @@
+ghost use Rattle.std.specs.Prelude.{◌≡◌, ◌≢◌, ◌↔◌, IfOk, IfErr, IsOk, IsErrOf, true, Ok, Err};
+ghost use Rattle.ctrl_model.specs.CarriedCommands.{is_carried};
+ghost use Rattle.ctrl_model.specs.CommandForm.{is_spelled};
+ghost use Rattle.command_codec.specs.BodyMeaning.{meaning};
+ghost use Rattle.command_codec.specs.ReadResults.{Gives};
+
+use crate::bodies::{made, made_router, named, updated, updated_router};
+use crate::content_types::{
+    CONNECT_ROUTER, CREATE_IDENTITY, CREATE_ROUTER, CREATE_SERVICE, DELETE_IDENTITY, DELETE_ROUTER,
+    DELETE_SERVICE, DISCONNECT_ROUTER, HELLO, UPDATE_IDENTITY, UPDATE_ROUTER, UPDATE_SERVICE,
+};
+use ctrl_model::{Command, Field, Reason};
+use json_body::FieldFault;
+use std::alloc::Global;
+use thiserror::Error;
+
+/// Why a frame's type and body spell no command.
+#[derive(Clone, Copy, Debug, PartialEq, Eq, Error)]
+pub enum CodecFault {
+    /// No command has the content type.
+    #[error("no command has the content type")]
+    UnsupportedType,
+    /// The body spells no command of its type: the first cause, and the field that it is about.
+    #[error("the body spells no command")]
+    BadBody { field: Field, reason: Reason },
+    /// There is no memory for the command.
+    #[error("no memory")]
+    NoMemory,
+}
+
+impl From<FieldFault> for CodecFault {
+    ghost use Rattle.std.specs.Prelude.{◌≡◌};
+    ghost use Rattle.command_codec.specs.BodyMeaning.{cause_of};
+
+    ghost from_gives = { λ fault e. e ≡ cause_of fault };
+
+    fn from(fault: FieldFault) -> CodecFault {
+        match fault {
+            FieldFault::NotObject => CodecFault::BadBody {
+                field: Field::Nothing,
+                reason: Reason::NotObject,
+            },
+            FieldFault::Missing(field) => CodecFault::BadBody {
+                field,
+                reason: Reason::Missing,
+            },
+            FieldFault::WrongKind(field) => CodecFault::BadBody {
+                field,
+                reason: Reason::WrongKind,
+            },
+            FieldFault::Unknown => CodecFault::BadBody {
+                field: Field::Nothing,
+                reason: Reason::Unknown,
+            },
+            FieldFault::NoMemory => CodecFault::NoMemory,
+        }
+    }
+}
+
+#[tactic(auto, using(crate::proofs::SpelledLaws::supported))]
+fn command_in(alloc: Global, content: u32, body: &[u8]) -> Result<Command, CodecFault>
+    ensures given { Gives CodecFault.NoMemory (λ c. c) result (meaning content body.now) }
+    ensures hello { content ≡ 0 → IsOk result }
+    ensures unsupported { meaning content body.now ≡ Err CodecFault.UnsupportedType → IsErrOf result CodecFault.UnsupportedType }
+{
+    match content {
+        HELLO => Ok(Command::Hello),
+        CREATE_IDENTITY => {
+            made(alloc, body).map(|(name, attributes)| Command::CreateIdentity { name, attributes })
+        }
+        UPDATE_IDENTITY => updated(alloc, body).map(|(name, attributes)| Command::UpdateIdentity {
+            name,
+            attributes,
+        }),
+        DELETE_IDENTITY => named(alloc, body).map(|name| Command::DeleteIdentity { name }),
+        CREATE_SERVICE => {
+            made(alloc, body).map(|(name, attributes)| Command::CreateService { name, attributes })
+        }
+        UPDATE_SERVICE => updated(alloc, body).map(|(name, attributes)| Command::UpdateService {
+            name,
+            attributes,
+        }),
+        DELETE_SERVICE => named(alloc, body).map(|name| Command::DeleteService { name }),
+        CREATE_ROUTER => made_router(alloc, body),
+        UPDATE_ROUTER => updated_router(alloc, body),
+        DELETE_ROUTER => named(alloc, body).map(|name| Command::DeleteRouter { name }),
+        CONNECT_ROUTER => named(alloc, body).map(|name| Command::ConnectRouter { name }),
+        DISCONNECT_ROUTER => named(alloc, body).map(|name| Command::DisconnectRouter { name }),
+        _ => Err(CodecFault::UnsupportedType),
+    }
+}
+
+/// The command that a body spells under a content type.
+///
+/// `UnsupportedType` comes exactly where no command has the type, and `BadBody` with the first cause exactly where the body
+/// spells no command of it; else only memory can be wanting. So far the types are those of Hello and of the commands on
+/// identities, services and edge routers (docs/FORMATS.md, "Commands").
+pub fn read(alloc: Global, content: u32, body: &[u8]) -> Result<Command, CodecFault>
+    ensures command { IfOk result (λ c. meaning content body.now ≡ Ok c) }
+    ensures fault { IfErr result (λ e. e ≢ CodecFault.NoMemory → meaning content body.now ≡ Err e) }
+    // Memory cannot be wanting for Hello, nor where no command has the type.
+    ensures hello { content ≡ 0 → IsOk result }
+    ensures unsupported { IsErrOf result CodecFault.UnsupportedType ↔ (meaning content body.now ≡ Err CodecFault.UnsupportedType) }
+    // What is read keeps the kinds, the ranges and the lengths of its fields, and is carried out so far.
+    ensures spelled { IfOk result (λ c. is_spelled c ≡ true) }
+    ensures carried { IfOk result (λ c. is_carried c ≡ true) }
+{
+    command_in(alloc, content, body)
+}

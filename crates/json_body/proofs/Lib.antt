@@ -1,0 +1,3 @@
+mod RequiredFields
+mod KeyLaws
+mod ListLaws

@@ -1,0 +1,13 @@
+//! The fields of a JSON object, read by kind, each fault with its field.
+#![tactic(auto)]
+
+mod fields;
+mod key_words;
+#[cfg(test)]
+mod tests;
+mod value_kinds;
+mod worked;
+
+pub use fields::{FieldFault, Fields};
+pub use value_kinds::as_name;
+pub use worked::{worked_faults, worked_kinds};
