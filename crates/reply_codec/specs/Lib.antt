@@ -1,0 +1,4 @@
+pub mod ReplyBody
+pub mod ReplyFrame
+pub mod ReplyLimits
+pub mod WorkedReplies

@@ -1,0 +1,28 @@
+-- How long the lists of a reply may be for it to fit a frame (docs/FORMATS.md, "Replies").
+use Rattle.std.specs.Prelude.{Bool, true, ◌&&◌, nat_le, length}
+use Rattle.std.specs.List.{list_all}
+use Rattle.ctrl_model.specs.CommandForm.{is_value}
+use Rattle.ctrl_model.specs.declared.claims.Explanation.{Explanation}
+use Rattle.ctrl_model.specs.declared.claims.Reach.{Reach}
+use Rattle.ctrl_model.specs.declared.replies.Reply.{Reply}
+use Rattle.ctrl_model.specs.declared.replies.Reply.TheVariants as reply
+
+-- An entry of an explanation: at most 256 values, each no path or below 2 ^ 32.
+abbrev pub is_short_reach : Reach → Bool
+is_short_reach e = nat_le (length e.values) 256 && list_all is_value e.values
+
+-- An explanation: at most 255 links, 256 routers and 256 such entries.
+abbrev pub is_short_claim : Explanation → Bool
+is_short_claim claim =
+    nat_le (length claim.links) 255
+    && (nat_le (length claim.routers) 256 && (nat_le (length claim.potentials) 256 && list_all is_short_reach claim.potentials))
+
+-- A reply that fits a frame: its lists are no longer than what a controller can show. There are at most 512 services and 256
+-- routers, and a path has at most 255 links.
+abbrev pub keeps_limits : Reply → Bool
+keeps_limits (reply.Circuit circuit ingress links terminator total) = nat_le (length links) 255
+keeps_limits (reply.Explained ingress claim) = is_short_claim claim
+keeps_limits (reply.Services names) = nat_le (length names) 512
+keeps_limits (reply.Grants bind dial routers) = nat_le (length bind) 512 && (nat_le (length dial) 512 && nat_le (length routers) 256)
+keeps_limits (reply.Shown identity ingress links service terminator) = nat_le (length links) 255
+keeps_limits _ = true

@@ -1,0 +1,17 @@
+//! Replies as frames: the body of each reply and refusal as compact JSON, with its two headers.
+#![tactic(auto)]
+
+mod lists;
+mod refusal_bodies;
+mod reply_bodies;
+mod worked;
+mod writing;
+
+pub use worked::{
+    worked_bodies, worked_denials, worked_explanations, worked_frame, worked_limits,
+    worked_limits_of_explanations, worked_lists, worked_plain_refusals, worked_refusals,
+};
+pub use writing::write;
+
+#[cfg(test)]
+mod tests;

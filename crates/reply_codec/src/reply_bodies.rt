@@ -1,0 +1,196 @@
+ghost use Rattle.std.specs.Prelude.{◌≡◌, ◌≤◌, true, IfOk, Some, nat_le, ◌&&◌, length};
+ghost use Rattle.std.specs.Option.{option_map, option_map_or};
+ghost use Rattle.serde_json.specs.Data.{number, string, object, member, no_members, boolean};
+ghost use Rattle.serde_json.specs.View.{view};
+ghost use Rattle.serde_json.specs.Written.{compact_text};
+ghost use Rattle.ctrl_model.specs.declared.replies.Reply.TheVariants as reply;
+ghost use Rattle.reply_codec.specs.ReplyBody.{reply_object, reply_body};
+ghost use Rattle.reply_codec.specs.ReplyLimits.{is_short_claim, keeps_limits};
+
+use crate::lists::{
+    name_value, names_value, number_value, numbers_value, reaches_value, tallies_value,
+};
+use crate::refusal_bodies::refusal_value;
+use ctrl_model::{CircuitNo, Explanation, Name, Names, Numbers, Reply, Tallies, TermNo};
+use serde_json::{Value, json};
+use std::alloc::{AllocError, Global};
+
+fn made_value(alloc: Global, number: u32) -> Result<Value, AllocError>
+    ensures value { IfOk result (λ v. Some (view v) ≡ reply_object (reply.Made number)) }
+    ensures few { IfOk result (λ _. length (reply_body (reply.Made number)) ≤ 1_048_576) }
+{
+    json!(in alloc; {"no": number})
+}
+
+fn verified_value(alloc: Global, certified: bool) -> Result<Value, AllocError>
+    ensures value { IfOk result (λ v. Some (view v) ≡ reply_object (reply.Verified certified)) }
+    ensures few { IfOk result (λ _. length (reply_body (reply.Verified certified)) ≤ 1_048_576) }
+{
+    json!(in alloc; {"certified": certified})
+}
+
+fn circuit_value(
+    alloc: Global,
+    circuit: CircuitNo,
+    ingress: &Name,
+    links: &Numbers,
+    terminator: TermNo,
+    total: u32,
+) -> Result<Value, AllocError>
+    requires { length links.now ≤ 255 }
+    ensures value { IfOk result (λ v. Some (view v) ≡ reply_object (reply.Circuit circuit ingress.now links.now terminator total)) }
+    ensures few { IfOk result (λ _. length (reply_body (reply.Circuit circuit ingress.now links.now terminator total)) ≤ 1_048_576) }
+{
+    let no = number_value(circuit.0);
+    let name = name_value(alloc, ingress)?;
+    let path = numbers_value(alloc, links)?;
+    let end = number_value(terminator.0);
+    let cost = number_value(total);
+    json!(in alloc; {"circuit": no, "ingress": name, "links": path, "terminator": end, "total": cost})
+}
+
+fn explained_value(alloc: Global, ingress: &Name, claim: &Explanation) -> Result<Value, AllocError>
+    requires { is_short_claim claim.now ≡ true }
+    ensures value { IfOk result (λ v. Some (view v) ≡ reply_object (reply.Explained ingress.now claim.now)) }
+    ensures few { IfOk result (λ _. length (reply_body (reply.Explained ingress.now claim.now)) ≤ 1_048_576) }
+{
+    let name = name_value(alloc, ingress)?;
+    let path = numbers_value(alloc, &claim.links)?;
+    let potentials = reaches_value(alloc, &claim.potentials)?;
+    let routers = numbers_value(alloc, &claim.routers)?;
+    let end = number_value(claim.terminator.0);
+    let cost = number_value(claim.total);
+    json!(in alloc; {"ingress": name, "links": path, "potentials": potentials, "routers": routers, "terminator": end, "total": cost})
+}
+
+fn services_value(alloc: Global, names: &Names) -> Result<Value, AllocError>
+    requires { length names.now ≤ 512 }
+    ensures value { IfOk result (λ v. Some (view v) ≡ reply_object (reply.Services names.now)) }
+    ensures few { IfOk result (λ _. length (reply_body (reply.Services names.now)) ≤ 1_048_576) }
+{
+    let services = names_value(alloc, names)?;
+    json!(in alloc; {"services": services})
+}
+
+fn grants_value(
+    alloc: Global,
+    bind: &Tallies,
+    dial: &Tallies,
+    routers: &Tallies,
+) -> Result<Value, AllocError>
+    requires bind { length bind.now ≤ 512 }
+    requires dial { length dial.now ≤ 512 }
+    requires routers { length routers.now ≤ 256 }
+    ensures value { IfOk result (λ v. Some (view v) ≡ reply_object (reply.Grants bind.now dial.now routers.now)) }
+    ensures few { IfOk result (λ _. length (reply_body (reply.Grants bind.now dial.now routers.now)) ≤ 1_048_576) }
+{
+    let bound = tallies_value(alloc, bind)?;
+    let dialed = tallies_value(alloc, dial)?;
+    let entered = tallies_value(alloc, routers)?;
+    json!(in alloc; {"bind": bound, "dial": dialed, "routers": entered})
+}
+
+fn shown_value(
+    alloc: Global,
+    identity: &Name,
+    ingress: &Name,
+    links: &Numbers,
+    service: &Name,
+    terminator: TermNo,
+) -> Result<Value, AllocError>
+    requires { length links.now ≤ 255 }
+    ensures value { IfOk result (λ v. Some (view v) ≡ reply_object (reply.Shown identity.now ingress.now links.now service.now terminator)) }
+    ensures few { IfOk result (λ _. length (reply_body (reply.Shown identity.now ingress.now links.now service.now terminator)) ≤ 1_048_576) }
+{
+    let who = name_value(alloc, identity)?;
+    let entry = name_value(alloc, ingress)?;
+    let path = numbers_value(alloc, links)?;
+    let name = name_value(alloc, service)?;
+    let end = number_value(terminator.0);
+    json!(in alloc; {"identity": who, "ingress": entry, "links": path, "service": name, "terminator": end})
+}
+
+fn counts_value(
+    alloc: Global,
+    circuits: u32,
+    grants: u64,
+    identities: u32,
+    links: u32,
+    policies: u32,
+    routers: u32,
+    services: u32,
+    terminators: u32,
+) -> Result<Value, AllocError>
+    ensures value { IfOk result (λ v. Some (view v) ≡ reply_object (reply.Counts circuits grants identities links policies routers services terminators)) }
+    ensures few { IfOk result (λ _. length (reply_body (reply.Counts circuits grants identities links policies routers services terminators)) ≤ 1_048_576) }
+{
+    json!(in alloc; {
+        "circuits": circuits,
+        "grants": grants,
+        "identities": identities,
+        "links": links,
+        "policies": policies,
+        "routers": routers,
+        "services": services,
+        "terminators": terminators
+    })
+}
+
+/// The object of a reply, if it has one: at most 1,048,576 bytes.
+pub(crate) fn reply_value(alloc: Global, reply: &Reply) -> Result<Option<Value>, AllocError>
+    requires { keeps_limits reply.now ≡ true }
+    ensures value { IfOk result (λ o. option_map view o ≡ reply_object reply.now) }
+    ensures few { IfOk result (λ _. length (reply_body reply.now) ≤ 1_048_576) }
+{
+    let value = match reply {
+        Reply::Empty => return Ok(None),
+        Reply::Done => json!(in alloc; {})?,
+        Reply::Made { no } => made_value(alloc, *no)?,
+        Reply::Circuit {
+            circuit,
+            ingress,
+            links,
+            terminator,
+            total,
+        } => circuit_value(alloc, *circuit, ingress, links, *terminator, *total)?,
+        Reply::Explained { ingress, claim } => explained_value(alloc, ingress, claim)?,
+        Reply::Verified { certified } => verified_value(alloc, *certified)?,
+        Reply::Services { names } => services_value(alloc, names)?,
+        Reply::Grants {
+            bind,
+            dial,
+            routers,
+        } => grants_value(alloc, bind, dial, routers)?,
+        Reply::Shown {
+            identity,
+            ingress,
+            links,
+            service,
+            terminator,
+        } => shown_value(alloc, identity, ingress, links, service, *terminator)?,
+        Reply::Counts {
+            circuits,
+            grants,
+            identities,
+            links,
+            policies,
+            routers,
+            services,
+            terminators,
+        } => {
+            counts_value(
+                alloc,
+                *circuits,
+                *grants,
+                *identities,
+                *links,
+                *policies,
+                *routers,
+                *services,
+                *terminators,
+            )?
+        }
+        Reply::Refused(refusal) => refusal_value(alloc, refusal)?,
+    };
+    Ok(Some(value))
+}
