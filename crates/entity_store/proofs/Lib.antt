@@ -1,0 +1,6 @@
+pub mod PlaceLaws
+pub mod RowLaws
+pub mod EntityLaws
+pub mod UseLaws
+pub mod PartLaws
+pub mod EntityUses

@@ -1,0 +1,266 @@
+ghost use Rattle.std.specs.Prelude.{◌≡◌, ◌+◌, ◌≤◌, List, ◌<◌, ℕ, ⊤, true, [], IfOk, OnOk, OnErr, map, option_map, Ok};
+ghost use Rattle.ctrl_model.specs.CommandForm.{is_cost};
+ghost use Rattle.ctrl_model.specs.Networks.{seen};
+ghost use Rattle.ctrl_model.specs.Numbered.{at, numbers};
+ghost use Rattle.entity_store.specs.EntityTables.{no_entities, is_entity_kind, entities, next_of, with_entity, with_attributes, with_router, without_entity, with_next};
+ghost use Rattle.entity_store.specs.AttributeUses.{has_attribute_room, times, uses, used_names, AreUsed, AreHeld, Holds, LetsGo};
+ghost use Rattle.entity_store.specs.TableRules.{may_add, found, is_there, attributes_at, most_of, KeepsNumbers};
+ghost use Rattle.entity_store.specs.Parts.{all_of};
+ghost use Rattle.entity_store.specs.Stores.{IsTableOf};
+
+use crate::names_in_use::{Parts, are_few, hold_names, let_names_go};
+use crate::tables::Table;
+use ctrl_model::{Kind, Name, Names, Numbers, RouterNo, RouterSeen};
+use std::alloc::{AllocError, Global};
+use std::marker::Model;
+use thiserror::Error;
+
+/// Why an entity is not added or not found.
+#[derive(Clone, Copy, Debug, PartialEq, Eq, Error)]
+pub enum EntityFault {
+    /// An entity of the kind has the name already.
+    #[error("the name is taken")]
+    Exists,
+    /// No entity of the kind has the name.
+    #[error("nothing has the name")]
+    Unknown,
+    /// No entity of the kind can be added.
+    #[error("the kind is full")]
+    Full(Kind),
+}
+
+/// The identities, services and edge routers of a controller. Contracts see them as tables (`EntityTables`).
+///
+/// A kind that a call takes is Identity, Service or Router.
+#[derive(Drop)]
+pub struct Entities {
+    identities: Table,
+    services: Table,
+    routers: Table,
+    held: Vec<Name>,
+}
+
+impl Model for Entities {
+    ghost use Rattle.std.specs.Prelude.{◌≤◌, length};
+    ghost use Rattle.entity_store.specs.EntityTables.{Tables};
+
+    ghost Value = { Tables };
+
+    ghost use Rattle.entity_store.specs.Stores.{tables_of};
+
+    ghost view = { λ e. tables_of e.identities e.services e.routers e.held.items };
+
+    ghost invariant = { λ e. (length e.identities.rows ≤ 2048) × (length e.services.rows ≤ 512) × (length e.routers.rows ≤ 256) };
+}
+
+// How many entities of a kind there may be.
+fn most_of(kind: Kind) -> usize
+    requires { is_entity_kind kind ≡ true }
+    ensures { result ≡ most_of kind }
+{
+    match kind {
+        Kind::Identity => 2_048,
+        Kind::Service => 512,
+        Kind::Router => 256,
+        _ => unreachable!(),
+    }
+}
+
+impl Entities {
+    // The table of a kind.
+    fn table(&self, kind: Kind) -> &Table
+        requires { is_entity_kind kind ≡ true }
+        ensures { IsTableOf kind result.now self.now }
+    {
+        match kind {
+            Kind::Identity => &self.identities,
+            Kind::Service => &self.services,
+            Kind::Router => &self.routers,
+            _ => unreachable!(),
+        }
+    }
+
+    // The names that are in use or would be.
+    fn parts<'a>(&'a self, fresh: &'a Names) -> Parts<'a>
+        ensures used { all_of result ≡ used_names self.now fresh.now }
+        ensures times { (q : List ℕ) → times q (all_of result) ≡ uses q self.now + times q fresh.now }
+    {
+        Parts {
+            identities: self.identities.entries(),
+            services: self.services.entries(),
+            routers: self.routers.entries(),
+            held: self.held.as_slice(),
+            fresh: fresh.as_slice(),
+        }
+    }
+
+    /// A store without entities.
+    pub fn new(alloc: Global) -> Result<Entities, AllocError>
+        ensures { IfOk result (λ e. e ≡ no_entities) }
+    {
+        Ok(Entities {
+            identities: Table::new(alloc),
+            services: Table::new(alloc),
+            routers: Table::new(alloc),
+            held: Vec::new(alloc),
+        })
+    }
+
+    /// Whether an entity of the name may be added: `Exists` comes exactly where one of the kind has the name, and else `Full`
+    /// exactly where the kind has reached its limit or its numbers have run out.
+    pub fn may_add(&self, kind: Kind, name: &Name) -> Result<(), EntityFault>
+        requires { is_entity_kind kind ≡ true }
+        ensures { result ≡ may_add kind name.now self.now }
+    {
+        let table = self.table(kind);
+        if table.find(name).is_some() {
+            return Err(EntityFault::Exists);
+        }
+        if table.len() >= most_of(kind) || table.next() == u32::MAX {
+            return Err(EntityFault::Full(kind));
+        }
+        Ok(())
+    }
+
+    /// Adds an entity under the next number, which it answers. A router costs nothing to enter, may be passed through and is not
+    /// connected. Each attribute gets a use.
+    pub fn add(&mut self, kind: Kind, name: &Name, attributes: &Names) -> Result<u32, AllocError>
+        requires kind { is_entity_kind kind ≡ true }
+        requires may { may_add kind name.now self.old ≡ Ok tt }
+        requires room { has_attribute_room self.old [] attributes.now ≡ true }
+        ensures ok { IfOk result (λ n. (n ≡ next_of kind self.old) × (self.new ≡ with_entity kind name.now attributes.now self.old)) }
+        ensures err { OnErr result (self.new ≡ self.old) }
+    {
+        match kind {
+            Kind::Identity => self.identities.add(name, attributes),
+            Kind::Service => self.services.add(name, attributes),
+            Kind::Router => self.routers.add(name, attributes),
+            _ => unreachable!(),
+        }
+    }
+
+    /// The number of the entity that has the name. `Unknown` comes exactly where none has it.
+    pub fn find(&self, kind: Kind, name: &Name) -> Result<u32, EntityFault>
+        requires { is_entity_kind kind ≡ true }
+        ensures found { result ≡ found kind name.now self.now }
+        // The numbers ascend from 1 below the next one, and the kind keeps its limit.
+        ensures numbers { KeepsNumbers kind self.now }
+    {
+        self.table(kind).find(name).ok_or(EntityFault::Unknown)
+    }
+
+    /// Replaces the attributes of a present entity: their uses go, and each new one gets one.
+    pub fn update(&mut self, kind: Kind, no: u32, attributes: &Names) -> Result<(), AllocError>
+        requires kind { is_entity_kind kind ≡ true }
+        requires there { is_there kind no self.old ≡ true }
+        requires room { has_attribute_room self.old (attributes_at kind no self.old) attributes.now ≡ true }
+        ensures ok { OnOk result (self.new ≡ with_attributes kind no attributes.now self.old) }
+        ensures err { OnErr result (self.new ≡ self.old) }
+    {
+        let attributes = attributes.copy()?;
+        match kind {
+            Kind::Identity => self.identities.update(no, attributes),
+            Kind::Service => self.services.update(no, attributes),
+            Kind::Router => self.routers.update(no, attributes),
+            _ => unreachable!(),
+        }
+        Ok(())
+    }
+
+    /// Sets what a present router costs to enter, 0 to 65,535, whether it may be passed through, and whether it is connected.
+    pub fn set_router(&mut self, no: RouterNo, cost: u32, through: bool, connected: bool)
+        requires there { is_there Kind.Router no.0 self.old ≡ true }
+        requires cost { is_cost cost ≡ true }
+        ensures { self.new ≡ with_router no.0 cost through connected self.old }
+    {
+        self.routers.set_marks(no.0, cost, through, connected);
+    }
+
+    /// Removes a present entity, and with it a use of each of its attributes.
+    pub fn remove(&mut self, kind: Kind, no: u32)
+        requires kind { is_entity_kind kind ≡ true }
+        requires there { is_there kind no self.old ≡ true }
+        ensures { self.new ≡ without_entity kind no self.old }
+    {
+        match kind {
+            Kind::Identity => self.identities.remove(no),
+            Kind::Service => self.services.remove(no),
+            Kind::Router => self.routers.remove(no),
+            _ => unreachable!(),
+        }
+    }
+
+    /// The routers as routes see them, by ascending number.
+    pub fn routers(&self, alloc: Global) -> Result<Vec<RouterSeen>, AllocError>
+        ensures { IfOk result (λ v. v.items ≡ map seen self.now.routers) }
+    {
+        self.routers.routers(alloc)
+    }
+
+    /// Whether at most 1,024 attributes are in use once a use of each entry of `gone` is taken away, and one of each entry of
+    /// `fresh` is added.
+    pub fn has_room(&self, gone: &Names, fresh: &Names) -> bool
+        requires { AreUsed self.now gone.now }
+        ensures { result ≡ has_attribute_room self.now gone.now fresh.now }
+    {
+        are_few(&self.parts(fresh), gone.as_slice())
+    }
+
+    /// Holds a use of each name, beside those of entities.
+    pub fn hold(&mut self, names: &Names) -> Result<(), AllocError>
+        requires { has_attribute_room self.old [] names.now ≡ true }
+        ensures ok { OnOk result (Holds names.now self.old self.new) }
+        ensures err { OnErr result (self.new ≡ self.old) }
+    {
+        hold_names(&mut self.held, names)
+    }
+
+    /// Lets a held use of each name go.
+    pub fn let_go(&mut self, names: &Names)
+        requires { AreHeld self.old names.now }
+        ensures { LetsGo names.now self.old self.new }
+    {
+        let_names_go(&mut self.held, names.as_slice());
+    }
+
+    /// The name and the attributes of an entity. None exactly where it is absent.
+    pub fn seen(&self, kind: Kind, no: u32) -> Option<(&Name, &Names)>
+        requires { is_entity_kind kind ≡ true }
+        ensures { option_map (λ p. record { name = p.0.now; attributes = p.1.now }) result ≡ at (entities kind self.now) no }
+    {
+        let row = self.table(kind).seen(no)?;
+        Some((&row.name, &row.attributes))
+    }
+
+    /// The numbers of the present entities of a kind, ascending.
+    pub fn numbers(&self, alloc: Global, kind: Kind) -> Result<Numbers, AllocError>
+        requires { is_entity_kind kind ≡ true }
+        ensures { IfOk result (λ ns. ns ≡ numbers (entities kind self.now)) }
+    {
+        self.table(kind).numbers(alloc)
+    }
+
+    /// The number that the next entity of a kind gets, 1 in a new store.
+    pub fn next(&self, kind: Kind) -> u32
+        requires { is_entity_kind kind ≡ true }
+        ensures next { result ≡ next_of kind self.now }
+        // The numbers ascend from 1 below it, and the kind keeps its limit.
+        ensures numbers { KeepsNumbers kind self.now }
+    {
+        self.table(kind).next()
+    }
+
+    /// Raises the next number of a kind.
+    pub fn skip(&mut self, kind: Kind, next: u32)
+        requires kind { is_entity_kind kind ≡ true }
+        requires later { next_of kind self.old ≤ next }
+        ensures { self.new ≡ with_next kind next self.old }
+    {
+        match kind {
+            Kind::Identity => self.identities.skip(next),
+            Kind::Service => self.services.skip(next),
+            Kind::Router => self.routers.skip(next),
+            _ => unreachable!(),
+        }
+    }
+}

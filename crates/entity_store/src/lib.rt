@@ -1,0 +1,13 @@
+//! The store of identities, services and edge routers: by name and by number, with the uses of attributes.
+#![tactic(auto)]
+
+mod entities;
+mod names_in_use;
+mod rows;
+mod tables;
+#[cfg(test)]
+mod tests;
+mod worked;
+
+pub use entities::{Entities, EntityFault};
+pub use worked::{attributes_in_use, names_and_numbers};
