@@ -1,0 +1,5 @@
+pub mod PairCounts
+pub mod Deltas
+pub mod Steps
+pub mod MovedCounts
+pub mod WorkedChanges
