@@ -1,0 +1,32 @@
+use Rattle.std.proofs.Common.{sym, ◌∙◌}
+use Rattle.ctrl_model.specs.declared.kinds.Kind.TheVariants as kind
+use Rattle.ctrl_core.proofs.PlanLaws.{number_from_found, absent_from_found, there_from_number}
+use Rattle.ctrl_core.proofs.RouterLaws.{found_seen, update_router_unknown, update_router_refused, update_router_planned}
+use Rattle.ctrl_core.proofs.planning.plan_update_router.Goals as goal
+
+pub refusal_of_describe-requires-clause-there : goal.refusal_of_describe-requires-clause-there
+refusal_of_describe-requires-clause-there c =
+    there_from_number kind.Router c.args.name.now c.args.entities.now c.in-Ok.number (number_from_found kind.Router c.args.name.now c.args.entities.now c.in-Ok.number (sym c.in-Ok.is ∙ c.find.ensures.found))
+
+pub returns-in_default : goal.returns-in_default
+returns-in_default c =
+    update_router_unknown c.args.name.now c.args.attributes.now c.args.cost c.args.no_traversal c.args.entities.now c.unknown_name.result
+    (absent_from_found kind.Router c.args.name.now c.args.entities.now c.in_default.field-0 (sym c.in_default.is ∙ c.find.ensures.found)) c.unknown_name.ensures
+
+pub returns-in-Some : goal.returns-in-Some
+returns-in-Some c =
+    let named = number_from_found kind.Router c.args.name.now c.args.entities.now c.in-Ok.number (sym c.in-Ok.is ∙ c.find.ensures.found) in
+    update_router_refused c.args.name.now c.args.attributes.now c.args.cost c.args.no_traversal c.args.entities.now c.in-Ok.number c.refused.result c.in-Some.refusal c.requires.kept
+    c.find.ensures.numbers named (there_from_number kind.Router c.args.name.now c.args.entities.now c.in-Ok.number named) c.in-Some.ensures c.refused.ensures
+
+pub unreachable-requires : goal.unreachable-requires
+unreachable-requires c =
+    let named = number_from_found kind.Router c.args.name.now c.args.entities.now c.in-Ok.number (sym c.in-Ok.is ∙ c.find.ensures.found) in
+    found_seen c.args.entities.now c.in-Ok.number (there_from_number kind.Router c.args.name.now c.args.entities.now c.in-Ok.number named) (sym c.in_default-2.is ∙ c.in_ok-router.ensures)
+
+pub returns : goal.returns
+returns c =
+    let named = number_from_found kind.Router c.args.name.now c.args.entities.now c.in-Ok.number (sym c.in-Ok.is ∙ c.find.ensures.found) in
+    rw (c.done.ensures, c.in_ok-attributes.ensures) (update_router_planned c.args.name.now c.args.attributes.now c.args.cost c.args.no_traversal c.args.entities.now c.in-Ok.number c.in-Some-2.router
+    c.requires.kept c.find.ensures.numbers c.requires.cost named (there_from_number kind.Router c.args.name.now c.args.entities.now c.in-Ok.number named)
+    (sym c.in_default-refusal_of_describe.is ∙ c.refusal_of_describe.ensures) (sym c.in-Some-2.is ∙ c.in_ok-router.ensures))
