@@ -1,5 +1,3 @@
-pub mod JsonLaws
-pub mod ReplyLengths
-pub mod NameLaws
+pub mod CarriedFits
 pub mod FrontParts
 pub mod TurnLaws

@@ -1,5 +1,5 @@
 -- How the turns of the serving loop make up the run.
-use Rattle.std.proofs.Common.{◌≡◌, ℕ, ◌+◌, ◌%◌, ◌^◌, ◌++◌, List, [], ◌∷◌, length, drop, eqb, refl, sym, ap, ◌∙◌, subst, append_assoc, append-nil, arith}
+use Rattle.std.proofs.Common.{◌≡◌, ℕ, ◌+◌, ◌≤◌, ◌%◌, ◌^◌, ◌++◌, List, [], ◌∷◌, length, drop, eqb, refl, sym, ap, ◌∙◌, subst, append_assoc, append-nil, arith}
 use Rattle.std.proofs.lemmas.Bool.Decides.{nat_tests}
 use Rattle.std.specs.declared.option.Option.{Option}
 use Rattle.ziti_outside.specs.Told.{Took, TookFront, IsFront}
@@ -8,12 +8,14 @@ use Rattle.channel_frame.specs.declared.frames.Frame.{Frame}
 use Rattle.channel_frame.specs.declared.frames.Front.TheVariants.{Whole}
 use Rattle.channel_frame.specs.FrameSpelling.{spelling}
 use Rattle.channel_frame.specs.StreamReading.{front, frames_of, rest_of}
+use Rattle.channel_frame.proofs.FrontLaws.{front_stands}
 use Rattle.channel_frame.proofs.ReadingLaws.{HasNone, frames_step, rest_step, reading_stops}
 use Rattle.ctrl_model.specs.declared.kinds.Who.TheVariants.{Admin}
 use Rattle.ctrl_model.specs.declared.replies.Reply.{Reply}
 use Rattle.ctrl_model.specs.State.{State, start}
 use Rattle.ctrl_model.specs.Matches.{is_nothing}
-use Rattle.ctrl_serve.specs.FrameAnswer.{frame_answer, reply_frame, answers, replies}
+use Rattle.reply_codec.specs.ReplyFrame.{reply_frame}
+use Rattle.ctrl_serve.specs.FrameAnswer.{frame_answer, answers, replies}
 use Rattle.ctrl_serve.specs.declared.serving.Cut.{Cut}
 use Rattle.ctrl_serve.specs.declared.serving.Cut.TheVariants.{NoMemory, Unsaid}
 use Rattle.ctrl_serve.specs.Turns.{TakesTurn, CutsTurn, reply_to_frame}
@@ -38,6 +40,10 @@ pub record Told (n : ℕ) (s : State) (rest bytes : List ℕ) (a b : Option (Lis
   pub took : Took a b done
   pub same : done ++ answers Admin n s (frames_of rest) ≡ replies bytes
   pub tail : rest_of rest ≡ rest_of bytes
+
+-- A whole frame has a byte at least.
+pub whole_is_long : (bytes : List ℕ) (f : Frame) (n : ℕ) → front bytes ≡ Whole f n → 1 ≤ n
+whole_is_long bytes f n e = let stands = front_stands bytes f n e in omega (arith, stands.len)
 
 -- Nothing was said at the start.
 pub told_start : (bytes : List ℕ) (a : Option (List ℕ)) → Told 0 start bytes bytes a a

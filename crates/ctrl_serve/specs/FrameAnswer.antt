@@ -1,57 +1,38 @@
 -- The answer to a frame, and a run of the controller along frames (docs/RULES.md, "The controller").
-use Rattle.std.specs.Prelude.{ℕ, ◌+◌, ◌%◌, ◌^◌, ◌==◌, if◌then◌else◌, List, [], ◌∷◌, None, Some, Ok, Err}
-use Rattle.std.specs.declared.option.Option.{Option}
+use Rattle.std.specs.Prelude.{ℕ, ◌+◌, ◌%◌, ◌^◌, List, [], ◌∷◌, Ok, Err}
 use Rattle.std.specs.declared.result.Result.{Result}
 use Rattle.std.specs.List.{flat_map}
 use Rattle.channel_frame.specs.declared.frames.Frame.{Frame}
-use Rattle.channel_frame.specs.FrameSpelling.{number, spelling}
+use Rattle.channel_frame.specs.FrameSpelling.{spelling}
 use Rattle.channel_frame.specs.StreamReading.{frames_of}
 use Rattle.ctrl_model.specs.declared.commands.Command.{Command}
-use Rattle.ctrl_model.specs.declared.commands.Command.TheVariants.{CreateIdentity}
 use Rattle.ctrl_model.specs.declared.kinds.Who.{Who}
 use Rattle.ctrl_model.specs.declared.kinds.Who.TheVariants.{Admin}
-use Rattle.ctrl_model.specs.declared.refusals.Field.TheVariants.{Nothing}
-use Rattle.ctrl_model.specs.declared.refusals.Reason.TheVariants.{Unknown}
 use Rattle.ctrl_model.specs.declared.refusals.Refusal.{Refusal}
 use Rattle.ctrl_model.specs.declared.refusals.Refusal.TheVariants.{UnsupportedType, BadBody}
 use Rattle.ctrl_model.specs.declared.replies.Reply.{Reply}
 use Rattle.ctrl_model.specs.declared.replies.Reply.TheVariants.{Refused}
 use Rattle.ctrl_model.specs.State.{State, start}
 use Rattle.ctrl_model.specs.Controller.{answer}
-use Rattle.ctrl_serve.specs.IdentityBody.{created_name}
-use Rattle.ctrl_serve.specs.ReplyBody.{reply_body, is_success}
+use Rattle.reply_codec.specs.ReplyFrame.{reply_frame}
+use Rattle.command_codec.specs.declared.reading.CodecFault.{CodecFault}
+use Rattle.command_codec.specs.declared.reading.CodecFault.TheVariants as cause
+use Rattle.command_codec.specs.BodyMeaning.{meaning}
 
--- The command that a body of CreateIdentity spells, so far with a name alone; else the refusal.
-abbrev pub identity_command : Option (List ℕ) → Result Command Refusal
-identity_command None = Err (BadBody Nothing Unknown)
-identity_command (Some name) = Ok (CreateIdentity name [])
-
--- The command that a frame spells, or the refusal of a frame that spells none: so far CreateIdentity is the one type.
-abbrev pub command_of : Frame → Result Command Refusal
-command_of f = if f.content == 1000 then identity_command (created_name f.body) else Err UnsupportedType
+-- The refusal that tells why a frame spells no command. No frame is in want of memory.
+abbrev pub refusal_for : CodecFault → Refusal
+refusal_for cause.UnsupportedType = UnsupportedType
+refusal_for (cause.BadBody field reason) = BadBody field reason
+refusal_for cause.NoMemory = UnsupportedType
 
 -- The answer to what a frame spells: the controller's to a command, and else the refusal, which leaves the state.
-abbrev pub answer_to : Who → State → Result Command Refusal → Reply × State
+abbrev pub answer_to : Who → State → Result Command CodecFault → Reply × State
 answer_to who s (Ok c) = answer who c s
-answer_to who s (Err r) = (Refused r, s)
+answer_to who s (Err e) = (Refused (refusal_for e), s)
 
 -- The answer to a frame in a state: the reply and the next state.
 abbrev pub frame_answer : Who → Frame → State → Reply × State
-frame_answer who f s = answer_to who s (command_of f)
-
--- The flag of a reply's success.
-abbrev pub success_flag : Reply → ℕ
-success_flag r = if is_success r then 1 else 0
-
--- The reply frame: content type 2, the session's count of replies as its sequence number, the request's sequence number
--- and the flag of success as its headers, and the reply's body.
-abbrev pub reply_frame : ℕ → ℕ → Reply → Frame
-reply_frame sequence request r = record {
-  content = 2;
-  sequence = sequence;
-  headers = record { key = 1; value = number request } ∷ record { key = 2; value = success_flag r ∷ [] } ∷ [];
-  body = reply_body r;
-}
+frame_answer who f s = answer_to who s (meaning f.content f.body)
 
 -- The bytes of the replies to some frames, one list a reply, from a sequence number and a state on.
 abbrev pub spoken : Who → ℕ → State → List Frame → List (List ℕ)

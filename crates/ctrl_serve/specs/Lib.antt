@@ -1,11 +1,9 @@
 pub mod Statuses
 pub mod CommandLine
 pub mod Intakes
-pub mod IdentityBody
-pub mod ReplyBody
 pub mod FrameAnswer
+pub mod WorkedAnswers
 pub mod Ending
 pub mod Headline
-pub mod KeptNames
 pub mod Turns
 pub mod Runs

@@ -12,7 +12,8 @@ use Rattle.ctrl_model.specs.State.{State}
 use Rattle.ctrl_model.specs.Matches.{is_nothing}
 use Rattle.ctrl_serve.specs.declared.serving.Cut.{Cut}
 use Rattle.ctrl_serve.specs.declared.serving.Cut.TheVariants.{NoMemory, Unsaid}
-use Rattle.ctrl_serve.specs.FrameAnswer.{frame_answer, reply_frame, replies}
+use Rattle.reply_codec.specs.ReplyFrame.{reply_frame}
+use Rattle.ctrl_serve.specs.FrameAnswer.{frame_answer, replies}
 
 -- The bytes begin with a good head, and all the bytes that it announces are there.
 pub record IsAnnouncedAt (len : ℕ) (bytes : List ℕ) : Type 0 where

@@ -1,15 +1,12 @@
 //! The top call of the controller: it reads the words and the input, answers each whole frame and says the replies.
 #![tactic(auto)]
 
-mod body_reading;
 mod bounds;
 mod command_line;
 mod intake;
-mod kept_names;
 mod laws;
 #[cfg(test)]
 mod memory_forms;
-mod reply_writing;
 mod serving;
 mod status;
 #[cfg(test)]
@@ -21,4 +18,4 @@ pub use bounds::Bounds;
 pub use laws::done_says_all;
 pub use status::Status;
 pub use top::{run, run_within};
-pub use worked::{worked_bodies, worked_runs, worked_words};
+pub use worked::{worked_answers, worked_runs, worked_words};

@@ -1,24 +1,25 @@
-ghost use Rattle.std.specs.Prelude.{◌≡◌, ◌≢◌, ◌≤◌, ◌<◌, true, IfOk, IfErr, OnErr, OnOk, length};
+ghost use Rattle.std.specs.Prelude.{◌≡◌, ◌≢◌, true, IfOk, IfErr, OnOk};
 ghost use Rattle.ziti_outside.specs.Told.{Took};
 ghost use Rattle.channel_frame.specs.declared.frames.Front.TheVariants.{Bad};
 ghost use Rattle.channel_frame.specs.FrameSpelling.{spelling};
 ghost use Rattle.channel_frame.specs.StreamReading.{front};
 ghost use Rattle.ctrl_model.specs.declared.kinds.Who.TheVariants.{Admin};
-ghost use Rattle.ctrl_serve.specs.FrameAnswer.{frame_answer, reply_frame};
-ghost use Rattle.ctrl_serve.specs.ReplyBody.{is_given};
+ghost use Rattle.ctrl_model.specs.CarriedCommands.{is_carried};
+ghost use Rattle.ctrl_model.specs.CommandForm.{is_spelled};
+ghost use Rattle.ctrl_model.specs.Controller.{answer};
+ghost use Rattle.reply_codec.specs.ReplyFrame.{reply_frame};
+ghost use Rattle.reply_codec.specs.ReplyLimits.{keeps_limits};
+ghost use Rattle.ctrl_serve.specs.FrameAnswer.{frame_answer, refusal_for};
 ghost use Rattle.ziti_outside.specs.Causes.{HasCause};
 ghost use Rattle.ctrl_serve.specs.Turns.{IsAnnouncedAt, TakesTurn, CutsTurn, IsServed, unsaid};
 
-use crate::body_reading::created_name;
-use crate::kept_names::Core;
-use crate::reply_writing::reply_bytes;
-use channel_frame::{Frame, FrameFault, Front, read_frame, read_head};
-use ctrl_model::{Field, Reason, Refusal, Reply};
+use channel_frame::{Frame, FrameFault, Front, encode, read_frame, read_head};
+use command_codec::{CodecFault, read};
+use ctrl_core::Core;
+use ctrl_model::{Bytes, Command, Refusal, Reply};
+use reply_codec::write;
 use std::alloc::{AllocError, Global};
 use ziti_outside::{Desk, Failed};
-
-/// The content type of CreateIdentity.
-const CREATE_IDENTITY: u32 = 1_000;
 
 /// How many bytes the head of a frame has.
 const HEAD: usize = 20;
@@ -43,20 +44,38 @@ impl From<AllocError> for Cut {
     }
 }
 
-fn answer_frame(alloc: Global, core: &mut Core, frame: &Frame) -> Result<Reply, AllocError>
-    ensures ok { IfOk result (λ r. (r, core.new) ≡ frame_answer Admin frame.now core.old) }
-    ensures given { IfOk result (λ r. is_given r ≡ true) }
-    ensures err { OnErr result (core.new ≡ core.old) }
+// Carries out a command as an administrator's.
+fn carry_out(core: &mut Core, command: &Command) -> Result<Reply, AllocError>
+    requires live { core.old.live ≡ true }
+    requires spelled { is_spelled command.now ≡ true }
+    requires carried { is_carried command.now ≡ true }
+    ensures ok { IfOk result (λ r. (r, core.new.state) ≡ answer Admin command.now core.old.state) }
+    ensures live { OnOk result (core.new.live ≡ true) }
+    ensures limits { IfOk result (λ r. keeps_limits r ≡ true) }
 {
-    if frame.content != CREATE_IDENTITY {
-        return Ok(Reply::Refused(Refusal::UnsupportedType));
+    let planned = core.plan(command)?;
+    core.apply(planned)
+}
+
+fn refusal_of(fault: CodecFault) -> Result<Refusal, AllocError>
+    ensures { IfOk result (λ r. (fault ≢ CodecFault.NoMemory) × (r ≡ refusal_for fault)) }
+{
+    match fault {
+        CodecFault::UnsupportedType => Ok(Refusal::UnsupportedType),
+        CodecFault::BadBody { field, reason } => Ok(Refusal::BadBody { field, reason }),
+        CodecFault::NoMemory => Err(AllocError),
     }
-    match created_name(alloc, frame.body.as_slice())? {
-        None => Ok(Reply::Refused(Refusal::BadBody {
-            field: Field::Nothing,
-            reason: Reason::Unknown,
-        })),
-        Some(name) => core.create_identity(name),
+}
+
+fn answer_frame(alloc: Global, core: &mut Core, frame: &Frame) -> Result<Reply, AllocError>
+    requires live { core.old.live ≡ true }
+    ensures ok { IfOk result (λ r. (r, core.new.state) ≡ frame_answer Admin frame.now core.old.state) }
+    ensures live { OnOk result (core.new.live ≡ true) }
+    ensures limits { IfOk result (λ r. keeps_limits r ≡ true) }
+{
+    match read(alloc, frame.content, frame.body.as_slice()) {
+        Ok(command) => carry_out(core, &command),
+        Err(fault) => Ok(Reply::Refused(refusal_of(fault)?)),
     }
 }
 
@@ -97,6 +116,20 @@ fn front_of(alloc: Global, bytes: &[u8]) -> Result<Front, AllocError>
     whole_front(alloc, bytes, len)
 }
 
+/// The bytes of a reply, with its sequence number and that of the request that it answers.
+fn reply_bytes(
+    alloc: Global,
+    sequence: u32,
+    request: u32,
+    reply: &Reply,
+) -> Result<Bytes, AllocError>
+    requires { keeps_limits reply.now ≡ true }
+    ensures { IfOk result (λ b. b ≡ spelling (reply_frame sequence request reply.now)) }
+{
+    let frame = write(alloc, reply, sequence, request)?;
+    encode(alloc, &frame)
+}
+
 /// Answers one frame and says the reply.
 fn serve_frame<D: Desk>(
     alloc: Global,
@@ -105,8 +138,10 @@ fn serve_frame<D: Desk>(
     sequence: u32,
     frame: &Frame,
 ) -> Result<(), Cut>
-    ensures ok { OnOk result (TakesTurn sequence frame.now core.old core.new (D.said desk.old) (D.said desk.new)) }
-    ensures cut { IfErr result (λ c. CutsTurn c sequence frame.now core.old (D.said desk.old) (D.said desk.new)) }
+    requires live { core.old.live ≡ true }
+    ensures ok { OnOk result (TakesTurn sequence frame.now core.old.state core.new.state (D.said desk.old) (D.said desk.new)) }
+    ensures live { OnOk result (core.new.live ≡ true) }
+    ensures cut { IfErr result (λ c. CutsTurn c sequence frame.now core.old.state (D.said desk.old) (D.said desk.new)) }
     ensures cause { HasCause (D.say_faults desk.old) (D.say_faults desk.new) (unsaid result) }
     ensures notes { D.noted desk.new ≡ D.noted desk.old }
     ensures note_faults { D.note_faults desk.new ≡ D.note_faults desk.old }
@@ -126,7 +161,7 @@ pub fn serve<D: Desk>(alloc: Global, desk: &mut D, bytes: &[u8]) -> Result<bool,
     ensures notes { D.noted desk.new ≡ D.noted desk.old }
     ensures note_faults { D.note_faults desk.new ≡ D.note_faults desk.old }
 {
-    let mut core = Core::new(alloc);
+    let mut core = Core::empty(alloc)?;
     let mut sequence = 0u32;
     let mut rest = bytes;
     'frames: while let Front::Whole(frame, len) = front_of(alloc, rest)? {

@@ -27,7 +27,21 @@ const UNSUPPORTED: &[u8] =
 const NAMELESS: &[u8] = b"\x03\x06\x09\x0c\xe8\x03\0\0\x05\0\0\0\0\0\0\0\x02\0\0\0{}";
 
 const BAD_BODY: &[u8] =
-    b"\x03\x06\x09\x0c\x02\0\0\0\0\0\0\0\x15\0\0\0\x3a\0\0\0\x01\0\0\0\x04\0\0\0\x05\0\0\0\x02\0\0\0\x01\0\0\0\0{\"code\":11,\"field\":\"\",\"name\":\"BadBody\",\"reason\":\"Unknown\"}";
+    b"\x03\x06\x09\x0c\x02\0\0\0\0\0\0\0\x15\0\0\0\x3e\0\0\0\x01\0\0\0\x04\0\0\0\x05\0\0\0\x02\0\0\0\x01\0\0\0\0{\"code\":11,\"field\":\"name\",\"name\":\"BadBody\",\"reason\":\"Missing\"}";
+
+/// A Hello of the token `id` with a body that is not read, and its reply as the first one: content type 2, success, no body.
+const HELLO: &[u8] =
+    b"\x03\x06\x09\x0c\0\0\0\0\x09\0\0\0\x0a\0\0\0\x03\0\0\0\0\0\0\0\x02\0\0\0idabc";
+
+const GREETED: &[u8] =
+    b"\x03\x06\x09\x0c\x02\0\0\0\0\0\0\0\x15\0\0\0\0\0\0\0\x01\0\0\0\x04\0\0\0\x09\0\0\0\x02\0\0\0\x01\0\0\0\x01";
+
+/// A frame that deletes ann, and its reply as the second one.
+const DELETED: &[u8] =
+    b"\x03\x06\x09\x0c\xea\x03\0\0\x08\0\0\0\0\0\0\0\x0e\0\0\0{\"name\":\"ann\"}";
+
+const DONE_SECOND: &[u8] =
+    b"\x03\x06\x09\x0c\x02\0\0\0\x01\0\0\0\x15\0\0\0\x02\0\0\0\x01\0\0\0\x04\0\0\0\x08\0\0\0\x02\0\0\0\x01\0\0\0\x01{}";
 
 /// The reply to ann's frame as the second one, after a refusal, which made nothing.
 const MADE_SECOND: &[u8] =
@@ -127,7 +141,7 @@ fn outcome(alloc: Global, row: &Row) -> Result<(MemoryDesk, Status), AllocError>
     Ok((desk, status))
 }
 
-fn whole_inputs() -> [Row; 6] {
+fn whole_inputs() -> [Row; 8] {
     let done = Status::Done;
     [
         Row::of("nothing at all", [NONE, NONE], [NONE, NONE], done),
@@ -140,6 +154,8 @@ fn whole_inputs() -> [Row; 6] {
             [UNSUPPORTED, MADE_SECOND],
             done,
         ),
+        Row::of("a greeting", [HELLO, ANN], [GREETED, MADE_SECOND], done),
+        Row::of("ann goes", [ANN, DELETED], [MADE, DONE_SECOND], done),
         Row::of("a bad body", [NAMELESS, ANN], [BAD_BODY, MADE_SECOND], done),
     ]
 }

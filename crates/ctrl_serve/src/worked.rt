@@ -1,15 +1,14 @@
 ghost use Rattle.std.specs.Prelude.{◌≡◌, [], ◌∷◌, ◌++◌, codes, take, true, false, None, Some};
 ghost use Rattle.channel_frame.specs.FrameSpelling.{spelling};
 ghost use Rattle.channel_frame.specs.WorkedFrames.{ann_bytes, reply_bytes, cut_bytes, unmarked_bytes};
-ghost use Rattle.ctrl_model.specs.declared.kinds.Kind.TheVariants as kind;
 ghost use Rattle.ctrl_model.specs.declared.refusals.Field.TheVariants as field;
 ghost use Rattle.ctrl_model.specs.declared.refusals.Reason.TheVariants as reason;
 ghost use Rattle.ctrl_model.specs.declared.refusals.Refusal.TheVariants as refusal;
 ghost use Rattle.ctrl_model.specs.declared.replies.Reply.TheVariants as reply;
 ghost use Rattle.ctrl_serve.specs.CommandLine.{Dry, form_of};
-ghost use Rattle.ctrl_serve.specs.IdentityBody.{created_name};
-ghost use Rattle.ctrl_serve.specs.ReplyBody.{reply_body};
-ghost use Rattle.ctrl_serve.specs.FrameAnswer.{reply_frame, replies};
+ghost use Rattle.ctrl_serve.specs.FrameAnswer.{replies};
+ghost use Rattle.ctrl_serve.specs.WorkedAnswers.{reply_at_start};
+ghost use Rattle.reply_codec.specs.ReplyFrame.{reply_frame};
 ghost use Rattle.ctrl_serve.specs.Ending.{ending};
 ghost use Rattle.ctrl_serve.specs.declared.status.Status.TheVariants as status;
 
@@ -21,18 +20,17 @@ pub fn worked_words()
     ensures more { form_of (codes "dry" ∷ codes "dry" ∷ []) ≡ None }
 {}
 
-/// Bodies of CreateIdentity, and those of its replies.
-pub fn worked_bodies()
-    ensures ann { created_name (codes "{\"name\":\"ann\"}") ≡ Some (codes "ann") }
-    ensures empty { created_name (codes "{}") ≡ None }
-    ensures no_name { created_name (codes "{\"name\":\"a b\"}") ≡ None }
-    ensures two_keys { created_name (codes "{\"name\":\"a\",\"x\":1}") ≡ None }
-    ensures list { created_name (codes "[1]") ≡ None }
-    ensures made { reply_body (reply.Made 1) ≡ codes "{\"no\":1}" }
-    ensures exists { reply_body (reply.Refused refusal.Exists) ≡ codes "{\"code\":20,\"name\":\"Exists\"}" }
-    ensures unsupported { reply_body (reply.Refused refusal.UnsupportedType) ≡ codes "{\"code\":10,\"name\":\"UnsupportedType\"}" }
-    ensures bad { reply_body (reply.Refused (refusal.BadBody field.Nothing reason.Unknown)) ≡ codes "{\"code\":11,\"field\":\"\",\"name\":\"BadBody\",\"reason\":\"Unknown\"}" }
-    ensures full { reply_body (reply.Refused (refusal.Full kind.Identity)) ≡ codes "{\"code\":24,\"kind\":\"identity\",\"name\":\"Full\"}" }
+/// Answers to single frames at the start.
+pub fn worked_answers()
+    ensures hello { reply_at_start 0 (codes "abc") ≡ reply.Empty }
+    ensures identity { reply_at_start 1000 (codes "{\"name\":\"ann\"}") ≡ reply.Made 1 }
+    ensures router { reply_at_start 1020 (codes "{\"attributes\":[\"a\"],\"cost\":5,\"name\":\"r1\"}") ≡ reply.Made 1 }
+    ensures absent { reply_at_start 1012 (codes "{\"name\":\"web\"}") ≡ reply.Refused (refusal.Unknown field.Name) }
+    ensures missing { reply_at_start 1000 (codes "{}") ≡ reply.Refused (refusal.BadBody field.Name reason.Missing) }
+    ensures no_name { reply_at_start 1000 (codes "{\"name\":\"a b\"}") ≡ reply.Refused (refusal.BadBody field.Name reason.WrongKind) }
+    ensures two_keys { reply_at_start 1000 (codes "{\"name\":\"a\",\"x\":1}") ≡ reply.Refused (refusal.BadBody field.Nothing reason.Unknown) }
+    ensures list { reply_at_start 1000 (codes "[1]") ≡ reply.Refused (refusal.BadBody field.Nothing reason.NotObject) }
+    ensures unsupported { reply_at_start 2 [] ≡ reply.Refused refusal.UnsupportedType }
 {}
 
 /// The replies to one frame that creates ann, to the same frame twice, and to a frame before a cut one; and how these inputs

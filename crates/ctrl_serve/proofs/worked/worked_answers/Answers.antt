@@ -2,15 +2,27 @@ use Rattle.std.proofs.Common.{refl}
 use Rattle.std.specs.Fmt.{digits}
 use Rattle.std.specs.Str.{is_utf8, chars}
 use Rattle.serde_json.proofs.OnLiterals.{serde_json_on_literals}
-use Rattle.ctrl_serve.proofs.worked.worked_bodies.Goals as goal
+use Rattle.ctrl_serve.proofs.worked.worked_answers.Goals as goal
 
-pub returns-clause-ann : goal.returns-clause-ann
+pub returns-clause-hello : goal.returns-clause-hello
 unfolding serde_json_on_literals is_utf8 chars digits
-returns-clause-ann c = refl
+returns-clause-hello c = refl
 
-pub returns-clause-empty : goal.returns-clause-empty
+pub returns-clause-identity : goal.returns-clause-identity
 unfolding serde_json_on_literals is_utf8 chars digits
-returns-clause-empty c = refl
+returns-clause-identity c = refl
+
+pub returns-clause-router : goal.returns-clause-router
+unfolding serde_json_on_literals is_utf8 chars digits
+returns-clause-router c = refl
+
+pub returns-clause-absent : goal.returns-clause-absent
+unfolding serde_json_on_literals is_utf8 chars digits
+returns-clause-absent c = refl
+
+pub returns-clause-missing : goal.returns-clause-missing
+unfolding serde_json_on_literals is_utf8 chars digits
+returns-clause-missing c = refl
 
 pub returns-clause-no_name : goal.returns-clause-no_name
 unfolding serde_json_on_literals is_utf8 chars digits
@@ -24,22 +36,6 @@ pub returns-clause-list : goal.returns-clause-list
 unfolding serde_json_on_literals is_utf8 chars digits
 returns-clause-list c = refl
 
-pub returns-clause-made : goal.returns-clause-made
-unfolding serde_json_on_literals is_utf8 chars digits
-returns-clause-made c = refl
-
-pub returns-clause-exists : goal.returns-clause-exists
-unfolding serde_json_on_literals is_utf8 chars digits
-returns-clause-exists c = refl
-
 pub returns-clause-unsupported : goal.returns-clause-unsupported
 unfolding serde_json_on_literals is_utf8 chars digits
 returns-clause-unsupported c = refl
-
-pub returns-clause-bad : goal.returns-clause-bad
-unfolding serde_json_on_literals is_utf8 chars digits
-returns-clause-bad c = refl
-
-pub returns-clause-full : goal.returns-clause-full
-unfolding serde_json_on_literals is_utf8 chars digits
-returns-clause-full c = refl
