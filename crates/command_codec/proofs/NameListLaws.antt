@@ -1,70 +1,24 @@
 -- Lists of names in bodies: what one more value adds, and what form such a list has.
-use Rattle.std.proofs.Common.{◌≡◌, ℕ, zero, suc, ◌≤◌, ◌<◌, nat_le, Bool, true, false, not, cond, ◌||◌, List, [], ◌∷◌, ◌++◌, length, get_or, Option, Some, None, refl, sym, ap, ◌∙◌, subst, bytes_eq, arith, le-leb, leb-true}
+use Rattle.std.proofs.Common.{◌≡◌, ℕ, zero, suc, ◌≤◌, ◌<◌, nat_le, true, List, [], ◌∷◌, ◌++◌, length, get_or, Option, Some, None, refl, sym, ap, ◌∙◌, subst, arith, le-leb, leb-true}
 use Rattle.std.specs.Prelude.{option_map, option_and_then}
-use Rattle.std.specs.List.{filter, list_all}
-use Rattle.std.proofs.lemmas.Bool.{and_from, and_parts, both_ways, false_from_ne_true, not_from_false}
-use Rattle.std.proofs.lemmas.List.{append-nil}
-use Rattle.std.proofs.lemmas.List.Elements.{filter-append}
+use Rattle.std.specs.List.{list_all}
+use Rattle.std.proofs.lemmas.Bool.{and_from}
 use Rattle.std.proofs.lemmas.Option.{cond_some, option_and_then_some, same_Some}
 use Rattle.serde_json.specs.Data.{Data, Items, no_items, item}
 use Rattle.serde_json.specs.Find.{as_str, as_array}
 use Rattle.serde_json.specs.View.{view, items_view}
 use Rattle.serde_json.specs.declared.value.Value.{Value}
 use Rattle.ctrl_model.specs.NameForm.{is_name}
-use Rattle.ctrl_model.specs.Matches.{has_name}
 use Rattle.ctrl_model.specs.CommandForm.{is_distinct, are_names, are_attributes}
-use Rattle.ctrl_model.proofs.DistinctLaws.{same_name, same_bytes, is_distinct-filter}
-use Rattle.ctrl_model.proofs.NumberedLaws.{length-filter-le}
-use Rattle.ctrl_model.proofs.TableLaws.{list_all-filter}
 use Rattle.json_body.specs.FieldKinds.{as_name, name_of, items_count, at_most, as_list_of}
-use Rattle.command_codec.specs.NameLists.{names_of, without_repeats, as_attributes}
+use Rattle.role_expr.specs.NameRepeats.{without_repeats}
+use Rattle.role_expr.proofs.RepeatLaws.{with_name, without_repeats-distinct, without_repeats-end, without_repeats-length, without_repeats-names}
+use Rattle.command_codec.specs.NameLists.{names_of, as_attributes}
 
 -- What a map of a value gives is given by a value.
 by_mapped : {A B P : Type 0} (f : A → B) (o : Option A) (y : B) → option_map f o ≡ Some y → ((x : A) → o ≡ Some x → f x ≡ y → P) → P
 by_mapped f None y e k = absurd (cc)
 by_mapped f (Some x) y e k = k x refl (same_Some (f x) y e)
-
--- ---- one more name
-
--- The list with a name at its end, unless it has it.
-abbrev pub with_name : List (List ℕ) → List ℕ → List (List ℕ)
-with_name ns n = cond (has_name ns n) ns (ns ++ n ∷ [])
-
--- The names of a list but one.
-abbrev but : List ℕ → List (List ℕ) → List (List ℕ)
-but n ns = filter (λ m. not (bytes_eq m n)) ns
-
-has_name-but : (n : List ℕ) (ns : List (List ℕ)) (m : List ℕ) → bytes_eq n m ≡ false → has_name (but n ns) m ≡ has_name ns m
-has_name-but n [] m e = refl
-has_name-but n (k ∷ ns) m e = by (bytes_eq k n) refl (has_name-but n ns m e)
-  where
-    by : (b : Bool) → bytes_eq k n ≡ b → has_name (but n ns) m ≡ has_name ns m → has_name (cond (not b) (k ∷ but n ns) (but n ns)) m ≡ (bytes_eq k m || has_name ns m)
-    by true is h = h ∙ sym (ap (λ b. b || has_name ns m) (ap (λ l. bytes_eq l m) (same_name k n is) ∙ e))
-    by false is h = ap (λ b. bytes_eq k m || b) h
-
--- A name at the end of a list that leaves it out, and of one that leaves out another.
-but-end_same : (n : List ℕ) (ns : List (List ℕ)) (m : List ℕ) → bytes_eq n m ≡ true → but n (ns ++ m ∷ []) ≡ but n ns
-but-end_same n ns m e =
-    let gone : bytes_eq m n ≡ true = same_bytes m n (sym (same_name n m e)) in
-    filter-append (λ k. not (bytes_eq k n)) ns (m ∷ []) ∙ ap (λ b. but n ns ++ cond (not b) (m ∷ []) []) gone ∙ append-nil (but n ns)
-
-but-end_other : (n : List ℕ) (ns : List (List ℕ)) (m : List ℕ) → bytes_eq n m ≡ false → but n (ns ++ m ∷ []) ≡ but n ns ++ m ∷ []
-but-end_other n ns m e =
-    let stays : bytes_eq m n ≡ false = false_from_ne_true (bytes_eq m n) (λ s. both_ways (bytes_eq n m) e (same_bytes n m (sym (same_name m n s)))) in
-    filter-append (λ k. not (bytes_eq k n)) ns (m ∷ []) ∙ ap (λ b. but n ns ++ cond (not b) (m ∷ []) []) stays
-
-but-with_name : (n : List ℕ) (ns : List (List ℕ)) (m : List ℕ) → n ∷ but n (with_name ns m) ≡ with_name (n ∷ but n ns) m
-but-with_name n ns m = by (bytes_eq n m) (has_name ns m) refl refl
-  where
-    by : (b c : Bool) → bytes_eq n m ≡ b → has_name ns m ≡ c → n ∷ but n (cond c ns (ns ++ m ∷ [])) ≡ cond (bytes_eq n m || has_name (but n ns) m) (n ∷ but n ns) (n ∷ (but n ns ++ m ∷ []))
-    by true true is has = rw is refl
-    by true false is has = rw is (ap (λ l. n ∷ l) (but-end_same n ns m is))
-    by false true is has = rw (is, has_name-but n ns m is, has) refl
-    by false false is has = rw (is, has_name-but n ns m is, has) (ap (λ l. n ∷ l) (but-end_other n ns m is))
-
-without_repeats-end : (ns : List (List ℕ)) (n : List ℕ) → without_repeats (ns ++ n ∷ []) ≡ with_name (without_repeats ns) n
-without_repeats-end [] n = refl
-without_repeats-end (m ∷ ns) n = ap (λ l. m ∷ but m l) (without_repeats-end ns n) ∙ but-with_name m (without_repeats ns) n
 
 -- ---- one more value
 
@@ -123,32 +77,6 @@ names_of-names (item d ds) ns e =
     option_and_then_some (λ n. option_map (λ ms. n ∷ ms) (names_of ds)) (as_name d) ns e (λ n is more.
     by_mapped (λ ms. n ∷ ms) (names_of ds) ns more (λ ms sent same.
     ap (list_all is_name) (sym same) ∙ and_from (is_name n) (list_all is_name ms) (as_name-form d n is) (names_of-names ds ms sent)))
-
-without_repeats-length : (ns : List (List ℕ)) → length (without_repeats ns) ≤ length ns
-without_repeats-length [] = omega arith
-without_repeats-length (n ∷ ns) = omega (arith, length-filter-le (λ m. not (bytes_eq m n)) (without_repeats ns), without_repeats-length ns)
-
-without_repeats-names : (ns : List (List ℕ)) → list_all is_name ns ≡ true → list_all is_name (without_repeats ns) ≡ true
-without_repeats-names [] e = refl
-without_repeats-names (n ∷ ns) e =
-    let parts = and_parts (is_name n) (list_all is_name ns) e in
-    and_from (is_name n) (list_all is_name (but n (without_repeats ns))) parts.0
-    (list_all-filter (λ m. not (bytes_eq m n)) is_name is_name (λ m p q. q) (without_repeats ns) (without_repeats-names ns parts.1))
-
-has_name-but_same : (n : List ℕ) (ns : List (List ℕ)) → has_name (but n ns) n ≡ false
-has_name-but_same n [] = refl
-has_name-but_same n (m ∷ ns) = by (bytes_eq m n) refl (has_name-but_same n ns)
-  where
-    by : (b : Bool) → bytes_eq m n ≡ b → has_name (but n ns) n ≡ false → has_name (cond (not b) (m ∷ but n ns) (but n ns)) n ≡ false
-    by true is h = h
-    by false is h = ap (λ b. b || has_name (but n ns) n) is ∙ h
-
-without_repeats-distinct : (ns : List (List ℕ)) → is_distinct (without_repeats ns) ≡ true
-without_repeats-distinct [] = refl
-without_repeats-distinct (n ∷ ns) =
-    and_from (not (has_name (but n (without_repeats ns)) n)) (is_distinct (but n (without_repeats ns)))
-    (not_from_false (has_name (but n (without_repeats ns)) n) (has_name-but_same n (without_repeats ns)))
-    (is_distinct-filter (λ m. not (bytes_eq m n)) (without_repeats ns) (without_repeats-distinct ns))
 
 -- What a value gives as attributes is a list of attributes.
 pub as_attributes-form : (d : Data) (ns : List (List ℕ)) → as_attributes d ≡ Some ns → are_attributes ns ≡ true

@@ -1,33 +1,18 @@
-ghost use Rattle.std.specs.Prelude.{◌≡◌, [], ◌∷◌, ◌++◌, IfOk, OnOk, if◌then◌else◌, option_map};
+ghost use Rattle.std.specs.Prelude.{◌≡◌, [], IfOk, option_map};
 ghost use Rattle.serde_json.specs.View.{items_view};
-ghost use Rattle.ctrl_model.specs.Matches.{has_name};
 ghost use Rattle.json_body.specs.FieldKinds.{object_of, required, optional};
-ghost use Rattle.command_codec.specs.NameLists.{names_of, without_repeats, as_attributes};
+ghost use Rattle.role_expr.specs.NameRepeats.{without_repeats};
+ghost use Rattle.command_codec.specs.NameLists.{names_of, as_attributes};
 ghost use Rattle.command_codec.specs.ReadResults.{Gives};
 
-use ctrl_model::{Field, Name, Names};
+use ctrl_model::{Field, Names};
 use json_body::{FieldFault, Fields, as_name};
+use role_expr::keep_name;
 use serde_json::Value;
 use std::alloc::{AllocError, Global};
 
 // How many attributes a list may have as it is sent.
 const MOST_ATTRIBUTES: usize = 64;
-
-fn has_name(names: &[Name], name: &Name) -> bool
-    ensures { result ≡ has_name names.now name.now }
-{
-    names.iter().any(|kept| kept.bytes() == name.bytes())
-}
-
-fn keep_name(kept: &mut Vec<Name>, name: Name) -> Result<(), AllocError>
-    ensures { OnOk result (kept.new.items ≡ (if has_name kept.old.items name then kept.old.items else kept.old.items ++ name ∷ [])) }
-{
-    if has_name(kept.as_slice(), &name) {
-        return Ok(());
-    }
-    kept.push(name)?;
-    Ok(())
-}
 
 // The names that some values are, without repeats, if each is a name.
 fn names_in(alloc: Global, values: &[Value]) -> Result<Option<Names>, AllocError>

@@ -5,7 +5,8 @@ ghost use Rattle.ctrl_model.specs.declared.commands.Command.TheVariants as comma
 ghost use Rattle.ctrl_model.specs.declared.refusals.Field.TheVariants as field;
 ghost use Rattle.ctrl_model.specs.declared.refusals.Reason.TheVariants as reason;
 ghost use Rattle.command_codec.specs.declared.reading.CodecFault.TheVariants.{UnsupportedType, BadBody};
-ghost use Rattle.command_codec.specs.NameLists.{without_repeats, as_attributes};
+ghost use Rattle.role_expr.specs.NameRepeats.{without_repeats};
+ghost use Rattle.command_codec.specs.NameLists.{as_attributes};
 ghost use Rattle.command_codec.specs.BodyMeaning.{meaning};
 
 /// Bodies that spell a command of each kind.

@@ -17,5 +17,5 @@ values-preserved c =
     let more : take (c.values.value-index + 1) c.args.values.now ≡ take c.values.value-index c.args.values.now ++ c.value-item.result ∷ [] =
     (take_at_read c.args.values.now c.values.value-index c.value-item.result below).1 ∙ ap (λ v. take c.values.value-index c.args.values.now ++ v ∷ []) (sym c.value-item.is) in
     let name : Some c.in-Some.name ≡ as_name (view c.value-item.result) = sym c.in-Some.is ∙ c.in_ok-name.ensures.name in
-    rw (c.in_ok-keep_name.ensures, more)
+    rw (c.in_ok-keep_name.ensures.ok, more)
     (names-more (take c.values.value-index c.args.values.now) c.value-item.result c.values.kept.items c.in-Some.name c.values.invariant name)

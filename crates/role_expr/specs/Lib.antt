@@ -1,0 +1,4 @@
+pub mod RoleSpelling
+pub mod ReadRoles
+pub mod NameRepeats
+pub mod RoleSides

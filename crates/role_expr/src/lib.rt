@@ -1,0 +1,18 @@
+//! Role entries and sides: what an entry says, which side a role list is, and which entities a side matches.
+#![tactic(auto)]
+
+mod laws;
+mod matching;
+mod names;
+mod roles;
+mod sides;
+#[cfg(test)]
+mod tests;
+mod worked;
+
+pub use laws::one_spelling_a_role;
+pub use matching::matches;
+pub use names::keep_name;
+pub use roles::{RoleFault, read_role};
+pub use sides::side_of;
+pub use worked::{worked_matches, worked_roles, worked_sides};
