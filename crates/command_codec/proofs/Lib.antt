@@ -1,4 +1,4 @@
 mod NameListLaws
 mod BodyValues
 mod SpelledLaws
-mod CarriedLaws
+mod ReadLaws

@@ -2,3 +2,4 @@ pub mod NameLists
 pub mod ReadResults
 pub mod BodyMeaning
 pub mod SpelledBodies
+pub mod ReadCommands

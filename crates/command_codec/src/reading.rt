@@ -1,5 +1,5 @@
 ghost use Rattle.std.specs.Prelude.{◌≡◌, ◌≢◌, ◌↔◌, IfOk, IfErr, IsOk, IsErrOf, true, Ok, Err};
-ghost use Rattle.ctrl_model.specs.CarriedCommands.{is_carried};
+ghost use Rattle.command_codec.specs.ReadCommands.{is_read};
 ghost use Rattle.ctrl_model.specs.CommandForm.{is_spelled};
 ghost use Rattle.command_codec.specs.BodyMeaning.{meaning};
 ghost use Rattle.command_codec.specs.ReadResults.{Gives};
@@ -101,9 +101,9 @@ pub fn read(alloc: Global, content: u32, body: &[u8]) -> Result<Command, CodecFa
     // Memory cannot be wanting for Hello, nor where no command has the type.
     ensures hello { content ≡ 0 → IsOk result }
     ensures unsupported { IsErrOf result CodecFault.UnsupportedType ↔ (meaning content body.now ≡ Err CodecFault.UnsupportedType) }
-    // What is read keeps the kinds, the ranges and the lengths of its fields, and is carried out so far.
+    // What is read keeps the kinds, the ranges and the lengths of its fields, and is one of the table so far.
     ensures spelled { IfOk result (λ c. is_spelled c ≡ true) }
-    ensures carried { IfOk result (λ c. is_carried c ≡ true) }
+    ensures in_table { IfOk result (λ c. is_read c ≡ true) }
 {
     command_in(alloc, content, body)
 }

@@ -1,3 +1,4 @@
+pub mod CarriedCommands
 pub mod KeptState
 pub mod Changes
 pub mod PlannedCommands

@@ -9,7 +9,7 @@ ghost use Rattle.ctrl_model.specs.Networks.{seen};
 ghost use Rattle.ctrl_model.specs.EntityCommands.{create_router, update_router, mark_router};
 ghost use Rattle.entity_store.specs.EntityTables.{is_entity_kind};
 ghost use Rattle.entity_store.specs.TableRules.{is_there};
-ghost use Rattle.ctrl_model.specs.CarriedCommands.{is_carried};
+ghost use Rattle.ctrl_core.specs.CarriedCommands.{is_carried};
 ghost use Rattle.ctrl_core.specs.Changes.{is_plain_kind};
 ghost use Rattle.ctrl_core.specs.KeptState.{Keeps, state_of};
 ghost use Rattle.ctrl_core.specs.PlannedCommands.{Plans, answer_add, answer_update, answer_delete, refusal_of_add, refusal_of_describe};

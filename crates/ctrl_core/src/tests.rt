@@ -1,7 +1,7 @@
 ghost use Rattle.std.specs.Prelude.{◌≡◌, true, IfOk};
 ghost use Rattle.ctrl_model.specs.CommandForm.{is_spelled};
 ghost use Rattle.ctrl_model.specs.NameForm.{is_name};
-ghost use Rattle.ctrl_model.specs.CarriedCommands.{is_carried};
+ghost use Rattle.ctrl_core.specs.CarriedCommands.{is_carried};
 
 use crate::core_state::Core;
 use ctrl_model::{Command, Name, NameFault, Names, Refusal, Reply};

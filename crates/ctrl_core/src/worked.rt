@@ -3,7 +3,7 @@ ghost use Rattle.ctrl_model.specs.declared.commands.Command.TheVariants.{Hello, 
 ghost use Rattle.ctrl_model.specs.declared.kinds.Kind.TheVariants as kind;
 ghost use Rattle.ctrl_model.specs.State.{start};
 ghost use Rattle.entity_store.specs.EntityTables.{no_entities};
-ghost use Rattle.ctrl_model.specs.CarriedCommands.{is_carried};
+ghost use Rattle.ctrl_core.specs.CarriedCommands.{is_carried};
 ghost use Rattle.ctrl_core.specs.Changes.{after_change};
 ghost use Rattle.ctrl_core.specs.KeptState.{state_of, tables_of};
 ghost use Rattle.ctrl_core.specs.declared.changes.Change.TheVariants.{Add, AddRouter, Describe, DescribeRouter, Mark, Remove, Nothing};

@@ -14,7 +14,6 @@ pub mod Claims
 pub mod ClaimedRoutes
 pub mod Settling
 pub mod CommandForm
-pub mod CarriedCommands
 pub mod Permitted
 pub mod Rules
 pub mod EntityCommands

@@ -11,7 +11,7 @@ use Rattle.ctrl_model.specs.State.{State, entity_named, router_named}
 use Rattle.ctrl_model.specs.Rules.{carried_out, unknown_if_absent}
 use Rattle.ctrl_model.specs.EntityCommands.{after_create_identity, after_create_router, after_create_service, after_delete_identity, after_delete_router, after_delete_service, after_mark_router, after_update_identity, after_update_router, after_update_service, refusal_of_create_identity, refusal_of_create_router, refusal_of_create_service, refusal_of_update_identity, refusal_of_update_router, refusal_of_update_service}
 use Rattle.ctrl_model.specs.Controller.{carry}
-use Rattle.ctrl_model.specs.CarriedCommands.{is_carried}
+use Rattle.ctrl_core.specs.CarriedCommands.{is_carried}
 use Rattle.reply_codec.specs.ReplyLimits.{keeps_limits}
 
 -- Where the reply of an effect fits, so does the answer of the command that has it.

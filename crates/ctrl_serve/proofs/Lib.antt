@@ -1,3 +1,4 @@
 pub mod CarriedFits
+pub mod ReadCommandLaws
 pub mod FrontParts
 pub mod TurnLaws

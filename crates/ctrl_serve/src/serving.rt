@@ -4,7 +4,7 @@ ghost use Rattle.channel_frame.specs.declared.frames.Front.TheVariants.{Bad};
 ghost use Rattle.channel_frame.specs.FrameSpelling.{spelling};
 ghost use Rattle.channel_frame.specs.StreamReading.{front};
 ghost use Rattle.ctrl_model.specs.declared.kinds.Who.TheVariants.{Admin};
-ghost use Rattle.ctrl_model.specs.CarriedCommands.{is_carried};
+ghost use Rattle.ctrl_core.specs.CarriedCommands.{is_carried};
 ghost use Rattle.ctrl_model.specs.CommandForm.{is_spelled};
 ghost use Rattle.ctrl_model.specs.Controller.{answer};
 ghost use Rattle.reply_codec.specs.ReplyFrame.{reply_frame};

@@ -1,4 +1,4 @@
-use Rattle.command_codec.proofs.CarriedLaws.{is_carried-meaning}
+use Rattle.command_codec.proofs.ReadLaws.{is_read-meaning}
 use Rattle.command_codec.proofs.SpelledLaws.{Spells-meaning, meaning-Spells, is_spelled-meaning}
 use Rattle.command_codec.proofs.laws.what_a_body_spells.Goals as goal
 
@@ -8,5 +8,5 @@ returns-clause-spells c = λ content body d. (Spells-meaning content body d, mea
 pub returns-clause-spelled : goal.returns-clause-spelled
 returns-clause-spelled c = is_spelled-meaning
 
-pub returns-clause-carried : goal.returns-clause-carried
-returns-clause-carried c = is_carried-meaning
+pub returns-clause-in_table : goal.returns-clause-in_table
+returns-clause-in_table c = is_read-meaning

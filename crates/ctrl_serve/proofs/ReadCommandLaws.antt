@@ -1,0 +1,22 @@
+-- A core carries out each command that the codec reads.
+use Rattle.std.proofs.Common.{◌≡◌, true, false, refl}
+use Rattle.std.proofs.lemmas.Bool.{false≢true}
+use Rattle.ctrl_model.specs.declared.commands.Command.{Command}
+use Rattle.ctrl_model.specs.declared.commands.Command.TheVariants as command
+use Rattle.command_codec.specs.ReadCommands.{is_read}
+use Rattle.ctrl_core.specs.CarriedCommands.{is_carried}
+
+pub carried_if_read : (c : Command) → is_read c ≡ true → is_carried c ≡ true
+carried_if_read command.Hello e = refl
+carried_if_read (command.CreateIdentity name attributes) e = refl
+carried_if_read (command.UpdateIdentity name attributes) e = refl
+carried_if_read (command.DeleteIdentity name) e = refl
+carried_if_read (command.CreateService name attributes) e = refl
+carried_if_read (command.UpdateService name attributes) e = refl
+carried_if_read (command.DeleteService name) e = refl
+carried_if_read (command.CreateRouter name attributes cost no_traversal) e = refl
+carried_if_read (command.UpdateRouter name attributes cost no_traversal) e = refl
+carried_if_read (command.DeleteRouter name) e = refl
+carried_if_read (command.ConnectRouter name) e = refl
+carried_if_read (command.DisconnectRouter name) e = refl
+carried_if_read _ e = absurd (false≢true e)
