@@ -1,6 +1,3 @@
 pub mod UseLaws
 pub mod RoomLaws
-pub mod PlanLaws
-pub mod UpdateLaws
-pub mod RouterLaws
-pub mod ApplyLaws
+pub mod InUseLaws

@@ -1,11 +1,12 @@
 -- Laws on how often names stand in lists of attributes.
-use Rattle.std.proofs.Common.{◌≡◌, ◌≢◌, ne_eqb, ℕ, ◌+◌, ◌<◌, ◌≤◌, ◌==◌, Bool, true, false, cond, inl, inr, List, [], ◌∷◌, ◌++◌, map, Some, refl, sym, ◌∙◌, ap, arith, eqb-true, bytes_eq}
-use Rattle.std.proofs.lemmas.Bool.{cond-false}
+use Rattle.std.proofs.Common.{◌≡◌, ◌≢◌, ne_eqb, ℕ, ◌+◌, ◌<◌, ◌≤◌, ◌==◌, Bool, true, false, cond, not, inl, inr, List, [], ◌∷◌, ◌++◌, map, Some, refl, sym, ◌∙◌, ap, arith, eqb-true, bytes_eq}
+use Rattle.std.proofs.lemmas.Bool.{cond-false, false≢true}
+use Rattle.std.proofs.lemmas.Grind.{flat_map-append}
 use Rattle.std.proofs.lemmas.List.Sums.{sum_by-append, sum_by-cons}
 use Rattle.std.proofs.lemmas.Option.{same_Some, none-some}
 use Rattle.std.specs.List.{flat_map}
 use Rattle.ctrl_model.specs.Membership.{Among}
-use Rattle.ctrl_model.specs.Numbered.{at, edit_at, Between}
+use Rattle.ctrl_model.specs.Numbered.{at, with_last, edit_at, without, Between}
 use Rattle.ctrl_model.proofs.DistinctLaws.{same_name, same_bytes}
 use Rattle.entity_store.specs.AttributeUses.{times}
 
@@ -99,3 +100,46 @@ edit_at-same {R} g h high (y ∷ ys) low n r b e same = by (y.0 == n) refl e (ed
 pub Between-from_map : {R S : Type 0} (f : ℕ × R → S) (high : ℕ) (rows : List (ℕ × R)) (low : ℕ) → Between low high (map (λ row. (row.0, f row)) rows) → Between low high rows
 Between-from_map f high [] low b = tt
 Between-from_map f high (y ∷ ys) low b = (b.0, b.1, Between-from_map f high ys (y.0 + 1) b.2)
+
+-- with one more record, its attributes come to those of all
+pub times-with_last : {R : Type 0} (f : R → List (List ℕ)) (x : List ℕ) (rows : List (ℕ × R)) (n : ℕ) (r : R)
+    → times x (flat_map (λ row. f row.1) (with_last rows n r)) ≡ times x (flat_map (λ row. f row.1) rows) + times x (f r)
+times-with_last f x rows n r =
+    let joined = flat_map-append (λ row. f row.1) rows ((n, r) ∷ []) in
+    let all : times x (flat_map (λ row. f row.1) (with_last rows n r)) ≡ times x (flat_map (λ row. f row.1) rows ++ (f r ++ [])) = ap (times x) joined in
+    let first = times-append x (flat_map (λ row. f row.1) rows) (f r ++ []) in
+    let last = times-append x (f r) [] in
+    omega (arith, all, first, last)
+
+-- without a number below all, all records stay
+without-below : {R : Type 0} (high : ℕ) (rows : List (ℕ × R)) (low n : ℕ) → Between low high rows → n < low → without rows n ≡ rows
+without-below high [] low n b h = refl
+without-below {R} high (y ∷ ys) low n b h =
+    let above : y.0 ≢ n = λ e. absurd (omega (arith, b.0, h, e)) in
+    let tail = without-below high ys (y.0 + 1) n b.2 (omega (arith, b.0, h)) in
+    by (y.0 == n) (ne_eqb y.0 n above) tail
+  where
+    by : (d : Bool) → d ≡ false → without ys n ≡ ys → ◌≡◌ {A = List (ℕ × R)} (cond (not d) (y ∷ without ys n) (without ys n)) (y ∷ ys)
+    by true e k = absurd (false≢true (sym e))
+    by false e k = ap (λ (zs : List (ℕ × R)). y ∷ zs) k
+
+-- without the record at a number, its attributes go
+pub times-without : {R : Type 0} (f : R → List (List ℕ)) (x : List ℕ) (high : ℕ) (rows : List (ℕ × R)) (low n : ℕ) (r : R) → Between low high rows → at rows n ≡ Some r
+    → times x (flat_map (λ row. f row.1) (without rows n)) + times x (f r) ≡ times x (flat_map (λ row. f row.1) rows)
+times-without f x high [] low n r b e = absurd (none-some r e)
+times-without {R} f x high (y ∷ ys) low n r b e = by (y.0 == n) refl e (times-without f x high ys (y.0 + 1) n r b.2)
+  where
+    by : (d : Bool) → (y.0 == n) ≡ d → cond d (Some y.1) (at ys n) ≡ Some r
+        → (at ys n ≡ Some r → times x (flat_map (λ row. f row.1) (without ys n)) + times x (f r) ≡ times x (flat_map (λ row. f row.1) ys))
+        → times x (flat_map (λ row. f row.1) (cond (not d) (y ∷ without ys n) (without ys n))) + times x (f r) ≡ times x (f y.1 ++ flat_map (λ row. f row.1) ys)
+    by true is s k =
+        let past : without ys n ≡ ys = without-below high ys (y.0 + 1) n b.2 (let same = eqb-true y.0 n is in omega (arith, same)) in
+        let old : times x (f y.1) ≡ times x (f r) = ap (λ q. times x (f q)) (same_Some y.1 r s) in
+        let left : times x (flat_map (λ row. f row.1) (without ys n)) ≡ times x (flat_map (λ row. f row.1) ys) = ap (λ zs. times x (flat_map (λ row. f row.1) zs)) past in
+        let right = times-append x (f y.1) (flat_map (λ row. f row.1) ys) in
+        omega (arith, left, right, old)
+    by false is s k =
+        let rest = k s in
+        let left = times-append x (f y.1) (flat_map (λ row. f row.1) (without ys n)) in
+        let right = times-append x (f y.1) (flat_map (λ row. f row.1) ys) in
+        omega (arith, rest, left, right)

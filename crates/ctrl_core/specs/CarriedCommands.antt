@@ -1,20 +1,43 @@
--- The commands that a core carries out so far (docs/RULES.md, "The controller").
+-- The families of commands, and those commands that a core carries out so far (docs/RULES.md, "The controller").
 use Rattle.std.specs.Prelude.{Bool, true, false}
 use Rattle.ctrl_model.specs.declared.commands.Command.{Command}
 use Rattle.ctrl_model.specs.declared.commands.Command.TheVariants as command
+use Rattle.ctrl_core.specs.declared.families.Family.{Family}
+use Rattle.ctrl_core.specs.declared.families.Family.TheVariants.{Greeting, Entities, ServicePolicies, EdgeRouterPolicies, ServiceEdgeRouterPolicies, Grants, Others}
 
--- Hello, and the commands on identities, services and edge routers.
+-- The family of a command.
+abbrev pub family_of : Command → Family
+family_of command.Hello = Greeting
+family_of (command.CreateIdentity name attributes) = Entities
+family_of (command.UpdateIdentity name attributes) = Entities
+family_of (command.DeleteIdentity name) = Entities
+family_of (command.CreateService name attributes) = Entities
+family_of (command.UpdateService name attributes) = Entities
+family_of (command.DeleteService name) = Entities
+family_of (command.CreateRouter name attributes cost no_traversal) = Entities
+family_of (command.UpdateRouter name attributes cost no_traversal) = Entities
+family_of (command.DeleteRouter name) = Entities
+family_of (command.ConnectRouter name) = Entities
+family_of (command.DisconnectRouter name) = Entities
+family_of (command.CreateServicePolicy name relation semantic left right) = ServicePolicies
+family_of (command.UpdateServicePolicy name relation semantic left right) = ServicePolicies
+family_of (command.DeleteServicePolicy name) = ServicePolicies
+family_of (command.CreateEdgeRouterPolicy name semantic left right) = EdgeRouterPolicies
+family_of (command.UpdateEdgeRouterPolicy name semantic left right) = EdgeRouterPolicies
+family_of (command.DeleteEdgeRouterPolicy name) = EdgeRouterPolicies
+family_of (command.CreateServiceEdgeRouterPolicy name semantic left right) = ServiceEdgeRouterPolicies
+family_of (command.UpdateServiceEdgeRouterPolicy name semantic left right) = ServiceEdgeRouterPolicies
+family_of (command.DeleteServiceEdgeRouterPolicy name) = ServiceEdgeRouterPolicies
+family_of (command.ShowGrants identity) = Grants
+family_of (command.ListServices identity) = Grants
+family_of command.ShowCounts = Grants
+family_of _ = Others
+
+-- Whether the commands of a family are carried out.
+abbrev pub is_carried_family : Family → Bool
+is_carried_family Others = false
+is_carried_family _ = true
+
+-- Whether a core carries a command out so far.
 abbrev pub is_carried : Command → Bool
-is_carried command.Hello = true
-is_carried (command.CreateIdentity name attributes) = true
-is_carried (command.UpdateIdentity name attributes) = true
-is_carried (command.DeleteIdentity name) = true
-is_carried (command.CreateService name attributes) = true
-is_carried (command.UpdateService name attributes) = true
-is_carried (command.DeleteService name) = true
-is_carried (command.CreateRouter name attributes cost no_traversal) = true
-is_carried (command.UpdateRouter name attributes cost no_traversal) = true
-is_carried (command.DeleteRouter name) = true
-is_carried (command.ConnectRouter name) = true
-is_carried (command.DisconnectRouter name) = true
-is_carried _ = false
+is_carried c = is_carried_family (family_of c)

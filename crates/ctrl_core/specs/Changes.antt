@@ -1,19 +1,26 @@
--- What a plan keeps to carry out: one change of the stores, where it leads, and when it can be made
+-- What a plan keeps to carry out: one change of the stores and the steps of the counts, where it leads, and when it can
 -- (docs/PROMISES.md, "The core").
-use Rattle.std.specs.Prelude.{◌≡◌, ℕ, ⊤, Bool, true, false, not, List, [], Ok}
+use Rattle.std.specs.Prelude.{◌≡◌, ℕ, ⊤, Bool, true, false, not, List, [], Some}
 use Rattle.ctrl_model.specs.declared.kinds.Kind.{Kind}
 use Rattle.ctrl_model.specs.declared.kinds.Kind.TheVariants as kind
-use Rattle.ctrl_model.specs.CommandForm.{is_cost}
-use Rattle.ctrl_model.specs.Numbered.{edit_at, without}
-use Rattle.ctrl_model.specs.State.{State}
+use Rattle.ctrl_model.specs.declared.kinds.Relation.{Relation}
+use Rattle.ctrl_model.specs.declared.kinds.Relation.TheVariants.{Dial, Bind, IdentityRouter, ServiceRouter}
+use Rattle.ctrl_model.specs.Numbered.{is_present, edit_at, without, map_each}
+use Rattle.ctrl_model.specs.State.{State, Policy, policy_named}
+use Rattle.ctrl_model.specs.Grants.{count}
+use Rattle.ctrl_model.specs.Rules.{forget_left, forget_right}
+use Rattle.ctrl_model.specs.ValidState.{ValidState}
 use Rattle.ctrl_model.specs.EntityCommands.{after_create_identity, after_create_service, after_create_router}
+use Rattle.ctrl_model.specs.PolicyCommands.{replaced_by, after_create_service_policy, after_create_edge_router_policy, after_create_service_edge_router_policy}
 use Rattle.entity_store.specs.EntityTables.{is_entity_kind}
-use Rattle.entity_store.specs.AttributeUses.{has_attribute_room}
-use Rattle.entity_store.specs.TableRules.{may_add, is_there, attributes_at}
+use Rattle.grant_denorm.specs.declared.deltas.Delta.{Delta}
+use Rattle.grant_moves.specs.CountMoves.{LeadCounts}
+use Rattle.policy_store.specs.PolicyTables.{is_policy_kind}
+use Rattle.policy_store.specs.StoredPolicies.{policy_of}
 use Rattle.ctrl_core.specs.declared.changes.Change.{Change}
 use Rattle.ctrl_core.specs.declared.changes.Change.TheVariants as change
+use Rattle.ctrl_core.specs.declared.changes.GrantSteps.{GrantSteps}
 use Rattle.ctrl_core.specs.declared.changes.Planned.{Planned}
-use Rattle.ctrl_core.specs.KeptState.{tables_of}
 
 -- The kinds of entity that have a name and attributes alone.
 abbrev pub is_plain_kind : Kind → Bool
@@ -45,12 +52,52 @@ with_marked n cost through connected s = record s {
   routers = edit_at s.routers n (λ r. record r { cost = cost; through = through; connected = connected });
 }
 
--- The state without one entity.
-abbrev pub with_removed : Kind → ℕ → State → State
-with_removed kind.Identity n s = record s { identities = without s.identities n }
-with_removed kind.Service n s = record s { services = without s.services n }
-with_removed kind.Router n s = record s { routers = without s.routers n }
-with_removed _ n s = s
+-- The state without one entity, whose name no side has any more.
+abbrev pub with_removed : Kind → ℕ → List ℕ → State → State
+with_removed kind.Identity n name s = record s {
+  identities = without s.identities n;
+  service_policies = map_each (forget_left name) s.service_policies;
+  edge_router_policies = map_each (forget_left name) s.edge_router_policies;
+}
+with_removed kind.Service n name s = record s {
+  services = without s.services n;
+  service_policies = map_each (forget_right name) s.service_policies;
+  service_edge_router_policies = map_each (forget_left name) s.service_edge_router_policies;
+}
+with_removed kind.Router n name s = record s {
+  routers = without s.routers n;
+  edge_router_policies = map_each (forget_right name) s.edge_router_policies;
+  service_edge_router_policies = map_each (forget_right name) s.service_edge_router_policies;
+}
+with_removed _ n name s = s
+
+-- The policies of a kind in a state.
+abbrev pub policies_in : Kind → State → List (ℕ × Policy)
+policies_in kind.ServicePolicy s = s.service_policies
+policies_in kind.EdgeRouterPolicy s = s.edge_router_policies
+policies_in kind.ServiceEdgeRouterPolicy s = s.service_edge_router_policies
+policies_in _ s = []
+
+-- The state with one more policy.
+abbrev pub with_policy : Kind → Policy → State → State
+with_policy kind.ServicePolicy p s = after_create_service_policy p s
+with_policy kind.EdgeRouterPolicy p s = after_create_edge_router_policy p s
+with_policy kind.ServiceEdgeRouterPolicy p s = after_create_service_edge_router_policy p s
+with_policy _ p s = s
+
+-- The state, of which one policy has another's parts under its own name.
+abbrev pub with_replaced : Kind → ℕ → Policy → State → State
+with_replaced kind.ServicePolicy n p s = record s { service_policies = edit_at s.service_policies n (replaced_by p) }
+with_replaced kind.EdgeRouterPolicy n p s = record s { edge_router_policies = edit_at s.edge_router_policies n (replaced_by p) }
+with_replaced kind.ServiceEdgeRouterPolicy n p s = record s { service_edge_router_policies = edit_at s.service_edge_router_policies n (replaced_by p) }
+with_replaced _ n p s = s
+
+-- The state without one policy.
+abbrev pub without_policy : Kind → ℕ → State → State
+without_policy kind.ServicePolicy n s = record s { service_policies = without s.service_policies n }
+without_policy kind.EdgeRouterPolicy n s = record s { edge_router_policies = without s.edge_router_policies n }
+without_policy kind.ServiceEdgeRouterPolicy n s = record s { service_edge_router_policies = without s.service_edge_router_policies n }
+without_policy _ n s = s
 
 -- The state after a change.
 abbrev pub after_change : Change → State → State
@@ -60,29 +107,57 @@ after_change (change.AddRouter name attributes cost through) s = after_create_ro
 after_change (change.Describe k n attributes) s = with_described k n attributes s
 after_change (change.DescribeRouter n attributes cost through connected) s = with_described_router n attributes cost through connected s
 after_change (change.Mark n cost through connected) s = with_marked n cost through connected s
-after_change (change.Remove k n) s = with_removed k n s
+after_change (change.Remove k n name) s = with_removed k n name s
+after_change (change.AddPolicy k p) s = with_policy k (policy_of p) s
+after_change (change.ReplacePolicy k n p) s = with_replaced k n (policy_of p) s
+after_change (change.RemovePolicy k n) s = without_policy k n s
 
--- An entity of a name and of attributes can be added.
-pub record CanAdd (k : Kind) (name : List ℕ) (attributes : List (List ℕ)) (s : State) : Type 0 where
-  pub may : may_add k name (tables_of s) ≡ Ok tt
-  pub room : has_attribute_room (tables_of s) [] attributes ≡ true
+-- Whether an entity of a kind and number is present.
+abbrev pub is_there : Kind → ℕ → State → Bool
+is_there kind.Identity n s = is_present s.identities n
+is_there kind.Service n s = is_present s.services n
+is_there kind.Router n s = is_present s.routers n
+is_there _ n s = false
 
--- A present entity can have other attributes.
-pub record CanDescribe (k : Kind) (n : ℕ) (attributes : List (List ℕ)) (s : State) : Type 0 where
-  pub there : is_there k n (tables_of s) ≡ true
-  pub room : has_attribute_room (tables_of s) (attributes_at k n (tables_of s)) attributes ≡ true
-
--- What a change needs of the state.
+-- What a change needs of the state: that its kind fits it, and that the record that it changes or removes is there.
 abbrev pub CanChange : Change → State → Type 0
 CanChange change.Nothing s = ⊤
-CanChange (change.Add k name attributes) s = (is_plain_kind k ≡ true) × CanAdd k name attributes s
-CanChange (change.AddRouter name attributes cost through) s = (is_cost cost ≡ true) × CanAdd kind.Router name attributes s
-CanChange (change.Describe k n attributes) s = (is_plain_kind k ≡ true) × CanDescribe k n attributes s
-CanChange (change.DescribeRouter n attributes cost through connected) s = (is_cost cost ≡ true) × CanDescribe kind.Router n attributes s
-CanChange (change.Mark n cost through connected) s = (is_cost cost ≡ true) × (is_there kind.Router n (tables_of s) ≡ true)
-CanChange (change.Remove k n) s = (is_entity_kind k ≡ true) × (is_there k n (tables_of s) ≡ true)
+CanChange (change.Add k name attributes) s = is_plain_kind k ≡ true
+CanChange (change.AddRouter name attributes cost through) s = ⊤
+CanChange (change.Describe k n attributes) s = (is_plain_kind k ≡ true) × (is_there k n s ≡ true)
+CanChange (change.DescribeRouter n attributes cost through connected) s = is_there kind.Router n s ≡ true
+CanChange (change.Mark n cost through connected) s = is_there kind.Router n s ≡ true
+CanChange (change.Remove k n name) s = (is_entity_kind k ≡ true) × (is_there k n s ≡ true)
+CanChange (change.AddPolicy k p) s = is_policy_kind k ≡ true
+CanChange (change.ReplacePolicy k n p) s = (is_policy_kind k ≡ true) × (policy_named (policies_in k s) p.name ≡ Some n)
+CanChange (change.RemovePolicy k n) s = (is_policy_kind k ≡ true) × (is_present (policies_in k s) n ≡ true)
 
--- A plan leads from one state to another: what it keeps can be changed there, and is the change between the two.
-pub record LeadsFrom (p : Planned) (s t : State) : Type 0 where
+-- The steps that a plan keeps of a relation.
+abbrev pub steps_of : Relation → GrantSteps → List Delta
+steps_of Dial steps = steps.dial.items
+steps_of Bind steps = steps.bind.items
+steps_of IdentityRouter steps = steps.identity_router.items
+steps_of ServiceRouter steps = steps.service_router.items
+
+-- No count takes a step.
+pub record HasNoSteps (steps : GrantSteps) : Type 0 where
+  pub dial : steps.dial.items ≡ []
+  pub bind : steps.bind.items ≡ []
+  pub identity_router : steps.identity_router.items ≡ []
+  pub service_router : steps.service_router.items ≡ []
+
+-- Where a plan leads.
+abbrev pub led : Planned → State → State
+led p s = after_change p.change s
+
+-- A plan can lead from a state: what it keeps can be changed there, where it leads is a valid state, and its steps lead the
+-- grant counts of the one state to those of the other.
+pub record CanLead (p : Planned) (s : State) : Type 0 where
   pub can : CanChange p.change s
-  pub next : after_change p.change s ≡ t
+  pub valid : ValidState (led p s)
+  pub counts : (r : Relation) → LeadCounts (count r s) (count r (led p s)) (steps_of r p.steps)
+
+-- A plan leads from one state to another.
+pub record LeadsFrom (p : Planned) (s t : State) : Type 0 where
+  pub can : CanLead p s
+  pub next : led p s ≡ t

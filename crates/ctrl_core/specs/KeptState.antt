@@ -1,40 +1,62 @@
--- The state that the stores of a core stand for: so far entities alone, and no attributes are held besides theirs
--- (docs/PROMISES.md, "The core").
-use Rattle.std.specs.Prelude.{◌≡◌, ℕ, Bool, true, []}
-use Rattle.std.specs.List.{list_all}
-use Rattle.ctrl_model.specs.CommandForm.{is_cost}
-use Rattle.ctrl_model.specs.State.{State, Router, start}
-use Rattle.entity_store.specs.EntityTables.{Tables}
+-- The state that the stores of a core stand for, and what a core keeps of them (docs/PROMISES.md, "The core"). So far there are
+-- entities and policies.
+use Rattle.std.specs.Prelude.{◌≡◌, ℕ, Bool, List, ◌++◌}
+use Rattle.std.specs.List.{flat_map}
+use Rattle.ctrl_model.specs.declared.kinds.Relation.{Relation}
+use Rattle.ctrl_model.specs.declared.kinds.Relation.TheVariants.{Dial, Bind, IdentityRouter, ServiceRouter}
+use Rattle.ctrl_model.specs.State.{State, start}
+use Rattle.ctrl_model.specs.Grants.{count}
+use Rattle.ctrl_model.specs.Rules.{side_attributes}
+use Rattle.ctrl_model.specs.ValidState.{ValidState}
+use Rattle.entity_store.specs.AttributeUses.{times, held_times}
+use Rattle.grant_denorm.specs.PairCounts.{AreCounts}
+use Rattle.grant_denorm.specs.MovedCounts.{AreCountsOf}
+use Rattle.policy_store.specs.PolicyTables.{PolicyTables}
+use Rattle.ctrl_core.specs.declared.stores.Grants.{Grants}
+use Rattle.ctrl_core.specs.declared.stores.Stores.{Stores}
 
--- The state of some tables of entities.
-abbrev pub state_of : Tables → State
-state_of t = record start {
-  identities = t.identities;
-  next_identity = t.next_identity;
-  services = t.services;
-  next_service = t.next_service;
-  routers = t.routers;
-  next_router = t.next_router;
+-- The state of some stores.
+abbrev pub state_of : Stores → State
+state_of st = record start {
+  identities = st.entities.identities;
+  next_identity = st.entities.next_identity;
+  services = st.entities.services;
+  next_service = st.entities.next_service;
+  routers = st.entities.routers;
+  next_router = st.entities.next_router;
+  service_policies = st.policies.service_policies;
+  next_service_policy = st.policies.next_service_policy;
+  edge_router_policies = st.policies.edge_router_policies;
+  next_edge_router_policy = st.policies.next_edge_router_policy;
+  service_edge_router_policies = st.policies.service_edge_router_policies;
+  next_service_edge_router_policy = st.policies.next_service_edge_router_policy;
 }
 
--- The tables of entities of a state.
-abbrev pub tables_of : State → Tables
-tables_of s = record {
-  identities = s.identities;
-  next_identity = s.next_identity;
-  services = s.services;
-  next_service = s.next_service;
-  routers = s.routers;
-  next_router = s.next_router;
-  held = [];
-}
+-- The counts that are kept of a relation.
+abbrev pub counts_of : Relation → Grants → List ((ℕ × ℕ) × ℕ)
+counts_of Dial g = g.dial
+counts_of Bind g = g.bind
+counts_of IdentityRouter g = g.identity_router
+counts_of ServiceRouter g = g.service_router
+
+-- The attributes of all policies, with repeats.
+abbrev pub policy_attributes : PolicyTables → List (List ℕ)
+policy_attributes p =
+    flat_map side_attributes p.service_policies
+    ++ (flat_map side_attributes p.edge_router_policies ++ flat_map side_attributes p.service_edge_router_policies)
+
+-- The uses that are held beside those of entities are those of policies.
+abbrev pub HoldsPolicies : Stores → Type 0
+HoldsPolicies st = (name : List ℕ) → held_times name st.entities.held ≡ times name (policy_attributes st.policies)
+
+-- What a core keeps of its stores: their state is valid, the attributes of policies are in use beside those of entities, and
+-- the counts are the grant counts of the state for every pair.
+pub record Keeps (st : Stores) : Type 0 where
+  pub valid : ValidState (state_of st)
+  pub held : HoldsPolicies st
+  pub counts : (r : Relation) → AreCountsOf (count r (state_of st)) (counts_of r st.grants)
 
 -- What contracts see of a core: its state, and whether it was not given up for want of memory.
 pub record Cored : Type 0 where
   pub state : State
   pub live : Bool
-
--- What a core keeps of its tables: nothing is held besides what entities use, and what each router costs to enter is in its range.
-pub record Keeps (t : Tables) : Type 0 where
-  pub none_held : t.held ≡ []
-  pub costs : list_all (λ (row : ℕ × Router). is_cost row.1.cost) t.routers ≡ true

@@ -1,4 +1,7 @@
 pub mod CarriedCommands
 pub mod KeptState
 pub mod Changes
+pub mod GrantKinds
+pub mod GrantChanges
 pub mod PlannedCommands
+pub mod AppliedChanges

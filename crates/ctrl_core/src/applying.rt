@@ -1,112 +1,198 @@
-ghost use Rattle.std.specs.Prelude.{◌≡◌, not, true, OnOk};
+ghost use Rattle.std.specs.Prelude.{◌≡◌, true, not, Some, OnOk};
 ghost use Rattle.ctrl_model.specs.declared.kinds.Kind.TheVariants as kind;
-ghost use Rattle.ctrl_model.specs.CommandForm.{is_cost};
+ghost use Rattle.ctrl_model.specs.declared.kinds.Relation.{Relation};
 ghost use Rattle.ctrl_model.specs.EntityCommands.{after_create_router};
+ghost use Rattle.ctrl_model.specs.ValidState.{ValidState};
+ghost use Rattle.ctrl_model.specs.Numbered.{is_present};
+ghost use Rattle.ctrl_model.specs.State.{policy_named};
 ghost use Rattle.entity_store.specs.EntityTables.{is_entity_kind};
-ghost use Rattle.entity_store.specs.TableRules.{is_there};
-ghost use Rattle.ctrl_core.specs.Changes.{CanAdd, CanDescribe, CanChange, is_plain_kind, with_plain, with_described, with_described_router, with_marked, with_removed, after_change};
-ghost use Rattle.ctrl_core.specs.KeptState.{Keeps, state_of, tables_of};
+ghost use Rattle.policy_store.specs.PolicyTables.{is_policy_kind};
+ghost use Rattle.policy_store.specs.StoredPolicies.{policy_of};
+ghost use Rattle.ctrl_core.specs.Changes.{CanChange, is_plain_kind, is_there, policies_in, steps_of, after_change, with_plain, with_described, with_described_router, with_marked, with_removed, with_policy, with_replaced, without_policy};
+ghost use Rattle.ctrl_core.specs.KeptState.{HoldsPolicies, counts_of, state_of};
+ghost use Rattle.ctrl_core.specs.AppliedChanges.{Carries, LetsPolicyGo, HaveRoom, Taken};
 
-use crate::changes::Change;
-use ctrl_model::{Kind, Name, Names, RouterNo};
-use entity_store::Entities;
-use std::alloc::AllocError;
+use crate::changes::{Change, GrantSteps};
+use crate::policy_names::policy_names;
+use crate::stores::{Grants, Stores};
+use ctrl_model::{Kind, Name, Names, PolicyNo, RouterNo};
+use grant_denorm::apply_changes;
+use policy_store::Policy;
+use std::alloc::{AllocError, Global};
 
 fn add(
-    entities: &mut Entities,
+    stores: &mut Stores,
     kind: Kind,
     name: &Name,
     attributes: &Names,
 ) -> Result<(), AllocError>
     requires kind { is_plain_kind kind ≡ true }
-    requires can { CanAdd kind name.now attributes.now (state_of entities.old) }
-    requires kept { Keeps entities.old }
-    ensures next { OnOk result (state_of entities.new ≡ with_plain kind name.now attributes.now (state_of entities.old)) }
-    ensures kept { Keeps entities.new }
+    requires valid { ValidState (with_plain kind name.now attributes.now (state_of stores.old)) }
+    requires held { HoldsPolicies stores.old }
+    ensures { OnOk result (Carries stores.old stores.new (with_plain kind name.now attributes.now (state_of stores.old))) }
 {
-    entities.add(kind, name, attributes)?;
+    stores.entities.add(kind, name, attributes)?;
     Ok(())
 }
 
 fn add_router(
-    entities: &mut Entities,
+    stores: &mut Stores,
     name: &Name,
     attributes: &Names,
     cost: u32,
     through: bool,
 ) -> Result<(), AllocError>
-    requires cost { is_cost cost ≡ true }
-    requires can { CanAdd kind.Router name.now attributes.now (state_of entities.old) }
-    requires kept { Keeps entities.old }
-    ensures next { OnOk result (state_of entities.new ≡ after_create_router name.now attributes.now cost (not through) (state_of entities.old)) }
-    ensures kept { Keeps entities.new }
+    requires valid { ValidState (after_create_router name.now attributes.now cost (not through) (state_of stores.old)) }
+    requires held { HoldsPolicies stores.old }
+    ensures { OnOk result (Carries stores.old stores.new (after_create_router name.now attributes.now cost (not through) (state_of stores.old))) }
 {
-    let number = entities.next(Kind::Router);
-    entities.add(Kind::Router, name, attributes)?;
-    entities.set_router(RouterNo(number), cost, through, false);
+    let number = stores.entities.next(Kind::Router);
+    stores.entities.add(Kind::Router, name, attributes)?;
+    stores
+        .entities
+        .set_router(RouterNo(number), cost, through, false);
     Ok(())
 }
 
 fn describe(
-    entities: &mut Entities,
+    stores: &mut Stores,
     kind: Kind,
     number: u32,
     attributes: &Names,
 ) -> Result<(), AllocError>
     requires kind { is_plain_kind kind ≡ true }
-    requires can { CanDescribe kind number attributes.now (state_of entities.old) }
-    requires kept { Keeps entities.old }
-    ensures next { OnOk result (state_of entities.new ≡ with_described kind number attributes.now (state_of entities.old)) }
-    ensures kept { Keeps entities.new }
+    requires there { is_there kind number (state_of stores.old) ≡ true }
+    requires valid { ValidState (with_described kind number attributes.now (state_of stores.old)) }
+    requires held { HoldsPolicies stores.old }
+    ensures { OnOk result (Carries stores.old stores.new (with_described kind number attributes.now (state_of stores.old))) }
 {
-    entities.update(kind, number, attributes)
+    stores.entities.update(kind, number, attributes)
 }
 
 fn describe_router(
-    entities: &mut Entities,
+    stores: &mut Stores,
     number: u32,
     attributes: &Names,
     cost: u32,
     through: bool,
     connected: bool,
 ) -> Result<(), AllocError>
-    requires cost { is_cost cost ≡ true }
-    requires can { CanDescribe kind.Router number attributes.now (state_of entities.old) }
-    requires kept { Keeps entities.old }
-    ensures next { OnOk result (state_of entities.new ≡ with_described_router number attributes.now cost through connected (state_of entities.old)) }
-    ensures kept { Keeps entities.new }
+    requires there { is_there kind.Router number (state_of stores.old) ≡ true }
+    requires valid { ValidState (with_described_router number attributes.now cost through connected (state_of stores.old)) }
+    requires held { HoldsPolicies stores.old }
+    ensures { OnOk result (Carries stores.old stores.new (with_described_router number attributes.now cost through connected (state_of stores.old))) }
 {
-    entities.update(Kind::Router, number, attributes)?;
-    entities.set_router(RouterNo(number), cost, through, connected);
+    stores.entities.update(Kind::Router, number, attributes)?;
+    stores
+        .entities
+        .set_router(RouterNo(number), cost, through, connected);
     Ok(())
 }
 
-fn mark(entities: &mut Entities, number: u32, cost: u32, through: bool, connected: bool)
-    requires cost { is_cost cost ≡ true }
-    requires there { is_there kind.Router number (tables_of (state_of entities.old)) ≡ true }
-    requires kept { Keeps entities.old }
-    ensures next { state_of entities.new ≡ with_marked number cost through connected (state_of entities.old) }
-    ensures kept { Keeps entities.new }
+fn mark(stores: &mut Stores, number: u32, cost: u32, through: bool, connected: bool)
+    requires there { is_there kind.Router number (state_of stores.old) ≡ true }
+    requires valid { ValidState (with_marked number cost through connected (state_of stores.old)) }
+    requires held { HoldsPolicies stores.old }
+    ensures { Carries stores.old stores.new (with_marked number cost through connected (state_of stores.old)) }
 {
-    entities.set_router(RouterNo(number), cost, through, connected);
+    stores
+        .entities
+        .set_router(RouterNo(number), cost, through, connected);
 }
 
-fn remove(entities: &mut Entities, kind: Kind, number: u32)
+fn remove(stores: &mut Stores, kind: Kind, number: u32, name: &Name)
     requires kind { is_entity_kind kind ≡ true }
-    requires there { is_there kind number (tables_of (state_of entities.old)) ≡ true }
-    requires kept { Keeps entities.old }
-    ensures next { state_of entities.new ≡ with_removed kind number (state_of entities.old) }
-    ensures kept { Keeps entities.new }
+    requires there { is_there kind number (state_of stores.old) ≡ true }
+    requires held { HoldsPolicies stores.old }
+    ensures { Carries stores.old stores.new (with_removed kind number name.now (state_of stores.old)) }
 {
-    entities.remove(kind, number);
+    stores.entities.remove(kind, number);
+    stores.policies.forget(kind, name);
 }
 
-/// Makes a change in the stores. Of a change that fails for want of memory only what a core always keeps is said.
-pub fn apply_change(entities: &mut Entities, change: Change) -> Result<(), AllocError>
-    requires can { CanChange change (state_of entities.old) }
-    requires kept { Keeps entities.old }
-    ensures next { OnOk result (state_of entities.new ≡ after_change change (state_of entities.old)) }
-    ensures kept { Keeps entities.new }
+fn add_policy(
+    alloc: Global,
+    stores: &mut Stores,
+    kind: Kind,
+    policy: Policy,
+) -> Result<(), AllocError>
+    requires kind { is_policy_kind kind ≡ true }
+    requires valid { ValidState (with_policy kind (policy_of policy) (state_of stores.old)) }
+    requires held { HoldsPolicies stores.old }
+    ensures { OnOk result (Carries stores.old stores.new (with_policy kind (policy_of policy) (state_of stores.old))) }
+{
+    let names = policy_names(alloc, &policy)?;
+    stores.entities.hold(&names)?;
+    stores.policies.put(kind, policy, true)?;
+    Ok(())
+}
+
+// Lets the uses go that a policy's attributes have.
+fn let_policy_go(
+    alloc: Global,
+    stores: &mut Stores,
+    kind: Kind,
+    number: u32,
+) -> Result<(), AllocError>
+    requires kind { is_policy_kind kind ≡ true }
+    requires there { is_present (policies_in kind (state_of stores.old)) number ≡ true }
+    requires held { HoldsPolicies stores.old }
+    ensures { OnOk result (LetsPolicyGo kind number stores.old stores.new) }
+{
+    let Some(policy) = stores.policies.get(kind, PolicyNo(number)) else {
+        unreachable!()
+    };
+    let gone = policy_names(alloc, policy)?;
+    stores.entities.let_go(&gone);
+    Ok(())
+}
+
+fn replace_policy(
+    alloc: Global,
+    stores: &mut Stores,
+    kind: Kind,
+    number: u32,
+    policy: Policy,
+) -> Result<(), AllocError>
+    requires kind { is_policy_kind kind ≡ true }
+    requires named { policy_named (policies_in kind (state_of stores.old)) policy.name ≡ Some number }
+    requires valid { ValidState (with_replaced kind number (policy_of policy) (state_of stores.old)) }
+    requires held { HoldsPolicies stores.old }
+    ensures { OnOk result (Carries stores.old stores.new (with_replaced kind number (policy_of policy) (state_of stores.old))) }
+{
+    let names = policy_names(alloc, &policy)?;
+    let_policy_go(alloc, stores, kind, number)?;
+    stores.entities.hold(&names)?;
+    stores.policies.put(kind, policy, false)?;
+    Ok(())
+}
+
+fn remove_policy(
+    alloc: Global,
+    stores: &mut Stores,
+    kind: Kind,
+    number: u32,
+) -> Result<(), AllocError>
+    requires kind { is_policy_kind kind ≡ true }
+    requires there { is_present (policies_in kind (state_of stores.old)) number ≡ true }
+    requires held { HoldsPolicies stores.old }
+    ensures { OnOk result (Carries stores.old stores.new (without_policy kind number (state_of stores.old))) }
+{
+    let_policy_go(alloc, stores, kind, number)?;
+    stores.policies.remove(kind, PolicyNo(number));
+    Ok(())
+}
+
+/// Makes a change that leads to a valid state. Of a change that fails for want of memory nothing is said.
+pub fn apply_change(
+    alloc: Global,
+    stores: &mut Stores,
+    change: Change,
+) -> Result<(), AllocError>
+    requires can { CanChange change (state_of stores.old) }
+    requires valid { ValidState (after_change change (state_of stores.old)) }
+    requires held { HoldsPolicies stores.old }
+    ensures { OnOk result (Carries stores.old stores.new (after_change change (state_of stores.old))) }
 {
     match change {
         Change::Nothing => Ok(()),
@@ -114,37 +200,56 @@ pub fn apply_change(entities: &mut Entities, change: Change) -> Result<(), Alloc
             kind,
             name,
             attributes,
-        } => add(entities, kind, &name, &attributes),
+        } => add(stores, kind, &name, &attributes),
         Change::AddRouter {
             name,
             attributes,
             cost,
             through,
-        } => add_router(entities, &name, &attributes, cost, through),
+        } => add_router(stores, &name, &attributes, cost, through),
         Change::Describe {
             kind,
             number,
             attributes,
-        } => describe(entities, kind, number, &attributes),
+        } => describe(stores, kind, number, &attributes),
         Change::DescribeRouter {
             number,
             attributes,
             cost,
             through,
             connected,
-        } => describe_router(entities, number, &attributes, cost, through, connected),
+        } => describe_router(stores, number, &attributes, cost, through, connected),
         Change::Mark {
             number,
             cost,
             through,
             connected,
         } => {
-            mark(entities, number, cost, through, connected);
+            mark(stores, number, cost, through, connected);
             Ok(())
         }
-        Change::Remove { kind, number } => {
-            remove(entities, kind, number);
+        Change::Remove { kind, number, name } => {
+            remove(stores, kind, number, &name);
             Ok(())
         }
+        Change::AddPolicy { kind, policy } => add_policy(alloc, stores, kind, policy),
+        Change::ReplacePolicy {
+            kind,
+            number,
+            policy,
+        } => replace_policy(alloc, stores, kind, number, policy),
+        Change::RemovePolicy { kind, number } => remove_policy(alloc, stores, kind, number),
     }
+}
+
+/// Takes the steps of each relation's counts.
+pub fn apply_steps(grants: &mut Grants, steps: &GrantSteps) -> Result<(), AllocError>
+    requires { (r : Relation) → HaveRoom (counts_of r grants.old) (steps_of r steps.now) }
+    ensures { OnOk result ((r : Relation) → Taken (counts_of r grants.old) (counts_of r grants.new) (steps_of r steps.now)) }
+{
+    apply_changes(&mut grants.dial, steps.dial.as_slice())?;
+    apply_changes(&mut grants.bind, steps.bind.as_slice())?;
+    apply_changes(&mut grants.identity_router, steps.identity_router.as_slice())?;
+    apply_changes(&mut grants.service_router, steps.service_router.as_slice())?;
+    Ok(())
 }

@@ -1,8 +1,12 @@
 ghost use Rattle.std.specs.Prelude.{◌≡◌};
-ghost use Rattle.ctrl_model.specs.declared.replies.Reply.TheVariants.{Refused, Done};
-ghost use Rattle.ctrl_core.specs.declared.changes.Change.TheVariants.{Nothing};
+ghost use Rattle.ctrl_model.specs.declared.replies.Reply.TheVariants.{Refused};
+ghost use Rattle.ctrl_core.specs.Changes.{HasNoSteps};
+ghost use Rattle.ctrl_core.specs.PlannedCommands.{IsShown};
 
 use ctrl_model::{Kind, Name, Names, Refusal, Reply};
+use grant_denorm::Delta;
+use policy_store::Policy;
+use std::alloc::Global;
 
 /// One change of the stores.
 #[derive(Drop)]
@@ -43,11 +47,45 @@ pub enum Change {
         through: bool,
         connected: bool,
     },
-    /// An entity goes.
+    /// An entity goes, and its name out of the sides of policies.
     Remove {
         kind: Kind,
         number: u32,
+        name: Name,
     },
+    /// One more policy.
+    AddPolicy { kind: Kind, policy: Policy },
+    /// Other parts of a policy, under its name.
+    ReplacePolicy {
+        kind: Kind,
+        number: u32,
+        policy: Policy,
+    },
+    /// A policy goes.
+    RemovePolicy { kind: Kind, number: u32 },
+}
+
+/// The steps that the grant counts of each relation take.
+#[derive(Drop)]
+pub struct GrantSteps {
+    pub dial: Vec<Delta>,
+    pub bind: Vec<Delta>,
+    pub identity_router: Vec<Delta>,
+    pub service_router: Vec<Delta>,
+}
+
+impl GrantSteps {
+    /// No steps.
+    pub fn none(alloc: Global) -> GrantSteps
+        ensures { HasNoSteps result }
+    {
+        GrantSteps {
+            dial: Vec::new(alloc),
+            bind: Vec::new(alloc),
+            identity_router: Vec::new(alloc),
+            service_router: Vec::new(alloc),
+        }
+    }
 }
 
 /// The answer to a command, planned: the reply, and what is kept to carry it out. A plan leads from the state in which it was
@@ -56,26 +94,25 @@ pub enum Change {
 pub struct Planned {
     pub reply: Reply,
     pub(crate) change: Change,
+    pub(crate) steps: GrantSteps,
 }
 
 impl Planned {
-    /// The plan of a refusal, which changes nothing.
-    pub(crate) fn refused(refusal: Refusal) -> Planned
-        ensures { result ≡ record { reply = Refused refusal; change = Nothing } }
+    /// The plan of a reply that changes nothing.
+    pub(crate) fn shown(alloc: Global, reply: Reply) -> Planned
+        ensures { IsShown reply result }
     {
         Planned {
-            reply: Reply::Refused(refusal),
+            reply,
             change: Change::Nothing,
+            steps: GrantSteps::none(alloc),
         }
     }
 
-    /// The plan of a change that is answered Done.
-    pub(crate) fn done(change: Change) -> Planned
-        ensures { result ≡ record { reply = Done; change = change } }
+    /// The plan of a refusal, which changes nothing.
+    pub(crate) fn refused(alloc: Global, refusal: Refusal) -> Planned
+        ensures { IsShown (Refused refusal) result }
     {
-        Planned {
-            reply: Reply::Done,
-            change,
-        }
+        Planned::shown(alloc, Reply::Refused(refusal))
     }
 }

@@ -2,34 +2,39 @@ ghost use Rattle.std.specs.Prelude.{◌≡◌, true, false, IfOk, OnErr};
 ghost use Rattle.ctrl_model.specs.State.{start};
 ghost use Rattle.ctrl_model.specs.CommandForm.{is_spelled};
 ghost use Rattle.ctrl_model.specs.Controller.{carry};
+ghost use Rattle.ctrl_model.specs.Grants.{count};
+ghost use Rattle.ctrl_model.specs.ValidState.{ValidState};
+ghost use Rattle.grant_denorm.specs.MovedCounts.{AreCountsOf};
 ghost use Rattle.ctrl_core.specs.CarriedCommands.{is_carried};
-ghost use Rattle.ctrl_core.specs.Changes.{LeadsFrom, CanChange, after_change};
+ghost use Rattle.ctrl_core.specs.Changes.{CanLead, LeadsFrom, led};
 
-use crate::applying::apply_change;
+use crate::applying::{apply_change, apply_steps};
 use crate::changes::Planned;
-use crate::planning::plan_command;
-use ctrl_model::{Command, Reply};
-use entity_store::Entities;
+use crate::commands::plan_command;
+use crate::stores::Stores;
+use ctrl_model::{Command, Relation, Reply};
+use grant_denorm::Counted;
 use std::alloc::{AllocError, Global};
 use std::marker::Model;
 
-/// The state of a controller, kept in stores. Contracts see the state, and whether the core is live: after want of memory in
-/// `apply` it is given up.
+/// The state of a controller, kept in stores, with the grant count of every pair. Contracts see the state, and whether the core
+/// is live: after want of memory in `apply` it is given up.
 #[derive(Drop)]
 pub struct Core {
     alloc: Global,
     live: bool,
-    entities: Entities,
+    stores: Stores,
 }
 
 impl Model for Core {
+    ghost use Rattle.std.specs.Prelude.{◌≡◌, true};
     ghost use Rattle.ctrl_core.specs.KeptState.{Cored, Keeps, state_of};
 
     ghost Value = { Cored };
 
-    ghost view = { λ c. record { state = state_of c.entities; live = c.live } };
+    ghost view = { λ c. record { state = state_of c.stores; live = c.live } };
 
-    ghost invariant = { λ c. Keeps c.entities };
+    ghost invariant = { λ c. c.live ≡ true → Keeps c.stores };
 }
 
 impl Core {
@@ -37,37 +42,52 @@ impl Core {
     pub fn empty(alloc: Global) -> Result<Core, AllocError>
         ensures { IfOk result (λ c. c ≡ record { state = start; live = true }) }
     {
-        let entities = Entities::new(alloc)?;
+        let stores = Stores::new(alloc)?;
         Ok(Core {
             alloc,
             live: true,
-            entities,
+            stores,
         })
     }
 
+    /// The kept counts of a relation: for every pair the number of present policies that grant it in the core's state.
+    pub fn counted(&self, relation: Relation) -> &Counted
+        requires { self.now.live ≡ true }
+        ensures { AreCountsOf (count relation self.now.state) result.now }
+    {
+        self.stores.grants.counted(relation)
+    }
+
     /// Plans the answer to a command that some body spells, as the controller gives it to who may send it. So far the commands are
-    /// Hello and those on identities, services and edge routers. The state stays.
+    /// Hello, those on identities, services, edge routers and policies, and those that show grants and counts. The state stays,
+    /// and it is valid.
     pub fn plan(&self, command: &Command) -> Result<Planned, AllocError>
         requires live { self.now.live ≡ true }
         requires spelled { is_spelled command.now ≡ true }
         requires carried { is_carried command.now ≡ true }
         ensures reply { IfOk result (λ p. p.reply ≡ (carry command.now self.now.state).0) }
         ensures leads { IfOk result (λ p. LeadsFrom p self.now.state (carry command.now self.now.state).1) }
+        ensures valid { ValidState self.now.state }
     {
-        plan_command(self.alloc, &self.entities, command)
+        plan_command(self.alloc, &self.stores, command)
     }
 
     /// Moves the state to where a plan leads, and answers the plan's reply. After want of memory the core is given up.
     pub fn apply(&mut self, planned: Planned) -> Result<Reply, AllocError>
         requires live { self.old.live ≡ true }
-        requires can { CanChange planned.change self.old.state }
+        requires can { CanLead planned self.old.state }
         ensures reply { IfOk result (λ r. r ≡ planned.reply) }
-        ensures next { IfOk result (λ r. self.new ≡ record { state = after_change planned.change self.old.state; live = true }) }
+        ensures next { IfOk result (λ r. self.new ≡ record { state = led planned self.old.state; live = true }) }
         ensures err { OnErr result (self.new.live ≡ false) }
     {
-        let Planned { reply, change } = planned;
+        let Planned {
+            reply,
+            change,
+            steps,
+        } = planned;
         self.live = false;
-        apply_change(&mut self.entities, change)?;
+        apply_change(self.alloc, &mut self.stores, change)?;
+        apply_steps(&mut self.stores.grants, &steps)?;
         self.live = true;
         Ok(reply)
     }

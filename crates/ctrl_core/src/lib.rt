@@ -3,8 +3,15 @@
 
 mod applying;
 mod changes;
+mod commands;
 mod core_state;
+mod families;
+mod granting;
 mod planning;
+mod policy_names;
+mod policy_planning;
+mod showing;
+mod stores;
 #[cfg(test)]
 mod tests;
 mod worked;

@@ -1,21 +1,18 @@
 ghost use Rattle.std.specs.Prelude.{◌≡◌, ◌==◌, true, IfOk, map, find};
-ghost use Rattle.ctrl_model.specs.declared.refusals.Field.TheVariants as field;
 ghost use Rattle.ctrl_model.specs.declared.refusals.Refusal.TheVariants.{Unknown};
 ghost use Rattle.ctrl_model.specs.declared.replies.Reply.TheVariants.{Refused};
-ghost use Rattle.ctrl_core.specs.declared.changes.Change.TheVariants.{Nothing};
-ghost use Rattle.ctrl_model.specs.CommandForm.{is_spelled, is_cost};
-ghost use Rattle.ctrl_model.specs.Controller.{carry};
 ghost use Rattle.ctrl_model.specs.Networks.{seen};
 ghost use Rattle.ctrl_model.specs.EntityCommands.{create_router, update_router, mark_router};
 ghost use Rattle.entity_store.specs.EntityTables.{is_entity_kind};
 ghost use Rattle.entity_store.specs.TableRules.{is_there};
-ghost use Rattle.ctrl_core.specs.CarriedCommands.{is_carried};
 ghost use Rattle.ctrl_core.specs.Changes.{is_plain_kind};
 ghost use Rattle.ctrl_core.specs.KeptState.{Keeps, state_of};
-ghost use Rattle.ctrl_core.specs.PlannedCommands.{Plans, answer_add, answer_update, answer_delete, refusal_of_add, refusal_of_describe};
+ghost use Rattle.ctrl_core.specs.PlannedCommands.{Plans, IsShown, IsDescribed, answer_add, answer_update, answer_delete, refusal_of_add, refusal_of_describe};
 
-use crate::changes::{Change, Planned};
-use ctrl_model::{Command, Field, Kind, Name, Names, Refusal, Reply, RouterSeen};
+use crate::changes::{Change, GrantSteps, Planned};
+use crate::granting::{Moved, entity_steps};
+use crate::stores::Stores;
+use ctrl_model::{Field, Kind, Name, Names, Refusal, Reply, RouterSeen};
 use entity_store::{Entities, EntityFault};
 use std::alloc::{AllocError, Global};
 
@@ -69,28 +66,43 @@ fn refusal_of_describe(
     }
 }
 
-fn unknown_name() -> Planned
-    ensures { result ≡ record { reply = Refused (Unknown field.Name); change = Nothing } }
+/// The plan of a command whose name nothing has.
+pub fn unknown_name(alloc: Global) -> Planned
+    ensures { IsShown (Refused (Unknown Field.Name)) result }
 {
-    Planned::refused(Refusal::Unknown { field: Field::Name })
+    Planned::refused(alloc, Refusal::Unknown { field: Field::Name })
 }
 
-// Plans to add an identity or a service.
-fn plan_add(
+/// The plan of a command whose identity nothing has.
+pub fn unknown_identity(alloc: Global) -> Planned
+    ensures { IsShown (Refused (Unknown Field.Identity)) result }
+{
+    Planned::refused(
+        alloc,
+        Refusal::Unknown {
+            field: Field::Identity,
+        },
+    )
+}
+
+/// Plans to add an identity or a service.
+pub fn plan_add(
     alloc: Global,
-    entities: &Entities,
+    stores: &Stores,
     kind: Kind,
     name: &Name,
     attributes: &Names,
 ) -> Result<Planned, AllocError>
     requires kind { is_plain_kind kind ≡ true }
-    requires kept { Keeps entities.now }
-    ensures { IfOk result (λ p. Plans p (answer_add kind name.now attributes.now (state_of entities.now)) (state_of entities.now)) }
+    requires kept { Keeps stores.now }
+    ensures { IfOk result (λ p. Plans p (answer_add kind name.now attributes.now (state_of stores.now)) (state_of stores.now)) }
 {
-    if let Some(refusal) = refusal_of_add(alloc, entities, kind, name, attributes) {
-        return Ok(Planned::refused(refusal));
+    if let Some(refusal) = refusal_of_add(alloc, &stores.entities, kind, name, attributes) {
+        return Ok(Planned::refused(alloc, refusal));
     }
-    let number = entities.next(kind);
+    let number = stores.entities.next(kind);
+    let moved = Moved::coming(name, attributes);
+    let steps = entity_steps(alloc, stores, kind, number, &moved)?;
     let name = name.copy()?;
     let attributes = attributes.copy()?;
     Ok(Planned {
@@ -100,26 +112,28 @@ fn plan_add(
             name,
             attributes,
         },
+        steps,
     })
 }
 
-// Plans to add a router.
-fn plan_add_router(
+/// Plans to add a router.
+pub fn plan_add_router(
     alloc: Global,
-    entities: &Entities,
+    stores: &Stores,
     name: &Name,
     attributes: &Names,
     cost: u32,
     no_traversal: bool,
 ) -> Result<Planned, AllocError>
-    requires cost { is_cost cost ≡ true }
-    requires kept { Keeps entities.now }
-    ensures { IfOk result (λ p. Plans p (create_router name.now attributes.now cost no_traversal (state_of entities.now)) (state_of entities.now)) }
+    requires { Keeps stores.now }
+    ensures { IfOk result (λ p. Plans p (create_router name.now attributes.now cost no_traversal (state_of stores.now)) (state_of stores.now)) }
 {
-    if let Some(refusal) = refusal_of_add(alloc, entities, Kind::Router, name, attributes) {
-        return Ok(Planned::refused(refusal));
+    if let Some(refusal) = refusal_of_add(alloc, &stores.entities, Kind::Router, name, attributes) {
+        return Ok(Planned::refused(alloc, refusal));
     }
-    let number = entities.next(Kind::Router);
+    let number = stores.entities.next(Kind::Router);
+    let moved = Moved::coming(name, attributes);
+    let steps = entity_steps(alloc, stores, Kind::Router, number, &moved)?;
     let name = name.copy()?;
     let attributes = attributes.copy()?;
     Ok(Planned {
@@ -130,32 +144,57 @@ fn plan_add_router(
             cost,
             through: !no_traversal,
         },
+        steps,
     })
 }
 
-// Plans other attributes of an identity or a service.
-fn plan_update(
-    entities: &Entities,
+// The steps of a present entity that gets other attributes.
+fn described_steps(
+    alloc: Global,
+    stores: &Stores,
+    kind: Kind,
+    number: u32,
+    attributes: &Names,
+) -> Result<GrantSteps, AllocError>
+    requires kind { is_entity_kind kind ≡ true }
+    requires there { is_there kind number stores.now.entities ≡ true }
+    ensures { IfOk result (IsDescribed kind number attributes.now stores.now) }
+{
+    let Some((name, gone)) = stores.entities.seen(kind, number) else {
+        unreachable!()
+    };
+    entity_steps(alloc, stores, kind, number, &Moved::described(name, gone, attributes))
+}
+
+/// Plans other attributes of an identity or a service.
+pub fn plan_update(
+    alloc: Global,
+    stores: &Stores,
     kind: Kind,
     name: &Name,
     attributes: &Names,
 ) -> Result<Planned, AllocError>
     requires kind { is_plain_kind kind ≡ true }
-    requires kept { Keeps entities.now }
-    ensures { IfOk result (λ p. Plans p (answer_update kind name.now attributes.now (state_of entities.now)) (state_of entities.now)) }
+    requires kept { Keeps stores.now }
+    ensures { IfOk result (λ p. Plans p (answer_update kind name.now attributes.now (state_of stores.now)) (state_of stores.now)) }
 {
-    let Ok(number) = entities.find(kind, name) else {
-        return Ok(unknown_name());
+    let Ok(number) = stores.entities.find(kind, name) else {
+        return Ok(unknown_name(alloc));
     };
-    if let Some(refusal) = refusal_of_describe(entities, kind, number, attributes) {
-        return Ok(Planned::refused(refusal));
+    if let Some(refusal) = refusal_of_describe(&stores.entities, kind, number, attributes) {
+        return Ok(Planned::refused(alloc, refusal));
     }
+    let steps = described_steps(alloc, stores, kind, number, attributes)?;
     let attributes = attributes.copy()?;
-    Ok(Planned::done(Change::Describe {
-        kind,
-        number,
-        attributes,
-    }))
+    Ok(Planned {
+        reply: Reply::Done,
+        change: Change::Describe {
+            kind,
+            number,
+            attributes,
+        },
+        steps,
+    })
 }
 
 fn router_among(routers: &[RouterSeen], number: u32) -> Option<RouterSeen>
@@ -181,119 +220,93 @@ fn router_seen(
     Ok(router_among(routers.as_slice(), number))
 }
 
-// Plans other attributes, another cost and another mark of a router.
-fn plan_update_router(
+/// Plans other attributes, another cost and another mark of a router.
+pub fn plan_update_router(
     alloc: Global,
-    entities: &Entities,
+    stores: &Stores,
     name: &Name,
     attributes: &Names,
     cost: u32,
     no_traversal: bool,
 ) -> Result<Planned, AllocError>
-    requires cost { is_cost cost ≡ true }
-    requires kept { Keeps entities.now }
-    ensures { IfOk result (λ p. Plans p (update_router name.now attributes.now cost no_traversal (state_of entities.now)) (state_of entities.now)) }
+    requires { Keeps stores.now }
+    ensures { IfOk result (λ p. Plans p (update_router name.now attributes.now cost no_traversal (state_of stores.now)) (state_of stores.now)) }
 {
-    let Ok(number) = entities.find(Kind::Router, name) else {
-        return Ok(unknown_name());
+    let Ok(number) = stores.entities.find(Kind::Router, name) else {
+        return Ok(unknown_name(alloc));
     };
-    if let Some(refusal) = refusal_of_describe(entities, Kind::Router, number, attributes) {
-        return Ok(Planned::refused(refusal));
+    if let Some(refusal) = refusal_of_describe(&stores.entities, Kind::Router, number, attributes) {
+        return Ok(Planned::refused(alloc, refusal));
     }
-    let Some(router) = router_seen(alloc, entities, number)? else {
+    let Some(router) = router_seen(alloc, &stores.entities, number)? else {
         unreachable!()
     };
+    let steps = described_steps(alloc, stores, Kind::Router, number, attributes)?;
     let attributes = attributes.copy()?;
-    Ok(Planned::done(Change::DescribeRouter {
-        number,
-        attributes,
-        cost,
-        through: !no_traversal,
-        connected: router.connected,
-    }))
+    Ok(Planned {
+        reply: Reply::Done,
+        change: Change::DescribeRouter {
+            number,
+            attributes,
+            cost,
+            through: !no_traversal,
+            connected: router.connected,
+        },
+        steps,
+    })
 }
 
-// Plans that an entity goes.
-fn plan_delete(entities: &Entities, kind: Kind, name: &Name) -> Planned
-    requires kind { is_entity_kind kind ≡ true }
-    requires kept { Keeps entities.now }
-    ensures { Plans result (answer_delete kind name.now (state_of entities.now)) (state_of entities.now) }
-{
-    match entities.find(kind, name) {
-        Ok(number) => Planned::done(Change::Remove { kind, number }),
-        Err(_) => unknown_name(),
-    }
-}
-
-// Plans that a router is connected, or not.
-fn plan_mark(
+/// Plans that an entity goes.
+pub fn plan_delete(
     alloc: Global,
-    entities: &Entities,
+    stores: &Stores,
+    kind: Kind,
+    name: &Name,
+) -> Result<Planned, AllocError>
+    requires kind { is_entity_kind kind ≡ true }
+    requires kept { Keeps stores.now }
+    ensures { IfOk result (λ p. Plans p (answer_delete kind name.now (state_of stores.now)) (state_of stores.now)) }
+{
+    let Ok(number) = stores.entities.find(kind, name) else {
+        return Ok(unknown_name(alloc));
+    };
+    let Some((kept, attributes)) = stores.entities.seen(kind, number) else {
+        unreachable!()
+    };
+    let steps = entity_steps(alloc, stores, kind, number, &Moved::going(kept, attributes))?;
+    let name = name.copy()?;
+    Ok(Planned {
+        reply: Reply::Done,
+        change: Change::Remove { kind, number, name },
+        steps,
+    })
+}
+
+/// Plans that a router is connected, or not. No count changes.
+pub fn plan_mark(
+    alloc: Global,
+    stores: &Stores,
     name: &Name,
     connected: bool,
 ) -> Result<Planned, AllocError>
-    requires { Keeps entities.now }
-    ensures { IfOk result (λ p. Plans p (mark_router name.now connected (state_of entities.now)) (state_of entities.now)) }
+    requires { Keeps stores.now }
+    ensures { IfOk result (λ p. Plans p (mark_router name.now connected (state_of stores.now)) (state_of stores.now)) }
 {
-    let Ok(number) = entities.find(Kind::Router, name) else {
-        return Ok(unknown_name());
+    let Ok(number) = stores.entities.find(Kind::Router, name) else {
+        return Ok(unknown_name(alloc));
     };
-    let Some(router) = router_seen(alloc, entities, number)? else {
+    let Some(router) = router_seen(alloc, &stores.entities, number)? else {
         unreachable!()
     };
-    Ok(Planned::done(Change::Mark {
-        number,
-        cost: router.cost,
-        through: router.through,
-        connected,
-    }))
+    Ok(Planned {
+        reply: Reply::Done,
+        change: Change::Mark {
+            number,
+            cost: router.cost,
+            through: router.through,
+            connected,
+        },
+        steps: GrantSteps::none(alloc),
+    })
 }
 
-/// Plans the answer to a command over the entities of a state.
-pub fn plan_command(
-    alloc: Global,
-    entities: &Entities,
-    command: &Command,
-) -> Result<Planned, AllocError>
-    requires kept { Keeps entities.now }
-    requires spelled { is_spelled command.now ≡ true }
-    requires carried { is_carried command.now ≡ true }
-    ensures { IfOk result (λ p. Plans p (carry command.now (state_of entities.now)) (state_of entities.now)) }
-{
-    match command {
-        Command::Hello => Ok(Planned {
-            reply: Reply::Empty,
-            change: Change::Nothing,
-        }),
-        Command::CreateIdentity { name, attributes } => {
-            plan_add(alloc, entities, Kind::Identity, name, attributes)
-        }
-        Command::UpdateIdentity { name, attributes } => {
-            plan_update(entities, Kind::Identity, name, attributes)
-        }
-        Command::DeleteIdentity { name } => Ok(plan_delete(entities, Kind::Identity, name)),
-        Command::CreateService { name, attributes } => {
-            plan_add(alloc, entities, Kind::Service, name, attributes)
-        }
-        Command::UpdateService { name, attributes } => {
-            plan_update(entities, Kind::Service, name, attributes)
-        }
-        Command::DeleteService { name } => Ok(plan_delete(entities, Kind::Service, name)),
-        Command::CreateRouter {
-            name,
-            attributes,
-            cost,
-            no_traversal,
-        } => plan_add_router(alloc, entities, name, attributes, *cost, *no_traversal),
-        Command::UpdateRouter {
-            name,
-            attributes,
-            cost,
-            no_traversal,
-        } => plan_update_router(alloc, entities, name, attributes, *cost, *no_traversal),
-        Command::DeleteRouter { name } => Ok(plan_delete(entities, Kind::Router, name)),
-        Command::ConnectRouter { name } => plan_mark(alloc, entities, name, true),
-        Command::DisconnectRouter { name } => plan_mark(alloc, entities, name, false),
-        _ => unreachable!(),
-    }
-}

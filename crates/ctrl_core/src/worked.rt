@@ -5,13 +5,13 @@ ghost use Rattle.ctrl_model.specs.State.{start};
 ghost use Rattle.entity_store.specs.EntityTables.{no_entities};
 ghost use Rattle.ctrl_core.specs.CarriedCommands.{is_carried};
 ghost use Rattle.ctrl_core.specs.Changes.{after_change};
-ghost use Rattle.ctrl_core.specs.KeptState.{state_of, tables_of};
+ghost use Rattle.ctrl_core.specs.KeptState.{state_of};
+ghost use Rattle.policy_store.specs.PolicyTables.{no_policies};
 ghost use Rattle.ctrl_core.specs.declared.changes.Change.TheVariants.{Add, AddRouter, Describe, DescribeRouter, Mark, Remove, Nothing};
 
-/// The start state stands in a store without entities, and such a store for it. The commands that are carried out so far.
+/// Stores without records stand for the state at the start. The commands that are carried out so far.
 pub fn worked_starts()
-    ensures state { state_of no_entities ≡ start }
-    ensures tables { tables_of start ≡ no_entities }
+    ensures state { state_of (record { entities = no_entities; policies = no_policies; grants = record { dial = []; bind = []; identity_router = []; service_router = [] } }) ≡ start }
     ensures hello { is_carried Hello ≡ true }
     ensures connect { is_carried (ConnectRouter (codes "r1")) ≡ true }
     ensures link { is_carried (CreateLink (codes "l1") (codes "r1") (codes "r2") 1 0 0) ≡ false }
@@ -25,5 +25,5 @@ pub fn worked_changes()
     ensures router { after_change (AddRouter (codes "r1") [] 5 false) start ≡ record start { routers = (1, record { name = codes "r1"; attributes = []; cost = 5; through = false; connected = false }) ∷ []; next_router = 2 } }
     ensures describe_router { after_change (DescribeRouter 1 (codes "a" ∷ []) 7 true true) (record start { routers = (1, record { name = codes "r1"; attributes = []; cost = 5; through = false; connected = false }) ∷ []; next_router = 2 }) ≡ record start { routers = (1, record { name = codes "r1"; attributes = codes "a" ∷ []; cost = 7; through = true; connected = true }) ∷ []; next_router = 2 } }
     ensures mark { after_change (Mark 1 5 false true) (record start { routers = (1, record { name = codes "r1"; attributes = []; cost = 5; through = false; connected = false }) ∷ []; next_router = 2 }) ≡ record start { routers = (1, record { name = codes "r1"; attributes = []; cost = 5; through = false; connected = true }) ∷ []; next_router = 2 } }
-    ensures remove { after_change (Remove kind.Identity 1) (record start { identities = (1, record { name = codes "ann"; attributes = [] }) ∷ []; next_identity = 2 }) ≡ record start { next_identity = 2 } }
+    ensures remove { after_change (Remove kind.Identity 1 (codes "ann")) (record start { identities = (1, record { name = codes "ann"; attributes = [] }) ∷ []; next_identity = 2 }) ≡ record start { next_identity = 2 } }
 {}

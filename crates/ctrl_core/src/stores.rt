@@ -1,0 +1,66 @@
+ghost use Rattle.std.specs.Prelude.{◌≡◌, [], IfOk};
+ghost use Rattle.entity_store.specs.EntityTables.{no_entities};
+ghost use Rattle.policy_store.specs.PolicyTables.{no_policies};
+ghost use Rattle.ctrl_core.specs.KeptState.{counts_of};
+
+use ctrl_model::Relation;
+use entity_store::Entities;
+use grant_denorm::Counted;
+use policy_store::Policies;
+use std::alloc::{AllocError, Global};
+
+/// The grant counts of pairs, kept for each relation.
+#[derive(Drop)]
+pub struct Grants {
+    pub dial: Counted,
+    pub bind: Counted,
+    pub identity_router: Counted,
+    pub service_router: Counted,
+}
+
+/// The stores of a core.
+#[derive(Drop)]
+pub struct Stores {
+    pub entities: Entities,
+    pub policies: Policies,
+    pub grants: Grants,
+}
+
+impl Grants {
+    /// Counts of no pair.
+    pub fn new(alloc: Global) -> Result<Grants, AllocError>
+        ensures { IfOk result (λ g. g ≡ record { dial = []; bind = []; identity_router = []; service_router = [] }) }
+    {
+        Ok(Grants {
+            dial: Counted::new(alloc)?,
+            bind: Counted::new(alloc)?,
+            identity_router: Counted::new(alloc)?,
+            service_router: Counted::new(alloc)?,
+        })
+    }
+
+    /// The counts of a relation.
+    pub fn counted(&self, relation: Relation) -> &Counted
+        ensures { result.now ≡ counts_of relation self.now }
+    {
+        match relation {
+            Relation::Dial => &self.dial,
+            Relation::Bind => &self.bind,
+            Relation::IdentityRouter => &self.identity_router,
+            Relation::ServiceRouter => &self.service_router,
+        }
+    }
+}
+
+impl Stores {
+    /// Stores without records.
+    pub fn new(alloc: Global) -> Result<Stores, AllocError>
+        ensures { IfOk result (λ st. st ≡ record { entities = no_entities; policies = no_policies; grants = record { dial = []; bind = []; identity_router = []; service_router = [] } }) }
+    {
+        Ok(Stores {
+            entities: Entities::new(alloc)?,
+            policies: Policies::new(alloc)?,
+            grants: Grants::new(alloc)?,
+        })
+    }
+}
