@@ -33,6 +33,7 @@ pub record IsTableOf (k : Kind) (l : Listed) (t : PolicyTables) : Type 0 where
 pub record HasNoTable (k : Kind) (t : PolicyTables) : Type 0 where
   pub rows : policies k t ≡ []
   pub next : next_of k t ≡ 1
+  pub few : most_of k ≡ 0
 
 -- A policy, of which the side on one hand does not name an entity.
 abbrev pub forget_on : Hand → List ℕ → Policy → Policy

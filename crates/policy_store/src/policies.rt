@@ -100,15 +100,29 @@ fn is_absent(kind: Kind, name: &Name, known: &Entities) -> bool
     known.find(kind, name).is_err()
 }
 
-// The place of the first name that no entity of a kind has, at most 4,294,967,295.
+// The place of the first name that no entity of a kind has.
+fn first_absent(kind: Kind, names: &[Name], known: &Entities) -> Option<usize>
+    requires { is_entity_kind kind ≡ true }
+    ensures { result ≡ position (λ n. is_none (entity_tables.number_of kind n known.now)) names.now }
+{
+    names
+        .iter()
+        .position(|name| is_absent(kind, name, known))
+}
+
+// A place as it is told: at most 4,294,967,295.
+fn told_place(place: usize) -> u32
+    ensures { result ≡ min place 4294967295 }
+{
+    u32::try_from(place).unwrap_or(u32::MAX)
+}
+
+// The place of the first name that no entity of a kind has, as it is told.
 fn absent_place(kind: Kind, names: &[Name], known: &Entities) -> Option<u32>
     requires { is_entity_kind kind ≡ true }
     ensures { result ≡ absent_place kind names.now known.now }
 {
-    let place = names
-        .iter()
-        .position(|name| is_absent(kind, name, known))?;
-    Some(u32::try_from(place).unwrap_or(u32::MAX))
+    Some(told_place(first_absent(kind, names, known)?))
 }
 
 // The fault of the first `@` name of a policy that no entity has, on the left side before the right one.
