@@ -1,0 +1,316 @@
+ghost use Rattle.std.specs.Prelude.{◌≡◌, ◌≤◌, ◌&&◌, not, cond, true, position, is_none, min, MatchOption, IfOk, OnErr};
+ghost use Rattle.std.specs.Option.{option_map};
+ghost use Rattle.std.specs.Result.{result_map_both};
+ghost use Rattle.ctrl_model.specs.Numbered.{at, numbers};
+ghost use Rattle.entity_store.specs.EntityTables.{is_entity_kind};
+ghost use Rattle.entity_store.specs.EntityTables as entity_tables;
+ghost use Rattle.policy_store.specs.StoredPolicies.{policy_of};
+ghost use Rattle.policy_store.specs.PolicyTables.{no_policies, is_policy_kind, policies, next_of, number_of, without_policy, with_next, forgetting, left_kind, right_kind};
+ghost use Rattle.policy_store.specs.PolicyRules.{most_of, has_kind_room, absent_place, absent_name, has_fitting_name, may_put, found, is_there, can_put, put_in, put_number, KeepsNumbers};
+ghost use Rattle.policy_store.specs.Stores.{IsTableOf, HasNoTable};
+
+use crate::records::{Hand, Policy};
+use crate::tables::Table;
+use ctrl_model::{Kind, Name, Numbers, PolicyNo};
+use entity_store::Entities;
+use std::alloc::{AllocError, Global};
+use std::marker::Model;
+use thiserror::Error;
+
+/// Why a policy is not put or not found.
+#[derive(Clone, Copy, Debug, PartialEq, Eq, Error)]
+pub enum PolicyFault {
+    /// A policy of the kind has the name already.
+    #[error("the name is taken")]
+    Exists,
+    /// No policy of the kind has the name.
+    #[error("nothing has the name")]
+    Unknown,
+    /// No entity has the `@` name at a place, counted from 0, of the left or the right side.
+    #[error("nothing has a name of a side")]
+    UnknownRef { right: bool, place: u32 },
+    /// No policy of the kind can be added.
+    #[error("the kind is full")]
+    Full(Kind),
+}
+
+/// The policies of a controller. Contracts see them as tables (`PolicyTables`).
+///
+/// A kind of policy is ServicePolicy, EdgeRouterPolicy or ServiceEdgeRouterPolicy. Other kinds have no policies.
+#[derive(Drop)]
+pub struct Policies {
+    services: Table,
+    edge_routers: Table,
+    service_edge_routers: Table,
+}
+
+impl Model for Policies {
+    ghost use Rattle.std.specs.Prelude.{◌≤◌, length};
+    ghost use Rattle.policy_store.specs.PolicyTables.{PolicyTables};
+
+    ghost Value = { PolicyTables };
+
+    ghost use Rattle.policy_store.specs.Stores.{tables_of};
+
+    ghost view = { λ p. tables_of p.services p.edge_routers p.service_edge_routers };
+
+    ghost invariant = { λ p. (length p.services.rows ≤ 512) × (length p.edge_routers.rows ≤ 256) × (length p.service_edge_routers.rows ≤ 256) };
+}
+
+// How many policies of a kind there may be.
+fn most_of(kind: Kind) -> usize
+    ensures { result ≡ most_of kind }
+{
+    match kind {
+        Kind::ServicePolicy => 512,
+        Kind::EdgeRouterPolicy | Kind::ServiceEdgeRouterPolicy => 256,
+        _ => 0,
+    }
+}
+
+// The kind of entity that the left sides of a kind of policy name.
+fn left_kind(kind: Kind) -> Kind
+    requires { is_policy_kind kind ≡ true }
+    ensures kind { result ≡ left_kind kind }
+    ensures entity { is_entity_kind result ≡ true }
+{
+    match kind {
+        Kind::ServiceEdgeRouterPolicy => Kind::Service,
+        _ => Kind::Identity,
+    }
+}
+
+// The kind of entity that the right sides of a kind of policy name.
+fn right_kind(kind: Kind) -> Kind
+    requires { is_policy_kind kind ≡ true }
+    ensures kind { result ≡ right_kind kind }
+    ensures entity { is_entity_kind result ≡ true }
+{
+    match kind {
+        Kind::ServicePolicy => Kind::Service,
+        _ => Kind::Router,
+    }
+}
+
+// Whether no entity of a kind has a name.
+fn is_absent(kind: Kind, name: &Name, known: &Entities) -> bool
+    requires { is_entity_kind kind ≡ true }
+    ensures { result ≡ is_none (entity_tables.number_of kind name.now known.now) }
+{
+    known.find(kind, name).is_err()
+}
+
+// The place of the first name that no entity of a kind has.
+fn first_absent(kind: Kind, names: &[Name], known: &Entities) -> Option<usize>
+    requires { is_entity_kind kind ≡ true }
+    ensures { result ≡ position (λ n. is_none (entity_tables.number_of kind n known.now)) names.now }
+{
+    names
+        .iter()
+        .position(|name| is_absent(kind, name, known))
+}
+
+// A place as it is told: at most 4,294,967,295.
+fn told_place(place: usize) -> u32
+    ensures { result ≡ min place 4294967295 }
+{
+    u32::try_from(place).unwrap_or(u32::MAX)
+}
+
+// The place of the first name that no entity of a kind has, as it is told.
+fn absent_place(kind: Kind, names: &[Name], known: &Entities) -> Option<u32>
+    requires { is_entity_kind kind ≡ true }
+    ensures { result ≡ absent_place kind names.now known.now }
+{
+    Some(told_place(first_absent(kind, names, known)?))
+}
+
+// The fault of the first `@` name of a policy that no entity has, on the left side before the right one.
+fn absent_name(kind: Kind, policy: &Policy, known: &Entities) -> Option<PolicyFault>
+    requires { is_policy_kind kind ≡ true }
+    ensures { result ≡ absent_name kind (policy_of policy.now) known.now }
+{
+    let left = absent_place(left_kind(kind), policy.left.ids.as_slice(), known);
+    if let Some(place) = left {
+        return Some(PolicyFault::UnknownRef { right: false, place });
+    }
+    let place = absent_place(right_kind(kind), policy.right.ids.as_slice(), known)?;
+    Some(PolicyFault::UnknownRef { right: true, place })
+}
+
+impl Policies {
+    // The table of a kind. None exactly where it is no kind of policy.
+    fn table(&self, kind: Kind) -> Option<&Table>
+        ensures { MatchOption result (HasNoTable kind self.now) (λ t. IsTableOf kind t.now self.now) }
+    {
+        match kind {
+            Kind::ServicePolicy => Some(&self.services),
+            Kind::EdgeRouterPolicy => Some(&self.edge_routers),
+            Kind::ServiceEdgeRouterPolicy => Some(&self.service_edge_routers),
+            _ => None,
+        }
+    }
+
+    // The number of the policy that has the name, and that the kind keeps its numbers.
+    fn number_of(&self, kind: Kind, name: &Name) -> Option<u32>
+        ensures found { result ≡ number_of kind name.now self.now }
+        ensures numbers { KeepsNumbers kind self.now }
+    {
+        self.table(kind)?.find(name)
+    }
+
+    // Whether one more policy of a kind can be put.
+    fn has_room(&self, kind: Kind) -> bool
+        ensures { result ≡ has_kind_room kind self.now }
+    {
+        match self.table(kind) {
+            Some(table) => table.len() < most_of(kind) && table.next() < u32::MAX,
+            None => false,
+        }
+    }
+
+    /// A store without policies.
+    pub fn new(alloc: Global) -> Result<Policies, AllocError>
+        ensures { IfOk result (λ p. p ≡ no_policies) }
+    {
+        Ok(Policies {
+            services: Table::new(alloc),
+            edge_routers: Table::new(alloc),
+            service_edge_routers: Table::new(alloc),
+        })
+    }
+
+    /// Whether a policy may be put: `Exists` comes exactly where it is fresh and its name is taken, `Unknown` exactly where it is
+    /// not fresh and nothing has its name; else `UnknownRef` tells the first `@` name that no entity has, on the left side before
+    /// the right one; and else `Full` comes exactly where it is fresh and its kind has reached its limit or its numbers have run
+    /// out (docs/RULES.md, "Commands on policies").
+    pub fn may_put(
+        &self,
+        kind: Kind,
+        policy: &Policy,
+        fresh: bool,
+        known: &Entities,
+    ) -> Result<(), PolicyFault>
+        requires { is_policy_kind kind ≡ true }
+        ensures { result ≡ may_put kind (policy_of policy.now) fresh self.now known.now }
+    {
+        let taken = self.number_of(kind, &policy.name).is_some();
+        if fresh && taken {
+            return Err(PolicyFault::Exists);
+        }
+        if !fresh && !taken {
+            return Err(PolicyFault::Unknown);
+        }
+        if let Some(fault) = absent_name(kind, policy, known) {
+            return Err(fault);
+        }
+        if fresh && !self.has_room(kind) {
+            return Err(PolicyFault::Full(kind));
+        }
+        Ok(())
+    }
+
+    /// Puts a policy and answers its number: a fresh one under the next number, another in place of the one that has its name,
+    /// of which nothing but name and number stay.
+    pub fn put(&mut self, kind: Kind, policy: Policy, fresh: bool) -> Result<PolicyNo, AllocError>
+        requires kind { is_policy_kind kind ≡ true }
+        requires can { can_put kind policy.name fresh self.old ≡ true }
+        ensures ok { IfOk result (λ n. (n.0 ≡ put_number kind policy.name fresh self.old) × (self.new ≡ put_in kind (policy_of policy) fresh self.old)) }
+        ensures err { OnErr result (self.new ≡ self.old) }
+    {
+        let number = match kind {
+            Kind::ServicePolicy => self.services.put(policy, fresh)?,
+            Kind::EdgeRouterPolicy => self.edge_routers.put(policy, fresh)?,
+            Kind::ServiceEdgeRouterPolicy => self.service_edge_routers.put(policy, fresh)?,
+            _ => unreachable!(),
+        };
+        Ok(PolicyNo(number))
+    }
+
+    /// The number of the policy that has the name. `Unknown` comes exactly where none has it.
+    pub fn find(&self, kind: Kind, name: &Name) -> Result<PolicyNo, PolicyFault>
+        ensures found { result_map_both (λ n. n.0) (λ f. f) result ≡ found kind name.now self.now }
+        // The numbers ascend from 1 below the next one, and the kind keeps its limit.
+        ensures numbers { KeepsNumbers kind self.now }
+    {
+        let number = self.number_of(kind, name).ok_or(PolicyFault::Unknown)?;
+        Ok(PolicyNo(number))
+    }
+
+    /// The policy that has the number. None exactly where it is absent.
+    pub fn get(&self, kind: Kind, no: PolicyNo) -> Option<&Policy>
+        ensures { option_map (λ p. policy_of p.now) result ≡ at (policies kind self.now) no.0 }
+    {
+        self.table(kind)?.get(no.0)
+    }
+
+    /// Removes a present policy.
+    pub fn remove(&mut self, kind: Kind, no: PolicyNo)
+        requires there { is_there kind no.0 self.old ≡ true }
+        ensures { self.new ≡ without_policy kind no.0 self.old }
+    {
+        match kind {
+            Kind::ServicePolicy => self.services.remove(no.0),
+            Kind::EdgeRouterPolicy => self.edge_routers.remove(no.0),
+            Kind::ServiceEdgeRouterPolicy => self.service_edge_routers.remove(no.0),
+            _ => unreachable!(),
+        }
+    }
+
+    /// Takes an `@` name out of each side that may name entities of a kind: Identity, Service or Router.
+    pub fn forget(&mut self, kind: Kind, name: &Name)
+        requires { is_entity_kind kind ≡ true }
+        ensures { self.new ≡ forgetting kind name.now self.old }
+    {
+        match kind {
+            Kind::Identity => {
+                self.services.forget(Hand::Left, name);
+                self.edge_routers.forget(Hand::Left, name);
+            }
+            Kind::Service => {
+                self.services.forget(Hand::Right, name);
+                self.service_edge_routers.forget(Hand::Left, name);
+            }
+            Kind::Router => {
+                self.edge_routers.forget(Hand::Right, name);
+                self.service_edge_routers.forget(Hand::Right, name);
+            }
+            _ => unreachable!(),
+        }
+    }
+
+    /// The numbers of the present policies of a kind, ascending.
+    pub fn numbers(&self, alloc: Global, kind: Kind) -> Result<Numbers, AllocError>
+        ensures { IfOk result (λ ns. ns ≡ numbers (policies kind self.now)) }
+    {
+        match self.table(kind) {
+            Some(table) => table.numbers(alloc),
+            None => Ok(Numbers::of(Vec::new(alloc))),
+        }
+    }
+
+    /// The number that the next policy of a kind gets, 1 in a new store and for a kind that is no kind of policy.
+    pub fn next(&self, kind: Kind) -> u32
+        ensures next { result ≡ next_of kind self.now }
+        // The numbers ascend from 1 below it, and the kind keeps its limit.
+        ensures numbers { KeepsNumbers kind self.now }
+    {
+        match self.table(kind) {
+            Some(table) => table.next(),
+            None => 1,
+        }
+    }
+
+    /// Raises the next number of a kind. A kind that is no kind of policy has none, and nothing changes.
+    pub fn skip(&mut self, kind: Kind, next: u32)
+        requires later { next_of kind self.old ≤ next }
+        ensures { self.new ≡ with_next kind next self.old }
+    {
+        match kind {
+            Kind::ServicePolicy => self.services.skip(next),
+            Kind::EdgeRouterPolicy => self.edge_routers.skip(next),
+            Kind::ServiceEdgeRouterPolicy => self.service_edge_routers.skip(next),
+            _ => {}
+        }
+    }
+}
