@@ -1,0 +1,7 @@
+pub mod SideRows
+pub mod LeadingCounts
+pub mod ForgottenNames
+pub mod CountBounds
+pub mod GrantedPairs
+pub mod EntityMoves
+pub mod PolicyMoves
