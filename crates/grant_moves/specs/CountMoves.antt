@@ -40,3 +40,7 @@ pub record ChangesPolicy (r : Relation) (n : ℕ) (was is : Option Policy) (s t 
   pub ordered : Between 1 high (policies_for r s)
   pub high_after : ℕ
   pub ordered_after : Between 1 high_after (policies_for r t)
+  pub left_high : ℕ
+  pub left_ordered : Between 1 left_high (left_rows r s)
+  pub right_high : ℕ
+  pub right_ordered : Between 1 right_high (right_rows r s)
