@@ -1,4 +1,5 @@
 pub mod SideRows
+pub mod CountRules
 pub mod LeadingCounts
 pub mod ForgottenNames
 pub mod CountBounds
