@@ -1,5 +1,7 @@
 pub mod SideRows
 pub mod CountRules
+pub mod SumLaws
+pub mod MemberCounts
 pub mod LeadingCounts
 pub mod ForgottenNames
 pub mod CountBounds
