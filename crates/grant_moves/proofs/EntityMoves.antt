@@ -98,4 +98,82 @@ pub entity_leads : (r : Relation) (on_left : Bool) (x : ℕ) (was is : Option En
     → ((a b : ℕ) → ups ds a b ≡ entity_ups x on_left (turns_of r on_left was is (other_rows on_left r s) (policies_for r s)) a b)
     → ((a b : ℕ) → downs ds a b ≡ entity_downs x on_left (turns_of r on_left was is (other_rows on_left r s) (policies_for r s)) a b)
     → LeadCounts (count r s) (count r t) ds
-entity_leads r on_left x was is s t ds changes up down = ?
+entity_leads r on_left x was is s t ds changes up down = record {
+  moves = λ a b. ap₂ (λ m n. m + n) (count_after a b) (downs_summed a b)
+      ∙ sums_moved (before_of a b) (after_of a b) (up_of a b) (down_of a b) (row_moves a b) (policies_for r s)
+      ∙ sym (ap₂ (λ m n. m + n) (count_own r on_left s a b) (ups_summed a b));
+  least = λ a b. lower (downs ds a b) (count r s a b) (sum_by (down_of a b) (policies_for r s)) (sum_by (before_of a b) (policies_for r s))
+      (downs_summed a b) (count_own r on_left s a b) (sum_by-le-sum_by (down_of a b) (before_of a b) (policies_for r s) (row_least a b));
+}
+  where
+    own : ℕ → ℕ → Bool
+    own a b = own_number on_left a b == x
+
+    was_one : ℕ → ℕ → Option Entity
+    was_one a b = at (own_rows on_left r s) (own_number on_left a b)
+
+    is_one : ℕ → ℕ → Option Entity
+    is_one a b = at (own_rows on_left r t) (own_number on_left a b)
+
+    partner : ℕ → ℕ → Option Entity
+    partner a b = at (other_rows on_left r s) (other_number on_left a b)
+
+    holds : Option Entity → Policy → Bool
+    holds e p = matches_if (own_side on_left p) p.semantic e
+
+    member : ℕ → ℕ → Policy → Bool
+    member a b p = matches_if (other_side on_left p) p.semantic (partner a b)
+
+    before_of : ℕ → ℕ → ℕ × Policy → ℕ
+    before_of a b row = cond (joins_own r on_left (was_one a b) (partner a b) row.1) 1 0
+
+    after_of : ℕ → ℕ → ℕ × Policy → ℕ
+    after_of a b row = cond (joins_own r on_left (is_one a b) (partner a b) row.1) 1 0
+
+    up_of : ℕ → ℕ → ℕ × Policy → ℕ
+    up_of a b row = cond (same_relation r row.1.relation && (not (holds was row.1) && holds is row.1)) (once (own a b) (member a b row.1)) 0
+
+    down_of : ℕ → ℕ → ℕ × Policy → ℕ
+    down_of a b row = cond (same_relation r row.1.relation && (holds was row.1 && not (holds is row.1))) (once (own a b) (member a b row.1)) 0
+
+    count_after : (a b : ℕ) → count r t a b ≡ sum_by (after_of a b) (policies_for r s)
+    count_after a b = count_own r on_left t a b
+        ∙ (λ i. count_by (λ (row : ℕ × Policy). joins_own r on_left (is_one a b) (at (changes.partners i) (other_number on_left a b)) row.1) (changes.policies i))
+
+    partners_of : Policy → List ℕ
+    partners_of p = members_of (other_side on_left p) p.semantic (other_rows on_left r s)
+
+    once_each : (a b : ℕ) (p : Policy) → count_by (is_entity_pair x on_left a b) (partners_of p) ≡ once (own a b) (member a b p)
+    once_each a b p = members_count x on_left a b changes.high (other_rows on_left r s) p changes.ordered
+
+    ups_summed : (a b : ℕ) → ups ds a b ≡ sum_by (up_of a b) (policies_for r s)
+    ups_summed a b = up a b
+        ∙ sum_by-flat_map (λ turn. cond turn.up (turn_count x on_left a b turn) 0) (λ row. turn_of r on_left was is (other_rows on_left r s) row.1) (policies_for r s)
+        ∙ (λ i. sum_by (λ row. (turn_ups (is_entity_pair x on_left a b) (same_relation r row.1.relation) (holds was row.1) (holds is row.1) (partners_of row.1)
+            ∙ ap (λ n. cond (same_relation r row.1.relation && (not (holds was row.1) && holds is row.1)) n 0) (once_each a b row.1)) i) (policies_for r s))
+
+    downs_summed : (a b : ℕ) → downs ds a b ≡ sum_by (down_of a b) (policies_for r s)
+    downs_summed a b = down a b
+        ∙ sum_by-flat_map (λ turn. cond turn.up 0 (turn_count x on_left a b turn)) (λ row. turn_of r on_left was is (other_rows on_left r s) row.1) (policies_for r s)
+        ∙ (λ i. sum_by (λ row. (turn_downs (is_entity_pair x on_left a b) (same_relation r row.1.relation) (holds was row.1) (holds is row.1) (partners_of row.1)
+            ∙ ap (λ n. cond (same_relation r row.1.relation && (holds was row.1 && not (holds is row.1))) n 0) (once_each a b row.1)) i) (policies_for r s))
+
+    it_was : (a b : ℕ) → own a b ≡ true → was_one a b ≡ was
+    it_was a b e = ap (λ n. at (own_rows on_left r s) n) (eqb-true (own_number on_left a b) x e) ∙ changes.entity_was
+
+    it_is : (a b : ℕ) → own a b ≡ true → is_one a b ≡ is
+    it_is a b e = ap (λ n. at (own_rows on_left r t) n) (eqb-true (own_number on_left a b) x e) ∙ changes.entity_is
+
+    another : (a b : ℕ) → own a b ≡ false → is_one a b ≡ was_one a b
+    another a b e = changes.others (own_number on_left a b) (λ same. both_ways (own a b) e (eq-eqb (own_number on_left a b) x same))
+
+    row_moves : (a b : ℕ) (row : ℕ × Policy) → after_of a b row + down_of a b row ≡ before_of a b row + up_of a b row
+    row_moves a b row = one_moves (same_relation r row.1.relation) (holds was row.1) (holds is row.1) (member a b row.1) (own a b) (holds (was_one a b) row.1) (holds (is_one a b) row.1)
+        (λ e. ap (λ o. holds o row.1) (it_was a b e)) (λ e. ap (λ o. holds o row.1) (it_is a b e)) (λ e. ap (λ o. holds o row.1) (another a b e))
+
+    row_least : (a b : ℕ) (row : ℕ × Policy) → down_of a b row ≤ before_of a b row
+    row_least a b row = one_least (same_relation r row.1.relation) (holds was row.1) (holds is row.1) (member a b row.1) (own a b) (holds (was_one a b) row.1)
+        (λ e. ap (λ o. holds o row.1) (it_was a b e))
+
+    lower : (d c m n : ℕ) → d ≡ m → c ≡ n → m ≤ n → d ≤ c
+    lower d c m n e f h = omega arith
