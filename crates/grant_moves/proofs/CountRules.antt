@@ -36,11 +36,17 @@ right_absent r e p = by (same_relation r p.relation) (matches_if p.left p.semant
     by true false = refl
     by false m = refl
 
+pub joined-left_absent : (r : Relation) (f : Option Entity) (policies : List (ℕ × Policy)) → joined r None f policies ≡ 0
+joined-left_absent r f policies = none_counted (λ (row : ℕ × Policy). joins_if r None f row.1) (λ row. left_absent r f row.1) policies
+
+pub joined-right_absent : (r : Relation) (e : Option Entity) (policies : List (ℕ × Policy)) → joined r e None policies ≡ 0
+joined-right_absent r e policies = none_counted (λ (row : ℕ × Policy). joins_if r e None row.1) (λ row. right_absent r e row.1) policies
+
 pub count_joined : (r : Relation) (s : State) (a b : ℕ) → count r s a b ≡ joined r (at (left_rows r s) a) (at (right_rows r s) b) (policies_for r s)
 count_joined r s a b =
     either (left_entity r s a) (right_entity r s b) ∙ sym (ap₂ (λ e f. joined r e f (policies_for r s)) (left_row_at r s a) (right_row_at r s b))
   where
     either : (e f : Option Entity) → on_both e f (λ g h. count_by (λ row. joins r row.1 g h) (policies_for r s)) ≡ joined r e f (policies_for r s)
-    either None f = sym (none_counted (λ (row : ℕ × Policy). joins_if r None f row.1) (λ row. left_absent r f row.1) (policies_for r s))
-    either (Some e) None = sym (none_counted (λ (row : ℕ × Policy). joins_if r (Some e) None row.1) (λ row. right_absent r (Some e) row.1) (policies_for r s))
+    either None f = sym (joined-left_absent r f (policies_for r s))
+    either (Some e) None = sym (joined-right_absent r (Some e) (policies_for r s))
     either (Some e) (Some f) = refl

@@ -5,6 +5,7 @@ pub mod MemberCounts
 pub mod LeadingCounts
 pub mod ForgottenNames
 pub mod CountBounds
+pub mod GrantedTable
 pub mod GrantedPairs
 pub mod EntityMoves
 pub mod PolicyMoves
