@@ -1,0 +1,11 @@
+pub mod SideRows
+pub mod CountRules
+pub mod SumLaws
+pub mod MemberCounts
+pub mod LeadingCounts
+pub mod ForgottenNames
+pub mod CountBounds
+pub mod GrantedTable
+pub mod GrantedPairs
+pub mod EntityMoves
+pub mod PolicyMoves

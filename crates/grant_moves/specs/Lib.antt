@@ -1,0 +1,3 @@
+pub mod EntitySides
+pub mod GrantTurns
+pub mod CountMoves

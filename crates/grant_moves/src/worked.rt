@@ -1,0 +1,39 @@
+ghost use Rattle.std.specs.Prelude.{◌≡◌, codes, true, false, [], ◌∷◌, None, Some};
+ghost use Rattle.ctrl_model.specs.declared.kinds.Relation.TheVariants.{Dial, Bind, IdentityRouter, ServiceRouter};
+ghost use Rattle.ctrl_model.specs.declared.kinds.Semantic.TheVariants.{AnyOf};
+ghost use Rattle.ctrl_model.specs.Numbered.{at, numbers};
+ghost use Rattle.ctrl_model.specs.WorkedStates.{only, carrying, everyone, line, two_policies};
+ghost use Rattle.grant_moves.specs.EntitySides.{left_rows, right_rows, own_rows, other_rows, members_of, matches_if};
+ghost use Rattle.grant_moves.specs.GrantTurns.{turn_if, turns_of, no_cross, cross_of};
+
+/// Who stands on the sides of the relations of a line: one identity, one service, three routers; and whom a side matches.
+pub fn sides_of_relations()
+    ensures left { numbers (left_rows ServiceRouter line) ≡ 1 ∷ [] }
+    ensures right { numbers (right_rows IdentityRouter line) ≡ 1 ∷ 2 ∷ 3 ∷ [] }
+    ensures own { numbers (own_rows false ServiceRouter line) ≡ 1 ∷ 2 ∷ 3 ∷ [] }
+    ensures other { numbers (other_rows true Dial line) ≡ 1 ∷ [] }
+    ensures member { members_of (only (codes "r2")) AnyOf (right_rows IdentityRouter line) ≡ 2 ∷ [] }
+    ensures absent { matches_if everyone AnyOf None ≡ false }
+{}
+
+/// Two policies let ann dial web: one names her, the other wants the attribute staff, which she has and may lose.
+pub fn an_entity_and_its_turns()
+    ensures loses_an_attribute { turns_of Dial true (Some (record { name = codes "ann"; attributes = codes "staff" ∷ [] })) (Some (record { name = codes "ann"; attributes = [] })) two_policies.services two_policies.service_policies
+        ≡ record { up = false; partners = 1 ∷ [] } ∷ [] }
+    ensures goes { turns_of Dial true (Some (record { name = codes "ann"; attributes = codes "staff" ∷ [] })) None two_policies.services two_policies.service_policies
+        ≡ record { up = false; partners = 1 ∷ [] } ∷ record { up = false; partners = 1 ∷ [] } ∷ [] }
+    ensures comes { turns_of Dial true None (Some (record { name = codes "bob"; attributes = codes "staff" ∷ [] })) two_policies.services two_policies.service_policies
+        ≡ record { up = true; partners = 1 ∷ [] } ∷ [] }
+    ensures a_service_comes { turns_of Dial false None (Some (record { name = codes "mail"; attributes = [] })) two_policies.identities two_policies.service_policies
+        ≡ record { up = true; partners = 1 ∷ [] } ∷ [] }
+    ensures another_relation { turns_of Bind true (Some (record { name = codes "ann"; attributes = codes "staff" ∷ [] })) None two_policies.services two_policies.service_policies ≡ [] }
+    ensures stays { turn_if true true (1 ∷ []) ≡ [] }
+{}
+
+/// The product of a policy: at its relation the members of its sides, at another relation nothing, and nothing where it is absent.
+pub fn a_policy_and_its_product()
+    ensures product { cross_of Dial two_policies (at two_policies.service_policies 2) ≡ record { left = 1 ∷ []; right = 1 ∷ [] } }
+    ensures another_relation { cross_of Bind two_policies (at two_policies.service_policies 2) ≡ no_cross }
+    ensures absent { cross_of Dial two_policies (at two_policies.service_policies 3) ≡ no_cross }
+    ensures nobody { cross_of Dial two_policies (Some (record { name = codes "p3"; relation = Dial; semantic = AnyOf; left = carrying (codes "guest" ∷ []); right = everyone })) ≡ record { left = []; right = 1 ∷ [] } }
+{}
