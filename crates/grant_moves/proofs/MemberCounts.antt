@@ -1,5 +1,5 @@
 -- A member of a side stands once among its members, where the numbers of the entities ascend.
-use Rattle.std.proofs.Common.{◌≡◌, ℕ, ◌+◌, ◌≤◌, ◌<◌, ◌==◌, Bool, true, false, not, cond, ◌||◌, Option, None, Some, List, [], ◌∷◌, refl, sym, ◌∙◌, ap, ap₂, arith, eqb-true, filter}
+use Rattle.std.proofs.Common.{◌≡◌, ℕ, ◌+◌, ◌<◌, ◌==◌, Bool, true, false, not, cond, ◌||◌, Option, None, Some, List, [], ◌∷◌, refl, sym, ◌∙◌, ap, ap₂, arith, eqb-true, filter}
 use Rattle.std.proofs.lemmas.Grind.{common_steps}
 use Rattle.std.proofs.lemmas.List.Sums.{sum_by-cons}
 use Rattle.std.specs.List.{count_by}
