@@ -52,14 +52,14 @@ Ascends-numbers high (x ∷ rows) low b = (λ n m. above x.0 n (least_among high
 
 -- ---- a pair that is counted is one of present entities
 
+none : (n : ℕ) → 0 < n → n ≡ 0 → ⊥
+none n h e = absurd (omega arith)
+
 left_present : (r : Relation) (s : State) (a b : ℕ) → 0 < count r s a b → Among a (numbers (left_rows r s))
 left_present r s a b h = by (at (left_rows r s) a) refl (subst (λ n. 0 < n) (count_joined r s a b) h)
   where
     by : (o : Option Entity) → at (left_rows r s) a ≡ o → 0 < joined r o (at (right_rows r s) b) (policies_for r s) → Among a (numbers (left_rows r s))
     by None is k = absurd (none (joined r None (at (right_rows r s) b) (policies_for r s)) k (joined-left_absent r (at (right_rows r s) b) (policies_for r s)))
-      where
-        none : (n : ℕ) → 0 < n → n ≡ 0 → ⊥
-        none n h e = absurd (omega arith)
     by (Some e) is k = at-among (left_rows r s) a e is
 
 right_present : (r : Relation) (s : State) (a b : ℕ) → 0 < count r s a b → Among b (numbers (right_rows r s))
@@ -67,9 +67,6 @@ right_present r s a b h = by (at (right_rows r s) b) refl (subst (λ n. 0 < n) (
   where
     by : (o : Option Entity) → at (right_rows r s) b ≡ o → 0 < joined r (at (left_rows r s) a) o (policies_for r s) → Among b (numbers (right_rows r s))
     by None is k = absurd (none (joined r (at (left_rows r s) a) None (policies_for r s)) k (joined-right_absent r (at (left_rows r s) a) (policies_for r s)))
-      where
-        none : (n : ℕ) → 0 < n → n ≡ 0 → ⊥
-        none n h e = absurd (omega arith)
     by (Some e) is k = at-among (right_rows r s) b e is
 
 all_counted : (s t : Bool) (n : ℕ) → (0 < n → s ≡ true) → (0 < n → t ≡ true) → cond (s && (t && nat_lt 0 n)) n 0 ≡ n
