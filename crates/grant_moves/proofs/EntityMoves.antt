@@ -1,5 +1,5 @@
 -- Where one entity changes, the steps of its turns lead from the counts before it to the counts after it.
-use Rattle.std.proofs.Common.{◌≡◌, ℕ, ◌+◌, ◌≤◌, ◌==◌, Bool, true, false, not, cond, ◌&&◌, Option, List, [], ◌∷◌, refl, sym, ◌∙◌, ap, ap₂, arith, eqb-true, eq-eqb}
+use Rattle.std.proofs.Common.{◌≡◌, ℕ, ◌+◌, ◌≤◌, ◌==◌, Bool, true, false, not, cond, ◌&&◌, Option, List, [], refl, sym, ◌∙◌, ap, ap₂, arith, eqb-true, eq-eqb}
 use Rattle.std.proofs.lemmas.Bool.{both_ways}
 use Rattle.std.proofs.lemmas.Grind.{common_steps}
 use Rattle.std.proofs.lemmas.List.Sums.{sum_by-le-sum_by}
@@ -10,7 +10,6 @@ use Rattle.ctrl_model.specs.State.{State, Entity, Policy}
 use Rattle.ctrl_model.specs.Matches.{matches}
 use Rattle.ctrl_model.specs.Grants.{same_relation, policies_for, count}
 use Rattle.grant_denorm.specs.declared.deltas.Delta.{Delta}
-use Rattle.grant_denorm.specs.declared.deltas.Turn.{Turn}
 use Rattle.grant_denorm.specs.Deltas.{ups, downs, is_entity_pair, turn_count, entity_ups, entity_downs}
 use Rattle.grant_denorm.proofs.DeltaLaws.{count_by-guarded}
 use Rattle.grant_moves.specs.EntitySides.{own_rows, other_rows, own_side, other_side, members_of, matches_if}
@@ -150,13 +149,13 @@ entity_leads r on_left x was is s t ds changes up down = record {
     ups_summed a b = up a b
         ∙ sum_by-flat_map (λ turn. cond turn.up (turn_count x on_left a b turn) 0) (λ row. turn_of r on_left was is (other_rows on_left r s) row.1) (policies_for r s)
         ∙ (λ i. sum_by (λ row. (turn_ups (is_entity_pair x on_left a b) (same_relation r row.1.relation) (holds was row.1) (holds is row.1) (partners_of row.1)
-            ∙ ap (λ n. cond (same_relation r row.1.relation && (not (holds was row.1) && holds is row.1)) n 0) (once_each a b row.1)) i) (policies_for r s))
+        ∙ ap (λ n. cond (same_relation r row.1.relation && (not (holds was row.1) && holds is row.1)) n 0) (once_each a b row.1)) i) (policies_for r s))
 
     downs_summed : (a b : ℕ) → downs ds a b ≡ sum_by (down_of a b) (policies_for r s)
     downs_summed a b = down a b
         ∙ sum_by-flat_map (λ turn. cond turn.up 0 (turn_count x on_left a b turn)) (λ row. turn_of r on_left was is (other_rows on_left r s) row.1) (policies_for r s)
         ∙ (λ i. sum_by (λ row. (turn_downs (is_entity_pair x on_left a b) (same_relation r row.1.relation) (holds was row.1) (holds is row.1) (partners_of row.1)
-            ∙ ap (λ n. cond (same_relation r row.1.relation && (holds was row.1 && not (holds is row.1))) n 0) (once_each a b row.1)) i) (policies_for r s))
+        ∙ ap (λ n. cond (same_relation r row.1.relation && (holds was row.1 && not (holds is row.1))) n 0) (once_each a b row.1)) i) (policies_for r s))
 
     it_was : (a b : ℕ) → own a b ≡ true → was_one a b ≡ was
     it_was a b e = ap (λ n. at (own_rows on_left r s) n) (eqb-true (own_number on_left a b) x e) ∙ changes.entity_was

@@ -1,7 +1,6 @@
 -- The `@` name of an absent entity matches nobody: taking it out of the policies changes no count.
-use Rattle.std.proofs.Common.{◌≡◌, ℕ, Bool, true, false, not, cond, ◌&&◌, ◌||◌, Option, None, Some, List, [], ◌∷◌, filter, refl, sym, ◌∙◌, ap, ap₂}
+use Rattle.std.proofs.Common.{◌≡◌, ℕ, Bool, true, false, not, cond, ◌&&◌, ◌||◌, Option, None, Some, List, [], ◌∷◌, filter, refl, sym, ◌∙◌, ap}
 use Rattle.std.proofs.lemmas.Bool.{false_from_ne_true, both_ways}
-use Rattle.std.specs.List.{count_by}
 use Rattle.std.specs.Str.{bytes_eq}
 use Rattle.ctrl_model.specs.declared.kinds.Relation.{Relation}
 use Rattle.ctrl_model.specs.declared.kinds.Semantic.{Semantic}
@@ -53,7 +52,7 @@ pub forget_left_leaves : (r : Relation) (s t : State) (name : List ℕ) → left
     → (a b : ℕ) → count r t a b ≡ count r s a b
 forget_left_leaves r s t name left right policies absent a b = same_joins r s t (forget_left name) left right policies a b
     (λ p. ap (λ m. same_relation r p.relation && (m && matches_if p.right p.semantic (at (right_rows r s) b)))
-        (other_matches name p.left p.semantic (at (left_rows r s) a) (absent a)))
+    (other_matches name p.left p.semantic (at (left_rows r s) a) (absent a)))
 
 pub forget_right_leaves : (r : Relation) (s t : State) (name : List ℕ) → left_rows r t ≡ left_rows r s → right_rows r t ≡ right_rows r s
     → policies_for r t ≡ map_each (forget_right name) (policies_for r s)
@@ -61,4 +60,4 @@ pub forget_right_leaves : (r : Relation) (s t : State) (name : List ℕ) → lef
     → (a b : ℕ) → count r t a b ≡ count r s a b
 forget_right_leaves r s t name left right policies absent a b = same_joins r s t (forget_right name) left right policies a b
     (λ p. ap (λ m. same_relation r p.relation && (matches_if p.left p.semantic (at (left_rows r s) a) && m))
-        (other_matches name p.right p.semantic (at (right_rows r s) b) (absent b)))
+    (other_matches name p.right p.semantic (at (right_rows r s) b) (absent b)))

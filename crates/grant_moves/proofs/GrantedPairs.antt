@@ -1,5 +1,5 @@
 -- Counts that are those of a relation are as many as the pairs that it grants.
-use Rattle.std.proofs.Common.{◌≡◌, ℕ, suc, zero, ◌+◌, ◌*◌, ◌≤◌, ◌<◌, nat_lt, Bool, true, false, cond, ◌&&◌, Option, None, Some, List, [], ◌∷◌, length, map, filter, inl, inr, refl, sym, ◌∙◌, ap, ap₂, subst, arith}
+use Rattle.std.proofs.Common.{◌≡◌, ℕ, suc, zero, ◌+◌, ◌*◌, ◌≤◌, ◌<◌, nat_lt, Bool, true, false, cond, ◌&&◌, Option, None, Some, List, [], ◌∷◌, length, filter, inl, inr, refl, sym, ◌∙◌, ap, ap₂, subst, arith}
 use Rattle.std.proofs.lemmas.Bool.{lt-ltb}
 use Rattle.std.proofs.lemmas.List.{length-map}
 use Rattle.std.proofs.lemmas.List.Concat.{length-flat_map}
@@ -52,14 +52,14 @@ Ascends-numbers high (x ∷ rows) low b = (λ n m. above x.0 n (least_among high
 
 -- ---- a pair that is counted is one of present entities
 
+none : (n : ℕ) → 0 < n → n ≡ 0 → ⊥
+none n h e = absurd (omega arith)
+
 left_present : (r : Relation) (s : State) (a b : ℕ) → 0 < count r s a b → Among a (numbers (left_rows r s))
 left_present r s a b h = by (at (left_rows r s) a) refl (subst (λ n. 0 < n) (count_joined r s a b) h)
   where
     by : (o : Option Entity) → at (left_rows r s) a ≡ o → 0 < joined r o (at (right_rows r s) b) (policies_for r s) → Among a (numbers (left_rows r s))
     by None is k = absurd (none (joined r None (at (right_rows r s) b) (policies_for r s)) k (joined-left_absent r (at (right_rows r s) b) (policies_for r s)))
-      where
-        none : (n : ℕ) → 0 < n → n ≡ 0 → ⊥
-        none n h e = absurd (omega arith)
     by (Some e) is k = at-among (left_rows r s) a e is
 
 right_present : (r : Relation) (s : State) (a b : ℕ) → 0 < count r s a b → Among b (numbers (right_rows r s))
@@ -67,9 +67,6 @@ right_present r s a b h = by (at (right_rows r s) b) refl (subst (λ n. 0 < n) (
   where
     by : (o : Option Entity) → at (right_rows r s) b ≡ o → 0 < joined r (at (left_rows r s) a) o (policies_for r s) → Among b (numbers (right_rows r s))
     by None is k = absurd (none (joined r (at (left_rows r s) a) None (policies_for r s)) k (joined-right_absent r (at (left_rows r s) a) (policies_for r s)))
-      where
-        none : (n : ℕ) → 0 < n → n ≡ 0 → ⊥
-        none n h e = absurd (omega arith)
     by (Some e) is k = at-among (right_rows r s) b e is
 
 all_counted : (s t : Bool) (n : ℕ) → (0 < n → s ≡ true) → (0 < n → t ≡ true) → cond (s && (t && nat_lt 0 n)) n 0 ≡ n
@@ -88,9 +85,9 @@ pub pairs_are_granted : (r : Relation) (s : State) (left_high right_high : ℕ) 
     → Between 1 left_high (left_rows r s) → Between 1 right_high (right_rows r s) → length xs ≡ granted_pairs r s
 pairs_are_granted r s left_high right_high xs counts rule left right =
     ap (λ ys. length ys) (one_list xs (table_of (count r s) lefts rights) counts
-        (AreCounts-table (count r s) rights (Ascends-numbers right_high (right_rows r s) 1 right) lefts (Ascends-numbers left_high (left_rows r s) 1 left))
-        (λ p q. rule p q ∙ sym (table_counts (count r s) rights p q lefts ∙ all_counted (is_among p lefts) (is_among q rights) (count r s p q)
-            (λ h. is_among-from p lefts (left_present r s p q h)) (λ h. is_among-from q rights (right_present r s p q h)))))
+    (AreCounts-table (count r s) rights (Ascends-numbers right_high (right_rows r s) 1 right) lefts (Ascends-numbers left_high (left_rows r s) 1 left))
+    (λ p q. rule p q ∙ sym (table_counts (count r s) rights p q lefts ∙ all_counted (is_among p lefts) (is_among q rights) (count r s p q)
+    (λ h. is_among-from p lefts (left_present r s p q h)) (λ h. is_among-from q rights (right_present r s p q h)))))
     ∙ length-flat_map (row_of (count r s) rights) lefts
     ∙ (λ i. sum_by (λ a. row_length a i) lefts)
     ∙ sym (λ i. sum_by (λ a. count_by (is_granted r s a) (numbers_right r s i)) (numbers_left r s i))
@@ -108,7 +105,7 @@ pub granted_at_most : (r : Relation) (s : State) → granted_pairs r s ≤ lengt
 granted_at_most r s =
     subst (λ n. granted_pairs r s ≤ n) (ap₂ (λ m n. m * n) left right)
     (sum_by-le (λ a. count_by (is_granted r s a) (right_numbers r s)) (length (right_numbers r s)) (left_numbers r s)
-        (λ k d h. count_by-le-length (is_granted r s _) (right_numbers r s)))
+    (λ k d h. count_by-le-length (is_granted r s _) (right_numbers r s)))
   where
     left : length (left_numbers r s) ≡ length (left_rows r s)
     left = ap (λ ns. length ns) (numbers_left r s) ∙ length-map (left_rows r s) (λ row. row.0)

@@ -1,12 +1,12 @@
 -- The pairs that a rule of counts grants among some numbers, as one list of counts in order.
-use Rattle.std.proofs.Common.{◌≡◌, ℕ, ◌<◌, ◌==◌, nat_lt, Bool, true, false, cond, ◌&&◌, ◌||◌, List, [], ◌∷◌, ◌++◌, map, filter, inl, inr, refl, sym, ◌∙◌, ap, ap₂, subst, eqb-true, eq-eqb, ltb-true, arith}
+use Rattle.std.proofs.Common.{◌≡◌, ℕ, ◌<◌, ◌==◌, nat_lt, Bool, true, false, cond, ◌&&◌, ◌||◌, List, [], ◌∷◌, ◌++◌, map, filter, inl, inr, refl, ◌∙◌, ap, ap₂, subst, eqb-true, eq-eqb, ltb-true, arith}
 use Rattle.std.proofs.lemmas.Bool.{cond-true, lt-ltb}
 use Rattle.std.proofs.lemmas.Grind.{common_steps}
 use Rattle.std.specs.List.{flat_map}
 use Rattle.ctrl_model.specs.Membership.{Among}
 use Rattle.ctrl_model.specs.Walks.{is_among}
 use Rattle.ctrl_model.proofs.Members.{by_map, by_filter, by_flat_map}
-use Rattle.grant_denorm.specs.PairCounts.{same_pair, count_of, precedes_pair, ComesFirst, AreCounts, Ascends}
+use Rattle.grant_denorm.specs.PairCounts.{count_of, precedes_pair, ComesFirst, AreCounts, Ascends}
 
 -- the pairs of a left number that a rule grants, each with its count
 abbrev pub row_of : (ℕ → ℕ → ℕ) → List ℕ → ℕ → List ((ℕ × ℕ) × ℕ)
@@ -92,8 +92,12 @@ AreCounts-row rule a (b ∷ rights) asc = by (nat_lt 0 (rule a b)) refl (AreCoun
     passing = filter (λ n. nat_lt 0 (rule a n)) rights
 
     by : (k : Bool) → nat_lt 0 (rule a b) ≡ k → AreCounts (row_of rule rights a) → AreCounts (map (λ n. ((a, n), rule a n)) (cond k (b ∷ passing) passing))
-    by true is rest = (ltb-true 0 (rule a b) is, ComesFirst-from (a, b) (row_of rule rights a) (λ x m. from_row rule rights a x m (λ c there same.
-        subst (λ (y : (ℕ × ℕ) × ℕ). precedes_pair (a, b) y.0 ≡ true) same (in_row a b c (asc.0 c there)))), rest)
+    by true is rest = (
+      ltb-true 0 (rule a b) is,
+      ComesFirst-from (a, b) (row_of rule rights a) (λ x m. from_row rule rights a x m (λ c there same.
+          subst (λ (y : (ℕ × ℕ) × ℕ). precedes_pair (a, b) y.0 ≡ true) same (in_row a b c (asc.0 c there)))),
+      rest,
+    )
     by false is rest = rest
 
 pub AreCounts-table : (rule : ℕ → ℕ → ℕ) (rights : List ℕ) → Ascends rights → (lefts : List ℕ) → Ascends lefts → AreCounts (table_of rule lefts rights)
@@ -101,5 +105,5 @@ AreCounts-table rule rights rises [] asc = tt
 AreCounts-table rule rights rises (a ∷ lefts) asc =
     AreCounts-append (row_of rule rights a) (table_of rule lefts rights) (AreCounts-row rule a rights rises) (AreCounts-table rule rights rises lefts asc.1)
     (λ x y m n. from_row rule rights a x m (λ b there same. by_flat_map (row_of rule rights) lefts y n (λ c among in_it. from_row rule rights c y in_it (λ d here alike.
-        subst (λ (z : (ℕ × ℕ) × ℕ). precedes_pair z.0 y.0 ≡ true) same
-        (subst (λ (z : (ℕ × ℕ) × ℕ). precedes_pair (a, b) z.0 ≡ true) alike (below_row a b c d (asc.0 c among)))))))
+    subst (λ (z : (ℕ × ℕ) × ℕ). precedes_pair z.0 y.0 ≡ true) same
+    (subst (λ (z : (ℕ × ℕ) × ℕ). precedes_pair (a, b) z.0 ≡ true) alike (below_row a b c d (asc.0 c among)))))))

@@ -1,5 +1,5 @@
 -- A member of a side stands once among its members, where the numbers of the entities ascend.
-use Rattle.std.proofs.Common.{◌≡◌, ℕ, ◌+◌, ◌≤◌, ◌<◌, ◌==◌, Bool, true, false, not, cond, ◌||◌, Option, None, Some, List, [], ◌∷◌, refl, sym, ◌∙◌, ap, ap₂, arith, eqb-true, filter}
+use Rattle.std.proofs.Common.{◌≡◌, ℕ, ◌+◌, ◌<◌, ◌==◌, Bool, true, false, not, cond, ◌||◌, Option, None, Some, List, [], ◌∷◌, refl, sym, ◌∙◌, ap, ap₂, arith, eqb-true, filter}
 use Rattle.std.proofs.lemmas.Grind.{common_steps}
 use Rattle.std.proofs.lemmas.List.Sums.{sum_by-cons}
 use Rattle.std.specs.List.{count_by}
@@ -16,6 +16,9 @@ passes_if test o = option_map_or test o false
 abbrev pub passing : {R : Type 0} → (R → Bool) → List (ℕ × R) → List ℕ
 passing test rows = numbers (filter (λ row. test row.1) rows)
 
+above : (m n : ℕ) → m ≡ n → n < m + 1
+above m n e = omega arith
+
 pub counted_once : {R : Type 0} (test : R → Bool) (n high : ℕ) (rows : List (ℕ × R)) (low : ℕ) → Between low high rows
     → count_by (λ m. n == m) (passing test rows) ≡ cond (passes_if test (at rows n)) 1 0
 counted_once test n high [] low b = refl
@@ -23,9 +26,6 @@ counted_once {R = R} test n high (x ∷ rows) low b =
     by (test x.1) (x.0 == n) refl refl (counted_once test n high rows (x.0 + 1) b.2)
     (λ is. at-below high rows (x.0 + 1) n b.2 (above x.0 n (eqb-true x.0 n is)))
   where
-    above : (m n : ℕ) → m ≡ n → n < m + 1
-    above m n e = omega arith
-
     same_way : (m n : ℕ) → (m == n) ≡ (n == m)
     same_way m n = grind (arith, common_steps)
 
@@ -52,9 +52,6 @@ members_among test n high [] low b = refl
 members_among {R = R} test n high (x ∷ rows) low b =
     by (test x.1) (x.0 == n) refl refl (members_among test n high rows (x.0 + 1) b.2) (λ is. at-below high rows (x.0 + 1) n b.2 (above x.0 n (eqb-true x.0 n is)))
   where
-    above : (m n : ℕ) → m ≡ n → n < m + 1
-    above m n e = omega arith
-
     by : (t c : Bool) → test x.1 ≡ t → (x.0 == n) ≡ c → is_among n (passing test rows) ≡ passes_if test (at rows n) → (c ≡ true → at rows n ≡ None)
         → is_among n (numbers (cond t (x ∷ filter (λ (row : ℕ × R). test row.1) rows) (filter (λ (row : ℕ × R). test row.1) rows)))
         ≡ passes_if test (cond c (Some x.1) (at rows n))
@@ -71,9 +68,6 @@ counted_beside {R = R} test n high (x ∷ rows) low b =
     by (x.0 == n) (counted_beside test n high rows (x.0 + 1) b.2) (λ is. at-below high rows (x.0 + 1) n b.2 (above x.0 n (eqb-true x.0 n is))) refl
     ∙ sym (sum_by-cons (λ (row : ℕ × R). cond (test row.1) 1 0) x rows)
   where
-    above : (m n : ℕ) → m ≡ n → n < m + 1
-    above m n e = omega arith
-
     counted : List (ℕ × R) → ℕ
     counted some_rows = count_by (λ (row : ℕ × R). test row.1) some_rows
 

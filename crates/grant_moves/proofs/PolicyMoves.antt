@@ -4,14 +4,14 @@ use Rattle.std.proofs.Common.{◌≡◌, ◌≢◌, ℕ, ◌+◌, ◌≤◌, ◌
 use Rattle.std.proofs.lemmas.Bool.{both_ways}
 use Rattle.ctrl_model.specs.declared.kinds.Relation.{Relation}
 use Rattle.ctrl_model.specs.Numbered.{at, without, Between}
-use Rattle.ctrl_model.specs.State.{State, Entity, Policy}
+use Rattle.ctrl_model.specs.State.{State, Policy}
 use Rattle.ctrl_model.specs.Matches.{matches}
 use Rattle.ctrl_model.specs.Grants.{same_relation, policies_for, count}
 use Rattle.ctrl_model.proofs.NumberedLaws.{at-without, Between-more, Between-without, same_numbered}
 use Rattle.grant_denorm.specs.declared.deltas.Cross.{Cross}
 use Rattle.grant_denorm.specs.declared.deltas.Delta.{Delta}
 use Rattle.grant_denorm.specs.Deltas.{ups, downs, has_pair, policy_ups, policy_downs}
-use Rattle.grant_moves.specs.EntitySides.{left_rows, right_rows, members_of, matches_if}
+use Rattle.grant_moves.specs.EntitySides.{left_rows, right_rows, members_of}
 use Rattle.grant_moves.specs.GrantTurns.{no_cross, cross_of}
 use Rattle.grant_moves.specs.CountMoves.{LeadCounts, ChangesPolicy}
 use Rattle.grant_moves.proofs.CountRules.{joins_if, joined, count_joined}

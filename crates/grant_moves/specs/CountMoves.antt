@@ -18,7 +18,7 @@ pub record LeadCounts (before after : ℕ → ℕ → ℕ) (ds : List Delta) : T
   pub least : (a b : ℕ) → downs ds a b ≤ before a b
 
 -- One entity, on one side of a relation, differs between two states; no other entity of the two sides does, and no policy of
--- the kind that can grant the relation.
+-- the kind that can grant the relation. The numbers of the other side ascend.
 pub record ChangesEntity (r : Relation) (on_left : Bool) (x : ℕ) (was is : Option Entity) (s t : State) : Type 0 where
   pub policies : policies_for r t ≡ policies_for r s
   pub entity_was : at (own_rows on_left r s) x ≡ was
@@ -29,7 +29,7 @@ pub record ChangesEntity (r : Relation) (on_left : Bool) (x : ℕ) (was is : Opt
   pub ordered : Between 1 high (other_rows on_left r s)
 
 -- One policy of the kind that can grant a relation differs between two states; no other policy of the kind does, and no entity
--- of the relation's two sides.
+-- of the relation's two sides. The numbers of the policies, before and after, and those of both sides ascend.
 pub record ChangesPolicy (r : Relation) (n : ℕ) (was is : Option Policy) (s t : State) : Type 0 where
   pub left : left_rows r t ≡ left_rows r s
   pub right : right_rows r t ≡ right_rows r s

@@ -6,6 +6,9 @@ mod worked;
 
 pub use laws::{
     counts_have_room, entity_changes_lead, forgotten_names_leave_counts, granted_pairs_are_counts,
-    leads_to_equal_counts, policies_bound_counts, policy_changes_lead, rows_of_two_sides, unchanged_counts_lead,
+    leads_to_equal_counts, policies_bound_counts, policy_changes_lead, rows_of_two_sides,
+    unchanged_counts_lead,
 };
-pub use worked::{a_policy_and_its_product, an_entity_and_its_turns, sides_of_relations};
+pub use worked::{
+    a_policy_and_its_product, an_entity_and_its_turns, changes_of_two_policies, sides_of_relations,
+};

@@ -1,10 +1,12 @@
 ghost use Rattle.std.specs.Prelude.{◌≡◌, codes, true, false, [], ◌∷◌, None, Some};
 ghost use Rattle.ctrl_model.specs.declared.kinds.Relation.TheVariants.{Dial, Bind, IdentityRouter, ServiceRouter};
 ghost use Rattle.ctrl_model.specs.declared.kinds.Semantic.TheVariants.{AnyOf};
-ghost use Rattle.ctrl_model.specs.Numbered.{at, numbers};
+ghost use Rattle.ctrl_model.specs.Numbered.{at, without, numbers};
+ghost use Rattle.ctrl_model.specs.Grants.{count};
 ghost use Rattle.ctrl_model.specs.WorkedStates.{only, carrying, everyone, line, two_policies};
 ghost use Rattle.grant_moves.specs.EntitySides.{left_rows, right_rows, own_rows, other_rows, members_of, matches_if};
 ghost use Rattle.grant_moves.specs.GrantTurns.{turn_if, turns_of, no_cross, cross_of};
+ghost use Rattle.grant_moves.specs.CountMoves.{LeadCounts, ChangesEntity, ChangesPolicy};
 
 /// Who stands on the sides of the relations of a line: one identity, one service, three routers; and whom a side matches.
 pub fn sides_of_relations()
@@ -36,4 +38,13 @@ pub fn a_policy_and_its_product()
     ensures another_relation { cross_of Bind two_policies (at two_policies.service_policies 2) ≡ no_cross }
     ensures absent { cross_of Dial two_policies (at two_policies.service_policies 3) ≡ no_cross }
     ensures nobody { cross_of Dial two_policies (Some (record { name = codes "p3"; relation = Dial; semantic = AnyOf; left = carrying (codes "guest" ∷ []); right = everyone })) ≡ record { left = []; right = 1 ∷ [] } }
+{}
+
+/// Where ann goes, the two policies that let her dial web are two steps down; where the policy that names her goes, that is one.
+pub fn changes_of_two_policies()
+    ensures an_entity { ChangesEntity Dial true 1 (at two_policies.identities 1) None two_policies (record two_policies { identities = without two_policies.identities 1 }) }
+    ensures a_policy { ChangesPolicy Dial 1 (at two_policies.service_policies 1) None two_policies (record two_policies { service_policies = without two_policies.service_policies 1 }) }
+    ensures two_steps { LeadCounts (count Dial two_policies) (count Dial (record two_policies { identities = without two_policies.identities 1 })) (record { a = 1; b = 1; up = false } ∷ record { a = 1; b = 1; up = false } ∷ []) }
+    ensures one_step { LeadCounts (count Dial two_policies) (count Dial (record two_policies { service_policies = without two_policies.service_policies 1 })) (record { a = 1; b = 1; up = false } ∷ []) }
+    ensures one_step_is_too_few { LeadCounts (count Dial two_policies) (count Dial (record two_policies { identities = without two_policies.identities 1 })) (record { a = 1; b = 1; up = false } ∷ []) → ⊥ }
 {}
