@@ -1,0 +1,317 @@
+-- What the steps of an entity's change do: they lead from the counts of the state before it to those of the state after it.
+use Rattle.std.proofs.Common.{◌≡◌, ◌≢◌, ℕ, ◌+◌, ◌==◌, Bool, true, false, not, cond, List, [], ◌∷◌, map, Option, None, Some, refl, sym, ◌∙◌, ap, subst, eq-eqb, bytes_eq}
+use Rattle.std.proofs.lemmas.Bool.{false≢true, cond-true, false_from_ne_true}
+use Rattle.std.proofs.lemmas.Option.{none-some}
+use Rattle.std.specs.Option.{option_map}
+use Rattle.ctrl_model.specs.declared.kinds.Kind.{Kind}
+use Rattle.ctrl_model.specs.declared.kinds.Kind.TheVariants as kind
+use Rattle.ctrl_model.specs.declared.kinds.Relation.{Relation}
+use Rattle.ctrl_model.specs.declared.kinds.Relation.TheVariants.{Dial, Bind, IdentityRouter, ServiceRouter}
+use Rattle.ctrl_model.specs.Numbered.{at, with_last, edit_at, without, first_where, Between}
+use Rattle.ctrl_model.specs.State.{State, Entity, Router, as_entity, entity_named, router_named}
+use Rattle.ctrl_model.specs.Grants.{count, policies_for}
+use Rattle.ctrl_model.specs.ShowCommands.{router_entities}
+use Rattle.ctrl_model.specs.EntityCommands.{after_create_router}
+use Rattle.ctrl_model.specs.ValidState.{ValidState, HaveUniqueNames}
+use Rattle.ctrl_model.proofs.DistinctLaws.{same_name}
+use Rattle.ctrl_model.proofs.NumberedLaws.{at-map, at-map-back, at-with_last, at-with_last-other, at-edit_at, at-edit_at-other, at-without, at-without-other, at-without-back, Between-map}
+use Rattle.ctrl_model.proofs.TableLaws.{at-next, found-named}
+use Rattle.entity_store.specs.EntityTables.{is_entity_kind}
+use Rattle.grant_denorm.specs.declared.deltas.Delta.{Delta}
+use Rattle.grant_moves.specs.CountMoves.{LeadCounts}
+use Rattle.grant_moves.proofs.EntityMoves.{entity_leads}
+use Rattle.grant_moves.proofs.ForgottenNames.{forget_left_leaves, forget_right_leaves}
+use Rattle.grant_moves.proofs.LeadingCounts.{leads_on, unchanged_leads}
+use Rattle.ctrl_core.specs.declared.changes.GrantSteps.{GrantSteps}
+use Rattle.ctrl_core.specs.Changes.{HasNoSteps, steps_of, is_plain_kind, with_plain, with_described, with_removed}
+use Rattle.ctrl_core.specs.GrantChanges.{MovedEntity, StepsOfEntity}
+use Rattle.ctrl_core.specs.PlannedCommands.{described_as}
+
+-- ---- one entity that differs
+
+-- the entities of a kind in a state
+abbrev pub entities_in : Kind → State → List (ℕ × Entity)
+entities_in kind.Identity s = s.identities
+entities_in kind.Service s = s.services
+entities_in kind.Router s = router_entities s
+entities_in _ s = []
+
+-- the number that the next entity of a kind gets
+abbrev pub next_in : Kind → State → ℕ
+next_in kind.Identity s = s.next_identity
+next_in kind.Service s = s.next_service
+next_in kind.Router s = s.next_router
+next_in _ s = 1
+
+-- the number that a name of a kind finds
+abbrev pub named_in : Kind → List ℕ → State → Option ℕ
+named_in kind.Identity name s = entity_named s.identities name
+named_in kind.Service name s = entity_named s.services name
+named_in kind.Router name s = router_named s.routers name
+named_in _ name s = None
+
+-- the entities of the other two kinds are the same
+abbrev pub OthersStay : Kind → State → State → Type 0
+OthersStay kind.Identity s t = (t.services ≡ s.services) × (router_entities t ≡ router_entities s)
+OthersStay kind.Service s t = (t.identities ≡ s.identities) × (router_entities t ≡ router_entities s)
+OthersStay kind.Router s t = (t.identities ≡ s.identities) × (t.services ≡ s.services)
+OthersStay _ s t = ⊥
+
+-- the policies of two states are the same
+pub record PoliciesStay (s t : State) : Type 0 where
+  pub service : t.service_policies ≡ s.service_policies
+  pub edge_router : t.edge_router_policies ≡ s.edge_router_policies
+  pub service_edge_router : t.service_edge_router_policies ≡ s.service_edge_router_policies
+
+-- one entity of a kind differs between two states
+pub record DiffersAt (k : Kind) (x : ℕ) (m : MovedEntity) (s t : State) : Type 0 where
+  pub before_is : at (entities_in k s) x ≡ m.before
+  pub after_is : at (entities_in k t) x ≡ m.after
+  pub others : (n : ℕ) → n ≢ x → at (entities_in k t) n ≡ at (entities_in k s) n
+  pub apart : OthersStay k s t
+  pub policies : PoliciesStay s t
+
+routers_ordered : (s : State) → ValidState s → Between 1 s.next_router (router_entities s)
+routers_ordered s v = Between-map (λ row. as_entity row.1) s.next_router s.routers 1 v.routers.numbers.ordered
+
+-- where nothing of a relation differs, no steps lead
+still : (r : Relation) (s t : State) (ds : List Delta) → ds ≡ [] → LeadCounts (count r s) (count r t) [] → LeadCounts (count r s) (count r t) ds
+still r s t ds none leads = subst (λ es. LeadCounts (count r s) (count r t) es) (sym none) leads
+
+-- the steps of an entity that differs lead to the counts
+pub differing_leads : (k : Kind) (x : ℕ) (m : MovedEntity) (s t : State) (steps : GrantSteps) → DiffersAt k x m s t → ValidState s → StepsOfEntity k x m s steps
+    → (r : Relation) → LeadCounts (count r s) (count r t) (steps_of r steps)
+differing_leads kind.Identity x m s t steps d v is Dial = entity_leads Dial true x m.before m.after s t steps.dial.items
+    (record { policies = d.policies.service; entity_was = d.before_is; entity_is = d.after_is; others = d.others; partners = d.apart.0; high = s.next_service; ordered = v.services.numbers.ordered }) is.dial.up is.dial.down
+differing_leads kind.Identity x m s t steps d v is Bind = entity_leads Bind true x m.before m.after s t steps.bind.items
+    (record { policies = d.policies.service; entity_was = d.before_is; entity_is = d.after_is; others = d.others; partners = d.apart.0; high = s.next_service; ordered = v.services.numbers.ordered }) is.bind.up is.bind.down
+differing_leads kind.Identity x m s t steps d v is IdentityRouter = entity_leads IdentityRouter true x m.before m.after s t steps.identity_router.items
+    (record { policies = d.policies.edge_router; entity_was = d.before_is; entity_is = d.after_is; others = d.others; partners = d.apart.1; high = s.next_router; ordered = routers_ordered s v }) is.identity_router.up is.identity_router.down
+differing_leads kind.Identity x m s t steps d v is ServiceRouter =
+    still ServiceRouter s t steps.service_router.items is.service_router (unchanged_leads ServiceRouter s t d.policies.service_edge_router d.apart.0 d.apart.1)
+differing_leads kind.Service x m s t steps d v is Dial = entity_leads Dial false x m.before m.after s t steps.dial.items
+    (record { policies = d.policies.service; entity_was = d.before_is; entity_is = d.after_is; others = d.others; partners = d.apart.0; high = s.next_identity; ordered = v.identities.numbers.ordered }) is.dial.up is.dial.down
+differing_leads kind.Service x m s t steps d v is Bind = entity_leads Bind false x m.before m.after s t steps.bind.items
+    (record { policies = d.policies.service; entity_was = d.before_is; entity_is = d.after_is; others = d.others; partners = d.apart.0; high = s.next_identity; ordered = v.identities.numbers.ordered }) is.bind.up is.bind.down
+differing_leads kind.Service x m s t steps d v is IdentityRouter =
+    still IdentityRouter s t steps.identity_router.items is.identity_router (unchanged_leads IdentityRouter s t d.policies.edge_router d.apart.0 d.apart.1)
+differing_leads kind.Service x m s t steps d v is ServiceRouter = entity_leads ServiceRouter true x m.before m.after s t steps.service_router.items
+    (record { policies = d.policies.service_edge_router; entity_was = d.before_is; entity_is = d.after_is; others = d.others; partners = d.apart.1; high = s.next_router; ordered = routers_ordered s v }) is.service_router.up is.service_router.down
+differing_leads kind.Router x m s t steps d v is Dial = still Dial s t steps.dial.items is.dial (unchanged_leads Dial s t d.policies.service d.apart.0 d.apart.1)
+differing_leads kind.Router x m s t steps d v is Bind = still Bind s t steps.bind.items is.bind (unchanged_leads Bind s t d.policies.service d.apart.0 d.apart.1)
+differing_leads kind.Router x m s t steps d v is IdentityRouter = entity_leads IdentityRouter false x m.before m.after s t steps.identity_router.items
+    (record { policies = d.policies.edge_router; entity_was = d.before_is; entity_is = d.after_is; others = d.others; partners = d.apart.0; high = s.next_identity; ordered = v.identities.numbers.ordered }) is.identity_router.up is.identity_router.down
+differing_leads kind.Router x m s t steps d v is ServiceRouter = entity_leads ServiceRouter false x m.before m.after s t steps.service_router.items
+    (record { policies = d.policies.service_edge_router; entity_was = d.before_is; entity_is = d.after_is; others = d.others; partners = d.apart.1; high = s.next_service; ordered = v.services.numbers.ordered }) is.service_router.up is.service_router.down
+differing_leads _ x m s t steps d v is r = absurd d.apart
+
+-- ---- what stands at a number after a change, of entities and of records that are seen as entities
+
+-- routers as entities
+abbrev pub router_rows : List (ℕ × Router) → List (ℕ × Entity)
+router_rows rows = map (λ row. (row.0, as_entity row.1)) rows
+
+stands_last : {R : Type 0} (rows : List (ℕ × R)) (n : ℕ) (r : R) → at rows n ≡ None → at (with_last rows n r) n ≡ Some r
+stands_last rows n r none = at-with_last rows n n r none ∙ cond-true (n == n) (Some r) (at rows n) (eq-eqb n n refl)
+
+stands_edited : {R : Type 0} (rows : List (ℕ × R)) (n : ℕ) (f : R → R) → at (edit_at rows n f) n ≡ option_map f (at rows n)
+stands_edited {R} rows n f = at-edit_at rows n n f ∙ by (at rows n) (n == n) (eq-eqb n n refl)
+  where
+    by : (o : Option R) (b : Bool) → b ≡ true → option_map (λ r. cond b (f r) r) o ≡ option_map f o
+    by o true e = refl
+    by o false e = absurd (false≢true e)
+
+gone_at : {R : Type 0} (high : ℕ) (rows : List (ℕ × R)) (n : ℕ) → Between 1 high rows → at (without rows n) n ≡ None
+gone_at high rows n b = at-without high rows 1 n n b ∙ cond-true (n == n) None (at rows n) (eq-eqb n n refl)
+
+seen_at : (rows : List (ℕ × Router)) (n : ℕ) (o : Option Router) → at rows n ≡ o → at (router_rows rows) n ≡ option_map as_entity o
+seen_at rows n o e = at-map (λ row. as_entity row.1) rows n ∙ ap (option_map as_entity) e
+
+seen_alike : (rows others : List (ℕ × Router)) (n : ℕ) → at rows n ≡ at others n → at (router_rows rows) n ≡ at (router_rows others) n
+seen_alike rows others n e = seen_at rows n (at others n) e ∙ sym (at-map (λ row. as_entity row.1) others n)
+
+-- ---- a new entity
+
+pub added_leads : (k : Kind) (name : List ℕ) (attributes : List (List ℕ)) (s : State) (steps : GrantSteps) → is_plain_kind k ≡ true → ValidState s
+    → StepsOfEntity k (next_in k s) (record { before = None; after = Some (record { name = name; attributes = attributes }) }) s steps
+    → (r : Relation) → LeadCounts (count r s) (count r (with_plain k name attributes s)) (steps_of r steps)
+added_leads kind.Identity name attributes s steps plain v is = differing_leads kind.Identity s.next_identity _ s (with_plain kind.Identity name attributes s) steps
+    (record {
+      before_is = at-next v.identities.numbers;
+      after_is = stands_last s.identities s.next_identity _ (at-next v.identities.numbers);
+      others = λ n ne. at-with_last-other s.identities s.next_identity n _ ne;
+      apart = (refl, refl);
+      policies = record { service = refl; edge_router = refl; service_edge_router = refl };
+    }) v is
+added_leads kind.Service name attributes s steps plain v is = differing_leads kind.Service s.next_service _ s (with_plain kind.Service name attributes s) steps
+    (record {
+      before_is = at-next v.services.numbers;
+      after_is = stands_last s.services s.next_service _ (at-next v.services.numbers);
+      others = λ n ne. at-with_last-other s.services s.next_service n _ ne;
+      apart = (refl, refl);
+      policies = record { service = refl; edge_router = refl; service_edge_router = refl };
+    }) v is
+added_leads _ name attributes s steps plain v is = absurd (false≢true plain)
+
+pub added_router_leads : (name : List ℕ) (attributes : List (List ℕ)) (cost : ℕ) (no_traversal : Bool) (s : State) (steps : GrantSteps) → ValidState s
+    → StepsOfEntity kind.Router s.next_router (record { before = None; after = Some (record { name = name; attributes = attributes }) }) s steps
+    → (r : Relation) → LeadCounts (count r s) (count r (after_create_router name attributes cost no_traversal s)) (steps_of r steps)
+added_router_leads name attributes cost no_traversal s steps v is =
+    differing_leads kind.Router s.next_router _ s (after_create_router name attributes cost no_traversal s) steps
+    (record {
+      before_is = seen_at s.routers s.next_router None (at-next v.routers.numbers);
+      after_is = seen_at (with_last s.routers s.next_router made) s.next_router (Some made) (stands_last s.routers s.next_router made (at-next v.routers.numbers));
+      others = λ n ne. seen_alike (with_last s.routers s.next_router made) s.routers n (at-with_last-other s.routers s.next_router n made ne);
+      apart = (refl, refl);
+      policies = record { service = refl; edge_router = refl; service_edge_router = refl };
+    }) v is
+  where
+    made : Router
+    made = record { name = name; attributes = attributes; cost = cost; through = not no_traversal; connected = false }
+
+-- ---- an entity that is described
+
+pub described_leads : (k : Kind) (n : ℕ) (attributes : List (List ℕ)) (s : State) (steps : GrantSteps) → is_plain_kind k ≡ true → ValidState s
+    → StepsOfEntity k n (record { before = at (entities_in k s) n; after = option_map (described_as attributes) (at (entities_in k s) n) }) s steps
+    → (r : Relation) → LeadCounts (count r s) (count r (with_described k n attributes s)) (steps_of r steps)
+described_leads kind.Identity n attributes s steps plain v is = differing_leads kind.Identity n _ s (with_described kind.Identity n attributes s) steps
+    (record {
+      before_is = refl;
+      after_is = stands_edited s.identities n (described_as attributes);
+      others = λ m ne. at-edit_at-other s.identities n m (described_as attributes) ne;
+      apart = (refl, refl);
+      policies = record { service = refl; edge_router = refl; service_edge_router = refl };
+    }) v is
+described_leads kind.Service n attributes s steps plain v is = differing_leads kind.Service n _ s (with_described kind.Service n attributes s) steps
+    (record {
+      before_is = refl;
+      after_is = stands_edited s.services n (described_as attributes);
+      others = λ m ne. at-edit_at-other s.services n m (described_as attributes) ne;
+      apart = (refl, refl);
+      policies = record { service = refl; edge_router = refl; service_edge_router = refl };
+    }) v is
+described_leads _ n attributes s steps plain v is = absurd (false≢true plain)
+
+-- a router, whatever becomes of its cost and its marks
+pub described_router_leads : (n : ℕ) (attributes : List (List ℕ)) (f : Router → Router) (s : State) (steps : GrantSteps) → ValidState s
+    → ((r : Router) → as_entity (f r) ≡ described_as attributes (as_entity r))
+    → StepsOfEntity kind.Router n (record { before = at (router_entities s) n; after = option_map (described_as attributes) (at (router_entities s) n) }) s steps
+    → (r : Relation) → LeadCounts (count r s) (count r (record s { routers = edit_at s.routers n f })) (steps_of r steps)
+described_router_leads n attributes f s steps v same is = differing_leads kind.Router n _ s (record s { routers = edit_at s.routers n f }) steps
+    (record {
+      before_is = refl;
+      after_is = seen_at (edit_at s.routers n f) n (option_map f (at s.routers n)) (stands_edited s.routers n f)
+          ∙ described (at s.routers n) ∙ ap (option_map (described_as attributes)) (sym (at-map (λ row. as_entity row.1) s.routers n));
+      others = λ m ne. seen_alike (edit_at s.routers n f) s.routers m (at-edit_at-other s.routers n m f ne);
+      apart = (refl, refl);
+      policies = record { service = refl; edge_router = refl; service_edge_router = refl };
+    }) v is
+  where
+    described : (o : Option Router) → option_map as_entity (option_map f o) ≡ option_map (described_as attributes) (option_map as_entity o)
+    described None = refl
+    described (Some r) = ap Some (same r)
+
+-- ---- a router whose marks change
+
+same_entities : (rows : List (ℕ × Router)) (n : ℕ) (f : Router → Router) → ((r : Router) → as_entity (f r) ≡ as_entity r) → router_rows (edit_at rows n f) ≡ router_rows rows
+same_entities [] n f same = refl
+same_entities (x ∷ rows) n f same =
+    let head : as_entity (cond (x.0 == n) (f x.1) x.1) ≡ as_entity x.1 = by (x.0 == n) in
+    let tail = same_entities rows n f same in λ i. (x.0, head i) ∷ tail i
+  where
+    by : (b : Bool) → as_entity (cond b (f x.1) x.1) ≡ as_entity x.1
+    by true = same x.1
+    by false = refl
+
+pub marked_leads : (n : ℕ) (f : Router → Router) (s : State) (steps : GrantSteps) → ((r : Router) → as_entity (f r) ≡ as_entity r) → HasNoSteps steps
+    → (r : Relation) → LeadCounts (count r s) (count r (record s { routers = edit_at s.routers n f })) (steps_of r steps)
+marked_leads n f s steps same none Dial = still Dial s (record s { routers = edit_at s.routers n f }) steps.dial.items none.dial (unchanged_leads Dial s (record s { routers = edit_at s.routers n f }) refl refl refl)
+marked_leads n f s steps same none Bind = still Bind s (record s { routers = edit_at s.routers n f }) steps.bind.items none.bind (unchanged_leads Bind s (record s { routers = edit_at s.routers n f }) refl refl refl)
+marked_leads n f s steps same none IdentityRouter =
+    still IdentityRouter s (record s { routers = edit_at s.routers n f }) steps.identity_router.items none.identity_router (unchanged_leads IdentityRouter s (record s { routers = edit_at s.routers n f }) refl refl (same_entities s.routers n f same))
+marked_leads n f s steps same none ServiceRouter =
+    still ServiceRouter s (record s { routers = edit_at s.routers n f }) steps.service_router.items none.service_router (unchanged_leads ServiceRouter s (record s { routers = edit_at s.routers n f }) refl refl (same_entities s.routers n f same))
+
+-- ---- an entity that goes
+
+-- without the one record of a name, no record has it
+unnamed : {R : Type 0} (name_of : R → List ℕ) (high : ℕ) (rows : List (ℕ × R)) (n : ℕ) (name : List ℕ) → HaveUniqueNames name_of rows → Between 1 high rows
+    → first_where (λ t. bytes_eq (name_of t) name) rows ≡ Some n → (m : ℕ) (r : R) → at (without rows n) m ≡ Some r → bytes_eq (name_of r) name ≡ false
+unnamed name_of high rows n name unique b found m r stands = false_from_ne_true (bytes_eq (name_of r) name) (λ e.
+    let kept = found-named name_of rows n name high 1 b found in
+    let back = at-without-back high rows 1 n m r b stands in
+    back.1 (unique m n r kept.0 back.0 kept.1 (same_name (name_of r) name e ∙ sym kept.2)))
+
+pub removed_leads : (k : Kind) (n : ℕ) (name : List ℕ) (s : State) (steps : GrantSteps) → is_entity_kind k ≡ true → ValidState s → named_in k name s ≡ Some n
+    → StepsOfEntity k n (record { before = at (entities_in k s) n; after = None }) s steps
+    → (r : Relation) → LeadCounts (count r s) (count r (with_removed k n name s)) (steps_of r steps)
+removed_leads kind.Identity n name s steps is_kind v found is r =
+    leads_on (count r s) (count r bare) (count r (with_removed kind.Identity n name s)) (steps_of r steps)
+    (differing_leads kind.Identity n _ s bare steps
+    (record {
+      before_is = refl;
+      after_is = gone_at s.next_identity s.identities n v.identities.numbers.ordered;
+      others = λ m ne. at-without-other s.identities n m ne;
+      apart = (refl, refl);
+      policies = record { service = refl; edge_router = refl; service_edge_router = refl };
+    }) v is r) (λ a b. forgotten r a b)
+  where
+    bare : State
+    bare = record s { identities = without s.identities n }
+
+    absent : (m : ℕ) (e : Entity) → at (without s.identities n) m ≡ Some e → bytes_eq e.name name ≡ false
+    absent = unnamed (λ (e : Entity). e.name) s.next_identity s.identities n name v.identities.names v.identities.numbers.ordered found
+
+    forgotten : (r : Relation) (a b : ℕ) → count r bare a b ≡ count r (with_removed kind.Identity n name s) a b
+    forgotten Dial a b = sym (forget_left_leaves Dial bare (with_removed kind.Identity n name s) name refl refl refl absent a b)
+    forgotten Bind a b = sym (forget_left_leaves Bind bare (with_removed kind.Identity n name s) name refl refl refl absent a b)
+    forgotten IdentityRouter a b = sym (forget_left_leaves IdentityRouter bare (with_removed kind.Identity n name s) name refl refl refl absent a b)
+    forgotten ServiceRouter a b = refl
+removed_leads kind.Service n name s steps is_kind v found is r =
+    leads_on (count r s) (count r bare) (count r (with_removed kind.Service n name s)) (steps_of r steps)
+    (differing_leads kind.Service n _ s bare steps
+    (record {
+      before_is = refl;
+      after_is = gone_at s.next_service s.services n v.services.numbers.ordered;
+      others = λ m ne. at-without-other s.services n m ne;
+      apart = (refl, refl);
+      policies = record { service = refl; edge_router = refl; service_edge_router = refl };
+    }) v is r) (λ a b. forgotten r a b)
+  where
+    bare : State
+    bare = record s { services = without s.services n }
+
+    absent : (m : ℕ) (e : Entity) → at (without s.services n) m ≡ Some e → bytes_eq e.name name ≡ false
+    absent = unnamed (λ (e : Entity). e.name) s.next_service s.services n name v.services.names v.services.numbers.ordered found
+
+    forgotten : (r : Relation) (a b : ℕ) → count r bare a b ≡ count r (with_removed kind.Service n name s) a b
+    forgotten Dial a b = sym (forget_right_leaves Dial bare (with_removed kind.Service n name s) name refl refl refl absent a b)
+    forgotten Bind a b = sym (forget_right_leaves Bind bare (with_removed kind.Service n name s) name refl refl refl absent a b)
+    forgotten IdentityRouter a b = refl
+    forgotten ServiceRouter a b = sym (forget_left_leaves ServiceRouter bare (with_removed kind.Service n name s) name refl refl refl absent a b)
+removed_leads kind.Router n name s steps is_kind v found is r =
+    leads_on (count r s) (count r bare) (count r (with_removed kind.Router n name s)) (steps_of r steps)
+    (differing_leads kind.Router n _ s bare steps
+    (record {
+      before_is = refl;
+      after_is = seen_at (without s.routers n) n None (gone_at s.next_router s.routers n v.routers.numbers.ordered);
+      others = λ m ne. seen_alike (without s.routers n) s.routers m (at-without-other s.routers n m ne);
+      apart = (refl, refl);
+      policies = record { service = refl; edge_router = refl; service_edge_router = refl };
+    }) v is r) (λ a b. forgotten r a b)
+  where
+    bare : State
+    bare = record s { routers = without s.routers n }
+
+    absent : (m : ℕ) (e : Entity) → at (router_entities bare) m ≡ Some e → bytes_eq e.name name ≡ false
+    absent m e stands =
+        let back = at-map-back (λ row. as_entity row.1) (without s.routers n) m e stands in
+        ap (λ (q : Entity). bytes_eq q.name name) (sym back.2)
+        ∙ unnamed (λ (q : Router). q.name) s.next_router s.routers n name v.routers.names v.routers.numbers.ordered found m back.0 back.1
+
+    forgotten : (r : Relation) (a b : ℕ) → count r bare a b ≡ count r (with_removed kind.Router n name s) a b
+    forgotten Dial a b = refl
+    forgotten Bind a b = refl
+    forgotten IdentityRouter a b = sym (forget_right_leaves IdentityRouter bare (with_removed kind.Router n name s) name refl refl refl absent a b)
+    forgotten ServiceRouter a b = sym (forget_right_leaves ServiceRouter bare (with_removed kind.Router n name s) name refl refl refl absent a b)
+removed_leads _ n name s steps is_kind v found is r = absurd (false≢true is_kind)
