@@ -4,3 +4,5 @@ pub mod InUseLaws
 pub mod PlanLaws
 pub mod EntityCounts
 pub mod EntityPlans
+pub mod NumberLoops
+pub mod TurnLaws

@@ -5,7 +5,7 @@ ghost use Rattle.policy_store.specs.PolicyTables.{fits};
 ghost use Rattle.policy_store.specs.StoredPolicies.{policy_of};
 ghost use Rattle.grant_moves.specs.EntitySides.{own_side, other_rows, matches_if, members_of};
 ghost use Rattle.grant_moves.specs.GrantTurns.{turn_of, turns_of, cross_of};
-ghost use Rattle.ctrl_core.specs.KeptState.{state_of};
+ghost use Rattle.ctrl_core.specs.KeptState.{Keeps, state_of};
 ghost use Rattle.ctrl_core.specs.GrantChanges.{entity_if, stands_in, AreStepsAt, StepsOfEntity, ArePolicyStepsAt, StepsOfPolicy};
 ghost use Rattle.ctrl_core.specs.GrantKinds.{left_kind_of, right_kind_of, other_kind, policy_kind};
 
@@ -208,6 +208,7 @@ fn turns_of(
     on_left: bool,
     moved: &Moved,
 ) -> Result<Vec<Turn>, AllocError>
+    requires { Keeps stores.now }
     ensures { IfOk result (λ ts. ts.items
         ≡ turns_of relation on_left moved.now.before moved.now.after (other_rows on_left relation (state_of stores.now)) (policies_for relation (state_of stores.now))) }
 {
@@ -232,6 +233,7 @@ fn entity_steps_at(
     number: u32,
     moved: &Moved,
 ) -> Result<Vec<Delta>, AllocError>
+    requires { Keeps stores.now }
     ensures { IfOk result (λ ds. AreStepsAt (stands_in relation kind) relation number moved.now (state_of stores.now) ds.items) }
 {
     match stands_in(relation, kind) {
@@ -251,6 +253,7 @@ pub fn entity_steps(
     number: u32,
     moved: &Moved,
 ) -> Result<GrantSteps, AllocError>
+    requires { Keeps stores.now }
     ensures { IfOk result (StepsOfEntity kind number moved.now (state_of stores.now)) }
 {
     let dial = entity_steps_at(alloc, stores, Relation::Dial, kind, number, moved)?;

@@ -158,6 +158,7 @@ fn described_steps(
 ) -> Result<GrantSteps, AllocError>
     requires kind { is_entity_kind kind ≡ true }
     requires there { is_there kind number stores.now.entities ≡ true }
+    requires kept { Keeps stores.now }
     ensures { IfOk result (IsDescribed kind number attributes.now stores.now) }
 {
     let Some((name, gone)) = stores.entities.seen(kind, number) else {
