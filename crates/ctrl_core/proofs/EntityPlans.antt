@@ -420,3 +420,11 @@ delete_planned kind.Router name st n steps is_kind keeps found is =
     (ap (unknown_if_absent field.Name) found) refl (refl, there_in_state kind.Router name st n found) refl
     (removed_leads kind.Router n name (state_of st) steps refl keeps.valid found is))
 delete_planned _ name st n steps is_kind keeps found is = absurd (false≢true is_kind)
+
+-- a named entity is seen
+pub named_seen : (k : Kind) (name : List ℕ) (t : Tables) (n : ℕ) → number_of k name t ≡ Some n → None ≡ at (entities k t) n → ⊥
+named_seen k name t n found none = by (at (entities k t) n) (there_from_number k name t n found) none
+  where
+    by : (o : Option Entity) → is_some o ≡ true → None ≡ o → ⊥
+    by None h e = false≢true h
+    by (Some r) h e = none-some r e
