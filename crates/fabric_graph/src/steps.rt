@@ -1,10 +1,9 @@
-ghost use Rattle.std.specs.Prelude.{◌≡◌, ◌+◌, ◌++◌, ◌≤◌, length, map, IfOk, IfSome, OnOk, true};
-ghost use Rattle.std.specs.Option.{option_map_or};
+ghost use Rattle.std.specs.Prelude.{◌≡◌, ◌+◌, ◌++◌, ◌≤◌, map, IfOk, IfSome, OnOk, true};
 ghost use Rattle.ctrl_model.specs.Networks.{link_cost};
-ghost use Rattle.path_certificate.specs.Graphs.{IsGraph};
+ghost use Rattle.ctrl_model.specs.ValidState.{each_passes};
 ghost use Rattle.fabric_graph.specs.LinkRows.{link_of, rows_of, row_of, is_fit};
 ghost use Rattle.fabric_graph.specs.Routers.{AreRouters};
-ghost use Rattle.fabric_graph.specs.Steps.{end_at, step_between, two_steps, link_steps, all_steps, leaving, by_place};
+ghost use Rattle.fabric_graph.specs.Steps.{end_at, link_ends, step_between, link_steps, all_steps, leaving, by_place};
 
 use crate::links::{Entries, LinkRow, Row};
 use ctrl_model::{RouterNo, RouterSeen};
@@ -20,8 +19,10 @@ pub struct End {
 
 // The end of a link at a router. None where the router is absent or not connected.
 fn end_at(routers: &[RouterSeen], least: u32, router: RouterNo) -> Option<End>
-    requires { AreRouters routers.now }
-    ensures { result ≡ end_at least router.0 routers.now }
+    requires routers { AreRouters routers.now }
+    requires least { least ≤ 65535 }
+    ensures end { result ≡ end_at least router.0 routers.now }
+    ensures entry { IfSome result (λ e. e.entry ≤ 65535) }
 {
     let place = routers
         .binary_search_by_key(&router.0, |seen| seen.no.0)
@@ -47,7 +48,10 @@ fn link_cost(link: &LinkRow) -> u32
 
 // The ends of a usable link. None where the link is not usable.
 fn ends(routers: &[RouterSeen], least: u32, link: &LinkRow) -> Option<(End, End)>
-    requires { AreRouters routers.now }
+    requires routers { AreRouters routers.now }
+    requires least { least ≤ 65535 }
+    ensures ends { result ≡ link_ends routers.now least (link_of link.now) }
+    ensures entries { IfSome result (λ p. (p.0.entry ≤ 65535) × (p.1.entry ≤ 65535)) }
 {
     if !link.up {
         return None;
@@ -98,6 +102,8 @@ pub fn all_steps(
     routers: &[RouterSeen],
 ) -> Result<Vec<Step>, AllocError>
     requires routers { AreRouters routers.now }
+    requires fit { each_passes is_fit (rows_of entries.now.entries) ≡ true }
+    requires least { least ≤ 65535 }
     ensures { IfOk result (λ v. v.items ≡ all_steps routers.now least (rows_of entries.now.entries)) }
 {
     let mut steps = Vec::new(alloc);
