@@ -1,0 +1,8 @@
+pub mod LinkLaws
+pub mod KeptLaws
+pub mod EndLaws
+pub mod HopLaws
+pub mod FindLaws
+pub mod OrderLaws
+pub mod FairLaws
+pub mod GraphLaws
