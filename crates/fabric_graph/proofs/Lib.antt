@@ -1,0 +1,5 @@
+pub mod LinkLaws
+pub mod KeptLaws
+pub mod EndLaws
+pub mod HopLaws
+pub mod FindLaws

@@ -1,0 +1,11 @@
+use Rattle.std.proofs.Common.{sym, ◌∙◌, ap}
+use Rattle.std.specs.Option.{option_map}
+use Rattle.entity_store.proofs.PlaceLaws.{at-place}
+use Rattle.fabric_graph.specs.LinkRows.{Entry, numbered, link_of}
+use Rattle.fabric_graph.proofs.links.link_at.Goals as goal
+
+pub returns : goal.returns
+returns c =
+    let p = c.in_ok-place.ensures.found in
+    ap (option_map (λ (e : Entry). link_of e.1.link)) (c.in_ok-row.ensures.entry ∙ p.1)
+    ∙ sym (at-place numbered 4294967295 c.args.entries.now.entries 1 c.in_ok-place.place c.args.number p.0 c.requires p.1 p.2)

@@ -1,0 +1,42 @@
+-- Routers as the places of a graph: their order is that of their numbers, and the place of a router is how many stand before it
+-- (docs/PROMISES.md, "The graph of a fabric").
+use Rattle.std.specs.Prelude.{◌≡◌, ℕ, ◌≤◌, nat_le, Bool, true, false, List, [], length, map, slice_index}
+use Rattle.std.specs.List.{list_all}
+use Rattle.ctrl_model.specs.declared.kinds.RouterSeen.{RouterSeen}
+use Rattle.ctrl_model.specs.CommandForm.{is_cost}
+use Rattle.ctrl_model.specs.Networks.{Network}
+use Rattle.ctrl_model.specs.Numbered.{Between}
+use Rattle.path_certificate.specs.declared.graph.Step.{Step}
+use Rattle.fabric_graph.specs.FabricTables.{FabricSeen}
+
+-- A router under its number.
+abbrev pub numbered : RouterSeen → ℕ × RouterSeen
+numbered r = (r.no.0, r)
+
+-- The number of the router at a place.
+abbrev pub number_at : List RouterSeen → ℕ → ℕ
+number_at routers v = slice_index (map (λ (r : RouterSeen). r.no.0) routers) v
+
+-- What routers must be: at most 256, by strictly ascending number, each cost in its range.
+pub record AreRouters (routers : List RouterSeen) : Type 0 where
+  pub few : length routers ≤ 256
+  pub ordered : Between 0 4294967296 (map numbered routers)
+  pub costs : list_all (λ (r : RouterSeen). is_cost r.cost) routers ≡ true
+
+-- The links and the least router cost as a network sees them, with some routers. Nothing else of a network matters to paths.
+abbrev pub network : FabricSeen → List RouterSeen → Network
+network f routers = record {
+  routers = routers;
+  links = f.links;
+  least = f.least;
+  terminators = [];
+  dial = λ _ _. 0;
+  bind = λ _ _. 0;
+  identity_router = λ _ _. 0;
+  service_router = λ _ _. 0;
+  full = false;
+}
+
+-- Whether each step costs at most so much.
+abbrev pub costs_at_most : ℕ → List Step → Bool
+costs_at_most most steps = list_all (λ (s : Step). nat_le s.cost most) steps

@@ -1,0 +1,1 @@
+-- Small fabrics for the worked examples.

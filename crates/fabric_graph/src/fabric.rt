@@ -1,0 +1,221 @@
+ghost use Rattle.std.specs.Prelude.{◌≡◌, ◌+◌, ◌<◌, ◌≤◌, ℕ, true, length, map, IfOk, OnOk, OnErr, Ok};
+ghost use Rattle.std.specs.List.{list_all};
+ghost use Rattle.std.specs.Option.{option_map};
+ghost use Rattle.ctrl_model.specs.CommandForm.{is_link_cost, is_latency};
+ghost use Rattle.ctrl_model.specs.Mirrors.{Mirrors};
+ghost use Rattle.ctrl_model.specs.Networks.{hops};
+ghost use Rattle.ctrl_model.specs.Numbered.{at, numbers};
+ghost use Rattle.path_certificate.specs.Graphs.{graph_hops};
+ghost use Rattle.fabric_graph.specs.FabricTables.{no_links, with_link, with_set, without_link, with_least, with_next};
+ghost use Rattle.fabric_graph.specs.FabricRules.{may_add, found, is_there, KeepsLinks};
+ghost use Rattle.fabric_graph.specs.LinkRows.{link_of};
+ghost use Rattle.fabric_graph.specs.Routers.{AreRouters, network, number_at, costs_at_most};
+
+use crate::links::{
+    Entries, LinkRow, copied_links, insert_link, link_at, number_in, numbers_in, remove_link,
+    set_link,
+};
+use crate::steps::{all_steps, by_place, flags};
+use ctrl_model::{LinkNo, Name, Numbers, RouterNo, RouterSeen};
+use indexmap::IndexMap;
+use path_certificate::Graph;
+use std::alloc::{AllocError, Global};
+use std::marker::Model;
+use thiserror::Error;
+
+/// How many links there may be.
+const MOST_LINKS: usize = 4_096;
+
+/// What a path pays at least to enter a router, until it is set.
+const LEAST_AT_FIRST: u32 = 10;
+
+/// Why a link is not added or not found.
+#[derive(Clone, Copy, Debug, PartialEq, Eq, Error)]
+pub enum FabricFault {
+    /// A link has the name already.
+    #[error("the name is taken")]
+    Exists,
+    /// No link has the name.
+    #[error("no link has the name")]
+    Unknown,
+    /// The ends of the link would be one router.
+    #[error("both ends are one router")]
+    SameRouter,
+    /// No link can be added.
+    #[error("no link can be added")]
+    Full,
+}
+
+/// The links of a controller, and the least cost of entering a router. Contracts see them as a table (`FabricTables`).
+#[derive(Drop)]
+pub struct Fabric {
+    entries: Entries,
+    next: u32,
+    least: u32,
+}
+
+impl Model for Fabric {
+    ghost use Rattle.std.specs.Prelude.{◌≡◌, true};
+    ghost use Rattle.ctrl_model.specs.CommandForm.{is_link_cost};
+    ghost use Rattle.fabric_graph.specs.FabricTables.{FabricSeen};
+    ghost use Rattle.fabric_graph.specs.LinkRows.{rows_of, AreKept};
+
+    ghost Value = { FabricSeen };
+
+    ghost view = { λ f. record { links = rows_of f.entries.entries; next = f.next; least = f.least } };
+
+    ghost invariant = { λ f. AreKept f.entries.entries f.next × (is_link_cost f.least ≡ true) };
+}
+
+impl Fabric {
+    /// A fabric without links. The least router cost is 10.
+    pub fn new(alloc: Global) -> Result<Fabric, AllocError>
+        ensures { IfOk result (λ f. f ≡ no_links) }
+    {
+        Ok(Fabric {
+            entries: IndexMap::new(alloc),
+            next: 1,
+            least: LEAST_AT_FIRST,
+        })
+    }
+
+    /// Whether a link of the name may be added between the routers: `Exists` comes exactly where a link has the name, else `Full`
+    /// exactly where 4,096 links are present or their numbers have run out, and else `SameRouter` exactly where both ends are one
+    /// router (docs/RULES.md, "Commands on links").
+    pub fn may_add(&self, name: &Name, a: RouterNo, b: RouterNo) -> Result<(), FabricFault>
+        ensures { result ≡ may_add name.now a.0 b.0 self.now }
+    {
+        if number_in(&self.entries, name).is_some() {
+            return Err(FabricFault::Exists);
+        }
+        if self.entries.len() >= MOST_LINKS || self.next == u32::MAX {
+            return Err(FabricFault::Full);
+        }
+        if a.0 == b.0 {
+            return Err(FabricFault::SameRouter);
+        }
+        Ok(())
+    }
+
+    /// Adds a link under the next number, which it answers.
+    pub fn add(&mut self, link: LinkRow) -> Result<LinkNo, AllocError>
+        requires may { may_add link.name link.a.0 link.b.0 self.old ≡ Ok tt }
+        requires cost { is_link_cost link.cost ≡ true }
+        requires latency_a { is_latency link.latency_a ≡ true }
+        requires latency_b { is_latency link.latency_b ≡ true }
+        ensures number { IfOk result (λ n. n.0 ≡ self.old.next) }
+        ensures ok { OnOk result (self.new ≡ with_link (link_of link) self.old) }
+        ensures err { OnErr result (self.new ≡ self.old) }
+    {
+        let number = self.next;
+        insert_link(&mut self.entries, number, link)?;
+        self.next = number + 1;
+        Ok(LinkNo(number))
+    }
+
+    /// The number of the link that has the name. `Unknown` comes exactly where none has it.
+    pub fn find(&self, name: &Name) -> Result<LinkNo, FabricFault>
+        ensures found { result ≡ found name.now self.now }
+        // The numbers ascend from 1 below the next one, and the limit is kept.
+        ensures numbers { KeepsLinks self.now }
+    {
+        match number_in(&self.entries, name) {
+            Some(number) => Ok(LinkNo(number)),
+            None => Err(FabricFault::Unknown),
+        }
+    }
+
+    /// The link of the number. None exactly where it is absent.
+    pub fn link(&self, no: LinkNo) -> Option<&LinkRow>
+        ensures { option_map (λ r. link_of r.now) result ≡ at self.now.links no.0 }
+    {
+        link_at(&self.entries, no.0)
+    }
+
+    /// Sets what a present link costs, 1 to 65,535, the latencies that its two ends report, 0 to 60,000 each, and whether it is up.
+    pub fn set(&mut self, no: LinkNo, cost: u32, latency_a: u32, latency_b: u32, up: bool)
+        requires there { is_there no.0 self.old ≡ true }
+        requires cost { is_link_cost cost ≡ true }
+        requires latency_a { is_latency latency_a ≡ true }
+        requires latency_b { is_latency latency_b ≡ true }
+        ensures { self.new ≡ with_set no.0 cost latency_a latency_b up self.old }
+    {
+        set_link(&mut self.entries, no.0, cost, latency_a, latency_b, up);
+    }
+
+    /// Removes a present link.
+    pub fn remove(&mut self, no: LinkNo)
+        requires { is_there no.0 self.old ≡ true }
+        ensures { self.new ≡ without_link no.0 self.old }
+    {
+        remove_link(&mut self.entries, no.0);
+    }
+
+    /// Sets what a path pays at least to enter a router, 1 to 65,535.
+    pub fn set_least(&mut self, cost: u32)
+        requires { is_link_cost cost ≡ true }
+        ensures { self.new ≡ with_least cost self.old }
+    {
+        self.least = cost;
+    }
+
+    /// The numbers of the links, ascending.
+    pub fn numbers(&self, alloc: Global) -> Result<Numbers, AllocError>
+        ensures { IfOk result (λ ns. ns ≡ numbers self.now.links) }
+    {
+        numbers_in(alloc, &self.entries)
+    }
+
+    /// The number that the next link gets, 1 in a new fabric.
+    pub fn next(&self) -> u32
+        ensures next { result ≡ self.now.next }
+        // The numbers ascend from 1 below it, and the limit is kept.
+        ensures numbers { KeepsLinks self.now }
+    {
+        self.next
+    }
+
+    /// Raises the next number.
+    pub fn skip(&mut self, next: u32)
+        requires { self.old.next ≤ next }
+        ensures { self.new ≡ with_next next self.old }
+    {
+        self.next = next;
+    }
+
+    /// What a path pays at least to enter a router, 1 to 65,535.
+    pub fn least(&self) -> u32
+        ensures least { result ≡ self.now.least }
+        ensures range { is_link_cost self.now.least ≡ true }
+    {
+        self.least
+    }
+
+    /// An equal fabric.
+    pub fn copy(&self) -> Result<Fabric, AllocError>
+        ensures { IfOk result (λ f. f ≡ self.now) }
+    {
+        let entries = copied_links(&self.entries, self.next)?;
+        Ok(Fabric {
+            entries,
+            next: self.next,
+            least: self.least,
+        })
+    }
+
+    /// The graph of the usable links (docs/RULES.md, "Paths"): its places are the routers in order, and each usable link is a step
+    /// both ways, which costs what the link and entering its router cost.
+    pub fn graph_of(&self, alloc: Global, routers: &[RouterSeen]) -> Result<Graph, AllocError>
+        requires { AreRouters routers.now }
+        ensures places { IfOk result (λ g. g.through ≡ map (λ r. r.through) routers.now) }
+        // For each target the graph has the hops of the network, between the places of its routers.
+        ensures mirrors { IfOk result (λ g. (t : ℕ) → t < length routers.now → Mirrors (length routers.now) (number_at routers.now) (graph_hops g t) (hops (network self.now routers.now) (number_at routers.now t))) }
+        // A link costs at most 65,535 and twice 60,000, and entering a router at most 65,535.
+        ensures costs { IfOk result (λ g. costs_at_most 251070 g.steps ≡ true) }
+    {
+        let through = flags(alloc, routers)?;
+        let all = all_steps(alloc, &self.entries, self.least, routers)?;
+        let steps = by_place(alloc, all.as_slice(), routers.len() as u16)?;
+        Ok(Graph::new(through, steps))
+    }
+}

@@ -1,0 +1,148 @@
+ghost use Rattle.std.specs.Prelude.{◌≡◌, ◌+◌, ◌++◌, ◌≤◌, map, IfOk, IfSome, OnOk, true};
+ghost use Rattle.ctrl_model.specs.Networks.{link_cost};
+ghost use Rattle.ctrl_model.specs.ValidState.{each_passes};
+ghost use Rattle.fabric_graph.specs.LinkRows.{link_of, rows_of, row_of, is_fit};
+ghost use Rattle.fabric_graph.specs.Routers.{AreRouters};
+ghost use Rattle.fabric_graph.specs.Steps.{end_at, link_ends, step_between, link_steps, all_steps, leaving, by_place};
+
+use crate::links::{Entries, LinkRow, Row};
+use ctrl_model::{RouterNo, RouterSeen};
+use path_certificate::Step;
+use std::alloc::{AllocError, Global};
+
+/// An end of a usable link: the place of its router, and what a path pays to enter the router.
+#[derive(Clone, Copy)]
+pub struct End {
+    pub place: u16,
+    pub entry: u32,
+}
+
+// The end of a link at a router. None where the router is absent or not connected.
+fn end_at(routers: &[RouterSeen], least: u32, router: RouterNo) -> Option<End>
+    requires routers { AreRouters routers.now }
+    requires least { least ≤ 65535 }
+    ensures end { result ≡ end_at least router.0 routers.now }
+    ensures entry { IfSome result (λ e. e.entry ≤ 65535) }
+{
+    let place = routers
+        .binary_search_by_key(&router.0, |seen| seen.no.0)
+        .ok()?;
+    let seen = &routers[place];
+    if !seen.connected {
+        return None;
+    }
+    Some(End {
+        place: place as u16,
+        entry: seen.cost.max(least),
+    })
+}
+
+// What a link costs.
+fn link_cost(link: &LinkRow) -> u32
+    requires { is_fit (link_of link.now) ≡ true }
+    ensures cost { result ≡ link_cost (link_of link.now) }
+    ensures most { result ≤ 185535 }
+{
+    link.cost + link.latency_a + link.latency_b
+}
+
+// The ends of a usable link. None where the link is not usable.
+fn ends(routers: &[RouterSeen], least: u32, link: &LinkRow) -> Option<(End, End)>
+    requires routers { AreRouters routers.now }
+    requires least { least ≤ 65535 }
+    ensures ends { result ≡ link_ends routers.now least (link_of link.now) }
+    ensures entries { IfSome result (λ p. (p.0.entry ≤ 65535) × (p.1.entry ≤ 65535)) }
+{
+    if !link.up {
+        return None;
+    }
+    let a = end_at(routers, least, link.a)?;
+    let b = end_at(routers, least, link.b)?;
+    Some((a, b))
+}
+
+// The step over a link from one end to the other.
+fn step_between(link: u32, cost: u32, from: End, to: End) -> Step
+    requires { cost + to.entry ≤ 251070 }
+    ensures { result ≡ step_between link cost from to }
+{
+    Step {
+        from: from.place,
+        to: to.place,
+        link,
+        cost: cost + to.entry,
+    }
+}
+
+// Adds the steps over a link.
+fn push_link(
+    steps: &mut Vec<Step>,
+    routers: &[RouterSeen],
+    least: u32,
+    row: &Row,
+) -> Result<(), AllocError>
+    requires routers { AreRouters routers.now }
+    requires fit { is_fit (link_of row.now.link) ≡ true }
+    requires least { least ≤ 65535 }
+    ensures { OnOk result (steps.new.items ≡ steps.old.items ++ link_steps routers.now least (row_of row.now)) }
+{
+    if let Some((a, b)) = ends(routers, least, &row.link) {
+        let cost = link_cost(&row.link);
+        steps.push(step_between(row.number, cost, a, b))?;
+        steps.push(step_between(row.number, cost, b, a))?;
+    }
+    Ok(())
+}
+
+/// The steps over the links, in the order of the links.
+pub fn all_steps(
+    alloc: Global,
+    entries: &Entries,
+    least: u32,
+    routers: &[RouterSeen],
+) -> Result<Vec<Step>, AllocError>
+    requires routers { AreRouters routers.now }
+    requires fit { each_passes is_fit (rows_of entries.now.entries) ≡ true }
+    requires least { least ≤ 65535 }
+    ensures { IfOk result (λ v. v.items ≡ all_steps routers.now least (rows_of entries.now.entries)) }
+{
+    let mut steps = Vec::new(alloc);
+    'rows: for row in entries.values() {
+        push_link(&mut steps, routers, least, row)?;
+    }
+    Ok(steps)
+}
+
+// Adds those of all steps that leave the place.
+fn push_leaving(steps: &mut Vec<Step>, all: &[Step], place: u16) -> Result<(), AllocError>
+    ensures { OnOk result (steps.new.items ≡ steps.old.items ++ leaving place all.now) }
+{
+    'steps: for step in all {
+        if step.from == place {
+            steps.push(*step)?;
+        }
+    }
+    Ok(())
+}
+
+/// The steps by the place that they leave.
+pub fn by_place(alloc: Global, all: &[Step], places: u16) -> Result<Vec<Step>, AllocError>
+    ensures { IfOk result (λ v. v.items ≡ by_place all.now places) }
+{
+    let mut steps = Vec::new(alloc);
+    'places: for place in 0..places {
+        push_leaving(&mut steps, all, place)?;
+    }
+    Ok(steps)
+}
+
+/// For each router whether it may be passed through.
+pub fn flags(alloc: Global, routers: &[RouterSeen]) -> Result<Vec<bool>, AllocError>
+    ensures { IfOk result (λ v. v.items ≡ map (λ r. r.through) routers.now) }
+{
+    let mut through = Vec::new(alloc);
+    'routers: for router in routers {
+        through.push(router.through)?;
+    }
+    Ok(through)
+}
