@@ -1,0 +1,4 @@
+pub mod TermTables
+pub mod TermRules
+pub mod Rows
+pub mod WorkedTerms

@@ -1,0 +1,70 @@
+ghost use Rattle.std.specs.Prelude.{◌≡◌, ◌==◌, find, option_map};
+ghost use Rattle.ctrl_model.specs.Networks.{is_on, is_shared, may_host, is_in_service};
+ghost use Rattle.terminators.specs.TermTables.{term_of};
+ghost use Rattle.terminators.specs.TermRules.{granted, is_admissible};
+
+use crate::offers::Term;
+use ctrl_model::{IdentityNo, Instance, RouterNo, RouterSeen, ServiceNo};
+use grant_denorm::Counted;
+
+/// The grants and the routers that decide which terminators are admissible.
+#[derive(Clone, Copy)]
+pub struct Grants<'a> {
+    pub bind: &'a Counted,
+    pub identity_router: &'a Counted,
+    pub service_router: &'a Counted,
+    pub routers: &'a [RouterSeen],
+}
+
+// The router of a number, if it is present.
+fn router_at(routers: &[RouterSeen], router: RouterNo) -> Option<&RouterSeen>
+    ensures { option_map (λ r. r.now) result ≡ find (λ r. r.no.0 == router.0) routers.now }
+{
+    routers.iter().find(|other| other.no.0 == router.0)
+}
+
+// Whether the router is present and connected.
+fn is_on(grants: &Grants, router: RouterNo) -> bool
+    ensures { result ≡ is_on (granted grants.now) router.0 }
+{
+    match router_at(grants.routers, router) {
+        Some(present) => present.connected,
+        None => false,
+    }
+}
+
+// Whether identity and service share the router.
+fn is_shared(grants: &Grants, identity: IdentityNo, service: ServiceNo, router: RouterNo) -> bool
+    ensures { result ≡ is_shared (granted grants.now) identity.0 service.0 router.0 }
+{
+    grants.identity_router.count(identity.0, router.0) > 0
+        && grants.service_router.count(service.0, router.0) > 0
+}
+
+// Whether the host may serve: it has Bind on the service, and shares the router with it.
+fn may_host(grants: &Grants, term: &Term, host: IdentityNo) -> bool
+    ensures { result ≡ may_host (granted grants.now) (term_of term.now) host.0 }
+{
+    grants.bind.count(host.0, term.service.0) > 0
+        && is_shared(grants, host, term.service, term.router)
+}
+
+// Whether the terminator can be used.
+fn is_in_service(grants: &Grants, term: &Term) -> bool
+    ensures { result ≡ is_in_service (granted grants.now) (0, term_of term.now) }
+{
+    is_on(grants, term.router)
+        && match term.host {
+            Some(host) => may_host(grants, term, host),
+            None => true,
+        }
+}
+
+/// Whether the terminator is an admissible one of the service and the instance.
+pub fn is_admissible(grants: &Grants, service: ServiceNo, instance: &Instance, term: &Term) -> bool
+    ensures { result ≡ is_admissible (granted grants.now) service.0 instance.now (0, term_of term.now) }
+{
+    term.service.0 == service.0
+        && term.instance.bytes() == instance.bytes()
+        && is_in_service(grants, term)
+}

@@ -1,0 +1,13 @@
+//! The store of terminators: where services are offered, and which of the offers a request may take.
+#![tactic(auto)]
+
+mod admitting;
+mod offers;
+mod store;
+#[cfg(test)]
+mod tests;
+mod worked;
+
+pub use offers::Term;
+pub use store::{TermFault, Terminators};
+pub use worked::{admissible_offers, offers_by_number, whether_an_offer_may_be_added};

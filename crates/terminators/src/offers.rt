@@ -1,0 +1,47 @@
+ghost use Rattle.std.specs.Prelude.{◌≡◌};
+ghost use Rattle.terminators.specs.TermTables.{term_of};
+ghost use Rattle.terminators.specs.TermRules.{is_not_bindable};
+
+use ctrl_model::{IdentityNo, Instance, Precedence, RouterNo, ServiceNo};
+use grant_denorm::Counted;
+use std::alloc::AllocError;
+
+/// Where a service is offered: on which router, under which instance, and by which host if by one (docs/RULES.md,
+/// "Terminators").
+#[derive(Debug, Drop)]
+pub struct Term {
+    pub service: ServiceNo,
+    pub router: RouterNo,
+    pub instance: Instance,
+    pub host: Option<IdentityNo>,
+    /// What a circuit pays for ending here, 0 to 65,535.
+    pub cost: u32,
+    pub precedence: Precedence,
+}
+
+impl Clone for Term {
+    ghost use Rattle.std.specs.Prelude.{◌≡◌};
+
+    ghost is_clone = { λ term copied. copied ≡ term };
+
+    fn clone(&self) -> Result<Term, AllocError> {
+        Ok(Term {
+            service: self.service,
+            router: self.router,
+            instance: self.instance.copy()?,
+            host: self.host,
+            cost: self.cost,
+            precedence: self.precedence,
+        })
+    }
+}
+
+/// Whether the terminator names a host that lacks Bind on its service.
+pub fn is_not_bindable(term: &Term, bind: &Counted) -> bool
+    ensures { result ≡ is_not_bindable (term_of term.now) bind.now }
+{
+    match term.host {
+        Some(host) => bind.count(host.0, term.service.0) == 0,
+        None => false,
+    }
+}

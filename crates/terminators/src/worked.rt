@@ -1,0 +1,38 @@
+ghost use Rattle.std.specs.Prelude.{◌≡◌, codes, [], ◌∷◌, true, false, None, Some, Ok, Err};
+ghost use Rattle.ctrl_model.specs.declared.kinds.Precedence.TheVariants.{Required};
+ghost use Rattle.ctrl_model.specs.Networks.{admissible};
+ghost use Rattle.ctrl_model.specs.Numbered.{at, numbers};
+ghost use Rattle.terminators.specs.declared.store.TermFault.TheVariants.{NotBindable, Full};
+ghost use Rattle.terminators.specs.TermTables.{no_terminators, with_set, without_term, with_term, with_next};
+ghost use Rattle.terminators.specs.TermRules.{may_add, has_term_room, is_not_bindable};
+ghost use Rattle.terminators.specs.WorkedTerms.{offer, two_offers, six_offers, binds, offered};
+
+/// Offers get the numbers 1 and 2. A change leaves the service, and a removed number is not given again.
+pub fn offers_by_number()
+    ensures first { no_terminators.next ≡ 1 }
+    ensures third { two_offers.next ≡ 3 }
+    ensures set { at (with_set 2 7 Required two_offers).terminators 2 ≡ Some (record (offer 2 [] None) { cost = 7; precedence = Required }) }
+    ensures other { at (with_set 2 7 Required two_offers).terminators 1 ≡ Some (offer 1 [] None) }
+    ensures removed { at (without_term 2 two_offers).terminators 2 ≡ None }
+    ensures not_again { numbers (with_term (offer 1 [] None) (without_term 2 two_offers)).terminators ≡ 1 ∷ 3 ∷ [] }
+{}
+
+/// The hosts 5 and 7 have Bind on service 1, and 6 has not. Want of room is told first.
+pub fn whether_an_offer_may_be_added()
+    ensures no_host { may_add (offer 1 [] None) six_offers binds ≡ Ok tt }
+    ensures bound { may_add (offer 1 [] (Some 7)) six_offers binds ≡ Ok tt }
+    ensures not_bound { may_add (offer 1 [] (Some 6)) six_offers binds ≡ Err NotBindable }
+    ensures lacks { is_not_bindable (offer 1 [] (Some 6)) binds ≡ true }
+    ensures last { has_term_room (with_next 4294967294 six_offers) ≡ true }
+    ensures run_out { has_term_room (with_next 4294967295 six_offers) ≡ false }
+    ensures full_first { may_add (offer 1 [] (Some 6)) (with_next 4294967295 six_offers) binds ≡ Err Full }
+{}
+
+/// Of the six offers the first and that of host 5 are admissible: the second stands on a router that is not connected, the third
+/// is of an instance, host 6 lacks Bind, and host 7 is not granted the router.
+pub fn admissible_offers()
+    ensures plain { numbers (admissible offered 1 []) ≡ 1 ∷ 4 ∷ [] }
+    ensures instance { numbers (admissible offered 1 (codes "blue")) ≡ 3 ∷ [] }
+    ensures no_instance { numbers (admissible offered 1 (codes "red")) ≡ [] }
+    ensures no_service { numbers (admissible offered 2 []) ≡ [] }
+{}
