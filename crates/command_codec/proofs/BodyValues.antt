@@ -4,7 +4,7 @@ use Rattle.std.specs.Str.{IsUtf8, is_utf8}
 use Rattle.std.proofs.lemmas.Str.{IsUtf8-from_is_utf8, is_utf8-from_IsUtf8}
 use Rattle.serde_json.specs.Data.{Data}
 use Rattle.serde_json.specs.Read.{read}
-use Rattle.command_codec.specs.BodyMeaning.{value_of_body}
+use Rattle.command_codec.specs.BodyObjects.{value_of_body}
 
 pub value_of_body-some : (body : List ℕ) (d : Data) → IsUtf8 body → read body ≡ Some d → value_of_body body ≡ Some d
 value_of_body-some body d text e = rw (is_utf8-from_IsUtf8 body text) e

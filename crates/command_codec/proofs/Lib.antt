@@ -1,4 +1,10 @@
+mod ItemLaws
 mod NameListLaws
+mod SideLaws
 mod BodyValues
+mod ReadingLaws
+mod TableLaws
+mod EntityLaws
+mod PolicyLaws
+mod ShowLaws
 mod SpelledLaws
-mod ReadLaws

@@ -1,5 +1,13 @@
+pub mod ItemLists
 pub mod NameLists
+pub mod RoleLists
+pub mod FieldWords
 pub mod ReadResults
+pub mod BodyObjects
+pub mod EntityBodies
+pub mod PolicyBodies
+pub mod ShowBodies
 pub mod BodyMeaning
-pub mod SpelledBodies
+pub mod ContentTypes
 pub mod ReadCommands
+pub mod SpelledBodies

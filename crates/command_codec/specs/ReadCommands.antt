@@ -1,20 +1,9 @@
--- The commands whose content types are in the table so far (docs/FORMATS.md, "Commands").
-use Rattle.std.specs.Prelude.{Bool, true, false}
+-- The commands that are read so far (docs/FORMATS.md, "Commands").
+use Rattle.std.specs.Prelude.{◌==◌, Bool, ◌||◌, is_some}
 use Rattle.ctrl_model.specs.declared.commands.Command.{Command}
-use Rattle.ctrl_model.specs.declared.commands.Command.TheVariants as command
+use Rattle.command_codec.specs.BodyMeaning.{entry_at, table}
+use Rattle.command_codec.specs.ContentTypes.{content_of}
 
--- Hello, and the commands on identities, services and edge routers.
+-- Whether a command is read: it is Hello, or its content type is in the table.
 abbrev pub is_read : Command → Bool
-is_read command.Hello = true
-is_read (command.CreateIdentity name attributes) = true
-is_read (command.UpdateIdentity name attributes) = true
-is_read (command.DeleteIdentity name) = true
-is_read (command.CreateService name attributes) = true
-is_read (command.UpdateService name attributes) = true
-is_read (command.DeleteService name) = true
-is_read (command.CreateRouter name attributes cost no_traversal) = true
-is_read (command.UpdateRouter name attributes cost no_traversal) = true
-is_read (command.DeleteRouter name) = true
-is_read (command.ConnectRouter name) = true
-is_read (command.DisconnectRouter name) = true
-is_read _ = false
+is_read c = (content_of c == 0) || is_some (entry_at (content_of c) table)

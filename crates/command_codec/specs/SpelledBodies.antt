@@ -1,15 +1,25 @@
 -- When a body spells a command, without an order of reading: its object gives each field of the command, of its kind or left
 -- out where that may be, and has no other key (docs/FORMATS.md, "Commands").
-use Rattle.std.specs.Prelude.{◌≡◌, ℕ, Bool, true, false, List, [], ◌∷◌, Ok, Some}
+use Rattle.std.specs.Prelude.{◌≡◌, ℕ, Bool, true, false, ⊤, List, [], ◌∷◌, Ok, Some}
+use Rattle.std.specs.declared.option.Option.{Option}
 use Rattle.serde_json.specs.Data.{Data}
 use Rattle.serde_json.specs.Find.{as_bool}
 use Rattle.ctrl_model.specs.declared.commands.Command.{Command}
 use Rattle.ctrl_model.specs.declared.commands.Command.TheVariants as command
+use Rattle.ctrl_model.specs.declared.kinds.Relation.{Relation}
+use Rattle.ctrl_model.specs.declared.kinds.Semantic.{Semantic}
+use Rattle.ctrl_model.specs.declared.kinds.Side.{Side}
 use Rattle.ctrl_model.specs.declared.refusals.Field.{Field}
 use Rattle.ctrl_model.specs.declared.refusals.Field.TheVariants as field
 use Rattle.json_body.specs.FieldKinds.{as_name, required, optional, has_only}
 use Rattle.command_codec.specs.NameLists.{as_attributes}
-use Rattle.command_codec.specs.BodyMeaning.{as_cost, object_of_body, router_fields}
+use Rattle.command_codec.specs.RoleLists.{as_side}
+use Rattle.command_codec.specs.FieldWords.{as_relation, as_semantic}
+use Rattle.command_codec.specs.BodyObjects.{object_of_body}
+use Rattle.command_codec.specs.EntityBodies.{as_cost, entity_fields, router_fields}
+use Rattle.command_codec.specs.PolicyBodies.{service_policy_fields, router_policy_fields}
+use Rattle.command_codec.specs.ContentTypes.{content_of}
+use Rattle.command_codec.specs.ReadCommands.{is_read}
 
 -- The body is an object that has no keys but the words of these fields, and of which this holds.
 pub record Says (body : List ℕ) (fields : List Field) (Holds : Data → Type 0) : Type 0 where
@@ -18,54 +28,82 @@ pub record Says (body : List ℕ) (fields : List Field) (Holds : Data → Type 0
   pub only : has_only fields object ≡ true
   pub holds : Holds object
 
+-- The object gives a value of this kind in a field.
+abbrev pub Tells : {A : Type 0} → (Data → Option A) → Field → A → Data → Type 0
+Tells kind of_field x o = required kind of_field o ≡ Ok x
+
+-- The object gives a value of this kind in a field, or leaves the field out where the value is the one that it then has.
+abbrev pub MayTell : {A : Type 0} → (Data → Option A) → A → Field → A → Data → Type 0
+MayTell kind otherwise of_field x o = optional kind otherwise of_field o ≡ Ok x
+
 -- The object gives a name.
-abbrev pub GivesName : List ℕ → Data → Type 0
-GivesName name o = required as_name field.Name o ≡ Ok name
+abbrev pub TellsName : List ℕ → Data → Type 0
+TellsName name o = Tells as_name field.Name name o
 
--- The object gives attributes.
-abbrev pub GivesAttributes : List (List ℕ) → Data → Type 0
-GivesAttributes attributes o = required as_attributes field.Attributes o ≡ Ok attributes
-
--- The object gives attributes, or leaves them out where there are none.
-abbrev pub MayGiveAttributes : List (List ℕ) → Data → Type 0
-MayGiveAttributes attributes o = optional as_attributes [] field.Attributes o ≡ Ok attributes
-
--- A body with a name alone.
-abbrev pub SaysName : List ℕ → List ℕ → Type 0
-SaysName body name = Says body (field.Name ∷ []) (GivesName name)
+-- A body with a name alone, in this field.
+abbrev pub SaysName : List ℕ → Field → List ℕ → Type 0
+SaysName body of_field name = Says body (of_field ∷ []) (λ o. Tells as_name of_field name o)
 
 -- A body with a name, and attributes that may be left out.
 abbrev pub SaysMade : List ℕ → List ℕ → List (List ℕ) → Type 0
-SaysMade body name attributes = Says body (field.Name ∷ field.Attributes ∷ []) (λ o. GivesName name o × MayGiveAttributes attributes o)
+SaysMade body name attributes = Says body entity_fields (λ o. TellsName name o × MayTell as_attributes [] field.Attributes attributes o)
 
 -- A body with a name and attributes.
 abbrev pub SaysUpdated : List ℕ → List ℕ → List (List ℕ) → Type 0
-SaysUpdated body name attributes = Says body (field.Name ∷ field.Attributes ∷ []) (λ o. GivesName name o × GivesAttributes attributes o)
+SaysUpdated body name attributes = Says body entity_fields (λ o. TellsName name o × Tells as_attributes field.Attributes attributes o)
 
 -- A body of CreateRouter: all but the name may be left out.
 abbrev pub SaysMadeRouter : List ℕ → List ℕ → List (List ℕ) → ℕ → Bool → Type 0
 SaysMadeRouter body name attributes cost no_traversal = Says body router_fields (λ o.
-    GivesName name o × MayGiveAttributes attributes o
-    × (optional as_cost 0 field.Cost o ≡ Ok cost) × (optional as_bool false field.NoTraversal o ≡ Ok no_traversal))
+    TellsName name o × MayTell as_attributes [] field.Attributes attributes o
+    × MayTell as_cost 0 field.Cost cost o × MayTell as_bool false field.NoTraversal no_traversal o)
 
 -- A body of UpdateRouter.
 abbrev pub SaysUpdatedRouter : List ℕ → List ℕ → List (List ℕ) → ℕ → Bool → Type 0
 SaysUpdatedRouter body name attributes cost no_traversal = Says body router_fields (λ o.
-    GivesName name o × GivesAttributes attributes o
-    × (required as_cost field.Cost o ≡ Ok cost) × (required as_bool field.NoTraversal o ≡ Ok no_traversal))
+    TellsName name o × Tells as_attributes field.Attributes attributes o
+    × Tells as_cost field.Cost cost o × Tells as_bool field.NoTraversal no_traversal o)
 
--- A body spells a command under a content type. Hello is spelled by any body; the commands that are not named yet by none.
+-- A body that makes or updates a service policy.
+abbrev pub SaysServicePolicy : List ℕ → List ℕ → Relation → Semantic → Side → Side → Type 0
+SaysServicePolicy body name relation semantic left right = Says body service_policy_fields (λ o.
+    TellsName name o × Tells as_relation field.PolicyType relation o × Tells as_semantic field.Semantic semantic o
+    × Tells as_side field.IdentityRoles left o × Tells as_side field.ServiceRoles right o)
+
+-- A body that makes or updates a policy on routers, whose one side is in this field.
+abbrev pub SaysRouterPolicy : List ℕ → Field → List ℕ → Semantic → Side → Side → Type 0
+SaysRouterPolicy body of_left name semantic left right = Says body (router_policy_fields of_left) (λ o.
+    TellsName name o × Tells as_semantic field.Semantic semantic o
+    × Tells as_side of_left left o × Tells as_side field.RouterRoles right o)
+
+-- A body gives the fields of a command. Any body gives those of Hello; those of the commands that are not named yet none.
+abbrev pub SaysFields : List ℕ → Command → Type 0
+SaysFields body command.Hello = ⊤
+SaysFields body (command.CreateIdentity name attributes) = SaysMade body name attributes
+SaysFields body (command.UpdateIdentity name attributes) = SaysUpdated body name attributes
+SaysFields body (command.DeleteIdentity name) = SaysName body field.Name name
+SaysFields body (command.CreateService name attributes) = SaysMade body name attributes
+SaysFields body (command.UpdateService name attributes) = SaysUpdated body name attributes
+SaysFields body (command.DeleteService name) = SaysName body field.Name name
+SaysFields body (command.CreateRouter name attributes cost no_traversal) = SaysMadeRouter body name attributes cost no_traversal
+SaysFields body (command.UpdateRouter name attributes cost no_traversal) = SaysUpdatedRouter body name attributes cost no_traversal
+SaysFields body (command.DeleteRouter name) = SaysName body field.Name name
+SaysFields body (command.ConnectRouter name) = SaysName body field.Name name
+SaysFields body (command.DisconnectRouter name) = SaysName body field.Name name
+SaysFields body (command.CreateServicePolicy name relation semantic left right) = SaysServicePolicy body name relation semantic left right
+SaysFields body (command.UpdateServicePolicy name relation semantic left right) = SaysServicePolicy body name relation semantic left right
+SaysFields body (command.DeleteServicePolicy name) = SaysName body field.Name name
+SaysFields body (command.CreateEdgeRouterPolicy name semantic left right) = SaysRouterPolicy body field.IdentityRoles name semantic left right
+SaysFields body (command.UpdateEdgeRouterPolicy name semantic left right) = SaysRouterPolicy body field.IdentityRoles name semantic left right
+SaysFields body (command.DeleteEdgeRouterPolicy name) = SaysName body field.Name name
+SaysFields body (command.CreateServiceEdgeRouterPolicy name semantic left right) = SaysRouterPolicy body field.ServiceRoles name semantic left right
+SaysFields body (command.UpdateServiceEdgeRouterPolicy name semantic left right) = SaysRouterPolicy body field.ServiceRoles name semantic left right
+SaysFields body (command.DeleteServiceEdgeRouterPolicy name) = SaysName body field.Name name
+SaysFields body (command.ShowGrants identity) = SaysName body field.Identity identity
+SaysFields body (command.ListServices identity) = SaysName body field.Identity identity
+SaysFields body command.ShowCounts = Says body [] (λ o. ⊤)
+SaysFields body _ = ⊥
+
+-- A body spells a command under a content type: the type is the command's and is read, and the body gives the command's fields.
 abbrev pub Spells : ℕ → List ℕ → Command → Type 0
-Spells content body command.Hello = content ≡ 0
-Spells content body (command.CreateIdentity name attributes) = (content ≡ 1000) × SaysMade body name attributes
-Spells content body (command.UpdateIdentity name attributes) = (content ≡ 1001) × SaysUpdated body name attributes
-Spells content body (command.DeleteIdentity name) = (content ≡ 1002) × SaysName body name
-Spells content body (command.CreateService name attributes) = (content ≡ 1010) × SaysMade body name attributes
-Spells content body (command.UpdateService name attributes) = (content ≡ 1011) × SaysUpdated body name attributes
-Spells content body (command.DeleteService name) = (content ≡ 1012) × SaysName body name
-Spells content body (command.CreateRouter name attributes cost no_traversal) = (content ≡ 1020) × SaysMadeRouter body name attributes cost no_traversal
-Spells content body (command.UpdateRouter name attributes cost no_traversal) = (content ≡ 1021) × SaysUpdatedRouter body name attributes cost no_traversal
-Spells content body (command.DeleteRouter name) = (content ≡ 1022) × SaysName body name
-Spells content body (command.ConnectRouter name) = (content ≡ 1023) × SaysName body name
-Spells content body (command.DisconnectRouter name) = (content ≡ 1024) × SaysName body name
-Spells content body _ = ⊥
+Spells content body c = (content ≡ content_of c) × (is_read c ≡ true) × SaysFields body c

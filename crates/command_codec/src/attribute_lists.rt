@@ -2,7 +2,9 @@ ghost use Rattle.std.specs.Prelude.{◌≡◌, [], IfOk, option_map};
 ghost use Rattle.serde_json.specs.View.{items_view};
 ghost use Rattle.json_body.specs.FieldKinds.{object_of, required, optional};
 ghost use Rattle.role_expr.specs.NameRepeats.{without_repeats};
-ghost use Rattle.command_codec.specs.NameLists.{names_of, as_attributes};
+ghost use Rattle.json_body.specs.FieldKinds.{as_name};
+ghost use Rattle.command_codec.specs.ItemLists.{each_of};
+ghost use Rattle.command_codec.specs.NameLists.{as_attributes};
 ghost use Rattle.command_codec.specs.ReadResults.{Gives};
 
 use ctrl_model::{Field, Names};
@@ -16,7 +18,7 @@ const MOST_ATTRIBUTES: usize = 64;
 
 // The names that some values are, without repeats, if each is a name.
 fn names_in(alloc: Global, values: &[Value]) -> Result<Option<Names>, AllocError>
-    ensures { IfOk result (λ ns. ns ≡ option_map without_repeats (names_of (items_view values.now))) }
+    ensures { IfOk result (λ ns. ns ≡ option_map without_repeats (each_of as_name (items_view values.now))) }
 {
     let mut kept = Vec::new(alloc);
     'values: for value in values {

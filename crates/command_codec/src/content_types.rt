@@ -23,3 +23,27 @@ pub(crate) const DELETE_ROUTER: u32 = 1022;
 pub(crate) const CONNECT_ROUTER: u32 = 1023;
 
 pub(crate) const DISCONNECT_ROUTER: u32 = 1024;
+
+pub(crate) const CREATE_SERVICE_POLICY: u32 = 1100;
+
+pub(crate) const UPDATE_SERVICE_POLICY: u32 = 1101;
+
+pub(crate) const DELETE_SERVICE_POLICY: u32 = 1102;
+
+pub(crate) const CREATE_EDGE_ROUTER_POLICY: u32 = 1110;
+
+pub(crate) const UPDATE_EDGE_ROUTER_POLICY: u32 = 1111;
+
+pub(crate) const DELETE_EDGE_ROUTER_POLICY: u32 = 1112;
+
+pub(crate) const CREATE_SERVICE_EDGE_ROUTER_POLICY: u32 = 1120;
+
+pub(crate) const UPDATE_SERVICE_EDGE_ROUTER_POLICY: u32 = 1121;
+
+pub(crate) const DELETE_SERVICE_EDGE_ROUTER_POLICY: u32 = 1122;
+
+pub(crate) const SHOW_GRANTS: u32 = 1500;
+
+pub(crate) const LIST_SERVICES: u32 = 1501;
+
+pub(crate) const SHOW_COUNTS: u32 = 1502;

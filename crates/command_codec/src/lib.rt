@@ -4,12 +4,20 @@
 mod attribute_lists;
 mod bodies;
 mod content_types;
+mod entity_bodies;
+mod field_words;
 mod laws;
+mod policy_bodies;
 mod reading;
+mod role_lists;
+mod show_bodies;
 #[cfg(test)]
 mod tests;
 mod worked;
 
 pub use laws::what_a_body_spells;
 pub use reading::{CodecFault, read};
-pub use worked::{worked_bodies, worked_causes, worked_lists};
+pub use worked::{
+    worked_bodies, worked_causes, worked_lists, worked_policies, worked_policy_causes,
+    worked_shows, worked_sides,
+};

@@ -4,11 +4,13 @@ ghost use Rattle.ctrl_model.specs.CommandForm.{is_spelled};
 ghost use Rattle.command_codec.specs.BodyMeaning.{meaning};
 ghost use Rattle.command_codec.specs.ReadResults.{Gives};
 
-use crate::bodies::{made, made_router, named, updated, updated_router};
 use crate::content_types::{
-    CONNECT_ROUTER, CREATE_IDENTITY, CREATE_ROUTER, CREATE_SERVICE, DELETE_IDENTITY, DELETE_ROUTER,
-    DELETE_SERVICE, DISCONNECT_ROUTER, HELLO, UPDATE_IDENTITY, UPDATE_ROUTER, UPDATE_SERVICE,
+    CREATE_IDENTITY, CREATE_SERVICE_POLICY, DELETE_SERVICE_EDGE_ROUTER_POLICY, DISCONNECT_ROUTER,
+    HELLO, SHOW_COUNTS, SHOW_GRANTS,
 };
+use crate::entity_bodies::entity_command;
+use crate::policy_bodies::policy_command;
+use crate::show_bodies::show_command;
 use ctrl_model::{Command, Field, Reason};
 use json_body::FieldFault;
 use std::alloc::Global;
@@ -30,7 +32,7 @@ pub enum CodecFault {
 
 impl From<FieldFault> for CodecFault {
     ghost use Rattle.std.specs.Prelude.{◌≡◌};
-    ghost use Rattle.command_codec.specs.BodyMeaning.{cause_of};
+    ghost use Rattle.command_codec.specs.BodyObjects.{cause_of};
 
     ghost from_gives = { λ fault e. e ≡ cause_of fault };
 
@@ -57,7 +59,6 @@ impl From<FieldFault> for CodecFault {
     }
 }
 
-#[tactic(auto, using(crate::proofs::SpelledLaws::supported))]
 fn command_in(alloc: Global, content: u32, body: &[u8]) -> Result<Command, CodecFault>
     ensures given { Gives CodecFault.NoMemory (λ c. c) result (meaning content body.now) }
     ensures hello { content ≡ 0 → IsOk result }
@@ -65,27 +66,11 @@ fn command_in(alloc: Global, content: u32, body: &[u8]) -> Result<Command, Codec
 {
     match content {
         HELLO => Ok(Command::Hello),
-        CREATE_IDENTITY => {
-            made(alloc, body).map(|(name, attributes)| Command::CreateIdentity { name, attributes })
+        CREATE_IDENTITY..=DISCONNECT_ROUTER => entity_command(alloc, content, body),
+        CREATE_SERVICE_POLICY..=DELETE_SERVICE_EDGE_ROUTER_POLICY => {
+            policy_command(alloc, content, body)
         }
-        UPDATE_IDENTITY => updated(alloc, body).map(|(name, attributes)| Command::UpdateIdentity {
-            name,
-            attributes,
-        }),
-        DELETE_IDENTITY => named(alloc, body).map(|name| Command::DeleteIdentity { name }),
-        CREATE_SERVICE => {
-            made(alloc, body).map(|(name, attributes)| Command::CreateService { name, attributes })
-        }
-        UPDATE_SERVICE => updated(alloc, body).map(|(name, attributes)| Command::UpdateService {
-            name,
-            attributes,
-        }),
-        DELETE_SERVICE => named(alloc, body).map(|name| Command::DeleteService { name }),
-        CREATE_ROUTER => made_router(alloc, body),
-        UPDATE_ROUTER => updated_router(alloc, body),
-        DELETE_ROUTER => named(alloc, body).map(|name| Command::DeleteRouter { name }),
-        CONNECT_ROUTER => named(alloc, body).map(|name| Command::ConnectRouter { name }),
-        DISCONNECT_ROUTER => named(alloc, body).map(|name| Command::DisconnectRouter { name }),
+        SHOW_GRANTS..=SHOW_COUNTS => show_command(alloc, content, body),
         _ => Err(CodecFault::UnsupportedType),
     }
 }
@@ -93,8 +78,8 @@ fn command_in(alloc: Global, content: u32, body: &[u8]) -> Result<Command, Codec
 /// The command that a body spells under a content type.
 ///
 /// `UnsupportedType` comes exactly where no command has the type, and `BadBody` with the first cause exactly where the body
-/// spells no command of it; else only memory can be wanting. So far the types are those of Hello and of the commands on
-/// identities, services and edge routers (docs/FORMATS.md, "Commands").
+/// spells no command of it; else only memory can be wanting. So far the types are those of Hello, of the commands on
+/// identities, services, edge routers and policies, and of ShowGrants, ListServices and ShowCounts (docs/FORMATS.md, "Commands").
 pub fn read(alloc: Global, content: u32, body: &[u8]) -> Result<Command, CodecFault>
     ensures command { IfOk result (λ c. meaning content body.now ≡ Ok c) }
     ensures fault { IfErr result (λ e. e ≢ CodecFault.NoMemory → meaning content body.now ≡ Err e) }

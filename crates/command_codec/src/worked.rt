@@ -5,8 +5,11 @@ ghost use Rattle.ctrl_model.specs.declared.commands.Command.TheVariants as comma
 ghost use Rattle.ctrl_model.specs.declared.refusals.Field.TheVariants as field;
 ghost use Rattle.ctrl_model.specs.declared.refusals.Reason.TheVariants as reason;
 ghost use Rattle.command_codec.specs.declared.reading.CodecFault.TheVariants.{UnsupportedType, BadBody};
+ghost use Rattle.ctrl_model.specs.declared.kinds.Relation.TheVariants.{Dial, Bind};
+ghost use Rattle.ctrl_model.specs.declared.kinds.Semantic.TheVariants.{AnyOf, AllOf};
 ghost use Rattle.role_expr.specs.NameRepeats.{without_repeats};
 ghost use Rattle.command_codec.specs.NameLists.{as_attributes};
+ghost use Rattle.command_codec.specs.RoleLists.{as_side};
 ghost use Rattle.command_codec.specs.BodyMeaning.{meaning};
 
 /// Bodies that spell a command of each kind.
@@ -25,6 +28,35 @@ pub fn worked_bodies()
     ensures deleted_router { meaning 1022 (codes "{\"name\":\"r1\"}") ≡ Ok (command.DeleteRouter (codes "r1")) }
     ensures connected { meaning 1023 (codes "{\"name\":\"r1\"}") ≡ Ok (command.ConnectRouter (codes "r1")) }
     ensures disconnected { meaning 1024 (codes "{\"name\":\"r1\"}") ≡ Ok (command.DisconnectRouter (codes "r1")) }
+{}
+
+/// Bodies of the commands on policies: the kinds of policy, and sides with `#all`, `@` and `#` entries.
+pub fn worked_policies()
+    ensures made { meaning 1100 (codes "{\"name\":\"p\",\"type\":\"Dial\",\"semantic\":\"AnyOf\",\"identity_roles\":[\"#all\"],\"service_roles\":[\"@web\",\"#a\",\"@web\"]}")
+        ≡ Ok (command.CreateServicePolicy (codes "p") Dial AnyOf (record { all = true; ids = []; attributes = [] }) (record { all = false; ids = codes "web" ∷ []; attributes = codes "a" ∷ [] })) }
+    ensures updated { meaning 1101 (codes "{\"name\":\"p\",\"type\":\"Bind\",\"semantic\":\"AllOf\",\"identity_roles\":[],\"service_roles\":[\"#all\",\"#all\"]}")
+        ≡ Ok (command.UpdateServicePolicy (codes "p") Bind AllOf (record { all = false; ids = []; attributes = [] }) (record { all = true; ids = []; attributes = [] })) }
+    ensures deleted { meaning 1102 (codes "{\"name\":\"p\"}") ≡ Ok (command.DeleteServicePolicy (codes "p")) }
+    ensures made_for_identities { meaning 1110 (codes "{\"name\":\"p\",\"semantic\":\"AllOf\",\"identity_roles\":[\"#a\"],\"router_roles\":[\"@r1\"]}")
+        ≡ Ok (command.CreateEdgeRouterPolicy (codes "p") AllOf (record { all = false; ids = []; attributes = codes "a" ∷ [] }) (record { all = false; ids = codes "r1" ∷ []; attributes = [] })) }
+    ensures updated_for_identities { meaning 1111 (codes "{\"name\":\"p\",\"semantic\":\"AnyOf\",\"identity_roles\":[],\"router_roles\":[\"#all\"]}")
+        ≡ Ok (command.UpdateEdgeRouterPolicy (codes "p") AnyOf (record { all = false; ids = []; attributes = [] }) (record { all = true; ids = []; attributes = [] })) }
+    ensures deleted_for_identities { meaning 1112 (codes "{\"name\":\"p\"}") ≡ Ok (command.DeleteEdgeRouterPolicy (codes "p")) }
+    ensures made_for_services { meaning 1120 (codes "{\"name\":\"p\",\"semantic\":\"AnyOf\",\"service_roles\":[\"@web\"],\"router_roles\":[\"#a\"]}")
+        ≡ Ok (command.CreateServiceEdgeRouterPolicy (codes "p") AnyOf (record { all = false; ids = codes "web" ∷ []; attributes = [] }) (record { all = false; ids = []; attributes = codes "a" ∷ [] })) }
+    ensures updated_for_services { meaning 1121 (codes "{\"name\":\"p\",\"semantic\":\"AllOf\",\"service_roles\":[\"#all\"],\"router_roles\":[]}")
+        ≡ Ok (command.UpdateServiceEdgeRouterPolicy (codes "p") AllOf (record { all = true; ids = []; attributes = [] }) (record { all = false; ids = []; attributes = [] })) }
+    ensures deleted_for_services { meaning 1122 (codes "{\"name\":\"p\"}") ≡ Ok (command.DeleteServiceEdgeRouterPolicy (codes "p")) }
+{}
+
+/// Bodies of the commands that show grants, services and counts.
+pub fn worked_shows()
+    ensures grants { meaning 1500 (codes "{\"identity\":\"ann\"}") ≡ Ok (command.ShowGrants (codes "ann")) }
+    ensures services { meaning 1501 (codes "{\"identity\":\"ann\"}") ≡ Ok (command.ListServices (codes "ann")) }
+    ensures counts { meaning 1502 (codes "{}") ≡ Ok command.ShowCounts }
+    ensures no_object { meaning 1502 [] ≡ Err (BadBody field.Nothing reason.NotObject) }
+    ensures other_key { meaning 1502 (codes "{\"x\":1}") ≡ Err (BadBody field.Nothing reason.Unknown) }
+    ensures name { meaning 1500 (codes "{\"name\":\"ann\"}") ≡ Err (BadBody field.Identity reason.Missing) }
 {}
 
 /// Bodies that spell no command, each with its first cause: of fields that say nothing of their kind the first counts, and
@@ -48,6 +80,19 @@ pub fn worked_causes()
     ensures no_cost { meaning 1021 (codes "{\"name\":\"r1\",\"attributes\":[]}") ≡ Err (BadBody field.Cost reason.Missing) }
 {}
 
+/// Bodies of the commands on policies that spell none, each with its first cause.
+pub fn worked_policy_causes()
+    ensures relation { meaning 1100 (codes "{\"name\":\"p\",\"type\":\"IdentityRouter\"}") ≡ Err (BadBody field.PolicyType reason.WrongKind) }
+    ensures case { meaning 1100 (codes "{\"name\":\"p\",\"type\":\"dial\"}") ≡ Err (BadBody field.PolicyType reason.WrongKind) }
+    ensures semantic { meaning 1110 (codes "{\"name\":\"p\",\"semantic\":\"Any\"}") ≡ Err (BadBody field.Semantic reason.WrongKind) }
+    ensures no_type { meaning 1100 (codes "{\"name\":\"p\",\"semantic\":1}") ≡ Err (BadBody field.PolicyType reason.Missing) }
+    ensures no_side { meaning 1120 (codes "{\"name\":\"p\",\"semantic\":\"AnyOf\",\"router_roles\":1}") ≡ Err (BadBody field.ServiceRoles reason.Missing) }
+    ensures all_beside { meaning 1110 (codes "{\"name\":\"p\",\"semantic\":\"AnyOf\",\"identity_roles\":[\"#a\"],\"router_roles\":[\"#all\",\"#a\"]}") ≡ Err (BadBody field.RouterRoles reason.WrongKind) }
+    ensures no_role { meaning 1110 (codes "{\"name\":\"p\",\"semantic\":\"AnyOf\",\"identity_roles\":[\"ann\"],\"router_roles\":[]}") ≡ Err (BadBody field.IdentityRoles reason.WrongKind) }
+    ensures type_of_others { meaning 1110 (codes "{\"name\":\"p\",\"type\":\"Dial\",\"semantic\":\"AnyOf\",\"identity_roles\":[],\"router_roles\":[]}") ≡ Err (BadBody field.Nothing reason.Unknown) }
+    ensures link { meaning 1200 (codes "{\"name\":\"l1\",\"a\":\"r1\",\"b\":\"r2\"}") ≡ Err UnsupportedType }
+{}
+
 /// Lists of attributes: repeats go at their later places, each value has to be a name, and at most 64 may be sent, repeats
 /// with them.
 pub fn worked_lists()
@@ -56,4 +101,15 @@ pub fn worked_lists()
     ensures more { as_attributes (array (items_of (replicate 65 (string (codes "a"))))) ≡ None }
     ensures no_name { as_attributes (array (items_of (string (codes "a") ∷ null ∷ []))) ≡ None }
     ensures no_list { as_attributes (string (codes "a")) ≡ None }
+{}
+
+/// Role lists: at most 64 entries may be sent, repeats with them, and `#all` stands alone, once or more.
+pub fn worked_sides()
+    ensures most { as_side (array (items_of (replicate 64 (string (codes "#a"))))) ≡ Some (record { all = false; ids = []; attributes = codes "a" ∷ [] }) }
+    ensures more { as_side (array (items_of (replicate 65 (string (codes "#a"))))) ≡ None }
+    ensures all { as_side (array (items_of (string (codes "#all") ∷ string (codes "#all") ∷ []))) ≡ Some (record { all = true; ids = []; attributes = [] }) }
+    ensures all_beside { as_side (array (items_of (string (codes "#all") ∷ string (codes "#a") ∷ []))) ≡ None }
+    ensures named_all { as_side (array (items_of (string (codes "@all") ∷ string (codes "#b") ∷ string (codes "@all") ∷ []))) ≡ Some (record { all = false; ids = codes "all" ∷ []; attributes = codes "b" ∷ [] }) }
+    ensures no_role { as_side (array (items_of (string (codes "#a") ∷ string (codes "a") ∷ []))) ≡ None }
+    ensures nothing { as_side null ≡ None }
 {}

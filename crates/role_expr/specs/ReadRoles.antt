@@ -1,4 +1,5 @@
--- What the private functions of reading answer: the entry that bytes are. No public contract cites it.
+-- The entry that bytes are, if they are one, as a function: what the private functions of reading answer, and what the reading of
+-- role lists in bodies cites. The public contract of reading says it by spellings.
 use Rattle.std.specs.Prelude.{ℕ, ◌==◌, if◌then◌else◌, List, [], ◌∷◌, codes, None, Some, option_map}
 use Rattle.std.specs.declared.option.Option.{Option}
 use Rattle.std.specs.Str.{bytes_eq}

@@ -1,12 +1,11 @@
-use Rattle.command_codec.proofs.ReadLaws.{is_read-meaning}
-use Rattle.command_codec.proofs.SpelledLaws.{Spells-meaning, meaning-Spells, is_spelled-meaning}
+use Rattle.command_codec.proofs.SpelledLaws.{means, meaning-Spells}
 use Rattle.command_codec.proofs.laws.what_a_body_spells.Goals as goal
 
 pub returns-clause-spells : goal.returns-clause-spells
-returns-clause-spells c = λ content body d. (Spells-meaning content body d, meaning-Spells content body d)
+returns-clause-spells c = λ content body d. (λ e. (means content body d e).spelled, meaning-Spells content body d)
 
 pub returns-clause-spelled : goal.returns-clause-spelled
-returns-clause-spelled c = is_spelled-meaning
+returns-clause-spelled c = λ content body d e. (means content body d e).form
 
 pub returns-clause-in_table : goal.returns-clause-in_table
-returns-clause-in_table c = is_read-meaning
+returns-clause-in_table c = λ content body d e. (means content body d e).spelled.1

@@ -1,5 +1,4 @@
-use Rattle.command_codec.proofs.ReadLaws.{given_read}
-use Rattle.command_codec.proofs.SpelledLaws.{given_form}
+use Rattle.command_codec.proofs.SpelledLaws.{given_form, given_read}
 use Rattle.command_codec.proofs.reading.read.Goals as goal
 
 pub returns-clause-spelled : goal.returns-clause-spelled

@@ -1,0 +1,22 @@
+-- Role lists in bodies (docs/FORMATS.md, "Commands"; docs/RULES.md, "Policies and grants").
+use Rattle.std.specs.Prelude.{if◌then◌else◌, List, None, Some, option_and_then}
+use Rattle.std.specs.declared.option.Option.{Option}
+use Rattle.serde_json.specs.Data.{Data}
+use Rattle.serde_json.specs.Find.{as_str}
+use Rattle.ctrl_model.specs.declared.kinds.Role.{Role}
+use Rattle.ctrl_model.specs.declared.kinds.Side.{Side}
+use Rattle.role_expr.specs.ReadRoles.{role_in}
+use Rattle.role_expr.specs.RoleSides.{is_all_beside, side_from}
+use Rattle.command_codec.specs.ItemLists.{as_each_of}
+
+-- A role entry: the one whose spelling a text is.
+abbrev pub as_role : Data → Option Role
+as_role d = option_and_then role_in (as_str d)
+
+-- The side of some role entries: `#all` stands alone.
+abbrev pub side_of : List Role → Option Side
+side_of roles = if is_all_beside roles then None else Some (side_from roles)
+
+-- The side that a value gives: a list of at most 64 role entries, as it was sent. Repeats are dropped.
+abbrev pub as_side : Data → Option Side
+as_side d = option_and_then side_of (as_each_of 64 as_role d)

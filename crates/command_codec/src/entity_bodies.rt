@@ -1,0 +1,167 @@
+ghost use Rattle.std.specs.Prelude.{◌≡◌, ℕ, List, IsErrOf, Err, false};
+ghost use Rattle.serde_json.specs.Find.{as_bool};
+ghost use Rattle.ctrl_model.specs.declared.commands.Command.{Command};
+ghost use Rattle.json_body.specs.FieldKinds.{object_of, optional};
+ghost use Rattle.command_codec.specs.BodyObjects.{object_of_body, said_by};
+ghost use Rattle.command_codec.specs.BodyMeaning.{meaning_in};
+ghost use Rattle.command_codec.specs.EntityBodies.{as_cost, named, made, updated, made_router, updated_router, entity_table};
+ghost use Rattle.command_codec.specs.ReadResults.{Gives};
+
+use crate::attribute_lists::{attributes, attributes_or_none};
+use crate::bodies::value_in;
+use crate::content_types::{
+    CONNECT_ROUTER, CREATE_IDENTITY, CREATE_ROUTER, CREATE_SERVICE, DELETE_IDENTITY, DELETE_ROUTER,
+    DELETE_SERVICE, DISCONNECT_ROUTER, UPDATE_IDENTITY, UPDATE_ROUTER, UPDATE_SERVICE,
+};
+use crate::reading::CodecFault;
+use ctrl_model::{Command, Field, Name, Names};
+use json_body::{FieldFault, Fields};
+use std::alloc::Global;
+
+// The greatest cost of a router.
+const MOST_COST: u32 = 65_535;
+
+// The fields of a body that makes or updates an identity or a service, and of one that makes or updates a router.
+const ENTITY_FIELDS: [Field; 2] = [Field::Name, Field::Attributes];
+
+const ROUTER_FIELDS: [Field; 4] = [
+    Field::Name,
+    Field::Attributes,
+    Field::Cost,
+    Field::NoTraversal,
+];
+
+fn cost_or_none(fields: &Fields) -> Result<u32, FieldFault>
+    ensures { result ≡ optional as_cost 0 Field.Cost (object_of fields.now) }
+{
+    if !fields.has(Field::Cost) {
+        return Ok(0);
+    }
+    fields.number(Field::Cost, 0, MOST_COST)
+}
+
+fn no_traversal_or_not(fields: &Fields) -> Result<bool, FieldFault>
+    ensures { result ≡ optional as_bool false Field.NoTraversal (object_of fields.now) }
+{
+    if !fields.has(Field::NoTraversal) {
+        return Ok(false);
+    }
+    fields.flag(Field::NoTraversal)
+}
+
+// What a body says whose one field is a name.
+pub(crate) fn named(alloc: Global, body: &[u8], field: Field) -> Result<Name, CodecFault>
+    ensures { (make : List ℕ → Command) → Gives CodecFault.NoMemory make result (said_by (named field make) (object_of_body body.now)) }
+{
+    let value = value_in(alloc, body)?;
+    let fields = Fields::of(&value)?;
+    let name = fields.name(alloc, field)?;
+    fields.finish(&[field])?;
+    Ok(name)
+}
+
+// What a body says that makes an identity or a service.
+fn made(alloc: Global, body: &[u8]) -> Result<(Name, Names), CodecFault>
+    ensures { (make : List ℕ → List (List ℕ) → Command) → Gives CodecFault.NoMemory (λ x. make x.0 x.1) result (said_by (made make) (object_of_body body.now)) }
+{
+    let value = value_in(alloc, body)?;
+    let fields = Fields::of(&value)?;
+    let name = fields.name(alloc, Field::Name)?;
+    let attributes = attributes_or_none(alloc, &fields)?;
+    fields.finish(&ENTITY_FIELDS)?;
+    Ok((name, attributes))
+}
+
+// What a body says that updates an identity or a service.
+fn updated(alloc: Global, body: &[u8]) -> Result<(Name, Names), CodecFault>
+    ensures { (make : List ℕ → List (List ℕ) → Command) → Gives CodecFault.NoMemory (λ x. make x.0 x.1) result (said_by (updated make) (object_of_body body.now)) }
+{
+    let value = value_in(alloc, body)?;
+    let fields = Fields::of(&value)?;
+    let name = fields.name(alloc, Field::Name)?;
+    let attributes = attributes(alloc, &fields)?;
+    fields.finish(&ENTITY_FIELDS)?;
+    Ok((name, attributes))
+}
+
+// The command that a body says which makes a router.
+fn made_router(alloc: Global, body: &[u8]) -> Result<Command, CodecFault>
+    ensures { Gives CodecFault.NoMemory (λ c. c) result (said_by made_router (object_of_body body.now)) }
+{
+    let value = value_in(alloc, body)?;
+    let fields = Fields::of(&value)?;
+    let name = fields.name(alloc, Field::Name)?;
+    let attributes = attributes_or_none(alloc, &fields)?;
+    let cost = cost_or_none(&fields)?;
+    let no_traversal = no_traversal_or_not(&fields)?;
+    fields.finish(&ROUTER_FIELDS)?;
+    Ok(Command::CreateRouter {
+        name,
+        attributes,
+        cost,
+        no_traversal,
+    })
+}
+
+// The command that a body says which updates a router.
+fn updated_router(alloc: Global, body: &[u8]) -> Result<Command, CodecFault>
+    ensures { Gives CodecFault.NoMemory (λ c. c) result (said_by updated_router (object_of_body body.now)) }
+{
+    let value = value_in(alloc, body)?;
+    let fields = Fields::of(&value)?;
+    let name = fields.name(alloc, Field::Name)?;
+    let attributes = attributes(alloc, &fields)?;
+    let cost = fields.number(Field::Cost, 0, MOST_COST)?;
+    let no_traversal = fields.flag(Field::NoTraversal)?;
+    fields.finish(&ROUTER_FIELDS)?;
+    Ok(Command::UpdateRouter {
+        name,
+        attributes,
+        cost,
+        no_traversal,
+    })
+}
+
+// The command on an identity, a service or an edge router that a body spells.
+#[tactic(auto, using(crate::proofs::TableLaws::supported))]
+pub(crate) fn entity_command(
+    alloc: Global,
+    content: u32,
+    body: &[u8],
+) -> Result<Command, CodecFault>
+    ensures given { Gives CodecFault.NoMemory (λ c. c) result (meaning_in entity_table content body.now) }
+    ensures unsupported { meaning_in entity_table content body.now ≡ Err CodecFault.UnsupportedType → IsErrOf result CodecFault.UnsupportedType }
+{
+    match content {
+        CREATE_IDENTITY => {
+            made(alloc, body).map(|(name, attributes)| Command::CreateIdentity { name, attributes })
+        }
+        UPDATE_IDENTITY => updated(alloc, body).map(|(name, attributes)| Command::UpdateIdentity {
+            name,
+            attributes,
+        }),
+        DELETE_IDENTITY => {
+            named(alloc, body, Field::Name).map(|name| Command::DeleteIdentity { name })
+        }
+        CREATE_SERVICE => {
+            made(alloc, body).map(|(name, attributes)| Command::CreateService { name, attributes })
+        }
+        UPDATE_SERVICE => updated(alloc, body).map(|(name, attributes)| Command::UpdateService {
+            name,
+            attributes,
+        }),
+        DELETE_SERVICE => {
+            named(alloc, body, Field::Name).map(|name| Command::DeleteService { name })
+        }
+        CREATE_ROUTER => made_router(alloc, body),
+        UPDATE_ROUTER => updated_router(alloc, body),
+        DELETE_ROUTER => named(alloc, body, Field::Name).map(|name| Command::DeleteRouter { name }),
+        CONNECT_ROUTER => {
+            named(alloc, body, Field::Name).map(|name| Command::ConnectRouter { name })
+        }
+        DISCONNECT_ROUTER => {
+            named(alloc, body, Field::Name).map(|name| Command::DisconnectRouter { name })
+        }
+        _ => Err(CodecFault::UnsupportedType),
+    }
+}
