@@ -3,3 +3,4 @@ pub mod PolicyRules
 pub mod StoredPolicies
 pub mod Rows
 pub mod Stores
+pub mod WorkedPolicies

@@ -1,4 +1,4 @@
-ghost use Rattle.std.specs.Prelude.{◌≡◌, ◌≤◌, ◌&&◌, not, cond, true, position, is_none, min, MatchOption, IfOk, OnErr};
+ghost use Rattle.std.specs.Prelude.{◌≡◌, ◌≤◌, ◌&&◌, not, cond, true, position, is_none, min, MatchOption, IfOk, OnOk, OnErr};
 ghost use Rattle.std.specs.Option.{option_map};
 ghost use Rattle.std.specs.Result.{result_map_both};
 ghost use Rattle.ctrl_model.specs.Numbered.{at, numbers};
@@ -192,7 +192,9 @@ impl Policies {
         known: &Entities,
     ) -> Result<(), PolicyFault>
         requires { is_policy_kind kind ≡ true }
-        ensures { result ≡ may_put kind (policy_of policy.now) fresh self.now known.now }
+        ensures fault { result ≡ may_put kind (policy_of policy.now) fresh self.now known.now }
+        // A policy that may be put can be put.
+        ensures can { OnOk result (can_put kind policy.now.name fresh self.now ≡ true) }
     {
         let taken = self.number_of(kind, &policy.name).is_some();
         if fresh && taken {
