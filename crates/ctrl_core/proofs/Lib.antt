@@ -4,5 +4,4 @@ pub mod InUseLaws
 pub mod PlanLaws
 pub mod EntityCounts
 pub mod EntityPlans
-pub mod NumberLoops
 pub mod TurnLaws

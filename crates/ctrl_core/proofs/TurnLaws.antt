@@ -13,7 +13,7 @@ use Rattle.policy_store.specs.PolicyTables.{policies}
 use Rattle.ctrl_core.specs.declared.stores.Stores.{Stores}
 use Rattle.ctrl_core.specs.KeptState.{Keeps, state_of}
 use Rattle.ctrl_core.specs.GrantKinds.{policy_kind}
-use Rattle.ctrl_core.proofs.NumberLoops.{numbered_stands, by_numbers}
+use Rattle.record_places.proofs.NumberLoops.{numbered_stands, by_numbers}
 
 -- a policy stands at each number
 pub policy_stands : (r : Relation) (st : Stores) (i : ℕ) → Keeps st → i < length (numbers (policies (policy_kind r) st.policies))

@@ -1,4 +1,3 @@
-pub mod PlaceLaws
 pub mod RowLaws
 pub mod EntityLaws
 pub mod UseLaws

@@ -16,7 +16,7 @@ use Rattle.entity_store.specs.AttributeUses.{times, uses, used_names, entity_att
 use Rattle.entity_store.specs.Parts.{all_of, attributes_of, parts_of}
 use Rattle.entity_store.specs.Rows.{Entry, Listed, rows_of, as_entities}
 use Rattle.entity_store.specs.Stores.{tables_of, held_once}
-use Rattle.entity_store.proofs.RowLaws.{bytes_eq-flip}
+use Rattle.record_places.proofs.NameKeys.{bytes_eq-flip}
 use Rattle.entity_store.proofs.UseLaws.{times-append, held_times-once}
 
 all_of-suc : (parts : List (List (List ℕ))) (k : ℕ) (ns : List (List ℕ)) → slice_get parts k ≡ Some ns → all_of (drop k parts) ≡ ns ++ all_of (drop (suc k) parts)

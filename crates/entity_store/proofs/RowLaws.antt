@@ -1,31 +1,21 @@
 -- Laws of the entries of a kind: who has a name, a new entry, and entries that stand at their own names.
 use Rattle.std.proofs.Common.{◌≡◌, ℕ, zero, suc, ◌<◌, Bool, true, false, cond, List, [], ◌∷◌, ◌++◌, map, slice_get, None, Some, Result, Ok, Err, MatchResult, IfSome, IfNone, IfOk, OnErr, refl, sym, ◌∙◌, ap, subst, ◌+◌, ◌≤◌, arith}
-use Rattle.std.proofs.lemmas.Bool.{both_ways, false≢true}
+use Rattle.std.proofs.lemmas.Bool.{false≢true}
 use Rattle.std.proofs.lemmas.List.{map-append}
 use Rattle.std.proofs.lemmas.Option.{none-some}
 use Rattle.std.specs.Global.{Vec}
-use Rattle.std.specs.List.{AllByRecursion, remove}
+use Rattle.std.specs.List.{AllByRecursion}
 use Rattle.std.specs.Map.{lookup, values_of}
 use Rattle.std.specs.Option.{option_map}
-use Rattle.std.specs.Result.{result_ok}
 use Rattle.std.specs.Str.{bytes_eq}
-use Rattle.indexmap.specs.IndexMap.{insert_entry, set_value_at}
+use Rattle.indexmap.specs.IndexMap.{insert_entry}
 use Rattle.ctrl_model.specs.Networks.{seen}
 use Rattle.ctrl_model.specs.Numbered.{numbers, with_last, Between}
 use Rattle.ctrl_model.specs.State.{router_named, Router}
-use Rattle.ctrl_model.proofs.DistinctLaws.{same_name, same_bytes}
+use Rattle.record_places.proofs.NameKeys.{bytes_eq-flip}
 use Rattle.ctrl_model.proofs.NumberedLaws.{Between-more, Between-with_last}
 use Rattle.entity_store.specs.declared.rows.Row.{Row}
 use Rattle.entity_store.specs.Rows.{Entry, rows_of, numbered, router_of, IsAtItsName, AreKept}
-
-pub bytes_eq-flip : (a b : List ℕ) → bytes_eq a b ≡ bytes_eq b a
-bytes_eq-flip a b = by (bytes_eq a b) (bytes_eq b a) refl refl
-  where
-    by : (c d : Bool) → bytes_eq a b ≡ c → bytes_eq b a ≡ d → c ≡ d
-    by true true e f = refl
-    by false false e f = refl
-    by true false e f = absurd (both_ways (bytes_eq b a) f (same_bytes b a (sym (same_name a b e))))
-    by false true e f = absurd (both_ways (bytes_eq a b) e (same_bytes a b (sym (same_name b a f))))
 
 -- a look-up by the bytes of a name finds the row that has the name
 pub named-lookup : (es : List Entry) (name : List ℕ) → AllByRecursion IsAtItsName es
@@ -55,24 +45,6 @@ inserted (e ∷ es) key row h free =
 pub rows_of-append : (es : List Entry) (e : Entry) → rows_of (es ++ e ∷ []) ≡ rows_of es ++ numbered e ∷ []
 rows_of-append es e = map-append numbered es (e ∷ [])
 
--- ---- what holds of each element of a list that is changed
-
-pub all-append : {X : Type 0} (P : X → Type 0) (xs : List X) (x : X) → AllByRecursion P xs → P x → AllByRecursion P (xs ++ x ∷ [])
-all-append P [] x h p = (p, tt)
-all-append P (y ∷ xs) x h p = (h.0, all-append P xs x h.1 p)
-
-pub all-remove : {X : Type 0} (P : X → Type 0) (xs : List X) (i : ℕ) → AllByRecursion P xs → AllByRecursion P (remove xs i)
-all-remove P [] zero h = tt
-all-remove P [] (suc i) h = tt
-all-remove P (x ∷ xs) zero h = h.1
-all-remove P (x ∷ xs) (suc i) h = (h.0, all-remove P xs i h.1)
-
-pub all-set_value_at : {K V : Type 0} (P : K × V → Type 0) (es : List (K × V)) (i : ℕ) (w : V) → ((e : K × V) → slice_get es i ≡ Some e → P e → P (e.0, w))
-    → AllByRecursion P es → AllByRecursion P (set_value_at es i w)
-all-set_value_at P [] i w k h = tt
-all-set_value_at P (e ∷ es) zero w k h = (k e refl h.0, h.1)
-all-set_value_at P (e ∷ es) (suc i) w k h = (h.0, all-set_value_at P es i w k h.1)
-
 -- ---- what is listed of each row
 
 pub numbers-rows_of : (es : List Entry) → map (λ (r : Row). r.number) (values_of es) ≡ numbers (rows_of es)
@@ -82,16 +54,6 @@ numbers-rows_of (e ∷ es) = ap (λ ns. e.1.number ∷ ns) (numbers-rows_of es)
 pub seen-rows_of : (es : List Entry) → map (λ (r : Row). seen (r.number, router_of r)) (values_of es) ≡ map seen (rows_of es)
 seen-rows_of [] = refl
 seen-rows_of (e ∷ es) = ap (λ ns. seen (numbered e) ∷ ns) (seen-rows_of es)
-
--- ---- the answer of a search, without its place where nothing is found
-
-pub ok_found : (P : ℕ → Type 0) (Q : Type 0) (r : Result ℕ ℕ) → MatchResult r P (λ _. Q) → IfSome (result_ok r) P
-ok_found P Q (Ok i) h = h
-ok_found P Q (Err i) h = tt
-
-pub ok_absent : (P : ℕ → Type 0) (Q : Type 0) (r : Result ℕ ℕ) → MatchResult r P (λ _. Q) → IfNone (result_ok r) Q
-ok_absent P Q (Ok i) h = tt
-ok_absent P Q (Err i) h = h
 
 -- ---- a table keeps its numbers in order
 

@@ -10,7 +10,7 @@ use Rattle.std.specs.Result.{result_ok}
 use Rattle.ctrl_model.specs.declared.kinds.RouterSeen.{RouterSeen}
 use Rattle.ctrl_model.specs.Numbered.{at, Between}
 use Rattle.ctrl_model.proofs.NumberedLaws.{at-within}
-use Rattle.entity_store.proofs.PlaceLaws.{at-place, searched_place}
+use Rattle.record_places.proofs.PlaceLaws.{at-place, searched_place}
 use Rattle.fabric_graph.specs.declared.steps.End.{End}
 use Rattle.fabric_graph.specs.Routers.{numbered}
 use Rattle.fabric_graph.specs.Steps.{further, own_end, end_at}

@@ -14,7 +14,7 @@ use Rattle.ctrl_model.specs.State.{Link, link_named}
 use Rattle.ctrl_model.specs.ValidState.{HaveUniqueNames}
 use Rattle.ctrl_model.proofs.NumberedLaws.{at-within}
 use Rattle.ctrl_model.proofs.TableLaws.{found-named}
-use Rattle.entity_store.proofs.RowLaws.{bytes_eq-flip}
+use Rattle.record_places.proofs.NameKeys.{bytes_eq-flip}
 use Rattle.fabric_graph.specs.declared.links.Row.{Row}
 use Rattle.fabric_graph.specs.LinkRows.{Entry, rows_of, numbered, row_of, IsAtItsName}
 

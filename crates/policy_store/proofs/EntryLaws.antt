@@ -13,7 +13,7 @@ use Rattle.ctrl_model.specs.Numbered.{numbers, with_last, is_present, Between}
 use Rattle.ctrl_model.specs.State.{policy_named}
 use Rattle.ctrl_model.specs.State as state
 use Rattle.ctrl_model.proofs.NumberedLaws.{Between-more, Between-with_last, first_where-found}
-use Rattle.entity_store.proofs.RowLaws.{bytes_eq-flip}
+use Rattle.record_places.proofs.NameKeys.{bytes_eq-flip}
 use Rattle.policy_store.specs.declared.records.Row.{Row}
 use Rattle.policy_store.specs.Rows.{Entry, rows_of, numbered, IsAtItsName, AreKept}
 

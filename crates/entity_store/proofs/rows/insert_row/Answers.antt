@@ -1,7 +1,8 @@
 use Rattle.std.proofs.Common.{◌≡◌, ◌++◌, [], ◌∷◌, sym, ◌∙◌, ap}
 use Rattle.ctrl_model.specs.State.{Router, router_named}
 use Rattle.entity_store.specs.Rows.{rows_of, IsAtItsName}
-use Rattle.entity_store.proofs.RowLaws.{inserted, rows_of-append, all-append}
+use Rattle.record_places.proofs.ChangedLists.{all-append}
+use Rattle.entity_store.proofs.RowLaws.{inserted, rows_of-append}
 use Rattle.entity_store.proofs.rows.insert_row.Goals as goal
 
 pub returns-clause-ok : goal.returns-clause-ok

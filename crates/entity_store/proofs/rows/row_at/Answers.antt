@@ -1,7 +1,7 @@
 use Rattle.std.proofs.Common.{sym, ◌∙◌, ap}
 use Rattle.std.specs.Option.{option_map}
 use Rattle.entity_store.specs.Rows.{Entry, numbered, router_of}
-use Rattle.entity_store.proofs.PlaceLaws.{at-place}
+use Rattle.record_places.proofs.PlaceLaws.{at-place}
 use Rattle.entity_store.proofs.rows.row_at.Goals as goal
 
 pub returns : goal.returns

@@ -3,8 +3,8 @@ use Rattle.std.proofs.lemmas.Option.{same_Some}
 use Rattle.ctrl_model.specs.State.{Router}
 use Rattle.entity_store.specs.declared.rows.Row.{Row}
 use Rattle.entity_store.specs.Rows.{router_of, IsAtItsName}
-use Rattle.entity_store.proofs.PlaceLaws.{edit-place}
-use Rattle.entity_store.proofs.RowLaws.{all-set_value_at}
+use Rattle.record_places.proofs.PlaceLaws.{edit-place}
+use Rattle.record_places.proofs.ChangedLists.{all-set_value_at}
 use Rattle.entity_store.proofs.rows.set_marks.Goals as goal
 
 pub returns-clause-rows : goal.returns-clause-rows

@@ -2,7 +2,7 @@ use Rattle.std.proofs.Common.{◌≡◌, ◌∙◌, ap}
 use Rattle.ctrl_model.specs.State.{link_named}
 use Rattle.fabric_graph.specs.declared.links.Row.{Row}
 use Rattle.fabric_graph.specs.LinkRows.{rows_of, IsAtItsName}
-use Rattle.entity_store.proofs.RowLaws.{all-append}
+use Rattle.record_places.proofs.ChangedLists.{all-append}
 use Rattle.fabric_graph.proofs.LinkLaws.{inserted, rows_of-append}
 use Rattle.fabric_graph.proofs.links.insert_link.Goals as goal
 

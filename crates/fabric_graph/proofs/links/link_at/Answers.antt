@@ -1,6 +1,6 @@
 use Rattle.std.proofs.Common.{sym, ◌∙◌, ap}
 use Rattle.std.specs.Option.{option_map}
-use Rattle.entity_store.proofs.PlaceLaws.{at-place}
+use Rattle.record_places.proofs.PlaceLaws.{at-place}
 use Rattle.fabric_graph.specs.LinkRows.{Entry, numbered, link_of}
 use Rattle.fabric_graph.proofs.links.link_at.Goals as goal
 

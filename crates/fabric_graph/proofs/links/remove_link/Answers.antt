@@ -1,5 +1,5 @@
-use Rattle.entity_store.proofs.PlaceLaws.{without-place}
-use Rattle.entity_store.proofs.RowLaws.{all-remove}
+use Rattle.record_places.proofs.PlaceLaws.{without-place}
+use Rattle.record_places.proofs.ChangedLists.{all-remove}
 use Rattle.fabric_graph.specs.LinkRows.{numbered, IsAtItsName}
 use Rattle.fabric_graph.proofs.links.remove_link.Goals as goal
 

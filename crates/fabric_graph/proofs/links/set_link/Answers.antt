@@ -1,8 +1,8 @@
 use Rattle.std.proofs.Common.{sym, ◌∙◌, ap}
 use Rattle.std.proofs.lemmas.Option.{same_Some}
 use Rattle.ctrl_model.specs.State.{Link}
-use Rattle.entity_store.proofs.PlaceLaws.{edit-place}
-use Rattle.entity_store.proofs.RowLaws.{all-set_value_at}
+use Rattle.record_places.proofs.PlaceLaws.{edit-place}
+use Rattle.record_places.proofs.ChangedLists.{all-set_value_at}
 use Rattle.fabric_graph.specs.declared.links.Row.{Row}
 use Rattle.fabric_graph.specs.LinkRows.{row_of, link_of, IsAtItsName}
 use Rattle.fabric_graph.proofs.links.set_link.Goals as goal

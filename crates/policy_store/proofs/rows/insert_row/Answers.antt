@@ -3,7 +3,7 @@ use Rattle.ctrl_model.specs.State.{policy_named}
 use Rattle.policy_store.specs.declared.records.Row.{Row}
 use Rattle.policy_store.specs.Rows.{rows_of, IsAtItsName}
 use Rattle.policy_store.proofs.EntryLaws.{inserted, rows_of-append}
-use Rattle.entity_store.proofs.RowLaws.{all-append}
+use Rattle.record_places.proofs.ChangedLists.{all-append}
 use Rattle.policy_store.proofs.rows.insert_row.Goals as goal
 
 pub returns-clause-ok : goal.returns-clause-ok

@@ -2,8 +2,8 @@ use Rattle.std.proofs.Common.{◌≡◌, None, rules}
 use Rattle.std.proofs.lemmas.List.Sorted.{answers_always}
 use Rattle.ctrl_model.specs.Numbered.{at}
 use Rattle.policy_store.specs.Rows.{numbered, rows_of, IsPlace}
-use Rattle.entity_store.proofs.PlaceLaws.{searched_place}
-use Rattle.entity_store.proofs.RowLaws.{ok_found, ok_absent}
+use Rattle.record_places.proofs.PlaceLaws.{searched_place}
+use Rattle.record_places.proofs.ChangedLists.{ok_found, ok_absent}
 use Rattle.policy_store.proofs.rows.place_of.Goals as goal
 
 pub returns-clause-found : goal.returns-clause-found

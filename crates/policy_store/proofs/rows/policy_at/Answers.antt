@@ -1,6 +1,6 @@
 use Rattle.std.proofs.Common.{sym, ◌∙◌, ap}
 use Rattle.std.specs.Option.{option_map}
-use Rattle.entity_store.proofs.PlaceLaws.{at-place}
+use Rattle.record_places.proofs.PlaceLaws.{at-place}
 use Rattle.policy_store.specs.StoredPolicies.{policy_of}
 use Rattle.policy_store.specs.Rows.{Entry, numbered}
 use Rattle.policy_store.proofs.rows.policy_at.Goals as goal

@@ -1,6 +1,6 @@
 use Rattle.policy_store.specs.Rows.{numbered, IsAtItsName}
-use Rattle.entity_store.proofs.PlaceLaws.{without-place}
-use Rattle.entity_store.proofs.RowLaws.{all-remove}
+use Rattle.record_places.proofs.PlaceLaws.{without-place}
+use Rattle.record_places.proofs.ChangedLists.{all-remove}
 use Rattle.policy_store.proofs.rows.remove_row.Goals as goal
 
 pub returns-clause-rows : goal.returns-clause-rows

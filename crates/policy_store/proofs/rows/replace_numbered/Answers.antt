@@ -1,8 +1,8 @@
 use Rattle.std.proofs.Common.{sym, ◌∙◌, ap}
 use Rattle.std.proofs.lemmas.Option.{same_Some}
 use Rattle.ctrl_model.specs.PolicyCommands.{replaced_by}
-use Rattle.entity_store.proofs.PlaceLaws.{edit-place}
-use Rattle.entity_store.proofs.RowLaws.{all-set_value_at}
+use Rattle.record_places.proofs.PlaceLaws.{edit-place}
+use Rattle.record_places.proofs.ChangedLists.{all-set_value_at}
 use Rattle.policy_store.specs.declared.records.Row.{Row}
 use Rattle.policy_store.specs.StoredPolicies.{policy_of}
 use Rattle.policy_store.specs.Rows.{IsAtItsName, replaced}

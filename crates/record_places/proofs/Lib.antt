@@ -1,0 +1,4 @@
+pub mod PlaceLaws
+pub mod NumberLoops
+pub mod NameKeys
+pub mod ChangedLists
