@@ -1,3 +1,4 @@
 pub mod UseLaws
 pub mod RoomLaws
 pub mod InUseLaws
+pub mod ApplyLaws
