@@ -2,3 +2,5 @@ pub mod UseLaws
 pub mod RoomLaws
 pub mod InUseLaws
 pub mod ApplyLaws
+pub mod PolicyApplyLaws
+pub mod StepLaws

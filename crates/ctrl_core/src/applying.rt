@@ -175,6 +175,7 @@ fn remove_policy(
 ) -> Result<(), AllocError>
     requires kind { is_policy_kind kind ≡ true }
     requires there { is_present (policies_in kind (state_of stores.old)) number ≡ true }
+    requires before { ValidState (state_of stores.old) }
     requires held { HoldsPolicies stores.old }
     ensures { OnOk result (Carries stores.old stores.new (without_policy kind number (state_of stores.old))) }
 {
@@ -183,13 +184,14 @@ fn remove_policy(
     Ok(())
 }
 
-/// Makes a change that leads to a valid state. Of a change that fails for want of memory nothing is said.
+/// Makes a change that leads from a valid state to a valid one. Of a change that fails for want of memory nothing is said.
 pub fn apply_change(
     alloc: Global,
     stores: &mut Stores,
     change: Change,
 ) -> Result<(), AllocError>
     requires can { CanChange change (state_of stores.old) }
+    requires before { ValidState (state_of stores.old) }
     requires valid { ValidState (after_change change (state_of stores.old)) }
     requires held { HoldsPolicies stores.old }
     ensures { OnOk result (Carries stores.old stores.new (after_change change (state_of stores.old))) }
