@@ -1,12 +1,12 @@
 -- What applying a change of an entity has to show: that the stores allow it, and that they stand for the state after it.
-use Rattle.std.proofs.Common.{◌≡◌, ◌≢◌, ℕ, ◌+◌, ◌<◌, ◌≤◌, ◌==◌, Bool, true, false, cond, not, ◌&&◌, nat_lt, List, [], ◌∷◌, ◌++◌, map, length, Option, None, Some, Ok, Err, refl, sym, ◌∙◌, ap, arith, eq-eqb, ne_eqb, lt-ltb, is_some}
+use Rattle.std.proofs.Common.{◌≡◌, ◌≢◌, ℕ, ◌+◌, ◌<◌, ◌≤◌, ◌==◌, Bool, true, false, cond, not, ◌&&◌, nat_lt, List, [], ◌∷◌, ◌++◌, length, Option, None, Some, Ok, Err, refl, sym, ◌∙◌, ap, arith, eq-eqb, ne_eqb, lt-ltb, is_some}
 use Rattle.std.proofs.Math.Bool.{not-not}
 use Rattle.std.proofs.lemmas.Bool.{cond-false, cond-true, false≢true, and_parts}
 use Rattle.std.proofs.lemmas.List.{length-map}
-use Rattle.std.proofs.lemmas.Option.{same_Some, none-some}
+use Rattle.std.proofs.lemmas.List.Folds.{flat_map-map}
 use Rattle.std.specs.Bool.{⊤}
 use Rattle.std.specs.List.{flat_map}
-use Rattle.std.specs.Option.{option_map, option_map_or}
+use Rattle.std.specs.Option.{option_map}
 use Rattle.std.specs.declared.result.Result.{Result}
 use Rattle.std.specs.Str.{bytes_eq}
 use Rattle.ctrl_model.specs.declared.kinds.Kind.{Kind}
@@ -17,10 +17,10 @@ use Rattle.ctrl_model.specs.EntityCommands.{after_create_router}
 use Rattle.ctrl_model.specs.Numbered.{at, is_present, with_last, edit_at, map_each, first_where, Between}
 use Rattle.ctrl_model.specs.Rules.{side_attributes, forget_left, forget_right}
 use Rattle.ctrl_model.specs.State.{State, Entity, Router, Policy, as_entity}
-use Rattle.ctrl_model.specs.ValidState.{ValidState, ValidTable, HaveUniqueNames, each_passes, is_valid_router}
+use Rattle.ctrl_model.specs.ValidState.{ValidState, ValidTable, each_passes, is_valid_router}
 use Rattle.ctrl_model.proofs.DistinctLaws.{same_name}
 use Rattle.ctrl_model.proofs.Members.{list_all-among, at-row}
-use Rattle.ctrl_model.proofs.NumberedLaws.{Found, first_where-found, first_where-map, at-past, at-within, at-with_last, at-with_last-other, at-map, at-edit_at, length-with_last, by_is_some}
+use Rattle.ctrl_model.proofs.NumberedLaws.{Found, first_where-found, at-past, at-within, at-with_last, at-with_last-other, at-map, at-edit_at, length-with_last, by_is_some}
 use Rattle.entity_store.specs.declared.entities.EntityFault.{EntityFault}
 use Rattle.entity_store.specs.declared.entities.EntityFault.TheVariants.{Exists, Full}
 use Rattle.entity_store.specs.EntityTables.{Tables, is_entity_kind, entities, new_router, with_entity, with_attributes, with_router, without_entity}
@@ -30,7 +30,7 @@ use Rattle.entity_store.specs.TableRules as table_rules
 use Rattle.policy_store.specs.PolicyTables.{PolicyTables, forgetting}
 use Rattle.ctrl_core.specs.declared.stores.Stores.{Stores}
 use Rattle.ctrl_core.specs.AppliedChanges.{Carries}
-use Rattle.ctrl_core.specs.Changes.{is_plain_kind, is_there, with_plain, with_described, with_described_router, with_marked, with_removed}
+use Rattle.ctrl_core.specs.Changes.{is_plain_kind, is_there, with_plain, with_described, with_described_router, with_removed}
 use Rattle.ctrl_core.specs.KeptState.{HoldsPolicies, policy_attributes, state_of}
 use Rattle.ctrl_core.proofs.UseLaws.{Between-from_map}
 use Rattle.ctrl_core.proofs.InUseLaws.{has_room_in_state, added, added_router, described_identity, described_service, described_router}
@@ -164,13 +164,8 @@ pub cost_of_edit : (rows : List (ℕ × Router)) (n : ℕ) (f : Router → Route
 cost_of_edit rows n f cost costs there each =
     by_is_some (at rows n) there (λ r stands.
     let after : at (edit_at rows n f) n ≡ Some (f r) =
-        at-edit_at rows n n f ∙ ap (option_map (λ q. cond (n == n) (f q) q)) stands ∙ ap Some (cond-true (n == n) (f r) r (eq-eqb n n refl)) in
+    at-edit_at rows n n f ∙ ap (option_map (λ q. cond (n == n) (f q) q)) stands ∙ ap Some (cond-true (n == n) (f r) r (eq-eqb n n refl)) in
     sym (ap is_cost (costs r)) ∙ cost_of (f r) (list_all-among (λ (row : ℕ × Router). is_valid_router row.1) (edit_at rows n f) (n, f r) each (at-row (edit_at rows n f) n (f r) after)))
-
-pub cost_of_last : (rows : List (ℕ × Router)) (n : ℕ) (r : Router) → at rows n ≡ None → each_passes is_valid_router (with_last rows n r) ≡ true → is_cost r.cost ≡ true
-cost_of_last rows n r free each =
-    let stands = at-with_last rows n n r free ∙ cond-true (n == n) (Some r) (at rows n) (eq-eqb n n refl) in
-    cost_of r (list_all-among (λ (row : ℕ × Router). is_valid_router row.1) (with_last rows n r) (n, r) each (at-row (with_last rows n r) n r stands))
 
 -- ---- a router that is there, is added or is changed is there
 
@@ -254,21 +249,22 @@ carried_described_router n attributes cost through connected st held =
 
 -- ---- an entity goes, and its name out of the sides of policies
 
-same_attributes : (f : Policy → Policy) → ((p : Policy) → (f p).left.attributes ++ (f p).right.attributes ≡ p.left.attributes ++ p.right.attributes) → (rows : List (ℕ × Policy))
-    → flat_map side_attributes (map_each f rows) ≡ flat_map side_attributes rows
-same_attributes f same [] = refl
-same_attributes f same (x ∷ rows) = λ i. same x.1 i ++ same_attributes f same rows i
+left_forgotten : (name : List ℕ) (rows : List (ℕ × Policy)) → flat_map side_attributes (map_each (forget_left name) rows) ≡ flat_map side_attributes rows
+left_forgotten name rows = flat_map-map side_attributes (λ (x : ℕ × Policy). (x.0, forget_left name x.1)) rows
 
-pub forgotten_attributes : (k : Kind) (name : List ℕ) (p : PolicyTables) → policy_attributes (forgetting k name p) ≡ policy_attributes p
+right_forgotten : (name : List ℕ) (rows : List (ℕ × Policy)) → flat_map side_attributes (map_each (forget_right name) rows) ≡ flat_map side_attributes rows
+right_forgotten name rows = flat_map-map side_attributes (λ (x : ℕ × Policy). (x.0, forget_right name x.1)) rows
+
+forgotten_attributes : (k : Kind) (name : List ℕ) (p : PolicyTables) → policy_attributes (forgetting k name p) ≡ policy_attributes p
 forgotten_attributes kind.Identity name p = λ i.
-    same_attributes (forget_left name) (λ _. refl) p.service_policies i
-    ++ (same_attributes (forget_left name) (λ _. refl) p.edge_router_policies i ++ flat_map side_attributes p.service_edge_router_policies)
+    left_forgotten name p.service_policies i
+    ++ (left_forgotten name p.edge_router_policies i ++ flat_map side_attributes p.service_edge_router_policies)
 forgotten_attributes kind.Service name p = λ i.
-    same_attributes (forget_right name) (λ _. refl) p.service_policies i
-    ++ (flat_map side_attributes p.edge_router_policies ++ same_attributes (forget_left name) (λ _. refl) p.service_edge_router_policies i)
+    right_forgotten name p.service_policies i
+    ++ (flat_map side_attributes p.edge_router_policies ++ left_forgotten name p.service_edge_router_policies i)
 forgotten_attributes kind.Router name p = λ i.
     flat_map side_attributes p.service_policies
-    ++ (same_attributes (forget_right name) (λ _. refl) p.edge_router_policies i ++ same_attributes (forget_right name) (λ _. refl) p.service_edge_router_policies i)
+    ++ (right_forgotten name p.edge_router_policies i ++ right_forgotten name p.service_edge_router_policies i)
 forgotten_attributes _ name p = refl
 
 pub carried_removed : (k : Kind) (n : ℕ) (name : List ℕ) (st : Stores) → HoldsPolicies st

@@ -1,20 +1,20 @@
 -- What applying a change of a policy has to show: that the stores allow it, and that they stand for the state after it, with the
 -- attributes of all policies in use.
-use Rattle.std.proofs.Common.{◌≡◌, ℕ, ◌+◌, ◌<◌, ◌≤◌, ◌==◌, Bool, true, false, cond, not, ◌&&◌, nat_lt, List, [], ◌∷◌, ◌++◌, length, Option, None, Some, is_some, is_none, refl, sym, ◌∙◌, ap, arith, lt-ltb}
+use Rattle.std.proofs.Common.{◌≡◌, ℕ, ◌+◌, ◌<◌, ◌≤◌, ◌==◌, true, false, cond, not, ◌&&◌, nat_lt, List, [], ◌++◌, length, Option, None, Some, is_some, is_none, refl, sym, ◌∙◌, ap, arith, lt-ltb}
 use Rattle.std.proofs.lemmas.Bool.{false≢true}
 use Rattle.std.specs.List.{flat_map}
 use Rattle.std.specs.Option.{option_map_or}
 use Rattle.std.specs.Str.{bytes_eq}
 use Rattle.ctrl_model.specs.declared.kinds.Kind.{Kind}
 use Rattle.ctrl_model.specs.declared.kinds.Kind.TheVariants as kind
-use Rattle.ctrl_model.specs.Numbered.{at, is_present, edit_at, Between}
+use Rattle.ctrl_model.specs.Numbered.{at, is_present, Between}
 use Rattle.ctrl_model.specs.PolicyCommands.{replaced_by}
 use Rattle.ctrl_model.specs.Rules.{side_attributes, attributes_in_use}
 use Rattle.ctrl_model.specs.State.{State, Policy, policy_named}
 use Rattle.ctrl_model.specs.ValidState.{ValidState}
 use Rattle.ctrl_model.proofs.NumberedLaws.{first_where-found}
 use Rattle.entity_store.specs.EntityTables.{Tables}
-use Rattle.entity_store.specs.AttributeUses.{times, held_times, uses, entity_attributes, has_attribute_room, AreHeld, Holds, LetsGo}
+use Rattle.entity_store.specs.AttributeUses.{times, held_times, entity_attributes, has_attribute_room, AreHeld, Holds}
 use Rattle.policy_store.specs.PolicyTables.{PolicyTables, is_policy_kind, policies, number_of}
 use Rattle.policy_store.specs.PolicyTables as tables
 use Rattle.policy_store.specs.PolicyRules.{is_there, can_put, put_in}
@@ -170,12 +170,12 @@ pub carried_without : (k : Kind) (n : ℕ) (st mid : Stores) → is_policy_kind 
     → Carries st (record mid { policies = tables.without_policy k n mid.policies }) (without_policy k n (state_of st))
 carried_without k n st mid is valid held gone = record {
   next = ap (λ (q : PolicyTables). state_of (record mid { policies = tables.without_policy k n q })) gone.policies_stay
-    ∙ (same_entities st.entities mid.entities gone.uses_go.others (record st { policies = tables.without_policy k n st.policies }) ∙ state_without k n st);
+      ∙ (same_entities st.entities mid.entities gone.uses_go.others (record st { policies = tables.without_policy k n st.policies }) ∙ state_without k n st);
   held = λ x.
-    let fewer = gone.uses_go.fewer x in let before = held x in
-    let after = fewer_attributes k n gone.policy st is valid gone.stands x in
-    let same = ap (λ (q : PolicyTables). times x (policy_attributes (tables.without_policy k n q))) gone.policies_stay in
-    omega (arith, fewer, before, after, same);
+      let fewer = gone.uses_go.fewer x in let before = held x in
+      let after = fewer_attributes k n gone.policy st is valid gone.stands x in
+      let same = ap (λ (q : PolicyTables). times x (policy_attributes (tables.without_policy k n q))) gone.policies_stay in
+      omega (arith, fewer, before, after, same);
   counts = gone.counts_stay;
 }
 
@@ -207,13 +207,13 @@ pub carried_replaced : (k : Kind) (n : ℕ) (p : Policy) (st mid : Stores) (t : 
     → Carries st (record mid { entities = t; policies = put_in k p false mid.policies }) (with_replaced k n p (state_of st))
 carried_replaced k n p st mid t is named valid held gone holds = record {
   next = ap (λ (q : PolicyTables). state_of (record mid { entities = t; policies = q })) put
-    ∙ (same_entities mid.entities t holds.others (record mid { policies = tables.with_replaced k n p st.policies })
-    ∙ (same_entities st.entities mid.entities gone.uses_go.others (record st { policies = tables.with_replaced k n p st.policies }) ∙ state_replaced k n p st));
+      ∙ (same_entities mid.entities t holds.others (record mid { policies = tables.with_replaced k n p st.policies })
+      ∙ (same_entities st.entities mid.entities gone.uses_go.others (record st { policies = tables.with_replaced k n p st.policies }) ∙ state_replaced k n p st));
   held = λ x.
-    let more = holds.more x in let fewer = gone.uses_go.fewer x in let before = held x in
-    let after = other_attributes k n p gone.policy st is valid gone.stands x in
-    let same = ap (λ (q : PolicyTables). times x (policy_attributes q)) put in
-    omega (arith, more, fewer, before, after, same);
+      let more = holds.more x in let fewer = gone.uses_go.fewer x in let before = held x in
+      let after = other_attributes k n p gone.policy st is valid gone.stands x in
+      let same = ap (λ (q : PolicyTables). times x (policy_attributes q)) put in
+      omega (arith, more, fewer, before, after, same);
   counts = gone.counts_stay;
 }
   where

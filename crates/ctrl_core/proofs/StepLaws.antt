@@ -1,12 +1,11 @@
 -- What taking the steps of a plan has to show: that the kept counts have room for them, and that what a core keeps stays.
-use Rattle.std.proofs.Common.{◌≡◌, ℕ, ◌+◌, ◌<◌, ◌≤◌, length, sym, ap, subst, arith}
+use Rattle.std.proofs.Common.{◌≡◌, ◌≤◌, length, sym, ap, subst, arith}
 use Rattle.ctrl_model.specs.declared.kinds.Relation.{Relation}
 use Rattle.ctrl_model.specs.declared.kinds.Relation.TheVariants.{Dial, Bind, IdentityRouter, ServiceRouter}
 use Rattle.ctrl_model.specs.Grants.{count, policies_for}
 use Rattle.ctrl_model.specs.State.{State}
 use Rattle.ctrl_model.specs.ValidState.{ValidState}
 use Rattle.grant_denorm.specs.PairCounts.{count_of}
-use Rattle.grant_denorm.specs.Deltas.{ups, downs}
 use Rattle.grant_moves.proofs.CountBounds.{has_count_room}
 use Rattle.ctrl_core.specs.declared.changes.GrantSteps.{GrantSteps}
 use Rattle.ctrl_core.specs.declared.changes.Planned.{Planned}
@@ -35,10 +34,10 @@ pub steps_have_room : (st mid : Stores) (p : Planned) → Keeps st → CanLead p
 steps_have_room st mid p keeps can same r = subst (λ (g : Grants). HaveRoom (counts_of r g) (steps_of r p.steps)) (sym same) (record {
   least = λ a b. let least = (can.counts r).least a b in let counted = keeps.counts r a b in omega (arith, least, counted);
   most = λ a b.
-    let room = has_count_room r (state_of st) (led p (state_of st)) (steps_of r p.steps) (can.counts r) (policies_few r (state_of st) keeps.valid)
-    (policies_few r (led p (state_of st)) can.valid) a b in
-    let counted = keeps.counts r a b in
-    omega (arith, room, counted);
+      let room = has_count_room r (state_of st) (led p (state_of st)) (steps_of r p.steps) (can.counts r) (policies_few r (state_of st) keeps.valid)
+      (policies_few r (led p (state_of st)) can.valid) a b in
+      let counted = keeps.counts r a b in
+      omega (arith, room, counted);
 })
 
 -- the state after a change and the counts after its steps belong together
@@ -48,10 +47,10 @@ keeps_after st mid g p keeps can carries taken = record {
   valid = subst ValidState (sym carries.next) can.valid;
   held = carries.held;
   counts = λ r a b.
-    let moved = (can.counts r).moves a b in
-    let steps = taken r a b in
-    let before = keeps.counts r a b in
-    let same : count_of (counts_of r mid.grants) a b ≡ count_of (counts_of r st.grants) a b = ap (λ (q : Grants). count_of (counts_of r q) a b) carries.counts in
-    let there : count r (state_of mid) a b ≡ count r (led p (state_of st)) a b = ap (λ (s : State). count r s a b) carries.next in
-    omega (arith, moved, steps, before, same, there);
+      let moved = (can.counts r).moves a b in
+      let steps = taken r a b in
+      let before = keeps.counts r a b in
+      let same : count_of (counts_of r mid.grants) a b ≡ count_of (counts_of r st.grants) a b = ap (λ (q : Grants). count_of (counts_of r q) a b) carries.counts in
+      let there : count r (state_of mid) a b ≡ count r (led p (state_of st)) a b = ap (λ (s : State). count r s a b) carries.next in
+      omega (arith, moved, steps, before, same, there);
 }

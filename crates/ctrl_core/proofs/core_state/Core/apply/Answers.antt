@@ -1,6 +1,6 @@
-use Rattle.std.proofs.Common.{◌≡◌, true, sym, ◌∙◌, ap, subst}
+use Rattle.std.proofs.Common.{sym, ◌∙◌, ap, subst}
 use Rattle.ctrl_core.specs.Changes.{CanLead}
-use Rattle.ctrl_core.specs.KeptState.{Cored, Keeps, state_of}
+use Rattle.ctrl_core.specs.KeptState.{Cored}
 use Rattle.ctrl_core.proofs.StepLaws.{steps_have_room, keeps_after}
 use Rattle.ctrl_core.proofs.core_state.Core.apply.Goals as goal
 
