@@ -5,3 +5,6 @@ pub mod PlanLaws
 pub mod EntityCounts
 pub mod EntityPlans
 pub mod TurnLaws
+pub mod ApplyLaws
+pub mod PolicyApplyLaws
+pub mod StepLaws

@@ -20,12 +20,7 @@ use grant_denorm::apply_changes;
 use policy_store::Policy;
 use std::alloc::{AllocError, Global};
 
-fn add(
-    stores: &mut Stores,
-    kind: Kind,
-    name: &Name,
-    attributes: &Names,
-) -> Result<(), AllocError>
+fn add(stores: &mut Stores, kind: Kind, name: &Name, attributes: &Names) -> Result<(), AllocError>
     requires kind { is_plain_kind kind ≡ true }
     requires valid { ValidState (with_plain kind name.now attributes.now (state_of stores.old)) }
     requires held { HoldsPolicies stores.old }
@@ -175,6 +170,7 @@ fn remove_policy(
 ) -> Result<(), AllocError>
     requires kind { is_policy_kind kind ≡ true }
     requires there { is_present (policies_in kind (state_of stores.old)) number ≡ true }
+    requires before { ValidState (state_of stores.old) }
     requires held { HoldsPolicies stores.old }
     ensures { OnOk result (Carries stores.old stores.new (without_policy kind number (state_of stores.old))) }
 {
@@ -183,13 +179,10 @@ fn remove_policy(
     Ok(())
 }
 
-/// Makes a change that leads to a valid state. Of a change that fails for want of memory nothing is said.
-pub fn apply_change(
-    alloc: Global,
-    stores: &mut Stores,
-    change: Change,
-) -> Result<(), AllocError>
+/// Makes a change that leads from a valid state to a valid one. Of a change that fails for want of memory nothing is said.
+pub fn apply_change(alloc: Global, stores: &mut Stores, change: Change) -> Result<(), AllocError>
     requires can { CanChange change (state_of stores.old) }
+    requires before { ValidState (state_of stores.old) }
     requires valid { ValidState (after_change change (state_of stores.old)) }
     requires held { HoldsPolicies stores.old }
     ensures { OnOk result (Carries stores.old stores.new (after_change change (state_of stores.old))) }
@@ -249,7 +242,10 @@ pub fn apply_steps(grants: &mut Grants, steps: &GrantSteps) -> Result<(), AllocE
 {
     apply_changes(&mut grants.dial, steps.dial.as_slice())?;
     apply_changes(&mut grants.bind, steps.bind.as_slice())?;
-    apply_changes(&mut grants.identity_router, steps.identity_router.as_slice())?;
+    apply_changes(
+        &mut grants.identity_router,
+        steps.identity_router.as_slice(),
+    )?;
     apply_changes(&mut grants.service_router, steps.service_router.as_slice())?;
     Ok(())
 }

@@ -1,0 +1,56 @@
+-- What taking the steps of a plan has to show: that the kept counts have room for them, and that what a core keeps stays.
+use Rattle.std.proofs.Common.{◌≡◌, ◌≤◌, length, sym, ap, subst, arith}
+use Rattle.ctrl_model.specs.declared.kinds.Relation.{Relation}
+use Rattle.ctrl_model.specs.declared.kinds.Relation.TheVariants.{Dial, Bind, IdentityRouter, ServiceRouter}
+use Rattle.ctrl_model.specs.Grants.{count, policies_for}
+use Rattle.ctrl_model.specs.State.{State}
+use Rattle.ctrl_model.specs.ValidState.{ValidState}
+use Rattle.grant_denorm.specs.PairCounts.{count_of}
+use Rattle.grant_moves.proofs.CountBounds.{has_count_room}
+use Rattle.ctrl_core.specs.declared.changes.GrantSteps.{GrantSteps}
+use Rattle.ctrl_core.specs.declared.changes.Planned.{Planned}
+use Rattle.ctrl_core.specs.declared.stores.Grants.{Grants}
+use Rattle.ctrl_core.specs.declared.stores.Stores.{Stores}
+use Rattle.ctrl_core.specs.AppliedChanges.{Carries, HaveRoom, Taken}
+use Rattle.ctrl_core.specs.Changes.{CanLead, led, steps_of}
+use Rattle.ctrl_core.specs.KeptState.{Keeps, counts_of, state_of}
+
+pub taken_by_relation : (old new : Grants) (steps : GrantSteps) → Taken old.dial new.dial steps.dial.items → Taken old.bind new.bind steps.bind.items
+    → Taken old.identity_router new.identity_router steps.identity_router.items → Taken old.service_router new.service_router steps.service_router.items
+    → (r : Relation) → Taken (counts_of r old) (counts_of r new) (steps_of r steps)
+taken_by_relation old new steps dial bind identity_router service_router Dial = dial
+taken_by_relation old new steps dial bind identity_router service_router Bind = bind
+taken_by_relation old new steps dial bind identity_router service_router IdentityRouter = identity_router
+taken_by_relation old new steps dial bind identity_router service_router ServiceRouter = service_router
+
+-- a valid state has at most 512 policies of a kind
+policies_few : (r : Relation) (s : State) → ValidState s → length (policies_for r s) ≤ 512
+policies_few Dial s valid = valid.service_policies.numbers.few
+policies_few Bind s valid = valid.service_policies.numbers.few
+policies_few IdentityRouter s valid = let few = valid.edge_router_policies.numbers.few in omega (arith, few)
+policies_few ServiceRouter s valid = let few = valid.service_edge_router_policies.numbers.few in omega (arith, few)
+
+pub steps_have_room : (st mid : Stores) (p : Planned) → Keeps st → CanLead p (state_of st) → mid.grants ≡ st.grants → (r : Relation) → HaveRoom (counts_of r mid.grants) (steps_of r p.steps)
+steps_have_room st mid p keeps can same r = subst (λ (g : Grants). HaveRoom (counts_of r g) (steps_of r p.steps)) (sym same) (record {
+  least = λ a b. let least = (can.counts r).least a b in let counted = keeps.counts r a b in omega (arith, least, counted);
+  most = λ a b.
+      let room = has_count_room r (state_of st) (led p (state_of st)) (steps_of r p.steps) (can.counts r) (policies_few r (state_of st) keeps.valid)
+      (policies_few r (led p (state_of st)) can.valid) a b in
+      let counted = keeps.counts r a b in
+      omega (arith, room, counted);
+})
+
+-- the state after a change and the counts after its steps belong together
+pub keeps_after : (st mid : Stores) (g : Grants) (p : Planned) → Keeps st → CanLead p (state_of st) → Carries st mid (led p (state_of st))
+    → ((r : Relation) → Taken (counts_of r mid.grants) (counts_of r g) (steps_of r p.steps)) → Keeps (record mid { grants = g })
+keeps_after st mid g p keeps can carries taken = record {
+  valid = subst ValidState (sym carries.next) can.valid;
+  held = carries.held;
+  counts = λ r a b.
+      let moved = (can.counts r).moves a b in
+      let steps = taken r a b in
+      let before = keeps.counts r a b in
+      let same : count_of (counts_of r mid.grants) a b ≡ count_of (counts_of r st.grants) a b = ap (λ (q : Grants). count_of (counts_of r q) a b) carries.counts in
+      let there : count r (state_of mid) a b ≡ count r (led p (state_of st)) a b = ap (λ (s : State). count r s a b) carries.next in
+      omega (arith, moved, steps, before, same, there);
+}
