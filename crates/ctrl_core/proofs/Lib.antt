@@ -4,3 +4,6 @@ pub mod InUseLaws
 pub mod OrderedSides
 pub mod ShowLaws
 pub mod ShownPlans
+pub mod RefusedPolicies
+pub mod PolicyCounts
+pub mod PolicyPlans
