@@ -8,3 +8,9 @@ pub mod TurnLaws
 pub mod ApplyLaws
 pub mod PolicyApplyLaws
 pub mod StepLaws
+pub mod OrderedSides
+pub mod ShowLaws
+pub mod ShownPlans
+pub mod RefusedPolicies
+pub mod PolicyCounts
+pub mod PolicyPlans

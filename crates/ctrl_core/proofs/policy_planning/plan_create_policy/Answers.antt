@@ -1,0 +1,14 @@
+use Rattle.std.proofs.Common.{sym, ◌∙◌}
+use Rattle.policy_store.specs.StoredPolicies.{policy_of}
+use Rattle.ctrl_core.proofs.PolicyPlans.{create_refused, create_planned}
+use Rattle.ctrl_core.proofs.policy_planning.plan_create_policy.Goals as goal
+
+pub returns-in-Some : goal.returns-in-Some
+returns-in-Some c =
+    create_refused c.args.kind (policy_of c.args.policy) c.of-none.result c.args.stores.now c.refused.result c.in-Some.refusal c.requires.kind c.requires.short c.requires.kept
+    (c.of-none.ensures ∙ c.new.ensures.items) (sym c.in-Some.is ∙ c.in_ok-refusal.ensures) c.refused.ensures
+
+pub returns : goal.returns
+returns c =
+    create_planned c.args.kind c.args.policy c.of-none.result c.args.stores.now c.next-number.result c.in_ok-steps.steps c.requires.kind c.requires.short c.requires.kept
+    (c.of-none.ensures ∙ c.new.ensures.items) (sym c.in_default.is ∙ c.in_ok-refusal.ensures) c.next-number.ensures.next c.in_ok-steps.ensures
