@@ -1,14 +1,20 @@
 -- What a plan has to show: of a reply that changes nothing, of a refusal, and of a change that is carried out.
-use Rattle.std.proofs.Common.{◌≡◌, ℕ, List, [], Option, None, Some, refl, sym, ◌∙◌, ap, subst}
+use Rattle.std.proofs.Common.{◌≡◌, ℕ, true, List, [], Option, None, Some, refl, sym, ◌∙◌, ap, subst}
+use Rattle.ctrl_model.specs.declared.commands.Command.{Command}
 use Rattle.ctrl_model.specs.declared.kinds.Relation.{Relation}
+use Rattle.ctrl_model.specs.declared.kinds.Who.TheVariants.{Admin}
 use Rattle.ctrl_model.specs.declared.kinds.Relation.TheVariants.{Dial, Bind, IdentityRouter, ServiceRouter}
 use Rattle.ctrl_model.specs.declared.refusals.Refusal.{Refusal}
 use Rattle.ctrl_model.specs.declared.replies.Reply.{Reply}
 use Rattle.ctrl_model.specs.declared.replies.Reply.TheVariants.{Refused}
 use Rattle.ctrl_model.specs.State.{State}
 use Rattle.ctrl_model.specs.Grants.{count}
+use Rattle.ctrl_model.specs.CommandForm.{is_spelled}
+use Rattle.ctrl_model.specs.Controller.{carry}
+use Rattle.ctrl_model.specs.ValidState.{ValidState}
 use Rattle.ctrl_model.specs.Settling.{settle}
 use Rattle.ctrl_model.specs.Rules.{carried_out, shown}
+use Rattle.ctrl_model.proofs.ValidCommands.{answer-valid}
 use Rattle.grant_denorm.specs.declared.deltas.Delta.{Delta}
 use Rattle.grant_moves.specs.CountMoves.{LeadCounts}
 use Rattle.grant_moves.proofs.LeadingCounts.{unchanged_leads}
@@ -16,7 +22,7 @@ use Rattle.ctrl_core.specs.declared.changes.Change.{Change}
 use Rattle.ctrl_core.specs.declared.changes.Change.TheVariants.{Nothing}
 use Rattle.ctrl_core.specs.declared.changes.GrantSteps.{GrantSteps}
 use Rattle.ctrl_core.specs.declared.changes.Planned.{Planned}
-use Rattle.ctrl_core.specs.Changes.{CanChange, HasNoSteps, after_change, led, steps_of}
+use Rattle.ctrl_core.specs.Changes.{CanChange, HasNoSteps, LeadsFrom, after_change, led, steps_of}
 use Rattle.ctrl_core.specs.PlannedCommands.{Plans, IsShown}
 
 -- no steps lead from the counts of a state to themselves
@@ -62,3 +68,14 @@ pub plans_carried : (p : Planned) (o : Option Refusal) (s : State) (reply : Repl
     → led p s ≡ settle effect → ((r : Relation) → LeadCounts (count r s) (count r effect) (steps_of r p.steps)) → Plans p (carried_out o s reply effect) s
 plans_carried p o s reply effect e replies can next counts =
     subst (λ q. Plans p (carried_out q s reply effect) s) (sym e) (record { reply = replies; can = can; next = next; counts = λ r. settled_lead r s effect (steps_of r p.steps) (counts r) })
+
+-- a plan of a command that some body spells leads from a valid state to the controller's next one, which is valid
+pub leads_from : (p : Planned) (c : Command) (s : State) → is_spelled c ≡ true → ValidState s → Plans p (carry c s) s → LeadsFrom p s (carry c s).1
+leads_from p c s spelled valid plans = record {
+  can = record {
+    can = plans.can;
+    valid = subst (λ t. ValidState t) (sym plans.next) (answer-valid Admin c s spelled valid);
+    counts = λ r. subst (λ t. LeadCounts (count r s) (count r t) (steps_of r p.steps)) (sym plans.next) (plans.counts r);
+  };
+  next = plans.next;
+}
