@@ -7,3 +7,4 @@ pub mod ShownPlans
 pub mod RefusedPolicies
 pub mod PolicyCounts
 pub mod PolicyPlans
+pub mod SpelledPolicies
