@@ -14,3 +14,4 @@ pub mod ShownPlans
 pub mod RefusedPolicies
 pub mod PolicyCounts
 pub mod PolicyPlans
+pub mod SpelledPolicies

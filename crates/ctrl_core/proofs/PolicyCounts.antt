@@ -1,5 +1,5 @@
 -- Where a policy comes, is replaced or goes, its steps lead from the grant counts before to those after, at every relation.
-use Rattle.std.proofs.Common.{◌≡◌, ◌≢◌, ℕ, ◌+◌, ◌≤◌, ◌==◌, Bool, true, cond, List, [], Option, None, Some, refl, sym, ◌∙◌, ap, subst, arith, eq-eqb}
+use Rattle.std.proofs.Common.{◌≡◌, ◌≢◌, ℕ, ◌+◌, ◌≤◌, ◌==◌, true, cond, List, [], Option, None, Some, refl, sym, ◌∙◌, ap, subst, arith, eq-eqb}
 use Rattle.std.proofs.lemmas.Bool.{false≢true, cond-true}
 use Rattle.std.specs.Option.{option_map}
 use Rattle.ctrl_model.specs.declared.kinds.Kind.{Kind}
@@ -161,7 +161,7 @@ replaced_leads k n old p s steps fits valid stands same stepped r =
     moves = record {
       policy_was = stands;
       policy_is = at-edit_at rows n n (replaced_by p) ∙ ap (option_map (λ q. cond (n == n) (replaced_by p q) q)) stands
-      ∙ ap Some (cond-true (n == n) (replaced_by p old) old (eq-eqb n n refl) ∙ same);
+          ∙ ap Some (cond-true (n == n) (replaced_by p old) old (eq-eqb n n refl) ∙ same);
       others = λ m other. at-edit_at-other rows n m (replaced_by p) other;
       high = next_in k s;
       ordered = Between-edit_at (next_in k s) rows 1 n (replaced_by p) (kind_ordered k s valid);

@@ -22,7 +22,6 @@ use Rattle.entity_store.specs.AttributeUses.{AreUsed}
 use Rattle.policy_store.specs.PolicyTables.{is_policy_kind, policies, next_of, number_of}
 use Rattle.policy_store.specs.StoredPolicies.{policy_of}
 use Rattle.policy_store.specs.declared.records.Policy as stored
-use Rattle.ctrl_core.specs.declared.changes.Change.{Change}
 use Rattle.ctrl_core.specs.declared.changes.Change.TheVariants as change
 use Rattle.ctrl_core.specs.declared.changes.GrantSteps.{GrantSteps}
 use Rattle.ctrl_core.specs.declared.changes.Planned.{Planned}

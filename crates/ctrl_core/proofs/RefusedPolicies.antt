@@ -1,5 +1,5 @@
 -- The refusal of a policy that is put is the controller's: of its name, of an absent `@` name, of a full kind, of attributes.
-use Rattle.std.proofs.Common.{◌≡◌, ℕ, suc, ◌+◌, ◌<◌, ◌≤◌, nat_lt, min, Bool, true, false, not, ◌&&◌, cond, List, [], ◌∷◌, ◌++◌, length, slice_index_or, Option, None, Some, Result, Ok, Err, is_some, is_none, refl, sym, ◌∙◌, ap, subst, arith, ltb-true}
+use Rattle.std.proofs.Common.{◌≡◌, ℕ, suc, ◌+◌, ◌<◌, ◌≤◌, nat_lt, min, Bool, true, false, not, ◌&&◌, cond, List, [], ◌∷◌, length, slice_index_or, Option, None, Some, Result, Ok, Err, is_some, is_none, refl, sym, ◌∙◌, ap, subst, arith, ltb-true}
 use Rattle.std.proofs.Math.Bool.{not-not}
 use Rattle.std.proofs.Math.Nat.{min-eq_left, min-le_left}
 use Rattle.std.proofs.lemmas.Bool.{false≢true}
@@ -27,7 +27,7 @@ use Rattle.policy_store.specs.PolicyRules.{has_kind_room, absent_place, absent_n
 use Rattle.ctrl_core.specs.declared.stores.Stores.{Stores}
 use Rattle.ctrl_core.specs.KeptState.{HoldsPolicies, state_of}
 use Rattle.ctrl_core.specs.Changes.{policies_in, with_policy, with_replaced}
-use Rattle.ctrl_core.specs.PlannedCommands.{AreShort, IsPlaced, ids_of, roles_field, refusal_for, refusal_judged, refusal_to_put, refusal_of_create, refusal_of_replace}
+use Rattle.ctrl_core.specs.PlannedCommands.{AreShort, IsPlaced, roles_field, refusal_for, refusal_judged, refusal_to_put, refusal_of_create, refusal_of_replace}
 use Rattle.ctrl_core.proofs.InUseLaws.{names_of, policy_added, policy_replaced, room_in_state}
 
 -- ---- the first absent `@` name, by its place
