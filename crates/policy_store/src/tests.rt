@@ -49,6 +49,14 @@ fn add_identity(
     Ok(())
 }
 
+// Ann and bob.
+fn two_identities(rt: &impl Abort, alloc: Global) -> Result<Entities, Fail> {
+    let mut known = Entities::new(alloc)?;
+    add_identity(rt, alloc, &mut known, b"ann")?;
+    add_identity(rt, alloc, &mut known, b"bob")?;
+    Ok(known)
+}
+
 // Puts a service policy as a caller has to.
 fn put(
     store: &mut Policies,
@@ -90,22 +98,24 @@ fn removes(rt: &impl Abort, alloc: Global, store: &mut Policies) -> Result<(), F
     Ok(())
 }
 
+// A side that names bob matches the second identity.
+fn matches_bob(rt: &impl Abort, alloc: Global, known: &Entities) -> Result<(), Fail> {
+    let side = side_of(alloc, b"bob")?;
+    let found = members(alloc, &side, Semantic::AllOf, Kind::Identity, known)?;
+    assert_eq!(rt; found.as_slice(), [2].as_slice());
+    Ok(())
+}
+
+fn keeps(rt: &impl Abort, alloc: Global, known: &Entities) -> Result<(), Fail> {
+    let mut store = Policies::new(alloc)?;
+    puts(rt, alloc, &mut store, known)?;
+    removes(rt, alloc, &mut store)
+}
+
 #[test]
 fn keeps_policies(rt: HostRuntime) -> Result<(), Fail> {
     let alloc = rt.alloc();
-    let mut known = Entities::new(alloc)?;
-    add_identity(&rt, alloc, &mut known, b"ann")?;
-    add_identity(&rt, alloc, &mut known, b"bob")?;
-    let mut store = Policies::new(alloc)?;
-    puts(&rt, alloc, &mut store, &known)?;
-    removes(&rt, alloc, &mut store)?;
-    let found = members(
-        alloc,
-        &side_of(alloc, b"bob")?,
-        Semantic::AllOf,
-        Kind::Identity,
-        &known,
-    )?;
-    assert_eq!(rt; found.as_slice(), [2].as_slice());
-    Ok(())
+    let known = two_identities(&rt, alloc)?;
+    keeps(&rt, alloc, &known)?;
+    matches_bob(&rt, alloc, &known)
 }
