@@ -27,10 +27,18 @@ use Rattle.command_codec.proofs.TableLaws.{IsSaid, Faithful, by_row, ◌⊗◌}
 pub name_form : (of_field : Field) (o : Data) (name : List ℕ) → Tells as_name of_field name o → is_name name ≡ true
 name_form of_field o name e = required_form as_name of_field o name e (λ d h. as_name-form d name h)
 
-pub number_form : (low high : ℕ) (d : Data) (n : ℕ) → as_number_in low high d ≡ Some n → in_range low high n ≡ true
+number_form : (low high : ℕ) (d : Data) (n : ℕ) → as_number_in low high d ≡ Some n → in_range low high n ≡ true
 number_form low high d n e =
     option_and_then_some (within low high) (option_and_then as_u64 (as_number d)) n e (λ m is h.
     let p = cond_some (nat_le low m && nat_le m high) m n h in subst (λ k. in_range low high k ≡ true) p.1 p.0)
+
+pub required_number : (low high : ℕ) (of_field : Field) (o : Data) (n : ℕ) → Tells (as_number_in low high) of_field n o → in_range low high n ≡ true
+required_number low high of_field o n e = required_form (as_number_in low high) of_field o n e (λ d h. number_form low high d n h)
+
+pub optional_number : (low high otherwise : ℕ) (of_field : Field) (o : Data) (n : ℕ) → MayTell (as_number_in low high) otherwise of_field n o → in_range low high otherwise ≡ true
+    → in_range low high n ≡ true
+optional_number low high otherwise of_field o n e base =
+    optional_form (λ k. in_range low high k ≡ true) (as_number_in low high) otherwise of_field o n e base (number_form low high)
 
 attributes_form : (o : Data) (attributes : List (List ℕ)) → Tells as_attributes field.Attributes attributes o → are_attributes attributes ≡ true
 attributes_form o attributes e = required_form as_attributes field.Attributes o attributes e (λ d h. as_attributes-form d attributes h)
@@ -74,7 +82,7 @@ made_router_says : (P : Command → Type 0) (body : List ℕ) (c : Command)
 made_router_says P body c to e = said_by_ok made_router (object_of_body body) c e (λ o is h.
     reads_four command.CreateRouter (required as_name field.Name o) (optional as_attributes [] field.Attributes o) (optional as_cost 0 field.Cost o) (optional as_bool false field.NoTraversal o)
     router_fields o c h (λ name attributes cost no_traversal n a p t only same.
-    let costs : is_cost cost ≡ true = optional_form (λ k. is_cost k ≡ true) as_cost 0 field.Cost o cost p refl (number_form 0 65535) in
+    let costs : is_cost cost ≡ true = optional_number 0 65535 0 field.Cost o cost p refl in
     subst P same (to name attributes cost no_traversal (record { object = o; is_body = is; only = only; holds = (n, a, p, t) })
     (router_form name attributes cost (name_form field.Name o name n) (may_form o attributes a) costs))))
 
@@ -85,7 +93,7 @@ updated_router_says : (P : Command → Type 0) (body : List ℕ) (c : Command)
 updated_router_says P body c to e = said_by_ok updated_router (object_of_body body) c e (λ o is h.
     reads_four command.UpdateRouter (required as_name field.Name o) (required as_attributes field.Attributes o) (required as_cost field.Cost o) (required as_bool field.NoTraversal o)
     router_fields o c h (λ name attributes cost no_traversal n a p t only same.
-    let costs : is_cost cost ≡ true = required_form as_cost field.Cost o cost p (λ d h. number_form 0 65535 d cost h) in
+    let costs : is_cost cost ≡ true = required_number 0 65535 field.Cost o cost p in
     subst P same (to name attributes cost no_traversal (record { object = o; is_body = is; only = only; holds = (n, a, p, t) })
     (router_form name attributes cost (name_form field.Name o name n) (attributes_form o attributes a) costs))))
 

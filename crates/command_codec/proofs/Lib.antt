@@ -7,4 +7,5 @@ mod TableLaws
 mod EntityLaws
 mod PolicyLaws
 mod ShowLaws
+mod LinkLaws
 mod SpelledLaws

@@ -49,12 +49,17 @@ pub reads_two : {A B P : Type 0} (make : A → B → Command) (r : Result A Fiel
 reads_two make (Ok x) s fields o c e k = reads_one (make x) s fields o c e (λ y p only same. k x y refl p only same)
 reads_two make (Err f) s fields o c e k = absurd (cc)
 
+pub reads_three : {A B C P : Type 0} (make : A → B → C → Command) (r : Result A FieldFault) (s : Result B FieldFault) (t : Result C FieldFault) (fields : List Field) (o : Data) (c : Command)
+    → (r >>= λ x. s >>= λ y. t >>= λ z. finished fields o >>= λ end. Ok (make x y z)) ≡ Ok c
+    → ((x : A) (y : B) (z : C) → r ≡ Ok x → s ≡ Ok y → t ≡ Ok z → has_only fields o ≡ true → make x y z ≡ c → P) → P
+reads_three make (Ok x) s t fields o c e k = reads_two (make x) s t fields o c e (λ y z p q only same. k x y z refl p q only same)
+reads_three make (Err f) s t fields o c e k = absurd (cc)
+
 pub reads_four : {A B C D P : Type 0} (make : A → B → C → D → Command) (r : Result A FieldFault) (s : Result B FieldFault) (t : Result C FieldFault) (u : Result D FieldFault)
     (fields : List Field) (o : Data) (c : Command)
     → (r >>= λ x. s >>= λ y. t >>= λ z. u >>= λ w. finished fields o >>= λ end. Ok (make x y z w)) ≡ Ok c
     → ((x : A) (y : B) (z : C) (w : D) → r ≡ Ok x → s ≡ Ok y → t ≡ Ok z → u ≡ Ok w → has_only fields o ≡ true → make x y z w ≡ c → P) → P
-reads_four make (Ok x) (Ok y) t u fields o c e k = reads_two (make x y) t u fields o c e (λ z w p q only same. k x y z w refl refl p q only same)
-reads_four make (Ok x) (Err f) t u fields o c e k = absurd (cc)
+reads_four make (Ok x) s t u fields o c e k = reads_three (make x) s t u fields o c e (λ y z w p q h only same. k x y z w refl p q h only same)
 reads_four make (Err f) s t u fields o c e k = absurd (cc)
 
 pub reads_five : {A B C D E P : Type 0} (make : A → B → C → D → E → Command) (r : Result A FieldFault) (s : Result B FieldFault) (t : Result C FieldFault) (u : Result D FieldFault)
@@ -63,6 +68,13 @@ pub reads_five : {A B C D E P : Type 0} (make : A → B → C → D → E → Co
     → ((x : A) (y : B) (z : C) (w : D) (m : E) → r ≡ Ok x → s ≡ Ok y → t ≡ Ok z → u ≡ Ok w → v ≡ Ok m → has_only fields o ≡ true → make x y z w m ≡ c → P) → P
 reads_five make (Ok x) s t u v fields o c e k = reads_four (make x) s t u v fields o c e (λ y z w m p q h i only same. k x y z w m refl p q h i only same)
 reads_five make (Err f) s t u v fields o c e k = absurd (cc)
+
+pub reads_six : {A B C D E F P : Type 0} (make : A → B → C → D → E → F → Command) (r : Result A FieldFault) (s : Result B FieldFault) (t : Result C FieldFault) (u : Result D FieldFault)
+    (v : Result E FieldFault) (w : Result F FieldFault) (fields : List Field) (o : Data) (c : Command)
+    → (r >>= λ x. s >>= λ y. t >>= λ z. u >>= λ k. v >>= λ m. w >>= λ n. finished fields o >>= λ end. Ok (make x y z k m n)) ≡ Ok c
+    → ((x : A) (y : B) (z : C) (k : D) (m : E) (n : F) → r ≡ Ok x → s ≡ Ok y → t ≡ Ok z → u ≡ Ok k → v ≡ Ok m → w ≡ Ok n → has_only fields o ≡ true → make x y z k m n ≡ c → P) → P
+reads_six make (Ok x) s t u v w fields o c e to = reads_five (make x) s t u v w fields o c e (λ y z k m n p q h i j only same. to x y z k m n refl p q h i j only same)
+reads_six make (Err f) s t u v w fields o c e to = absurd (cc)
 
 -- ---- the values that fields give
 

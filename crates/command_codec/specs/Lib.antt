@@ -7,6 +7,7 @@ pub mod BodyObjects
 pub mod EntityBodies
 pub mod PolicyBodies
 pub mod ShowBodies
+pub mod LinkBodies
 pub mod BodyMeaning
 pub mod ContentTypes
 pub mod ReadCommands

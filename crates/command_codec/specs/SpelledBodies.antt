@@ -18,6 +18,7 @@ use Rattle.command_codec.specs.FieldWords.{as_relation, as_semantic}
 use Rattle.command_codec.specs.BodyObjects.{object_of_body}
 use Rattle.command_codec.specs.EntityBodies.{as_cost, entity_fields, router_fields}
 use Rattle.command_codec.specs.PolicyBodies.{service_policy_fields, router_policy_fields}
+use Rattle.command_codec.specs.LinkBodies.{as_link_cost, as_latency, link_fields}
 use Rattle.command_codec.specs.ContentTypes.{content_of}
 use Rattle.command_codec.specs.ReadCommands.{is_read}
 
@@ -76,6 +77,26 @@ SaysRouterPolicy body of_left name semantic left right = Says body (router_polic
     TellsName name o × Tells as_semantic field.Semantic semantic o
     × Tells as_side of_left left o × Tells as_side field.RouterRoles right o)
 
+-- A body of CreateLink: the cost and the latencies may be left out.
+abbrev pub SaysMadeLink : List ℕ → List ℕ → List ℕ → List ℕ → ℕ → ℕ → ℕ → Type 0
+SaysMadeLink body name a b cost latency_a latency_b = Says body link_fields (λ o.
+    TellsName name o × Tells as_name field.A a o × Tells as_name field.B b o
+    × MayTell as_link_cost 1 field.Cost cost o × MayTell as_latency 0 field.LatencyA latency_a o × MayTell as_latency 0 field.LatencyB latency_b o)
+
+-- A body of SetLinkCost.
+abbrev pub SaysLinkCost : List ℕ → List ℕ → ℕ → Type 0
+SaysLinkCost body link cost = Says body (field.Link ∷ field.Cost ∷ []) (λ o. Tells as_name field.Link link o × Tells as_link_cost field.Cost cost o)
+
+-- A body of ReportLatency.
+abbrev pub SaysLatency : List ℕ → List ℕ → List ℕ → ℕ → Type 0
+SaysLatency body link router latency = Says body (field.Link ∷ field.Router ∷ field.Latency ∷ []) (λ o.
+    Tells as_name field.Link link o × Tells as_name field.Router router o × Tells as_latency field.Latency latency o)
+
+-- A body of ReportState.
+abbrev pub SaysState : List ℕ → List ℕ → List ℕ → Bool → Type 0
+SaysState body link router up = Says body (field.Link ∷ field.Router ∷ field.Up ∷ []) (λ o.
+    Tells as_name field.Link link o × Tells as_name field.Router router o × Tells as_bool field.Up up o)
+
 -- A body gives the fields of a command. Any body gives those of Hello; those of the commands that are not named yet none.
 abbrev pub SaysFields : List ℕ → Command → Type 0
 SaysFields body command.Hello = ⊤
@@ -99,6 +120,12 @@ SaysFields body (command.DeleteEdgeRouterPolicy name) = SaysName body field.Name
 SaysFields body (command.CreateServiceEdgeRouterPolicy name semantic left right) = SaysRouterPolicy body field.ServiceRoles name semantic left right
 SaysFields body (command.UpdateServiceEdgeRouterPolicy name semantic left right) = SaysRouterPolicy body field.ServiceRoles name semantic left right
 SaysFields body (command.DeleteServiceEdgeRouterPolicy name) = SaysName body field.Name name
+SaysFields body (command.CreateLink name a b cost latency_a latency_b) = SaysMadeLink body name a b cost latency_a latency_b
+SaysFields body (command.SetLinkCost link cost) = SaysLinkCost body link cost
+SaysFields body (command.ReportLatency link router latency) = SaysLatency body link router latency
+SaysFields body (command.ReportState link router up) = SaysState body link router up
+SaysFields body (command.DeleteLink link) = SaysName body field.Link link
+SaysFields body (command.SetLeastRouterCost cost) = Says body (field.Cost ∷ []) (λ o. Tells as_link_cost field.Cost cost o)
 SaysFields body (command.ShowGrants identity) = SaysName body field.Identity identity
 SaysFields body (command.ListServices identity) = SaysName body field.Identity identity
 SaysFields body command.ShowCounts = Says body [] (λ o. ⊤)

@@ -42,6 +42,18 @@ pub(crate) const UPDATE_SERVICE_EDGE_ROUTER_POLICY: u32 = 1121;
 
 pub(crate) const DELETE_SERVICE_EDGE_ROUTER_POLICY: u32 = 1122;
 
+pub(crate) const CREATE_LINK: u32 = 1200;
+
+pub(crate) const SET_LINK_COST: u32 = 1201;
+
+pub(crate) const REPORT_LATENCY: u32 = 1202;
+
+pub(crate) const REPORT_STATE: u32 = 1203;
+
+pub(crate) const DELETE_LINK: u32 = 1204;
+
+pub(crate) const SET_LEAST_ROUTER_COST: u32 = 1210;
+
 pub(crate) const SHOW_GRANTS: u32 = 1500;
 
 pub(crate) const LIST_SERVICES: u32 = 1501;

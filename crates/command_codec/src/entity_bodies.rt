@@ -1,10 +1,8 @@
-ghost use Rattle.std.specs.Prelude.{◌≡◌, ℕ, List, IsErrOf, Err, false};
-ghost use Rattle.serde_json.specs.Find.{as_bool};
+ghost use Rattle.std.specs.Prelude.{◌≡◌, ℕ, List, IsErrOf, Err};
 ghost use Rattle.ctrl_model.specs.declared.commands.Command.{Command};
-ghost use Rattle.json_body.specs.FieldKinds.{object_of, optional};
 ghost use Rattle.command_codec.specs.BodyObjects.{object_of_body, said_by};
 ghost use Rattle.command_codec.specs.BodyMeaning.{meaning_in};
-ghost use Rattle.command_codec.specs.EntityBodies.{as_cost, named, made, updated, made_router, updated_router, entity_table};
+ghost use Rattle.command_codec.specs.EntityBodies.{named, made, updated, made_router, updated_router, entity_table};
 ghost use Rattle.command_codec.specs.ReadResults.{Gives};
 
 use crate::attribute_lists::{attributes, attributes_or_none};
@@ -13,13 +11,14 @@ use crate::content_types::{
     CONNECT_ROUTER, CREATE_IDENTITY, CREATE_ROUTER, CREATE_SERVICE, DELETE_IDENTITY, DELETE_ROUTER,
     DELETE_SERVICE, DISCONNECT_ROUTER, UPDATE_IDENTITY, UPDATE_ROUTER, UPDATE_SERVICE,
 };
+use crate::optional_fields::{flag_or_not, number_or};
 use crate::reading::CodecFault;
 use ctrl_model::{Command, Field, Name, Names};
-use json_body::{FieldFault, Fields};
+use json_body::Fields;
 use std::alloc::Global;
 
-// The greatest cost of a router.
-const MOST_COST: u32 = 65_535;
+// The greatest cost of a router, of a terminator or of a link.
+pub(crate) const MOST_COST: u32 = 65_535;
 
 // The fields of a body that makes or updates an identity or a service, and of one that makes or updates a router.
 const ENTITY_FIELDS: [Field; 2] = [Field::Name, Field::Attributes];
@@ -30,24 +29,6 @@ const ROUTER_FIELDS: [Field; 4] = [
     Field::Cost,
     Field::NoTraversal,
 ];
-
-fn cost_or_none(fields: &Fields) -> Result<u32, FieldFault>
-    ensures { result ≡ optional as_cost 0 Field.Cost (object_of fields.now) }
-{
-    if !fields.has(Field::Cost) {
-        return Ok(0);
-    }
-    fields.number(Field::Cost, 0, MOST_COST)
-}
-
-fn no_traversal_or_not(fields: &Fields) -> Result<bool, FieldFault>
-    ensures { result ≡ optional as_bool false Field.NoTraversal (object_of fields.now) }
-{
-    if !fields.has(Field::NoTraversal) {
-        return Ok(false);
-    }
-    fields.flag(Field::NoTraversal)
-}
 
 // What a body says whose one field is a name.
 pub(crate) fn named(alloc: Global, body: &[u8], field: Field) -> Result<Name, CodecFault>
@@ -92,8 +73,8 @@ fn made_router(alloc: Global, body: &[u8]) -> Result<Command, CodecFault>
     let fields = Fields::of(&value)?;
     let name = fields.name(alloc, Field::Name)?;
     let attributes = attributes_or_none(alloc, &fields)?;
-    let cost = cost_or_none(&fields)?;
-    let no_traversal = no_traversal_or_not(&fields)?;
+    let cost = number_or(&fields, Field::Cost, 0, MOST_COST, 0)?;
+    let no_traversal = flag_or_not(&fields, Field::NoTraversal)?;
     fields.finish(&ROUTER_FIELDS)?;
     Ok(Command::CreateRouter {
         name,

@@ -7,6 +7,8 @@ mod content_types;
 mod entity_bodies;
 mod field_words;
 mod laws;
+mod link_bodies;
+mod optional_fields;
 mod policy_bodies;
 mod reading;
 mod role_lists;
@@ -18,6 +20,6 @@ mod worked;
 pub use laws::what_a_body_spells;
 pub use reading::{CodecFault, read};
 pub use worked::{
-    worked_bodies, worked_causes, worked_lists, worked_policies, worked_policy_causes,
-    worked_shows, worked_sides,
+    worked_bodies, worked_causes, worked_links, worked_lists, worked_policies,
+    worked_policy_causes, worked_shows, worked_sides,
 };

@@ -10,7 +10,8 @@ ghost use Rattle.ctrl_model.specs.declared.kinds.Semantic.TheVariants.{AnyOf, Al
 ghost use Rattle.role_expr.specs.NameRepeats.{without_repeats};
 ghost use Rattle.command_codec.specs.NameLists.{as_attributes};
 ghost use Rattle.command_codec.specs.RoleLists.{as_side};
-ghost use Rattle.command_codec.specs.BodyMeaning.{meaning};
+ghost use Rattle.command_codec.specs.BodyMeaning.{meaning, meaning_in};
+ghost use Rattle.command_codec.specs.LinkBodies.{link_table};
 
 /// Bodies that spell a command of each kind.
 pub fn worked_bodies()
@@ -57,6 +58,22 @@ pub fn worked_shows()
     ensures no_object { meaning 1502 [] ≡ Err (BadBody field.Nothing reason.NotObject) }
     ensures other_key { meaning 1502 (codes "{\"x\":1}") ≡ Err (BadBody field.Nothing reason.Unknown) }
     ensures name { meaning 1500 (codes "{\"name\":\"ann\"}") ≡ Err (BadBody field.Identity reason.Missing) }
+{}
+
+/// Bodies of the commands on links, whose types are not in the table yet.
+pub fn worked_links()
+    ensures made { meaning_in link_table 1200 (codes "{\"name\":\"l1\",\"a\":\"r1\",\"b\":\"r2\"}") ≡ Ok (command.CreateLink (codes "l1") (codes "r1") (codes "r2") 1 0 0) }
+    ensures made_in_full { meaning_in link_table 1200 (codes "{\"name\":\"l1\",\"a\":\"r1\",\"b\":\"r2\",\"cost\":65535,\"latency_a\":60000,\"latency_b\":7}") ≡ Ok (command.CreateLink (codes "l1") (codes "r1") (codes "r2") 65535 60000 7) }
+    ensures cost { meaning_in link_table 1201 (codes "{\"link\":\"l1\",\"cost\":9}") ≡ Ok (command.SetLinkCost (codes "l1") 9) }
+    ensures latency { meaning_in link_table 1202 (codes "{\"link\":\"l1\",\"router\":\"r1\",\"latency\":0}") ≡ Ok (command.ReportLatency (codes "l1") (codes "r1") 0) }
+    ensures state { meaning_in link_table 1203 (codes "{\"link\":\"l1\",\"router\":\"r2\",\"up\":false}") ≡ Ok (command.ReportState (codes "l1") (codes "r2") false) }
+    ensures deleted { meaning_in link_table 1204 (codes "{\"link\":\"l1\"}") ≡ Ok (command.DeleteLink (codes "l1")) }
+    ensures least { meaning_in link_table 1210 (codes "{\"cost\":10}") ≡ Ok (command.SetLeastRouterCost 10) }
+    ensures free { meaning_in link_table 1200 (codes "{\"name\":\"l1\",\"a\":\"r1\",\"b\":\"r2\",\"cost\":0}") ≡ Err (BadBody field.Cost reason.WrongKind) }
+    ensures no_least { meaning_in link_table 1210 (codes "{\"cost\":0}") ≡ Err (BadBody field.Cost reason.WrongKind) }
+    ensures slow { meaning_in link_table 1202 (codes "{\"link\":\"l1\",\"router\":\"r1\",\"latency\":60001}") ≡ Err (BadBody field.Latency reason.WrongKind) }
+    ensures one_end { meaning_in link_table 1200 (codes "{\"name\":\"l1\",\"a\":\"r1\",\"cost\":0}") ≡ Err (BadBody field.B reason.Missing) }
+    ensures reported { meaning_in link_table 1203 (codes "{\"link\":\"l1\",\"router\":\"r2\",\"up\":0}") ≡ Err (BadBody field.Up reason.WrongKind) }
 {}
 
 /// Bodies that spell no command, each with its first cause: of fields that say nothing of their kind the first counts, and
