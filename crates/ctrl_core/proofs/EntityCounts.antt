@@ -22,9 +22,10 @@ use Rattle.grant_moves.specs.CountMoves.{LeadCounts}
 use Rattle.grant_moves.proofs.EntityMoves.{entity_leads}
 use Rattle.grant_moves.proofs.ForgottenNames.{forget_left_leaves, forget_right_leaves}
 use Rattle.grant_moves.proofs.LeadingCounts.{leads_on, unchanged_leads}
-use Rattle.ctrl_core.specs.declared.changes.GrantSteps.{GrantSteps}
-use Rattle.ctrl_core.specs.Changes.{HasNoSteps, steps_of, is_plain_kind, with_plain, with_described, with_removed}
-use Rattle.ctrl_core.specs.GrantChanges.{MovedEntity, StepsOfEntity}
+use Rattle.policy_store.specs.declared.steps.GrantSteps.{GrantSteps}
+use Rattle.ctrl_core.specs.Changes.{is_plain_kind, with_plain, with_described, with_removed}
+use Rattle.policy_store.specs.GrantChanges.{HasNoSteps, steps_of}
+use Rattle.policy_store.specs.GrantChanges.{MovedEntity, StepsOfEntity}
 use Rattle.ctrl_core.specs.PlannedCommands.{described_as}
 
 -- ---- one entity that differs

@@ -28,17 +28,19 @@ use Rattle.entity_store.specs.EntityTables.{Tables, is_entity_kind, entities, ne
 use Rattle.entity_store.specs.AttributeUses.{times, uses, entity_attributes, has_attribute_room}
 use Rattle.entity_store.specs.TableRules.{has_kind_room, found, is_there, attributes_at}
 use Rattle.ctrl_core.specs.declared.changes.Change.TheVariants as change
-use Rattle.ctrl_core.specs.declared.changes.GrantSteps.{GrantSteps}
+use Rattle.policy_store.specs.declared.steps.GrantSteps.{GrantSteps}
 use Rattle.ctrl_core.specs.declared.changes.Planned.{Planned}
 use Rattle.ctrl_core.specs.declared.stores.Stores.{Stores}
 use Rattle.ctrl_core.specs.KeptState.{Keeps, HoldsPolicies, state_of}
-use Rattle.ctrl_core.specs.Changes.{HasNoSteps, is_plain_kind, with_plain, with_described, with_described_router, with_removed}
+use Rattle.ctrl_core.specs.Changes.{is_plain_kind, with_plain, with_described, with_described_router, with_removed}
+use Rattle.policy_store.specs.GrantChanges.{HasNoSteps}
 use Rattle.ctrl_core.specs.Changes as changes
-use Rattle.ctrl_core.specs.GrantChanges.{StepsOfEntity}
+use Rattle.policy_store.specs.GrantChanges.{StepsOfEntity}
 use Rattle.ctrl_core.specs.PlannedCommands.{Plans, IsShown, IsDescribed, described_as, answer_add, answer_update, answer_delete, refusal_of_add, refusal_of_describe}
 use Rattle.ctrl_core.proofs.UseLaws.{times-append, times-at, edit_at-same}
 use Rattle.ctrl_core.proofs.InUseLaws.{room_in_state, added, added_router, described_identity, described_service, described_router}
 use Rattle.ctrl_core.proofs.PlanLaws.{plans_refused, plans_carried}
+use Rattle.ctrl_core.proofs.StepsInState.{entity_steps_in_state}
 use Rattle.ctrl_core.proofs.EntityCounts.{added_leads, added_router_leads, described_leads, described_router_leads, marked_leads, removed_leads}
 
 -- ---- a new entity
@@ -286,13 +288,13 @@ update_planned kind.Identity name attributes st n steps plain keeps found e is =
     (sym (identity_effect name attributes st n found))
     (plans_carried _ (refusal_of_update_identity name attributes (state_of st)) (state_of st) Done (with_described kind.Identity n attributes (state_of st))
     (sym (identity_refusal name attributes st n row keeps stands found) ∙ sym e) refl (refl, there_in_state kind.Identity name st n found) refl
-    (described_leads kind.Identity n attributes (state_of st) steps refl keeps.valid is)))
+    (described_leads kind.Identity n attributes (state_of st) steps refl keeps.valid (entity_steps_in_state kind.Identity n _ st steps is))))
 update_planned kind.Service name attributes st n steps plain keeps found e is = by_there (at st.entities.services n) (there_from_number kind.Service name st.entities n found) (λ row stands.
     subst (λ effect. Plans (record { reply = Done; change = change.Describe kind.Service n attributes; steps = steps }) (carried_out (refusal_of_update_service name attributes (state_of st)) (state_of st) Done effect) (state_of st))
     (sym (service_effect name attributes st n found))
     (plans_carried _ (refusal_of_update_service name attributes (state_of st)) (state_of st) Done (with_described kind.Service n attributes (state_of st))
     (sym (service_refusal name attributes st n row keeps stands found) ∙ sym e) refl (refl, there_in_state kind.Service name st n found) refl
-    (described_leads kind.Service n attributes (state_of st) steps refl keeps.valid is)))
+    (described_leads kind.Service n attributes (state_of st) steps refl keeps.valid (entity_steps_in_state kind.Service n _ st steps is))))
 update_planned _ name attributes st n steps plain keeps found e is = absurd (false≢true plain)
 
 -- ---- routers
@@ -352,7 +354,7 @@ update_router_planned name attributes cost no_traversal st n q steps keeps found
     (plans_carried _ (refusal_of_update_router name attributes cost no_traversal (state_of st)) (state_of st) Done (with_updated n attributes cost (not no_traversal) (state_of st))
     (sym (router_refusal name attributes cost no_traversal st n r keeps stands found) ∙ sym e) refl (there_in_state kind.Router name st n found)
     (ap (λ rows. record (state_of st) { routers = rows }) alike)
-    (described_router_leads n attributes (updated_as attributes cost (not no_traversal)) (state_of st) steps keeps.valid (λ row. refl) is)))
+    (described_router_leads n attributes (updated_as attributes cost (not no_traversal)) (state_of st) steps keeps.valid (λ row. refl) (entity_steps_in_state kind.Router n _ st steps is))))
 
 pub mark_unknown : (name : List ℕ) (connected : Bool) (st : Stores) (p : Planned) → number_of kind.Router name st.entities ≡ None
     → IsShown (Refused (Unknown field.Name)) p → Plans p (mark_router name connected (state_of st)) (state_of st)

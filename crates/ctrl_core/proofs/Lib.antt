@@ -4,7 +4,6 @@ pub mod InUseLaws
 pub mod PlanLaws
 pub mod EntityCounts
 pub mod EntityPlans
-pub mod TurnLaws
 pub mod ApplyLaws
 pub mod PolicyApplyLaws
 pub mod StepLaws
@@ -15,3 +14,4 @@ pub mod RefusedPolicies
 pub mod PolicyCounts
 pub mod PolicyPlans
 pub mod SpelledPolicies
+pub mod StepsInState

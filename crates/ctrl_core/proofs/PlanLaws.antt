@@ -20,9 +20,10 @@ use Rattle.grant_moves.specs.CountMoves.{LeadCounts}
 use Rattle.grant_moves.proofs.LeadingCounts.{unchanged_leads}
 use Rattle.ctrl_core.specs.declared.changes.Change.{Change}
 use Rattle.ctrl_core.specs.declared.changes.Change.TheVariants.{Nothing}
-use Rattle.ctrl_core.specs.declared.changes.GrantSteps.{GrantSteps}
+use Rattle.policy_store.specs.declared.steps.GrantSteps.{GrantSteps}
 use Rattle.ctrl_core.specs.declared.changes.Planned.{Planned}
-use Rattle.ctrl_core.specs.Changes.{CanChange, HasNoSteps, LeadsFrom, after_change, led, steps_of}
+use Rattle.ctrl_core.specs.Changes.{CanChange, LeadsFrom, after_change, led}
+use Rattle.policy_store.specs.GrantChanges.{HasNoSteps, steps_of}
 use Rattle.ctrl_core.specs.PlannedCommands.{Plans, IsShown}
 
 -- no steps lead from the counts of a state to themselves

@@ -18,9 +18,10 @@ use Rattle.grant_moves.specs.CountMoves.{LeadCounts}
 use Rattle.grant_moves.proofs.LeadingCounts.{unchanged_leads}
 use Rattle.grant_moves.proofs.PolicyMoves.{policy_leads}
 use Rattle.policy_store.specs.PolicyTables.{is_policy_kind}
-use Rattle.ctrl_core.specs.declared.changes.GrantSteps.{GrantSteps}
-use Rattle.ctrl_core.specs.Changes.{policies_in, with_policy, with_replaced, without_policy, steps_of}
-use Rattle.ctrl_core.specs.GrantChanges.{ArePolicySteps, StepsOfPolicy}
+use Rattle.policy_store.specs.declared.steps.GrantSteps.{GrantSteps}
+use Rattle.ctrl_core.specs.Changes.{policies_in, with_policy, with_replaced, without_policy}
+use Rattle.policy_store.specs.GrantChanges.{steps_of}
+use Rattle.policy_store.specs.GrantChanges.{ArePolicySteps, StepsOfPolicy}
 use Rattle.ctrl_core.proofs.OrderedSides.{left_high, right_high, policies_high, left_ordered, right_ordered, policies_ordered}
 
 -- ---- a state with other policies of a kind

@@ -23,12 +23,13 @@ use Rattle.policy_store.specs.PolicyTables.{is_policy_kind, policies, next_of, n
 use Rattle.policy_store.specs.StoredPolicies.{policy_of}
 use Rattle.policy_store.specs.declared.records.Policy as stored
 use Rattle.ctrl_core.specs.declared.changes.Change.TheVariants as change
-use Rattle.ctrl_core.specs.declared.changes.GrantSteps.{GrantSteps}
+use Rattle.policy_store.specs.declared.steps.GrantSteps.{GrantSteps}
 use Rattle.ctrl_core.specs.declared.changes.Planned.{Planned}
 use Rattle.ctrl_core.specs.declared.stores.Stores.{Stores}
 use Rattle.ctrl_core.specs.KeptState.{Keeps, state_of}
-use Rattle.ctrl_core.specs.Changes.{CanChange, after_change, policies_in, with_policy, with_replaced, without_policy, steps_of}
-use Rattle.ctrl_core.specs.GrantChanges.{StepsOfPolicy}
+use Rattle.ctrl_core.specs.Changes.{CanChange, after_change, policies_in, with_policy, with_replaced, without_policy}
+use Rattle.policy_store.specs.GrantChanges.{steps_of}
+use Rattle.policy_store.specs.GrantChanges.{StepsOfPolicy}
 use Rattle.ctrl_core.specs.PlannedCommands.{Plans, IsShown, AreShort, refusal_to_put, refusal_of_create, refusal_of_replace, answer_create, answer_replace, answer_delete_policy}
 use Rattle.ctrl_core.proofs.InUseLaws.{names_of, policy_removed, uses_in_state}
 use Rattle.ctrl_core.proofs.ShownPlans.{plans_refused}

@@ -21,11 +21,12 @@ use Rattle.grant_denorm.specs.declared.deltas.Delta.{Delta}
 use Rattle.grant_denorm.specs.PairCounts.{count_of}
 use Rattle.grant_moves.specs.CountMoves.{LeadCounts}
 use Rattle.grant_moves.proofs.LeadingCounts.{unchanged_leads}
-use Rattle.ctrl_core.specs.declared.changes.GrantSteps.{GrantSteps}
+use Rattle.policy_store.specs.declared.steps.GrantSteps.{GrantSteps}
 use Rattle.ctrl_core.specs.declared.changes.Planned.{Planned}
 use Rattle.ctrl_core.specs.declared.stores.Stores.{Stores}
 use Rattle.ctrl_core.specs.KeptState.{Keeps, state_of}
-use Rattle.ctrl_core.specs.Changes.{CanChange, HasNoSteps, after_change, steps_of}
+use Rattle.ctrl_core.specs.Changes.{CanChange, after_change}
+use Rattle.policy_store.specs.GrantChanges.{HasNoSteps, steps_of}
 use Rattle.ctrl_core.specs.PlannedCommands.{Plans, IsShown}
 
 no_steps_of : (r : Relation) (steps : GrantSteps) → HasNoSteps steps → steps_of r steps ≡ []

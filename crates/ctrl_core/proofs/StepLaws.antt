@@ -7,12 +7,13 @@ use Rattle.ctrl_model.specs.State.{State}
 use Rattle.ctrl_model.specs.ValidState.{ValidState}
 use Rattle.grant_denorm.specs.PairCounts.{count_of}
 use Rattle.grant_moves.proofs.CountBounds.{has_count_room}
-use Rattle.ctrl_core.specs.declared.changes.GrantSteps.{GrantSteps}
+use Rattle.policy_store.specs.declared.steps.GrantSteps.{GrantSteps}
 use Rattle.ctrl_core.specs.declared.changes.Planned.{Planned}
 use Rattle.ctrl_core.specs.declared.stores.Grants.{Grants}
 use Rattle.ctrl_core.specs.declared.stores.Stores.{Stores}
 use Rattle.ctrl_core.specs.AppliedChanges.{Carries, HaveRoom, Taken}
-use Rattle.ctrl_core.specs.Changes.{CanLead, led, steps_of}
+use Rattle.ctrl_core.specs.Changes.{CanLead, led}
+use Rattle.policy_store.specs.GrantChanges.{steps_of}
 use Rattle.ctrl_core.specs.KeptState.{Keeps, counts_of, state_of}
 
 pub taken_by_relation : (old new : Grants) (steps : GrantSteps) → Taken old.dial new.dial steps.dial.items → Taken old.bind new.bind steps.bind.items

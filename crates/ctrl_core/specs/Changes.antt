@@ -4,7 +4,6 @@ use Rattle.std.specs.Prelude.{◌≡◌, ℕ, ⊤, Bool, true, false, not, List,
 use Rattle.ctrl_model.specs.declared.kinds.Kind.{Kind}
 use Rattle.ctrl_model.specs.declared.kinds.Kind.TheVariants as kind
 use Rattle.ctrl_model.specs.declared.kinds.Relation.{Relation}
-use Rattle.ctrl_model.specs.declared.kinds.Relation.TheVariants.{Dial, Bind, IdentityRouter, ServiceRouter}
 use Rattle.ctrl_model.specs.Numbered.{is_present, edit_at, without, map_each}
 use Rattle.ctrl_model.specs.State.{State, Policy, policy_named}
 use Rattle.ctrl_model.specs.Grants.{count}
@@ -13,13 +12,12 @@ use Rattle.ctrl_model.specs.ValidState.{ValidState}
 use Rattle.ctrl_model.specs.EntityCommands.{after_create_identity, after_create_service, after_create_router}
 use Rattle.ctrl_model.specs.PolicyCommands.{replaced_by, after_create_service_policy, after_create_edge_router_policy, after_create_service_edge_router_policy}
 use Rattle.entity_store.specs.EntityTables.{is_entity_kind}
-use Rattle.grant_denorm.specs.declared.deltas.Delta.{Delta}
 use Rattle.grant_moves.specs.CountMoves.{LeadCounts}
+use Rattle.policy_store.specs.GrantChanges.{steps_of}
 use Rattle.policy_store.specs.PolicyTables.{is_policy_kind}
 use Rattle.policy_store.specs.StoredPolicies.{policy_of}
 use Rattle.ctrl_core.specs.declared.changes.Change.{Change}
 use Rattle.ctrl_core.specs.declared.changes.Change.TheVariants as change
-use Rattle.ctrl_core.specs.declared.changes.GrantSteps.{GrantSteps}
 use Rattle.ctrl_core.specs.declared.changes.Planned.{Planned}
 
 -- The kinds of entity that have a name and attributes alone.
@@ -131,20 +129,6 @@ CanChange (change.Remove k n name) s = (is_entity_kind k ≡ true) × (is_there 
 CanChange (change.AddPolicy k p) s = is_policy_kind k ≡ true
 CanChange (change.ReplacePolicy k n p) s = (is_policy_kind k ≡ true) × (policy_named (policies_in k s) p.name ≡ Some n)
 CanChange (change.RemovePolicy k n) s = (is_policy_kind k ≡ true) × (is_present (policies_in k s) n ≡ true)
-
--- The steps that a plan keeps of a relation.
-abbrev pub steps_of : Relation → GrantSteps → List Delta
-steps_of Dial steps = steps.dial.items
-steps_of Bind steps = steps.bind.items
-steps_of IdentityRouter steps = steps.identity_router.items
-steps_of ServiceRouter steps = steps.service_router.items
-
--- No count takes a step.
-pub record HasNoSteps (steps : GrantSteps) : Type 0 where
-  pub dial : steps.dial.items ≡ []
-  pub bind : steps.bind.items ≡ []
-  pub identity_router : steps.identity_router.items ≡ []
-  pub service_router : steps.service_router.items ≡ []
 
 -- Where a plan leads.
 abbrev pub led : Planned → State → State

@@ -26,11 +26,11 @@ use Rattle.policy_store.specs.PolicyRules.{may_put}
 use Rattle.grant_moves.specs.CountMoves.{LeadCounts}
 use Rattle.ctrl_core.specs.declared.changes.Planned.{Planned}
 use Rattle.ctrl_core.specs.declared.changes.Change.TheVariants.{Nothing}
-use Rattle.ctrl_core.specs.declared.changes.GrantSteps.{GrantSteps}
+use Rattle.policy_store.specs.declared.steps.GrantSteps.{GrantSteps}
 use Rattle.ctrl_core.specs.declared.stores.Stores.{Stores}
 use Rattle.ctrl_core.specs.KeptState.{state_of}
-use Rattle.ctrl_core.specs.Changes.{CanChange, HasNoSteps, led, steps_of}
-use Rattle.ctrl_core.specs.GrantChanges.{StepsOfEntity}
+use Rattle.ctrl_core.specs.Changes.{CanChange, led}
+use Rattle.policy_store.specs.GrantChanges.{granting_state, HasNoSteps, StepsOfEntity, steps_of}
 
 -- The plan of an answer: its reply, that it leads to the answer's state, and that its steps lead to that state's counts.
 pub record Plans (p : Planned) (answered : Reply × State) (s : State) : Type 0 where
@@ -55,7 +55,7 @@ IsDescribed k n attributes st steps =
     StepsOfEntity k n (record {
       before = at (entities k st.entities) n;
       after = option_map (described_as attributes) (at (entities k st.entities) n);
-    }) (state_of st) steps
+    }) (granting_state st.entities st.policies) steps
 
 -- The answer to the command that makes an identity or a service.
 abbrev pub answer_add : Kind → List ℕ → List (List ℕ) → State → Reply × State

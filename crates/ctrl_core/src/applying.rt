@@ -8,16 +8,17 @@ ghost use Rattle.ctrl_model.specs.State.{policy_named};
 ghost use Rattle.entity_store.specs.EntityTables.{is_entity_kind};
 ghost use Rattle.policy_store.specs.PolicyTables.{is_policy_kind};
 ghost use Rattle.policy_store.specs.StoredPolicies.{policy_of};
-ghost use Rattle.ctrl_core.specs.Changes.{CanChange, is_plain_kind, is_there, policies_in, steps_of, after_change, with_plain, with_described, with_described_router, with_marked, with_removed, with_policy, with_replaced, without_policy};
+ghost use Rattle.ctrl_core.specs.Changes.{CanChange, is_plain_kind, is_there, policies_in, after_change, with_plain, with_described, with_described_router, with_marked, with_removed, with_policy, with_replaced, without_policy};
+ghost use Rattle.policy_store.specs.GrantChanges.{steps_of};
 ghost use Rattle.ctrl_core.specs.KeptState.{HoldsPolicies, counts_of, state_of};
 ghost use Rattle.ctrl_core.specs.AppliedChanges.{Carries, LetsPolicyGo, HaveRoom, Taken};
 
-use crate::changes::{Change, GrantSteps};
+use crate::changes::Change;
 use crate::policy_names::policy_names;
 use crate::stores::{Grants, Stores};
 use ctrl_model::{Kind, Name, Names, PolicyNo, RouterNo};
 use grant_denorm::apply_changes;
-use policy_store::Policy;
+use policy_store::{GrantSteps, Policy};
 use std::alloc::{AllocError, Global};
 
 fn add(stores: &mut Stores, kind: Kind, name: &Name, attributes: &Names) -> Result<(), AllocError>

@@ -1,11 +1,9 @@
 ghost use Rattle.std.specs.Prelude.{◌≡◌};
 ghost use Rattle.ctrl_model.specs.declared.replies.Reply.TheVariants.{Refused};
-ghost use Rattle.ctrl_core.specs.Changes.{HasNoSteps};
 ghost use Rattle.ctrl_core.specs.PlannedCommands.{IsShown};
 
 use ctrl_model::{Kind, Name, Names, Refusal, Reply};
-use grant_denorm::Delta;
-use policy_store::Policy;
+use policy_store::{GrantSteps, Policy};
 use std::alloc::Global;
 
 /// One change of the stores.
@@ -63,29 +61,6 @@ pub enum Change {
     },
     /// A policy goes.
     RemovePolicy { kind: Kind, number: u32 },
-}
-
-/// The steps that the grant counts of each relation take.
-#[derive(Drop)]
-pub struct GrantSteps {
-    pub dial: Vec<Delta>,
-    pub bind: Vec<Delta>,
-    pub identity_router: Vec<Delta>,
-    pub service_router: Vec<Delta>,
-}
-
-impl GrantSteps {
-    /// No steps.
-    pub fn none(alloc: Global) -> GrantSteps
-        ensures { HasNoSteps result }
-    {
-        GrantSteps {
-            dial: Vec::new(alloc),
-            bind: Vec::new(alloc),
-            identity_router: Vec::new(alloc),
-            service_router: Vec::new(alloc),
-        }
-    }
 }
 
 /// The answer to a command, planned: the reply, and what is kept to carry it out. A plan leads from the state in which it was

@@ -6,7 +6,6 @@ mod changes;
 mod commands;
 mod core_state;
 mod families;
-mod granting;
 mod planning;
 mod policy_names;
 mod policy_planning;

@@ -9,11 +9,11 @@ ghost use Rattle.ctrl_core.specs.Changes.{is_plain_kind};
 ghost use Rattle.ctrl_core.specs.KeptState.{Keeps, state_of};
 ghost use Rattle.ctrl_core.specs.PlannedCommands.{Plans, IsShown, IsDescribed, answer_add, answer_update, answer_delete, refusal_of_add, refusal_of_describe};
 
-use crate::changes::{Change, GrantSteps, Planned};
-use crate::granting::{Moved, entity_steps};
+use crate::changes::{Change, Planned};
 use crate::stores::Stores;
 use ctrl_model::{Field, Kind, Name, Names, Refusal, Reply, RouterSeen};
 use entity_store::{Entities, EntityFault};
+use policy_store::{GrantSteps, Moved, entity_steps};
 use std::alloc::{AllocError, Global};
 
 // A new entity is refused where its name is taken, its kind is full, or too many attributes would be in use.
@@ -102,7 +102,7 @@ pub fn plan_add(
     }
     let number = stores.entities.next(kind);
     let moved = Moved::coming(name, attributes);
-    let steps = entity_steps(alloc, stores, kind, number, &moved)?;
+    let steps = entity_steps(alloc, &stores.policies, &stores.entities, kind, number, &moved)?;
     let name = name.copy()?;
     let attributes = attributes.copy()?;
     Ok(Planned {
@@ -133,7 +133,7 @@ pub fn plan_add_router(
     }
     let number = stores.entities.next(Kind::Router);
     let moved = Moved::coming(name, attributes);
-    let steps = entity_steps(alloc, stores, Kind::Router, number, &moved)?;
+    let steps = entity_steps(alloc, &stores.policies, &stores.entities, Kind::Router, number, &moved)?;
     let name = name.copy()?;
     let attributes = attributes.copy()?;
     Ok(Planned {
@@ -158,13 +158,13 @@ fn described_steps(
 ) -> Result<GrantSteps, AllocError>
     requires kind { is_entity_kind kind ≡ true }
     requires there { is_there kind number stores.now.entities ≡ true }
-    requires kept { Keeps stores.now }
     ensures { IfOk result (IsDescribed kind number attributes.now stores.now) }
 {
     let Some((name, gone)) = stores.entities.seen(kind, number) else {
         unreachable!()
     };
-    entity_steps(alloc, stores, kind, number, &Moved::described(name, gone, attributes))
+    let moved = Moved::described(name, gone, attributes);
+    entity_steps(alloc, &stores.policies, &stores.entities, kind, number, &moved)
 }
 
 /// Plans other attributes of an identity or a service.
@@ -274,7 +274,8 @@ pub fn plan_delete(
     let Some((kept, attributes)) = stores.entities.seen(kind, number) else {
         unreachable!()
     };
-    let steps = entity_steps(alloc, stores, kind, number, &Moved::going(kept, attributes))?;
+    let moved = Moved::going(kept, attributes);
+    let steps = entity_steps(alloc, &stores.policies, &stores.entities, kind, number, &moved)?;
     let name = name.copy()?;
     Ok(Planned {
         reply: Reply::Done,

@@ -7,12 +7,11 @@ ghost use Rattle.ctrl_core.specs.KeptState.{Keeps, state_of};
 ghost use Rattle.ctrl_core.specs.PlannedCommands.{Plans, AreShort, IsPlaced, ids_of, refusal_for, refusal_to_put, answer_create, answer_replace, answer_delete_policy, roles_field};
 
 use crate::changes::{Change, Planned};
-use crate::granting::policy_steps;
 use crate::planning::unknown_name;
 use crate::policy_names::policy_names;
 use crate::stores::Stores;
 use ctrl_model::{Field, Kind, Name, Names, Refusal, Reply};
-use policy_store::{Policy, PolicyFault};
+use policy_store::{Policy, PolicyFault, policy_steps};
 use std::alloc::{AllocError, Global};
 
 // The field that gives a side of a kind of policy.
@@ -107,7 +106,7 @@ pub fn plan_create_policy(
         return Ok(Planned::refused(alloc, refusal));
     }
     let number = stores.policies.next(kind);
-    let steps = policy_steps(alloc, stores, kind, None, Some(&policy))?;
+    let steps = policy_steps(alloc, &stores.entities, kind, None, Some(&policy))?;
     Ok(Planned {
         reply: Reply::Made { no: number },
         change: Change::AddPolicy { kind, policy },
@@ -137,7 +136,7 @@ pub fn plan_replace_policy(
     if let Some(refusal) = refusal_to_put(alloc, stores, kind, &policy, false, &gone)? {
         return Ok(Planned::refused(alloc, refusal));
     }
-    let steps = policy_steps(alloc, stores, kind, Some(replaced), Some(&policy))?;
+    let steps = policy_steps(alloc, &stores.entities, kind, Some(replaced), Some(&policy))?;
     Ok(Planned {
         reply: Reply::Done,
         change: Change::ReplacePolicy {
@@ -166,7 +165,7 @@ pub fn plan_delete_policy(
     let Some(policy) = stores.policies.get(kind, number) else {
         unreachable!()
     };
-    let steps = policy_steps(alloc, stores, kind, Some(policy), None)?;
+    let steps = policy_steps(alloc, &stores.entities, kind, Some(policy), None)?;
     Ok(Planned {
         reply: Reply::Done,
         change: Change::RemovePolicy {

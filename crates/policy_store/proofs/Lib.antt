@@ -1,3 +1,4 @@
 pub mod EntryLaws
 pub mod ForgetLaws
 pub mod MemberLaws
+pub mod TurnLaws

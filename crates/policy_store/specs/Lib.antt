@@ -4,3 +4,5 @@ pub mod StoredPolicies
 pub mod Rows
 pub mod Stores
 pub mod WorkedPolicies
+pub mod GrantKinds
+pub mod GrantChanges

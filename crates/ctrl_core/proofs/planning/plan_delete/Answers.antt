@@ -1,8 +1,9 @@
 use Rattle.std.proofs.Common.{Option, None, sym, ◌∙◌, ap, subst}
 use Rattle.ctrl_model.specs.State.{Entity}
-use Rattle.ctrl_core.specs.GrantChanges.{MovedEntity, StepsOfEntity}
+use Rattle.policy_store.specs.GrantChanges.{MovedEntity, StepsOfEntity}
 use Rattle.ctrl_core.specs.KeptState.{state_of}
 use Rattle.ctrl_core.proofs.EntityPlans.{number_from_found, absent_from_found, named_seen, delete_unknown, delete_planned}
+use Rattle.ctrl_core.proofs.StepsInState.{entity_steps_in_state}
 use Rattle.ctrl_core.proofs.planning.plan_delete.Goals as goal
 
 pub returns-in_default : goal.returns-in_default
@@ -21,4 +22,4 @@ returns c =
     (delete_planned c.args.kind c.args.name.now c.args.stores.now c.in-Ok.number c.in_ok-steps.steps c.requires.kind c.requires.kept
     (number_from_found c.args.kind c.args.name.now c.args.stores.now.entities c.in-Ok.number (sym c.in-Ok.is ∙ c.find.ensures.found))
     (subst (λ m. StepsOfEntity c.args.kind c.in-Ok.number m (state_of c.args.stores.now) c.in_ok-steps.steps)
-    (c.going.ensures ∙ ap (λ (o : Option Entity). let m : MovedEntity = record { before = o; after = None } in m) c.in-Some.ensures) c.in_ok-steps.ensures))
+    (c.going-moved.ensures ∙ ap (λ (o : Option Entity). let m : MovedEntity = record { before = o; after = None } in m) c.in-Some.ensures) (entity_steps_in_state c.args.kind c.in-Ok.number c.going-moved.result c.args.stores.now c.in_ok-steps.steps c.in_ok-steps.ensures)))

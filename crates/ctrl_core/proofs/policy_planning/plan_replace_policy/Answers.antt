@@ -5,6 +5,7 @@ use Rattle.policy_store.specs.PolicyTables.{number_of}
 use Rattle.policy_store.specs.StoredPolicies.{policy_of}
 use Rattle.ctrl_core.proofs.ShownPlans.{some_from_ok, none_from_err}
 use Rattle.ctrl_core.proofs.PolicyPlans.{finds_policy, policy_used, replace_unknown, replace_refused, replace_planned}
+use Rattle.ctrl_core.proofs.StepsInState.{policy_steps_in_state}
 use Rattle.ctrl_core.proofs.policy_planning.plan_replace_policy.Goals as goal
 
 pub returns-in_default : goal.returns-in_default
@@ -32,4 +33,4 @@ pub returns : goal.returns
 returns c =
     replace_planned c.args.kind c.in-Ok.number.0 c.args.policy (policy_of c.in-Some.replaced.now) c.in_ok-gone.gone c.args.stores.now c.in_ok-steps.steps c.requires.kind c.requires.short
     c.requires.kept (some_from_ok (number_of c.args.kind c.args.policy.name c.args.stores.now.policies) Unknown c.in-Ok.number.0 c.in-Ok.ensures.found) c.in-Some.ensures
-    c.in_ok-gone.ensures (sym c.in_default-2.is ∙ c.in_ok-refusal.ensures) c.in_ok-steps.ensures
+    c.in_ok-gone.ensures (sym c.in_default-2.is ∙ c.in_ok-refusal.ensures) (policy_steps_in_state c.args.kind _ _ c.args.stores.now c.in_ok-steps.steps c.in_ok-steps.ensures)

@@ -1,19 +1,20 @@
 ghost use Rattle.std.specs.Prelude.{◌≡◌, ◌++◌, ◌&&◌, true, cond, Some, None, IfOk, OnOk, option_map};
 ghost use Rattle.ctrl_model.specs.Grants.{same_relation, policies_for};
 ghost use Rattle.entity_store.specs.EntityTables.{is_entity_kind, entities};
-ghost use Rattle.policy_store.specs.PolicyTables.{fits};
+ghost use Rattle.policy_store.specs.PolicyTables.{no_policies, fits};
 ghost use Rattle.policy_store.specs.StoredPolicies.{policy_of};
 ghost use Rattle.grant_moves.specs.EntitySides.{own_side, other_rows, matches_if, members_of};
 ghost use Rattle.grant_moves.specs.GrantTurns.{turn_of, turns_of, cross_of};
-ghost use Rattle.ctrl_core.specs.KeptState.{Keeps, state_of};
-ghost use Rattle.ctrl_core.specs.GrantChanges.{entity_if, stands_in, AreStepsAt, StepsOfEntity, ArePolicyStepsAt, StepsOfPolicy};
-ghost use Rattle.ctrl_core.specs.GrantKinds.{left_kind_of, right_kind_of, other_kind, policy_kind};
+ghost use Rattle.policy_store.specs.GrantChanges.{granting_state, entity_if, stands_in, AreStepsAt, StepsOfEntity, ArePolicyStepsAt, StepsOfPolicy};
+ghost use Rattle.policy_store.specs.GrantKinds.{left_kind_of, right_kind_of, other_kind, policy_kind};
 
-use crate::changes::GrantSteps;
-use crate::stores::Stores;
+use crate::membership::members;
+use crate::policies::Policies;
+use crate::records::Policy;
+use crate::steps::GrantSteps;
 use ctrl_model::{Kind, Name, Names, Numbers, PolicyNo, Relation, Semantic, Side};
+use entity_store::Entities;
 use grant_denorm::{Cross, Delta, Turn, deltas_entity, deltas_policy};
-use policy_store::{Policy, members};
 use role_expr::matches;
 use std::alloc::{AllocError, Global};
 use std::marker::Model;
@@ -29,7 +30,7 @@ pub struct Moved<'a> {
 
 impl<'a> Model for Moved<'a> {
     ghost use Rattle.std.specs.Prelude.{option_map};
-    ghost use Rattle.ctrl_core.specs.GrantChanges.{MovedEntity, entity_if};
+    ghost use Rattle.policy_store.specs.GrantChanges.{MovedEntity, entity_if};
 
     ghost Value = { MovedEntity };
 
@@ -156,34 +157,34 @@ fn own_side(policy: &Policy, on_left: bool) -> &Side
 // The members of a side of a policy.
 fn members_of(
     alloc: Global,
-    stores: &Stores,
+    known: &Entities,
     policy: &Policy,
     on_left: bool,
     kind: Kind,
 ) -> Result<Numbers, AllocError>
     requires { is_entity_kind kind ≡ true }
-    ensures { IfOk result (λ ns. ns ≡ members_of (own_side on_left (policy_of policy.now)) policy.now.semantic (entities kind stores.now.entities)) }
+    ensures { IfOk result (λ ns. ns ≡ members_of (own_side on_left (policy_of policy.now)) policy.now.semantic (entities kind known.now)) }
 {
     members(
         alloc,
         own_side(policy, on_left),
         policy.semantic,
         kind,
-        &stores.entities,
+        known,
     )
 }
 
 // Puts the turn of one policy for an entity behind the others, if it makes one.
 fn push_turn(
     turns: &mut Vec<Turn>,
-    stores: &Stores,
+    known: &Entities,
     relation: Relation,
     on_left: bool,
     policy: &Policy,
     moved: &Moved,
 ) -> Result<(), AllocError>
     ensures { OnOk result (turns.new.items ≡ turns.old.items
-        ++ turn_of relation on_left moved.now.before moved.now.after (other_rows on_left relation (state_of stores.now)) (policy_of policy.now)) }
+        ++ turn_of relation on_left moved.now.before moved.now.after (entities (other_kind on_left relation) known.now) (policy_of policy.now)) }
 {
     if !is_same(relation, policy.relation) {
         return Ok(());
@@ -195,7 +196,7 @@ fn push_turn(
         return Ok(());
     }
     let alloc = *turns.allocator();
-    let partners = members_of(alloc, stores, policy, !on_left, other_kind(relation, on_left))?;
+    let partners = members_of(alloc, known, policy, !on_left, other_kind(relation, on_left))?;
     turns.push(Turn { up: is, partners })?;
     Ok(())
 }
@@ -203,23 +204,25 @@ fn push_turn(
 // The turns of all policies that can be of a relation.
 fn turns_of(
     alloc: Global,
-    stores: &Stores,
+    kept: &Policies,
+    known: &Entities,
     relation: Relation,
     on_left: bool,
     moved: &Moved,
 ) -> Result<Vec<Turn>, AllocError>
-    requires { Keeps stores.now }
     ensures { IfOk result (λ ts. ts.items
-        ≡ turns_of relation on_left moved.now.before moved.now.after (other_rows on_left relation (state_of stores.now)) (policies_for relation (state_of stores.now))) }
+        ≡ turns_of relation on_left moved.now.before moved.now.after (other_rows on_left relation (granting_state known.now kept.now)) (policies_for relation (granting_state known.now kept.now))) }
 {
     let kind = policy_kind(relation);
-    let numbers = stores.policies.numbers(alloc, kind)?;
+    // With it comes that the numbers ascend, so that each stands for one policy.
+    let _next = kept.next(kind);
+    let numbers = kept.numbers(alloc, kind)?;
     let mut turns = Vec::new(alloc);
     'policies: for number in numbers.as_slice() {
-        let Some(policy) = stores.policies.get(kind, PolicyNo(*number)) else {
+        let Some(policy) = kept.get(kind, PolicyNo(*number)) else {
             unreachable!()
         };
-        push_turn(&mut turns, stores, relation, on_left, policy, moved)?;
+        push_turn(&mut turns, known, relation, on_left, policy, moved)?;
     }
     Ok(turns)
 }
@@ -227,18 +230,18 @@ fn turns_of(
 // The steps of a relation's counts where an entity changes.
 fn entity_steps_at(
     alloc: Global,
-    stores: &Stores,
+    kept: &Policies,
+    known: &Entities,
     relation: Relation,
     kind: Kind,
     number: u32,
     moved: &Moved,
 ) -> Result<Vec<Delta>, AllocError>
-    requires { Keeps stores.now }
-    ensures { IfOk result (λ ds. AreStepsAt (stands_in relation kind) relation number moved.now (state_of stores.now) ds.items) }
+    ensures { IfOk result (λ ds. AreStepsAt (stands_in relation kind) relation number moved.now (granting_state known.now kept.now) ds.items) }
 {
     match stands_in(relation, kind) {
         Some(on_left) => {
-            let turns = turns_of(alloc, stores, relation, on_left, moved)?;
+            let turns = turns_of(alloc, kept, known, relation, on_left, moved)?;
             deltas_entity(alloc, number, on_left, turns.as_slice())
         }
         None => Ok(Vec::new(alloc)),
@@ -248,20 +251,20 @@ fn entity_steps_at(
 /// The steps that the counts take where an entity of a kind and number changes.
 pub fn entity_steps(
     alloc: Global,
-    stores: &Stores,
+    kept: &Policies,
+    known: &Entities,
     kind: Kind,
     number: u32,
     moved: &Moved,
 ) -> Result<GrantSteps, AllocError>
-    requires { Keeps stores.now }
-    ensures { IfOk result (StepsOfEntity kind number moved.now (state_of stores.now)) }
+    ensures { IfOk result (StepsOfEntity kind number moved.now (granting_state known.now kept.now)) }
 {
-    let dial = entity_steps_at(alloc, stores, Relation::Dial, kind, number, moved)?;
-    let bind = entity_steps_at(alloc, stores, Relation::Bind, kind, number, moved)?;
+    let dial = entity_steps_at(alloc, kept, known, Relation::Dial, kind, number, moved)?;
+    let bind = entity_steps_at(alloc, kept, known, Relation::Bind, kind, number, moved)?;
     let identity_router =
-        entity_steps_at(alloc, stores, Relation::IdentityRouter, kind, number, moved)?;
+        entity_steps_at(alloc, kept, known, Relation::IdentityRouter, kind, number, moved)?;
     let service_router =
-        entity_steps_at(alloc, stores, Relation::ServiceRouter, kind, number, moved)?;
+        entity_steps_at(alloc, kept, known, Relation::ServiceRouter, kind, number, moved)?;
     Ok(GrantSteps {
         dial,
         bind,
@@ -273,17 +276,17 @@ pub fn entity_steps(
 // The product of a policy at a relation, which is empty where it is absent or of another relation.
 fn cross_of(
     alloc: Global,
-    stores: &Stores,
+    known: &Entities,
     relation: Relation,
     policy: Option<&Policy>,
 ) -> Result<Cross, AllocError>
-    ensures { IfOk result (λ c. c ≡ cross_of relation (state_of stores.now) (option_map (λ p. policy_of p.now) policy.entry)) }
+    ensures { IfOk result (λ c. c ≡ cross_of relation (granting_state known.now no_policies) (option_map (λ p. policy_of p.now) policy.entry)) }
 {
     match policy {
         Some(policy) if is_same(relation, policy.relation) => {
             let (left_kind, right_kind) = kinds_of(relation);
-            let left = members_of(alloc, stores, policy, true, left_kind)?;
-            let right = members_of(alloc, stores, policy, false, right_kind)?;
+            let left = members_of(alloc, known, policy, true, left_kind)?;
+            let right = members_of(alloc, known, policy, false, right_kind)?;
             Ok(Cross { left, right })
         }
         _ => Ok(Cross {
@@ -307,38 +310,38 @@ fn fits(kind: Kind, relation: Relation) -> bool
 // The steps of a relation's counts where a policy changes.
 fn policy_steps_at(
     alloc: Global,
-    stores: &Stores,
+    known: &Entities,
     relation: Relation,
     kind: Kind,
     before: Option<&Policy>,
     after: Option<&Policy>,
 ) -> Result<Vec<Delta>, AllocError>
-    ensures { IfOk result (λ ds. ArePolicyStepsAt (fits kind relation) relation (option_map (λ p. policy_of p.now) before.entry) (option_map (λ p. policy_of p.now) after.entry) (state_of stores.now) ds.items) }
+    ensures { IfOk result (λ ds. ArePolicyStepsAt (fits kind relation) relation (option_map (λ p. policy_of p.now) before.entry) (option_map (λ p. policy_of p.now) after.entry) (granting_state known.now no_policies) ds.items) }
 {
     if !fits(kind, relation) {
         return Ok(Vec::new(alloc));
     }
-    let before = cross_of(alloc, stores, relation, before)?;
-    let after = cross_of(alloc, stores, relation, after)?;
+    let before = cross_of(alloc, known, relation, before)?;
+    let after = cross_of(alloc, known, relation, after)?;
     deltas_policy(alloc, &before, &after)
 }
 
 /// The steps that the counts take where a policy of a kind changes.
 pub fn policy_steps(
     alloc: Global,
-    stores: &Stores,
+    known: &Entities,
     kind: Kind,
     before: Option<&Policy>,
     after: Option<&Policy>,
 ) -> Result<GrantSteps, AllocError>
-    ensures { IfOk result (StepsOfPolicy kind (option_map (λ p. policy_of p.now) before.entry) (option_map (λ p. policy_of p.now) after.entry) (state_of stores.now)) }
+    ensures { IfOk result (StepsOfPolicy kind (option_map (λ p. policy_of p.now) before.entry) (option_map (λ p. policy_of p.now) after.entry) (granting_state known.now no_policies)) }
 {
-    let dial = policy_steps_at(alloc, stores, Relation::Dial, kind, before, after)?;
-    let bind = policy_steps_at(alloc, stores, Relation::Bind, kind, before, after)?;
+    let dial = policy_steps_at(alloc, known, Relation::Dial, kind, before, after)?;
+    let bind = policy_steps_at(alloc, known, Relation::Bind, kind, before, after)?;
     let identity_router =
-        policy_steps_at(alloc, stores, Relation::IdentityRouter, kind, before, after)?;
+        policy_steps_at(alloc, known, Relation::IdentityRouter, kind, before, after)?;
     let service_router =
-        policy_steps_at(alloc, stores, Relation::ServiceRouter, kind, before, after)?;
+        policy_steps_at(alloc, known, Relation::ServiceRouter, kind, before, after)?;
     Ok(GrantSteps {
         dial,
         bind,

@@ -1,4 +1,4 @@
--- Which kinds of entity and of policy a relation has. Contracts of private functions cite it.
+-- Which kinds of entity and of policy a relation has (docs/RULES.md, "Policies and grants").
 use Rattle.std.specs.Prelude.{Bool, true, false}
 use Rattle.ctrl_model.specs.declared.kinds.Kind.{Kind}
 use Rattle.ctrl_model.specs.declared.kinds.Kind.TheVariants as kind

@@ -1,18 +1,50 @@
--- Which steps of the grant counts a change of an entity or of a policy makes. Contracts of private functions cite it.
+-- Which steps of the grant counts a change of an entity or of a policy makes (docs/RULES.md, "Policies and grants").
 use Rattle.std.specs.Prelude.{◌≡◌, ℕ, Bool, true, false, List, [], None, Some, option_map}
 use Rattle.std.specs.declared.option.Option.{Option}
 use Rattle.ctrl_model.specs.declared.kinds.Kind.{Kind}
 use Rattle.ctrl_model.specs.declared.kinds.Kind.TheVariants as kind
 use Rattle.ctrl_model.specs.declared.kinds.Relation.{Relation}
 use Rattle.ctrl_model.specs.declared.kinds.Relation.TheVariants.{Dial, Bind, IdentityRouter, ServiceRouter}
-use Rattle.ctrl_model.specs.State.{State, Entity, Policy}
+use Rattle.ctrl_model.specs.State.{State, Entity, Policy, start}
 use Rattle.ctrl_model.specs.Grants.{policies_for}
 use Rattle.grant_denorm.specs.declared.deltas.Delta.{Delta}
 use Rattle.grant_denorm.specs.Deltas.{ups, downs, policy_ups, policy_downs, entity_ups, entity_downs}
 use Rattle.grant_moves.specs.EntitySides.{other_rows}
 use Rattle.grant_moves.specs.GrantTurns.{turns_of, cross_of}
-use Rattle.policy_store.specs.PolicyTables.{fits}
-use Rattle.ctrl_core.specs.declared.changes.GrantSteps.{GrantSteps}
+use Rattle.entity_store.specs.EntityTables.{Tables}
+use Rattle.policy_store.specs.PolicyTables.{PolicyTables, fits}
+use Rattle.policy_store.specs.declared.steps.GrantSteps.{GrantSteps}
+
+-- The state that has some entities and policies, and else is as at the start.
+abbrev pub granting_state : Tables → PolicyTables → State
+granting_state t p = record start {
+  identities = t.identities;
+  next_identity = t.next_identity;
+  services = t.services;
+  next_service = t.next_service;
+  routers = t.routers;
+  next_router = t.next_router;
+  service_policies = p.service_policies;
+  next_service_policy = p.next_service_policy;
+  edge_router_policies = p.edge_router_policies;
+  next_edge_router_policy = p.next_edge_router_policy;
+  service_edge_router_policies = p.service_edge_router_policies;
+  next_service_edge_router_policy = p.next_service_edge_router_policy;
+}
+
+-- The steps of a relation.
+abbrev pub steps_of : Relation → GrantSteps → List Delta
+steps_of Dial steps = steps.dial.items
+steps_of Bind steps = steps.bind.items
+steps_of IdentityRouter steps = steps.identity_router.items
+steps_of ServiceRouter steps = steps.service_router.items
+
+-- No count takes a step.
+pub record HasNoSteps (steps : GrantSteps) : Type 0 where
+  pub dial : steps.dial.items ≡ []
+  pub bind : steps.bind.items ≡ []
+  pub identity_router : steps.identity_router.items ≡ []
+  pub service_router : steps.service_router.items ≡ []
 
 -- An entity before a change and after it, absent where it is not there.
 pub record MovedEntity : Type 0 where
