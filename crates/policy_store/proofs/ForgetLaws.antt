@@ -1,5 +1,5 @@
 -- Laws of entries that are changed one after the other, and of policies that forget a name.
-use Rattle.std.proofs.Common.{◌≡◌, ℕ, zero, suc, ◌+◌, ◌<◌, List, [], ◌∷◌, length, get_or, slice_get, Some, refl, ◌∙◌, ap, subst, sym, arith}
+use Rattle.std.proofs.Common.{◌≡◌, ℕ, zero, suc, ◌+◌, ◌<◌, List, [], ◌∷◌, length, get_or, slice_get, Some, refl, ◌∙◌, ap, sym, arith}
 use Rattle.std.proofs.lemmas.Option.{same_Some, slice_get-get_or}
 use Rattle.std.specs.List.{AllByRecursion}
 use Rattle.indexmap.specs.IndexMap.{set_value_at}
@@ -9,7 +9,7 @@ use Rattle.policy_store.specs.declared.records.Hand.TheVariants.{Left, Right}
 use Rattle.policy_store.specs.declared.records.Policy.{Policy}
 use Rattle.policy_store.specs.declared.records.Row.{Row}
 use Rattle.policy_store.specs.StoredPolicies.{policy_of}
-use Rattle.policy_store.specs.Rows.{Entry, rows_of, numbered, IsAtItsName, forgotten}
+use Rattle.policy_store.specs.Rows.{Entry, rows_of, IsAtItsName, forgotten}
 use Rattle.policy_store.specs.Stores.{forget_on}
 
 -- entries, of which those before a place have changed values

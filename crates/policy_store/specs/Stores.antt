@@ -2,7 +2,7 @@
 use Rattle.std.specs.Prelude.{◌≡◌, ℕ, ◌≤◌, ◌+◌, nat_lt, Bool, ◌&&◌, cond, List, [], length, is_none, is_some, unwrap_or}
 use Rattle.std.specs.Option.{option_map_or}
 use Rattle.ctrl_model.specs.declared.kinds.Kind.{Kind}
-use Rattle.ctrl_model.specs.Numbered.{with_last, edit_at, map_each}
+use Rattle.ctrl_model.specs.Numbered.{with_last, edit_at}
 use Rattle.ctrl_model.specs.PolicyCommands.{replaced_by}
 use Rattle.ctrl_model.specs.Rules.{forget_left, forget_right}
 use Rattle.ctrl_model.specs.State.{Policy, policy_named}

@@ -22,13 +22,7 @@ fn is_member(side: &Side, semantic: Semantic, kind: Kind, no: u32, known: &Entit
 }
 
 // Leaves the numbers of entities that a side matches.
-fn keep_members(
-    found: &mut Vec<u32>,
-    side: &Side,
-    semantic: Semantic,
-    kind: Kind,
-    known: &Entities,
-)
+fn keep_members(found: &mut Vec<u32>, side: &Side, semantic: Semantic, kind: Kind, known: &Entities)
     requires { is_entity_kind kind ≡ true }
     ensures { found.new.items ≡ filter (λ n. option_map_or (λ e. matches side.now semantic e) (at (entities kind known.now) n) false) found.old.items }
 {

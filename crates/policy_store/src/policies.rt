@@ -39,9 +39,9 @@ pub enum PolicyFault {
 /// A kind of policy is ServicePolicy, EdgeRouterPolicy or ServiceEdgeRouterPolicy. Other kinds have no policies.
 #[derive(Drop)]
 pub struct Policies {
-    services: Table,
-    edge_routers: Table,
-    service_edge_routers: Table,
+    service_policies: Table,
+    edge_router_policies: Table,
+    service_edge_router_policies: Table,
 }
 
 impl Model for Policies {
@@ -52,9 +52,9 @@ impl Model for Policies {
 
     ghost use Rattle.policy_store.specs.Stores.{tables_of};
 
-    ghost view = { λ p. tables_of p.services p.edge_routers p.service_edge_routers };
+    ghost view = { λ p. tables_of p.service_policies p.edge_router_policies p.service_edge_router_policies };
 
-    ghost invariant = { λ p. (length p.services.rows ≤ 512) × (length p.edge_routers.rows ≤ 256) × (length p.service_edge_routers.rows ≤ 256) };
+    ghost invariant = { λ p. (length p.service_policies.rows ≤ 512) × (length p.edge_router_policies.rows ≤ 256) × (length p.service_edge_router_policies.rows ≤ 256) };
 }
 
 // How many policies of a kind there may be.
@@ -105,9 +105,7 @@ fn first_absent(kind: Kind, names: &[Name], known: &Entities) -> Option<usize>
     requires { is_entity_kind kind ≡ true }
     ensures { result ≡ position (λ n. is_none (entity_tables.number_of kind n known.now)) names.now }
 {
-    names
-        .iter()
-        .position(|name| is_absent(kind, name, known))
+    names.iter().position(|name| is_absent(kind, name, known))
 }
 
 // A place as it is told: at most 4,294,967,295.
@@ -132,7 +130,10 @@ fn absent_name(kind: Kind, policy: &Policy, known: &Entities) -> Option<PolicyFa
 {
     let left = absent_place(left_kind(kind), policy.left.ids.as_slice(), known);
     if let Some(place) = left {
-        return Some(PolicyFault::UnknownRef { right: false, place });
+        return Some(PolicyFault::UnknownRef {
+            right: false,
+            place,
+        });
     }
     let place = absent_place(right_kind(kind), policy.right.ids.as_slice(), known)?;
     Some(PolicyFault::UnknownRef { right: true, place })
@@ -144,9 +145,9 @@ impl Policies {
         ensures { MatchOption result (HasNoTable kind self.now) (λ t. IsTableOf kind t.now self.now) }
     {
         match kind {
-            Kind::ServicePolicy => Some(&self.services),
-            Kind::EdgeRouterPolicy => Some(&self.edge_routers),
-            Kind::ServiceEdgeRouterPolicy => Some(&self.service_edge_routers),
+            Kind::ServicePolicy => Some(&self.service_policies),
+            Kind::EdgeRouterPolicy => Some(&self.edge_router_policies),
+            Kind::ServiceEdgeRouterPolicy => Some(&self.service_edge_router_policies),
             _ => None,
         }
     }
@@ -174,9 +175,9 @@ impl Policies {
         ensures { IfOk result (λ p. p ≡ no_policies) }
     {
         Ok(Policies {
-            services: Table::new(alloc),
-            edge_routers: Table::new(alloc),
-            service_edge_routers: Table::new(alloc),
+            service_policies: Table::new(alloc),
+            edge_router_policies: Table::new(alloc),
+            service_edge_router_policies: Table::new(alloc),
         })
     }
 
@@ -221,9 +222,9 @@ impl Policies {
         ensures err { OnErr result (self.new ≡ self.old) }
     {
         let number = match kind {
-            Kind::ServicePolicy => self.services.put(policy, fresh)?,
-            Kind::EdgeRouterPolicy => self.edge_routers.put(policy, fresh)?,
-            Kind::ServiceEdgeRouterPolicy => self.service_edge_routers.put(policy, fresh)?,
+            Kind::ServicePolicy => self.service_policies.put(policy, fresh)?,
+            Kind::EdgeRouterPolicy => self.edge_router_policies.put(policy, fresh)?,
+            Kind::ServiceEdgeRouterPolicy => self.service_edge_router_policies.put(policy, fresh)?,
             _ => unreachable!(),
         };
         Ok(PolicyNo(number))
@@ -252,9 +253,9 @@ impl Policies {
         ensures { self.new ≡ without_policy kind no.0 self.old }
     {
         match kind {
-            Kind::ServicePolicy => self.services.remove(no.0),
-            Kind::EdgeRouterPolicy => self.edge_routers.remove(no.0),
-            Kind::ServiceEdgeRouterPolicy => self.service_edge_routers.remove(no.0),
+            Kind::ServicePolicy => self.service_policies.remove(no.0),
+            Kind::EdgeRouterPolicy => self.edge_router_policies.remove(no.0),
+            Kind::ServiceEdgeRouterPolicy => self.service_edge_router_policies.remove(no.0),
             _ => unreachable!(),
         }
     }
@@ -266,16 +267,16 @@ impl Policies {
     {
         match kind {
             Kind::Identity => {
-                self.services.forget(Hand::Left, name);
-                self.edge_routers.forget(Hand::Left, name);
+                self.service_policies.forget(Hand::Left, name);
+                self.edge_router_policies.forget(Hand::Left, name);
             }
             Kind::Service => {
-                self.services.forget(Hand::Right, name);
-                self.service_edge_routers.forget(Hand::Left, name);
+                self.service_policies.forget(Hand::Right, name);
+                self.service_edge_router_policies.forget(Hand::Left, name);
             }
             Kind::Router => {
-                self.edge_routers.forget(Hand::Right, name);
-                self.service_edge_routers.forget(Hand::Right, name);
+                self.edge_router_policies.forget(Hand::Right, name);
+                self.service_edge_router_policies.forget(Hand::Right, name);
             }
             _ => unreachable!(),
         }
@@ -309,9 +310,9 @@ impl Policies {
         ensures { self.new ≡ with_next kind next self.old }
     {
         match kind {
-            Kind::ServicePolicy => self.services.skip(next),
-            Kind::EdgeRouterPolicy => self.edge_routers.skip(next),
-            Kind::ServiceEdgeRouterPolicy => self.service_edge_routers.skip(next),
+            Kind::ServicePolicy => self.service_policies.skip(next),
+            Kind::EdgeRouterPolicy => self.edge_router_policies.skip(next),
+            Kind::ServiceEdgeRouterPolicy => self.service_edge_router_policies.skip(next),
             _ => {}
         }
     }

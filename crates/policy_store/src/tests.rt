@@ -69,7 +69,12 @@ fn put(
 }
 
 // A policy is put and another in its place, which then forgets ann.
-fn puts(rt: &impl Abort, alloc: Global, store: &mut Policies, known: &Entities) -> Result<(), Fail> {
+fn puts(
+    rt: &impl Abort,
+    alloc: Global,
+    store: &mut Policies,
+    known: &Entities,
+) -> Result<(), Fail> {
     let kind = Kind::ServicePolicy;
     let made = put(store, policy_of_ann(alloc, Relation::Dial)?, true, known)?;
     assert_eq!(rt; made, PolicyNo(1));

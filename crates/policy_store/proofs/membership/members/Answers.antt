@@ -1,4 +1,3 @@
-use Rattle.std.proofs.Common.{◌∙◌}
 use Rattle.ctrl_model.specs.Matches.{matches}
 use Rattle.entity_store.specs.EntityTables.{entities, next_of}
 use Rattle.policy_store.proofs.MemberLaws.{passing_numbers}

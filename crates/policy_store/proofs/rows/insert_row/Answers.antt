@@ -1,4 +1,4 @@
-use Rattle.std.proofs.Common.{◌≡◌, sym, ◌∙◌, ap}
+use Rattle.std.proofs.Common.{◌≡◌, ◌∙◌, ap}
 use Rattle.ctrl_model.specs.State.{policy_named}
 use Rattle.policy_store.specs.declared.records.Row.{Row}
 use Rattle.policy_store.specs.Rows.{rows_of, IsAtItsName}
