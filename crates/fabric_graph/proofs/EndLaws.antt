@@ -1,8 +1,8 @@
 -- Laws of the ends of links: the router that a search finds, and what the network says of it.
-use Rattle.std.proofs.Common.{◌≡◌, ℕ, zero, suc, ◌+◌, ◌≤◌, ◌<◌, ◌==◌, max, Bool, true, false, cond, List, [], ◌∷◌, map, length, get_or, slice_get, Option, Some, None, Result, Ok, Err, MatchResult, refl, sym, ◌∙◌, ap, subst, arith, eq-eqb, ne_eqb, eqb-true}
+use Rattle.std.proofs.Common.{◌≡◌, ℕ, zero, suc, ◌+◌, ◌==◌, max, Bool, true, false, cond, List, [], ◌∷◌, map, length, get_or, slice_get, Option, Some, None, Result, Ok, Err, MatchResult, refl, sym, ◌∙◌, ap, subst, arith, eq-eqb, ne_eqb, eqb-true}
 use Rattle.std.proofs.lemmas.Bool.{cond-true, cond-false}
 use Rattle.std.proofs.lemmas.Option.{none-some, same_Some, get_or_from_slice_get}
-use Rattle.std.specs.List.{find, slice_index_or}
+use Rattle.std.specs.List.{find}
 use Rattle.std.specs.List.Sorted.{IsBinarySearchResult, IsSearchInRange}
 use Rattle.std.specs.Option.{option_map, option_map_or}
 use Rattle.std.specs.Ordering.{nat_cmp}
@@ -12,7 +12,7 @@ use Rattle.ctrl_model.specs.Numbered.{at, Between}
 use Rattle.ctrl_model.proofs.NumberedLaws.{at-within}
 use Rattle.entity_store.proofs.PlaceLaws.{at-place, searched_place}
 use Rattle.fabric_graph.specs.declared.steps.End.{End}
-use Rattle.fabric_graph.specs.Routers.{numbered, number_at}
+use Rattle.fabric_graph.specs.Routers.{numbered}
 use Rattle.fabric_graph.specs.Steps.{further, own_end, end_at}
 
 -- ---- the answer of a search, by what is left of it

@@ -1,8 +1,8 @@
 -- Laws of the search for a step: the steps by place have the step of a place and a link exactly where the link has it.
-use Rattle.std.proofs.Common.{◌≡◌, ◌≢◌, ℕ, zero, suc, ◌+◌, ◌≤◌, ◌<◌, ◌==◌, Bool, true, false, cond, ◌&&◌, ◌⊎◌, inl, inr, List, [], ◌∷◌, ◌++◌, Option, Some, None, refl, sym, ◌∙◌, ap, ap₂, arith, eq-eqb, ne_eqb, eqb-true}
-use Rattle.std.proofs.lemmas.Bool.{cases_eq, cases_lt}
+use Rattle.std.proofs.Common.{◌≡◌, ◌≢◌, ℕ, zero, suc, ◌+◌, ◌≤◌, ◌<◌, ◌==◌, Bool, true, false, cond, ◌&&◌, ◌⊎◌, inl, inr, List, [], ◌∷◌, Option, Some, None, refl, sym, ◌∙◌, ap, ap₂, arith, ne_eqb, eqb-true}
+use Rattle.std.proofs.lemmas.Bool.{cases_lt}
 use Rattle.std.proofs.lemmas.List.Folds.{find-append}
-use Rattle.std.specs.List.{find, filter}
+use Rattle.std.specs.List.{find}
 use Rattle.std.specs.Option.{option_or, option_map_or, option_and_then}
 use Rattle.ctrl_model.specs.declared.kinds.RouterSeen.{RouterSeen}
 use Rattle.ctrl_model.specs.Networks.{link_cost}
@@ -49,11 +49,12 @@ find-past v l (suc n) all p =
 
 pub find-by_place : (v l n : ℕ) (all : List Step) → v < n → find (leaves v l) (by_place all n) ≡ find (leaves v l) all
 find-by_place v l zero all p = absurd (omega arith)
-find-by_place v l (suc n) all p = find-append (leaves v l) (by_place all n) (leaving n all) ∙ by (cases_lt v n)
+find-by_place v l (suc n) all p = find-append (leaves v l) (by_place all n) (leaving n all) ∙ by (cases_lt v n) (λ below. find-by_place v l n all below)
   where
-    by : (v < n) ⊎ (n ≤ v) → option_or (find (leaves v l) (by_place all n)) (find (leaves v l) (leaving n all)) ≡ find (leaves v l) all
-    by (inl below) = ap₂ option_or (find-by_place v l n all below) (find-other n v l all (λ e. absurd (omega arith))) ∙ or-none (find (leaves v l) all)
-    by (inr past) =
+    by : (v < n) ⊎ (n ≤ v) → (v < n → find (leaves v l) (by_place all n) ≡ find (leaves v l) all)
+        → option_or (find (leaves v l) (by_place all n)) (find (leaves v l) (leaving n all)) ≡ find (leaves v l) all
+    by (inl below) k = ap₂ option_or (k below) (find-other n v l all (λ e. absurd (omega arith))) ∙ or-none (find (leaves v l) all)
+    by (inr past) k =
         let same : v ≡ n = omega arith in
         ap₂ option_or (find-past v l n all past) (ap (λ u. find (leaves v l) (leaving u all)) (sym same)) ∙ find-own v l all
 
@@ -87,6 +88,6 @@ find-all_steps v l routers least high (x ∷ links) low b =
     by true is e =
         let number : x.0 ≡ l = eqb-true x.0 l is in
         let later : find (leaves v l) (all_steps routers least links) ≡ None =
-            e ∙ ap (option_and_then (λ link. find (leaves v l) (link_steps routers least (l, link)))) (at-below high links (x.0 + 1) l b.2 (omega arith)) in
+        e ∙ ap (option_and_then (λ link. find (leaves v l) (link_steps routers least (l, link)))) (at-below high links (x.0 + 1) l b.2 (omega arith)) in
         ap₂ option_or (ap (λ k. find (leaves v l) (link_steps routers least (k, x.1))) number) later ∙ or-none (find (leaves v l) (link_steps routers least (l, x.1)))
     by false is e = ap (λ o. option_or o (find (leaves v l) (all_steps routers least links))) (other_link v l routers least x is) ∙ e

@@ -1,15 +1,14 @@
 -- Laws of hops: over a link the graph's steps go where the network's hops go, between the places of the routers.
-use Rattle.std.proofs.Common.{◌≡◌, ◌≢◌, ℕ, zero, suc, ◌+◌, ◌≤◌, ◌<◌, ◌==◌, nat_lt, max, Bool, true, false, cond, ◌&&◌, ◌||◌, ◌⊎◌, inl, inr, List, [], ◌∷◌, map, length, slice_get, Option, Some, None, refl, sym, ◌∙◌, ap, ap₂, arith, eq-eqb, ne_eqb}
+use Rattle.std.proofs.Common.{◌≡◌, ◌≢◌, ℕ, zero, suc, ◌+◌, ◌≤◌, ◌<◌, ◌==◌, Bool, true, false, cond, ◌&&◌, ◌||◌, ◌⊎◌, inl, inr, List, [], ◌∷◌, map, length, slice_get, Option, Some, None, refl, sym, ◌∙◌, ap, ap₂, arith, eq-eqb, ne_eqb}
 use Rattle.std.proofs.lemmas.Bool.{cases_eq, cases_lt}
 use Rattle.std.proofs.lemmas.Option.{none-some, same_Some, slice_get_within}
 use Rattle.std.specs.List.{find, slice_index_or}
 use Rattle.std.specs.Option.{option_map, option_map_or, option_and_then}
 use Rattle.ctrl_model.specs.declared.kinds.RouterSeen.{RouterSeen}
 use Rattle.ctrl_model.specs.Mirrors.{renamed}
-use Rattle.ctrl_model.specs.Networks.{across, hop_to, router_at, is_on, is_usable, other_end, link_cost, entry_cost}
+use Rattle.ctrl_model.specs.Networks.{across, hop_to, router_at, is_on, other_end, link_cost}
 use Rattle.ctrl_model.specs.Numbered.{Between}
 use Rattle.ctrl_model.specs.State.{Link}
-use Rattle.path_certificate.specs.declared.graph.Step.{Step}
 use Rattle.path_certificate.specs.Graphs.{leaves, taken}
 use Rattle.fabric_graph.specs.declared.steps.End.{End}
 use Rattle.fabric_graph.specs.FabricTables.{FabricSeen}
@@ -73,7 +72,7 @@ module _ (f : FabricSeen) (routers : List RouterSeen) (b : Between 0 4294967296 
   hop_to_end t k n l d e below i =
       let number = number_of routers e.place i.router i.stands in
       let target : (i.router.no.0 == number_at routers t) ≡ (e.place == t) =
-          ap (λ m. m == number_at routers t) (sym number) ∙ same_place 4294967296 routers 0 e.place t b (slice_get_within routers e.place i.router i.stands) below in
+      ap (λ m. m == number_at routers t) (sym number) ∙ same_place 4294967296 routers 0 e.place t b (slice_get_within routers e.place i.router i.stands) below in
       let test = ap₂ (λ p q. p || q) target (sym (through_of routers e.place i.router i.stands)) in
       ap₂ (λ (c : Bool) (h : ℕ × ℕ). cond c (Some h) None) test (λ j. (sym number j, link_cost l + i.entry j))
       ∙ map_kept (renamed (number_at routers)) ((e.place == t) || slice_index_or (map (λ (r : RouterSeen). r.through) routers) e.place false) (e.place, link_cost l + e.entry)

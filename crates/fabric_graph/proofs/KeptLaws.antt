@@ -1,10 +1,10 @@
 -- Laws of the links that a fabric keeps: what each change leaves of it.
-use Rattle.std.proofs.Common.{◌≡◌, ℕ, ◌+◌, ◌≤◌, ◌<◌, ◌==◌, nat_lt, Bool, true, false, cond, not, ◌&&◌, List, length, Result, Ok, Err, is_some, Option, Some, None, refl, sym, ◌∙◌, ap, subst, arith, ltb-true}
-use Rattle.std.proofs.lemmas.Bool.{and_parts, and_from, false≢true}
+use Rattle.std.proofs.Common.{◌≡◌, ℕ, ◌+◌, ◌≤◌, ◌<◌, ◌==◌, nat_lt, Bool, true, false, cond, not, ◌&&◌, List, length, Result, Ok, Err, is_some, Option, Some, None, refl, sym, ap, subst, arith, ltb-true}
+use Rattle.std.proofs.lemmas.Bool.{and_parts, and_from}
 use Rattle.std.specs.Bool.{⊤}
 use Rattle.std.specs.List.{AllByRecursion}
 use Rattle.ctrl_model.specs.CommandForm.{is_link_cost, is_latency}
-use Rattle.ctrl_model.specs.Numbered.{with_last, edit_at, without, Between}
+use Rattle.ctrl_model.specs.Numbered.{with_last, edit_at, without}
 use Rattle.ctrl_model.specs.State.{Link, link_named}
 use Rattle.ctrl_model.proofs.NumberedLaws.{Between-more}
 use Rattle.ctrl_model.proofs.TableLaws.{Kept, Kept-with_last, Kept-edit_at, Kept-filter}

@@ -3,3 +3,6 @@ pub mod KeptLaws
 pub mod EndLaws
 pub mod HopLaws
 pub mod FindLaws
+pub mod OrderLaws
+pub mod FairLaws
+pub mod GraphLaws

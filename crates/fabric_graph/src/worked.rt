@@ -1,5 +1,44 @@
-/// Placeholder.
-pub fn links_and_numbers() {}
+ghost use Rattle.std.specs.Prelude.{◌≡◌, ◌∷◌, [], codes, true, false, Some, None, Ok, Err};
+ghost use Rattle.ctrl_model.specs.Networks.{hops};
+ghost use Rattle.ctrl_model.specs.Numbered.{at};
+ghost use Rattle.path_certificate.specs.WorkedGraphs.{row_steps};
+ghost use Rattle.fabric_graph.specs.declared.fabric.FabricFault.TheVariants.{Exists, Unknown, SameRouter, Full};
+ghost use Rattle.fabric_graph.specs.FabricTables.{no_links, with_link, with_set, without_link, with_least, with_next};
+ghost use Rattle.fabric_graph.specs.FabricRules.{may_add, found, is_there};
+ghost use Rattle.fabric_graph.specs.Routers.{AreRouters, network, number_at, costs_at_most};
+ghost use Rattle.fabric_graph.specs.WorkedFabrics.{link_of_eleven, line, three_routers, second_away, two_routers, steps_over};
 
-/// Placeholder.
-pub fn graph_of_a_line() {}
+/// The links l1 and l2 are the links 1 and 2. Whether a link may be added is told in the order of the rules, and the number of a
+/// removed link is not given again.
+pub fn links_and_numbers()
+    ensures first { no_links.next ≡ 1 }
+    ensures third { line.next ≡ 3 }
+    ensures found { found (codes "l2") line ≡ Ok (record { 0 = 2 }) }
+    ensures unknown { found (codes "l3") line ≡ Err Unknown }
+    ensures may { may_add (codes "l3") 1 3 line ≡ Ok tt }
+    ensures taken { may_add (codes "l1") 1 1 (with_next 4294967295 line) ≡ Err Exists }
+    ensures full { may_add (codes "l3") 1 1 (with_next 4294967295 line) ≡ Err Full }
+    ensures last { may_add (codes "l3") 1 3 (with_next 4294967294 line) ≡ Ok tt }
+    ensures same { may_add (codes "l3") 1 1 line ≡ Err SameRouter }
+    ensures set { at (with_set 2 7 0 9 false line).links 2 ≡ Some (record { name = codes "l2"; a = 2; b = 3; cost = 7; latency_a = 0; latency_b = 9; up = false }) }
+    ensures other { at (with_set 2 7 0 9 false line).links 1 ≡ Some (link_of_eleven (codes "l1") 1 2) }
+    ensures removed { is_there 2 (without_link 2 line) ≡ false }
+    ensures not_again { (with_link (link_of_eleven (codes "l2") 2 3) (without_link 2 line)).next ≡ 4 }
+    ensures least { no_links.least ≡ 10 }
+{}
+
+/// The line of three routers: each step costs 21, which is a link of 11 and a router of 10. A link is no step while it is down, while
+/// a router of it is not connected, or where one is absent; a router that costs more than the least costs its own.
+pub fn graph_of_a_line()
+    ensures routers { AreRouters three_routers }
+    ensures numbers { number_at three_routers 2 ≡ 3 }
+    ensures steps { steps_over three_routers 3 line ≡ row_steps }
+    ensures hop { hops (network line three_routers) 3 1 1 ≡ Some (2, 21) }
+    ensures costs { costs_at_most 21 (steps_over three_routers 3 line) ≡ true }
+    ensures dear { costs_at_most 20 (steps_over three_routers 3 line) ≡ false }
+    ensures down { steps_over three_routers 3 (with_set 1 1 4 6 false line) ≡ record { from = 1; to = 2; link = 2; cost = 21 } ∷ record { from = 2; to = 1; link = 2; cost = 21 } ∷ [] }
+    ensures away { steps_over second_away 3 line ≡ [] }
+    ensures no_hop { hops (network line second_away) 3 1 1 ≡ None }
+    ensures absent { steps_over two_routers 2 line ≡ record { from = 0; to = 1; link = 2; cost = 61 } ∷ record { from = 1; to = 0; link = 2; cost = 21 } ∷ [] }
+    ensures setting { steps_over two_routers 2 (with_least 100 line) ≡ record { from = 0; to = 1; link = 2; cost = 111 } ∷ record { from = 1; to = 0; link = 2; cost = 111 } ∷ [] }
+{}

@@ -1,4 +1,4 @@
-use Rattle.std.proofs.Common.{◌≡◌, ◌∷◌, [], ◌∙◌, ap}
+use Rattle.std.proofs.Common.{◌≡◌, ◌∙◌, ap}
 use Rattle.ctrl_model.specs.State.{link_named}
 use Rattle.fabric_graph.specs.declared.links.Row.{Row}
 use Rattle.fabric_graph.specs.LinkRows.{rows_of, IsAtItsName}

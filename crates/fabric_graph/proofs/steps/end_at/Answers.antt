@@ -1,8 +1,7 @@
-use Rattle.std.proofs.Common.{◌≡◌, None, Some, rules, sym, ◌∙◌, ap, map, max}
+use Rattle.std.proofs.Common.{◌≡◌, None, Some, rules, sym, ◌∙◌, ap, map}
 use Rattle.std.proofs.lemmas.Bool.{cond-true, cond-false}
 use Rattle.std.proofs.lemmas.List.Sorted.{answers_always}
 use Rattle.ctrl_model.specs.Numbered.{at}
-use Rattle.fabric_graph.specs.declared.steps.End.{End}
 use Rattle.fabric_graph.specs.Routers.{numbered}
 use Rattle.fabric_graph.proofs.EndLaws.{searched_router, IsRouterPlace, found_of, absent_of, end_on, end_absent}
 use Rattle.fabric_graph.proofs.steps.end_at.Goals as goal

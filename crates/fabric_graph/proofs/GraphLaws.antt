@@ -1,0 +1,78 @@
+-- The graph of the usable links: that it is a graph, what its steps cost, and that it mirrors the network.
+use Rattle.std.proofs.Common.{◌≡◌, ℕ, ◌<◌, nat_le, Bool, true, inl, inr, List, [], ◌∷◌, map, length, Option, Some, None, refl, sym, ◌∙◌, ap, subst, le-leb}
+use Rattle.std.proofs.lemmas.List.{length-map}
+use Rattle.std.specs.List.{find, AllByRecursion}
+use Rattle.std.specs.Option.{option_map, option_and_then}
+use Rattle.ctrl_model.specs.declared.kinds.RouterSeen.{RouterSeen}
+use Rattle.ctrl_model.specs.CommandForm.{is_link_cost}
+use Rattle.ctrl_model.specs.Membership.{Among}
+use Rattle.ctrl_model.specs.Mirrors.{Mirrors, renamed}
+use Rattle.ctrl_model.specs.Networks.{hops, across}
+use Rattle.ctrl_model.specs.Numbered.{at}
+use Rattle.ctrl_model.specs.State.{Link}
+use Rattle.ctrl_model.proofs.Members.{list_all-from_among}
+use Rattle.ctrl_model.proofs.Tests.{in_bounds}
+use Rattle.path_certificate.specs.declared.graph.Step.{Step}
+use Rattle.path_certificate.specs.Graphs.{GraphSeen, IsGraph, IsStep, graph_hops, leaves, taken}
+use Rattle.path_certificate.proofs.StepLaws.{by_hop}
+use Rattle.fabric_graph.specs.FabricTables.{FabricSeen}
+use Rattle.fabric_graph.specs.LinkRows.{Entry, rows_of, AreKept}
+use Rattle.fabric_graph.specs.Routers.{AreRouters, network, number_at, costs_at_most}
+use Rattle.fabric_graph.specs.Steps.{link_steps, all_steps, by_place}
+use Rattle.fabric_graph.proofs.FairLaws.{IsFair, each_fair}
+use Rattle.fabric_graph.proofs.FindLaws.{find-by_place, find-all_steps}
+use Rattle.fabric_graph.proofs.HopLaws.{across_link, one_place}
+use Rattle.fabric_graph.proofs.OrderLaws.{by_by_place, ordered-by_place, ordered-leaving}
+
+all_from_among : {X : Type 0} (P : X → Type 0) (xs : List X) → ((x : X) → Among x xs → P x) → AllByRecursion P xs
+all_from_among P [] k = tt
+all_from_among P (x ∷ xs) k = (k x (inl refl), all_from_among P xs (λ y m. k y (inr m)))
+
+-- the flags of the routers
+abbrev pub flags_of : List RouterSeen → List Bool
+flags_of routers = map (λ (r : RouterSeen). r.through) routers
+
+module _ (es : List Entry) (next least : ℕ) (routers : List RouterSeen) (kept : AreKept es next) (setting : is_link_cost least ≡ true) (are : AreRouters routers) where
+  -- the steps by place
+  abbrev pub steps_of : List Step
+  steps_of = by_place (all_steps routers least (rows_of es)) (length routers)
+
+  fair : (s : Step) → Among s steps_of → IsFair (length routers) s
+  fair s m = by_by_place (all_steps routers least (rows_of es)) (length routers) s m (λ among below.
+      each_fair routers least (rows_of es) are (in_bounds 1 65535 least setting).1 kept.each s among)
+
+  pub is_graph : IsGraph (flags_of routers) steps_of
+  is_graph = record {
+    few = rw (length-map {B = Bool} routers (λ (r : RouterSeen). r.through)) are.few;
+    each = rw (length-map {B = Bool} routers (λ (r : RouterSeen). r.through)) (all_from_among (IsStep (length routers)) steps_of (λ s m. (fair s m).step));
+    ordered = ordered-by_place (all_steps routers least (rows_of es)) (λ v. ordered-leaving routers least next (rows_of es) 1 v kept.table.numbers.ordered kept.each) (length routers);
+  }
+
+  pub few_costs : costs_at_most 251070 steps_of ≡ true
+  few_costs = list_all-from_among (λ (s : Step). nat_le s.cost 251070) steps_of (λ s m. le-leb s.cost 251070 (fair s m).most)
+
+  -- the fabric as contracts see it, and its graph
+  abbrev pub fabric_of : FabricSeen
+  fabric_of = record { links = rows_of es; next = next; least = least }
+
+  abbrev pub graph : GraphSeen
+  graph = record { through = flags_of routers; steps = steps_of }
+
+  same_hop : (t v l : ℕ) → t < length routers → v < length routers
+      → hops (network fabric_of routers) (number_at routers t) (number_at routers v) l ≡ option_map (renamed (number_at routers)) (graph_hops graph t v l)
+  same_hop t v l p q =
+      by (at (rows_of es) l)
+      ∙ ap (λ o. option_map (renamed (number_at routers)) (option_and_then (taken (flags_of routers) t) o))
+      (sym (find-by_place v l (length routers) (all_steps routers least (rows_of es)) q ∙ find-all_steps v l routers least next (rows_of es) 1 kept.table.numbers.ordered))
+    where
+      by : (o : Option Link) → option_and_then (across (network fabric_of routers) (number_at routers t) (number_at routers v)) o
+          ≡ option_map (renamed (number_at routers)) (option_and_then (taken (flags_of routers) t) (option_and_then (λ link. find (leaves v l) (link_steps routers least (l, link))) o))
+      by None = refl
+      by (Some link) = across_link fabric_of routers are.ordered t v l link p q
+
+  pub mirrors : (t : ℕ) → t < length routers → Mirrors (length routers) (number_at routers) (graph_hops graph t) (hops (network fabric_of routers) (number_at routers t))
+  mirrors t p = record {
+    hop = λ v l q. same_hop t v l p q;
+    stays = λ v l h q is. by_hop graph t v l h is (λ s m from link counts e. subst (λ (k : ℕ × ℕ). k.0 < length routers) e (fair s m).step.to);
+    apart = λ u v q r e. one_place 4294967296 routers 0 u v are.ordered q r e;
+  }
