@@ -1,11 +1,8 @@
 -- Laws of the table of circuits: what one more circuit, a removal and another next number keep, and which circuits go.
-use Rattle.std.proofs.Common.{◌≡◌, ℕ, ◌+◌, ◌<◌, ◌≤◌, ◌==◌, ◌&&◌, Bool, true, false, not, nat_lt, List, [], ◌∷◌, length, map, refl, sym, ◌∙◌, ap, arith}
-use Rattle.std.proofs.lemmas.Bool.{and_parts, not-false}
+use Rattle.std.proofs.Common.{◌≡◌, ℕ, ◌+◌, ◌<◌, ◌≤◌, ◌==◌, ◌&&◌, false, not, nat_lt, List, length, ◌∙◌, ap, arith}
 use Rattle.std.proofs.lemmas.Bool.Decides.{nat_tests}
 use Rattle.std.specs.BTreeMap.{insert_entry}
-use Rattle.std.specs.List.{filter}
 use Rattle.std.specs.Ordering.{nat_cmp}
-use Rattle.ctrl_model.specs.Numbered.{numbers}
 use Rattle.ctrl_model.specs.State.{Circuit}
 use Rattle.ctrl_model.specs.ValidState.{ValidNumbers}
 use Rattle.ctrl_model.proofs.NumberedLaws.{Between-more}

@@ -13,7 +13,7 @@ over links = record { identity = 3; service = 2; terminator = 1; ingress = 1; li
 
 -- A router that may be passed through or not, and is connected or not.
 abbrev pub router : ℕ → Bool → Bool → RouterSeen
-router no through connected = record { no = record { 0 = no }; cost = 0; through = through; connected = connected }
+router number through connected = record { no = record { 0 = number }; cost = 0; through = through; connected = connected }
 
 -- A link between two routers that is up or down.
 abbrev pub link : ℕ → ℕ → Bool → Link

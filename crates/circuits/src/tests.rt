@@ -83,7 +83,13 @@ fn granted(rt: &impl Abort, alloc: Global) -> Result<Circuits, Fail> {
     Ok(circuits)
 }
 
-fn settles(rt: &impl Abort, alloc: Global, circuits: &Circuits, fabric: &Fabric, gone: &[u32]) -> Result<(), Fail> {
+fn settles(
+    rt: &impl Abort,
+    alloc: Global,
+    circuits: &Circuits,
+    fabric: &Fabric,
+    gone: &[u32],
+) -> Result<(), Fail> {
     let present = Present {
         identities: &Numbers::from_slice(alloc, &[1, 5])?,
         services: &Numbers::from_slice(alloc, &[2])?,
@@ -110,7 +116,10 @@ fn keeps_circuits(rt: HostRuntime) -> Result<(), Fail> {
     if circuits.get(CircuitNo(3)).is_ok() {
         circuits.remove(CircuitNo(3));
     }
-    assert_eq!(&rt; circuits.get(CircuitNo(3)).err(), Some(CircuitFault::Unknown));
+    assert_eq!(&rt;
+        circuits.get(CircuitNo(3)).err(),
+        Some(CircuitFault::Unknown)
+    );
     assert_eq!(&rt; circuits.numbers(alloc)?.as_slice(), [1, 2].as_slice());
     assert_eq!(&rt; circuits.next(), 4);
     Ok(())
