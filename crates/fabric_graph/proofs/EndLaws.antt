@@ -1,29 +1,16 @@
 -- Laws of the ends of links: the router that a search finds, and what the network says of it.
-use Rattle.std.proofs.Common.{◌≡◌, ℕ, zero, suc, ◌+◌, ◌==◌, max, Bool, true, false, cond, List, [], ◌∷◌, map, length, get_or, slice_get, Option, Some, None, Result, Ok, Err, MatchResult, refl, sym, ◌∙◌, ap, subst, arith, eq-eqb, ne_eqb, eqb-true}
+use Rattle.std.proofs.Common.{◌≡◌, ℕ, zero, suc, ◌+◌, ◌==◌, max, Bool, true, false, cond, List, [], ◌∷◌, map, get_or, slice_get, Option, Some, None, refl, sym, ◌∙◌, ap, arith, eq-eqb, ne_eqb, eqb-true}
 use Rattle.std.proofs.lemmas.Bool.{cond-true, cond-false}
 use Rattle.std.proofs.lemmas.Option.{none-some, same_Some, get_or_from_slice_get}
 use Rattle.std.specs.List.{find}
-use Rattle.std.specs.List.Sorted.{IsBinarySearchResult, IsSearchInRange}
 use Rattle.std.specs.Option.{option_map, option_map_or}
-use Rattle.std.specs.Ordering.{nat_cmp}
-use Rattle.std.specs.Result.{result_ok}
 use Rattle.ctrl_model.specs.declared.kinds.RouterSeen.{RouterSeen}
 use Rattle.ctrl_model.specs.Numbered.{at, Between}
 use Rattle.ctrl_model.proofs.NumberedLaws.{at-within}
-use Rattle.entity_store.proofs.PlaceLaws.{at-place, searched_place}
+use Rattle.entity_store.proofs.PlaceLaws.{at-place}
 use Rattle.fabric_graph.specs.declared.steps.End.{End}
-use Rattle.fabric_graph.specs.Routers.{numbered}
+use Rattle.fabric_graph.specs.Routers.{numbered, IsRouterPlace}
 use Rattle.fabric_graph.specs.Steps.{further, own_end, end_at}
-
--- ---- the answer of a search, by what is left of it
-
-pub found_of : (P : ℕ → Type 0) (Q : Type 0) (r : Result ℕ ℕ) (i : ℕ) → MatchResult r P (λ _. Q) → Some i ≡ result_ok r → P i
-found_of P Q (Ok j) i h e = subst P (sym (same_Some i j e)) h
-found_of P Q (Err j) i h e = absurd (none-some i (sym e))
-
-pub absent_of : (P : ℕ → Type 0) (Q : Type 0) (r : Result ℕ ℕ) → MatchResult r P (λ _. Q) → ◌≡◌ {A = Option ℕ} None (result_ok r) → Q
-absent_of P Q (Ok j) h e = absurd (none-some j e)
-absent_of P Q (Err j) h e = h
 
 -- ---- the end at a place
 
@@ -55,15 +42,7 @@ end_absent least (x ∷ routers) n e = by (x.no.0 == n) e (end_absent least rout
     by true e k = absurd (none-some x (sym e))
     by false e k = ap (option_map further) (k e)
 
--- the router of a number stands at a place
-abbrev pub IsRouterPlace : ℕ → List RouterSeen → ℕ → Type 0
-IsRouterPlace n routers i = (r : RouterSeen) × (slice_get routers i ≡ Some r) × (r.no.0 ≡ n)
-
--- what a binary search for a number finds
-pub searched_router : (routers : List RouterSeen) (n : ℕ) (r : Result ℕ ℕ) → Between 0 4294967296 (map numbered routers) → IsSearchInRange r (length routers)
-    → IsBinarySearchResult (λ (y : RouterSeen). nat_cmp y.no.0 n) routers r → MatchResult r (IsRouterPlace n routers) (λ _. at (map numbered routers) n ≡ None)
-searched_router routers n r b bound found = searched_place numbered 4294967296 routers 0 n r b bound found
-
+-- the end at the place that a search finds
 pub end_on : (least : ℕ) (routers : List RouterSeen) (i n : ℕ) (d : RouterSeen) → Between 0 4294967296 (map numbered routers) → IsRouterPlace n routers i
     → end_at least n routers ≡ own_end least i (get_or routers i d)
 end_on least routers i n d b p = end_found least 4294967296 routers 0 i n p.0 b p.1 p.2 ∙ ap (own_end least i) (sym (get_or_from_slice_get routers i p.0 d p.1))

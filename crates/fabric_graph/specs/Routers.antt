@@ -1,11 +1,12 @@
 -- Routers as the places of a graph: their order is that of their numbers, and the place of a router is how many stand before it
 -- (docs/PROMISES.md, "The graph of a fabric").
-use Rattle.std.specs.Prelude.{◌≡◌, ℕ, ◌≤◌, nat_le, Bool, true, false, List, [], length, map, slice_index}
+use Rattle.std.specs.Prelude.{◌≡◌, ℕ, ◌≤◌, nat_le, Bool, true, false, List, [], length, map, slice_get, slice_index, Some}
 use Rattle.std.specs.List.{list_all}
 use Rattle.ctrl_model.specs.declared.kinds.RouterSeen.{RouterSeen}
 use Rattle.ctrl_model.specs.CommandForm.{is_cost}
 use Rattle.ctrl_model.specs.Networks.{Network}
 use Rattle.ctrl_model.specs.Numbered.{Between}
+use Rattle.ctrl_model.specs.State.{State}
 use Rattle.path_certificate.specs.declared.graph.Step.{Step}
 use Rattle.fabric_graph.specs.FabricTables.{FabricSeen}
 
@@ -16,6 +17,10 @@ numbered r = (r.no.0, r)
 -- The number of the router at a place.
 abbrev pub number_at : List RouterSeen → ℕ → ℕ
 number_at routers v = slice_index (map (λ (r : RouterSeen). r.no.0) routers) v
+
+-- The router of a number stands at a place.
+abbrev pub IsRouterPlace : ℕ → List RouterSeen → ℕ → Type 0
+IsRouterPlace n routers i = (r : RouterSeen) × (slice_get routers i ≡ Some r) × (r.no.0 ≡ n)
 
 -- What routers must be: at most 256, by strictly ascending number, each cost in its range.
 pub record AreRouters (routers : List RouterSeen) : Type 0 where
@@ -40,3 +45,7 @@ network f routers = record {
 -- Whether each step costs at most so much.
 abbrev pub costs_at_most : ℕ → List Step → Bool
 costs_at_most most steps = list_all (λ (s : Step). nat_le s.cost most) steps
+
+-- The fabric of a state: its links, and its least router cost.
+abbrev pub fabric_of : State → FabricSeen
+fabric_of s = record { links = s.links; next = s.next_link; least = s.least_router_cost }

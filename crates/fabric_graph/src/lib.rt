@@ -3,6 +3,7 @@
 
 mod fabric;
 mod links;
+mod state_laws;
 mod steps;
 #[cfg(test)]
 mod tests;
@@ -10,4 +11,5 @@ mod worked;
 
 pub use fabric::{Fabric, FabricFault};
 pub use links::LinkRow;
+pub use state_laws::fabric_of_a_state;
 pub use worked::{graph_of_a_line, links_and_numbers};

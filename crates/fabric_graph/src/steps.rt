@@ -1,8 +1,9 @@
-ghost use Rattle.std.specs.Prelude.{◌≡◌, ◌+◌, ◌++◌, ◌≤◌, map, IfOk, IfSome, OnOk, true};
+ghost use Rattle.std.specs.Prelude.{◌≡◌, ◌+◌, ◌++◌, ◌≤◌, map, None, IfOk, IfSome, IfNone, OnOk, true};
 ghost use Rattle.ctrl_model.specs.Networks.{link_cost};
+ghost use Rattle.ctrl_model.specs.Numbered.{at};
 ghost use Rattle.ctrl_model.specs.ValidState.{each_passes};
 ghost use Rattle.fabric_graph.specs.LinkRows.{link_of, rows_of, row_of, is_fit};
-ghost use Rattle.fabric_graph.specs.Routers.{AreRouters};
+ghost use Rattle.fabric_graph.specs.Routers.{AreRouters, IsRouterPlace, numbered};
 ghost use Rattle.fabric_graph.specs.Steps.{end_at, link_ends, step_between, link_steps, all_steps, leaving, by_place};
 
 use crate::links::{Entries, LinkRow, Row};
@@ -17,6 +18,17 @@ pub struct End {
     pub entry: u32,
 }
 
+// The place of the router that has the number.
+fn place_of(routers: &[RouterSeen], number: u32) -> Option<usize>
+    requires { AreRouters routers.now }
+    ensures found { IfSome result (λ i. IsRouterPlace number routers.now i) }
+    ensures absent { IfNone result (at (map numbered routers.now) number ≡ None) }
+{
+    routers
+        .binary_search_by_key(&number, |router| router.no.0)
+        .ok()
+}
+
 // The end of a link at a router. None where the router is absent or not connected.
 fn end_at(routers: &[RouterSeen], least: u32, router: RouterNo) -> Option<End>
     requires routers { AreRouters routers.now }
@@ -24,9 +36,7 @@ fn end_at(routers: &[RouterSeen], least: u32, router: RouterNo) -> Option<End>
     ensures end { result ≡ end_at least router.0 routers.now }
     ensures entry { IfSome result (λ e. e.entry ≤ 65535) }
 {
-    let place = routers
-        .binary_search_by_key(&router.0, |seen| seen.no.0)
-        .ok()?;
+    let place = place_of(routers, router.0)?;
     let seen = &routers[place];
     if !seen.connected {
         return None;

@@ -1,0 +1,42 @@
+-- The routers of a valid state are places of a graph.
+use Rattle.std.proofs.Common.{◌≡◌, ℕ, ◌+◌, true, ◌&&◌, List, [], ◌∷◌, map, refl, arith}
+use Rattle.std.proofs.lemmas.Bool.{and_parts, and_from}
+use Rattle.std.proofs.lemmas.List.{length-map}
+use Rattle.std.specs.List.{list_all}
+use Rattle.ctrl_model.specs.declared.kinds.RouterSeen.{RouterSeen}
+use Rattle.ctrl_model.specs.CommandForm.{is_cost, are_attributes}
+use Rattle.ctrl_model.specs.NameForm.{is_name}
+use Rattle.ctrl_model.specs.Networks.{seen}
+use Rattle.ctrl_model.specs.Numbered.{Between}
+use Rattle.ctrl_model.specs.State.{State, Router}
+use Rattle.ctrl_model.specs.ValidState.{ValidState, is_valid_router, each_passes}
+use Rattle.ctrl_model.proofs.NumberedLaws.{Between-more}
+use Rattle.fabric_graph.specs.FabricRules.{KeepsLinks}
+use Rattle.fabric_graph.specs.Routers.{AreRouters, numbered, fabric_of}
+
+seen_ordered : (high : ℕ) (rows : List (ℕ × Router)) (low : ℕ) → Between low high rows → Between low high (map numbered (map seen rows))
+seen_ordered high [] low b = tt
+seen_ordered high (x ∷ rows) low b = (b.0, b.1, seen_ordered high rows (x.0 + 1) b.2)
+
+seen_costs : (rows : List (ℕ × Router)) → each_passes is_valid_router rows ≡ true → list_all (λ (r : RouterSeen). is_cost r.cost) (map seen rows) ≡ true
+seen_costs [] e = refl
+seen_costs (x ∷ rows) e =
+    let parts = and_parts (is_valid_router x.1) (each_passes is_valid_router rows) e in
+    let router = and_parts (is_name x.1.name) (are_attributes x.1.attributes && is_cost x.1.cost) parts.0 in
+    and_from (is_cost x.1.cost) (list_all (λ (r : RouterSeen). is_cost r.cost) (map seen rows))
+    (and_parts (are_attributes x.1.attributes) (is_cost x.1.cost) router.1).1 (seen_costs rows parts.1)
+
+pub keeps_links : (s : State) → ValidState s → KeepsLinks (fabric_of s)
+keeps_links s v =
+    let numbers = v.links.numbers in
+    record { first = numbers.first; last = numbers.last; ordered = numbers.ordered; few = numbers.few }
+
+pub are_routers : (s : State) → ValidState s → AreRouters (map seen s.routers)
+are_routers s v =
+    let numbers = v.routers.numbers in
+    record {
+      few = rw (length-map {B = RouterSeen} s.routers seen) numbers.few;
+      ordered = Between-more s.next_router (map numbered (map seen s.routers)) 1 0 4294967296 (omega arith) (let last = numbers.last in omega arith)
+          (seen_ordered s.next_router s.routers 1 numbers.ordered);
+      costs = seen_costs s.routers v.each_router;
+    }
