@@ -1,9 +1,10 @@
-ghost use Rattle.std.specs.Prelude.{◌≡◌, ◌==◌, find, option_map};
-ghost use Rattle.ctrl_model.specs.Networks.{is_on, is_shared, may_host, is_in_service};
+ghost use Rattle.std.specs.Prelude.{◌≡◌};
+ghost use Rattle.ctrl_model.specs.Networks.{is_shared, may_host, is_in_service};
 ghost use Rattle.terminators.specs.TermTables.{term_of};
 ghost use Rattle.terminators.specs.TermRules.{granted, is_admissible};
 
 use crate::offers::Term;
+use crate::routers::is_connected;
 use ctrl_model::{IdentityNo, Instance, RouterNo, RouterSeen, ServiceNo};
 use grant_denorm::Counted;
 
@@ -14,23 +15,6 @@ pub struct Grants<'a> {
     pub identity_router: &'a Counted,
     pub service_router: &'a Counted,
     pub routers: &'a [RouterSeen],
-}
-
-// The router of a number, if it is present.
-fn router_at(routers: &[RouterSeen], router: RouterNo) -> Option<&RouterSeen>
-    ensures { option_map (λ r. r.now) result ≡ find (λ r. r.no.0 == router.0) routers.now }
-{
-    routers.iter().find(|other| other.no.0 == router.0)
-}
-
-// Whether the router is present and connected.
-fn is_on(grants: &Grants, router: RouterNo) -> bool
-    ensures { result ≡ is_on (granted grants.now) router.0 }
-{
-    match router_at(grants.routers, router) {
-        Some(present) => present.connected,
-        None => false,
-    }
 }
 
 // Whether identity and service share the router.
@@ -53,7 +37,7 @@ fn may_host(grants: &Grants, term: &Term, host: IdentityNo) -> bool
 fn is_in_service(grants: &Grants, term: &Term) -> bool
     ensures { result ≡ is_in_service (granted grants.now) (0, term_of term.now) }
 {
-    is_on(grants, term.router)
+    is_connected(grants.routers, term.router)
         && match term.host {
             Some(host) => may_host(grants, term, host),
             None => true,

@@ -3,11 +3,13 @@
 
 mod admitting;
 mod offers;
+mod routers;
 mod store;
 #[cfg(test)]
 mod tests;
 mod worked;
 
 pub use offers::Term;
+pub use routers::{is_connected, router_at};
 pub use store::{TermFault, Terminators};
 pub use worked::{admissible_offers, offers_by_number, whether_an_offer_may_be_added};

@@ -1,0 +1,2 @@
+pub mod CircuitLaws
+pub mod WalkedLinks

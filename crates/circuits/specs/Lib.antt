@@ -1,0 +1,4 @@
+pub mod CircuitTables
+pub mod PresentRecords
+pub mod Rows
+pub mod WorkedCircuits

@@ -1,0 +1,36 @@
+-- What is present, as settling circuits asks (docs/RULES.md, "Settling").
+use Rattle.std.specs.Prelude.{ℕ, Bool, false, List}
+use Rattle.ctrl_model.specs.declared.kinds.RouterSeen.{RouterSeen}
+use Rattle.ctrl_model.specs.Networks.{Network}
+use Rattle.ctrl_model.specs.Settling.{circuit_stays}
+use Rattle.ctrl_model.specs.State.{Circuit}
+use Rattle.fabric_graph.specs.FabricTables.{FabricSeen}
+use Rattle.terminators.specs.TermTables.{TermTables}
+use Rattle.circuits.specs.declared.staying.Present.{Present}
+
+-- The network of terminators, of links with the least router cost, and of routers. Nothing else of a network matters to whether
+-- a circuit stays: it has no grants.
+abbrev pub network : TermTables → FabricSeen → List RouterSeen → Network
+network t f routers = record {
+  routers = routers;
+  links = f.links;
+  least = f.least;
+  terminators = t.terminators;
+  dial = λ _ _. 0;
+  bind = λ _ _. 0;
+  identity_router = λ _ _. 0;
+  service_router = λ _ _. 0;
+  full = false;
+}
+
+-- Whether a circuit stays in a network, beside the present identities and services, whatever its own number.
+abbrev pub stays : Network → List ℕ → List ℕ → Circuit → Bool
+stays w identities services c = circuit_stays w identities services (0, c)
+
+-- The network of what is present.
+abbrev pub network_in : Present → Network
+network_in p = network p.terminators.now p.fabric.now p.routers.now
+
+-- Whether a circuit stays beside what is present.
+abbrev pub stays_beside : Present → Circuit → Bool
+stays_beside p c = stays (network_in p) p.identities.now p.services.now c

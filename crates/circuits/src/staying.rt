@@ -1,0 +1,38 @@
+ghost use Rattle.std.specs.Prelude.{◌≡◌, IfOk};
+ghost use Rattle.circuits.specs.CircuitTables.{circuit_of};
+ghost use Rattle.circuits.specs.PresentRecords.{stays_beside};
+
+use crate::grants::Circuit;
+use crate::paths::{is_among, is_path};
+use ctrl_model::{Numbers, RouterSeen};
+use fabric_graph::Fabric;
+use std::alloc::{AllocError, Global};
+use terminators::Terminators;
+
+/// What is present, as circuits need it: the numbers of the identities and of the services, the terminators, the routers, and
+/// the links.
+#[derive(Clone, Copy)]
+pub struct Present<'a> {
+    pub identities: &'a Numbers,
+    pub services: &'a Numbers,
+    pub terminators: &'a Terminators,
+    pub routers: &'a [RouterSeen],
+    pub fabric: &'a Fabric,
+}
+
+/// Whether the circuit stays: its identity, its service and its terminator are present, and its links are a path from its
+/// ingress to the terminator's router.
+pub fn stays(alloc: Global, present: &Present, circuit: &Circuit) -> Result<bool, AllocError>
+    ensures { IfOk result (λ b. b ≡ stays_beside present.now (circuit_of circuit.now)) }
+{
+    if !is_among(circuit.identity.0, present.identities.as_slice()) {
+        return Ok(false);
+    }
+    if !is_among(circuit.service.0, present.services.as_slice()) {
+        return Ok(false);
+    }
+    match present.terminators.get(circuit.terminator) {
+        Ok(term) => is_path(alloc, present, circuit.ingress, &circuit.links, term.router),
+        Err(_) => Ok(false),
+    }
+}
