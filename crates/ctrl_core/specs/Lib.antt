@@ -3,3 +3,4 @@ pub mod KeptState
 pub mod Changes
 pub mod PlannedCommands
 pub mod AppliedChanges
+pub mod WorkedChanges

@@ -87,26 +87,28 @@ refusal_of_add k name attributes t =
 abbrev pub refusal_of_describe : Kind → ℕ → List (List ℕ) → Tables → Option Refusal
 refusal_of_describe k n attributes t = refuse_if (not (has_attribute_room t (attributes_at k n t) attributes)) (Full kind.Attribute)
 
--- The refusal of a new policy, and the answer to the command that makes it.
+-- The refusal of a new policy.
 abbrev pub refusal_of_create : Kind → Policy → State → Option Refusal
 refusal_of_create kind.ServicePolicy p s = refusal_of_create_service_policy p s
 refusal_of_create kind.EdgeRouterPolicy p s = refusal_of_create_edge_router_policy p s
 refusal_of_create kind.ServiceEdgeRouterPolicy p s = refusal_of_create_service_edge_router_policy p s
 refusal_of_create k p s = Some (Full k)
 
+-- The answer to the command that makes a policy.
 abbrev pub answer_create : Kind → Policy → State → Reply × State
 answer_create kind.ServicePolicy p s = create_service_policy p s
 answer_create kind.EdgeRouterPolicy p s = create_edge_router_policy p s
 answer_create kind.ServiceEdgeRouterPolicy p s = create_service_edge_router_policy p s
 answer_create _ p s = (Done, s)
 
--- The refusal of other parts of a policy, and the answer to the command that replaces them.
+-- The refusal of other parts of a policy.
 abbrev pub refusal_of_replace : Kind → Policy → State → Option Refusal
 refusal_of_replace kind.ServicePolicy p s = refusal_of_update_service_policy p s
 refusal_of_replace kind.EdgeRouterPolicy p s = refusal_of_update_edge_router_policy p s
 refusal_of_replace kind.ServiceEdgeRouterPolicy p s = refusal_of_update_service_edge_router_policy p s
 refusal_of_replace k p s = Some (Full k)
 
+-- The answer to the command that replaces the parts of a policy.
 abbrev pub answer_replace : Kind → Policy → State → Reply × State
 answer_replace kind.ServicePolicy p s = update_service_policy p s
 answer_replace kind.EdgeRouterPolicy p s = update_edge_router_policy p s

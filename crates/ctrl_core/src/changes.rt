@@ -52,7 +52,10 @@ pub enum Change {
         name: Name,
     },
     /// One more policy.
-    AddPolicy { kind: Kind, policy: Policy },
+    AddPolicy {
+        kind: Kind,
+        policy: Policy,
+    },
     /// Other parts of a policy, under its name.
     ReplacePolicy {
         kind: Kind,
@@ -60,7 +63,10 @@ pub enum Change {
         policy: Policy,
     },
     /// A policy goes.
-    RemovePolicy { kind: Kind, number: u32 },
+    RemovePolicy {
+        kind: Kind,
+        number: u32,
+    },
 }
 
 /// The answer to a command, planned: the reply, and what is kept to carry it out. A plan leads from the state in which it was

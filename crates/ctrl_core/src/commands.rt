@@ -53,11 +53,7 @@ fn policy(
 }
 
 // Plans the answer to a command on identities, services or edge routers.
-fn plan_entities(
-    alloc: Global,
-    stores: &Stores,
-    command: &Command,
-) -> Result<Planned, AllocError>
+fn plan_entities(alloc: Global, stores: &Stores, command: &Command) -> Result<Planned, AllocError>
     requires kept { Keeps stores.now }
     requires family { family_of command.now ≡ Family.Entities }
     ensures { IfOk result (λ p. Plans p (carry command.now (state_of stores.now)) (state_of stores.now)) }

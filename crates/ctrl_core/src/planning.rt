@@ -102,7 +102,14 @@ pub fn plan_add(
     }
     let number = stores.entities.next(kind);
     let moved = Moved::coming(name, attributes);
-    let steps = entity_steps(alloc, &stores.policies, &stores.entities, kind, number, &moved)?;
+    let steps = entity_steps(
+        alloc,
+        &stores.policies,
+        &stores.entities,
+        kind,
+        number,
+        &moved,
+    )?;
     let name = name.copy()?;
     let attributes = attributes.copy()?;
     Ok(Planned {
@@ -133,7 +140,14 @@ pub fn plan_add_router(
     }
     let number = stores.entities.next(Kind::Router);
     let moved = Moved::coming(name, attributes);
-    let steps = entity_steps(alloc, &stores.policies, &stores.entities, Kind::Router, number, &moved)?;
+    let steps = entity_steps(
+        alloc,
+        &stores.policies,
+        &stores.entities,
+        Kind::Router,
+        number,
+        &moved,
+    )?;
     let name = name.copy()?;
     let attributes = attributes.copy()?;
     Ok(Planned {
@@ -164,7 +178,14 @@ fn described_steps(
         unreachable!()
     };
     let moved = Moved::described(name, gone, attributes);
-    entity_steps(alloc, &stores.policies, &stores.entities, kind, number, &moved)
+    entity_steps(
+        alloc,
+        &stores.policies,
+        &stores.entities,
+        kind,
+        number,
+        &moved,
+    )
 }
 
 /// Plans other attributes of an identity or a service.
@@ -275,7 +296,14 @@ pub fn plan_delete(
         unreachable!()
     };
     let moved = Moved::going(kept, attributes);
-    let steps = entity_steps(alloc, &stores.policies, &stores.entities, kind, number, &moved)?;
+    let steps = entity_steps(
+        alloc,
+        &stores.policies,
+        &stores.entities,
+        kind,
+        number,
+        &moved,
+    )?;
     let name = name.copy()?;
     Ok(Planned {
         reply: Reply::Done,
@@ -311,4 +339,3 @@ pub fn plan_mark(
         steps: GrantSteps::none(alloc),
     })
 }
-

@@ -76,7 +76,9 @@ fn refusal_to_put(
     requires used { AreUsed stores.now.entities gone.now }
     ensures { IfOk result (λ r. r ≡ refusal_to_put kind (policy_of policy.now) fresh gone.now stores.now) }
 {
-    let judged = stores.policies.may_put(kind, policy, fresh, &stores.entities);
+    let judged = stores
+        .policies
+        .may_put(kind, policy, fresh, &stores.entities);
     if let Err(fault) = judged {
         return Ok(Some(refusal_for(kind, policy, fault)?));
     }

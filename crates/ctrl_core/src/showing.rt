@@ -79,7 +79,13 @@ pub fn plan_show_grants(
     let grants = &stores.grants;
     let bind = tallies(alloc, entities, Kind::Service, &grants.bind, number)?;
     let dial = tallies(alloc, entities, Kind::Service, &grants.dial, number)?;
-    let routers = tallies(alloc, entities, Kind::Router, &grants.identity_router, number)?;
+    let routers = tallies(
+        alloc,
+        entities,
+        Kind::Router,
+        &grants.identity_router,
+        number,
+    )?;
     Ok(Planned::shown(
         alloc,
         Reply::Grants {

@@ -6,8 +6,11 @@ ghost use Rattle.entity_store.specs.EntityTables.{no_entities};
 ghost use Rattle.ctrl_core.specs.CarriedCommands.{is_carried};
 ghost use Rattle.ctrl_core.specs.Changes.{after_change};
 ghost use Rattle.ctrl_core.specs.KeptState.{state_of};
+ghost use Rattle.ctrl_model.specs.WorkedStates.{carrying};
 ghost use Rattle.policy_store.specs.PolicyTables.{no_policies};
-ghost use Rattle.ctrl_core.specs.declared.changes.Change.TheVariants.{Add, AddRouter, Describe, DescribeRouter, Mark, Remove, Nothing};
+ghost use Rattle.policy_store.specs.StoredPolicies.{policy_of};
+ghost use Rattle.ctrl_core.specs.WorkedChanges.{ann_dials, ann_binds, with_dial};
+ghost use Rattle.ctrl_core.specs.declared.changes.Change.TheVariants.{Add, AddRouter, AddPolicy, Describe, DescribeRouter, Mark, Remove, ReplacePolicy, RemovePolicy, Nothing};
 
 /// Stores without records stand for the state at the start. The commands that are carried out so far.
 pub fn worked_starts()
@@ -26,4 +29,14 @@ pub fn worked_changes()
     ensures describe_router { after_change (DescribeRouter 1 (codes "a" ∷ []) 7 true true) (record start { routers = (1, record { name = codes "r1"; attributes = []; cost = 5; through = false; connected = false }) ∷ []; next_router = 2 }) ≡ record start { routers = (1, record { name = codes "r1"; attributes = codes "a" ∷ []; cost = 7; through = true; connected = true }) ∷ []; next_router = 2 } }
     ensures mark { after_change (Mark 1 5 false true) (record start { routers = (1, record { name = codes "r1"; attributes = []; cost = 5; through = false; connected = false }) ∷ []; next_router = 2 }) ≡ record start { routers = (1, record { name = codes "r1"; attributes = []; cost = 5; through = false; connected = true }) ∷ []; next_router = 2 } }
     ensures remove { after_change (Remove kind.Identity 1 (codes "ann")) (record start { identities = (1, record { name = codes "ann"; attributes = [] }) ∷ []; next_identity = 2 }) ≡ record start { next_identity = 2 } }
+{}
+
+/// The changes of policies: a new one has the next number, one that replaces it has its number, and a deleted name leaves its side
+/// and nothing else.
+pub fn worked_policy_changes()
+    ensures add { after_change (AddPolicy kind.ServicePolicy ann_dials) start ≡ with_dial }
+    ensures replace { after_change (ReplacePolicy kind.ServicePolicy 1 ann_binds) with_dial ≡ record with_dial { service_policies = (1, policy_of ann_binds) ∷ [] } }
+    ensures remove { after_change (RemovePolicy kind.ServicePolicy 1) with_dial ≡ record start { next_service_policy = 2 } }
+    ensures forget { after_change (Remove kind.Identity 1 (codes "ann")) with_dial ≡ record with_dial { service_policies = (1, record (policy_of ann_dials) { left = carrying [] }) ∷ [] } }
+    ensures other_kind { after_change (Remove kind.Service 1 (codes "ann")) with_dial ≡ with_dial }
 {}

@@ -196,7 +196,13 @@ fn push_turn(
         return Ok(());
     }
     let alloc = *turns.allocator();
-    let partners = members_of(alloc, known, policy, !on_left, other_kind(relation, on_left))?;
+    let partners = members_of(
+        alloc,
+        known,
+        policy,
+        !on_left,
+        other_kind(relation, on_left),
+    )?;
     turns.push(Turn { up: is, partners })?;
     Ok(())
 }
@@ -261,10 +267,24 @@ pub fn entity_steps(
 {
     let dial = entity_steps_at(alloc, kept, known, Relation::Dial, kind, number, moved)?;
     let bind = entity_steps_at(alloc, kept, known, Relation::Bind, kind, number, moved)?;
-    let identity_router =
-        entity_steps_at(alloc, kept, known, Relation::IdentityRouter, kind, number, moved)?;
-    let service_router =
-        entity_steps_at(alloc, kept, known, Relation::ServiceRouter, kind, number, moved)?;
+    let identity_router = entity_steps_at(
+        alloc,
+        kept,
+        known,
+        Relation::IdentityRouter,
+        kind,
+        number,
+        moved,
+    )?;
+    let service_router = entity_steps_at(
+        alloc,
+        kept,
+        known,
+        Relation::ServiceRouter,
+        kind,
+        number,
+        moved,
+    )?;
     Ok(GrantSteps {
         dial,
         bind,
@@ -338,10 +358,22 @@ pub fn policy_steps(
 {
     let dial = policy_steps_at(alloc, known, Relation::Dial, kind, before, after)?;
     let bind = policy_steps_at(alloc, known, Relation::Bind, kind, before, after)?;
-    let identity_router =
-        policy_steps_at(alloc, known, Relation::IdentityRouter, kind, before, after)?;
-    let service_router =
-        policy_steps_at(alloc, known, Relation::ServiceRouter, kind, before, after)?;
+    let identity_router = policy_steps_at(
+        alloc,
+        known,
+        Relation::IdentityRouter,
+        kind,
+        before,
+        after,
+    )?;
+    let service_router = policy_steps_at(
+        alloc,
+        known,
+        Relation::ServiceRouter,
+        kind,
+        before,
+        after,
+    )?;
     Ok(GrantSteps {
         dial,
         bind,
