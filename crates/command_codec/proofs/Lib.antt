@@ -8,4 +8,5 @@ mod EntityLaws
 mod PolicyLaws
 mod ShowLaws
 mod LinkLaws
+mod TerminatorLaws
 mod SpelledLaws

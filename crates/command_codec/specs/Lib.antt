@@ -8,6 +8,8 @@ pub mod EntityBodies
 pub mod PolicyBodies
 pub mod ShowBodies
 pub mod LinkBodies
+pub mod FieldValues
+pub mod TerminatorBodies
 pub mod BodyMeaning
 pub mod ContentTypes
 pub mod ReadCommands

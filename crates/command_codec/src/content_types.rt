@@ -54,6 +54,12 @@ pub(crate) const DELETE_LINK: u32 = 1204;
 
 pub(crate) const SET_LEAST_ROUTER_COST: u32 = 1210;
 
+pub(crate) const CREATE_TERMINATOR: u32 = 1300;
+
+pub(crate) const UPDATE_TERMINATOR: u32 = 1301;
+
+pub(crate) const DELETE_TERMINATOR: u32 = 1302;
+
 pub(crate) const SHOW_GRANTS: u32 = 1500;
 
 pub(crate) const LIST_SERVICES: u32 = 1501;

@@ -13,6 +13,7 @@ mod policy_bodies;
 mod reading;
 mod role_lists;
 mod show_bodies;
+mod terminator_bodies;
 #[cfg(test)]
 mod tests;
 mod worked;
@@ -21,5 +22,5 @@ pub use laws::what_a_body_spells;
 pub use reading::{CodecFault, read};
 pub use worked::{
     worked_bodies, worked_causes, worked_links, worked_lists, worked_policies,
-    worked_policy_causes, worked_shows, worked_sides,
+    worked_policy_causes, worked_shows, worked_sides, worked_terminators,
 };

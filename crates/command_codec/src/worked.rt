@@ -5,6 +5,7 @@ ghost use Rattle.ctrl_model.specs.declared.commands.Command.TheVariants as comma
 ghost use Rattle.ctrl_model.specs.declared.refusals.Field.TheVariants as field;
 ghost use Rattle.ctrl_model.specs.declared.refusals.Reason.TheVariants as reason;
 ghost use Rattle.command_codec.specs.declared.reading.CodecFault.TheVariants.{UnsupportedType, BadBody};
+ghost use Rattle.ctrl_model.specs.declared.kinds.Precedence.TheVariants.{Required, Normal, Failed};
 ghost use Rattle.ctrl_model.specs.declared.kinds.Relation.TheVariants.{Dial, Bind};
 ghost use Rattle.ctrl_model.specs.declared.kinds.Semantic.TheVariants.{AnyOf, AllOf};
 ghost use Rattle.role_expr.specs.NameRepeats.{without_repeats};
@@ -12,6 +13,7 @@ ghost use Rattle.command_codec.specs.NameLists.{as_attributes};
 ghost use Rattle.command_codec.specs.RoleLists.{as_side};
 ghost use Rattle.command_codec.specs.BodyMeaning.{meaning, meaning_in};
 ghost use Rattle.command_codec.specs.LinkBodies.{link_table};
+ghost use Rattle.command_codec.specs.TerminatorBodies.{terminator_table};
 
 /// Bodies that spell a command of each kind.
 pub fn worked_bodies()
@@ -74,6 +76,22 @@ pub fn worked_links()
     ensures slow { meaning_in link_table 1202 (codes "{\"link\":\"l1\",\"router\":\"r1\",\"latency\":60001}") ≡ Err (BadBody field.Latency reason.WrongKind) }
     ensures one_end { meaning_in link_table 1200 (codes "{\"name\":\"l1\",\"a\":\"r1\",\"cost\":0}") ≡ Err (BadBody field.B reason.Missing) }
     ensures reported { meaning_in link_table 1203 (codes "{\"link\":\"l1\",\"router\":\"r2\",\"up\":0}") ≡ Err (BadBody field.Up reason.WrongKind) }
+{}
+
+/// Bodies of the commands on terminators, whose types are not in the table yet.
+pub fn worked_terminators()
+    ensures made { meaning_in terminator_table 1300 (codes "{\"service\":\"web\",\"router\":\"r1\"}") ≡ Ok (command.CreateTerminator (codes "web") (codes "r1") [] None 0 Normal) }
+    ensures made_in_full { meaning_in terminator_table 1300 (codes "{\"service\":\"web\",\"router\":\"r1\",\"instance\":\"i-1\",\"host\":\"ann\",\"cost\":65535,\"precedence\":\"required\"}")
+        ≡ Ok (command.CreateTerminator (codes "web") (codes "r1") (codes "i-1") (Some (codes "ann")) 65535 Required) }
+    ensures empty_instance { meaning_in terminator_table 1300 (codes "{\"service\":\"web\",\"router\":\"r1\",\"instance\":\"\"}") ≡ Ok (command.CreateTerminator (codes "web") (codes "r1") [] None 0 Normal) }
+    ensures updated { meaning_in terminator_table 1301 (codes "{\"no\":4294967295,\"cost\":0,\"precedence\":\"failed\"}") ≡ Ok (command.UpdateTerminator 4294967295 0 Failed) }
+    ensures deleted { meaning_in terminator_table 1302 (codes "{\"no\":1}") ≡ Ok (command.DeleteTerminator 1) }
+    ensures no_instance { meaning_in terminator_table 1300 (codes "{\"service\":\"web\",\"router\":\"r1\",\"instance\":\"a b\"}") ≡ Err (BadBody field.Instance reason.WrongKind) }
+    ensures null_host { meaning_in terminator_table 1300 (codes "{\"service\":\"web\",\"router\":\"r1\",\"host\":null}") ≡ Err (BadBody field.Host reason.WrongKind) }
+    ensures normal { meaning_in terminator_table 1300 (codes "{\"service\":\"web\",\"router\":\"r1\",\"precedence\":\"normal\"}") ≡ Err (BadBody field.Precedence reason.WrongKind) }
+    ensures zero { meaning_in terminator_table 1302 (codes "{\"no\":0}") ≡ Err (BadBody field.No reason.WrongKind) }
+    ensures beyond { meaning_in terminator_table 1302 (codes "{\"no\":4294967296}") ≡ Err (BadBody field.No reason.WrongKind) }
+    ensures no_cost { meaning_in terminator_table 1301 (codes "{\"no\":1,\"precedence\":\"failed\"}") ≡ Err (BadBody field.Cost reason.Missing) }
 {}
 
 /// Bodies that spell no command, each with its first cause: of fields that say nothing of their kind the first counts, and
