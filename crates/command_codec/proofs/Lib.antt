@@ -9,4 +9,6 @@ mod PolicyLaws
 mod ShowLaws
 mod LinkLaws
 mod TerminatorLaws
+mod ClaimLaws
+mod CircuitLaws
 mod SpelledLaws

@@ -6,6 +6,7 @@ use Rattle.serde_json.specs.Data.{Data}
 use Rattle.serde_json.specs.Find.{as_bool}
 use Rattle.ctrl_model.specs.declared.commands.Command.{Command}
 use Rattle.ctrl_model.specs.declared.commands.Command.TheVariants as command
+use Rattle.ctrl_model.specs.declared.claims.Reach.{Reach}
 use Rattle.ctrl_model.specs.declared.kinds.Precedence.{Precedence}
 use Rattle.ctrl_model.specs.declared.kinds.Precedence.TheVariants.{Normal}
 use Rattle.ctrl_model.specs.declared.kinds.Relation.{Relation}
@@ -23,6 +24,8 @@ use Rattle.command_codec.specs.EntityBodies.{as_cost, entity_fields, router_fiel
 use Rattle.command_codec.specs.PolicyBodies.{service_policy_fields, router_policy_fields}
 use Rattle.command_codec.specs.LinkBodies.{as_link_cost, as_latency, link_fields}
 use Rattle.command_codec.specs.TerminatorBodies.{terminator_fields}
+use Rattle.command_codec.specs.RouteClaims.{as_numbers, as_potentials}
+use Rattle.command_codec.specs.CircuitBodies.{circuit_fields, route_fields, as_total}
 use Rattle.command_codec.specs.ContentTypes.{content_of}
 use Rattle.command_codec.specs.ReadCommands.{is_read}
 
@@ -116,7 +119,21 @@ abbrev pub SaysUpdatedTerminator : List ℕ → ℕ → ℕ → Precedence → T
 SaysUpdatedTerminator body n cost precedence = Says body (field.No ∷ field.Cost ∷ field.Precedence ∷ []) (λ o.
     Tells as_no field.No n o × Tells as_cost field.Cost cost o × Tells as_precedence field.Precedence precedence o)
 
--- A body gives the fields of a command. Any body gives those of Hello; those of the commands that are not named yet none.
+-- A body that asks for a circuit: the ingress and the instance may be left out.
+abbrev pub SaysAskedCircuit : List ℕ → List ℕ → List ℕ → Option (List ℕ) → List ℕ → Type 0
+SaysAskedCircuit body identity service ingress instance = Says body circuit_fields (λ o.
+    Tells as_name field.Identity identity o × Tells as_name field.Service service o × MayTell as_some_name None field.Ingress ingress o
+    × MayTell as_instance [] field.Instance instance o)
+
+-- A body of VerifyRoute: the ingress and the instance may be left out.
+abbrev pub SaysClaimedRoute : List ℕ → List ℕ → List ℕ → Option (List ℕ) → List ℕ → List ℕ → List ℕ → List Reach → List ℕ → ℕ → ℕ → Type 0
+SaysClaimedRoute body identity service ingress instance chosen links potentials routers terminator total = Says body route_fields (λ o.
+    Tells as_name field.Identity identity o × Tells as_name field.Service service o × MayTell as_some_name None field.Ingress ingress o
+    × MayTell as_instance [] field.Instance instance o × Tells as_name field.Chosen chosen o × Tells (as_numbers 255) field.Links links o
+    × Tells as_potentials field.Potentials potentials o × Tells (as_numbers 256) field.Routers routers o × Tells as_no field.Terminator terminator o
+    × Tells as_total field.Total total o)
+
+-- A body gives the fields of a command. Any body gives those of Hello; no body those of Compact yet.
 abbrev pub SaysFields : List ℕ → Command → Type 0
 SaysFields body command.Hello = ⊤
 SaysFields body (command.CreateIdentity name attributes) = SaysMade body name attributes
@@ -148,10 +165,16 @@ SaysFields body (command.SetLeastRouterCost cost) = Says body (field.Cost ∷ []
 SaysFields body (command.CreateTerminator service router instance host cost precedence) = SaysMadeTerminator body service router instance host cost precedence
 SaysFields body (command.UpdateTerminator n cost precedence) = SaysUpdatedTerminator body n cost precedence
 SaysFields body (command.DeleteTerminator n) = SaysNo body n
+SaysFields body (command.CreateCircuit identity service ingress instance) = SaysAskedCircuit body identity service ingress instance
+SaysFields body (command.DeleteCircuit n) = SaysNo body n
+SaysFields body (command.Explain identity service ingress instance) = SaysAskedCircuit body identity service ingress instance
+SaysFields body (command.VerifyRoute identity service ingress instance chosen links potentials routers terminator total) =
+    SaysClaimedRoute body identity service ingress instance chosen links potentials routers terminator total
 SaysFields body (command.ShowGrants identity) = SaysName body field.Identity identity
 SaysFields body (command.ListServices identity) = SaysName body field.Identity identity
 SaysFields body command.ShowCounts = Says body [] (λ o. ⊤)
-SaysFields body _ = ⊥
+SaysFields body (command.ShowCircuit n) = SaysNo body n
+SaysFields body command.Compact = ⊥
 
 -- A body spells a command under a content type: the type is the command's and is read, and the body gives the command's fields.
 abbrev pub Spells : ℕ → List ℕ → Command → Type 0

@@ -60,8 +60,18 @@ pub(crate) const UPDATE_TERMINATOR: u32 = 1301;
 
 pub(crate) const DELETE_TERMINATOR: u32 = 1302;
 
+pub(crate) const CREATE_CIRCUIT: u32 = 1400;
+
+pub(crate) const DELETE_CIRCUIT: u32 = 1401;
+
+pub(crate) const EXPLAIN: u32 = 1402;
+
+pub(crate) const VERIFY_ROUTE: u32 = 1403;
+
 pub(crate) const SHOW_GRANTS: u32 = 1500;
 
 pub(crate) const LIST_SERVICES: u32 = 1501;
 
 pub(crate) const SHOW_COUNTS: u32 = 1502;
+
+pub(crate) const SHOW_CIRCUIT: u32 = 1503;
