@@ -23,6 +23,7 @@ impl ListItem for Role {
         let Some(text) = value.as_str() else {
             return Ok(None);
         };
+        // Of one entry AllNotAlone never comes.
         match read_role(alloc, text.as_bytes()) {
             Ok(role) => Ok(Some(role)),
             Err(RoleFault::BadRole) => Ok(None),
@@ -35,6 +36,7 @@ impl ListItem for Role {
 fn side_of(alloc: Global, roles: &[Role]) -> Result<Option<Side>, AllocError>
     ensures { IfOk result (λ s. s ≡ side_of roles.now) }
 {
+    // Of entries that were read BadRole never comes.
     match role_expr::side_of(alloc, roles) {
         Ok(side) => Ok(Some(side)),
         Err(RoleFault::AllNotAlone | RoleFault::BadRole) => Ok(None),

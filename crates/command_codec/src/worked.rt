@@ -131,6 +131,7 @@ pub fn worked_claims()
 /// another key only behind them.
 pub fn worked_causes()
     ensures unsupported { meaning 999 (codes "{\"name\":\"ann\"}") ≡ Err UnsupportedType }
+    ensures compact { meaning 1510 (codes "{}") ≡ Err UnsupportedType }
     ensures reply { meaning 2 (codes "{\"name\":\"ann\"}") ≡ Err UnsupportedType }
     ensures no_text { meaning 1000 (codes "abc") ≡ Err (BadBody field.Nothing reason.NotObject) }
     ensures no_bytes { meaning 1000 [] ≡ Err (BadBody field.Nothing reason.NotObject) }
@@ -158,7 +159,6 @@ pub fn worked_policy_causes()
     ensures all_beside { meaning 1110 (codes "{\"name\":\"p\",\"semantic\":\"AnyOf\",\"identity_roles\":[\"#a\"],\"router_roles\":[\"#all\",\"#a\"]}") ≡ Err (BadBody field.RouterRoles reason.WrongKind) }
     ensures no_role { meaning 1110 (codes "{\"name\":\"p\",\"semantic\":\"AnyOf\",\"identity_roles\":[\"ann\"],\"router_roles\":[]}") ≡ Err (BadBody field.IdentityRoles reason.WrongKind) }
     ensures type_of_others { meaning 1110 (codes "{\"name\":\"p\",\"type\":\"Dial\",\"semantic\":\"AnyOf\",\"identity_roles\":[],\"router_roles\":[]}") ≡ Err (BadBody field.Nothing reason.Unknown) }
-    ensures link { meaning 1200 (codes "{\"name\":\"l1\",\"a\":\"r1\",\"b\":\"r2\"}") ≡ Err UnsupportedType }
 {}
 
 /// Lists of attributes: repeats go at their later places, each value has to be a name, and at most 64 may be sent, repeats
