@@ -27,7 +27,7 @@ use Rattle.command_codec.proofs.TableLaws.{IsSaid, Faithful, by_row, ◌⊗◌}
 pub name_form : (of_field : Field) (o : Data) (name : List ℕ) → Tells as_name of_field name o → is_name name ≡ true
 name_form of_field o name e = required_form as_name of_field o name e (λ d h. as_name-form d name h)
 
-number_form : (low high : ℕ) (d : Data) (n : ℕ) → as_number_in low high d ≡ Some n → in_range low high n ≡ true
+pub number_form : (low high : ℕ) (d : Data) (n : ℕ) → as_number_in low high d ≡ Some n → in_range low high n ≡ true
 number_form low high d n e =
     option_and_then_some (within low high) (option_and_then as_u64 (as_number d)) n e (λ m is h.
     let p = cond_some (nat_le low m && nat_le m high) m n h in subst (λ k. in_range low high k ≡ true) p.1 p.0)

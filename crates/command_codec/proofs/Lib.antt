@@ -8,4 +8,7 @@ mod EntityLaws
 mod PolicyLaws
 mod ShowLaws
 mod LinkLaws
+mod TerminatorLaws
+mod ClaimLaws
+mod CircuitLaws
 mod SpelledLaws

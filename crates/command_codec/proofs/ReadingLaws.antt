@@ -1,16 +1,16 @@
 -- What a reading that says something is made of: each field says something, and the object has no other key.
 use Rattle.std.proofs.Common.{◌≡◌, Bool, true, false, cond, List, Option, Some, None, Result, Ok, Err, refl, ap, ◌∙◌, subst}
-use Rattle.std.specs.Prelude.{⊤}
+use Rattle.std.specs.Prelude.{⊤, option_and_then}
 use Rattle.std.specs.Option.{ok_or}
 use Rattle.serde_json.specs.Data.{Data}
 use Rattle.ctrl_model.specs.declared.commands.Command.{Command}
 use Rattle.ctrl_model.specs.declared.refusals.Field.{Field}
 use Rattle.json_body.specs.declared.fields.FieldFault.{FieldFault}
-use Rattle.json_body.specs.declared.fields.FieldFault.TheVariants.{WrongKind, Unknown}
+use Rattle.json_body.specs.declared.fields.FieldFault.TheVariants.{Missing, WrongKind, Unknown}
 use Rattle.json_body.specs.FieldKinds.{value_of, required_from, required, optional_from, optional, has_only, finished}
 use Rattle.command_codec.specs.BodyObjects.{Reader, ◌>>=◌, with_cause, said_by}
 
-ok_same : {A E : Type 0} (x y : A) → ◌≡◌ {A = Result A E} (Ok x) (Ok y) → x ≡ y
+pub ok_same : {A E : Type 0} (x y : A) → ◌≡◌ {A = Result A E} (Ok x) (Ok y) → x ≡ y
 ok_same x y e = cc
 
 -- ---- the object of a body
@@ -76,6 +76,14 @@ pub reads_six : {A B C D E F P : Type 0} (make : A → B → C → D → E → F
 reads_six make (Ok x) s t u v w fields o c e to = reads_five (make x) s t u v w fields o c e (λ y z k m n p q h i j only same. to x y z k m n refl p q h i j only same)
 reads_six make (Err f) s t u v w fields o c e to = absurd (cc)
 
+pub reads_seven : {A B C D E F G P : Type 0} (make : A → B → C → D → E → F → G → Command) (r : Result A FieldFault) (s : Result B FieldFault) (t : Result C FieldFault) (u : Result D FieldFault)
+    (v : Result E FieldFault) (w : Result F FieldFault) (x : Result G FieldFault) (fields : List Field) (o : Data) (c : Command)
+    → (r >>= λ a. s >>= λ b. t >>= λ d. u >>= λ k. v >>= λ m. w >>= λ n. x >>= λ l. finished fields o >>= λ end. Ok (make a b d k m n l)) ≡ Ok c
+    → ((a : A) (b : B) (d : C) (k : D) (m : E) (n : F) (l : G) → r ≡ Ok a → s ≡ Ok b → t ≡ Ok d → u ≡ Ok k → v ≡ Ok m → w ≡ Ok n → x ≡ Ok l → has_only fields o ≡ true
+    → make a b d k m n l ≡ c → P) → P
+reads_seven make (Ok a) s t u v w x fields o c e to = reads_six (make a) s t u v w x fields o c e (λ b d k m n l p q h i j g only same. to a b d k m n l refl p q h i j g only same)
+reads_seven make (Err f) s t u v w x fields o c e to = absurd (cc)
+
 -- ---- the values that fields give
 
 pub required_form : {A P : Type 0} (kind : Data → Option A) (of_field : Field) (o : Data) (x : A) → required kind of_field o ≡ Ok x → ((d : Data) → kind d ≡ Some x → P) → P
@@ -100,3 +108,16 @@ optional_form {A} P kind otherwise of_field o x e base k = by (value_of of_field
     by : (v : Option Data) → optional_from of_field kind otherwise v ≡ Ok x → P x
     by None e = subst P (ok_same otherwise x e) base
     by (Some d) e = told d (kind d) refl e
+
+-- Where a field says nothing of a kind, it says nothing of what is read from it.
+pub required_behind : {A B : Type 0} (kind : Data → Option A) (more : A → Option B) (of_field : Field) (o : Data) (f : FieldFault)
+    → required kind of_field o ≡ Err f → required (λ d. option_and_then more (kind d)) of_field o ≡ Err f
+required_behind {A} {B} kind more of_field o f e = by (value_of of_field o) e
+  where
+    told : (q : Option A) → ok_or q (WrongKind of_field) ≡ Err f → ok_or (option_and_then more q) (WrongKind of_field) ≡ Err f
+    told None e = let same : WrongKind of_field ≡ f = cc in ap (λ g. Err g) same
+    told (Some x) e = absurd (cc)
+
+    by : (v : Option Data) → required_from of_field kind v ≡ Err f → required_from of_field (λ d. option_and_then more (kind d)) v ≡ Err f
+    by None e = let same : Missing of_field ≡ f = cc in ap (λ g. Err g) same
+    by (Some d) e = told (kind d) e

@@ -1,14 +1,11 @@
 -- Role lists in bodies: which entry a text is, and what form the side of a role list has.
-use Rattle.std.proofs.Common.{◌≡◌, ℕ, ◌+◌, ◌≤◌, nat_le, Bool, true, false, not, cond, ◌&&◌, ◌||◌, List, [], ◌∷◌, length, codes, Option, Some, None, Err, refl, sym, ap, ◌∙◌, subst, arith, le-leb}
-use Rattle.std.specs.Prelude.{option_and_then}
-use Rattle.std.specs.Option.{ok_or}
+use Rattle.std.proofs.Common.{◌≡◌, ℕ, ◌+◌, ◌≤◌, nat_le, Bool, true, false, not, cond, ◌&&◌, ◌||◌, List, [], ◌∷◌, length, codes, Option, Some, None, refl, sym, ap, ◌∙◌, subst, arith, le-leb}
 use Rattle.std.specs.List.{filter, list_all, list_any, flat_map}
 use Rattle.std.specs.Str.{bytes_eq}
 use Rattle.std.proofs.lemmas.Bool.{and_from, and_parts, false≢true, not_from_false}
 use Rattle.std.proofs.lemmas.Option.{option_and_then_some, same_Some}
-use Rattle.serde_json.specs.Data.{Data, Items}
+use Rattle.serde_json.specs.Data.{Data}
 use Rattle.serde_json.specs.Find.{as_str}
-use Rattle.ctrl_model.specs.declared.refusals.Field.{Field}
 use Rattle.ctrl_model.specs.declared.kinds.Role.{Role}
 use Rattle.ctrl_model.specs.declared.kinds.Role.TheVariants as role
 use Rattle.ctrl_model.specs.declared.kinds.Side.{Side}
@@ -22,10 +19,7 @@ use Rattle.role_expr.specs.RoleSides.{is_all, id_in, attribute_in, is_all_beside
 use Rattle.role_expr.specs.RoleSpelling.{is_role, role_spelling}
 use Rattle.role_expr.proofs.RepeatLaws.{without_repeats-length}
 use Rattle.role_expr.proofs.RoleLaws.{read_again, reads}
-use Rattle.json_body.specs.declared.fields.FieldFault.{FieldFault}
-use Rattle.json_body.specs.declared.fields.FieldFault.TheVariants.{Missing, WrongKind}
-use Rattle.json_body.specs.FieldKinds.{as_list_of, value_of, required_from, required}
-use Rattle.command_codec.specs.ItemLists.{each_of, as_each_of}
+use Rattle.command_codec.specs.ItemLists.{as_each_of}
 use Rattle.command_codec.specs.RoleLists.{as_role, side_of, as_side}
 use Rattle.command_codec.proofs.ItemLaws.{as_each_of-form}
 use Rattle.command_codec.proofs.NameListLaws.{without_repeats-form}
@@ -143,17 +137,3 @@ as_side-form d side e =
     by : (rs : List Role) → length rs ≤ 64 → list_all is_role rs ≡ true → (b : Bool) → is_all_beside rs ≡ b → cond b None (Some (side_from rs)) ≡ Some side → is_side side ≡ true
     by rs few roles true beside is = absurd (cc)
     by rs few roles false beside is = subst (λ s. is_side s ≡ true) (same_Some (side_from rs) side is) (side_from-form rs few roles beside)
-
--- Where a field gives no list of at most 64 values, it gives no side.
-pub side_without_list : (of_field : Field) (o : Data) (f : FieldFault) → required (as_list_of 64) of_field o ≡ Err f → required as_side of_field o ≡ Err f
-side_without_list of_field o f e = by (value_of of_field o) e
-  where
-    told : (d : Data) (ds : Option Items) → as_list_of 64 d ≡ ds → ok_or ds (WrongKind of_field) ≡ Err f → ok_or (as_side d) (WrongKind of_field) ≡ Err f
-    told d None is e =
-        let same : WrongKind of_field ≡ f = cc in
-        ap (λ ds. ok_or (option_and_then side_of (option_and_then (each_of as_role) ds)) (WrongKind of_field)) is ∙ ap (λ g. Err g) same
-    told d (Some ds) is e = absurd (cc)
-
-    by : (v : Option Data) → required_from of_field (as_list_of 64) v ≡ Err f → required_from of_field as_side v ≡ Err f
-    by None e = let same : Missing of_field ≡ f = cc in ap (λ g. Err g) same
-    by (Some d) e = told d (as_list_of 64 d) refl e

@@ -1,11 +1,10 @@
 -- Tables of content types: what a table says that is made of two, and that what is said of a command is faithful to it.
-use Rattle.std.proofs.Common.{◌≡◌, ℕ, ◌==◌, ◌<◌, nat_le, Bool, true, false, cond, ◌⊎◌, List, [], ◌∷◌, ◌++◌, Option, Some, None, Result, Ok, Err, refl, sym, ap, ◌∙◌, subst, arith, eqb-true, leb-true}
+use Rattle.std.proofs.Common.{◌≡◌, ℕ, ◌==◌, Bool, true, false, cond, List, [], ◌∷◌, ◌++◌, Option, Some, None, Result, Ok, Err, refl, sym, ap, ◌∙◌, subst, eqb-true}
 use Rattle.std.specs.Prelude.{is_some}
-use Rattle.std.specs.List.{AllByRecursion, list_all}
-use Rattle.std.proofs.lemmas.Bool.{and_parts, false_from_ne_true}
+use Rattle.std.specs.List.{AllByRecursion}
 use Rattle.serde_json.specs.Data.{Data}
 use Rattle.ctrl_model.specs.declared.commands.Command.{Command}
-use Rattle.ctrl_model.specs.CommandForm.{in_range, is_spelled}
+use Rattle.ctrl_model.specs.CommandForm.{is_spelled}
 use Rattle.json_body.specs.declared.fields.FieldFault.{FieldFault}
 use Rattle.json_body.specs.declared.fields.FieldFault.TheVariants as fault
 use Rattle.command_codec.specs.declared.reading.CodecFault.TheVariants.{UnsupportedType}
@@ -47,27 +46,6 @@ entry_at-append content (x ∷ xs) ys = by (x.0 == content) (entry_at-append con
         → cond b (Some x.1) (entry_at content (xs ++ ys)) ≡ first_of_two (cond b (Some x.1) (entry_at content xs)) (entry_at content ys)
     by true h = refl
     by false h = h
-
--- Where the first has nothing, the second says it.
-pub entry_at-behind : (content : ℕ) (xs ys : List (ℕ × Reader)) → entry_at content xs ≡ None → entry_at content (xs ++ ys) ≡ entry_at content ys
-entry_at-behind content xs ys e = entry_at-append content xs ys ∙ ap (λ o. first_of_two o (entry_at content ys)) e
-
--- Where the second has nothing, the first says it.
-pub entry_at-before : (content : ℕ) (xs ys : List (ℕ × Reader)) → entry_at content ys ≡ None → entry_at content (xs ++ ys) ≡ entry_at content xs
-entry_at-before content xs ys e = entry_at-append content xs ys ∙ (ap (λ o. first_of_two (entry_at content xs) o) e ∙ nothing (entry_at content xs))
-  where
-    nothing : (o : Option Reader) → first_of_two o None ≡ o
-    nothing None = refl
-    nothing (Some r) = refl
-
--- A table whose types lie in a range has nothing outside it.
-pub entry_at-outside : (low high content : ℕ) (rows : List (ℕ × Reader)) → list_all (λ row. in_range low high row.0) rows ≡ true → (content < low) ⊎ (high < content) → entry_at content rows ≡ None
-entry_at-outside low high content [] each out = refl
-entry_at-outside low high content (x ∷ xs) each out =
-    let parts = and_parts (in_range low high x.0) (list_all (λ row. in_range low high row.0) xs) each in
-    let range = and_parts (nat_le low x.0) (nat_le x.0 high) parts.0 in
-    let other : (x.0 == content) ≡ false = false_from_ne_true (x.0 == content) (λ same. omega (arith, eqb-true x.0 content same, leb-true low x.0 range.0, leb-true x.0 high range.1, out)) in
-    rw other (entry_at-outside low high content xs parts.1 out)
 
 -- ---- tables that are faithful
 

@@ -8,6 +8,10 @@ pub mod EntityBodies
 pub mod PolicyBodies
 pub mod ShowBodies
 pub mod LinkBodies
+pub mod FieldValues
+pub mod TerminatorBodies
+pub mod RouteClaims
+pub mod CircuitBodies
 pub mod BodyMeaning
 pub mod ContentTypes
 pub mod ReadCommands

@@ -1,11 +1,14 @@
 -- When a body spells a command, without an order of reading: its object gives each field of the command, of its kind or left
 -- out where that may be, and has no other key (docs/FORMATS.md, "Commands").
-use Rattle.std.specs.Prelude.{◌≡◌, ℕ, Bool, true, false, ⊤, List, [], ◌∷◌, Ok, Some}
+use Rattle.std.specs.Prelude.{◌≡◌, ℕ, Bool, true, false, ⊤, List, [], ◌∷◌, Ok, None, Some}
 use Rattle.std.specs.declared.option.Option.{Option}
 use Rattle.serde_json.specs.Data.{Data}
 use Rattle.serde_json.specs.Find.{as_bool}
 use Rattle.ctrl_model.specs.declared.commands.Command.{Command}
 use Rattle.ctrl_model.specs.declared.commands.Command.TheVariants as command
+use Rattle.ctrl_model.specs.declared.claims.Reach.{Reach}
+use Rattle.ctrl_model.specs.declared.kinds.Precedence.{Precedence}
+use Rattle.ctrl_model.specs.declared.kinds.Precedence.TheVariants.{Normal}
 use Rattle.ctrl_model.specs.declared.kinds.Relation.{Relation}
 use Rattle.ctrl_model.specs.declared.kinds.Semantic.{Semantic}
 use Rattle.ctrl_model.specs.declared.kinds.Side.{Side}
@@ -14,11 +17,15 @@ use Rattle.ctrl_model.specs.declared.refusals.Field.TheVariants as field
 use Rattle.json_body.specs.FieldKinds.{as_name, required, optional, has_only}
 use Rattle.command_codec.specs.NameLists.{as_attributes}
 use Rattle.command_codec.specs.RoleLists.{as_side}
-use Rattle.command_codec.specs.FieldWords.{as_relation, as_semantic}
+use Rattle.command_codec.specs.FieldValues.{as_no, as_instance, as_some_name}
+use Rattle.command_codec.specs.FieldWords.{as_relation, as_semantic, as_precedence}
 use Rattle.command_codec.specs.BodyObjects.{object_of_body}
 use Rattle.command_codec.specs.EntityBodies.{as_cost, entity_fields, router_fields}
 use Rattle.command_codec.specs.PolicyBodies.{service_policy_fields, router_policy_fields}
 use Rattle.command_codec.specs.LinkBodies.{as_link_cost, as_latency, link_fields}
+use Rattle.command_codec.specs.TerminatorBodies.{terminator_fields}
+use Rattle.command_codec.specs.RouteClaims.{as_numbers, as_potentials}
+use Rattle.command_codec.specs.CircuitBodies.{circuit_fields, route_fields, as_total}
 use Rattle.command_codec.specs.ContentTypes.{content_of}
 use Rattle.command_codec.specs.ReadCommands.{is_read}
 
@@ -97,7 +104,36 @@ abbrev pub SaysState : List ℕ → List ℕ → List ℕ → Bool → Type 0
 SaysState body link router up = Says body (field.Link ∷ field.Router ∷ field.Up ∷ []) (λ o.
     Tells as_name field.Link link o × Tells as_name field.Router router o × Tells as_bool field.Up up o)
 
--- A body gives the fields of a command. Any body gives those of Hello; those of the commands that are not named yet none.
+-- A body with the number of a record alone.
+abbrev pub SaysNo : List ℕ → ℕ → Type 0
+SaysNo body n = Says body (field.No ∷ []) (λ o. Tells as_no field.No n o)
+
+-- A body of CreateTerminator: all but the service and the router may be left out.
+abbrev pub SaysMadeTerminator : List ℕ → List ℕ → List ℕ → List ℕ → Option (List ℕ) → ℕ → Precedence → Type 0
+SaysMadeTerminator body service router instance host cost precedence = Says body terminator_fields (λ o.
+    Tells as_name field.Service service o × Tells as_name field.Router router o × MayTell as_instance [] field.Instance instance o
+    × MayTell as_some_name None field.Host host o × MayTell as_cost 0 field.Cost cost o × MayTell as_precedence Normal field.Precedence precedence o)
+
+-- A body of UpdateTerminator.
+abbrev pub SaysUpdatedTerminator : List ℕ → ℕ → ℕ → Precedence → Type 0
+SaysUpdatedTerminator body n cost precedence = Says body (field.No ∷ field.Cost ∷ field.Precedence ∷ []) (λ o.
+    Tells as_no field.No n o × Tells as_cost field.Cost cost o × Tells as_precedence field.Precedence precedence o)
+
+-- A body that asks for a circuit: the ingress and the instance may be left out.
+abbrev pub SaysAskedCircuit : List ℕ → List ℕ → List ℕ → Option (List ℕ) → List ℕ → Type 0
+SaysAskedCircuit body identity service ingress instance = Says body circuit_fields (λ o.
+    Tells as_name field.Identity identity o × Tells as_name field.Service service o × MayTell as_some_name None field.Ingress ingress o
+    × MayTell as_instance [] field.Instance instance o)
+
+-- A body of VerifyRoute: the ingress and the instance may be left out.
+abbrev pub SaysClaimedRoute : List ℕ → List ℕ → List ℕ → Option (List ℕ) → List ℕ → List ℕ → List ℕ → List Reach → List ℕ → ℕ → ℕ → Type 0
+SaysClaimedRoute body identity service ingress instance chosen links potentials routers terminator total = Says body route_fields (λ o.
+    Tells as_name field.Identity identity o × Tells as_name field.Service service o × MayTell as_some_name None field.Ingress ingress o
+    × MayTell as_instance [] field.Instance instance o × Tells as_name field.Chosen chosen o × Tells (as_numbers 255) field.Links links o
+    × Tells as_potentials field.Potentials potentials o × Tells (as_numbers 256) field.Routers routers o × Tells as_no field.Terminator terminator o
+    × Tells as_total field.Total total o)
+
+-- A body gives the fields of a command. Any body gives those of Hello; no body those of Compact yet.
 abbrev pub SaysFields : List ℕ → Command → Type 0
 SaysFields body command.Hello = ⊤
 SaysFields body (command.CreateIdentity name attributes) = SaysMade body name attributes
@@ -126,10 +162,19 @@ SaysFields body (command.ReportLatency link router latency) = SaysLatency body l
 SaysFields body (command.ReportState link router up) = SaysState body link router up
 SaysFields body (command.DeleteLink link) = SaysName body field.Link link
 SaysFields body (command.SetLeastRouterCost cost) = Says body (field.Cost ∷ []) (λ o. Tells as_link_cost field.Cost cost o)
+SaysFields body (command.CreateTerminator service router instance host cost precedence) = SaysMadeTerminator body service router instance host cost precedence
+SaysFields body (command.UpdateTerminator n cost precedence) = SaysUpdatedTerminator body n cost precedence
+SaysFields body (command.DeleteTerminator n) = SaysNo body n
+SaysFields body (command.CreateCircuit identity service ingress instance) = SaysAskedCircuit body identity service ingress instance
+SaysFields body (command.DeleteCircuit n) = SaysNo body n
+SaysFields body (command.Explain identity service ingress instance) = SaysAskedCircuit body identity service ingress instance
+SaysFields body (command.VerifyRoute identity service ingress instance chosen links potentials routers terminator total) =
+    SaysClaimedRoute body identity service ingress instance chosen links potentials routers terminator total
 SaysFields body (command.ShowGrants identity) = SaysName body field.Identity identity
 SaysFields body (command.ListServices identity) = SaysName body field.Identity identity
 SaysFields body command.ShowCounts = Says body [] (λ o. ⊤)
-SaysFields body _ = ⊥
+SaysFields body (command.ShowCircuit n) = SaysNo body n
+SaysFields body command.Compact = ⊥
 
 -- A body spells a command under a content type: the type is the command's and is read, and the body gives the command's fields.
 abbrev pub Spells : ℕ → List ℕ → Command → Type 0

@@ -54,8 +54,24 @@ pub(crate) const DELETE_LINK: u32 = 1204;
 
 pub(crate) const SET_LEAST_ROUTER_COST: u32 = 1210;
 
+pub(crate) const CREATE_TERMINATOR: u32 = 1300;
+
+pub(crate) const UPDATE_TERMINATOR: u32 = 1301;
+
+pub(crate) const DELETE_TERMINATOR: u32 = 1302;
+
+pub(crate) const CREATE_CIRCUIT: u32 = 1400;
+
+pub(crate) const DELETE_CIRCUIT: u32 = 1401;
+
+pub(crate) const EXPLAIN: u32 = 1402;
+
+pub(crate) const VERIFY_ROUTE: u32 = 1403;
+
 pub(crate) const SHOW_GRANTS: u32 = 1500;
 
 pub(crate) const LIST_SERVICES: u32 = 1501;
 
 pub(crate) const SHOW_COUNTS: u32 = 1502;
+
+pub(crate) const SHOW_CIRCUIT: u32 = 1503;

@@ -3,16 +3,20 @@
 
 mod attribute_lists;
 mod bodies;
+mod circuit_bodies;
 mod content_types;
 mod entity_bodies;
 mod field_words;
+mod item_lists;
 mod laws;
 mod link_bodies;
 mod optional_fields;
 mod policy_bodies;
 mod reading;
 mod role_lists;
+mod route_claims;
 mod show_bodies;
+mod terminator_bodies;
 #[cfg(test)]
 mod tests;
 mod worked;
@@ -20,6 +24,6 @@ mod worked;
 pub use laws::what_a_body_spells;
 pub use reading::{CodecFault, read};
 pub use worked::{
-    worked_bodies, worked_causes, worked_links, worked_lists, worked_policies,
-    worked_policy_causes, worked_shows, worked_sides,
+    worked_bodies, worked_causes, worked_circuits, worked_claims, worked_links, worked_lists,
+    worked_policies, worked_policy_causes, worked_shows, worked_sides, worked_terminators,
 };

@@ -1,9 +1,15 @@
-ghost use Rattle.std.specs.Prelude.{◌≡◌, false};
+ghost use Rattle.std.specs.Prelude.{◌≡◌, [], IfOk, None, false};
 ghost use Rattle.serde_json.specs.Find.{as_bool};
+ghost use Rattle.ctrl_model.specs.declared.kinds.Precedence.TheVariants.{Normal};
 ghost use Rattle.json_body.specs.FieldKinds.{as_number_in, object_of, optional};
+ghost use Rattle.command_codec.specs.FieldValues.{instance_of, as_instance, as_some_name};
+ghost use Rattle.command_codec.specs.FieldWords.{as_precedence};
+ghost use Rattle.command_codec.specs.ReadResults.{Gives};
 
-use ctrl_model::Field;
+use crate::field_words::precedence;
+use ctrl_model::{Field, Instance, Name, NameFault, Precedence};
 use json_body::{FieldFault, Fields};
+use std::alloc::{AllocError, Global};
 
 // The whole number from `low` to `high` that an object gives in a field, or another where it leaves the field out.
 pub(crate) fn number_or(
@@ -29,4 +35,51 @@ pub(crate) fn flag_or_not(fields: &Fields, field: Field) -> Result<bool, FieldFa
         return Ok(false);
     }
     fields.flag(field)
+}
+
+// The name that an object gives in a field, or none where it leaves the field out.
+pub(crate) fn name_or_none(
+    alloc: Global,
+    fields: &Fields,
+    field: Field,
+) -> Result<Option<Name>, FieldFault>
+    ensures { Gives FieldFault.NoMemory (λ n. n) result (optional as_some_name None field (object_of fields.now)) }
+{
+    if !fields.has(field) {
+        return Ok(None);
+    }
+    Ok(Some(fields.name(alloc, field)?))
+}
+
+// The instance that some bytes are, if they are one.
+fn instance_of(alloc: Global, bytes: &[u8]) -> Result<Option<Instance>, AllocError>
+    ensures { IfOk result (λ i. i ≡ instance_of bytes.now) }
+{
+    match Instance::of(alloc, bytes) {
+        Ok(instance) => Ok(Some(instance)),
+        Err(NameFault::BadName) => Ok(None),
+        Err(NameFault::NoMemory) => Err(AllocError),
+    }
+}
+
+// The instance that an object gives, or the empty one where it leaves the field out.
+pub(crate) fn instance_or_empty(alloc: Global, fields: &Fields) -> Result<Instance, FieldFault>
+    ensures { Gives FieldFault.NoMemory (λ i. i) result (optional as_instance [] Field.Instance (object_of fields.now)) }
+{
+    let text = if fields.has(Field::Instance) {
+        fields.text(Field::Instance)?
+    } else {
+        ""
+    };
+    instance_of(alloc, text.as_bytes())?.ok_or(FieldFault::WrongKind(Field::Instance))
+}
+
+// The precedence that an object gives, or the default one where it leaves the field out.
+pub(crate) fn precedence_or_default(fields: &Fields) -> Result<Precedence, FieldFault>
+    ensures { result ≡ optional as_precedence Normal Field.Precedence (object_of fields.now) }
+{
+    if !fields.has(Field::Precedence) {
+        return Ok(Precedence::Normal);
+    }
+    precedence(fields)
 }

@@ -1,17 +1,21 @@
 ghost use Rattle.std.specs.Prelude.{◌≡◌, [], ◌∷◌, codes, replicate, true, false, None, Some, Ok, Err};
-ghost use Rattle.serde_json.specs.Data.{null, string, array};
+ghost use Rattle.serde_json.specs.Data.{unsigned, null, number, string, array, object, no_members, member};
 ghost use Rattle.serde_json.specs.View.{items_of};
 ghost use Rattle.ctrl_model.specs.declared.commands.Command.TheVariants as command;
 ghost use Rattle.ctrl_model.specs.declared.refusals.Field.TheVariants as field;
 ghost use Rattle.ctrl_model.specs.declared.refusals.Reason.TheVariants as reason;
 ghost use Rattle.command_codec.specs.declared.reading.CodecFault.TheVariants.{UnsupportedType, BadBody};
+ghost use Rattle.ctrl_model.specs.declared.kinds.Precedence.TheVariants.{Required, Normal, Failed};
 ghost use Rattle.ctrl_model.specs.declared.kinds.Relation.TheVariants.{Dial, Bind};
 ghost use Rattle.ctrl_model.specs.declared.kinds.Semantic.TheVariants.{AnyOf, AllOf};
 ghost use Rattle.role_expr.specs.NameRepeats.{without_repeats};
 ghost use Rattle.command_codec.specs.NameLists.{as_attributes};
 ghost use Rattle.command_codec.specs.RoleLists.{as_side};
+ghost use Rattle.command_codec.specs.RouteClaims.{as_numbers, as_reach};
 ghost use Rattle.command_codec.specs.BodyMeaning.{meaning, meaning_in};
+ghost use Rattle.command_codec.specs.CircuitBodies.{circuit_table};
 ghost use Rattle.command_codec.specs.LinkBodies.{link_table};
+ghost use Rattle.command_codec.specs.TerminatorBodies.{terminator_table};
 
 /// Bodies that spell a command of each kind.
 pub fn worked_bodies()
@@ -60,7 +64,7 @@ pub fn worked_shows()
     ensures name { meaning 1500 (codes "{\"name\":\"ann\"}") ≡ Err (BadBody field.Identity reason.Missing) }
 {}
 
-/// Bodies of the commands on links, whose types are not in the table yet.
+/// Bodies of the commands on links, read by the table of these commands.
 pub fn worked_links()
     ensures made { meaning_in link_table 1200 (codes "{\"name\":\"l1\",\"a\":\"r1\",\"b\":\"r2\"}") ≡ Ok (command.CreateLink (codes "l1") (codes "r1") (codes "r2") 1 0 0) }
     ensures made_in_full { meaning_in link_table 1200 (codes "{\"name\":\"l1\",\"a\":\"r1\",\"b\":\"r2\",\"cost\":65535,\"latency_a\":60000,\"latency_b\":7}") ≡ Ok (command.CreateLink (codes "l1") (codes "r1") (codes "r2") 65535 60000 7) }
@@ -76,10 +80,58 @@ pub fn worked_links()
     ensures reported { meaning_in link_table 1203 (codes "{\"link\":\"l1\",\"router\":\"r2\",\"up\":0}") ≡ Err (BadBody field.Up reason.WrongKind) }
 {}
 
+/// Bodies of the commands on terminators, read by the table of these commands.
+pub fn worked_terminators()
+    ensures made { meaning_in terminator_table 1300 (codes "{\"service\":\"web\",\"router\":\"r1\"}") ≡ Ok (command.CreateTerminator (codes "web") (codes "r1") [] None 0 Normal) }
+    ensures made_in_full { meaning_in terminator_table 1300 (codes "{\"service\":\"web\",\"router\":\"r1\",\"instance\":\"i-1\",\"host\":\"ann\",\"cost\":65535,\"precedence\":\"required\"}")
+        ≡ Ok (command.CreateTerminator (codes "web") (codes "r1") (codes "i-1") (Some (codes "ann")) 65535 Required) }
+    ensures empty_instance { meaning_in terminator_table 1300 (codes "{\"service\":\"web\",\"router\":\"r1\",\"instance\":\"\"}") ≡ Ok (command.CreateTerminator (codes "web") (codes "r1") [] None 0 Normal) }
+    ensures updated { meaning_in terminator_table 1301 (codes "{\"no\":4294967295,\"cost\":0,\"precedence\":\"failed\"}") ≡ Ok (command.UpdateTerminator 4294967295 0 Failed) }
+    ensures deleted { meaning_in terminator_table 1302 (codes "{\"no\":1}") ≡ Ok (command.DeleteTerminator 1) }
+    ensures no_instance { meaning_in terminator_table 1300 (codes "{\"service\":\"web\",\"router\":\"r1\",\"instance\":\"a b\"}") ≡ Err (BadBody field.Instance reason.WrongKind) }
+    ensures null_host { meaning_in terminator_table 1300 (codes "{\"service\":\"web\",\"router\":\"r1\",\"host\":null}") ≡ Err (BadBody field.Host reason.WrongKind) }
+    ensures normal { meaning_in terminator_table 1300 (codes "{\"service\":\"web\",\"router\":\"r1\",\"precedence\":\"normal\"}") ≡ Err (BadBody field.Precedence reason.WrongKind) }
+    ensures zero { meaning_in terminator_table 1302 (codes "{\"no\":0}") ≡ Err (BadBody field.No reason.WrongKind) }
+    ensures beyond { meaning_in terminator_table 1302 (codes "{\"no\":4294967296}") ≡ Err (BadBody field.No reason.WrongKind) }
+    ensures no_cost { meaning_in terminator_table 1301 (codes "{\"no\":1,\"precedence\":\"failed\"}") ≡ Err (BadBody field.Cost reason.Missing) }
+{}
+
+/// Bodies of the commands on circuits, read by the table of these commands.
+pub fn worked_circuits()
+    ensures made { meaning_in circuit_table 1400 (codes "{\"identity\":\"ann\",\"service\":\"web\"}") ≡ Ok (command.CreateCircuit (codes "ann") (codes "web") None []) }
+    ensures made_in_full { meaning_in circuit_table 1400 (codes "{\"identity\":\"ann\",\"service\":\"web\",\"ingress\":\"r1\",\"instance\":\"i-1\"}") ≡ Ok (command.CreateCircuit (codes "ann") (codes "web") (Some (codes "r1")) (codes "i-1")) }
+    ensures deleted { meaning_in circuit_table 1401 (codes "{\"no\":7}") ≡ Ok (command.DeleteCircuit 7) }
+    ensures explained { meaning_in circuit_table 1402 (codes "{\"identity\":\"ann\",\"service\":\"web\",\"instance\":\"\"}") ≡ Ok (command.Explain (codes "ann") (codes "web") None []) }
+    ensures shown { meaning_in circuit_table 1503 (codes "{\"no\":7}") ≡ Ok (command.ShowCircuit 7) }
+    ensures zero { meaning_in circuit_table 1401 (codes "{\"no\":0}") ≡ Err (BadBody field.No reason.WrongKind) }
+    ensures no_instance { meaning_in circuit_table 1400 (codes "{\"identity\":\"ann\",\"service\":\"web\",\"instance\":\"a b\"}") ≡ Err (BadBody field.Instance reason.WrongKind) }
+    ensures null_ingress { meaning_in circuit_table 1400 (codes "{\"identity\":\"ann\",\"service\":\"web\",\"ingress\":null,\"instance\":1}") ≡ Err (BadBody field.Ingress reason.WrongKind) }
+{}
+
+/// Claims of routes: null is no path, and a fault anywhere in a list is one of its field.
+pub fn worked_claims()
+    ensures claimed { meaning_in circuit_table 1403 (codes "{\"identity\":\"ann\",\"service\":\"web\",\"chosen\":\"r1\",\"links\":[1],\"potentials\":[{\"router\":3,\"values\":[42,0,null]}],\"routers\":[1,3],\"terminator\":1,\"total\":42}")
+        ≡ Ok (command.VerifyRoute (codes "ann") (codes "web") None [] (codes "r1") (1 ∷ []) (record { router = record { 0 = 3 }; values = 42 ∷ 0 ∷ 18446744073709551615 ∷ [] } ∷ []) (1 ∷ 3 ∷ []) 1 42) }
+    ensures empty { meaning_in circuit_table 1403 (codes "{\"identity\":\"ann\",\"service\":\"web\",\"chosen\":\"r1\",\"links\":[],\"potentials\":[],\"routers\":[],\"terminator\":4294967295,\"total\":0}")
+        ≡ Ok (command.VerifyRoute (codes "ann") (codes "web") None [] (codes "r1") [] [] [] 4294967295 0) }
+    ensures no_link { meaning_in circuit_table 1403 (codes "{\"identity\":\"ann\",\"service\":\"web\",\"chosen\":\"r1\",\"links\":[0],\"potentials\":[{\"router\":3,\"values\":[42,0,null]}],\"routers\":[1,3],\"terminator\":1,\"total\":42}") ≡ Err (BadBody field.Links reason.WrongKind) }
+    ensures no_values { meaning_in circuit_table 1403 (codes "{\"identity\":\"ann\",\"service\":\"web\",\"chosen\":\"r1\",\"links\":[1],\"potentials\":[{\"router\":3}],\"routers\":[1,3],\"terminator\":1,\"total\":42}") ≡ Err (BadBody field.Potentials reason.WrongKind) }
+    ensures more_keys { meaning_in circuit_table 1403 (codes "{\"identity\":\"ann\",\"service\":\"web\",\"chosen\":\"r1\",\"links\":[1],\"potentials\":[{\"router\":3,\"values\":[],\"x\":1}],\"routers\":[1,3],\"terminator\":1,\"total\":42}") ≡ Err (BadBody field.Potentials reason.WrongKind) }
+    ensures no_router { meaning_in circuit_table 1403 (codes "{\"identity\":\"ann\",\"service\":\"web\",\"chosen\":\"r1\",\"links\":[1],\"potentials\":[{\"router\":0,\"values\":[]}],\"routers\":[1,3],\"terminator\":1,\"total\":42}") ≡ Err (BadBody field.Potentials reason.WrongKind) }
+    ensures beyond { meaning_in circuit_table 1403 (codes "{\"identity\":\"ann\",\"service\":\"web\",\"chosen\":\"r1\",\"links\":[1],\"potentials\":[{\"router\":3,\"values\":[4294967296]}],\"routers\":[1,3],\"terminator\":1,\"total\":42}") ≡ Err (BadBody field.Potentials reason.WrongKind) }
+    ensures no_object { meaning_in circuit_table 1403 (codes "{\"identity\":\"ann\",\"service\":\"web\",\"chosen\":\"r1\",\"links\":[1],\"potentials\":[[3,[]]],\"routers\":[1,3],\"terminator\":1,\"total\":42}") ≡ Err (BadBody field.Potentials reason.WrongKind) }
+    ensures no_total { meaning_in circuit_table 1403 (codes "{\"identity\":\"ann\",\"service\":\"web\",\"chosen\":\"r1\",\"links\":[1],\"potentials\":[{\"router\":3,\"values\":[42,0,null]}],\"routers\":[1,3],\"terminator\":1,\"total\":-1}") ≡ Err (BadBody field.Total reason.WrongKind) }
+    ensures most_links { as_numbers 255 (array (items_of (replicate 255 (number (unsigned 1))))) ≡ Some (replicate 255 1) }
+    ensures more_links { as_numbers 255 (array (items_of (replicate 256 (number (unsigned 1))))) ≡ None }
+    ensures most_values { as_reach (object (member (codes "router") (number (unsigned 1)) (member (codes "values") (array (items_of (replicate 256 null))) no_members))) ≡ Some (record { router = record { 0 = 1 }; values = replicate 256 18446744073709551615 }) }
+    ensures more_values { as_reach (object (member (codes "router") (number (unsigned 1)) (member (codes "values") (array (items_of (replicate 257 null))) no_members))) ≡ None }
+{}
+
 /// Bodies that spell no command, each with its first cause: of fields that say nothing of their kind the first counts, and
 /// another key only behind them.
 pub fn worked_causes()
     ensures unsupported { meaning 999 (codes "{\"name\":\"ann\"}") ≡ Err UnsupportedType }
+    ensures compact { meaning 1510 (codes "{}") ≡ Err UnsupportedType }
     ensures reply { meaning 2 (codes "{\"name\":\"ann\"}") ≡ Err UnsupportedType }
     ensures no_text { meaning 1000 (codes "abc") ≡ Err (BadBody field.Nothing reason.NotObject) }
     ensures no_bytes { meaning 1000 [] ≡ Err (BadBody field.Nothing reason.NotObject) }
@@ -107,7 +159,6 @@ pub fn worked_policy_causes()
     ensures all_beside { meaning 1110 (codes "{\"name\":\"p\",\"semantic\":\"AnyOf\",\"identity_roles\":[\"#a\"],\"router_roles\":[\"#all\",\"#a\"]}") ≡ Err (BadBody field.RouterRoles reason.WrongKind) }
     ensures no_role { meaning 1110 (codes "{\"name\":\"p\",\"semantic\":\"AnyOf\",\"identity_roles\":[\"ann\"],\"router_roles\":[]}") ≡ Err (BadBody field.IdentityRoles reason.WrongKind) }
     ensures type_of_others { meaning 1110 (codes "{\"name\":\"p\",\"type\":\"Dial\",\"semantic\":\"AnyOf\",\"identity_roles\":[],\"router_roles\":[]}") ≡ Err (BadBody field.Nothing reason.Unknown) }
-    ensures link { meaning 1200 (codes "{\"name\":\"l1\",\"a\":\"r1\",\"b\":\"r2\"}") ≡ Err UnsupportedType }
 {}
 
 /// Lists of attributes: repeats go at their later places, each value has to be a name, and at most 64 may be sent, repeats

@@ -57,15 +57,15 @@ fn within(low: u32, high: u32, number: u64) -> Option<u32>
     }
 }
 
-// The whole number from `low` to `high` that a value is, if it is one.
-pub(crate) fn as_number_in(value: &Value, low: u32, high: u32) -> Option<u32>
+/// The whole number from `low` to `high` that a value is, if it is one (docs/FORMATS.md, "Bodies").
+pub fn as_number_in(value: &Value, low: u32, high: u32) -> Option<u32>
     ensures { result ≡ as_number_in low high (view value.now) }
 {
     within(low, high, value.as_u64()?)
 }
 
-// The list of at most `most` values that a value is, if it is one.
-pub(crate) fn as_list_of(value: &Value, most: usize) -> Option<&[Value]>
+/// The list of at most `most` values that a value is, if it is one.
+pub fn as_list_of(value: &Value, most: usize) -> Option<&[Value]>
     ensures { option_map (λ vs. items_view vs.now) result ≡ as_list_of most (view value.now) }
 {
     let items = value.as_array()?;

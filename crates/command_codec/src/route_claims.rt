@@ -1,0 +1,132 @@
+ghost use Rattle.std.specs.Prelude.{◌≡◌, ◌||◌, codes, IfOk, option_map, string_bytes};
+ghost use Rattle.std.specs.List.{list_all};
+ghost use Rattle.std.specs.Str.{bytes_eq};
+ghost use Rattle.std.specs.BTreeMap.{keys};
+ghost use Rattle.serde_json.specs.View.{view};
+ghost use Rattle.ctrl_model.specs.Words.{word_of};
+ghost use Rattle.json_body.specs.FieldKinds.{object_of, required};
+ghost use Rattle.command_codec.specs.ReadResults.{Gives};
+ghost use Rattle.command_codec.specs.RouteClaims.{as_numbers, as_potentials, has_reach_keys, router_in, values_in};
+
+use crate::item_lists::{ListItem, each_in, list};
+use ctrl_model::{Field, Numbers, Potentials, Reach, Reaches, RouterNo};
+use json_body::{FieldFault, Fields, as_list_of, as_number_in};
+use serde_json::{Map, Value};
+use std::alloc::{AllocError, Global};
+
+// How many values a potential may have, and how many potentials a claim.
+const MOST_VALUES: usize = 256;
+
+const MOST_POTENTIALS: usize = 256;
+
+// The key of the values of a potential.
+const VALUES: &str = "values";
+
+// The number of a record.
+impl ListItem for u32 {
+    ghost use Rattle.command_codec.specs.FieldValues.{as_no};
+
+    ghost kind = { as_no };
+
+    fn said_by(_alloc: Global, value: &Value) -> Result<Option<u32>, AllocError> {
+        Ok(as_number_in(value, 1, u32::MAX))
+    }
+}
+
+// A value of a potential.
+impl ListItem for u64 {
+    ghost use Rattle.command_codec.specs.RouteClaims.{as_value};
+
+    ghost kind = { as_value };
+
+    fn said_by(_alloc: Global, value: &Value) -> Result<Option<u64>, AllocError> {
+        if value.is_null() {
+            return Ok(Some(u64::MAX));
+        }
+        Ok(as_number_in(value, 0, u32::MAX).map(u64::from))
+    }
+}
+
+// A potential.
+impl ListItem for Reach {
+    ghost use Rattle.command_codec.specs.RouteClaims.{as_reach};
+
+    ghost kind = { as_reach };
+
+    fn said_by(alloc: Global, value: &Value) -> Result<Option<Reach>, AllocError> {
+        if !has_reach_keys(value) {
+            return Ok(None);
+        }
+        let Some(router) = router_in(value) else {
+            return Ok(None);
+        };
+        let Some(values) = values_in(alloc, value)? else {
+            return Ok(None);
+        };
+        Ok(Some(Reach {
+            router: RouterNo(router),
+            values: Potentials::of(values),
+        }))
+    }
+}
+
+fn is_reach_key(key: &str) -> bool
+    ensures { result ≡ (bytes_eq key.now (word_of Field.Router) || bytes_eq key.now (codes "values")) }
+{
+    key == "router" || key == VALUES
+}
+
+fn are_reach_keys(members: &Map<String, Value>) -> bool
+    ensures { result ≡ list_all (λ k. bytes_eq (string_bytes k) (word_of Field.Router) || bytes_eq (string_bytes k) (codes "values")) (keys members.now) }
+{
+    members.keys().all(|key| is_reach_key(key.as_str()))
+}
+
+// Whether a value is an object without other keys than those of a potential.
+fn has_reach_keys(value: &Value) -> bool
+    ensures { result ≡ has_reach_keys (view value.now) }
+{
+    match value.as_object() {
+        Some(members) => are_reach_keys(members),
+        None => false,
+    }
+}
+
+// The number of the router of a potential.
+fn router_in(value: &Value) -> Option<u32>
+    ensures { result ≡ router_in (view value.now) }
+{
+    as_number_in(value.get("router")?, 1, u32::MAX)
+}
+
+// The values of a potential.
+fn values_in(alloc: Global, value: &Value) -> Result<Option<Vec<u64>>, AllocError>
+    ensures { IfOk result (λ vs. option_map (λ v. v.items) vs ≡ values_in (view value.now)) }
+{
+    let Some(values) = value.get(VALUES) else {
+        return Ok(None);
+    };
+    match as_list_of(values, MOST_VALUES) {
+        Some(values) => each_in(alloc, values),
+        None => Ok(None),
+    }
+}
+
+// The numbers of records, at most so many, that an object gives in a field.
+pub(crate) fn numbers(
+    alloc: Global,
+    fields: &Fields,
+    field: Field,
+    most: usize,
+) -> Result<Numbers, FieldFault>
+    ensures { Gives FieldFault.NoMemory (λ n. n) result (required (as_numbers most) field (object_of fields.now)) }
+{
+    Ok(Numbers::of(list(alloc, fields, field, most)?))
+}
+
+// The potentials that an object gives.
+pub(crate) fn potentials(alloc: Global, fields: &Fields) -> Result<Reaches, FieldFault>
+    ensures { Gives FieldFault.NoMemory (λ r. r) result (required as_potentials Field.Potentials (object_of fields.now)) }
+{
+    Ok(Reaches::of(list(alloc, fields, Field::Potentials, MOST_POTENTIALS)?))
+}
