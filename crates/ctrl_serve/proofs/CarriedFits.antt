@@ -1,16 +1,24 @@
 -- What a core carries out so far is answered within the limits of a reply.
-use Rattle.std.proofs.Common.{◌≡◌, true, false, Option, None, Some, refl}
-use Rattle.std.proofs.lemmas.Bool.{false≢true}
+use Rattle.std.proofs.Common.{◌≡◌, ℕ, ◌≤◌, true, false, Bool, List, Option, None, Some, unwrap_or, nat_le, length, map, filter, refl, arith}
+use Rattle.std.proofs.lemmas.Bool.{false≢true, le-leb, and_from}
+use Rattle.std.proofs.lemmas.List.{length-map}
+use Rattle.ctrl_model.proofs.NumberedLaws.{length-filter-le}
 use Rattle.ctrl_model.specs.declared.commands.Command.{Command}
 use Rattle.ctrl_model.specs.declared.commands.Command.TheVariants as command
 use Rattle.ctrl_model.specs.declared.refusals.Refusal.{Refusal}
-use Rattle.ctrl_model.specs.declared.refusals.Field.TheVariants.{Name}
+use Rattle.ctrl_model.specs.declared.kinds.Relation.TheVariants.{Dial, Bind, IdentityRouter, ServiceRouter}
+use Rattle.ctrl_model.specs.declared.kinds.Side.{Side}
+use Rattle.ctrl_model.specs.declared.refusals.Field.TheVariants.{Identity, Name}
 use Rattle.ctrl_model.specs.declared.replies.Reply.{Reply}
 use Rattle.ctrl_model.specs.declared.replies.Reply.TheVariants.{Done, Made}
-use Rattle.ctrl_model.specs.State.{State, entity_named, router_named}
-use Rattle.ctrl_model.specs.Rules.{carried_out, unknown_if_absent}
+use Rattle.ctrl_model.specs.State.{State, Entity, Policy, as_entity, entity_named, router_named, policy_named}
+use Rattle.ctrl_model.specs.Rules.{carried_out, shown, unknown_if_absent}
 use Rattle.ctrl_model.specs.EntityCommands.{after_create_identity, after_create_router, after_create_service, after_delete_identity, after_delete_router, after_delete_service, after_mark_router, after_update_identity, after_update_router, after_update_service, refusal_of_create_identity, refusal_of_create_router, refusal_of_create_service, refusal_of_update_identity, refusal_of_update_router, refusal_of_update_service}
-use Rattle.ctrl_model.specs.Controller.{carry}
+use Rattle.ctrl_model.specs.Grants.{count, is_granted}
+use Rattle.ctrl_model.specs.PolicyCommands.{after_create_service_policy, after_create_edge_router_policy, after_create_service_edge_router_policy, after_update_service_policy, after_update_edge_router_policy, after_update_service_edge_router_policy, after_delete_service_policy, after_delete_edge_router_policy, after_delete_service_edge_router_policy, refusal_of_create_service_policy, refusal_of_create_edge_router_policy, refusal_of_create_service_edge_router_policy, refusal_of_update_service_policy, refusal_of_update_edge_router_policy, refusal_of_update_service_edge_router_policy}
+use Rattle.ctrl_model.specs.ShowCommands.{tallies, tally_of, router_entities, grants_of, services_of}
+use Rattle.ctrl_model.specs.ValidState.{ValidState}
+use Rattle.ctrl_model.specs.Controller.{policy, carry}
 use Rattle.ctrl_core.specs.CarriedCommands.{is_carried}
 use Rattle.reply_codec.specs.ReplyLimits.{keeps_limits}
 
@@ -19,29 +27,83 @@ pub carried_out_fits : (r : Option Refusal) (s : State) (reply : Reply) (t : Sta
 carried_out_fits None s reply t fits = fits
 carried_out_fits (Some refusal) s reply t fits = refl
 
+-- So does the answer of a command without an effect.
+pub shown_fits : (r : Option Refusal) (s : State) (reply : Reply) → keeps_limits reply ≡ true → keeps_limits (shown r s reply).0 ≡ true
+shown_fits None s reply fits = fits
+shown_fits (Some refusal) s reply fits = refl
+
+-- What passes a test among some rows is no more than the rows.
+few_mapped : {X Y : Type 0} (f : X → Y) (test : X → Bool) (rows : List X) (most : ℕ) → length rows ≤ most → nat_le (length (map f (filter test rows))) most ≡ true
+few_mapped f test rows most few =
+    le-leb _ _ (omega (arith, few, length-map (filter test rows) f, length-filter-le test rows))
+
+-- In a valid state an identity is granted no more services and routers than there may be.
+pub grants_fit : (i : ℕ) (s : State) → ValidState s → keeps_limits (grants_of i s) ≡ true
+grants_fit i s valid =
+    let services = valid.services.numbers.few in
+    let routers : length (router_entities s) ≤ 256 = omega (arith, valid.routers.numbers.few, length-map {B = ℕ × Entity} s.routers (λ row. (row.0, as_entity row.1))) in
+    and_from _ _ (few_mapped (tally_of (count Bind s i)) _ s.services 512 services)
+    (and_from _ _ (few_mapped (tally_of (count Dial s i)) _ s.services 512 services)
+    (few_mapped (tally_of (count IdentityRouter s i)) _ (router_entities s) 256 routers))
+
+-- And it may dial no more.
+pub services_fit : (i : ℕ) (s : State) → ValidState s → keeps_limits (services_of i s) ≡ true
+services_fit i s valid = few_mapped _ _ s.services 512 valid.services.numbers.few
+
 -- The answer to each of these commands fits.
-pub carried_fits : (c : Command) (s : State) → is_carried c ≡ true → keeps_limits (carry c s).0 ≡ true
-carried_fits command.Hello s carried = refl
-carried_fits (command.CreateIdentity name attributes) s carried =
+pub carried_fits : (c : Command) (s : State) → ValidState s → is_carried c ≡ true → keeps_limits (carry c s).0 ≡ true
+carried_fits command.Hello s valid carried = refl
+carried_fits (command.CreateIdentity name attributes) s valid carried =
     carried_out_fits (refusal_of_create_identity name attributes s) s (Made s.next_identity) (after_create_identity name attributes s) refl
-carried_fits (command.UpdateIdentity name attributes) s carried =
+carried_fits (command.UpdateIdentity name attributes) s valid carried =
     carried_out_fits (refusal_of_update_identity name attributes s) s Done (after_update_identity name attributes s) refl
-carried_fits (command.DeleteIdentity name) s carried =
+carried_fits (command.DeleteIdentity name) s valid carried =
     carried_out_fits (unknown_if_absent Name (entity_named s.identities name)) s Done (after_delete_identity name s) refl
-carried_fits (command.CreateService name attributes) s carried =
+carried_fits (command.CreateService name attributes) s valid carried =
     carried_out_fits (refusal_of_create_service name attributes s) s (Made s.next_service) (after_create_service name attributes s) refl
-carried_fits (command.UpdateService name attributes) s carried =
+carried_fits (command.UpdateService name attributes) s valid carried =
     carried_out_fits (refusal_of_update_service name attributes s) s Done (after_update_service name attributes s) refl
-carried_fits (command.DeleteService name) s carried =
+carried_fits (command.DeleteService name) s valid carried =
     carried_out_fits (unknown_if_absent Name (entity_named s.services name)) s Done (after_delete_service name s) refl
-carried_fits (command.CreateRouter name attributes cost no_traversal) s carried =
+carried_fits (command.CreateRouter name attributes cost no_traversal) s valid carried =
     carried_out_fits (refusal_of_create_router name attributes cost no_traversal s) s (Made s.next_router) (after_create_router name attributes cost no_traversal s) refl
-carried_fits (command.UpdateRouter name attributes cost no_traversal) s carried =
+carried_fits (command.UpdateRouter name attributes cost no_traversal) s valid carried =
     carried_out_fits (refusal_of_update_router name attributes cost no_traversal s) s Done (after_update_router name attributes cost no_traversal s) refl
-carried_fits (command.DeleteRouter name) s carried =
+carried_fits (command.DeleteRouter name) s valid carried =
     carried_out_fits (unknown_if_absent Name (router_named s.routers name)) s Done (after_delete_router name s) refl
-carried_fits (command.ConnectRouter name) s carried =
+carried_fits (command.ConnectRouter name) s valid carried =
     carried_out_fits (unknown_if_absent Name (router_named s.routers name)) s Done (after_mark_router name true s) refl
-carried_fits (command.DisconnectRouter name) s carried =
+carried_fits (command.DisconnectRouter name) s valid carried =
     carried_out_fits (unknown_if_absent Name (router_named s.routers name)) s Done (after_mark_router name false s) refl
-carried_fits _ s carried = absurd (false≢true carried)
+carried_fits (command.CreateServicePolicy name relation semantic left right) s valid carried =
+    let p = policy name relation semantic left right in
+    carried_out_fits (refusal_of_create_service_policy p s) s (Made s.next_service_policy) (after_create_service_policy p s) refl
+carried_fits (command.UpdateServicePolicy name relation semantic left right) s valid carried =
+    let p = policy name relation semantic left right in
+    carried_out_fits (refusal_of_update_service_policy p s) s Done (after_update_service_policy p s) refl
+carried_fits (command.DeleteServicePolicy name) s valid carried =
+    carried_out_fits (unknown_if_absent Name (policy_named s.service_policies name)) s Done (after_delete_service_policy name s) refl
+carried_fits (command.CreateEdgeRouterPolicy name semantic left right) s valid carried =
+    let p = policy name IdentityRouter semantic left right in
+    carried_out_fits (refusal_of_create_edge_router_policy p s) s (Made s.next_edge_router_policy) (after_create_edge_router_policy p s) refl
+carried_fits (command.UpdateEdgeRouterPolicy name semantic left right) s valid carried =
+    let p = policy name IdentityRouter semantic left right in
+    carried_out_fits (refusal_of_update_edge_router_policy p s) s Done (after_update_edge_router_policy p s) refl
+carried_fits (command.DeleteEdgeRouterPolicy name) s valid carried =
+    carried_out_fits (unknown_if_absent Name (policy_named s.edge_router_policies name)) s Done (after_delete_edge_router_policy name s) refl
+carried_fits (command.CreateServiceEdgeRouterPolicy name semantic left right) s valid carried =
+    let p = policy name ServiceRouter semantic left right in
+    carried_out_fits (refusal_of_create_service_edge_router_policy p s) s (Made s.next_service_edge_router_policy) (after_create_service_edge_router_policy p s) refl
+carried_fits (command.UpdateServiceEdgeRouterPolicy name semantic left right) s valid carried =
+    let p = policy name ServiceRouter semantic left right in
+    carried_out_fits (refusal_of_update_service_edge_router_policy p s) s Done (after_update_service_edge_router_policy p s) refl
+carried_fits (command.DeleteServiceEdgeRouterPolicy name) s valid carried =
+    carried_out_fits (unknown_if_absent Name (policy_named s.service_edge_router_policies name)) s Done (after_delete_service_edge_router_policy name s) refl
+carried_fits (command.ShowGrants identity) s valid carried =
+    let i = unwrap_or (entity_named s.identities identity) 0 in
+    shown_fits (unknown_if_absent Identity (entity_named s.identities identity)) s (grants_of i s) (grants_fit i s valid)
+carried_fits (command.ListServices identity) s valid carried =
+    let i = unwrap_or (entity_named s.identities identity) 0 in
+    shown_fits (unknown_if_absent Identity (entity_named s.identities identity)) s (services_of i s) (services_fit i s valid)
+carried_fits command.ShowCounts s valid carried = refl
+carried_fits _ s valid carried = absurd (false≢true carried)

@@ -1,10 +1,46 @@
 -- What the worked examples of answers ask.
-use Rattle.std.specs.Prelude.{ℕ, List, []}
+use Rattle.std.specs.Prelude.{ℕ, List, [], ◌∷◌, ◌++◌, codes}
+use Rattle.channel_frame.specs.declared.frames.Frame.{Frame}
 use Rattle.ctrl_model.specs.declared.kinds.Who.TheVariants.{Admin}
 use Rattle.ctrl_model.specs.declared.replies.Reply.{Reply}
-use Rattle.ctrl_model.specs.State.{start}
+use Rattle.ctrl_model.specs.State.{State, start}
 use Rattle.ctrl_serve.specs.FrameAnswer.{frame_answer}
 
--- The reply to one frame of a content type and a body, without headers, at the start.
+-- A frame of a content type and a body, without headers.
+abbrev pub frame_of : ℕ → List ℕ → Frame
+frame_of content body = record { content = content; sequence = 7; headers = []; body = body }
+
+-- The state behind some frames, each given by its content type and its body.
+abbrev pub state_behind : List (ℕ × List ℕ) → State → State
+state_behind [] s = s
+state_behind (x ∷ xs) s = state_behind xs (frame_answer Admin (frame_of x.0 x.1) s).1
+
+-- The reply to one frame behind others, which come from the start.
+abbrev pub reply_behind : List (ℕ × List ℕ) → ℕ → List ℕ → Reply
+reply_behind frames content body = (frame_answer Admin (frame_of content body) (state_behind frames start)).0
+
+-- The reply to one frame at the start.
 abbrev pub reply_at_start : ℕ → List ℕ → Reply
-reply_at_start content body = (frame_answer Admin record { content = content; sequence = 7; headers = []; body = body } start).0
+reply_at_start content body = reply_behind [] content body
+
+-- An identity, a service, and a policy by which the one may dial the other, each by its name.
+abbrev pub ann_may_dial : List (ℕ × List ℕ)
+ann_may_dial =
+    (1000, codes "{\"name\":\"ann\"}")
+    ∷ (1010, codes "{\"name\":\"web\"}")
+    ∷ (1100, codes "{\"name\":\"p\",\"type\":\"Dial\",\"semantic\":\"AllOf\",\"identity_roles\":[\"@ann\"],\"service_roles\":[\"@web\"]}")
+    ∷ []
+
+-- And a second policy, by which every identity may dial every service.
+abbrev pub all_may_dial : List (ℕ × List ℕ)
+all_may_dial =
+    ann_may_dial
+    ++ ((1100, codes "{\"name\":\"q\",\"type\":\"Dial\",\"semantic\":\"AnyOf\",\"identity_roles\":[\"#all\"],\"service_roles\":[\"#all\"]}") ∷ [])
+
+-- The first policy goes.
+abbrev pub first_goes : List (ℕ × List ℕ)
+first_goes = (1102, codes "{\"name\":\"p\"}") ∷ []
+
+-- The identity goes, and another one of its name comes.
+abbrev pub ann_comes_again : List (ℕ × List ℕ)
+ann_comes_again = (1002, codes "{\"name\":\"ann\"}") ∷ (1000, codes "{\"name\":\"ann\"}") ∷ []

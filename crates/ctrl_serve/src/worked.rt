@@ -7,7 +7,7 @@ ghost use Rattle.ctrl_model.specs.declared.refusals.Refusal.TheVariants as refus
 ghost use Rattle.ctrl_model.specs.declared.replies.Reply.TheVariants as reply;
 ghost use Rattle.ctrl_serve.specs.CommandLine.{Dry, form_of};
 ghost use Rattle.ctrl_serve.specs.FrameAnswer.{replies};
-ghost use Rattle.ctrl_serve.specs.WorkedAnswers.{reply_at_start};
+ghost use Rattle.ctrl_serve.specs.WorkedAnswers.{reply_at_start, reply_behind, ann_may_dial, all_may_dial, first_goes, ann_comes_again};
 ghost use Rattle.reply_codec.specs.ReplyFrame.{reply_frame};
 ghost use Rattle.ctrl_serve.specs.Ending.{ending};
 ghost use Rattle.ctrl_serve.specs.declared.status.Status.TheVariants as status;
@@ -31,6 +31,25 @@ pub fn worked_answers()
     ensures two_keys { reply_at_start 1000 (codes "{\"name\":\"a\",\"x\":1}") ≡ reply.Refused (refusal.BadBody field.Nothing reason.Unknown) }
     ensures list { reply_at_start 1000 (codes "[1]") ≡ reply.Refused (refusal.BadBody field.Nothing reason.NotObject) }
     ensures unsupported { reply_at_start 2 [] ≡ reply.Refused refusal.UnsupportedType }
+{}
+
+/// Answers behind policies: their grants are counted, a policy by names means the entities that were present, and role lists are
+/// refused where they spell no side or name what is absent.
+pub fn worked_policies()
+    ensures once { reply_behind ann_may_dial 1500 (codes "{\"identity\":\"ann\"}")
+        ≡ reply.Grants [] (record { name = codes "web"; count = 1 } ∷ []) [] }
+    ensures twice { reply_behind all_may_dial 1500 (codes "{\"identity\":\"ann\"}")
+        ≡ reply.Grants [] (record { name = codes "web"; count = 2 } ∷ []) [] }
+    ensures once_again { reply_behind (all_may_dial ++ first_goes) 1500 (codes "{\"identity\":\"ann\"}")
+        ≡ reply.Grants [] (record { name = codes "web"; count = 1 } ∷ []) [] }
+    ensures listed { reply_behind (all_may_dial ++ first_goes) 1501 (codes "{\"identity\":\"ann\"}") ≡ reply.Services (codes "web" ∷ []) }
+    ensures none { reply_behind (ann_may_dial ++ first_goes) 1500 (codes "{\"identity\":\"ann\"}") ≡ reply.Grants [] [] [] }
+    ensures another { reply_behind (ann_may_dial ++ ann_comes_again) 1500 (codes "{\"identity\":\"ann\"}") ≡ reply.Grants [] [] [] }
+    ensures counted { reply_behind ann_may_dial 1502 (codes "{}") ≡ reply.Counts 0 1 1 0 1 0 1 0 }
+    ensures beside { reply_at_start 1100 (codes "{\"name\":\"p\",\"type\":\"Dial\",\"semantic\":\"AnyOf\",\"identity_roles\":[\"#all\",\"#a\"],\"service_roles\":[]}")
+        ≡ reply.Refused (refusal.BadBody field.IdentityRoles reason.WrongKind) }
+    ensures absent { reply_at_start 1100 (codes "{\"name\":\"p\",\"type\":\"Dial\",\"semantic\":\"AnyOf\",\"identity_roles\":[\"@q\"],\"service_roles\":[]}")
+        ≡ reply.Refused (refusal.UnknownRef field.IdentityRoles (codes "q")) }
 {}
 
 /// The replies to one frame that creates ann, to the same frame twice, and to a frame before a cut one; and how these inputs

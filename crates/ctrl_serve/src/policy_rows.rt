@@ -1,0 +1,258 @@
+//! Rows of commands on policies, and of what is then shown. The rows of a table are one run.
+
+use crate::bounds::Bounds;
+use crate::memory_forms::{MemoryDesk, MemorySource, NEVER};
+use crate::status::Status;
+use crate::top::run_within;
+use std::alloc::{AllocError, Global};
+use std::process::Abort;
+use std::test::Fail;
+
+/// A content type, the body of the frame, and the body of its reply.
+type Row = (u32, &'static str, &'static str);
+
+/// The sequence number of each request.
+const REQUEST: u32 = 7;
+
+/// What entries match: both attributes, one of them, a name, nothing, and `#all`, for which an attribute `all` is as any other.
+const ROLES: [Row; 26] = [
+    (1010, r#"{"name":"web"}"#, r#"{"no":1}"#),
+    (
+        1000,
+        r#"{"name":"ab","attributes":["a","b"]}"#,
+        r#"{"no":1}"#,
+    ),
+    (1000, r#"{"name":"a","attributes":["a"]}"#, r#"{"no":2}"#),
+    (1000, r#"{"name":"x"}"#, r#"{"no":3}"#),
+    (
+        1100,
+        r##"{"name":"p","type":"Dial","semantic":"AllOf","identity_roles":["#a","#b"],"service_roles":["@web"]}"##,
+        r#"{"no":1}"#,
+    ),
+    (
+        1500,
+        r#"{"identity":"ab"}"#,
+        r#"{"bind":[],"dial":[["web",1]],"routers":[]}"#,
+    ),
+    (
+        1500,
+        r#"{"identity":"a"}"#,
+        r#"{"bind":[],"dial":[],"routers":[]}"#,
+    ),
+    (
+        1500,
+        r#"{"identity":"x"}"#,
+        r#"{"bind":[],"dial":[],"routers":[]}"#,
+    ),
+    (
+        1101,
+        r##"{"name":"p","type":"Dial","semantic":"AnyOf","identity_roles":["#a","#b"],"service_roles":["@web"]}"##,
+        r#"{}"#,
+    ),
+    (
+        1500,
+        r#"{"identity":"ab"}"#,
+        r#"{"bind":[],"dial":[["web",1]],"routers":[]}"#,
+    ),
+    (
+        1500,
+        r#"{"identity":"a"}"#,
+        r#"{"bind":[],"dial":[["web",1]],"routers":[]}"#,
+    ),
+    (
+        1500,
+        r#"{"identity":"x"}"#,
+        r#"{"bind":[],"dial":[],"routers":[]}"#,
+    ),
+    (
+        1101,
+        r#"{"name":"p","type":"Dial","semantic":"AllOf","identity_roles":["@x"],"service_roles":["@web"]}"#,
+        r#"{}"#,
+    ),
+    (
+        1500,
+        r#"{"identity":"ab"}"#,
+        r#"{"bind":[],"dial":[],"routers":[]}"#,
+    ),
+    (
+        1500,
+        r#"{"identity":"a"}"#,
+        r#"{"bind":[],"dial":[],"routers":[]}"#,
+    ),
+    (
+        1500,
+        r#"{"identity":"x"}"#,
+        r#"{"bind":[],"dial":[["web",1]],"routers":[]}"#,
+    ),
+    (
+        1101,
+        r#"{"name":"p","type":"Dial","semantic":"AllOf","identity_roles":[],"service_roles":["@web"]}"#,
+        r#"{}"#,
+    ),
+    (
+        1500,
+        r#"{"identity":"ab"}"#,
+        r#"{"bind":[],"dial":[],"routers":[]}"#,
+    ),
+    (
+        1500,
+        r#"{"identity":"a"}"#,
+        r#"{"bind":[],"dial":[],"routers":[]}"#,
+    ),
+    (
+        1500,
+        r#"{"identity":"x"}"#,
+        r#"{"bind":[],"dial":[],"routers":[]}"#,
+    ),
+    (
+        1101,
+        r##"{"name":"p","type":"Dial","semantic":"AnyOf","identity_roles":["#all","#a"],"service_roles":["@web"]}"##,
+        r#"{"code":11,"field":"identity_roles","name":"BadBody","reason":"WrongKind"}"#,
+    ),
+    (
+        1101,
+        r#"{"name":"p","type":"Dial","semantic":"AnyOf","identity_roles":["@q"],"service_roles":["@web"]}"#,
+        r#"{"code":23,"field":"identity_roles","name":"UnknownRef","ref":"q"}"#,
+    ),
+    (1000, r#"{"name":"y","attributes":["all"]}"#, r#"{"no":4}"#),
+    (
+        1101,
+        r##"{"name":"p","type":"Dial","semantic":"AllOf","identity_roles":["#all"],"service_roles":["@web"]}"##,
+        r#"{}"#,
+    ),
+    (
+        1500,
+        r#"{"identity":"x"}"#,
+        r#"{"bind":[],"dial":[["web",1]],"routers":[]}"#,
+    ),
+    (
+        1500,
+        r#"{"identity":"y"}"#,
+        r#"{"bind":[],"dial":[["web",1]],"routers":[]}"#,
+    ),
+];
+
+/// Two policies that grant the same, which go one after the other.
+const COUNTS: [Row; 11] = [
+    (1000, r#"{"name":"ann"}"#, r#"{"no":1}"#),
+    (1010, r#"{"name":"web"}"#, r#"{"no":1}"#),
+    (
+        1100,
+        r#"{"name":"p","type":"Dial","semantic":"AllOf","identity_roles":["@ann"],"service_roles":["@web"]}"#,
+        r#"{"no":1}"#,
+    ),
+    (
+        1100,
+        r##"{"name":"q","type":"Dial","semantic":"AnyOf","identity_roles":["#all"],"service_roles":["#all"]}"##,
+        r#"{"no":2}"#,
+    ),
+    (
+        1500,
+        r#"{"identity":"ann"}"#,
+        r#"{"bind":[],"dial":[["web",2]],"routers":[]}"#,
+    ),
+    (1102, r#"{"name":"p"}"#, r#"{}"#),
+    (
+        1500,
+        r#"{"identity":"ann"}"#,
+        r#"{"bind":[],"dial":[["web",1]],"routers":[]}"#,
+    ),
+    (1501, r#"{"identity":"ann"}"#, r#"{"services":["web"]}"#),
+    (1102, r#"{"name":"q"}"#, r#"{}"#),
+    (
+        1500,
+        r#"{"identity":"ann"}"#,
+        r#"{"bind":[],"dial":[],"routers":[]}"#,
+    ),
+    (1501, r#"{"identity":"ann"}"#, r#"{"services":[]}"#),
+];
+
+/// A policy by names: an identity of the name that comes later is not meant by it.
+const NAMES: [Row; 7] = [
+    (1000, r#"{"name":"ann"}"#, r#"{"no":1}"#),
+    (1010, r#"{"name":"web"}"#, r#"{"no":1}"#),
+    (
+        1100,
+        r#"{"name":"p","type":"Dial","semantic":"AnyOf","identity_roles":["@ann"],"service_roles":["@web"]}"#,
+        r#"{"no":1}"#,
+    ),
+    (
+        1502,
+        r#"{}"#,
+        r#"{"circuits":0,"grants":1,"identities":1,"links":0,"policies":1,"routers":0,"services":1,"terminators":0}"#,
+    ),
+    (1002, r#"{"name":"ann"}"#, r#"{}"#),
+    (1000, r#"{"name":"ann"}"#, r#"{"no":2}"#),
+    (
+        1500,
+        r#"{"identity":"ann"}"#,
+        r#"{"bind":[],"dial":[],"routers":[]}"#,
+    ),
+];
+
+fn push_number(bytes: &mut Vec<u8>, number: u32) -> Result<(), AllocError> {
+    bytes.extend_from_slice(&number.to_le_bytes())
+}
+
+fn push_head(
+    bytes: &mut Vec<u8>,
+    content: u32,
+    sequence: u32,
+    headers_len: u32,
+    body: &str,
+) -> Result<(), AllocError> {
+    bytes.extend_from_slice(b"\x03\x06\x09\x0c")?;
+    push_number(bytes, content)?;
+    push_number(bytes, sequence)?;
+    push_number(bytes, headers_len)?;
+    push_number(bytes, u32::try_from(body.len()).unwrap_or(u32::MAX))
+}
+
+fn requests(alloc: Global, rows: &[Row]) -> Result<Vec<u8>, AllocError> {
+    let mut bytes = Vec::new(alloc);
+    for (content, body, _) in rows {
+        push_head(&mut bytes, *content, REQUEST, 0, body)?;
+        bytes.extend_from_slice(body.as_bytes())?;
+    }
+    Ok(bytes)
+}
+
+/// The replies as they are wanted, laid out by hand: with the request's number, and whether it is no refusal.
+fn replies(alloc: Global, rows: &[Row]) -> Result<Vec<u8>, AllocError> {
+    let mut bytes = Vec::new(alloc);
+    let mut sequence = 0u32;
+    for (_, _, body) in rows {
+        push_head(&mut bytes, 2, sequence, 21, body)?;
+        bytes.extend_from_slice(b"\x01\0\0\0\x04\0\0\0")?;
+        push_number(&mut bytes, REQUEST)?;
+        bytes.extend_from_slice(b"\x02\0\0\0\x01\0\0\0")?;
+        bytes.push(u8::from(!body.starts_with("{\"code\"")))?;
+        bytes.extend_from_slice(body.as_bytes())?;
+        sequence = sequence.wrapping_add(1);
+    }
+    Ok(bytes)
+}
+
+fn check_table(rt: &impl Abort, alloc: Global, rows: &[Row]) -> Result<(), Fail> {
+    let bounds = Bounds {
+        input: 65_536,
+        slot: 64,
+        mark: 1,
+    };
+    let mut words = Vec::new(alloc);
+    words.push(String::from_str(alloc, "dry")?)?;
+    let mut source = MemorySource::new(requests(alloc, rows)?, 4_096, NEVER);
+    let mut desk = MemoryDesk::new(alloc, NEVER);
+    let status = run_within(alloc, &words, bounds, &mut source, &mut desk);
+    let wanted = replies(alloc, rows)?;
+    assert_eq!(rt; status, Status::Done);
+    assert_eq!(rt; desk.said(), wanted.as_slice());
+    Ok(())
+}
+
+#[test]
+fn answers_commands_on_policies(rt: HostRuntime) -> Result<(), Fail> {
+    check_table(&rt, rt.alloc(), &ROLES)?;
+    check_table(&rt, rt.alloc(), &COUNTS)?;
+    check_table(&rt, rt.alloc(), &NAMES)
+}
