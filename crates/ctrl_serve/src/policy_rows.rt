@@ -14,6 +14,15 @@ type Row = (u32, &'static str, &'static str);
 /// The sequence number of each request.
 const REQUEST: u32 = 7;
 
+/// The reply to a change that makes nothing.
+const DONE: &str = "{}";
+
+/// The grants of who may dial web, by one policy.
+const ONCE: &str = r#"{"bind":[],"dial":[["web",1]],"routers":[]}"#;
+
+/// No grants.
+const NONE: &str = r#"{"bind":[],"dial":[],"routers":[]}"#;
+
 /// What entries match: both attributes, one of them, a name, nothing, and `#all`, for which an attribute `all` is as any other.
 const ROLES: [Row; 26] = [
     (1010, r#"{"name":"web"}"#, r#"{"no":1}"#),
@@ -29,81 +38,33 @@ const ROLES: [Row; 26] = [
         r##"{"name":"p","type":"Dial","semantic":"AllOf","identity_roles":["#a","#b"],"service_roles":["@web"]}"##,
         r#"{"no":1}"#,
     ),
-    (
-        1500,
-        r#"{"identity":"ab"}"#,
-        r#"{"bind":[],"dial":[["web",1]],"routers":[]}"#,
-    ),
-    (
-        1500,
-        r#"{"identity":"a"}"#,
-        r#"{"bind":[],"dial":[],"routers":[]}"#,
-    ),
-    (
-        1500,
-        r#"{"identity":"x"}"#,
-        r#"{"bind":[],"dial":[],"routers":[]}"#,
-    ),
+    (1500, r#"{"identity":"ab"}"#, ONCE),
+    (1500, r#"{"identity":"a"}"#, NONE),
+    (1500, r#"{"identity":"x"}"#, NONE),
     (
         1101,
         r##"{"name":"p","type":"Dial","semantic":"AnyOf","identity_roles":["#a","#b"],"service_roles":["@web"]}"##,
-        r#"{}"#,
+        DONE,
     ),
-    (
-        1500,
-        r#"{"identity":"ab"}"#,
-        r#"{"bind":[],"dial":[["web",1]],"routers":[]}"#,
-    ),
-    (
-        1500,
-        r#"{"identity":"a"}"#,
-        r#"{"bind":[],"dial":[["web",1]],"routers":[]}"#,
-    ),
-    (
-        1500,
-        r#"{"identity":"x"}"#,
-        r#"{"bind":[],"dial":[],"routers":[]}"#,
-    ),
+    (1500, r#"{"identity":"ab"}"#, ONCE),
+    (1500, r#"{"identity":"a"}"#, ONCE),
+    (1500, r#"{"identity":"x"}"#, NONE),
     (
         1101,
         r#"{"name":"p","type":"Dial","semantic":"AllOf","identity_roles":["@x"],"service_roles":["@web"]}"#,
-        r#"{}"#,
+        DONE,
     ),
-    (
-        1500,
-        r#"{"identity":"ab"}"#,
-        r#"{"bind":[],"dial":[],"routers":[]}"#,
-    ),
-    (
-        1500,
-        r#"{"identity":"a"}"#,
-        r#"{"bind":[],"dial":[],"routers":[]}"#,
-    ),
-    (
-        1500,
-        r#"{"identity":"x"}"#,
-        r#"{"bind":[],"dial":[["web",1]],"routers":[]}"#,
-    ),
+    (1500, r#"{"identity":"ab"}"#, NONE),
+    (1500, r#"{"identity":"a"}"#, NONE),
+    (1500, r#"{"identity":"x"}"#, ONCE),
     (
         1101,
         r#"{"name":"p","type":"Dial","semantic":"AllOf","identity_roles":[],"service_roles":["@web"]}"#,
-        r#"{}"#,
+        DONE,
     ),
-    (
-        1500,
-        r#"{"identity":"ab"}"#,
-        r#"{"bind":[],"dial":[],"routers":[]}"#,
-    ),
-    (
-        1500,
-        r#"{"identity":"a"}"#,
-        r#"{"bind":[],"dial":[],"routers":[]}"#,
-    ),
-    (
-        1500,
-        r#"{"identity":"x"}"#,
-        r#"{"bind":[],"dial":[],"routers":[]}"#,
-    ),
+    (1500, r#"{"identity":"ab"}"#, NONE),
+    (1500, r#"{"identity":"a"}"#, NONE),
+    (1500, r#"{"identity":"x"}"#, NONE),
     (
         1101,
         r##"{"name":"p","type":"Dial","semantic":"AnyOf","identity_roles":["#all","#a"],"service_roles":["@web"]}"##,
@@ -118,18 +79,10 @@ const ROLES: [Row; 26] = [
     (
         1101,
         r##"{"name":"p","type":"Dial","semantic":"AllOf","identity_roles":["#all"],"service_roles":["@web"]}"##,
-        r#"{}"#,
+        DONE,
     ),
-    (
-        1500,
-        r#"{"identity":"x"}"#,
-        r#"{"bind":[],"dial":[["web",1]],"routers":[]}"#,
-    ),
-    (
-        1500,
-        r#"{"identity":"y"}"#,
-        r#"{"bind":[],"dial":[["web",1]],"routers":[]}"#,
-    ),
+    (1500, r#"{"identity":"x"}"#, ONCE),
+    (1500, r#"{"identity":"y"}"#, ONCE),
 ];
 
 /// Two policies that grant the same, which go one after the other.
@@ -151,19 +104,11 @@ const COUNTS: [Row; 11] = [
         r#"{"identity":"ann"}"#,
         r#"{"bind":[],"dial":[["web",2]],"routers":[]}"#,
     ),
-    (1102, r#"{"name":"p"}"#, r#"{}"#),
-    (
-        1500,
-        r#"{"identity":"ann"}"#,
-        r#"{"bind":[],"dial":[["web",1]],"routers":[]}"#,
-    ),
+    (1102, r#"{"name":"p"}"#, DONE),
+    (1500, r#"{"identity":"ann"}"#, ONCE),
     (1501, r#"{"identity":"ann"}"#, r#"{"services":["web"]}"#),
-    (1102, r#"{"name":"q"}"#, r#"{}"#),
-    (
-        1500,
-        r#"{"identity":"ann"}"#,
-        r#"{"bind":[],"dial":[],"routers":[]}"#,
-    ),
+    (1102, r#"{"name":"q"}"#, DONE),
+    (1500, r#"{"identity":"ann"}"#, NONE),
     (1501, r#"{"identity":"ann"}"#, r#"{"services":[]}"#),
 ];
 
@@ -178,16 +123,12 @@ const NAMES: [Row; 7] = [
     ),
     (
         1502,
-        r#"{}"#,
+        "{}",
         r#"{"circuits":0,"grants":1,"identities":1,"links":0,"policies":1,"routers":0,"services":1,"terminators":0}"#,
     ),
-    (1002, r#"{"name":"ann"}"#, r#"{}"#),
+    (1002, r#"{"name":"ann"}"#, DONE),
     (1000, r#"{"name":"ann"}"#, r#"{"no":2}"#),
-    (
-        1500,
-        r#"{"identity":"ann"}"#,
-        r#"{"bind":[],"dial":[],"routers":[]}"#,
-    ),
+    (1500, r#"{"identity":"ann"}"#, NONE),
 ];
 
 fn push_number(bytes: &mut Vec<u8>, number: u32) -> Result<(), AllocError> {

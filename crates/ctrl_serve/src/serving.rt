@@ -6,6 +6,7 @@ ghost use Rattle.channel_frame.specs.StreamReading.{front};
 ghost use Rattle.ctrl_model.specs.declared.kinds.Who.TheVariants.{Admin};
 ghost use Rattle.ctrl_core.specs.CarriedCommands.{is_carried};
 ghost use Rattle.ctrl_model.specs.CommandForm.{is_spelled};
+ghost use Rattle.ctrl_model.specs.State.{start};
 ghost use Rattle.ctrl_model.specs.Controller.{answer};
 ghost use Rattle.reply_codec.specs.ReplyFrame.{reply_frame};
 ghost use Rattle.reply_codec.specs.ReplyLimits.{keeps_limits};
@@ -154,6 +155,31 @@ fn serve_frame<D: Desk>(
     }
 }
 
+/// Answers the whole frames of the bytes in order by a core at the start, as `serve` does.
+fn serve_frames<D: Desk>(
+    alloc: Global,
+    desk: &mut D,
+    core: &mut Core,
+    bytes: &[u8],
+) -> Result<bool, Cut>
+    requires live { core.old.live ≡ true }
+    requires at_start { core.old.state ≡ start }
+    ensures said { IsServed result bytes.now (D.said desk.old) (D.said desk.new) }
+    ensures cause { HasCause (D.say_faults desk.old) (D.say_faults desk.new) (unsaid result) }
+    ensures notes { D.noted desk.new ≡ D.noted desk.old }
+    ensures note_faults { D.note_faults desk.new ≡ D.note_faults desk.old }
+{
+    let mut sequence = 0u32;
+    let mut rest = bytes;
+    'frames: while let Front::Whole(frame, len) = front_of(alloc, rest)? {
+        serve_frame(alloc, desk, core, sequence, &frame)?;
+        sequence = sequence.wrapping_add(1);
+        let (_, after) = rest.split_at(len as usize);
+        rest = after;
+    }
+    Ok(rest.is_empty())
+}
+
 /// Answers the whole frames of the bytes in order and says their replies. Answers whether no tail is left behind them.
 pub fn serve<D: Desk>(alloc: Global, desk: &mut D, bytes: &[u8]) -> Result<bool, Cut>
     ensures said { IsServed result bytes.now (D.said desk.old) (D.said desk.new) }
@@ -162,13 +188,5 @@ pub fn serve<D: Desk>(alloc: Global, desk: &mut D, bytes: &[u8]) -> Result<bool,
     ensures note_faults { D.note_faults desk.new ≡ D.note_faults desk.old }
 {
     let mut core = Core::empty(alloc)?;
-    let mut sequence = 0u32;
-    let mut rest = bytes;
-    'frames: while let Front::Whole(frame, len) = front_of(alloc, rest)? {
-        serve_frame(alloc, desk, &mut core, sequence, &frame)?;
-        sequence = sequence.wrapping_add(1);
-        let (_, after) = rest.split_at(len as usize);
-        rest = after;
-    }
-    Ok(rest.is_empty())
+    serve_frames(alloc, desk, &mut core, bytes)
 }

@@ -2,7 +2,7 @@ use Rattle.std.proofs.Common.{sym, ◌∙◌, ap, arith}
 use Rattle.std.proofs.lemmas.Result.{err_from_is_err_and}
 use Rattle.ctrl_model.specs.Matches.{is_nothing}
 use Rattle.ctrl_serve.proofs.TurnLaws.{told_more, told_all, cut_served, whole_is_long, is_nothing-length}
-use Rattle.ctrl_serve.proofs.serving.serve.Goals as goal
+use Rattle.ctrl_serve.proofs.serving.serve_frames.Goals as goal
 
 pub returns-in_err-serve_frame-clause-said : goal.returns-in_err-serve_frame-clause-said
 returns-in_err-serve_frame-clause-said g c =

@@ -1,6 +1,6 @@
 use Rattle.std.proofs.Common.{◌≡◌, true, length}
 use Rattle.ctrl_serve.proofs.TurnLaws.{Told}
-use Rattle.ctrl_serve.proofs.serving.serve.Given as goal
+use Rattle.ctrl_serve.proofs.serving.serve_frames.Given as goal
 
 -- what was said so far and what the rest still gives are all replies; no note was written
 abbrev pub invariant-frames : goal.invariant-frames
