@@ -35,7 +35,7 @@ fn main(rt: HostRuntime) -> ExitCode {
     let status = match words_or_status(&rt) {
         Ok(words) => {
             let mut source = StandardInput::new(rt.reader());
-            let mut desk = StandardDesk::new(&rt);
+            let mut desk = StandardDesk::new(io::writer(&rt), &rt);
             run(rt.alloc(), &words, &mut source, &mut desk)
         }
         Err(status) => status,

@@ -1,10 +1,10 @@
 ghost use Rattle.std.specs.Prelude.{◌≡◌, None};
 ghost use Rattle.std.specs.Io.KnownBytes.{ReadConsumes};
-ghost use Rattle.ziti_outside.specs.Told.{Takes};
+ghost use Rattle.ziti_outside.specs.Told.{Takes, Hands};
 ghost use Rattle.ziti_outside.specs.Causes.{HasCause};
 ghost use Rattle.zitictl.specs.Writes.{Writes};
 
-use std::io::{self, Read, Write};
+use std::io::{Read, Write};
 use ziti_outside::{Desk, Failed, Source};
 
 /// Standard input as a source. It tells no content, and counts each read that fails.
@@ -48,19 +48,21 @@ impl<R: Read> Source for StandardInput<R> {
 /// Standard output for replies and standard error for notes. It tells no content, and counts each write that fails; a write
 /// that takes nothing of a piece counts as failed, and so does a note that is not text.
 #[derive(Drop)]
-pub struct StandardDesk<'a, R> {
+pub struct StandardDesk<'a, W, R> {
+    writer: W,
     rt: &'a R,
     say_faults: u64,
     note_faults: u64,
 }
 
-impl<'a, R> StandardDesk<'a, R> {
-    /// The desk over a runtime's standard output and standard error.
-    pub fn new(rt: &'a R) -> StandardDesk<'a, R>
+impl<'a, W, R> StandardDesk<'a, W, R> {
+    /// The desk over a writer to standard output, and over a runtime's standard error.
+    pub fn new(writer: W, rt: &'a R) -> StandardDesk<'a, W, R>
         ensures said { result.say_faults ≡ 0 }
         ensures noted { result.note_faults ≡ 0 }
     {
         StandardDesk {
+            writer,
             rt,
             say_faults: 0,
             note_faults: 0,
@@ -94,7 +96,7 @@ fn write_note<R: Eprint>(rt: &R, bytes: &[u8]) -> Result<(), Failed> {
     }
 }
 
-impl<'a, R: Print + Eprint> Desk for StandardDesk<'a, R> {
+impl<'a, W: Write, R: Eprint> Desk for StandardDesk<'a, W, R> {
     ghost use Rattle.std.specs.Prelude.{None};
 
     ghost said = { λ d. None };
@@ -105,12 +107,19 @@ impl<'a, R: Print + Eprint> Desk for StandardDesk<'a, R> {
 
     ghost note_faults = { λ d. d.note_faults };
 
-    fn say(&mut self, bytes: &[u8]) -> Result<(), Failed> {
-        let written = write_whole(&mut io::writer(self.rt), bytes);
-        if written.is_err() {
-            self.say_faults = self.say_faults.saturating_add(1);
+    fn say(&mut self, bytes: &[u8]) -> Result<(), Failed>
+        ensures taken { Hands None None result bytes.now }
+        ensures cause { HasCause self.old.say_faults self.new.say_faults result }
+        ensures other_faults { self.new.note_faults ≡ self.old.note_faults }
+        ensures written { Writes (W.contents self.old.writer) (W.contents self.new.writer) result bytes.now }
+    {
+        match write_whole(&mut self.writer, bytes) {
+            Ok(()) => Ok(()),
+            Err(_) => {
+                self.say_faults = self.say_faults.saturating_add(1);
+                Err(Failed)
+            }
         }
-        written
     }
 
     fn note(&mut self, bytes: &[u8]) -> Result<(), Failed> {
