@@ -1,12 +1,11 @@
 //! The program zitictl: the controller over standard input, standard output and standard error.
 #![tactic(auto)]
 
-ghost use Rattle.std.specs.Prelude.{◌≡◌, IfErr};
-
 mod standard;
 
 use crate::standard::{StandardDesk, StandardInput};
 use ctrl_serve::{Status, run};
+use std::alloc::AllocError;
 use std::process::ExitCode;
 use std::{env, io};
 
@@ -15,15 +14,13 @@ fn stored_words(rt: &HostRuntime) -> io::Result<Vec<String>> {
     Ok(words)
 }
 
-// Words that cannot be stored for want of memory end the program so; words that are not text are no line of the table.
-fn words_or_status(rt: &HostRuntime) -> Result<Vec<String>, Status>
-    ensures { IfErr result (λ status. status ≡ Status.NoMemory) }
-{
+// The words of the command line. Words that are not text are no line of the table, and so none are told.
+fn words_of(rt: &HostRuntime) -> Result<Vec<String>, AllocError> {
     match stored_words(rt) {
         Ok(words) => Ok(words),
         Err(error) => {
             if error.kind() == io::ErrorKind::OutOfMemory {
-                Err(Status::NoMemory)
+                Err(AllocError)
             } else {
                 Ok(Vec::new(rt.alloc()))
             }
@@ -32,13 +29,15 @@ fn words_or_status(rt: &HostRuntime) -> Result<Vec<String>, Status>
 }
 
 fn main(rt: HostRuntime) -> ExitCode {
-    let status = match words_or_status(&rt) {
+    let status = match words_of(&rt) {
         Ok(words) => {
             let mut source = StandardInput::new(rt.reader());
-            let mut desk = StandardDesk::new(io::writer(&rt), &rt);
+            let errors = rt.stderr();
+            let mut desk = StandardDesk::new(io::writer(&rt), io::writer(&errors));
             run(rt.alloc(), &words, &mut source, &mut desk)
         }
-        Err(status) => status,
+        // Words that cannot be stored end the program so.
+        Err(_) => Status::NoMemory,
     };
     ExitCode::from(status.number())
 }

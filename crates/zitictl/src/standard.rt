@@ -45,88 +45,95 @@ impl<R: Read> Source for StandardInput<R> {
     }
 }
 
-/// Standard output for replies and standard error for notes. It tells no content, and counts each write that fails; a write
-/// that takes nothing of a piece counts as failed, and so does a note that is not text.
+/// A writer to one of the standard streams, which counts the writes that fail; a write that takes nothing of a piece counts as
+/// failed.
 #[derive(Drop)]
-pub struct StandardDesk<'a, W, R> {
+struct Outlet<W> {
     writer: W,
-    rt: &'a R,
-    say_faults: u64,
-    note_faults: u64,
+    failures: u64,
 }
 
-impl<'a, W, R> StandardDesk<'a, W, R> {
-    /// The desk over a writer to standard output, and over a runtime's standard error.
-    pub fn new(writer: W, rt: &'a R) -> StandardDesk<'a, W, R>
-        ensures said { result.say_faults ≡ 0 }
-        ensures noted { result.note_faults ≡ 0 }
+impl<W> Outlet<W> {
+    fn new(writer: W) -> Outlet<W>
+        ensures { result.failures ≡ 0 }
     {
-        StandardDesk {
+        Outlet {
             writer,
-            rt,
-            say_faults: 0,
-            note_faults: 0,
+            failures: 0,
         }
     }
 }
 
-fn write_whole<W: Write>(writer: &mut W, bytes: &[u8]) -> Result<(), Failed>
-    ensures { Writes (W.contents writer.old) (W.contents writer.new) result bytes.now }
-{
-    let mut rest = bytes;
-    'pieces: while !rest.is_empty() {
-        match writer.write(rest) {
-            Ok(0) | Err(_) => return Err(Failed),
-            Ok(count) => {
-                let (_, after) = rest.split_at(count);
-                rest = after;
+impl<W: Write> Outlet<W> {
+    // Writes all of the bytes, piece by piece. It ends at the first write that fails, with some front of them written.
+    fn write_whole(&mut self, bytes: &[u8]) -> Result<(), Failed>
+        ensures cause { HasCause self.old.failures self.new.failures result }
+        ensures written { Writes (W.contents self.old.writer) (W.contents self.new.writer) result bytes.now }
+    {
+        let mut rest = bytes;
+        'pieces: while !rest.is_empty() {
+            match self.writer.write(rest) {
+                Ok(0) | Err(_) => {
+                    self.failures = self.failures.saturating_add(1);
+                    return Err(Failed);
+                }
+                Ok(count) => {
+                    let (_, after) = rest.split_at(count);
+                    rest = after;
+                }
             }
         }
-    }
-    Ok(())
-}
-
-fn write_note<R: Eprint>(rt: &R, bytes: &[u8]) -> Result<(), Failed> {
-    let Ok(text) = str::from_utf8(bytes) else {
-        return Err(Failed);
-    };
-    match rt.eprint(text) {
-        Ok(()) => Ok(()),
-        Err(_) => Err(Failed),
+        Ok(())
     }
 }
 
-impl<'a, W: Write, R: Eprint> Desk for StandardDesk<'a, W, R> {
+/// A writer to standard output for replies and one to standard error for notes. It tells no content, and counts apart the
+/// writes of each that fail.
+#[derive(Drop)]
+pub struct StandardDesk<W, E> {
+    replies: Outlet<W>,
+    notes: Outlet<E>,
+}
+
+impl<W, E> StandardDesk<W, E> {
+    /// The desk over a writer for replies and a writer for notes.
+    pub fn new(replies: W, notes: E) -> StandardDesk<W, E>
+        ensures said { result.replies.failures ≡ 0 }
+        ensures noted { result.notes.failures ≡ 0 }
+    {
+        StandardDesk {
+            replies: Outlet::new(replies),
+            notes: Outlet::new(notes),
+        }
+    }
+}
+
+impl<W: Write, E: Write> Desk for StandardDesk<W, E> {
     ghost use Rattle.std.specs.Prelude.{None};
 
     ghost said = { λ d. None };
 
     ghost noted = { λ d. None };
 
-    ghost say_faults = { λ d. d.say_faults };
+    ghost say_faults = { λ d. d.replies.failures };
 
-    ghost note_faults = { λ d. d.note_faults };
+    ghost note_faults = { λ d. d.notes.failures };
 
     fn say(&mut self, bytes: &[u8]) -> Result<(), Failed>
         ensures taken { Hands None None result bytes.now }
-        ensures cause { HasCause self.old.say_faults self.new.say_faults result }
-        ensures other_faults { self.new.note_faults ≡ self.old.note_faults }
-        ensures written { Writes (W.contents self.old.writer) (W.contents self.new.writer) result bytes.now }
+        ensures cause { HasCause self.old.replies.failures self.new.replies.failures result }
+        ensures written { Writes (W.contents self.old.replies.writer) (W.contents self.new.replies.writer) result bytes.now }
+        ensures others { self.new.notes ≡ self.old.notes }
     {
-        match write_whole(&mut self.writer, bytes) {
-            Ok(()) => Ok(()),
-            Err(_) => {
-                self.say_faults = self.say_faults.saturating_add(1);
-                Err(Failed)
-            }
-        }
+        self.replies.write_whole(bytes)
     }
 
-    fn note(&mut self, bytes: &[u8]) -> Result<(), Failed> {
-        let written = write_note(self.rt, bytes);
-        if written.is_err() {
-            self.note_faults = self.note_faults.saturating_add(1);
-        }
-        written
+    fn note(&mut self, bytes: &[u8]) -> Result<(), Failed>
+        ensures taken { Hands None None result bytes.now }
+        ensures cause { HasCause self.old.notes.failures self.new.notes.failures result }
+        ensures written { Writes (E.contents self.old.notes.writer) (E.contents self.new.notes.writer) result bytes.now }
+        ensures others { self.new.replies ≡ self.old.replies }
+    {
+        self.notes.write_whole(bytes)
     }
 }

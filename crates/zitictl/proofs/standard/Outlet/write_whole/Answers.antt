@@ -1,6 +1,6 @@
 use Rattle.std.proofs.Common.{◌∙◌, ◌++◌, List, ℕ, ap, take, append_assoc, take-append-drop}
 use Rattle.std.proofs.KnownBytes.{Appends-trans}
-use Rattle.zitictl.proofs.standard.write_whole.Goals as goal
+use Rattle.zitictl.proofs.standard.Outlet.write_whole.Goals as goal
 
 pub pieces-preserved : goal.pieces-preserved
 pieces-preserved g c =
@@ -11,4 +11,5 @@ pieces-preserved g c =
       written = written ++ piece;
       same = rw c.split_at.ensures.back (append_assoc written piece _ ∙ ap (λ (xs : List ℕ). written ++ xs) (take-append-drop c.in-Ok.count rest) ∙ c.pieces.invariant.same);
       appended = Appends-trans _ _ _ written piece c.pieces.invariant.appended c.in-Ok.ensures.bytes;
+      uncounted = c.pieces.invariant.uncounted;
     }
