@@ -5,12 +5,15 @@ ghost use Rattle.command_codec.specs.BodyMeaning.{meaning};
 ghost use Rattle.command_codec.specs.ReadResults.{Gives};
 
 use crate::content_types::{
-    CREATE_IDENTITY, CREATE_SERVICE_POLICY, DELETE_SERVICE_EDGE_ROUTER_POLICY, DISCONNECT_ROUTER,
-    HELLO, SHOW_COUNTS, SHOW_GRANTS,
+    CREATE_IDENTITY, CREATE_LINK, CREATE_SERVICE_POLICY, CREATE_TERMINATOR,
+    DELETE_SERVICE_EDGE_ROUTER_POLICY, DELETE_TERMINATOR, DISCONNECT_ROUTER, HELLO,
+    SET_LEAST_ROUTER_COST, SHOW_COUNTS, SHOW_GRANTS,
 };
 use crate::entity_bodies::entity_command;
+use crate::link_bodies::link_command;
 use crate::policy_bodies::policy_command;
 use crate::show_bodies::show_command;
+use crate::terminator_bodies::terminator_command;
 use ctrl_model::{Command, Field, Reason};
 use json_body::FieldFault;
 use std::alloc::Global;
@@ -70,6 +73,8 @@ fn command_in(alloc: Global, content: u32, body: &[u8]) -> Result<Command, Codec
         CREATE_SERVICE_POLICY..=DELETE_SERVICE_EDGE_ROUTER_POLICY => {
             policy_command(alloc, content, body)
         }
+        CREATE_LINK..=SET_LEAST_ROUTER_COST => link_command(alloc, content, body),
+        CREATE_TERMINATOR..=DELETE_TERMINATOR => terminator_command(alloc, content, body),
         SHOW_GRANTS..=SHOW_COUNTS => show_command(alloc, content, body),
         _ => Err(CodecFault::UnsupportedType),
     }
@@ -79,7 +84,8 @@ fn command_in(alloc: Global, content: u32, body: &[u8]) -> Result<Command, Codec
 ///
 /// `UnsupportedType` comes exactly where no command has the type, and `BadBody` with the first cause exactly where the body
 /// spells no command of it; else only memory can be wanting. So far the types are those of Hello, of the commands on
-/// identities, services, edge routers and policies, and of ShowGrants, ListServices and ShowCounts (docs/FORMATS.md, "Commands").
+/// identities, services, edge routers, policies, links and terminators, and of ShowGrants, ListServices and ShowCounts
+/// (docs/FORMATS.md, "Commands").
 pub fn read(alloc: Global, content: u32, body: &[u8]) -> Result<Command, CodecFault>
     ensures command { IfOk result (λ c. meaning content body.now ≡ Ok c) }
     ensures fault { IfErr result (λ e. e ≢ CodecFault.NoMemory → meaning content body.now ≡ Err e) }

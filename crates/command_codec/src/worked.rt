@@ -14,8 +14,6 @@ ghost use Rattle.command_codec.specs.RoleLists.{as_side};
 ghost use Rattle.command_codec.specs.RouteClaims.{as_numbers, as_reach};
 ghost use Rattle.command_codec.specs.BodyMeaning.{meaning, meaning_in};
 ghost use Rattle.command_codec.specs.CircuitBodies.{circuit_table};
-ghost use Rattle.command_codec.specs.LinkBodies.{link_table};
-ghost use Rattle.command_codec.specs.TerminatorBodies.{terminator_table};
 
 /// Bodies that spell a command of each kind.
 pub fn worked_bodies()
@@ -66,34 +64,34 @@ pub fn worked_shows()
 
 /// Bodies of the commands on links, read by the table of these commands.
 pub fn worked_links()
-    ensures made { meaning_in link_table 1200 (codes "{\"name\":\"l1\",\"a\":\"r1\",\"b\":\"r2\"}") ≡ Ok (command.CreateLink (codes "l1") (codes "r1") (codes "r2") 1 0 0) }
-    ensures made_in_full { meaning_in link_table 1200 (codes "{\"name\":\"l1\",\"a\":\"r1\",\"b\":\"r2\",\"cost\":65535,\"latency_a\":60000,\"latency_b\":7}") ≡ Ok (command.CreateLink (codes "l1") (codes "r1") (codes "r2") 65535 60000 7) }
-    ensures cost { meaning_in link_table 1201 (codes "{\"link\":\"l1\",\"cost\":9}") ≡ Ok (command.SetLinkCost (codes "l1") 9) }
-    ensures latency { meaning_in link_table 1202 (codes "{\"link\":\"l1\",\"router\":\"r1\",\"latency\":0}") ≡ Ok (command.ReportLatency (codes "l1") (codes "r1") 0) }
-    ensures state { meaning_in link_table 1203 (codes "{\"link\":\"l1\",\"router\":\"r2\",\"up\":false}") ≡ Ok (command.ReportState (codes "l1") (codes "r2") false) }
-    ensures deleted { meaning_in link_table 1204 (codes "{\"link\":\"l1\"}") ≡ Ok (command.DeleteLink (codes "l1")) }
-    ensures least { meaning_in link_table 1210 (codes "{\"cost\":10}") ≡ Ok (command.SetLeastRouterCost 10) }
-    ensures free { meaning_in link_table 1200 (codes "{\"name\":\"l1\",\"a\":\"r1\",\"b\":\"r2\",\"cost\":0}") ≡ Err (BadBody field.Cost reason.WrongKind) }
-    ensures no_least { meaning_in link_table 1210 (codes "{\"cost\":0}") ≡ Err (BadBody field.Cost reason.WrongKind) }
-    ensures slow { meaning_in link_table 1202 (codes "{\"link\":\"l1\",\"router\":\"r1\",\"latency\":60001}") ≡ Err (BadBody field.Latency reason.WrongKind) }
-    ensures one_end { meaning_in link_table 1200 (codes "{\"name\":\"l1\",\"a\":\"r1\",\"cost\":0}") ≡ Err (BadBody field.B reason.Missing) }
-    ensures reported { meaning_in link_table 1203 (codes "{\"link\":\"l1\",\"router\":\"r2\",\"up\":0}") ≡ Err (BadBody field.Up reason.WrongKind) }
+    ensures made { meaning 1200 (codes "{\"name\":\"l1\",\"a\":\"r1\",\"b\":\"r2\"}") ≡ Ok (command.CreateLink (codes "l1") (codes "r1") (codes "r2") 1 0 0) }
+    ensures made_in_full { meaning 1200 (codes "{\"name\":\"l1\",\"a\":\"r1\",\"b\":\"r2\",\"cost\":65535,\"latency_a\":60000,\"latency_b\":7}") ≡ Ok (command.CreateLink (codes "l1") (codes "r1") (codes "r2") 65535 60000 7) }
+    ensures cost { meaning 1201 (codes "{\"link\":\"l1\",\"cost\":9}") ≡ Ok (command.SetLinkCost (codes "l1") 9) }
+    ensures latency { meaning 1202 (codes "{\"link\":\"l1\",\"router\":\"r1\",\"latency\":0}") ≡ Ok (command.ReportLatency (codes "l1") (codes "r1") 0) }
+    ensures state { meaning 1203 (codes "{\"link\":\"l1\",\"router\":\"r2\",\"up\":false}") ≡ Ok (command.ReportState (codes "l1") (codes "r2") false) }
+    ensures deleted { meaning 1204 (codes "{\"link\":\"l1\"}") ≡ Ok (command.DeleteLink (codes "l1")) }
+    ensures least { meaning 1210 (codes "{\"cost\":10}") ≡ Ok (command.SetLeastRouterCost 10) }
+    ensures free { meaning 1200 (codes "{\"name\":\"l1\",\"a\":\"r1\",\"b\":\"r2\",\"cost\":0}") ≡ Err (BadBody field.Cost reason.WrongKind) }
+    ensures no_least { meaning 1210 (codes "{\"cost\":0}") ≡ Err (BadBody field.Cost reason.WrongKind) }
+    ensures slow { meaning 1202 (codes "{\"link\":\"l1\",\"router\":\"r1\",\"latency\":60001}") ≡ Err (BadBody field.Latency reason.WrongKind) }
+    ensures one_end { meaning 1200 (codes "{\"name\":\"l1\",\"a\":\"r1\",\"cost\":0}") ≡ Err (BadBody field.B reason.Missing) }
+    ensures reported { meaning 1203 (codes "{\"link\":\"l1\",\"router\":\"r2\",\"up\":0}") ≡ Err (BadBody field.Up reason.WrongKind) }
 {}
 
 /// Bodies of the commands on terminators, read by the table of these commands.
 pub fn worked_terminators()
-    ensures made { meaning_in terminator_table 1300 (codes "{\"service\":\"web\",\"router\":\"r1\"}") ≡ Ok (command.CreateTerminator (codes "web") (codes "r1") [] None 0 Normal) }
-    ensures made_in_full { meaning_in terminator_table 1300 (codes "{\"service\":\"web\",\"router\":\"r1\",\"instance\":\"i-1\",\"host\":\"ann\",\"cost\":65535,\"precedence\":\"required\"}")
+    ensures made { meaning 1300 (codes "{\"service\":\"web\",\"router\":\"r1\"}") ≡ Ok (command.CreateTerminator (codes "web") (codes "r1") [] None 0 Normal) }
+    ensures made_in_full { meaning 1300 (codes "{\"service\":\"web\",\"router\":\"r1\",\"instance\":\"i-1\",\"host\":\"ann\",\"cost\":65535,\"precedence\":\"required\"}")
         ≡ Ok (command.CreateTerminator (codes "web") (codes "r1") (codes "i-1") (Some (codes "ann")) 65535 Required) }
-    ensures empty_instance { meaning_in terminator_table 1300 (codes "{\"service\":\"web\",\"router\":\"r1\",\"instance\":\"\"}") ≡ Ok (command.CreateTerminator (codes "web") (codes "r1") [] None 0 Normal) }
-    ensures updated { meaning_in terminator_table 1301 (codes "{\"no\":4294967295,\"cost\":0,\"precedence\":\"failed\"}") ≡ Ok (command.UpdateTerminator 4294967295 0 Failed) }
-    ensures deleted { meaning_in terminator_table 1302 (codes "{\"no\":1}") ≡ Ok (command.DeleteTerminator 1) }
-    ensures no_instance { meaning_in terminator_table 1300 (codes "{\"service\":\"web\",\"router\":\"r1\",\"instance\":\"a b\"}") ≡ Err (BadBody field.Instance reason.WrongKind) }
-    ensures null_host { meaning_in terminator_table 1300 (codes "{\"service\":\"web\",\"router\":\"r1\",\"host\":null}") ≡ Err (BadBody field.Host reason.WrongKind) }
-    ensures normal { meaning_in terminator_table 1300 (codes "{\"service\":\"web\",\"router\":\"r1\",\"precedence\":\"normal\"}") ≡ Err (BadBody field.Precedence reason.WrongKind) }
-    ensures zero { meaning_in terminator_table 1302 (codes "{\"no\":0}") ≡ Err (BadBody field.No reason.WrongKind) }
-    ensures beyond { meaning_in terminator_table 1302 (codes "{\"no\":4294967296}") ≡ Err (BadBody field.No reason.WrongKind) }
-    ensures no_cost { meaning_in terminator_table 1301 (codes "{\"no\":1,\"precedence\":\"failed\"}") ≡ Err (BadBody field.Cost reason.Missing) }
+    ensures empty_instance { meaning 1300 (codes "{\"service\":\"web\",\"router\":\"r1\",\"instance\":\"\"}") ≡ Ok (command.CreateTerminator (codes "web") (codes "r1") [] None 0 Normal) }
+    ensures updated { meaning 1301 (codes "{\"no\":4294967295,\"cost\":0,\"precedence\":\"failed\"}") ≡ Ok (command.UpdateTerminator 4294967295 0 Failed) }
+    ensures deleted { meaning 1302 (codes "{\"no\":1}") ≡ Ok (command.DeleteTerminator 1) }
+    ensures no_instance { meaning 1300 (codes "{\"service\":\"web\",\"router\":\"r1\",\"instance\":\"a b\"}") ≡ Err (BadBody field.Instance reason.WrongKind) }
+    ensures null_host { meaning 1300 (codes "{\"service\":\"web\",\"router\":\"r1\",\"host\":null}") ≡ Err (BadBody field.Host reason.WrongKind) }
+    ensures normal { meaning 1300 (codes "{\"service\":\"web\",\"router\":\"r1\",\"precedence\":\"normal\"}") ≡ Err (BadBody field.Precedence reason.WrongKind) }
+    ensures zero { meaning 1302 (codes "{\"no\":0}") ≡ Err (BadBody field.No reason.WrongKind) }
+    ensures beyond { meaning 1302 (codes "{\"no\":4294967296}") ≡ Err (BadBody field.No reason.WrongKind) }
+    ensures no_cost { meaning 1301 (codes "{\"no\":1,\"precedence\":\"failed\"}") ≡ Err (BadBody field.Cost reason.Missing) }
 {}
 
 /// Bodies of the commands on circuits, read by the table of these commands.

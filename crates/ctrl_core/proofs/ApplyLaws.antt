@@ -17,6 +17,7 @@ use Rattle.ctrl_model.specs.EntityCommands.{after_create_router}
 use Rattle.ctrl_model.specs.Numbered.{at, is_present, with_last, edit_at, map_each, first_where, Between}
 use Rattle.ctrl_model.specs.Rules.{side_attributes, forget_left, forget_right}
 use Rattle.ctrl_model.specs.State.{State, Entity, Router, Policy, as_entity}
+use Rattle.ctrl_model.specs.Settling.{settle}
 use Rattle.ctrl_model.specs.ValidState.{ValidState, ValidTable, each_passes, is_valid_router}
 use Rattle.ctrl_model.proofs.DistinctLaws.{same_name}
 use Rattle.ctrl_model.proofs.Members.{list_all-among, at-row}
@@ -91,7 +92,7 @@ may_by : (k : Kind) (taken : Option ℕ) (rows most n : ℕ) → taken ≡ None 
 may_by k taken rows most n free few last =
     rw (free, lt-ltb rows most few, lt-ltb n 4294967295 last) refl
 
-pub may_add_plain : (k : Kind) (name : List ℕ) (attributes : List (List ℕ)) (st : Stores) → is_plain_kind k ≡ true → ValidState (with_plain k name attributes (state_of st))
+pub may_add_plain : (k : Kind) (name : List ℕ) (attributes : List (List ℕ)) (st : Stores) → is_plain_kind k ≡ true → ValidState (settle (with_plain k name attributes (state_of st)))
     → may_add k name st.entities ≡ Ok tt
 may_add_plain kind.Identity name attributes st plain valid =
     let new = new_record (λ (e : Entity). e.name) 2048 st.entities.identities st.entities.next_identity (st.entities.next_identity + 1) (record { name = name; attributes = attributes }) valid.identities in
@@ -101,7 +102,7 @@ may_add_plain kind.Service name attributes st plain valid =
     may_by kind.Service _ (length st.entities.services) 512 st.entities.next_service new.named new.few new.last
 may_add_plain _ name attributes st plain valid = absurd (false≢true plain)
 
-pub may_add_router : (name : List ℕ) (attributes : List (List ℕ)) (cost : ℕ) (no_traversal : Bool) (st : Stores) → ValidState (after_create_router name attributes cost no_traversal (state_of st))
+pub may_add_router : (name : List ℕ) (attributes : List (List ℕ)) (cost : ℕ) (no_traversal : Bool) (st : Stores) → ValidState (settle (after_create_router name attributes cost no_traversal (state_of st)))
     → may_add kind.Router name st.entities ≡ Ok tt
 may_add_router name attributes cost no_traversal st valid =
     let new = new_record (λ (r : Router). r.name) 256 st.entities.routers st.entities.next_router (st.entities.next_router + 1)
@@ -112,18 +113,18 @@ may_add_router name attributes cost no_traversal st valid =
 -- ---- there is room for its attributes
 
 pub room_to_add : (k : Kind) (name : List ℕ) (attributes : List (List ℕ)) (st : Stores) → is_plain_kind k ≡ true → HoldsPolicies st
-    → ValidState (with_plain k name attributes (state_of st)) → has_attribute_room st.entities [] attributes ≡ true
+    → ValidState (settle (with_plain k name attributes (state_of st))) → has_attribute_room st.entities [] attributes ≡ true
 room_to_add k name attributes st plain held valid =
     has_room_in_state st [] attributes (with_plain k name attributes (state_of st)) held (λ x. let more = added k name attributes (state_of st) plain x in omega (arith, more)) valid.attributes
 
 pub room_to_add_router : (name : List ℕ) (attributes : List (List ℕ)) (cost : ℕ) (no_traversal : Bool) (st : Stores) → HoldsPolicies st
-    → ValidState (after_create_router name attributes cost no_traversal (state_of st)) → has_attribute_room st.entities [] attributes ≡ true
+    → ValidState (settle (after_create_router name attributes cost no_traversal (state_of st))) → has_attribute_room st.entities [] attributes ≡ true
 room_to_add_router name attributes cost no_traversal st held valid =
     has_room_in_state st [] attributes (after_create_router name attributes cost no_traversal (state_of st)) held
     (λ x. let more = added_router name attributes cost no_traversal (state_of st) x in omega (arith, more)) valid.attributes
 
 pub room_to_describe : (k : Kind) (n : ℕ) (attributes : List (List ℕ)) (st : Stores) → is_plain_kind k ≡ true → is_there k n (state_of st) ≡ true → HoldsPolicies st
-    → ValidState (with_described k n attributes (state_of st)) → has_attribute_room st.entities (attributes_at k n st.entities) attributes ≡ true
+    → ValidState (settle (with_described k n attributes (state_of st))) → has_attribute_room st.entities (attributes_at k n st.entities) attributes ≡ true
 room_to_describe kind.Identity n attributes st plain there held valid =
     by_is_some (at st.entities.identities n) there (λ e stands.
     rw stands (has_room_in_state st e.attributes attributes (with_described kind.Identity n attributes (state_of st)) held
@@ -145,7 +146,7 @@ abbrev pub marked : ℕ → Bool → Bool → Router → Router
 marked cost through connected r = record r { cost = cost; through = through; connected = connected }
 
 pub room_to_describe_router : (n : ℕ) (attributes : List (List ℕ)) (cost : ℕ) (through connected : Bool) (st : Stores) → is_present st.entities.routers n ≡ true → HoldsPolicies st
-    → ValidState (with_described_router n attributes cost through connected (state_of st)) → has_attribute_room st.entities (attributes_at kind.Router n st.entities) attributes ≡ true
+    → ValidState (settle (with_described_router n attributes cost through connected (state_of st))) → has_attribute_room st.entities (attributes_at kind.Router n st.entities) attributes ≡ true
 room_to_describe_router n attributes cost through connected st there held valid =
     by_is_some (at st.entities.routers n) there (λ r stands.
     let before : at (entities kind.Router st.entities) n ≡ Some (as_entity r) = at-map (λ row. as_entity row.1) st.entities.routers n ∙ ap (option_map as_entity) stands in
@@ -217,7 +218,7 @@ edit_at-with_last f high (x ∷ rows) low r b =
     λ i. (x.0, head i) ∷ tail i
 
 pub carried_router : (name : List ℕ) (attributes : List (List ℕ)) (cost : ℕ) (through : Bool) (st : Stores) → HoldsPolicies st
-    → ValidState (after_create_router name attributes cost (not through) (state_of st))
+    → ValidState (settle (after_create_router name attributes cost (not through) (state_of st)))
     → Carries st (record st { entities = with_router st.entities.next_router cost through false (with_entity kind.Router name attributes st.entities) })
     (after_create_router name attributes cost (not through) (state_of st))
 carried_router name attributes cost through st held valid =

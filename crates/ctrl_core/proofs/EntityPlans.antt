@@ -112,7 +112,7 @@ pub router_planned : (name : List ℕ) (attributes : List (List ℕ)) (cost : �
 router_planned name attributes cost no_traversal st n steps keeps e is taken =
     plans_carried _ (refusal_of_create_router name attributes cost no_traversal (state_of st)) (state_of st) (Made st.entities.next_router)
     (after_create_router name attributes cost no_traversal (state_of st)) (sym (refused_router name attributes cost no_traversal st keeps.held) ∙ sym e)
-    (ap (λ m. Made m) is) tt (ap (λ b. after_create_router name attributes cost b (state_of st)) (not-not no_traversal))
+    (ap (λ m. Made m) is) tt (ap (λ b. settle (after_create_router name attributes cost b (state_of st))) (not-not no_traversal))
     (added_router_leads name attributes cost no_traversal (state_of st) steps keeps.valid
     (subst (λ m. StepsOfEntity kind.Router m (record { before = None; after = Some (record { name = name; attributes = attributes }) }) (state_of st) steps) is taken))
 
@@ -353,7 +353,7 @@ update_router_planned name attributes cost no_traversal st n q steps keeps found
     (sym (router_effect name attributes cost no_traversal st n found))
     (plans_carried _ (refusal_of_update_router name attributes cost no_traversal (state_of st)) (state_of st) Done (with_updated n attributes cost (not no_traversal) (state_of st))
     (sym (router_refusal name attributes cost no_traversal st n r keeps stands found) ∙ sym e) refl (there_in_state kind.Router name st n found)
-    (ap (λ rows. record (state_of st) { routers = rows }) alike)
+    (ap (λ rows. settle (record (state_of st) { routers = rows })) alike)
     (described_router_leads n attributes (updated_as attributes cost (not no_traversal)) (state_of st) steps keeps.valid (λ row. refl) (entity_steps_in_state kind.Router n _ st steps is))))
 
 pub mark_unknown : (name : List ℕ) (connected : Bool) (st : Stores) (p : Planned) → number_of kind.Router name st.entities ≡ None
@@ -379,7 +379,7 @@ mark_planned name connected st n q steps keeps found sees none = by_seen st.enti
     (sym effect)
     (plans_carried _ (unknown_if_absent field.Name (number_of kind.Router name st.entities)) (state_of st) Done (with_mark n connected (state_of st))
     (ap (unknown_if_absent field.Name) found) refl (there_in_state kind.Router name st n found)
-    (ap (λ rows. record (state_of st) { routers = rows }) alike)
+    (ap (λ rows. settle (record (state_of st) { routers = rows })) alike)
     (marked_leads n (λ row. record row { connected = connected }) (state_of st) steps (λ row. refl) none)))
 
 -- ---- a deletion

@@ -15,3 +15,4 @@ pub mod PolicyCounts
 pub mod PolicyPlans
 pub mod SpelledPolicies
 pub mod StepsInState
+pub mod NetworkPlans

@@ -22,7 +22,7 @@ use Rattle.ctrl_core.specs.declared.changes.Change.{Change}
 use Rattle.ctrl_core.specs.declared.changes.Change.TheVariants.{Nothing}
 use Rattle.policy_store.specs.declared.steps.GrantSteps.{GrantSteps}
 use Rattle.ctrl_core.specs.declared.changes.Planned.{Planned}
-use Rattle.ctrl_core.specs.Changes.{CanChange, LeadsFrom, after_change, led}
+use Rattle.ctrl_core.specs.Changes.{CanChange, LeadsFrom, carried_by, led}
 use Rattle.policy_store.specs.GrantChanges.{HasNoSteps, steps_of}
 use Rattle.ctrl_core.specs.PlannedCommands.{Plans, IsShown}
 
@@ -40,7 +40,7 @@ pub plans_reply : (p : Planned) (reply : Reply) (s : State) → IsShown reply p 
 plans_reply p reply s is = record {
   reply = is.reply_is;
   can = subst (λ (c : Change). CanChange c s) (sym is.change_is) tt;
-  next = ap (λ (c : Change). after_change c s) is.change_is;
+  next = ap (λ (c : Change). carried_by c s) is.change_is;
   counts = no_steps_lead s p.steps is.no_steps;
 }
 

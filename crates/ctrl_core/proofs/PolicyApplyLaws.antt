@@ -11,6 +11,7 @@ use Rattle.ctrl_model.specs.Numbered.{at, is_present, Between}
 use Rattle.ctrl_model.specs.PolicyCommands.{replaced_by}
 use Rattle.ctrl_model.specs.Rules.{side_attributes, attributes_in_use}
 use Rattle.ctrl_model.specs.State.{State, Policy, policy_named}
+use Rattle.ctrl_model.specs.Settling.{settle}
 use Rattle.ctrl_model.specs.ValidState.{ValidState}
 use Rattle.ctrl_model.proofs.NumberedLaws.{first_where-found}
 use Rattle.entity_store.specs.EntityTables.{Tables}
@@ -18,6 +19,8 @@ use Rattle.entity_store.specs.AttributeUses.{times, held_times, entity_attribute
 use Rattle.policy_store.specs.PolicyTables.{PolicyTables, is_policy_kind, policies, number_of}
 use Rattle.policy_store.specs.PolicyTables as tables
 use Rattle.policy_store.specs.PolicyRules.{is_there, can_put, put_in}
+use Rattle.fabric_graph.specs.FabricTables.{FabricSeen}
+use Rattle.terminators.specs.TermTables.{TermTables}
 use Rattle.ctrl_core.specs.declared.stores.Stores.{Stores}
 use Rattle.ctrl_core.specs.AppliedChanges.{Carries, LetsPolicyGo}
 use Rattle.ctrl_core.specs.Changes.{policies_in, with_policy, with_replaced, without_policy}
@@ -72,7 +75,7 @@ ordered kind.EdgeRouterPolicy s is valid = valid.edge_router_policies.numbers.or
 ordered kind.ServiceEdgeRouterPolicy s is valid = valid.service_edge_router_policies.numbers.ordered
 ordered _ s is valid = absurd (false≢true is)
 
-ordered_before : (k : Kind) (n : ℕ) (p : Policy) (s : State) → is_policy_kind k ≡ true → ValidState (with_replaced k n p s) → Between 1 (next_in k s) (policies_in k s)
+ordered_before : (k : Kind) (n : ℕ) (p : Policy) (s : State) → is_policy_kind k ≡ true → ValidState (settle (with_replaced k n p s)) → Between 1 (next_in k s) (policies_in k s)
 ordered_before kind.ServicePolicy n p s is valid =
     Between-from_map (λ (x : ℕ × Policy). cond (x.0 == n) (replaced_by p x.1) x.1) s.next_service_policy s.service_policies 1 valid.service_policies.numbers.ordered
 ordered_before kind.EdgeRouterPolicy n p s is valid =
@@ -93,7 +96,7 @@ more_attributes k p st is x =
     let more = policy_added k p (state_of st) is x in
     omega (arith, before, after, same, more)
 
-other_attributes : (k : Kind) (n : ℕ) (p old : Policy) (st : Stores) → is_policy_kind k ≡ true → ValidState (with_replaced k n p (state_of st)) → at (policies_in k (state_of st)) n ≡ Some old → (x : List ℕ)
+other_attributes : (k : Kind) (n : ℕ) (p old : Policy) (st : Stores) → is_policy_kind k ≡ true → ValidState (settle (with_replaced k n p (state_of st))) → at (policies_in k (state_of st)) n ≡ Some old → (x : List ℕ)
     → times x (policy_attributes (tables.with_replaced k n p st.policies)) + times x (names_of old) ≡ times x (policy_attributes st.policies) + times x (names_of p)
 other_attributes k n p old st is valid stands x =
     let before = in_use-split x st in
@@ -116,7 +119,7 @@ fewer_attributes k n old st is valid stands x =
 put_by : (taken : Option ℕ) (rows most n : ℕ) → taken ≡ None → rows < most → n < 4294967295 → (is_none taken && (nat_lt rows most && nat_lt n 4294967295)) ≡ true
 put_by taken rows most n free few last = rw (free, lt-ltb rows most few, lt-ltb n 4294967295 last) refl
 
-pub can_put_fresh : (k : Kind) (p : Policy) (st : Stores) → is_policy_kind k ≡ true → ValidState (with_policy k p (state_of st)) → can_put k p.name true st.policies ≡ true
+pub can_put_fresh : (k : Kind) (p : Policy) (st : Stores) → is_policy_kind k ≡ true → ValidState (settle (with_policy k p (state_of st))) → can_put k p.name true st.policies ≡ true
 can_put_fresh kind.ServicePolicy p st is valid =
     let new = new_record (λ (q : Policy). q.name) 512 st.policies.service_policies st.policies.next_service_policy (st.policies.next_service_policy + 1) p valid.service_policies in
     put_by _ (length st.policies.service_policies) 512 st.policies.next_service_policy new.named new.few new.last
@@ -129,7 +132,7 @@ can_put_fresh kind.ServiceEdgeRouterPolicy p st is valid =
     put_by _ (length st.policies.service_edge_router_policies) 256 st.policies.next_service_edge_router_policy new.named new.few new.last
 can_put_fresh _ p st is valid = absurd (false≢true is)
 
-pub room_to_put : (k : Kind) (p : Policy) (st : Stores) → is_policy_kind k ≡ true → HoldsPolicies st → ValidState (with_policy k p (state_of st)) → has_attribute_room st.entities [] (names_of p) ≡ true
+pub room_to_put : (k : Kind) (p : Policy) (st : Stores) → is_policy_kind k ≡ true → HoldsPolicies st → ValidState (settle (with_policy k p (state_of st))) → has_attribute_room st.entities [] (names_of p) ≡ true
 room_to_put k p st is held valid =
     has_room_in_state st [] (names_of p) (with_policy k p (state_of st)) held (λ x. let more = policy_added k p (state_of st) is x in omega (arith, more)) valid.attributes
 
@@ -166,11 +169,19 @@ policy_there k n st mid there stay = ap (is_there k n) stay ∙ (ap (λ rows. is
 
 -- ---- a policy goes
 
+-- where links and terminators are those of other stores, so are they in the state
+same_network : (mid st : Stores) (q : PolicyTables) → mid.fabric ≡ st.fabric → mid.terminators ≡ st.terminators
+    → state_of (record mid { policies = q }) ≡ state_of (record st { policies = q; entities = mid.entities })
+same_network mid st q links terms =
+    ap (λ (f : FabricSeen). state_of (record mid { policies = q; fabric = f })) links
+    ∙ ap (λ (k : TermTables). state_of (record mid { policies = q; fabric = st.fabric; terminators = k })) terms
+
 pub carried_without : (k : Kind) (n : ℕ) (st mid : Stores) → is_policy_kind k ≡ true → ValidState (state_of st) → HoldsPolicies st → LetsPolicyGo k n st mid
     → Carries st (record mid { policies = tables.without_policy k n mid.policies }) (without_policy k n (state_of st))
 carried_without k n st mid is valid held gone = record {
   next = ap (λ (q : PolicyTables). state_of (record mid { policies = tables.without_policy k n q })) gone.policies_stay
-      ∙ (same_entities st.entities mid.entities gone.uses_go.others (record st { policies = tables.without_policy k n st.policies }) ∙ state_without k n st);
+      ∙ (same_network mid st (tables.without_policy k n st.policies) gone.links_stay gone.terminators_stay
+      ∙ (same_entities st.entities mid.entities gone.uses_go.others (record st { policies = tables.without_policy k n st.policies }) ∙ state_without k n st));
   held = λ x.
       let fewer = gone.uses_go.fewer x in let before = held x in
       let after = fewer_attributes k n gone.policy st is valid gone.stands x in
@@ -181,12 +192,12 @@ carried_without k n st mid is valid held gone = record {
 
 -- ---- a policy gets another's parts
 
-pub present_before : (k : Kind) (n : ℕ) (p : Policy) (s : State) → is_policy_kind k ≡ true → policy_named (policies_in k s) p.name ≡ Some n → ValidState (with_replaced k n p s)
+pub present_before : (k : Kind) (n : ℕ) (p : Policy) (s : State) → is_policy_kind k ≡ true → policy_named (policies_in k s) p.name ≡ Some n → ValidState (settle (with_replaced k n p s))
     → is_present (policies_in k s) n ≡ true
 present_before k n p s is named valid =
     ap is_some (first_where-found (λ (q : Policy). bytes_eq q.name p.name) (next_in k s) (policies_in k s) 1 n (ordered_before k n p s is valid) named).stands
 
-pub room_to_replace : (k : Kind) (n : ℕ) (p : Policy) (st mid : Stores) → is_policy_kind k ≡ true → ValidState (with_replaced k n p (state_of st)) → HoldsPolicies st → LetsPolicyGo k n st mid
+pub room_to_replace : (k : Kind) (n : ℕ) (p : Policy) (st mid : Stores) → is_policy_kind k ≡ true → ValidState (settle (with_replaced k n p (state_of st))) → HoldsPolicies st → LetsPolicyGo k n st mid
     → has_attribute_room mid.entities [] (names_of p) ≡ true
 room_to_replace k n p st mid is valid held gone =
     room_by_uses mid.entities [] (names_of p) (attributes_in_use (with_replaced k n p (state_of st))) (λ x.
@@ -203,12 +214,13 @@ pub can_put_other : (k : Kind) (n : ℕ) (name : List ℕ) (st mid : Stores) →
 can_put_other k n name st mid named stay = ap (can_put k name false) stay ∙ ap is_some (named_still k n name st named)
 
 pub carried_replaced : (k : Kind) (n : ℕ) (p : Policy) (st mid : Stores) (t : Tables) → is_policy_kind k ≡ true → policy_named (policies_in k (state_of st)) p.name ≡ Some n
-    → ValidState (with_replaced k n p (state_of st)) → HoldsPolicies st → LetsPolicyGo k n st mid → Holds (names_of p) mid.entities t
+    → ValidState (settle (with_replaced k n p (state_of st))) → HoldsPolicies st → LetsPolicyGo k n st mid → Holds (names_of p) mid.entities t
     → Carries st (record mid { entities = t; policies = put_in k p false mid.policies }) (with_replaced k n p (state_of st))
 carried_replaced k n p st mid t is named valid held gone holds = record {
   next = ap (λ (q : PolicyTables). state_of (record mid { entities = t; policies = q })) put
       ∙ (same_entities mid.entities t holds.others (record mid { policies = tables.with_replaced k n p st.policies })
-      ∙ (same_entities st.entities mid.entities gone.uses_go.others (record st { policies = tables.with_replaced k n p st.policies }) ∙ state_replaced k n p st));
+      ∙ (same_network mid st (tables.with_replaced k n p st.policies) gone.links_stay gone.terminators_stay
+      ∙ (same_entities st.entities mid.entities gone.uses_go.others (record st { policies = tables.with_replaced k n p st.policies }) ∙ state_replaced k n p st)));
   held = λ x.
       let more = holds.more x in let fewer = gone.uses_go.fewer x in let before = held x in
       let after = other_attributes k n p gone.policy st is valid gone.stands x in

@@ -32,7 +32,7 @@ use Rattle.policy_store.specs.GrantChanges.{steps_of}
 use Rattle.policy_store.specs.GrantChanges.{StepsOfPolicy}
 use Rattle.ctrl_core.specs.PlannedCommands.{Plans, IsShown, AreShort, refusal_to_put, refusal_of_create, refusal_of_replace, answer_create, answer_replace, answer_delete_policy}
 use Rattle.ctrl_core.proofs.InUseLaws.{names_of, policy_removed, uses_in_state}
-use Rattle.ctrl_core.proofs.ShownPlans.{plans_refused}
+use Rattle.ctrl_core.proofs.PlanLaws.{plans_refused, plans_carried}
 use Rattle.ctrl_core.proofs.RefusedPolicies.{refused_create, refused_replace}
 use Rattle.ctrl_core.proofs.PolicyCounts.{next_in, kind_ordered, created_leads, replaced_leads, removed_leads}
 
@@ -43,14 +43,6 @@ stored_policies kind.EdgeRouterPolicy st = refl
 stored_policies kind.ServiceEdgeRouterPolicy st = refl
 stored_policies _ st = refl
 
--- where no refusal comes, the change leads to the settled effect
-plans_carried : (p : Planned) (o : Option Refusal) (s : State) (said : Reply) (effect : State) → o ≡ None → p.reply ≡ said → CanChange p.change s
-    → after_change p.change s ≡ effect → settle effect ≡ effect → ((r : Relation) → LeadCounts (count r s) (count r effect) (steps_of r p.steps))
-    → Plans p (carried_out o s said effect) s
-plans_carried p o s said effect none says can next settled counts =
-    subst (λ q. Plans p (carried_out q s said effect) s) (sym none)
-    (subst (λ t. Plans p (said, t) s) (sym settled) (record { reply = says; can = can; next = next; counts = counts }))
-
 -- ---- a new policy
 
 created : (k : Kind) (p : Policy) (st : Stores) → is_policy_kind k ≡ true
@@ -59,12 +51,6 @@ created kind.ServicePolicy p st is = refl
 created kind.EdgeRouterPolicy p st is = refl
 created kind.ServiceEdgeRouterPolicy p st is = refl
 created _ p st is = absurd (false≢true is)
-
-created_settled : (k : Kind) (p : Policy) (st : Stores) → settle (with_policy k p (state_of st)) ≡ with_policy k p (state_of st)
-created_settled kind.ServicePolicy p st = refl
-created_settled kind.EdgeRouterPolicy p st = refl
-created_settled kind.ServiceEdgeRouterPolicy p st = refl
-created_settled _ p st = refl
 
 -- the refusal in the words of the store
 create_judged : (k : Kind) (p : Policy) (gone : List (List ℕ)) (st : Stores) → is_policy_kind k ≡ true → AreShort p → Keeps st → gone ≡ []
@@ -83,7 +69,7 @@ pub create_planned : (k : Kind) (given : stored.Policy) (gone : List (List ℕ))
 create_planned k given gone st n steps is short kept same e next stepped =
     subst (λ a. Plans made a (state_of st)) (sym (created k p st is))
     (plans_carried made (refusal_of_create k p (state_of st)) (state_of st) (Made (next_of k st.policies)) (with_policy k p (state_of st))
-    (sym (e ∙ create_judged k p gone st is short kept same)) (ap Made next) is refl (created_settled k p st) (created_leads k p (state_of st) steps is kept.valid stepped))
+    (sym (e ∙ create_judged k p gone st is short kept same)) (ap Made next) is refl (created_leads k p (state_of st) steps is kept.valid stepped))
   where
     p : Policy
     p = policy_of given
@@ -132,12 +118,6 @@ replaced kind.EdgeRouterPolicy n p s is named = ap (λ o. carried_out (refusal_o
 replaced kind.ServiceEdgeRouterPolicy n p s is named = ap (λ o. carried_out (refusal_of_replace kind.ServiceEdgeRouterPolicy p s) s Done (at_number o s (λ m. with_replaced kind.ServiceEdgeRouterPolicy m p s))) named
 replaced _ n p s is named = absurd (false≢true is)
 
-replaced_settled : (k : Kind) (n : ℕ) (p : Policy) (st : Stores) → settle (with_replaced k n p (state_of st)) ≡ with_replaced k n p (state_of st)
-replaced_settled kind.ServicePolicy n p st = refl
-replaced_settled kind.EdgeRouterPolicy n p st = refl
-replaced_settled kind.ServiceEdgeRouterPolicy n p st = refl
-replaced_settled _ n p st = refl
-
 unknown_first : (o : Option ℕ) (rest : Option Refusal) → o ≡ None → or_then (unknown_if_absent field.Name o) rest ≡ Some (Unknown field.Name)
 unknown_first o rest e = ap (λ q. or_then (unknown_if_absent field.Name q) rest) e
 
@@ -173,7 +153,7 @@ pub replace_planned : (k : Kind) (n : ℕ) (given : stored.Policy) (old : Policy
 replace_planned k n given old gone st steps is short kept named stands same e stepped =
     subst (λ a. Plans made a (state_of st)) (sym (replaced k n p (state_of st) is name_here))
     (plans_carried made (refusal_of_replace k p (state_of st)) (state_of st) Done (with_replaced k n p (state_of st))
-    (sym (e ∙ replace_judged k n p old gone st is short kept named stands same)) refl (is, name_here) refl (replaced_settled k n p st)
+    (sym (e ∙ replace_judged k n p old gone st is short kept named stands same)) refl (is, name_here) refl
     (replaced_leads k n old p (state_of st) steps is kept.valid here parts stepped))
   where
     p : Policy
@@ -201,12 +181,6 @@ deleted kind.EdgeRouterPolicy name s is = refl
 deleted kind.ServiceEdgeRouterPolicy name s is = refl
 deleted _ name s is = absurd (false≢true is)
 
-deleted_settled : (k : Kind) (n : ℕ) (st : Stores) → settle (without_policy k n (state_of st)) ≡ without_policy k n (state_of st)
-deleted_settled kind.ServicePolicy n st = refl
-deleted_settled kind.EdgeRouterPolicy n st = refl
-deleted_settled kind.ServiceEdgeRouterPolicy n st = refl
-deleted_settled _ n st = refl
-
 pub delete_unknown : (k : Kind) (name : List ℕ) (st : Stores) (made : Planned) → is_policy_kind k ≡ true → number_of k name st.policies ≡ None
     → IsShown (Refused (Unknown field.Name)) made → Plans made (answer_delete_policy k name (state_of st)) (state_of st)
 delete_unknown k name st made is absent shown =
@@ -219,7 +193,7 @@ pub delete_planned : (k : Kind) (name : List ℕ) (n : ℕ) (old : Policy) (st :
 delete_planned k name n old st steps is kept named stands stepped =
     subst (λ a. Plans made a (state_of st)) (sym (deleted k name (state_of st) is ∙ ap (λ o. carried_out (unknown_if_absent field.Name o) (state_of st) Done
     (at_number o (state_of st) (λ m. without_policy k m (state_of st)))) (named_in k name st (Some n) named)))
-    (plans_carried made None (state_of st) Done (without_policy k n (state_of st)) refl refl (is, ap is_some here) refl (deleted_settled k n st)
+    (plans_carried made None (state_of st) Done (without_policy k n (state_of st)) refl refl (is, ap is_some here) refl
     (removed_leads k n old (state_of st) steps is kept.valid here stepped))
   where
     made : Planned

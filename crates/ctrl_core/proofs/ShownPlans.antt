@@ -28,31 +28,7 @@ use Rattle.ctrl_core.specs.KeptState.{Keeps, state_of}
 use Rattle.ctrl_core.specs.Changes.{CanChange, after_change}
 use Rattle.policy_store.specs.GrantChanges.{HasNoSteps, steps_of}
 use Rattle.ctrl_core.specs.PlannedCommands.{Plans, IsShown}
-
-no_steps_of : (r : Relation) (steps : GrantSteps) → HasNoSteps steps → steps_of r steps ≡ []
-no_steps_of Dial steps none = none.dial
-no_steps_of Bind steps none = none.bind
-no_steps_of IdentityRouter steps none = none.identity_router
-no_steps_of ServiceRouter steps none = none.service_router
-
--- without steps the counts stay
-pub no_steps_lead : (r : Relation) (s : State) (steps : GrantSteps) → HasNoSteps steps → LeadCounts (count r s) (count r s) (steps_of r steps)
-no_steps_lead r s steps none =
-    subst (λ (ds : List Delta). LeadCounts (count r s) (count r s) ds) (sym (no_steps_of r steps none)) (unchanged_leads r s s refl refl refl)
-
--- what is shown is planned so
-pub plans_shown : (p : Planned) (said : Reply) (s : State) → IsShown said p → Plans p (said, s) s
-plans_shown p said s is = record {
-  reply = is.reply_is;
-  can = subst (λ made. CanChange made s) (sym is.change_is) tt;
-  next = ap (λ made. after_change made s) is.change_is;
-  counts = λ r. no_steps_lead r s p.steps is.no_steps;
-}
-
--- a refusal is planned as it is carried out
-pub plans_refused : (p : Planned) (o : Option Refusal) (r : Refusal) (s : State) (said : Reply) (effect : State) → o ≡ Some r → IsShown (reply.Refused r) p
-    → Plans p (carried_out o s said effect) s
-plans_refused p o r s said effect e is = subst (λ q. Plans p (carried_out q s said effect) s) (sym e) (plans_shown p (reply.Refused r) s is)
+use Rattle.ctrl_core.proofs.PlanLaws.{plans_reply}
 
 -- what a look-up by name answers
 pub some_from_ok : {E : Type 0} (o : Option ℕ) (fault : E) (n : ℕ) → ◌≡◌ {A = Result ℕ E} (Ok n) (ok_or o fault) → o ≡ Some n
@@ -68,7 +44,7 @@ none_from_err (Some m) fault f e = absurd (cc)
 pub grants_unknown : (name : List ℕ) (s : State) (p : Planned) → entity_named s.identities name ≡ None → IsShown (reply.Refused (Unknown field.Identity)) p → Plans p (show_grants name s) s
 grants_unknown name s p absent is =
     subst (λ found. Plans p (shown (unknown_if_absent field.Identity found) s (grants_of (unwrap_or found 0) s)) s) (sym absent)
-    (plans_shown p (reply.Refused (Unknown field.Identity)) s is)
+    (plans_reply p (reply.Refused (Unknown field.Identity)) s is)
 
 pub grants_planned : (name : List ℕ) (st : Stores) (n : ℕ) (p : Planned) (bind dial routers : List Tally) → Keeps st → entity_named st.entities.identities name ≡ Some n
     → bind ≡ tallies (count_of st.grants.bind n) st.entities.services → dial ≡ tallies (count_of st.grants.dial n) st.entities.services
@@ -76,7 +52,7 @@ pub grants_planned : (name : List ℕ) (st : Stores) (n : ℕ) (p : Planned) (bi
     → IsShown (reply.Grants bind dial routers) p → Plans p (show_grants name (state_of st)) (state_of st)
 grants_planned name st n p bind dial routers kept named bound dialled routed is =
     subst (λ found. Plans p (shown (unknown_if_absent field.Identity found) (state_of st) (grants_of (unwrap_or found 0) (state_of st))) (state_of st)) (sym named)
-    (plans_shown p (grants_of n (state_of st)) (state_of st) (subst (λ said. IsShown said p) same is))
+    (plans_reply p (grants_of n (state_of st)) (state_of st) (subst (λ said. IsShown said p) same is))
   where
     same : reply.Grants bind dial routers ≡ grants_of n (state_of st)
     same = λ i. reply.Grants ((bound ∙ (λ j. tallies (λ b. kept.counts Bind n b j) st.entities.services)) i)
@@ -86,14 +62,14 @@ grants_planned name st n p bind dial routers kept named bound dialled routed is 
 pub services_unknown : (name : List ℕ) (s : State) (p : Planned) → entity_named s.identities name ≡ None → IsShown (reply.Refused (Unknown field.Identity)) p → Plans p (list_services name s) s
 services_unknown name s p absent is =
     subst (λ found. Plans p (shown (unknown_if_absent field.Identity found) s (services_of (unwrap_or found 0) s)) s) (sym absent)
-    (plans_shown p (reply.Refused (Unknown field.Identity)) s is)
+    (plans_reply p (reply.Refused (Unknown field.Identity)) s is)
 
 pub services_planned : (name : List ℕ) (st : Stores) (n : ℕ) (p : Planned) (names : List (List ℕ)) (dialled : List Tally) → Keeps st → entity_named st.entities.identities name ≡ Some n
     → names ≡ map (λ (t : Tally). t.name) dialled → dialled ≡ tallies (count_of st.grants.dial n) st.entities.services
     → IsShown (reply.Services names) p → Plans p (list_services name (state_of st)) (state_of st)
 services_planned name st n p names dialled kept named told dials is =
     subst (λ found. Plans p (shown (unknown_if_absent field.Identity found) (state_of st) (services_of (unwrap_or found 0) (state_of st))) (state_of st)) (sym named)
-    (plans_shown p (services_of n (state_of st)) (state_of st) (subst (λ ns. IsShown (reply.Services ns) p) same is))
+    (plans_reply p (services_of n (state_of st)) (state_of st) (subst (λ ns. IsShown (reply.Services ns) p) same is))
   where
     same : names ≡ map (λ (row : ℕ × Entity). row.1.name) (filter (λ row. is_granted Dial (state_of st) n row.0) st.entities.services)
     same = told ∙ ap (map (λ (t : Tally). t.name)) dials

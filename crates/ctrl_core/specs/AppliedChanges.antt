@@ -23,6 +23,8 @@ pub record LetsPolicyGo (k : Kind) (n : ℕ) (old new : Stores) : Type 0 where
   pub stands : at (policies_in k (state_of old)) n ≡ Some policy
   pub uses_go : LetsGo (policy.left.attributes ++ policy.right.attributes) old.entities new.entities
   pub policies_stay : new.policies ≡ old.policies
+  pub links_stay : new.fabric ≡ old.fabric
+  pub terminators_stay : new.terminators ≡ old.terminators
   pub counts_stay : new.grants ≡ old.grants
 
 -- No pair has more steps down than its count, nor so many up that the count passes 32 bits.

@@ -3,7 +3,7 @@ use Rattle.std.specs.Prelude.{Bool, true, false}
 use Rattle.ctrl_model.specs.declared.commands.Command.{Command}
 use Rattle.ctrl_model.specs.declared.commands.Command.TheVariants as command
 use Rattle.ctrl_core.specs.declared.families.Family.{Family}
-use Rattle.ctrl_core.specs.declared.families.Family.TheVariants.{Greeting, Entities, ServicePolicies, EdgeRouterPolicies, ServiceEdgeRouterPolicies, Grants, Others}
+use Rattle.ctrl_core.specs.declared.families.Family.TheVariants.{Greeting, Entities, ServicePolicies, EdgeRouterPolicies, ServiceEdgeRouterPolicies, Links, Terminators, Grants, Others}
 
 -- The family of a command.
 abbrev pub family_of : Command → Family
@@ -28,6 +28,15 @@ family_of (command.DeleteEdgeRouterPolicy name) = EdgeRouterPolicies
 family_of (command.CreateServiceEdgeRouterPolicy name semantic left right) = ServiceEdgeRouterPolicies
 family_of (command.UpdateServiceEdgeRouterPolicy name semantic left right) = ServiceEdgeRouterPolicies
 family_of (command.DeleteServiceEdgeRouterPolicy name) = ServiceEdgeRouterPolicies
+family_of (command.CreateLink name a b cost latency_a latency_b) = Links
+family_of (command.SetLinkCost link cost) = Links
+family_of (command.ReportLatency link router latency) = Links
+family_of (command.ReportState link router up) = Links
+family_of (command.DeleteLink link) = Links
+family_of (command.SetLeastRouterCost cost) = Links
+family_of (command.CreateTerminator service router instance host cost precedence) = Terminators
+family_of (command.UpdateTerminator n cost precedence) = Terminators
+family_of (command.DeleteTerminator n) = Terminators
 family_of (command.ShowGrants identity) = Grants
 family_of (command.ListServices identity) = Grants
 family_of command.ShowCounts = Grants

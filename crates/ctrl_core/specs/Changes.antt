@@ -8,6 +8,7 @@ use Rattle.ctrl_model.specs.Numbered.{is_present, edit_at, without, map_each}
 use Rattle.ctrl_model.specs.State.{State, Policy, policy_named}
 use Rattle.ctrl_model.specs.Grants.{count}
 use Rattle.ctrl_model.specs.Rules.{forget_left, forget_right}
+use Rattle.ctrl_model.specs.Settling.{settle}
 use Rattle.ctrl_model.specs.ValidState.{ValidState}
 use Rattle.ctrl_model.specs.EntityCommands.{after_create_identity, after_create_service, after_create_router}
 use Rattle.ctrl_model.specs.PolicyCommands.{replaced_by, after_create_service_policy, after_create_edge_router_policy, after_create_service_edge_router_policy}
@@ -16,6 +17,9 @@ use Rattle.grant_moves.specs.CountMoves.{LeadCounts}
 use Rattle.policy_store.specs.GrantChanges.{steps_of}
 use Rattle.policy_store.specs.PolicyTables.{is_policy_kind}
 use Rattle.policy_store.specs.StoredPolicies.{policy_of}
+use Rattle.fabric_graph.specs.Routers.{fabric_of}
+use Rattle.link_commands.specs.LinkChanges.{CanChangeLinks, with_fabric, after_link_change}
+use Rattle.terminator_commands.specs.TermChanges.{CanChangeTerms, terms_of, with_terms, after_term_change}
 use Rattle.ctrl_core.specs.declared.changes.Change.{Change}
 use Rattle.ctrl_core.specs.declared.changes.Change.TheVariants as change
 use Rattle.ctrl_core.specs.declared.changes.Planned.{Planned}
@@ -97,7 +101,7 @@ without_policy kind.EdgeRouterPolicy n s = record s { edge_router_policies = wit
 without_policy kind.ServiceEdgeRouterPolicy n s = record s { service_edge_router_policies = without s.service_edge_router_policies n }
 without_policy _ n s = s
 
--- The state after a change.
+-- The state after a change, not yet settled.
 abbrev pub after_change : Change → State → State
 after_change change.Nothing s = s
 after_change (change.Add k name attributes) s = with_plain k name attributes s
@@ -109,6 +113,8 @@ after_change (change.Remove k n name) s = with_removed k n name s
 after_change (change.AddPolicy k p) s = with_policy k (policy_of p) s
 after_change (change.ReplacePolicy k n p) s = with_replaced k n (policy_of p) s
 after_change (change.RemovePolicy k n) s = without_policy k n s
+after_change (change.Link c) s = with_fabric (after_link_change c (fabric_of s)) s
+after_change (change.Terminator c) s = with_terms (after_term_change c (terms_of s)) s
 
 -- Whether an entity of a kind and number is present.
 abbrev pub is_there : Kind → ℕ → State → Bool
@@ -117,7 +123,8 @@ is_there kind.Service n s = is_present s.services n
 is_there kind.Router n s = is_present s.routers n
 is_there _ n s = false
 
--- What a change needs of the state: that its kind fits it, and that the record that it changes or removes is there.
+-- What a change needs of the state: that its kind fits it, that the record that it changes or removes is there, and of links and
+-- terminators what their stores need.
 abbrev pub CanChange : Change → State → Type 0
 CanChange change.Nothing s = ⊤
 CanChange (change.Add k name attributes) s = is_plain_kind k ≡ true
@@ -129,10 +136,22 @@ CanChange (change.Remove k n name) s = (is_entity_kind k ≡ true) × (is_there 
 CanChange (change.AddPolicy k p) s = is_policy_kind k ≡ true
 CanChange (change.ReplacePolicy k n p) s = (is_policy_kind k ≡ true) × (policy_named (policies_in k s) p.name ≡ Some n)
 CanChange (change.RemovePolicy k n) s = (is_policy_kind k ≡ true) × (is_present (policies_in k s) n ≡ true)
+CanChange (change.Link c) s = CanChangeLinks c (fabric_of s)
+CanChange (change.Terminator c) s = CanChangeTerms c (terms_of s)
+
+-- Whether nothing changes.
+abbrev pub is_nothing : Change → Bool
+is_nothing change.Nothing = true
+is_nothing _ = false
+
+-- The state once a change is carried out: where nothing changes it stays, and any other change is settled.
+abbrev pub carried_by : Change → State → State
+carried_by change.Nothing s = s
+carried_by c s = settle (after_change c s)
 
 -- Where a plan leads.
 abbrev pub led : Planned → State → State
-led p s = after_change p.change s
+led p s = carried_by p.change s
 
 -- A plan can lead from a state: what it keeps can be changed there, where it leads is a valid state, and its steps lead the
 -- grant counts of the one state to those of the other.

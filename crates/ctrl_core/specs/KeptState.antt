@@ -1,5 +1,5 @@
 -- The state that the stores of a core stand for, and what a core keeps of them (docs/PROMISES.md, "The core"). So far there are
--- entities and policies.
+-- entities, policies, links and terminators.
 use Rattle.std.specs.Prelude.{◌≡◌, ℕ, Bool, List, ◌++◌}
 use Rattle.std.specs.List.{flat_map}
 use Rattle.ctrl_model.specs.declared.kinds.Relation.{Relation}
@@ -30,6 +30,11 @@ state_of st = record start {
   next_edge_router_policy = st.policies.next_edge_router_policy;
   service_edge_router_policies = st.policies.service_edge_router_policies;
   next_service_edge_router_policy = st.policies.next_service_edge_router_policy;
+  links = st.fabric.links;
+  next_link = st.fabric.next;
+  least_router_cost = st.fabric.least;
+  terminators = st.terminators.terminators;
+  next_terminator = st.terminators.next;
 }
 
 -- The counts that are kept of a relation.

@@ -1,5 +1,5 @@
 -- What the private functions of planning answer: by kind, in the words of the stores. No public contract cites it.
-use Rattle.std.specs.Prelude.{◌≡◌, ℕ, ◌<◌, ◌≤◌, ⊤, Bool, true, false, not, cond, List, [], ◌++◌, length, slice_index_or, Some, Ok, Err, option_map}
+use Rattle.std.specs.Prelude.{◌≡◌, ℕ, ◌<◌, ◌≤◌, ⊤, Bool, true, false, not, cond, List, [], ◌++◌, length, slice_index_or, None, Some, Ok, Err, option_map}
 use Rattle.std.specs.declared.result.Result.{Result}
 use Rattle.std.specs.declared.option.Option.{Option}
 use Rattle.ctrl_model.specs.declared.kinds.Kind.{Kind}
@@ -25,7 +25,10 @@ use Rattle.policy_store.specs.declared.policies.PolicyFault.TheVariants as fault
 use Rattle.policy_store.specs.PolicyRules.{may_put}
 use Rattle.grant_moves.specs.CountMoves.{LeadCounts}
 use Rattle.ctrl_core.specs.declared.changes.Planned.{Planned}
-use Rattle.ctrl_core.specs.declared.changes.Change.TheVariants.{Nothing}
+use Rattle.link_commands.specs.declared.changes.LinkChange.{LinkChange}
+use Rattle.terminator_commands.specs.declared.changes.TermChange.{TermChange}
+use Rattle.ctrl_core.specs.declared.changes.Change.{Change}
+use Rattle.ctrl_core.specs.declared.changes.Change.TheVariants.{Nothing, Link, Terminator}
 use Rattle.policy_store.specs.declared.steps.GrantSteps.{GrantSteps}
 use Rattle.ctrl_core.specs.declared.stores.Stores.{Stores}
 use Rattle.ctrl_core.specs.KeptState.{state_of}
@@ -39,11 +42,25 @@ pub record Plans (p : Planned) (answered : Reply × State) (s : State) : Type 0 
   pub next : led p s ≡ answered.1
   pub counts : (r : Relation) → LeadCounts (count r s) (count r answered.1) (steps_of r p.steps)
 
--- The plan of a reply that changes nothing.
-pub record IsShown (reply : Reply) (p : Planned) : Type 0 where
+-- The plan of a reply and a change that moves no count.
+pub record IsUncounted (reply : Reply) (change : Change) (p : Planned) : Type 0 where
   pub reply_is : p.reply ≡ reply
-  pub change_is : p.change ≡ Nothing
+  pub change_is : p.change ≡ change
   pub no_steps : HasNoSteps p.steps
+
+-- The plan of a reply that changes nothing.
+abbrev pub IsShown : Reply → Planned → Type 0
+IsShown reply p = IsUncounted reply Nothing p
+
+-- The change of links that a plan has, if it has one.
+abbrev pub link_change : Option LinkChange → Change
+link_change None = Nothing
+link_change (Some c) = Link c
+
+-- The change of terminators that a plan has, if it has one.
+abbrev pub term_change : Option TermChange → Change
+term_change None = Nothing
+term_change (Some c) = Terminator c
 
 -- An entity with other attributes.
 abbrev pub described_as : List (List ℕ) → Entity → Entity

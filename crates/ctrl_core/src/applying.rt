@@ -2,13 +2,14 @@ ghost use Rattle.std.specs.Prelude.{◌≡◌, true, not, Some, OnOk};
 ghost use Rattle.ctrl_model.specs.declared.kinds.Kind.TheVariants as kind;
 ghost use Rattle.ctrl_model.specs.declared.kinds.Relation.{Relation};
 ghost use Rattle.ctrl_model.specs.EntityCommands.{after_create_router};
+ghost use Rattle.ctrl_model.specs.Settling.{settle};
 ghost use Rattle.ctrl_model.specs.ValidState.{ValidState};
 ghost use Rattle.ctrl_model.specs.Numbered.{is_present};
 ghost use Rattle.ctrl_model.specs.State.{policy_named};
 ghost use Rattle.entity_store.specs.EntityTables.{is_entity_kind};
 ghost use Rattle.policy_store.specs.PolicyTables.{is_policy_kind};
 ghost use Rattle.policy_store.specs.StoredPolicies.{policy_of};
-ghost use Rattle.ctrl_core.specs.Changes.{CanChange, is_plain_kind, is_there, policies_in, after_change, with_plain, with_described, with_described_router, with_marked, with_removed, with_policy, with_replaced, without_policy};
+ghost use Rattle.ctrl_core.specs.Changes.{CanChange, is_plain_kind, is_there, policies_in, after_change, carried_by, with_plain, with_described, with_described_router, with_marked, with_removed, with_policy, with_replaced, without_policy};
 ghost use Rattle.policy_store.specs.GrantChanges.{steps_of};
 ghost use Rattle.ctrl_core.specs.KeptState.{HoldsPolicies, counts_of, state_of};
 ghost use Rattle.ctrl_core.specs.AppliedChanges.{Carries, LetsPolicyGo, HaveRoom, Taken};
@@ -18,12 +19,14 @@ use crate::policy_names::policy_names;
 use crate::stores::{Grants, Stores};
 use ctrl_model::{Kind, Name, Names, PolicyNo, RouterNo};
 use grant_denorm::apply_changes;
+use link_commands::{apply_link_change, settle_links};
 use policy_store::{GrantSteps, Policy};
 use std::alloc::{AllocError, Global};
+use terminator_commands::{apply_term_change, settle_terminators};
 
 fn add(stores: &mut Stores, kind: Kind, name: &Name, attributes: &Names) -> Result<(), AllocError>
     requires kind { is_plain_kind kind ≡ true }
-    requires valid { ValidState (with_plain kind name.now attributes.now (state_of stores.old)) }
+    requires valid { ValidState (settle (with_plain kind name.now attributes.now (state_of stores.old))) }
     requires held { HoldsPolicies stores.old }
     ensures { OnOk result (Carries stores.old stores.new (with_plain kind name.now attributes.now (state_of stores.old))) }
 {
@@ -38,7 +41,7 @@ fn add_router(
     cost: u32,
     through: bool,
 ) -> Result<(), AllocError>
-    requires valid { ValidState (after_create_router name.now attributes.now cost (not through) (state_of stores.old)) }
+    requires valid { ValidState (settle (after_create_router name.now attributes.now cost (not through) (state_of stores.old))) }
     requires held { HoldsPolicies stores.old }
     ensures { OnOk result (Carries stores.old stores.new (after_create_router name.now attributes.now cost (not through) (state_of stores.old))) }
 {
@@ -58,7 +61,7 @@ fn describe(
 ) -> Result<(), AllocError>
     requires kind { is_plain_kind kind ≡ true }
     requires there { is_there kind number (state_of stores.old) ≡ true }
-    requires valid { ValidState (with_described kind number attributes.now (state_of stores.old)) }
+    requires valid { ValidState (settle (with_described kind number attributes.now (state_of stores.old))) }
     requires held { HoldsPolicies stores.old }
     ensures { OnOk result (Carries stores.old stores.new (with_described kind number attributes.now (state_of stores.old))) }
 {
@@ -74,7 +77,7 @@ fn describe_router(
     connected: bool,
 ) -> Result<(), AllocError>
     requires there { is_there kind.Router number (state_of stores.old) ≡ true }
-    requires valid { ValidState (with_described_router number attributes.now cost through connected (state_of stores.old)) }
+    requires valid { ValidState (settle (with_described_router number attributes.now cost through connected (state_of stores.old))) }
     requires held { HoldsPolicies stores.old }
     ensures { OnOk result (Carries stores.old stores.new (with_described_router number attributes.now cost through connected (state_of stores.old))) }
 {
@@ -87,7 +90,7 @@ fn describe_router(
 
 fn mark(stores: &mut Stores, number: u32, cost: u32, through: bool, connected: bool)
     requires there { is_there kind.Router number (state_of stores.old) ≡ true }
-    requires valid { ValidState (with_marked number cost through connected (state_of stores.old)) }
+    requires valid { ValidState (settle (with_marked number cost through connected (state_of stores.old))) }
     requires held { HoldsPolicies stores.old }
     ensures { Carries stores.old stores.new (with_marked number cost through connected (state_of stores.old)) }
 {
@@ -113,7 +116,7 @@ fn add_policy(
     policy: Policy,
 ) -> Result<(), AllocError>
     requires kind { is_policy_kind kind ≡ true }
-    requires valid { ValidState (with_policy kind (policy_of policy) (state_of stores.old)) }
+    requires valid { ValidState (settle (with_policy kind (policy_of policy) (state_of stores.old))) }
     requires held { HoldsPolicies stores.old }
     ensures { OnOk result (Carries stores.old stores.new (with_policy kind (policy_of policy) (state_of stores.old))) }
 {
@@ -152,7 +155,7 @@ fn replace_policy(
 ) -> Result<(), AllocError>
     requires kind { is_policy_kind kind ≡ true }
     requires named { policy_named (policies_in kind (state_of stores.old)) policy.name ≡ Some number }
-    requires valid { ValidState (with_replaced kind number (policy_of policy) (state_of stores.old)) }
+    requires valid { ValidState (settle (with_replaced kind number (policy_of policy) (state_of stores.old))) }
     requires held { HoldsPolicies stores.old }
     ensures { OnOk result (Carries stores.old stores.new (with_replaced kind number (policy_of policy) (state_of stores.old))) }
 {
@@ -180,11 +183,12 @@ fn remove_policy(
     Ok(())
 }
 
-/// Makes a change that leads from a valid state to a valid one. Of a change that fails for want of memory nothing is said.
-pub fn apply_change(alloc: Global, stores: &mut Stores, change: Change) -> Result<(), AllocError>
+// Makes a change that leads, once settled, from a valid state to a valid one. Of a change that fails for want of memory nothing is
+// said.
+fn apply_change(alloc: Global, stores: &mut Stores, change: Change) -> Result<(), AllocError>
     requires can { CanChange change (state_of stores.old) }
     requires before { ValidState (state_of stores.old) }
-    requires valid { ValidState (after_change change (state_of stores.old)) }
+    requires valid { ValidState (settle (after_change change (state_of stores.old))) }
     requires held { HoldsPolicies stores.old }
     ensures { OnOk result (Carries stores.old stores.new (after_change change (state_of stores.old))) }
 {
@@ -233,7 +237,34 @@ pub fn apply_change(alloc: Global, stores: &mut Stores, change: Change) -> Resul
             policy,
         } => replace_policy(alloc, stores, kind, number, policy),
         Change::RemovePolicy { kind, number } => remove_policy(alloc, stores, kind, number),
+        Change::Link(change) => apply_link_change(&mut stores.fabric, change),
+        Change::Terminator(change) => apply_term_change(&mut stores.terminators, change),
     }
+}
+
+// Removes what stands no longer: links first, and then terminators.
+fn settle(alloc: Global, stores: &mut Stores) -> Result<(), AllocError>
+    requires { HoldsPolicies stores.old }
+    ensures { OnOk result (Carries stores.old stores.new (settle (state_of stores.old))) }
+{
+    settle_links(alloc, &stores.entities, &mut stores.fabric)?;
+    settle_terminators(alloc, &stores.entities, &mut stores.terminators)
+}
+
+/// Carries a change out that leads from a valid state to a valid one: it is made, and the state is settled. Of a change that fails
+/// for want of memory nothing is said.
+pub fn carry_out(alloc: Global, stores: &mut Stores, change: Change) -> Result<(), AllocError>
+    requires can { CanChange change (state_of stores.old) }
+    requires before { ValidState (state_of stores.old) }
+    requires valid { ValidState (carried_by change (state_of stores.old)) }
+    requires held { HoldsPolicies stores.old }
+    ensures { OnOk result (Carries stores.old stores.new (carried_by change (state_of stores.old))) }
+{
+    if change.is_nothing() {
+        return Ok(());
+    }
+    apply_change(alloc, stores, change)?;
+    settle(alloc, stores)
 }
 
 /// Takes the steps of each relation's counts.

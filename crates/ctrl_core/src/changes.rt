@@ -1,10 +1,13 @@
 ghost use Rattle.std.specs.Prelude.{◌≡◌};
 ghost use Rattle.ctrl_model.specs.declared.replies.Reply.TheVariants.{Refused};
-ghost use Rattle.ctrl_core.specs.PlannedCommands.{IsShown};
+ghost use Rattle.ctrl_core.specs.Changes.{is_nothing};
+ghost use Rattle.ctrl_core.specs.PlannedCommands.{IsShown, IsUncounted};
 
 use ctrl_model::{Kind, Name, Names, Refusal, Reply};
+use link_commands::LinkChange;
 use policy_store::{GrantSteps, Policy};
 use std::alloc::Global;
+use terminator_commands::TermChange;
 
 /// One change of the stores.
 #[derive(Drop)]
@@ -67,6 +70,19 @@ pub enum Change {
         kind: Kind,
         number: u32,
     },
+    /// A change of the links, or of the least router cost.
+    Link(LinkChange),
+    /// A change of the terminators.
+    Terminator(TermChange),
+}
+
+impl Change {
+    /// Whether nothing changes.
+    pub(crate) fn is_nothing(&self) -> bool
+        ensures { result ≡ is_nothing self.now }
+    {
+        matches!(self, Change::Nothing)
+    }
 }
 
 /// The answer to a command, planned: the reply, and what is kept to carry it out. A plan leads from the state in which it was
@@ -79,15 +95,22 @@ pub struct Planned {
 }
 
 impl Planned {
+    /// The plan of a reply and of a change that moves no count.
+    pub(crate) fn uncounted(alloc: Global, reply: Reply, change: Change) -> Planned
+        ensures { IsUncounted reply change result }
+    {
+        Planned {
+            reply,
+            change,
+            steps: GrantSteps::none(alloc),
+        }
+    }
+
     /// The plan of a reply that changes nothing.
     pub(crate) fn shown(alloc: Global, reply: Reply) -> Planned
         ensures { IsShown reply result }
     {
-        Planned {
-            reply,
-            change: Change::Nothing,
-            steps: GrantSteps::none(alloc),
-        }
+        Planned::uncounted(alloc, reply, Change::Nothing)
     }
 
     /// The plan of a refusal, which changes nothing.

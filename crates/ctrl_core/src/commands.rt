@@ -4,9 +4,9 @@ ghost use Rattle.ctrl_model.specs.Controller.{carry, policy};
 ghost use Rattle.policy_store.specs.StoredPolicies.{policy_of};
 ghost use Rattle.ctrl_core.specs.CarriedCommands.{family_of, is_carried};
 ghost use Rattle.ctrl_core.specs.KeptState.{Keeps, state_of};
-ghost use Rattle.ctrl_core.specs.PlannedCommands.{Plans};
+ghost use Rattle.ctrl_core.specs.PlannedCommands.{Plans, link_change, term_change};
 
-use crate::changes::Planned;
+use crate::changes::{Change, Planned};
 use crate::families::{Family, family_of};
 use crate::planning::{
     plan_add, plan_add_router, plan_delete, plan_mark, plan_update, plan_update_router,
@@ -15,8 +15,10 @@ use crate::policy_planning::{plan_create_policy, plan_delete_policy, plan_replac
 use crate::showing::{plan_list_services, plan_show_counts, plan_show_grants};
 use crate::stores::Stores;
 use ctrl_model::{Command, Kind, Name, Relation, Reply, Semantic, Side};
+use link_commands::{LinkChange, LinkPlan, plan_link_command};
 use policy_store::Policy;
 use std::alloc::{AllocError, Global};
+use terminator_commands::{TermChange, TermPlan, plan_terminator_command};
 
 fn copy_side(side: &Side) -> Result<Side, AllocError>
     ensures { IfOk result (λ s. s ≡ side.now) }
@@ -206,6 +208,58 @@ fn plan_service_edge_router_policies(
     }
 }
 
+// The change that a plan of a command on links has.
+fn link_change(change: Option<LinkChange>) -> Change
+    ensures { result ≡ link_change change }
+{
+    match change {
+        Some(change) => Change::Link(change),
+        None => Change::Nothing,
+    }
+}
+
+// Plans the answer to a command on links or on the least router cost.
+fn plan_links(alloc: Global, stores: &Stores, command: &Command) -> Result<Planned, AllocError>
+    requires kept { Keeps stores.now }
+    requires spelled { is_spelled command.now ≡ true }
+    requires family { family_of command.now ≡ Family.Links }
+    ensures { IfOk result (λ p. Plans p (carry command.now (state_of stores.now)) (state_of stores.now)) }
+{
+    let LinkPlan { reply, change } =
+        plan_link_command(&stores.entities, &stores.fabric, command)?;
+    Ok(Planned::uncounted(alloc, reply, link_change(change)))
+}
+
+// The change that a plan of a command on terminators has.
+fn term_change(change: Option<TermChange>) -> Change
+    ensures { result ≡ term_change change }
+{
+    match change {
+        Some(change) => Change::Terminator(change),
+        None => Change::Nothing,
+    }
+}
+
+// Plans the answer to a command on terminators.
+fn plan_terminators(
+    alloc: Global,
+    stores: &Stores,
+    command: &Command,
+) -> Result<Planned, AllocError>
+    requires kept { Keeps stores.now }
+    requires spelled { is_spelled command.now ≡ true }
+    requires family { family_of command.now ≡ Family.Terminators }
+    ensures { IfOk result (λ p. Plans p (carry command.now (state_of stores.now)) (state_of stores.now)) }
+{
+    let TermPlan { reply, change } = plan_terminator_command(
+        &stores.entities,
+        &stores.terminators,
+        &stores.grants.bind,
+        command,
+    )?;
+    Ok(Planned::uncounted(alloc, reply, term_change(change)))
+}
+
 // Plans the answer to a command that shows grants or counts.
 fn plan_grants(alloc: Global, stores: &Stores, command: &Command) -> Result<Planned, AllocError>
     requires kept { Keeps stores.now }
@@ -239,6 +293,8 @@ pub fn plan_command(
         Family::ServiceEdgeRouterPolicies => {
             plan_service_edge_router_policies(alloc, stores, command)
         }
+        Family::Links => plan_links(alloc, stores, command),
+        Family::Terminators => plan_terminators(alloc, stores, command),
         Family::Grants => plan_grants(alloc, stores, command),
         Family::Others => unreachable!(),
     }

@@ -8,7 +8,7 @@ ghost use Rattle.grant_denorm.specs.MovedCounts.{AreCountsOf};
 ghost use Rattle.ctrl_core.specs.CarriedCommands.{is_carried};
 ghost use Rattle.ctrl_core.specs.Changes.{CanLead, LeadsFrom, led};
 
-use crate::applying::{apply_change, apply_steps};
+use crate::applying::{apply_steps, carry_out};
 use crate::changes::Planned;
 use crate::commands::plan_command;
 use crate::stores::Stores;
@@ -59,8 +59,8 @@ impl Core {
     }
 
     /// Plans the answer to a command that some body spells, as the controller gives it to who may send it. So far the commands are
-    /// Hello, those on identities, services, edge routers and policies, and those that show grants and counts. The state stays,
-    /// and it is valid.
+    /// Hello, those on identities, services, edge routers, policies, links and terminators, and those that show grants and counts.
+    /// The state stays, and it is valid.
     pub fn plan(&self, command: &Command) -> Result<Planned, AllocError>
         requires live { self.now.live ≡ true }
         requires spelled { is_spelled command.now ≡ true }
@@ -86,7 +86,7 @@ impl Core {
             steps,
         } = planned;
         self.live = false;
-        apply_change(self.alloc, &mut self.stores, change)?;
+        carry_out(self.alloc, &mut self.stores, change)?;
         apply_steps(&mut self.stores.grants, &steps)?;
         self.live = true;
         Ok(reply)

@@ -16,6 +16,10 @@ pub enum Family {
     EdgeRouterPolicies,
     /// The commands on service-edge-router policies.
     ServiceEdgeRouterPolicies,
+    /// The commands on links and on the least router cost.
+    Links,
+    /// The commands on terminators.
+    Terminators,
     /// The commands that show grants and counts.
     Grants,
     /// The commands that are not carried out yet.
@@ -48,6 +52,15 @@ pub fn family_of(command: &Command) -> Family
         Command::CreateServiceEdgeRouterPolicy { .. }
         | Command::UpdateServiceEdgeRouterPolicy { .. }
         | Command::DeleteServiceEdgeRouterPolicy { .. } => Family::ServiceEdgeRouterPolicies,
+        Command::CreateLink { .. }
+        | Command::SetLinkCost { .. }
+        | Command::ReportLatency { .. }
+        | Command::ReportState { .. }
+        | Command::DeleteLink { .. }
+        | Command::SetLeastRouterCost { .. } => Family::Links,
+        Command::CreateTerminator { .. }
+        | Command::UpdateTerminator { .. }
+        | Command::DeleteTerminator { .. } => Family::Terminators,
         Command::ShowGrants { .. } | Command::ListServices { .. } | Command::ShowCounts => {
             Family::Grants
         }

@@ -13,9 +13,11 @@ use crate::planning::unknown_identity;
 use crate::stores::Stores;
 use ctrl_model::{Kind, Name, Names, Reply, Tallies, Tally};
 use entity_store::Entities;
+use fabric_graph::Fabric;
 use grant_denorm::Counted;
 use policy_store::Policies;
 use std::alloc::{AllocError, Global};
+use terminators::Terminators;
 
 // The entities of a kind that an identity has a count with, each by its name with the count, in the order of their numbers.
 fn tallies(
@@ -150,6 +152,24 @@ fn count_all_policies(alloc: Global, kept: &Policies) -> Result<u32, AllocError>
     Ok(service + edge_router + service_edge_router)
 }
 
+// How many links there are.
+fn count_links(alloc: Global, fabric: &Fabric) -> Result<u32, AllocError>
+    ensures { IfOk result (λ n. n ≡ length fabric.now.links) }
+{
+    let _limit = fabric.next();
+    let numbers = fabric.numbers(alloc)?;
+    Ok(numbers.len() as u32)
+}
+
+// How many terminators there are.
+fn count_terminators(alloc: Global, kept: &Terminators) -> Result<u32, AllocError>
+    ensures { IfOk result (λ n. n ≡ length kept.now.terminators) }
+{
+    let _limit = kept.next();
+    let numbers = kept.numbers(alloc)?;
+    Ok(numbers.len() as u32)
+}
+
 // How many pairs all four relations grant.
 fn count_grants(stores: &Stores) -> u64
     requires { Keeps stores.now }
@@ -173,17 +193,19 @@ pub fn plan_show_counts(alloc: Global, stores: &Stores) -> Result<Planned, Alloc
     let routers = count_entities(alloc, entities, Kind::Router)?;
     let policies = count_all_policies(alloc, &stores.policies)?;
     let grants = count_grants(stores);
+    let links = count_links(alloc, &stores.fabric)?;
+    let terminators = count_terminators(alloc, &stores.terminators)?;
     Ok(Planned::shown(
         alloc,
         Reply::Counts {
             circuits: 0,
             grants,
             identities,
-            links: 0,
+            links,
             policies,
             routers,
             services,
-            terminators: 0,
+            terminators,
         },
     ))
 }

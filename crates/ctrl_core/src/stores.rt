@@ -1,13 +1,17 @@
 ghost use Rattle.std.specs.Prelude.{◌≡◌, [], IfOk};
 ghost use Rattle.entity_store.specs.EntityTables.{no_entities};
 ghost use Rattle.policy_store.specs.PolicyTables.{no_policies};
+ghost use Rattle.fabric_graph.specs.FabricTables.{no_links};
+ghost use Rattle.terminators.specs.TermTables.{no_terminators};
 ghost use Rattle.ctrl_core.specs.KeptState.{counts_of};
 
 use ctrl_model::Relation;
 use entity_store::Entities;
+use fabric_graph::Fabric;
 use grant_denorm::Counted;
 use policy_store::Policies;
 use std::alloc::{AllocError, Global};
+use terminators::Terminators;
 
 /// The grant counts of pairs, kept for each relation.
 #[derive(Drop)]
@@ -23,6 +27,8 @@ pub struct Grants {
 pub struct Stores {
     pub entities: Entities,
     pub policies: Policies,
+    pub fabric: Fabric,
+    pub terminators: Terminators,
     pub grants: Grants,
 }
 
@@ -55,11 +61,13 @@ impl Grants {
 impl Stores {
     /// Stores without records.
     pub fn new(alloc: Global) -> Result<Stores, AllocError>
-        ensures { IfOk result (λ st. st ≡ record { entities = no_entities; policies = no_policies; grants = record { dial = []; bind = []; identity_router = []; service_router = [] } }) }
+        ensures { IfOk result (λ st. st ≡ record { entities = no_entities; policies = no_policies; fabric = no_links; terminators = no_terminators; grants = record { dial = []; bind = []; identity_router = []; service_router = [] } }) }
     {
         Ok(Stores {
             entities: Entities::new(alloc)?,
             policies: Policies::new(alloc)?,
+            fabric: Fabric::new(alloc)?,
+            terminators: Terminators::new(alloc)?,
             grants: Grants::new(alloc)?,
         })
     }

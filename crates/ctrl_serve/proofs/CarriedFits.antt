@@ -7,16 +7,17 @@ use Rattle.ctrl_model.specs.declared.commands.Command.{Command}
 use Rattle.ctrl_model.specs.declared.commands.Command.TheVariants as command
 use Rattle.ctrl_model.specs.declared.refusals.Refusal.{Refusal}
 use Rattle.ctrl_model.specs.declared.kinds.Relation.TheVariants.{Dial, Bind, IdentityRouter, ServiceRouter}
-use Rattle.ctrl_model.specs.declared.kinds.Side.{Side}
-use Rattle.ctrl_model.specs.declared.refusals.Field.TheVariants.{Identity, Name}
+use Rattle.ctrl_model.specs.declared.refusals.Field.TheVariants.{Identity, Name, Link}
 use Rattle.ctrl_model.specs.declared.replies.Reply.{Reply}
 use Rattle.ctrl_model.specs.declared.replies.Reply.TheVariants.{Done, Made}
-use Rattle.ctrl_model.specs.State.{State, Entity, Policy, as_entity, entity_named, router_named, policy_named}
+use Rattle.ctrl_model.specs.State.{State, Entity, as_entity, entity_named, router_named, policy_named, link_named}
 use Rattle.ctrl_model.specs.Rules.{carried_out, shown, unknown_if_absent}
 use Rattle.ctrl_model.specs.EntityCommands.{after_create_identity, after_create_router, after_create_service, after_delete_identity, after_delete_router, after_delete_service, after_mark_router, after_update_identity, after_update_router, after_update_service, refusal_of_create_identity, refusal_of_create_router, refusal_of_create_service, refusal_of_update_identity, refusal_of_update_router, refusal_of_update_service}
-use Rattle.ctrl_model.specs.Grants.{count, is_granted}
+use Rattle.ctrl_model.specs.Grants.{count}
 use Rattle.ctrl_model.specs.PolicyCommands.{after_create_service_policy, after_create_edge_router_policy, after_create_service_edge_router_policy, after_update_service_policy, after_update_edge_router_policy, after_update_service_edge_router_policy, after_delete_service_policy, after_delete_edge_router_policy, after_delete_service_edge_router_policy, refusal_of_create_service_policy, refusal_of_create_edge_router_policy, refusal_of_create_service_edge_router_policy, refusal_of_update_service_policy, refusal_of_update_edge_router_policy, refusal_of_update_service_edge_router_policy}
-use Rattle.ctrl_model.specs.ShowCommands.{tallies, tally_of, router_entities, grants_of, services_of}
+use Rattle.ctrl_model.specs.LinkCommands.{after_create_link, after_set_link_cost, after_report_latency, after_report_state, after_delete_link, refusal_of_create_link, refusal_of_report}
+use Rattle.ctrl_model.specs.TerminatorCommands.{after_create_terminator, after_update_terminator, after_delete_terminator, refusal_of_create_terminator, no_such_terminator}
+use Rattle.ctrl_model.specs.ShowCommands.{tally_of, router_entities, grants_of, services_of}
 use Rattle.ctrl_model.specs.ValidState.{ValidState}
 use Rattle.ctrl_model.specs.Controller.{policy, carry}
 use Rattle.ctrl_core.specs.CarriedCommands.{is_carried}
@@ -99,6 +100,24 @@ carried_fits (command.UpdateServiceEdgeRouterPolicy name semantic left right) s 
     carried_out_fits (refusal_of_update_service_edge_router_policy p s) s Done (after_update_service_edge_router_policy p s) refl
 carried_fits (command.DeleteServiceEdgeRouterPolicy name) s valid carried =
     carried_out_fits (unknown_if_absent Name (policy_named s.service_edge_router_policies name)) s Done (after_delete_service_edge_router_policy name s) refl
+carried_fits (command.CreateLink name a b cost latency_a latency_b) s valid carried =
+    carried_out_fits (refusal_of_create_link name a b s) s (Made s.next_link) (after_create_link name a b cost latency_a latency_b s) refl
+carried_fits (command.SetLinkCost link cost) s valid carried =
+    carried_out_fits (unknown_if_absent Link (link_named s.links link)) s Done (after_set_link_cost link cost s) refl
+carried_fits (command.ReportLatency link router latency) s valid carried =
+    carried_out_fits (refusal_of_report link router s) s Done (after_report_latency link router latency s) refl
+carried_fits (command.ReportState link router up) s valid carried =
+    carried_out_fits (refusal_of_report link router s) s Done (after_report_state link up s) refl
+carried_fits (command.DeleteLink link) s valid carried =
+    carried_out_fits (unknown_if_absent Link (link_named s.links link)) s Done (after_delete_link link s) refl
+carried_fits (command.SetLeastRouterCost cost) s valid carried = refl
+carried_fits (command.CreateTerminator service router instance host cost precedence) s valid carried =
+    carried_out_fits (refusal_of_create_terminator service router host s) s (Made s.next_terminator)
+    (after_create_terminator service router instance host cost precedence s) refl
+carried_fits (command.UpdateTerminator no cost precedence) s valid carried =
+    carried_out_fits (no_such_terminator no s) s Done (after_update_terminator no cost precedence s) refl
+carried_fits (command.DeleteTerminator no) s valid carried =
+    carried_out_fits (no_such_terminator no s) s Done (after_delete_terminator no s) refl
 carried_fits (command.ShowGrants identity) s valid carried =
     let i = unwrap_or (entity_named s.identities identity) 0 in
     shown_fits (unknown_if_absent Identity (entity_named s.identities identity)) s (grants_of i s) (grants_fit i s valid)

@@ -44,3 +44,17 @@ first_goes = (1102, codes "{\"name\":\"p\"}") ∷ []
 -- The identity goes, and another one of its name comes.
 abbrev pub ann_comes_again : List (ℕ × List ℕ)
 ann_comes_again = (1002, codes "{\"name\":\"ann\"}") ∷ (1000, codes "{\"name\":\"ann\"}") ∷ []
+
+-- A service, two routers, a link between them, and a terminator of the service on the first router.
+abbrev pub two_routers : List (ℕ × List ℕ)
+two_routers =
+    (1010, codes "{\"name\":\"web\"}")
+    ∷ (1020, codes "{\"name\":\"r1\"}")
+    ∷ (1020, codes "{\"name\":\"r2\"}")
+    ∷ (1200, codes "{\"name\":\"l1\",\"a\":\"r1\",\"b\":\"r2\"}")
+    ∷ (1300, codes "{\"service\":\"web\",\"router\":\"r1\"}")
+    ∷ []
+
+-- The first router goes.
+abbrev pub router_goes : List (ℕ × List ℕ)
+router_goes = (1022, codes "{\"name\":\"r1\"}") ∷ []

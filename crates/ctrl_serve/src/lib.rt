@@ -8,7 +8,7 @@ mod laws;
 #[cfg(test)]
 mod memory_forms;
 #[cfg(test)]
-mod policy_rows;
+mod command_rows;
 mod serving;
 mod status;
 #[cfg(test)]
@@ -20,4 +20,4 @@ pub use bounds::Bounds;
 pub use laws::done_says_all;
 pub use status::Status;
 pub use top::{run, run_within};
-pub use worked::{worked_answers, worked_policies, worked_runs, worked_words};
+pub use worked::{worked_answers, worked_networks, worked_policies, worked_runs, worked_words};

@@ -7,7 +7,7 @@ ghost use Rattle.ctrl_model.specs.declared.refusals.Refusal.TheVariants as refus
 ghost use Rattle.ctrl_model.specs.declared.replies.Reply.TheVariants as reply;
 ghost use Rattle.ctrl_serve.specs.CommandLine.{Dry, form_of};
 ghost use Rattle.ctrl_serve.specs.FrameAnswer.{replies};
-ghost use Rattle.ctrl_serve.specs.WorkedAnswers.{reply_at_start, reply_behind, ann_may_dial, all_may_dial, first_goes, ann_comes_again};
+ghost use Rattle.ctrl_serve.specs.WorkedAnswers.{reply_at_start, reply_behind, ann_may_dial, all_may_dial, first_goes, ann_comes_again, two_routers, router_goes};
 ghost use Rattle.reply_codec.specs.ReplyFrame.{reply_frame};
 ghost use Rattle.ctrl_serve.specs.Ending.{ending};
 ghost use Rattle.ctrl_serve.specs.declared.status.Status.TheVariants as status;
@@ -50,6 +50,16 @@ pub fn worked_policies()
         ≡ reply.Refused (refusal.BadBody field.IdentityRoles reason.WrongKind) }
     ensures absent { reply_at_start 1100 (codes "{\"name\":\"p\",\"type\":\"Dial\",\"semantic\":\"AnyOf\",\"identity_roles\":[\"@q\"],\"service_roles\":[]}")
         ≡ reply.Refused (refusal.UnknownRef field.IdentityRoles (codes "q")) }
+{}
+
+/// Answers behind routers: a link has two of them, and what stood on a router goes with it.
+pub fn worked_networks()
+    ensures standing { reply_behind two_routers 1502 (codes "{}") ≡ reply.Counts 0 0 0 1 0 2 1 1 }
+    ensures gone { reply_behind (two_routers ++ router_goes) 1502 (codes "{}") ≡ reply.Counts 0 0 0 0 0 1 1 0 }
+    ensures same { reply_behind two_routers 1200 (codes "{\"name\":\"l2\",\"a\":\"r1\",\"b\":\"r1\"}") ≡ reply.Refused refusal.SameRouter }
+    ensures taken { reply_behind two_routers 1200 (codes "{\"name\":\"l1\",\"a\":\"q\",\"b\":\"r1\"}") ≡ reply.Refused refusal.Exists }
+    ensures absent { reply_behind (two_routers ++ router_goes) 1200 (codes "{\"name\":\"l1\",\"a\":\"r1\",\"b\":\"r2\"}") ≡ reply.Refused (refusal.Unknown field.A) }
+    ensures next { reply_behind two_routers 1300 (codes "{\"service\":\"web\",\"router\":\"r2\"}") ≡ reply.Made 2 }
 {}
 
 /// The replies to one frame that creates ann, to the same frame twice, and to a frame before a cut one; and how these inputs

@@ -14,5 +14,7 @@ returns c = record {
   stands = ap (λ rows. at rows c.args.number) (policies_seen c.args.kind c.args.stores.now) ∙ sym c.in-Some.ensures;
   uses_go = rw c.in_ok-gone.ensures at c.let_go.ensures;
   policies_stay = refl;
+  links_stay = refl;
+  terminators_stay = refl;
   counts_stay = refl;
 }

@@ -1,4 +1,4 @@
-//! Rows of commands on policies, and of what is then shown. The rows of a table are one run.
+//! Rows of commands on policies, links and terminators, and of what is then shown. The rows of a table are one run.
 
 use crate::bounds::Bounds;
 use crate::memory_forms::{MemoryDesk, MemorySource, NEVER};
@@ -131,6 +131,91 @@ const NAMES: [Row; 7] = [
     (1500, r#"{"identity":"ann"}"#, NONE),
 ];
 
+/// Links and terminators: what is refused, what is reported, and what goes with a router and with a host.
+const NETWORK: [Row; 25] = [
+    (1000, r#"{"name":"h"}"#, r#"{"no":1}"#),
+    (1010, r#"{"name":"web"}"#, r#"{"no":1}"#),
+    (1020, r#"{"name":"r1"}"#, r#"{"no":1}"#),
+    (1020, r#"{"name":"r2"}"#, r#"{"no":2}"#),
+    (
+        1200,
+        r#"{"name":"l1","a":"r1","b":"r1"}"#,
+        r#"{"code":25,"name":"SameRouter"}"#,
+    ),
+    (
+        1200,
+        r#"{"name":"l1","a":"r1","b":"q"}"#,
+        r#"{"code":21,"field":"b","name":"Unknown"}"#,
+    ),
+    (1200, r#"{"name":"l1","a":"r1","b":"r2"}"#, r#"{"no":1}"#),
+    (
+        1200,
+        r#"{"name":"l1","a":"r1","b":"q"}"#,
+        r#"{"code":20,"name":"Exists"}"#,
+    ),
+    (1201, r#"{"link":"l1","cost":5}"#, DONE),
+    (
+        1202,
+        r#"{"link":"l1","router":"r2","latency":60000}"#,
+        DONE,
+    ),
+    (
+        1203,
+        r#"{"link":"l1","router":"q","up":false}"#,
+        r#"{"code":21,"field":"router","name":"Unknown"}"#,
+    ),
+    (1203, r#"{"link":"l1","router":"r1","up":false}"#, DONE),
+    (1210, r#"{"cost":20}"#, DONE),
+    (1300, r#"{"service":"web","router":"r1"}"#, r#"{"no":1}"#),
+    (
+        1300,
+        r#"{"service":"web","router":"r2","host":"h"}"#,
+        r#"{"code":26,"name":"NotBindable"}"#,
+    ),
+    (
+        1100,
+        r#"{"name":"b","type":"Bind","semantic":"AnyOf","identity_roles":["@h"],"service_roles":["@web"]}"#,
+        r#"{"no":1}"#,
+    ),
+    (
+        1300,
+        r#"{"service":"web","router":"r2","host":"h"}"#,
+        r#"{"no":2}"#,
+    ),
+    (
+        1301,
+        r#"{"no":3,"cost":1,"precedence":"required"}"#,
+        r#"{"code":21,"field":"no","name":"Unknown"}"#,
+    ),
+    (
+        1502,
+        "{}",
+        r#"{"circuits":0,"grants":1,"identities":1,"links":1,"policies":1,"routers":2,"services":1,"terminators":2}"#,
+    ),
+    (1022, r#"{"name":"r1"}"#, DONE),
+    (
+        1502,
+        "{}",
+        r#"{"circuits":0,"grants":1,"identities":1,"links":0,"policies":1,"routers":1,"services":1,"terminators":1}"#,
+    ),
+    (
+        1204,
+        r#"{"link":"l1"}"#,
+        r#"{"code":21,"field":"link","name":"Unknown"}"#,
+    ),
+    (
+        1301,
+        r#"{"no":2,"cost":65535,"precedence":"failed"}"#,
+        DONE,
+    ),
+    (1002, r#"{"name":"h"}"#, DONE),
+    (
+        1302,
+        r#"{"no":2}"#,
+        r#"{"code":21,"field":"no","name":"Unknown"}"#,
+    ),
+];
+
 fn push_number(bytes: &mut Vec<u8>, number: u32) -> Result<(), AllocError> {
     bytes.extend_from_slice(&number.to_le_bytes())
 }
@@ -196,4 +281,9 @@ fn answers_commands_on_policies(rt: HostRuntime) -> Result<(), Fail> {
     check_table(&rt, rt.alloc(), &ROLES)?;
     check_table(&rt, rt.alloc(), &COUNTS)?;
     check_table(&rt, rt.alloc(), &NAMES)
+}
+
+#[test]
+fn answers_commands_on_links_and_terminators(rt: HostRuntime) -> Result<(), Fail> {
+    check_table(&rt, rt.alloc(), &NETWORK)
 }

@@ -1,0 +1,3 @@
+pub mod LinkChanges
+pub mod LinkPlans
+pub mod PlannedLinks

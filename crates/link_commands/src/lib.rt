@@ -1,0 +1,14 @@
+//! The commands on links and on the least router cost: planned, made, and settled.
+#![tactic(auto)]
+
+mod applying;
+mod changes;
+mod planning;
+mod settling;
+#[cfg(test)]
+mod tests;
+
+pub use applying::apply_link_change;
+pub use changes::{LinkChange, LinkPlan};
+pub use planning::plan_link_command;
+pub use settling::settle_links;

@@ -1,0 +1,2 @@
+pub mod SweepLaws
+pub mod TermPlanLaws

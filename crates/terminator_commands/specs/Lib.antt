@@ -1,0 +1,4 @@
+pub mod TermChanges
+pub mod TermPlans
+pub mod PlannedTerms
+pub mod SweptTerms

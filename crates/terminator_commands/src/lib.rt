@@ -1,0 +1,14 @@
+//! The commands on terminators: planned, made, and settled.
+#![tactic(auto)]
+
+mod applying;
+mod changes;
+mod planning;
+mod settling;
+#[cfg(test)]
+mod tests;
+
+pub use applying::apply_term_change;
+pub use changes::{TermChange, TermPlan};
+pub use planning::plan_terminator_command;
+pub use settling::settle_terminators;

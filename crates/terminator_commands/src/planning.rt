@@ -1,0 +1,206 @@
+ghost use Rattle.std.specs.Prelude.{◌≡◌, true, IfOk, Some, MatchResult};
+ghost use Rattle.ctrl_model.specs.declared.kinds.Relation.TheVariants.{Bind};
+ghost use Rattle.ctrl_model.specs.CommandForm.{is_cost, is_spelled};
+ghost use Rattle.ctrl_model.specs.Controller.{carry};
+ghost use Rattle.ctrl_model.specs.Grants.{count};
+ghost use Rattle.ctrl_model.specs.Numbered.{is_present};
+ghost use Rattle.ctrl_model.specs.State.{State};
+ghost use Rattle.ctrl_model.specs.TerminatorCommands.{create_terminator, update_terminator, delete_terminator};
+ghost use Rattle.grant_denorm.specs.MovedCounts.{AreCountsOf};
+ghost use Rattle.terminator_commands.specs.TermChanges.{over};
+ghost use Rattle.terminator_commands.specs.TermPlans.{is_terminator_command, PlansTerms};
+ghost use Rattle.terminator_commands.specs.PlannedTerms.{refused, unknown_place, plan_of_add, ArePlaced, PlansOver, PlansIn};
+
+use crate::changes::{TermChange, TermPlan};
+use ctrl_model::{
+    Command, Field, IdentityNo, Instance, Kind, Name, Precedence, Refusal, Reply, RouterNo,
+    ServiceNo, TermNo,
+};
+use entity_store::Entities;
+use grant_denorm::Counted;
+use std::alloc::AllocError;
+use terminators::{Term, TermFault, Terminators};
+
+// What a command on terminators is judged by.
+#[derive(Drop)]
+struct Stores<'a> {
+    entities: &'a Entities,
+    terminators: &'a Terminators,
+    bind: &'a Counted,
+}
+
+// Where a terminator stands, and who hosts it if one does.
+#[derive(Drop)]
+struct Places {
+    service: ServiceNo,
+    router: RouterNo,
+    host: Option<IdentityNo>,
+}
+
+// The plan of a refusal.
+fn refused(refusal: Refusal) -> TermPlan
+    ensures { result ≡ refused refusal }
+{
+    TermPlan {
+        reply: Reply::Refused(refusal),
+        change: None,
+    }
+}
+
+// Whether a terminator has the number.
+fn is_there(terminators: &Terminators, no: TermNo) -> bool
+    ensures { result ≡ is_present terminators.now.terminators no.0 }
+{
+    terminators.get(no).is_ok()
+}
+
+// The numbers of a service, a router and a host. An error is the first field of which nothing has the name.
+fn places_of(
+    entities: &Entities,
+    service: &Name,
+    router: &Name,
+    host: &Option<Name>,
+) -> Result<Places, Field>
+    ensures { MatchResult result (ArePlaced entities.now service.now router.now host.now)
+        (λ field. unknown_place entities.now service.now router.now host.now ≡ Some field) }
+{
+    let Ok(service) = entities.find(Kind::Service, service) else {
+        return Err(Field::Service);
+    };
+    let Ok(router) = entities.find(Kind::Router, router) else {
+        return Err(Field::Router);
+    };
+    let host = match host {
+        None => None,
+        Some(name) => match entities.find(Kind::Identity, name) {
+            Ok(number) => Some(IdentityNo(number)),
+            Err(_) => return Err(Field::Host),
+        },
+    };
+    Ok(Places {
+        service: ServiceNo(service),
+        router: RouterNo(router),
+        host,
+    })
+}
+
+// Plans one more terminator.
+fn plan_add(terminators: &Terminators, bind: &Counted, term: Term) -> TermPlan
+    ensures { result ≡ plan_of_add term terminators.now bind.now }
+{
+    match terminators.may_add(&term, bind) {
+        Err(TermFault::Full) => refused(Refusal::Full {
+            kind: Kind::Terminator,
+        }),
+        Err(_) => refused(Refusal::NotBindable),
+        Ok(()) => TermPlan {
+            reply: Reply::Made {
+                no: terminators.next(),
+            },
+            change: Some(TermChange::Add(term)),
+        },
+    }
+}
+
+// Plans the answer to CreateTerminator.
+fn plan_create_terminator(
+    stores: &Stores,
+    service: &Name,
+    router: &Name,
+    instance: &Instance,
+    host: &Option<Name>,
+    cost: u32,
+    precedence: Precedence,
+) -> Result<TermPlan, AllocError>
+    requires { is_cost cost ≡ true }
+    ensures { IfOk result (λ p. PlansIn p (create_terminator service.now router.now instance.now host.now cost precedence)
+        stores.now.entities.now stores.now.terminators.now stores.now.bind.now) }
+{
+    let places = match places_of(stores.entities, service, router, host) {
+        Ok(places) => places,
+        Err(field) => return Ok(refused(Refusal::Unknown { field })),
+    };
+    let instance = instance.copy()?;
+    let term = Term {
+        service: places.service,
+        router: places.router,
+        instance,
+        host: places.host,
+        cost,
+        precedence,
+    };
+    Ok(plan_add(stores.terminators, stores.bind, term))
+}
+
+// Plans the answer to UpdateTerminator.
+fn plan_update_terminator(
+    terminators: &Terminators,
+    no: TermNo,
+    cost: u32,
+    precedence: Precedence,
+) -> TermPlan
+    requires { is_cost cost ≡ true }
+    ensures { PlansOver result (update_terminator no.0 cost precedence) terminators.now }
+{
+    if !is_there(terminators, no) {
+        return refused(Refusal::Unknown { field: Field::No });
+    }
+    TermPlan {
+        reply: Reply::Done,
+        change: Some(TermChange::Set {
+            no,
+            cost,
+            precedence,
+        }),
+    }
+}
+
+// Plans the answer to DeleteTerminator.
+fn plan_delete_terminator(terminators: &Terminators, no: TermNo) -> TermPlan
+    ensures { PlansOver result (delete_terminator no.0) terminators.now }
+{
+    if !is_there(terminators, no) {
+        return refused(Refusal::Unknown { field: Field::No });
+    }
+    TermPlan {
+        reply: Reply::Done,
+        change: Some(TermChange::Remove(no)),
+    }
+}
+
+/// Plans the answer to a command on terminators that some body spells: in every state with these entities, these
+/// terminators and these counts of Bind it is the controller's (docs/RULES.md, "Commands on terminators").
+pub fn plan_terminator_command(
+    entities: &Entities,
+    terminators: &Terminators,
+    bind: &Counted,
+    command: &Command,
+) -> Result<TermPlan, AllocError>
+    requires terminators { is_terminator_command command.now ≡ true }
+    requires spelled { is_spelled command.now ≡ true }
+    ensures { IfOk result (λ p. (s : State) → AreCountsOf (count Bind (over entities.now terminators.now s)) bind.now
+        → PlansTerms p (carry command.now (over entities.now terminators.now s)) (over entities.now terminators.now s)) }
+{
+    let stores = Stores {
+        entities,
+        terminators,
+        bind,
+    };
+    match command {
+        Command::CreateTerminator {
+            service,
+            router,
+            instance,
+            host,
+            cost,
+            precedence,
+        } => plan_create_terminator(&stores, service, router, instance, host, *cost, *precedence),
+        Command::UpdateTerminator {
+            no,
+            cost,
+            precedence,
+        } => Ok(plan_update_terminator(terminators, TermNo(*no), *cost, *precedence)),
+        Command::DeleteTerminator { no } => Ok(plan_delete_terminator(terminators, TermNo(*no))),
+        _ => unreachable!(),
+    }
+}
