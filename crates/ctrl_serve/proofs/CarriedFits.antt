@@ -114,10 +114,10 @@ carried_fits (command.SetLeastRouterCost cost) s valid carried = refl
 carried_fits (command.CreateTerminator service router instance host cost precedence) s valid carried =
     carried_out_fits (refusal_of_create_terminator service router host s) s (Made s.next_terminator)
     (after_create_terminator service router instance host cost precedence s) refl
-carried_fits (command.UpdateTerminator no cost precedence) s valid carried =
-    carried_out_fits (no_such_terminator no s) s Done (after_update_terminator no cost precedence s) refl
-carried_fits (command.DeleteTerminator no) s valid carried =
-    carried_out_fits (no_such_terminator no s) s Done (after_delete_terminator no s) refl
+carried_fits (command.UpdateTerminator n cost precedence) s valid carried =
+    carried_out_fits (no_such_terminator n s) s Done (after_update_terminator n cost precedence s) refl
+carried_fits (command.DeleteTerminator n) s valid carried =
+    carried_out_fits (no_such_terminator n s) s Done (after_delete_terminator n s) refl
 carried_fits (command.ShowGrants identity) s valid carried =
     let i = unwrap_or (entity_named s.identities identity) 0 in
     shown_fits (unknown_if_absent Identity (entity_named s.identities identity)) s (grants_of i s) (grants_fit i s valid)

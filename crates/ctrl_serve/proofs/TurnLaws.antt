@@ -45,6 +45,10 @@ pub record Told (n : ℕ) (s : State) (rest bytes : List ℕ) (a b : Option (Lis
 pub whole_is_long : (bytes : List ℕ) (f : Frame) (n : ℕ) → front bytes ≡ Whole f n → 1 ≤ n
 whole_is_long bytes f n e = let stands = front_stands bytes f n e in omega (arith, stands.len)
 
+-- And it stands within the bytes.
+pub whole_fits : (bytes : List ℕ) (f : Frame) (n : ℕ) → front bytes ≡ Whole f n → n ≤ length bytes
+whole_fits bytes f n e = let stands = front_stands bytes f n e in let there = stands.there in let len = stands.len in omega (arith, there, len)
+
 -- Nothing was said at the start.
 pub told_start : (bytes : List ℕ) (a : Option (List ℕ)) → Told 0 start bytes bytes a a
 told_start bytes a = record { done = []; took = Took-none a; same = refl; tail = refl }

@@ -1,7 +1,7 @@
 use Rattle.std.proofs.Common.{sym, ◌∙◌, ap, arith}
 use Rattle.std.proofs.lemmas.Result.{err_from_is_err_and}
 use Rattle.ctrl_model.specs.Matches.{is_nothing}
-use Rattle.ctrl_serve.proofs.TurnLaws.{told_more, told_all, cut_served, whole_is_long, is_nothing-length}
+use Rattle.ctrl_serve.proofs.TurnLaws.{told_more, told_all, cut_served, whole_is_long, whole_fits, is_nothing-length}
 use Rattle.ctrl_serve.proofs.serving.serve_frames.Goals as goal
 
 pub returns-in_err-serve_frame-clause-said : goal.returns-in_err-serve_frame-clause-said
@@ -20,6 +20,9 @@ frames-preserved g c =
       notes = c.serve_frame.ensures.notes ∙ c.frames.invariant.notes;
       note_faults = c.serve_frame.ensures.note_faults ∙ c.frames.invariant.note_faults;
     }
+
+pub split_at-requires : goal.split_at-requires
+split_at-requires g c = whole_fits c.frames.rest.now c.in-Whole.frame c.in-Whole.len (sym c.in_ok-frame.ensures ∙ c.in-Whole.is)
 
 pub frames-smaller : goal.frames-smaller
 frames-smaller g c =

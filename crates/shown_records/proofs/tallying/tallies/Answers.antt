@@ -1,8 +1,8 @@
 use Rattle.std.proofs.Common.{◌∙◌}
 use Rattle.entity_store.specs.EntityTables.{entities, next_of}
 use Rattle.grant_denorm.specs.PairCounts.{count_of}
-use Rattle.ctrl_core.proofs.ShowLaws.{each_stands, tallied}
-use Rattle.ctrl_core.proofs.showing.tallies.Goals as goal
+use Rattle.shown_records.proofs.TallyLaws.{each_stands, tallied}
+use Rattle.shown_records.proofs.tallying.tallies.Goals as goal
 
 pub unreachable-requires : goal.unreachable-requires
 unreachable-requires c =
