@@ -1,11 +1,13 @@
 ghost use Rattle.std.specs.Prelude.{◌≡◌, true, IfOk};
+ghost use Rattle.ctrl_model.specs.CommandForm.{is_spelled};
 ghost use Rattle.ctrl_model.specs.NameForm.{is_name};
+ghost use Rattle.link_commands.specs.LinkPlans.{is_link_command};
 
-use crate::{LinkChange, apply_link_change, plan_link_command, settle_links};
+use crate::{LinkChange, LinkPlan, apply_link_change, plan_link_command, settle_links};
 use ctrl_model::{Command, Kind, LinkNo, Name, Names, Reply, RouterNo};
 use entity_store::Entities;
 use fabric_graph::{Fabric, LinkRow};
-use std::alloc::Global;
+use std::alloc::{AllocError, Global};
 use std::process::Abort;
 use std::test::Fail;
 
@@ -58,56 +60,51 @@ fn add(alloc: Global, fabric: &mut Fabric, name: &[u8], a: u32, b: u32) -> Resul
     }
 }
 
-// One more link of the two routers gets the next number.
+fn is_planned(plan: &LinkPlan) -> bool {
+    match (&plan.reply, &plan.change) {
+        (Reply::Made { no }, Some(LinkChange::Add(link))) => {
+            *no == 3 && link.a == RouterNo(2) && link.b == RouterNo(1) && link.latency_b == 60_000
+        }
+        _ => false,
+    }
+}
+
+// Whether a command is planned as a third link, between the two routers.
+fn plans(known: &Entities, fabric: &Fabric, command: &Command) -> Result<bool, AllocError>
+    requires links { is_link_command command.now ≡ true }
+    requires spelled { is_spelled command.now ≡ true }
+{
+    let plan = plan_link_command(known, fabric, command)?;
+    Ok(is_planned(&plan))
+}
+
 fn plans_a_link(
-    rt: &impl Abort,
-    alloc: Global,
     known: &Entities,
     fabric: &Fabric,
-) -> Result<(), Fail> {
+    name: Name,
+    a: Name,
+    b: Name,
+) -> Result<bool, AllocError>
+    requires name { is_name name ≡ true }
+    requires a { is_name a ≡ true }
+    requires b { is_name b ≡ true }
+{
     let command = Command::CreateLink {
-        name: named(alloc, b"l3")?,
-        a: named(alloc, b"r2")?,
-        b: named(alloc, b"r1")?,
+        name,
+        a,
+        b,
         cost: 5,
         latency_a: 0,
         latency_b: 60_000,
     };
-    let plan = plan_link_command(known, fabric, &command)?;
-    assert!(rt; matches!(plan.reply, Reply::Made { no: 3 }));
-    let Some(LinkChange::Add(link)) = plan.change else {
-        return Err(Fail::new("a link is added"));
-    };
-    assert_eq!(rt; (link.a, link.b, link.cost), (RouterNo(2), RouterNo(1), 5));
-    Ok(())
+    plans(known, fabric, &command)
 }
 
-// The second router reports the latency of the second end.
-fn plans_a_report(
-    rt: &impl Abort,
-    alloc: Global,
-    known: &Entities,
-    fabric: &Fabric,
-) -> Result<(), Fail> {
-    let command = Command::ReportLatency {
-        link: named(alloc, b"l1")?,
-        router: named(alloc, b"r2")?,
-        latency: 9,
-    };
-    let plan = plan_link_command(known, fabric, &command)?;
-    let Some(
-        LinkChange::Set {
-            no,
-            latency_a,
-            latency_b,
-            ..
-        },
-    ) = plan.change
-    else {
-        return Err(Fail::new("a link is set"));
-    };
-    assert_eq!(rt; (no, latency_a, latency_b), (LinkNo(1), 4, 9));
-    Ok(())
+fn plans_a_third(alloc: Global, known: &Entities, fabric: &Fabric) -> Result<bool, Fail> {
+    let name = named(alloc, b"l3")?;
+    let a = named(alloc, b"r2")?;
+    let b = named(alloc, b"r1")?;
+    Ok(plans_a_link(known, fabric, name, a, b)?)
 }
 
 // The link to an absent router goes, and the other one stays.
@@ -115,8 +112,7 @@ fn settles(rt: &impl Abort, alloc: Global, known: &Entities) -> Result<(), Fail>
     let mut fabric = Fabric::new(alloc)?;
     add(alloc, &mut fabric, b"l1", 1, 2)?;
     add(alloc, &mut fabric, b"l2", 2, 3)?;
-    plans_a_link(rt, alloc, known, &fabric)?;
-    plans_a_report(rt, alloc, known, &fabric)?;
+    assert!(rt; plans_a_third(alloc, known, &fabric)?);
     settle_links(alloc, known, &mut fabric)?;
     assert_eq!(rt; fabric.numbers(alloc)?.as_slice(), [1].as_slice());
     Ok(())
