@@ -17,10 +17,11 @@ use Rattle.command_codec.proofs.EntityLaws.{entity_faithful}
 use Rattle.command_codec.proofs.PolicyLaws.{policy_faithful}
 use Rattle.command_codec.proofs.LinkLaws.{link_faithful}
 use Rattle.command_codec.proofs.TerminatorLaws.{terminator_faithful}
+use Rattle.command_codec.proofs.CircuitLaws.{circuit_faithful}
 use Rattle.command_codec.proofs.ShowLaws.{show_faithful}
 
 faithful : Faithful table
-faithful = entity_faithful ⊕ (policy_faithful ⊕ (link_faithful ⊕ (terminator_faithful ⊕ show_faithful)))
+faithful = entity_faithful ⊕ (policy_faithful ⊕ (link_faithful ⊕ (terminator_faithful ⊕ (circuit_faithful ⊕ show_faithful))))
 
 -- What a body means, with its form.
 pub record Means (content : ℕ) (body : List ℕ) (c : Command) : Type 0 where

@@ -12,8 +12,7 @@ ghost use Rattle.role_expr.specs.NameRepeats.{without_repeats};
 ghost use Rattle.command_codec.specs.NameLists.{as_attributes};
 ghost use Rattle.command_codec.specs.RoleLists.{as_side};
 ghost use Rattle.command_codec.specs.RouteClaims.{as_numbers, as_reach};
-ghost use Rattle.command_codec.specs.BodyMeaning.{meaning, meaning_in};
-ghost use Rattle.command_codec.specs.CircuitBodies.{circuit_table};
+ghost use Rattle.command_codec.specs.BodyMeaning.{meaning};
 
 /// Bodies that spell a command of each kind.
 pub fn worked_bodies()
@@ -62,7 +61,7 @@ pub fn worked_shows()
     ensures name { meaning 1500 (codes "{\"name\":\"ann\"}") ≡ Err (BadBody field.Identity reason.Missing) }
 {}
 
-/// Bodies of the commands on links, read by the table of these commands.
+/// Bodies of the commands on links.
 pub fn worked_links()
     ensures made { meaning 1200 (codes "{\"name\":\"l1\",\"a\":\"r1\",\"b\":\"r2\"}") ≡ Ok (command.CreateLink (codes "l1") (codes "r1") (codes "r2") 1 0 0) }
     ensures made_in_full { meaning 1200 (codes "{\"name\":\"l1\",\"a\":\"r1\",\"b\":\"r2\",\"cost\":65535,\"latency_a\":60000,\"latency_b\":7}") ≡ Ok (command.CreateLink (codes "l1") (codes "r1") (codes "r2") 65535 60000 7) }
@@ -78,7 +77,7 @@ pub fn worked_links()
     ensures reported { meaning 1203 (codes "{\"link\":\"l1\",\"router\":\"r2\",\"up\":0}") ≡ Err (BadBody field.Up reason.WrongKind) }
 {}
 
-/// Bodies of the commands on terminators, read by the table of these commands.
+/// Bodies of the commands on terminators.
 pub fn worked_terminators()
     ensures made { meaning 1300 (codes "{\"service\":\"web\",\"router\":\"r1\"}") ≡ Ok (command.CreateTerminator (codes "web") (codes "r1") [] None 0 Normal) }
     ensures made_in_full { meaning 1300 (codes "{\"service\":\"web\",\"router\":\"r1\",\"instance\":\"i-1\",\"host\":\"ann\",\"cost\":65535,\"precedence\":\"required\"}")
@@ -94,31 +93,31 @@ pub fn worked_terminators()
     ensures no_cost { meaning 1301 (codes "{\"no\":1,\"precedence\":\"failed\"}") ≡ Err (BadBody field.Cost reason.Missing) }
 {}
 
-/// Bodies of the commands on circuits, read by the table of these commands.
+/// Bodies of the commands on circuits.
 pub fn worked_circuits()
-    ensures made { meaning_in circuit_table 1400 (codes "{\"identity\":\"ann\",\"service\":\"web\"}") ≡ Ok (command.CreateCircuit (codes "ann") (codes "web") None []) }
-    ensures made_in_full { meaning_in circuit_table 1400 (codes "{\"identity\":\"ann\",\"service\":\"web\",\"ingress\":\"r1\",\"instance\":\"i-1\"}") ≡ Ok (command.CreateCircuit (codes "ann") (codes "web") (Some (codes "r1")) (codes "i-1")) }
-    ensures deleted { meaning_in circuit_table 1401 (codes "{\"no\":7}") ≡ Ok (command.DeleteCircuit 7) }
-    ensures explained { meaning_in circuit_table 1402 (codes "{\"identity\":\"ann\",\"service\":\"web\",\"instance\":\"\"}") ≡ Ok (command.Explain (codes "ann") (codes "web") None []) }
-    ensures shown { meaning_in circuit_table 1503 (codes "{\"no\":7}") ≡ Ok (command.ShowCircuit 7) }
-    ensures zero { meaning_in circuit_table 1401 (codes "{\"no\":0}") ≡ Err (BadBody field.No reason.WrongKind) }
-    ensures no_instance { meaning_in circuit_table 1400 (codes "{\"identity\":\"ann\",\"service\":\"web\",\"instance\":\"a b\"}") ≡ Err (BadBody field.Instance reason.WrongKind) }
-    ensures null_ingress { meaning_in circuit_table 1400 (codes "{\"identity\":\"ann\",\"service\":\"web\",\"ingress\":null,\"instance\":1}") ≡ Err (BadBody field.Ingress reason.WrongKind) }
+    ensures made { meaning 1400 (codes "{\"identity\":\"ann\",\"service\":\"web\"}") ≡ Ok (command.CreateCircuit (codes "ann") (codes "web") None []) }
+    ensures made_in_full { meaning 1400 (codes "{\"identity\":\"ann\",\"service\":\"web\",\"ingress\":\"r1\",\"instance\":\"i-1\"}") ≡ Ok (command.CreateCircuit (codes "ann") (codes "web") (Some (codes "r1")) (codes "i-1")) }
+    ensures deleted { meaning 1401 (codes "{\"no\":7}") ≡ Ok (command.DeleteCircuit 7) }
+    ensures explained { meaning 1402 (codes "{\"identity\":\"ann\",\"service\":\"web\",\"instance\":\"\"}") ≡ Ok (command.Explain (codes "ann") (codes "web") None []) }
+    ensures shown { meaning 1503 (codes "{\"no\":7}") ≡ Ok (command.ShowCircuit 7) }
+    ensures zero { meaning 1401 (codes "{\"no\":0}") ≡ Err (BadBody field.No reason.WrongKind) }
+    ensures no_instance { meaning 1400 (codes "{\"identity\":\"ann\",\"service\":\"web\",\"instance\":\"a b\"}") ≡ Err (BadBody field.Instance reason.WrongKind) }
+    ensures null_ingress { meaning 1400 (codes "{\"identity\":\"ann\",\"service\":\"web\",\"ingress\":null,\"instance\":1}") ≡ Err (BadBody field.Ingress reason.WrongKind) }
 {}
 
 /// Claims of routes: null is no path, and a fault anywhere in a list is one of its field.
 pub fn worked_claims()
-    ensures claimed { meaning_in circuit_table 1403 (codes "{\"identity\":\"ann\",\"service\":\"web\",\"chosen\":\"r1\",\"links\":[1],\"potentials\":[{\"router\":3,\"values\":[42,0,null]}],\"routers\":[1,3],\"terminator\":1,\"total\":42}")
+    ensures claimed { meaning 1403 (codes "{\"identity\":\"ann\",\"service\":\"web\",\"chosen\":\"r1\",\"links\":[1],\"potentials\":[{\"router\":3,\"values\":[42,0,null]}],\"routers\":[1,3],\"terminator\":1,\"total\":42}")
         ≡ Ok (command.VerifyRoute (codes "ann") (codes "web") None [] (codes "r1") (1 ∷ []) (record { router = record { 0 = 3 }; values = 42 ∷ 0 ∷ 18446744073709551615 ∷ [] } ∷ []) (1 ∷ 3 ∷ []) 1 42) }
-    ensures empty { meaning_in circuit_table 1403 (codes "{\"identity\":\"ann\",\"service\":\"web\",\"chosen\":\"r1\",\"links\":[],\"potentials\":[],\"routers\":[],\"terminator\":4294967295,\"total\":0}")
+    ensures empty { meaning 1403 (codes "{\"identity\":\"ann\",\"service\":\"web\",\"chosen\":\"r1\",\"links\":[],\"potentials\":[],\"routers\":[],\"terminator\":4294967295,\"total\":0}")
         ≡ Ok (command.VerifyRoute (codes "ann") (codes "web") None [] (codes "r1") [] [] [] 4294967295 0) }
-    ensures no_link { meaning_in circuit_table 1403 (codes "{\"identity\":\"ann\",\"service\":\"web\",\"chosen\":\"r1\",\"links\":[0],\"potentials\":[{\"router\":3,\"values\":[42,0,null]}],\"routers\":[1,3],\"terminator\":1,\"total\":42}") ≡ Err (BadBody field.Links reason.WrongKind) }
-    ensures no_values { meaning_in circuit_table 1403 (codes "{\"identity\":\"ann\",\"service\":\"web\",\"chosen\":\"r1\",\"links\":[1],\"potentials\":[{\"router\":3}],\"routers\":[1,3],\"terminator\":1,\"total\":42}") ≡ Err (BadBody field.Potentials reason.WrongKind) }
-    ensures more_keys { meaning_in circuit_table 1403 (codes "{\"identity\":\"ann\",\"service\":\"web\",\"chosen\":\"r1\",\"links\":[1],\"potentials\":[{\"router\":3,\"values\":[],\"x\":1}],\"routers\":[1,3],\"terminator\":1,\"total\":42}") ≡ Err (BadBody field.Potentials reason.WrongKind) }
-    ensures no_router { meaning_in circuit_table 1403 (codes "{\"identity\":\"ann\",\"service\":\"web\",\"chosen\":\"r1\",\"links\":[1],\"potentials\":[{\"router\":0,\"values\":[]}],\"routers\":[1,3],\"terminator\":1,\"total\":42}") ≡ Err (BadBody field.Potentials reason.WrongKind) }
-    ensures beyond { meaning_in circuit_table 1403 (codes "{\"identity\":\"ann\",\"service\":\"web\",\"chosen\":\"r1\",\"links\":[1],\"potentials\":[{\"router\":3,\"values\":[4294967296]}],\"routers\":[1,3],\"terminator\":1,\"total\":42}") ≡ Err (BadBody field.Potentials reason.WrongKind) }
-    ensures no_object { meaning_in circuit_table 1403 (codes "{\"identity\":\"ann\",\"service\":\"web\",\"chosen\":\"r1\",\"links\":[1],\"potentials\":[[3,[]]],\"routers\":[1,3],\"terminator\":1,\"total\":42}") ≡ Err (BadBody field.Potentials reason.WrongKind) }
-    ensures no_total { meaning_in circuit_table 1403 (codes "{\"identity\":\"ann\",\"service\":\"web\",\"chosen\":\"r1\",\"links\":[1],\"potentials\":[{\"router\":3,\"values\":[42,0,null]}],\"routers\":[1,3],\"terminator\":1,\"total\":-1}") ≡ Err (BadBody field.Total reason.WrongKind) }
+    ensures no_link { meaning 1403 (codes "{\"identity\":\"ann\",\"service\":\"web\",\"chosen\":\"r1\",\"links\":[0],\"potentials\":[{\"router\":3,\"values\":[42,0,null]}],\"routers\":[1,3],\"terminator\":1,\"total\":42}") ≡ Err (BadBody field.Links reason.WrongKind) }
+    ensures no_values { meaning 1403 (codes "{\"identity\":\"ann\",\"service\":\"web\",\"chosen\":\"r1\",\"links\":[1],\"potentials\":[{\"router\":3}],\"routers\":[1,3],\"terminator\":1,\"total\":42}") ≡ Err (BadBody field.Potentials reason.WrongKind) }
+    ensures more_keys { meaning 1403 (codes "{\"identity\":\"ann\",\"service\":\"web\",\"chosen\":\"r1\",\"links\":[1],\"potentials\":[{\"router\":3,\"values\":[],\"x\":1}],\"routers\":[1,3],\"terminator\":1,\"total\":42}") ≡ Err (BadBody field.Potentials reason.WrongKind) }
+    ensures no_router { meaning 1403 (codes "{\"identity\":\"ann\",\"service\":\"web\",\"chosen\":\"r1\",\"links\":[1],\"potentials\":[{\"router\":0,\"values\":[]}],\"routers\":[1,3],\"terminator\":1,\"total\":42}") ≡ Err (BadBody field.Potentials reason.WrongKind) }
+    ensures beyond { meaning 1403 (codes "{\"identity\":\"ann\",\"service\":\"web\",\"chosen\":\"r1\",\"links\":[1],\"potentials\":[{\"router\":3,\"values\":[4294967296]}],\"routers\":[1,3],\"terminator\":1,\"total\":42}") ≡ Err (BadBody field.Potentials reason.WrongKind) }
+    ensures no_object { meaning 1403 (codes "{\"identity\":\"ann\",\"service\":\"web\",\"chosen\":\"r1\",\"links\":[1],\"potentials\":[[3,[]]],\"routers\":[1,3],\"terminator\":1,\"total\":42}") ≡ Err (BadBody field.Potentials reason.WrongKind) }
+    ensures no_total { meaning 1403 (codes "{\"identity\":\"ann\",\"service\":\"web\",\"chosen\":\"r1\",\"links\":[1],\"potentials\":[{\"router\":3,\"values\":[42,0,null]}],\"routers\":[1,3],\"terminator\":1,\"total\":-1}") ≡ Err (BadBody field.Total reason.WrongKind) }
     ensures most_links { as_numbers 255 (array (items_of (replicate 255 (number (unsigned 1))))) ≡ Some (replicate 255 1) }
     ensures more_links { as_numbers 255 (array (items_of (replicate 256 (number (unsigned 1))))) ≡ None }
     ensures most_values { as_reach (object (member (codes "router") (number (unsigned 1)) (member (codes "values") (array (items_of (replicate 256 null))) no_members))) ≡ Some (record { router = record { 0 = 1 }; values = replicate 256 18446744073709551615 }) }

@@ -1,7 +1,6 @@
 -- What the steps of an entity's change do: they lead from the counts of the state before it to those of the state after it.
-use Rattle.std.proofs.Common.{◌≡◌, ◌≢◌, ℕ, ◌+◌, ◌==◌, Bool, true, false, not, cond, List, [], ◌∷◌, map, Option, None, Some, refl, sym, ◌∙◌, ap, subst, eq-eqb, bytes_eq}
+use Rattle.std.proofs.Common.{◌≡◌, ◌≢◌, ℕ, ◌==◌, Bool, true, false, not, cond, List, [], ◌∷◌, map, Option, None, Some, refl, sym, ◌∙◌, ap, subst, eq-eqb, bytes_eq}
 use Rattle.std.proofs.lemmas.Bool.{false≢true, cond-true, false_from_ne_true}
-use Rattle.std.proofs.lemmas.Option.{none-some}
 use Rattle.std.specs.Option.{option_map}
 use Rattle.ctrl_model.specs.declared.kinds.Kind.{Kind}
 use Rattle.ctrl_model.specs.declared.kinds.Kind.TheVariants as kind
@@ -9,7 +8,7 @@ use Rattle.ctrl_model.specs.declared.kinds.Relation.{Relation}
 use Rattle.ctrl_model.specs.declared.kinds.Relation.TheVariants.{Dial, Bind, IdentityRouter, ServiceRouter}
 use Rattle.ctrl_model.specs.Numbered.{at, with_last, edit_at, without, first_where, Between}
 use Rattle.ctrl_model.specs.State.{State, Entity, Router, as_entity, entity_named, router_named}
-use Rattle.ctrl_model.specs.Grants.{count, policies_for}
+use Rattle.ctrl_model.specs.Grants.{count}
 use Rattle.ctrl_model.specs.ShowCommands.{router_entities}
 use Rattle.ctrl_model.specs.EntityCommands.{after_create_router}
 use Rattle.ctrl_model.specs.ValidState.{ValidState, HaveUniqueNames}

@@ -1,6 +1,6 @@
 -- What planning for an entity has to show: that the refusals are the controller's, that the change leads to the controller's next
 -- state, and that the steps lead to its counts.
-use Rattle.std.proofs.Common.{◌≡◌, ℕ, ◌+◌, ◌≤◌, ◌==◌, Bool, true, false, cond, not, ◌&&◌, nat_lt, bytes_eq, eq-eqb, List, [], ◌∷◌, ◌++◌, map, Option, None, Some, Ok, Err, Result, refl, sym, ◌∙◌, ap, subst, arith, is_some, eqb-true}
+use Rattle.std.proofs.Common.{◌≡◌, ℕ, ◌+◌, ◌≤◌, ◌==◌, Bool, true, false, cond, not, ◌&&◌, nat_lt, bytes_eq, eq-eqb, List, [], ◌∷◌, ◌++◌, map, Option, None, Some, Ok, Err, refl, sym, ◌∙◌, ap, subst, arith, is_some, eqb-true}
 use Rattle.std.proofs.Math.Bool.{not-not}
 use Rattle.std.proofs.lemmas.Bool.{false≢true}
 use Rattle.std.proofs.lemmas.List.{length-map}
@@ -9,13 +9,12 @@ use Rattle.std.specs.List.{find, flat_map}
 use Rattle.std.specs.Option.{ok_or, option_map, option_map_or}
 use Rattle.ctrl_model.specs.declared.kinds.Kind.{Kind}
 use Rattle.ctrl_model.specs.declared.kinds.Kind.TheVariants as kind
-use Rattle.ctrl_model.specs.declared.kinds.Relation.{Relation}
 use Rattle.ctrl_model.specs.declared.kinds.RouterSeen.{RouterSeen}
 use Rattle.ctrl_model.specs.declared.refusals.Field.TheVariants as field
 use Rattle.ctrl_model.specs.declared.refusals.Refusal.{Refusal}
 use Rattle.ctrl_model.specs.declared.refusals.Refusal.TheVariants.{Full, Unknown}
 use Rattle.ctrl_model.specs.declared.replies.Reply.TheVariants.{Done, Made, Refused}
-use Rattle.ctrl_model.specs.Numbered.{at, is_present, edit_at, first_where, Between}
+use Rattle.ctrl_model.specs.Numbered.{at, is_present, edit_at, first_where}
 use Rattle.ctrl_model.specs.Networks.{seen}
 use Rattle.ctrl_model.specs.State.{State, Entity, Router, as_entity}
 use Rattle.ctrl_model.specs.Settling.{settle}
@@ -36,7 +35,7 @@ use Rattle.ctrl_core.specs.Changes.{is_plain_kind, with_plain, with_described, w
 use Rattle.policy_store.specs.GrantChanges.{HasNoSteps}
 use Rattle.ctrl_core.specs.Changes as changes
 use Rattle.policy_store.specs.GrantChanges.{StepsOfEntity}
-use Rattle.ctrl_core.specs.PlannedCommands.{Plans, IsShown, IsDescribed, described_as, answer_add, answer_update, answer_delete, refusal_of_add, refusal_of_describe}
+use Rattle.ctrl_core.specs.PlannedCommands.{Plans, IsShown, IsDescribed, answer_add, answer_update, answer_delete, refusal_of_add, refusal_of_describe}
 use Rattle.ctrl_core.proofs.UseLaws.{times-append, times-at, edit_at-same}
 use Rattle.ctrl_core.proofs.InUseLaws.{room_in_state, added, added_router, described_identity, described_service, described_router}
 use Rattle.ctrl_core.proofs.PlanLaws.{plans_refused, plans_carried}

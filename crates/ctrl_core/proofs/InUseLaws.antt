@@ -1,13 +1,10 @@
 -- Which attributes are in use after a change: how often each name stands among them.
-use Rattle.std.proofs.Common.{◌≡◌, ℕ, ◌+◌, ◌≤◌, Bool, true, false, not, List, [], ◌++◌, Option, Some, None, refl, sym, ◌∙◌, ap, arith}
-use Rattle.std.proofs.Math.Bool.{not-not}
+use Rattle.std.proofs.Common.{◌≡◌, ℕ, ◌+◌, Bool, true, false, not, List, ◌++◌, Some, ◌∙◌, ap, arith}
 use Rattle.std.proofs.lemmas.Bool.{false≢true}
 use Rattle.std.specs.List.{flat_map}
-use Rattle.std.specs.Set.{distinct_count}
-use Rattle.std.specs.Str.{bytes_eq}
 use Rattle.ctrl_model.specs.declared.kinds.Kind.{Kind}
 use Rattle.ctrl_model.specs.declared.kinds.Kind.TheVariants as kind
-use Rattle.ctrl_model.specs.Numbered.{at, with_last, edit_at, without, Between}
+use Rattle.ctrl_model.specs.Numbered.{at, edit_at, Between}
 use Rattle.ctrl_model.specs.State.{State, Entity, Router, Policy}
 use Rattle.ctrl_model.specs.EntityCommands.{after_create_router}
 use Rattle.ctrl_model.specs.PolicyCommands.{replaced_by}
@@ -16,7 +13,7 @@ use Rattle.entity_store.specs.AttributeUses.{times, uses, entity_attributes, has
 use Rattle.policy_store.specs.PolicyTables.{is_policy_kind}
 use Rattle.ctrl_core.specs.declared.stores.Stores.{Stores}
 use Rattle.ctrl_core.specs.KeptState.{HoldsPolicies, policy_attributes, state_of}
-use Rattle.ctrl_core.specs.Changes.{is_plain_kind, with_plain, with_described, with_described_router, policies_in, with_policy, with_replaced, without_policy}
+use Rattle.ctrl_core.specs.Changes.{is_plain_kind, with_plain, with_described, policies_in, with_policy, with_replaced, without_policy}
 use Rattle.ctrl_core.proofs.UseLaws.{times-append, times-with_last, times-edit_at, times-without}
 use Rattle.ctrl_core.proofs.RoomLaws.{room_by_uses}
 

@@ -1,5 +1,5 @@
 -- What a plan has to show: of a reply that changes nothing, of a refusal, and of a change that is carried out.
-use Rattle.std.proofs.Common.{◌≡◌, ℕ, true, List, [], Option, None, Some, refl, sym, ◌∙◌, ap, subst}
+use Rattle.std.proofs.Common.{◌≡◌, true, List, Option, None, Some, refl, sym, ap, subst}
 use Rattle.ctrl_model.specs.declared.commands.Command.{Command}
 use Rattle.ctrl_model.specs.declared.kinds.Relation.{Relation}
 use Rattle.ctrl_model.specs.declared.kinds.Who.TheVariants.{Admin}
@@ -19,7 +19,6 @@ use Rattle.grant_denorm.specs.declared.deltas.Delta.{Delta}
 use Rattle.grant_moves.specs.CountMoves.{LeadCounts}
 use Rattle.grant_moves.proofs.LeadingCounts.{unchanged_leads}
 use Rattle.ctrl_core.specs.declared.changes.Change.{Change}
-use Rattle.ctrl_core.specs.declared.changes.Change.TheVariants.{Nothing}
 use Rattle.policy_store.specs.declared.steps.GrantSteps.{GrantSteps}
 use Rattle.ctrl_core.specs.declared.changes.Planned.{Planned}
 use Rattle.ctrl_core.specs.Changes.{CanChange, LeadsFrom, carried_by, led}

@@ -20,6 +20,7 @@ use Rattle.policy_store.specs.PolicyTables.{PolicyTables, is_policy_kind, polici
 use Rattle.policy_store.specs.PolicyTables as tables
 use Rattle.policy_store.specs.PolicyRules.{is_there, can_put, put_in}
 use Rattle.fabric_graph.specs.FabricTables.{FabricSeen}
+use Rattle.circuits.specs.CircuitTables.{CircuitTables}
 use Rattle.terminators.specs.TermTables.{TermTables}
 use Rattle.ctrl_core.specs.declared.stores.Stores.{Stores}
 use Rattle.ctrl_core.specs.AppliedChanges.{Carries, LetsPolicyGo}
@@ -169,18 +170,19 @@ policy_there k n st mid there stay = ap (is_there k n) stay ∙ (ap (λ rows. is
 
 -- ---- a policy goes
 
--- where links and terminators are those of other stores, so are they in the state
-same_network : (mid st : Stores) (q : PolicyTables) → mid.fabric ≡ st.fabric → mid.terminators ≡ st.terminators
+-- where links, terminators and circuits are those of other stores, so are they in the state
+same_network : (mid st : Stores) (q : PolicyTables) → mid.fabric ≡ st.fabric → mid.terminators ≡ st.terminators → mid.circuits ≡ st.circuits
     → state_of (record mid { policies = q }) ≡ state_of (record st { policies = q; entities = mid.entities })
-same_network mid st q links terms =
+same_network mid st q links terms granted =
     ap (λ (f : FabricSeen). state_of (record mid { policies = q; fabric = f })) links
     ∙ ap (λ (k : TermTables). state_of (record mid { policies = q; fabric = st.fabric; terminators = k })) terms
+    ∙ ap (λ (k : CircuitTables). state_of (record mid { policies = q; fabric = st.fabric; terminators = st.terminators; circuits = k })) granted
 
 pub carried_without : (k : Kind) (n : ℕ) (st mid : Stores) → is_policy_kind k ≡ true → ValidState (state_of st) → HoldsPolicies st → LetsPolicyGo k n st mid
     → Carries st (record mid { policies = tables.without_policy k n mid.policies }) (without_policy k n (state_of st))
 carried_without k n st mid is valid held gone = record {
   next = ap (λ (q : PolicyTables). state_of (record mid { policies = tables.without_policy k n q })) gone.policies_stay
-      ∙ (same_network mid st (tables.without_policy k n st.policies) gone.links_stay gone.terminators_stay
+      ∙ (same_network mid st (tables.without_policy k n st.policies) gone.links_stay gone.terminators_stay gone.circuits_stay
       ∙ (same_entities st.entities mid.entities gone.uses_go.others (record st { policies = tables.without_policy k n st.policies }) ∙ state_without k n st));
   held = λ x.
       let fewer = gone.uses_go.fewer x in let before = held x in
@@ -219,7 +221,7 @@ pub carried_replaced : (k : Kind) (n : ℕ) (p : Policy) (st mid : Stores) (t : 
 carried_replaced k n p st mid t is named valid held gone holds = record {
   next = ap (λ (q : PolicyTables). state_of (record mid { entities = t; policies = q })) put
       ∙ (same_entities mid.entities t holds.others (record mid { policies = tables.with_replaced k n p st.policies })
-      ∙ (same_network mid st (tables.with_replaced k n p st.policies) gone.links_stay gone.terminators_stay
+      ∙ (same_network mid st (tables.with_replaced k n p st.policies) gone.links_stay gone.terminators_stay gone.circuits_stay
       ∙ (same_entities st.entities mid.entities gone.uses_go.others (record st { policies = tables.with_replaced k n p st.policies }) ∙ state_replaced k n p st)));
   held = λ x.
       let more = holds.more x in let fewer = gone.uses_go.fewer x in let before = held x in

@@ -4,20 +4,15 @@ use Rattle.std.proofs.lemmas.Bool.{false≢true}
 use Rattle.std.proofs.lemmas.Option.{same_Some, none-some}
 use Rattle.ctrl_model.specs.declared.kinds.Kind.{Kind}
 use Rattle.ctrl_model.specs.declared.kinds.Kind.TheVariants as kind
-use Rattle.ctrl_model.specs.declared.kinds.Relation.{Relation}
 use Rattle.ctrl_model.specs.declared.refusals.Field.TheVariants as field
 use Rattle.ctrl_model.specs.declared.refusals.Refusal.{Refusal}
 use Rattle.ctrl_model.specs.declared.refusals.Refusal.TheVariants.{Unknown}
-use Rattle.ctrl_model.specs.declared.replies.Reply.{Reply}
 use Rattle.ctrl_model.specs.declared.replies.Reply.TheVariants.{Done, Made, Refused}
 use Rattle.ctrl_model.specs.Numbered.{at}
 use Rattle.ctrl_model.specs.State.{State, Policy, policy_named}
-use Rattle.ctrl_model.specs.Settling.{settle}
-use Rattle.ctrl_model.specs.Grants.{count}
 use Rattle.ctrl_model.specs.PolicyCommands.{replaced_by}
 use Rattle.ctrl_model.specs.Rules.{or_then, carried_out, unknown_if_absent, at_number}
 use Rattle.ctrl_model.proofs.TableLaws.{found-named}
-use Rattle.grant_moves.specs.CountMoves.{LeadCounts}
 use Rattle.entity_store.specs.AttributeUses.{AreUsed}
 use Rattle.policy_store.specs.PolicyTables.{is_policy_kind, policies, next_of, number_of}
 use Rattle.policy_store.specs.StoredPolicies.{policy_of}
@@ -27,8 +22,7 @@ use Rattle.policy_store.specs.declared.steps.GrantSteps.{GrantSteps}
 use Rattle.ctrl_core.specs.declared.changes.Planned.{Planned}
 use Rattle.ctrl_core.specs.declared.stores.Stores.{Stores}
 use Rattle.ctrl_core.specs.KeptState.{Keeps, state_of}
-use Rattle.ctrl_core.specs.Changes.{CanChange, after_change, policies_in, with_policy, with_replaced, without_policy}
-use Rattle.policy_store.specs.GrantChanges.{steps_of}
+use Rattle.ctrl_core.specs.Changes.{policies_in, with_policy, with_replaced, without_policy}
 use Rattle.policy_store.specs.GrantChanges.{StepsOfPolicy}
 use Rattle.ctrl_core.specs.PlannedCommands.{Plans, IsShown, AreShort, refusal_to_put, refusal_of_create, refusal_of_replace, answer_create, answer_replace, answer_delete_policy}
 use Rattle.ctrl_core.proofs.InUseLaws.{names_of, policy_removed, uses_in_state}

@@ -1,5 +1,5 @@
 -- There is room for attributes exactly where the state after the change does not use too many.
-use Rattle.std.proofs.Common.{◌≡◌, ℕ, ◌+◌, ◌<◌, ◌≤◌, ◌⊎◌, Bool, true, false, not, cond, nat_le, nat_lt, List, [], ◌∷◌, ◌++◌, map, inl, inr, refl, sym, ◌∙◌, ap, arith, bytes_eq, ltb-true, lt-ltb}
+use Rattle.std.proofs.Common.{◌≡◌, ℕ, ◌+◌, ◌<◌, ◌≤◌, ◌⊎◌, Bool, true, false, not, cond, nat_le, nat_lt, List, [], ◌∷◌, map, inl, inr, refl, arith, bytes_eq, ltb-true, lt-ltb}
 use Rattle.std.proofs.lemmas.Bool.Decides.{nat_tests}
 use Rattle.std.specs.List.{filter}
 use Rattle.std.specs.Set.{distinct_count}
@@ -8,7 +8,7 @@ use Rattle.ctrl_model.proofs.DistinctLaws.{Includes, distinct_count-Includes, sa
 use Rattle.ctrl_model.proofs.Members.{by_filter, Among-filter, Among-append_left, Among-append_right}
 use Rattle.entity_store.specs.EntityTables.{Tables}
 use Rattle.entity_store.specs.AttributeUses.{times, held_times, uses, entity_attributes, used_names, stays_used, has_attribute_room}
-use Rattle.ctrl_core.proofs.UseLaws.{times-append, times-from_among, Among-from_times}
+use Rattle.ctrl_core.proofs.UseLaws.{times-from_among, Among-from_times}
 
 -- two lists of the same names have as many different ones
 same_count : (xs ys : List (List ℕ)) → Includes xs ys → Includes ys xs → nat_le (distinct_count bytes_eq xs) 1024 ≡ not (nat_lt 1024 (distinct_count bytes_eq ys))

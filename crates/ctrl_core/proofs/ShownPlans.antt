@@ -1,32 +1,23 @@
 -- Plans of replies that change nothing: what is shown, and what is refused.
-use Rattle.std.proofs.Common.{◌≡◌, ℕ, nat_lt, List, [], map, Option, None, Some, Result, Ok, Err, refl, sym, ◌∙◌, ap, subst}
+use Rattle.std.proofs.Common.{◌≡◌, ℕ, nat_lt, List, map, Option, None, Some, Result, Ok, Err, refl, sym, ◌∙◌, ap, subst}
 use Rattle.std.proofs.lemmas.Simd.{map-map}
 use Rattle.std.specs.Option.{ok_or, unwrap_or}
 use Rattle.std.specs.List.{filter}
 use Rattle.ctrl_model.specs.declared.kinds.Kind.TheVariants as kind
-use Rattle.ctrl_model.specs.declared.kinds.Relation.{Relation}
-use Rattle.ctrl_model.specs.declared.kinds.Relation.TheVariants.{Dial, Bind, IdentityRouter, ServiceRouter}
+use Rattle.ctrl_model.specs.declared.kinds.Relation.TheVariants.{Dial, Bind, IdentityRouter}
 use Rattle.ctrl_model.specs.declared.refusals.Field.TheVariants as field
-use Rattle.ctrl_model.specs.declared.refusals.Refusal.{Refusal}
 use Rattle.ctrl_model.specs.declared.refusals.Refusal.TheVariants.{Unknown}
-use Rattle.ctrl_model.specs.declared.replies.Reply.{Reply}
 use Rattle.ctrl_model.specs.declared.replies.Reply.TheVariants as reply
 use Rattle.ctrl_model.specs.declared.replies.Tally.{Tally}
 use Rattle.ctrl_model.specs.State.{State, Entity, entity_named}
-use Rattle.ctrl_model.specs.Grants.{count, is_granted}
-use Rattle.ctrl_model.specs.Rules.{shown, carried_out, unknown_if_absent}
+use Rattle.ctrl_model.specs.Grants.{is_granted}
+use Rattle.ctrl_model.specs.Rules.{shown, unknown_if_absent}
 use Rattle.ctrl_model.specs.ShowCommands.{tally_of, tallies, grants_of, services_of, show_grants, list_services}
 use Rattle.entity_store.specs.EntityTables.{entities}
-use Rattle.grant_denorm.specs.declared.deltas.Delta.{Delta}
 use Rattle.grant_denorm.specs.PairCounts.{count_of}
-use Rattle.grant_moves.specs.CountMoves.{LeadCounts}
-use Rattle.grant_moves.proofs.LeadingCounts.{unchanged_leads}
-use Rattle.policy_store.specs.declared.steps.GrantSteps.{GrantSteps}
 use Rattle.ctrl_core.specs.declared.changes.Planned.{Planned}
 use Rattle.ctrl_core.specs.declared.stores.Stores.{Stores}
 use Rattle.ctrl_core.specs.KeptState.{Keeps, state_of}
-use Rattle.ctrl_core.specs.Changes.{CanChange, after_change}
-use Rattle.policy_store.specs.GrantChanges.{HasNoSteps, steps_of}
 use Rattle.ctrl_core.specs.PlannedCommands.{Plans, IsShown}
 use Rattle.ctrl_core.proofs.PlanLaws.{plans_reply}
 

@@ -1,5 +1,5 @@
 -- The steps that the store of policies tells are those of the core's state.
-use Rattle.std.proofs.Common.{◌≡◌, ℕ, Bool, true, false, cond, List, Option, None, Some, refl, sym, ◌∙◌, ap, ap₂, subst}
+use Rattle.std.proofs.Common.{◌≡◌, ℕ, Bool, true, false, cond, List, Option, None, Some, refl, ◌∙◌, ap₂}
 use Rattle.ctrl_model.specs.declared.kinds.Kind.{Kind}
 use Rattle.ctrl_model.specs.declared.kinds.Relation.{Relation}
 use Rattle.ctrl_model.specs.declared.kinds.Relation.TheVariants.{Dial, Bind, IdentityRouter, ServiceRouter}
@@ -12,7 +12,7 @@ use Rattle.grant_moves.specs.EntitySides.{left_rows, right_rows, other_rows, mem
 use Rattle.grant_moves.specs.GrantTurns.{turns_of, cross_of, no_cross}
 use Rattle.policy_store.specs.declared.steps.GrantSteps.{GrantSteps}
 use Rattle.policy_store.specs.PolicyTables.{no_policies, fits}
-use Rattle.policy_store.specs.GrantChanges.{MovedEntity, granting_state, stands_in, AreEntitySteps, AreStepsAt, StepsOfEntity, ArePolicySteps, ArePolicyStepsAt, StepsOfPolicy}
+use Rattle.policy_store.specs.GrantChanges.{MovedEntity, granting_state, stands_in, AreEntitySteps, AreStepsAt, StepsOfEntity, ArePolicyStepsAt, StepsOfPolicy}
 use Rattle.ctrl_core.specs.declared.stores.Stores.{Stores}
 use Rattle.ctrl_core.specs.KeptState.{state_of}
 

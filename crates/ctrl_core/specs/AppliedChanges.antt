@@ -25,6 +25,7 @@ pub record LetsPolicyGo (k : Kind) (n : ℕ) (old new : Stores) : Type 0 where
   pub policies_stay : new.policies ≡ old.policies
   pub links_stay : new.fabric ≡ old.fabric
   pub terminators_stay : new.terminators ≡ old.terminators
+  pub circuits_stay : new.circuits ≡ old.circuits
   pub counts_stay : new.grants ≡ old.grants
 
 -- No pair has more steps down than its count, nor so many up that the count passes 32 bits.

@@ -3,7 +3,7 @@ use Rattle.std.specs.Prelude.{Bool, true, false}
 use Rattle.ctrl_model.specs.declared.commands.Command.{Command}
 use Rattle.ctrl_model.specs.declared.commands.Command.TheVariants as command
 use Rattle.ctrl_core.specs.declared.families.Family.{Family}
-use Rattle.ctrl_core.specs.declared.families.Family.TheVariants.{Greeting, Entities, ServicePolicies, EdgeRouterPolicies, ServiceEdgeRouterPolicies, Links, Terminators, Grants, Others}
+use Rattle.ctrl_core.specs.declared.families.Family.TheVariants.{Greeting, Entities, ServicePolicies, EdgeRouterPolicies, ServiceEdgeRouterPolicies, Links, Terminators, Circuits, Grants, Others}
 
 -- The family of a command.
 abbrev pub family_of : Command → Family
@@ -37,6 +37,11 @@ family_of (command.SetLeastRouterCost cost) = Links
 family_of (command.CreateTerminator service router instance host cost precedence) = Terminators
 family_of (command.UpdateTerminator n cost precedence) = Terminators
 family_of (command.DeleteTerminator n) = Terminators
+family_of (command.CreateCircuit identity service ingress instance) = Circuits
+family_of (command.DeleteCircuit n) = Circuits
+family_of (command.Explain identity service ingress instance) = Circuits
+family_of (command.VerifyRoute identity service ingress instance chosen links potentials routers terminator total) = Circuits
+family_of (command.ShowCircuit n) = Circuits
 family_of (command.ShowGrants identity) = Grants
 family_of (command.ListServices identity) = Grants
 family_of command.ShowCounts = Grants

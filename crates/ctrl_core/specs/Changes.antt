@@ -19,6 +19,8 @@ use Rattle.policy_store.specs.PolicyTables.{is_policy_kind}
 use Rattle.policy_store.specs.StoredPolicies.{policy_of}
 use Rattle.fabric_graph.specs.Routers.{fabric_of}
 use Rattle.link_commands.specs.LinkChanges.{CanChangeLinks, with_fabric, after_link_change}
+use Rattle.circuit_commands.specs.CircuitParts.{with_circuits}
+use Rattle.circuit_commands.specs.CircuitChanges.{CanChangeCircuits, circuits_of, after_circuit_change}
 use Rattle.terminator_commands.specs.TermChanges.{CanChangeTerms, terms_of, with_terms, after_term_change}
 use Rattle.ctrl_core.specs.declared.changes.Change.{Change}
 use Rattle.ctrl_core.specs.declared.changes.Change.TheVariants as change
@@ -115,6 +117,7 @@ after_change (change.ReplacePolicy k n p) s = with_replaced k n (policy_of p) s
 after_change (change.RemovePolicy k n) s = without_policy k n s
 after_change (change.Link c) s = with_fabric (after_link_change c (fabric_of s)) s
 after_change (change.Terminator c) s = with_terms (after_term_change c (terms_of s)) s
+after_change (change.Circuit c) s = with_circuits (after_circuit_change c (circuits_of s)) s
 
 -- Whether an entity of a kind and number is present.
 abbrev pub is_there : Kind → ℕ → State → Bool
@@ -123,8 +126,8 @@ is_there kind.Service n s = is_present s.services n
 is_there kind.Router n s = is_present s.routers n
 is_there _ n s = false
 
--- What a change needs of the state: that its kind fits it, that the record that it changes or removes is there, and of links and
--- terminators what their stores need.
+-- What a change needs of the state: that its kind fits it, that the record that it changes or removes is there, and of links,
+-- terminators and circuits what their stores need.
 abbrev pub CanChange : Change → State → Type 0
 CanChange change.Nothing s = ⊤
 CanChange (change.Add k name attributes) s = is_plain_kind k ≡ true
@@ -138,6 +141,7 @@ CanChange (change.ReplacePolicy k n p) s = (is_policy_kind k ≡ true) × (polic
 CanChange (change.RemovePolicy k n) s = (is_policy_kind k ≡ true) × (is_present (policies_in k s) n ≡ true)
 CanChange (change.Link c) s = CanChangeLinks c (fabric_of s)
 CanChange (change.Terminator c) s = CanChangeTerms c (terms_of s)
+CanChange (change.Circuit c) s = CanChangeCircuits c (circuits_of s)
 
 -- Whether nothing changes.
 abbrev pub is_nothing : Change → Bool

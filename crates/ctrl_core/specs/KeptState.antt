@@ -1,5 +1,4 @@
--- The state that the stores of a core stand for, and what a core keeps of them (docs/PROMISES.md, "The core"). So far there are
--- entities, policies, links and terminators.
+-- The state that the stores of a core stand for, and what a core keeps of them (docs/PROMISES.md, "The core").
 use Rattle.std.specs.Prelude.{◌≡◌, ℕ, Bool, List, ◌++◌}
 use Rattle.std.specs.List.{flat_map}
 use Rattle.ctrl_model.specs.declared.kinds.Relation.{Relation}
@@ -9,7 +8,6 @@ use Rattle.ctrl_model.specs.Grants.{count}
 use Rattle.ctrl_model.specs.Rules.{side_attributes}
 use Rattle.ctrl_model.specs.ValidState.{ValidState}
 use Rattle.entity_store.specs.AttributeUses.{times, held_times}
-use Rattle.grant_denorm.specs.PairCounts.{AreCounts}
 use Rattle.grant_denorm.specs.MovedCounts.{AreCountsOf}
 use Rattle.policy_store.specs.PolicyTables.{PolicyTables}
 use Rattle.ctrl_core.specs.declared.stores.Grants.{Grants}
@@ -35,6 +33,8 @@ state_of st = record start {
   least_router_cost = st.fabric.least;
   terminators = st.terminators.terminators;
   next_terminator = st.terminators.next;
+  circuits = st.circuits.circuits;
+  next_circuit = st.circuits.next;
 }
 
 -- The counts that are kept of a relation.

@@ -26,12 +26,12 @@ use Rattle.policy_store.specs.PolicyRules.{may_put}
 use Rattle.grant_moves.specs.CountMoves.{LeadCounts}
 use Rattle.ctrl_core.specs.declared.changes.Planned.{Planned}
 use Rattle.link_commands.specs.declared.changes.LinkChange.{LinkChange}
+use Rattle.circuit_commands.specs.declared.changes.CircuitChange.{CircuitChange}
 use Rattle.terminator_commands.specs.declared.changes.TermChange.{TermChange}
 use Rattle.ctrl_core.specs.declared.changes.Change.{Change}
-use Rattle.ctrl_core.specs.declared.changes.Change.TheVariants.{Nothing, Link, Terminator}
+use Rattle.ctrl_core.specs.declared.changes.Change.TheVariants.{Nothing, Link, Terminator, Circuit}
 use Rattle.policy_store.specs.declared.steps.GrantSteps.{GrantSteps}
 use Rattle.ctrl_core.specs.declared.stores.Stores.{Stores}
-use Rattle.ctrl_core.specs.KeptState.{state_of}
 use Rattle.ctrl_core.specs.Changes.{CanChange, led}
 use Rattle.policy_store.specs.GrantChanges.{granting_state, HasNoSteps, StepsOfEntity, steps_of}
 
@@ -61,6 +61,11 @@ link_change (Some c) = Link c
 abbrev pub term_change : Option TermChange → Change
 term_change None = Nothing
 term_change (Some c) = Terminator c
+
+-- The change of circuits that a plan has, if it has one.
+abbrev pub circuit_change : Option CircuitChange → Change
+circuit_change None = Nothing
+circuit_change (Some c) = Circuit c
 
 -- An entity with other attributes.
 abbrev pub described_as : List (List ℕ) → Entity → Entity

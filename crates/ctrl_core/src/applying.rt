@@ -17,6 +17,7 @@ ghost use Rattle.ctrl_core.specs.AppliedChanges.{Carries, LetsPolicyGo, HaveRoom
 use crate::changes::Change;
 use crate::policy_names::policy_names;
 use crate::stores::{Grants, Stores};
+use circuit_commands::{apply_circuit_change, settle_circuits};
 use ctrl_model::{Kind, Name, Names, PolicyNo, RouterNo};
 use grant_denorm::apply_changes;
 use link_commands::{apply_link_change, settle_links};
@@ -239,16 +240,24 @@ fn apply_change(alloc: Global, stores: &mut Stores, change: Change) -> Result<()
         Change::RemovePolicy { kind, number } => remove_policy(alloc, stores, kind, number),
         Change::Link(change) => apply_link_change(&mut stores.fabric, change),
         Change::Terminator(change) => apply_term_change(&mut stores.terminators, change),
+        Change::Circuit(change) => apply_circuit_change(&mut stores.circuits, change),
     }
 }
 
-// Removes what stands no longer: links first, and then terminators.
+// Removes what stands no longer: links first, then terminators, and last circuits.
 fn settle(alloc: Global, stores: &mut Stores) -> Result<(), AllocError>
     requires { HoldsPolicies stores.old }
     ensures { OnOk result (Carries stores.old stores.new (settle (state_of stores.old))) }
 {
     settle_links(alloc, &stores.entities, &mut stores.fabric)?;
-    settle_terminators(alloc, &stores.entities, &mut stores.terminators)
+    settle_terminators(alloc, &stores.entities, &mut stores.terminators)?;
+    settle_circuits(
+        alloc,
+        &stores.entities,
+        &stores.fabric,
+        &stores.terminators,
+        &mut stores.circuits,
+    )
 }
 
 /// Carries a change out that leads from a valid state to a valid one: it is made, and the state is settled. Of a change that fails

@@ -4,7 +4,7 @@ ghost use Rattle.ctrl_model.specs.Controller.{carry, policy};
 ghost use Rattle.policy_store.specs.StoredPolicies.{policy_of};
 ghost use Rattle.ctrl_core.specs.CarriedCommands.{family_of, is_carried};
 ghost use Rattle.ctrl_core.specs.KeptState.{Keeps, state_of};
-ghost use Rattle.ctrl_core.specs.PlannedCommands.{Plans, link_change, term_change};
+ghost use Rattle.ctrl_core.specs.PlannedCommands.{Plans, circuit_change, link_change, term_change};
 
 use crate::changes::{Change, Planned};
 use crate::families::{Family, family_of};
@@ -14,6 +14,7 @@ use crate::planning::{
 use crate::policy_planning::{plan_create_policy, plan_delete_policy, plan_replace_policy};
 use crate::showing::{plan_list_services, plan_show_counts, plan_show_grants};
 use crate::stores::Stores;
+use circuit_commands::{CircuitChange, CircuitPlan, Parts, plan_circuit_command};
 use ctrl_model::{Command, Kind, Name, Relation, Reply, Semantic, Side};
 use link_commands::{LinkChange, LinkPlan, plan_link_command};
 use policy_store::Policy;
@@ -225,8 +226,7 @@ fn plan_links(alloc: Global, stores: &Stores, command: &Command) -> Result<Plann
     requires family { family_of command.now ≡ Family.Links }
     ensures { IfOk result (λ p. Plans p (carry command.now (state_of stores.now)) (state_of stores.now)) }
 {
-    let LinkPlan { reply, change } =
-        plan_link_command(&stores.entities, &stores.fabric, command)?;
+    let LinkPlan { reply, change } = plan_link_command(&stores.entities, &stores.fabric, command)?;
     Ok(Planned::uncounted(alloc, reply, link_change(change)))
 }
 
@@ -258,6 +258,37 @@ fn plan_terminators(
         command,
     )?;
     Ok(Planned::uncounted(alloc, reply, term_change(change)))
+}
+
+// The change that a plan of a command on circuits has.
+fn circuit_change(change: Option<CircuitChange>) -> Change
+    ensures { result ≡ circuit_change change }
+{
+    match change {
+        Some(change) => Change::Circuit(change),
+        None => Change::Nothing,
+    }
+}
+
+// Plans the answer to a command on circuits.
+fn plan_circuits(alloc: Global, stores: &Stores, command: &Command) -> Result<Planned, AllocError>
+    requires kept { Keeps stores.now }
+    requires spelled { is_spelled command.now ≡ true }
+    requires family { family_of command.now ≡ Family.Circuits }
+    ensures { IfOk result (λ p. Plans p (carry command.now (state_of stores.now)) (state_of stores.now)) }
+{
+    let parts = Parts {
+        entities: &stores.entities,
+        fabric: &stores.fabric,
+        terminators: &stores.terminators,
+        circuits: &stores.circuits,
+        dial: &stores.grants.dial,
+        bind: &stores.grants.bind,
+        identity_router: &stores.grants.identity_router,
+        service_router: &stores.grants.service_router,
+    };
+    let CircuitPlan { reply, change } = plan_circuit_command(alloc, &parts, command)?;
+    Ok(Planned::uncounted(alloc, reply, circuit_change(change)))
 }
 
 // Plans the answer to a command that shows grants or counts.
@@ -295,6 +326,7 @@ pub fn plan_command(
         }
         Family::Links => plan_links(alloc, stores, command),
         Family::Terminators => plan_terminators(alloc, stores, command),
+        Family::Circuits => plan_circuits(alloc, stores, command),
         Family::Grants => plan_grants(alloc, stores, command),
         Family::Others => unreachable!(),
     }

@@ -59,8 +59,7 @@ impl Core {
     }
 
     /// Plans the answer to a command that some body spells, as the controller gives it to who may send it. So far the commands are
-    /// Hello, those on identities, services, edge routers, policies, links and terminators, and those that show grants and counts.
-    /// The state stays, and it is valid.
+    /// all but Compact. The state stays, and it is valid.
     pub fn plan(&self, command: &Command) -> Result<Planned, AllocError>
         requires live { self.now.live ≡ true }
         requires spelled { is_spelled command.now ≡ true }

@@ -20,6 +20,8 @@ pub enum Family {
     Links,
     /// The commands on terminators.
     Terminators,
+    /// The commands on circuits, and those that explain, verify and show them.
+    Circuits,
     /// The commands that show grants and counts.
     Grants,
     /// The commands that are not carried out yet.
@@ -61,6 +63,11 @@ pub fn family_of(command: &Command) -> Family
         Command::CreateTerminator { .. }
         | Command::UpdateTerminator { .. }
         | Command::DeleteTerminator { .. } => Family::Terminators,
+        Command::CreateCircuit { .. }
+        | Command::DeleteCircuit { .. }
+        | Command::Explain { .. }
+        | Command::VerifyRoute { .. }
+        | Command::ShowCircuit { .. } => Family::Circuits,
         Command::ShowGrants { .. } | Command::ListServices { .. } | Command::ShowCounts => {
             Family::Grants
         }

@@ -8,7 +8,8 @@ use crate::planning::unknown_identity;
 use crate::stores::Stores;
 use ctrl_model::{Kind, Name, Names, Reply, Tallies};
 use shown_records::{
-    count_all_policies, count_entities, count_links, count_terminators, names_of, tallies,
+    count_all_policies, count_circuits, count_entities, count_links, count_terminators, names_of,
+    tallies,
 };
 use std::alloc::{AllocError, Global};
 
@@ -91,12 +92,13 @@ pub fn plan_show_counts(alloc: Global, stores: &Stores) -> Result<Planned, Alloc
     let routers = count_entities(alloc, entities, Kind::Router)?;
     let policies = count_all_policies(alloc, &stores.policies)?;
     let grants = count_grants(stores);
+    let circuits = count_circuits(alloc, &stores.circuits)?;
     let links = count_links(alloc, &stores.fabric)?;
     let terminators = count_terminators(alloc, &stores.terminators)?;
     Ok(Planned::shown(
         alloc,
         Reply::Counts {
-            circuits: 0,
+            circuits,
             grants,
             identities,
             links,

@@ -2,9 +2,11 @@ ghost use Rattle.std.specs.Prelude.{◌≡◌, [], IfOk};
 ghost use Rattle.entity_store.specs.EntityTables.{no_entities};
 ghost use Rattle.policy_store.specs.PolicyTables.{no_policies};
 ghost use Rattle.fabric_graph.specs.FabricTables.{no_links};
+ghost use Rattle.circuits.specs.CircuitTables.{no_circuits};
 ghost use Rattle.terminators.specs.TermTables.{no_terminators};
 ghost use Rattle.ctrl_core.specs.KeptState.{counts_of};
 
+use circuits::Circuits;
 use ctrl_model::Relation;
 use entity_store::Entities;
 use fabric_graph::Fabric;
@@ -29,6 +31,7 @@ pub struct Stores {
     pub policies: Policies,
     pub fabric: Fabric,
     pub terminators: Terminators,
+    pub circuits: Circuits,
     pub grants: Grants,
 }
 
@@ -61,13 +64,14 @@ impl Grants {
 impl Stores {
     /// Stores without records.
     pub fn new(alloc: Global) -> Result<Stores, AllocError>
-        ensures { IfOk result (λ st. st ≡ record { entities = no_entities; policies = no_policies; fabric = no_links; terminators = no_terminators; grants = record { dial = []; bind = []; identity_router = []; service_router = [] } }) }
+        ensures { IfOk result (λ st. st ≡ record { entities = no_entities; policies = no_policies; fabric = no_links; terminators = no_terminators; circuits = no_circuits; grants = record { dial = []; bind = []; identity_router = []; service_router = [] } }) }
     {
         Ok(Stores {
             entities: Entities::new(alloc)?,
             policies: Policies::new(alloc)?,
             fabric: Fabric::new(alloc)?,
             terminators: Terminators::new(alloc)?,
+            circuits: Circuits::new(alloc)?,
             grants: Grants::new(alloc)?,
         })
     }

@@ -1,5 +1,5 @@
 ghost use Rattle.std.specs.Prelude.{◌≡◌, codes, true, false, [], ◌∷◌};
-ghost use Rattle.ctrl_model.specs.declared.commands.Command.TheVariants.{Hello, ConnectRouter, CreateLink, DeleteTerminator, DeleteCircuit};
+ghost use Rattle.ctrl_model.specs.declared.commands.Command.TheVariants.{Hello, ConnectRouter, CreateLink, DeleteTerminator, DeleteCircuit, Compact};
 ghost use Rattle.ctrl_model.specs.declared.kinds.Kind.TheVariants as kind;
 ghost use Rattle.ctrl_model.specs.State.{start};
 ghost use Rattle.entity_store.specs.EntityTables.{no_entities};
@@ -9,6 +9,7 @@ ghost use Rattle.ctrl_core.specs.KeptState.{state_of};
 ghost use Rattle.ctrl_model.specs.WorkedStates.{carrying};
 ghost use Rattle.fabric_graph.specs.FabricTables.{no_links};
 ghost use Rattle.policy_store.specs.PolicyTables.{no_policies};
+ghost use Rattle.circuits.specs.CircuitTables.{no_circuits};
 ghost use Rattle.terminators.specs.TermTables.{no_terminators};
 ghost use Rattle.policy_store.specs.StoredPolicies.{policy_of};
 ghost use Rattle.ctrl_core.specs.WorkedChanges.{ann_dials, ann_binds, with_dial};
@@ -16,12 +17,13 @@ ghost use Rattle.ctrl_core.specs.declared.changes.Change.TheVariants.{Add, AddRo
 
 /// Stores without records stand for the state at the start. Commands that are carried out so far, and one that is not.
 pub fn worked_starts()
-    ensures state { state_of (record { entities = no_entities; policies = no_policies; fabric = no_links; terminators = no_terminators; grants = record { dial = []; bind = []; identity_router = []; service_router = [] } }) ≡ start }
+    ensures state { state_of (record { entities = no_entities; policies = no_policies; fabric = no_links; terminators = no_terminators; circuits = no_circuits; grants = record { dial = []; bind = []; identity_router = []; service_router = [] } }) ≡ start }
     ensures hello { is_carried Hello ≡ true }
     ensures connect { is_carried (ConnectRouter (codes "r1")) ≡ true }
     ensures link { is_carried (CreateLink (codes "l1") (codes "r1") (codes "r2") 1 0 0) ≡ true }
     ensures terminator { is_carried (DeleteTerminator 1) ≡ true }
-    ensures circuit { is_carried (DeleteCircuit 1) ≡ false }
+    ensures circuit { is_carried (DeleteCircuit 1) ≡ true }
+    ensures compact { is_carried Compact ≡ false }
 {}
 
 /// Each kind of change, made in a small state.

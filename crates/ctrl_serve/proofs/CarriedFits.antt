@@ -19,7 +19,11 @@ use Rattle.ctrl_model.specs.LinkCommands.{after_create_link, after_set_link_cost
 use Rattle.ctrl_model.specs.TerminatorCommands.{after_create_terminator, after_update_terminator, after_delete_terminator, refusal_of_create_terminator, no_such_terminator}
 use Rattle.ctrl_model.specs.ShowCommands.{tally_of, router_entities, grants_of, services_of}
 use Rattle.ctrl_model.specs.ValidState.{ValidState}
+use Rattle.ctrl_model.specs.CircuitCommands.{ask_of, shown_circuit, no_such_circuit}
+use Rattle.ctrl_model.specs.Numbered.{at, without}
 use Rattle.ctrl_model.specs.Controller.{policy, carry}
+use Rattle.ctrl_serve.proofs.RouteFits.{create_fits, explain_fits, shown_fit}
+use Rattle.std.specs.Option.{option_map_or}
 use Rattle.ctrl_core.specs.CarriedCommands.{is_carried}
 use Rattle.reply_codec.specs.ReplyLimits.{keeps_limits}
 
@@ -118,6 +122,13 @@ carried_fits (command.UpdateTerminator n cost precedence) s valid carried =
     carried_out_fits (no_such_terminator n s) s Done (after_update_terminator n cost precedence s) refl
 carried_fits (command.DeleteTerminator n) s valid carried =
     carried_out_fits (no_such_terminator n s) s Done (after_delete_terminator n s) refl
+carried_fits (command.CreateCircuit identity service ingress instance) s valid carried = create_fits (ask_of identity service ingress instance s) s valid
+carried_fits (command.DeleteCircuit n) s valid carried =
+    carried_out_fits (no_such_circuit n s) s Done (record s { circuits = without s.circuits n }) refl
+carried_fits (command.Explain identity service ingress instance) s valid carried = explain_fits (ask_of identity service ingress instance s) s valid
+carried_fits (command.VerifyRoute identity service ingress instance chosen links potentials routers terminator total) s valid carried = refl
+carried_fits (command.ShowCircuit n) s valid carried =
+    shown_fits (no_such_circuit n s) s (option_map_or (shown_circuit s) (at s.circuits n) Done) (shown_fit n s valid)
 carried_fits (command.ShowGrants identity) s valid carried =
     let i = unwrap_or (entity_named s.identities identity) 0 in
     shown_fits (unknown_if_absent Identity (entity_named s.identities identity)) s (grants_of i s) (grants_fit i s valid)

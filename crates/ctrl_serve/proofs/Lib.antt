@@ -1,3 +1,4 @@
+pub mod RouteFits
 pub mod CarriedFits
 pub mod ReadCommandLaws
 pub mod FrontParts

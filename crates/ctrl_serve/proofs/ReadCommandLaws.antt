@@ -1,5 +1,5 @@
 -- A core carries out each command that the codec reads.
-use Rattle.std.proofs.Common.{◌≡◌, true, false, refl}
+use Rattle.std.proofs.Common.{◌≡◌, true, refl}
 use Rattle.std.proofs.lemmas.Bool.{false≢true}
 use Rattle.ctrl_model.specs.declared.commands.Command.{Command}
 use Rattle.ctrl_model.specs.declared.commands.Command.TheVariants as command
@@ -37,6 +37,11 @@ carried_if_read (command.SetLeastRouterCost cost) e = refl
 carried_if_read (command.CreateTerminator service router instance host cost precedence) e = refl
 carried_if_read (command.UpdateTerminator n cost precedence) e = refl
 carried_if_read (command.DeleteTerminator n) e = refl
+carried_if_read (command.CreateCircuit identity service ingress instance) e = refl
+carried_if_read (command.DeleteCircuit n) e = refl
+carried_if_read (command.Explain identity service ingress instance) e = refl
+carried_if_read (command.VerifyRoute identity service ingress instance chosen links potentials routers terminator total) e = refl
+carried_if_read (command.ShowCircuit n) e = refl
 carried_if_read (command.ShowGrants identity) e = refl
 carried_if_read (command.ListServices identity) e = refl
 carried_if_read command.ShowCounts e = refl

@@ -154,11 +154,7 @@ const NETWORK: [Row; 25] = [
         r#"{"code":20,"name":"Exists"}"#,
     ),
     (1201, r#"{"link":"l1","cost":5}"#, DONE),
-    (
-        1202,
-        r#"{"link":"l1","router":"r2","latency":60000}"#,
-        DONE,
-    ),
+    (1202, r#"{"link":"l1","router":"r2","latency":60000}"#, DONE),
     (
         1203,
         r#"{"link":"l1","router":"q","up":false}"#,
@@ -203,11 +199,7 @@ const NETWORK: [Row; 25] = [
         r#"{"link":"l1"}"#,
         r#"{"code":21,"field":"link","name":"Unknown"}"#,
     ),
-    (
-        1301,
-        r#"{"no":2,"cost":65535,"precedence":"failed"}"#,
-        DONE,
-    ),
+    (1301, r#"{"no":2,"cost":65535,"precedence":"failed"}"#, DONE),
     (1002, r#"{"name":"h"}"#, DONE),
     (
         1302,

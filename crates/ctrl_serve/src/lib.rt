@@ -3,12 +3,12 @@
 
 mod bounds;
 mod command_line;
+#[cfg(test)]
+mod command_rows;
 mod intake;
 mod laws;
 #[cfg(test)]
 mod memory_forms;
-#[cfg(test)]
-mod command_rows;
 mod serving;
 mod status;
 #[cfg(test)]

@@ -3,6 +3,7 @@ ghost use Rattle.entity_store.specs.EntityTables.{is_entity_kind, entities};
 ghost use Rattle.policy_store.specs.PolicyRules.{most_of};
 ghost use Rattle.policy_store.specs.PolicyTables.{is_policy_kind, policies};
 
+use circuits::Circuits;
 use ctrl_model::Kind;
 use entity_store::Entities;
 use fabric_graph::Fabric;
@@ -47,6 +48,15 @@ pub fn count_links(alloc: Global, fabric: &Fabric) -> Result<u32, AllocError>
 {
     let _limit = fabric.next();
     let numbers = fabric.numbers(alloc)?;
+    Ok(numbers.len() as u32)
+}
+
+/// How many circuits there are.
+pub fn count_circuits(alloc: Global, granted: &Circuits) -> Result<u32, AllocError>
+    ensures { IfOk result (λ n. n ≡ length granted.now.circuits) }
+{
+    let _limit = granted.next();
+    let numbers = granted.numbers(alloc)?;
     Ok(numbers.len() as u32)
 }
 

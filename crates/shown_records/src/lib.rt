@@ -6,5 +6,7 @@ mod tallying;
 #[cfg(test)]
 mod tests;
 
-pub use counting::{count_all_policies, count_entities, count_links, count_terminators};
+pub use counting::{
+    count_all_policies, count_circuits, count_entities, count_links, count_terminators,
+};
 pub use tallying::{names_of, tallies};

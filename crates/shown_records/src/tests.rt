@@ -1,4 +1,7 @@
-use crate::{count_all_policies, count_entities, count_links, count_terminators, names_of, tallies};
+use crate::{
+    count_all_policies, count_circuits, count_entities, count_links, count_terminators, names_of, tallies,
+};
+use circuits::Circuits;
 use ctrl_model::{Kind, Name, Names};
 use entity_store::Entities;
 use fabric_graph::Fabric;
@@ -45,6 +48,7 @@ fn shows_a_count(rt: &impl Abort, alloc: Global, known: &Entities) -> Result<(),
 
 fn counts_stores_without_records(rt: &impl Abort, alloc: Global) -> Result<(), Fail> {
     assert_eq!(rt; count_links(alloc, &Fabric::new(alloc)?)?, 0);
+    assert_eq!(rt; count_circuits(alloc, &Circuits::new(alloc)?)?, 0);
     assert_eq!(rt; count_terminators(alloc, &Terminators::new(alloc)?)?, 0);
     assert_eq!(rt; count_all_policies(alloc, &Policies::new(alloc)?)?, 0);
     Ok(())

@@ -16,5 +16,6 @@ returns c = record {
   policies_stay = refl;
   links_stay = refl;
   terminators_stay = refl;
+  circuits_stay = refl;
   counts_stay = refl;
 }

@@ -1,7 +1,6 @@
 use Rattle.std.proofs.Common.{◌∙◌, ap, subst}
 use Rattle.std.proofs.lemmas.Result.{IfOk-weaker}
 use Rattle.ctrl_model.specs.Controller.{carry}
-use Rattle.ctrl_model.specs.ValidState.{ValidState}
 use Rattle.ctrl_core.specs.Changes.{LeadsFrom}
 use Rattle.ctrl_core.specs.KeptState.{state_of}
 use Rattle.ctrl_core.proofs.PlanLaws.{leads_from}

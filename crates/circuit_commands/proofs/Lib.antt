@@ -1,0 +1,4 @@
+pub mod RemovalLaws
+pub mod PresentLaws
+pub mod PlanLaws
+pub mod SettledLaws

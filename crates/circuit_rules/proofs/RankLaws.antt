@@ -1,0 +1,35 @@
+-- Laws on the order of ranks: what choices say of the order of their candidates.
+use Rattle.std.proofs.Common.{◌≡◌, ℕ, ◌<◌, ◌≤◌, false, ◌⊎◌, inl, inr, List, ◌∷◌, sym, ◌∙◌, ap, arith, Equal, Greater, is_lt, nat_cmp}
+use Rattle.std.proofs.lemmas.Bool.{cases_order}
+use Rattle.std.specs.Cmp.{nat_cmp_is}
+use Rattle.std.specs.Cmp.Lexicographic.{slice_cmp}
+use Rattle.std.specs.Ordering.{ordering_then}
+use Rattle.ctrl_model.proofs.BestLaws.{head_le, tail_not_below}
+
+-- a list that begins with no less than one that is not below another is not below any with the other's head, if it is not where
+-- both begin alike
+no_less : (m a b : ℕ) (xs ys zs ws : List ℕ) → m ≤ a → is_lt (slice_cmp nat_cmp (m ∷ xs) (b ∷ ys)) ≡ false
+    → (m ≡ b → a ≡ b → is_lt (slice_cmp nat_cmp zs ws) ≡ false) → is_lt (slice_cmp nat_cmp (a ∷ zs) (b ∷ ws)) ≡ false
+no_less m a b xs ys zs ws most e k = apart (head_le m b xs ys e) (cases_order a b)
+  where
+    apart : b ≤ m → (a ≡ b) ⊎ ((a < b) ⊎ (b < a)) → is_lt (slice_cmp nat_cmp (a ∷ zs) (b ∷ ws)) ≡ false
+    apart le (inl s) = ap (λ o. is_lt (ordering_then o (slice_cmp nat_cmp zs ws))) (sym (nat_cmp_is a b Equal s)) ∙ k (omega arith) s
+    apart le (inr (inl h)) = absurd (omega arith)
+    apart le (inr (inr h)) = ap (λ o. is_lt (ordering_then o (slice_cmp nat_cmp zs ws))) (sym (nat_cmp_is a b Greater h))
+
+-- where the key of a choice is not below that of another, the rank of a candidate of at least its total is not below that of the
+-- other's candidate, if the links are not where all else is alike
+pub rank_not_below : (p m n t i q x u j : ℕ) (xs ys zs ws : List ℕ) → m ≤ n → is_lt (slice_cmp nat_cmp (p ∷ m ∷ t ∷ i ∷ xs) (q ∷ x ∷ u ∷ j ∷ ys)) ≡ false
+    → (n ≡ x → t ≡ u → i ≡ j → is_lt (slice_cmp nat_cmp zs ws) ≡ false)
+    → is_lt (slice_cmp nat_cmp (p ∷ n ∷ t ∷ i ∷ zs) (q ∷ x ∷ u ∷ j ∷ ws)) ≡ false
+rank_not_below p m n t i q x u j xs ys zs ws most e k =
+    no_less p p q (m ∷ t ∷ i ∷ xs) (x ∷ u ∷ j ∷ ys) (n ∷ t ∷ i ∷ zs) (x ∷ u ∷ j ∷ ws) (omega arith) e (λ same_p _.
+    totals (tail_not_below p q (m ∷ t ∷ i ∷ xs) (x ∷ u ∷ j ∷ ys) same_p e))
+  where
+    totals : is_lt (slice_cmp nat_cmp (m ∷ t ∷ i ∷ xs) (x ∷ u ∷ j ∷ ys)) ≡ false → is_lt (slice_cmp nat_cmp (n ∷ t ∷ i ∷ zs) (x ∷ u ∷ j ∷ ws)) ≡ false
+    totals f = no_less m n x (t ∷ i ∷ xs) (u ∷ j ∷ ys) (t ∷ i ∷ zs) (u ∷ j ∷ ws) most f (λ same_m same_n.
+        terminators same_n (tail_not_below m x (t ∷ i ∷ xs) (u ∷ j ∷ ys) same_m f))
+      where
+        terminators : n ≡ x → is_lt (slice_cmp nat_cmp (t ∷ i ∷ xs) (u ∷ j ∷ ys)) ≡ false → is_lt (slice_cmp nat_cmp (t ∷ i ∷ zs) (u ∷ j ∷ ws)) ≡ false
+        terminators same_n g = no_less t t u (i ∷ xs) (j ∷ ys) (i ∷ zs) (j ∷ ws) (omega arith) g (λ same_t _.
+            no_less i i j xs ys zs ws (omega arith) (tail_not_below t u (i ∷ xs) (j ∷ ys) same_t g) (λ same_i _. k same_n same_t same_i))

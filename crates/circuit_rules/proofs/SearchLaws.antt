@@ -1,0 +1,143 @@
+-- Laws on what the search needs: its bounds, and where the first choice stands.
+use Rattle.std.proofs.Common.{◌≡◌, ℕ, suc, ◌+◌, ◌-◌, ◌*◌, ◌<◌, ◌≤◌, ◌==◌, max, nat_le, Bool, true, false, cond, List, [], ◌∷◌, length, get_or, Some, None, inl, inr, refl, sym, ◌∙◌, ap, subst, arith, eq-eqb}
+use Rattle.std.specs.List.{All}
+use Rattle.std.proofs.lemmas.Bool.{and_parts, leb-true, false≢true}
+use Rattle.std.proofs.lemmas.Option.{same_Some}
+use Rattle.ctrl_model.specs.Claims.{no_path}
+use Rattle.ctrl_model.specs.Membership.{Among}
+use Rattle.ctrl_model.proofs.Members.{Among-get_or, list_any-from_among}
+use Rattle.path_certificate.specs.declared.graph.Step.{Step}
+use Rattle.path_certificate.specs.Graphs.{GraphSeen, potential}
+use Rattle.path_search.specs.Searches.{IsLeast, AreFew, greatest_cost}
+use Rattle.fabric_graph.specs.Routers.{costs_at_most}
+use Rattle.circuit_rules.specs.declared.choosing.Choice.{Choice}
+use Rattle.circuit_rules.specs.declared.offers.Offer.{Offer}
+use Rattle.circuit_rules.specs.declared.places.Entry.{Entry}
+use Rattle.circuit_rules.specs.Searched.{costs_to, is_offered_at, AreCosts, AreSmall, choice_at, first_of_all}
+use Rattle.circuit_rules.proofs.ChoiceLaws.{IsChosen, chosen}
+
+-- what holds of each index holds of each element
+pub all_among : {X : Type 0} (P : X → Type 0) (xs : List X) (x : X) → All P xs → Among x xs → P x
+all_among P [] x h m = absurd m
+all_among P (y ∷ xs) x h (inl e) = subst P e (h 0 y (omega arith))
+all_among P (y ∷ xs) x h (inr m) = all_among P xs x (λ k d lt. h (suc k) d (omega arith)) m
+
+-- and the other way round
+pub all_from_among : {X : Type 0} (P : X → Type 0) (xs : List X) → ((x : X) → Among x xs → P x) → All P xs
+all_from_among P xs h = λ k d lt. h (get_or xs k d) (Among-get_or xs k d lt)
+
+-- ---- bounds
+
+greatest-le : (most : ℕ) (steps : List Step) → costs_at_most most steps ≡ true → greatest_cost steps ≤ most
+greatest-le most [] e = omega arith
+greatest-le most (s ∷ steps) e =
+    greater s.cost (greatest_cost steps) most (leb-true s.cost most (and_parts (nat_le s.cost most) (costs_at_most most steps) e).0)
+    (greatest-le most steps (and_parts (nat_le s.cost most) (costs_at_most most steps) e).1)
+  where
+    greater : (a b m : ℕ) → a ≤ m → b ≤ m → max a b ≤ m
+    greater a b m p q = omega arith
+
+times_le : (n b v : ℕ) → n ≤ 256 → b ≤ 251070 → v ≤ (n - 1) * b → v ≤ 64022850
+times_le n b v few most le = last v ((n - 1) * b) (255 * b) le (more (n - 1) b (omega arith)) (omega arith)
+  where
+    more : (m b : ℕ) → m ≤ 255 → m * b ≤ 255 * b
+    more m b h = grind arith
+
+    last : (v x y : ℕ) → v ≤ x → x ≤ y → y ≤ 64022850 → v ≤ 64022850
+    last v x y h p q = omega arith
+
+-- the place of an offer has one
+pub offered_there : (offers : List Offer) (o : Offer) → Among o offers → is_offered_at offers o.place ≡ true
+offered_there offers o m = list_any-from_among (λ (x : Offer). x.place == o.place) offers o m (eq-eqb o.place o.place refl)
+
+pub small_costs : (g : GraphSeen) (offers : List Offer) (costs : List (List ℕ)) (places : ℕ) → places ≤ 256 → length g.through ≡ places → costs_at_most 251070 g.steps ≡ true
+    → ((t : ℕ) → t < places → AreCosts g offers t (costs_to costs t)) → All (λ (o : Offer). o.place < places) offers
+    → All (λ (o : Offer). AreSmall places (costs_to costs o.place)) offers
+small_costs g offers costs places few same most least within =
+    all_from_among (λ (o : Offer). AreSmall places (costs_to costs o.place)) offers (λ o m.
+    small (costs_to costs o.place) (least o.place (all_among (λ (o : Offer). o.place < places) offers o within m) (offered_there offers o m)).0.places
+    (least o.place (all_among (λ (o : Offer). o.place < places) offers o within m) (offered_there offers o m)).1)
+  where
+    small : (p : List ℕ) → length p ≡ length g.through → AreFew g p → AreSmall places p
+    small p at_each bounded = record {
+      places_are = at_each ∙ same;
+      small = λ v below there. times_le (length g.through) (greatest_cost g.steps) (potential p v) (subst (λ n. n ≤ 256) (sym same) few) (greatest-le 251070 g.steps most)
+          (bounded v (subst (λ n. v < n) (sym same) below) there);
+    }
+
+-- ---- where the first choice stands
+
+-- the choice of an offer and an entry that have one
+abbrev pub choice_of : List ℕ → Offer → Entry → Choice
+choice_of p o x = record {
+  precedence = o.precedence;
+  total = o.cost + potential p x.place;
+  terminator = o.terminator.0;
+  ingress = x.router.0;
+  from = x.place;
+  to = o.place;
+}
+
+pub choice_told : (p : List ℕ) (o : Offer) (x : Entry) (c : Choice) → choice_at p o x ≡ Some c → ((potential p x.place == no_path) ≡ false) × (choice_of p o x ≡ c)
+choice_told p o x c e = apart (potential p x.place == no_path) refl e
+  where
+    apart : (b : Bool) → (potential p x.place == no_path) ≡ b → cond b None (Some (choice_of p o x)) ≡ Some c → ((potential p x.place == no_path) ≡ false) × (choice_of p o x ≡ c)
+    apart true is h = absurd (cc)
+    apart false is h = (is, same_Some (choice_of p o x) c h)
+
+-- the least costs of a graph to the places of offers, and entries and offers at its places
+pub record IsReady (places : ℕ) (g : GraphSeen) (costs : List (List ℕ)) (entries : List Entry) (offers : List Offer) : Type 0 where
+  pub places_are : length g.through ≡ places
+  pub listed : length costs ≡ places
+  pub least : (t : ℕ) → t < places → AreCosts g offers t (costs_to costs t)
+  pub entries_in : All (λ (x : Entry). x.place < places) entries
+  pub offers_in : All (λ (o : Offer). o.place < places) offers
+
+pub ready : (places : ℕ) (g : GraphSeen) (costs items : List (List ℕ)) (entries : List Entry) (offers : List Offer) → costs ≡ items → length g.through ≡ places
+    → length items ≡ length g.through → ((t : ℕ) → t < length g.through → AreCosts g offers t (costs_to items t))
+    → All (λ (x : Entry). x.place < places) entries → All (λ (o : Offer). o.place < places) offers → IsReady places g costs entries offers
+ready places g costs items entries offers same at_each listed least in_entries in_offers = record {
+  places_are = at_each;
+  listed = ap length same ∙ listed ∙ at_each;
+  least = λ t below. subst (λ cs. AreCosts g offers t (costs_to cs t)) (sym same) (least t (subst (λ n. t < n) (sym at_each) below));
+  entries_in = in_entries;
+  offers_in = in_offers;
+}
+
+-- a choice has a least path in a graph
+pub record IsWalkable (g : GraphSeen) (costs : List (List ℕ)) (c : Choice) : Type 0 where
+  pub to : c.to < length g.through
+  pub from : c.from < length g.through
+  pub listed : c.to < length costs
+  pub least : IsLeast g c.to (costs_to costs c.to)
+  pub there : potential (costs_to costs c.to) c.from < no_path
+
+pub walkable : (places : ℕ) (g : GraphSeen) (costs : List (List ℕ)) (entries : List Entry) (offers : List Offer) (c : Choice) → IsReady places g costs entries offers
+    → first_of_all costs entries None offers ≡ Some c → IsWalkable g costs c
+walkable places g costs entries offers c k e = of (chosen costs entries offers c e)
+  where
+    of : IsChosen costs entries offers c → IsWalkable g costs c
+    of h = subst (IsWalkable g costs) (choice_told (costs_to costs h.offer.place) h.offer h.entry c h.told).1 (record {
+      to = subst (λ n. h.offer.place < n) (sym k.places_are) in_offers;
+      from = subst (λ n. h.entry.place < n) (sym k.places_are) in_entries;
+      listed = subst (λ n. h.offer.place < n) (sym k.listed) in_offers;
+      least = least_at.0;
+      there = below (potential (costs_to costs h.offer.place) h.entry.place)
+          (least_at.0.each h.entry.place (subst (λ n. h.entry.place < n) (sym k.places_are) in_entries)).within
+          (choice_told (costs_to costs h.offer.place) h.offer h.entry c h.told).0;
+    })
+      where
+        in_offers : h.offer.place < places
+        in_offers = all_among (λ (o : Offer). o.place < places) offers h.offer k.offers_in h.is_offered
+
+        in_entries : h.entry.place < places
+        in_entries = all_among (λ (x : Entry). x.place < places) entries h.entry k.entries_in h.is_entered
+
+        least_at : IsLeast g h.offer.place (costs_to costs h.offer.place) × AreFew g (costs_to costs h.offer.place)
+        least_at = k.least h.offer.place in_offers (offered_there offers h.offer h.is_offered)
+
+        below : (a : ℕ) → a ≤ no_path → (a == no_path) ≡ false → a < no_path
+        below a le ne = lt_of a (λ same. false≢true (sym ne ∙ eq-eqb a no_path same)) le
+          where
+            lt_of : (a : ℕ) → (a ≡ no_path → ⊥) → a ≤ no_path → a < no_path
+            lt_of a ne le = omega arith

@@ -1,0 +1,7 @@
+use Rattle.std.proofs.Common.{◌≡◌, drop}
+use Rattle.circuit_rules.specs.Searched.{first_of}
+use Rattle.circuit_rules.proofs.choosing.first_of.Given as goal
+
+-- the first of those so far and those that are left
+abbrev pub invariant-entries : goal.invariant-entries
+invariant-entries l = first_of l.costs l.offer l.best (drop l.entry-index l.entries) ≡ first_of l.costs l.offer l.fn.best l.entries

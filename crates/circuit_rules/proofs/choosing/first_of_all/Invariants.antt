@@ -1,0 +1,7 @@
+use Rattle.std.proofs.Common.{◌≡◌, drop, None}
+use Rattle.circuit_rules.specs.Searched.{first_of_all}
+use Rattle.circuit_rules.proofs.choosing.first_of_all.Given as goal
+
+-- the first of those so far and those that are left
+abbrev pub invariant-offers : goal.invariant-offers
+invariant-offers l = first_of_all l.costs l.entries l.best (drop l.offer-index l.offers) ≡ first_of_all l.costs l.entries None l.offers

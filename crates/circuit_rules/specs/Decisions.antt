@@ -1,0 +1,31 @@
+-- What is decided of a circuit request: the route of the best candidate where no rule fails, and else the first rule that fails
+-- (docs/RULES.md, "Circuits").
+use Rattle.std.specs.Prelude.{◌≡◌, ⊤, None, Some, Ok, Err}
+use Rattle.std.specs.declared.result.Result.{Result}
+use Rattle.ctrl_model.specs.Networks.{Network}
+use Rattle.ctrl_model.specs.Choices.{Ask, Candidate, best, first_rule}
+use Rattle.circuit_rules.specs.declared.views.Route.{Route}
+use Rattle.circuit_rules.specs.declared.views.DecideFault.{DecideFault}
+use Rattle.circuit_rules.specs.declared.views.DecideFault.TheVariants as fault
+
+-- The route of a candidate.
+abbrev pub route_of : Candidate → Route
+route_of c = record {
+  ingress = record { 0 = c.ingress };
+  links = c.links;
+  terminator = record { 0 = c.terminator };
+  total = c.total;
+}
+
+-- No rule of the request fails, and the best candidate has this route.
+pub record Grants (w : Network) (ask : Ask) (r : Route) : Type 0 where
+  pub passes : first_rule w ask ≡ None
+  pub chosen : Candidate
+  pub is_best : best w ask ≡ Some chosen
+  pub route : r ≡ route_of chosen
+
+-- What is decided: a route that is granted, or the first rule that fails; of want of memory nothing is said.
+abbrev pub Decides : Network → Ask → Result Route DecideFault → Type 0
+Decides w ask (Ok r) = Grants w ask r
+Decides w ask (Err (fault.Denied d)) = first_rule w ask ≡ Some d
+Decides w ask (Err fault.NoMemory) = ⊤

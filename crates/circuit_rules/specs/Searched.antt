@@ -1,0 +1,193 @@
+-- What the private functions of the search for a route find. No public contract cites it.
+use Rattle.std.specs.Prelude.{◌≡◌, ℕ, suc, ◌+◌, ◌<◌, ◌≤◌, ◌==◌, Bool, true, false, cond, ⊤, List, [], ◌∷◌, ◌++◌, map, length, None, Some, Ok, Err}
+use Rattle.std.specs.declared.option.Option.{Option}
+use Rattle.std.specs.declared.result.Result.{Result}
+use Rattle.std.specs.Cmp.Lexicographic.{slice_cmp}
+use Rattle.std.specs.Ordering.{nat_cmp, is_lt}
+use Rattle.std.specs.Option.{option_map, option_map_or, option_to_list}
+use Rattle.std.specs.List.{list_any, slice_index_or, flat_map}
+use Rattle.ctrl_model.specs.declared.kinds.RouterSeen.{RouterSeen}
+use Rattle.ctrl_model.specs.declared.refusals.Denial.{Denial}
+use Rattle.ctrl_model.specs.declared.refusals.Denial.TheVariants.{UnknownRouter, NoDial, NoSharedRouter, SharedRoutersOffline, NoTerminators, NoAdmissibleTerminator, NoPath, CircuitsFull}
+use Rattle.ctrl_model.specs.State.{Terminator}
+use Rattle.ctrl_model.specs.Claims.{no_path}
+use Rattle.ctrl_model.specs.Matches.{is_nothing}
+use Rattle.ctrl_model.specs.Numbered.{at}
+use Rattle.ctrl_model.specs.Networks.{Network, hops, is_counted, counted, admissible}
+use Rattle.ctrl_model.specs.Choices.{Ask, Wanted, Candidate, IsBest, is_absent, place_of, shared, ingresses, candidates_for, first_denial}
+use Rattle.ctrl_model.specs.Mirrors.{Mirrors}
+use Rattle.path_certificate.specs.Graphs.{GraphSeen, graph_hops, potential}
+use Rattle.path_search.specs.Searches.{IsLeast, AreFew, IsFirst}
+use Rattle.fabric_graph.specs.Routers.{number_at}
+use Rattle.circuit_rules.specs.declared.views.Route.{Route}
+use Rattle.circuit_rules.specs.declared.views.DecideFault.{DecideFault}
+use Rattle.circuit_rules.specs.declared.views.DecideFault.TheVariants as fault
+use Rattle.circuit_rules.specs.Decisions.{route_of}
+use Rattle.circuit_rules.specs.declared.choosing.Choice.{Choice}
+use Rattle.circuit_rules.specs.declared.offers.Offer.{Offer}
+use Rattle.circuit_rules.specs.declared.places.Entry.{Entry}
+
+-- ---- rules, a part of them at a time
+
+-- The rules on where a circuit enters.
+abbrev pub entry_rules : Network → Wanted → ℕ → ℕ → List (Bool × Denial)
+entry_rules w ingress i s =
+    (is_absent ingress, UnknownRouter)
+    ∷ (w.dial i s == 0, NoDial)
+    ∷ (is_nothing (shared w ingress i s), NoSharedRouter)
+    ∷ (is_nothing (ingresses w ingress i s), SharedRoutersOffline)
+    ∷ []
+
+-- The rules on where a circuit ends.
+abbrev pub offer_rules : Network → ℕ → List ℕ → List (Bool × Denial)
+offer_rules w s instance =
+    (is_nothing (counted w s instance), NoTerminators) ∷ (is_nothing (admissible w s instance), NoAdmissibleTerminator) ∷ []
+
+-- The rules on both.
+abbrev pub end_rules : Network → Ask → ℕ → ℕ → List (Bool × Denial)
+end_rules w ask i s = entry_rules w ask.ingress i s ++ offer_rules w s ask.instance
+
+-- The rules on the way between.
+abbrev pub way_rules : Network → Ask → ℕ → ℕ → List (Bool × Denial)
+way_rules w ask i s = (is_nothing (candidates_for w ask i s), NoPath) ∷ (w.full, CircuitsFull) ∷ []
+
+-- What comes of a part of the rules: something where none of them fails, and else the denial of the first that fails.
+abbrev pub Passes : {X : Type 0} → List (Bool × Denial) → (X → Type 0) → Result X DecideFault → Type 0
+Passes rules P (Ok x) = (first_denial rules ≡ None) × P x
+Passes rules P (Err (fault.Denied d)) = first_denial rules ≡ Some d
+Passes rules P (Err fault.NoMemory) = ⊤
+
+-- ---- places
+
+-- The place of the router of a number: how many stand before it.
+abbrev pub place_in : List RouterSeen → ℕ → ℕ
+place_in [] n = 0
+place_in (r ∷ routers) n = cond (r.no.0 == n) 0 (suc (place_in routers n))
+
+-- A router as a circuit enters there.
+abbrev pub entry_of : List RouterSeen → RouterSeen → Entry
+entry_of routers r = record { place = place_in routers r.no.0; router = r.no }
+
+-- A terminator as a circuit ends there.
+abbrev pub offer_of : List RouterSeen → ℕ × Terminator → Offer
+offer_of routers e =
+    record { place = place_in routers e.1.router; terminator = record { 0 = e.0 }; cost = e.1.cost; precedence = e.1.precedence }
+
+-- Whether a request counts the terminator of a number.
+abbrev pub counts : Network → ℕ → List ℕ → ℕ → Bool
+counts w s instance n = option_map_or (λ e. is_counted s instance (n, e)) (at w.terminators n) false
+
+-- The terminator of a number as a circuit ends there.
+abbrev pub offer_at : Network → ℕ → Option Offer
+offer_at w n = option_map (λ e. offer_of w.routers (n, e)) (at w.terminators n)
+
+-- The terminators of numbers as circuits end there.
+abbrev pub offers_of : Network → List ℕ → List Offer
+offers_of w ns = flat_map (λ n. option_to_list (offer_at w n)) ns
+
+-- The entries of a request.
+abbrev pub entries_to : Network → Ask → ℕ → ℕ → List Entry
+entries_to w ask i s = map (entry_of w.routers) (ingresses w ask.ingress i s)
+
+-- The offers of a request.
+abbrev pub offers_to : Network → Ask → ℕ → List Offer
+offers_to w ask s = map (offer_of w.routers) (admissible w s ask.instance)
+
+-- ---- least costs
+
+-- The least costs to a place, of lists by place.
+abbrev pub costs_to : List (List ℕ) → ℕ → List ℕ
+costs_to costs place = slice_index_or costs place []
+
+-- Whether one of the offers stands at a place.
+abbrev pub is_offered_at : List Offer → ℕ → Bool
+is_offered_at offers place = list_any (λ o. o.place == place) offers
+
+-- The least costs of paths to a place, if it has an offer.
+abbrev pub AreCosts : GraphSeen → List Offer → ℕ → List ℕ → Type 0
+AreCosts g offers place p = is_offered_at offers place ≡ true → IsLeast g place p × AreFew g p
+
+-- Least costs, of which each is small.
+pub record AreSmall (places : ℕ) (p : List ℕ) : Type 0 where
+  pub places_are : length p ≡ places
+  pub small : (v : ℕ) → v < places → potential p v < no_path → potential p v ≤ 64022850
+
+-- ---- choices
+
+-- What choices are compared by, from left to right.
+abbrev pub key : Choice → List ℕ
+key c = place_of c.precedence ∷ c.total ∷ c.terminator ∷ c.ingress ∷ c.from ∷ c.to ∷ []
+
+-- Whether one choice comes before another.
+abbrev pub is_before : Choice → Choice → Bool
+is_before c d = is_lt (slice_cmp nat_cmp (key c) (key d))
+
+-- The choice of an offer and an entry, if there is a path between them.
+abbrev pub choice_at : List ℕ → Offer → Entry → Option Choice
+choice_at p o x = cond (potential p x.place == no_path) None (Some (record {
+  precedence = o.precedence;
+  total = o.cost + potential p x.place;
+  terminator = o.terminator.0;
+  ingress = x.router.0;
+  from = x.place;
+  to = o.place;
+}))
+
+-- The first of two choices that may be there.
+abbrev pub keep : Option Choice → Option Choice → Option Choice
+keep best None = best
+keep None (Some c) = Some c
+keep (Some b) (Some c) = Some (cond (is_before c b) c b)
+
+-- The first of a choice and those of one offer.
+abbrev pub first_of : List ℕ → Offer → Option Choice → List Entry → Option Choice
+first_of p o best [] = best
+first_of p o best (x ∷ xs) = first_of p o (keep best (choice_at p o x)) xs
+
+-- The first of a choice and those of some offers.
+abbrev pub first_of_all : List (List ℕ) → List Entry → Option Choice → List Offer → Option Choice
+first_of_all costs entries best [] = best
+first_of_all costs entries best (o ∷ offers) = first_of_all costs entries (first_of (costs_to costs o.place) o best entries) offers
+
+-- ---- the search
+
+-- The route of a choice over links.
+abbrev pub way_of : Choice → List ℕ → Route
+way_of c links = record { ingress = record { 0 = c.ingress }; links = links; terminator = record { 0 = c.terminator }; total = c.total }
+
+-- A route goes over the first of the least paths between the places of a choice.
+abbrev pub GoesFirst : GraphSeen → List (List ℕ) → Choice → Route → Type 0
+GoesFirst g costs c r = (r ≡ way_of c r.links) × IsFirst g c.to (costs_to costs c.to) c.from r.links
+
+-- The route of the first choice, if there is one.
+abbrev pub IsFound : GraphSeen → List (List ℕ) → Option Choice → Option Route → Type 0
+IsFound g costs None None = ⊤
+IsFound g costs None (Some r) = ⊥
+IsFound g costs (Some c) None = ⊥
+IsFound g costs (Some c) (Some r) = GoesFirst g costs c r
+
+-- A graph has the hops of a network, between the places of its routers.
+pub record IsGraphOf (w : Network) (g : GraphSeen) : Type 0 where
+  pub places : length g.through ≡ length w.routers
+  pub mirrors : (t : ℕ) → t < length w.routers → Mirrors (length w.routers) (number_at w.routers) (graph_hops g t) (hops w (number_at w.routers t))
+
+-- What a search of a network between entries and offers finds.
+pub record IsSearched (w : Network) (entries : List Entry) (offers : List Offer) (found : Option Route) : Type 0 where
+  pub graph : GraphSeen
+  pub is_graph : IsGraphOf w graph
+  pub costs : List (List ℕ)
+  pub least : (t : ℕ) → t < length w.routers → AreCosts graph offers t (costs_to costs t)
+  pub route : IsFound graph costs (first_of_all costs entries None offers) found
+
+-- ---- the best route
+
+-- The route of the best candidate.
+pub record IsBestRoute (w : Network) (ask : Ask) (r : Route) : Type 0 where
+  pub chosen : Candidate
+  pub best : IsBest w ask chosen
+  pub route : r ≡ route_of chosen
+
+-- The route of the best candidate, or none where there is no candidate.
+abbrev pub IsBestWay : Network → Ask → ℕ → ℕ → Option Route → Type 0
+IsBestWay w ask i s None = candidates_for w ask i s ≡ []
+IsBestWay w ask i s (Some r) = IsBestRoute w ask r

@@ -1,0 +1,99 @@
+ghost use Rattle.std.specs.Prelude.{◌≡◌, ◌<◌, ◌≤◌, ℕ, All, length, None};
+ghost use Rattle.ctrl_model.specs.Claims.{no_path};
+ghost use Rattle.path_certificate.specs.Graphs.{potential};
+ghost use Rattle.circuit_rules.specs.Searched.{AreSmall, costs_to, is_before, choice_at, keep, first_of, first_of_all};
+
+use crate::offers::Offer;
+use crate::places::Entry;
+use ctrl_model::{Potentials, Precedence};
+
+/// A terminator and an ingress with a path between them, which costs this much in all. The fields stand in the order in which
+/// choices are compared; the last two, the places of ingress and terminator, only go with the two before.
+#[derive(Clone, Copy, Debug, PartialEq, Eq, PartialOrd, Ord)]
+pub struct Choice {
+    pub precedence: Precedence,
+    pub total: u32,
+    pub terminator: u32,
+    pub ingress: u32,
+    pub from: u16,
+    pub to: u16,
+}
+
+// Whether one choice comes before another.
+fn is_before(choice: &Choice, other: &Choice) -> bool
+    ensures { result ≡ is_before choice.now other.now }
+{
+    choice.cmp(other).is_lt()
+}
+
+// The choice of an offer and an entry, if there is a path between them.
+fn choice_at(costs: &[u64], offer: &Offer, entry: &Entry) -> Option<Choice>
+    requires costs { AreSmall (length costs.now) costs.now }
+    requires place { entry.now.place < length costs.now }
+    requires cost { offer.now.cost ≤ 65535 }
+    ensures { result ≡ choice_at costs.now offer.now entry.now }
+{
+    let cost = costs[entry.place as usize];
+    if cost == u64::MAX {
+        return None;
+    }
+    Some(Choice {
+        precedence: offer.precedence,
+        total: offer.cost + cost as u32,
+        terminator: offer.terminator.0,
+        ingress: entry.router.0,
+        from: entry.place,
+        to: offer.place,
+    })
+}
+
+// The first of two choices that may be there.
+fn keep(best: Option<Choice>, other: Option<Choice>) -> Option<Choice>
+    ensures { result ≡ keep best other }
+{
+    match (best, other) {
+        (best, None) => best,
+        (None, other) => other,
+        (Some(best), Some(other)) => Some(if is_before(&other, &best) {
+            other
+        } else {
+            best
+        }),
+    }
+}
+
+// The first of a choice and those of one offer.
+fn first_of(costs: &[u64], offer: &Offer, best: Option<Choice>, entries: &[Entry]) -> Option<Choice>
+    requires costs { AreSmall (length costs.now) costs.now }
+    requires places { All (λ x. x.place < length costs.now) entries.now }
+    requires cost { offer.now.cost ≤ 65535 }
+    ensures { result ≡ first_of costs.now offer.now best entries.now }
+{
+    let mut best = best;
+    'entries: for entry in entries {
+        let other = choice_at(costs, offer, entry);
+        best = keep(best, other);
+    }
+    best
+}
+
+/// The first of all choices, if there is one.
+pub fn first_of_all(
+    costs: &[Potentials],
+    entries: &[Entry],
+    offers: &[Offer],
+    places: usize,
+) -> Option<Choice>
+    requires places { All (λ x. x.place < places) entries.now }
+    requires offers { All (λ o. o.place < length costs.now) offers.now }
+    requires small { All (λ o. AreSmall places (costs_to costs.now o.place)) offers.now }
+    requires costs { All (λ o. o.cost ≤ 65535) offers.now }
+    ensures { result ≡ first_of_all costs.now entries.now None offers.now }
+{
+    let mut best = None;
+    'offers: for offer in offers {
+        let costs = costs[offer.place as usize].as_slice();
+        best = first_of(costs, offer, best, entries);
+    }
+    best
+}
