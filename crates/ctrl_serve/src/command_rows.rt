@@ -9,13 +9,16 @@ use std::process::Abort;
 use std::test::Fail;
 
 /// A content type, the body of the frame, and the body of its reply.
-type Row = (u32, &'static str, &'static str);
+pub type Row = (u32, &'static str, &'static str);
 
 /// The sequence number of each request.
 const REQUEST: u32 = 7;
 
 /// The reply to a change that makes nothing.
-const DONE: &str = "{}";
+pub const DONE: &str = "{}";
+
+/// The refusal of a number that nothing has.
+pub const UNKNOWN_NUMBER: &str = r#"{"code":21,"field":"no","name":"Unknown"}"#;
 
 /// The grants of who may dial web, by one policy.
 const ONCE: &str = r#"{"bind":[],"dial":[["web",1]],"routers":[]}"#;
@@ -181,7 +184,7 @@ const NETWORK: [Row; 25] = [
     (
         1301,
         r#"{"no":3,"cost":1,"precedence":"required"}"#,
-        r#"{"code":21,"field":"no","name":"Unknown"}"#,
+        UNKNOWN_NUMBER,
     ),
     (
         1502,
@@ -204,7 +207,7 @@ const NETWORK: [Row; 25] = [
     (
         1302,
         r#"{"no":2}"#,
-        r#"{"code":21,"field":"no","name":"Unknown"}"#,
+        UNKNOWN_NUMBER,
     ),
 ];
 
@@ -251,7 +254,8 @@ fn replies(alloc: Global, rows: &[Row]) -> Result<Vec<u8>, AllocError> {
     Ok(bytes)
 }
 
-fn check_table(rt: &impl Abort, alloc: Global, rows: &[Row]) -> Result<(), Fail> {
+/// Runs the frames of some rows from the start, and compares what is said with their replies.
+pub fn check_table(rt: &impl Abort, alloc: Global, rows: &[Row]) -> Result<(), Fail> {
     let bounds = Bounds {
         input: 65_536,
         slot: 64,

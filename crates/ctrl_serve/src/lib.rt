@@ -4,6 +4,8 @@
 mod bounds;
 mod command_line;
 #[cfg(test)]
+mod circuit_rows;
+#[cfg(test)]
 mod command_rows;
 mod intake;
 mod laws;

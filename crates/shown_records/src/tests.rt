@@ -1,5 +1,6 @@
 use crate::{
-    count_all_policies, count_circuits, count_entities, count_links, count_terminators, names_of, tallies,
+    count_all_policies, count_circuits, count_entities, count_links, count_terminators, names_of,
+    tallies,
 };
 use circuits::Circuits;
 use ctrl_model::{Kind, Name, Names};
