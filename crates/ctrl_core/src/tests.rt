@@ -4,7 +4,7 @@ ghost use Rattle.ctrl_model.specs.NameForm.{is_name};
 ghost use Rattle.ctrl_core.specs.CarriedCommands.{is_carried};
 
 use crate::core_state::Core;
-use ctrl_model::{Command, Name, NameFault, Names, Refusal, Reply};
+use ctrl_model::{Command, Name, NameFault, Names, Refusal, Relation, Reply};
 use std::alloc::{AllocError, Global};
 use std::test::Fail;
 
@@ -50,36 +50,6 @@ fn carries_out_commands_on_identities(rt: HostRuntime) -> Result<(), Fail> {
         )
     );
     assert!(rt; matches!(carry_out(&mut core, &create)?, Reply::Made { no: 2 }));
-    Ok(())
-}
-
-#[test]
-fn carries_out_commands_on_routers(rt: HostRuntime) -> Result<(), Fail> {
-    let alloc = rt.alloc();
-    let mut core = Core::empty(alloc)?;
-    let connect = Command::ConnectRouter {
-        name: name(alloc, b"r1")?,
-    };
-    let create = Command::CreateRouter {
-        name: name(alloc, b"r1")?,
-        attributes: Names::of(Vec::new(alloc)),
-        cost: 5,
-        no_traversal: true,
-    };
-    let update = Command::UpdateRouter {
-        name: name(alloc, b"r1")?,
-        attributes: Names::of(Vec::new(alloc)),
-        cost: 65_535,
-        no_traversal: false,
-    };
-    assert!(rt;
-        matches!(
-            carry_out(&mut core, &connect)?,
-            Reply::Refused(Refusal::Unknown { .. })
-        )
-    );
-    assert!(rt; matches!(carry_out(&mut core, &create)?, Reply::Made { no: 1 }));
-    assert!(rt; matches!(carry_out(&mut core, &connect)?, Reply::Done));
-    assert!(rt; matches!(carry_out(&mut core, &update)?, Reply::Done));
+    assert_eq!(rt; core.counted(Relation::Dial).pairs(), 0);
     Ok(())
 }

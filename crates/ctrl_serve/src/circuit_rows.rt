@@ -12,10 +12,12 @@ const ASK: &str = r#"{"identity":"ann","service":"web"}"#;
 const NO_PATH: &str = r#"{"code":38,"name":"NoPath"}"#;
 
 /// A claim whose first value is too low.
-const LOW_CLAIM: &str = r#"{"identity":"ann","service":"web","chosen":"r1","links":[1,2],"potentials":[{"router":3,"values":[41,21,0]}],"routers":[1,2,3],"terminator":1,"total":42}"#;
+const LOW_CLAIM: &str =
+    r#"{"identity":"ann","service":"web","chosen":"r1","links":[1,2],"potentials":[{"router":3,"values":[41,21,0]}],"routers":[1,2,3],"terminator":1,"total":42}"#;
 
 /// The claim of the route over both links.
-const CLAIM: &str = r#"{"identity":"ann","service":"web","chosen":"r1","links":[1,2],"potentials":[{"router":3,"values":[42,21,0]}],"routers":[1,2,3],"terminator":1,"total":42}"#;
+const CLAIM: &str =
+    r#"{"identity":"ann","service":"web","chosen":"r1","links":[1,2],"potentials":[{"router":3,"values":[42,21,0]}],"routers":[1,2,3],"terminator":1,"total":42}"#;
 
 /// Three routers in a row, with links that cost 11 each; ann may dial web and enters at the first router, and web is offered at the
 /// third.
@@ -260,12 +262,7 @@ const HOSTED: [Row; 8] = [
     (1400, ASK, r#"{"code":37,"name":"NoAdmissibleTerminator"}"#),
 ];
 
-fn check_behind(
-    rt: &impl Abort,
-    alloc: Global,
-    first: &[Row],
-    then: &[Row],
-) -> Result<(), Fail> {
+fn check_behind(rt: &impl Abort, alloc: Global, first: &[Row], then: &[Row]) -> Result<(), Fail> {
     let rows = joined(alloc, first, then)?;
     check_table(rt, alloc, rows.as_slice())
 }

@@ -204,11 +204,7 @@ const NETWORK: [Row; 25] = [
     ),
     (1301, r#"{"no":2,"cost":65535,"precedence":"failed"}"#, DONE),
     (1002, r#"{"name":"h"}"#, DONE),
-    (
-        1302,
-        r#"{"no":2}"#,
-        UNKNOWN_NUMBER,
-    ),
+    (1302, r#"{"no":2}"#, UNKNOWN_NUMBER),
 ];
 
 fn push_number(bytes: &mut Vec<u8>, number: u32) -> Result<(), AllocError> {
@@ -255,7 +251,7 @@ fn replies(alloc: Global, rows: &[Row]) -> Result<Vec<u8>, AllocError> {
 }
 
 /// Runs the frames of some rows from the start, and compares what is said with their replies.
-pub fn check_table(rt: &impl Abort, alloc: Global, rows: &[Row]) -> Result<(), Fail> {
+pub(crate) fn check_table(rt: &impl Abort, alloc: Global, rows: &[Row]) -> Result<(), Fail> {
     let bounds = Bounds {
         input: 65_536,
         slot: 64,

@@ -2,9 +2,9 @@
 #![tactic(auto)]
 
 mod bounds;
-mod command_line;
 #[cfg(test)]
 mod circuit_rows;
+mod command_line;
 #[cfg(test)]
 mod command_rows;
 mod intake;
