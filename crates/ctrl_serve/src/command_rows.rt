@@ -225,12 +225,37 @@ fn push_head(
     push_number(bytes, u32::try_from(body.len()).unwrap_or(u32::MAX))
 }
 
+/// Puts the frame of a request behind the others.
+pub(crate) fn push_request(
+    bytes: &mut Vec<u8>,
+    content: u32,
+    body: &str,
+) -> Result<(), AllocError> {
+    push_head(bytes, content, REQUEST, 0, body)?;
+    bytes.extend_from_slice(body.as_bytes())
+}
+
 fn requests(alloc: Global, rows: &[Row]) -> Result<Vec<u8>, AllocError> {
     let mut bytes = Vec::new(alloc);
     for (content, body, _) in rows {
-        push_head(&mut bytes, *content, REQUEST, 0, body)?;
-        bytes.extend_from_slice(body.as_bytes())?;
+        push_request(&mut bytes, *content, body)?;
     }
+    Ok(bytes)
+}
+
+fn push_reply(bytes: &mut Vec<u8>, sequence: u32, body: &str) -> Result<(), AllocError> {
+    push_head(bytes, 2, sequence, 21, body)?;
+    bytes.extend_from_slice(b"\x01\0\0\0\x04\0\0\0")?;
+    push_number(bytes, REQUEST)?;
+    bytes.extend_from_slice(b"\x02\0\0\0\x01\0\0\0")?;
+    bytes.push(u8::from(!body.starts_with("{\"code\"")))?;
+    bytes.extend_from_slice(body.as_bytes())
+}
+
+/// The frame of a reply, laid out by hand.
+pub(crate) fn reply_frame(alloc: Global, sequence: u32, body: &str) -> Result<Vec<u8>, AllocError> {
+    let mut bytes = Vec::new(alloc);
+    push_reply(&mut bytes, sequence, body)?;
     Ok(bytes)
 }
 
@@ -239,12 +264,7 @@ fn replies(alloc: Global, rows: &[Row]) -> Result<Vec<u8>, AllocError> {
     let mut bytes = Vec::new(alloc);
     let mut sequence = 0u32;
     for (_, _, body) in rows {
-        push_head(&mut bytes, 2, sequence, 21, body)?;
-        bytes.extend_from_slice(b"\x01\0\0\0\x04\0\0\0")?;
-        push_number(&mut bytes, REQUEST)?;
-        bytes.extend_from_slice(b"\x02\0\0\0\x01\0\0\0")?;
-        bytes.push(u8::from(!body.starts_with("{\"code\"")))?;
-        bytes.extend_from_slice(body.as_bytes())?;
+        push_reply(&mut bytes, sequence, body)?;
         sequence = sequence.wrapping_add(1);
     }
     Ok(bytes)

@@ -11,6 +11,8 @@ mod intake;
 mod laws;
 #[cfg(test)]
 mod memory_forms;
+#[cfg(test)]
+mod model_rows;
 mod serving;
 mod status;
 #[cfg(test)]
