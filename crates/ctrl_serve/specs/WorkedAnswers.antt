@@ -58,3 +58,31 @@ two_routers =
 -- The first router goes.
 abbrev pub router_goes : List (ℕ × List ℕ)
 router_goes = (1022, codes "{\"name\":\"r1\"}") ∷ []
+
+-- Three connected routers in a row, with links that cost 11 each; ann may dial web and enters at the first router, and web is
+-- offered at the third.
+abbrev pub line : List (ℕ × List ℕ)
+line =
+    (1000, codes "{\"name\":\"ann\"}")
+    ∷ (1010, codes "{\"name\":\"web\"}")
+    ∷ (1020, codes "{\"name\":\"r1\"}")
+    ∷ (1020, codes "{\"name\":\"r2\"}")
+    ∷ (1020, codes "{\"name\":\"r3\"}")
+    ∷ (1023, codes "{\"name\":\"r1\"}")
+    ∷ (1023, codes "{\"name\":\"r2\"}")
+    ∷ (1023, codes "{\"name\":\"r3\"}")
+    ∷ (1200, codes "{\"name\":\"l1\",\"a\":\"r1\",\"b\":\"r2\",\"latency_a\":5,\"latency_b\":5}")
+    ∷ (1200, codes "{\"name\":\"l2\",\"a\":\"r2\",\"b\":\"r3\",\"latency_a\":5,\"latency_b\":5}")
+    ∷ (1100, codes "{\"name\":\"d\",\"type\":\"Dial\",\"semantic\":\"AnyOf\",\"identity_roles\":[\"@ann\"],\"service_roles\":[\"@web\"]}")
+    ∷ (1110, codes "{\"name\":\"e\",\"semantic\":\"AnyOf\",\"identity_roles\":[\"@ann\"],\"router_roles\":[\"@r1\"]}")
+    ∷ (1120, codes "{\"name\":\"s\",\"semantic\":\"AnyOf\",\"service_roles\":[\"#all\"],\"router_roles\":[\"#all\"]}")
+    ∷ (1300, codes "{\"service\":\"web\",\"router\":\"r3\"}")
+    ∷ []
+
+-- What ann asks for.
+abbrev pub ann_asks : List ℕ
+ann_asks = codes "{\"identity\":\"ann\",\"service\":\"web\"}"
+
+-- The middle router may not be passed through any more.
+abbrev pub middle_closes : List (ℕ × List ℕ)
+middle_closes = (1021, codes "{\"name\":\"r2\",\"attributes\":[],\"cost\":0,\"no_traversal\":true}") ∷ []

@@ -24,4 +24,6 @@ pub use bounds::Bounds;
 pub use laws::done_says_all;
 pub use status::Status;
 pub use top::{run, run_within};
-pub use worked::{worked_answers, worked_networks, worked_policies, worked_runs, worked_words};
+pub use worked::{
+    worked_answers, worked_circuits, worked_networks, worked_policies, worked_runs, worked_words,
+};

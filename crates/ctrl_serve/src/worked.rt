@@ -1,13 +1,14 @@
 ghost use Rattle.std.specs.Prelude.{◌≡◌, [], ◌∷◌, ◌++◌, codes, take, true, false, None, Some};
 ghost use Rattle.channel_frame.specs.FrameSpelling.{spelling};
 ghost use Rattle.channel_frame.specs.WorkedFrames.{ann_bytes, reply_bytes, cut_bytes, unmarked_bytes};
+ghost use Rattle.ctrl_model.specs.declared.refusals.Denial.TheVariants as denial;
 ghost use Rattle.ctrl_model.specs.declared.refusals.Field.TheVariants as field;
 ghost use Rattle.ctrl_model.specs.declared.refusals.Reason.TheVariants as reason;
 ghost use Rattle.ctrl_model.specs.declared.refusals.Refusal.TheVariants as refusal;
 ghost use Rattle.ctrl_model.specs.declared.replies.Reply.TheVariants as reply;
 ghost use Rattle.ctrl_serve.specs.CommandLine.{Dry, form_of};
 ghost use Rattle.ctrl_serve.specs.FrameAnswer.{replies};
-ghost use Rattle.ctrl_serve.specs.WorkedAnswers.{reply_at_start, reply_behind, ann_may_dial, all_may_dial, first_goes, ann_comes_again, two_routers, router_goes};
+ghost use Rattle.ctrl_serve.specs.WorkedAnswers.{reply_at_start, reply_behind, ann_may_dial, all_may_dial, first_goes, ann_comes_again, two_routers, router_goes, line, ann_asks, middle_closes};
 ghost use Rattle.reply_codec.specs.ReplyFrame.{reply_frame};
 ghost use Rattle.ctrl_serve.specs.Ending.{ending};
 ghost use Rattle.ctrl_serve.specs.declared.status.Status.TheVariants as status;
@@ -60,6 +61,13 @@ pub fn worked_networks()
     ensures taken { reply_behind two_routers 1200 (codes "{\"name\":\"l1\",\"a\":\"q\",\"b\":\"r1\"}") ≡ reply.Refused refusal.Exists }
     ensures absent { reply_behind (two_routers ++ router_goes) 1200 (codes "{\"name\":\"l1\",\"a\":\"r1\",\"b\":\"r2\"}") ≡ reply.Refused (refusal.Unknown field.A) }
     ensures next { reply_behind two_routers 1300 (codes "{\"service\":\"web\",\"router\":\"r2\"}") ≡ reply.Made 2 }
+{}
+
+/// Answers to a circuit request: the least route is granted, a circuit ends where its path does, and then no route is left.
+pub fn worked_circuits()
+    ensures granted { reply_behind line 1400 ann_asks ≡ reply.Circuit (record { 0 = 1 }) (codes "r1") (1 ∷ 2 ∷ []) (record { 0 = 1 }) 42 }
+    ensures ended { reply_behind (line ++ ((1400, ann_asks) ∷ middle_closes)) 1503 (codes "{\"no\":1}") ≡ reply.Refused (refusal.Unknown field.No) }
+    ensures denied { reply_behind (line ++ middle_closes) 1402 ann_asks ≡ reply.Refused (refusal.Denied denial.NoPath) }
 {}
 
 /// The replies to one frame that creates ann, to the same frame twice, and to a frame before a cut one; and how these inputs
