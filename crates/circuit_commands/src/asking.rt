@@ -122,7 +122,6 @@ pub fn verified(
     ask: &Ask,
     claim: &Explanation,
 ) -> Result<bool, AllocError>
-    requires { AreParts parts.now }
     ensures { IfOk result (λ yes. yes ≡ justified (network_in parts.now) (asked ask.now) claim.now) }
 {
     let routers = parts.entities.routers(alloc)?;

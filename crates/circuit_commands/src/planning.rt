@@ -136,7 +136,6 @@ fn plan_verify_route(
     terminator: u32,
     total: u32,
 ) -> Result<CircuitPlan, AllocError>
-    requires { AreParts parts.now }
     ensures { IfOk result (Answers (λ s. verify_route (ask_at request.now s) chosen.now links.now potentials.now routers.now terminator total s) parts.now) }
 {
     let Ok(ingress) = parts.entities.find(Kind::Router, chosen) else {
@@ -157,8 +156,7 @@ fn plan_verify_route(
 
 // Plans the answer to a VerifyRoute.
 fn plan_claim(alloc: Global, parts: &Parts, command: &Command) -> Result<CircuitPlan, AllocError>
-    requires claims { is_claim command.now ≡ true }
-    requires parts { AreParts parts.now }
+    requires { is_claim command.now ≡ true }
     ensures { IfOk result (Answers (carry command.now) parts.now) }
 {
     let Command::VerifyRoute {

@@ -2,7 +2,6 @@ ghost use Rattle.std.specs.Prelude.{◌≡◌, ◌==◌, ◌&&◌, IfOk};
 ghost use Rattle.std.specs.List.{list_any};
 ghost use Rattle.ctrl_model.specs.Claims.{is_route, justified, justified_for};
 ghost use Rattle.ctrl_model.specs.Numbered.{numbers};
-ghost use Rattle.fabric_graph.specs.Routers.{AreRouters};
 ghost use Rattle.circuit_rules.specs.Views.{network, asked};
 ghost use Rattle.route_certificates.specs.Parts.{term_offered, is_entitled_by, is_complete_by, none_beats_by, is_justified_by};
 
@@ -139,7 +138,6 @@ pub fn verify(
     ask: &Ask,
     claim: &Explanation,
 ) -> Result<bool, AllocError>
-    requires { AreRouters view.now.routers.now }
     ensures { IfOk result (λ yes. yes ≡ justified (network view.now) (asked ask.now) claim.now) }
 {
     let Some(identity) = ask.identity else {
