@@ -5,16 +5,20 @@ use Rattle.std.proofs.lemmas.Bool.{and_parts, and_from, both_ways}
 use Rattle.std.proofs.lemmas.List.Folds.{list_all-append}
 use Rattle.std.specs.List.{filter, list_all}
 use Rattle.std.specs.Str.{bytes_eq}
-use Rattle.ctrl_model.specs.Numbered.{at, with_last, edit_at, map_each, first_where, Between}
-use Rattle.ctrl_model.specs.ValidState.{ValidNumbers, ValidTable, HaveUniqueNames, each_passes}
+use Rattle.ctrl_model.specs.declared.kinds.Kind.{Kind}
+use Rattle.ctrl_model.specs.Limits.{limit, last_next}
+use Rattle.ctrl_model.specs.Numbered.{Table, no_rows, with_new, with_edit, with_each, at, with_last, first_where, Between}
+use Rattle.ctrl_model.specs.State.{State}
+use Rattle.ctrl_model.specs.Tables.{Record, has_names, record_name}
+use Rattle.ctrl_model.specs.ValidState.{ValidNumbers, ValidTable, HaveUniqueNames, each_passes, is_valid}
 use Rattle.ctrl_model.proofs.Members.{list_all-among, list_all-from_among, by_filter}
-use Rattle.ctrl_model.proofs.NumberedLaws.{at-past, at-map-back, at-with_last-back, at-filter-back, Between-with_last, Between-map, Between-filter, length-with_last, length-filter-le, first_where-none, first_where-found, is_found-from, by_is_some, Found}
+use Rattle.ctrl_model.proofs.NumberedLaws.{at-past, at-map-back, at-with_last-back, at-filter-back, Between-with_last, Between-map, Between-filter, length-with_last, length-filter-le, first_where-none, first_where-found, is_found-from, by_is_some}
 use Rattle.ctrl_model.proofs.DistinctLaws.{same_name, same_bytes}
 
 -- ---- numbers
 
 pub ValidNumbers-with_last : {R : Type 0} {most : ℕ} {rows : List (ℕ × R)} {next : ℕ} → ValidNumbers most rows next → (r : R)
-    → (length rows < most) × (next < 4294967295) → ValidNumbers most (with_last rows next r) (next + 1)
+    → (length rows < most) × (next < last_next) → ValidNumbers most (with_last rows next r) (next + 1)
 ValidNumbers-with_last {rows = rows} {next = next} v r room = record {
   first = omega arith;
   last = omega arith;
@@ -132,67 +136,63 @@ found-named name_of rows n name high low b is =
     let f = first_where-found (λ t. bytes_eq (name_of t) name) high rows low n b is in
     (f.record_found, f.stands, same_name (name_of f.record_found) name f.passes)
 
--- ---- a table with names, each of whose records passes a test
+-- ---- a table without records
 
-pub record Kept {R : Type 0} (name_of : R → List ℕ) (test : R → Bool) (most : ℕ) (rows : List (ℕ × R)) (next : ℕ) : Type 0 where
-  pub table : ValidTable name_of most rows next
-  pub each : each_passes test rows ≡ true
+pub valid-none : (k : Kind) (s : State) → ValidTable k s no_rows
+valid-none k s = record {
+  numbers = record { first = omega arith; last = omega arith; ordered = tt; few = omega arith };
+  names = λ has a b r t e f same. absurd (cc);
+  each = refl;
+}
 
-module _ {R : Type 0} {name_of : R → List ℕ} {test : R → Bool} {most : ℕ} {rows : List (ℕ × R)} {next : ℕ} (k : Kept name_of test most rows next) where
-  pub Kept-with_last : (r : R) → first_where (λ t. bytes_eq (name_of t) (name_of r)) rows ≡ None → (length rows < most) × (next < 4294967295) → test r ≡ true
-      → Kept name_of test most (with_last rows next r) (next + 1)
-  Kept-with_last r new room passes = record {
-    table = record {
-      numbers = ValidNumbers-with_last k.table.numbers r room;
-      names = HaveUniqueNames-with_last name_of rows next r k.table.names (at-next k.table.numbers) new;
-    };
-    each = each_passes-with_last test rows next r k.each passes;
+-- ---- a table of a kind, valid in one state, is valid in another whose records need no more, and after each kind of change
+
+module _ {k : Kind} {s : State} {t : Table (Record k)} (v : ValidTable k s t) (u : State) (more : (q : Record k) → is_valid k s q ≡ true → is_valid k u q ≡ true) where
+  pub valid-more : ValidTable k u t
+  valid-more = record {
+    numbers = v.numbers;
+    names = v.names;
+    each = each_passes-more (is_valid k s) (is_valid k u) more t.rows v.each;
   }
 
-  pub Kept-edit_at : (n : ℕ) (f : R → R) → ((r : R) → name_of (f r) ≡ name_of r) → ((r : R) → test r ≡ true → test (f r) ≡ true)
-      → Kept name_of test most (edit_at rows n f) next
-  Kept-edit_at n f keeps passes = record {
-    table = record {
-      numbers = ValidNumbers-map k.table.numbers (λ x. cond (x.0 == n) (f x.1) x.1);
-      names = HaveUniqueNames-map name_of name_of (λ x. cond (x.0 == n) (f x.1) x.1) rows (λ x. named (x.0 == n) x.1) k.table.names;
-    };
-    each = each_passes-map test test (λ x. cond (x.0 == n) (f x.1) x.1) (λ x t. tested (x.0 == n) x.1 t) rows k.each;
+  pub valid-new : (r : Record k) → (has_names k ≡ true → first_where (λ q. bytes_eq (record_name k q) (record_name k r)) t.rows ≡ None)
+      → (length t.rows < limit k) × (t.next < last_next) → is_valid k u r ≡ true → ValidTable k u (with_new r t)
+  valid-new r new room passes = record {
+    numbers = ValidNumbers-with_last v.numbers r room;
+    names = λ h. HaveUniqueNames-with_last (record_name k) t.rows t.next r (v.names h) (at-next v.numbers) (new h);
+    each = each_passes-with_last (is_valid k u) t.rows t.next r valid-more.each passes;
   }
+
+  pub valid-filter : (p : ℕ × Record k → Bool) → ValidTable k u (record t { rows = filter p t.rows })
+  valid-filter p = record {
+    numbers = ValidNumbers-filter v.numbers p;
+    names = λ h. HaveUniqueNames-filter (record_name k) p t.next t.rows 1 v.numbers.ordered (v.names h);
+    each = each_passes-filter (is_valid k u) p t.rows valid-more.each;
+  }
+
+module _ {k : Kind} {s : State} {t : Table (Record k)} (v : ValidTable k s t) (u : State) where
+  -- a change of each record, by its number, that keeps its name
+  pub valid-map : (g : ℕ × Record k → Record k) → ((x : ℕ × Record k) → record_name k (g x) ≡ record_name k x.1)
+      → ((x : ℕ × Record k) → is_valid k s x.1 ≡ true → is_valid k u (g x) ≡ true) → ValidTable k u (record t { rows = map (λ x. (x.0, g x)) t.rows })
+  valid-map g keeps passes = record {
+    numbers = ValidNumbers-map v.numbers g;
+    names = λ h. HaveUniqueNames-map (record_name k) (record_name k) g t.rows keeps (v.names h);
+    each = each_passes-map (is_valid k s) (is_valid k u) g passes t.rows v.each;
+  }
+
+  pub valid-each : (f : Record k → Record k) → ((q : Record k) → record_name k (f q) ≡ record_name k q)
+      → ((q : Record k) → is_valid k s q ≡ true → is_valid k u (f q) ≡ true) → ValidTable k u (with_each f t)
+  valid-each f keeps passes = valid-map (λ x. f x.1) (λ x. keeps x.1) (λ x. passes x.1)
+
+  pub valid-edit : ((q : Record k) → is_valid k s q ≡ true → is_valid k u q ≡ true) → (n : ℕ) (f : Record k → Record k) → ((q : Record k) → record_name k (f q) ≡ record_name k q)
+      → ((q : Record k) → is_valid k s q ≡ true → is_valid k u (f q) ≡ true) → ValidTable k u (with_edit n f t)
+  valid-edit more n f keeps passes =
+      valid-map (λ x. cond (x.0 == n) (f x.1) x.1) (λ x. name (x.0 == n) x.1) (λ x. tested (x.0 == n) x.1)
     where
-      named : (b : Bool) (r : R) → name_of (cond b (f r) r) ≡ name_of r
-      named true r = keeps r
-      named false r = refl
+      name : (b : Bool) (q : Record k) → record_name k (cond b (f q) q) ≡ record_name k q
+      name true q = keeps q
+      name false q = refl
 
-      tested : (b : Bool) (r : R) → test r ≡ true → test (cond b (f r) r) ≡ true
-      tested true r t = passes r t
-      tested false r t = t
-
-  -- a change of each record may come with a change of what a record must pass
-  pub Kept-map_each : (f : R → R) (after : R → Bool) → ((r : R) → name_of (f r) ≡ name_of r) → ((r : R) → test r ≡ true → after (f r) ≡ true)
-      → Kept name_of after most (map_each f rows) next
-  Kept-map_each f after keeps passes = record {
-    table = record {
-      numbers = ValidNumbers-map k.table.numbers (λ x. f x.1);
-      names = HaveUniqueNames-map name_of name_of (λ x. f x.1) rows (λ x. keeps x.1) k.table.names;
-    };
-    each = each_passes-map test after (λ x. f x.1) (λ x t. passes x.1 t) rows k.each;
-  }
-
-  pub Kept-filter : (p : ℕ × R → Bool) → Kept name_of test most (filter p rows) next
-  Kept-filter p = record {
-    table = record {
-      numbers = ValidNumbers-filter k.table.numbers p;
-      names = HaveUniqueNames-filter name_of p next rows 1 k.table.numbers.ordered k.table.names;
-    };
-    each = each_passes-filter test p rows k.each;
-  }
-
-  pub Kept-test : (after : R → Bool) → ((r : R) → test r ≡ true → after r ≡ true) → Kept name_of after most rows next
-  Kept-test after passes = record {
-    table = k.table;
-    each = each_passes-more test after passes rows k.each;
-  }
-
-  -- the record that a name finds
-  pub Kept-found : (name : List ℕ) (n : ℕ) → first_where (λ t. bytes_eq (name_of t) name) rows ≡ Some n → Found (λ t. bytes_eq (name_of t) name) rows n
-  Kept-found name n e = first_where-found (λ t. bytes_eq (name_of t) name) next rows 1 n k.table.numbers.ordered e
+      tested : (b : Bool) (q : Record k) → is_valid k s q ≡ true → is_valid k u (cond b (f q) q) ≡ true
+      tested true q e = passes q e
+      tested false q e = more q e

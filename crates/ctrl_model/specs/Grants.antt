@@ -33,24 +33,24 @@ joins relation p e f = same_relation relation p.relation && (matches p.left p.se
 
 -- The policies of the kind that can grant a relation.
 abbrev pub policies_for : Relation → State → List (ℕ × Policy)
-policies_for Dial s = s.service_policies
-policies_for Bind s = s.service_policies
-policies_for IdentityRouter s = s.edge_router_policies
-policies_for ServiceRouter s = s.service_edge_router_policies
+policies_for Dial s = s.service_policies.rows
+policies_for Bind s = s.service_policies.rows
+policies_for IdentityRouter s = s.edge_router_policies.rows
+policies_for ServiceRouter s = s.service_edge_router_policies.rows
 
 -- The entity on the left of a relation: an identity, but a service where the relation joins services to routers.
 abbrev pub left_entity : Relation → State → ℕ → Option Entity
-left_entity Dial s a = at s.identities a
-left_entity Bind s a = at s.identities a
-left_entity IdentityRouter s a = at s.identities a
-left_entity ServiceRouter s a = at s.services a
+left_entity Dial s a = at s.identities.rows a
+left_entity Bind s a = at s.identities.rows a
+left_entity IdentityRouter s a = at s.identities.rows a
+left_entity ServiceRouter s a = at s.services.rows a
 
 -- The entity on the right of a relation: a service for Dial and Bind, else a router.
 abbrev pub right_entity : Relation → State → ℕ → Option Entity
-right_entity Dial s b = at s.services b
-right_entity Bind s b = at s.services b
-right_entity IdentityRouter s b = option_map as_entity (at s.routers b)
-right_entity ServiceRouter s b = option_map as_entity (at s.routers b)
+right_entity Dial s b = at s.services.rows b
+right_entity Bind s b = at s.services.rows b
+right_entity IdentityRouter s b = option_map as_entity (at s.routers.rows b)
+right_entity ServiceRouter s b = option_map as_entity (at s.routers.rows b)
 
 -- A number that two entities have together; 0 where one of them is absent.
 abbrev pub on_both : Option Entity → Option Entity → (Entity → Entity → ℕ) → ℕ
@@ -69,17 +69,17 @@ is_granted relation s a b = nat_lt 0 (count relation s a b)
 
 -- The numbers that can stand on the left of a relation.
 abbrev pub left_numbers : Relation → State → List ℕ
-left_numbers Dial s = numbers s.identities
-left_numbers Bind s = numbers s.identities
-left_numbers IdentityRouter s = numbers s.identities
-left_numbers ServiceRouter s = numbers s.services
+left_numbers Dial s = numbers s.identities.rows
+left_numbers Bind s = numbers s.identities.rows
+left_numbers IdentityRouter s = numbers s.identities.rows
+left_numbers ServiceRouter s = numbers s.services.rows
 
 -- The numbers that can stand on the right of a relation.
 abbrev pub right_numbers : Relation → State → List ℕ
-right_numbers Dial s = numbers s.services
-right_numbers Bind s = numbers s.services
-right_numbers IdentityRouter s = numbers s.routers
-right_numbers ServiceRouter s = numbers s.routers
+right_numbers Dial s = numbers s.services.rows
+right_numbers Bind s = numbers s.services.rows
+right_numbers IdentityRouter s = numbers s.routers.rows
+right_numbers ServiceRouter s = numbers s.routers.rows
 
 -- How many pairs a relation grants.
 abbrev pub granted_pairs : Relation → State → ℕ

@@ -5,17 +5,19 @@ pub mod Walks
 pub mod Mirrors
 pub mod Numbered
 pub mod State
+pub mod Limits
+pub mod Tables
 pub mod Matches
 pub mod Grants
 pub mod Networks
 pub mod PlainPaths
 pub mod Choices
 pub mod Claims
-pub mod ClaimedRoutes
 pub mod Settling
 pub mod CommandForm
 pub mod Permitted
 pub mod Rules
+pub mod RecordCommands
 pub mod EntityCommands
 pub mod PolicyCommands
 pub mod LinkCommands
@@ -23,6 +25,5 @@ pub mod TerminatorCommands
 pub mod CircuitCommands
 pub mod ShowCommands
 pub mod Controller
-pub mod TouchedTables
 pub mod ValidState
 pub mod WorkedStates

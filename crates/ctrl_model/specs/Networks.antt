@@ -4,10 +4,13 @@ use Rattle.std.specs.Prelude.{ℕ, ◌+◌, ◌==◌, max, Bool, true, false, no
 use Rattle.std.specs.declared.option.Option.{Option}
 use Rattle.std.specs.Option.{option_map_or}
 use Rattle.std.specs.Str.{bytes_eq}
+use Rattle.ctrl_model.specs.declared.kinds.Kind.TheVariants as kind
 use Rattle.ctrl_model.specs.declared.kinds.RouterSeen.{RouterSeen}
 use Rattle.ctrl_model.specs.declared.kinds.Relation.TheVariants.{Dial, Bind, IdentityRouter, ServiceRouter}
+use Rattle.ctrl_model.specs.Limits.{limit}
 use Rattle.ctrl_model.specs.Numbered.{at, numbers}
 use Rattle.ctrl_model.specs.State.{State, Router, Link, Terminator}
+use Rattle.ctrl_model.specs.Tables.{table, has_room}
 use Rattle.ctrl_model.specs.Grants.{count}
 use Rattle.ctrl_model.specs.Walks.{Hops, goes, cost_along, walks}
 
@@ -28,17 +31,17 @@ pub record Network : Type 0 where
 abbrev pub seen : ℕ × Router → RouterSeen
 seen row = record { no = record { 0 = row.0 }; cost = row.1.cost; through = row.1.through; connected = row.1.connected }
 
--- Whether no circuit can be added: 16,384 are present, or their numbers have run out.
+-- Whether no circuit can be added.
 abbrev pub circuits_full : State → Bool
-circuits_full s = not (nat_lt (length s.circuits) 16384 && nat_lt s.next_circuit 4294967295)
+circuits_full s = not (has_room (limit kind.Circuit) (table kind.Circuit s))
 
 -- The network of a state.
 abbrev pub network_of : State → Network
 network_of s = record {
-  routers = map seen s.routers;
-  links = s.links;
+  routers = map seen s.routers.rows;
+  links = s.links.rows;
   least = s.least_router_cost;
-  terminators = s.terminators;
+  terminators = s.terminators.rows;
   dial = count Dial s;
   bind = count Bind s;
   identity_router = count IdentityRouter s;

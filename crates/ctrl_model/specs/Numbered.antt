@@ -44,3 +44,32 @@ first_where test (x ∷ xs) = cond (test x.1) (Some x.0) (first_where test xs)
 abbrev pub Between : {R : Type 0} → ℕ → ℕ → List (ℕ × R) → Type 0
 Between low high [] = ⊤
 Between low high (x ∷ xs) = (low ≤ x.0) × (x.0 < high) × Between (x.0 + 1) high xs
+
+-- A table: the records of one kind under their numbers, and the number that the next one gets.
+pub record Table (R : Type 0) : Type 0 where
+  pub rows : List (ℕ × R)
+  pub next : ℕ
+
+-- A table without records. The first one gets the number 1.
+abbrev pub no_rows : {R : Type 0} → Table R
+no_rows = record { rows = []; next = 1 }
+
+-- The table with one more record, under the next number, which rises.
+abbrev pub with_new : {R : Type 0} → R → Table R → Table R
+with_new r t = record { rows = with_last t.rows t.next r; next = t.next + 1 }
+
+-- The table, of which the record at a number is changed.
+abbrev pub with_edit : {R : Type 0} → ℕ → (R → R) → Table R → Table R
+with_edit n f t = record t { rows = edit_at t.rows n f }
+
+-- The table without the record at a number.
+abbrev pub with_removed : {R : Type 0} → ℕ → Table R → Table R
+with_removed n t = record t { rows = without t.rows n }
+
+-- The table, of which each record is changed.
+abbrev pub with_each : {R : Type 0} → (R → R) → Table R → Table R
+with_each f t = record t { rows = map_each f t.rows }
+
+-- The table of the records that pass a test.
+abbrev pub with_kept : {R : Type 0} → (ℕ × R → Bool) → Table R → Table R
+with_kept p t = record t { rows = filter p t.rows }

@@ -1,17 +1,19 @@
 -- What the rules of commands have in common: how a refusal is found and what it leaves, names looked up, and limits
 -- (docs/RULES.md, "Refusals", "Limits").
-use Rattle.std.specs.Prelude.{ℕ, Bool, not, ◌&&◌, nat_lt, cond, List, ◌++◌, length, filter, None, Some, is_some, is_none}
+use Rattle.std.specs.Prelude.{ℕ, Bool, not, nat_lt, cond, List, ◌++◌, filter, None, Some, is_some, is_none}
 use Rattle.std.specs.declared.option.Option.{Option}
 use Rattle.std.specs.Option.{option_map_or}
 use Rattle.std.specs.List.{flat_map}
 use Rattle.std.specs.Set.{distinct_count}
 use Rattle.std.specs.Str.{bytes_eq}
+use Rattle.ctrl_model.specs.declared.kinds.Kind.TheVariants as kind
 use Rattle.ctrl_model.specs.declared.kinds.Side.{Side}
 use Rattle.ctrl_model.specs.declared.refusals.Field.{Field}
 use Rattle.ctrl_model.specs.declared.refusals.Refusal.{Refusal}
 use Rattle.ctrl_model.specs.declared.refusals.Refusal.TheVariants as refusal
 use Rattle.ctrl_model.specs.declared.replies.Reply.{Reply}
 use Rattle.ctrl_model.specs.declared.replies.Reply.TheVariants.{Refused}
+use Rattle.ctrl_model.specs.Limits.{limit}
 use Rattle.ctrl_model.specs.State.{State, Policy}
 use Rattle.ctrl_model.specs.Settling.{settle}
 
@@ -46,10 +48,6 @@ exists_if_present found = refuse_if (is_some found) refusal.Exists
 abbrev pub at_number : Option ℕ → State → (ℕ → State) → State
 at_number found s effect = option_map_or effect found s
 
--- A kind has room for one more record: fewer than its limit are present, and its numbers have not run out.
-abbrev pub has_room : {R : Type 0} → ℕ → List (ℕ × R) → ℕ → Bool
-has_room most rows next = nat_lt (length rows) most && nat_lt next 4294967295
-
 -- The attributes of both sides of a policy.
 abbrev pub side_attributes : ℕ × Policy → List (List ℕ)
 side_attributes row = row.1.left.attributes ++ row.1.right.attributes
@@ -57,16 +55,16 @@ side_attributes row = row.1.left.attributes ++ row.1.right.attributes
 -- The attributes that entities and policies use, with repeats.
 abbrev pub attributes_in_use : State → List (List ℕ)
 attributes_in_use s =
-    flat_map (λ row. row.1.attributes) s.identities
-    ++ (flat_map (λ row. row.1.attributes) s.services
-    ++ (flat_map (λ row. row.1.attributes) s.routers
-    ++ (flat_map side_attributes s.service_policies
-    ++ (flat_map side_attributes s.edge_router_policies
-    ++ flat_map side_attributes s.service_edge_router_policies))))
+    flat_map (λ row. row.1.attributes) s.identities.rows
+    ++ (flat_map (λ row. row.1.attributes) s.services.rows
+    ++ (flat_map (λ row. row.1.attributes) s.routers.rows
+    ++ (flat_map side_attributes s.service_policies.rows
+    ++ (flat_map side_attributes s.edge_router_policies.rows
+    ++ flat_map side_attributes s.service_edge_router_policies.rows))))
 
--- More than 1,024 attributes are in use, each counted once.
+-- More attributes are in use than may be, each counted once.
 abbrev pub attributes_full : State → Bool
-attributes_full s = nat_lt 1024 (distinct_count bytes_eq (attributes_in_use s))
+attributes_full s = nat_lt (limit kind.Attribute) (distinct_count bytes_eq (attributes_in_use s))
 
 -- A side without an `@` name.
 abbrev pub without_name : List ℕ → Side → Side

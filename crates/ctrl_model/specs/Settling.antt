@@ -1,20 +1,20 @@
 -- Settling: what stands no longer is removed after each change (docs/RULES.md, "Settling").
-use Rattle.std.specs.Prelude.{ℕ, Bool, true, false, ◌&&◌, List, filter}
+use Rattle.std.specs.Prelude.{ℕ, Bool, true, false, ◌&&◌, List}
 use Rattle.std.specs.Option.{option_map_or}
-use Rattle.ctrl_model.specs.Numbered.{at, is_present, numbers}
+use Rattle.ctrl_model.specs.Numbered.{with_kept, at, is_present, numbers}
 use Rattle.ctrl_model.specs.State.{State, Link, Terminator, Circuit}
 use Rattle.ctrl_model.specs.Walks.{is_among}
 use Rattle.ctrl_model.specs.Networks.{Network, network_of, is_path}
 
 -- A link stays whose two routers are present.
 abbrev pub link_stays : State → ℕ × Link → Bool
-link_stays s row = is_present s.routers row.1.a && is_present s.routers row.1.b
+link_stays s row = is_present s.routers.rows row.1.a && is_present s.routers.rows row.1.b
 
 -- A terminator stays whose service and router are present, and its host, if it has one.
 abbrev pub terminator_stays : State → ℕ × Terminator → Bool
 terminator_stays s row =
-    is_present s.services row.1.service
-    && (is_present s.routers row.1.router && option_map_or (is_present s.identities) row.1.host true)
+    is_present s.services.rows row.1.service
+    && (is_present s.routers.rows row.1.router && option_map_or (is_present s.identities.rows) row.1.host true)
 
 -- The links are still a path from the circuit's ingress to its terminator's router.
 abbrev pub circuit_reaches : Network → Circuit → Terminator → Bool
@@ -30,19 +30,19 @@ circuit_stays w identities services row =
 
 -- The circuit stays in the state.
 abbrev pub stays_in : State → ℕ × Circuit → Bool
-stays_in s = circuit_stays (network_of s) (numbers s.identities) (numbers s.services)
+stays_in s = circuit_stays (network_of s) (numbers s.identities.rows) (numbers s.services.rows)
 
 -- The first filter.
 abbrev pub settle_links : State → State
-settle_links s = record s { links = filter (link_stays s) s.links }
+settle_links s = record s { links = with_kept (link_stays s) s.links }
 
 -- The second filter.
 abbrev pub settle_terminators : State → State
-settle_terminators s = record s { terminators = filter (terminator_stays s) s.terminators }
+settle_terminators s = record s { terminators = with_kept (terminator_stays s) s.terminators }
 
 -- The third filter.
 abbrev pub settle_circuits : State → State
-settle_circuits s = record s { circuits = filter (stays_in s) s.circuits }
+settle_circuits s = record s { circuits = with_kept (stays_in s) s.circuits }
 
 -- The state settled: links, then terminators, then circuits are filtered.
 abbrev pub settle : State → State

@@ -1,13 +1,13 @@
 -- The state of a controller: its records by kind, the next number of each kind, and the one setting
 -- (docs/RULES.md, "Records and numbers"). It holds no grants and no indexes: all else is computed from it.
-use Rattle.std.specs.Prelude.{ℕ, Bool, List, []}
+use Rattle.std.specs.Prelude.{ℕ, Bool, List}
 use Rattle.std.specs.declared.option.Option.{Option}
 use Rattle.std.specs.Str.{bytes_eq}
 use Rattle.ctrl_model.specs.declared.kinds.Side.{Side}
 use Rattle.ctrl_model.specs.declared.kinds.Semantic.{Semantic}
 use Rattle.ctrl_model.specs.declared.kinds.Relation.{Relation}
 use Rattle.ctrl_model.specs.declared.kinds.Precedence.{Precedence}
-use Rattle.ctrl_model.specs.Numbered.{first_where}
+use Rattle.ctrl_model.specs.Numbered.{Table, no_rows, first_where}
 
 -- An identity or a service: its name and its attributes.
 pub record Entity : Type 0 where
@@ -57,49 +57,31 @@ pub record Circuit : Type 0 where
   pub ingress : ℕ
   pub links : List ℕ
 
--- The state: a numbered map and a next number for each kind, and the least cost of entering a router.
+-- The state: a table for each kind, and the least cost of entering a router.
 pub record State : Type 0 where
-  pub identities : List (ℕ × Entity)
-  pub next_identity : ℕ
-  pub services : List (ℕ × Entity)
-  pub next_service : ℕ
-  pub routers : List (ℕ × Router)
-  pub next_router : ℕ
-  pub links : List (ℕ × Link)
-  pub next_link : ℕ
-  pub service_policies : List (ℕ × Policy)
-  pub next_service_policy : ℕ
-  pub edge_router_policies : List (ℕ × Policy)
-  pub next_edge_router_policy : ℕ
-  pub service_edge_router_policies : List (ℕ × Policy)
-  pub next_service_edge_router_policy : ℕ
-  pub terminators : List (ℕ × Terminator)
-  pub next_terminator : ℕ
-  pub circuits : List (ℕ × Circuit)
-  pub next_circuit : ℕ
+  pub identities : Table Entity
+  pub services : Table Entity
+  pub routers : Table Router
+  pub links : Table Link
+  pub service_policies : Table Policy
+  pub edge_router_policies : Table Policy
+  pub service_edge_router_policies : Table Policy
+  pub terminators : Table Terminator
+  pub circuits : Table Circuit
   pub least_router_cost : ℕ
 
 -- The state at the start: no records, each next number 1, and the setting 10.
 abbrev pub start : State
 start = record {
-  identities = [];
-  next_identity = 1;
-  services = [];
-  next_service = 1;
-  routers = [];
-  next_router = 1;
-  links = [];
-  next_link = 1;
-  service_policies = [];
-  next_service_policy = 1;
-  edge_router_policies = [];
-  next_edge_router_policy = 1;
-  service_edge_router_policies = [];
-  next_service_edge_router_policy = 1;
-  terminators = [];
-  next_terminator = 1;
-  circuits = [];
-  next_circuit = 1;
+  identities = no_rows;
+  services = no_rows;
+  routers = no_rows;
+  links = no_rows;
+  service_policies = no_rows;
+  edge_router_policies = no_rows;
+  service_edge_router_policies = no_rows;
+  terminators = no_rows;
+  circuits = no_rows;
   least_router_cost = 10;
 }
 

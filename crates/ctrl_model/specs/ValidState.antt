@@ -2,32 +2,32 @@
 use Rattle.std.specs.Prelude.{◌≡◌, ℕ, ◌≤◌, ◌==◌, Bool, true, false, not, ◌&&◌, List, length, Some, is_some}
 use Rattle.std.specs.declared.option.Option.{Option}
 use Rattle.std.specs.List.{list_all}
+use Rattle.ctrl_model.specs.declared.kinds.Kind.{Kind}
+use Rattle.ctrl_model.specs.declared.kinds.Kind.TheVariants as kind
 use Rattle.ctrl_model.specs.declared.kinds.Side.{Side}
+use Rattle.ctrl_model.specs.declared.kinds.Relation.{Relation}
 use Rattle.ctrl_model.specs.declared.kinds.Relation.TheVariants.{IdentityRouter, ServiceRouter}
 use Rattle.ctrl_model.specs.NameForm.{is_name, is_instance}
 use Rattle.ctrl_model.specs.CommandForm.{are_attributes, is_stored_side, is_service_relation, is_cost, is_link_cost, is_latency}
-use Rattle.ctrl_model.specs.Numbered.{at, Between}
-use Rattle.ctrl_model.specs.State.{State, Entity, Router, Link, Policy, Terminator, entity_named, router_named}
+use Rattle.ctrl_model.specs.Limits.{limit, last_next}
+use Rattle.ctrl_model.specs.Numbered.{Table, at, Between}
+use Rattle.ctrl_model.specs.State.{State, Entity, Router, Link, Policy, Terminator}
+use Rattle.ctrl_model.specs.Tables.{Record, table, has_names, record_name, named, left_kind, right_kind}
 use Rattle.ctrl_model.specs.Grants.{same_relation}
 use Rattle.ctrl_model.specs.Rules.{attributes_full}
 use Rattle.ctrl_model.specs.Settling.{settle}
 
--- The records of a kind are numbered: from 1, ascending, below the next number, which has an end; and they keep their limit.
+-- A table is numbered: from 1, ascending, below the next number, which has an end; and it keeps its limit.
 pub record ValidNumbers {R : Type 0} (most : ℕ) (rows : List (ℕ × R)) (next : ℕ) : Type 0 where
   pub first : 1 ≤ next
-  pub last : next ≤ 4294967295
+  pub last : next ≤ last_next
   pub ordered : Between 1 next rows
   pub few : length rows ≤ most
 
--- No two records of a kind share a name.
+-- No two records share a name.
 abbrev pub HaveUniqueNames : {R : Type 0} → (R → List ℕ) → List (ℕ × R) → Type 0
 HaveUniqueNames {R} name_of rows =
     (a b : ℕ) (r t : R) → at rows a ≡ Some r → at rows b ≡ Some t → name_of r ≡ name_of t → a ≡ b
-
--- A kind of record with names.
-pub record ValidTable {R : Type 0} (name_of : R → List ℕ) (most : ℕ) (rows : List (ℕ × R)) (next : ℕ) : Type 0 where
-  pub numbers : ValidNumbers most rows next
-  pub names : HaveUniqueNames name_of rows
 
 -- An identity or a service: a name, and at most 64 attributes without repeats.
 abbrev pub is_valid_entity : Entity → Bool
@@ -49,23 +49,18 @@ are_found find_number side = list_all (λ name. is_some (find_number name)) side
 abbrev pub is_valid_policy : Policy → Bool
 is_valid_policy p = is_name p.name && (is_stored_side p.left && is_stored_side p.right)
 
--- A service policy in a state: it grants Dial or Bind, and its `@` names are of present identities and services.
-abbrev pub is_valid_service_policy : State → Policy → Bool
-is_valid_service_policy s p =
-    is_valid_policy p && (is_service_relation p.relation
-    && (are_found (entity_named s.identities) p.left && are_found (entity_named s.services) p.right))
+-- Whether a policy of a kind may have a relation.
+abbrev pub may_relate : Kind → Relation → Bool
+may_relate kind.ServicePolicy relation = is_service_relation relation
+may_relate kind.EdgeRouterPolicy relation = same_relation IdentityRouter relation
+may_relate kind.ServiceEdgeRouterPolicy relation = same_relation ServiceRouter relation
+may_relate k relation = false
 
--- An edge-router policy in a state: it grants routers to identities, and its `@` names are of present ones.
-abbrev pub is_valid_edge_router_policy : State → Policy → Bool
-is_valid_edge_router_policy s p =
-    is_valid_policy p && (same_relation IdentityRouter p.relation
-    && (are_found (entity_named s.identities) p.left && are_found (router_named s.routers) p.right))
-
--- A service-edge-router policy in a state: it grants routers to services, and its `@` names are of present ones.
-abbrev pub is_valid_service_edge_router_policy : State → Policy → Bool
-is_valid_service_edge_router_policy s p =
-    is_valid_policy p && (same_relation ServiceRouter p.relation
-    && (are_found (entity_named s.services) p.left && are_found (router_named s.routers) p.right))
+-- A policy of a kind in a state: its relation is one of the kind's, and its `@` names are of present entities.
+abbrev pub is_valid_policy_in : Kind → State → Policy → Bool
+is_valid_policy_in k s p =
+    is_valid_policy p && (may_relate k p.relation
+    && (are_found (named (left_kind k) s) p.left && are_found (named (right_kind k) s) p.right))
 
 -- A terminator: an instance, and a cost in its range.
 abbrev pub is_valid_terminator : Terminator → Bool
@@ -75,26 +70,30 @@ is_valid_terminator e = is_instance e.instance && is_cost e.cost
 abbrev pub each_passes : {R : Type 0} → (R → Bool) → List (ℕ × R) → Bool
 each_passes test rows = list_all (λ row. test row.1) rows
 
--- A valid state: each kind is numbered within its limit, the names of a kind are unique, each record is valid and refers to
--- present ones, the setting is in its range, at most 1,024 attributes are in use, and settling removes nothing.
+-- Whether a record of a kind is valid in a state. Of circuits settling says all.
+abbrev pub is_valid : (k : Kind) → State → Record k → Bool
+is_valid kind.Identity s e = is_valid_entity e
+is_valid kind.Service s e = is_valid_entity e
+is_valid kind.Router s r = is_valid_router r
+is_valid kind.Link s l = is_valid_link l
+is_valid kind.ServicePolicy s p = is_valid_policy_in kind.ServicePolicy s p
+is_valid kind.EdgeRouterPolicy s p = is_valid_policy_in kind.EdgeRouterPolicy s p
+is_valid kind.ServiceEdgeRouterPolicy s p = is_valid_policy_in kind.ServiceEdgeRouterPolicy s p
+is_valid kind.Terminator s e = is_valid_terminator e
+is_valid kind.Circuit s c = true
+is_valid kind.Attribute s u = true
+
+-- A table of records of a kind is valid in a state: it is numbered within the kind's limit, the names differ where the kind has
+-- names, and each record is valid.
+pub record ValidTable (k : Kind) (s : State) (t : Table (Record k)) : Type 0 where
+  pub numbers : ValidNumbers (limit k) t.rows t.next
+  pub names : has_names k ≡ true → HaveUniqueNames (record_name k) t.rows
+  pub each : each_passes (is_valid k s) t.rows ≡ true
+
+-- A valid state: the table of each kind is valid, the setting is in its range, no more attributes are in use than may be, and
+-- settling removes nothing.
 pub record ValidState (s : State) : Type 0 where
-  pub identities : ValidTable (λ (e : Entity). e.name) 2048 s.identities s.next_identity
-  pub services : ValidTable (λ (e : Entity). e.name) 512 s.services s.next_service
-  pub routers : ValidTable (λ (r : Router). r.name) 256 s.routers s.next_router
-  pub links : ValidTable (λ (l : Link). l.name) 4096 s.links s.next_link
-  pub service_policies : ValidTable (λ (p : Policy). p.name) 512 s.service_policies s.next_service_policy
-  pub edge_router_policies : ValidTable (λ (p : Policy). p.name) 256 s.edge_router_policies s.next_edge_router_policy
-  pub service_edge_router_policies : ValidTable (λ (p : Policy). p.name) 256 s.service_edge_router_policies s.next_service_edge_router_policy
-  pub terminators : ValidNumbers 4096 s.terminators s.next_terminator
-  pub circuits : ValidNumbers 16384 s.circuits s.next_circuit
-  pub each_identity : each_passes is_valid_entity s.identities ≡ true
-  pub each_service : each_passes is_valid_entity s.services ≡ true
-  pub each_router : each_passes is_valid_router s.routers ≡ true
-  pub each_link : each_passes is_valid_link s.links ≡ true
-  pub each_service_policy : each_passes (is_valid_service_policy s) s.service_policies ≡ true
-  pub each_edge_router_policy : each_passes (is_valid_edge_router_policy s) s.edge_router_policies ≡ true
-  pub each_service_edge_router_policy : each_passes (is_valid_service_edge_router_policy s) s.service_edge_router_policies ≡ true
-  pub each_terminator : each_passes is_valid_terminator s.terminators ≡ true
+  pub kinds : (k : Kind) → ValidTable k s (table k s)
   pub setting : is_link_cost s.least_router_cost ≡ true
   pub attributes : attributes_full s ≡ false
   pub settled : settle s ≡ s

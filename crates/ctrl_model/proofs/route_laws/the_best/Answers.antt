@@ -1,8 +1,0 @@
-use Rattle.ctrl_model.proofs.CandidateLaws.{best-is, best-none}
-use Rattle.ctrl_model.proofs.route_laws.the_best.Goals as goal
-
-pub returns-clause-is : goal.returns-clause-is
-returns-clause-is c = best-is
-
-pub returns-clause-none : goal.returns-clause-none
-returns-clause-none c = best-none

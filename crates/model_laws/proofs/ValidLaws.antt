@@ -1,0 +1,200 @@
+-- What each kind of change has to show to keep a state valid: adding a record, changing one, removing one.
+use Rattle.std.proofs.Common.{◌≡◌, ℕ, ◌<◌, ◌==◌, true, false, not, List, [], ◌++◌, flat_map, length, Option, None, Some, refl, sym, ◌∙◌, ap, arith, ltb-true, ltb-false}
+use Rattle.std.proofs.lemmas.Bool.{false≢true, false_from_ne_true}
+use Rattle.std.specs.Set.{distinct_count}
+use Rattle.std.specs.Str.{bytes_eq}
+use Rattle.ctrl_model.specs.declared.kinds.Kind.{Kind}
+use Rattle.ctrl_model.specs.declared.kinds.Kind.TheVariants as kind
+use Rattle.ctrl_model.specs.declared.refusals.Refusal.{Refusal}
+use Rattle.ctrl_model.specs.declared.replies.Reply.{Reply}
+use Rattle.ctrl_model.specs.Limits.{limit, last_next}
+use Rattle.ctrl_model.specs.Numbered.{Table, with_new, with_edit, with_removed, first_where}
+use Rattle.ctrl_model.specs.State.{State}
+use Rattle.ctrl_model.specs.Tables.{Record, table, with_table, is_entity_kind, has_names, record_name, named}
+use Rattle.ctrl_model.specs.CommandForm.{is_link_cost}
+use Rattle.ctrl_model.specs.Settling.{settle, link_stays, terminator_stays, stays_in, settle_links, settle_terminators}
+use Rattle.ctrl_model.specs.Rules.{carried_out, at_number, attributes_full, attributes_in_use, side_attributes, forget_left, forget_right}
+use Rattle.ctrl_model.specs.RecordCommands.{after_create, after_edit, after_remove, forgotten}
+use Rattle.ctrl_model.specs.ValidState.{ValidState, ValidTable, is_valid, may_relate}
+use Rattle.ctrl_model.proofs.DistinctLaws.{Includes, Includes-append, Includes-filter, Includes-map, distinct_count-Includes}
+use Rattle.model_laws.proofs.KindLaws.{with_table-holds, with_table-setting}
+use Rattle.ctrl_model.proofs.TableLaws.{valid-none, valid-more, valid-new, valid-filter, valid-each, valid-edit}
+use Rattle.model_laws.proofs.NamedLaws.{FindsToo, FindsOthers, with_last-finds, edit_at-finds, without-finds, is_fitting-more, is_fitting-forget_left, is_fitting-forget_right}
+use Rattle.model_laws.proofs.SettleLaws.{settle-settle}
+use Rattle.model_laws.proofs.RefusalLaws.{carried_out-holds, at_number-holds}
+
+-- ---- all of a valid state but that it is settled
+
+pub record Orderly (s : State) : Type 0 where
+  pub kinds : (k : Kind) → ValidTable k s (table k s)
+  pub setting : is_link_cost s.least_router_cost ≡ true
+  pub attributes : attributes_full s ≡ false
+
+pub Orderly-from_valid : (s : State) → ValidState s → Orderly s
+Orderly-from_valid s v = record { kinds = v.kinds; setting = v.setting; attributes = v.attributes }
+
+-- settling keeps all of it, and leaves a settled state
+pub ValidState-settle : (s : State) → Orderly s → ValidState (settle s)
+ValidState-settle s o = record { kinds = settled; setting = o.setting; attributes = o.attributes; settled = settle-settle s }
+  where
+    settled : (k : Kind) → ValidTable k (settle s) (table k (settle s))
+    settled kind.Link = valid-filter (o.kinds kind.Link) (settle s) (λ q e. e) (link_stays s)
+    settled kind.Terminator = valid-filter (o.kinds kind.Terminator) (settle s) (λ q e. e) (terminator_stays (settle_links s))
+    settled kind.Circuit = valid-filter (o.kinds kind.Circuit) (settle s) (λ q e. e) (stays_in (settle_terminators (settle_links s)))
+    settled k = valid-more (o.kinds k) (settle s) (λ q e. e)
+
+-- ---- a command keeps a state valid where its effect, if nothing refuses it, is orderly
+
+pub carried_out-valid : (o : Option Refusal) (s : State) (reply : Reply) (effect : State) → ValidState s → (o ≡ None → Orderly effect)
+    → ValidState (carried_out o s reply effect).1
+carried_out-valid o s reply effect v h = carried_out-holds ValidState o s reply effect v (λ none. ValidState-settle effect (h none))
+
+-- an effect at a number that is looked up, of which the limit on attributes was tested whole
+pub at_number-orderly : (found : Option ℕ) (s : State) (effect : ℕ → State) → Orderly s
+    → ((n : ℕ) → found ≡ Some n → attributes_full (effect n) ≡ false → Orderly (effect n)) → attributes_full (at_number found s effect) ≡ false
+    → Orderly (at_number found s effect)
+at_number-orderly found s effect o h = at_number-holds (λ t. attributes_full t ≡ false → Orderly t) found s effect (λ _. o) h
+
+-- ---- a record is valid in each state in which the names of entities are found that were found before
+
+abbrev FindsEntities : State → State → Type 0
+FindsEntities s u = (i : Kind) → is_entity_kind i ≡ true → FindsToo (named i s) (named i u)
+
+is_valid-more : (s u : State) → FindsEntities s u → (k : Kind) (q : Record k) → is_valid k s q ≡ true → is_valid k u q ≡ true
+is_valid-more s u f kind.ServicePolicy q e =
+    is_fitting-more (may_relate kind.ServicePolicy) (named kind.Identity s) (named kind.Service s) (named kind.Identity u) (named kind.Service u) (f kind.Identity refl) (f kind.Service refl) q e
+is_valid-more s u f kind.EdgeRouterPolicy q e =
+    is_fitting-more (may_relate kind.EdgeRouterPolicy) (named kind.Identity s) (named kind.Router s) (named kind.Identity u) (named kind.Router u) (f kind.Identity refl) (f kind.Router refl) q e
+is_valid-more s u f kind.ServiceEdgeRouterPolicy q e =
+    is_fitting-more (may_relate kind.ServiceEdgeRouterPolicy) (named kind.Service s) (named kind.Router s) (named kind.Service u) (named kind.Router u) (f kind.Service refl) (f kind.Router refl) q e
+is_valid-more s u f k q e = e
+
+-- the names that one table finds, and those of all others
+finds_in : (s : State) (k : Kind) (t : Table (Record k)) → (is_entity_kind k ≡ true → FindsToo (named k s) (λ name. first_where (λ q. bytes_eq (record_name k q) name) t.rows))
+    → FindsEntities s (with_table k t s)
+finds_in s k t new =
+    with_table-holds (λ i v. is_entity_kind i ≡ true → FindsToo (named i s) (λ name. first_where (λ q. bytes_eq (record_name i q) name) v.rows)) s k t
+    (λ is name e. e) new (λ j is name e. e)
+
+-- a state with another table of one kind, where every record stays valid
+changed : (s : State) (k : Kind) (t : Table (Record k)) → Orderly s → ((j : Kind) (q : Record j) → is_valid j s q ≡ true → is_valid j (with_table k t s) q ≡ true)
+    → ValidTable k (with_table k t s) t → attributes_full (with_table k t s) ≡ false → Orderly (with_table k t s)
+changed s k t o more new few = record {
+  kinds = with_table-holds (λ j v. ValidTable j (with_table k t s) v) s k t (valid-none kind.Attribute (with_table k t s)) new (λ j. valid-more (o.kinds j) (with_table k t s) (more j));
+  setting = ap is_link_cost (with_table-setting k t s) ∙ o.setting;
+  attributes = few;
+}
+
+-- ---- adding a record, changing one
+
+pub Orderly-create : (k : Kind) (r : Record k) (s : State) → Orderly s → (has_names k ≡ true → named k s (record_name k r) ≡ None)
+    → (length (table k s).rows < limit k) × ((table k s).next < last_next) → is_valid k s r ≡ true → attributes_full (after_create k r s) ≡ false
+    → Orderly (after_create k r s)
+Orderly-create k r s o new room passes few =
+    let v = o.kinds k in
+    let more = is_valid-more s (after_create k r s)
+    (finds_in s k (with_new r (table k s)) (λ is. with_last-finds (record_name k) (table k s).rows (table k s).next v.numbers.ordered v.numbers.first r)) in
+    changed s k (with_new r (table k s)) o more (valid-new v (after_create k r s) (more k) r new room (more k r passes)) few
+
+pub Orderly-edit : (k : Kind) (n : ℕ) (f : Record k → Record k) (s : State) → Orderly s → ((q : Record k) → record_name k (f q) ≡ record_name k q)
+    → ((q : Record k) → is_valid k s q ≡ true → is_valid k s (f q) ≡ true) → attributes_full (after_edit k n f s) ≡ false → Orderly (after_edit k n f s)
+Orderly-edit k n f s o keeps passes few =
+    let more = is_valid-more s (after_edit k n f s)
+    (finds_in s k (with_edit n f (table k s)) (λ is. edit_at-finds (record_name k) (table k s).rows n f keeps)) in
+    changed s k (with_edit n f (table k s)) o more (valid-edit (o.kinds k) (after_edit k n f s) (more k) n f keeps (λ q e. more k (f q) (passes q e))) few
+
+-- ---- attributes in use
+
+abbrev attributes_of : (k : Kind) → Record k → List (List ℕ)
+attributes_of kind.Identity e = e.attributes
+attributes_of kind.Service e = e.attributes
+attributes_of kind.Router r = r.attributes
+attributes_of kind.ServicePolicy p = p.left.attributes ++ p.right.attributes
+attributes_of kind.EdgeRouterPolicy p = p.left.attributes ++ p.right.attributes
+attributes_of kind.ServiceEdgeRouterPolicy p = p.left.attributes ++ p.right.attributes
+attributes_of k r = []
+
+abbrev pub uses_in : (k : Kind) → Table (Record k) → List (List ℕ)
+uses_in k t = flat_map (λ row. attributes_of k row.1) t.rows
+
+-- where the attributes of each kind were all in use before, no more are in use
+pub attributes_fewer : (s t : State) → ((k : Kind) → Includes (uses_in k (table k t)) (uses_in k (table k s))) → attributes_full s ≡ false → attributes_full t ≡ false
+attributes_fewer s t each few =
+    let all : Includes (attributes_in_use t) (attributes_in_use s) =
+    Includes-append _ _ _ _ (each kind.Identity) (Includes-append _ _ _ _ (each kind.Service) (Includes-append _ _ _ _ (each kind.Router)
+    (Includes-append _ _ _ _ (each kind.ServicePolicy) (Includes-append _ _ _ _ (each kind.EdgeRouterPolicy) (each kind.ServiceEdgeRouterPolicy))))) in
+    let le = distinct_count-Includes (attributes_in_use t) (attributes_in_use s) all in
+    let most = ltb-false (limit kind.Attribute) (distinct_count bytes_eq (attributes_in_use s)) few in
+    false_from_ne_true (attributes_full t) (λ more. let lt = ltb-true (limit kind.Attribute) (distinct_count bytes_eq (attributes_in_use t)) more in absurd (omega arith))
+
+pub with_table-uses : (s : State) (k : Kind) (t : Table (Record k)) → Includes (uses_in k t) (uses_in k (table k s))
+    → (j : Kind) → Includes (uses_in j (table j (with_table k t s))) (uses_in j (table j s))
+with_table-uses s k t new = with_table-holds (λ j v. Includes (uses_in j v) (uses_in j (table j s))) s k t (λ x m. m) new (λ j x m. m)
+
+removed-uses : (k : Kind) (n : ℕ) (s : State) → (j : Kind) → Includes (uses_in j (table j (after_remove k n s))) (uses_in j (table j s))
+removed-uses k n s = with_table-uses s k (with_removed n (table k s)) (Includes-filter (λ row. attributes_of k row.1) (λ x. not (x.0 == n)) (table k s).rows)
+
+forgotten-uses : (k : Kind) (name : List ℕ) (s : State) → (j : Kind) → Includes (uses_in j (table j (forgotten k name s))) (uses_in j (table j s))
+forgotten-uses kind.Identity name s kind.ServicePolicy = Includes-map side_attributes (λ x. (x.0, forget_left name x.1)) side_attributes (λ x. refl) s.service_policies.rows
+forgotten-uses kind.Identity name s kind.EdgeRouterPolicy = Includes-map side_attributes (λ x. (x.0, forget_left name x.1)) side_attributes (λ x. refl) s.edge_router_policies.rows
+forgotten-uses kind.Service name s kind.ServicePolicy = Includes-map side_attributes (λ x. (x.0, forget_right name x.1)) side_attributes (λ x. refl) s.service_policies.rows
+forgotten-uses kind.Service name s kind.ServiceEdgeRouterPolicy = Includes-map side_attributes (λ x. (x.0, forget_left name x.1)) side_attributes (λ x. refl) s.service_edge_router_policies.rows
+forgotten-uses kind.Router name s kind.EdgeRouterPolicy = Includes-map side_attributes (λ x. (x.0, forget_right name x.1)) side_attributes (λ x. refl) s.edge_router_policies.rows
+forgotten-uses kind.Router name s kind.ServiceEdgeRouterPolicy = Includes-map side_attributes (λ x. (x.0, forget_right name x.1)) side_attributes (λ x. refl) s.service_edge_router_policies.rows
+forgotten-uses k name s j = λ x m. m
+
+-- ---- removing a record
+
+-- one that no policy can name
+pub Orderly-remove : (k : Kind) (n : ℕ) (s : State) → is_entity_kind k ≡ false → Orderly s → Orderly (after_remove k n s)
+Orderly-remove k n s apart o =
+    let more = is_valid-more s (after_remove k n s) (finds_in s k (with_removed n (table k s)) (λ is. absurd (false≢true (sym apart ∙ is)))) in
+    changed s k (with_removed n (table k s)) o more (valid-filter (o.kinds k) (after_remove k n s) (more k) (λ x. not (x.0 == n)))
+    (attributes_fewer s (after_remove k n s) (removed-uses k n s) o.attributes)
+
+-- an entity, whose name goes with it
+abbrev without_record : Kind → ℕ → List ℕ → State → State
+without_record k n name s = forgotten k name (after_remove k n s)
+
+fewer_without : (k : Kind) (n : ℕ) (name : List ℕ) (s : State) → attributes_full s ≡ false → attributes_full (without_record k n name s) ≡ false
+fewer_without k n name s =
+    attributes_fewer s (without_record k n name s) (λ j x m. removed-uses k n s j x (forgotten-uses k name (after_remove k n s) j x m))
+
+pub Orderly-delete : (k : Kind) (n : ℕ) (name : List ℕ) (s : State) → Orderly s → named k s name ≡ Some n → Orderly (without_record k n name s)
+Orderly-delete kind.Identity n name s o is = record { kinds = kinds; setting = o.setting; attributes = fewer_without kind.Identity n name s o.attributes }
+  where
+    others : FindsOthers name (named kind.Identity s) (named kind.Identity (without_record kind.Identity n name s))
+    others = without-finds (record_name kind.Identity) s.identities.rows s.identities.next (o.kinds kind.Identity).numbers.ordered name n is
+
+    kinds : (j : Kind) → ValidTable j (without_record kind.Identity n name s) (table j (without_record kind.Identity n name s))
+    kinds kind.Identity = valid-filter (o.kinds kind.Identity) (without_record kind.Identity n name s) (λ q e. e) (λ x. not (x.0 == n))
+    kinds kind.ServicePolicy = valid-each (o.kinds kind.ServicePolicy) (without_record kind.Identity n name s) (forget_left name) (λ q. refl)
+        (is_fitting-forget_left (may_relate kind.ServicePolicy) name (named kind.Identity s) (named kind.Service s) (named kind.Identity (without_record kind.Identity n name s)) others)
+    kinds kind.EdgeRouterPolicy = valid-each (o.kinds kind.EdgeRouterPolicy) (without_record kind.Identity n name s) (forget_left name) (λ q. refl)
+        (is_fitting-forget_left (may_relate kind.EdgeRouterPolicy) name (named kind.Identity s) (named kind.Router s) (named kind.Identity (without_record kind.Identity n name s)) others)
+    kinds j = valid-more (o.kinds j) (without_record kind.Identity n name s) (λ q e. e)
+Orderly-delete kind.Service n name s o is = record { kinds = kinds; setting = o.setting; attributes = fewer_without kind.Service n name s o.attributes }
+  where
+    others : FindsOthers name (named kind.Service s) (named kind.Service (without_record kind.Service n name s))
+    others = without-finds (record_name kind.Service) s.services.rows s.services.next (o.kinds kind.Service).numbers.ordered name n is
+
+    kinds : (j : Kind) → ValidTable j (without_record kind.Service n name s) (table j (without_record kind.Service n name s))
+    kinds kind.Service = valid-filter (o.kinds kind.Service) (without_record kind.Service n name s) (λ q e. e) (λ x. not (x.0 == n))
+    kinds kind.ServicePolicy = valid-each (o.kinds kind.ServicePolicy) (without_record kind.Service n name s) (forget_right name) (λ q. refl)
+        (is_fitting-forget_right (may_relate kind.ServicePolicy) name (named kind.Identity s) (named kind.Service s) (named kind.Service (without_record kind.Service n name s)) others)
+    kinds kind.ServiceEdgeRouterPolicy = valid-each (o.kinds kind.ServiceEdgeRouterPolicy) (without_record kind.Service n name s) (forget_left name) (λ q. refl)
+        (is_fitting-forget_left (may_relate kind.ServiceEdgeRouterPolicy) name (named kind.Service s) (named kind.Router s) (named kind.Service (without_record kind.Service n name s)) others)
+    kinds j = valid-more (o.kinds j) (without_record kind.Service n name s) (λ q e. e)
+Orderly-delete kind.Router n name s o is = record { kinds = kinds; setting = o.setting; attributes = fewer_without kind.Router n name s o.attributes }
+  where
+    others : FindsOthers name (named kind.Router s) (named kind.Router (without_record kind.Router n name s))
+    others = without-finds (record_name kind.Router) s.routers.rows s.routers.next (o.kinds kind.Router).numbers.ordered name n is
+
+    kinds : (j : Kind) → ValidTable j (without_record kind.Router n name s) (table j (without_record kind.Router n name s))
+    kinds kind.Router = valid-filter (o.kinds kind.Router) (without_record kind.Router n name s) (λ q e. e) (λ x. not (x.0 == n))
+    kinds kind.EdgeRouterPolicy = valid-each (o.kinds kind.EdgeRouterPolicy) (without_record kind.Router n name s) (forget_right name) (λ q. refl)
+        (is_fitting-forget_right (may_relate kind.EdgeRouterPolicy) name (named kind.Identity s) (named kind.Router s) (named kind.Router (without_record kind.Router n name s)) others)
+    kinds kind.ServiceEdgeRouterPolicy = valid-each (o.kinds kind.ServiceEdgeRouterPolicy) (without_record kind.Router n name s) (forget_right name) (λ q. refl)
+        (is_fitting-forget_right (may_relate kind.ServiceEdgeRouterPolicy) name (named kind.Service s) (named kind.Router s) (named kind.Router (without_record kind.Router n name s)) others)
+    kinds j = valid-more (o.kinds j) (without_record kind.Router n name s) (λ q e. e)
+Orderly-delete k n name s o is = Orderly-remove k n s refl o

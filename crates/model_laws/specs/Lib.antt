@@ -1,0 +1,2 @@
+pub mod TouchedTables
+pub mod ClaimedRoutes

@@ -1,0 +1,32 @@
+//! Laws of the controller's definitions, and worked examples that the checker computes from them: what a reader who would not
+//! take a definition on trust looks at first. Nothing here runs.
+#![tactic(auto)]
+
+mod route_laws;
+mod state_laws;
+mod validity;
+mod worked;
+mod worked_laws;
+
+pub use route_laws::{
+    claimed_route, each_path, explanations_are_justified, mirrored_walks, no_better, plain_path,
+    the_best, the_rule,
+};
+pub use state_laws::{
+    absent_pairs_count_nothing, names_find_their_records, next_numbers_have_an_end,
+    numbers_never_fall, one_record_a_name, refused_leaves_the_state, settled_once,
+    settling_only_removes, untouched_tables,
+};
+pub use validity::valid_stays_valid;
+pub use worked::{
+    a_circuit_on_a_line, a_nearer_terminator, absent_in_role_lists, circuits_that_stay,
+    claims_beside_others, claims_of_a_line, counted_grants, deleted_and_made_again, denials,
+    equal_paths, equal_totals, forgotten_names, full_kinds, hosts, limit_of_attributes,
+    limits_and_links, limits_of_kinds, names_and_words, new_records, no_traversal, own_and_others,
+    permissions, precedences, ranges, ranges_of_claims, role_lists, settled_circuits, shown_grants,
+    sides, unknown_names, updates,
+};
+pub use worked_laws::{
+    lists_of_numbers, plain_paths_of_a_line, ranks_and_small_costs, records_of_no_valid_state,
+    touched_records, words_of_fields,
+};
