@@ -1,50 +1,32 @@
--- Laws of the table of circuits: what one more circuit, a removal and another next number keep, and which circuits go.
-use Rattle.std.proofs.Common.{◌≡◌, ℕ, ◌+◌, ◌<◌, ◌≤◌, ◌==◌, ◌&&◌, false, not, nat_lt, List, length, ◌∙◌, ap, arith}
+-- Laws of the table of circuits: whether there is room, and what one more circuit and a removal keep.
+use Rattle.std.proofs.Common.{◌≡◌, ℕ, ◌≤◌, ◌<◌, ◌&&◌, Bool, true, false, cond, not, nat_lt, List, [], ◌∷◌, ◌++◌, length, ap, arith, append_assoc}
 use Rattle.std.proofs.lemmas.Bool.Decides.{nat_tests}
-use Rattle.std.specs.BTreeMap.{insert_entry}
-use Rattle.std.specs.Ordering.{nat_cmp}
+use Rattle.std.proofs.lemmas.List.{append-nil}
+use Rattle.std.specs.List.{filter}
+use Rattle.ctrl_model.specs.Numbered.{Table, with_new, with_removed, without, numbers}
 use Rattle.ctrl_model.specs.State.{Circuit}
-use Rattle.ctrl_model.specs.ValidState.{ValidNumbers}
-use Rattle.ctrl_model.proofs.NumberedLaws.{Between-more}
-use Rattle.ctrl_model.proofs.TableLaws.{ValidNumbers-with_last, ValidNumbers-filter}
-use Rattle.terminators.specs.Rows.{rows_by}
-use Rattle.terminators.proofs.RowLaws.{insert_entry-last, rows_by-last}
-use Rattle.circuits.specs.declared.grants.Circuit.{Circuit as Granted}
-use Rattle.circuits.specs.CircuitTables.{CircuitTables, is_full, circuit_of, with_circuit, without_circuit, with_next, KeepsCircuits}
-use Rattle.circuits.specs.Rows.{tables, AreCircuits}
+use Rattle.ctrl_model.proofs.NumberedLaws.{length-with_last, length-filter-le}
+use Rattle.circuits.specs.declared.staying.Present.{Present}
+use Rattle.circuits.specs.CircuitTables.{is_full}
+use Rattle.circuits.specs.PresentRecords.{stays_beside, gone_of}
 
-are_numbered : (t : CircuitTables) → KeepsCircuits t → ValidNumbers 16384 t.circuits t.next
-are_numbered t k = record { first = k.first; last = k.last; ordered = k.ordered; few = k.few }
-
-keeps_from : (t : CircuitTables) → ValidNumbers 16384 t.circuits t.next → KeepsCircuits t
-keeps_from t v = record { first = v.first; last = v.last; ordered = v.ordered; few = v.few }
-
-has_room : (t : CircuitTables) → is_full t ≡ false → (length t.circuits < 16384) × (t.next < 4294967295)
-has_room t e = at (length t.circuits) t.next e
+pub has_room : (t : Table Circuit) → is_full (record { circuits = t }) ≡ false → (length t.rows < 16384) × (t.next < 4294967295)
+has_room t e = at (length t.rows) t.next e
   where
     at : (n next : ℕ) → not (nat_lt n 16384 && nat_lt next 4294967295) ≡ false → (n < 16384) × (next < 4294967295)
     at n next e = grind (arith, nat_tests)
 
-pub KeepsCircuits-with_circuit : (c : Circuit) (t : CircuitTables) → KeepsCircuits t → is_full t ≡ false → KeepsCircuits (with_circuit c t)
-KeepsCircuits-with_circuit c t k room = keeps_from (with_circuit c t) (ValidNumbers-with_last (are_numbered t k) c (has_room t room))
+pub few_new : (c : Circuit) (t : Table Circuit) → is_full (record { circuits = t }) ≡ false → length (with_new c t).rows ≤ 16384
+few_new c t room = let more = length-with_last t.rows t.next c in let left = (has_room t room).0 in omega arith
 
-pub KeepsCircuits-without_circuit : (n : ℕ) (t : CircuitTables) → KeepsCircuits t → KeepsCircuits (without_circuit n t)
-KeepsCircuits-without_circuit n t k = keeps_from (without_circuit n t) (ValidNumbers-filter (are_numbered t k) (λ x. not (x.0 == n)))
+pub few_removed : (n : ℕ) (t : Table Circuit) → length t.rows ≤ 16384 → length (with_removed n t).rows ≤ 16384
+few_removed n t few = let fewer : length (without t.rows n) ≤ length t.rows = length-filter-le _ _ in omega arith
 
-pub KeepsCircuits-with_next : (next : ℕ) (t : CircuitTables) → KeepsCircuits t → t.next ≤ next → next ≤ 4294967295 → KeepsCircuits (with_next next t)
-KeepsCircuits-with_next next t k later end = record {
-  first = omega (arith, k.first);
-  last = end;
-  ordered = Between-more t.next t.circuits 1 1 next (omega arith) later k.ordered;
-  few = k.few;
-}
-
--- the entries of a store that keeps its numbers
-pub are_circuits : (es : List (ℕ × Granted)) (next : ℕ) → KeepsCircuits (tables es next) → AreCircuits es
-are_circuits es next k = Between-more next (rows_by circuit_of es) 1 1 4294967295 (omega arith) k.last k.ordered
-
--- one more entry
-pub added : (es new : List (ℕ × Granted)) (next : ℕ) (c : Granted) → KeepsCircuits (tables es next) → new ≡ insert_entry nat_cmp es next c → tables new (next + 1) ≡ with_circuit (circuit_of c) (tables es next)
-added es new next c k put =
-    ap (λ ds. tables ds (next + 1)) (put ∙ insert_entry-last circuit_of next es 1 c k.ordered)
-    ∙ (λ i. record { circuits = rows_by-last circuit_of es next c i; next = next + 1 })
+-- the numbers so far, and that of the next circuit where it does not stay
+pub gone_next : (p : Present) (xs : List ℕ) (n : ℕ) (c : Circuit) (rows : List (ℕ × Circuit))
+    → (xs ++ cond (not (stays_beside p c)) (n ∷ []) []) ++ gone_of p rows ≡ xs ++ gone_of p ((n, c) ∷ rows)
+gone_next p xs n c rows = by (not (stays_beside p c))
+  where
+    by : (b : Bool) → (xs ++ cond b (n ∷ []) []) ++ gone_of p rows ≡ xs ++ numbers (cond b ((n, c) ∷ filter (λ row. not (stays_beside p row.1)) rows) (filter (λ row. not (stays_beside p row.1)) rows))
+    by true = append_assoc xs (n ∷ []) (gone_of p rows)
+    by false = ap (λ ys. ys ++ gone_of p rows) (append-nil xs)

@@ -1,2 +1,4 @@
 pub mod CircuitLaws
 pub mod WalkedLinks
+pub mod RemovalLaws
+pub mod SettledLaws

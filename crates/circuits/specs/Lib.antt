@@ -1,4 +1,5 @@
 pub mod CircuitTables
 pub mod PresentRecords
-pub mod Rows
 pub mod WorkedCircuits
+pub mod CircuitChanges
+pub mod RemovedCircuits

@@ -1,7 +1,8 @@
 -- What is present, as settling circuits asks (docs/RULES.md, "Settling").
-use Rattle.std.specs.Prelude.{ℕ, Bool, false, List}
+use Rattle.std.specs.Prelude.{ℕ, Bool, false, not, List, filter}
 use Rattle.ctrl_model.specs.declared.kinds.RouterSeen.{RouterSeen}
 use Rattle.ctrl_model.specs.Networks.{Network}
+use Rattle.ctrl_model.specs.Numbered.{numbers}
 use Rattle.ctrl_model.specs.Settling.{circuit_stays}
 use Rattle.ctrl_model.specs.State.{Circuit}
 use Rattle.fabric_graph.specs.FabricTables.{FabricSeen}
@@ -13,9 +14,9 @@ use Rattle.circuits.specs.declared.staying.Present.{Present}
 abbrev pub network : TermTables → FabricSeen → List RouterSeen → Network
 network t f routers = record {
   routers = routers;
-  links = f.links;
+  links = f.links.rows;
   least = f.least;
-  terminators = t.terminators;
+  terminators = t.terminators.rows;
   dial = λ _ _. 0;
   bind = λ _ _. 0;
   identity_router = λ _ _. 0;
@@ -34,3 +35,7 @@ network_in p = network p.terminators.now p.fabric.now p.routers.now
 -- Whether a circuit stays beside what is present.
 abbrev pub stays_beside : Present → Circuit → Bool
 stays_beside p c = stays (network_in p) p.identities.now p.services.now c
+
+-- The numbers of the circuits that do not stay beside what is present.
+abbrev pub gone_of : Present → List (ℕ × Circuit) → List ℕ
+gone_of p rows = numbers (filter (λ row. not (stays_beside p row.1)) rows)

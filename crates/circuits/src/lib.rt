@@ -1,17 +1,23 @@
-//! The store of granted circuits, and which of them do not stay.
+//! The store of granted circuits, what commands change in it, and which circuits stay.
 #![tactic(auto)]
 
+mod applying;
+mod changes;
+mod counting;
 mod grants;
 mod laws;
 mod paths;
+mod settling;
 mod staying;
 mod store;
-#[cfg(test)]
-mod tests;
 mod worked;
 
+pub use applying::apply_circuit_change;
+pub use changes::CircuitChange;
+pub use counting::count_circuits;
 pub use grants::Circuit;
-pub use laws::as_a_state_settles;
+pub use laws::{as_a_state_settles, settled_as_a_state};
+pub use settling::settle_circuits;
 pub use staying::Present;
 pub use store::{CircuitFault, Circuits};
 pub use worked::{circuits_by_number, circuits_on_a_line};

@@ -1,14 +1,12 @@
-ghost use Rattle.std.specs.Prelude.{◌≡◌, ◌++◌, [], ◌∷◌, length, option_map, option_and_then, IfOk, OnOk};
-ghost use Rattle.ctrl_model.specs.Networks.{is_on, is_usable, is_path, other_end, router_at, across, hops};
+ghost use Rattle.std.specs.Prelude.{◌≡◌, [], ◌∷◌, IfOk};
+ghost use Rattle.ctrl_model.specs.Networks.{is_path, hops};
 ghost use Rattle.ctrl_model.specs.Walks.{is_among, goes};
-ghost use Rattle.fabric_graph.specs.LinkRows.{link_of};
 ghost use Rattle.circuits.specs.PresentRecords.{network_in};
 
 use crate::staying::Present;
 use ctrl_model::{LinkNo, Numbers, RouterNo};
-use fabric_graph::LinkRow;
 use std::alloc::{AllocError, Global};
-use terminators::{is_connected, router_at};
+use terminators::is_connected;
 
 /// Whether a number stands among some.
 pub fn is_among(number: u32, numbers: &[u32]) -> bool
@@ -20,49 +18,6 @@ pub fn is_among(number: u32, numbers: &[u32]) -> bool
         }
     }
     false
-}
-
-// Whether the link is up and both its routers are present and connected.
-fn is_usable(present: &Present, link: &LinkRow) -> bool
-    ensures { result ≡ is_usable (network_in present.now) (link_of link.now) }
-{
-    link.up && is_connected(present.routers, link.a) && is_connected(present.routers, link.b)
-}
-
-// The other end of a link, seen from one end. None seen from elsewhere.
-fn other_end(at: RouterNo, link: &LinkRow) -> Option<RouterNo>
-    ensures { option_map (λ r. r.0) result ≡ other_end at.0 (link_of link.now) }
-{
-    if link.a.0 == at.0 {
-        Some(link.b)
-    } else if link.b.0 == at.0 {
-        Some(link.a)
-    } else {
-        None
-    }
-}
-
-// Where the link leads from a router on the way to a target.
-fn across(present: &Present, target: RouterNo, at: RouterNo, link: &LinkRow) -> Option<RouterNo>
-    ensures { option_map (λ r. r.0) result ≡ option_map (λ h. h.0) (across (network_in present.now) target.0 at.0 (link_of link.now)) }
-{
-    if !is_usable(present, link) {
-        return None;
-    }
-    let other = router_at(present.routers, other_end(at, link)?)?;
-    if other.no.0 == target.0 || other.through {
-        Some(other.no)
-    } else {
-        None
-    }
-}
-
-// Where the link of a number leads from a router on the way to a target.
-fn hop(present: &Present, target: RouterNo, at: RouterNo, link: u32) -> Option<RouterNo>
-    ensures { option_map (λ r. r.0) result ≡ option_map (λ h. h.0) (hops (network_in present.now) target.0 at.0 link) }
-{
-    let link = present.fabric.link(LinkNo(link))?;
-    across(present, target, at, link)
 }
 
 // Whether the links are a walk to the target, on which no router is visited twice.
@@ -78,14 +33,17 @@ fn goes(
     let mut visited = vec![in alloc; from.0]?;
     let mut at = from;
     'links: for link in links {
-        let Some(next) = hop(present, target, at, *link) else {
+        let Some(hop) = present
+            .fabric
+            .hop(present.routers, target, at, LinkNo(*link))
+        else {
             return Ok(false);
         };
-        if is_among(next.0, visited.as_slice()) {
+        if is_among(hop.to.0, visited.as_slice()) {
             return Ok(false);
         }
-        visited.push(next.0)?;
-        at = next;
+        visited.push(hop.to.0)?;
+        at = hop.to;
     }
     Ok(at.0 == target.0)
 }

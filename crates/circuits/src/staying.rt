@@ -1,5 +1,4 @@
 ghost use Rattle.std.specs.Prelude.{◌≡◌, IfOk};
-ghost use Rattle.circuits.specs.CircuitTables.{circuit_of};
 ghost use Rattle.circuits.specs.PresentRecords.{stays_beside};
 
 use crate::grants::Circuit;
@@ -23,7 +22,7 @@ pub struct Present<'a> {
 /// Whether the circuit stays: its identity, its service and its terminator are present, and its links are a path from its
 /// ingress to the terminator's router.
 pub fn stays(alloc: Global, present: &Present, circuit: &Circuit) -> Result<bool, AllocError>
-    ensures { IfOk result (λ b. b ≡ stays_beside present.now (circuit_of circuit.now)) }
+    ensures { IfOk result (λ b. b ≡ stays_beside present.now circuit.now) }
 {
     if !is_among(circuit.identity.0, present.identities.as_slice()) {
         return Ok(false);

@@ -6,11 +6,11 @@ ghost use Rattle.circuits.specs.WorkedCircuits.{over, line, two_circuits};
 
 /// Circuits get the numbers 1 and 2, and a removed number is not given again. Numbers run out at 4,294,967,295.
 pub fn circuits_by_number()
-    ensures first { no_circuits.next ≡ 1 }
-    ensures third { two_circuits.next ≡ 3 }
-    ensures found { at two_circuits.circuits 1 ≡ Some (over (1 ∷ 2 ∷ [])) }
-    ensures removed { at (without_circuit 2 two_circuits).circuits 2 ≡ None }
-    ensures not_again { numbers (with_circuit (over []) (without_circuit 2 two_circuits)).circuits ≡ 1 ∷ 3 ∷ [] }
+    ensures first { no_circuits.circuits.next ≡ 1 }
+    ensures third { two_circuits.circuits.next ≡ 3 }
+    ensures found { at two_circuits.circuits.rows 1 ≡ Some (over (1 ∷ 2 ∷ [])) }
+    ensures removed { at (without_circuit 2 two_circuits).circuits.rows 2 ≡ None }
+    ensures not_again { numbers (with_circuit (over []) (without_circuit 2 two_circuits)).circuits.rows ≡ 1 ∷ 3 ∷ [] }
     ensures room { is_full two_circuits ≡ false }
     ensures last { is_full (with_next 4294967294 two_circuits) ≡ false }
     ensures run_out { is_full (with_next 4294967295 two_circuits) ≡ true }

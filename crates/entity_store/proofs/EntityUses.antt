@@ -10,8 +10,12 @@ use Rattle.ctrl_model.specs.State.{Entity, Router, as_entity}
 use Rattle.entity_store.specs.EntityTables.{Tables, entities}
 use Rattle.entity_store.specs.AttributeUses.{times, held_times, entity_attributes, AreUsed}
 use Rattle.entity_store.specs.TableRules.{attributes_at, is_there}
-use Rattle.entity_store.proofs.PartLaws.{attributes-entities}
 use Rattle.entity_store.proofs.UseLaws.{times-append}
+
+attributes-entities : (rows : List (ℕ × Router))
+    → flat_map (λ (row : ℕ × Entity). row.1.attributes) (map (λ (row : ℕ × Router). (row.0, as_entity row.1)) rows) ≡ flat_map (λ (row : ℕ × Router). row.1.attributes) rows
+attributes-entities [] = refl
+attributes-entities (x ∷ rows) = ap (λ ns. x.1.attributes ++ ns) (attributes-entities rows)
 
 within : (q : List ℕ) (rows : List (ℕ × Entity)) (n : ℕ) (e : Entity) → at rows n ≡ Some e
     → times q e.attributes ≤ times q (flat_map (λ (row : ℕ × Entity). row.1.attributes) rows)
@@ -31,23 +35,23 @@ pub used_at : (k : Kind) (t : Tables) (n : ℕ) (e : Entity) → Some e ≡ at (
 used_at k t n e h q = by k h
   where
     first : List (List ℕ)
-    first = flat_map (λ (row : ℕ × Entity). row.1.attributes) t.identities
+    first = flat_map (λ (row : ℕ × Entity). row.1.attributes) t.identities.rows
 
     second : List (List ℕ)
-    second = flat_map (λ (row : ℕ × Entity). row.1.attributes) t.services
+    second = flat_map (λ (row : ℕ × Entity). row.1.attributes) t.services.rows
 
     third : List (List ℕ)
-    third = flat_map (λ (row : ℕ × Router). row.1.attributes) t.routers
+    third = flat_map (λ (row : ℕ × Router). row.1.attributes) t.routers.rows
 
     all : times q (entity_attributes t) ≡ times q first + (times q second + times q third)
     all = times-append q first (second ++ third) ∙ ap (λ m. times q first + m) (times-append q second third)
 
     by : (k : Kind) → Some e ≡ at (entities k t) n → times q e.attributes ≤ times q (entity_attributes t) + held_times q t.held
-    by kind.Identity g = let part = within q t.identities n e (sym g) in omega (arith, all, part)
-    by kind.Service g = let part = within q t.services n e (sym g) in omega (arith, all, part)
+    by kind.Identity g = let part = within q t.identities.rows n e (sym g) in omega (arith, all, part)
+    by kind.Service g = let part = within q t.services.rows n e (sym g) in omega (arith, all, part)
     by kind.Router g =
-        let part = within q (map (λ (row : ℕ × Router). (row.0, as_entity row.1)) t.routers) n e (sym g) in
-        let same = ap (times q) (attributes-entities t.routers) in
+        let part = within q (map (λ (row : ℕ × Router). (row.0, as_entity row.1)) t.routers.rows) n e (sym g) in
+        let same = ap (times q) (attributes-entities t.routers.rows) in
         omega (arith, all, part, same)
     by _ g = absurd (none-some e (sym g))
 

@@ -1,4 +1,3 @@
-pub mod RowLaws
 pub mod EntityLaws
 pub mod UseLaws
 pub mod PartLaws

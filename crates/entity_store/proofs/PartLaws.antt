@@ -10,13 +10,12 @@ use Rattle.std.specs.List.{filter, flat_map}
 use Rattle.std.specs.Set.{is_member, distinct_count, unique_keys}
 use Rattle.std.specs.Str.{bytes_eq}
 use Rattle.ctrl_model.specs.Matches.{has_name}
+use Rattle.ctrl_model.specs.Numbered.{Table}
 use Rattle.ctrl_model.specs.State.{Router, Entity}
 use Rattle.ctrl_model.proofs.DistinctLaws.{same_name}
 use Rattle.entity_store.specs.AttributeUses.{times, uses, used_names, entity_attributes}
-use Rattle.entity_store.specs.Parts.{all_of, attributes_of, parts_of}
-use Rattle.entity_store.specs.Rows.{Entry, Listed, rows_of, as_entities}
-use Rattle.entity_store.specs.Stores.{tables_of, held_once}
-use Rattle.record_places.proofs.NameKeys.{bytes_eq-flip}
+use Rattle.entity_store.specs.Parts.{held_once, all_of, entity_parts, router_parts, parts_of}
+use Rattle.record_tables.proofs.NameKeys.{bytes_eq-flip}
 use Rattle.entity_store.proofs.UseLaws.{times-append, held_times-once}
 
 all_of-suc : (parts : List (List (List ℕ))) (k : ℕ) (ns : List (List ℕ)) → slice_get parts k ≡ Some ns → all_of (drop k parts) ≡ ns ++ all_of (drop (suc k) parts)
@@ -105,13 +104,9 @@ module _ (test : List ℕ → Bool) (names tail : List (List ℕ)) (at : ℕ) (x
 
 -- ---- the parts of a store are the names that are used or would be
 
-attributes-entries : (es : List Entry) → all_of (map attributes_of es) ≡ flat_map (λ (row : ℕ × Router). row.1.attributes) (rows_of es)
-attributes-entries [] = refl
-attributes-entries (e ∷ es) = ap (λ ns. e.1.attributes ++ ns) (attributes-entries es)
-
-pub attributes-entities : (rows : List (ℕ × Router)) → flat_map (λ (row : ℕ × Entity). row.1.attributes) (as_entities rows) ≡ flat_map (λ (row : ℕ × Router). row.1.attributes) rows
-attributes-entities [] = refl
-attributes-entities (x ∷ rows) = ap (λ ns. x.1.attributes ++ ns) (attributes-entities rows)
+flat_of : {X : Type 0} (names_of : X → List (List ℕ)) (rows : List X) → all_of (map names_of rows) ≡ flat_map names_of rows
+flat_of names_of [] = refl
+flat_of names_of (x ∷ rows) = ap (λ ns. names_of x ++ ns) (flat_of names_of rows)
 
 names-held_once : (names : List (List ℕ)) → map (λ (x : List ℕ × ℕ). x.0) (held_once names) ≡ names
 names-held_once [] = refl
@@ -120,30 +115,23 @@ names-held_once (x ∷ names) = ap (λ ns. x ∷ ns) (names-held_once names)
 joined : (a b c held fresh : List (List ℕ)) → a ++ (b ++ (c ++ (held ++ (fresh ++ [])))) ≡ (a ++ (b ++ c)) ++ (held ++ fresh)
 joined a b c held fresh = simp (append_assoc, append-nil)
 
-entity_part : (es : List Entry) (rows : List (ℕ × Router)) → rows_of es ≡ rows → all_of (map attributes_of es) ≡ flat_map (λ (row : ℕ × Entity). row.1.attributes) (as_entities rows)
-entity_part es rows e = attributes-entries es ∙ ap (flat_map (λ (row : ℕ × Router). row.1.attributes)) e ∙ sym (attributes-entities rows)
+module _ (i s : Table Entity) (r : Table Router) (held fresh : List (List ℕ)) where
+  flat_parts : all_of (parts_of i s r held fresh) ≡ all_of (entity_parts i) ++ (all_of (entity_parts s) ++ (all_of (router_parts r) ++ (held ++ (fresh ++ []))))
+  flat_parts =
+      let names : List (List ℕ) → List (List ℕ) = λ ns. ns in
+      flat_map-append names (entity_parts i) (entity_parts s ++ (router_parts r ++ (held ∷ fresh ∷ [])))
+      ∙ ap (λ ns. all_of (entity_parts i) ++ ns) (flat_map-append names (entity_parts s) (router_parts r ++ (held ∷ fresh ∷ []))
+      ∙ ap (λ ns. all_of (entity_parts s) ++ ns) (flat_map-append names (router_parts r) (held ∷ fresh ∷ [])))
 
-router_part : (es : List Entry) (rows : List (ℕ × Router)) → rows_of es ≡ rows → all_of (map attributes_of es) ≡ flat_map (λ (row : ℕ × Router). row.1.attributes) rows
-router_part es rows e = attributes-entries es ∙ ap (flat_map (λ (row : ℕ × Router). row.1.attributes)) e
-
-flat_parts : (i s r : List Entry) (held fresh : List (List ℕ))
-    → all_of (parts_of i s r held fresh) ≡ all_of (map attributes_of i) ++ (all_of (map attributes_of s) ++ (all_of (map attributes_of r) ++ (held ++ (fresh ++ []))))
-flat_parts i s r held fresh =
-    let names : List (List ℕ) → List (List ℕ) = λ ns. ns in
-    flat_map-append names (map attributes_of i) (map attributes_of s ++ (map attributes_of r ++ (held ∷ fresh ∷ [])))
-    ∙ ap (λ ns. all_of (map attributes_of i) ++ ns) (flat_map-append names (map attributes_of s) (map attributes_of r ++ (held ∷ fresh ∷ []))
-    ∙ ap (λ ns. all_of (map attributes_of s) ++ ns) (flat_map-append names (map attributes_of r) (held ∷ fresh ∷ [])))
-
-module _ (i s r : List Entry) (li ls lr : Listed) (held fresh : List (List ℕ)) (ei : rows_of i ≡ li.rows) (es : rows_of s ≡ ls.rows) (er : rows_of r ≡ lr.rows) where
-  pub used_parts : all_of (parts_of i s r held fresh) ≡ used_names (tables_of li ls lr held) fresh
+  pub used_parts : all_of (parts_of i s r held fresh) ≡ used_names (record { identities = i; services = s; routers = r; held = held_once held }) fresh
   used_parts =
-      flat_parts i s r held fresh
-      ∙ joined (all_of (map attributes_of i)) (all_of (map attributes_of s)) (all_of (map attributes_of r)) held fresh
-      ∙ (λ j. (entity_part i li.rows ei j ++ (entity_part s ls.rows es j ++ router_part r lr.rows er j)) ++ (sym (names-held_once held) j ++ fresh))
+      flat_parts
+      ∙ joined (all_of (entity_parts i)) (all_of (entity_parts s)) (all_of (router_parts r)) held fresh
+      ∙ (λ j. (flat_of (λ (row : ℕ × Entity). row.1.attributes) i.rows j ++ (flat_of (λ (row : ℕ × Entity). row.1.attributes) s.rows j ++ flat_of (λ (row : ℕ × Router). row.1.attributes) r.rows j)) ++ (sym (names-held_once held) j ++ fresh))
 
-  pub times_parts : (q : List ℕ) → times q (all_of (parts_of i s r held fresh)) ≡ uses q (tables_of li ls lr held) + times q fresh
+  pub times_parts : (q : List ℕ) → times q (all_of (parts_of i s r held fresh)) ≡ uses q (record { identities = i; services = s; routers = r; held = held_once held }) + times q fresh
   times_parts q =
-      let entities = entity_attributes (tables_of li ls lr held) in
+      let entities = entity_attributes (record { identities = i; services = s; routers = r; held = held_once held }) in
       let all = ap (times q) used_parts in
       let first = times-append q entities (map (λ (x : List ℕ × ℕ). x.0) (held_once held) ++ fresh) in
       let second = times-append q (map (λ (x : List ℕ × ℕ). x.0) (held_once held)) fresh in

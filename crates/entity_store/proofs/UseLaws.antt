@@ -4,7 +4,7 @@ use Rattle.std.proofs.lemmas.List.Sums.{sum_by-cons, sum_by-append, sum_by-drop_
 use Rattle.std.specs.Str.{bytes_eq}
 use Rattle.ctrl_model.proofs.DistinctLaws.{same_bytes}
 use Rattle.entity_store.specs.AttributeUses.{times, held_times}
-use Rattle.entity_store.specs.Stores.{held_once}
+use Rattle.entity_store.specs.Parts.{held_once}
 
 pub times-cons : (q x : List ℕ) (xs : List (List ℕ)) → times q (x ∷ xs) ≡ cond (bytes_eq x q) 1 0 + times q xs
 times-cons q x xs = sum_by-cons (λ n. cond (bytes_eq n q) 1 0) x xs

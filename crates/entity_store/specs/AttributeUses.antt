@@ -18,8 +18,8 @@ held_times name (x ∷ xs) = cond (bytes_eq x.0 name) x.1 0 + held_times name xs
 -- The attributes of all entities, with repeats.
 abbrev pub entity_attributes : Tables → List (List ℕ)
 entity_attributes t =
-    flat_map (λ row. row.1.attributes) t.identities
-    ++ (flat_map (λ row. row.1.attributes) t.services ++ flat_map (λ row. row.1.attributes) t.routers)
+    flat_map (λ row. row.1.attributes) t.identities.rows
+    ++ (flat_map (λ row. row.1.attributes) t.services.rows ++ flat_map (λ row. row.1.attributes) t.routers.rows)
 
 -- The uses of a name: by entities, and held.
 abbrev pub uses : List ℕ → Tables → ℕ

@@ -3,17 +3,25 @@ use Rattle.std.specs.Prelude.{ℕ, nat_lt, Bool, List, [], ◌∷◌, ◌++◌, 
 use Rattle.std.specs.List.{flat_map}
 use Rattle.std.specs.Set.{distinct_count}
 use Rattle.std.specs.Str.{bytes_eq}
+use Rattle.ctrl_model.specs.Numbered.{Table}
+use Rattle.ctrl_model.specs.State.{Entity, Router}
 use Rattle.entity_store.specs.AttributeUses.{times}
-use Rattle.entity_store.specs.Rows.{Entry}
 
--- The attributes of an entry.
-abbrev pub attributes_of : Entry → List (List ℕ)
-attributes_of e = e.1.attributes
+-- Names of which each stands for one held use.
+abbrev pub held_once : List (List ℕ) → List (List ℕ × ℕ)
+held_once names = map (λ n. (n, 1)) names
+
+-- The attributes of each entity of a table.
+abbrev pub entity_parts : Table Entity → List (List (List ℕ))
+entity_parts t = map (λ row. row.1.attributes) t.rows
+
+-- The attributes of each router of a table.
+abbrev pub router_parts : Table Router → List (List (List ℕ))
+router_parts t = map (λ row. row.1.attributes) t.rows
 
 -- The parts.
-abbrev pub parts_of : List Entry → List Entry → List Entry → List (List ℕ) → List (List ℕ) → List (List (List ℕ))
-parts_of identities services routers held fresh =
-    map attributes_of identities ++ (map attributes_of services ++ (map attributes_of routers ++ (held ∷ fresh ∷ [])))
+abbrev pub parts_of : Table Entity → Table Entity → Table Router → List (List ℕ) → List (List ℕ) → List (List (List ℕ))
+parts_of identities services routers held fresh = entity_parts identities ++ (entity_parts services ++ (router_parts routers ++ (held ∷ fresh ∷ [])))
 
 -- The names of all parts.
 abbrev pub all_of : List (List (List ℕ)) → List (List ℕ)

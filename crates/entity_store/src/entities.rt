@@ -1,16 +1,17 @@
-ghost use Rattle.std.specs.Prelude.{◌≡◌, ◌+◌, ◌≤◌, List, ◌<◌, ℕ, ⊤, true, [], IfOk, OnOk, OnErr, map, option_map, Ok};
+ghost use Rattle.std.specs.Prelude.{◌≡◌, ◌+◌, ◌≤◌, List, ◌<◌, ℕ, ⊤, true, [], IfOk, OnOk, OnErr, length, map, option_map, Ok};
 ghost use Rattle.ctrl_model.specs.CommandForm.{is_cost};
 ghost use Rattle.ctrl_model.specs.Networks.{seen};
 ghost use Rattle.ctrl_model.specs.Numbered.{at, numbers};
-ghost use Rattle.entity_store.specs.EntityTables.{no_entities, is_entity_kind, entities, next_of, with_entity, with_attributes, with_router, without_entity, with_next};
+ghost use Rattle.ctrl_model.specs.State.{as_entity};
+ghost use Rattle.entity_store.specs.EntityTables.{no_entities, is_entity_kind, entities, next_of, number_of, new_router, with_entity, with_attributes, with_router, without_entity, with_next};
 ghost use Rattle.entity_store.specs.AttributeUses.{has_attribute_room, times, uses, used_names, AreUsed, AreHeld, Holds, LetsGo};
 ghost use Rattle.entity_store.specs.TableRules.{may_add, found, is_there, attributes_at, most_of, KeepsNumbers};
 ghost use Rattle.entity_store.specs.Parts.{all_of};
-ghost use Rattle.entity_store.specs.Stores.{IsTableOf};
 
 use crate::names_in_use::{Parts, are_few, hold_names, let_names_go};
-use crate::tables::Table;
+use crate::records::{KeptEntity, KeptRouter};
 use ctrl_model::{Kind, Name, Names, Numbers, RouterNo, RouterSeen};
+use record_tables::NamedTable;
 use std::alloc::{AllocError, Global};
 use std::marker::Model;
 use thiserror::Error;
@@ -34,21 +35,20 @@ pub enum EntityFault {
 /// A kind that a call takes is Identity, Service or Router.
 #[derive(Drop)]
 pub struct Entities {
-    identities: Table,
-    services: Table,
-    routers: Table,
+    identities: NamedTable<KeptEntity>,
+    services: NamedTable<KeptEntity>,
+    routers: NamedTable<KeptRouter>,
     held: Vec<Name>,
 }
 
 impl Model for Entities {
     ghost use Rattle.std.specs.Prelude.{◌≤◌, length};
     ghost use Rattle.entity_store.specs.EntityTables.{Tables};
+    ghost use Rattle.entity_store.specs.Parts.{held_once};
 
     ghost Value = { Tables };
 
-    ghost use Rattle.entity_store.specs.Stores.{tables_of};
-
-    ghost view = { λ e. tables_of e.identities e.services e.routers e.held.items };
+    ghost view = { λ e. record { identities = e.identities; services = e.services; routers = e.routers; held = held_once e.held.items } };
 
     ghost invariant = { λ e. (length e.identities.rows ≤ 2048) × (length e.services.rows ≤ 512) × (length e.routers.rows ≤ 256) };
 }
@@ -66,29 +66,78 @@ fn most_of(kind: Kind) -> usize
     }
 }
 
-impl Entities {
-    // The table of a kind.
-    fn table(&self, kind: Kind) -> &Table
-        requires { is_entity_kind kind ≡ true }
-        ensures { IsTableOf kind result.now self.now }
-    {
-        match kind {
-            Kind::Identity => &self.identities,
-            Kind::Service => &self.services,
-            Kind::Router => &self.routers,
-            _ => unreachable!(),
-        }
-    }
+// A new identity or service.
+fn new_entity(name: &Name, attributes: &Names) -> Result<KeptEntity, AllocError>
+    ensures { IfOk result (λ e. e ≡ record { name = name.now; attributes = attributes.now }) }
+{
+    Ok(KeptEntity {
+        name: name.copy()?,
+        attributes: attributes.copy()?,
+    })
+}
 
+// A new router.
+fn new_router(name: &Name, attributes: &Names) -> Result<KeptRouter, AllocError>
+    ensures { IfOk result (λ r. r ≡ new_router name.now attributes.now) }
+{
+    Ok(KeptRouter {
+        name: name.copy()?,
+        attributes: attributes.copy()?,
+        cost: 0,
+        through: true,
+        connected: false,
+    })
+}
+
+// The name and the attributes of an identity or a service.
+fn seen_entity(table: &NamedTable<KeptEntity>, no: u32) -> Option<(&Name, &Names)>
+    ensures { option_map (λ p. record { name = p.0.now; attributes = p.1.now }) result ≡ at table.now.rows no }
+{
+    let entity = table.get(no)?;
+    Some((&entity.name, &entity.attributes))
+}
+
+// The name and the attributes of a router.
+fn seen_router(table: &NamedTable<KeptRouter>, no: u32) -> Option<(&Name, &Names)>
+    ensures { option_map (λ p. record { name = p.0.now; attributes = p.1.now }) result ≡ option_map as_entity (at table.now.rows no) }
+{
+    let router = table.get(no)?;
+    Some((&router.name, &router.attributes))
+}
+
+// A router as routes see it.
+fn seen_row(number: u32, router: &KeptRouter) -> RouterSeen
+    ensures { result ≡ seen (number, router.now) }
+{
+    RouterSeen {
+        no: RouterNo(number),
+        cost: router.cost,
+        through: router.through,
+        connected: router.connected,
+    }
+}
+
+// The routers as routes see them.
+fn routers_in(alloc: Global, table: &NamedTable<KeptRouter>) -> Result<Vec<RouterSeen>, AllocError>
+    ensures { IfOk result (λ v. v.items ≡ map seen table.now.rows) }
+{
+    let mut found = Vec::new(alloc);
+    'rows: for (number, router) in table.rows() {
+        found.push(seen_row(*number, router))?;
+    }
+    Ok(found)
+}
+
+impl Entities {
     // The names that are in use or would be.
     fn parts<'a>(&'a self, fresh: &'a Names) -> Parts<'a>
         ensures used { all_of result ≡ used_names self.now fresh.now }
         ensures times { (q : List ℕ) → times q (all_of result) ≡ uses q self.now + times q fresh.now }
     {
         Parts {
-            identities: self.identities.entries(),
-            services: self.services.entries(),
-            routers: self.routers.entries(),
+            identities: &self.identities,
+            services: &self.services,
+            routers: &self.routers,
             held: self.held.as_slice(),
             fresh: fresh.as_slice(),
         }
@@ -99,11 +148,25 @@ impl Entities {
         ensures { IfOk result (λ e. e ≡ no_entities) }
     {
         Ok(Entities {
-            identities: Table::new(alloc),
-            services: Table::new(alloc),
-            routers: Table::new(alloc),
+            identities: NamedTable::new(alloc),
+            services: NamedTable::new(alloc),
+            routers: NamedTable::new(alloc),
             held: Vec::new(alloc),
         })
+    }
+
+    // The number of the entity that has the name.
+    fn number_of(&self, kind: Kind, name: &Name) -> Option<u32>
+        requires { is_entity_kind kind ≡ true }
+        ensures found { result ≡ number_of kind name.now self.now }
+        ensures numbers { KeepsNumbers kind self.now }
+    {
+        match kind {
+            Kind::Identity => self.identities.find(name.bytes()),
+            Kind::Service => self.services.find(name.bytes()),
+            Kind::Router => self.routers.find(name.bytes()),
+            _ => unreachable!(),
+        }
     }
 
     /// Whether an entity of the name may be added: `Exists` comes exactly where one of the kind has the name, and else `Full`
@@ -112,11 +175,10 @@ impl Entities {
         requires { is_entity_kind kind ≡ true }
         ensures { result ≡ may_add kind name.now self.now }
     {
-        let table = self.table(kind);
-        if table.find(name).is_some() {
+        if self.number_of(kind, name).is_some() {
             return Err(EntityFault::Exists);
         }
-        if table.len() >= most_of(kind) || table.next() == u32::MAX {
+        if self.count(kind) >= most_of(kind) || self.next(kind) == u32::MAX {
             return Err(EntityFault::Full(kind));
         }
         Ok(())
@@ -132,9 +194,9 @@ impl Entities {
         ensures err { OnErr result (self.new ≡ self.old) }
     {
         match kind {
-            Kind::Identity => self.identities.add(name, attributes),
-            Kind::Service => self.services.add(name, attributes),
-            Kind::Router => self.routers.add(name, attributes),
+            Kind::Identity => self.identities.add(new_entity(name, attributes)?),
+            Kind::Service => self.services.add(new_entity(name, attributes)?),
+            Kind::Router => self.routers.add(new_router(name, attributes)?),
             _ => unreachable!(),
         }
     }
@@ -146,7 +208,7 @@ impl Entities {
         // The numbers ascend from 1 below the next one, and the kind keeps its limit.
         ensures numbers { KeepsNumbers kind self.now }
     {
-        self.table(kind).find(name).ok_or(EntityFault::Unknown)
+        self.number_of(kind, name).ok_or(EntityFault::Unknown)
     }
 
     /// Replaces the attributes of a present entity: their uses go, and each new one gets one.
@@ -159,9 +221,15 @@ impl Entities {
     {
         let attributes = attributes.copy()?;
         match kind {
-            Kind::Identity => self.identities.update(no, attributes),
-            Kind::Service => self.services.update(no, attributes),
-            Kind::Router => self.routers.update(no, attributes),
+            Kind::Identity => self.identities.edit(no, move |entity| {
+                entity.attributes = attributes;
+            }),
+            Kind::Service => self.services.edit(no, move |entity| {
+                entity.attributes = attributes;
+            }),
+            Kind::Router => self.routers.edit(no, move |router| {
+                router.attributes = attributes;
+            }),
             _ => unreachable!(),
         }
         Ok(())
@@ -173,7 +241,11 @@ impl Entities {
         requires cost { is_cost cost ≡ true }
         ensures { self.new ≡ with_router no.0 cost through connected self.old }
     {
-        self.routers.set_marks(no.0, cost, through, connected);
+        self.routers.edit(no.0, |router| {
+            router.cost = cost;
+            router.through = through;
+            router.connected = connected;
+        });
     }
 
     /// Removes a present entity, and with it a use of each of its attributes.
@@ -192,9 +264,9 @@ impl Entities {
 
     /// The routers as routes see them, by ascending number.
     pub fn routers(&self, alloc: Global) -> Result<Vec<RouterSeen>, AllocError>
-        ensures { IfOk result (λ v. v.items ≡ map seen self.now.routers) }
+        ensures { IfOk result (λ v. v.items ≡ map seen self.now.routers.rows) }
     {
-        self.routers.routers(alloc)
+        routers_in(alloc, &self.routers)
     }
 
     /// Whether at most 1,024 attributes are in use once a use of each entry of `gone` is taken away, and one of each entry of
@@ -228,16 +300,41 @@ impl Entities {
         requires { is_entity_kind kind ≡ true }
         ensures { option_map (λ p. record { name = p.0.now; attributes = p.1.now }) result ≡ at (entities kind self.now) no }
     {
-        let row = self.table(kind).seen(no)?;
-        Some((&row.name, &row.attributes))
+        match kind {
+            Kind::Identity => seen_entity(&self.identities, no),
+            Kind::Service => seen_entity(&self.services, no),
+            Kind::Router => seen_router(&self.routers, no),
+            _ => unreachable!(),
+        }
     }
 
     /// The numbers of the present entities of a kind, ascending.
     pub fn numbers(&self, alloc: Global, kind: Kind) -> Result<Numbers, AllocError>
         requires { is_entity_kind kind ≡ true }
-        ensures { IfOk result (λ ns. ns ≡ numbers (entities kind self.now)) }
+        ensures all { IfOk result (λ ns. ns ≡ numbers (entities kind self.now)) }
+        // The numbers ascend from 1 below the next one, and the kind keeps its limit.
+        ensures numbers { KeepsNumbers kind self.now }
     {
-        self.table(kind).numbers(alloc)
+        match kind {
+            Kind::Identity => self.identities.numbers(alloc),
+            Kind::Service => self.services.numbers(alloc),
+            Kind::Router => self.routers.numbers(alloc),
+            _ => unreachable!(),
+        }
+    }
+
+    /// How many entities of a kind there are.
+    pub fn count(&self, kind: Kind) -> usize
+        requires { is_entity_kind kind ≡ true }
+        ensures count { result ≡ length (entities kind self.now) }
+        ensures few { result ≤ most_of kind }
+    {
+        match kind {
+            Kind::Identity => self.identities.len(),
+            Kind::Service => self.services.len(),
+            Kind::Router => self.routers.len(),
+            _ => unreachable!(),
+        }
     }
 
     /// The number that the next entity of a kind gets, 1 in a new store.
@@ -247,7 +344,12 @@ impl Entities {
         // The numbers ascend from 1 below it, and the kind keeps its limit.
         ensures numbers { KeepsNumbers kind self.now }
     {
-        self.table(kind).next()
+        match kind {
+            Kind::Identity => self.identities.next(),
+            Kind::Service => self.services.next(),
+            Kind::Router => self.routers.next(),
+            _ => unreachable!(),
+        }
     }
 
     /// Raises the next number of a kind.

@@ -3,10 +3,7 @@
 
 mod entities;
 mod names_in_use;
-mod rows;
-mod tables;
-#[cfg(test)]
-mod tests;
+mod records;
 mod worked;
 
 pub use entities::{Entities, EntityFault};

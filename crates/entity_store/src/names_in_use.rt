@@ -3,11 +3,11 @@ ghost use Rattle.std.specs.Option.{option_map};
 ghost use Rattle.std.specs.Str.{bytes_eq};
 ghost use Rattle.ctrl_model.specs.Matches.{has_name};
 ghost use Rattle.entity_store.specs.AttributeUses.{times};
-ghost use Rattle.entity_store.specs.Parts.{all_of, attributes_of, left_from, stays};
+ghost use Rattle.entity_store.specs.Parts.{all_of, entity_parts, router_parts, left_from, stays};
 
-use crate::rows::Row;
+use crate::records::{KeptEntity, KeptRouter};
 use ctrl_model::{Name, Names};
-use indexmap::map::Slice;
+use record_tables::NamedTable;
 use std::alloc::AllocError;
 use std::marker::Model;
 
@@ -83,9 +83,9 @@ pub fn let_names_go(held: &mut Vec<Name>, names: &[Name])
 /// The names that are in use or would be, part by part: of each entity, the held ones, and fresh ones. Contracts see the parts.
 #[derive(Drop)]
 pub struct Parts<'a> {
-    pub identities: Slice<'a, Vec<u8>, Row>,
-    pub services: Slice<'a, Vec<u8>, Row>,
-    pub routers: Slice<'a, Vec<u8>, Row>,
+    pub identities: &'a NamedTable<KeptEntity>,
+    pub services: &'a NamedTable<KeptEntity>,
+    pub routers: &'a NamedTable<KeptRouter>,
     pub held: &'a [Name],
     pub fresh: &'a [Name],
 }
@@ -96,18 +96,27 @@ impl<'a> Model for Parts<'a> {
 
     ghost Value = { List (List (List ℕ)) };
 
-    ghost view = { λ p. parts_of p.identities p.services p.routers p.held.now p.fresh.now };
+    ghost view = { λ p. parts_of p.identities.now p.services.now p.routers.now p.held.now p.fresh.now };
 
-    ghost invariant = { λ p. (length p.identities ≤ 2048) × (length p.services ≤ 512) × (length p.routers ≤ 256) };
+    ghost invariant = { λ p. (length p.identities.now.rows ≤ 2048) × (length p.services.now.rows ≤ 512) × (length p.routers.now.rows ≤ 256) };
 }
 
 // The attributes of the entity at a place.
-fn attributes_at<'a>(rows: &Slice<'a, Vec<u8>, Row>, place: usize) -> &'a [Name]
-    requires { place < length rows.now }
-    ensures { slice_get (map attributes_of rows.now) place ≡ Some result.now }
+fn of_entity(table: &NamedTable<KeptEntity>, place: usize) -> &[Name]
+    requires { place < length table.now.rows }
+    ensures { slice_get (entity_parts table.now) place ≡ Some result.now }
 {
-    let (_, row) = rows.get_index(place).unwrap();
-    row.attributes.as_slice()
+    let (_, entity) = table.at_place(place).unwrap();
+    entity.attributes.as_slice()
+}
+
+// The attributes of the router at a place.
+fn of_router(table: &NamedTable<KeptRouter>, place: usize) -> &[Name]
+    requires { place < length table.now.rows }
+    ensures { slice_get (router_parts table.now) place ≡ Some result.now }
+{
+    let (_, router) = table.at_place(place).unwrap();
+    router.attributes.as_slice()
 }
 
 impl<'a> Parts<'a> {
@@ -128,11 +137,11 @@ impl<'a> Parts<'a> {
         let routers = services + self.services.len();
         let held = routers + self.routers.len();
         if place < services {
-            attributes_at(&self.identities, place)
+            of_entity(self.identities, place)
         } else if place < routers {
-            attributes_at(&self.services, place - services)
+            of_entity(self.services, place - services)
         } else if place < held {
-            attributes_at(&self.routers, place - routers)
+            of_router(self.routers, place - routers)
         } else if place == held {
             self.held
         } else {

@@ -7,7 +7,7 @@ use Rattle.std.specs.Option.{option_map, option_map_or}
 use Rattle.ctrl_model.specs.declared.kinds.RouterSeen.{RouterSeen}
 use Rattle.ctrl_model.specs.Numbered.{at, Between}
 use Rattle.ctrl_model.proofs.NumberedLaws.{at-within}
-use Rattle.record_places.proofs.PlaceLaws.{at-place}
+use Rattle.record_tables.proofs.PlaceLaws.{at-place}
 use Rattle.fabric_graph.specs.declared.steps.End.{End}
 use Rattle.fabric_graph.specs.Routers.{numbered, IsRouterPlace}
 use Rattle.fabric_graph.specs.Steps.{further, own_end, end_at}

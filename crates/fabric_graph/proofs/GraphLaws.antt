@@ -4,19 +4,19 @@ use Rattle.std.proofs.lemmas.List.{length-map}
 use Rattle.std.specs.List.{find, AllByRecursion}
 use Rattle.std.specs.Option.{option_map, option_and_then}
 use Rattle.ctrl_model.specs.declared.kinds.RouterSeen.{RouterSeen}
-use Rattle.ctrl_model.specs.CommandForm.{is_link_cost}
 use Rattle.ctrl_model.specs.Membership.{Among}
 use Rattle.ctrl_model.specs.Mirrors.{Mirrors, renamed}
 use Rattle.ctrl_model.specs.Networks.{hops, across}
-use Rattle.ctrl_model.specs.Numbered.{at}
+use Rattle.ctrl_model.specs.Numbered.{Table, at}
 use Rattle.ctrl_model.specs.State.{Link}
 use Rattle.ctrl_model.proofs.Members.{list_all-from_among}
 use Rattle.ctrl_model.proofs.Tests.{in_bounds}
+use Rattle.record_tables.specs.Entries.{KeepsOrder}
 use Rattle.path_certificate.specs.declared.graph.Step.{Step}
 use Rattle.path_certificate.specs.Graphs.{GraphSeen, IsGraph, IsStep, graph_hops, leaves, taken}
 use Rattle.path_certificate.proofs.StepLaws.{by_hop}
 use Rattle.fabric_graph.specs.FabricTables.{FabricSeen}
-use Rattle.fabric_graph.specs.LinkRows.{Entry, rows_of, AreKept}
+use Rattle.fabric_graph.specs.KeptLinks.{AreFit}
 use Rattle.fabric_graph.specs.Routers.{AreRouters, network, number_at, costs_at_most}
 use Rattle.fabric_graph.specs.Steps.{link_steps, all_steps, by_place}
 use Rattle.fabric_graph.proofs.FairLaws.{IsFair, each_fair}
@@ -32,20 +32,20 @@ all_from_among P (x ∷ xs) k = (k x (inl refl), all_from_among P xs (λ y m. k 
 abbrev pub flags_of : List RouterSeen → List Bool
 flags_of routers = map (λ (r : RouterSeen). r.through) routers
 
-module _ (es : List Entry) (next least : ℕ) (routers : List RouterSeen) (kept : AreKept es next) (setting : is_link_cost least ≡ true) (are : AreRouters routers) where
+module _ (links : Table Link) (least : ℕ) (routers : List RouterSeen) (order : KeepsOrder links) (fit : AreFit links least) (are : AreRouters routers) where
   -- the steps by place
   abbrev pub steps_of : List Step
-  steps_of = by_place (all_steps routers least (rows_of es)) (length routers)
+  steps_of = by_place (all_steps routers least links.rows) (length routers)
 
   fair : (s : Step) → Among s steps_of → IsFair (length routers) s
-  fair s m = by_by_place (all_steps routers least (rows_of es)) (length routers) s m (λ among below.
-      each_fair routers least (rows_of es) are (in_bounds 1 65535 least setting).1 kept.each s among)
+  fair s m = by_by_place (all_steps routers least links.rows) (length routers) s m (λ among below.
+      each_fair routers least links.rows are (in_bounds 1 65535 least fit.setting).1 fit.each s among)
 
   pub is_graph : IsGraph (flags_of routers) steps_of
   is_graph = record {
     few = rw (length-map {B = Bool} routers (λ (r : RouterSeen). r.through)) are.few;
     each = rw (length-map {B = Bool} routers (λ (r : RouterSeen). r.through)) (all_from_among (IsStep (length routers)) steps_of (λ s m. (fair s m).step));
-    ordered = ordered-by_place (all_steps routers least (rows_of es)) (λ v. ordered-leaving routers least next (rows_of es) 1 v kept.table.numbers.ordered kept.each) (length routers);
+    ordered = ordered-by_place (all_steps routers least links.rows) (λ v. ordered-leaving routers least links.next links.rows 1 v order.ordered fit.each) (length routers);
   }
 
   pub few_costs : costs_at_most 251070 steps_of ≡ true
@@ -53,7 +53,7 @@ module _ (es : List Entry) (next least : ℕ) (routers : List RouterSeen) (kept 
 
   -- the fabric as contracts see it, and its graph
   abbrev pub fabric_of : FabricSeen
-  fabric_of = record { links = rows_of es; next = next; least = least }
+  fabric_of = record { links = links; least = least }
 
   abbrev pub graph : GraphSeen
   graph = record { through = flags_of routers; steps = steps_of }
@@ -61,9 +61,9 @@ module _ (es : List Entry) (next least : ℕ) (routers : List RouterSeen) (kept 
   same_hop : (t v l : ℕ) → t < length routers → v < length routers
       → hops (network fabric_of routers) (number_at routers t) (number_at routers v) l ≡ option_map (renamed (number_at routers)) (graph_hops graph t v l)
   same_hop t v l p q =
-      by (at (rows_of es) l)
+      by (at links.rows l)
       ∙ ap (λ o. option_map (renamed (number_at routers)) (option_and_then (taken (flags_of routers) t) o))
-      (sym (find-by_place v l (length routers) (all_steps routers least (rows_of es)) q ∙ find-all_steps v l routers least next (rows_of es) 1 kept.table.numbers.ordered))
+      (sym (find-by_place v l (length routers) (all_steps routers least links.rows) q ∙ find-all_steps v l routers least links.next links.rows 1 order.ordered))
     where
       by : (o : Option Link) → option_and_then (across (network fabric_of routers) (number_at routers t) (number_at routers v)) o
           ≡ option_map (renamed (number_at routers)) (option_and_then (taken (flags_of routers) t) (option_and_then (λ link. find (leaves v l) (link_steps routers least (l, link))) o))

@@ -1,4 +1,3 @@
-pub mod LinkLaws
 pub mod KeptLaws
 pub mod EndLaws
 pub mod HopLaws

@@ -3,6 +3,7 @@ use Rattle.std.proofs.Common.{◌≡◌, ℕ, ◌+◌, true, ◌&&◌, List, [],
 use Rattle.std.proofs.lemmas.Bool.{and_parts, and_from}
 use Rattle.std.proofs.lemmas.List.{length-map}
 use Rattle.std.specs.List.{list_all}
+use Rattle.ctrl_model.specs.declared.kinds.Kind.TheVariants as kind
 use Rattle.ctrl_model.specs.declared.kinds.RouterSeen.{RouterSeen}
 use Rattle.ctrl_model.specs.CommandForm.{is_cost, are_attributes}
 use Rattle.ctrl_model.specs.NameForm.{is_name}
@@ -28,15 +29,15 @@ seen_costs (x ∷ rows) e =
 
 pub keeps_links : (s : State) → ValidState s → KeepsLinks (fabric_of s)
 keeps_links s v =
-    let numbers = v.links.numbers in
+    let numbers = (v.kinds kind.Link).numbers in
     record { first = numbers.first; last = numbers.last; ordered = numbers.ordered; few = numbers.few }
 
-pub are_routers : (s : State) → ValidState s → AreRouters (map seen s.routers)
+pub are_routers : (s : State) → ValidState s → AreRouters (map seen s.routers.rows)
 are_routers s v =
-    let numbers = v.routers.numbers in
+    let numbers = (v.kinds kind.Router).numbers in
     record {
-      few = rw (length-map {B = RouterSeen} s.routers seen) numbers.few;
-      ordered = Between-more s.next_router (map numbered (map seen s.routers)) 1 0 4294967296 (omega arith) (let last = numbers.last in omega arith)
-          (seen_ordered s.next_router s.routers 1 numbers.ordered);
-      costs = seen_costs s.routers v.each_router;
+      few = rw (length-map {B = RouterSeen} s.routers.rows seen) numbers.few;
+      ordered = Between-more s.routers.next (map numbered (map seen s.routers.rows)) 1 0 4294967296 (omega arith) (let last = numbers.last in omega arith)
+          (seen_ordered s.routers.next s.routers.rows 1 numbers.ordered);
+      costs = seen_costs s.routers.rows (v.kinds kind.Router).each;
     }

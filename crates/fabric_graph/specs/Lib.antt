@@ -1,6 +1,7 @@
 pub mod FabricTables
 pub mod FabricRules
 pub mod Routers
-pub mod LinkRows
+pub mod Hops
+pub mod KeptLinks
 pub mod Steps
 pub mod WorkedFabrics

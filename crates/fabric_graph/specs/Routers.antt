@@ -32,7 +32,7 @@ pub record AreRouters (routers : List RouterSeen) : Type 0 where
 abbrev pub network : FabricSeen → List RouterSeen → Network
 network f routers = record {
   routers = routers;
-  links = f.links;
+  links = f.links.rows;
   least = f.least;
   terminators = [];
   dial = λ _ _. 0;
@@ -48,4 +48,4 @@ costs_at_most most steps = list_all (λ (s : Step). nat_le s.cost most) steps
 
 -- The fabric of a state: its links, and its least router cost.
 abbrev pub fabric_of : State → FabricSeen
-fabric_of s = record { links = s.links; next = s.next_link; least = s.least_router_cost }
+fabric_of s = record { links = s.links; least = s.least_router_cost }

@@ -32,4 +32,4 @@ two_routers = router 2 0 ∷ router 3 50 ∷ []
 
 -- The steps of the graph of a fabric over two or three routers.
 abbrev pub steps_over : List RouterSeen → ℕ → FabricSeen → List Step
-steps_over routers places f = by_place (all_steps routers f.least f.links) places
+steps_over routers places f = by_place (all_steps routers f.least f.links.rows) places

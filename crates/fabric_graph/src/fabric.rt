@@ -8,17 +8,13 @@ ghost use Rattle.ctrl_model.specs.Numbered.{at, numbers};
 ghost use Rattle.path_certificate.specs.Graphs.{graph_hops};
 ghost use Rattle.fabric_graph.specs.FabricTables.{no_links, with_link, with_set, without_link, with_least, with_next};
 ghost use Rattle.fabric_graph.specs.FabricRules.{may_add, found, is_there, KeepsLinks};
-ghost use Rattle.fabric_graph.specs.LinkRows.{link_of};
 ghost use Rattle.fabric_graph.specs.Routers.{AreRouters, network, number_at, costs_at_most};
 
-use crate::links::{
-    Entries, LinkRow, copied_links, insert_link, link_at, number_in, numbers_in, remove_link,
-    set_link,
-};
+use crate::links::LinkRow;
 use crate::steps::{all_steps, by_place, flags};
 use ctrl_model::{LinkNo, Name, Numbers, RouterNo, RouterSeen};
-use indexmap::IndexMap;
 use path_certificate::Graph;
+use record_tables::NamedTable;
 use std::alloc::{AllocError, Global};
 use std::marker::Model;
 use thiserror::Error;
@@ -49,22 +45,19 @@ pub enum FabricFault {
 /// The links of a controller, and the least cost of entering a router. Contracts see them as a table (`FabricTables`).
 #[derive(Drop)]
 pub struct Fabric {
-    entries: Entries,
-    next: u32,
+    links: NamedTable<LinkRow>,
     least: u32,
 }
 
 impl Model for Fabric {
-    ghost use Rattle.std.specs.Prelude.{◌≡◌, true};
-    ghost use Rattle.ctrl_model.specs.CommandForm.{is_link_cost};
     ghost use Rattle.fabric_graph.specs.FabricTables.{FabricSeen};
-    ghost use Rattle.fabric_graph.specs.LinkRows.{rows_of, AreKept};
+    ghost use Rattle.fabric_graph.specs.KeptLinks.{AreFit};
 
     ghost Value = { FabricSeen };
 
-    ghost view = { λ f. record { links = rows_of f.entries.entries; next = f.next; least = f.least } };
+    ghost view = { λ f. record { links = f.links; least = f.least } };
 
-    ghost invariant = { λ f. AreKept f.entries.entries f.next × (is_link_cost f.least ≡ true) };
+    ghost invariant = { λ f. AreFit f.links f.least };
 }
 
 impl Fabric {
@@ -73,8 +66,7 @@ impl Fabric {
         ensures { IfOk result (λ f. f ≡ no_links) }
     {
         Ok(Fabric {
-            entries: IndexMap::new(alloc),
-            next: 1,
+            links: NamedTable::new(alloc),
             least: LEAST_AT_FIRST,
         })
     }
@@ -85,10 +77,10 @@ impl Fabric {
     pub fn may_add(&self, name: &Name, a: RouterNo, b: RouterNo) -> Result<(), FabricFault>
         ensures { result ≡ may_add name.now a.0 b.0 self.now }
     {
-        if number_in(&self.entries, name).is_some() {
+        if self.links.find(name.bytes()).is_some() {
             return Err(FabricFault::Exists);
         }
-        if self.entries.len() >= MOST_LINKS || self.next == u32::MAX {
+        if self.links.len() >= MOST_LINKS || self.links.next() == u32::MAX {
             return Err(FabricFault::Full);
         }
         if a.0 == b.0 {
@@ -99,17 +91,15 @@ impl Fabric {
 
     /// Adds a link under the next number, which it answers.
     pub fn add(&mut self, link: LinkRow) -> Result<LinkNo, AllocError>
-        requires may { may_add link.name link.a.0 link.b.0 self.old ≡ Ok tt }
+        requires may { may_add link.name link.a link.b self.old ≡ Ok tt }
         requires cost { is_link_cost link.cost ≡ true }
         requires latency_a { is_latency link.latency_a ≡ true }
         requires latency_b { is_latency link.latency_b ≡ true }
-        ensures number { IfOk result (λ n. n.0 ≡ self.old.next) }
-        ensures ok { OnOk result (self.new ≡ with_link (link_of link) self.old) }
+        ensures number { IfOk result (λ n. n.0 ≡ self.old.links.next) }
+        ensures ok { OnOk result (self.new ≡ with_link link self.old) }
         ensures err { OnErr result (self.new ≡ self.old) }
     {
-        let number = self.next;
-        insert_link(&mut self.entries, number, link)?;
-        self.next = number + 1;
+        let number = self.links.add(link)?;
         Ok(LinkNo(number))
     }
 
@@ -119,7 +109,7 @@ impl Fabric {
         // The numbers ascend from 1 below the next one, and the limit is kept.
         ensures numbers { KeepsLinks self.now }
     {
-        match number_in(&self.entries, name) {
+        match self.links.find(name.bytes()) {
             Some(number) => Ok(LinkNo(number)),
             None => Err(FabricFault::Unknown),
         }
@@ -127,9 +117,9 @@ impl Fabric {
 
     /// The link of the number. None exactly where it is absent.
     pub fn link(&self, no: LinkNo) -> Option<&LinkRow>
-        ensures { option_map (λ r. link_of r.now) result ≡ at self.now.links no.0 }
+        ensures { option_map (λ l. l.now) result ≡ at self.now.links.rows no.0 }
     {
-        link_at(&self.entries, no.0)
+        self.links.get(no.0)
     }
 
     /// Sets what a present link costs, 1 to 65,535, the latencies that its two ends report, 0 to 60,000 each, and whether it is up.
@@ -140,7 +130,12 @@ impl Fabric {
         requires latency_b { is_latency latency_b ≡ true }
         ensures { self.new ≡ with_set no.0 cost latency_a latency_b up self.old }
     {
-        set_link(&mut self.entries, no.0, cost, latency_a, latency_b, up);
+        self.links.edit(no.0, |link| {
+            link.cost = cost;
+            link.latency_a = latency_a;
+            link.latency_b = latency_b;
+            link.up = up;
+        });
     }
 
     /// Removes a present link.
@@ -148,7 +143,7 @@ impl Fabric {
         requires { is_there no.0 self.old ≡ true }
         ensures { self.new ≡ without_link no.0 self.old }
     {
-        remove_link(&mut self.entries, no.0);
+        self.links.remove(no.0);
     }
 
     /// Sets what a path pays at least to enter a router, 1 to 65,535.
@@ -161,26 +156,36 @@ impl Fabric {
 
     /// The numbers of the links, ascending.
     pub fn numbers(&self, alloc: Global) -> Result<Numbers, AllocError>
-        ensures { IfOk result (λ ns. ns ≡ numbers self.now.links) }
+        ensures all { IfOk result (λ ns. ns ≡ numbers self.now.links.rows) }
+        // The numbers ascend from 1 below the next one, and the limit is kept.
+        ensures numbers { KeepsLinks self.now }
     {
-        numbers_in(alloc, &self.entries)
+        self.links.numbers(alloc)
+    }
+
+    /// How many links there are.
+    pub fn count(&self) -> usize
+        ensures count { result ≡ length self.now.links.rows }
+        ensures few { result ≤ 4096 }
+    {
+        self.links.len()
     }
 
     /// The number that the next link gets, 1 in a new fabric.
     pub fn next(&self) -> u32
-        ensures next { result ≡ self.now.next }
+        ensures next { result ≡ self.now.links.next }
         // The numbers ascend from 1 below it, and the limit is kept.
         ensures numbers { KeepsLinks self.now }
     {
-        self.next
+        self.links.next()
     }
 
     /// Raises the next number.
     pub fn skip(&mut self, next: u32)
-        requires { self.old.next ≤ next }
+        requires { self.old.links.next ≤ next }
         ensures { self.new ≡ with_next next self.old }
     {
-        self.next = next;
+        self.links.skip(next);
     }
 
     /// What a path pays at least to enter a router, 1 to 65,535.
@@ -195,10 +200,9 @@ impl Fabric {
     pub fn copy(&self) -> Result<Fabric, AllocError>
         ensures { IfOk result (λ f. f ≡ self.now) }
     {
-        let entries = copied_links(&self.entries, self.next)?;
+        let links = self.links.copy()?;
         Ok(Fabric {
-            entries,
-            next: self.next,
+            links,
             least: self.least,
         })
     }
@@ -214,7 +218,7 @@ impl Fabric {
         ensures costs { IfOk result (λ g. costs_at_most 251070 g.steps ≡ true) }
     {
         let through = flags(alloc, routers)?;
-        let all = all_steps(alloc, &self.entries, self.least, routers)?;
+        let all = all_steps(alloc, &self.links, self.least, routers)?;
         let steps = by_place(alloc, all.as_slice(), routers.len() as u16)?;
         Ok(Graph::new(through, steps))
     }

@@ -9,6 +9,6 @@ ghost use Rattle.fabric_graph.specs.Routers.{AreRouters, network, fabric_of};
 /// mirrors are those of the state's network (docs/RULES.md, "Paths").
 pub fn fabric_of_a_state()
     ensures links { (s : State) → ValidState s → KeepsLinks (fabric_of s) }
-    ensures routers { (s : State) → ValidState s → AreRouters (map seen s.routers) }
-    ensures hops { (s : State) (t v l : ℕ) → hops (network (fabric_of s) (map seen s.routers)) t v l ≡ hops (network_of s) t v l }
+    ensures routers { (s : State) → ValidState s → AreRouters (map seen s.routers.rows) }
+    ensures hops { (s : State) (t v l : ℕ) → hops (network (fabric_of s) (map seen s.routers.rows)) t v l ≡ hops (network_of s) t v l }
 {}

@@ -2,13 +2,15 @@ ghost use Rattle.std.specs.Prelude.{◌≡◌, ◌+◌, ◌++◌, ◌≤◌, map
 ghost use Rattle.ctrl_model.specs.Networks.{link_cost};
 ghost use Rattle.ctrl_model.specs.Numbered.{at};
 ghost use Rattle.ctrl_model.specs.ValidState.{each_passes};
-ghost use Rattle.fabric_graph.specs.LinkRows.{link_of, rows_of, row_of, is_fit};
+ghost use Rattle.record_tables.specs.Entries.{KeepsOrder};
+ghost use Rattle.fabric_graph.specs.KeptLinks.{is_fit};
 ghost use Rattle.fabric_graph.specs.Routers.{AreRouters, IsRouterPlace, numbered};
 ghost use Rattle.fabric_graph.specs.Steps.{end_at, link_ends, step_between, link_steps, all_steps, leaving, by_place};
 
-use crate::links::{Entries, LinkRow, Row};
+use crate::links::LinkRow;
 use ctrl_model::{RouterNo, RouterSeen};
 use path_certificate::Step;
+use record_tables::NamedTable;
 use std::alloc::{AllocError, Global};
 
 /// An end of a usable link: the place of its router, and what a path pays to enter the router.
@@ -49,8 +51,8 @@ fn end_at(routers: &[RouterSeen], least: u32, router: RouterNo) -> Option<End>
 
 // What a link costs.
 fn link_cost(link: &LinkRow) -> u32
-    requires { is_fit (link_of link.now) ≡ true }
-    ensures cost { result ≡ link_cost (link_of link.now) }
+    requires { is_fit link.now ≡ true }
+    ensures cost { result ≡ link_cost link.now }
     ensures most { result ≤ 185535 }
 {
     link.cost + link.latency_a + link.latency_b
@@ -60,7 +62,7 @@ fn link_cost(link: &LinkRow) -> u32
 fn ends(routers: &[RouterSeen], least: u32, link: &LinkRow) -> Option<(End, End)>
     requires routers { AreRouters routers.now }
     requires least { least ≤ 65535 }
-    ensures ends { result ≡ link_ends routers.now least (link_of link.now) }
+    ensures ends { result ≡ link_ends routers.now least link.now }
     ensures entries { IfSome result (λ p. (p.0.entry ≤ 65535) × (p.1.entry ≤ 65535)) }
 {
     if !link.up {
@@ -89,17 +91,18 @@ fn push_link(
     steps: &mut Vec<Step>,
     routers: &[RouterSeen],
     least: u32,
-    row: &Row,
+    number: u32,
+    link: &LinkRow,
 ) -> Result<(), AllocError>
     requires routers { AreRouters routers.now }
-    requires fit { is_fit (link_of row.now.link) ≡ true }
+    requires fit { is_fit link.now ≡ true }
     requires least { least ≤ 65535 }
-    ensures { OnOk result (steps.new.items ≡ steps.old.items ++ link_steps routers.now least (row_of row.now)) }
+    ensures { OnOk result (steps.new.items ≡ steps.old.items ++ link_steps routers.now least (number, link.now)) }
 {
-    if let Some((a, b)) = ends(routers, least, &row.link) {
-        let cost = link_cost(&row.link);
-        steps.push(step_between(row.number, cost, a, b))?;
-        steps.push(step_between(row.number, cost, b, a))?;
+    if let Some((a, b)) = ends(routers, least, link) {
+        let cost = link_cost(link);
+        steps.push(step_between(number, cost, a, b))?;
+        steps.push(step_between(number, cost, b, a))?;
     }
     Ok(())
 }
@@ -107,18 +110,19 @@ fn push_link(
 /// The steps over the links, in the order of the links.
 pub fn all_steps(
     alloc: Global,
-    entries: &Entries,
+    table: &NamedTable<LinkRow>,
     least: u32,
     routers: &[RouterSeen],
 ) -> Result<Vec<Step>, AllocError>
     requires routers { AreRouters routers.now }
-    requires fit { each_passes is_fit (rows_of entries.now.entries) ≡ true }
+    requires fit { each_passes is_fit table.now.rows ≡ true }
     requires least { least ≤ 65535 }
-    ensures { IfOk result (λ v. v.items ≡ all_steps routers.now least (rows_of entries.now.entries)) }
+    ensures steps { IfOk result (λ v. v.items ≡ all_steps routers.now least table.now.rows) }
+    ensures order { KeepsOrder table.now }
 {
     let mut steps = Vec::new(alloc);
-    'rows: for row in entries.values() {
-        push_link(&mut steps, routers, least, row)?;
+    'rows: for (number, link) in table.rows() {
+        push_link(&mut steps, routers, least, *number, link)?;
     }
     Ok(steps)
 }

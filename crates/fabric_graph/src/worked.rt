@@ -11,8 +11,8 @@ ghost use Rattle.fabric_graph.specs.WorkedFabrics.{link_of_eleven, line, three_r
 /// The links l1 and l2 are the links 1 and 2. Whether a link may be added is told in the order of the rules, and the number of a
 /// removed link is not given again.
 pub fn links_and_numbers()
-    ensures first { no_links.next ≡ 1 }
-    ensures third { line.next ≡ 3 }
+    ensures first { no_links.links.next ≡ 1 }
+    ensures third { line.links.next ≡ 3 }
     ensures found { found (codes "l2") line ≡ Ok (record { 0 = 2 }) }
     ensures unknown { found (codes "l3") line ≡ Err Unknown }
     ensures may { may_add (codes "l3") 1 3 line ≡ Ok tt }
@@ -20,10 +20,10 @@ pub fn links_and_numbers()
     ensures full { may_add (codes "l3") 1 1 (with_next 4294967295 line) ≡ Err Full }
     ensures last { may_add (codes "l3") 1 3 (with_next 4294967294 line) ≡ Ok tt }
     ensures same { may_add (codes "l3") 1 1 line ≡ Err SameRouter }
-    ensures set { at (with_set 2 7 0 9 false line).links 2 ≡ Some (record { name = codes "l2"; a = 2; b = 3; cost = 7; latency_a = 0; latency_b = 9; up = false }) }
-    ensures other { at (with_set 2 7 0 9 false line).links 1 ≡ Some (link_of_eleven (codes "l1") 1 2) }
+    ensures set { at (with_set 2 7 0 9 false line).links.rows 2 ≡ Some (record { name = codes "l2"; a = 2; b = 3; cost = 7; latency_a = 0; latency_b = 9; up = false }) }
+    ensures other { at (with_set 2 7 0 9 false line).links.rows 1 ≡ Some (link_of_eleven (codes "l1") 1 2) }
     ensures removed { is_there 2 (without_link 2 line) ≡ false }
-    ensures not_again { (with_link (link_of_eleven (codes "l2") 2 3) (without_link 2 line)).next ≡ 4 }
+    ensures not_again { (with_link (link_of_eleven (codes "l2") 2 3) (without_link 2 line)).links.next ≡ 4 }
     ensures least { no_links.least ≡ 10 }
 {}
 

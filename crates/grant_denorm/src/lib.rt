@@ -5,8 +5,6 @@ mod applying;
 mod counts;
 mod deltas;
 mod laws;
-#[cfg(test)]
-mod tests;
 mod worked;
 
 pub use applying::apply_changes;

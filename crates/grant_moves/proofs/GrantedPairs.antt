@@ -32,8 +32,8 @@ numbers_left ServiceRouter s = refl
 numbers_right : (r : Relation) (s : State) → right_numbers r s ≡ numbers (right_rows r s)
 numbers_right Dial s = refl
 numbers_right Bind s = refl
-numbers_right IdentityRouter s = sym (map-map (λ (row : ℕ × Entity). row.0) (λ row. (row.0, as_entity row.1)) s.routers)
-numbers_right ServiceRouter s = sym (map-map (λ (row : ℕ × Entity). row.0) (λ row. (row.0, as_entity row.1)) s.routers)
+numbers_right IdentityRouter s = sym (map-map (λ (row : ℕ × Entity). row.0) (λ row. (row.0, as_entity row.1)) s.routers.rows)
+numbers_right ServiceRouter s = sym (map-map (λ (row : ℕ × Entity). row.0) (λ row. (row.0, as_entity row.1)) s.routers.rows)
 
 least_among : {R : Type 0} (high : ℕ) (rows : List (ℕ × R)) (low n : ℕ) → Between low high rows → Among n (numbers rows) → low ≤ n
 least_among high [] low n b m = absurd m

@@ -17,5 +17,5 @@ left_row_at ServiceRouter s a = refl
 pub right_row_at : (r : Relation) (s : State) (b : ℕ) → at (right_rows r s) b ≡ right_entity r s b
 right_row_at Dial s b = refl
 right_row_at Bind s b = refl
-right_row_at IdentityRouter s b = at-map (λ row. as_entity row.1) s.routers b
-right_row_at ServiceRouter s b = at-map (λ row. as_entity row.1) s.routers b
+right_row_at IdentityRouter s b = at-map (λ row. as_entity row.1) s.routers.rows b
+right_row_at ServiceRouter s b = at-map (λ row. as_entity row.1) s.routers.rows b

@@ -15,15 +15,15 @@ use Rattle.ctrl_model.specs.Matches.{matches}
 -- The entities on the left of a relation, under their numbers: identities, but services where the relation joins services to
 -- routers.
 abbrev pub left_rows : Relation → State → List (ℕ × Entity)
-left_rows Dial s = s.identities
-left_rows Bind s = s.identities
-left_rows IdentityRouter s = s.identities
-left_rows ServiceRouter s = s.services
+left_rows Dial s = s.identities.rows
+left_rows Bind s = s.identities.rows
+left_rows IdentityRouter s = s.identities.rows
+left_rows ServiceRouter s = s.services.rows
 
 -- The entities on the right of a relation, under their numbers: services for Dial and Bind, else routers.
 abbrev pub right_rows : Relation → State → List (ℕ × Entity)
-right_rows Dial s = s.services
-right_rows Bind s = s.services
+right_rows Dial s = s.services.rows
+right_rows Bind s = s.services.rows
 right_rows IdentityRouter s = router_entities s
 right_rows ServiceRouter s = router_entities s
 

@@ -1,4 +1,2 @@
-pub mod EntryLaws
-pub mod ForgetLaws
 pub mod MemberLaws
 pub mod TurnLaws

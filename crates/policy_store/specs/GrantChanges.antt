@@ -19,17 +19,11 @@ use Rattle.policy_store.specs.declared.steps.GrantSteps.{GrantSteps}
 abbrev pub granting_state : Tables → PolicyTables → State
 granting_state t p = record start {
   identities = t.identities;
-  next_identity = t.next_identity;
   services = t.services;
-  next_service = t.next_service;
   routers = t.routers;
-  next_router = t.next_router;
   service_policies = p.service_policies;
-  next_service_policy = p.next_service_policy;
   edge_router_policies = p.edge_router_policies;
-  next_edge_router_policy = p.next_edge_router_policy;
   service_edge_router_policies = p.service_edge_router_policies;
-  next_service_edge_router_policy = p.next_service_edge_router_policy;
 }
 
 -- The steps of a relation.

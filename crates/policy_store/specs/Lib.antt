@@ -1,7 +1,5 @@
 pub mod PolicyTables
 pub mod PolicyRules
-pub mod StoredPolicies
-pub mod Rows
 pub mod Stores
 pub mod WorkedPolicies
 pub mod GrantKinds

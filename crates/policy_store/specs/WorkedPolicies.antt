@@ -15,7 +15,7 @@ ann_and_web = with_entity kind.Service (codes "web") [] ann
 
 -- Ann with red, and bob with red and blue, under the numbers 1 and 2.
 abbrev pub two_identities : List (ℕ × Entity)
-two_identities = ann_and_bob.identities
+two_identities = ann_and_bob.identities.rows
 
 -- A policy by which ann may dial web.
 abbrev pub dial_web : Policy

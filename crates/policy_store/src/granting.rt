@@ -2,7 +2,6 @@ ghost use Rattle.std.specs.Prelude.{◌≡◌, ◌++◌, ◌&&◌, true, cond, S
 ghost use Rattle.ctrl_model.specs.Grants.{same_relation, policies_for};
 ghost use Rattle.entity_store.specs.EntityTables.{is_entity_kind, entities};
 ghost use Rattle.policy_store.specs.PolicyTables.{no_policies, fits};
-ghost use Rattle.policy_store.specs.StoredPolicies.{policy_of};
 ghost use Rattle.grant_moves.specs.EntitySides.{own_side, other_rows, matches_if, members_of};
 ghost use Rattle.grant_moves.specs.GrantTurns.{turn_of, turns_of, cross_of};
 ghost use Rattle.policy_store.specs.GrantChanges.{granting_state, entity_if, stands_in, AreStepsAt, StepsOfEntity, ArePolicyStepsAt, StepsOfPolicy};
@@ -12,9 +11,10 @@ use crate::membership::members;
 use crate::policies::Policies;
 use crate::records::Policy;
 use crate::steps::GrantSteps;
-use ctrl_model::{Kind, Name, Names, Numbers, PolicyNo, Relation, Semantic, Side};
+use ctrl_model::{Kind, Name, Names, Numbers, Relation, Semantic, Side};
 use entity_store::Entities;
 use grant_denorm::{Cross, Delta, Turn, deltas_entity, deltas_policy};
+use record_tables::NamedTable;
 use role_expr::matches;
 use std::alloc::{AllocError, Global};
 use std::marker::Model;
@@ -149,7 +149,7 @@ fn stands_in(relation: Relation, kind: Kind) -> Option<bool>
 }
 
 fn own_side(policy: &Policy, on_left: bool) -> &Side
-    ensures { result.now ≡ own_side on_left (policy_of policy.now) }
+    ensures { result.now ≡ own_side on_left policy.now }
 {
     if on_left { &policy.left } else { &policy.right }
 }
@@ -163,7 +163,7 @@ fn members_of(
     kind: Kind,
 ) -> Result<Numbers, AllocError>
     requires { is_entity_kind kind ≡ true }
-    ensures { IfOk result (λ ns. ns ≡ members_of (own_side on_left (policy_of policy.now)) policy.now.semantic (entities kind known.now)) }
+    ensures { IfOk result (λ ns. ns ≡ members_of (own_side on_left policy.now) policy.now.semantic (entities kind known.now)) }
 {
     members(
         alloc,
@@ -184,7 +184,7 @@ fn push_turn(
     moved: &Moved,
 ) -> Result<(), AllocError>
     ensures { OnOk result (turns.new.items ≡ turns.old.items
-        ++ turn_of relation on_left moved.now.before moved.now.after (entities (other_kind on_left relation) known.now) (policy_of policy.now)) }
+        ++ turn_of relation on_left moved.now.before moved.now.after (entities (other_kind on_left relation) known.now) policy.now) }
 {
     if !is_same(relation, policy.relation) {
         return Ok(());
@@ -207,6 +207,24 @@ fn push_turn(
     Ok(())
 }
 
+// The turns of the policies of a table.
+fn turns_in(
+    alloc: Global,
+    table: &NamedTable<Policy>,
+    known: &Entities,
+    relation: Relation,
+    on_left: bool,
+    moved: &Moved,
+) -> Result<Vec<Turn>, AllocError>
+    ensures { IfOk result (λ ts. ts.items ≡ turns_of relation on_left moved.now.before moved.now.after (entities (other_kind on_left relation) known.now) table.now.rows) }
+{
+    let mut turns = Vec::new(alloc);
+    'policies: for (_, policy) in table.rows() {
+        push_turn(&mut turns, known, relation, on_left, policy, moved)?;
+    }
+    Ok(turns)
+}
+
 // The turns of all policies that can be of a relation.
 fn turns_of(
     alloc: Global,
@@ -219,18 +237,10 @@ fn turns_of(
     ensures { IfOk result (λ ts. ts.items
         ≡ turns_of relation on_left moved.now.before moved.now.after (other_rows on_left relation (granting_state known.now kept.now)) (policies_for relation (granting_state known.now kept.now))) }
 {
-    let kind = policy_kind(relation);
-    // With it comes that the numbers ascend, so that each stands for one policy.
-    let _next = kept.next(kind);
-    let numbers = kept.numbers(alloc, kind)?;
-    let mut turns = Vec::new(alloc);
-    'policies: for number in numbers.as_slice() {
-        let Some(policy) = kept.get(kind, PolicyNo(*number)) else {
-            unreachable!()
-        };
-        push_turn(&mut turns, known, relation, on_left, policy, moved)?;
+    match kept.table(policy_kind(relation)) {
+        Some(table) => turns_in(alloc, table, known, relation, on_left, moved),
+        None => Ok(Vec::new(alloc)),
     }
-    Ok(turns)
 }
 
 // The steps of a relation's counts where an entity changes.
@@ -300,7 +310,7 @@ fn cross_of(
     relation: Relation,
     policy: Option<&Policy>,
 ) -> Result<Cross, AllocError>
-    ensures { IfOk result (λ c. c ≡ cross_of relation (granting_state known.now no_policies) (option_map (λ p. policy_of p.now) policy.entry)) }
+    ensures { IfOk result (λ c. c ≡ cross_of relation (granting_state known.now no_policies) (option_map (λ p. p.now) policy.entry)) }
 {
     match policy {
         Some(policy) if is_same(relation, policy.relation) => {
@@ -336,7 +346,7 @@ fn policy_steps_at(
     before: Option<&Policy>,
     after: Option<&Policy>,
 ) -> Result<Vec<Delta>, AllocError>
-    ensures { IfOk result (λ ds. ArePolicyStepsAt (fits kind relation) relation (option_map (λ p. policy_of p.now) before.entry) (option_map (λ p. policy_of p.now) after.entry) (granting_state known.now no_policies) ds.items) }
+    ensures { IfOk result (λ ds. ArePolicyStepsAt (fits kind relation) relation (option_map (λ p. p.now) before.entry) (option_map (λ p. p.now) after.entry) (granting_state known.now no_policies) ds.items) }
 {
     if !fits(kind, relation) {
         return Ok(Vec::new(alloc));
@@ -354,7 +364,7 @@ pub fn policy_steps(
     before: Option<&Policy>,
     after: Option<&Policy>,
 ) -> Result<GrantSteps, AllocError>
-    ensures { IfOk result (StepsOfPolicy kind (option_map (λ p. policy_of p.now) before.entry) (option_map (λ p. policy_of p.now) after.entry) (granting_state known.now no_policies)) }
+    ensures { IfOk result (StepsOfPolicy kind (option_map (λ p. p.now) before.entry) (option_map (λ p. p.now) after.entry) (granting_state known.now no_policies)) }
 {
     let dial = policy_steps_at(alloc, known, Relation::Dial, kind, before, after)?;
     let bind = policy_steps_at(alloc, known, Relation::Bind, kind, before, after)?;

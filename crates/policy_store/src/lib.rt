@@ -2,17 +2,15 @@
 //! that grant counts take where an entity or a policy changes.
 #![tactic(auto)]
 
+mod counting;
 mod granting;
 mod membership;
 mod policies;
 mod records;
-mod rows;
 mod steps;
-mod tables;
-#[cfg(test)]
-mod tests;
 mod worked;
 
+pub use counting::count_all_policies;
 pub use granting::{Moved, entity_steps, policy_steps};
 pub use membership::members;
 pub use policies::{Policies, PolicyFault};

@@ -42,8 +42,6 @@ pub fn members(
     ensures { IfOk result (λ ns. ns ≡ members_of side.now semantic (entities kind known.now)) }
 {
     let mut found = known.numbers(alloc, kind)?;
-    // With it comes that the numbers ascend, so that each stands for one entity.
-    let _next = known.next(kind);
     keep_members(&mut found.items, side, semantic, kind, known);
     Ok(found)
 }

@@ -1,18 +1,16 @@
-ghost use Rattle.std.specs.Prelude.{◌≡◌, ◌≤◌, ◌&&◌, not, cond, true, position, is_none, min, MatchOption, IfOk, OnOk, OnErr};
+ghost use Rattle.std.specs.Prelude.{◌≡◌, ◌≤◌, ◌&&◌, not, cond, true, position, is_none, min, length, MatchOption, IfOk, OnOk, OnErr};
 ghost use Rattle.std.specs.Option.{option_map};
 ghost use Rattle.std.specs.Result.{result_map_both};
-ghost use Rattle.ctrl_model.specs.Numbered.{at, numbers};
+ghost use Rattle.ctrl_model.specs.Numbered.{at, numbers, no_rows};
 ghost use Rattle.entity_store.specs.EntityTables.{is_entity_kind};
 ghost use Rattle.entity_store.specs.EntityTables as entity_tables;
-ghost use Rattle.policy_store.specs.StoredPolicies.{policy_of};
-ghost use Rattle.policy_store.specs.PolicyTables.{no_policies, is_policy_kind, policies, next_of, number_of, without_policy, with_next, forgetting, left_kind, right_kind};
+ghost use Rattle.policy_store.specs.PolicyTables.{no_policies, is_policy_kind, policies_of, policies, next_of, number_of, without_policy, with_next, forgetting, left_kind, right_kind};
 ghost use Rattle.policy_store.specs.PolicyRules.{most_of, has_kind_room, absent_place, absent_name, has_fitting_name, may_put, found, is_there, can_put, put_in, put_number, KeepsNumbers};
-ghost use Rattle.policy_store.specs.Stores.{IsTableOf, HasNoTable};
 
-use crate::records::{Hand, Policy};
-use crate::tables::Table;
+use crate::records::{Hand, Policy, forget_in, put_in};
 use ctrl_model::{Kind, Name, Numbers, PolicyNo};
 use entity_store::Entities;
+use record_tables::NamedTable;
 use std::alloc::{AllocError, Global};
 use std::marker::Model;
 use thiserror::Error;
@@ -39,9 +37,9 @@ pub enum PolicyFault {
 /// A kind of policy is ServicePolicy, EdgeRouterPolicy or ServiceEdgeRouterPolicy. Other kinds have no policies.
 #[derive(Drop)]
 pub struct Policies {
-    service_policies: Table,
-    edge_router_policies: Table,
-    service_edge_router_policies: Table,
+    service_policies: NamedTable<Policy>,
+    edge_router_policies: NamedTable<Policy>,
+    service_edge_router_policies: NamedTable<Policy>,
 }
 
 impl Model for Policies {
@@ -50,9 +48,7 @@ impl Model for Policies {
 
     ghost Value = { PolicyTables };
 
-    ghost use Rattle.policy_store.specs.Stores.{tables_of};
-
-    ghost view = { λ p. tables_of p.service_policies p.edge_router_policies p.service_edge_router_policies };
+    ghost view = { λ p. record { service_policies = p.service_policies; edge_router_policies = p.edge_router_policies; service_edge_router_policies = p.service_edge_router_policies } };
 
     ghost invariant = { λ p. (length p.service_policies.rows ≤ 512) × (length p.edge_router_policies.rows ≤ 256) × (length p.service_edge_router_policies.rows ≤ 256) };
 }
@@ -126,7 +122,7 @@ fn absent_place(kind: Kind, names: &[Name], known: &Entities) -> Option<u32>
 // The fault of the first `@` name of a policy that no entity has, on the left side before the right one.
 fn absent_name(kind: Kind, policy: &Policy, known: &Entities) -> Option<PolicyFault>
     requires { is_policy_kind kind ≡ true }
-    ensures { result ≡ absent_name kind (policy_of policy.now) known.now }
+    ensures { result ≡ absent_name kind policy.now known.now }
 {
     let left = absent_place(left_kind(kind), policy.left.ids.as_slice(), known);
     if let Some(place) = left {
@@ -140,9 +136,10 @@ fn absent_name(kind: Kind, policy: &Policy, known: &Entities) -> Option<PolicyFa
 }
 
 impl Policies {
-    // The table of a kind. None exactly where it is no kind of policy.
-    fn table(&self, kind: Kind) -> Option<&Table>
-        ensures { MatchOption result (HasNoTable kind self.now) (λ t. IsTableOf kind t.now self.now) }
+    /// The table of a kind. None where it is no kind of policy.
+    pub(crate) fn table(&self, kind: Kind) -> Option<&NamedTable<Policy>>
+        ensures table { MatchOption result (policies_of kind self.now ≡ no_rows) (λ t. t.now ≡ policies_of kind self.now) }
+        ensures few { length (policies kind self.now) ≤ most_of kind }
     {
         match kind {
             Kind::ServicePolicy => Some(&self.service_policies),
@@ -157,17 +154,14 @@ impl Policies {
         ensures found { result ≡ number_of kind name.now self.now }
         ensures numbers { KeepsNumbers kind self.now }
     {
-        self.table(kind)?.find(name)
+        self.table(kind)?.find(name.bytes())
     }
 
     // Whether one more policy of a kind can be put.
     fn has_room(&self, kind: Kind) -> bool
         ensures { result ≡ has_kind_room kind self.now }
     {
-        match self.table(kind) {
-            Some(table) => table.len() < most_of(kind) && table.next() < u32::MAX,
-            None => false,
-        }
+        self.count(kind) < most_of(kind) && self.next(kind) < u32::MAX
     }
 
     /// A store without policies.
@@ -175,9 +169,9 @@ impl Policies {
         ensures { IfOk result (λ p. p ≡ no_policies) }
     {
         Ok(Policies {
-            service_policies: Table::new(alloc),
-            edge_router_policies: Table::new(alloc),
-            service_edge_router_policies: Table::new(alloc),
+            service_policies: NamedTable::new(alloc),
+            edge_router_policies: NamedTable::new(alloc),
+            service_edge_router_policies: NamedTable::new(alloc),
         })
     }
 
@@ -193,7 +187,7 @@ impl Policies {
         known: &Entities,
     ) -> Result<(), PolicyFault>
         requires { is_policy_kind kind ≡ true }
-        ensures fault { result ≡ may_put kind (policy_of policy.now) fresh self.now known.now }
+        ensures fault { result ≡ may_put kind policy.now fresh self.now known.now }
         // A policy that may be put can be put.
         ensures can { OnOk result (can_put kind policy.now.name fresh self.now ≡ true) }
     {
@@ -218,13 +212,17 @@ impl Policies {
     pub fn put(&mut self, kind: Kind, policy: Policy, fresh: bool) -> Result<PolicyNo, AllocError>
         requires kind { is_policy_kind kind ≡ true }
         requires can { can_put kind policy.name fresh self.old ≡ true }
-        ensures ok { IfOk result (λ n. (n.0 ≡ put_number kind policy.name fresh self.old) × (self.new ≡ put_in kind (policy_of policy) fresh self.old)) }
+        ensures ok { IfOk result (λ n. (n.0 ≡ put_number kind policy.name fresh self.old) × (self.new ≡ put_in kind policy fresh self.old)) }
         ensures err { OnErr result (self.new ≡ self.old) }
     {
         let number = match kind {
-            Kind::ServicePolicy => self.service_policies.put(policy, fresh)?,
-            Kind::EdgeRouterPolicy => self.edge_router_policies.put(policy, fresh)?,
-            Kind::ServiceEdgeRouterPolicy => self.service_edge_router_policies.put(policy, fresh)?,
+            Kind::ServicePolicy => put_in(&mut self.service_policies, policy, fresh)?,
+            Kind::EdgeRouterPolicy => put_in(&mut self.edge_router_policies, policy, fresh)?,
+            Kind::ServiceEdgeRouterPolicy => put_in(
+                &mut self.service_edge_router_policies,
+                policy,
+                fresh,
+            )?,
             _ => unreachable!(),
         };
         Ok(PolicyNo(number))
@@ -242,7 +240,7 @@ impl Policies {
 
     /// The policy that has the number. None exactly where it is absent.
     pub fn get(&self, kind: Kind, no: PolicyNo) -> Option<&Policy>
-        ensures { option_map (λ p. policy_of p.now) result ≡ at (policies kind self.now) no.0 }
+        ensures { option_map (λ p. p.now) result ≡ at (policies kind self.now) no.0 }
     {
         self.table(kind)?.get(no.0)
     }
@@ -267,16 +265,16 @@ impl Policies {
     {
         match kind {
             Kind::Identity => {
-                self.service_policies.forget(Hand::Left, name);
-                self.edge_router_policies.forget(Hand::Left, name);
+                forget_in(&mut self.service_policies, Hand::Left, name);
+                forget_in(&mut self.edge_router_policies, Hand::Left, name);
             }
             Kind::Service => {
-                self.service_policies.forget(Hand::Right, name);
-                self.service_edge_router_policies.forget(Hand::Left, name);
+                forget_in(&mut self.service_policies, Hand::Right, name);
+                forget_in(&mut self.service_edge_router_policies, Hand::Left, name);
             }
             Kind::Router => {
-                self.edge_router_policies.forget(Hand::Right, name);
-                self.service_edge_router_policies.forget(Hand::Right, name);
+                forget_in(&mut self.edge_router_policies, Hand::Right, name);
+                forget_in(&mut self.service_edge_router_policies, Hand::Right, name);
             }
             _ => unreachable!(),
         }
@@ -284,11 +282,24 @@ impl Policies {
 
     /// The numbers of the present policies of a kind, ascending.
     pub fn numbers(&self, alloc: Global, kind: Kind) -> Result<Numbers, AllocError>
-        ensures { IfOk result (λ ns. ns ≡ numbers (policies kind self.now)) }
+        ensures all { IfOk result (λ ns. ns ≡ numbers (policies kind self.now)) }
+        // The numbers ascend from 1 below the next one, and the kind keeps its limit.
+        ensures numbers { KeepsNumbers kind self.now }
     {
         match self.table(kind) {
             Some(table) => table.numbers(alloc),
             None => Ok(Numbers::of(Vec::new(alloc))),
+        }
+    }
+
+    /// How many policies of a kind there are.
+    pub fn count(&self, kind: Kind) -> usize
+        ensures count { result ≡ length (policies kind self.now) }
+        ensures few { result ≤ most_of kind }
+    {
+        match self.table(kind) {
+            Some(table) => table.len(),
+            None => 0,
         }
     }
 

@@ -1,4 +1,3 @@
 pub mod TermTables
 pub mod TermRules
-pub mod Rows
 pub mod WorkedTerms

@@ -14,7 +14,7 @@ use Rattle.terminators.specs.TermTables.{TermTables, no_terminators}
 
 -- Whether one more terminator can be added: fewer than 4,096 are present, and their numbers have not run out.
 abbrev pub has_term_room : TermTables → Bool
-has_term_room t = nat_lt (length t.terminators) 4096 && nat_lt t.next 4294967295
+has_term_room t = nat_lt (length t.terminators.rows) 4096 && nat_lt t.terminators.next 4294967295
 
 -- Whether a terminator names a host that lacks Bind on its service.
 abbrev pub is_not_bindable : Terminator → List ((ℕ × ℕ) × ℕ) → Bool
@@ -31,7 +31,7 @@ network t bind identity_router service_router routers = record {
   routers = routers;
   links = [];
   least = 0;
-  terminators = t.terminators;
+  terminators = t.terminators.rows;
   dial = λ _ _. 0;
   bind = count_of bind;
   identity_router = count_of identity_router;

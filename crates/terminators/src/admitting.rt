@@ -1,6 +1,5 @@
 ghost use Rattle.std.specs.Prelude.{◌≡◌};
 ghost use Rattle.ctrl_model.specs.Networks.{is_shared, may_host, is_in_service};
-ghost use Rattle.terminators.specs.TermTables.{term_of};
 ghost use Rattle.terminators.specs.TermRules.{granted, is_admissible};
 
 use crate::offers::Term;
@@ -27,7 +26,7 @@ fn is_shared(grants: &Grants, identity: IdentityNo, service: ServiceNo, router: 
 
 // Whether the host may serve: it has Bind on the service, and shares the router with it.
 fn may_host(grants: &Grants, term: &Term, host: IdentityNo) -> bool
-    ensures { result ≡ may_host (granted grants.now) (term_of term.now) host.0 }
+    ensures { result ≡ may_host (granted grants.now) term.now host.0 }
 {
     grants.bind.count(host.0, term.service.0) > 0
         && is_shared(grants, host, term.service, term.router)
@@ -35,7 +34,7 @@ fn may_host(grants: &Grants, term: &Term, host: IdentityNo) -> bool
 
 // Whether the terminator can be used.
 fn is_in_service(grants: &Grants, term: &Term) -> bool
-    ensures { result ≡ is_in_service (granted grants.now) (0, term_of term.now) }
+    ensures { result ≡ is_in_service (granted grants.now) (0, term.now) }
 {
     is_connected(grants.routers, term.router)
         && match term.host {
@@ -46,7 +45,7 @@ fn is_in_service(grants: &Grants, term: &Term) -> bool
 
 /// Whether the terminator is an admissible one of the service and the instance.
 pub fn is_admissible(grants: &Grants, service: ServiceNo, instance: &Instance, term: &Term) -> bool
-    ensures { result ≡ is_admissible (granted grants.now) service.0 instance.now (0, term_of term.now) }
+    ensures { result ≡ is_admissible (granted grants.now) service.0 instance.now (0, term.now) }
 {
     term.service.0 == service.0
         && term.instance.bytes() == instance.bytes()

@@ -5,8 +5,6 @@ mod admitting;
 mod offers;
 mod routers;
 mod store;
-#[cfg(test)]
-mod tests;
 mod worked;
 
 pub use offers::Term;

@@ -1,13 +1,13 @@
 ghost use Rattle.std.specs.Prelude.{◌≡◌};
-ghost use Rattle.terminators.specs.TermTables.{term_of};
 ghost use Rattle.terminators.specs.TermRules.{is_not_bindable};
 
 use ctrl_model::{IdentityNo, Instance, Precedence, RouterNo, ServiceNo};
 use grant_denorm::Counted;
 use std::alloc::AllocError;
+use std::marker::Model;
 
 /// Where a service is offered: on which router, under which instance, and by which host if by one (docs/RULES.md,
-/// "Terminators").
+/// "Terminators"). Contracts see it as a terminator of the controller's state.
 #[derive(Debug, Drop)]
 pub struct Term {
     pub service: ServiceNo,
@@ -17,6 +17,15 @@ pub struct Term {
     /// What a circuit pays for ending here, 0 to 65,535.
     pub cost: u32,
     pub precedence: Precedence,
+}
+
+impl Model for Term {
+    ghost use Rattle.std.specs.Prelude.{option_map};
+    ghost use Rattle.ctrl_model.specs.State.{Terminator};
+
+    ghost Value = { Terminator };
+
+    ghost view = { λ t. record { service = t.service.0; router = t.router.0; instance = t.instance; host = option_map (λ h. h.0) t.host; cost = t.cost; precedence = t.precedence } };
 }
 
 impl Clone for Term {
@@ -38,7 +47,7 @@ impl Clone for Term {
 
 /// Whether the terminator names a host that lacks Bind on its service.
 pub fn is_not_bindable(term: &Term, bind: &Counted) -> bool
-    ensures { result ≡ is_not_bindable (term_of term.now) bind.now }
+    ensures { result ≡ is_not_bindable term.now bind.now }
 {
     match term.host {
         Some(host) => bind.count(host.0, term.service.0) == 0,

@@ -9,12 +9,12 @@ ghost use Rattle.terminators.specs.WorkedTerms.{offer, two_offers, six_offers, b
 
 /// Offers get the numbers 1 and 2. A change leaves the service, and a removed number is not given again.
 pub fn offers_by_number()
-    ensures first { no_terminators.next ≡ 1 }
-    ensures third { two_offers.next ≡ 3 }
-    ensures set { at (with_set 2 7 Required two_offers).terminators 2 ≡ Some (record (offer 2 [] None) { cost = 7; precedence = Required }) }
-    ensures other { at (with_set 2 7 Required two_offers).terminators 1 ≡ Some (offer 1 [] None) }
-    ensures removed { at (without_term 2 two_offers).terminators 2 ≡ None }
-    ensures not_again { numbers (with_term (offer 1 [] None) (without_term 2 two_offers)).terminators ≡ 1 ∷ 3 ∷ [] }
+    ensures first { no_terminators.terminators.next ≡ 1 }
+    ensures third { two_offers.terminators.next ≡ 3 }
+    ensures set { at (with_set 2 7 Required two_offers).terminators.rows 2 ≡ Some (record (offer 2 [] None) { cost = 7; precedence = Required }) }
+    ensures other { at (with_set 2 7 Required two_offers).terminators.rows 1 ≡ Some (offer 1 [] None) }
+    ensures removed { at (without_term 2 two_offers).terminators.rows 2 ≡ None }
+    ensures not_again { numbers (with_term (offer 1 [] None) (without_term 2 two_offers)).terminators.rows ≡ 1 ∷ 3 ∷ [] }
 {}
 
 /// The hosts 5 and 7 have Bind on service 1, and 6 has not. Want of room is told first.

@@ -1,8 +1,8 @@
 use Rattle.std.proofs.Common.{◌≡◌, None, map, rules}
 use Rattle.std.proofs.lemmas.List.Sorted.{answers_always}
 use Rattle.ctrl_model.specs.Numbered.{at}
-use Rattle.record_places.proofs.PlaceLaws.{searched_place}
-use Rattle.record_places.proofs.ChangedLists.{ok_found, ok_absent}
+use Rattle.record_tables.proofs.PlaceLaws.{searched_place}
+use Rattle.record_tables.proofs.ChangedLists.{ok_found, ok_absent}
 use Rattle.fabric_graph.specs.Routers.{IsRouterPlace, numbered}
 use Rattle.fabric_graph.proofs.steps.place_of.Goals as goal
 

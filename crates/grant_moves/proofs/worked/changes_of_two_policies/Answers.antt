@@ -1,6 +1,6 @@
 use Rattle.std.proofs.Common.{◌≡◌, ℕ, ◌+◌, ◌==◌, Bool, true, false, not, cond, ◌&&◌, ◌||◌, None, [], ◌∷◌, refl, arith}
 use Rattle.ctrl_model.specs.declared.kinds.Relation.TheVariants.{Dial}
-use Rattle.ctrl_model.specs.Numbered.{at, without}
+use Rattle.ctrl_model.specs.Numbered.{at, with_removed}
 use Rattle.ctrl_model.specs.WorkedStates.{two_policies}
 use Rattle.ctrl_model.proofs.NumberedLaws.{at-without-other}
 use Rattle.grant_denorm.proofs.DeltaLaws.{ups-turns, downs-turns}
@@ -14,7 +14,7 @@ returns-clause-an_entity c = record {
   policies = refl;
   entity_was = refl;
   entity_is = refl;
-  others = λ n ne. at-without-other two_policies.identities 1 n ne;
+  others = λ n ne. at-without-other two_policies.identities.rows 1 n ne;
   partners = refl;
   high = 2;
   ordered = (omega arith, omega arith, tt);
@@ -26,7 +26,7 @@ returns-clause-a_policy c = record {
   right = refl;
   policy_was = refl;
   policy_is = refl;
-  others = λ n ne. at-without-other two_policies.service_policies 1 n ne;
+  others = λ n ne. at-without-other two_policies.service_policies.rows 1 n ne;
   high = 3;
   ordered = (omega arith, omega arith, (omega arith, omega arith, tt));
   high_after = 3;
@@ -39,10 +39,10 @@ returns-clause-a_policy c = record {
 
 pub returns-clause-two_steps : goal.returns-clause-two_steps
 returns-clause-two_steps c =
-    entity_leads Dial true 1 (at two_policies.identities 1) None two_policies (record two_policies { identities = without two_policies.identities 1 })
+    entity_leads Dial true 1 (at two_policies.identities.rows 1) None two_policies (record two_policies { identities = with_removed 1 two_policies.identities })
     (record { a = 1; b = 1; up = false } ∷ record { a = 1; b = 1; up = false } ∷ []) (returns-clause-an_entity c)
-    (ups-turns 1 true (turns_of Dial true (at two_policies.identities 1) None two_policies.services two_policies.service_policies))
-    (downs-turns 1 true (turns_of Dial true (at two_policies.identities 1) None two_policies.services two_policies.service_policies))
+    (ups-turns 1 true (turns_of Dial true (at two_policies.identities.rows 1) None two_policies.services.rows two_policies.service_policies.rows))
+    (downs-turns 1 true (turns_of Dial true (at two_policies.identities.rows 1) None two_policies.services.rows two_policies.service_policies.rows))
 
 none_up : (left right : Bool) → ◌≡◌ {A = ℕ} 0 (cond (not (left && right) && false) 1 0)
 none_up true true = refl
@@ -56,7 +56,7 @@ one_down false right = refl
 
 pub returns-clause-one_step : goal.returns-clause-one_step
 returns-clause-one_step c =
-    policy_leads Dial 1 (at two_policies.service_policies 1) None two_policies (record two_policies { service_policies = without two_policies.service_policies 1 })
+    policy_leads Dial 1 (at two_policies.service_policies.rows 1) None two_policies (record two_policies { service_policies = with_removed 1 two_policies.service_policies })
     (record { a = 1; b = 1; up = false } ∷ []) (returns-clause-a_policy c) (λ a b. none_up ((1 == a) || false) ((1 == b) || false)) (λ a b. one_down (1 == a) (1 == b))
 
 pub returns-clause-one_step_is_too_few : goal.returns-clause-one_step_is_too_few

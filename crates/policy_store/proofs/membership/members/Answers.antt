@@ -5,5 +5,5 @@ use Rattle.policy_store.proofs.membership.members.Goals as goal
 
 pub returns : goal.returns
 returns c =
-    rw (c.keep_members.ensures, c.found.view_is, c.in_ok-found.ensures)
-    (passing_numbers (λ e. matches c.args.side.now c.args.semantic e) (next_of c.args.kind c.args.known.now) (entities c.args.kind c.args.known.now) 1 c.next-next.ensures.numbers.ordered)
+    rw (c.keep_members.ensures, c.found.view_is, c.in_ok-found.ensures.all)
+    (passing_numbers (λ e. matches c.args.side.now c.args.semantic e) (next_of c.args.kind c.args.known.now) (entities c.args.kind c.args.known.now) 1 c.numbers.ensures.numbers.ordered)

@@ -1,6 +1,5 @@
-use Rattle.entity_store.proofs.EntityLaws.{keeps}
+use Rattle.entity_store.proofs.EntityLaws.{routers_keep}
 use Rattle.entity_store.proofs.entities.Entities.next.Goals as goal
 
-pub returns-clause-numbers : goal.returns-clause-numbers
-returns-clause-numbers c =
-    keeps c.args.kind c.table.result.now c.args.self.now c.table.ensures c.next.ensures.first c.next.ensures.last c.next.ensures.ordered
+pub returns-in-Router-clause-numbers : goal.returns-in-Router-clause-numbers
+returns-in-Router-clause-numbers c = rw (c.in-Router.is, ← c.self.view_is) (routers_keep _ c.next-in-Router.ensures.order c.self.invariant.2)

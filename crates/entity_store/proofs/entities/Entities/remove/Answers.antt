@@ -1,17 +1,11 @@
 use Rattle.std.proofs.Common.{◌≤◌, length, arith, sym, ◌∙◌}
 use Rattle.ctrl_model.specs.Numbered.{without}
 use Rattle.ctrl_model.proofs.NumberedLaws.{length-filter-le}
-use Rattle.entity_store.proofs.EntityLaws.{present-entities, removed_identity, removed_service}
+use Rattle.entity_store.proofs.EntityLaws.{router-present}
 use Rattle.entity_store.proofs.entities.Entities.remove.Goals as goal
 
-pub remove-requires : goal.remove-requires
-remove-requires c = sym (present-entities c.self.inside.identities.rows c.args.no) ∙ (rw (c.in-Identity.is, ← c.self.view_is) at c.requires.there)
-
-pub remove-requires-in-Service : goal.remove-requires-in-Service
-remove-requires-in-Service c = sym (present-entities c.self.inside.services.rows c.args.no) ∙ (rw (c.in-Service.is, ← c.self.view_is) at c.requires.there)
-
 pub remove-requires-in-Router : goal.remove-requires-in-Router
-remove-requires-in-Router c = sym (present-entities c.self.inside.routers.rows c.args.no) ∙ (rw (c.in-Router.is, ← c.self.view_is) at c.requires.there)
+remove-requires-in-Router c = sym (router-present c.self.inside.routers.rows c.args.no) ∙ (rw (c.in-Router.is, ← c.self.view_is) at c.requires.there)
 
 pub invariant_of-self : goal.invariant_of-self
 invariant_of-self c =
@@ -24,11 +18,3 @@ invariant_of-self-in-Service c =
 pub invariant_of-self-in-Router : goal.invariant_of-self-in-Router
 invariant_of-self-in-Router c =
     rw c.remove-in-Router.ensures (let fewer : length (without c.self.inside.routers.rows c.args.no) ≤ length c.self.inside.routers.rows = length-filter-le _ _ in (c.self.invariant.0, c.self.invariant.1, omega arith))
-
-pub returns-in-Identity : goal.returns-in-Identity
-returns-in-Identity c =
-    rw (c.in-Identity.is, ← c.self.view_is, c.remove.ensures) (removed_identity c.self.inside.identities c.self.inside.services c.self.inside.routers c.self.inside.held.items c.args.no)
-
-pub returns-in-Service : goal.returns-in-Service
-returns-in-Service c =
-    rw (c.in-Service.is, ← c.self.view_is, c.remove-in-Service.ensures) (removed_service c.self.inside.identities c.self.inside.services c.self.inside.routers c.self.inside.held.items c.args.no)

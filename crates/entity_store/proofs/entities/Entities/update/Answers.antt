@@ -1,20 +1,18 @@
 use Rattle.std.proofs.Common.{sym, ◌∙◌}
-use Rattle.entity_store.proofs.EntityLaws.{present-entities, updated_identity, updated_service}
+use Rattle.entity_store.proofs.EntityLaws.{router-present, edited_length}
 use Rattle.entity_store.proofs.entities.Entities.update.Goals as goal
 
-pub update-requires : goal.update-requires
-update-requires c = sym (present-entities c.self.inside.identities.rows c.args.no) ∙ (rw (c.in-Identity.is, ← c.self.view_is) at c.requires.there)
+pub edit-requires-in-Router-clause-there : goal.edit-requires-in-Router-clause-there
+edit-requires-in-Router-clause-there c = sym (router-present c.self.inside.routers.rows c.args.no) ∙ (rw (c.in-Router.is, ← c.self.view_is) at c.requires.there)
 
-pub update-requires-in-Service : goal.update-requires-in-Service
-update-requires-in-Service c = sym (present-entities c.self.inside.services.rows c.args.no) ∙ (rw (c.in-Service.is, ← c.self.view_is) at c.requires.there)
+pub invariant_of-self : goal.invariant_of-self
+invariant_of-self c =
+    let made = c.edit.ensures.changed in rw (made.rows, edited_length c.self.inside.identities.rows c.args.no (λ _. made.after)) c.self.invariant
 
-pub update-requires-in-Router : goal.update-requires-in-Router
-update-requires-in-Router c = sym (present-entities c.self.inside.routers.rows c.args.no) ∙ (rw (c.in-Router.is, ← c.self.view_is) at c.requires.there)
+pub invariant_of-self-in-Service : goal.invariant_of-self-in-Service
+invariant_of-self-in-Service c =
+    let made = c.edit-in-Service.ensures.changed in rw (made.rows, edited_length c.self.inside.services.rows c.args.no (λ _. made.after)) c.self.invariant
 
-pub returns-in-Identity-clause-ok : goal.returns-in-Identity-clause-ok
-returns-in-Identity-clause-ok c =
-    rw (c.in-Identity.is, ← c.self.view_is, c.update.ensures, c.in_ok-attributes.ensures) (updated_identity c.self.inside.identities c.self.inside.services c.self.inside.routers c.self.inside.held.items c.args.no c.args.attributes.now)
-
-pub returns-in-Service-clause-ok : goal.returns-in-Service-clause-ok
-returns-in-Service-clause-ok c =
-    rw (c.in-Service.is, ← c.self.view_is, c.update-in-Service.ensures, c.in_ok-attributes.ensures) (updated_service c.self.inside.identities c.self.inside.services c.self.inside.routers c.self.inside.held.items c.args.no c.args.attributes.now)
+pub invariant_of-self-in-Router : goal.invariant_of-self-in-Router
+invariant_of-self-in-Router c =
+    let made = c.edit-in-Router.ensures.changed in rw (made.rows, edited_length c.self.inside.routers.rows c.args.no (λ _. made.after)) c.self.invariant

@@ -3,15 +3,15 @@ use Rattle.fabric_graph.proofs.fabric.Fabric.graph_of.Goals as goal
 
 pub new-requires : goal.new-requires
 new-requires c =
-    rw (c.in_ok-through.ensures, c.in_ok-steps.ensures, c.as_slice.ensures.value, c.in_ok-all.ensures)
-    (is_graph c.self.inside.entries.entries c.self.inside.next c.self.inside.least c.args.routers.now c.self.invariant.0 c.self.invariant.1 c.requires)
+    rw (c.in_ok-through.ensures, c.in_ok-steps.ensures, c.as_slice.ensures.value, c.in_ok-all.ensures.steps)
+    (is_graph c.self.inside.links c.self.inside.least c.args.routers.now c.in_ok-all.ensures.order c.self.invariant c.requires)
 
 pub returns-clause-mirrors : goal.returns-clause-mirrors
 returns-clause-mirrors c =
-    rw (c.new.ensures, c.in_ok-through.ensures, c.in_ok-steps.ensures, c.as_slice.ensures.value, c.in_ok-all.ensures, ← c.self.view_is)
-    (mirrors c.self.inside.entries.entries c.self.inside.next c.self.inside.least c.args.routers.now c.self.invariant.0 c.self.invariant.1 c.requires)
+    rw (c.new.ensures, c.in_ok-through.ensures, c.in_ok-steps.ensures, c.as_slice.ensures.value, c.in_ok-all.ensures.steps, ← c.self.view_is)
+    (mirrors c.self.inside.links c.self.inside.least c.args.routers.now c.in_ok-all.ensures.order c.self.invariant c.requires)
 
 pub returns-clause-costs : goal.returns-clause-costs
 returns-clause-costs c =
-    rw (c.new.ensures, c.in_ok-steps.ensures, c.as_slice.ensures.value, c.in_ok-all.ensures)
-    (few_costs c.self.inside.entries.entries c.self.inside.next c.self.inside.least c.args.routers.now c.self.invariant.0 c.self.invariant.1 c.requires)
+    rw (c.new.ensures, c.in_ok-steps.ensures, c.as_slice.ensures.value, c.in_ok-all.ensures.steps)
+    (few_costs c.self.inside.links c.self.inside.least c.args.routers.now c.in_ok-all.ensures.order c.self.invariant c.requires)

@@ -1,12 +1,8 @@
-use Rattle.fabric_graph.proofs.KeptLaws.{ordered, kept_set}
+use Rattle.std.proofs.Common.{rules}
+use Rattle.fabric_graph.proofs.KeptLaws.{set_to, fit_set}
 use Rattle.fabric_graph.proofs.fabric.Fabric.set.Goals as goal
 
-pub set_link-requires-clause-ordered : goal.set_link-requires-clause-ordered
-set_link-requires-clause-ordered c = ordered c.self.inside.entries.entries c.self.inside.next c.self.invariant.0
-
 pub invariant_of-self : goal.invariant_of-self
-invariant_of-self c = (
-  kept_set c.self.inside.entries.entries c.set_link.new.entries.entries c.self.inside.next c.args.no.0 c.args.cost c.args.latency_a c.args.latency_b c.args.up
-      c.self.invariant.0 c.requires.cost c.requires.latency_a c.requires.latency_b c.set_link.ensures.rows c.set_link.ensures.named,
-  c.self.invariant.1,
-)
+invariant_of-self c =
+    rw (c.edit.ensures.by (set_to c.args.cost c.args.latency_a c.args.latency_b c.args.up) (λ old new h. search rules))
+    (fit_set c.self.inside.links c.self.inside.least c.args.no.0 c.args.cost c.args.latency_a c.args.latency_b c.args.up c.self.invariant c.requires.cost c.requires.latency_a c.requires.latency_b)

@@ -1,0 +1,10 @@
+use Rattle.std.proofs.Common.{arith}
+use Rattle.ctrl_model.proofs.NumberedLaws.{Between-more}
+use Rattle.record_tables.proofs.numbered_tables.NumberedTable.skip.Goals as goal
+
+pub invariant_of-self : goal.invariant_of-self
+invariant_of-self g c =
+    let later = rw (← c.self.view_is) at c.requires in
+    let order = c.self.invariant in
+    let first = order.first in
+    record { first = omega arith; last = omega arith; ordered = Between-more c.self.inside.next c.self.inside.records.entries 1 1 c.args.next (omega arith) later order.ordered }

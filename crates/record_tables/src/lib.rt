@@ -1,0 +1,13 @@
+//! Tables of records: the records of one kind under their numbers, which rise and are never used again, and the number of the
+//! next one. A table is generic in its records. One kind finds them by name too.
+#![tactic(auto)]
+
+mod entries;
+mod named_tables;
+mod numbered_tables;
+mod worked;
+
+pub use entries::{Entries, Named};
+pub use named_tables::NamedTable;
+pub use numbered_tables::NumberedTable;
+pub use worked::records_at_places;

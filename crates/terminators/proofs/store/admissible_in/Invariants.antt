@@ -1,0 +1,11 @@
+use Rattle.std.proofs.Common.{◌≡◌, ◌++◌}
+use Rattle.std.specs.List.{filter}
+use Rattle.ctrl_model.specs.Numbered.{numbers}
+use Rattle.terminators.specs.TermRules.{granted, is_admissible}
+use Rattle.terminators.proofs.store.admissible_in.Given as goal
+
+-- the numbers so far and those among the terminators that are left are all
+abbrev pub invariant-terms : goal.invariant-terms
+invariant-terms l =
+    l.found.items ++ numbers (filter (is_admissible (granted l.grants) l.service.0 l.instance) l.number-iterator)
+    ≡ numbers (filter (is_admissible (granted l.grants) l.service.0 l.instance) l.terms.rows)
