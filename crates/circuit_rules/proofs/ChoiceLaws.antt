@@ -4,9 +4,9 @@ use Rattle.std.proofs.lemmas.Option.{same_Some}
 use Rattle.std.proofs.lemmas.Cmp.{tied_itself, nat_list_cmp_total}
 use Rattle.ctrl_model.specs.Membership.{Among}
 use Rattle.ctrl_model.proofs.Members.{Among-map, by_map, Among-flat_map, by_flat_map}
-use Rattle.ctrl_model.proofs.Orders.{not_below, below_one_way}
+use Rattle.model_laws.proofs.Orders.{not_below, below_one_way}
 use Rattle.circuit_rules.specs.declared.choosing.Choice.{Choice}
-use Rattle.circuit_rules.specs.declared.offers.Offer.{Offer}
+use Rattle.circuit_rules.specs.declared.places.Exit.{Exit}
 use Rattle.circuit_rules.specs.declared.places.Entry.{Entry}
 use Rattle.circuit_rules.specs.Searched.{costs_to, key, is_before, choice_at, keep, first_of, first_of_all}
 
@@ -101,59 +101,59 @@ kept-append : (os ps : List (Option Choice)) (best : Option Choice) → kept bes
 kept-append [] ps best = refl
 kept-append (o ∷ os) ps best = kept-append os ps (keep best o)
 
-first_of-kept : (p : List ℕ) (o : Offer) (xs : List Entry) (best : Option Choice) → first_of p o best xs ≡ kept best (map (choice_at p o) xs)
+first_of-kept : (p : List ℕ) (o : Exit) (xs : List Entry) (best : Option Choice) → first_of p o best xs ≡ kept best (map (choice_at p o) xs)
 first_of-kept p o [] best = refl
 first_of-kept p o (x ∷ xs) best = first_of-kept p o xs (keep best (choice_at p o x))
 
--- the choices of one offer
-abbrev choices_of : List (List ℕ) → List Entry → Offer → List (Option Choice)
+-- the choices of one exit
+abbrev choices_of : List (List ℕ) → List Entry → Exit → List (Option Choice)
 choices_of costs entries o = map (choice_at (costs_to costs o.place) o) entries
 
-first_of_all-kept : (costs : List (List ℕ)) (entries : List Entry) (offers : List Offer) (best : Option Choice)
-    → first_of_all costs entries best offers ≡ kept best (flat_map (choices_of costs entries) offers)
+first_of_all-kept : (costs : List (List ℕ)) (entries : List Entry) (exits : List Exit) (best : Option Choice)
+    → first_of_all costs entries best exits ≡ kept best (flat_map (choices_of costs entries) exits)
 first_of_all-kept costs entries [] best = refl
-first_of_all-kept costs entries (o ∷ offers) best =
-    ap (λ b. first_of_all costs entries b offers) (first_of-kept (costs_to costs o.place) o entries best)
-    ∙ first_of_all-kept costs entries offers (kept best (choices_of costs entries o))
-    ∙ sym (kept-append (choices_of costs entries o) (flat_map (choices_of costs entries) offers) best)
+first_of_all-kept costs entries (o ∷ exits) best =
+    ap (λ b. first_of_all costs entries b exits) (first_of-kept (costs_to costs o.place) o entries best)
+    ∙ first_of_all-kept costs entries exits (kept best (choices_of costs entries o))
+    ∙ sym (kept-append (choices_of costs entries o) (flat_map (choices_of costs entries) exits) best)
 
--- the first of all choices is that of an offer and an entry, and none of another offer and entry comes before it
-pub record IsChosen (costs : List (List ℕ)) (entries : List Entry) (offers : List Offer) (c : Choice) : Type 0 where
-  pub offer : Offer
+-- the first of all choices is that of an exit and an entry, and none of another exit and entry comes before it
+pub record IsChosen (costs : List (List ℕ)) (entries : List Entry) (exits : List Exit) (c : Choice) : Type 0 where
+  pub exit : Exit
   pub entry : Entry
-  pub is_offered : Among offer offers
+  pub is_exit : Among exit exits
   pub is_entered : Among entry entries
-  pub told : choice_at (costs_to costs offer.place) offer entry ≡ Some c
-  pub first : (o : Offer) → Among o offers → (x : Entry) → Among x entries → (d : Choice) → choice_at (costs_to costs o.place) o x ≡ Some d → is_before d c ≡ false
+  pub told : choice_at (costs_to costs exit.place) exit entry ≡ Some c
+  pub first : (o : Exit) → Among o exits → (x : Entry) → Among x entries → (d : Choice) → choice_at (costs_to costs o.place) o x ≡ Some d → is_before d c ≡ false
 
-one_of_all : (costs : List (List ℕ)) (entries : List Entry) (offers : List Offer) (o : Offer) (x : Entry) → Among o offers → Among x entries
-    → Among (choice_at (costs_to costs o.place) o x) (flat_map (choices_of costs entries) offers)
-one_of_all costs entries offers o x m n =
-    Among-flat_map (choices_of costs entries) offers o (choice_at (costs_to costs o.place) o x) m
+one_of_all : (costs : List (List ℕ)) (entries : List Entry) (exits : List Exit) (o : Exit) (x : Entry) → Among o exits → Among x entries
+    → Among (choice_at (costs_to costs o.place) o x) (flat_map (choices_of costs entries) exits)
+one_of_all costs entries exits o x m n =
+    Among-flat_map (choices_of costs entries) exits o (choice_at (costs_to costs o.place) o x) m
     (Among-map (choice_at (costs_to costs o.place) o) entries x n)
 
-pub chosen : (costs : List (List ℕ)) (entries : List Entry) (offers : List Offer) (c : Choice) → first_of_all costs entries None offers ≡ Some c → IsChosen costs entries offers c
-chosen costs entries offers c e = from first.0
+pub chosen : (costs : List (List ℕ)) (entries : List Entry) (exits : List Exit) (c : Choice) → first_of_all costs entries None exits ≡ Some c → IsChosen costs entries exits c
+chosen costs entries exits c e = from first.0
   where
-    first : IsFirstOf (None ∷ flat_map (choices_of costs entries) offers) c
-    first = kept-first (flat_map (choices_of costs entries) offers) None c (sym (first_of_all-kept costs entries offers None) ∙ e)
+    first : IsFirstOf (None ∷ flat_map (choices_of costs entries) exits) c
+    first = kept-first (flat_map (choices_of costs entries) exits) None c (sym (first_of_all-kept costs entries exits None) ∙ e)
 
-    from : Among (Some c) (None ∷ flat_map (choices_of costs entries) offers) → IsChosen costs entries offers c
+    from : Among (Some c) (None ∷ flat_map (choices_of costs entries) exits) → IsChosen costs entries exits c
     from (inl h) = absurd (cc)
     from (inr m) =
-        by_flat_map (choices_of costs entries) offers (Some c) m (λ o offered n.
+        by_flat_map (choices_of costs entries) exits (Some c) m (λ o ended n.
         by_map (choice_at (costs_to costs o.place) o) entries (Some c) n (λ x entered told. record {
-          offer = o;
+          exit = o;
           entry = x;
-          is_offered = offered;
+          is_exit = ended;
           is_entered = entered;
           told = told;
-          first = λ a in_offers b in_entries d is. first.1 d (inr (subst (λ y. Among y (flat_map (choices_of costs entries) offers)) is (one_of_all costs entries offers a b in_offers in_entries)));
+          first = λ a in_exits b in_entries d is. first.1 d (inr (subst (λ y. Among y (flat_map (choices_of costs entries) exits)) is (one_of_all costs entries exits a b in_exits in_entries)));
         }))
 
--- where there is no first choice, no offer and entry have one
-pub none_chosen : (costs : List (List ℕ)) (entries : List Entry) (offers : List Offer) → first_of_all costs entries None offers ≡ None
-    → (o : Offer) → Among o offers → (x : Entry) → Among x entries → choice_at (costs_to costs o.place) o x ≡ None
-none_chosen costs entries offers e o m x n =
-    kept-none (flat_map (choices_of costs entries) offers) None (sym (first_of_all-kept costs entries offers None) ∙ e)
-    (choice_at (costs_to costs o.place) o x) (inr (one_of_all costs entries offers o x m n))
+-- where there is no first choice, no exit and entry have one
+pub none_chosen : (costs : List (List ℕ)) (entries : List Entry) (exits : List Exit) → first_of_all costs entries None exits ≡ None
+    → (o : Exit) → Among o exits → (x : Entry) → Among x entries → choice_at (costs_to costs o.place) o x ≡ None
+none_chosen costs entries exits e o m x n =
+    kept-none (flat_map (choices_of costs entries) exits) None (sym (first_of_all-kept costs entries exits None) ∙ e)
+    (choice_at (costs_to costs o.place) o x) (inr (one_of_all costs entries exits o x m n))

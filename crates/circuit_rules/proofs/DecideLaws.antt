@@ -1,10 +1,11 @@
--- Laws by which the search between entries and offers tells of the candidates of a request.
+-- Laws by which the search between entries and exits tells of the candidates of a request.
 use Rattle.std.proofs.Common.{◌≡◌, ℕ, ◌+◌, ◌<◌, ◌≤◌, ◌==◌, true, false, cond, List, [], ◌∷◌, map, flat_map, length, Some, None, refl, sym, ◌∙◌, ap, subst, subst₂, arith, is_lt, nat_cmp}
 use Rattle.std.specs.List.{All, find}
 use Rattle.std.specs.Option.{option_map_or}
 use Rattle.std.specs.Cmp.Lexicographic.{slice_cmp}
 use Rattle.std.proofs.lemmas.Bool.{and_parts, cond-false}
 use Rattle.std.proofs.lemmas.Option.{same_Some}
+use Rattle.std.proofs.lemmas.Simd.{map-map}
 use Rattle.ctrl_model.specs.declared.kinds.RouterSeen.{RouterSeen}
 use Rattle.ctrl_model.specs.Claims.{no_path}
 use Rattle.ctrl_model.specs.Membership.{Among}
@@ -14,32 +15,34 @@ use Rattle.ctrl_model.specs.State.{Terminator}
 use Rattle.ctrl_model.specs.Networks.{Network, router_at, is_on, may_host, admissible, is_path, path_cost, paths}
 use Rattle.ctrl_model.specs.Choices.{Ask, candidate, candidates_between, candidates_for, ingresses, precedes, place_of, IsIngress, IsBest}
 use Rattle.ctrl_model.proofs.Members.{Among-map, by_map, by_flat_map, empty_list}
-use Rattle.ctrl_model.proofs.NumberLaws.{at-unique, Between-none_twice}
-use Rattle.ctrl_model.proofs.PathLaws.{paths-is_path}
-use Rattle.ctrl_model.proofs.CandidateLaws.{by_ingresses, by_admissible, candidates-for, candidates-are}
+use Rattle.model_laws.proofs.NumberLaws.{at-unique, Between-none_twice}
+use Rattle.model_laws.proofs.PathLaws.{paths-is_path}
+use Rattle.model_laws.proofs.CandidateLaws.{by_ingresses, by_admissible, candidates-for, candidates-are}
 use Rattle.path_certificate.specs.Graphs.{GraphSeen, potential}
 use Rattle.path_search.specs.Searches.{IsFirst}
 use Rattle.fabric_graph.specs.Routers.{AreRouters, numbered}
 use Rattle.circuit_rules.specs.declared.choosing.Choice.{Choice}
-use Rattle.circuit_rules.specs.declared.offers.Offer.{Offer}
+use Rattle.circuit_rules.specs.declared.places.Exit.{Exit}
 use Rattle.circuit_rules.specs.declared.places.Entry.{Entry}
 use Rattle.circuit_rules.specs.declared.views.Route.{Route}
-use Rattle.circuit_rules.specs.Searched.{place_in, entry_of, offer_of, entries_to, offers_to, IsBestRoute, costs_to, AreCosts, is_before, choice_at, first_of_all, GoesFirst, IsGraphOf}
+use Rattle.circuit_rules.specs.declared.offers.Offer.{Offer}
+use Rattle.circuit_rules.specs.Offers.{offer_of}
+use Rattle.circuit_rules.specs.Searched.{place_in, entry_of, exit_from, exit_of, entries_to, exits_to, IsBestRoute, costs_to, AreCosts, is_before, choice_at, first_of_all, GoesFirst, IsGraphOf}
 use Rattle.circuit_rules.proofs.ChoiceLaws.{IsChosen, none_chosen}
 use Rattle.circuit_rules.proofs.WayLaws.{IsWay, place_known, path_in_graph, path_in_network, path_there, same_path_cost}
-use Rattle.circuit_rules.proofs.SearchLaws.{all_from_among, choice_of, choice_told, offered_there}
+use Rattle.circuit_rules.proofs.SearchLaws.{all_from_among, choice_of, choice_told, exit_there}
 use Rattle.circuit_rules.proofs.RankLaws.{rank_not_below}
 
 -- ---- where the search goes
 
--- a request, and the least costs to the places of its offers
+-- a request, and the least costs to the places of its exits
 pub record IsSearch (w : Network) (ask : Ask) (i s : ℕ) (g : GraphSeen) (costs : List (List ℕ)) : Type 0 where
   pub who : ask.identity ≡ Some i
   pub what : ask.service ≡ Some s
   pub routers : AreRouters w.routers
   pub once : NoneTwice (numbers w.terminators)
   pub is_graph : IsGraphOf w g
-  pub least : (t : ℕ) → t < length w.routers → AreCosts g (offers_to w ask s) t (costs_to costs t)
+  pub least : (t : ℕ) → t < length w.routers → AreCosts g (exits_to w ask s) t (costs_to costs t)
 
 at-find : (routers : List RouterSeen) (n : ℕ) → at (map numbered routers) n ≡ find (λ (r : RouterSeen). r.no.0 == n) routers
 at-find [] n = refl
@@ -62,20 +65,24 @@ pub terminator_on : (w : Network) (s : ℕ) (instance : List ℕ) (e : ℕ × Te
 terminator_on w s instance e m =
     (and_parts (is_on w e.1.router) (option_map_or (may_host w e.1) e.1.host true) (by_admissible w s instance e m).serves).0
 
--- the places of entries and of offers are places of the network
+-- the places of entries and of exits are places of the network
 pub entries_placed : (w : Network) → AreRouters w.routers → (ask : Ask) (i s : ℕ) → All (λ (x : Entry). x.place < length w.routers) (entries_to w ask i s)
 entries_placed w k ask i s =
     all_from_among (λ (x : Entry). x.place < length w.routers) (entries_to w ask i s) (λ x m.
     by_map (entry_of w.routers) (ingresses w ask.ingress i s) x m (λ r n is.
     subst (λ (y : Entry). y.place < length w.routers) is (place_known w r.no.0 (ingress_on w k ask i s r n)).below))
 
-pub offers_placed : (w : Network) (ask : Ask) (s : ℕ) → All (λ (o : Offer). o.place < length w.routers) (offers_to w ask s)
-offers_placed w ask s =
-    all_from_among (λ (o : Offer). o.place < length w.routers) (offers_to w ask s) (λ o m.
-    by_map (offer_of w.routers) (admissible w s ask.instance) o m (λ e n is.
-    subst (λ (y : Offer). y.place < length w.routers) is (place_known w e.1.router (terminator_on w s ask.instance e n)).below))
+pub exits_placed : (w : Network) (ask : Ask) (s : ℕ) → All (λ (o : Exit). o.place < length w.routers) (exits_to w ask s)
+exits_placed w ask s =
+    all_from_among (λ (o : Exit). o.place < length w.routers) (exits_to w ask s) (λ o m.
+    by_map (exit_of w.routers) (admissible w s ask.instance) o m (λ e n is.
+    subst (λ (y : Exit). y.place < length w.routers) is (place_known w e.1.router (terminator_on w s ask.instance e n)).below))
 
--- ---- ways between entries and offers
+-- what the admissible terminators of a request offer are its exits
+pub exits_are : (w : Network) (ask : Ask) (s : ℕ) (offers : List Offer) → offers ≡ map offer_of (admissible w s ask.instance) → map (exit_from w.routers) offers ≡ exits_to w ask s
+exits_are w ask s offers same = ap (map (exit_from w.routers)) same ∙ map-map (exit_from w.routers) offer_of (admissible w s ask.instance)
+
+-- ---- ways between entries and exits
 
 -- the least costs to the router of a terminator
 abbrev pub costs_for : Network → List (List ℕ) → ℕ × Terminator → List ℕ
@@ -89,29 +96,29 @@ way w ask i s g costs k r in_r e in_e = record {
   to = place_known w e.1.router (terminator_on w s ask.instance e in_e);
   is_graph = k.is_graph;
   least = (k.least (place_in w.routers e.1.router) (place_known w e.1.router (terminator_on w s ask.instance e in_e)).below
-      (offered_there (offers_to w ask s) (offer_of w.routers e) (Among-map (offer_of w.routers) (admissible w s ask.instance) e in_e))).0;
+      (exit_there (exits_to w ask s) (exit_of w.routers e) (Among-map (exit_of w.routers) (admissible w s ask.instance) e in_e))).0;
 }
 
 -- where there is a path, there is a choice
 choice_there : (w : Network) (ask : Ask) (i s : ℕ) (g : GraphSeen) (costs : List (List ℕ)) → IsSearch w ask i s g costs
     → (r : RouterSeen) → Among r (ingresses w ask.ingress i s) → (e : ℕ × Terminator) → Among e (admissible w s ask.instance)
     → (links : List ℕ) → is_path w r.no.0 links e.1.router ≡ true
-    → choice_at (costs_for w costs e) (offer_of w.routers e) (entry_of w.routers r) ≡ Some (choice_of (costs_for w costs e) (offer_of w.routers e) (entry_of w.routers r))
+    → choice_at (costs_for w costs e) (exit_of w.routers e) (entry_of w.routers r) ≡ Some (choice_of (costs_for w costs e) (exit_of w.routers e) (entry_of w.routers r))
 choice_there w ask i s g costs k r in_r e in_e links path =
     cond-false (potential (costs_for w costs e) (place_in w.routers r.no.0) == no_path) None
-    (Some (choice_of (costs_for w costs e) (offer_of w.routers e) (entry_of w.routers r)))
+    (Some (choice_of (costs_for w costs e) (exit_of w.routers e) (entry_of w.routers r)))
     (path_there w g (costs_for w costs e) r.no.0 e.1.router (place_in w.routers r.no.0) (place_in w.routers e.1.router) (way w ask i s g costs k r in_r e in_e) links path).0
 
 -- where there is no choice, there is no candidate
 pub no_candidates : (w : Network) (ask : Ask) (i s : ℕ) (g : GraphSeen) (costs : List (List ℕ)) → IsSearch w ask i s g costs
-    → first_of_all costs (entries_to w ask i s) None (offers_to w ask s) ≡ None → candidates_for w ask i s ≡ []
+    → first_of_all costs (entries_to w ask i s) None (exits_to w ask s) ≡ None → candidates_for w ask i s ≡ []
 no_candidates w ask i s g costs k none =
     empty_list (candidates_for w ask i s) (λ d m.
     by_flat_map (λ (r : RouterSeen). flat_map (candidates_between w r) (admissible w s ask.instance)) (ingresses w ask.ingress i s) d m (λ r in_r n.
     by_flat_map (candidates_between w r) (admissible w s ask.instance) d n (λ e in_e o.
     by_map (candidate w r e) (paths w r.no.0 e.1.router) d o (λ links listed _.
-    clash (sym (none_chosen costs (entries_to w ask i s) (offers_to w ask s) none
-    (offer_of w.routers e) (Among-map (offer_of w.routers) (admissible w s ask.instance) e in_e)
+    clash (sym (none_chosen costs (entries_to w ask i s) (exits_to w ask s) none
+    (exit_of w.routers e) (Among-map (exit_of w.routers) (admissible w s ask.instance) e in_e)
     (entry_of w.routers r) (Among-map (entry_of w.routers) (ingresses w ask.ingress i s) r in_r))
     ∙ choice_there w ask i s g costs k r in_r e in_e links ((paths-is_path w r.no.0 e.1.router links).0 listed))))))
   where
@@ -125,8 +132,8 @@ no_candidates w ask i s g costs k none =
 pub best_of : (w : Network) (ask : Ask) (i s : ℕ) (g : GraphSeen) (costs : List (List ℕ)) → IsSearch w ask i s g costs
     → (r : RouterSeen) → Among r (ingresses w ask.ingress i s) → (e : ℕ × Terminator) → Among e (admissible w s ask.instance) → (links : List ℕ)
     → IsFirst g (place_in w.routers e.1.router) (costs_for w costs e) (place_in w.routers r.no.0) links
-    → ((o : Offer) → Among o (offers_to w ask s) → (x : Entry) → Among x (entries_to w ask i s) → (d : Choice) → choice_at (costs_to costs o.place) o x ≡ Some d
-    → is_before d (choice_of (costs_for w costs e) (offer_of w.routers e) (entry_of w.routers r)) ≡ false)
+    → ((o : Exit) → Among o (exits_to w ask s) → (x : Entry) → Among x (entries_to w ask i s) → (d : Choice) → choice_at (costs_to costs o.place) o x ≡ Some d
+    → is_before d (choice_of (costs_for w costs e) (exit_of w.routers e) (entry_of w.routers r)) ≡ false)
     → IsBest w ask (candidate w r e links)
 best_of w ask i s g costs k r in_r e in_e links f first = record {
   is_candidate = record {
@@ -183,31 +190,31 @@ best_of w ask i s g costs k r in_r e in_e links f first = record {
         (place_in w.routers q.no.0 ∷ place_in w.routers x.1.router ∷ []) (place_in w.routers r.no.0 ∷ place_in w.routers e.1.router ∷ []) ls links
         (more x.1.cost (potential (costs_for w costs x) (place_in w.routers q.no.0)) (path_cost w q.no.0 ls x.1.router)
         (path_there w g (costs_for w costs x) q.no.0 x.1.router (place_in w.routers q.no.0) (place_in w.routers x.1.router) (way w ask i s g costs k q in_q x in_x) ls path).1)
-        (first (offer_of w.routers x) (Among-map (offer_of w.routers) (admissible w s ask.instance) x in_x) (entry_of w.routers q) (Among-map (entry_of w.routers) (ingresses w ask.ingress i s) q in_q)
-        (choice_of (costs_for w costs x) (offer_of w.routers x) (entry_of w.routers q)) (choice_there w ask i s g costs k q in_q x in_x ls path))
+        (first (exit_of w.routers x) (Among-map (exit_of w.routers) (admissible w s ask.instance) x in_x) (entry_of w.routers q) (Among-map (entry_of w.routers) (ingresses w ask.ingress i s) q in_q)
+        (choice_of (costs_for w costs x) (exit_of w.routers x) (entry_of w.routers q)) (choice_there w ask i s g costs k q in_q x in_x ls path))
         (λ total same_x same_q. tied q.no.0 x.1 ls same_q
         (same_Some x.1 e.1 (sym (at-unique w.terminators k.once x (by_admissible w s ask.instance x in_x).present) ∙ (ap (at w.terminators) same_x ∙ at-unique w.terminators k.once e (by_admissible w s ask.instance e in_e).present)))
         path total))
 
 -- the route over the first of the least paths of the first choice is that of the best candidate
 pub best_route : (w : Network) (ask : Ask) (i s : ℕ) (g : GraphSeen) (costs : List (List ℕ)) → IsSearch w ask i s g costs
-    → (c : Choice) → IsChosen costs (entries_to w ask i s) (offers_to w ask s) c → (r : Route) → GoesFirst g costs c r → IsBestRoute w ask r
+    → (c : Choice) → IsChosen costs (entries_to w ask i s) (exits_to w ask s) c → (r : Route) → GoesFirst g costs c r → IsBestRoute w ask r
 best_route w ask i s g costs k c h r goes =
-    by_map (offer_of w.routers) (admissible w s ask.instance) h.offer h.is_offered (λ e in_e is_offer.
+    by_map (exit_of w.routers) (admissible w s ask.instance) h.exit h.is_exit (λ e in_e is_end.
     by_map (entry_of w.routers) (ingresses w ask.ingress i s) h.entry h.is_entered (λ q in_q is_entry.
-    of e in_e q in_q (same e q is_offer is_entry)))
+    of e in_e q in_q (same e q is_end is_entry)))
   where
-    same : (e : ℕ × Terminator) (q : RouterSeen) → offer_of w.routers e ≡ h.offer → entry_of w.routers q ≡ h.entry
-        → choice_of (costs_for w costs e) (offer_of w.routers e) (entry_of w.routers q) ≡ c
-    same e q is_offer is_entry =
-        subst₂ (λ (o : Offer) (x : Entry). choice_of (costs_to costs o.place) o x ≡ c) (sym is_offer) (sym is_entry)
-        (choice_told (costs_to costs h.offer.place) h.offer h.entry c h.told).1
+    same : (e : ℕ × Terminator) (q : RouterSeen) → exit_of w.routers e ≡ h.exit → entry_of w.routers q ≡ h.entry
+        → choice_of (costs_for w costs e) (exit_of w.routers e) (entry_of w.routers q) ≡ c
+    same e q is_end is_entry =
+        subst₂ (λ (o : Exit) (x : Entry). choice_of (costs_to costs o.place) o x ≡ c) (sym is_end) (sym is_entry)
+        (choice_told (costs_to costs h.exit.place) h.exit h.entry c h.told).1
 
     of : (e : ℕ × Terminator) → Among e (admissible w s ask.instance) → (q : RouterSeen) → Among q (ingresses w ask.ingress i s)
-        → choice_of (costs_for w costs e) (offer_of w.routers e) (entry_of w.routers q) ≡ c → IsBestRoute w ask r
+        → choice_of (costs_for w costs e) (exit_of w.routers e) (entry_of w.routers q) ≡ c → IsBestRoute w ask r
     of e in_e q in_q is = with_goes (subst (λ d. GoesFirst g costs d r) (sym is) goes)
       where
-        with_goes : GoesFirst g costs (choice_of (costs_for w costs e) (offer_of w.routers e) (entry_of w.routers q)) r → IsBestRoute w ask r
+        with_goes : GoesFirst g costs (choice_of (costs_for w costs e) (exit_of w.routers e) (entry_of w.routers q)) r → IsBestRoute w ask r
         with_goes y = record {
           chosen = candidate w q e r.links;
           best = best_of w ask i s g costs k q in_q e in_e r.links y.1 (λ o in_o x in_x d told. subst (λ b. is_before d b ≡ false) (sym is) (h.first o in_o x in_x d told));

@@ -1,7 +1,13 @@
 pub mod OfferLaws
 pub mod ChoiceLaws
+pub mod GraphLaws
 pub mod WayLaws
 pub mod SearchLaws
 pub mod RankLaws
 pub mod DecideLaws
 pub mod RequestLaws
+pub mod ValueLaws
+pub mod SettledLaws
+pub mod PartLaws
+pub mod ReachLaws
+pub mod GrantLaws

@@ -4,7 +4,7 @@ use Rattle.std.proofs.lemmas.Bool.{cases_order}
 use Rattle.std.specs.Cmp.{nat_cmp_is}
 use Rattle.std.specs.Cmp.Lexicographic.{slice_cmp}
 use Rattle.std.specs.Ordering.{ordering_then}
-use Rattle.ctrl_model.proofs.BestLaws.{head_le, tail_not_below}
+use Rattle.model_laws.proofs.BestLaws.{head_le, tail_not_below}
 
 -- a list that begins with no less than one that is not below another is not below any with the other's head, if it is not where
 -- both begin alike

@@ -17,47 +17,47 @@ use Rattle.ctrl_model.specs.Networks.{Network, admissible}
 use Rattle.ctrl_model.specs.Choices.{Ask, Candidate, candidates_for, first_denial, failing, first_rule}
 use Rattle.ctrl_model.proofs.Tests.{in_bounds}
 use Rattle.ctrl_model.proofs.Members.{by_map, something, list_all-among}
-use Rattle.ctrl_model.proofs.CandidateLaws.{by_admissible, candidates-for, candidates-are, best-is}
+use Rattle.model_laws.proofs.CandidateLaws.{by_admissible, candidates-for, candidates-are, best-is}
 use Rattle.fabric_graph.specs.Routers.{AreRouters}
 use Rattle.circuit_rules.specs.declared.choosing.Choice.{Choice}
-use Rattle.circuit_rules.specs.declared.offers.Offer.{Offer}
+use Rattle.circuit_rules.specs.declared.places.Exit.{Exit}
 use Rattle.circuit_rules.specs.declared.places.Entry.{Entry}
 use Rattle.circuit_rules.specs.declared.views.Route.{Route}
 use Rattle.circuit_rules.specs.Decisions.{Grants, Decides}
 use Rattle.circuit_rules.specs.declared.views.DecideFault.{DecideFault}
 use Rattle.circuit_rules.specs.declared.views.DecideFault.TheVariants as fault
-use Rattle.circuit_rules.specs.Searched.{Passes, end_rules, way_rules, offer_of, entries_to, offers_to, IsFound, IsSearched, first_of_all, IsBestRoute, IsBestWay}
+use Rattle.circuit_rules.specs.Searched.{Passes, end_rules, way_rules, exit_of, entries_to, exits_to, IsFound, IsSearched, first_of_all, IsBestRoute, IsBestWay}
 use Rattle.circuit_rules.proofs.ChoiceLaws.{chosen}
 use Rattle.circuit_rules.proofs.SearchLaws.{all_from_among}
 use Rattle.circuit_rules.proofs.DecideLaws.{IsSearch, no_candidates, best_route}
 
 -- ---- what the search found
 
-pub offers_cheap : (w : Network) (ask : Ask) (s : ℕ) → each_passes (λ (e : Terminator). is_cost e.cost) w.terminators ≡ true → All (λ (o : Offer). o.cost ≤ 65535) (offers_to w ask s)
-offers_cheap w ask s costs =
-    all_from_among (λ (o : Offer). o.cost ≤ 65535) (offers_to w ask s) (λ o m.
-    by_map (offer_of w.routers) (admissible w s ask.instance) o m (λ e n is.
-    subst (λ (y : Offer). y.cost ≤ 65535) is
+pub exits_cheap : (w : Network) (ask : Ask) (s : ℕ) → each_passes (λ (e : Terminator). is_cost e.cost) w.terminators ≡ true → All (λ (o : Exit). o.cost ≤ 65535) (exits_to w ask s)
+exits_cheap w ask s costs =
+    all_from_among (λ (o : Exit). o.cost ≤ 65535) (exits_to w ask s) (λ o m.
+    by_map (exit_of w.routers) (admissible w s ask.instance) o m (λ e n is.
+    subst (λ (y : Exit). y.cost ≤ 65535) is
     (in_bounds 0 65535 e.1.cost (list_all-among (λ (x : ℕ × Terminator). is_cost x.1.cost) w.terminators e costs (by_admissible w s ask.instance e n).present)).1))
 
 -- what the search found is the best way of the request
-pub best_way : (w : Network) (ask : Ask) (i s : ℕ) (entries : List Entry) (offers : List Offer) (found : Option Route) → ask.identity ≡ Some i → ask.service ≡ Some s
-    → AreRouters w.routers → NoneTwice (numbers w.terminators) → entries ≡ entries_to w ask i s → offers ≡ offers_to w ask s → IsSearched w entries offers found
+pub best_way : (w : Network) (ask : Ask) (i s : ℕ) (entries : List Entry) (exits : List Exit) (found : Option Route) → ask.identity ≡ Some i → ask.service ≡ Some s
+    → AreRouters w.routers → NoneTwice (numbers w.terminators) → entries ≡ entries_to w ask i s → exits ≡ exits_to w ask s → IsSearched w entries exits found
     → IsBestWay w ask i s found
-best_way w ask i s entries offers found who what routers once same_entries same_offers searched =
-    of (subst (λ os. IsSearched w (entries_to w ask i s) os found) same_offers (subst (λ xs. IsSearched w xs offers found) same_entries searched))
+best_way w ask i s entries exits found who what routers once same_entries same_exits searched =
+    of (subst (λ os. IsSearched w (entries_to w ask i s) os found) same_exits (subst (λ xs. IsSearched w xs exits found) same_entries searched))
   where
-    of : IsSearched w (entries_to w ask i s) (offers_to w ask s) found → IsBestWay w ask i s found
-    of h = from found (first_of_all h.costs (entries_to w ask i s) None (offers_to w ask s)) refl h.route
+    of : IsSearched w (entries_to w ask i s) (exits_to w ask s) found → IsBestWay w ask i s found
+    of h = from found (first_of_all h.costs (entries_to w ask i s) None (exits_to w ask s)) refl h.route
       where
         search : IsSearch w ask i s h.graph h.costs
         search = record { who = who; what = what; routers = routers; once = once; is_graph = h.is_graph; least = h.least }
 
-        from : (found : Option Route) (o : Option Choice) → first_of_all h.costs (entries_to w ask i s) None (offers_to w ask s) ≡ o → IsFound h.graph h.costs o found → IsBestWay w ask i s found
+        from : (found : Option Route) (o : Option Choice) → first_of_all h.costs (entries_to w ask i s) None (exits_to w ask s) ≡ o → IsFound h.graph h.costs o found → IsBestWay w ask i s found
         from None None is f = no_candidates w ask i s h.graph h.costs search is
         from None (Some c) is f = absurd f
         from (Some r) None is f = absurd f
-        from (Some r) (Some c) is f = best_route w ask i s h.graph h.costs search c (chosen h.costs (entries_to w ask i s) (offers_to w ask s) c is) r f
+        from (Some r) (Some c) is f = best_route w ask i s h.graph h.costs search c (chosen h.costs (entries_to w ask i s) (exits_to w ask s) c is) r f
 
 -- ---- rules in parts
 

@@ -11,9 +11,9 @@ use Rattle.path_certificate.specs.Graphs.{GraphSeen, potential}
 use Rattle.path_search.specs.Searches.{IsLeast, AreFew, greatest_cost}
 use Rattle.fabric_graph.specs.Routers.{costs_at_most}
 use Rattle.circuit_rules.specs.declared.choosing.Choice.{Choice}
-use Rattle.circuit_rules.specs.declared.offers.Offer.{Offer}
+use Rattle.circuit_rules.specs.declared.places.Exit.{Exit}
 use Rattle.circuit_rules.specs.declared.places.Entry.{Entry}
-use Rattle.circuit_rules.specs.Searched.{costs_to, is_offered_at, AreCosts, AreSmall, choice_at, first_of_all}
+use Rattle.circuit_rules.specs.Searched.{costs_to, is_exit_at, AreCosts, AreSmall, choice_at, first_of_all}
 use Rattle.circuit_rules.proofs.ChoiceLaws.{IsChosen, chosen}
 
 -- what holds of each index holds of each element
@@ -46,17 +46,17 @@ times_le n b v few most le = last v ((n - 1) * b) (255 * b) le (more (n - 1) b (
     last : (v x y : ℕ) → v ≤ x → x ≤ y → y ≤ 64022850 → v ≤ 64022850
     last v x y h p q = omega arith
 
--- the place of an offer has one
-pub offered_there : (offers : List Offer) (o : Offer) → Among o offers → is_offered_at offers o.place ≡ true
-offered_there offers o m = list_any-from_among (λ (x : Offer). x.place == o.place) offers o m (eq-eqb o.place o.place refl)
+-- the place of an exit has one
+pub exit_there : (exits : List Exit) (o : Exit) → Among o exits → is_exit_at exits o.place ≡ true
+exit_there exits o m = list_any-from_among (λ (x : Exit). x.place == o.place) exits o m (eq-eqb o.place o.place refl)
 
-pub small_costs : (g : GraphSeen) (offers : List Offer) (costs : List (List ℕ)) (places : ℕ) → places ≤ 256 → length g.through ≡ places → costs_at_most 251070 g.steps ≡ true
-    → ((t : ℕ) → t < places → AreCosts g offers t (costs_to costs t)) → All (λ (o : Offer). o.place < places) offers
-    → All (λ (o : Offer). AreSmall places (costs_to costs o.place)) offers
-small_costs g offers costs places few same most least within =
-    all_from_among (λ (o : Offer). AreSmall places (costs_to costs o.place)) offers (λ o m.
-    small (costs_to costs o.place) (least o.place (all_among (λ (o : Offer). o.place < places) offers o within m) (offered_there offers o m)).0.places
-    (least o.place (all_among (λ (o : Offer). o.place < places) offers o within m) (offered_there offers o m)).1)
+pub small_costs : (g : GraphSeen) (exits : List Exit) (costs : List (List ℕ)) (places : ℕ) → places ≤ 256 → length g.through ≡ places → costs_at_most 251070 g.steps ≡ true
+    → ((t : ℕ) → t < places → AreCosts g exits t (costs_to costs t)) → All (λ (o : Exit). o.place < places) exits
+    → All (λ (o : Exit). AreSmall places (costs_to costs o.place)) exits
+small_costs g exits costs places few same most least within =
+    all_from_among (λ (o : Exit). AreSmall places (costs_to costs o.place)) exits (λ o m.
+    small (costs_to costs o.place) (least o.place (all_among (λ (o : Exit). o.place < places) exits o within m) (exit_there exits o m)).0.places
+    (least o.place (all_among (λ (o : Exit). o.place < places) exits o within m) (exit_there exits o m)).1)
   where
     small : (p : List ℕ) → length p ≡ length g.through → AreFew g p → AreSmall places p
     small p at_each bounded = record {
@@ -67,8 +67,8 @@ small_costs g offers costs places few same most least within =
 
 -- ---- where the first choice stands
 
--- the choice of an offer and an entry that have one
-abbrev pub choice_of : List ℕ → Offer → Entry → Choice
+-- the choice of an exit and an entry that have one
+abbrev pub choice_of : List ℕ → Exit → Entry → Choice
 choice_of p o x = record {
   precedence = o.precedence;
   total = o.cost + potential p x.place;
@@ -78,30 +78,30 @@ choice_of p o x = record {
   to = o.place;
 }
 
-pub choice_told : (p : List ℕ) (o : Offer) (x : Entry) (c : Choice) → choice_at p o x ≡ Some c → ((potential p x.place == no_path) ≡ false) × (choice_of p o x ≡ c)
+pub choice_told : (p : List ℕ) (o : Exit) (x : Entry) (c : Choice) → choice_at p o x ≡ Some c → ((potential p x.place == no_path) ≡ false) × (choice_of p o x ≡ c)
 choice_told p o x c e = apart (potential p x.place == no_path) refl e
   where
     apart : (b : Bool) → (potential p x.place == no_path) ≡ b → cond b None (Some (choice_of p o x)) ≡ Some c → ((potential p x.place == no_path) ≡ false) × (choice_of p o x ≡ c)
     apart true is h = absurd (cc)
     apart false is h = (is, same_Some (choice_of p o x) c h)
 
--- the least costs of a graph to the places of offers, and entries and offers at its places
-pub record IsReady (places : ℕ) (g : GraphSeen) (costs : List (List ℕ)) (entries : List Entry) (offers : List Offer) : Type 0 where
+-- the least costs of a graph to the places of exits, and entries and exits at its places
+pub record IsReady (places : ℕ) (g : GraphSeen) (costs : List (List ℕ)) (entries : List Entry) (exits : List Exit) : Type 0 where
   pub places_are : length g.through ≡ places
   pub listed : length costs ≡ places
-  pub least : (t : ℕ) → t < places → AreCosts g offers t (costs_to costs t)
+  pub least : (t : ℕ) → t < places → AreCosts g exits t (costs_to costs t)
   pub entries_in : All (λ (x : Entry). x.place < places) entries
-  pub offers_in : All (λ (o : Offer). o.place < places) offers
+  pub exits_in : All (λ (o : Exit). o.place < places) exits
 
-pub ready : (places : ℕ) (g : GraphSeen) (costs items : List (List ℕ)) (entries : List Entry) (offers : List Offer) → costs ≡ items → length g.through ≡ places
-    → length items ≡ length g.through → ((t : ℕ) → t < length g.through → AreCosts g offers t (costs_to items t))
-    → All (λ (x : Entry). x.place < places) entries → All (λ (o : Offer). o.place < places) offers → IsReady places g costs entries offers
-ready places g costs items entries offers same at_each listed least in_entries in_offers = record {
+pub ready : (places : ℕ) (g : GraphSeen) (costs items : List (List ℕ)) (entries : List Entry) (exits : List Exit) → costs ≡ items → length g.through ≡ places
+    → length items ≡ length g.through → ((t : ℕ) → t < length g.through → AreCosts g exits t (costs_to items t))
+    → All (λ (x : Entry). x.place < places) entries → All (λ (o : Exit). o.place < places) exits → IsReady places g costs entries exits
+ready places g costs items entries exits same at_each listed least in_entries in_exits = record {
   places_are = at_each;
   listed = ap length same ∙ listed ∙ at_each;
-  least = λ t below. subst (λ cs. AreCosts g offers t (costs_to cs t)) (sym same) (least t (subst (λ n. t < n) (sym at_each) below));
+  least = λ t below. subst (λ cs. AreCosts g exits t (costs_to cs t)) (sym same) (least t (subst (λ n. t < n) (sym at_each) below));
   entries_in = in_entries;
-  offers_in = in_offers;
+  exits_in = in_exits;
 }
 
 -- a choice has a least path in a graph
@@ -112,29 +112,29 @@ pub record IsWalkable (g : GraphSeen) (costs : List (List ℕ)) (c : Choice) : T
   pub least : IsLeast g c.to (costs_to costs c.to)
   pub there : potential (costs_to costs c.to) c.from < no_path
 
-pub walkable : (places : ℕ) (g : GraphSeen) (costs : List (List ℕ)) (entries : List Entry) (offers : List Offer) (c : Choice) → IsReady places g costs entries offers
-    → first_of_all costs entries None offers ≡ Some c → IsWalkable g costs c
-walkable places g costs entries offers c k e = of (chosen costs entries offers c e)
+pub walkable : (places : ℕ) (g : GraphSeen) (costs : List (List ℕ)) (entries : List Entry) (exits : List Exit) (c : Choice) → IsReady places g costs entries exits
+    → first_of_all costs entries None exits ≡ Some c → IsWalkable g costs c
+walkable places g costs entries exits c k e = of (chosen costs entries exits c e)
   where
-    of : IsChosen costs entries offers c → IsWalkable g costs c
-    of h = subst (IsWalkable g costs) (choice_told (costs_to costs h.offer.place) h.offer h.entry c h.told).1 (record {
-      to = subst (λ n. h.offer.place < n) (sym k.places_are) in_offers;
+    of : IsChosen costs entries exits c → IsWalkable g costs c
+    of h = subst (IsWalkable g costs) (choice_told (costs_to costs h.exit.place) h.exit h.entry c h.told).1 (record {
+      to = subst (λ n. h.exit.place < n) (sym k.places_are) in_exits;
       from = subst (λ n. h.entry.place < n) (sym k.places_are) in_entries;
-      listed = subst (λ n. h.offer.place < n) (sym k.listed) in_offers;
+      listed = subst (λ n. h.exit.place < n) (sym k.listed) in_exits;
       least = least_at.0;
-      there = below (potential (costs_to costs h.offer.place) h.entry.place)
+      there = below (potential (costs_to costs h.exit.place) h.entry.place)
           (least_at.0.each h.entry.place (subst (λ n. h.entry.place < n) (sym k.places_are) in_entries)).within
-          (choice_told (costs_to costs h.offer.place) h.offer h.entry c h.told).0;
+          (choice_told (costs_to costs h.exit.place) h.exit h.entry c h.told).0;
     })
       where
-        in_offers : h.offer.place < places
-        in_offers = all_among (λ (o : Offer). o.place < places) offers h.offer k.offers_in h.is_offered
+        in_exits : h.exit.place < places
+        in_exits = all_among (λ (o : Exit). o.place < places) exits h.exit k.exits_in h.is_exit
 
         in_entries : h.entry.place < places
         in_entries = all_among (λ (x : Entry). x.place < places) entries h.entry k.entries_in h.is_entered
 
-        least_at : IsLeast g h.offer.place (costs_to costs h.offer.place) × AreFew g (costs_to costs h.offer.place)
-        least_at = k.least h.offer.place in_offers (offered_there offers h.offer h.is_offered)
+        least_at : IsLeast g h.exit.place (costs_to costs h.exit.place) × AreFew g (costs_to costs h.exit.place)
+        least_at = k.least h.exit.place in_exits (exit_there exits h.exit h.is_exit)
 
         below : (a : ℕ) → a ≤ no_path → (a == no_path) ≡ false → a < no_path
         below a le ne = lt_of a (λ same. false≢true (sym ne ∙ eq-eqb a no_path same)) le

@@ -1,17 +1,17 @@
 -- Laws on the least ways between an ingress and a terminator, which a graph by places tells of a network by numbers.
-use Rattle.std.proofs.Common.{◌≡◌, ℕ, suc, ◌<◌, ◌≤◌, ◌==◌, ◌&&◌, Bool, true, false, cond, List, [], ◌∷◌, length, Some, refl, sym, ◌∙◌, subst, arith, eqb-true, ne_eqb}
+use Rattle.std.proofs.Common.{◌≡◌, ℕ, suc, ◌<◌, ◌≤◌, ◌==◌, ◌&&◌, Bool, true, false, cond, List, [], ◌∷◌, length, Some, refl, sym, ◌∙◌, subst, subst₂, arith, eqb-true, ne_eqb}
 use Rattle.std.proofs.lemmas.Bool.{and_parts, and_from}
 use Rattle.std.specs.List.{find}
 use Rattle.ctrl_model.specs.declared.kinds.RouterSeen.{RouterSeen}
 use Rattle.ctrl_model.specs.Claims.{no_path}
-use Rattle.ctrl_model.specs.Walks.{goes, cost_along}
+use Rattle.ctrl_model.specs.Walks.{goes}
 use Rattle.ctrl_model.specs.Networks.{Network, is_on, hops, is_path, path_cost}
-use Rattle.ctrl_model.proofs.MirrorLaws.{same_goes, same_cost}
-use Rattle.ctrl_model.proofs.PathLaws.{by_is_on}
+use Rattle.model_laws.proofs.PathLaws.{by_is_on}
 use Rattle.path_certificate.specs.Graphs.{GraphSeen, graph_hops, potential, IsPath, cost_of}
 use Rattle.path_search.specs.Searches.{IsLeast}
 use Rattle.fabric_graph.specs.Routers.{number_at}
 use Rattle.circuit_rules.specs.Searched.{place_in, IsGraphOf}
+use Rattle.circuit_rules.proofs.GraphLaws.{same_walk, same_price}
 
 -- ---- places of routers
 
@@ -48,26 +48,22 @@ pub record IsWay (w : Network) (g : GraphSeen) (p : List ℕ) (n m v t : ℕ) : 
   pub is_graph : IsGraphOf w g
   pub least : IsLeast g t p
 
-same_walk : (w : Network) (g : GraphSeen) (p : List ℕ) (n m v t : ℕ) → IsWay w g p n m v t → (links : List ℕ)
+same_way : (w : Network) (g : GraphSeen) (p : List ℕ) (n m v t : ℕ) → IsWay w g p n m v t → (links : List ℕ)
     → goes (hops w m) m (n ∷ []) n links ≡ goes (graph_hops g t) t (v ∷ []) v links
-same_walk w g p n m v t k links =
-    subst (λ y. goes (hops w y) y (n ∷ []) n links ≡ goes (graph_hops g t) t (v ∷ []) v links) k.to.named
-    (subst (λ x. goes (hops w (number_at w.routers t)) (number_at w.routers t) (x ∷ []) x links ≡ goes (graph_hops g t) t (v ∷ []) v links) k.from.named
-    (same_goes (length w.routers) (number_at w.routers) (graph_hops g t) (hops w (number_at w.routers t)) t (k.is_graph.mirrors t k.to.below) k.to.below links (v ∷ []) v (k.from.below, tt) k.from.below))
+same_way w g p n m v t k links =
+    subst₂ (λ x y. goes (hops w y) y (x ∷ []) x links ≡ goes (graph_hops g t) t (v ∷ []) v links) k.from.named k.to.named (same_walk w g t v k.is_graph k.to.below k.from.below links)
 
 pub same_path_cost : (w : Network) (g : GraphSeen) (p : List ℕ) (n m v t : ℕ) → IsWay w g p n m v t → (links : List ℕ) → path_cost w n links m ≡ cost_of g t v links
 same_path_cost w g p n m v t k links =
-    subst (λ y. cost_along (hops w y) n links ≡ cost_along (graph_hops g t) v links) k.to.named
-    (subst (λ x. cost_along (hops w (number_at w.routers t)) x links ≡ cost_along (graph_hops g t) v links) k.from.named
-    (same_cost (length w.routers) (number_at w.routers) (graph_hops g t) (hops w (number_at w.routers t)) (k.is_graph.mirrors t k.to.below) links v k.from.below))
+    subst₂ (λ x y. path_cost w x links y ≡ cost_of g t v links) k.from.named k.to.named (same_price w g t v k.is_graph k.to.below k.from.below links)
 
 pub path_in_graph : (w : Network) (g : GraphSeen) (p : List ℕ) (n m v t : ℕ) → IsWay w g p n m v t → (links : List ℕ) → is_path w n links m ≡ true → IsPath g t v links
 path_in_graph w g p n m v t k links path =
-    sym (same_walk w g p n m v t k links) ∙ (and_parts (is_on w n && is_on w m) (goes (hops w m) m (n ∷ []) n links) path).1
+    sym (same_way w g p n m v t k links) ∙ (and_parts (is_on w n && is_on w m) (goes (hops w m) m (n ∷ []) n links) path).1
 
 pub path_in_network : (w : Network) (g : GraphSeen) (p : List ℕ) (n m v t : ℕ) → IsWay w g p n m v t → (links : List ℕ) → IsPath g t v links → is_path w n links m ≡ true
 path_in_network w g p n m v t k links path =
-    and_from (is_on w n && is_on w m) (goes (hops w m) m (n ∷ []) n links) (and_from (is_on w n) (is_on w m) k.from.on k.to.on) (same_walk w g p n m v t k links ∙ path)
+    and_from (is_on w n && is_on w m) (goes (hops w m) m (n ∷ []) n links) (and_from (is_on w n) (is_on w m) k.from.on k.to.on) (same_way w g p n m v t k links ∙ path)
 
 -- the place of a way's start is one of the graph's
 pub start_below : (w : Network) (g : GraphSeen) (p : List ℕ) (n m v t : ℕ) → IsWay w g p n m v t → v < length g.through

@@ -4,8 +4,8 @@ use Rattle.std.specs.declared.option.Option.{Option}
 use Rattle.std.specs.declared.result.Result.{Result}
 use Rattle.std.specs.Cmp.Lexicographic.{slice_cmp}
 use Rattle.std.specs.Ordering.{nat_cmp, is_lt}
-use Rattle.std.specs.Option.{option_map, option_map_or, option_to_list}
-use Rattle.std.specs.List.{list_any, slice_index_or, flat_map}
+use Rattle.std.specs.Option.{option_map_or}
+use Rattle.std.specs.List.{list_any, slice_index_or}
 use Rattle.ctrl_model.specs.declared.kinds.RouterSeen.{RouterSeen}
 use Rattle.ctrl_model.specs.declared.refusals.Denial.{Denial}
 use Rattle.ctrl_model.specs.declared.refusals.Denial.TheVariants.{UnknownRouter, NoDial, NoSharedRouter, SharedRoutersOffline, NoTerminators, NoAdmissibleTerminator, NoPath, CircuitsFull}
@@ -26,6 +26,8 @@ use Rattle.circuit_rules.specs.Decisions.{route_of}
 use Rattle.circuit_rules.specs.declared.choosing.Choice.{Choice}
 use Rattle.circuit_rules.specs.declared.offers.Offer.{Offer}
 use Rattle.circuit_rules.specs.declared.places.Entry.{Entry}
+use Rattle.circuit_rules.specs.declared.places.Exit.{Exit}
+use Rattle.circuit_rules.specs.Offers.{offer_of}
 
 -- ---- rules, a part of them at a time
 
@@ -68,30 +70,25 @@ place_in (r ∷ routers) n = cond (r.no.0 == n) 0 (suc (place_in routers n))
 abbrev pub entry_of : List RouterSeen → RouterSeen → Entry
 entry_of routers r = record { place = place_in routers r.no.0; router = r.no }
 
+-- What a terminator offers as a circuit ends there.
+abbrev pub exit_from : List RouterSeen → Offer → Exit
+exit_from routers o = record { place = place_in routers o.router.0; terminator = o.terminator; cost = o.cost; precedence = o.precedence }
+
 -- A terminator as a circuit ends there.
-abbrev pub offer_of : List RouterSeen → ℕ × Terminator → Offer
-offer_of routers e =
-    record { place = place_in routers e.1.router; terminator = record { 0 = e.0 }; cost = e.1.cost; precedence = e.1.precedence }
+abbrev pub exit_of : List RouterSeen → ℕ × Terminator → Exit
+exit_of routers e = exit_from routers (offer_of e)
 
 -- Whether a request counts the terminator of a number.
 abbrev pub counts : Network → ℕ → List ℕ → ℕ → Bool
 counts w s instance n = option_map_or (λ e. is_counted s instance (n, e)) (at w.terminators n) false
 
--- The terminator of a number as a circuit ends there.
-abbrev pub offer_at : Network → ℕ → Option Offer
-offer_at w n = option_map (λ e. offer_of w.routers (n, e)) (at w.terminators n)
-
--- The terminators of numbers as circuits end there.
-abbrev pub offers_of : Network → List ℕ → List Offer
-offers_of w ns = flat_map (λ n. option_to_list (offer_at w n)) ns
-
 -- The entries of a request.
 abbrev pub entries_to : Network → Ask → ℕ → ℕ → List Entry
 entries_to w ask i s = map (entry_of w.routers) (ingresses w ask.ingress i s)
 
--- The offers of a request.
-abbrev pub offers_to : Network → Ask → ℕ → List Offer
-offers_to w ask s = map (offer_of w.routers) (admissible w s ask.instance)
+-- The exits of a request.
+abbrev pub exits_to : Network → Ask → ℕ → List Exit
+exits_to w ask s = map (exit_of w.routers) (admissible w s ask.instance)
 
 -- ---- least costs
 
@@ -99,13 +96,13 @@ offers_to w ask s = map (offer_of w.routers) (admissible w s ask.instance)
 abbrev pub costs_to : List (List ℕ) → ℕ → List ℕ
 costs_to costs place = slice_index_or costs place []
 
--- Whether one of the offers stands at a place.
-abbrev pub is_offered_at : List Offer → ℕ → Bool
-is_offered_at offers place = list_any (λ o. o.place == place) offers
+-- Whether one of the exits stands at a place.
+abbrev pub is_exit_at : List Exit → ℕ → Bool
+is_exit_at exits place = list_any (λ o. o.place == place) exits
 
--- The least costs of paths to a place, if it has an offer.
-abbrev pub AreCosts : GraphSeen → List Offer → ℕ → List ℕ → Type 0
-AreCosts g offers place p = is_offered_at offers place ≡ true → IsLeast g place p × AreFew g p
+-- The least costs of paths to a place, if it has an exit.
+abbrev pub AreCosts : GraphSeen → List Exit → ℕ → List ℕ → Type 0
+AreCosts g exits place p = is_exit_at exits place ≡ true → IsLeast g place p × AreFew g p
 
 -- Least costs, of which each is small.
 pub record AreSmall (places : ℕ) (p : List ℕ) : Type 0 where
@@ -122,8 +119,8 @@ key c = place_of c.precedence ∷ c.total ∷ c.terminator ∷ c.ingress ∷ c.f
 abbrev pub is_before : Choice → Choice → Bool
 is_before c d = is_lt (slice_cmp nat_cmp (key c) (key d))
 
--- The choice of an offer and an entry, if there is a path between them.
-abbrev pub choice_at : List ℕ → Offer → Entry → Option Choice
+-- The choice of an exit and an entry, if there is a path between them.
+abbrev pub choice_at : List ℕ → Exit → Entry → Option Choice
 choice_at p o x = cond (potential p x.place == no_path) None (Some (record {
   precedence = o.precedence;
   total = o.cost + potential p x.place;
@@ -139,15 +136,15 @@ keep best None = best
 keep None (Some c) = Some c
 keep (Some b) (Some c) = Some (cond (is_before c b) c b)
 
--- The first of a choice and those of one offer.
-abbrev pub first_of : List ℕ → Offer → Option Choice → List Entry → Option Choice
+-- The first of a choice and those of one exit.
+abbrev pub first_of : List ℕ → Exit → Option Choice → List Entry → Option Choice
 first_of p o best [] = best
 first_of p o best (x ∷ xs) = first_of p o (keep best (choice_at p o x)) xs
 
--- The first of a choice and those of some offers.
-abbrev pub first_of_all : List (List ℕ) → List Entry → Option Choice → List Offer → Option Choice
+-- The first of a choice and those of some exits.
+abbrev pub first_of_all : List (List ℕ) → List Entry → Option Choice → List Exit → Option Choice
 first_of_all costs entries best [] = best
-first_of_all costs entries best (o ∷ offers) = first_of_all costs entries (first_of (costs_to costs o.place) o best entries) offers
+first_of_all costs entries best (o ∷ exits) = first_of_all costs entries (first_of (costs_to costs o.place) o best entries) exits
 
 -- ---- the search
 
@@ -171,13 +168,13 @@ pub record IsGraphOf (w : Network) (g : GraphSeen) : Type 0 where
   pub places : length g.through ≡ length w.routers
   pub mirrors : (t : ℕ) → t < length w.routers → Mirrors (length w.routers) (number_at w.routers) (graph_hops g t) (hops w (number_at w.routers t))
 
--- What a search of a network between entries and offers finds.
-pub record IsSearched (w : Network) (entries : List Entry) (offers : List Offer) (found : Option Route) : Type 0 where
+-- What a search of a network between entries and exits finds.
+pub record IsSearched (w : Network) (entries : List Entry) (exits : List Exit) (found : Option Route) : Type 0 where
   pub graph : GraphSeen
   pub is_graph : IsGraphOf w graph
   pub costs : List (List ℕ)
-  pub least : (t : ℕ) → t < length w.routers → AreCosts graph offers t (costs_to costs t)
-  pub route : IsFound graph costs (first_of_all costs entries None offers) found
+  pub least : (t : ℕ) → t < length w.routers → AreCosts graph exits t (costs_to costs t)
+  pub route : IsFound graph costs (first_of_all costs entries None exits) found
 
 -- ---- the best route
 

@@ -12,9 +12,9 @@ use Rattle.circuit_rules.specs.declared.views.Wanted.TheVariants as wanted
 abbrev pub network : View → Network
 network v = record {
   routers = v.routers.now;
-  links = v.fabric.now.links;
+  links = v.fabric.now.links.rows;
   least = v.fabric.now.least;
-  terminators = v.terminators.now.terminators;
+  terminators = v.terminators.now.terminators.rows;
   dial = count_of v.dial.now;
   bind = count_of v.bind.now;
   identity_router = count_of v.identity_router.now;

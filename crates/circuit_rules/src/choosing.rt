@@ -3,8 +3,7 @@ ghost use Rattle.ctrl_model.specs.Claims.{no_path};
 ghost use Rattle.path_certificate.specs.Graphs.{potential};
 ghost use Rattle.circuit_rules.specs.Searched.{AreSmall, costs_to, is_before, choice_at, keep, first_of, first_of_all};
 
-use crate::offers::Offer;
-use crate::places::Entry;
+use crate::places::{Entry, Exit};
 use ctrl_model::{Potentials, Precedence};
 
 /// A terminator and an ingress with a path between them, which costs this much in all. The fields stand in the order in which
@@ -26,24 +25,24 @@ fn is_before(choice: &Choice, other: &Choice) -> bool
     choice.cmp(other).is_lt()
 }
 
-// The choice of an offer and an entry, if there is a path between them.
-fn choice_at(costs: &[u64], offer: &Offer, entry: &Entry) -> Option<Choice>
+// The choice of an exit and an entry, if there is a path between them.
+fn choice_at(costs: &[u64], exit: &Exit, entry: &Entry) -> Option<Choice>
     requires costs { AreSmall (length costs.now) costs.now }
     requires place { entry.now.place < length costs.now }
-    requires cost { offer.now.cost ≤ 65535 }
-    ensures { result ≡ choice_at costs.now offer.now entry.now }
+    requires cost { exit.now.cost ≤ 65535 }
+    ensures { result ≡ choice_at costs.now exit.now entry.now }
 {
     let cost = costs[entry.place as usize];
     if cost == u64::MAX {
         return None;
     }
     Some(Choice {
-        precedence: offer.precedence,
-        total: offer.cost + cost as u32,
-        terminator: offer.terminator.0,
+        precedence: exit.precedence,
+        total: exit.cost + cost as u32,
+        terminator: exit.terminator.0,
         ingress: entry.router.0,
         from: entry.place,
-        to: offer.place,
+        to: exit.place,
     })
 }
 
@@ -62,16 +61,16 @@ fn keep(best: Option<Choice>, other: Option<Choice>) -> Option<Choice>
     }
 }
 
-// The first of a choice and those of one offer.
-fn first_of(costs: &[u64], offer: &Offer, best: Option<Choice>, entries: &[Entry]) -> Option<Choice>
+// The first of a choice and those of one exit.
+fn first_of(costs: &[u64], exit: &Exit, best: Option<Choice>, entries: &[Entry]) -> Option<Choice>
     requires costs { AreSmall (length costs.now) costs.now }
     requires places { All (λ x. x.place < length costs.now) entries.now }
-    requires cost { offer.now.cost ≤ 65535 }
-    ensures { result ≡ first_of costs.now offer.now best entries.now }
+    requires cost { exit.now.cost ≤ 65535 }
+    ensures { result ≡ first_of costs.now exit.now best entries.now }
 {
     let mut best = best;
     'entries: for entry in entries {
-        let other = choice_at(costs, offer, entry);
+        let other = choice_at(costs, exit, entry);
         best = keep(best, other);
     }
     best
@@ -81,19 +80,19 @@ fn first_of(costs: &[u64], offer: &Offer, best: Option<Choice>, entries: &[Entry
 pub fn first_of_all(
     costs: &[Potentials],
     entries: &[Entry],
-    offers: &[Offer],
+    exits: &[Exit],
     places: usize,
 ) -> Option<Choice>
     requires places { All (λ x. x.place < places) entries.now }
-    requires offers { All (λ o. o.place < length costs.now) offers.now }
-    requires small { All (λ o. AreSmall places (costs_to costs.now o.place)) offers.now }
-    requires costs { All (λ o. o.cost ≤ 65535) offers.now }
-    ensures { result ≡ first_of_all costs.now entries.now None offers.now }
+    requires exits { All (λ o. o.place < length costs.now) exits.now }
+    requires small { All (λ o. AreSmall places (costs_to costs.now o.place)) exits.now }
+    requires costs { All (λ o. o.cost ≤ 65535) exits.now }
+    ensures { result ≡ first_of_all costs.now entries.now None exits.now }
 {
     let mut best = None;
-    'offers: for offer in offers {
-        let costs = costs[offer.place as usize].as_slice();
-        best = first_of(costs, offer, best, entries);
+    'exits: for exit in exits {
+        let costs = costs[exit.place as usize].as_slice();
+        best = first_of(costs, exit, best, entries);
     }
     best
 }

@@ -9,8 +9,9 @@ ghost use Rattle.circuit_rules.specs.Searched.{Passes, end_rules, costs_to, Goes
 
 use crate::choosing::{Choice, first_of_all};
 use crate::costs::costs;
-use crate::offers::{Offer, offers};
-use crate::places::{Entry, entries, ingresses};
+use crate::ingresses::allowed_ingresses;
+use crate::offers::allowed_offers;
+use crate::places::{Entry, Exit, entries, exits};
 use crate::views::{Ask, DecideFault, Route, View};
 use ctrl_model::{Denial, IdentityNo, Potentials, RouterNo, ServiceNo, TermNo};
 use path_certificate::Graph;
@@ -43,23 +44,23 @@ fn route_of(
     })
 }
 
-// The least route from one of the entries to one of the offers, if there is one.
+// The least route from one of the entries to one of the exits, if there is one.
 fn least_route(
     alloc: Global,
     view: &View,
     entries: &[Entry],
-    offers: &[Offer],
+    exits: &[Exit],
 ) -> Result<Option<Route>, AllocError>
     requires routers { AreRouters view.now.routers.now }
     requires entries { All (λ x. x.place < length view.now.routers.now) entries.now }
-    requires offers { All (λ o. o.place < length view.now.routers.now) offers.now }
-    requires costs { All (λ o. o.cost ≤ 65535) offers.now }
-    ensures { IfOk result (IsSearched (network view.now) entries.now offers.now) }
+    requires exits { All (λ o. o.place < length view.now.routers.now) exits.now }
+    requires costs { All (λ o. o.cost ≤ 65535) exits.now }
+    ensures { IfOk result (IsSearched (network view.now) entries.now exits.now) }
 {
     let graph = view.fabric.graph_of(alloc, view.routers)?;
-    let costs = costs(alloc, &graph, offers)?;
+    let costs = costs(alloc, &graph, exits)?;
     let costs = costs.as_slice();
-    let Some(choice) = first_of_all(costs, entries, offers, view.routers.len()) else {
+    let Some(choice) = first_of_all(costs, entries, exits, view.routers.len()) else {
         return Ok(None);
     };
     let route = route_of(alloc, &graph, costs, &choice)?;
@@ -80,10 +81,11 @@ fn best_route(
     requires what { (asked ask.now).service ≡ Some service.0 }
     ensures { Passes (end_rules (network view.now) (asked ask.now) identity.0 service.0) (IsBestWay (network view.now) (asked ask.now) identity.0 service.0) result }
 {
-    let ingresses = ingresses(alloc, view, ask.ingress, identity, service)?;
-    let offers = offers(alloc, view, service, &ask.instance)?;
+    let ingresses = allowed_ingresses(alloc, view, ask.ingress, identity, service)?;
+    let offers = allowed_offers(alloc, view, service, &ask.instance)?;
     let entries = entries(alloc, view.routers, ingresses.as_slice())?;
-    let route = least_route(alloc, view, entries.as_slice(), offers.as_slice())?;
+    let exits = exits(alloc, view.routers, offers.as_slice())?;
+    let route = least_route(alloc, view, entries.as_slice(), exits.as_slice())?;
     Ok(route)
 }
 

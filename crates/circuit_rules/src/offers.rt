@@ -1,30 +1,95 @@
-ghost use Rattle.std.specs.Prelude.{◌≡◌, ◌≤◌, length, map, not, IfOk};
-ghost use Rattle.std.specs.List.{list_any};
+ghost use Rattle.std.specs.Prelude.{◌≡◌, map, not, IfOk};
+ghost use Rattle.std.specs.List.{filter_map, list_any};
+ghost use Rattle.ctrl_model.specs.Choices.{place_of};
 ghost use Rattle.ctrl_model.specs.Matches.{is_nothing};
 ghost use Rattle.ctrl_model.specs.Networks.{is_counted, counted, admissible};
-ghost use Rattle.ctrl_model.specs.Numbered.{numbers};
-ghost use Rattle.terminators.specs.TermTables.{term_of, KeepsTerms};
+ghost use Rattle.terminators.specs.TermTables.{KeepsTerms};
 ghost use Rattle.circuit_rules.specs.Views.{network};
-ghost use Rattle.circuit_rules.specs.Searched.{Passes, offer_rules, offer_of, counts, offer_at, offers_of};
+ghost use Rattle.circuit_rules.specs.Offers.{offer_of, offer_at, is_carried};
+ghost use Rattle.circuit_rules.specs.Searched.{Passes, offer_rules, counts};
 
-use crate::places::place_of;
 use crate::views::{DecideFault, View};
-use ctrl_model::{Denial, Instance, Numbers, Precedence, ServiceNo, TermNo};
+use ctrl_model::{Denial, Instance, Precedence, RouterNo, ServiceNo, TermNo};
 use std::alloc::{AllocError, Global};
-use terminators::Term;
+use terminators::{Term, Terminators};
 
-/// A terminator where a circuit may end, and the place of its router.
-#[derive(Clone, Copy, Debug, PartialEq, Eq)]
+/// What a terminator offers to routes: where it stands, what it costs, and its precedence.
+#[derive(Clone, Copy)]
 pub struct Offer {
-    pub place: u16,
     pub terminator: TermNo,
+    pub router: RouterNo,
     pub cost: u32,
     pub precedence: Precedence,
 }
 
+/// The place of a precedence: required before default before failed.
+pub fn place_of(precedence: Precedence) -> u8
+    ensures { result ≡ place_of precedence }
+{
+    match precedence {
+        Precedence::Required => 1,
+        Precedence::Normal => 2,
+        Precedence::Failed => 3,
+    }
+}
+
+/// What the terminator of a number offers, if it is present.
+pub fn offer_at(terminators: &Terminators, no: TermNo) -> Option<Offer>
+    ensures { result ≡ offer_at terminators.now.terminators.rows no.0 }
+{
+    match terminators.get(no) {
+        Ok(term) => Some(Offer {
+            terminator: no,
+            router: term.router,
+            cost: term.cost,
+            precedence: term.precedence,
+        }),
+        Err(_) => None,
+    }
+}
+
+// What the present terminators of some numbers offer.
+fn offers_at(
+    alloc: Global,
+    terminators: &Terminators,
+    numbers: &[u32],
+) -> Result<Vec<Offer>, AllocError>
+    ensures { IfOk result (λ v. v.items ≡ filter_map (offer_at terminators.now.terminators.rows) numbers.now) }
+{
+    numbers
+        .iter()
+        .filter_map(|no| offer_at(terminators, TermNo(*no)))
+        .collect(alloc)
+}
+
+/// What the admissible terminators of a service and an instance offer, by ascending number.
+pub fn offers(
+    alloc: Global,
+    view: &View,
+    service: ServiceNo,
+    instance: &Instance,
+) -> Result<Vec<Offer>, AllocError>
+    ensures offers { IfOk result (λ v. v.items ≡ map offer_of (admissible (network view.now) service.0 instance.now)) }
+    // The terminators have different numbers, and each cost is in its range.
+    ensures keeps { KeepsTerms view.now.terminators.now }
+{
+    // Its contract says what the terminators keep.
+    let _next = view.terminators.next();
+    let numbers = view.terminators.admissible(
+        alloc,
+        service,
+        instance,
+        view.bind,
+        view.identity_router,
+        view.service_router,
+        view.routers,
+    )?;
+    offers_at(alloc, view.terminators, numbers.as_slice())
+}
+
 // Whether a request for the service and the instance counts the terminator.
 fn is_counted(service: ServiceNo, instance: &Instance, term: &Term) -> bool
-    ensures { result ≡ is_counted service.0 instance.now (0, term_of term.now) }
+    ensures { result ≡ is_counted service.0 instance.now (0, term.now) }
 {
     term.service.0 == service.0 && term.instance.bytes() == instance.bytes()
 }
@@ -62,77 +127,31 @@ fn has_counted(
     Ok(counts_one(view, service, instance, numbers.as_slice()))
 }
 
-// The numbers of the admissible terminators.
-fn admissible(
-    alloc: Global,
-    view: &View,
-    service: ServiceNo,
-    instance: &Instance,
-) -> Result<Numbers, AllocError>
-    ensures numbers { IfOk result (λ ns. ns ≡ numbers (admissible (network view.now) service.0 instance.now)) }
-    ensures keeps { KeepsTerms view.now.terminators.now }
-{
-    // Its contract says that the terminators have different numbers.
-    let _next = view.terminators.next();
-    view.terminators.admissible(
-        alloc,
-        service,
-        instance,
-        view.bind,
-        view.identity_router,
-        view.service_router,
-        view.routers,
-    )
-}
-
-// The terminator of a number as circuits end there.
-fn offer_at(view: &View, number: u32) -> Option<Offer>
-    requires { length view.now.routers.now ≤ 256 }
-    ensures { result ≡ offer_at (network view.now) number }
-{
-    let term = view.terminators.get(TermNo(number)).ok()?;
-    Some(Offer {
-        place: place_of(view.routers, term.router),
-        terminator: TermNo(number),
-        cost: term.cost,
-        precedence: term.precedence,
-    })
-}
-
-// The terminators of numbers as circuits end there.
-fn offers_of(alloc: Global, view: &View, numbers: &[u32]) -> Result<Vec<Offer>, AllocError>
-    requires { length view.now.routers.now ≤ 256 }
-    ensures { IfOk result (λ v. v.items ≡ offers_of (network view.now) numbers.now) }
-{
-    let mut offers = Vec::with_capacity(alloc, numbers.len())?;
-    'numbers: for number in numbers {
-        let Some(offer) = offer_at(view, *number) else {
-            continue;
-        };
-        offers.push(offer)?;
-    }
-    Ok(offers)
-}
-
-/// The terminators where a circuit may end: `Denied` comes where a rule on them fails.
-pub fn offers(
+/// What the terminators where a circuit may end offer: `Denied` comes where a rule on them fails.
+pub fn allowed_offers(
     alloc: Global,
     view: &View,
     service: ServiceNo,
     instance: &Instance,
 ) -> Result<Vec<Offer>, DecideFault>
-    requires { length view.now.routers.now ≤ 256 }
-    ensures offers { Passes (offer_rules (network view.now) service.0 instance.now) (λ v. v.items ≡ map (offer_of view.now.routers.now) (admissible (network view.now) service.0 instance.now)) result }
+    ensures offers { Passes (offer_rules (network view.now) service.0 instance.now) (λ v. v.items ≡ map offer_of (admissible (network view.now) service.0 instance.now)) result }
     // The terminators have different numbers, and each cost is in its range.
     ensures keeps { KeepsTerms view.now.terminators.now }
 {
-    let numbers = admissible(alloc, view, service, instance)?;
-    if !numbers.is_empty() {
-        return Ok(offers_of(alloc, view, numbers.as_slice())?);
+    let offers = offers(alloc, view, service, instance)?;
+    if !offers.is_empty() {
+        return Ok(offers);
     }
     if has_counted(alloc, view, service, instance)? {
         Err(DecideFault::Denied(Denial::NoAdmissibleTerminator))
     } else {
         Err(DecideFault::Denied(Denial::NoTerminators))
     }
+}
+
+/// Whether one of these stands on the router and has a precedence of at most the place.
+pub fn is_carried(offers: &[Offer], place: u8, router: RouterNo) -> bool
+    ensures { result ≡ is_carried offers.now place router.0 }
+{
+    offers.iter().any(|offer| offer.router.0 == router.0 && place_of(offer.precedence) <= place)
 }

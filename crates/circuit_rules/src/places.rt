@@ -1,11 +1,8 @@
-ghost use Rattle.std.specs.Prelude.{◌≡◌, ◌≤◌, ◌&&◌, length, map, filter, IfOk};
-ghost use Rattle.ctrl_model.specs.Choices.{is_wanted, shared, ingresses};
-ghost use Rattle.ctrl_model.specs.Networks.{is_shared};
-ghost use Rattle.circuit_rules.specs.Views.{network, wanted_of};
-ghost use Rattle.circuit_rules.specs.Searched.{Passes, entry_rules, place_in, entry_of};
+ghost use Rattle.std.specs.Prelude.{◌≡◌, ◌≤◌, length, map, IfOk};
+ghost use Rattle.circuit_rules.specs.Searched.{place_in, entry_of, exit_from};
 
-use crate::views::{DecideFault, View, Wanted};
-use ctrl_model::{Denial, IdentityNo, RouterNo, RouterSeen, ServiceNo};
+use crate::offers::Offer;
+use ctrl_model::{Precedence, RouterNo, RouterSeen, TermNo};
 use std::alloc::{AllocError, Global};
 
 /// A router where a circuit may enter, and its place.
@@ -15,85 +12,19 @@ pub struct Entry {
     pub router: RouterNo,
 }
 
-// Whether the request allows the router as its ingress.
-fn is_wanted(ingress: Wanted, router: RouterNo) -> bool
-    ensures { result ≡ is_wanted (wanted_of ingress) router.0 }
-{
-    match ingress {
-        Wanted::Any => true,
-        Wanted::Absent => false,
-        Wanted::One(wanted) => wanted.0 == router.0,
-    }
-}
-
-// Whether identity and service share the router.
-fn is_shared(view: &View, identity: IdentityNo, service: ServiceNo, router: RouterNo) -> bool
-    ensures { result ≡ is_shared (network view.now) identity.0 service.0 router.0 }
-{
-    view.identity_router.count(identity.0, router.0) > 0
-        && view.service_router.count(service.0, router.0) > 0
-}
-
-// The routers that identity and service share, of which only the named one counts where one is named.
-fn shared(
-    alloc: Global,
-    view: &View,
-    ingress: Wanted,
-    identity: IdentityNo,
-    service: ServiceNo,
-) -> Result<Vec<RouterSeen>, AllocError>
-    ensures { IfOk result (λ v. v.items ≡ shared (network view.now) (wanted_of ingress) identity.0 service.0) }
-{
-    view.routers
-        .iter()
-        .copied()
-        .filter(|router| is_wanted(ingress, router.no)
-            && is_shared(view, identity, service, router.no))
-        .collect(alloc)
-}
-
-// Those of the routers that are connected.
-fn connected(alloc: Global, routers: &[RouterSeen]) -> Result<Vec<RouterSeen>, AllocError>
-    ensures { IfOk result (λ v. v.items ≡ filter (λ r. r.connected) routers.now) }
-{
-    routers
-        .iter()
-        .copied()
-        .filter(|router| router.connected)
-        .collect(alloc)
-}
-
-/// The routers where a circuit may enter: `Denied` comes where a rule on them fails.
-pub fn ingresses(
-    alloc: Global,
-    view: &View,
-    ingress: Wanted,
-    identity: IdentityNo,
-    service: ServiceNo,
-) -> Result<Vec<RouterSeen>, DecideFault>
-    ensures { Passes (entry_rules (network view.now) (wanted_of ingress) identity.0 service.0) (λ v. v.items ≡ ingresses (network view.now) (wanted_of ingress) identity.0 service.0) result }
-{
-    if ingress == Wanted::Absent {
-        return Err(DecideFault::Denied(Denial::UnknownRouter));
-    }
-    if view.dial.count(identity.0, service.0) == 0 {
-        return Err(DecideFault::Denied(Denial::NoDial));
-    }
-    let shared = shared(alloc, view, ingress, identity, service)?;
-    if shared.is_empty() {
-        return Err(DecideFault::Denied(Denial::NoSharedRouter));
-    }
-    let connected = connected(alloc, shared.as_slice())?;
-    if connected.is_empty() {
-        return Err(DecideFault::Denied(Denial::SharedRoutersOffline));
-    }
-    Ok(connected)
+/// A terminator where a circuit may end, and the place of its router.
+#[derive(Clone, Copy, Debug, PartialEq, Eq)]
+pub struct Exit {
+    pub place: u16,
+    pub terminator: TermNo,
+    pub cost: u32,
+    pub precedence: Precedence,
 }
 
 /// The place of the router of a number: how many stand before it.
-pub fn place_of(routers: &[RouterSeen], router: RouterNo) -> u16
-    requires { length routers.now ≤ 256 }
-    ensures { result ≡ place_in routers.now router.0 }
+pub fn place_in(routers: &[RouterSeen], router: RouterNo) -> usize
+    ensures place { result ≡ place_in routers.now router.0 }
+    ensures most { result ≤ length routers.now }
 {
     let mut place = 0;
     'routers: for other in routers {
@@ -117,8 +48,28 @@ pub fn entries(
     ingresses
         .iter()
         .map(|ingress| Entry {
-            place: place_of(routers, ingress.no),
+            place: place_in(routers, ingress.no) as u16,
             router: ingress.no,
+        })
+        .collect(alloc)
+}
+
+/// Some offers as circuits end there.
+pub fn exits(
+    alloc: Global,
+    routers: &[RouterSeen],
+    offers: &[Offer],
+) -> Result<Vec<Exit>, AllocError>
+    requires { length routers.now ≤ 256 }
+    ensures { IfOk result (λ v. v.items ≡ map (exit_from routers.now) offers.now) }
+{
+    offers
+        .iter()
+        .map(|offer| Exit {
+            place: place_in(routers, offer.router) as u16,
+            terminator: offer.terminator,
+            cost: offer.cost,
+            precedence: offer.precedence,
         })
         .collect(alloc)
 }

@@ -6,11 +6,12 @@ use Rattle.ctrl_model.specs.declared.kinds.Kind.{Kind}
 use Rattle.ctrl_model.specs.declared.kinds.Kind.TheVariants as kind
 use Rattle.ctrl_model.specs.declared.kinds.Relation.{Relation}
 use Rattle.ctrl_model.specs.declared.kinds.Relation.TheVariants.{Dial, Bind, IdentityRouter, ServiceRouter}
-use Rattle.ctrl_model.specs.Numbered.{at, with_last, edit_at, without, first_where, Between}
+use Rattle.ctrl_model.specs.Numbered.{with_removed, with_edit, at, with_last, edit_at, without, first_where, Between}
 use Rattle.ctrl_model.specs.State.{State, Entity, Router, as_entity, entity_named, router_named}
 use Rattle.ctrl_model.specs.Grants.{count}
 use Rattle.ctrl_model.specs.ShowCommands.{router_entities}
-use Rattle.ctrl_model.specs.EntityCommands.{after_create_router}
+use Rattle.ctrl_model.specs.RecordCommands.{after_create, after_edit, after_remove, forgotten}
+use Rattle.ctrl_model.specs.EntityCommands.{described, new_router}
 use Rattle.ctrl_model.specs.ValidState.{ValidState, HaveUniqueNames}
 use Rattle.ctrl_model.proofs.DistinctLaws.{same_name}
 use Rattle.ctrl_model.proofs.NumberedLaws.{at-map, at-map-back, at-with_last, at-with_last-other, at-edit_at, at-edit_at-other, at-without, at-without-other, at-without-back, Between-map}
@@ -22,46 +23,45 @@ use Rattle.grant_moves.proofs.EntityMoves.{entity_leads}
 use Rattle.grant_moves.proofs.ForgottenNames.{forget_left_leaves, forget_right_leaves}
 use Rattle.grant_moves.proofs.LeadingCounts.{leads_on, unchanged_leads}
 use Rattle.policy_store.specs.declared.steps.GrantSteps.{GrantSteps}
-use Rattle.ctrl_core.specs.Changes.{is_plain_kind, with_plain, with_described, with_removed}
+use Rattle.ctrl_core.specs.Changes.{is_plain_kind, with_plain, with_described, without_named}
 use Rattle.policy_store.specs.GrantChanges.{HasNoSteps, steps_of}
 use Rattle.policy_store.specs.GrantChanges.{MovedEntity, StepsOfEntity}
-use Rattle.ctrl_core.specs.PlannedCommands.{described_as}
 
 -- ---- one entity that differs
 
 -- the entities of a kind in a state
 abbrev pub entities_in : Kind → State → List (ℕ × Entity)
-entities_in kind.Identity s = s.identities
-entities_in kind.Service s = s.services
+entities_in kind.Identity s = s.identities.rows
+entities_in kind.Service s = s.services.rows
 entities_in kind.Router s = router_entities s
 entities_in _ s = []
 
 -- the number that the next entity of a kind gets
 abbrev pub next_in : Kind → State → ℕ
-next_in kind.Identity s = s.next_identity
-next_in kind.Service s = s.next_service
-next_in kind.Router s = s.next_router
+next_in kind.Identity s = s.identities.next
+next_in kind.Service s = s.services.next
+next_in kind.Router s = s.routers.next
 next_in _ s = 1
 
 -- the number that a name of a kind finds
 abbrev pub named_in : Kind → List ℕ → State → Option ℕ
-named_in kind.Identity name s = entity_named s.identities name
-named_in kind.Service name s = entity_named s.services name
-named_in kind.Router name s = router_named s.routers name
+named_in kind.Identity name s = entity_named s.identities.rows name
+named_in kind.Service name s = entity_named s.services.rows name
+named_in kind.Router name s = router_named s.routers.rows name
 named_in _ name s = None
 
 -- the entities of the other two kinds are the same
 abbrev pub OthersStay : Kind → State → State → Type 0
-OthersStay kind.Identity s t = (t.services ≡ s.services) × (router_entities t ≡ router_entities s)
-OthersStay kind.Service s t = (t.identities ≡ s.identities) × (router_entities t ≡ router_entities s)
-OthersStay kind.Router s t = (t.identities ≡ s.identities) × (t.services ≡ s.services)
+OthersStay kind.Identity s t = (t.services.rows ≡ s.services.rows) × (router_entities t ≡ router_entities s)
+OthersStay kind.Service s t = (t.identities.rows ≡ s.identities.rows) × (router_entities t ≡ router_entities s)
+OthersStay kind.Router s t = (t.identities.rows ≡ s.identities.rows) × (t.services.rows ≡ s.services.rows)
 OthersStay _ s t = ⊥
 
 -- the policies of two states are the same
 pub record PoliciesStay (s t : State) : Type 0 where
-  pub service : t.service_policies ≡ s.service_policies
-  pub edge_router : t.edge_router_policies ≡ s.edge_router_policies
-  pub service_edge_router : t.service_edge_router_policies ≡ s.service_edge_router_policies
+  pub service : t.service_policies.rows ≡ s.service_policies.rows
+  pub edge_router : t.edge_router_policies.rows ≡ s.edge_router_policies.rows
+  pub service_edge_router : t.service_edge_router_policies.rows ≡ s.service_edge_router_policies.rows
 
 -- one entity of a kind differs between two states
 pub record DiffersAt (k : Kind) (x : ℕ) (m : MovedEntity) (s t : State) : Type 0 where
@@ -71,8 +71,8 @@ pub record DiffersAt (k : Kind) (x : ℕ) (m : MovedEntity) (s t : State) : Type
   pub apart : OthersStay k s t
   pub policies : PoliciesStay s t
 
-routers_ordered : (s : State) → ValidState s → Between 1 s.next_router (router_entities s)
-routers_ordered s v = Between-map (λ row. as_entity row.1) s.next_router s.routers 1 v.routers.numbers.ordered
+routers_ordered : (s : State) → ValidState s → Between 1 s.routers.next (router_entities s)
+routers_ordered s v = Between-map (λ row. as_entity row.1) s.routers.next s.routers.rows 1 (v.kinds kind.Router).numbers.ordered
 
 -- where nothing of a relation differs, no steps lead
 still : (r : Relation) (s t : State) (ds : List Delta) → ds ≡ [] → LeadCounts (count r s) (count r t) [] → LeadCounts (count r s) (count r t) ds
@@ -82,27 +82,27 @@ still r s t ds none leads = subst (λ es. LeadCounts (count r s) (count r t) es)
 pub differing_leads : (k : Kind) (x : ℕ) (m : MovedEntity) (s t : State) (steps : GrantSteps) → DiffersAt k x m s t → ValidState s → StepsOfEntity k x m s steps
     → (r : Relation) → LeadCounts (count r s) (count r t) (steps_of r steps)
 differing_leads kind.Identity x m s t steps d v is Dial = entity_leads Dial true x m.before m.after s t steps.dial.items
-    (record { policies = d.policies.service; entity_was = d.before_is; entity_is = d.after_is; others = d.others; partners = d.apart.0; high = s.next_service; ordered = v.services.numbers.ordered }) is.dial.up is.dial.down
+    (record { policies = d.policies.service; entity_was = d.before_is; entity_is = d.after_is; others = d.others; partners = d.apart.0; high = s.services.next; ordered = (v.kinds kind.Service).numbers.ordered }) is.dial.up is.dial.down
 differing_leads kind.Identity x m s t steps d v is Bind = entity_leads Bind true x m.before m.after s t steps.bind.items
-    (record { policies = d.policies.service; entity_was = d.before_is; entity_is = d.after_is; others = d.others; partners = d.apart.0; high = s.next_service; ordered = v.services.numbers.ordered }) is.bind.up is.bind.down
+    (record { policies = d.policies.service; entity_was = d.before_is; entity_is = d.after_is; others = d.others; partners = d.apart.0; high = s.services.next; ordered = (v.kinds kind.Service).numbers.ordered }) is.bind.up is.bind.down
 differing_leads kind.Identity x m s t steps d v is IdentityRouter = entity_leads IdentityRouter true x m.before m.after s t steps.identity_router.items
-    (record { policies = d.policies.edge_router; entity_was = d.before_is; entity_is = d.after_is; others = d.others; partners = d.apart.1; high = s.next_router; ordered = routers_ordered s v }) is.identity_router.up is.identity_router.down
+    (record { policies = d.policies.edge_router; entity_was = d.before_is; entity_is = d.after_is; others = d.others; partners = d.apart.1; high = s.routers.next; ordered = routers_ordered s v }) is.identity_router.up is.identity_router.down
 differing_leads kind.Identity x m s t steps d v is ServiceRouter =
     still ServiceRouter s t steps.service_router.items is.service_router (unchanged_leads ServiceRouter s t d.policies.service_edge_router d.apart.0 d.apart.1)
 differing_leads kind.Service x m s t steps d v is Dial = entity_leads Dial false x m.before m.after s t steps.dial.items
-    (record { policies = d.policies.service; entity_was = d.before_is; entity_is = d.after_is; others = d.others; partners = d.apart.0; high = s.next_identity; ordered = v.identities.numbers.ordered }) is.dial.up is.dial.down
+    (record { policies = d.policies.service; entity_was = d.before_is; entity_is = d.after_is; others = d.others; partners = d.apart.0; high = s.identities.next; ordered = (v.kinds kind.Identity).numbers.ordered }) is.dial.up is.dial.down
 differing_leads kind.Service x m s t steps d v is Bind = entity_leads Bind false x m.before m.after s t steps.bind.items
-    (record { policies = d.policies.service; entity_was = d.before_is; entity_is = d.after_is; others = d.others; partners = d.apart.0; high = s.next_identity; ordered = v.identities.numbers.ordered }) is.bind.up is.bind.down
+    (record { policies = d.policies.service; entity_was = d.before_is; entity_is = d.after_is; others = d.others; partners = d.apart.0; high = s.identities.next; ordered = (v.kinds kind.Identity).numbers.ordered }) is.bind.up is.bind.down
 differing_leads kind.Service x m s t steps d v is IdentityRouter =
     still IdentityRouter s t steps.identity_router.items is.identity_router (unchanged_leads IdentityRouter s t d.policies.edge_router d.apart.0 d.apart.1)
 differing_leads kind.Service x m s t steps d v is ServiceRouter = entity_leads ServiceRouter true x m.before m.after s t steps.service_router.items
-    (record { policies = d.policies.service_edge_router; entity_was = d.before_is; entity_is = d.after_is; others = d.others; partners = d.apart.1; high = s.next_router; ordered = routers_ordered s v }) is.service_router.up is.service_router.down
+    (record { policies = d.policies.service_edge_router; entity_was = d.before_is; entity_is = d.after_is; others = d.others; partners = d.apart.1; high = s.routers.next; ordered = routers_ordered s v }) is.service_router.up is.service_router.down
 differing_leads kind.Router x m s t steps d v is Dial = still Dial s t steps.dial.items is.dial (unchanged_leads Dial s t d.policies.service d.apart.0 d.apart.1)
 differing_leads kind.Router x m s t steps d v is Bind = still Bind s t steps.bind.items is.bind (unchanged_leads Bind s t d.policies.service d.apart.0 d.apart.1)
 differing_leads kind.Router x m s t steps d v is IdentityRouter = entity_leads IdentityRouter false x m.before m.after s t steps.identity_router.items
-    (record { policies = d.policies.edge_router; entity_was = d.before_is; entity_is = d.after_is; others = d.others; partners = d.apart.0; high = s.next_identity; ordered = v.identities.numbers.ordered }) is.identity_router.up is.identity_router.down
+    (record { policies = d.policies.edge_router; entity_was = d.before_is; entity_is = d.after_is; others = d.others; partners = d.apart.0; high = s.identities.next; ordered = (v.kinds kind.Identity).numbers.ordered }) is.identity_router.up is.identity_router.down
 differing_leads kind.Router x m s t steps d v is ServiceRouter = entity_leads ServiceRouter false x m.before m.after s t steps.service_router.items
-    (record { policies = d.policies.service_edge_router; entity_was = d.before_is; entity_is = d.after_is; others = d.others; partners = d.apart.1; high = s.next_service; ordered = v.services.numbers.ordered }) is.service_router.up is.service_router.down
+    (record { policies = d.policies.service_edge_router; entity_was = d.before_is; entity_is = d.after_is; others = d.others; partners = d.apart.1; high = s.services.next; ordered = (v.kinds kind.Service).numbers.ordered }) is.service_router.up is.service_router.down
 differing_leads _ x m s t steps d v is r = absurd d.apart
 
 -- ---- what stands at a number after a change, of entities and of records that are seen as entities
@@ -135,33 +135,33 @@ seen_alike rows others n e = seen_at rows n (at others n) e ∙ sym (at-map (λ 
 pub added_leads : (k : Kind) (name : List ℕ) (attributes : List (List ℕ)) (s : State) (steps : GrantSteps) → is_plain_kind k ≡ true → ValidState s
     → StepsOfEntity k (next_in k s) (record { before = None; after = Some (record { name = name; attributes = attributes }) }) s steps
     → (r : Relation) → LeadCounts (count r s) (count r (with_plain k name attributes s)) (steps_of r steps)
-added_leads kind.Identity name attributes s steps plain v is = differing_leads kind.Identity s.next_identity _ s (with_plain kind.Identity name attributes s) steps
+added_leads kind.Identity name attributes s steps plain v is = differing_leads kind.Identity s.identities.next _ s (with_plain kind.Identity name attributes s) steps
     (record {
-      before_is = at-next v.identities.numbers;
-      after_is = stands_last s.identities s.next_identity _ (at-next v.identities.numbers);
-      others = λ n ne. at-with_last-other s.identities s.next_identity n _ ne;
+      before_is = at-next (v.kinds kind.Identity).numbers;
+      after_is = stands_last s.identities.rows s.identities.next _ (at-next (v.kinds kind.Identity).numbers);
+      others = λ n ne. at-with_last-other s.identities.rows s.identities.next n _ ne;
       apart = (refl, refl);
       policies = record { service = refl; edge_router = refl; service_edge_router = refl };
     }) v is
-added_leads kind.Service name attributes s steps plain v is = differing_leads kind.Service s.next_service _ s (with_plain kind.Service name attributes s) steps
+added_leads kind.Service name attributes s steps plain v is = differing_leads kind.Service s.services.next _ s (with_plain kind.Service name attributes s) steps
     (record {
-      before_is = at-next v.services.numbers;
-      after_is = stands_last s.services s.next_service _ (at-next v.services.numbers);
-      others = λ n ne. at-with_last-other s.services s.next_service n _ ne;
+      before_is = at-next (v.kinds kind.Service).numbers;
+      after_is = stands_last s.services.rows s.services.next _ (at-next (v.kinds kind.Service).numbers);
+      others = λ n ne. at-with_last-other s.services.rows s.services.next n _ ne;
       apart = (refl, refl);
       policies = record { service = refl; edge_router = refl; service_edge_router = refl };
     }) v is
 added_leads _ name attributes s steps plain v is = absurd (false≢true plain)
 
 pub added_router_leads : (name : List ℕ) (attributes : List (List ℕ)) (cost : ℕ) (no_traversal : Bool) (s : State) (steps : GrantSteps) → ValidState s
-    → StepsOfEntity kind.Router s.next_router (record { before = None; after = Some (record { name = name; attributes = attributes }) }) s steps
-    → (r : Relation) → LeadCounts (count r s) (count r (after_create_router name attributes cost no_traversal s)) (steps_of r steps)
+    → StepsOfEntity kind.Router s.routers.next (record { before = None; after = Some (record { name = name; attributes = attributes }) }) s steps
+    → (r : Relation) → LeadCounts (count r s) (count r (after_create kind.Router (new_router name attributes cost no_traversal) s)) (steps_of r steps)
 added_router_leads name attributes cost no_traversal s steps v is =
-    differing_leads kind.Router s.next_router _ s (after_create_router name attributes cost no_traversal s) steps
+    differing_leads kind.Router s.routers.next _ s (after_create kind.Router (new_router name attributes cost no_traversal) s) steps
     (record {
-      before_is = seen_at s.routers s.next_router None (at-next v.routers.numbers);
-      after_is = seen_at (with_last s.routers s.next_router made) s.next_router (Some made) (stands_last s.routers s.next_router made (at-next v.routers.numbers));
-      others = λ n ne. seen_alike (with_last s.routers s.next_router made) s.routers n (at-with_last-other s.routers s.next_router n made ne);
+      before_is = seen_at s.routers.rows s.routers.next None (at-next (v.kinds kind.Router).numbers);
+      after_is = seen_at (with_last s.routers.rows s.routers.next made) s.routers.next (Some made) (stands_last s.routers.rows s.routers.next made (at-next (v.kinds kind.Router).numbers));
+      others = λ n ne. seen_alike (with_last s.routers.rows s.routers.next made) s.routers.rows n (at-with_last-other s.routers.rows s.routers.next n made ne);
       apart = (refl, refl);
       policies = record { service = refl; edge_router = refl; service_edge_router = refl };
     }) v is
@@ -172,21 +172,21 @@ added_router_leads name attributes cost no_traversal s steps v is =
 -- ---- an entity that is described
 
 pub described_leads : (k : Kind) (n : ℕ) (attributes : List (List ℕ)) (s : State) (steps : GrantSteps) → is_plain_kind k ≡ true → ValidState s
-    → StepsOfEntity k n (record { before = at (entities_in k s) n; after = option_map (described_as attributes) (at (entities_in k s) n) }) s steps
+    → StepsOfEntity k n (record { before = at (entities_in k s) n; after = option_map (described attributes) (at (entities_in k s) n) }) s steps
     → (r : Relation) → LeadCounts (count r s) (count r (with_described k n attributes s)) (steps_of r steps)
 described_leads kind.Identity n attributes s steps plain v is = differing_leads kind.Identity n _ s (with_described kind.Identity n attributes s) steps
     (record {
       before_is = refl;
-      after_is = stands_edited s.identities n (described_as attributes);
-      others = λ m ne. at-edit_at-other s.identities n m (described_as attributes) ne;
+      after_is = stands_edited s.identities.rows n (described attributes);
+      others = λ m ne. at-edit_at-other s.identities.rows n m (described attributes) ne;
       apart = (refl, refl);
       policies = record { service = refl; edge_router = refl; service_edge_router = refl };
     }) v is
 described_leads kind.Service n attributes s steps plain v is = differing_leads kind.Service n _ s (with_described kind.Service n attributes s) steps
     (record {
       before_is = refl;
-      after_is = stands_edited s.services n (described_as attributes);
-      others = λ m ne. at-edit_at-other s.services n m (described_as attributes) ne;
+      after_is = stands_edited s.services.rows n (described attributes);
+      others = λ m ne. at-edit_at-other s.services.rows n m (described attributes) ne;
       apart = (refl, refl);
       policies = record { service = refl; edge_router = refl; service_edge_router = refl };
     }) v is
@@ -194,22 +194,22 @@ described_leads _ n attributes s steps plain v is = absurd (false≢true plain)
 
 -- a router, whatever becomes of its cost and its marks
 pub described_router_leads : (n : ℕ) (attributes : List (List ℕ)) (f : Router → Router) (s : State) (steps : GrantSteps) → ValidState s
-    → ((r : Router) → as_entity (f r) ≡ described_as attributes (as_entity r))
-    → StepsOfEntity kind.Router n (record { before = at (router_entities s) n; after = option_map (described_as attributes) (at (router_entities s) n) }) s steps
-    → (r : Relation) → LeadCounts (count r s) (count r (record s { routers = edit_at s.routers n f })) (steps_of r steps)
-described_router_leads n attributes f s steps v same is = differing_leads kind.Router n _ s (record s { routers = edit_at s.routers n f }) steps
+    → ((r : Router) → as_entity (f r) ≡ described attributes (as_entity r))
+    → StepsOfEntity kind.Router n (record { before = at (router_entities s) n; after = option_map (described attributes) (at (router_entities s) n) }) s steps
+    → (r : Relation) → LeadCounts (count r s) (count r (record s { routers = with_edit n f s.routers })) (steps_of r steps)
+described_router_leads n attributes f s steps v same is = differing_leads kind.Router n _ s (record s { routers = with_edit n f s.routers }) steps
     (record {
       before_is = refl;
-      after_is = seen_at (edit_at s.routers n f) n (option_map f (at s.routers n)) (stands_edited s.routers n f)
-          ∙ described (at s.routers n) ∙ ap (option_map (described_as attributes)) (sym (at-map (λ row. as_entity row.1) s.routers n));
-      others = λ m ne. seen_alike (edit_at s.routers n f) s.routers m (at-edit_at-other s.routers n m f ne);
+      after_is = seen_at (edit_at s.routers.rows n f) n (option_map f (at s.routers.rows n)) (stands_edited s.routers.rows n f)
+          ∙ alike (at s.routers.rows n) ∙ ap (option_map (described attributes)) (sym (at-map (λ row. as_entity row.1) s.routers.rows n));
+      others = λ m ne. seen_alike (edit_at s.routers.rows n f) s.routers.rows m (at-edit_at-other s.routers.rows n m f ne);
       apart = (refl, refl);
       policies = record { service = refl; edge_router = refl; service_edge_router = refl };
     }) v is
   where
-    described : (o : Option Router) → option_map as_entity (option_map f o) ≡ option_map (described_as attributes) (option_map as_entity o)
-    described None = refl
-    described (Some r) = ap Some (same r)
+    alike : (o : Option Router) → option_map as_entity (option_map f o) ≡ option_map (described attributes) (option_map as_entity o)
+    alike None = refl
+    alike (Some r) = ap Some (same r)
 
 -- ---- a router whose marks change
 
@@ -224,13 +224,13 @@ same_entities (x ∷ rows) n f same =
     by false = refl
 
 pub marked_leads : (n : ℕ) (f : Router → Router) (s : State) (steps : GrantSteps) → ((r : Router) → as_entity (f r) ≡ as_entity r) → HasNoSteps steps
-    → (r : Relation) → LeadCounts (count r s) (count r (record s { routers = edit_at s.routers n f })) (steps_of r steps)
-marked_leads n f s steps same none Dial = still Dial s (record s { routers = edit_at s.routers n f }) steps.dial.items none.dial (unchanged_leads Dial s (record s { routers = edit_at s.routers n f }) refl refl refl)
-marked_leads n f s steps same none Bind = still Bind s (record s { routers = edit_at s.routers n f }) steps.bind.items none.bind (unchanged_leads Bind s (record s { routers = edit_at s.routers n f }) refl refl refl)
+    → (r : Relation) → LeadCounts (count r s) (count r (record s { routers = with_edit n f s.routers })) (steps_of r steps)
+marked_leads n f s steps same none Dial = still Dial s (record s { routers = with_edit n f s.routers }) steps.dial.items none.dial (unchanged_leads Dial s (record s { routers = with_edit n f s.routers }) refl refl refl)
+marked_leads n f s steps same none Bind = still Bind s (record s { routers = with_edit n f s.routers }) steps.bind.items none.bind (unchanged_leads Bind s (record s { routers = with_edit n f s.routers }) refl refl refl)
 marked_leads n f s steps same none IdentityRouter =
-    still IdentityRouter s (record s { routers = edit_at s.routers n f }) steps.identity_router.items none.identity_router (unchanged_leads IdentityRouter s (record s { routers = edit_at s.routers n f }) refl refl (same_entities s.routers n f same))
+    still IdentityRouter s (record s { routers = with_edit n f s.routers }) steps.identity_router.items none.identity_router (unchanged_leads IdentityRouter s (record s { routers = with_edit n f s.routers }) refl refl (same_entities s.routers.rows n f same))
 marked_leads n f s steps same none ServiceRouter =
-    still ServiceRouter s (record s { routers = edit_at s.routers n f }) steps.service_router.items none.service_router (unchanged_leads ServiceRouter s (record s { routers = edit_at s.routers n f }) refl refl (same_entities s.routers n f same))
+    still ServiceRouter s (record s { routers = with_edit n f s.routers }) steps.service_router.items none.service_router (unchanged_leads ServiceRouter s (record s { routers = with_edit n f s.routers }) refl refl (same_entities s.routers.rows n f same))
 
 -- ---- an entity that goes
 
@@ -244,74 +244,74 @@ unnamed name_of high rows n name unique b found m r stands = false_from_ne_true 
 
 pub removed_leads : (k : Kind) (n : ℕ) (name : List ℕ) (s : State) (steps : GrantSteps) → is_entity_kind k ≡ true → ValidState s → named_in k name s ≡ Some n
     → StepsOfEntity k n (record { before = at (entities_in k s) n; after = None }) s steps
-    → (r : Relation) → LeadCounts (count r s) (count r (with_removed k n name s)) (steps_of r steps)
+    → (r : Relation) → LeadCounts (count r s) (count r (without_named k n name s)) (steps_of r steps)
 removed_leads kind.Identity n name s steps is_kind v found is r =
-    leads_on (count r s) (count r bare) (count r (with_removed kind.Identity n name s)) (steps_of r steps)
+    leads_on (count r s) (count r bare) (count r (without_named kind.Identity n name s)) (steps_of r steps)
     (differing_leads kind.Identity n _ s bare steps
     (record {
       before_is = refl;
-      after_is = gone_at s.next_identity s.identities n v.identities.numbers.ordered;
-      others = λ m ne. at-without-other s.identities n m ne;
+      after_is = gone_at s.identities.next s.identities.rows n (v.kinds kind.Identity).numbers.ordered;
+      others = λ m ne. at-without-other s.identities.rows n m ne;
       apart = (refl, refl);
       policies = record { service = refl; edge_router = refl; service_edge_router = refl };
     }) v is r) (λ a b. forgotten r a b)
   where
     bare : State
-    bare = record s { identities = without s.identities n }
+    bare = record s { identities = with_removed n s.identities }
 
-    absent : (m : ℕ) (e : Entity) → at (without s.identities n) m ≡ Some e → bytes_eq e.name name ≡ false
-    absent = unnamed (λ (e : Entity). e.name) s.next_identity s.identities n name v.identities.names v.identities.numbers.ordered found
+    absent : (m : ℕ) (e : Entity) → at (without s.identities.rows n) m ≡ Some e → bytes_eq e.name name ≡ false
+    absent = unnamed (λ (e : Entity). e.name) s.identities.next s.identities.rows n name (((v.kinds kind.Identity).names) refl) (v.kinds kind.Identity).numbers.ordered found
 
-    forgotten : (r : Relation) (a b : ℕ) → count r bare a b ≡ count r (with_removed kind.Identity n name s) a b
-    forgotten Dial a b = sym (forget_left_leaves Dial bare (with_removed kind.Identity n name s) name refl refl refl absent a b)
-    forgotten Bind a b = sym (forget_left_leaves Bind bare (with_removed kind.Identity n name s) name refl refl refl absent a b)
-    forgotten IdentityRouter a b = sym (forget_left_leaves IdentityRouter bare (with_removed kind.Identity n name s) name refl refl refl absent a b)
+    forgotten : (r : Relation) (a b : ℕ) → count r bare a b ≡ count r (without_named kind.Identity n name s) a b
+    forgotten Dial a b = sym (forget_left_leaves Dial bare (without_named kind.Identity n name s) name refl refl refl absent a b)
+    forgotten Bind a b = sym (forget_left_leaves Bind bare (without_named kind.Identity n name s) name refl refl refl absent a b)
+    forgotten IdentityRouter a b = sym (forget_left_leaves IdentityRouter bare (without_named kind.Identity n name s) name refl refl refl absent a b)
     forgotten ServiceRouter a b = refl
 removed_leads kind.Service n name s steps is_kind v found is r =
-    leads_on (count r s) (count r bare) (count r (with_removed kind.Service n name s)) (steps_of r steps)
+    leads_on (count r s) (count r bare) (count r (without_named kind.Service n name s)) (steps_of r steps)
     (differing_leads kind.Service n _ s bare steps
     (record {
       before_is = refl;
-      after_is = gone_at s.next_service s.services n v.services.numbers.ordered;
-      others = λ m ne. at-without-other s.services n m ne;
+      after_is = gone_at s.services.next s.services.rows n (v.kinds kind.Service).numbers.ordered;
+      others = λ m ne. at-without-other s.services.rows n m ne;
       apart = (refl, refl);
       policies = record { service = refl; edge_router = refl; service_edge_router = refl };
     }) v is r) (λ a b. forgotten r a b)
   where
     bare : State
-    bare = record s { services = without s.services n }
+    bare = record s { services = with_removed n s.services }
 
-    absent : (m : ℕ) (e : Entity) → at (without s.services n) m ≡ Some e → bytes_eq e.name name ≡ false
-    absent = unnamed (λ (e : Entity). e.name) s.next_service s.services n name v.services.names v.services.numbers.ordered found
+    absent : (m : ℕ) (e : Entity) → at (without s.services.rows n) m ≡ Some e → bytes_eq e.name name ≡ false
+    absent = unnamed (λ (e : Entity). e.name) s.services.next s.services.rows n name (((v.kinds kind.Service).names) refl) (v.kinds kind.Service).numbers.ordered found
 
-    forgotten : (r : Relation) (a b : ℕ) → count r bare a b ≡ count r (with_removed kind.Service n name s) a b
-    forgotten Dial a b = sym (forget_right_leaves Dial bare (with_removed kind.Service n name s) name refl refl refl absent a b)
-    forgotten Bind a b = sym (forget_right_leaves Bind bare (with_removed kind.Service n name s) name refl refl refl absent a b)
+    forgotten : (r : Relation) (a b : ℕ) → count r bare a b ≡ count r (without_named kind.Service n name s) a b
+    forgotten Dial a b = sym (forget_right_leaves Dial bare (without_named kind.Service n name s) name refl refl refl absent a b)
+    forgotten Bind a b = sym (forget_right_leaves Bind bare (without_named kind.Service n name s) name refl refl refl absent a b)
     forgotten IdentityRouter a b = refl
-    forgotten ServiceRouter a b = sym (forget_left_leaves ServiceRouter bare (with_removed kind.Service n name s) name refl refl refl absent a b)
+    forgotten ServiceRouter a b = sym (forget_left_leaves ServiceRouter bare (without_named kind.Service n name s) name refl refl refl absent a b)
 removed_leads kind.Router n name s steps is_kind v found is r =
-    leads_on (count r s) (count r bare) (count r (with_removed kind.Router n name s)) (steps_of r steps)
+    leads_on (count r s) (count r bare) (count r (without_named kind.Router n name s)) (steps_of r steps)
     (differing_leads kind.Router n _ s bare steps
     (record {
       before_is = refl;
-      after_is = seen_at (without s.routers n) n None (gone_at s.next_router s.routers n v.routers.numbers.ordered);
-      others = λ m ne. seen_alike (without s.routers n) s.routers m (at-without-other s.routers n m ne);
+      after_is = seen_at (without s.routers.rows n) n None (gone_at s.routers.next s.routers.rows n (v.kinds kind.Router).numbers.ordered);
+      others = λ m ne. seen_alike (without s.routers.rows n) s.routers.rows m (at-without-other s.routers.rows n m ne);
       apart = (refl, refl);
       policies = record { service = refl; edge_router = refl; service_edge_router = refl };
     }) v is r) (λ a b. forgotten r a b)
   where
     bare : State
-    bare = record s { routers = without s.routers n }
+    bare = record s { routers = with_removed n s.routers }
 
     absent : (m : ℕ) (e : Entity) → at (router_entities bare) m ≡ Some e → bytes_eq e.name name ≡ false
     absent m e stands =
-        let back = at-map-back (λ row. as_entity row.1) (without s.routers n) m e stands in
+        let back = at-map-back (λ row. as_entity row.1) (without s.routers.rows n) m e stands in
         ap (λ (q : Entity). bytes_eq q.name name) (sym back.2)
-        ∙ unnamed (λ (q : Router). q.name) s.next_router s.routers n name v.routers.names v.routers.numbers.ordered found m back.0 back.1
+        ∙ unnamed (λ (q : Router). q.name) s.routers.next s.routers.rows n name (((v.kinds kind.Router).names) refl) (v.kinds kind.Router).numbers.ordered found m back.0 back.1
 
-    forgotten : (r : Relation) (a b : ℕ) → count r bare a b ≡ count r (with_removed kind.Router n name s) a b
+    forgotten : (r : Relation) (a b : ℕ) → count r bare a b ≡ count r (without_named kind.Router n name s) a b
     forgotten Dial a b = refl
     forgotten Bind a b = refl
-    forgotten IdentityRouter a b = sym (forget_right_leaves IdentityRouter bare (with_removed kind.Router n name s) name refl refl refl absent a b)
-    forgotten ServiceRouter a b = sym (forget_right_leaves ServiceRouter bare (with_removed kind.Router n name s) name refl refl refl absent a b)
+    forgotten IdentityRouter a b = sym (forget_right_leaves IdentityRouter bare (without_named kind.Router n name s) name refl refl refl absent a b)
+    forgotten ServiceRouter a b = sym (forget_right_leaves ServiceRouter bare (without_named kind.Router n name s) name refl refl refl absent a b)
 removed_leads _ n name s steps is_kind v found is r = absurd (false≢true is_kind)

@@ -7,6 +7,7 @@ use Rattle.std.proofs.lemmas.List.{length-map}
 use Rattle.std.proofs.lemmas.Option.{same_Some, none-some}
 use Rattle.std.specs.List.{find, flat_map}
 use Rattle.std.specs.Option.{ok_or, option_map, option_map_or}
+use Rattle.ctrl_model.specs.RecordCommands.{after_create, after_edit, after_update, after_delete, refusal_of_create, refusal_of_update, delete}
 use Rattle.ctrl_model.specs.declared.kinds.Kind.{Kind}
 use Rattle.ctrl_model.specs.declared.kinds.Kind.TheVariants as kind
 use Rattle.ctrl_model.specs.declared.kinds.RouterSeen.{RouterSeen}
@@ -14,12 +15,12 @@ use Rattle.ctrl_model.specs.declared.refusals.Field.TheVariants as field
 use Rattle.ctrl_model.specs.declared.refusals.Refusal.{Refusal}
 use Rattle.ctrl_model.specs.declared.refusals.Refusal.TheVariants.{Full, Unknown}
 use Rattle.ctrl_model.specs.declared.replies.Reply.TheVariants.{Done, Made, Refused}
-use Rattle.ctrl_model.specs.Numbered.{at, is_present, edit_at, first_where}
+use Rattle.ctrl_model.specs.Numbered.{with_edit, at, is_present, edit_at, first_where}
 use Rattle.ctrl_model.specs.Networks.{seen}
 use Rattle.ctrl_model.specs.State.{State, Entity, Router, as_entity}
 use Rattle.ctrl_model.specs.Settling.{settle}
 use Rattle.ctrl_model.specs.Rules.{carried_out, or_then, refuse_if, unknown_if_absent, exists_if_present, at_number, attributes_in_use, attributes_full}
-use Rattle.ctrl_model.specs.EntityCommands.{after_create_identity, after_create_service, after_create_router, after_update_identity, after_update_service, after_update_router, after_mark_router, after_delete_identity, after_delete_service, after_delete_router, refusal_of_create_identity, refusal_of_create_service, refusal_of_create_router, refusal_of_update_identity, refusal_of_update_service, refusal_of_update_router, create_router, update_router, mark_router}
+use Rattle.ctrl_model.specs.EntityCommands.{entity, described, new_router, described_router, marked, create_identity, create_service, create_router, update_identity, update_service, update_router, mark_router}
 use Rattle.ctrl_model.proofs.NumberedLaws.{at-map, at-map-back}
 use Rattle.entity_store.specs.declared.entities.EntityFault.{EntityFault}
 use Rattle.entity_store.specs.declared.entities.EntityFault.TheVariants as fault
@@ -31,13 +32,13 @@ use Rattle.policy_store.specs.declared.steps.GrantSteps.{GrantSteps}
 use Rattle.ctrl_core.specs.declared.changes.Planned.{Planned}
 use Rattle.ctrl_core.specs.declared.stores.Stores.{Stores}
 use Rattle.ctrl_core.specs.KeptState.{Keeps, HoldsPolicies, state_of}
-use Rattle.ctrl_core.specs.Changes.{is_plain_kind, with_plain, with_described, with_described_router, with_removed}
+use Rattle.ctrl_core.specs.Changes.{is_plain_kind, with_plain, with_described, with_described_router, without_named}
 use Rattle.policy_store.specs.GrantChanges.{HasNoSteps}
 use Rattle.ctrl_core.specs.Changes as changes
 use Rattle.policy_store.specs.GrantChanges.{StepsOfEntity}
-use Rattle.ctrl_core.specs.PlannedCommands.{Plans, IsShown, IsDescribed, answer_add, answer_update, answer_delete, refusal_of_add, refusal_of_describe}
+use Rattle.ctrl_core.specs.PlannedCommands.{Plans, IsShown, IsDescribed, answer_add, answer_update, refusal_of_add, refusal_of_describe}
 use Rattle.ctrl_core.proofs.UseLaws.{times-append, times-at, edit_at-same}
-use Rattle.ctrl_core.proofs.InUseLaws.{room_in_state, added, added_router, described_identity, described_service, described_router}
+use Rattle.ctrl_core.proofs.InUseLaws.{room_in_state, added, added_router, described_identity, described_service, described_router as router_in_use}
 use Rattle.ctrl_core.proofs.PlanLaws.{plans_refused, plans_carried}
 use Rattle.ctrl_core.proofs.StepsInState.{entity_steps_in_state}
 use Rattle.ctrl_core.proofs.EntityCounts.{added_leads, added_router_leads, described_leads, described_router_leads, marked_leads, removed_leads}
@@ -53,32 +54,32 @@ new_room st attributes t held balance =
 
 -- the refusals of planning are the controller's
 refused_identity : (name : List ℕ) (attributes : List (List ℕ)) (st : Stores) → HoldsPolicies st
-    → refusal_of_add kind.Identity name attributes st.entities ≡ refusal_of_create_identity name attributes (state_of st)
+    → refusal_of_add kind.Identity name attributes st.entities ≡ refusal_of_create kind.Identity (entity name attributes) (state_of st)
 refused_identity name attributes st held =
     ap (λ b. or_then (exists_if_present (number_of kind.Identity name st.entities)) (or_then (refuse_if (not (has_kind_room kind.Identity st.entities)) (Full kind.Identity)) (refuse_if b (Full kind.Attribute))))
-    (new_room st attributes (after_create_identity name attributes (state_of st)) held (added kind.Identity name attributes (state_of st) refl))
+    (new_room st attributes (after_create kind.Identity (entity name attributes) (state_of st)) held (added kind.Identity name attributes (state_of st) refl))
 
 refused_service : (name : List ℕ) (attributes : List (List ℕ)) (st : Stores) → HoldsPolicies st
-    → refusal_of_add kind.Service name attributes st.entities ≡ refusal_of_create_service name attributes (state_of st)
+    → refusal_of_add kind.Service name attributes st.entities ≡ refusal_of_create kind.Service (entity name attributes) (state_of st)
 refused_service name attributes st held =
     ap (λ b. or_then (exists_if_present (number_of kind.Service name st.entities)) (or_then (refuse_if (not (has_kind_room kind.Service st.entities)) (Full kind.Service)) (refuse_if b (Full kind.Attribute))))
-    (new_room st attributes (after_create_service name attributes (state_of st)) held (added kind.Service name attributes (state_of st) refl))
+    (new_room st attributes (after_create kind.Service (entity name attributes) (state_of st)) held (added kind.Service name attributes (state_of st) refl))
 
 refused_router : (name : List ℕ) (attributes : List (List ℕ)) (cost : ℕ) (no_traversal : Bool) (st : Stores) → HoldsPolicies st
-    → refusal_of_add kind.Router name attributes st.entities ≡ refusal_of_create_router name attributes cost no_traversal (state_of st)
+    → refusal_of_add kind.Router name attributes st.entities ≡ refusal_of_create kind.Router (new_router name attributes cost no_traversal) (state_of st)
 refused_router name attributes cost no_traversal st held =
     ap (λ b. or_then (exists_if_present (number_of kind.Router name st.entities)) (or_then (refuse_if (not (has_kind_room kind.Router st.entities)) (Full kind.Router)) (refuse_if b (Full kind.Attribute))))
-    (new_room st attributes (after_create_router name attributes cost no_traversal (state_of st)) held (added_router name attributes cost no_traversal (state_of st)))
-    ∙ ap (λ n. or_then (exists_if_present (number_of kind.Router name st.entities)) (or_then (refuse_if (not (nat_lt n 256 && nat_lt st.entities.next_router 4294967295)) (Full kind.Router)) (refuse_if (attributes_full (after_create_router name attributes cost no_traversal (state_of st))) (Full kind.Attribute))))
-    (length-map st.entities.routers (λ row. (row.0, record { name = row.1.name; attributes = row.1.attributes })))
+    (new_room st attributes (after_create kind.Router (new_router name attributes cost no_traversal) (state_of st)) held (added_router name attributes cost no_traversal (state_of st)))
+    ∙ ap (λ n. or_then (exists_if_present (number_of kind.Router name st.entities)) (or_then (refuse_if (not (nat_lt n 256 && nat_lt st.entities.routers.next 4294967295)) (Full kind.Router)) (refuse_if (attributes_full (after_create kind.Router (new_router name attributes cost no_traversal) (state_of st))) (Full kind.Attribute))))
+    (length-map st.entities.routers.rows (λ row. (row.0, record { name = row.1.name; attributes = row.1.attributes })))
 
 pub add_refused : (k : Kind) (name : List ℕ) (attributes : List (List ℕ)) (st : Stores) (p : Planned) (r : Refusal) → is_plain_kind k ≡ true → HoldsPolicies st
     → Some r ≡ refusal_of_add k name attributes st.entities → IsShown (Refused r) p → Plans p (answer_add k name attributes (state_of st)) (state_of st)
 add_refused kind.Identity name attributes st p r plain held e is =
-    plans_refused p (refusal_of_create_identity name attributes (state_of st)) r (state_of st) (Made st.entities.next_identity) (after_create_identity name attributes (state_of st))
+    plans_refused p (refusal_of_create kind.Identity (entity name attributes) (state_of st)) r (state_of st) (Made st.entities.identities.next) (after_create kind.Identity (entity name attributes) (state_of st))
     (sym (refused_identity name attributes st held) ∙ sym e) is
 add_refused kind.Service name attributes st p r plain held e is =
-    plans_refused p (refusal_of_create_service name attributes (state_of st)) r (state_of st) (Made st.entities.next_service) (after_create_service name attributes (state_of st))
+    plans_refused p (refusal_of_create kind.Service (entity name attributes) (state_of st)) r (state_of st) (Made st.entities.services.next) (after_create kind.Service (entity name attributes) (state_of st))
     (sym (refused_service name attributes st held) ∙ sym e) is
 add_refused _ name attributes st p r plain held e is = absurd (false≢true plain)
 
@@ -87,12 +88,12 @@ pub add_planned : (k : Kind) (name : List ℕ) (attributes : List (List ℕ)) (s
     → StepsOfEntity k n (record { before = None; after = Some (record { name = name; attributes = attributes }) }) (state_of st) steps
     → Plans (record { reply = Made n; change = change.Add k name attributes; steps = steps }) (answer_add k name attributes (state_of st)) (state_of st)
 add_planned kind.Identity name attributes st n steps plain keeps e is taken =
-    plans_carried _ (refusal_of_create_identity name attributes (state_of st)) (state_of st) (Made st.entities.next_identity) (after_create_identity name attributes (state_of st))
+    plans_carried _ (refusal_of_create kind.Identity (entity name attributes) (state_of st)) (state_of st) (Made st.entities.identities.next) (after_create kind.Identity (entity name attributes) (state_of st))
     (sym (refused_identity name attributes st keeps.held) ∙ sym e) (ap (λ m. Made m) is) refl refl
     (added_leads kind.Identity name attributes (state_of st) steps refl keeps.valid
     (subst (λ m. StepsOfEntity kind.Identity m (record { before = None; after = Some (record { name = name; attributes = attributes }) }) (state_of st) steps) is taken))
 add_planned kind.Service name attributes st n steps plain keeps e is taken =
-    plans_carried _ (refusal_of_create_service name attributes (state_of st)) (state_of st) (Made st.entities.next_service) (after_create_service name attributes (state_of st))
+    plans_carried _ (refusal_of_create kind.Service (entity name attributes) (state_of st)) (state_of st) (Made st.entities.services.next) (after_create kind.Service (entity name attributes) (state_of st))
     (sym (refused_service name attributes st keeps.held) ∙ sym e) (ap (λ m. Made m) is) refl refl
     (added_leads kind.Service name attributes (state_of st) steps refl keeps.valid
     (subst (λ m. StepsOfEntity kind.Service m (record { before = None; after = Some (record { name = name; attributes = attributes }) }) (state_of st) steps) is taken))
@@ -101,17 +102,17 @@ add_planned _ name attributes st n steps plain keeps e is taken = absurd (false�
 pub router_refused : (name : List ℕ) (attributes : List (List ℕ)) (cost : ℕ) (no_traversal : Bool) (st : Stores) (p : Planned) (r : Refusal) → HoldsPolicies st
     → Some r ≡ refusal_of_add kind.Router name attributes st.entities → IsShown (Refused r) p → Plans p (create_router name attributes cost no_traversal (state_of st)) (state_of st)
 router_refused name attributes cost no_traversal st p r held e is =
-    plans_refused p (refusal_of_create_router name attributes cost no_traversal (state_of st)) r (state_of st) (Made st.entities.next_router)
-    (after_create_router name attributes cost no_traversal (state_of st)) (sym (refused_router name attributes cost no_traversal st held) ∙ sym e) is
+    plans_refused p (refusal_of_create kind.Router (new_router name attributes cost no_traversal) (state_of st)) r (state_of st) (Made st.entities.routers.next)
+    (after_create kind.Router (new_router name attributes cost no_traversal) (state_of st)) (sym (refused_router name attributes cost no_traversal st held) ∙ sym e) is
 
 pub router_planned : (name : List ℕ) (attributes : List (List ℕ)) (cost : ℕ) (no_traversal : Bool) (st : Stores) (n : ℕ) (steps : GrantSteps) → Keeps st
-    → None ≡ refusal_of_add kind.Router name attributes st.entities → n ≡ st.entities.next_router
+    → None ≡ refusal_of_add kind.Router name attributes st.entities → n ≡ st.entities.routers.next
     → StepsOfEntity kind.Router n (record { before = None; after = Some (record { name = name; attributes = attributes }) }) (state_of st) steps
     → Plans (record { reply = Made n; change = change.AddRouter name attributes cost (not no_traversal); steps = steps }) (create_router name attributes cost no_traversal (state_of st)) (state_of st)
 router_planned name attributes cost no_traversal st n steps keeps e is taken =
-    plans_carried _ (refusal_of_create_router name attributes cost no_traversal (state_of st)) (state_of st) (Made st.entities.next_router)
-    (after_create_router name attributes cost no_traversal (state_of st)) (sym (refused_router name attributes cost no_traversal st keeps.held) ∙ sym e)
-    (ap (λ m. Made m) is) tt (ap (λ b. settle (after_create_router name attributes cost b (state_of st))) (not-not no_traversal))
+    plans_carried _ (refusal_of_create kind.Router (new_router name attributes cost no_traversal) (state_of st)) (state_of st) (Made st.entities.routers.next)
+    (after_create kind.Router (new_router name attributes cost no_traversal) (state_of st)) (sym (refused_router name attributes cost no_traversal st keeps.held) ∙ sym e)
+    (ap (λ m. Made m) is) tt (ap (λ b. settle (after_create kind.Router (new_router name attributes cost b) (state_of st))) (not-not no_traversal))
     (added_router_leads name attributes cost no_traversal (state_of st) steps keeps.valid
     (subst (λ m. StepsOfEntity kind.Router m (record { before = None; after = Some (record { name = name; attributes = attributes }) }) (state_of st) steps) is taken))
 
@@ -137,16 +138,16 @@ some_of_map f (Some r) e = refl
 
 -- a named entity is there, in the store and in the state
 pub there_from_number : (k : Kind) (name : List ℕ) (t : Tables) (n : ℕ) → number_of k name t ≡ Some n → is_there k n t ≡ true
-there_from_number kind.Identity name t n e = present-first_where (λ r. bytes_eq r.name name) t.identities n e
-there_from_number kind.Service name t n e = present-first_where (λ r. bytes_eq r.name name) t.services n e
+there_from_number kind.Identity name t n e = present-first_where (λ r. bytes_eq r.name name) t.identities.rows n e
+there_from_number kind.Service name t n e = present-first_where (λ r. bytes_eq r.name name) t.services.rows n e
 there_from_number kind.Router name t n e =
-    ap is_some (at-map (λ row. as_entity row.1) t.routers n) ∙ some_of_map as_entity (at t.routers n) (present-first_where (λ r. bytes_eq r.name name) t.routers n e)
+    ap is_some (at-map (λ row. as_entity row.1) t.routers.rows n) ∙ some_of_map as_entity (at t.routers.rows n) (present-first_where (λ r. bytes_eq r.name name) t.routers.rows n e)
 there_from_number _ name t n e = absurd (none-some n e)
 
 there_in_state : (k : Kind) (name : List ℕ) (st : Stores) (n : ℕ) → number_of k name st.entities ≡ Some n → changes.is_there k n (state_of st) ≡ true
-there_in_state kind.Identity name st n e = present-first_where (λ r. bytes_eq r.name name) st.entities.identities n e
-there_in_state kind.Service name st n e = present-first_where (λ r. bytes_eq r.name name) st.entities.services n e
-there_in_state kind.Router name st n e = present-first_where (λ r. bytes_eq r.name name) st.entities.routers n e
+there_in_state kind.Identity name st n e = present-first_where (λ r. bytes_eq r.name name) st.entities.identities.rows n e
+there_in_state kind.Service name st n e = present-first_where (λ r. bytes_eq r.name name) st.entities.services.rows n e
+there_in_state kind.Router name st n e = present-first_where (λ r. bytes_eq r.name name) st.entities.routers.rows n e
 there_in_state _ name st n e = absurd (none-some n e)
 
 -- what a look-up by name answers
@@ -165,20 +166,20 @@ absent_from_found k name t f e = by (number_of k name t) e
     by (Some m) s = absurd (cc)
 
 -- the attributes of a present entity are used
-three : (x : List ℕ) (t : Tables) → times x (entity_attributes t) ≡ times x (flat_map (λ row. row.1.attributes) t.identities) + (times x (flat_map (λ row. row.1.attributes) t.services) + times x (flat_map (λ row. row.1.attributes) t.routers))
+three : (x : List ℕ) (t : Tables) → times x (entity_attributes t) ≡ times x (flat_map (λ row. row.1.attributes) t.identities.rows) + (times x (flat_map (λ row. row.1.attributes) t.services.rows) + times x (flat_map (λ row. row.1.attributes) t.routers.rows))
 three x t =
-    let one = times-append x (flat_map (λ row. row.1.attributes) t.identities) (flat_map (λ row. row.1.attributes) t.services ++ flat_map (λ row. row.1.attributes) t.routers) in
-    let two = times-append x (flat_map (λ row. row.1.attributes) t.services) (flat_map (λ row. row.1.attributes) t.routers) in omega (arith, one, two)
+    let one = times-append x (flat_map (λ row. row.1.attributes) t.identities.rows) (flat_map (λ row. row.1.attributes) t.services.rows ++ flat_map (λ row. row.1.attributes) t.routers.rows) in
+    let two = times-append x (flat_map (λ row. row.1.attributes) t.services.rows) (flat_map (λ row. row.1.attributes) t.routers.rows) in omega (arith, one, two)
 
 pub used_of : (k : Kind) (t : Tables) (n : ℕ) (e : Entity) → Some e ≡ at (entities k t) n → (x : List ℕ) → times x e.attributes ≤ uses x t
-used_of kind.Identity t n e is x = let some = times-at (λ r. r.attributes) x t.identities n e (sym is) in let all = three x t in omega (arith, some, all)
-used_of kind.Service t n e is x = let some = times-at (λ r. r.attributes) x t.services n e (sym is) in let all = three x t in omega (arith, some, all)
+used_of kind.Identity t n e is x = let some = times-at (λ r. r.attributes) x t.identities.rows n e (sym is) in let all = three x t in omega (arith, some, all)
+used_of kind.Service t n e is x = let some = times-at (λ r. r.attributes) x t.services.rows n e (sym is) in let all = three x t in omega (arith, some, all)
 used_of kind.Router t n e is x =
-    let back = at-map-back (λ row. as_entity row.1) t.routers n e (sym is) in by back.0 back.1 back.2
+    let back = at-map-back (λ row. as_entity row.1) t.routers.rows n e (sym is) in by back.0 back.1 back.2
   where
-    by : (r : Router) → at t.routers n ≡ Some r → as_entity r ≡ e → times x e.attributes ≤ uses x t
+    by : (r : Router) → at t.routers.rows n ≡ Some r → as_entity r ≡ e → times x e.attributes ≤ uses x t
     by r stands same =
-        let some = times-at (λ q. q.attributes) x t.routers n r stands in let all = three x t in
+        let some = times-at (λ q. q.attributes) x t.routers.rows n r stands in let all = three x t in
         let these : times x r.attributes ≡ times x e.attributes = ap (λ (q : Entity). times x q.attributes) same in
         omega (arith, some, all, these)
 used_of _ t n e is x = absurd (none-some e (sym is))
@@ -193,19 +194,19 @@ by_there (Some r) e k = k r refl
 gone_uses : (k : Kind) (n : ℕ) (t : Tables) (e : Entity) → at (entities k t) n ≡ Some e → attributes_at k n t ≡ e.attributes
 gone_uses k n t e is = ap (λ o. option_map_or (λ (q : Entity). q.attributes) o []) is
 
-identity_room : (n : ℕ) (fresh : List (List ℕ)) (st : Stores) (e : Entity) → Keeps st → at st.entities.identities n ≡ Some e
+identity_room : (n : ℕ) (fresh : List (List ℕ)) (st : Stores) (e : Entity) → Keeps st → at st.entities.identities.rows n ≡ Some e
     → not (has_attribute_room st.entities (attributes_at kind.Identity n st.entities) fresh) ≡ attributes_full (with_described kind.Identity n fresh (state_of st))
 identity_room n fresh st e keeps is =
     ap not (room_in_state st (attributes_at kind.Identity n st.entities) fresh (with_described kind.Identity n fresh (state_of st)) keeps.held (λ x.
-    let all = described_identity n fresh (state_of st) st.entities.next_identity e keeps.valid.identities.numbers.ordered is x in
+    let all = described_identity n fresh (state_of st) st.entities.identities.next e (keeps.valid.kinds kind.Identity).numbers.ordered is x in
     let gone : times x (attributes_at kind.Identity n st.entities) ≡ times x e.attributes = ap (times x) (gone_uses kind.Identity n st.entities e is) in
     omega (arith, all, gone))) ∙ not-not (attributes_full (with_described kind.Identity n fresh (state_of st)))
 
-service_room : (n : ℕ) (fresh : List (List ℕ)) (st : Stores) (e : Entity) → Keeps st → at st.entities.services n ≡ Some e
+service_room : (n : ℕ) (fresh : List (List ℕ)) (st : Stores) (e : Entity) → Keeps st → at st.entities.services.rows n ≡ Some e
     → not (has_attribute_room st.entities (attributes_at kind.Service n st.entities) fresh) ≡ attributes_full (with_described kind.Service n fresh (state_of st))
 service_room n fresh st e keeps is =
     ap not (room_in_state st (attributes_at kind.Service n st.entities) fresh (with_described kind.Service n fresh (state_of st)) keeps.held (λ x.
-    let all = described_service n fresh (state_of st) st.entities.next_service e keeps.valid.services.numbers.ordered is x in
+    let all = described_service n fresh (state_of st) st.entities.services.next e (keeps.valid.kinds kind.Service).numbers.ordered is x in
     let gone : times x (attributes_at kind.Service n st.entities) ≡ times x e.attributes = ap (times x) (gone_uses kind.Service n st.entities e is) in
     omega (arith, all, gone))) ∙ not-not (attributes_full (with_described kind.Service n fresh (state_of st)))
 
@@ -214,84 +215,84 @@ abbrev pub updated_as : List (List ℕ) → ℕ → Bool → Router → Router
 updated_as fresh cost through r = record r { attributes = fresh; cost = cost; through = through }
 
 abbrev with_updated : ℕ → List (List ℕ) → ℕ → Bool → State → State
-with_updated n fresh cost through s = record s { routers = edit_at s.routers n (updated_as fresh cost through) }
+with_updated n fresh cost through s = record s { routers = with_edit n (updated_as fresh cost through) s.routers }
 
-router_room : (n : ℕ) (fresh : List (List ℕ)) (cost : ℕ) (through : Bool) (st : Stores) (r : Router) → Keeps st → at st.entities.routers n ≡ Some r
+router_room : (n : ℕ) (fresh : List (List ℕ)) (cost : ℕ) (through : Bool) (st : Stores) (r : Router) → Keeps st → at st.entities.routers.rows n ≡ Some r
     → not (has_attribute_room st.entities (attributes_at kind.Router n st.entities) fresh) ≡ attributes_full (with_updated n fresh cost through (state_of st))
 router_room n fresh cost through st r keeps is =
     ap not (room_in_state st (attributes_at kind.Router n st.entities) fresh (with_updated n fresh cost through (state_of st)) keeps.held (λ x.
-    let all = described_router n fresh (updated_as fresh cost through) (state_of st) st.entities.next_router r keeps.valid.routers.numbers.ordered is refl x in
+    let all = router_in_use n fresh (updated_as fresh cost through) (state_of st) st.entities.routers.next r (keeps.valid.kinds kind.Router).numbers.ordered is refl x in
     let gone : times x (attributes_at kind.Router n st.entities) ≡ times x r.attributes =
-    ap (times x) (gone_uses kind.Router n st.entities (as_entity r) (at-map (λ row. as_entity row.1) st.entities.routers n ∙ ap (option_map as_entity) is)) in
+    ap (times x) (gone_uses kind.Router n st.entities (as_entity r) (at-map (λ row. as_entity row.1) st.entities.routers.rows n ∙ ap (option_map as_entity) is)) in
     omega (arith, all, gone))) ∙ not-not (attributes_full (with_updated n fresh cost through (state_of st)))
 
 -- the controller's effect, of the number that the name finds
 identity_effect : (name : List ℕ) (attributes : List (List ℕ)) (st : Stores) (n : ℕ) → number_of kind.Identity name st.entities ≡ Some n
-    → after_update_identity name attributes (state_of st) ≡ with_described kind.Identity n attributes (state_of st)
+    → after_update kind.Identity name (described attributes) (state_of st) ≡ with_described kind.Identity n attributes (state_of st)
 identity_effect name attributes st n e = ap (λ o. at_number o (state_of st) (λ m. with_described kind.Identity m attributes (state_of st))) e
 
 service_effect : (name : List ℕ) (attributes : List (List ℕ)) (st : Stores) (n : ℕ) → number_of kind.Service name st.entities ≡ Some n
-    → after_update_service name attributes (state_of st) ≡ with_described kind.Service n attributes (state_of st)
+    → after_update kind.Service name (described attributes) (state_of st) ≡ with_described kind.Service n attributes (state_of st)
 service_effect name attributes st n e = ap (λ o. at_number o (state_of st) (λ m. with_described kind.Service m attributes (state_of st))) e
 
 router_effect : (name : List ℕ) (attributes : List (List ℕ)) (cost : ℕ) (no_traversal : Bool) (st : Stores) (n : ℕ) → number_of kind.Router name st.entities ≡ Some n
-    → after_update_router name attributes cost no_traversal (state_of st) ≡ with_updated n attributes cost (not no_traversal) (state_of st)
+    → after_update kind.Router name (described_router attributes cost no_traversal) (state_of st) ≡ with_updated n attributes cost (not no_traversal) (state_of st)
 router_effect name attributes cost no_traversal st n e = ap (λ o. at_number o (state_of st) (λ m. with_updated m attributes cost (not no_traversal) (state_of st))) e
 
 -- and its refusal
-identity_refusal : (name : List ℕ) (attributes : List (List ℕ)) (st : Stores) (n : ℕ) (r : Entity) → Keeps st → at st.entities.identities n ≡ Some r
-    → number_of kind.Identity name st.entities ≡ Some n → refusal_of_describe kind.Identity n attributes st.entities ≡ refusal_of_update_identity name attributes (state_of st)
+identity_refusal : (name : List ℕ) (attributes : List (List ℕ)) (st : Stores) (n : ℕ) (r : Entity) → Keeps st → at st.entities.identities.rows n ≡ Some r
+    → number_of kind.Identity name st.entities ≡ Some n → refusal_of_describe kind.Identity n attributes st.entities ≡ refusal_of_update kind.Identity name (described attributes) None (state_of st)
 identity_refusal name attributes st n r keeps is e =
     ap (λ full. refuse_if full (Full kind.Attribute)) (identity_room n attributes st r keeps is ∙ ap attributes_full (sym (identity_effect name attributes st n e)))
-    ∙ ap (λ o. or_then (unknown_if_absent field.Name o) (refuse_if (attributes_full (after_update_identity name attributes (state_of st))) (Full kind.Attribute))) (sym e)
+    ∙ ap (λ o. or_then (unknown_if_absent field.Name o) (refuse_if (attributes_full (after_update kind.Identity name (described attributes) (state_of st))) (Full kind.Attribute))) (sym e)
 
-service_refusal : (name : List ℕ) (attributes : List (List ℕ)) (st : Stores) (n : ℕ) (r : Entity) → Keeps st → at st.entities.services n ≡ Some r
-    → number_of kind.Service name st.entities ≡ Some n → refusal_of_describe kind.Service n attributes st.entities ≡ refusal_of_update_service name attributes (state_of st)
+service_refusal : (name : List ℕ) (attributes : List (List ℕ)) (st : Stores) (n : ℕ) (r : Entity) → Keeps st → at st.entities.services.rows n ≡ Some r
+    → number_of kind.Service name st.entities ≡ Some n → refusal_of_describe kind.Service n attributes st.entities ≡ refusal_of_update kind.Service name (described attributes) None (state_of st)
 service_refusal name attributes st n r keeps is e =
     ap (λ full. refuse_if full (Full kind.Attribute)) (service_room n attributes st r keeps is ∙ ap attributes_full (sym (service_effect name attributes st n e)))
-    ∙ ap (λ o. or_then (unknown_if_absent field.Name o) (refuse_if (attributes_full (after_update_service name attributes (state_of st))) (Full kind.Attribute))) (sym e)
+    ∙ ap (λ o. or_then (unknown_if_absent field.Name o) (refuse_if (attributes_full (after_update kind.Service name (described attributes) (state_of st))) (Full kind.Attribute))) (sym e)
 
-router_refusal : (name : List ℕ) (attributes : List (List ℕ)) (cost : ℕ) (no_traversal : Bool) (st : Stores) (n : ℕ) (r : Router) → Keeps st → at st.entities.routers n ≡ Some r
-    → number_of kind.Router name st.entities ≡ Some n → refusal_of_describe kind.Router n attributes st.entities ≡ refusal_of_update_router name attributes cost no_traversal (state_of st)
+router_refusal : (name : List ℕ) (attributes : List (List ℕ)) (cost : ℕ) (no_traversal : Bool) (st : Stores) (n : ℕ) (r : Router) → Keeps st → at st.entities.routers.rows n ≡ Some r
+    → number_of kind.Router name st.entities ≡ Some n → refusal_of_describe kind.Router n attributes st.entities ≡ refusal_of_update kind.Router name (described_router attributes cost no_traversal) None (state_of st)
 router_refusal name attributes cost no_traversal st n r keeps is e =
     ap (λ full. refuse_if full (Full kind.Attribute)) (router_room n attributes cost (not no_traversal) st r keeps is ∙ ap attributes_full (sym (router_effect name attributes cost no_traversal st n e)))
-    ∙ ap (λ o. or_then (unknown_if_absent field.Name o) (refuse_if (attributes_full (after_update_router name attributes cost no_traversal (state_of st))) (Full kind.Attribute))) (sym e)
+    ∙ ap (λ o. or_then (unknown_if_absent field.Name o) (refuse_if (attributes_full (after_update kind.Router name (described_router attributes cost no_traversal) (state_of st))) (Full kind.Attribute))) (sym e)
 
 -- a name that nothing has
 pub update_unknown : (k : Kind) (name : List ℕ) (attributes : List (List ℕ)) (st : Stores) (p : Planned) → is_plain_kind k ≡ true → number_of k name st.entities ≡ None
     → IsShown (Refused (Unknown field.Name)) p → Plans p (answer_update k name attributes (state_of st)) (state_of st)
 update_unknown kind.Identity name attributes st p plain absent is =
-    plans_refused p (refusal_of_update_identity name attributes (state_of st)) (Unknown field.Name) (state_of st) Done (after_update_identity name attributes (state_of st))
-    (ap (λ o. or_then (unknown_if_absent field.Name o) (refuse_if (attributes_full (after_update_identity name attributes (state_of st))) (Full kind.Attribute))) absent) is
+    plans_refused p (refusal_of_update kind.Identity name (described attributes) None (state_of st)) (Unknown field.Name) (state_of st) Done (after_update kind.Identity name (described attributes) (state_of st))
+    (ap (λ o. or_then (unknown_if_absent field.Name o) (refuse_if (attributes_full (after_update kind.Identity name (described attributes) (state_of st))) (Full kind.Attribute))) absent) is
 update_unknown kind.Service name attributes st p plain absent is =
-    plans_refused p (refusal_of_update_service name attributes (state_of st)) (Unknown field.Name) (state_of st) Done (after_update_service name attributes (state_of st))
-    (ap (λ o. or_then (unknown_if_absent field.Name o) (refuse_if (attributes_full (after_update_service name attributes (state_of st))) (Full kind.Attribute))) absent) is
+    plans_refused p (refusal_of_update kind.Service name (described attributes) None (state_of st)) (Unknown field.Name) (state_of st) Done (after_update kind.Service name (described attributes) (state_of st))
+    (ap (λ o. or_then (unknown_if_absent field.Name o) (refuse_if (attributes_full (after_update kind.Service name (described attributes) (state_of st))) (Full kind.Attribute))) absent) is
 update_unknown _ name attributes st p plain absent is = absurd (false≢true plain)
 
 pub update_refused : (k : Kind) (name : List ℕ) (attributes : List (List ℕ)) (st : Stores) (n : ℕ) (p : Planned) (r : Refusal) → is_plain_kind k ≡ true → Keeps st
     → number_of k name st.entities ≡ Some n → Some r ≡ refusal_of_describe k n attributes st.entities → IsShown (Refused r) p
     → Plans p (answer_update k name attributes (state_of st)) (state_of st)
-update_refused kind.Identity name attributes st n p r plain keeps found e is = by_there (at st.entities.identities n) (there_from_number kind.Identity name st.entities n found) (λ row stands.
-    plans_refused p (refusal_of_update_identity name attributes (state_of st)) r (state_of st) Done (after_update_identity name attributes (state_of st))
+update_refused kind.Identity name attributes st n p r plain keeps found e is = by_there (at st.entities.identities.rows n) (there_from_number kind.Identity name st.entities n found) (λ row stands.
+    plans_refused p (refusal_of_update kind.Identity name (described attributes) None (state_of st)) r (state_of st) Done (after_update kind.Identity name (described attributes) (state_of st))
     (sym (identity_refusal name attributes st n row keeps stands found) ∙ sym e) is)
-update_refused kind.Service name attributes st n p r plain keeps found e is = by_there (at st.entities.services n) (there_from_number kind.Service name st.entities n found) (λ row stands.
-    plans_refused p (refusal_of_update_service name attributes (state_of st)) r (state_of st) Done (after_update_service name attributes (state_of st))
+update_refused kind.Service name attributes st n p r plain keeps found e is = by_there (at st.entities.services.rows n) (there_from_number kind.Service name st.entities n found) (λ row stands.
+    plans_refused p (refusal_of_update kind.Service name (described attributes) None (state_of st)) r (state_of st) Done (after_update kind.Service name (described attributes) (state_of st))
     (sym (service_refusal name attributes st n row keeps stands found) ∙ sym e) is)
 update_refused _ name attributes st n p r plain keeps found e is = absurd (false≢true plain)
 
 pub update_planned : (k : Kind) (name : List ℕ) (attributes : List (List ℕ)) (st : Stores) (n : ℕ) (steps : GrantSteps) → is_plain_kind k ≡ true → Keeps st
     → number_of k name st.entities ≡ Some n → None ≡ refusal_of_describe k n attributes st.entities → IsDescribed k n attributes st steps
     → Plans (record { reply = Done; change = change.Describe k n attributes; steps = steps }) (answer_update k name attributes (state_of st)) (state_of st)
-update_planned kind.Identity name attributes st n steps plain keeps found e is = by_there (at st.entities.identities n) (there_from_number kind.Identity name st.entities n found) (λ row stands.
-    subst (λ effect. Plans (record { reply = Done; change = change.Describe kind.Identity n attributes; steps = steps }) (carried_out (refusal_of_update_identity name attributes (state_of st)) (state_of st) Done effect) (state_of st))
+update_planned kind.Identity name attributes st n steps plain keeps found e is = by_there (at st.entities.identities.rows n) (there_from_number kind.Identity name st.entities n found) (λ row stands.
+    subst (λ effect. Plans (record { reply = Done; change = change.Describe kind.Identity n attributes; steps = steps }) (carried_out (refusal_of_update kind.Identity name (described attributes) None (state_of st)) (state_of st) Done effect) (state_of st))
     (sym (identity_effect name attributes st n found))
-    (plans_carried _ (refusal_of_update_identity name attributes (state_of st)) (state_of st) Done (with_described kind.Identity n attributes (state_of st))
+    (plans_carried _ (refusal_of_update kind.Identity name (described attributes) None (state_of st)) (state_of st) Done (with_described kind.Identity n attributes (state_of st))
     (sym (identity_refusal name attributes st n row keeps stands found) ∙ sym e) refl (refl, there_in_state kind.Identity name st n found) refl
     (described_leads kind.Identity n attributes (state_of st) steps refl keeps.valid (entity_steps_in_state kind.Identity n _ st steps is))))
-update_planned kind.Service name attributes st n steps plain keeps found e is = by_there (at st.entities.services n) (there_from_number kind.Service name st.entities n found) (λ row stands.
-    subst (λ effect. Plans (record { reply = Done; change = change.Describe kind.Service n attributes; steps = steps }) (carried_out (refusal_of_update_service name attributes (state_of st)) (state_of st) Done effect) (state_of st))
+update_planned kind.Service name attributes st n steps plain keeps found e is = by_there (at st.entities.services.rows n) (there_from_number kind.Service name st.entities n found) (λ row stands.
+    subst (λ effect. Plans (record { reply = Done; change = change.Describe kind.Service n attributes; steps = steps }) (carried_out (refusal_of_update kind.Service name (described attributes) None (state_of st)) (state_of st) Done effect) (state_of st))
     (sym (service_effect name attributes st n found))
-    (plans_carried _ (refusal_of_update_service name attributes (state_of st)) (state_of st) Done (with_described kind.Service n attributes (state_of st))
+    (plans_carried _ (refusal_of_update kind.Service name (described attributes) None (state_of st)) (state_of st) Done (with_described kind.Service n attributes (state_of st))
     (sym (service_refusal name attributes st n row keeps stands found) ∙ sym e) refl (refl, there_in_state kind.Service name st n found) refl
     (described_leads kind.Service n attributes (state_of st) steps refl keeps.valid (entity_steps_in_state kind.Service n _ st steps is))))
 update_planned _ name attributes st n steps plain keeps found e is = absurd (false≢true plain)
@@ -317,8 +318,8 @@ by_seen {P} rows n q e k = by (at rows n) refl (e ∙ find-seen rows n)
     by (Some r) is s = k r is (sym (same_Some (seen (n, r)) q (sym s)))
 
 -- a router that a name finds is found
-pub found_seen : (name : List ℕ) (t : Tables) (n : ℕ) → number_of kind.Router name t ≡ Some n → None ≡ find (λ (s : RouterSeen). s.no.0 == n) (map seen t.routers) → ⊥
-found_seen name t n found e = by (at t.routers n) (present-first_where (λ r. bytes_eq r.name name) t.routers n found) (e ∙ find-seen t.routers n)
+pub found_seen : (name : List ℕ) (t : Tables) (n : ℕ) → number_of kind.Router name t ≡ Some n → None ≡ find (λ (s : RouterSeen). s.no.0 == n) (map seen t.routers.rows) → ⊥
+found_seen name t n found e = by (at t.routers.rows n) (present-first_where (λ r. bytes_eq r.name name) t.routers.rows n found) (e ∙ find-seen t.routers.rows n)
   where
     by : (o : Option Router) → is_some o ≡ true → None ≡ option_map (λ r. seen (n, r)) o → ⊥
     by None h s = false≢true h
@@ -327,97 +328,97 @@ found_seen name t n found e = by (at t.routers n) (present-first_where (λ r. by
 pub update_router_unknown : (name : List ℕ) (attributes : List (List ℕ)) (cost : ℕ) (no_traversal : Bool) (st : Stores) (p : Planned) → number_of kind.Router name st.entities ≡ None
     → IsShown (Refused (Unknown field.Name)) p → Plans p (update_router name attributes cost no_traversal (state_of st)) (state_of st)
 update_router_unknown name attributes cost no_traversal st p absent is =
-    plans_refused p (refusal_of_update_router name attributes cost no_traversal (state_of st)) (Unknown field.Name) (state_of st) Done (after_update_router name attributes cost no_traversal (state_of st))
-    (ap (λ o. or_then (unknown_if_absent field.Name o) (refuse_if (attributes_full (after_update_router name attributes cost no_traversal (state_of st))) (Full kind.Attribute))) absent) is
+    plans_refused p (refusal_of_update kind.Router name (described_router attributes cost no_traversal) None (state_of st)) (Unknown field.Name) (state_of st) Done (after_update kind.Router name (described_router attributes cost no_traversal) (state_of st))
+    (ap (λ o. or_then (unknown_if_absent field.Name o) (refuse_if (attributes_full (after_update kind.Router name (described_router attributes cost no_traversal) (state_of st))) (Full kind.Attribute))) absent) is
 
 pub update_router_refused : (name : List ℕ) (attributes : List (List ℕ)) (cost : ℕ) (no_traversal : Bool) (st : Stores) (n : ℕ) (p : Planned) (r : Refusal) → Keeps st
     → number_of kind.Router name st.entities ≡ Some n → Some r ≡ refusal_of_describe kind.Router n attributes st.entities → IsShown (Refused r) p
     → Plans p (update_router name attributes cost no_traversal (state_of st)) (state_of st)
 update_router_refused name attributes cost no_traversal st n p r keeps found e is =
-    by_there (at st.entities.routers n) (present-first_where (λ q. bytes_eq q.name name) st.entities.routers n found) (λ row stands.
-    plans_refused p (refusal_of_update_router name attributes cost no_traversal (state_of st)) r (state_of st) Done (after_update_router name attributes cost no_traversal (state_of st))
+    by_there (at st.entities.routers.rows n) (present-first_where (λ q. bytes_eq q.name name) st.entities.routers.rows n found) (λ row stands.
+    plans_refused p (refusal_of_update kind.Router name (described_router attributes cost no_traversal) None (state_of st)) r (state_of st) Done (after_update kind.Router name (described_router attributes cost no_traversal) (state_of st))
     (sym (router_refusal name attributes cost no_traversal st n row keeps stands found) ∙ sym e) is)
 
 pub update_router_planned : (name : List ℕ) (attributes : List (List ℕ)) (cost : ℕ) (no_traversal : Bool) (st : Stores) (n : ℕ) (q : RouterSeen) (steps : GrantSteps) → Keeps st
     → number_of kind.Router name st.entities ≡ Some n → None ≡ refusal_of_describe kind.Router n attributes st.entities
-    → Some q ≡ find (λ (s : RouterSeen). s.no.0 == n) (map seen st.entities.routers) → IsDescribed kind.Router n attributes st steps
+    → Some q ≡ find (λ (s : RouterSeen). s.no.0 == n) (map seen st.entities.routers.rows) → IsDescribed kind.Router n attributes st steps
     → Plans (record { reply = Done; change = change.DescribeRouter n attributes cost (not no_traversal) q.connected; steps = steps }) (update_router name attributes cost no_traversal (state_of st)) (state_of st)
-update_router_planned name attributes cost no_traversal st n q steps keeps found e sees is = by_seen st.entities.routers n q sees (λ r stands same.
-    let alike : edit_at st.entities.routers n (λ row. record row { attributes = attributes; cost = cost; through = not no_traversal; connected = q.connected })
-    ≡ edit_at st.entities.routers n (updated_as attributes cost (not no_traversal)) =
+update_router_planned name attributes cost no_traversal st n q steps keeps found e sees is = by_seen st.entities.routers.rows n q sees (λ r stands same.
+    let alike : edit_at st.entities.routers.rows n (λ row. record row { attributes = attributes; cost = cost; through = not no_traversal; connected = q.connected })
+    ≡ edit_at st.entities.routers.rows n (updated_as attributes cost (not no_traversal)) =
     edit_at-same (λ row. record row { attributes = attributes; cost = cost; through = not no_traversal; connected = q.connected }) (updated_as attributes cost (not no_traversal))
-    st.entities.next_router st.entities.routers 1 n r keeps.valid.routers.numbers.ordered stands
+    st.entities.routers.next st.entities.routers.rows 1 n r (keeps.valid.kinds kind.Router).numbers.ordered stands
     (ap (λ (s : RouterSeen). record r { attributes = attributes; cost = cost; through = not no_traversal; connected = s.connected }) same) in
-    subst (λ effect. Plans (record { reply = Done; change = change.DescribeRouter n attributes cost (not no_traversal) q.connected; steps = steps }) (carried_out (refusal_of_update_router name attributes cost no_traversal (state_of st)) (state_of st) Done effect) (state_of st))
+    subst (λ effect. Plans (record { reply = Done; change = change.DescribeRouter n attributes cost (not no_traversal) q.connected; steps = steps }) (carried_out (refusal_of_update kind.Router name (described_router attributes cost no_traversal) None (state_of st)) (state_of st) Done effect) (state_of st))
     (sym (router_effect name attributes cost no_traversal st n found))
-    (plans_carried _ (refusal_of_update_router name attributes cost no_traversal (state_of st)) (state_of st) Done (with_updated n attributes cost (not no_traversal) (state_of st))
+    (plans_carried _ (refusal_of_update kind.Router name (described_router attributes cost no_traversal) None (state_of st)) (state_of st) Done (with_updated n attributes cost (not no_traversal) (state_of st))
     (sym (router_refusal name attributes cost no_traversal st n r keeps stands found) ∙ sym e) refl (there_in_state kind.Router name st n found)
-    (ap (λ rows. settle (record (state_of st) { routers = rows })) alike)
+    (ap (λ rows. settle (record (state_of st) { routers = record st.entities.routers { rows = rows } })) alike)
     (described_router_leads n attributes (updated_as attributes cost (not no_traversal)) (state_of st) steps keeps.valid (λ row. refl) (entity_steps_in_state kind.Router n _ st steps is))))
 
 pub mark_unknown : (name : List ℕ) (connected : Bool) (st : Stores) (p : Planned) → number_of kind.Router name st.entities ≡ None
     → IsShown (Refused (Unknown field.Name)) p → Plans p (mark_router name connected (state_of st)) (state_of st)
 mark_unknown name connected st p absent is =
-    plans_refused p (unknown_if_absent field.Name (number_of kind.Router name st.entities)) (Unknown field.Name) (state_of st) Done (after_mark_router name connected (state_of st))
+    plans_refused p (unknown_if_absent field.Name (number_of kind.Router name st.entities)) (Unknown field.Name) (state_of st) Done (after_update kind.Router name (marked connected) (state_of st))
     (ap (unknown_if_absent field.Name) absent) is
 
 abbrev with_mark : ℕ → Bool → State → State
-with_mark n connected s = record s { routers = edit_at s.routers n (λ r. record r { connected = connected }) }
+with_mark n connected s = record s { routers = with_edit n (λ r. record r { connected = connected }) s.routers }
 
 pub mark_planned : (name : List ℕ) (connected : Bool) (st : Stores) (n : ℕ) (q : RouterSeen) (steps : GrantSteps) → Keeps st → number_of kind.Router name st.entities ≡ Some n
-    → Some q ≡ find (λ (s : RouterSeen). s.no.0 == n) (map seen st.entities.routers) → HasNoSteps steps
+    → Some q ≡ find (λ (s : RouterSeen). s.no.0 == n) (map seen st.entities.routers.rows) → HasNoSteps steps
     → Plans (record { reply = Done; change = change.Mark n q.cost q.through connected; steps = steps }) (mark_router name connected (state_of st)) (state_of st)
-mark_planned name connected st n q steps keeps found sees none = by_seen st.entities.routers n q sees (λ r stands same.
-    let alike : edit_at st.entities.routers n (λ row. record row { cost = q.cost; through = q.through; connected = connected })
-    ≡ edit_at st.entities.routers n (λ row. record row { connected = connected }) =
+mark_planned name connected st n q steps keeps found sees none = by_seen st.entities.routers.rows n q sees (λ r stands same.
+    let alike : edit_at st.entities.routers.rows n (λ row. record row { cost = q.cost; through = q.through; connected = connected })
+    ≡ edit_at st.entities.routers.rows n (λ row. record row { connected = connected }) =
     edit_at-same (λ row. record row { cost = q.cost; through = q.through; connected = connected }) (λ row. record row { connected = connected })
-    st.entities.next_router st.entities.routers 1 n r keeps.valid.routers.numbers.ordered stands
+    st.entities.routers.next st.entities.routers.rows 1 n r (keeps.valid.kinds kind.Router).numbers.ordered stands
     (ap (λ (s : RouterSeen). record r { cost = s.cost; through = s.through; connected = connected }) same) in
-    let effect : after_mark_router name connected (state_of st) ≡ with_mark n connected (state_of st) = ap (λ o. at_number o (state_of st) (λ m. with_mark m connected (state_of st))) found in
+    let effect : after_update kind.Router name (marked connected) (state_of st) ≡ with_mark n connected (state_of st) = ap (λ o. at_number o (state_of st) (λ m. with_mark m connected (state_of st))) found in
     subst (λ after. Plans (record { reply = Done; change = change.Mark n q.cost q.through connected; steps = steps }) (carried_out (unknown_if_absent field.Name (number_of kind.Router name st.entities)) (state_of st) Done after) (state_of st))
     (sym effect)
     (plans_carried _ (unknown_if_absent field.Name (number_of kind.Router name st.entities)) (state_of st) Done (with_mark n connected (state_of st))
     (ap (unknown_if_absent field.Name) found) refl (there_in_state kind.Router name st n found)
-    (ap (λ rows. settle (record (state_of st) { routers = rows })) alike)
+    (ap (λ rows. settle (record (state_of st) { routers = record st.entities.routers { rows = rows } })) alike)
     (marked_leads n (λ row. record row { connected = connected }) (state_of st) steps (λ row. refl) none)))
 
 -- ---- a deletion
 
 pub delete_unknown : (k : Kind) (name : List ℕ) (st : Stores) (p : Planned) → is_entity_kind k ≡ true → number_of k name st.entities ≡ None
-    → IsShown (Refused (Unknown field.Name)) p → Plans p (answer_delete k name (state_of st)) (state_of st)
+    → IsShown (Refused (Unknown field.Name)) p → Plans p (delete k field.Name name (state_of st)) (state_of st)
 delete_unknown kind.Identity name st p is_kind absent is =
-    plans_refused p (unknown_if_absent field.Name (number_of kind.Identity name st.entities)) (Unknown field.Name) (state_of st) Done (after_delete_identity name (state_of st))
+    plans_refused p (unknown_if_absent field.Name (number_of kind.Identity name st.entities)) (Unknown field.Name) (state_of st) Done (after_delete kind.Identity name (state_of st))
     (ap (unknown_if_absent field.Name) absent) is
 delete_unknown kind.Service name st p is_kind absent is =
-    plans_refused p (unknown_if_absent field.Name (number_of kind.Service name st.entities)) (Unknown field.Name) (state_of st) Done (after_delete_service name (state_of st))
+    plans_refused p (unknown_if_absent field.Name (number_of kind.Service name st.entities)) (Unknown field.Name) (state_of st) Done (after_delete kind.Service name (state_of st))
     (ap (unknown_if_absent field.Name) absent) is
 delete_unknown kind.Router name st p is_kind absent is =
-    plans_refused p (unknown_if_absent field.Name (number_of kind.Router name st.entities)) (Unknown field.Name) (state_of st) Done (after_delete_router name (state_of st))
+    plans_refused p (unknown_if_absent field.Name (number_of kind.Router name st.entities)) (Unknown field.Name) (state_of st) Done (after_delete kind.Router name (state_of st))
     (ap (unknown_if_absent field.Name) absent) is
 delete_unknown _ name st p is_kind absent is = absurd (false≢true is_kind)
 
 pub delete_planned : (k : Kind) (name : List ℕ) (st : Stores) (n : ℕ) (steps : GrantSteps) → is_entity_kind k ≡ true → Keeps st → number_of k name st.entities ≡ Some n
     → StepsOfEntity k n (record { before = at (entities k st.entities) n; after = None }) (state_of st) steps
-    → Plans (record { reply = Done; change = change.Remove k n name; steps = steps }) (answer_delete k name (state_of st)) (state_of st)
+    → Plans (record { reply = Done; change = change.Remove k n name; steps = steps }) (delete k field.Name name (state_of st)) (state_of st)
 delete_planned kind.Identity name st n steps is_kind keeps found is =
-    let effect : after_delete_identity name (state_of st) ≡ with_removed kind.Identity n name (state_of st) = ap (λ o. at_number o (state_of st) (λ m. with_removed kind.Identity m name (state_of st))) found in
+    let effect : after_delete kind.Identity name (state_of st) ≡ without_named kind.Identity n name (state_of st) = ap (λ o. at_number o (state_of st) (λ m. without_named kind.Identity m name (state_of st))) found in
     subst (λ after. Plans (record { reply = Done; change = change.Remove kind.Identity n name; steps = steps }) (carried_out (unknown_if_absent field.Name (number_of kind.Identity name st.entities)) (state_of st) Done after) (state_of st))
     (sym effect)
-    (plans_carried _ (unknown_if_absent field.Name (number_of kind.Identity name st.entities)) (state_of st) Done (with_removed kind.Identity n name (state_of st))
+    (plans_carried _ (unknown_if_absent field.Name (number_of kind.Identity name st.entities)) (state_of st) Done (without_named kind.Identity n name (state_of st))
     (ap (unknown_if_absent field.Name) found) refl (refl, there_in_state kind.Identity name st n found) refl
     (removed_leads kind.Identity n name (state_of st) steps refl keeps.valid found is))
 delete_planned kind.Service name st n steps is_kind keeps found is =
-    let effect : after_delete_service name (state_of st) ≡ with_removed kind.Service n name (state_of st) = ap (λ o. at_number o (state_of st) (λ m. with_removed kind.Service m name (state_of st))) found in
+    let effect : after_delete kind.Service name (state_of st) ≡ without_named kind.Service n name (state_of st) = ap (λ o. at_number o (state_of st) (λ m. without_named kind.Service m name (state_of st))) found in
     subst (λ after. Plans (record { reply = Done; change = change.Remove kind.Service n name; steps = steps }) (carried_out (unknown_if_absent field.Name (number_of kind.Service name st.entities)) (state_of st) Done after) (state_of st))
     (sym effect)
-    (plans_carried _ (unknown_if_absent field.Name (number_of kind.Service name st.entities)) (state_of st) Done (with_removed kind.Service n name (state_of st))
+    (plans_carried _ (unknown_if_absent field.Name (number_of kind.Service name st.entities)) (state_of st) Done (without_named kind.Service n name (state_of st))
     (ap (unknown_if_absent field.Name) found) refl (refl, there_in_state kind.Service name st n found) refl
     (removed_leads kind.Service n name (state_of st) steps refl keeps.valid found is))
 delete_planned kind.Router name st n steps is_kind keeps found is =
-    let effect : after_delete_router name (state_of st) ≡ with_removed kind.Router n name (state_of st) = ap (λ o. at_number o (state_of st) (λ m. with_removed kind.Router m name (state_of st))) found in
+    let effect : after_delete kind.Router name (state_of st) ≡ without_named kind.Router n name (state_of st) = ap (λ o. at_number o (state_of st) (λ m. without_named kind.Router m name (state_of st))) found in
     subst (λ after. Plans (record { reply = Done; change = change.Remove kind.Router n name; steps = steps }) (carried_out (unknown_if_absent field.Name (number_of kind.Router name st.entities)) (state_of st) Done after) (state_of st))
     (sym effect)
-    (plans_carried _ (unknown_if_absent field.Name (number_of kind.Router name st.entities)) (state_of st) Done (with_removed kind.Router n name (state_of st))
+    (plans_carried _ (unknown_if_absent field.Name (number_of kind.Router name st.entities)) (state_of st) Done (without_named kind.Router n name (state_of st))
     (ap (unknown_if_absent field.Name) found) refl (refl, there_in_state kind.Router name st n found) refl
     (removed_leads kind.Router n name (state_of st) steps refl keeps.valid found is))
 delete_planned _ name st n steps is_kind keeps found is = absurd (false≢true is_kind)

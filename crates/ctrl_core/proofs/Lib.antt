@@ -16,3 +16,5 @@ pub mod PolicyPlans
 pub mod SpelledPolicies
 pub mod StepsInState
 pub mod NetworkPlans
+pub mod PresentLaws
+pub mod CircuitPlanLaws

@@ -14,10 +14,10 @@ use Rattle.link_commands.specs.LinkPlans as links
 use Rattle.link_commands.specs.LinkChanges as linked
 use Rattle.policy_store.specs.declared.steps.GrantSteps.{GrantSteps}
 use Rattle.policy_store.specs.GrantChanges.{HasNoSteps, steps_of}
-use Rattle.circuit_commands.specs.declared.changes.CircuitChange.{CircuitChange}
-use Rattle.circuit_commands.specs.declared.changes.CircuitPlan.{CircuitPlan}
-use Rattle.circuit_commands.specs.CircuitPlans as circuits
-use Rattle.circuit_commands.specs.CircuitChanges as granted
+use Rattle.circuits.specs.declared.changes.CircuitChange.{CircuitChange}
+use Rattle.ctrl_core.specs.declared.circuit_planning.CircuitPlan.{CircuitPlan}
+use Rattle.ctrl_core.specs.CircuitPlans as circuits
+use Rattle.circuits.specs.CircuitChanges as granted
 use Rattle.circuits.specs.CircuitTables.{CircuitTables}
 use Rattle.fabric_graph.specs.FabricTables.{FabricSeen}
 use Rattle.terminators.specs.TermTables.{TermTables}

@@ -14,7 +14,7 @@ use Rattle.ctrl_model.specs.Controller.{carry}
 use Rattle.ctrl_model.specs.ValidState.{ValidState}
 use Rattle.ctrl_model.specs.Settling.{settle}
 use Rattle.ctrl_model.specs.Rules.{carried_out, shown}
-use Rattle.ctrl_model.proofs.ValidCommands.{answer-valid}
+use Rattle.model_laws.proofs.ValidCommands.{answer-valid}
 use Rattle.grant_denorm.specs.declared.deltas.Delta.{Delta}
 use Rattle.grant_moves.specs.CountMoves.{LeadCounts}
 use Rattle.grant_moves.proofs.LeadingCounts.{unchanged_leads}

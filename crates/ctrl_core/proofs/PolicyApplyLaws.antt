@@ -65,25 +65,25 @@ same_entities t u others st = ap (λ (e : Tables). state_of (record st { entitie
 
 -- the next number of a kind of policy
 abbrev next_in : Kind → State → ℕ
-next_in kind.ServicePolicy s = s.next_service_policy
-next_in kind.EdgeRouterPolicy s = s.next_edge_router_policy
-next_in kind.ServiceEdgeRouterPolicy s = s.next_service_edge_router_policy
+next_in kind.ServicePolicy s = s.service_policies.next
+next_in kind.EdgeRouterPolicy s = s.edge_router_policies.next
+next_in kind.ServiceEdgeRouterPolicy s = s.service_edge_router_policies.next
 next_in _ s = 1
 
 ordered : (k : Kind) (s : State) → is_policy_kind k ≡ true → ValidState s → Between 1 (next_in k s) (policies_in k s)
-ordered kind.ServicePolicy s is valid = valid.service_policies.numbers.ordered
-ordered kind.EdgeRouterPolicy s is valid = valid.edge_router_policies.numbers.ordered
-ordered kind.ServiceEdgeRouterPolicy s is valid = valid.service_edge_router_policies.numbers.ordered
+ordered kind.ServicePolicy s is valid = (valid.kinds kind.ServicePolicy).numbers.ordered
+ordered kind.EdgeRouterPolicy s is valid = (valid.kinds kind.EdgeRouterPolicy).numbers.ordered
+ordered kind.ServiceEdgeRouterPolicy s is valid = (valid.kinds kind.ServiceEdgeRouterPolicy).numbers.ordered
 ordered _ s is valid = absurd (false≢true is)
 
 ordered_before : (k : Kind) (n : ℕ) (p : Policy) (s : State) → is_policy_kind k ≡ true → ValidState (settle (with_replaced k n p s)) → Between 1 (next_in k s) (policies_in k s)
 ordered_before kind.ServicePolicy n p s is valid =
-    Between-from_map (λ (x : ℕ × Policy). cond (x.0 == n) (replaced_by p x.1) x.1) s.next_service_policy s.service_policies 1 valid.service_policies.numbers.ordered
+    Between-from_map (λ (x : ℕ × Policy). cond (x.0 == n) (replaced_by p x.1) x.1) s.service_policies.next s.service_policies.rows 1 (valid.kinds kind.ServicePolicy).numbers.ordered
 ordered_before kind.EdgeRouterPolicy n p s is valid =
-    Between-from_map (λ (x : ℕ × Policy). cond (x.0 == n) (replaced_by p x.1) x.1) s.next_edge_router_policy s.edge_router_policies 1 valid.edge_router_policies.numbers.ordered
+    Between-from_map (λ (x : ℕ × Policy). cond (x.0 == n) (replaced_by p x.1) x.1) s.edge_router_policies.next s.edge_router_policies.rows 1 (valid.kinds kind.EdgeRouterPolicy).numbers.ordered
 ordered_before kind.ServiceEdgeRouterPolicy n p s is valid =
-    Between-from_map (λ (x : ℕ × Policy). cond (x.0 == n) (replaced_by p x.1) x.1) s.next_service_edge_router_policy s.service_edge_router_policies 1
-    valid.service_edge_router_policies.numbers.ordered
+    Between-from_map (λ (x : ℕ × Policy). cond (x.0 == n) (replaced_by p x.1) x.1) s.service_edge_router_policies.next s.service_edge_router_policies.rows 1
+    (valid.kinds kind.ServiceEdgeRouterPolicy).numbers.ordered
 ordered_before _ n p s is valid = absurd (false≢true is)
 
 -- ---- the attributes of policies after a change
@@ -122,15 +122,14 @@ put_by taken rows most n free few last = rw (free, lt-ltb rows most few, lt-ltb 
 
 pub can_put_fresh : (k : Kind) (p : Policy) (st : Stores) → is_policy_kind k ≡ true → ValidState (settle (with_policy k p (state_of st))) → can_put k p.name true st.policies ≡ true
 can_put_fresh kind.ServicePolicy p st is valid =
-    let new = new_record (λ (q : Policy). q.name) 512 st.policies.service_policies st.policies.next_service_policy (st.policies.next_service_policy + 1) p valid.service_policies in
-    put_by _ (length st.policies.service_policies) 512 st.policies.next_service_policy new.named new.few new.last
+    let new = new_record kind.ServicePolicy st.policies.service_policies p refl (valid.kinds kind.ServicePolicy) in
+    put_by _ (length st.policies.service_policies.rows) 512 st.policies.service_policies.next new.named new.few new.last
 can_put_fresh kind.EdgeRouterPolicy p st is valid =
-    let new = new_record (λ (q : Policy). q.name) 256 st.policies.edge_router_policies st.policies.next_edge_router_policy (st.policies.next_edge_router_policy + 1) p valid.edge_router_policies in
-    put_by _ (length st.policies.edge_router_policies) 256 st.policies.next_edge_router_policy new.named new.few new.last
+    let new = new_record kind.EdgeRouterPolicy st.policies.edge_router_policies p refl (valid.kinds kind.EdgeRouterPolicy) in
+    put_by _ (length st.policies.edge_router_policies.rows) 256 st.policies.edge_router_policies.next new.named new.few new.last
 can_put_fresh kind.ServiceEdgeRouterPolicy p st is valid =
-    let new = new_record (λ (q : Policy). q.name) 256 st.policies.service_edge_router_policies st.policies.next_service_edge_router_policy
-    (st.policies.next_service_edge_router_policy + 1) p valid.service_edge_router_policies in
-    put_by _ (length st.policies.service_edge_router_policies) 256 st.policies.next_service_edge_router_policy new.named new.few new.last
+    let new = new_record kind.ServiceEdgeRouterPolicy st.policies.service_edge_router_policies p refl (valid.kinds kind.ServiceEdgeRouterPolicy) in
+    put_by _ (length st.policies.service_edge_router_policies.rows) 256 st.policies.service_edge_router_policies.next new.named new.few new.last
 can_put_fresh _ p st is valid = absurd (false≢true is)
 
 pub room_to_put : (k : Kind) (p : Policy) (st : Stores) → is_policy_kind k ≡ true → HoldsPolicies st → ValidState (settle (with_policy k p (state_of st))) → has_attribute_room st.entities [] (names_of p) ≡ true
@@ -150,19 +149,19 @@ carried_policy k p st t is held holds = record {
 pub are_held : (k : Kind) (n : ℕ) (p : Policy) (st : Stores) → is_policy_kind k ≡ true → at (policies k st.policies) n ≡ Some p → HoldsPolicies st → AreHeld st.entities (names_of p)
 are_held k n p st is stands held x = by k is stands
   where
-    parts : times x (policy_attributes st.policies) ≡ times x (flat_map side_attributes st.policies.service_policies)
-        + (times x (flat_map side_attributes st.policies.edge_router_policies) + times x (flat_map side_attributes st.policies.service_edge_router_policies))
+    parts : times x (policy_attributes st.policies) ≡ times x (flat_map side_attributes st.policies.service_policies.rows)
+        + (times x (flat_map side_attributes st.policies.edge_router_policies.rows) + times x (flat_map side_attributes st.policies.service_edge_router_policies.rows))
     parts =
-        let one = times-append x (flat_map side_attributes st.policies.service_policies)
-        (flat_map side_attributes st.policies.edge_router_policies ++ flat_map side_attributes st.policies.service_edge_router_policies) in
-        let two = times-append x (flat_map side_attributes st.policies.edge_router_policies) (flat_map side_attributes st.policies.service_edge_router_policies) in
+        let one = times-append x (flat_map side_attributes st.policies.service_policies.rows)
+        (flat_map side_attributes st.policies.edge_router_policies.rows ++ flat_map side_attributes st.policies.service_edge_router_policies.rows) in
+        let two = times-append x (flat_map side_attributes st.policies.edge_router_policies.rows) (flat_map side_attributes st.policies.service_edge_router_policies.rows) in
         omega (arith, one, two)
 
     by : (j : Kind) → is_policy_kind j ≡ true → at (policies j st.policies) n ≡ Some p → times x (names_of p) ≤ held_times x st.entities.held
-    by kind.ServicePolicy is stands = let all = parts in let these = held x in let part = times-at names_of x st.policies.service_policies n p stands in omega (arith, all, these, part)
-    by kind.EdgeRouterPolicy is stands = let all = parts in let these = held x in let part = times-at names_of x st.policies.edge_router_policies n p stands in omega (arith, all, these, part)
+    by kind.ServicePolicy is stands = let all = parts in let these = held x in let part = times-at names_of x st.policies.service_policies.rows n p stands in omega (arith, all, these, part)
+    by kind.EdgeRouterPolicy is stands = let all = parts in let these = held x in let part = times-at names_of x st.policies.edge_router_policies.rows n p stands in omega (arith, all, these, part)
     by kind.ServiceEdgeRouterPolicy is stands =
-        let all = parts in let these = held x in let part = times-at names_of x st.policies.service_edge_router_policies n p stands in omega (arith, all, these, part)
+        let all = parts in let these = held x in let part = times-at names_of x st.policies.service_edge_router_policies.rows n p stands in omega (arith, all, these, part)
     by _ is stands = absurd (false≢true is)
 
 pub policy_there : (k : Kind) (n : ℕ) (st mid : Stores) → is_present (policies_in k (state_of st)) n ≡ true → mid.policies ≡ st.policies → is_there k n mid.policies ≡ true

@@ -28,16 +28,16 @@ use Rattle.ctrl_core.proofs.OrderedSides.{left_high, right_high, policies_high, 
 
 -- the number of the next policy of a kind
 abbrev pub next_in : Kind → State → ℕ
-next_in kind.ServicePolicy s = s.next_service_policy
-next_in kind.EdgeRouterPolicy s = s.next_edge_router_policy
-next_in kind.ServiceEdgeRouterPolicy s = s.next_service_edge_router_policy
+next_in kind.ServicePolicy s = s.service_policies.next
+next_in kind.EdgeRouterPolicy s = s.edge_router_policies.next
+next_in kind.ServiceEdgeRouterPolicy s = s.service_edge_router_policies.next
 next_in _ s = 1
 
 -- the state with other policies of a kind and another next number
 abbrev pub with_rows : Kind → List (ℕ × Policy) → ℕ → State → State
-with_rows kind.ServicePolicy rows next s = record s { service_policies = rows; next_service_policy = next }
-with_rows kind.EdgeRouterPolicy rows next s = record s { edge_router_policies = rows; next_edge_router_policy = next }
-with_rows kind.ServiceEdgeRouterPolicy rows next s = record s { service_edge_router_policies = rows; next_service_edge_router_policy = next }
+with_rows kind.ServicePolicy rows next s = record s { service_policies = record { rows = rows; next = next } }
+with_rows kind.EdgeRouterPolicy rows next s = record s { edge_router_policies = record { rows = rows; next = next } }
+with_rows kind.ServiceEdgeRouterPolicy rows next s = record s { service_edge_router_policies = record { rows = rows; next = next } }
 with_rows _ rows next s = s
 
 -- one policy of a kind differs in some rows
@@ -109,15 +109,15 @@ one_leads _ n was is rows next s steps fits valid m t r = absurd (false≢true f
 
 -- the numbers of a kind ascend
 pub kind_ordered : (k : Kind) (s : State) → ValidState s → Between 1 (next_in k s) (policies_in k s)
-kind_ordered kind.ServicePolicy s valid = valid.service_policies.numbers.ordered
-kind_ordered kind.EdgeRouterPolicy s valid = valid.edge_router_policies.numbers.ordered
-kind_ordered kind.ServiceEdgeRouterPolicy s valid = valid.service_edge_router_policies.numbers.ordered
+kind_ordered kind.ServicePolicy s valid = (valid.kinds kind.ServicePolicy).numbers.ordered
+kind_ordered kind.EdgeRouterPolicy s valid = (valid.kinds kind.EdgeRouterPolicy).numbers.ordered
+kind_ordered kind.ServiceEdgeRouterPolicy s valid = (valid.kinds kind.ServiceEdgeRouterPolicy).numbers.ordered
 kind_ordered _ s valid = tt
 
 kind_first : (k : Kind) (s : State) → ValidState s → 1 ≤ next_in k s
-kind_first kind.ServicePolicy s valid = valid.service_policies.numbers.first
-kind_first kind.EdgeRouterPolicy s valid = valid.edge_router_policies.numbers.first
-kind_first kind.ServiceEdgeRouterPolicy s valid = valid.service_edge_router_policies.numbers.first
+kind_first kind.ServicePolicy s valid = (valid.kinds kind.ServicePolicy).numbers.first
+kind_first kind.EdgeRouterPolicy s valid = (valid.kinds kind.EdgeRouterPolicy).numbers.first
+kind_first kind.ServiceEdgeRouterPolicy s valid = (valid.kinds kind.ServiceEdgeRouterPolicy).numbers.first
 kind_first _ s valid = omega arith
 
 pub created_leads : (k : Kind) (p : Policy) (s : State) (steps : GrantSteps) → is_policy_kind k ≡ true → ValidState s → StepsOfPolicy k None (Some p) s steps

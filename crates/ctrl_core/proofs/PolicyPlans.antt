@@ -2,6 +2,7 @@
 use Rattle.std.proofs.Common.{◌≡◌, ℕ, true, false, List, [], Option, None, Some, is_some, refl, sym, ◌∙◌, ap, subst, arith}
 use Rattle.std.proofs.lemmas.Bool.{false≢true}
 use Rattle.std.proofs.lemmas.Option.{same_Some, none-some}
+use Rattle.ctrl_model.specs.RecordCommands.{delete}
 use Rattle.ctrl_model.specs.declared.kinds.Kind.{Kind}
 use Rattle.ctrl_model.specs.declared.kinds.Kind.TheVariants as kind
 use Rattle.ctrl_model.specs.declared.refusals.Field.TheVariants as field
@@ -15,8 +16,6 @@ use Rattle.ctrl_model.specs.Rules.{or_then, carried_out, unknown_if_absent, at_n
 use Rattle.ctrl_model.proofs.TableLaws.{found-named}
 use Rattle.entity_store.specs.AttributeUses.{AreUsed}
 use Rattle.policy_store.specs.PolicyTables.{is_policy_kind, policies, next_of, number_of}
-use Rattle.policy_store.specs.StoredPolicies.{policy_of}
-use Rattle.policy_store.specs.declared.records.Policy as stored
 use Rattle.ctrl_core.specs.declared.changes.Change.TheVariants as change
 use Rattle.policy_store.specs.declared.steps.GrantSteps.{GrantSteps}
 use Rattle.ctrl_core.specs.declared.changes.Planned.{Planned}
@@ -24,7 +23,7 @@ use Rattle.ctrl_core.specs.declared.stores.Stores.{Stores}
 use Rattle.ctrl_core.specs.KeptState.{Keeps, state_of}
 use Rattle.ctrl_core.specs.Changes.{policies_in, with_policy, with_replaced, without_policy}
 use Rattle.policy_store.specs.GrantChanges.{StepsOfPolicy}
-use Rattle.ctrl_core.specs.PlannedCommands.{Plans, IsShown, AreShort, refusal_to_put, refusal_of_create, refusal_of_replace, answer_create, answer_replace, answer_delete_policy}
+use Rattle.ctrl_core.specs.PlannedCommands.{Plans, IsShown, AreShort, refusal_to_put, refusal_of_new, refusal_of_replace, answer_create, answer_replace}
 use Rattle.ctrl_core.proofs.InUseLaws.{names_of, policy_removed, uses_in_state}
 use Rattle.ctrl_core.proofs.PlanLaws.{plans_refused, plans_carried}
 use Rattle.ctrl_core.proofs.RefusedPolicies.{refused_create, refused_replace}
@@ -40,7 +39,7 @@ stored_policies _ st = refl
 -- ---- a new policy
 
 created : (k : Kind) (p : Policy) (st : Stores) → is_policy_kind k ≡ true
-    → answer_create k p (state_of st) ≡ carried_out (refusal_of_create k p (state_of st)) (state_of st) (Made (next_of k st.policies)) (with_policy k p (state_of st))
+    → answer_create k p (state_of st) ≡ carried_out (refusal_of_new k p (state_of st)) (state_of st) (Made (next_of k st.policies)) (with_policy k p (state_of st))
 created kind.ServicePolicy p st is = refl
 created kind.EdgeRouterPolicy p st is = refl
 created kind.ServiceEdgeRouterPolicy p st is = refl
@@ -48,28 +47,25 @@ created _ p st is = absurd (false≢true is)
 
 -- the refusal in the words of the store
 create_judged : (k : Kind) (p : Policy) (gone : List (List ℕ)) (st : Stores) → is_policy_kind k ≡ true → AreShort p → Keeps st → gone ≡ []
-    → refusal_to_put k p true gone st ≡ refusal_of_create k p (state_of st)
+    → refusal_to_put k p true gone st ≡ refusal_of_new k p (state_of st)
 create_judged k p gone st is short kept same = ap (λ g. refusal_to_put k p true g st) same ∙ refused_create k p st is short kept.held
 
 pub create_refused : (k : Kind) (p : Policy) (gone : List (List ℕ)) (st : Stores) (made : Planned) (r : Refusal) → is_policy_kind k ≡ true → AreShort p → Keeps st → gone ≡ []
     → Some r ≡ refusal_to_put k p true gone st → IsShown (Refused r) made → Plans made (answer_create k p (state_of st)) (state_of st)
 create_refused k p gone st made r is short kept same e shown =
     subst (λ a. Plans made a (state_of st)) (sym (created k p st is))
-    (plans_refused made (refusal_of_create k p (state_of st)) r (state_of st) _ _ (sym (e ∙ create_judged k p gone st is short kept same)) shown)
+    (plans_refused made (refusal_of_new k p (state_of st)) r (state_of st) _ _ (sym (e ∙ create_judged k p gone st is short kept same)) shown)
 
-pub create_planned : (k : Kind) (given : stored.Policy) (gone : List (List ℕ)) (st : Stores) (n : ℕ) (steps : GrantSteps) → is_policy_kind k ≡ true → AreShort (policy_of given)
-    → Keeps st → gone ≡ [] → None ≡ refusal_to_put k (policy_of given) true gone st → n ≡ next_of k st.policies → StepsOfPolicy k None (Some (policy_of given)) (state_of st) steps
-    → Plans (record { reply = Made n; change = change.AddPolicy k given; steps = steps }) (answer_create k (policy_of given) (state_of st)) (state_of st)
-create_planned k given gone st n steps is short kept same e next stepped =
+pub create_planned : (k : Kind) (p : Policy) (gone : List (List ℕ)) (st : Stores) (n : ℕ) (steps : GrantSteps) → is_policy_kind k ≡ true → AreShort p
+    → Keeps st → gone ≡ [] → None ≡ refusal_to_put k p true gone st → n ≡ next_of k st.policies → StepsOfPolicy k None (Some p) (state_of st) steps
+    → Plans (record { reply = Made n; change = change.AddPolicy k p; steps = steps }) (answer_create k p (state_of st)) (state_of st)
+create_planned k p gone st n steps is short kept same e next stepped =
     subst (λ a. Plans made a (state_of st)) (sym (created k p st is))
-    (plans_carried made (refusal_of_create k p (state_of st)) (state_of st) (Made (next_of k st.policies)) (with_policy k p (state_of st))
+    (plans_carried made (refusal_of_new k p (state_of st)) (state_of st) (Made (next_of k st.policies)) (with_policy k p (state_of st))
     (sym (e ∙ create_judged k p gone st is short kept same)) (ap Made next) is refl (created_leads k p (state_of st) steps is kept.valid stepped))
   where
-    p : Policy
-    p = policy_of given
-
     made : Planned
-    made = record { reply = Made n; change = change.AddPolicy k given; steps = steps }
+    made = record { reply = Made n; change = change.AddPolicy k p; steps = steps }
 
 -- ---- a policy that is replaced
 
@@ -140,21 +136,18 @@ replace_refused k n p old gone st made r is short kept named stands same e shown
     subst (λ a. Plans made a (state_of st)) (sym (replaced k n p (state_of st) is (named_in k p.name st (Some n) named)))
     (plans_refused made (refusal_of_replace k p (state_of st)) r (state_of st) _ _ (sym (e ∙ replace_judged k n p old gone st is short kept named stands same)) shown)
 
-pub replace_planned : (k : Kind) (n : ℕ) (given : stored.Policy) (old : Policy) (gone : List (List ℕ)) (st : Stores) (steps : GrantSteps) → is_policy_kind k ≡ true
-    → AreShort (policy_of given) → Keeps st → number_of k given.name st.policies ≡ Some n → Some old ≡ at (policies k st.policies) n → gone ≡ names_of old
-    → None ≡ refusal_to_put k (policy_of given) false gone st → StepsOfPolicy k (Some old) (Some (policy_of given)) (state_of st) steps
-    → Plans (record { reply = Done; change = change.ReplacePolicy k n given; steps = steps }) (answer_replace k (policy_of given) (state_of st)) (state_of st)
-replace_planned k n given old gone st steps is short kept named stands same e stepped =
+pub replace_planned : (k : Kind) (n : ℕ) (p : Policy) (old : Policy) (gone : List (List ℕ)) (st : Stores) (steps : GrantSteps) → is_policy_kind k ≡ true
+    → AreShort p → Keeps st → number_of k p.name st.policies ≡ Some n → Some old ≡ at (policies k st.policies) n → gone ≡ names_of old
+    → None ≡ refusal_to_put k p false gone st → StepsOfPolicy k (Some old) (Some p) (state_of st) steps
+    → Plans (record { reply = Done; change = change.ReplacePolicy k n p; steps = steps }) (answer_replace k p (state_of st)) (state_of st)
+replace_planned k n p old gone st steps is short kept named stands same e stepped =
     subst (λ a. Plans made a (state_of st)) (sym (replaced k n p (state_of st) is name_here))
     (plans_carried made (refusal_of_replace k p (state_of st)) (state_of st) Done (with_replaced k n p (state_of st))
     (sym (e ∙ replace_judged k n p old gone st is short kept named stands same)) refl (is, name_here) refl
     (replaced_leads k n old p (state_of st) steps is kept.valid here parts stepped))
   where
-    p : Policy
-    p = policy_of given
-
     made : Planned
-    made = record { reply = Done; change = change.ReplacePolicy k n given; steps = steps }
+    made = record { reply = Done; change = change.ReplacePolicy k n p; steps = steps }
 
     name_here : policy_named (policies_in k (state_of st)) p.name ≡ Some n
     name_here = named_in k p.name st (Some n) named
@@ -168,7 +161,7 @@ replace_planned k n given old gone st steps is short kept named stands same e st
 -- ---- a policy that goes
 
 deleted : (k : Kind) (name : List ℕ) (s : State) → is_policy_kind k ≡ true
-    → answer_delete_policy k name s ≡ carried_out (unknown_if_absent field.Name (policy_named (policies_in k s) name)) s Done
+    → delete k field.Name name s ≡ carried_out (unknown_if_absent field.Name (policy_named (policies_in k s) name)) s Done
     (at_number (policy_named (policies_in k s) name) s (λ n. without_policy k n s))
 deleted kind.ServicePolicy name s is = refl
 deleted kind.EdgeRouterPolicy name s is = refl
@@ -176,14 +169,14 @@ deleted kind.ServiceEdgeRouterPolicy name s is = refl
 deleted _ name s is = absurd (false≢true is)
 
 pub delete_unknown : (k : Kind) (name : List ℕ) (st : Stores) (made : Planned) → is_policy_kind k ≡ true → number_of k name st.policies ≡ None
-    → IsShown (Refused (Unknown field.Name)) made → Plans made (answer_delete_policy k name (state_of st)) (state_of st)
+    → IsShown (Refused (Unknown field.Name)) made → Plans made (delete k field.Name name (state_of st)) (state_of st)
 delete_unknown k name st made is absent shown =
     subst (λ a. Plans made a (state_of st)) (sym (deleted k name (state_of st) is))
     (plans_refused made _ (Unknown field.Name) (state_of st) Done _ (ap (unknown_if_absent field.Name) (named_in k name st None absent)) shown)
 
 pub delete_planned : (k : Kind) (name : List ℕ) (n : ℕ) (old : Policy) (st : Stores) (steps : GrantSteps) → is_policy_kind k ≡ true → Keeps st → number_of k name st.policies ≡ Some n
     → Some old ≡ at (policies k st.policies) n → StepsOfPolicy k (Some old) None (state_of st) steps
-    → Plans (record { reply = Done; change = change.RemovePolicy k n; steps = steps }) (answer_delete_policy k name (state_of st)) (state_of st)
+    → Plans (record { reply = Done; change = change.RemovePolicy k n; steps = steps }) (delete k field.Name name (state_of st)) (state_of st)
 delete_planned k name n old st steps is kept named stands stepped =
     subst (λ a. Plans made a (state_of st)) (sym (deleted k name (state_of st) is ∙ ap (λ o. carried_out (unknown_if_absent field.Name o) (state_of st) Done
     (at_number o (state_of st) (λ m. without_policy k m (state_of st)))) (named_in k name st (Some n) named)))

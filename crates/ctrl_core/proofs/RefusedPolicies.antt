@@ -16,7 +16,7 @@ use Rattle.ctrl_model.specs.declared.refusals.Refusal.{Refusal}
 use Rattle.ctrl_model.specs.declared.refusals.Refusal.TheVariants.{Full, UnknownRef}
 use Rattle.ctrl_model.specs.Numbered.{at, Between}
 use Rattle.ctrl_model.specs.State.{State, Policy, policy_named}
-use Rattle.ctrl_model.specs.PolicyCommands.{first_absent}
+use Rattle.ctrl_model.specs.RecordCommands.{first_absent}
 use Rattle.ctrl_model.specs.Rules.{or_then, refuse_if, exists_if_present, unknown_if_absent, at_number, attributes_full}
 use Rattle.entity_store.specs.EntityTables.{Tables, number_of}
 use Rattle.entity_store.specs.AttributeUses.{has_attribute_room}
@@ -27,7 +27,7 @@ use Rattle.policy_store.specs.PolicyRules.{has_kind_room, absent_place, absent_n
 use Rattle.ctrl_core.specs.declared.stores.Stores.{Stores}
 use Rattle.ctrl_core.specs.KeptState.{HoldsPolicies, state_of}
 use Rattle.ctrl_core.specs.Changes.{policies_in, with_policy, with_replaced}
-use Rattle.ctrl_core.specs.PlannedCommands.{AreShort, IsPlaced, roles_field, refusal_for, refusal_judged, refusal_to_put, refusal_of_create, refusal_of_replace}
+use Rattle.ctrl_core.specs.PlannedCommands.{AreShort, IsPlaced, roles_field, refusal_for, refusal_judged, refusal_to_put, refusal_of_new, refusal_of_replace}
 use Rattle.ctrl_core.proofs.InUseLaws.{names_of, policy_added, policy_replaced, room_in_state}
 
 -- ---- the first absent `@` name, by its place
@@ -170,7 +170,7 @@ room_replaced k n p st high old is held b stands =
     ∙ not-not (attributes_full (with_replaced k n p (state_of st)))
 
 pub refused_create : (k : Kind) (p : Policy) (st : Stores) → is_policy_kind k ≡ true → AreShort p → HoldsPolicies st
-    → refusal_to_put k p true [] st ≡ refusal_of_create k p (state_of st)
+    → refusal_to_put k p true [] st ≡ refusal_of_new k p (state_of st)
 refused_create kind.ServicePolicy p st is short held =
     judged_fresh kind.ServicePolicy p [] st.entities _ _ _ (has_kind_room kind.ServicePolicy st.policies) _ (absent_refused kind.ServicePolicy p st.entities short) (room_created kind.ServicePolicy p st is held)
 refused_create kind.EdgeRouterPolicy p st is short held =

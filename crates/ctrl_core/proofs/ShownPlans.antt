@@ -32,13 +32,13 @@ none_from_err (Some m) fault f e = absurd (cc)
 
 -- ---- what an identity is granted
 
-pub grants_unknown : (name : List ℕ) (s : State) (p : Planned) → entity_named s.identities name ≡ None → IsShown (reply.Refused (Unknown field.Identity)) p → Plans p (show_grants name s) s
+pub grants_unknown : (name : List ℕ) (s : State) (p : Planned) → entity_named s.identities.rows name ≡ None → IsShown (reply.Refused (Unknown field.Identity)) p → Plans p (show_grants name s) s
 grants_unknown name s p absent is =
     subst (λ found. Plans p (shown (unknown_if_absent field.Identity found) s (grants_of (unwrap_or found 0) s)) s) (sym absent)
     (plans_reply p (reply.Refused (Unknown field.Identity)) s is)
 
-pub grants_planned : (name : List ℕ) (st : Stores) (n : ℕ) (p : Planned) (bind dial routers : List Tally) → Keeps st → entity_named st.entities.identities name ≡ Some n
-    → bind ≡ tallies (count_of st.grants.bind n) st.entities.services → dial ≡ tallies (count_of st.grants.dial n) st.entities.services
+pub grants_planned : (name : List ℕ) (st : Stores) (n : ℕ) (p : Planned) (bind dial routers : List Tally) → Keeps st → entity_named st.entities.identities.rows name ≡ Some n
+    → bind ≡ tallies (count_of st.grants.bind n) st.entities.services.rows → dial ≡ tallies (count_of st.grants.dial n) st.entities.services.rows
     → routers ≡ tallies (count_of st.grants.identity_router n) (entities kind.Router st.entities)
     → IsShown (reply.Grants bind dial routers) p → Plans p (show_grants name (state_of st)) (state_of st)
 grants_planned name st n p bind dial routers kept named bound dialled routed is =
@@ -46,23 +46,23 @@ grants_planned name st n p bind dial routers kept named bound dialled routed is 
     (plans_reply p (grants_of n (state_of st)) (state_of st) (subst (λ said. IsShown said p) same is))
   where
     same : reply.Grants bind dial routers ≡ grants_of n (state_of st)
-    same = λ i. reply.Grants ((bound ∙ (λ j. tallies (λ b. kept.counts Bind n b j) st.entities.services)) i)
-        ((dialled ∙ (λ j. tallies (λ b. kept.counts Dial n b j) st.entities.services)) i)
+    same = λ i. reply.Grants ((bound ∙ (λ j. tallies (λ b. kept.counts Bind n b j) st.entities.services.rows)) i)
+        ((dialled ∙ (λ j. tallies (λ b. kept.counts Dial n b j) st.entities.services.rows)) i)
         ((routed ∙ (λ j. tallies (λ b. kept.counts IdentityRouter n b j) (entities kind.Router st.entities))) i)
 
-pub services_unknown : (name : List ℕ) (s : State) (p : Planned) → entity_named s.identities name ≡ None → IsShown (reply.Refused (Unknown field.Identity)) p → Plans p (list_services name s) s
+pub services_unknown : (name : List ℕ) (s : State) (p : Planned) → entity_named s.identities.rows name ≡ None → IsShown (reply.Refused (Unknown field.Identity)) p → Plans p (list_services name s) s
 services_unknown name s p absent is =
     subst (λ found. Plans p (shown (unknown_if_absent field.Identity found) s (services_of (unwrap_or found 0) s)) s) (sym absent)
     (plans_reply p (reply.Refused (Unknown field.Identity)) s is)
 
-pub services_planned : (name : List ℕ) (st : Stores) (n : ℕ) (p : Planned) (names : List (List ℕ)) (dialled : List Tally) → Keeps st → entity_named st.entities.identities name ≡ Some n
-    → names ≡ map (λ (t : Tally). t.name) dialled → dialled ≡ tallies (count_of st.grants.dial n) st.entities.services
+pub services_planned : (name : List ℕ) (st : Stores) (n : ℕ) (p : Planned) (names : List (List ℕ)) (dialled : List Tally) → Keeps st → entity_named st.entities.identities.rows name ≡ Some n
+    → names ≡ map (λ (t : Tally). t.name) dialled → dialled ≡ tallies (count_of st.grants.dial n) st.entities.services.rows
     → IsShown (reply.Services names) p → Plans p (list_services name (state_of st)) (state_of st)
 services_planned name st n p names dialled kept named told dials is =
     subst (λ found. Plans p (shown (unknown_if_absent field.Identity found) (state_of st) (services_of (unwrap_or found 0) (state_of st))) (state_of st)) (sym named)
     (plans_reply p (services_of n (state_of st)) (state_of st) (subst (λ ns. IsShown (reply.Services ns) p) same is))
   where
-    same : names ≡ map (λ (row : ℕ × Entity). row.1.name) (filter (λ row. is_granted Dial (state_of st) n row.0) st.entities.services)
+    same : names ≡ map (λ (row : ℕ × Entity). row.1.name) (filter (λ row. is_granted Dial (state_of st) n row.0) st.entities.services.rows)
     same = told ∙ ap (map (λ (t : Tally). t.name)) dials
-        ∙ map-map (λ (t : Tally). t.name) (tally_of (count_of st.grants.dial n)) (filter (λ row. nat_lt 0 (count_of st.grants.dial n row.0)) st.entities.services)
-        ∙ (λ i. map (λ (row : ℕ × Entity). row.1.name) (filter (λ row. nat_lt 0 (kept.counts Dial n row.0 i)) st.entities.services))
+        ∙ map-map (λ (t : Tally). t.name) (tally_of (count_of st.grants.dial n)) (filter (λ row. nat_lt 0 (count_of st.grants.dial n row.0)) st.entities.services.rows)
+        ∙ (λ i. map (λ (row : ℕ × Entity). row.1.name) (filter (λ row. nat_lt 0 (kept.counts Dial n row.0 i)) st.entities.services.rows))

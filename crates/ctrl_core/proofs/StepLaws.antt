@@ -1,5 +1,6 @@
 -- What taking the steps of a plan has to show: that the kept counts have room for them, and that what a core keeps stays.
 use Rattle.std.proofs.Common.{◌≡◌, ◌≤◌, length, sym, ap, subst, arith}
+use Rattle.ctrl_model.specs.declared.kinds.Kind.TheVariants as kind
 use Rattle.ctrl_model.specs.declared.kinds.Relation.{Relation}
 use Rattle.ctrl_model.specs.declared.kinds.Relation.TheVariants.{Dial, Bind, IdentityRouter, ServiceRouter}
 use Rattle.ctrl_model.specs.Grants.{count, policies_for}
@@ -26,10 +27,10 @@ taken_by_relation old new steps dial bind identity_router service_router Service
 
 -- a valid state has at most 512 policies of a kind
 policies_few : (r : Relation) (s : State) → ValidState s → length (policies_for r s) ≤ 512
-policies_few Dial s valid = valid.service_policies.numbers.few
-policies_few Bind s valid = valid.service_policies.numbers.few
-policies_few IdentityRouter s valid = let few = valid.edge_router_policies.numbers.few in omega (arith, few)
-policies_few ServiceRouter s valid = let few = valid.service_edge_router_policies.numbers.few in omega (arith, few)
+policies_few Dial s valid = (valid.kinds kind.ServicePolicy).numbers.few
+policies_few Bind s valid = (valid.kinds kind.ServicePolicy).numbers.few
+policies_few IdentityRouter s valid = let few = (valid.kinds kind.EdgeRouterPolicy).numbers.few in omega (arith, few)
+policies_few ServiceRouter s valid = let few = (valid.kinds kind.ServiceEdgeRouterPolicy).numbers.few in omega (arith, few)
 
 pub steps_have_room : (st mid : Stores) (p : Planned) → Keeps st → CanLead p (state_of st) → mid.grants ≡ st.grants → (r : Relation) → HaveRoom (counts_of r mid.grants) (steps_of r p.steps)
 steps_have_room st mid p keeps can same r = subst (λ (g : Grants). HaveRoom (counts_of r g) (steps_of r p.steps)) (sym same) (record {

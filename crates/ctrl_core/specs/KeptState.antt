@@ -3,7 +3,7 @@ use Rattle.std.specs.Prelude.{◌≡◌, ℕ, Bool, List, ◌++◌}
 use Rattle.std.specs.List.{flat_map}
 use Rattle.ctrl_model.specs.declared.kinds.Relation.{Relation}
 use Rattle.ctrl_model.specs.declared.kinds.Relation.TheVariants.{Dial, Bind, IdentityRouter, ServiceRouter}
-use Rattle.ctrl_model.specs.State.{State, start}
+use Rattle.ctrl_model.specs.State.{State}
 use Rattle.ctrl_model.specs.Grants.{count}
 use Rattle.ctrl_model.specs.Rules.{side_attributes}
 use Rattle.ctrl_model.specs.ValidState.{ValidState}
@@ -15,26 +15,17 @@ use Rattle.ctrl_core.specs.declared.stores.Stores.{Stores}
 
 -- The state of some stores.
 abbrev pub state_of : Stores → State
-state_of st = record start {
+state_of st = record {
   identities = st.entities.identities;
-  next_identity = st.entities.next_identity;
   services = st.entities.services;
-  next_service = st.entities.next_service;
   routers = st.entities.routers;
-  next_router = st.entities.next_router;
-  service_policies = st.policies.service_policies;
-  next_service_policy = st.policies.next_service_policy;
-  edge_router_policies = st.policies.edge_router_policies;
-  next_edge_router_policy = st.policies.next_edge_router_policy;
-  service_edge_router_policies = st.policies.service_edge_router_policies;
-  next_service_edge_router_policy = st.policies.next_service_edge_router_policy;
   links = st.fabric.links;
-  next_link = st.fabric.next;
-  least_router_cost = st.fabric.least;
+  service_policies = st.policies.service_policies;
+  edge_router_policies = st.policies.edge_router_policies;
+  service_edge_router_policies = st.policies.service_edge_router_policies;
   terminators = st.terminators.terminators;
-  next_terminator = st.terminators.next;
   circuits = st.circuits.circuits;
-  next_circuit = st.circuits.next;
+  least_router_cost = st.fabric.least;
 }
 
 -- The counts that are kept of a relation.
@@ -47,8 +38,8 @@ counts_of ServiceRouter g = g.service_router
 -- The attributes of all policies, with repeats.
 abbrev pub policy_attributes : PolicyTables → List (List ℕ)
 policy_attributes p =
-    flat_map side_attributes p.service_policies
-    ++ (flat_map side_attributes p.edge_router_policies ++ flat_map side_attributes p.service_edge_router_policies)
+    flat_map side_attributes p.service_policies.rows
+    ++ (flat_map side_attributes p.edge_router_policies.rows ++ flat_map side_attributes p.service_edge_router_policies.rows)
 
 -- The uses that are held beside those of entities are those of policies.
 abbrev pub HoldsPolicies : Stores → Type 0

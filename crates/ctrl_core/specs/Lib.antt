@@ -3,4 +3,7 @@ pub mod KeptState
 pub mod Changes
 pub mod PlannedCommands
 pub mod AppliedChanges
+pub mod CircuitParts
+pub mod CircuitPlans
+pub mod PlannedCircuits
 pub mod WorkedChanges

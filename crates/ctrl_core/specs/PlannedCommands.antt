@@ -14,8 +14,9 @@ use Rattle.ctrl_model.specs.declared.replies.Reply.TheVariants.{Done}
 use Rattle.ctrl_model.specs.State.{State, Entity, Policy}
 use Rattle.ctrl_model.specs.Grants.{count}
 use Rattle.ctrl_model.specs.Rules.{or_then, refuse_if, exists_if_present}
-use Rattle.ctrl_model.specs.EntityCommands.{create_identity, create_service, update_identity, update_service, delete_identity, delete_service, delete_router}
-use Rattle.ctrl_model.specs.PolicyCommands.{create_service_policy, create_edge_router_policy, create_service_edge_router_policy, update_service_policy, update_edge_router_policy, update_service_edge_router_policy, delete_service_policy, delete_edge_router_policy, delete_service_edge_router_policy, refusal_of_create_service_policy, refusal_of_create_edge_router_policy, refusal_of_create_service_edge_router_policy, refusal_of_update_service_policy, refusal_of_update_edge_router_policy, refusal_of_update_service_edge_router_policy}
+use Rattle.ctrl_model.specs.EntityCommands.{described, create_identity, create_service, update_identity, update_service}
+use Rattle.ctrl_model.specs.RecordCommands.{refusal_of_create, refusal_of_update, absent_names}
+use Rattle.ctrl_model.specs.PolicyCommands.{replaced_by, create_service_policy, create_edge_router_policy, create_service_edge_router_policy, update_service_policy, update_edge_router_policy, update_service_edge_router_policy}
 use Rattle.ctrl_model.specs.Numbered.{at}
 use Rattle.entity_store.specs.EntityTables.{Tables, entities, number_of}
 use Rattle.entity_store.specs.AttributeUses.{has_attribute_room}
@@ -26,7 +27,7 @@ use Rattle.policy_store.specs.PolicyRules.{may_put}
 use Rattle.grant_moves.specs.CountMoves.{LeadCounts}
 use Rattle.ctrl_core.specs.declared.changes.Planned.{Planned}
 use Rattle.link_commands.specs.declared.changes.LinkChange.{LinkChange}
-use Rattle.circuit_commands.specs.declared.changes.CircuitChange.{CircuitChange}
+use Rattle.circuits.specs.declared.changes.CircuitChange.{CircuitChange}
 use Rattle.terminator_commands.specs.declared.changes.TermChange.{TermChange}
 use Rattle.ctrl_core.specs.declared.changes.Change.{Change}
 use Rattle.ctrl_core.specs.declared.changes.Change.TheVariants.{Nothing, Link, Terminator, Circuit}
@@ -67,16 +68,12 @@ abbrev pub circuit_change : Option CircuitChange → Change
 circuit_change None = Nothing
 circuit_change (Some c) = Circuit c
 
--- An entity with other attributes.
-abbrev pub described_as : List (List ℕ) → Entity → Entity
-described_as attributes e = record e { attributes = attributes }
-
 -- The steps of a present entity of a kind and number that gets other attributes.
 abbrev pub IsDescribed : Kind → ℕ → List (List ℕ) → Stores → GrantSteps → Type 0
 IsDescribed k n attributes st steps =
     StepsOfEntity k n (record {
       before = at (entities k st.entities) n;
-      after = option_map (described_as attributes) (at (entities k st.entities) n);
+      after = option_map (described attributes) (at (entities k st.entities) n);
     }) (granting_state st.entities st.policies) steps
 
 -- The answer to the command that makes an identity or a service.
@@ -91,13 +88,6 @@ answer_update kind.Identity name attributes s = update_identity name attributes 
 answer_update kind.Service name attributes s = update_service name attributes s
 answer_update _ name attributes s = (Done, s)
 
--- The answer to the command that deletes an entity.
-abbrev pub answer_delete : Kind → List ℕ → State → Reply × State
-answer_delete kind.Identity name s = delete_identity name s
-answer_delete kind.Service name s = delete_service name s
-answer_delete kind.Router name s = delete_router name s
-answer_delete _ name s = (Done, s)
-
 -- The refusal of a new entity: its name is taken, its kind is full, or too many attributes would be in use.
 abbrev pub refusal_of_add : Kind → List ℕ → List (List ℕ) → Tables → Option Refusal
 refusal_of_add k name attributes t =
@@ -110,11 +100,11 @@ abbrev pub refusal_of_describe : Kind → ℕ → List (List ℕ) → Tables →
 refusal_of_describe k n attributes t = refuse_if (not (has_attribute_room t (attributes_at k n t) attributes)) (Full kind.Attribute)
 
 -- The refusal of a new policy.
-abbrev pub refusal_of_create : Kind → Policy → State → Option Refusal
-refusal_of_create kind.ServicePolicy p s = refusal_of_create_service_policy p s
-refusal_of_create kind.EdgeRouterPolicy p s = refusal_of_create_edge_router_policy p s
-refusal_of_create kind.ServiceEdgeRouterPolicy p s = refusal_of_create_service_edge_router_policy p s
-refusal_of_create k p s = Some (Full k)
+abbrev pub refusal_of_new : Kind → Policy → State → Option Refusal
+refusal_of_new kind.ServicePolicy p s = refusal_of_create kind.ServicePolicy p s
+refusal_of_new kind.EdgeRouterPolicy p s = refusal_of_create kind.EdgeRouterPolicy p s
+refusal_of_new kind.ServiceEdgeRouterPolicy p s = refusal_of_create kind.ServiceEdgeRouterPolicy p s
+refusal_of_new k p s = Some (Full k)
 
 -- The answer to the command that makes a policy.
 abbrev pub answer_create : Kind → Policy → State → Reply × State
@@ -125,9 +115,9 @@ answer_create _ p s = (Done, s)
 
 -- The refusal of other parts of a policy.
 abbrev pub refusal_of_replace : Kind → Policy → State → Option Refusal
-refusal_of_replace kind.ServicePolicy p s = refusal_of_update_service_policy p s
-refusal_of_replace kind.EdgeRouterPolicy p s = refusal_of_update_edge_router_policy p s
-refusal_of_replace kind.ServiceEdgeRouterPolicy p s = refusal_of_update_service_edge_router_policy p s
+refusal_of_replace kind.ServicePolicy p s = refusal_of_update kind.ServicePolicy p.name (replaced_by p) (absent_names kind.ServicePolicy p s) s
+refusal_of_replace kind.EdgeRouterPolicy p s = refusal_of_update kind.EdgeRouterPolicy p.name (replaced_by p) (absent_names kind.EdgeRouterPolicy p s) s
+refusal_of_replace kind.ServiceEdgeRouterPolicy p s = refusal_of_update kind.ServiceEdgeRouterPolicy p.name (replaced_by p) (absent_names kind.ServiceEdgeRouterPolicy p s) s
 refusal_of_replace k p s = Some (Full k)
 
 -- The answer to the command that replaces the parts of a policy.
@@ -136,13 +126,6 @@ answer_replace kind.ServicePolicy p s = update_service_policy p s
 answer_replace kind.EdgeRouterPolicy p s = update_edge_router_policy p s
 answer_replace kind.ServiceEdgeRouterPolicy p s = update_service_edge_router_policy p s
 answer_replace _ p s = (Done, s)
-
--- The answer to the command that deletes a policy.
-abbrev pub answer_delete_policy : Kind → List ℕ → State → Reply × State
-answer_delete_policy kind.ServicePolicy name s = delete_service_policy name s
-answer_delete_policy kind.EdgeRouterPolicy name s = delete_edge_router_policy name s
-answer_delete_policy kind.ServiceEdgeRouterPolicy name s = delete_service_edge_router_policy name s
-answer_delete_policy _ name s = (Done, s)
 
 -- The field of a role list: the left or the right one of a kind of policy.
 abbrev pub roles_field : Kind → Bool → Field

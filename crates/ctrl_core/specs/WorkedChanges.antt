@@ -5,7 +5,6 @@ use Rattle.ctrl_model.specs.declared.kinds.Semantic.TheVariants.{AnyOf}
 use Rattle.ctrl_model.specs.State.{State, start}
 use Rattle.ctrl_model.specs.WorkedStates.{only}
 use Rattle.policy_store.specs.declared.records.Policy.{Policy}
-use Rattle.policy_store.specs.StoredPolicies.{policy_of}
 
 -- A policy by which ann may dial web.
 abbrev pub ann_dials : Policy
@@ -17,4 +16,4 @@ ann_binds = record { name = codes "web-users"; relation = Bind; semantic = AnyOf
 
 -- The state of the first one alone.
 abbrev pub with_dial : State
-with_dial = record start { service_policies = (1, policy_of ann_dials) ∷ []; next_service_policy = 2 }
+with_dial = record start { service_policies = record { rows = (1, ann_dials) ∷ []; next = 2 } }

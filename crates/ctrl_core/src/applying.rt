@@ -1,15 +1,15 @@
 ghost use Rattle.std.specs.Prelude.{◌≡◌, true, not, Some, OnOk};
 ghost use Rattle.ctrl_model.specs.declared.kinds.Kind.TheVariants as kind;
 ghost use Rattle.ctrl_model.specs.declared.kinds.Relation.{Relation};
-ghost use Rattle.ctrl_model.specs.EntityCommands.{after_create_router};
+ghost use Rattle.ctrl_model.specs.RecordCommands.{after_create};
+ghost use Rattle.ctrl_model.specs.EntityCommands.{new_router};
 ghost use Rattle.ctrl_model.specs.Settling.{settle};
 ghost use Rattle.ctrl_model.specs.ValidState.{ValidState};
 ghost use Rattle.ctrl_model.specs.Numbered.{is_present};
 ghost use Rattle.ctrl_model.specs.State.{policy_named};
 ghost use Rattle.entity_store.specs.EntityTables.{is_entity_kind};
 ghost use Rattle.policy_store.specs.PolicyTables.{is_policy_kind};
-ghost use Rattle.policy_store.specs.StoredPolicies.{policy_of};
-ghost use Rattle.ctrl_core.specs.Changes.{CanChange, is_plain_kind, is_there, policies_in, after_change, carried_by, with_plain, with_described, with_described_router, with_marked, with_removed, with_policy, with_replaced, without_policy};
+ghost use Rattle.ctrl_core.specs.Changes.{CanChange, is_plain_kind, is_there, policies_in, after_change, carried_by, with_plain, with_described, with_described_router, with_marked, without_named, with_policy, with_replaced, without_policy};
 ghost use Rattle.policy_store.specs.GrantChanges.{steps_of};
 ghost use Rattle.ctrl_core.specs.KeptState.{HoldsPolicies, counts_of, state_of};
 ghost use Rattle.ctrl_core.specs.AppliedChanges.{Carries, LetsPolicyGo, HaveRoom, Taken};
@@ -17,7 +17,7 @@ ghost use Rattle.ctrl_core.specs.AppliedChanges.{Carries, LetsPolicyGo, HaveRoom
 use crate::changes::Change;
 use crate::policy_names::policy_names;
 use crate::stores::{Grants, Stores};
-use circuit_commands::{apply_circuit_change, settle_circuits};
+use circuits::{apply_circuit_change, settle_circuits};
 use ctrl_model::{Kind, Name, Names, PolicyNo, RouterNo};
 use grant_denorm::apply_changes;
 use link_commands::{apply_link_change, settle_links};
@@ -42,9 +42,9 @@ fn add_router(
     cost: u32,
     through: bool,
 ) -> Result<(), AllocError>
-    requires valid { ValidState (settle (after_create_router name.now attributes.now cost (not through) (state_of stores.old))) }
+    requires valid { ValidState (settle (after_create kind.Router (new_router name.now attributes.now cost (not through)) (state_of stores.old))) }
     requires held { HoldsPolicies stores.old }
-    ensures { OnOk result (Carries stores.old stores.new (after_create_router name.now attributes.now cost (not through) (state_of stores.old))) }
+    ensures { OnOk result (Carries stores.old stores.new (after_create kind.Router (new_router name.now attributes.now cost (not through)) (state_of stores.old))) }
 {
     let number = stores.entities.next(Kind::Router);
     stores.entities.add(Kind::Router, name, attributes)?;
@@ -104,7 +104,7 @@ fn remove(stores: &mut Stores, kind: Kind, number: u32, name: &Name)
     requires kind { is_entity_kind kind ≡ true }
     requires there { is_there kind number (state_of stores.old) ≡ true }
     requires held { HoldsPolicies stores.old }
-    ensures { Carries stores.old stores.new (with_removed kind number name.now (state_of stores.old)) }
+    ensures { Carries stores.old stores.new (without_named kind number name.now (state_of stores.old)) }
 {
     stores.entities.remove(kind, number);
     stores.policies.forget(kind, name);
@@ -117,9 +117,9 @@ fn add_policy(
     policy: Policy,
 ) -> Result<(), AllocError>
     requires kind { is_policy_kind kind ≡ true }
-    requires valid { ValidState (settle (with_policy kind (policy_of policy) (state_of stores.old))) }
+    requires valid { ValidState (settle (with_policy kind policy (state_of stores.old))) }
     requires held { HoldsPolicies stores.old }
-    ensures { OnOk result (Carries stores.old stores.new (with_policy kind (policy_of policy) (state_of stores.old))) }
+    ensures { OnOk result (Carries stores.old stores.new (with_policy kind policy (state_of stores.old))) }
 {
     let names = policy_names(alloc, &policy)?;
     stores.entities.hold(&names)?;
@@ -156,9 +156,9 @@ fn replace_policy(
 ) -> Result<(), AllocError>
     requires kind { is_policy_kind kind ≡ true }
     requires named { policy_named (policies_in kind (state_of stores.old)) policy.name ≡ Some number }
-    requires valid { ValidState (settle (with_replaced kind number (policy_of policy) (state_of stores.old))) }
+    requires valid { ValidState (settle (with_replaced kind number policy (state_of stores.old))) }
     requires held { HoldsPolicies stores.old }
-    ensures { OnOk result (Carries stores.old stores.new (with_replaced kind number (policy_of policy) (state_of stores.old))) }
+    ensures { OnOk result (Carries stores.old stores.new (with_replaced kind number policy (state_of stores.old))) }
 {
     let names = policy_names(alloc, &policy)?;
     let_policy_go(alloc, stores, kind, number)?;

@@ -3,7 +3,7 @@ ghost use Rattle.ctrl_model.specs.declared.replies.Reply.TheVariants.{Refused};
 ghost use Rattle.ctrl_core.specs.Changes.{is_nothing};
 ghost use Rattle.ctrl_core.specs.PlannedCommands.{IsShown, IsUncounted};
 
-use circuit_commands::CircuitChange;
+use circuits::CircuitChange;
 use ctrl_model::{Kind, Name, Names, Refusal, Reply};
 use link_commands::LinkChange;
 use policy_store::{GrantSteps, Policy};

@@ -1,12 +1,13 @@
 ghost use Rattle.std.specs.Prelude.{◌≡◌, true, IfOk};
 ghost use Rattle.ctrl_model.specs.CommandForm.{is_spelled};
 ghost use Rattle.ctrl_model.specs.Controller.{carry, policy};
-ghost use Rattle.policy_store.specs.StoredPolicies.{policy_of};
 ghost use Rattle.ctrl_core.specs.CarriedCommands.{family_of, is_carried};
 ghost use Rattle.ctrl_core.specs.KeptState.{Keeps, state_of};
 ghost use Rattle.ctrl_core.specs.PlannedCommands.{Plans, circuit_change, link_change, term_change};
 
 use crate::changes::{Change, Planned};
+use crate::circuit_parts::Parts;
+use crate::circuit_planning::{CircuitPlan, plan_circuit_command};
 use crate::families::{Family, family_of};
 use crate::planning::{
     plan_add, plan_add_router, plan_delete, plan_mark, plan_update, plan_update_router,
@@ -14,7 +15,7 @@ use crate::planning::{
 use crate::policy_planning::{plan_create_policy, plan_delete_policy, plan_replace_policy};
 use crate::showing::{plan_list_services, plan_show_counts, plan_show_grants};
 use crate::stores::Stores;
-use circuit_commands::{CircuitChange, CircuitPlan, Parts, plan_circuit_command};
+use circuits::CircuitChange;
 use ctrl_model::{Command, Kind, Name, Relation, Reply, Semantic, Side};
 use link_commands::{LinkChange, LinkPlan, plan_link_command};
 use policy_store::Policy;
@@ -41,7 +42,7 @@ fn policy(
     left: &Side,
     right: &Side,
 ) -> Result<Policy, AllocError>
-    ensures { IfOk result (λ p. policy_of p ≡ policy name.now relation semantic left.now right.now) }
+    ensures { IfOk result (λ p. p ≡ policy name.now relation semantic left.now right.now) }
 {
     let name = name.copy()?;
     let left = copy_side(left)?;

@@ -3,6 +3,10 @@
 
 mod applying;
 mod changes;
+mod circuit_asking;
+mod circuit_names;
+mod circuit_parts;
+mod circuit_planning;
 mod commands;
 mod core_state;
 mod families;
@@ -11,8 +15,6 @@ mod policy_names;
 mod policy_planning;
 mod showing;
 mod stores;
-#[cfg(test)]
-mod tests;
 mod worked;
 
 pub use changes::Planned;

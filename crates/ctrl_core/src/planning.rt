@@ -1,4 +1,5 @@
 ghost use Rattle.std.specs.Prelude.{◌≡◌, ◌==◌, true, IfOk, map, find};
+ghost use Rattle.ctrl_model.specs.RecordCommands.{delete};
 ghost use Rattle.ctrl_model.specs.declared.refusals.Refusal.TheVariants.{Unknown};
 ghost use Rattle.ctrl_model.specs.declared.replies.Reply.TheVariants.{Refused};
 ghost use Rattle.ctrl_model.specs.Networks.{seen};
@@ -7,7 +8,7 @@ ghost use Rattle.entity_store.specs.EntityTables.{is_entity_kind};
 ghost use Rattle.entity_store.specs.TableRules.{is_there};
 ghost use Rattle.ctrl_core.specs.Changes.{is_plain_kind};
 ghost use Rattle.ctrl_core.specs.KeptState.{Keeps, state_of};
-ghost use Rattle.ctrl_core.specs.PlannedCommands.{Plans, IsShown, IsDescribed, answer_add, answer_update, answer_delete, refusal_of_add, refusal_of_describe};
+ghost use Rattle.ctrl_core.specs.PlannedCommands.{Plans, IsShown, IsDescribed, answer_add, answer_update, refusal_of_add, refusal_of_describe};
 
 use crate::changes::{Change, Planned};
 use crate::stores::Stores;
@@ -236,7 +237,7 @@ fn router_seen(
     entities: &Entities,
     number: u32,
 ) -> Result<Option<RouterSeen>, AllocError>
-    ensures { IfOk result (λ r. r ≡ find (λ q. q.no.0 == number) (map seen entities.now.routers)) }
+    ensures { IfOk result (λ r. r ≡ find (λ q. q.no.0 == number) (map seen entities.now.routers.rows)) }
 {
     let routers = entities.routers(alloc)?;
     Ok(router_among(routers.as_slice(), number))
@@ -287,7 +288,7 @@ pub fn plan_delete(
 ) -> Result<Planned, AllocError>
     requires kind { is_entity_kind kind ≡ true }
     requires kept { Keeps stores.now }
-    ensures { IfOk result (λ p. Plans p (answer_delete kind name.now (state_of stores.now)) (state_of stores.now)) }
+    ensures { IfOk result (λ p. Plans p (delete kind Field.Name name.now (state_of stores.now)) (state_of stores.now)) }
 {
     let Ok(number) = stores.entities.find(kind, name) else {
         return Ok(unknown_name(alloc));

@@ -1,10 +1,10 @@
 ghost use Rattle.std.specs.Prelude.{◌≡◌, ◌<◌, ◌++◌, true, false, IfOk, length, slice_index_or, [], Some};
+ghost use Rattle.ctrl_model.specs.RecordCommands.{delete};
 ghost use Rattle.ctrl_model.specs.declared.refusals.Refusal.TheVariants.{UnknownRef};
 ghost use Rattle.entity_store.specs.AttributeUses.{AreUsed, has_attribute_room};
 ghost use Rattle.policy_store.specs.PolicyTables.{is_policy_kind};
-ghost use Rattle.policy_store.specs.StoredPolicies.{policy_of};
 ghost use Rattle.ctrl_core.specs.KeptState.{Keeps, state_of};
-ghost use Rattle.ctrl_core.specs.PlannedCommands.{Plans, AreShort, IsPlaced, ids_of, refusal_for, refusal_to_put, answer_create, answer_replace, answer_delete_policy, roles_field};
+ghost use Rattle.ctrl_core.specs.PlannedCommands.{Plans, AreShort, IsPlaced, ids_of, refusal_for, refusal_to_put, answer_create, answer_replace, roles_field};
 
 use crate::changes::{Change, Planned};
 use crate::planning::unknown_name;
@@ -28,7 +28,7 @@ fn roles_field(kind: Kind, right: bool) -> Field
 
 // The `@` names of a side of a policy.
 fn ids_of(policy: &Policy, right: bool) -> &[Name]
-    ensures { result.now ≡ ids_of right (policy_of policy.now) }
+    ensures { result.now ≡ ids_of right policy.now }
 {
     if right {
         policy.right.ids.as_slice()
@@ -39,8 +39,8 @@ fn ids_of(policy: &Policy, right: bool) -> &[Name]
 
 // The refusal of the `@` name at a place of a policy's side, which no entity has.
 fn unknown_ref(kind: Kind, policy: &Policy, right: bool, place: u32) -> Result<Refusal, AllocError>
-    requires { place < length (ids_of right (policy_of policy.now)) }
-    ensures { IfOk result (λ r. r ≡ UnknownRef (roles_field kind right) (slice_index_or (ids_of right (policy_of policy.now)) place [])) }
+    requires { place < length (ids_of right policy.now) }
+    ensures { IfOk result (λ r. r ≡ UnknownRef (roles_field kind right) (slice_index_or (ids_of right policy.now) place [])) }
 {
     let names = ids_of(policy, right);
     let name = names[place as usize].copy()?;
@@ -52,8 +52,8 @@ fn unknown_ref(kind: Kind, policy: &Policy, right: bool, place: u32) -> Result<R
 
 // The refusal that a fault of the store is.
 fn refusal_for(kind: Kind, policy: &Policy, fault: PolicyFault) -> Result<Refusal, AllocError>
-    requires { IsPlaced fault (policy_of policy.now) }
-    ensures { IfOk result (λ r. r ≡ refusal_for kind (policy_of policy.now) fault) }
+    requires { IsPlaced fault policy.now }
+    ensures { IfOk result (λ r. r ≡ refusal_for kind policy.now fault) }
 {
     match fault {
         PolicyFault::Exists => Ok(Refusal::Exists),
@@ -74,7 +74,7 @@ fn refusal_to_put(
 ) -> Result<Option<Refusal>, AllocError>
     requires kind { is_policy_kind kind ≡ true }
     requires used { AreUsed stores.now.entities gone.now }
-    ensures { IfOk result (λ r. r ≡ refusal_to_put kind (policy_of policy.now) fresh gone.now stores.now) }
+    ensures { IfOk result (λ r. r ≡ refusal_to_put kind policy.now fresh gone.now stores.now) }
 {
     let judged = stores
         .policies
@@ -99,9 +99,9 @@ pub fn plan_create_policy(
     policy: Policy,
 ) -> Result<Planned, AllocError>
     requires kind { is_policy_kind kind ≡ true }
-    requires short { AreShort (policy_of policy) }
+    requires short { AreShort policy }
     requires kept { Keeps stores.now }
-    ensures { IfOk result (λ p. Plans p (answer_create kind (policy_of policy) (state_of stores.now)) (state_of stores.now)) }
+    ensures { IfOk result (λ p. Plans p (answer_create kind policy (state_of stores.now)) (state_of stores.now)) }
 {
     let none = Names::of(Vec::new(alloc));
     if let Some(refusal) = refusal_to_put(alloc, stores, kind, &policy, true, &none)? {
@@ -124,9 +124,9 @@ pub fn plan_replace_policy(
     policy: Policy,
 ) -> Result<Planned, AllocError>
     requires kind { is_policy_kind kind ≡ true }
-    requires short { AreShort (policy_of policy) }
+    requires short { AreShort policy }
     requires kept { Keeps stores.now }
-    ensures { IfOk result (λ p. Plans p (answer_replace kind (policy_of policy) (state_of stores.now)) (state_of stores.now)) }
+    ensures { IfOk result (λ p. Plans p (answer_replace kind policy (state_of stores.now)) (state_of stores.now)) }
 {
     let Ok(number) = stores.policies.find(kind, &policy.name) else {
         return Ok(unknown_name(alloc));
@@ -159,7 +159,7 @@ pub fn plan_delete_policy(
 ) -> Result<Planned, AllocError>
     requires kind { is_policy_kind kind ≡ true }
     requires kept { Keeps stores.now }
-    ensures { IfOk result (λ p. Plans p (answer_delete_policy kind name.now (state_of stores.now)) (state_of stores.now)) }
+    ensures { IfOk result (λ p. Plans p (delete kind Field.Name name.now (state_of stores.now)) (state_of stores.now)) }
 {
     let Ok(number) = stores.policies.find(kind, name) else {
         return Ok(unknown_name(alloc));

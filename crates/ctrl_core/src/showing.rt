@@ -6,11 +6,10 @@ ghost use Rattle.ctrl_core.specs.PlannedCommands.{Plans};
 use crate::changes::Planned;
 use crate::planning::unknown_identity;
 use crate::stores::Stores;
+use circuits::count_circuits;
 use ctrl_model::{Kind, Name, Names, Reply, Tallies};
-use shown_records::{
-    count_all_policies, count_circuits, count_entities, count_links, count_terminators, names_of,
-    tallies,
-};
+use policy_store::count_all_policies;
+use shown_records::{count_entities, count_links, count_terminators, names_of, tallies};
 use std::alloc::{AllocError, Global};
 
 /// Plans what an identity is granted.

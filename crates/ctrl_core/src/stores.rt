@@ -61,18 +61,52 @@ impl Grants {
     }
 }
 
+/// Tables of entities and of policies without records.
+fn new_tables(alloc: Global) -> Result<(Entities, Policies), AllocError>
+    ensures { IfOk result (λ t. t ≡ (no_entities, no_policies)) }
+{
+    Ok((Entities::new(alloc)?, Policies::new(alloc)?))
+}
+
+/// A network without links, terminators and circuits.
+fn new_network(alloc: Global) -> Result<(Fabric, Terminators, Circuits), AllocError>
+    ensures { IfOk result (λ n. n ≡ (no_links, no_terminators, no_circuits)) }
+{
+    Ok((
+        Fabric::new(alloc)?,
+        Terminators::new(alloc)?,
+        Circuits::new(alloc)?,
+    ))
+}
+
+/// Stores of the tables, of the network and of the grant counts.
+fn joined(
+    tables: (Entities, Policies),
+    network: (Fabric, Terminators, Circuits),
+    grants: Grants,
+) -> Stores
+    ensures { result ≡ record { entities = tables.0; policies = tables.1; fabric = network.0; terminators = network.1; circuits = network.2; grants = grants } }
+{
+    let (entities, policies) = tables;
+    let (fabric, terminators, circuits) = network;
+    Stores {
+        entities,
+        policies,
+        fabric,
+        terminators,
+        circuits,
+        grants,
+    }
+}
+
 impl Stores {
     /// Stores without records.
     pub fn new(alloc: Global) -> Result<Stores, AllocError>
         ensures { IfOk result (λ st. st ≡ record { entities = no_entities; policies = no_policies; fabric = no_links; terminators = no_terminators; circuits = no_circuits; grants = record { dial = []; bind = []; identity_router = []; service_router = [] } }) }
     {
-        Ok(Stores {
-            entities: Entities::new(alloc)?,
-            policies: Policies::new(alloc)?,
-            fabric: Fabric::new(alloc)?,
-            terminators: Terminators::new(alloc)?,
-            circuits: Circuits::new(alloc)?,
-            grants: Grants::new(alloc)?,
-        })
+        let tables = new_tables(alloc)?;
+        let network = new_network(alloc)?;
+        let grants = Grants::new(alloc)?;
+        Ok(joined(tables, network, grants))
     }
 }

@@ -1,19 +1,19 @@
 -- What a command on links changes, in the links themselves and in a state, and which links stay (docs/PROMISES.md, "Commands
 -- on links").
 use Rattle.std.specs.Prelude.{◌≡◌, true, filter, Ok}
+use Rattle.ctrl_model.specs.Numbered.{with_kept}
 use Rattle.ctrl_model.specs.CommandForm.{is_link_cost, is_latency}
 use Rattle.ctrl_model.specs.Settling.{link_stays}
 use Rattle.ctrl_model.specs.State.{State, start}
 use Rattle.entity_store.specs.EntityTables.{Tables}
 use Rattle.fabric_graph.specs.FabricTables.{FabricSeen, with_link, with_set, without_link, with_least}
 use Rattle.fabric_graph.specs.FabricRules.{may_add, is_there}
-use Rattle.fabric_graph.specs.LinkRows.{link_of}
 use Rattle.link_commands.specs.declared.changes.LinkChange.{LinkChange}
 use Rattle.link_commands.specs.declared.changes.LinkChange.TheVariants as change
 
 -- A state with these links and this least router cost in place of its own.
 abbrev pub with_fabric : FabricSeen → State → State
-with_fabric f s = record s { links = f.links; next_link = f.next; least_router_cost = f.least }
+with_fabric f s = record s { links = f.links; least_router_cost = f.least }
 
 -- A state with the routers of these entities and with these links in place of its own. Commands on links are judged by these
 -- alone, so what is said of all such states is said of the one whose parts they are.
@@ -22,7 +22,7 @@ over t f s = with_fabric f (record s { routers = t.routers })
 
 -- The links after a change.
 abbrev pub after_link_change : LinkChange → FabricSeen → FabricSeen
-after_link_change (change.Add row) f = with_link (link_of row) f
+after_link_change (change.Add row) f = with_link row f
 after_link_change (change.Set n cost latency_a latency_b up) f = with_set n.0 cost latency_a latency_b up f
 after_link_change (change.Remove n) f = without_link n.0 f
 after_link_change (change.SetLeast cost) f = with_least cost f
@@ -31,7 +31,7 @@ after_link_change (change.SetLeast cost) f = with_least cost f
 -- its range.
 abbrev pub CanChangeLinks : LinkChange → FabricSeen → Type 0
 CanChangeLinks (change.Add row) f =
-    (may_add row.name row.a.0 row.b.0 f ≡ Ok tt)
+    (may_add row.name row.a row.b f ≡ Ok tt)
     × (is_link_cost row.cost ≡ true) × (is_latency row.latency_a ≡ true) × (is_latency row.latency_b ≡ true)
 CanChangeLinks (change.Set n cost latency_a latency_b up) f =
     (is_there n.0 f ≡ true) × (is_link_cost cost ≡ true) × (is_latency latency_a ≡ true) × (is_latency latency_b ≡ true)
@@ -40,4 +40,4 @@ CanChangeLinks (change.SetLeast cost) f = is_link_cost cost ≡ true
 
 -- The links of which both routers are among these entities.
 abbrev pub settled : Tables → FabricSeen → FabricSeen
-settled t f = record f { links = filter (link_stays (record start { routers = t.routers })) f.links }
+settled t f = record f { links = with_kept (link_stays (record start { routers = t.routers })) f.links }

@@ -2,6 +2,7 @@
 use Rattle.std.specs.Prelude.{◌≡◌, ℕ, Bool, not, ◌||◌, cond, List, None, Some, Ok, filter}
 use Rattle.std.specs.declared.option.Option.{Option}
 use Rattle.std.specs.Option.{option_map_or}
+use Rattle.ctrl_model.specs.Numbered.{with_kept}
 use Rattle.ctrl_model.specs.declared.refusals.Refusal.{Refusal}
 use Rattle.ctrl_model.specs.declared.replies.Reply.{Reply}
 use Rattle.ctrl_model.specs.declared.replies.Reply.TheVariants.{Refused}
@@ -27,8 +28,8 @@ refused r = record { reply = Refused r; change = None }
 
 -- A link of a name may join two routers, whose numbers these are.
 pub record Joins (name a b : List ℕ) (t : Tables) (f : FabricSeen) (from to : ℕ) : Type 0 where
-  pub starts : router_named t.routers a ≡ Some from
-  pub ends : router_named t.routers b ≡ Some to
+  pub starts : router_named t.routers.rows a ≡ Some from
+  pub ends : router_named t.routers.rows b ≡ Some to
   pub may : may_add name from to f ≡ Ok tt
 
 -- The refusal of making a link, in every valid state with these routers and these links.
@@ -37,12 +38,12 @@ RefusesJoin name a b t f r = (s : State) → ValidState (over t f s) → refusal
 
 -- A link of a name stands under a number.
 pub record IsLink (name : List ℕ) (f : FabricSeen) (n : ℕ) (l : Link) : Type 0 where
-  pub named : link_named f.links name ≡ Some n
-  pub stands : at f.links n ≡ Some l
+  pub named : link_named f.links.rows name ≡ Some n
+  pub stands : at f.links.rows n ≡ Some l
 
 -- The number of the router of a name, if it is an end of a link.
 abbrev pub end_of : List ℕ → Link → Tables → Option ℕ
-end_of router l t = option_map_or (λ r. cond (is_end_of r l) (Some r) None) (router_named t.routers router) None
+end_of router l t = option_map_or (λ r. cond (is_end_of r l) (Some r) None) (router_named t.routers.rows router) None
 
 -- A router of a name, whose number this is, reports of a link of a name, which stands under its number.
 pub record Reports (link router : List ℕ) (t : Tables) (f : FabricSeen) (n : ℕ) (l : Link) (reporter : ℕ) : Type 0 where
@@ -59,4 +60,4 @@ stays t row = link_stays (record start { routers = t.routers }) row
 
 -- The links of which those whose number passes a test stay only if both their routers are among these entities.
 abbrev pub settled_where : (ℕ → Bool) → Tables → FabricSeen → FabricSeen
-settled_where test t f = record f { links = filter (λ row. not (test row.0) || stays t row) f.links }
+settled_where test t f = record f { links = with_kept (λ row. not (test row.0) || stays t row) f.links }

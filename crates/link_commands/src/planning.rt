@@ -6,7 +6,6 @@ ghost use Rattle.ctrl_model.specs.State.{State, link_named, router_named};
 ghost use Rattle.ctrl_model.specs.ValidState.{ValidState};
 ghost use Rattle.entity_store.specs.EntityTables.{Tables};
 ghost use Rattle.fabric_graph.specs.FabricTables.{FabricSeen};
-ghost use Rattle.fabric_graph.specs.LinkRows.{link_of};
 ghost use Rattle.link_commands.specs.LinkChanges.{over};
 ghost use Rattle.link_commands.specs.LinkPlans.{is_link_command, PlansLinks};
 ghost use Rattle.link_commands.specs.PlannedLinks.{Answers, refused, Joins, RefusesJoin, IsLink, Reports, RefusesReport, end_of};
@@ -36,15 +35,15 @@ fn changed(reply: Reply, change: LinkChange) -> LinkPlan
 }
 
 fn router_named(entities: &Entities, name: &Name) -> Option<u32>
-    ensures { result ≡ router_named entities.now.routers name.now }
+    ensures { result ≡ router_named entities.now.routers.rows name.now }
 {
     entities.find(Kind::Router, name).ok()
 }
 
 // The link of the name, with its number.
 fn link_named<'a>(fabric: &'a Fabric, name: &Name) -> Option<(LinkNo, &'a LinkRow)>
-    ensures { MatchOption result (link_named fabric.now.links name.now ≡ None)
-        (λ row. IsLink name.now fabric.now row.0.0 (link_of row.1.now)) }
+    ensures { MatchOption result (link_named fabric.now.links.rows name.now ≡ None)
+        (λ row. IsLink name.now fabric.now row.0.0 row.1.now) }
 {
     let no = fabric.find(name).ok()?;
     let link = fabric.link(no).unwrap();
@@ -134,7 +133,7 @@ fn plan_set_link_cost(fabric: &Fabric, link: &Name, cost: u32) -> LinkPlan
 
 // The number of the router of the name, if it is an end of the link.
 fn end_of(entities: &Entities, link: &LinkRow, router: &Name) -> Option<u32>
-    ensures { result ≡ end_of router.now (link_of link.now) entities.now }
+    ensures { result ≡ end_of router.now link.now entities.now }
 {
     let number = router_named(entities, router)?;
     if link.a.0 == number || link.b.0 == number {
@@ -151,7 +150,7 @@ fn reported<'a>(
     link: &Name,
     router: &Name,
 ) -> Result<(LinkNo, &'a LinkRow, u32), Refusal>
-    ensures reports { IfOk result (λ w. Reports link.now router.now entities.now fabric.now w.0.0 (link_of w.1.now) w.2) }
+    ensures reports { IfOk result (λ w. Reports link.now router.now entities.now fabric.now w.0.0 w.1.now w.2) }
     ensures refuses { IfErr result (RefusesReport link.now router.now entities.now fabric.now) }
 {
     let Some((no, row)) = link_named(fabric, link) else {

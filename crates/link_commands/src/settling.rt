@@ -10,14 +10,14 @@ use fabric_graph::Fabric;
 use std::alloc::{AllocError, Global};
 
 fn has_router(entities: &Entities, router: RouterNo) -> bool
-    ensures { result ≡ is_present entities.now.routers router.0 }
+    ensures { result ≡ is_present entities.now.routers.rows router.0 }
 {
     entities.seen(Kind::Router, router.0).is_some()
 }
 
 // Whether nothing has to be removed at the number: no link stands there, or its two routers are present.
 fn stays(entities: &Entities, fabric: &Fabric, no: LinkNo) -> bool
-    ensures { result ≡ option_map_or (λ l. stays entities.now (no.0, l)) (at fabric.now.links no.0) true }
+    ensures { result ≡ option_map_or (λ l. stays entities.now (no.0, l)) (at fabric.now.links.rows no.0) true }
 {
     match fabric.link(no) {
         None => true,

@@ -5,7 +5,7 @@ use Rattle.path_certificate.specs.Graphs.{GraphSeen, graph_hops, IsGraph, potent
 use Rattle.path_certificate.specs.Certified.{Certified, IsLeastPath, AreLeast}
 use Rattle.path_certificate.proofs.StepLaws.{hops_cost}
 use Rattle.path_certificate.proofs.LowerBounds.{below_walk, path_cost_few}
-use Rattle.ctrl_model.proofs.ClaimLaws.{tight_cost}
+use Rattle.ctrl_model.proofs.TightLaws.{tight_cost}
 use Rattle.path_certificate.proofs.TightChains.{tight_path}
 
 -- a certified path is a path, and costs its first place's potential

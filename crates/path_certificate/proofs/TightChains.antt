@@ -4,7 +4,7 @@ use Rattle.std.proofs.lemmas.Bool.{and_parts, and_from, or_cases, lt-ltb}
 use Rattle.std.specs.Option.{option_map_or}
 use Rattle.ctrl_model.specs.Walks.{Hops, goes}
 use Rattle.ctrl_model.proofs.WalkLaws.{by_there}
-use Rattle.ctrl_model.proofs.ClaimLaws.{tight_goes}
+use Rattle.ctrl_model.proofs.TightLaws.{tight_goes}
 use Rattle.ctrl_model.specs.Claims.{is_tight, no_path}
 use Rattle.path_certificate.specs.Graphs.{potential}
 

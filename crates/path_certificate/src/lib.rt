@@ -3,8 +3,6 @@
 
 mod checking;
 mod graph;
-#[cfg(test)]
-mod tests;
 mod worked;
 
 pub use checking::{check, improves, is_tight, reach};

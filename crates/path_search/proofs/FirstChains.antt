@@ -10,7 +10,7 @@ use Rattle.ctrl_model.specs.Walks.{Hops, goes, cost_along}
 use Rattle.ctrl_model.specs.Membership.{Among}
 use Rattle.ctrl_model.proofs.Members.{list_all-among, find_passes, find_among}
 use Rattle.ctrl_model.proofs.WalkLaws.{by_goes, cost_along-more}
-use Rattle.ctrl_model.proofs.ClaimLaws.{tight_cost}
+use Rattle.ctrl_model.proofs.TightLaws.{tight_cost}
 use Rattle.path_certificate.specs.declared.graph.Step.{Step}
 use Rattle.ctrl_model.specs.Claims.{is_tight, no_path, reach_over}
 use Rattle.path_certificate.specs.Graphs.{GraphSeen, counts, graph_hops, before, is_ordered, IsGraph, potential, none_improves}

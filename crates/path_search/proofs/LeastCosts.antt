@@ -2,7 +2,7 @@
 use Rattle.std.proofs.Common.{◌≡◌, ℕ, zero, suc, ◌+◌, ◌-◌, ◌*◌, ◌<◌, ◌≤◌, max, true, inl, inr, ⊎_elim, List, [], ◌∷◌, length, subst, arith, eq-eqb}
 use Rattle.ctrl_model.specs.Membership.{Among}
 use Rattle.ctrl_model.proofs.WalkLaws.{cost_along-le}
-use Rattle.ctrl_model.proofs.ClaimLaws.{tight_cost}
+use Rattle.ctrl_model.proofs.TightLaws.{tight_cost}
 use Rattle.path_certificate.specs.declared.graph.Step.{Step}
 use Rattle.ctrl_model.specs.Claims.{is_tight, no_path, reach_over}
 use Rattle.path_certificate.specs.Graphs.{GraphSeen, graph_hops, IsGraph, potential, none_improves, cost_of}

@@ -2,8 +2,6 @@
 #![tactic(auto)]
 
 mod relaxing;
-#[cfg(test)]
-mod tests;
 mod walking;
 mod worked;
 

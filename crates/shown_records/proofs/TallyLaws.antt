@@ -9,7 +9,7 @@ use Rattle.ctrl_model.specs.declared.replies.Tally.{Tally}
 use Rattle.ctrl_model.specs.Numbered.{at, numbers, Between}
 use Rattle.ctrl_model.specs.State.{Entity}
 use Rattle.ctrl_model.specs.ShowCommands.{tally_of, tallies}
-use Rattle.record_places.proofs.NumberLoops.{numbered_stands}
+use Rattle.record_tables.proofs.NumberLoops.{numbered_stands}
 
 -- ---- rows read by their numbers
 

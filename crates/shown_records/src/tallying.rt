@@ -20,8 +20,6 @@ pub fn tallies(
     ensures { IfOk result (λ ts. ts.items ≡ tallies (count_of counted.now identity) (entities kind known.now)) }
 {
     let numbers = known.numbers(alloc, kind)?;
-    // With it comes that the numbers ascend, so that each stands for one entity.
-    let _next = known.next(kind);
     let mut tallies = Vec::new(alloc);
     'entities: for number in numbers.as_slice() {
         let Some((name, _)) = known.seen(kind, *number) else {

@@ -6,7 +6,7 @@ use Rattle.std.proofs.lemmas.List.Elements.{filter-append}
 use Rattle.std.specs.List.{filter}
 use Rattle.std.specs.Option.{is_some, option_map_or}
 use Rattle.ctrl_model.specs.Numbered.{at, is_present, numbers, without, Between}
-use Rattle.terminators.proofs.RowLaws.{without-above}
+use Rattle.record_tables.proofs.PlaceLaws.{without-above}
 use Rattle.terminator_commands.specs.SweptTerms.{swept}
 
 -- the number at a place, and the record that has it

@@ -14,16 +14,15 @@ use Rattle.ctrl_model.specs.declared.replies.Reply.{Reply}
 use Rattle.ctrl_model.specs.declared.replies.Reply.TheVariants.{Made}
 use Rattle.ctrl_model.specs.CommandForm.{is_cost}
 use Rattle.ctrl_model.specs.Grants.{count}
-use Rattle.ctrl_model.specs.Numbered.{with_last}
+use Rattle.ctrl_model.specs.Numbered.{with_new}
 use Rattle.ctrl_model.specs.Rules.{or_then, refuse_if, carried_out, at_number}
 use Rattle.ctrl_model.specs.Settling.{settle}
-use Rattle.ctrl_model.specs.State.{State, entity_named, router_named}
+use Rattle.ctrl_model.specs.State.{State, Terminator, entity_named, router_named}
 use Rattle.ctrl_model.specs.TerminatorCommands.{create_terminator, refusal_of_create_terminator, after_create_terminator, lacks_bind}
 use Rattle.entity_store.specs.EntityTables.{Tables}
 use Rattle.grant_denorm.specs.MovedCounts.{AreCountsOf}
 use Rattle.grant_denorm.specs.PairCounts.{count_of}
-use Rattle.terminators.specs.declared.offers.Term.{Term}
-use Rattle.terminators.specs.TermTables.{TermTables, term_of}
+use Rattle.terminators.specs.TermTables.{TermTables}
 use Rattle.terminators.specs.TermRules.{has_term_room, is_not_bindable}
 use Rattle.terminator_commands.specs.declared.changes.TermChange.{TermChange}
 use Rattle.terminator_commands.specs.declared.changes.TermChange.TheVariants as change
@@ -46,9 +45,9 @@ plans_carried o c s reply effect e can leads =
 pub create_unknown : (t : Tables) (k : TermTables) (bind : List ((ℕ × ℕ) × ℕ)) (service router instance : List ℕ) (host : Option (List ℕ)) (cost : ℕ) (precedence : Precedence) (f : Field)
     → unknown_place t service router host ≡ Some f → PlansIn (refused (Unknown f)) (create_terminator service router instance host cost precedence) t k bind
 create_unknown t k bind service router instance host cost precedence f e = λ s counts.
-    plans_refused (refusal_of_create_terminator service router host (over t k s)) (Unknown f) (over t k s) (Made k.next) (after_create_terminator service router instance host cost precedence (over t k s))
-    (by (is_none (entity_named t.services service)) (is_none (router_named t.routers router)) (lacks_host t host)
-    (or_then (refuse_if (not (has_term_room k)) (Full kind.Terminator)) (refuse_if (lacks_bind (over t k s) (named_host t host) (entity_named t.services service)) NotBindable)) e)
+    plans_refused (refusal_of_create_terminator service router host (over t k s)) (Unknown f) (over t k s) (Made k.terminators.next) (after_create_terminator service router instance host cost precedence (over t k s))
+    (by (is_none (entity_named t.services.rows service)) (is_none (router_named t.routers.rows router)) (lacks_host t host)
+    (or_then (refuse_if (not (has_term_room k)) (Full kind.Terminator)) (refuse_if (lacks_bind (over t k s) (named_host t host) (entity_named t.services.rows service)) NotBindable)) e)
   where
     by : (a b c : Bool) (later : Option Refusal) → cond a (Some field.Service) (cond b (Some field.Router) (cond c (Some field.Host) None)) ≡ Some f
         → or_then (refuse_if a (Unknown field.Service)) (or_then (refuse_if b (Unknown field.Router)) (or_then (refuse_if c (Unknown field.Host)) later)) ≡ Some (Unknown f)
@@ -64,32 +63,31 @@ lacks_by_counts None n s bind counts = refl
 lacks_by_counts (Some h) n s bind counts = ap (λ m. not (nat_lt 0 m)) (sym (counts h n))
 
 -- where the names are known, the plan to add is the controller's answer
-pub create_planned : (t : Tables) (k : TermTables) (bind : List ((ℕ × ℕ) × ℕ)) (service router : List ℕ) (host : Option (List ℕ)) (places : Places) (term : Term)
-    → ArePlaced t service router host places → term.service ≡ places.service → term.router ≡ places.router → term.host ≡ places.host → is_cost term.cost ≡ true
+pub create_planned : (t : Tables) (k : TermTables) (bind : List ((ℕ × ℕ) × ℕ)) (service router : List ℕ) (host : Option (List ℕ)) (places : Places) (term : Terminator)
+    → ArePlaced t service router host places → term.service ≡ places.service.0 → term.router ≡ places.router.0 → term.host ≡ option_map (λ h. h.0) places.host → is_cost term.cost ≡ true
     → PlansIn (plan_of_add term k bind) (create_terminator service router term.instance host term.cost term.precedence) t k bind
 create_planned t k bind service router host places term placed es er eh cost = λ s counts.
     let S : State = over t k s in
-    let service_is : entity_named t.services service ≡ Some term.service.0 = placed.service_named ∙ ap (λ x. Some x.0) (sym es) in
-    let router_is : router_named t.routers router ≡ Some term.router.0 = placed.router_named ∙ ap (λ x. Some x.0) (sym er) in
-    let host_is : named_host t host ≡ (term_of term).host = placed.host_named ∙ ap (option_map (λ h. h.0)) (sym eh) in
+    let service_is : entity_named t.services.rows service ≡ Some term.service = placed.service_named ∙ ap Some (sym es) in
+    let router_is : router_named t.routers.rows router ≡ Some term.router = placed.router_named ∙ ap Some (sym er) in
+    let host_is : named_host t host ≡ term.host = placed.host_named ∙ sym eh in
     let full : Option Refusal = refuse_if (not (has_term_room k)) (Full kind.Terminator) in
-    let refusal : refusal_of_create_terminator service router host S ≡ or_then full (refuse_if (is_not_bindable (term_of term) bind) NotBindable) =
+    let refusal : refusal_of_create_terminator service router host S ≡ or_then full (refuse_if (is_not_bindable term bind) NotBindable) =
     (λ i. or_then (refuse_if (is_none (service_is i)) (Unknown field.Service)) (or_then (refuse_if (is_none (router_is i)) (Unknown field.Router))
     (or_then (refuse_if (placed.host_there i) (Unknown field.Host)) (or_then full (refuse_if (lacks_bind S (host_is i) (service_is i)) NotBindable)))))
-    ∙ ap (λ b. or_then full (refuse_if b NotBindable)) (lacks_by_counts (term_of term).host term.service.0 S bind counts) in
+    ∙ ap (λ b. or_then full (refuse_if b NotBindable)) (lacks_by_counts term.host term.service S bind counts) in
     let effect : State = after_create_terminator service router term.instance host term.cost term.precedence S in
     let leads : with_terms (after_term_change (change.Add term) k) S ≡ effect =
     sym (λ i. at_number (service_is i) S (λ n. at_number (router_is i) S (λ r. record S {
-      terminators = with_last S.terminators S.next_terminator (record { service = n; router = r; instance = term.instance; host = host_is i; cost = term.cost; precedence = term.precedence });
-      next_terminator = S.next_terminator + 1;
+      terminators = with_new (record { service = n; router = r; instance = term.instance; host = host_is i; cost = term.cost; precedence = term.precedence }) S.terminators;
     }))) in
-    by S effect (refusal_of_create_terminator service router host S) (has_term_room k) (is_not_bindable (term_of term) bind) refl refusal leads
+    by S effect (refusal_of_create_terminator service router host S) (has_term_room k) (is_not_bindable term bind) refl refusal leads
   where
     by : (s effect : State) (o : Option Refusal) (room lacks : Bool) → has_term_room (terms_of s) ≡ room
         → o ≡ or_then (refuse_if (not room) (Full kind.Terminator)) (refuse_if lacks NotBindable)
         → with_terms (after_term_change (change.Add term) (terms_of s)) s ≡ effect
-        → PlansTerms (cond room (cond lacks (refused NotBindable) (record { reply = Made s.next_terminator; change = Some (change.Add term) })) (refused (Full kind.Terminator)))
-        (carried_out o s (Made s.next_terminator) effect) s
-    by s effect o false lacks is e leads = plans_refused o (Full kind.Terminator) s (Made s.next_terminator) effect e
-    by s effect o true true is e leads = plans_refused o NotBindable s (Made s.next_terminator) effect e
-    by s effect o true false is e leads = plans_carried o (change.Add term) s (Made s.next_terminator) effect e (is, cost) leads
+        → PlansTerms (cond room (cond lacks (refused NotBindable) (record { reply = Made s.terminators.next; change = Some (change.Add term) })) (refused (Full kind.Terminator)))
+        (carried_out o s (Made s.terminators.next) effect) s
+    by s effect o false lacks is e leads = plans_refused o (Full kind.Terminator) s (Made s.terminators.next) effect e
+    by s effect o true true is e leads = plans_refused o NotBindable s (Made s.terminators.next) effect e
+    by s effect o true false is e leads = plans_carried o (change.Add term) s (Made s.terminators.next) effect e (is, cost) leads

@@ -17,7 +17,7 @@ stays_at t n rows = option_map_or (λ e. terminator_stays (with_entities t) (n, 
 
 -- The terminators, of which the one of this number goes unless it stays.
 abbrev pub settled_at : ℕ → Tables → TermTables → TermTables
-settled_at n t k = record k { terminators = cond (stays_at t n k.terminators) k.terminators (without k.terminators n) }
+settled_at n t k = record k { terminators = record k.terminators { rows = cond (stays_at t n k.terminators.rows) k.terminators.rows (without k.terminators.rows n) } }
 
 -- Rows of which the first so many are filtered.
 abbrev pub swept : {X : Type 0} → (X → Bool) → ℕ → List X → List X

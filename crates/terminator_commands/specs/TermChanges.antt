@@ -2,22 +2,22 @@
 -- (docs/PROMISES.md, "Commands on terminators").
 use Rattle.std.specs.Prelude.{◌≡◌, true, filter}
 use Rattle.ctrl_model.specs.CommandForm.{is_cost}
-use Rattle.ctrl_model.specs.Numbered.{is_present}
+use Rattle.ctrl_model.specs.Numbered.{is_present, with_kept}
 use Rattle.ctrl_model.specs.Settling.{terminator_stays}
 use Rattle.ctrl_model.specs.State.{State, start}
 use Rattle.entity_store.specs.EntityTables.{Tables}
-use Rattle.terminators.specs.TermTables.{TermTables, term_of, with_term, with_set, without_term}
+use Rattle.terminators.specs.TermTables.{TermTables, with_term, with_set, without_term}
 use Rattle.terminators.specs.TermRules.{has_term_room}
 use Rattle.terminator_commands.specs.declared.changes.TermChange.{TermChange}
 use Rattle.terminator_commands.specs.declared.changes.TermChange.TheVariants as change
 
 -- The terminators of a state.
 abbrev pub terms_of : State → TermTables
-terms_of s = record { terminators = s.terminators; next = s.next_terminator }
+terms_of s = record { terminators = s.terminators }
 
 -- A state with these terminators in place of its own.
 abbrev pub with_terms : TermTables → State → State
-with_terms k s = record s { terminators = k.terminators; next_terminator = k.next }
+with_terms k s = record s { terminators = k.terminators }
 
 -- A state with the entities of these tables and with these terminators in place of its own. Commands on terminators are judged
 -- by these and by the counts of Bind alone, so what is said of all such states is said of the one whose parts they are.
@@ -26,7 +26,7 @@ over t k s = with_terms k (record s { identities = t.identities; services = t.se
 
 -- The terminators after a change.
 abbrev pub after_term_change : TermChange → TermTables → TermTables
-after_term_change (change.Add term) k = with_term (term_of term) k
+after_term_change (change.Add term) k = with_term term k
 after_term_change (change.Set n cost precedence) k = with_set n.0 cost precedence k
 after_term_change (change.Remove n) k = without_term n.0 k
 
@@ -34,11 +34,11 @@ after_term_change (change.Remove n) k = without_term n.0 k
 -- and that each cost is in its range.
 abbrev pub CanChangeTerms : TermChange → TermTables → Type 0
 CanChangeTerms (change.Add term) k = (has_term_room k ≡ true) × (is_cost term.cost ≡ true)
-CanChangeTerms (change.Set n cost precedence) k = (is_present k.terminators n.0 ≡ true) × (is_cost cost ≡ true)
-CanChangeTerms (change.Remove n) k = is_present k.terminators n.0 ≡ true
+CanChangeTerms (change.Set n cost precedence) k = (is_present k.terminators.rows n.0 ≡ true) × (is_cost cost ≡ true)
+CanChangeTerms (change.Remove n) k = is_present k.terminators.rows n.0 ≡ true
 
 -- The terminators of which service, router and host are among these entities.
 abbrev pub settled : Tables → TermTables → TermTables
 settled t k = record k {
-  terminators = filter (terminator_stays (record start { identities = t.identities; services = t.services; routers = t.routers })) k.terminators;
+  terminators = with_kept (terminator_stays (record start { identities = t.identities; services = t.services; routers = t.routers })) k.terminators;
 }

@@ -49,7 +49,7 @@ fn refused(refusal: Refusal) -> TermPlan
 
 // Whether a terminator has the number.
 fn is_there(terminators: &Terminators, no: TermNo) -> bool
-    ensures { result ≡ is_present terminators.now.terminators no.0 }
+    ensures { result ≡ is_present terminators.now.terminators.rows no.0 }
 {
     terminators.get(no).is_ok()
 }

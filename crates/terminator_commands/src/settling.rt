@@ -4,7 +4,6 @@ ghost use Rattle.ctrl_model.specs.Numbered.{is_present};
 ghost use Rattle.ctrl_model.specs.Settling.{terminator_stays};
 ghost use Rattle.entity_store.specs.EntityTables.{is_entity_kind};
 ghost use Rattle.entity_store.specs.TableRules.{is_there};
-ghost use Rattle.terminators.specs.TermTables.{term_of};
 ghost use Rattle.terminator_commands.specs.TermChanges.{settled};
 ghost use Rattle.terminator_commands.specs.SweptTerms.{with_entities, settled_at};
 
@@ -23,14 +22,14 @@ fn is_there(entities: &Entities, kind: Kind, number: u32) -> bool
 
 // Whether a router is present.
 fn is_router(entities: &Entities, router: RouterNo) -> bool
-    ensures { result ≡ is_present entities.now.routers router.0 }
+    ensures { result ≡ is_present entities.now.routers.rows router.0 }
 {
     is_there(entities, Kind::Router, router.0)
 }
 
 // Whether the host is present, if there is one.
 fn has_host(entities: &Entities, host: Option<IdentityNo>) -> bool
-    ensures { result ≡ option_map_or (is_present entities.now.identities) (option_map (λ h. h.0) host) true }
+    ensures { result ≡ option_map_or (is_present entities.now.identities.rows) (option_map (λ h. h.0) host) true }
 {
     match host {
         Some(host) => is_there(entities, Kind::Identity, host.0),
@@ -40,7 +39,7 @@ fn has_host(entities: &Entities, host: Option<IdentityNo>) -> bool
 
 // Whether the service, the router and the host of a terminator are present.
 fn stays(entities: &Entities, term: &Term) -> bool
-    ensures { result ≡ terminator_stays (with_entities entities.now) (0, term_of term.now) }
+    ensures { result ≡ terminator_stays (with_entities entities.now) (0, term.now) }
 {
     is_there(entities, Kind::Service, term.service.0)
         && is_router(entities, term.router)
@@ -49,7 +48,7 @@ fn stays(entities: &Entities, term: &Term) -> bool
 
 // Removes a present terminator, unless it stays.
 fn settle_one(entities: &Entities, terminators: &mut Terminators, no: TermNo)
-    requires { is_present terminators.old.terminators no.0 ≡ true }
+    requires { is_present terminators.old.terminators.rows no.0 ≡ true }
     ensures { terminators.new ≡ settled_at no.0 entities.now terminators.old }
 {
     let Ok(term) = terminators.get(no) else {
@@ -70,8 +69,6 @@ pub fn settle_terminators(
     ensures err { OnErr result (terminators.new ≡ terminators.old) }
 {
     let numbers = terminators.numbers(alloc)?;
-    // The numbers ascend, so none stands twice.
-    let _next = terminators.next();
     for number in numbers.as_slice() {
         settle_one(entities, terminators, TermNo(*number));
     }

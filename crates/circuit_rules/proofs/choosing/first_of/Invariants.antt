@@ -4,4 +4,4 @@ use Rattle.circuit_rules.proofs.choosing.first_of.Given as goal
 
 -- the first of those so far and those that are left
 abbrev pub invariant-entries : goal.invariant-entries
-invariant-entries l = first_of l.costs l.offer l.best (drop l.entry-index l.entries) ≡ first_of l.costs l.offer l.fn.best l.entries
+invariant-entries l = first_of l.costs l.exit l.best (drop l.entry-index l.entries) ≡ first_of l.costs l.exit l.fn.best l.entries

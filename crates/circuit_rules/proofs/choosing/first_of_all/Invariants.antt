@@ -3,5 +3,5 @@ use Rattle.circuit_rules.specs.Searched.{first_of_all}
 use Rattle.circuit_rules.proofs.choosing.first_of_all.Given as goal
 
 -- the first of those so far and those that are left
-abbrev pub invariant-offers : goal.invariant-offers
-invariant-offers l = first_of_all l.costs l.entries l.best (drop l.offer-index l.offers) ≡ first_of_all l.costs l.entries None l.offers
+abbrev pub invariant-exits : goal.invariant-exits
+invariant-exits l = first_of_all l.costs l.entries l.best (drop l.exit-index l.exits) ≡ first_of_all l.costs l.entries None l.exits

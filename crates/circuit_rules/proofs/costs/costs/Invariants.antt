@@ -5,5 +5,5 @@ use Rattle.circuit_rules.proofs.costs.costs.Given as goal
 abbrev pub invariant-places : goal.invariant-places
 invariant-places l = record {
   so_far : length l.costs.items ≡ l.place;
-  each : (t : ℕ) → t < l.place → AreCosts l.graph l.offers t (costs_to l.costs.items t);
+  each : (t : ℕ) → t < l.place → AreCosts l.graph l.exits t (costs_to l.costs.items t);
 }

@@ -1,4 +1,4 @@
-use Rattle.std.proofs.Common.{ap, subst}
+use Rattle.std.proofs.Common.{rules, ap, subst}
 use Rattle.std.specs.Option.{option_map}
 use Rattle.circuit_rules.specs.Views.{network, asked}
 use Rattle.circuit_rules.specs.Searched.{IsBestWay}
@@ -45,3 +45,9 @@ returns-in_err-route c =
     handed_on w ask c.from_residual.result c.in_err-route.field-0.0 c.from_residual.ensures.1
     (denied w ask c.in-Some.identity.0 c.in-Some-service.service.0 c.in_err-route.field-0.0 (ap (option_map (λ n. n.0)) c.in-Some.is) (ap (option_map (λ n. n.0)) c.in-Some-service.is)
     c.in_err-route.ensures)
+
+pub returns-in_default : goal.returns-in_default
+returns-in_default c = search rules
+
+pub returns-in_default-service : goal.returns-in_default-service
+returns-in_default-service c = search rules

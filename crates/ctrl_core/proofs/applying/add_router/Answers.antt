@@ -1,5 +1,7 @@
 use Rattle.std.proofs.Common.{not}
-use Rattle.ctrl_core.proofs.ApplyLaws.{may_add_router, room_to_add_router, there_added, carried_router}
+use Rattle.ctrl_model.specs.declared.kinds.Kind.TheVariants as kind
+use Rattle.ctrl_model.specs.EntityCommands.{new_router}
+use Rattle.ctrl_core.proofs.ApplyLaws.{may_add_router, room_to_add_router, there_added, cost_of_new, carried_router}
 use Rattle.ctrl_core.proofs.applying.add_router.Goals as goal
 
 pub add-requires-clause-may : goal.add-requires-clause-may
@@ -12,6 +14,11 @@ add-requires-clause-room c =
 pub set_router-requires-clause-there : goal.set_router-requires-clause-there
 set_router-requires-clause-there c =
     rw (c.next-number.ensures.next, c.in_ok-add.ensures.ok.1) (there_added c.args.name.now c.args.attributes.now c.args.stores.now.entities)
+
+pub set_router-requires-clause-cost : goal.set_router-requires-clause-cost
+set_router-requires-clause-cost c =
+    cost_of_new c.args.stores.now.entities.routers.rows c.args.stores.now.entities.routers.next (new_router c.args.name.now c.args.attributes.now c.args.cost (not c.args.through))
+    (c.requires.valid.kinds kind.Router).each
 
 pub returns : goal.returns
 returns c =

@@ -1,3 +1,4 @@
+use Rattle.ctrl_model.specs.declared.kinds.Kind.TheVariants as kind
 use Rattle.std.proofs.Common.{refl}
 use Rattle.ctrl_core.proofs.ApplyLaws.{described, room_to_describe_router, router_there, there_described, cost_of_edit, carried_described_router}
 use Rattle.ctrl_core.proofs.applying.describe_router.Goals as goal
@@ -15,8 +16,8 @@ set_router-requires-clause-there c =
 
 pub set_router-requires-clause-cost : goal.set_router-requires-clause-cost
 set_router-requires-clause-cost c =
-    cost_of_edit c.args.stores.now.entities.routers c.args.number (described c.args.attributes.now c.args.cost c.args.through c.args.connected) c.args.cost (λ r. refl) c.requires.there
-    c.requires.valid.each_router
+    cost_of_edit c.args.stores.now.entities.routers.rows c.args.number (described c.args.attributes.now c.args.cost c.args.through c.args.connected) c.args.cost (λ r. refl) c.requires.there
+    (c.requires.valid.kinds kind.Router).each
 
 pub returns : goal.returns
 returns c =

@@ -1,3 +1,4 @@
+use Rattle.ctrl_model.specs.declared.kinds.Kind.TheVariants as kind
 use Rattle.std.proofs.Common.{refl}
 use Rattle.ctrl_core.proofs.ApplyLaws.{marked, router_there, cost_of_edit}
 use Rattle.ctrl_core.proofs.applying.mark.Goals as goal
@@ -7,4 +8,4 @@ set_router-requires-clause-there c = router_there c.args.number c.args.stores.no
 
 pub set_router-requires-clause-cost : goal.set_router-requires-clause-cost
 set_router-requires-clause-cost c =
-    cost_of_edit c.args.stores.now.entities.routers c.args.number (marked c.args.cost c.args.through c.args.connected) c.args.cost (λ r. refl) c.requires.there c.requires.valid.each_router
+    cost_of_edit c.args.stores.now.entities.routers.rows c.args.number (marked c.args.cost c.args.through c.args.connected) c.args.cost (λ r. refl) c.requires.there (c.requires.valid.kinds kind.Router).each

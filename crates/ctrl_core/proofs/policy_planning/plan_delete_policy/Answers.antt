@@ -1,6 +1,5 @@
 use Rattle.policy_store.specs.declared.policies.PolicyFault.TheVariants.{Unknown}
 use Rattle.policy_store.specs.PolicyTables.{number_of}
-use Rattle.policy_store.specs.StoredPolicies.{policy_of}
 use Rattle.ctrl_core.proofs.ShownPlans.{some_from_ok, none_from_err}
 use Rattle.ctrl_core.proofs.PolicyPlans.{finds_policy, delete_unknown, delete_planned}
 use Rattle.ctrl_core.proofs.StepsInState.{policy_steps_in_state}
@@ -18,5 +17,5 @@ unreachable-requires c =
 
 pub returns : goal.returns
 returns c =
-    delete_planned c.args.kind c.args.name.now c.in-Ok.number.0 (policy_of c.in-Some.policy.now) c.args.stores.now c.in_ok-steps.steps c.requires.kind c.requires.kept
+    delete_planned c.args.kind c.args.name.now c.in-Ok.number.0 c.in-Some.policy.now c.args.stores.now c.in_ok-steps.steps c.requires.kind c.requires.kept
     (some_from_ok (number_of c.args.kind c.args.name.now c.args.stores.now.policies) Unknown c.in-Ok.number.0 c.in-Ok.ensures.found) c.in-Some.ensures (policy_steps_in_state c.args.kind _ _ c.args.stores.now c.in_ok-steps.steps c.in_ok-steps.ensures)

@@ -8,10 +8,10 @@ use Rattle.ctrl_core.proofs.showing.plan_show_grants.Goals as goal
 pub returns-in_default : goal.returns-in_default
 returns-in_default c =
     grants_unknown c.args.identity.now (state_of c.args.stores.now) c.unknown_identity.result
-    (none_from_err (entity_named c.args.stores.now.entities.identities c.args.identity.now) Unknown c.in_default.field-0 c.in_default.ensures.found) c.unknown_identity.ensures
+    (none_from_err (entity_named c.args.stores.now.entities.identities.rows c.args.identity.now) Unknown c.in_default.field-0 c.in_default.ensures.found) c.unknown_identity.ensures
 
 pub returns : goal.returns
 returns c =
     grants_planned c.args.identity.now c.args.stores.now c.in-Ok.number c.shown.result c.of.result c.of-2.result c.of-3.result c.requires
-    (some_from_ok (entity_named c.args.stores.now.entities.identities c.args.identity.now) Unknown c.in-Ok.number c.in-Ok.ensures.found)
+    (some_from_ok (entity_named c.args.stores.now.entities.identities.rows c.args.identity.now) Unknown c.in-Ok.number c.in-Ok.ensures.found)
     (c.of.ensures ∙ c.in_ok-bind.ensures) (c.of-2.ensures ∙ c.in_ok-dial.ensures) (c.of-3.ensures ∙ c.in_ok-routers.ensures) c.shown.ensures

@@ -23,5 +23,5 @@ returns-clause-ok c =
     let f = c.args.fabric.now in
     c.links.invariant
     ∙ ap (λ ms. settled_where (λ n. is_among n ms) t f)
-    (take_all c.links.number-index c.as_slice-number-items.result.now c.links-test.false ∙ c.as_slice-number-items.ensures ∙ c.in_ok-numbers.ensures)
+    (take_all c.links.number-index c.as_slice-number-items.result.now c.links-test.false ∙ c.as_slice-number-items.ensures ∙ c.in_ok-numbers.ensures.all)
     ∙ settled_whole t f

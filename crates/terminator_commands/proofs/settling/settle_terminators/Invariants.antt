@@ -8,4 +8,4 @@ use Rattle.terminator_commands.proofs.settling.settle_terminators.Given as goal
 abbrev pub invariant-loop-number : goal.invariant-loop-number
 invariant-loop-number l =
     let k : TermTables = l.fn.terminators in
-    l.terminators ≡ record k { terminators = swept (terminator_stays (with_entities l.entities)) l.number-index k.terminators }
+    l.terminators ≡ record k { terminators = record k.terminators { rows = swept (terminator_stays (with_entities l.entities)) l.number-index k.terminators.rows } }

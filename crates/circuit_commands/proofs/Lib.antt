@@ -1,4 +1,0 @@
-pub mod RemovalLaws
-pub mod PresentLaws
-pub mod PlanLaws
-pub mod SettledLaws

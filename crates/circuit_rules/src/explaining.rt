@@ -1,0 +1,72 @@
+ghost use Rattle.std.specs.Prelude.{◌≡◌, IfOk, map};
+ghost use Rattle.ctrl_model.specs.Networks.{admissible};
+ghost use Rattle.fabric_graph.specs.Routers.{AreRouters};
+ghost use Rattle.circuit_rules.specs.Views.{network, asked};
+ghost use Rattle.circuit_rules.specs.Decisions.{Grants};
+ghost use Rattle.circuit_rules.specs.Explanations.{IsExplained, Explains};
+ghost use Rattle.circuit_rules.specs.Offers.{offer_of};
+ghost use Rattle.circuit_rules.specs.Reached.{explained};
+
+use crate::deciding::decide;
+use crate::numbers::router_numbers;
+use crate::offers::{offer_at, offers, place_of};
+use crate::reaching::reaches;
+use crate::views::{Ask, DecideFault, Route, View};
+use ctrl_model::{Explanation, Instance, Numbers, Reaches, ServiceNo};
+use std::alloc::{AllocError, Global};
+
+// A route with what shows that it is the least: the least costs to each router that carries an admissible terminator of a
+// precedence of at most a place.
+fn explanation(
+    alloc: Global,
+    view: &View,
+    service: ServiceNo,
+    instance: &Instance,
+    route: Route,
+    most: u8,
+) -> Result<Explanation, AllocError>
+    requires { AreRouters view.now.routers.now }
+    ensures { IfOk result (λ e. e ≡ explained (network view.now) (map offer_of (admissible (network view.now) service.0 instance.now)) most route) }
+{
+    let offers = offers(alloc, view, service, instance)?;
+    let graph = view.fabric.graph_of(alloc, view.routers)?;
+    let potentials = reaches(alloc, view, &graph, offers.as_slice(), most)?;
+    let routers = router_numbers(alloc, view.routers)?;
+    Ok(Explanation {
+        ingress: route.ingress,
+        links: route.links,
+        potentials: Reaches::of(potentials),
+        routers: Numbers::of(routers),
+        terminator: route.terminator,
+        total: route.total,
+    })
+}
+
+// A route that a request gets, with what shows that it is the least.
+fn explain_route(
+    alloc: Global,
+    view: &View,
+    ask: &Ask,
+    route: Route,
+) -> Result<Explanation, AllocError>
+    requires routers { AreRouters view.now.routers.now }
+    requires granted { Grants (network view.now) (asked ask.now) route }
+    ensures { IfOk result (IsExplained (network view.now) (asked ask.now)) }
+{
+    let _next = view.terminators.next();
+    let service = ask.service.unwrap();
+    let offer = offer_at(view.terminators, route.terminator).unwrap();
+    let most = place_of(offer.precedence);
+    explanation(alloc, view, service, &ask.instance, route, most)
+}
+
+/// The route that a request would get, with what shows that it is the least; or why it gets none (docs/RULES.md, "Explanations and
+/// claims").
+pub fn explain(alloc: Global, view: &View, ask: &Ask) -> Result<Explanation, DecideFault>
+    requires { AreRouters view.now.routers.now }
+    ensures { Explains (network view.now) (asked ask.now) result }
+{
+    let route = decide(alloc, view, ask)?;
+    let explanation = explain_route(alloc, view, ask, route)?;
+    Ok(explanation)
+}

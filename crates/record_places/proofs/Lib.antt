@@ -1,4 +1,0 @@
-pub mod PlaceLaws
-pub mod NumberLoops
-pub mod NameKeys
-pub mod ChangedLists

@@ -1,3 +1,0 @@
-pub mod Explanations
-pub mod Parts
-pub mod Reached
