@@ -1,30 +1,43 @@
 -- How what several calls did to told bytes joins up. A crate above joins the calls of its loops by these.
 use Rattle.std.proofs.Common.{◌≡◌, ℕ, List, [], ◌++◌, None, Some, refl, sym, ap, ◌∙◌, append_assoc, append-nil}
+use Rattle.std.proofs.KnownBytes.{Consumes-nil, Consumes-trans, Consumes-kept, Appends-nil, Appends-trans, Appends-kept}
 use Rattle.std.specs.declared.option.Option.{Option}
-use Rattle.std.specs.Io.KnownBytes.{prepend_known, append_known}
-use Rattle.ziti_outside.specs.Told.{Gave, Took, IsFront}
+use Rattle.std.specs.Io.KnownBytes.{Keeps}
+use Rattle.ziti_outside.specs.Told.{Gave, Took, AreTaken, IsFront}
 
 -- Nothing was given where the same is left.
 pub Gave-none : (a : Option (List ℕ)) → Gave a a []
-Gave-none None = refl
-Gave-none (Some xs) = refl
+Gave-none a = Consumes-nil a
 
 -- What two takes gave, one after the other.
 pub Gave-then : (a b c : Option (List ℕ)) (xs ys : List ℕ) → Gave a b xs → Gave b c ys → Gave a c (xs ++ ys)
-Gave-then a b None xs ys p q = p ∙ ap (λ (o : Option (List ℕ)). prepend_known xs o) q
-Gave-then a b (Some zs) xs ys p q =
-    p ∙ ap (λ (o : Option (List ℕ)). prepend_known xs o) q ∙ ap (λ (l : List ℕ). Some l) (sym (append_assoc xs ys zs))
+Gave-then a b c xs ys p q = Consumes-trans a b c xs ys p q
+
+-- What was given, where nothing more was after it.
+pub Gave-kept : (a b c : Option (List ℕ)) (xs : List ℕ) → Gave a b xs → Keeps b c → Gave a c xs
+Gave-kept a b c xs p q = Consumes-kept a b c xs p q
 
 -- Nothing was taken where the same stands.
 pub Took-none : (a : Option (List ℕ)) → Took a a []
-Took-none None = refl
-Took-none (Some xs) = ap (λ (l : List ℕ). Some l) (sym (append-nil xs))
+Took-none a = Appends-nil a
 
 -- What two calls took, one after the other.
 pub Took-then : (a b c : Option (List ℕ)) (xs ys : List ℕ) → Took a b xs → Took b c ys → Took a c (xs ++ ys)
-Took-then None b c xs ys p q = q ∙ ap (λ (o : Option (List ℕ)). append_known o ys) p
-Took-then (Some zs) b c xs ys p q =
-    q ∙ ap (λ (o : Option (List ℕ)). append_known o ys) p ∙ ap (λ (l : List ℕ). Some l) (append_assoc zs xs ys)
+Took-then a b c xs ys p q = Appends-trans a b c xs ys p q
+
+-- What was taken, where nothing more was after it.
+pub Took-kept : (a b c : Option (List ℕ)) (xs : List ℕ) → Took a b xs → Keeps b c → Took a c xs
+Took-kept a b c xs p q = Appends-kept a b c xs p q
+
+-- Nothing was taken since these bytes were.
+pub Took-taken : (a : Option (List ℕ)) (taken : List ℕ) → AreTaken a taken → Took a (Some taken) []
+Took-taken None taken p = tt
+Took-taken (Some xs) taken p = p ∙ sym (append-nil xs)
+
+-- These bytes were taken where nothing was taken since.
+pub AreTaken-took : (a : Option (List ℕ)) (taken : List ℕ) → Took a (Some taken) [] → AreTaken a taken
+AreTaken-took None taken p = tt
+AreTaken-took (Some xs) taken p = p ∙ append-nil xs
 
 -- Nothing is a front of all.
 pub IsFront-none : (xs : List ℕ) → IsFront [] xs

@@ -6,8 +6,10 @@ use Rattle.std.specs.declared.result.Result.{Result}
 abbrev pub Rose : ℕ → ℕ → Type 0
 Rose before now = min (before + 1) (2 ^ 64 - 1) ≤ now
 
--- The count of faults did not fall in a call; it stayed where the call succeeded, and the call failed only where it rose.
+-- The count of faults did not fall in a call, and rose by one at most; it stayed where the call succeeded, and the call failed
+-- only where it rose.
 pub record HasCause {T E : Type 0} (before now : ℕ) (result : Result T E) : Type 0 where
   pub later : before ≤ now
+  pub once : now ≤ before + 1
   pub calm : OnOk result (now ≡ before)
   pub failed : OnErr result (Rose before now)

@@ -1,2 +1,5 @@
 pub mod Told
 pub mod Causes
+pub mod Images
+pub mod Moments
+pub mod Untouched

@@ -1,0 +1,4 @@
+pub mod GateLaws
+pub mod SlotLaws
+mod StopLaws
+mod ReadLaws

@@ -1,0 +1,4 @@
+pub mod Slots
+pub mod Heads
+pub mod Faults
+pub mod WorkedSlots

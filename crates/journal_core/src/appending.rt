@@ -1,0 +1,98 @@
+ghost use Rattle.std.specs.Prelude.{◌≡◌, ◌↔◌, ◌+◌, ◌^◌, ◌<◌, ◌≤◌, ⊤, length, IsTrue, OnOk, IfOk, IfErr};
+ghost use Rattle.ziti_outside.specs.Causes.{HasCause};
+ghost use Rattle.ziti_outside.specs.Images.{Holds, Torn, Else, OnPart, After, IsStable};
+ghost use Rattle.ziti_outside.specs.Moments.{Remembers, Leaves};
+ghost use Rattle.ziti_outside.specs.Untouched.{OnlyDisk};
+ghost use Rattle.journal_core.specs.Slots.{IsClosed, text_of, added, ShutOrAdded};
+ghost use Rattle.journal_core.specs.Faults.{disk_failure, AppendFails};
+
+use crate::faults::JournalFault;
+use crate::packing::{OPEN, Packed};
+use ziti_outside::{Desk, Failed, Part};
+
+/// Writes bytes at a place of a part, behind whose end it does not lie, and makes the part stable.
+///
+/// Until then a stop may find any bytes in their range.
+pub fn put_down<D: Desk>(desk: &mut D, part: Part, at: u64, bytes: &[u8]) -> Result<(), Failed>
+    requires within { IsTrue D.tells → at ≤ length (D.reads desk.old part) }
+    ensures written { OnOk result (IsTrue D.tells → Holds at bytes.now (D.reads desk.old part) (D.reads desk.new part)) }
+    ensures stable { OnOk result (IsStable part (D.reads desk.new) (D.may_leave desk.new)) }
+    ensures elsewhere { Else part (D.reads desk.old) (D.reads desk.new) }
+    ensures cause { HasCause (D.disk_faults desk.old) (D.disk_faults desk.new) result }
+    ensures others { OnlyDisk D.said D.noted D.say_faults D.note_faults desk.old desk.new }
+    ensures stops { Leaves D.moment D.since D.may_leave D.said desk.old desk.new
+        (After (OnPart part (Torn at (length bytes.now))) (D.may_leave desk.old)) }
+    ensures remembers { Remembers (D.moment desk.old) (D.since desk.old) (D.since desk.new) }
+{
+    desk.write_at(part, at, bytes)?;
+    desk.sync(part)
+}
+
+// Whether a gate, a text behind it, and all before them stay within a bound.
+fn fits(at: u64, len: usize, most: u64) -> bool
+    ensures { IsTrue result ↔ (at + 1 + len ≤ most) }
+{
+    at < most.saturating_sub(len as u64)
+}
+
+// Writes a text behind a closed gate, and then opens the gate.
+fn add_text<D: Desk>(desk: &mut D, part: Part, at: u64, text: &[u8]) -> Result<(), Failed>
+    requires closed { IsTrue D.tells → IsClosed at (D.reads desk.old part) }
+    requires stable { IsTrue D.tells → IsStable part (D.reads desk.old) (D.may_leave desk.old) }
+    requires within { at + 1 + length text.now < 2 ^ 64 }
+    ensures added { OnOk result (IsTrue D.tells → D.reads desk.new part ≡ added at text.now (D.reads desk.old part)) }
+    ensures stable { OnOk result (IsStable part (D.reads desk.new) (D.may_leave desk.new)) }
+    ensures elsewhere { Else part (D.reads desk.old) (D.reads desk.new) }
+    ensures cause { HasCause (D.disk_faults desk.old) (D.disk_faults desk.new) result }
+    ensures others { OnlyDisk D.said D.noted D.say_faults D.note_faults desk.old desk.new }
+    ensures quiet { Leaves D.moment D.since D.may_leave D.said desk.old desk.new (λ image. ⊤) }
+    ensures stops { IsTrue D.tells → Leaves D.moment D.since D.may_leave D.said desk.old desk.new
+        (After (OnPart part (ShutOrAdded at text.now)) (D.may_leave desk.old)) }
+    ensures remembers { Remembers (D.moment desk.old) (D.since desk.old) (D.since desk.new) }
+{
+    put_down(desk, part, at + 1, text)?;
+    put_down(desk, part, at, &[OPEN])
+}
+
+/// Appends a record at the closed gate `at` of a part in which nothing is pending, and answers the place of the next gate. The
+/// slot counts as `at` + 6 + the payload's length bytes, which may not pass `most`.
+///
+/// The record and a closed gate are written behind the gate and made stable before the gate is opened, so a stop at any moment
+/// leaves the slot without the record or with it, whole. It takes no memory.
+pub fn append<D: Desk>(
+    desk: &mut D,
+    part: Part,
+    at: u64,
+    packed: &Packed,
+    most: u64,
+) -> Result<u64, JournalFault>
+    requires closed { IsTrue D.tells → IsClosed at (D.reads desk.old part) }
+    requires stable { IsTrue D.tells → IsStable part (D.reads desk.old) (D.may_leave desk.old) }
+
+    // The part then has that record and no other change, nothing is pending in it, and a closed gate stands at the answer.
+    ensures next { IfOk result (λ next. (next ≡ at + 5 + length packed.now) × (next < most)) }
+    ensures added { OnOk result (IsTrue D.tells → D.reads desk.new part ≡ added at (text_of packed.now) (D.reads desk.old part)) }
+    ensures closed { IfOk result (λ next. IsTrue D.tells → IsClosed next (D.reads desk.new part)) }
+    ensures stable { OnOk result (IsStable part (D.reads desk.new) (D.may_leave desk.new)) }
+
+    // Full comes exactly where the record would pass the bound, and then nothing was done. Disk has its cause, and else nothing
+    // is told.
+    ensures fault { IfErr result (λ fault. AppendFails (at + 6 + length packed.now) most fault) }
+    ensures full { most < at + 6 + length packed.now → desk.new ≡ desk.old }
+    ensures cause { HasCause (D.disk_faults desk.old) (D.disk_faults desk.new) (disk_failure result) }
+
+    // Whatever comes of it, a stop at any moment leaves in the part nothing added or the record whole, and all else as it was.
+    ensures elsewhere { Else part (D.reads desk.old) (D.reads desk.new) }
+    ensures others { OnlyDisk D.said D.noted D.say_faults D.note_faults desk.old desk.new }
+    ensures quiet { Leaves D.moment D.since D.may_leave D.said desk.old desk.new (λ image. ⊤) }
+    ensures stops { IsTrue D.tells → Leaves D.moment D.since D.may_leave D.said desk.old desk.new
+        (After (OnPart part (ShutOrAdded at (text_of packed.now))) (D.may_leave desk.old)) }
+    ensures remembers { Remembers (D.moment desk.old) (D.since desk.old) (D.since desk.new) }
+{
+    let text = packed.text();
+    if !fits(at, text.len(), most) {
+        return Err(JournalFault::Full);
+    }
+    add_text(desk, part, at, text)?;
+    Ok(at + text.len() as u64)
+}

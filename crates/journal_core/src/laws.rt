@@ -1,0 +1,37 @@
+ghost use Rattle.std.specs.Prelude.{◌≡◌, ◌⊎◌, ℕ, ◌+◌, List, [], ◌∷◌, ◌++◌, length};
+ghost use Rattle.std.specs.declared.option.Option.{Option};
+ghost use Rattle.ziti_outside.specs.Images.{Torn};
+ghost use Rattle.ziti_outside.specs.Told.{IsFront};
+ghost use Rattle.journal_core.specs.Slots.{Slot, SlotFront, IsClosed, IsRecord, IsDamaged, IsPayload, GateGives, Shut, ShutOrAdded, added, header, text_of, slot_end, slot_bytes};
+
+/// Bytes are a slot of at most one list of payloads, and at each place stands at most one thing: a closed gate, one record, or
+/// damage.
+pub fn one_reading()
+    ensures slot { (bytes : List ℕ) (these others : List (List ℕ)) → Slot bytes these → Slot bytes others → these ≡ others }
+    ensures place { (at : ℕ) (bytes : List ℕ) (this other : Option (List ℕ)) → GateGives at bytes this → GateGives at bytes other → this ≡ other }
+    ensures damage { (at : ℕ) (bytes : List ℕ) (found : Option (List ℕ)) → GateGives at bytes found → IsDamaged at bytes → ⊥ }
+{}
+
+/// A slot is read from its header on, record by record, up to the closed gate.
+pub fn reading_goes_on()
+    ensures start { (bytes : List ℕ) → IsFront header bytes → SlotFront bytes [] }
+    ensures next { (bytes payload : List ℕ) (payloads : List (List ℕ)) → SlotFront bytes payloads → IsRecord (slot_end payloads) payload bytes
+        → SlotFront bytes (payloads ++ payload ∷ []) }
+    ensures end { (bytes : List ℕ) (payloads : List (List ℕ)) → SlotFront bytes payloads → IsClosed (slot_end payloads) bytes → Slot bytes payloads }
+    ensures gate { (bytes : List ℕ) (payloads : List (List ℕ)) → Slot bytes payloads → IsClosed (slot_end payloads) bytes }
+{}
+
+/// What a slot stands for after an append at its closed gate, and after one that was stopped: what it stood for, or that and the
+/// one payload more.
+pub fn stands_through_stops()
+    ensures shut { (old new : List ℕ) (payloads : List (List ℕ)) → Slot old payloads → Shut (slot_end payloads) old new → Slot new payloads }
+    ensures torn { (old new : List ℕ) (payloads : List (List ℕ)) (count : ℕ) → Slot old payloads → Torn (slot_end payloads + 1) count old new
+        → Slot new payloads }
+    ensures added { (old new payload : List ℕ) (payloads : List (List ℕ)) → Slot old payloads → IsPayload payload
+        → new ≡ added (slot_end payloads) (text_of payload) old → Slot new (payloads ++ payload ∷ []) }
+    ensures stopped { (old new payload : List ℕ) (payloads : List (List ℕ)) → Slot old payloads → IsPayload payload
+        → ShutOrAdded (slot_end payloads) (text_of payload) old new → Slot new payloads ⊎ Slot new (payloads ++ payload ∷ []) }
+    ensures gate { (payload : List ℕ) (payloads : List (List ℕ)) → slot_end (payloads ++ payload ∷ []) ≡ slot_end payloads + 5 + length payload }
+    ensures bytes { (payload : List ℕ) (payloads : List (List ℕ)) → added (slot_end payloads) (text_of payload) (slot_bytes payloads)
+        ≡ slot_bytes (payloads ++ payload ∷ []) }
+{}

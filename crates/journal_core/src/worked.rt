@@ -1,0 +1,38 @@
+ghost use Rattle.std.specs.Prelude.{◌≡◌, ◌+◌, ◌<◌, [], ◌∷◌, ◌++◌, length, take};
+ghost use Rattle.journal_core.specs.declared.faults.JournalFault.TheVariants.{Full};
+ghost use Rattle.journal_core.specs.Slots.{Slot, IsClosed, IsRecord, IsDamaged, added, text_of, slot_end, slot_bytes};
+ghost use Rattle.journal_core.specs.Faults.{AppendFails};
+ghost use Rattle.journal_core.specs.WorkedSlots.{batch_of_ann, empty_slot, slot_of_ann, three_payloads};
+
+/// Slots worked by hand: the bytes after a first batch, the places of gates, and a slot that is full.
+pub fn worked_appends()
+    ensures created { slot_bytes [] ≡ empty_slot }
+    ensures appended { added 8 (text_of batch_of_ann) empty_slot ≡ slot_of_ann }
+    ensures appended_over_old_bytes { added 8 (text_of batch_of_ann) (empty_slot ++ 1 ∷ 2 ∷ 3 ∷ []) ≡ slot_of_ann }
+    ensures len { length slot_of_ann ≡ 42 }
+    ensures first_gate { slot_end [] ≡ 8 }
+    ensures second_gate { slot_end (take 1 three_payloads) ≡ 41 }
+    ensures third_gate { slot_end (take 2 three_payloads) ≡ 74 }
+    ensures closed_gate { slot_end three_payloads ≡ 131 }
+    ensures three_len { length (slot_bytes three_payloads) ≡ 132 }
+    ensures full { AppendFails (41 + 6 + 28) 64 Full }
+    ensures not_full { AppendFails (41 + 6 + 28) 75 Full → ⊥ }
+{}
+
+/// What stands at the places of slots worked by hand: closed gates, a record, and damage.
+pub fn worked_places()
+    ensures closed { IsClosed 41 slot_of_ann }
+    ensures closed_by_another_byte { IsClosed 2 (5 ∷ 6 ∷ 2 ∷ 1 ∷ []) }
+    ensures record { IsRecord 8 batch_of_ann slot_of_ann }
+    ensures cut_record { IsDamaged 8 (take 20 slot_of_ann) }
+    ensures whole_record { IsRecord 8 batch_of_ann (take 41 slot_of_ann) }
+    ensures missing_gate { IsDamaged 41 (take 41 slot_of_ann) }
+{}
+
+/// What slots worked by hand stand for: of a record that is torn behind a closed gate, and of old bytes behind it, nothing.
+pub fn worked_slots()
+    ensures created { Slot empty_slot [] }
+    ensures torn_record { Slot (empty_slot ++ 28 ∷ 0 ∷ 0 ∷ 0 ∷ 1 ∷ 2 ∷ []) [] }
+    ensures one_batch { Slot slot_of_ann (batch_of_ann ∷ []) }
+    ensures old_bytes { Slot (slot_of_ann ++ 1 ∷ 5 ∷ []) (batch_of_ann ∷ []) }
+{}

@@ -1,0 +1,2 @@
+pub mod StandLaws
+mod HeaderLaws

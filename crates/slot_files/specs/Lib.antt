@@ -1,0 +1,4 @@
+pub mod FolderImage
+pub mod OpenedSlots
+pub mod Faults
+pub mod WorkedFolders

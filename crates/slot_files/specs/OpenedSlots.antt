@@ -1,0 +1,41 @@
+-- What is found in a folder, and what opening it makes of it (docs/PROMISES.md, "The slots of the folder").
+use Rattle.std.specs.Prelude.{◌≡◌, ℕ, zero, suc, ◌<◌, [], ◌∷◌, ◌++◌, length, drop, None, Some}
+use Rattle.std.specs.declared.option.Option.{Option}
+use Rattle.ziti_outside.specs.declared.desk.Part.TheVariants.{Zero, One, Mark}
+use Rattle.ziti_outside.specs.Told.{IsFront}
+use Rattle.ziti_outside.specs.Images.{Image, IsStable}
+use Rattle.journal_core.specs.Slots.{header, slot_bytes}
+use Rattle.slot_files.specs.declared.standing.Standing.{Standing}
+use Rattle.slot_files.specs.FolderImage.{slot_of}
+
+-- A mark that is not empty, and the slot that it names.
+pub record IsNamed (standing : Standing) : Type 0 where
+  pub some : 0 < standing.mark
+  pub part : standing.part ≡ slot_of standing.mark
+
+-- So many bytes has the mark of the folder, and the slot that it names begins with the header.
+pub record IsFound (image : Image) (standing : Standing) : Type 0 where
+  pub mark : length (image Mark) ≡ standing.mark
+  pub begins : IsFront header (image standing.part)
+
+-- What is found: nothing where the mark is empty, else the slot that it names.
+abbrev pub Finds : Image → Option Standing → Type 0
+Finds image None = image Mark ≡ []
+Finds image (Some standing) = IsFound image standing
+
+-- The slot was found, and nothing is pending in it and in the mark.
+pub record IsOpened (standing : Standing) (reads : Image) (images : Image → Type 0) : Type 0 where
+  pub found : IsFound reads standing
+  pub stable_mark : IsStable Mark reads images
+  pub stable_slot : IsStable standing.part reads images
+
+-- A folder was created: a slot that stands for nothing, and a mark of one byte. Old bytes behind that slot stay.
+pub record IsCreated (old new : Image) : Type 0 where
+  pub mark : new Mark ≡ 0 ∷ []
+  pub first : new Zero ≡ slot_bytes [] ++ drop 9 (old Zero)
+  pub second : new One ≡ old One
+
+-- Opening a folder creates it where the mark is empty, and else changes nothing.
+abbrev pub Opens : (mark : ℕ) → Image → Image → Type 0
+Opens zero old new = IsCreated old new
+Opens (suc turn) old new = new ≡ old

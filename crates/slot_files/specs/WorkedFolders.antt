@@ -1,0 +1,27 @@
+-- Folders whose bytes were worked by hand.
+use Rattle.std.specs.Prelude.{[], ◌∷◌}
+use Rattle.ziti_outside.specs.declared.desk.Part.TheVariants.{Zero, One, Mark}
+use Rattle.ziti_outside.specs.Images.{Image}
+use Rattle.journal_core.specs.WorkedSlots.{empty_slot, slot_of_ann}
+
+-- A folder without a file.
+abbrev pub no_files : Image
+no_files part = []
+
+-- A slot was written, and the mark was not.
+abbrev pub slot_without_mark : Image
+slot_without_mark Zero = slot_of_ann
+slot_without_mark One = []
+slot_without_mark Mark = []
+
+-- The folder after the first batch.
+abbrev pub folder_of_ann : Image
+folder_of_ann Zero = slot_of_ann
+folder_of_ann One = empty_slot
+folder_of_ann Mark = 0 ∷ []
+
+-- The same bytes with a mark of two bytes.
+abbrev pub second_stands : Image
+second_stands Zero = slot_of_ann
+second_stands One = empty_slot
+second_stands Mark = 0 ∷ 0 ∷ []

@@ -1,0 +1,2 @@
+pub mod MemLaws
+pub mod MemSteps

@@ -1,0 +1,4 @@
+pub mod Answers
+pub mod Untold
+pub mod MemEvents
+pub mod MemStops

@@ -1,0 +1,21 @@
+//! The sources and desks that there are: over readers, writers and a folder of three files, and over memory.
+//!
+//! The file adapters tell of replies and notes what their writers tell, and of the folder nothing. Those over memory tell all
+//! their contents, and fail at the calls that they are told to.
+#![tactic(auto)]
+
+mod answers;
+mod files;
+mod folder;
+mod mem_desk;
+mod mem_log;
+mod mem_parts;
+mod mem_source;
+mod outlets;
+
+pub use files::{FileDesk, FileSource};
+pub use folder::Paths;
+pub use mem_desk::{MemDesk, Room};
+pub use mem_parts::Images;
+pub use mem_source::{MemSource, NEVER};
+pub use outlets::{Outlet, Writes};

@@ -1,0 +1,331 @@
+ghost use Rattle.std.specs.Prelude.{◌≡◌, ◌⊎◌, ◌≤◌, ◌++◌, [], true, false, Some, IfOk, OnOk, OnErr, length, take};
+ghost use Rattle.ziti_outside.specs.Images.{Holds, StandAt};
+ghost use Rattle.ziti_desk.specs.MemEvents.{Writing, Cutting, LogsCall, IsDone, IsPending, Replayed, image_of};
+
+use crate::answers::counted;
+use crate::mem_log::{Call, Log, append, has_room};
+use crate::mem_parts::{Images, overwrite};
+use std::alloc::{AllocError, Global};
+use ziti_outside::{Desk, Failed, Part};
+
+/// How much a desk over memory holds, in bytes.
+#[derive(Clone, Copy, Debug, PartialEq, Eq)]
+pub struct Room {
+    /// Of each part.
+    pub file_bytes: u64,
+    /// Of the replies.
+    pub said_bytes: u64,
+    /// Of the notes.
+    pub noted_bytes: u64,
+    /// Of the log of the calls: each takes 32 bytes, and a write its bytes besides.
+    pub log_bytes: u64,
+}
+
+/// Replies, notes and a folder of three parts in memory.
+///
+/// All its memory is taken when it is made. A call that its room cannot hold is a counted fault and changes nothing. So is one
+/// whose place is listed, counted from 0 over all calls; but a write or a cut that fails so is pending from then on.
+#[derive(Drop)]
+pub struct MemDesk {
+    first: Images,
+    held: Images,
+    said: Vec<u8>,
+    noted: Vec<u8>,
+    log: Log,
+    calls: u64,
+    failing: Vec<u32>,
+    say_faults: u64,
+    note_faults: u64,
+    disk_faults: u64,
+    ghost replayed: { Replayed (image_of first) (image_of held) log.calls.items said.items log.written.items },
+}
+
+impl MemDesk {
+    /// A desk whose parts have these bytes, of which no call has been made.
+    pub fn new(
+        alloc: Global,
+        images: Images,
+        room: Room,
+        failing: Vec<u32>,
+    ) -> Result<MemDesk, AllocError>
+        ensures said { IfOk result (λ d. ⟦<MemDesk as Desk>⟧.said d ≡ Some []) }
+        ensures noted { IfOk result (λ d. ⟦<MemDesk as Desk>⟧.noted d ≡ Some []) }
+        ensures say_faults { IfOk result (λ d. ⟦<MemDesk as Desk>⟧.say_faults d ≡ 0) }
+        ensures note_faults { IfOk result (λ d. ⟦<MemDesk as Desk>⟧.note_faults d ≡ 0) }
+        ensures disk_faults { IfOk result (λ d. ⟦<MemDesk as Desk>⟧.disk_faults d ≡ 0) }
+        ensures reads { IfOk result (λ d. ⟦<MemDesk as Desk>⟧.reads d ≡ image_of images) }
+    {
+        let first = images.copy(alloc)?;
+        let mut held = images;
+        held.grow(room.file_bytes)?;
+        Ok(MemDesk {
+            first,
+            held,
+            said: Vec::with_capacity(alloc, room.said_bytes as usize)?,
+            noted: Vec::with_capacity(alloc, room.noted_bytes as usize)?,
+            log: Log::new(alloc, room.log_bytes)?,
+            calls: 0,
+            failing,
+            say_faults: 0,
+            note_faults: 0,
+            disk_faults: 0,
+        })
+    }
+
+    /// The reply bytes that were taken.
+    pub fn said(&self) -> &[u8]
+        ensures { ⟦<MemDesk as Desk>⟧.said self.now ≡ Some result.now }
+    {
+        self.said.as_slice()
+    }
+
+    /// The notes that were taken.
+    pub fn noted(&self) -> &[u8]
+        ensures { ⟦<MemDesk as Desk>⟧.noted self.now ≡ Some result.now }
+    {
+        self.noted.as_slice()
+    }
+
+    /// What a part reads.
+    pub fn part(&self, part: Part) -> &[u8]
+        ensures { result.now ≡ ⟦<MemDesk as Desk>⟧.reads self.now part }
+    {
+        self.held.part(part).as_slice()
+    }
+}
+
+// Whether the next call is to fail: whether its place is listed.
+fn is_next_listed(calls: &mut u64, failing: &Vec<u32>) -> bool {
+    let call = *calls;
+    *calls = call.saturating_add(1);
+    failing.iter().any(|place| u64::from(*place) == call)
+}
+
+fn say_bytes(said: &mut Vec<u8>, log: &mut Log, bytes: &[u8], fails: bool) -> Result<(), Failed>
+    ensures ok { OnOk result (LogsCall (Call.Said (length bytes.now)) [] log.old log.new × (said.new.items ≡ said.old.items ++ bytes.now)) }
+    ensures err { OnErr result ((said.new.items ≡ said.old.items) × (log.new ≡ log.old)) }
+{
+    if fails || !has_room(said, bytes.len()) {
+        return Err(Failed);
+    }
+    let count = bytes.len();
+    log.add(Call::Said { count }, b"")?;
+    append(said, bytes);
+    Ok(())
+}
+
+fn note_bytes(noted: &mut Vec<u8>, bytes: &[u8], fails: bool) -> Result<(), Failed>
+    ensures ok { OnOk result (noted.new.items ≡ noted.old.items ++ bytes.now) }
+    ensures err { OnErr result (noted.new ≡ noted.old) }
+{
+    if fails || !has_room(noted, bytes.len()) {
+        return Err(Failed);
+    }
+    append(noted, bytes);
+    Ok(())
+}
+
+fn len_of(held: &Images, part: Part, fails: bool) -> Result<u64, Failed>
+    ensures { IfOk result (λ len. len ≡ length (image_of held.now part)) }
+{
+    if fails {
+        return Err(Failed);
+    }
+    Ok(held.part(part).len() as u64)
+}
+
+fn read_part(held: &Images, part: Part, at: u64, buf: &mut [u8], fails: bool) -> Result<(), Failed>
+    ensures { OnOk result (StandAt at buf.new (image_of held.now part)) }
+{
+    let bytes = held.part(part).as_slice();
+    if fails || at > bytes.len() as u64 {
+        return Err(Failed);
+    }
+    let (_, rest) = bytes.split_at(at as usize);
+    if rest.len() < buf.len() {
+        return Err(Failed);
+    }
+    let (front, _) = rest.split_at(buf.len());
+    buf.copy_from_slice(front);
+    Ok(())
+}
+
+fn write_file(
+    file: &mut Vec<u8>,
+    log: &mut Log,
+    part: Part,
+    at: u64,
+    bytes: &[u8],
+    fails: bool,
+) -> Result<(), Failed>
+    requires { at ≤ length file.old.items }
+    ensures ok { OnOk result (LogsCall (Call.Wrote part at (length bytes.now) true) bytes.now log.old log.new
+        × Holds at bytes.now file.old.items file.new.items) }
+    ensures err { OnErr result ((file.new ≡ file.old)
+        × ((log.new ≡ log.old) ⊎ LogsCall (Call.Wrote part at (length bytes.now) false) bytes.now log.old log.new)) }
+{
+    let count = bytes.len();
+    if !has_room(file, count) {
+        return Err(Failed);
+    }
+    let done = !fails;
+    log.add(
+        Call::Wrote {
+            part,
+            at,
+            count,
+            done,
+        },
+        bytes,
+    )?;
+    if fails {
+        return Err(Failed);
+    }
+    overwrite(file, at as usize, bytes);
+    Ok(())
+}
+
+fn write_part(
+    held: &mut Images,
+    log: &mut Log,
+    part: Part,
+    at: u64,
+    bytes: &[u8],
+    fails: bool,
+) -> Result<(), Failed>
+    requires { at ≤ length (image_of held.old part) }
+    ensures ok { OnOk result (IsDone (Writing part at bytes.now true) (Call.Wrote part at (length bytes.now) true) bytes.now held.old held.new log.old log.new) }
+    ensures err { OnErr result (IsPending (Call.Wrote part at (length bytes.now) false) bytes.now held.old held.new log.old log.new) }
+{
+    match part {
+        Part::Zero => write_file(&mut held.zero, log, part, at, bytes, fails),
+        Part::One => write_file(&mut held.one, log, part, at, bytes, fails),
+        Part::Mark => write_file(&mut held.mark, log, part, at, bytes, fails),
+    }
+}
+
+fn cut_file(
+    file: &mut Vec<u8>,
+    log: &mut Log,
+    part: Part,
+    len: u64,
+    fails: bool,
+) -> Result<(), Failed>
+    requires { len ≤ length file.old.items }
+    ensures ok { OnOk result (LogsCall (Call.Cut part len true) [] log.old log.new × (file.new.items ≡ take len file.old.items)) }
+    ensures err { OnErr result ((file.new ≡ file.old)
+        × ((log.new ≡ log.old) ⊎ LogsCall (Call.Cut part len false) [] log.old log.new)) }
+{
+    let done = !fails;
+    log.add(Call::Cut { part, len, done }, b"")?;
+    if fails {
+        return Err(Failed);
+    }
+    file.truncate(len as usize);
+    Ok(())
+}
+
+fn cut_part(
+    held: &mut Images,
+    log: &mut Log,
+    part: Part,
+    len: u64,
+    fails: bool,
+) -> Result<(), Failed>
+    requires { len ≤ length (image_of held.old part) }
+    ensures ok { OnOk result (IsDone (Cutting part len true) (Call.Cut part len true) [] held.old held.new log.old log.new) }
+    ensures err { OnErr result (IsPending (Call.Cut part len false) [] held.old held.new log.old log.new) }
+{
+    match part {
+        Part::Zero => cut_file(&mut held.zero, log, part, len, fails),
+        Part::One => cut_file(&mut held.one, log, part, len, fails),
+        Part::Mark => cut_file(&mut held.mark, log, part, len, fails),
+    }
+}
+
+fn sync_part(log: &mut Log, part: Part, fails: bool) -> Result<(), Failed>
+    ensures ok { OnOk result (LogsCall (Call.Synced part) [] log.old log.new) }
+    ensures err { OnErr result (log.new ≡ log.old) }
+{
+    if fails {
+        return Err(Failed);
+    }
+    log.add(Call::Synced { part }, b"")
+}
+
+impl Desk for MemDesk {
+    ghost use Rattle.std.specs.Prelude.{true, Some, [], length};
+    ghost use Rattle.std.proofs.Common.{◌∙◌};
+    ghost use Rattle.ziti_desk.specs.MemEvents.{image_of, logged, Leaving, Since};
+    ghost use Rattle.ziti_desk.specs.MemStops.{counts, now_only, own_image};
+
+    ghost tells = { true };
+
+    ghost reads = { λ d. image_of d.held };
+
+    ghost said = { λ d. Some d.said.items };
+
+    ghost noted = { λ d. Some d.noted.items };
+
+    ghost may_leave = { λ d image. Leaving (image_of d.first) (logged d.log d.said.items) image };
+
+    ghost moment = { λ d. length (logged d.log d.said.items) };
+
+    ghost since = { λ d time image taken. Since (image_of d.first) (logged d.log d.said.items) time image taken };
+
+    ghost say_faults = { λ d. d.say_faults };
+
+    ghost note_faults = { λ d. d.note_faults };
+
+    ghost disk_faults = { λ d. d.disk_faults };
+
+    ghost counts_now = { λ d time image taken early leaves replies.
+        counts (image_of d.first) (λ i. i ≡ image_of d.first) [] (logged d.log d.said.items) time image taken leaves (replies ∙ d.replayed.taken) };
+
+    ghost only_now = { λ d image taken since.
+        now_only (image_of d.first) (logged d.log d.said.items) d.said.items image taken d.replayed.taken since };
+
+    ghost is_own = { λ d told. own_image (image_of d.first) (image_of d.held) (logged d.log d.said.items) d.replayed.reads };
+
+    fn say(&mut self, bytes: &[u8]) -> Result<(), Failed> {
+        let fails = is_next_listed(&mut self.calls, &self.failing);
+        let answer = say_bytes(&mut self.said, &mut self.log, bytes, fails);
+        counted(&mut self.say_faults, answer)
+    }
+
+    fn note(&mut self, bytes: &[u8]) -> Result<(), Failed> {
+        let fails = is_next_listed(&mut self.calls, &self.failing);
+        let answer = note_bytes(&mut self.noted, bytes, fails);
+        counted(&mut self.note_faults, answer)
+    }
+
+    fn len(&mut self, part: Part) -> Result<u64, Failed> {
+        let fails = is_next_listed(&mut self.calls, &self.failing);
+        let answer = len_of(&self.held, part, fails);
+        counted(&mut self.disk_faults, answer)
+    }
+
+    fn read_at(&mut self, part: Part, at: u64, buf: &mut [u8]) -> Result<(), Failed> {
+        let fails = is_next_listed(&mut self.calls, &self.failing);
+        let answer = read_part(&self.held, part, at, buf, fails);
+        counted(&mut self.disk_faults, answer)
+    }
+
+    fn write_at(&mut self, part: Part, at: u64, bytes: &[u8]) -> Result<(), Failed> {
+        let fails = is_next_listed(&mut self.calls, &self.failing);
+        let answer = write_part(&mut self.held, &mut self.log, part, at, bytes, fails);
+        counted(&mut self.disk_faults, answer)
+    }
+
+    fn cut(&mut self, part: Part, len: u64) -> Result<(), Failed> {
+        let fails = is_next_listed(&mut self.calls, &self.failing);
+        let answer = cut_part(&mut self.held, &mut self.log, part, len, fails);
+        counted(&mut self.disk_faults, answer)
+    }
+
+    fn sync(&mut self, part: Part) -> Result<(), Failed> {
+        let fails = is_next_listed(&mut self.calls, &self.failing);
+        let answer = sync_part(&mut self.log, part, fails);
+        counted(&mut self.disk_faults, answer)
+    }
+}

@@ -1,0 +1,83 @@
+ghost use Rattle.std.specs.Prelude.{◌≡◌, ◌+◌, ◌≤◌, ◌<◌, ◌++◌, ◌∷◌, [], true, length, vec_len, IfOk, OnOk, OnErr};
+ghost use Rattle.std.specs.Vec.{vec_capacity};
+
+use std::alloc::{AllocError, Global};
+use ziti_outside::{Failed, Part};
+
+/// A call as the log keeps it; the bytes of the writes stand apart, one after the other, and those of the replies in what was
+/// said. A write and a cut that failed are pending and never done.
+#[derive(Clone, Copy)]
+pub enum Call {
+    Said {
+        count: usize,
+    },
+    Wrote {
+        part: Part,
+        at: u64,
+        count: usize,
+        done: bool,
+    },
+    Cut {
+        part: Part,
+        len: u64,
+        done: bool,
+    },
+    Synced {
+        part: Part,
+    },
+}
+
+// How many bytes of its room a call takes in the log.
+const ENTRY: u64 = 32;
+
+/// The calls that were made and may matter to a stop. All its memory is taken when it is made.
+#[derive(Drop)]
+pub struct Log {
+    pub calls: Vec<Call>,
+    pub written: Vec<u8>,
+}
+
+/// Whether so many bytes more fit.
+pub fn has_room(bytes: &Vec<u8>, count: usize) -> bool
+    ensures { result ≡ true → vec_len bytes.now + count ≤ vec_capacity bytes.now }
+{
+    match bytes.capacity().checked_sub(bytes.len()) {
+        Some(room) => count <= room,
+        None => false,
+    }
+}
+
+/// Adds bytes that fit.
+pub fn append(bytes: &mut Vec<u8>, more: &[u8])
+    requires { vec_len bytes.old + length more.now ≤ vec_capacity bytes.old }
+    ensures { bytes.new.items ≡ bytes.old.items ++ more.now }
+{
+    let _ = bytes.extend_from_slice(more);
+}
+
+impl Log {
+    /// A log of so many bytes.
+    pub fn new(alloc: Global, bytes: u64) -> Result<Log, AllocError>
+        ensures calls { IfOk result (λ log. log.calls.items ≡ []) }
+        ensures written { IfOk result (λ log. log.written.items ≡ []) }
+    {
+        Ok(Log {
+            calls: Vec::with_capacity(alloc, (bytes / ENTRY) as usize)?,
+            written: Vec::with_capacity(alloc, bytes as usize)?,
+        })
+    }
+
+    /// Adds a call with the bytes that it wrote, where they fit.
+    pub fn add(&mut self, call: Call, bytes: &[u8]) -> Result<(), Failed>
+        ensures calls { OnOk result (self.new.calls.items ≡ self.old.calls.items ++ call ∷ []) }
+        ensures written { OnOk result (self.new.written.items ≡ self.old.written.items ++ bytes.now) }
+        ensures full { OnErr result (self.new ≡ self.old) }
+    {
+        if self.calls.len() >= self.calls.capacity() || !has_room(&self.written, bytes.len()) {
+            return Err(Failed);
+        }
+        append(&mut self.written, bytes);
+        let _ = self.calls.push(call);
+        Ok(())
+    }
+}

@@ -1,0 +1,86 @@
+ghost use Rattle.std.specs.Prelude.{◌≡◌, ◌+◌, ◌≤◌, length, vec_len, [], OnOk, IfOk};
+ghost use Rattle.std.specs.Vec.{vec_capacity};
+ghost use Rattle.ziti_outside.specs.Images.{Holds};
+ghost use Rattle.ziti_desk.specs.MemEvents.{image_of};
+
+use crate::mem_log::append;
+use std::alloc::{AllocError, Global};
+use ziti_outside::Part;
+
+/// The bytes of the three parts.
+#[derive(Drop)]
+pub struct Images {
+    /// Of the first slot.
+    pub zero: Vec<u8>,
+    /// Of the second slot.
+    pub one: Vec<u8>,
+    /// Of the mark.
+    pub mark: Vec<u8>,
+}
+
+impl Images {
+    /// Three parts without a byte.
+    pub fn empty(alloc: Global) -> Images
+        ensures zero { result.zero.items ≡ [] }
+        ensures one { result.one.items ≡ [] }
+        ensures mark { result.mark.items ≡ [] }
+    {
+        Images {
+            zero: Vec::new(alloc),
+            one: Vec::new(alloc),
+            mark: Vec::new(alloc),
+        }
+    }
+
+    /// The same bytes once more.
+    pub fn copy(&self, alloc: Global) -> Result<Images, AllocError>
+        ensures { IfOk result (λ copy. image_of copy ≡ image_of self.now) }
+    {
+        Ok(Images {
+            zero: Vec::from_slice(alloc, self.zero.as_slice())?,
+            one: Vec::from_slice(alloc, self.one.as_slice())?,
+            mark: Vec::from_slice(alloc, self.mark.as_slice())?,
+        })
+    }
+
+    /// Takes the memory that parts of so many bytes need.
+    pub fn grow(&mut self, most: u64) -> Result<(), AllocError>
+        ensures { OnOk result (image_of self.new ≡ image_of self.old) }
+    {
+        grow(&mut self.zero, most)?;
+        grow(&mut self.one, most)?;
+        grow(&mut self.mark, most)
+    }
+
+    /// The bytes of a part.
+    pub fn part(&self, part: Part) -> &Vec<u8>
+        ensures { result.now.items ≡ image_of self.now part }
+    {
+        match part {
+            Part::Zero => &self.zero,
+            Part::One => &self.one,
+            Part::Mark => &self.mark,
+        }
+    }
+}
+
+fn grow(bytes: &mut Vec<u8>, most: u64) -> Result<(), AllocError>
+    ensures { bytes.new.items ≡ bytes.old.items }
+{
+    let more = (most as usize).saturating_sub(bytes.len());
+    bytes.reserve(more)
+}
+
+/// Writes bytes at a place, over what is there and past the end. They fit.
+pub fn overwrite(file: &mut Vec<u8>, at: usize, bytes: &[u8])
+    requires within { at ≤ length file.old.items }
+    requires fits { vec_len file.old + length bytes.now ≤ vec_capacity file.old }
+    ensures holds { Holds at bytes.now file.old.items file.new.items }
+{
+    let over = bytes.len().min(file.len() - at);
+    let (front, behind) = bytes.split_at(over);
+    append(file, behind);
+    let (_, rest) = file.as_mut_slice().split_at_mut(at);
+    let (place, _) = rest.split_at_mut(over);
+    place.copy_from_slice(front);
+}
