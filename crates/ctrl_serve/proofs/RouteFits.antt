@@ -1,4 +1,5 @@
 -- The routes, the explanations and the circuits of a valid state keep the limits of a reply.
+use Rattle.ctrl_model.specs.declared.kinds.Kind.TheVariants as kind
 use Rattle.std.proofs.Common.{◌≡◌, ℕ, ◌+◌, ◌*◌, ◌≤◌, max, ◌==◌, Bool, true, false, not, ◌&&◌, ◌||◌, nat_le, List, [], ◌∷◌, length, map, Option, None, Some, inl, inr, ◌⊎◌, refl, sym, ◌∙◌, ap, subst, arith}
 use Rattle.std.proofs.lemmas.Bool.{and_parts, and_from, le-leb, false≢true}
 use Rattle.std.proofs.lemmas.List.{length-map}
@@ -22,19 +23,19 @@ use Rattle.ctrl_model.specs.Settling.{settle, settle_links, settle_terminators, 
 use Rattle.ctrl_model.specs.State.{State, Router, Link, Terminator, Circuit}
 use Rattle.ctrl_model.specs.ValidState.{ValidState, is_valid_router, is_valid_link}
 use Rattle.ctrl_model.specs.Walks.{goes, is_among}
-use Rattle.ctrl_model.proofs.CandidateLaws.{best-is}
-use Rattle.ctrl_model.proofs.LeastCostLaws.{least_cost-path}
+use Rattle.model_laws.proofs.CandidateLaws.{best-is}
+use Rattle.model_laws.proofs.LeastCostLaws.{least_cost-path}
 use Rattle.ctrl_model.proofs.Members.{by_map, list_all-among, list_all-from_among, at-row}
 use Rattle.ctrl_model.proofs.NumberedLaws.{at-filter-back, length-filter-le}
-use Rattle.ctrl_model.proofs.PathLaws.{is_on-among, by_router_at, by_hops, hops_stay}
+use Rattle.model_laws.proofs.PathLaws.{is_on-among, by_router_at, by_hops, hops_stay}
 use Rattle.ctrl_model.proofs.Tests.{three_parts, in_bounds}
 use Rattle.ctrl_model.proofs.WalkLaws.{cost_along-le, length-path}
 use Rattle.reply_codec.specs.ReplyLimits.{is_short_reach, is_short_claim, keeps_limits}
 
 -- ---- paths are short
 
-few_routers : (s : State) → ValidState s → length (map seen s.routers) ≤ 256
-few_routers s valid = let same = length-map s.routers seen in let few = valid.routers.numbers.few in omega (arith, same, few)
+few_routers : (s : State) → ValidState s → length (map seen s.routers.rows) ≤ 256
+few_routers s valid = let same = length-map s.routers.rows seen in let few = (valid.kinds kind.Router).numbers.few in omega (arith, same, few)
 
 few_numbers : (w : Network) → length w.routers ≤ 256 → length (router_numbers w) ≤ 256
 few_numbers w few = let same = length-map w.routers (λ (r : RouterSeen). r.no.0) in omega (arith, same, few)
@@ -77,10 +78,10 @@ hop_small : (s : State) → ValidState s → (t v l : ℕ) (h : ℕ × ℕ) → 
 hop_small s valid t v l h is = by_hops (network_of s) t v l h is (λ link x q there usable end found allowed told.
     by_router_at (network_of s) x q found (λ among _.
     together (link_cost link) (entry_cost (network_of s) q) h.1
-    (link_small link (list_all-among (λ (row : ℕ × Link). is_valid_link row.1) s.links (l, link) valid.each_link (at-row s.links l link there)))
-    (by_map seen s.routers q among (λ row m is_q.
+    (link_small link (list_all-among (λ (row : ℕ × Link). is_valid_link row.1) s.links.rows (l, link) (valid.kinds kind.Link).each (at-row s.links.rows l link there)))
+    (by_map seen s.routers.rows q among (λ row m is_q.
     subst (λ (r : RouterSeen). entry_cost (network_of s) r ≤ 65535) is_q
-    (entry_small s valid row (list_all-among (λ (row : ℕ × Router). is_valid_router row.1) s.routers row valid.each_router m))))
+    (entry_small s valid row (list_all-among (λ (row : ℕ × Router). is_valid_router row.1) s.routers.rows row (valid.kinds kind.Router).each m))))
     (ap (λ (g : ℕ × ℕ). g.1) told)))
   where
     together : (a b n : ℕ) → a ≤ 185535 → b ≤ 65535 → a + b ≡ n → n ≤ 251070
@@ -165,18 +166,18 @@ reaches_short : (w : Network) (c : Circuit) (o : Option Terminator) → length w
 reaches_short w c None few h = absurd (false≢true h)
 reaches_short w c (Some e) few h = path_short w c.ingress e.router c.links few h
 
-circuit_short : (s : State) (n : ℕ) (c : Circuit) → ValidState s → at s.circuits n ≡ Some c → length c.links ≤ 255
+circuit_short : (s : State) (n : ℕ) (c : Circuit) → ValidState s → at s.circuits.rows n ≡ Some c → length c.links ≤ 255
 circuit_short s n c valid e =
     let t : State = settle_terminators (settle_links s) in
-    let reaches : Bool = option_map_or (circuit_reaches (network_of t) c) (at t.terminators c.terminator) false in
-    let passes = (at-filter-back (stays_in t) s.next_circuit s.circuits 1 n c valid.circuits.ordered (ap (λ (u : State). at u.circuits n) valid.settled ∙ e)).1 in
-    let parts = and_parts (is_among c.identity (numbers s.identities)) (is_among c.service (numbers s.services) && reaches) passes in
-    let rest = and_parts (is_among c.service (numbers s.services)) reaches parts.1 in
-    reaches_short (network_of t) c (at t.terminators c.terminator) (few_routers s valid) rest.1
+    let reaches : Bool = option_map_or (circuit_reaches (network_of t) c) (at t.terminators.rows c.terminator) false in
+    let passes = (at-filter-back (stays_in t) s.circuits.next s.circuits.rows 1 n c (valid.kinds kind.Circuit).numbers.ordered (ap (λ (u : State). at u.circuits.rows n) valid.settled ∙ e)).1 in
+    let parts = and_parts (is_among c.identity (numbers s.identities.rows)) (is_among c.service (numbers s.services.rows) && reaches) passes in
+    let rest = and_parts (is_among c.service (numbers s.services.rows)) reaches parts.1 in
+    reaches_short (network_of t) c (at t.terminators.rows c.terminator) (few_routers s valid) rest.1
 
-pub shown_fit : (n : ℕ) (s : State) → ValidState s → keeps_limits (option_map_or (shown_circuit s) (at s.circuits n) Done) ≡ true
-shown_fit n s valid = by (at s.circuits n) refl
+pub shown_fit : (n : ℕ) (s : State) → ValidState s → keeps_limits (option_map_or (shown_circuit s) (at s.circuits.rows n) Done) ≡ true
+shown_fit n s valid = by (at s.circuits.rows n) refl
   where
-    by : (o : Option Circuit) → at s.circuits n ≡ o → keeps_limits (option_map_or (shown_circuit s) o Done) ≡ true
+    by : (o : Option Circuit) → at s.circuits.rows n ≡ o → keeps_limits (option_map_or (shown_circuit s) o Done) ≡ true
     by None e = refl
     by (Some c) e = le-leb (length c.links) 255 (circuit_short s n c valid e)

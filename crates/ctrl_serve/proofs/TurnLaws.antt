@@ -2,8 +2,10 @@
 use Rattle.std.proofs.Common.{◌≡◌, ℕ, ◌+◌, ◌≤◌, ◌%◌, ◌^◌, ◌++◌, List, [], ◌∷◌, length, drop, eqb, refl, sym, ap, ◌∙◌, subst, append_assoc, append-nil, arith}
 use Rattle.std.proofs.lemmas.Bool.Decides.{nat_tests}
 use Rattle.std.specs.declared.option.Option.{Option}
-use Rattle.ziti_outside.specs.Told.{Took, TookFront, IsFront}
-use Rattle.ziti_outside.proofs.Moves.{Took-none, Took-then, IsFront-then, IsFront-longer}
+use Rattle.std.proofs.lemmas.Grind.{flat_map-append}
+use Rattle.std.specs.declared.result.Result.TheVariants.{Err}
+use Rattle.ziti_outside.specs.Told.{Took, TookFront}
+use Rattle.ziti_outside.proofs.Moves.{Took-none, Took-then}
 use Rattle.channel_frame.specs.declared.frames.Frame.{Frame}
 use Rattle.channel_frame.specs.declared.frames.Front.TheVariants.{Whole}
 use Rattle.channel_frame.specs.FrameSpelling.{spelling}
@@ -15,10 +17,11 @@ use Rattle.ctrl_model.specs.declared.replies.Reply.{Reply}
 use Rattle.ctrl_model.specs.State.{State, start}
 use Rattle.ctrl_model.specs.Matches.{is_nothing}
 use Rattle.reply_codec.specs.ReplyFrame.{reply_frame}
-use Rattle.ctrl_serve.specs.FrameAnswer.{frame_answer, answers, replies}
+use Rattle.ctrl_serve.specs.FrameAnswer.{frame_answer, spoken, each_reply, replies}
+use Rattle.ctrl_serve.specs.SaidReplies.{joined, TookWhole, TookCut}
 use Rattle.ctrl_serve.specs.declared.serving.Cut.{Cut}
 use Rattle.ctrl_serve.specs.declared.serving.Cut.TheVariants.{NoMemory, Unsaid}
-use Rattle.ctrl_serve.specs.Turns.{TakesTurn, CutsTurn, reply_to_frame}
+use Rattle.ctrl_serve.specs.Turns.{TakesTurn, CutsTurn, IsServed, reply_to_frame}
 
 -- A turn whose reply was taken.
 pub turn_taken : (n : ℕ) (f : Frame) (before now : State) (reply : Reply) (bytes : List ℕ) (a b : Option (List ℕ))
@@ -34,11 +37,11 @@ pub turn_cut : (n : ℕ) (f : Frame) (before now : State) (reply : Reply) (bytes
 turn_cut n f before now reply bytes a b e h took =
     subst (λ (x : List ℕ). TookFront a b x) (h ∙ ap (λ (p : Reply × State). spelling (reply_frame n f.sequence p.0)) e) took
 
--- So far: what was said, and what the rest of the bytes still gives, are all replies to the bytes.
+-- So far: the replies that were said, and those that the rest of the bytes still gives, are all replies to the bytes.
 pub record Told (n : ℕ) (s : State) (rest bytes : List ℕ) (a b : Option (List ℕ)) : Type 0 where
-  pub done : List ℕ
-  pub took : Took a b done
-  pub same : done ++ answers Admin n s (frames_of rest) ≡ replies bytes
+  pub done : List (List ℕ)
+  pub took : Took a b (joined done)
+  pub same : done ++ spoken Admin n s (frames_of rest) ≡ each_reply bytes
   pub tail : rest_of rest ≡ rest_of bytes
 
 -- A whole frame has a byte at least.
@@ -53,48 +56,65 @@ whole_fits bytes f n e = let stands = front_stands bytes f n e in let there = st
 pub told_start : (bytes : List ℕ) (a : Option (List ℕ)) → Told 0 start bytes bytes a a
 told_start bytes a = record { done = []; took = Took-none a; same = refl; tail = refl }
 
+-- The replies to the rest begin with the next one.
+next_reply : (n k : ℕ) (f : Frame) (s : State) (rest bytes : List ℕ) (done : List (List ℕ)) → front rest ≡ Whole f k → done ++ spoken Admin n s (frames_of rest) ≡ each_reply bytes
+    → done ++ reply_to_frame n f s ∷ spoken Admin ((n + 1) % 2 ^ 32) (frame_answer Admin f s).1 (frames_of (drop k rest)) ≡ each_reply bytes
+next_reply n k f s rest bytes done e same = ap (λ (fs : List Frame). done ++ spoken Admin n s fs) (sym (frames_step rest f k e)) ∙ same
+
 -- One more turn.
 pub told_more : (n k : ℕ) (f : Frame) (s t : State) (rest bytes : List ℕ) (a b c : Option (List ℕ))
     → front rest ≡ Whole f k → Told n s rest bytes a b → TakesTurn n f s t b c → Told ((n + 1) % 2 ^ 32) t (drop k rest) bytes a c
-told_more n k f s t rest bytes a b c e told turn = record {
-  done = told.done ++ reply_to_frame n f s;
-  took = Took-then a b c told.done (reply_to_frame n f s) told.took turn.said;
-  same =
-      append_assoc told.done (reply_to_frame n f s) _
-      ∙ ap (λ (u : State). told.done ++ (reply_to_frame n f s ++ answers Admin ((n + 1) % 2 ^ 32) u (frames_of (drop k rest)))) turn.next
-      ∙ ap (λ (fs : List Frame). told.done ++ answers Admin n s fs) (sym (frames_step rest f k e)) ∙ told.same;
-  tail = sym (rest_step rest f k e) ∙ told.tail;
-}
+told_more n k f s t rest bytes a b c e told turn =
+    let reply = reply_to_frame n f s in
+    let one : joined (told.done ++ reply ∷ []) ≡ joined told.done ++ reply =
+    flat_map-append (λ (x : List ℕ). x) told.done (reply ∷ []) ∙ ap (λ (l : List ℕ). joined told.done ++ l) (append-nil reply) in
+    record {
+      done = told.done ++ reply ∷ [];
+      took = subst (λ (l : List ℕ). Took a c l) (sym one) (Took-then a b c (joined told.done) reply told.took turn.said);
+      same =
+          append_assoc told.done (reply ∷ []) _
+          ∙ ap (λ (u : State). told.done ++ reply ∷ spoken Admin ((n + 1) % 2 ^ 32) u (frames_of (drop k rest))) turn.next
+          ∙ next_reply n k f s rest bytes told.done e told.same;
+      tail = sym (rest_step rest f k e) ∙ told.tail;
+    }
 
--- What was said so far is a front of all replies.
-pub told_front : (n : ℕ) (s : State) (rest bytes : List ℕ) (a b : Option (List ℕ)) → Told n s rest bytes a b → TookFront a b (replies bytes)
-told_front n s rest bytes a b told = (told.done, (answers Admin n s (frames_of rest), told.same), told.took)
+-- What was said so far are whole replies.
+pub told_whole : (n : ℕ) (s : State) (rest bytes : List ℕ) (a b : Option (List ℕ)) → Told n s rest bytes a b → TookWhole a b (each_reply bytes)
+told_whole n s rest bytes a b told = (joined told.done, record { done = told.done; rest = _; split = told.same; same = refl }, told.took)
 
--- So it is with a front of the next reply.
-pub told_less : (n k : ℕ) (f : Frame) (s : State) (rest bytes : List ℕ) (a b c : Option (List ℕ))
-    → front rest ≡ Whole f k → Told n s rest bytes a b → TookFront b c (reply_to_frame n f s) → TookFront a c (replies bytes)
-told_less n k f s rest bytes a b c e told cut =
-    let all : told.done ++ answers Admin n s (f ∷ frames_of (drop k rest)) ≡ replies bytes =
-    ap (λ (fs : List Frame). told.done ++ answers Admin n s fs) (sym (frames_step rest f k e)) ∙ told.same in
-    let next : IsFront cut.0 (answers Admin n s (f ∷ frames_of (drop k rest))) = IsFront-longer cut.0 (reply_to_frame n f s) _ _ cut.1 refl in
-    (told.done ++ cut.0, IsFront-then told.done cut.0 _ _ next all, Took-then a b c told.done cut.0 told.took cut.2)
+-- With a front of the next reply they are a cut run.
+pub told_cut : (n k : ℕ) (f : Frame) (s : State) (rest bytes : List ℕ) (a b c : Option (List ℕ))
+    → front rest ≡ Whole f k → Told n s rest bytes a b → TookFront b c (reply_to_frame n f s) → TookCut a c (each_reply bytes)
+told_cut n k f s rest bytes a b c e told cut = (
+  joined told.done ++ cut.0,
+  record {
+    done = told.done;
+    next = reply_to_frame n f s;
+    rest = _;
+    split = next_reply n k f s rest bytes told.done e told.same;
+    front = cut.0;
+    is_front = cut.1;
+    same = refl;
+  },
+  Took-then a b c (joined told.done) cut.0 told.took cut.2,
+)
 
 -- Where no frame stands at the front of the rest, all replies were said, and the rest is the tail.
 pub told_all : (n : ℕ) (s : State) (rest bytes : List ℕ) (a b : Option (List ℕ)) → HasNone rest → Told n s rest bytes a b
     → Took a b (replies bytes) × (rest ≡ rest_of bytes)
 told_all n s rest bytes a b none told =
     let stops = reading_stops rest none in
-    let all : told.done ≡ replies bytes =
-    sym (append-nil told.done) ∙ ap (λ (fs : List Frame). told.done ++ answers Admin n s fs) (sym stops.0) ∙ told.same in
-    (subst (λ (x : List ℕ). Took a b x) all told.took, sym stops.1 ∙ told.tail)
+    let all : told.done ≡ each_reply bytes =
+    sym (append-nil told.done) ∙ ap (λ (fs : List Frame). told.done ++ spoken Admin n s fs) (sym stops.0) ∙ told.same in
+    (subst (λ (x : List (List ℕ)). Took a b (joined x)) all told.took, sym stops.1 ∙ told.tail)
 
 -- A list is empty where it has no length.
 pub is_nothing-length : (xs : List ℕ) → eqb (length xs) 0 ≡ is_nothing xs
 is_nothing-length [] = refl
 is_nothing-length (x ∷ xs) = grind (arith, nat_tests)
 
--- Where a turn was cut short, what was said is a front of all replies.
+-- Where a turn was cut short, what was said are whole replies, and after a failed say a front of the next one beside them.
 pub cut_served : (cut : Cut) (n k : ℕ) (f : Frame) (s : State) (rest bytes : List ℕ) (a b c : Option (List ℕ))
-    → front rest ≡ Whole f k → Told n s rest bytes a b → CutsTurn cut n f s b c → TookFront a c (replies bytes)
-cut_served NoMemory n k f s rest bytes a b c e told same = subst (λ (x : Option (List ℕ)). TookFront a x (replies bytes)) (sym same) (told_front n s rest bytes a b told)
-cut_served Unsaid n k f s rest bytes a b c e told cut = told_less n k f s rest bytes a b c e told cut
+    → front rest ≡ Whole f k → Told n s rest bytes a b → CutsTurn cut n f s b c → IsServed (Err cut) bytes a c
+cut_served NoMemory n k f s rest bytes a b c e told same = subst (λ (x : Option (List ℕ)). TookWhole a x (each_reply bytes)) (sym same) (told_whole n s rest bytes a b told)
+cut_served Unsaid n k f s rest bytes a b c e told cut = told_cut n k f s rest bytes a b c e told cut

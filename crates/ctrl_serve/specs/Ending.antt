@@ -4,7 +4,7 @@ use Rattle.ctrl_model.specs.Matches.{is_nothing}
 use Rattle.channel_frame.specs.StreamReading.{rest_of}
 use Rattle.ctrl_serve.specs.declared.status.Status.{Status}
 use Rattle.ctrl_serve.specs.declared.status.Status.TheVariants.{Done, Usage, BadInput, Truncated, ReadFault, WriteFault, DiskFault, Damaged, NoMemory, InputTooLong, FolderFull}
-use Rattle.ziti_outside.specs.Told.{IsFront}
+use Rattle.ctrl_serve.specs.SaidReplies.{joined, AreWhole, AreCut}
 
 -- The status that the used bytes decide, and whether the source gave more than are used: a tail that is not empty is bad
 -- input, until sessions and their notes tell an unfinished frame from a fault.
@@ -26,16 +26,17 @@ is_cut InputTooLong = false
 is_cut FolderFull = false
 
 -- What a run over plain input has said at a status, of all the replies to its whole frames: all of them, also after a read
--- fault; a front of them where a reply was not taken or memory was wanting. The other statuses never come.
-abbrev pub Says : Status → List ℕ → List ℕ → Type 0
-Says Done said all = said ≡ all
+-- fault; where memory was wanting the first of them, each whole; where a reply was not taken, a front of the next one beside
+-- them. The other statuses never come.
+abbrev pub Says : Status → List ℕ → List (List ℕ) → Type 0
+Says Done said all = said ≡ joined all
 Says Usage said all = ⊥
-Says BadInput said all = said ≡ all
+Says BadInput said all = said ≡ joined all
 Says Truncated said all = ⊥
-Says ReadFault said all = said ≡ all
-Says WriteFault said all = IsFront said all
+Says ReadFault said all = said ≡ joined all
+Says WriteFault said all = AreCut said all
 Says DiskFault said all = ⊥
 Says Damaged said all = ⊥
-Says NoMemory said all = IsFront said all
-Says InputTooLong said all = said ≡ all
+Says NoMemory said all = AreWhole said all
+Says InputTooLong said all = said ≡ joined all
 Says FolderFull said all = ⊥

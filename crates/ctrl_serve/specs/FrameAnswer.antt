@@ -44,6 +44,10 @@ spoken who n s (f ∷ fs) =
 abbrev pub answers : Who → ℕ → State → List Frame → List ℕ
 answers who n s fs = flat_map (λ bytes. bytes) (spoken who n s fs)
 
--- The bytes of all replies to an input: those of the controller's run along its frames, from the start.
+-- Each reply to an input: those of the controller's run along its frames, from the start.
+abbrev pub each_reply : List ℕ → List (List ℕ)
+each_reply used = spoken Admin 0 start (frames_of used)
+
+-- The bytes of all replies to an input.
 abbrev pub replies : List ℕ → List ℕ
 replies used = answers Admin 0 start (frames_of used)

@@ -1,14 +1,17 @@
 -- What a run promises, so far for the word `dry` (docs/PROMISES.md, "The headline").
-use Rattle.std.specs.Prelude.{◌≡◌, ℕ, ◌+◌, ◌<◌, ◌≤◌, ◌^◌, ◌⊎◌, nat_lt, false, List, length, take}
+use Rattle.std.specs.Prelude.{◌≡◌, ◌↔◌, ℕ, ◌+◌, ◌<◌, ◌≤◌, ◌^◌, ◌⊎◌, nat_lt, false, None, Some, List, length, take}
 use Rattle.std.specs.declared.option.Option.{Option}
 use Rattle.std.specs.Io.KnownBytes.{IsAtEnd}
 use Rattle.ziti_outside.specs.Told.{Gave, Took, TookFront}
 use Rattle.ziti_outside.specs.Causes.{Rose}
+use Rattle.ziti_outside.specs.Images.{Image}
+use Rattle.ziti_outside.specs.Untouched.{OnlySays, OnlyNotes}
 use Rattle.ctrl_serve.specs.declared.bounds.Bounds.{Bounds}
 use Rattle.ctrl_serve.specs.declared.status.Status.{Status}
-use Rattle.ctrl_serve.specs.declared.status.Status.TheVariants.{NoMemory}
-use Rattle.ctrl_serve.specs.CommandLine.{usage_note}
-use Rattle.ctrl_serve.specs.FrameAnswer.{replies}
+use Rattle.ctrl_serve.specs.declared.status.Status.TheVariants.{Done, Usage, ReadFault, WriteFault, NoMemory}
+use Rattle.ctrl_serve.specs.CommandLine.{Form, Dry, usage_note}
+use Rattle.ctrl_serve.specs.Failures.{RisesOnce, TakesUntilFailure}
+use Rattle.ctrl_serve.specs.FrameAnswer.{each_reply, replies}
 use Rattle.ctrl_serve.specs.Ending.{ending, is_cut, Says}
 
 -- The bounds that a run takes.
@@ -20,15 +23,16 @@ pub record AreBounds (b : Bounds) : Type 0 where
   pub mark_high : b.mark ≤ 2 ^ 20
 
 -- A run over plain input. Of what the source gave, the first `most` bytes are used. What was said are the replies of the
--- controller's run along their frames, all of them unless the run was cut short. A run that was not cut short ends as the
--- bytes decide, and only once nothing is left or more than `most` bytes were given.
+-- controller's run along their frames: all of them, but the first ones where memory was wanting, and a front of the next one
+-- beside those where a say failed. A run that was not cut short ends as the bytes decide, and only once nothing is left or more
+-- than `most` bytes were given.
 pub record Serves (most : ℕ) (left_before left_now said_before said_now : Option (List ℕ)) (status : Status) : Type 0 where
   pub taken : List ℕ
   pub gave : Gave left_before left_now taken
   pub few : length taken ≤ most + 65536
   pub said : List ℕ
   pub took : Took said_before said_now said
-  pub says : Says status said (replies (take most taken))
+  pub says : Says status said (each_reply (take most taken))
   pub ends : is_cut status ≡ false → status ≡ ending (take most taken) (nat_lt most (length taken))
   pub read_on : is_cut status ≡ false → IsAtEnd left_now ⊎ (most < length taken)
 
@@ -50,3 +54,32 @@ pub record Completes (most : ℕ) (left_before left_now said_before said_now : O
 abbrev pub IsComplete : ℕ → Option (List ℕ) → Option (List ℕ) → Option (List ℕ) → Option (List ℕ) → Status → Type 0
 IsComplete most left_before left_now said_before said_now status =
     (status ≡ NoMemory) ⊎ Completes most left_before left_now said_before said_now status
+
+-- A run that was asked for a line of the table of words, or for none of its lines.
+--
+-- Usage comes exactly where the words are no line. Then nothing is taken, the usage note is written, and the desk is left alone
+-- otherwise: nothing is said, and the folder stays.
+--
+-- A fault comes only where its count rose in this run. A failed take cuts the run short, and nothing is taken after it. A failed
+-- say ends the run with WriteFault. No count falls, or rises by more than one.
+--
+-- Under `dry` the replies are the controller's, the status is the one that the input decides, and the desk is left alone
+-- otherwise: nothing is noted, and the folder stays.
+pub record Runs {S D : Type 0} (left : S → Option (List ℕ)) (faults : S → ℕ) (said noted : D → Option (List ℕ)) (say_faults note_faults : D → ℕ) (reads : D → Image) (may_leave : D → Image → Type 0) (disk_faults : D → ℕ) (most : ℕ) (form : Option Form) (source source_now : S) (desk desk_now : D) (status : Status) : Type 0 where
+  pub usage : (status ≡ Usage) ↔ (form ≡ None)
+  pub usage_takes_nothing : form ≡ None → source_now ≡ source
+  pub usage_notes_alone : form ≡ None → OnlyNotes said say_faults reads may_leave disk_faults desk desk_now
+  pub usage_note : form ≡ None → NotesUsage (noted desk) (noted desk_now) (note_faults desk) (note_faults desk_now)
+  pub read_fault : status ≡ ReadFault → Rose (faults source) (faults source_now)
+  pub write_fault : status ≡ WriteFault → Rose (say_faults desk) (say_faults desk_now)
+  pub failed_take : is_cut status ≡ false → faults source_now ≡ faults source
+  pub failed_say : (status ≡ WriteFault → ⊥) → say_faults desk_now ≡ say_faults desk
+  pub read_faults_once : RisesOnce (faults source) (faults source_now)
+  pub say_faults_once : RisesOnce (say_faults desk) (say_faults desk_now)
+  pub note_faults_once : RisesOnce (note_faults desk) (note_faults desk_now)
+  pub takes_until_failure : TakesUntilFailure left faults source source_now
+  pub dry : form ≡ Some Dry → Serves most (left source) (left source_now) (said desk) (said desk_now) status
+  pub dry_says_alone : form ≡ Some Dry → OnlySays noted note_faults reads may_leave disk_faults desk desk_now
+  pub complete : form ≡ Some Dry → (Rose (faults source) (faults source_now) → ⊥) → (Rose (say_faults desk) (say_faults desk_now) → ⊥)
+      → IsComplete most (left source) (left source_now) (said desk) (said desk_now) status
+  pub read_to_the_end : status ≡ Done → IsAtEnd (left source_now)

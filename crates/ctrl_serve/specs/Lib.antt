@@ -1,7 +1,9 @@
 pub mod Statuses
 pub mod CommandLine
+pub mod Failures
 pub mod Intakes
 pub mod FrameAnswer
+pub mod SaidReplies
 pub mod WorkedAnswers
 pub mod Ending
 pub mod Headline

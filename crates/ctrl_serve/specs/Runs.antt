@@ -1,8 +1,9 @@
 -- What the parts of a run do, up to the headline.
-use Rattle.std.specs.Prelude.{◌≡◌, ℕ, ◌≤◌, Bool, true, false, ⊤, List, take}
+use Rattle.std.specs.Prelude.{◌≡◌, ℕ, Bool, true, false, ⊤, List, take}
 use Rattle.std.specs.declared.option.Option.{Option}
 use Rattle.ziti_outside.specs.Told.{Took}
 use Rattle.ziti_outside.specs.Causes.{Rose}
+use Rattle.ctrl_serve.specs.Failures.{RisesOnce}
 use Rattle.channel_frame.specs.StreamReading.{rest_of}
 use Rattle.ctrl_model.specs.Matches.{is_nothing}
 use Rattle.ctrl_serve.specs.declared.intake.End.{End}
@@ -10,7 +11,7 @@ use Rattle.ctrl_serve.specs.declared.intake.End.TheVariants.{Whole, More, Fault}
 use Rattle.ctrl_serve.specs.declared.intake.Intake.{Intake}
 use Rattle.ctrl_serve.specs.declared.status.Status.{Status}
 use Rattle.ctrl_serve.specs.declared.status.Status.TheVariants.{Done, BadInput, ReadFault, WriteFault, NoMemory, InputTooLong}
-use Rattle.ctrl_serve.specs.FrameAnswer.{replies}
+use Rattle.ctrl_serve.specs.FrameAnswer.{each_reply}
 use Rattle.ctrl_serve.specs.Ending.{Says}
 
 -- The status of a run whose frames were all answered: a read fault first, then a tail, then a longer input.
@@ -28,9 +29,9 @@ EndsAs WriteFault clean end = ⊤
 EndsAs NoMemory clean end = ⊤
 EndsAs status clean end = status ≡ status_at clean end
 
--- A write fault came only where the count of failed says rose, which never falls, and stays where no write fault came.
+-- A write fault came only where the count of failed says rose, by one at most, and it stays where no write fault came.
 pub record IsWriteCaused (before now : ℕ) (status : Status) : Type 0 where
-  pub later : before ≤ now
+  pub counted : RisesOnce before now
   pub calm : (status ≡ WriteFault → ⊥) → now ≡ before
   pub rose : status ≡ WriteFault → Rose before now
 
@@ -38,5 +39,5 @@ pub record IsWriteCaused (before now : ℕ) (status : Status) : Type 0 where
 pub record SaysIntake (most : ℕ) (i : Intake) (said_before said_now : Option (List ℕ)) (status : Status) : Type 0 where
   pub said : List ℕ
   pub took : Took said_before said_now said
-  pub says : Says status said (replies (take most i.bytes.items))
+  pub says : Says status said (each_reply (take most i.bytes.items))
   pub ends : EndsAs status (is_nothing (rest_of (take most i.bytes.items))) i.end

@@ -13,7 +13,8 @@ use Rattle.ctrl_model.specs.Matches.{is_nothing}
 use Rattle.ctrl_serve.specs.declared.serving.Cut.{Cut}
 use Rattle.ctrl_serve.specs.declared.serving.Cut.TheVariants.{NoMemory, Unsaid}
 use Rattle.reply_codec.specs.ReplyFrame.{reply_frame}
-use Rattle.ctrl_serve.specs.FrameAnswer.{frame_answer, replies}
+use Rattle.ctrl_serve.specs.FrameAnswer.{frame_answer, each_reply, replies}
+use Rattle.ctrl_serve.specs.SaidReplies.{TookWhole, TookCut}
 
 -- The bytes begin with a good head, and all the bytes that it announces are there.
 pub record IsAnnouncedAt (len : ℕ) (bytes : List ℕ) : Type 0 where
@@ -42,7 +43,9 @@ unsaid (Ok x) = Ok tt
 unsaid (Err NoMemory) = Ok tt
 unsaid (Err Unsaid) = Err Unsaid
 
--- What serving some bytes said: all replies, with whether a tail is left behind the frames; or a front of them.
+-- What serving some bytes said: all replies, with whether a tail is left behind the frames; for want of memory whole replies;
+-- after a failed say a front of the next one beside them.
 abbrev pub IsServed : Result Bool Cut → List ℕ → Option (List ℕ) → Option (List ℕ) → Type 0
 IsServed (Ok clean) bytes said_before said_now = Took said_before said_now (replies bytes) × (clean ≡ is_nothing (rest_of bytes))
-IsServed (Err c) bytes said_before said_now = TookFront said_before said_now (replies bytes)
+IsServed (Err NoMemory) bytes said_before said_now = TookWhole said_before said_now (each_reply bytes)
+IsServed (Err Unsaid) bytes said_before said_now = TookCut said_before said_now (each_reply bytes)

@@ -1,5 +1,6 @@
 ghost use Rattle.std.specs.Prelude.{◌≡◌, ◌≤◌, ◌^◌, IfOk, OnErr, length};
 ghost use Rattle.ctrl_serve.specs.Intakes.{IsIntake, IsCutIntake, HasFault};
+ghost use Rattle.ctrl_serve.specs.Failures.{RisesOnce, TakesUntilFailure};
 
 use std::alloc::{AllocError, Global};
 use ziti_outside::{Failed, Source};
@@ -36,7 +37,8 @@ pub fn take_all<S: Source>(alloc: Global, most: u64, source: &mut S) -> Result<I
     requires { most ≤ 2 ^ 32 }
     ensures taken { IfOk result (λ i. IsIntake most (S.left source.old) (S.left source.new) i) }
     ensures faults { IfOk result (λ i. HasFault i.end (S.faults source.old) (S.faults source.new)) }
-    ensures later { S.faults source.old ≤ S.faults source.new }
+    ensures counted { RisesOnce (S.faults source.old) (S.faults source.new) }
+    ensures until_failure { TakesUntilFailure S.left S.faults source.old source.new }
     ensures cut { OnErr result (IsCutIntake most (S.left source.old) (S.left source.new)) }
 {
     let mut bytes = Vec::new(alloc);

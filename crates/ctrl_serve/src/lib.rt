@@ -2,26 +2,16 @@
 #![tactic(auto)]
 
 mod bounds;
-#[cfg(test)]
-mod circuit_rows;
 mod command_line;
-#[cfg(test)]
-mod command_rows;
 mod intake;
 mod laws;
-#[cfg(test)]
-mod memory_forms;
-#[cfg(test)]
-mod model_rows;
 mod serving;
 mod status;
-#[cfg(test)]
-mod tests;
 mod top;
 mod worked;
 
 pub use bounds::Bounds;
-pub use laws::done_says_all;
+pub use laws::{cut_runs_say_fronts, done_says_all};
 pub use status::Status;
 pub use top::{run, run_within};
 pub use worked::{

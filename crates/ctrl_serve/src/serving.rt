@@ -12,6 +12,7 @@ ghost use Rattle.reply_codec.specs.ReplyFrame.{reply_frame};
 ghost use Rattle.reply_codec.specs.ReplyLimits.{keeps_limits};
 ghost use Rattle.ctrl_serve.specs.FrameAnswer.{frame_answer, refusal_for};
 ghost use Rattle.ziti_outside.specs.Causes.{HasCause};
+ghost use Rattle.ziti_outside.specs.Untouched.{OnlySays};
 ghost use Rattle.ctrl_serve.specs.Turns.{IsAnnouncedAt, TakesTurn, CutsTurn, IsServed, unsaid};
 
 use channel_frame::{Frame, FrameFault, Front, encode, read_frame, read_head};
@@ -144,8 +145,7 @@ fn serve_frame<D: Desk>(
     ensures live { OnOk result (core.new.live ≡ true) }
     ensures cut { IfErr result (λ c. CutsTurn c sequence frame.now core.old.state (D.said desk.old) (D.said desk.new)) }
     ensures cause { HasCause (D.say_faults desk.old) (D.say_faults desk.new) (unsaid result) }
-    ensures notes { D.noted desk.new ≡ D.noted desk.old }
-    ensures note_faults { D.note_faults desk.new ≡ D.note_faults desk.old }
+    ensures others { OnlySays D.noted D.note_faults D.reads D.may_leave D.disk_faults desk.old desk.new }
 {
     let reply = answer_frame(alloc, core, frame)?;
     let bytes = reply_bytes(alloc, sequence, frame.sequence, &reply)?;
@@ -166,8 +166,7 @@ fn serve_frames<D: Desk>(
     requires at_start { core.old.state ≡ start }
     ensures said { IsServed result bytes.now (D.said desk.old) (D.said desk.new) }
     ensures cause { HasCause (D.say_faults desk.old) (D.say_faults desk.new) (unsaid result) }
-    ensures notes { D.noted desk.new ≡ D.noted desk.old }
-    ensures note_faults { D.note_faults desk.new ≡ D.note_faults desk.old }
+    ensures others { OnlySays D.noted D.note_faults D.reads D.may_leave D.disk_faults desk.old desk.new }
 {
     let mut sequence = 0u32;
     let mut rest = bytes;
@@ -184,8 +183,7 @@ fn serve_frames<D: Desk>(
 pub fn serve<D: Desk>(alloc: Global, desk: &mut D, bytes: &[u8]) -> Result<bool, Cut>
     ensures said { IsServed result bytes.now (D.said desk.old) (D.said desk.new) }
     ensures cause { HasCause (D.say_faults desk.old) (D.say_faults desk.new) (unsaid result) }
-    ensures notes { D.noted desk.new ≡ D.noted desk.old }
-    ensures note_faults { D.note_faults desk.new ≡ D.note_faults desk.old }
+    ensures others { OnlySays D.noted D.note_faults D.reads D.may_leave D.disk_faults desk.old desk.new }
 {
     let mut core = Core::empty(alloc)?;
     serve_frames(alloc, desk, &mut core, bytes)

@@ -1,10 +1,12 @@
 ghost use Rattle.std.specs.Prelude.{◌≡◌, ◌↔◌, ◌≤◌, ◌^◌, false, None, Some, take};
 ghost use Rattle.std.specs.Io.KnownBytes.{IsAtEnd};
 ghost use Rattle.ziti_outside.specs.Causes.{Rose};
-ghost use Rattle.ctrl_serve.specs.CommandLine.{Dry, form_of, texts};
+ghost use Rattle.ziti_outside.specs.Untouched.{OnlySays, OnlyNotes};
+ghost use Rattle.ctrl_serve.specs.Failures.{RisesOnce, TakesUntilFailure};
+ghost use Rattle.ctrl_serve.specs.CommandLine.{form_of, texts};
 ghost use Rattle.ctrl_serve.specs.Runs.{status_at, SaysIntake, IsWriteCaused};
 ghost use Rattle.ctrl_serve.specs.Ending.{is_cut};
-ghost use Rattle.ctrl_serve.specs.Headline.{AreBounds, Serves, NotesUsage, IsComplete};
+ghost use Rattle.ctrl_serve.specs.Headline.{AreBounds, Serves, NotesUsage, Runs};
 
 use crate::bounds::Bounds;
 use crate::command_line::{USAGE, is_in_table};
@@ -38,8 +40,7 @@ fn status_of(clean: bool, end: End) -> Status
 fn answer_intake<D: Desk>(alloc: Global, most: u64, intake: &Intake, desk: &mut D) -> Status
     ensures said { SaysIntake most intake.now (D.said desk.old) (D.said desk.new) result }
     ensures cause { IsWriteCaused (D.say_faults desk.old) (D.say_faults desk.new) result }
-    ensures notes { D.noted desk.new ≡ D.noted desk.old }
-    ensures note_faults { D.note_faults desk.new ≡ D.note_faults desk.old }
+    ensures others { OnlySays D.noted D.note_faults D.reads D.may_leave D.disk_faults desk.old desk.new }
 {
     let used = first_bytes(intake.bytes.as_slice(), most);
     match serve(alloc, desk, used) {
@@ -56,10 +57,10 @@ fn run_dry<S: Source, D: Desk>(alloc: Global, most: u64, source: &mut S, desk: &
     ensures write_fault { result ≡ Status.WriteFault → Rose (D.say_faults desk.old) (D.say_faults desk.new) }
     ensures failed_take { is_cut result ≡ false → S.faults source.new ≡ S.faults source.old }
     ensures failed_say { (result ≡ Status.WriteFault → ⊥) → D.say_faults desk.new ≡ D.say_faults desk.old }
-    ensures reads_later { S.faults source.old ≤ S.faults source.new }
-    ensures says_later { D.say_faults desk.old ≤ D.say_faults desk.new }
-    ensures notes { D.noted desk.new ≡ D.noted desk.old }
-    ensures note_faults { D.note_faults desk.new ≡ D.note_faults desk.old }
+    ensures read_faults_once { RisesOnce (S.faults source.old) (S.faults source.new) }
+    ensures say_faults_once { RisesOnce (D.say_faults desk.old) (D.say_faults desk.new) }
+    ensures takes_until_failure { TakesUntilFailure S.left S.faults source.old source.new }
+    ensures others { OnlySays D.noted D.note_faults D.reads D.may_leave D.disk_faults desk.old desk.new }
 {
     match take_all(alloc, most, source) {
         Ok(intake) => answer_intake(alloc, most, &intake, desk),
@@ -69,9 +70,8 @@ fn run_dry<S: Source, D: Desk>(alloc: Global, most: u64, source: &mut S, desk: &
 
 fn tell_usage<D: Desk>(desk: &mut D)
     ensures note { NotesUsage (D.noted desk.old) (D.noted desk.new) (D.note_faults desk.old) (D.note_faults desk.new) }
-    ensures later { D.note_faults desk.old ≤ D.note_faults desk.new }
-    ensures replies { D.said desk.new ≡ D.said desk.old }
-    ensures say_faults { D.say_faults desk.new ≡ D.say_faults desk.old }
+    ensures counted { RisesOnce (D.note_faults desk.old) (D.note_faults desk.new) }
+    ensures others { OnlyNotes D.said D.say_faults D.reads D.may_leave D.disk_faults desk.old desk.new }
 {
     let _ = desk.note(USAGE);
 }
@@ -80,7 +80,7 @@ fn tell_usage<D: Desk>(desk: &mut D)
 ///
 /// So far the one line of words is `dry`: the whole input is taken, up to `bounds.input` bytes, its whole frames are answered
 /// in order, and their replies are said. Want of memory may end the run early, with the status `NoMemory`; it is the one
-/// answer without a cause in the contract. docs/PROMISES.md tells what each clause promises.
+/// answer without a cause in the contract. docs/PROMISES.md tells what each part of the clause promises.
 pub fn run_within<S: Source, D: Desk>(
     alloc: Global,
     words: &Vec<String>,
@@ -89,34 +89,8 @@ pub fn run_within<S: Source, D: Desk>(
     desk: &mut D,
 ) -> Status
     requires { AreBounds bounds }
-    // Usage comes exactly where the words are not in the table. Then nothing is taken or said, and the usage note is written.
-    ensures usage { (result ≡ Status.Usage) ↔ (form_of (texts words.now.items) ≡ None) }
-    ensures usage_takes_nothing { form_of (texts words.now.items) ≡ None
-        → (S.left source.new ≡ S.left source.old) × (S.faults source.new ≡ S.faults source.old) }
-    ensures usage_says_nothing { form_of (texts words.now.items) ≡ None
-        → (D.said desk.new ≡ D.said desk.old) × (D.say_faults desk.new ≡ D.say_faults desk.old) }
-    ensures usage_note { form_of (texts words.now.items) ≡ None
-        → NotesUsage (D.noted desk.old) (D.noted desk.new) (D.note_faults desk.old) (D.note_faults desk.new) }
-
-    // A fault comes only where its count rose in this call. A failed take cuts the run short, and a failed say ends it with
-    // WriteFault. No count falls.
-    ensures read_fault { result ≡ Status.ReadFault → Rose (S.faults source.old) (S.faults source.new) }
-    ensures write_fault { result ≡ Status.WriteFault → Rose (D.say_faults desk.old) (D.say_faults desk.new) }
-    ensures failed_take { is_cut result ≡ false → S.faults source.new ≡ S.faults source.old }
-    ensures failed_say { (result ≡ Status.WriteFault → ⊥) → D.say_faults desk.new ≡ D.say_faults desk.old }
-    ensures read_faults_later { S.faults source.old ≤ S.faults source.new }
-    ensures say_faults_later { D.say_faults desk.old ≤ D.say_faults desk.new }
-    ensures note_faults_later { D.note_faults desk.old ≤ D.note_faults desk.new }
-
-    // Under `dry` the replies are the controller's, the status is the one that the input decides, and nothing is noted.
-    ensures dry { form_of (texts words.now.items) ≡ Some Dry
-        → Serves bounds.input (S.left source.old) (S.left source.new) (D.said desk.old) (D.said desk.new) result }
-    ensures dry_notes_nothing { form_of (texts words.now.items) ≡ Some Dry
-        → (D.noted desk.new ≡ D.noted desk.old) × (D.note_faults desk.new ≡ D.note_faults desk.old) }
-    ensures complete { form_of (texts words.now.items) ≡ Some Dry
-        → (Rose (S.faults source.old) (S.faults source.new) → ⊥) → (Rose (D.say_faults desk.old) (D.say_faults desk.new) → ⊥)
-        → IsComplete bounds.input (S.left source.old) (S.left source.new) (D.said desk.old) (D.said desk.new) result }
-    ensures read_to_the_end { result ≡ Status.Done → IsAtEnd (S.left source.new) }
+    ensures runs { Runs S.left S.faults D.said D.noted D.say_faults D.note_faults D.reads D.may_leave D.disk_faults
+        bounds.input (form_of (texts words.now.items)) source.old source.new desk.old desk.new result }
 {
     if is_in_table(words.as_slice()) {
         run_dry(alloc, bounds.input, source, desk)
@@ -133,34 +107,8 @@ pub fn run<S: Source, D: Desk>(
     source: &mut S,
     desk: &mut D,
 ) -> Status
-    // Usage comes exactly where the words are not in the table. Then nothing is taken or said, and the usage note is written.
-    ensures usage { (result ≡ Status.Usage) ↔ (form_of (texts words.now.items) ≡ None) }
-    ensures usage_takes_nothing { form_of (texts words.now.items) ≡ None
-        → (S.left source.new ≡ S.left source.old) × (S.faults source.new ≡ S.faults source.old) }
-    ensures usage_says_nothing { form_of (texts words.now.items) ≡ None
-        → (D.said desk.new ≡ D.said desk.old) × (D.say_faults desk.new ≡ D.say_faults desk.old) }
-    ensures usage_note { form_of (texts words.now.items) ≡ None
-        → NotesUsage (D.noted desk.old) (D.noted desk.new) (D.note_faults desk.old) (D.note_faults desk.new) }
-
-    // A fault comes only where its count rose in this call. A failed take cuts the run short, and a failed say ends it with
-    // WriteFault. No count falls.
-    ensures read_fault { result ≡ Status.ReadFault → Rose (S.faults source.old) (S.faults source.new) }
-    ensures write_fault { result ≡ Status.WriteFault → Rose (D.say_faults desk.old) (D.say_faults desk.new) }
-    ensures failed_take { is_cut result ≡ false → S.faults source.new ≡ S.faults source.old }
-    ensures failed_say { (result ≡ Status.WriteFault → ⊥) → D.say_faults desk.new ≡ D.say_faults desk.old }
-    ensures read_faults_later { S.faults source.old ≤ S.faults source.new }
-    ensures say_faults_later { D.say_faults desk.old ≤ D.say_faults desk.new }
-    ensures note_faults_later { D.note_faults desk.old ≤ D.note_faults desk.new }
-
-    // Under `dry` the replies are the controller's, the status is the one that the input decides, and nothing is noted.
-    ensures dry { form_of (texts words.now.items) ≡ Some Dry
-        → Serves 4294967296 (S.left source.old) (S.left source.new) (D.said desk.old) (D.said desk.new) result }
-    ensures dry_notes_nothing { form_of (texts words.now.items) ≡ Some Dry
-        → (D.noted desk.new ≡ D.noted desk.old) × (D.note_faults desk.new ≡ D.note_faults desk.old) }
-    ensures complete { form_of (texts words.now.items) ≡ Some Dry
-        → (Rose (S.faults source.old) (S.faults source.new) → ⊥) → (Rose (D.say_faults desk.old) (D.say_faults desk.new) → ⊥)
-        → IsComplete 4294967296 (S.left source.old) (S.left source.new) (D.said desk.old) (D.said desk.new) result }
-    ensures read_to_the_end { result ≡ Status.Done → IsAtEnd (S.left source.new) }
+    ensures runs { Runs S.left S.faults D.said D.noted D.say_faults D.note_faults D.reads D.may_leave D.disk_faults
+        4294967296 (form_of (texts words.now.items)) source.old source.new desk.old desk.new result }
 {
     run_within(alloc, words, Bounds::PROGRAM, source, desk)
 }

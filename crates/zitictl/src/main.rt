@@ -1,15 +1,20 @@
-//! The program zitictl: the controller over standard input, standard output and standard error.
+//! The program zitictl: the controller over standard input, standard output, standard error and the files of its folder.
 #![tactic(auto)]
 
-ghost use Rattle.std.specs.Prelude.{◌≡◌, [], IfOk, IfErr, Ok};
+ghost use Rattle.std.specs.Prelude.{◌≡◌, ◌≢◌, None, IfOk, IfErr};
+ghost use Rattle.std.specs.Process.{exit_status};
+ghost use Rattle.std.specs.IoError.{error_kind};
+ghost use Rattle.ctrl_serve.specs.CommandLine.{form_of, texts};
+ghost use Rattle.ctrl_serve.specs.Headline.{Runs};
+ghost use Rattle.ctrl_serve.specs.Statuses.{number_of};
 
-mod standard;
-
-use crate::standard::{StandardDesk, StandardInput};
 use ctrl_serve::{Status, run};
-use std::alloc::{AllocError, Global};
+use std::alloc::Global;
+use std::io::ErrorKind;
 use std::process::ExitCode;
 use std::{env, io};
+use ziti_desk::{FileDesk, FileSource, Paths, Writes};
+use ziti_outside::{Desk, Source};
 
 // The words behind the program's name, as the system gives them.
 fn stored_words(rt: &HostRuntime) -> io::Result<Vec<String>> {
@@ -17,33 +22,46 @@ fn stored_words(rt: &HostRuntime) -> io::Result<Vec<String>> {
     Ok(words)
 }
 
-// The words that the table is asked for: those that were stored. Words that are not text are no line of it, so none are asked for.
-fn asked_words(alloc: Global, stored: io::Result<Vec<String>>) -> Result<Vec<String>, AllocError>
-    ensures stored { IfOk stored (λ words. result ≡ Ok words) }
-    ensures no_text { IfErr stored (λ error. IfOk result (λ words. words.items ≡ [])) }
+// Runs the controller on the words that were stored. Words that are not text are a faulty command line, so none are asked for.
+// Where memory was wanting for the words, nothing is done.
+fn run_stored<S: Source, D: Desk>(
+    alloc: Global,
+    stored: io::Result<Vec<String>>,
+    source: &mut S,
+    desk: &mut D,
+) -> Status
+    ensures stored { IfOk stored (λ words. Runs S.left S.faults D.said D.noted D.say_faults D.note_faults D.reads D.may_leave D.disk_faults
+        4294967296 (form_of (texts words.items)) source.old source.new desk.old desk.new result) }
+    ensures no_text { IfErr stored (λ error. error_kind error ≢ ErrorKind.OutOfMemory
+        → Runs S.left S.faults D.said D.noted D.say_faults D.note_faults D.reads D.may_leave D.disk_faults
+        4294967296 None source.old source.new desk.old desk.new result) }
+    ensures no_memory { IfErr stored (λ error. error_kind error ≡ ErrorKind.OutOfMemory
+        → (result ≡ Status.NoMemory) × (source.new ≡ source.old) × (desk.new ≡ desk.old)) }
 {
     match stored {
-        Ok(words) => Ok(words),
+        Ok(words) => run(alloc, &words, source, desk),
         Err(error) => {
-            if error.kind() == io::ErrorKind::OutOfMemory {
-                Err(AllocError)
+            if error.kind() == ErrorKind::OutOfMemory {
+                Status::NoMemory
             } else {
-                Ok(Vec::new(alloc))
+                run(alloc, &Vec::new(alloc), source, desk)
             }
         }
     }
 }
 
-fn main(rt: HostRuntime) -> ExitCode {
-    let status = match asked_words(rt.alloc(), stored_words(&rt)) {
-        Ok(words) => {
-            let mut source = StandardInput::new(rt.reader());
-            let errors = rt.stderr();
-            let mut desk = StandardDesk::new(io::writer(&rt), io::writer(&errors));
-            run(rt.alloc(), &words, &mut source, &mut desk)
-        }
-        // Words that cannot be stored end the program so.
-        Err(_) => Status::NoMemory,
-    };
+// How the program ends at a status.
+fn exit_code(status: Status) -> ExitCode
+    ensures { exit_status result ≡ number_of status }
+{
     ExitCode::from(status.number())
+}
+
+fn main(rt: HostRuntime) -> ExitCode {
+    let errors = rt.stderr();
+    let replies = Writes::new(io::writer(&rt));
+    let notes = Writes::new(io::writer(&errors));
+    let mut source = FileSource::new(rt.reader());
+    let mut desk = FileDesk::new(&rt, Paths::WORKING_FOLDER, replies, notes);
+    exit_code(run_stored(rt.alloc(), stored_words(&rt), &mut source, &mut desk))
 }

@@ -1,8 +1,19 @@
-use Rattle.std.proofs.Common.{◌++◌, take, arith, length-append}
+use Rattle.std.proofs.Common.{◌∙◌, ◌++◌, take, arith, length-append}
 use Rattle.std.proofs.lemmas.Result.{err_from_is_err_and}
 use Rattle.std.proofs.lemmas.List.{length-take-le}
 use Rattle.ziti_outside.proofs.Moves.{Gave-then}
+use Rattle.ctrl_serve.proofs.FailureLaws.{takes_none, takes_so_far}
 use Rattle.ctrl_serve.proofs.intake.take_all.Goals as goal
+
+pub returns-in_err-room-clause-until_failure : goal.returns-in_err-room-clause-until_failure
+returns-in_err-room-clause-until_failure g c = takes_none _
+
+pub returns-in_err-extend_from_slice-in-Ok-clause-until_failure : goal.returns-in_err-extend_from_slice-in-Ok-clause-until_failure
+returns-in_err-extend_from_slice-in-Ok-clause-until_failure g c =
+    let piece = take c.in-Ok.count c.take.new.buf in
+    takes_so_far _ _ (c.takes.bytes.items ++ piece)
+    (Gave-then _ _ _ c.takes.bytes.items piece c.takes.invariant.gave c.in-Ok.ensures.bytes.bytes)
+    (c.in-Ok.ensures.cause.calm ∙ c.takes.invariant.calm)
 
 pub returns-in_err-extend_from_slice-in-Ok-clause-cut : goal.returns-in_err-extend_from_slice-in-Ok-clause-cut
 returns-in_err-extend_from_slice-in-Ok-clause-cut g c =
