@@ -12,6 +12,3 @@ pub use encoding::encode;
 pub use frames::{Frame, FrameFault, Frames, Front, Head, Header, Headers};
 pub use laws::{one_reading, one_spelling, what_stands};
 pub use worked::{worked_faults, worked_readings, worked_spellings, worked_unfinished};
-
-#[cfg(test)]
-mod tests;

@@ -17,8 +17,6 @@ mod role_lists;
 mod route_claims;
 mod show_bodies;
 mod terminator_bodies;
-#[cfg(test)]
-mod tests;
 mod worked;
 
 pub use laws::what_a_body_spells;

@@ -3,8 +3,6 @@
 
 mod fields;
 mod key_words;
-#[cfg(test)]
-mod tests;
 mod value_kinds;
 mod worked;
 

@@ -12,6 +12,3 @@ pub use worked::{
     worked_limits_of_explanations, worked_lists, worked_plain_refusals, worked_refusals,
 };
 pub use writing::write;
-
-#[cfg(test)]
-mod tests;

@@ -6,8 +6,6 @@ mod matching;
 mod names;
 mod roles;
 mod sides;
-#[cfg(test)]
-mod tests;
 mod worked;
 
 pub use laws::one_spelling_a_role;

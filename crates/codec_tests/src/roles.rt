@@ -1,5 +1,5 @@
-use crate::{RoleFault, read_role, side_of};
 use ctrl_model::Role;
+use role_expr::{RoleFault, read_role};
 use std::alloc::Global;
 use std::process::Abort;
 use std::test::Fail;

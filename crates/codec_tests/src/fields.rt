@@ -1,7 +1,8 @@
-use crate::fields::{FieldFault, Fields};
 use ctrl_model::Field;
+use json_body::{FieldFault, Fields};
 use serde_json::Value;
 use std::alloc::Global;
+use std::process::Abort;
 use std::test::Fail;
 
 /// What is asked of a body.
@@ -100,18 +101,28 @@ fn bodies_answer(rt: HostRuntime) {
     }
 }
 
-#[test]
-fn values_are_those_of_the_body(rt: HostRuntime) -> Result<(), Fail> {
-    let body = "{\"name\":\"ann\",\"cost\":7,\"no_traversal\":true,\"attributes\":[null]}";
-    let value = Value::from_str(rt.alloc(), body)?;
-    let fields = Fields::of(&value)?;
-    let name = fields.name(rt.alloc(), Field::Name)?;
+fn has_name(rt: &impl Abort, alloc: Global, fields: &Fields) -> Result<(), FieldFault> {
+    let name = fields.name(alloc, Field::Name)?;
     assert_eq!(rt; name.bytes(), b"ann".as_slice());
+    Ok(())
+}
+
+fn has_fields(rt: &impl Abort, fields: &Fields) -> Result<(), FieldFault> {
     assert_eq!(rt; fields.text(Field::Name)?, "ann");
     assert_eq!(rt; fields.number(Field::Cost, 0, 65_535)?, 7);
     assert_eq!(rt; fields.flag(Field::NoTraversal)?, true);
     assert_eq!(rt; fields.list(Field::Attributes, 1)?.len(), 1);
     assert_eq!(rt; fields.has(Field::Name), true);
     assert_eq!(rt; fields.has(Field::Host), false);
+    Ok(())
+}
+
+#[test]
+fn values_are_those_of_the_body(rt: HostRuntime) -> Result<(), Fail> {
+    let body = "{\"name\":\"ann\",\"cost\":7,\"no_traversal\":true,\"attributes\":[null]}";
+    let value = Value::from_str(rt.alloc(), body)?;
+    let fields = Fields::of(&value)?;
+    has_name(&rt, rt.alloc(), &fields)?;
+    has_fields(&rt, &fields)?;
     Ok(())
 }

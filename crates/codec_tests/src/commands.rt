@@ -1,4 +1,4 @@
-use crate::reading::{CodecFault, read};
+use command_codec::{CodecFault, read};
 use ctrl_model::{Field, Reason};
 use std::alloc::{AllocError, Global};
 use std::test::Fail;

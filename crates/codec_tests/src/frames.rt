@@ -1,9 +1,9 @@
 ghost use Rattle.std.specs.Prelude.{IfSome};
 ghost use Rattle.channel_frame.specs.FrameSpelling.{KeepsLimits};
 
-use super::*;
+use channel_frame::{Frame, encode, read_frame, read_head};
 use std::alloc::Global;
-use std::test::*;
+use std::test::Fail;
 
 const FRAME: [u8; 34] = [
     3, 6, 9, 12, 232, 3, 0, 0, 7, 0, 0, 0, 0, 0, 0, 0, 14, 0, 0, 0, 123, 34, 110, 97, 109, 101, 34,
@@ -16,7 +16,6 @@ const REPLY: [u8; 49] = [
 ];
 
 // The frame that the bytes are, where they have the length that their head announces.
-#[tactic(auto, using(crate::proofs::FrontLaws::limits_from_frame))]
 fn frame_of(alloc: Global, bytes: &[u8]) -> Option<Frame>
     ensures { IfSome result (λ f. KeepsLimits f) }
 {
@@ -29,16 +28,20 @@ fn frame_of(alloc: Global, bytes: &[u8]) -> Option<Frame>
 }
 
 #[test]
-fn frames_are_read_and_spelled(rt: HostRuntime) -> Result<(), Fail> {
-    let alloc = rt.alloc();
-    let frame = frame_of(alloc, &FRAME).ok_or("the bytes are a frame")?;
+fn a_frame_is_read(rt: HostRuntime) -> Result<(), Fail> {
+    let frame = frame_of(rt.alloc(), &FRAME).ok_or("the bytes are a frame")?;
     assert_eq!(rt; frame.content, 1000);
     assert_eq!(rt; frame.sequence, 7);
     assert_eq!(rt; frame.headers.len(), 0);
     assert_eq!(rt; frame.body.as_slice(), b"{\"name\":\"ann\"}".as_slice());
-    let reply = frame_of(alloc, &REPLY).ok_or("the bytes are a reply")?;
+    Ok(())
+}
+
+#[test]
+fn a_frame_is_spelled(rt: HostRuntime) -> Result<(), Fail> {
+    let reply = frame_of(rt.alloc(), &REPLY).ok_or("the bytes are a reply")?;
     assert_eq!(rt; reply.headers.len(), 2);
-    let again = encode(alloc, &reply).ok().ok_or("there is memory")?;
+    let again = encode(rt.alloc(), &reply)?;
     assert_eq!(rt; again.as_slice(), REPLY.as_slice());
     Ok(())
 }

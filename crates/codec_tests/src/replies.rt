@@ -2,11 +2,12 @@ ghost use Rattle.std.specs.Prelude.{◌≡◌, ◌∷◌, [], true, IfOk, Ok};
 ghost use Rattle.ctrl_model.specs.CommandForm.{is_value};
 ghost use Rattle.reply_codec.specs.ReplyLimits.{is_short_claim, keeps_limits};
 
-use super::write;
+use channel_frame::Frame;
 use ctrl_model::{
     CircuitNo, Denial, Explanation, Field, Kind, Name, NameFault, Names, Numbers, Potentials,
     Reach, Reaches, Reason, Refusal, Reply, RouterNo, Tallies, Tally, TermNo,
 };
+use reply_codec::write;
 use std::alloc::{AllocError, Global};
 use std::process::Abort;
 use std::test::Fail;
@@ -135,23 +136,39 @@ fn refused(refusal: Refusal) -> Reply
     Reply::Refused(refusal)
 }
 
-fn check_body(rt: &impl Abort, alloc: Global, reply: Reply, body: &str) -> Result<(), AllocError>
-    requires { keeps_limits reply ≡ true }
+fn unknown_ref(alloc: Global) -> Result<Reply, NameFault>
+    ensures { IfOk result (λ r. keeps_limits r ≡ true) }
 {
-    let frame = write(alloc, &reply, 5, 7)?;
+    Ok(refused(Refusal::UnknownRef {
+        field: Field::IdentityRoles,
+        name: Name::of(alloc, b"q")?,
+    }))
+}
+
+fn has_body(rt: &impl Abort, frame: &Frame, body: &str) {
     assert_eq!(rt; frame.body.as_slice(), body.as_bytes(), "{body}");
     assert_eq!(rt; frame.content, 2, "{body}");
     assert_eq!(rt; frame.sequence, 5, "{body}");
     assert_eq!(rt; frame.headers.len(), 2, "{body}");
+}
+
+fn writes(rt: &impl Abort, alloc: Global, reply: &Reply, body: &str) -> Result<(), AllocError>
+    requires { keeps_limits reply.now ≡ true }
+{
+    let frame = write(alloc, reply, 5, 7)?;
+    has_body(rt, &frame, body);
     Ok(())
 }
 
+fn check_body(rt: &impl Abort, alloc: Global, reply: Reply, body: &str) -> Result<(), AllocError>
+    requires { keeps_limits reply ≡ true }
+{
+    writes(rt, alloc, &reply, body)
+}
+
 #[test]
-fn writes_the_bodies_of_replies(rt: HostRuntime) -> Result<(), Fail> {
+fn writes_the_bodies_of_routes(rt: HostRuntime) -> Result<(), Fail> {
     let alloc = rt.alloc();
-    check_body(&rt, alloc, Reply::Empty, "")?;
-    check_body(&rt, alloc, Reply::Done, "{}")?;
-    check_body(&rt, alloc, Reply::Made { no: 1 }, "{\"no\":1}")?;
     check_body(
         &rt,
         alloc,
@@ -176,6 +193,15 @@ fn writes_the_bodies_of_replies(rt: HostRuntime) -> Result<(), Fail> {
         Reply::Verified { certified: true },
         "{\"certified\":true}",
     )?;
+    Ok(())
+}
+
+#[test]
+fn writes_the_bodies_of_replies(rt: HostRuntime) -> Result<(), Fail> {
+    let alloc = rt.alloc();
+    check_body(&rt, alloc, Reply::Empty, "")?;
+    check_body(&rt, alloc, Reply::Done, "{}")?;
+    check_body(&rt, alloc, Reply::Made { no: 1 }, "{\"no\":1}")?;
     check_body(&rt, alloc, services(alloc)?, "{\"services\":[\"web\"]}")?;
     check_body(
         &rt,
@@ -198,66 +224,59 @@ fn writes_the_bodies_of_replies(rt: HostRuntime) -> Result<(), Fail> {
     Ok(())
 }
 
+fn check_refusal(
+    rt: &impl Abort,
+    alloc: Global,
+    refusal: Refusal,
+    body: &str,
+) -> Result<(), AllocError> {
+    check_body(rt, alloc, refused(refusal), body)
+}
+
 #[test]
 fn writes_the_bodies_of_refusals(rt: HostRuntime) -> Result<(), Fail> {
     let alloc = rt.alloc();
+    let exists = "{\"code\":20,\"name\":\"Exists\"}";
+    check_refusal(&rt, alloc, Refusal::Exists, exists)?;
+    let not_permitted = "{\"code\":12,\"name\":\"NotPermitted\"}";
+    check_refusal(&rt, alloc, Refusal::NotPermitted, not_permitted)?;
+    let denied = Refusal::Denied(Denial::NoPath);
+    check_refusal(&rt, alloc, denied, "{\"code\":38,\"name\":\"NoPath\"}")?;
+    let mark_full = "{\"code\":41,\"name\":\"MarkFull\"}";
+    check_refusal(&rt, alloc, Refusal::MarkFull, mark_full)?;
+    Ok(())
+}
+
+#[test]
+fn writes_the_bodies_of_refusals_with_fields(rt: HostRuntime) -> Result<(), Fail> {
+    let alloc = rt.alloc();
     let field = Field::Name;
     let reason = Reason::Missing;
-    let name = Name::of(alloc, b"q")?;
-    check_body(
+    check_refusal(
         &rt,
         alloc,
-        refused(Refusal::Exists),
-        "{\"code\":20,\"name\":\"Exists\"}",
-    )?;
-    check_body(
-        &rt,
-        alloc,
-        refused(Refusal::BadBody { field, reason }),
+        Refusal::BadBody { field, reason },
         "{\"code\":11,\"field\":\"name\",\"name\":\"BadBody\",\"reason\":\"Missing\"}",
     )?;
-    check_body(
+    let field = Field::Router;
+    check_refusal(
         &rt,
         alloc,
-        refused(Refusal::Unknown {
-            field: Field::Router,
-        }),
+        Refusal::Unknown { field },
         "{\"code\":21,\"field\":\"router\",\"name\":\"Unknown\"}",
     )?;
     check_body(
         &rt,
         alloc,
-        refused(Refusal::UnknownRef {
-            field: Field::IdentityRoles,
-            name,
-        }),
+        unknown_ref(alloc)?,
         "{\"code\":23,\"field\":\"identity_roles\",\"name\":\"UnknownRef\",\"ref\":\"q\"}",
     )?;
-    check_body(
+    let kind = Kind::Identity;
+    check_refusal(
         &rt,
         alloc,
-        refused(Refusal::Full {
-            kind: Kind::Identity,
-        }),
+        Refusal::Full { kind },
         "{\"code\":24,\"kind\":\"identity\",\"name\":\"Full\"}",
-    )?;
-    check_body(
-        &rt,
-        alloc,
-        refused(Refusal::NotPermitted),
-        "{\"code\":12,\"name\":\"NotPermitted\"}",
-    )?;
-    check_body(
-        &rt,
-        alloc,
-        refused(Refusal::Denied(Denial::NoPath)),
-        "{\"code\":38,\"name\":\"NoPath\"}",
-    )?;
-    check_body(
-        &rt,
-        alloc,
-        refused(Refusal::MarkFull),
-        "{\"code\":41,\"name\":\"MarkFull\"}",
     )?;
     Ok(())
 }

@@ -1,0 +1,13 @@
+//! Tests of what is read and written: frames, roles, the fields of bodies, commands and replies.
+#![tactic(auto)]
+
+#[cfg(test)]
+mod commands;
+#[cfg(test)]
+mod fields;
+#[cfg(test)]
+mod frames;
+#[cfg(test)]
+mod replies;
+#[cfg(test)]
+mod roles;

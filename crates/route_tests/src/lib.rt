@@ -1,0 +1,17 @@
+//! Tests of routes: certificates and searches over graphs, the graph of a fabric, and what a request is answered.
+#![tactic(auto)]
+
+#[cfg(test)]
+mod certificates;
+#[cfg(test)]
+mod decisions;
+#[cfg(test)]
+mod explanations;
+#[cfg(test)]
+mod graphs;
+#[cfg(test)]
+mod lines;
+#[cfg(test)]
+mod rows;
+#[cfg(test)]
+mod searches;

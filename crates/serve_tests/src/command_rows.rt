@@ -1,0 +1,300 @@
+//! Rows of commands on policies, links and terminators, and of what is then shown. The rows of a table are one run.
+
+use crate::desks::steady_desk;
+use ctrl_serve::{Bounds, Status, run_within};
+use std::alloc::{AllocError, Global};
+use std::process::Abort;
+use std::test::Fail;
+use ziti_desk::{MemSource, NEVER};
+
+/// A content type, the body of the frame, and the body of its reply.
+pub type Row = (u32, &'static str, &'static str);
+
+/// The sequence number of each request.
+const REQUEST: u32 = 7;
+
+/// The reply to a change that makes nothing.
+pub const DONE: &str = "{}";
+
+/// The refusal of a number that nothing has.
+pub const UNKNOWN_NUMBER: &str = r#"{"code":21,"field":"no","name":"Unknown"}"#;
+
+/// The grants of who may dial web, by one policy.
+const ONCE: &str = r#"{"bind":[],"dial":[["web",1]],"routers":[]}"#;
+
+/// No grants.
+const NONE: &str = r#"{"bind":[],"dial":[],"routers":[]}"#;
+
+/// What entries match: both attributes, one of them, a name, nothing, and `#all`, for which an attribute `all` is as any other.
+const ROLES: [Row; 26] = [
+    (1010, r#"{"name":"web"}"#, r#"{"no":1}"#),
+    (
+        1000,
+        r#"{"name":"ab","attributes":["a","b"]}"#,
+        r#"{"no":1}"#,
+    ),
+    (1000, r#"{"name":"a","attributes":["a"]}"#, r#"{"no":2}"#),
+    (1000, r#"{"name":"x"}"#, r#"{"no":3}"#),
+    (
+        1100,
+        r##"{"name":"p","type":"Dial","semantic":"AllOf","identity_roles":["#a","#b"],"service_roles":["@web"]}"##,
+        r#"{"no":1}"#,
+    ),
+    (1500, r#"{"identity":"ab"}"#, ONCE),
+    (1500, r#"{"identity":"a"}"#, NONE),
+    (1500, r#"{"identity":"x"}"#, NONE),
+    (
+        1101,
+        r##"{"name":"p","type":"Dial","semantic":"AnyOf","identity_roles":["#a","#b"],"service_roles":["@web"]}"##,
+        DONE,
+    ),
+    (1500, r#"{"identity":"ab"}"#, ONCE),
+    (1500, r#"{"identity":"a"}"#, ONCE),
+    (1500, r#"{"identity":"x"}"#, NONE),
+    (
+        1101,
+        r#"{"name":"p","type":"Dial","semantic":"AllOf","identity_roles":["@x"],"service_roles":["@web"]}"#,
+        DONE,
+    ),
+    (1500, r#"{"identity":"ab"}"#, NONE),
+    (1500, r#"{"identity":"a"}"#, NONE),
+    (1500, r#"{"identity":"x"}"#, ONCE),
+    (
+        1101,
+        r#"{"name":"p","type":"Dial","semantic":"AllOf","identity_roles":[],"service_roles":["@web"]}"#,
+        DONE,
+    ),
+    (1500, r#"{"identity":"ab"}"#, NONE),
+    (1500, r#"{"identity":"a"}"#, NONE),
+    (1500, r#"{"identity":"x"}"#, NONE),
+    (
+        1101,
+        r##"{"name":"p","type":"Dial","semantic":"AnyOf","identity_roles":["#all","#a"],"service_roles":["@web"]}"##,
+        r#"{"code":11,"field":"identity_roles","name":"BadBody","reason":"WrongKind"}"#,
+    ),
+    (
+        1101,
+        r#"{"name":"p","type":"Dial","semantic":"AnyOf","identity_roles":["@q"],"service_roles":["@web"]}"#,
+        r#"{"code":23,"field":"identity_roles","name":"UnknownRef","ref":"q"}"#,
+    ),
+    (1000, r#"{"name":"y","attributes":["all"]}"#, r#"{"no":4}"#),
+    (
+        1101,
+        r##"{"name":"p","type":"Dial","semantic":"AllOf","identity_roles":["#all"],"service_roles":["@web"]}"##,
+        DONE,
+    ),
+    (1500, r#"{"identity":"x"}"#, ONCE),
+    (1500, r#"{"identity":"y"}"#, ONCE),
+];
+
+/// Two policies that grant the same, which go one after the other.
+const COUNTS: [Row; 11] = [
+    (1000, r#"{"name":"ann"}"#, r#"{"no":1}"#),
+    (1010, r#"{"name":"web"}"#, r#"{"no":1}"#),
+    (
+        1100,
+        r#"{"name":"p","type":"Dial","semantic":"AllOf","identity_roles":["@ann"],"service_roles":["@web"]}"#,
+        r#"{"no":1}"#,
+    ),
+    (
+        1100,
+        r##"{"name":"q","type":"Dial","semantic":"AnyOf","identity_roles":["#all"],"service_roles":["#all"]}"##,
+        r#"{"no":2}"#,
+    ),
+    (
+        1500,
+        r#"{"identity":"ann"}"#,
+        r#"{"bind":[],"dial":[["web",2]],"routers":[]}"#,
+    ),
+    (1102, r#"{"name":"p"}"#, DONE),
+    (1500, r#"{"identity":"ann"}"#, ONCE),
+    (1501, r#"{"identity":"ann"}"#, r#"{"services":["web"]}"#),
+    (1102, r#"{"name":"q"}"#, DONE),
+    (1500, r#"{"identity":"ann"}"#, NONE),
+    (1501, r#"{"identity":"ann"}"#, r#"{"services":[]}"#),
+];
+
+/// A policy by names: an identity of the name that comes later is not meant by it.
+const NAMES: [Row; 7] = [
+    (1000, r#"{"name":"ann"}"#, r#"{"no":1}"#),
+    (1010, r#"{"name":"web"}"#, r#"{"no":1}"#),
+    (
+        1100,
+        r#"{"name":"p","type":"Dial","semantic":"AnyOf","identity_roles":["@ann"],"service_roles":["@web"]}"#,
+        r#"{"no":1}"#,
+    ),
+    (
+        1502,
+        "{}",
+        r#"{"circuits":0,"grants":1,"identities":1,"links":0,"policies":1,"routers":0,"services":1,"terminators":0}"#,
+    ),
+    (1002, r#"{"name":"ann"}"#, DONE),
+    (1000, r#"{"name":"ann"}"#, r#"{"no":2}"#),
+    (1500, r#"{"identity":"ann"}"#, NONE),
+];
+
+/// Links and terminators: what is refused, what is reported, and what goes with a router and with a host.
+const NETWORK: [Row; 25] = [
+    (1000, r#"{"name":"h"}"#, r#"{"no":1}"#),
+    (1010, r#"{"name":"web"}"#, r#"{"no":1}"#),
+    (1020, r#"{"name":"r1"}"#, r#"{"no":1}"#),
+    (1020, r#"{"name":"r2"}"#, r#"{"no":2}"#),
+    (
+        1200,
+        r#"{"name":"l1","a":"r1","b":"r1"}"#,
+        r#"{"code":25,"name":"SameRouter"}"#,
+    ),
+    (
+        1200,
+        r#"{"name":"l1","a":"r1","b":"q"}"#,
+        r#"{"code":21,"field":"b","name":"Unknown"}"#,
+    ),
+    (1200, r#"{"name":"l1","a":"r1","b":"r2"}"#, r#"{"no":1}"#),
+    (
+        1200,
+        r#"{"name":"l1","a":"r1","b":"q"}"#,
+        r#"{"code":20,"name":"Exists"}"#,
+    ),
+    (1201, r#"{"link":"l1","cost":5}"#, DONE),
+    (1202, r#"{"link":"l1","router":"r2","latency":60000}"#, DONE),
+    (
+        1203,
+        r#"{"link":"l1","router":"q","up":false}"#,
+        r#"{"code":21,"field":"router","name":"Unknown"}"#,
+    ),
+    (1203, r#"{"link":"l1","router":"r1","up":false}"#, DONE),
+    (1210, r#"{"cost":20}"#, DONE),
+    (1300, r#"{"service":"web","router":"r1"}"#, r#"{"no":1}"#),
+    (
+        1300,
+        r#"{"service":"web","router":"r2","host":"h"}"#,
+        r#"{"code":26,"name":"NotBindable"}"#,
+    ),
+    (
+        1100,
+        r#"{"name":"b","type":"Bind","semantic":"AnyOf","identity_roles":["@h"],"service_roles":["@web"]}"#,
+        r#"{"no":1}"#,
+    ),
+    (
+        1300,
+        r#"{"service":"web","router":"r2","host":"h"}"#,
+        r#"{"no":2}"#,
+    ),
+    (
+        1301,
+        r#"{"no":3,"cost":1,"precedence":"required"}"#,
+        UNKNOWN_NUMBER,
+    ),
+    (
+        1502,
+        "{}",
+        r#"{"circuits":0,"grants":1,"identities":1,"links":1,"policies":1,"routers":2,"services":1,"terminators":2}"#,
+    ),
+    (1022, r#"{"name":"r1"}"#, DONE),
+    (
+        1502,
+        "{}",
+        r#"{"circuits":0,"grants":1,"identities":1,"links":0,"policies":1,"routers":1,"services":1,"terminators":1}"#,
+    ),
+    (
+        1204,
+        r#"{"link":"l1"}"#,
+        r#"{"code":21,"field":"link","name":"Unknown"}"#,
+    ),
+    (1301, r#"{"no":2,"cost":65535,"precedence":"failed"}"#, DONE),
+    (1002, r#"{"name":"h"}"#, DONE),
+    (1302, r#"{"no":2}"#, UNKNOWN_NUMBER),
+];
+
+fn push_number(bytes: &mut Vec<u8>, number: u32) -> Result<(), AllocError> {
+    bytes.extend_from_slice(&number.to_le_bytes())
+}
+
+fn push_head(
+    bytes: &mut Vec<u8>,
+    content: u32,
+    sequence: u32,
+    headers_len: u32,
+    body: &str,
+) -> Result<(), AllocError> {
+    bytes.extend_from_slice(b"\x03\x06\x09\x0c")?;
+    push_number(bytes, content)?;
+    push_number(bytes, sequence)?;
+    push_number(bytes, headers_len)?;
+    push_number(bytes, u32::try_from(body.len()).unwrap_or(u32::MAX))
+}
+
+/// Puts the frame of a request behind the others.
+pub(crate) fn push_request(
+    bytes: &mut Vec<u8>,
+    content: u32,
+    body: &str,
+) -> Result<(), AllocError> {
+    push_head(bytes, content, REQUEST, 0, body)?;
+    bytes.extend_from_slice(body.as_bytes())
+}
+
+fn requests(alloc: Global, rows: &[Row]) -> Result<Vec<u8>, AllocError> {
+    let mut bytes = Vec::new(alloc);
+    for (content, body, _) in rows {
+        push_request(&mut bytes, *content, body)?;
+    }
+    Ok(bytes)
+}
+
+fn push_reply(bytes: &mut Vec<u8>, sequence: u32, body: &str) -> Result<(), AllocError> {
+    push_head(bytes, 2, sequence, 21, body)?;
+    bytes.extend_from_slice(b"\x01\0\0\0\x04\0\0\0")?;
+    push_number(bytes, REQUEST)?;
+    bytes.extend_from_slice(b"\x02\0\0\0\x01\0\0\0")?;
+    bytes.push(u8::from(!body.starts_with("{\"code\"")))?;
+    bytes.extend_from_slice(body.as_bytes())
+}
+
+/// The frame of a reply, laid out by hand.
+pub(crate) fn reply_frame(alloc: Global, sequence: u32, body: &str) -> Result<Vec<u8>, AllocError> {
+    let mut bytes = Vec::new(alloc);
+    push_reply(&mut bytes, sequence, body)?;
+    Ok(bytes)
+}
+
+/// The replies as they are wanted, laid out by hand: with the request's number, and whether it is no refusal.
+fn replies(alloc: Global, rows: &[Row]) -> Result<Vec<u8>, AllocError> {
+    let mut bytes = Vec::new(alloc);
+    let mut sequence = 0u32;
+    for (_, _, body) in rows {
+        push_reply(&mut bytes, sequence, body)?;
+        sequence = sequence.wrapping_add(1);
+    }
+    Ok(bytes)
+}
+
+/// Runs the frames of some rows from the start, and compares what is said with their replies.
+pub(crate) fn check_table(rt: &impl Abort, alloc: Global, rows: &[Row]) -> Result<(), Fail> {
+    let bounds = Bounds {
+        input: 65_536,
+        slot: 64,
+        mark: 1,
+    };
+    let mut words = Vec::new(alloc);
+    words.push(String::from_str(alloc, "dry")?)?;
+    let mut source = MemSource::new(requests(alloc, rows)?, 4_096, NEVER);
+    let mut desk = steady_desk(alloc)?;
+    let status = run_within(alloc, &words, bounds, &mut source, &mut desk);
+    let wanted = replies(alloc, rows)?;
+    assert_eq!(rt; status, Status::Done);
+    assert_eq!(rt; desk.said(), wanted.as_slice());
+    Ok(())
+}
+
+#[test]
+fn answers_commands_on_policies(rt: HostRuntime) -> Result<(), Fail> {
+    check_table(&rt, rt.alloc(), &ROLES)?;
+    check_table(&rt, rt.alloc(), &COUNTS)?;
+    check_table(&rt, rt.alloc(), &NAMES)
+}
+
+#[test]
+fn answers_commands_on_links_and_terminators(rt: HostRuntime) -> Result<(), Fail> {
+    check_table(&rt, rt.alloc(), &NETWORK)
+}

@@ -1,0 +1,15 @@
+//! Tests of whole runs: frames of every family over memory, the bytes that are said, and the status.
+#![tactic(auto)]
+
+#[cfg(test)]
+mod adapters;
+#[cfg(test)]
+mod circuit_rows;
+#[cfg(test)]
+mod command_rows;
+#[cfg(test)]
+mod desks;
+#[cfg(test)]
+mod model_rows;
+#[cfg(test)]
+mod runs;

@@ -1,0 +1,171 @@
+ghost use Rattle.std.specs.Prelude.{◌≡◌, true};
+ghost use Rattle.entity_store.specs.EntityTables.{is_entity_kind};
+
+use crate::making::{add, names};
+use ctrl_model::{Kind, Name, Names, RouterNo, RouterSeen};
+use entity_store::{Entities, EntityFault};
+use std::alloc::Global;
+use std::process::Abort;
+use std::test::Fail;
+
+/// The routers 2 and 3 at the end.
+const MARKED: RouterSeen = RouterSeen {
+    no: RouterNo(2),
+    cost: 7,
+    through: false,
+    connected: true,
+};
+
+const MADE: RouterSeen = RouterSeen {
+    no: RouterNo(3),
+    cost: 0,
+    through: true,
+    connected: false,
+};
+
+// Replaces the attributes of a present entity as a caller has to.
+fn update_as(
+    rt: &impl Abort,
+    store: &mut Entities,
+    kind: Kind,
+    no: u32,
+    fresh: &Names,
+) -> Result<(), Fail>
+    requires { is_entity_kind kind ≡ true }
+{
+    let Some((_, had)) = store.seen(kind, no) else {
+        return Err(Fail::new("nothing has the number"));
+    };
+    assert!(rt; store.has_room(had, fresh));
+    Ok(store.update(kind, no, fresh)?)
+}
+
+fn update(
+    rt: &impl Abort,
+    alloc: Global,
+    store: &mut Entities,
+    kind: Kind,
+    no: u32,
+    attributes: &[&[u8]],
+) -> Result<(), Fail>
+    requires { is_entity_kind kind ≡ true }
+{
+    let fresh = names(alloc, attributes)?;
+    update_as(rt, store, kind, no, &fresh)
+}
+
+// Removes a present entity as a caller has to.
+fn remove(store: &mut Entities, kind: Kind, no: u32) -> Result<(), Fail>
+    requires { is_entity_kind kind ≡ true }
+{
+    if store.seen(kind, no).is_none() {
+        return Err(Fail::new("nothing has the number"));
+    }
+    store.remove(kind, no);
+    Ok(())
+}
+
+// Two entities of a kind are added, and none twice.
+fn adds(rt: &impl Abort, alloc: Global, store: &mut Entities, kind: Kind) -> Result<(), Fail>
+    requires { is_entity_kind kind ≡ true }
+{
+    let wanted = [
+        (b"ann".as_slice(), Ok(1)),
+        (b"bob".as_slice(), Ok(2)),
+        (b"ann".as_slice(), Err(EntityFault::Exists)),
+    ];
+    'adds: for (name, made) in wanted {
+        assert_eq!(rt;
+            add(rt, alloc, store, kind, name, &[b"red", b"blue"])?,
+            made
+        );
+    }
+    Ok(())
+}
+
+// They are found by their names.
+fn finds(rt: &impl Abort, alloc: Global, store: &Entities, kind: Kind) -> Result<(), Fail>
+    requires { is_entity_kind kind ≡ true }
+{
+    let wanted = [
+        (b"bob".as_slice(), Ok(2)),
+        (b"carl".as_slice(), Err(EntityFault::Unknown)),
+    ];
+    'finds: for (name, found) in wanted {
+        assert_eq!(rt; store.find(kind, &Name::of(alloc, name)?), found);
+    }
+    Ok(())
+}
+
+// The second has other attributes, and the first goes. Its number is not given again.
+fn changes(rt: &impl Abort, alloc: Global, store: &mut Entities, kind: Kind) -> Result<(), Fail>
+    requires { is_entity_kind kind ≡ true }
+{
+    update(rt, alloc, store, kind, 2, &[b"green"])?;
+    let (name, attributes) = store.seen(kind, 2).ok_or("bob is there")?;
+    assert!(rt; name.bytes() == b"bob".as_slice() && attributes.len() == 1);
+    remove(store, kind, 1)?;
+    assert_eq!(rt; add(rt, alloc, store, kind, b"ann", &[])?, Ok(3));
+    assert_eq!(rt; store.numbers(alloc, kind)?.as_slice(), [2, 3].as_slice());
+    Ok(())
+}
+
+fn keeps(rt: &impl Abort, alloc: Global, store: &mut Entities, kind: Kind) -> Result<(), Fail>
+    requires { is_entity_kind kind ≡ true }
+{
+    adds(rt, alloc, store, kind)?;
+    finds(rt, alloc, store, kind)?;
+    changes(rt, alloc, store, kind)
+}
+
+// A router is marked, and the next number of a kind raised.
+fn marks(rt: &impl Abort, alloc: Global, store: &mut Entities) -> Result<(), Fail> {
+    if store.seen(Kind::Router, 2).is_none() || store.next(Kind::Router) > 9 {
+        return Err(Fail::new("the routers 2 and 3 are there"));
+    }
+    store.set_router(RouterNo(2), 7, false, true);
+    store.skip(Kind::Router, 9);
+    let routers = store.routers(alloc)?;
+    assert_eq!(rt; routers.as_slice(), [MARKED, MADE].as_slice());
+    assert_eq!(rt; store.next(Kind::Router), 9);
+    Ok(())
+}
+
+fn keeps_kinds(rt: &impl Abort, alloc: Global, store: &mut Entities) -> Result<(), Fail> {
+    keeps(rt, alloc, store, Kind::Identity)?;
+    keeps(rt, alloc, store, Kind::Service)?;
+    keeps(rt, alloc, store, Kind::Router)?;
+    marks(rt, alloc, store)
+}
+
+#[test]
+fn keeps_the_three_kinds(rt: HostRuntime) -> Result<(), Fail> {
+    let mut store = Entities::new(rt.alloc())?;
+    keeps_kinds(&rt, rt.alloc(), &mut store)
+}
+
+// Adds an identity of a number.
+fn add_numbered(
+    rt: &impl Abort,
+    alloc: Global,
+    store: &mut Entities,
+    count: u32,
+) -> Result<Result<u32, EntityFault>, Fail> {
+    let name = format!(in alloc; "n{count}")?;
+    add(rt, alloc, store, Kind::Identity, name.as_bytes(), &[])
+}
+
+fn fills(rt: &impl Abort, alloc: Global, store: &mut Entities) -> Result<(), Fail> {
+    'fills: for count in 0..2_048u32 {
+        assert_eq!(rt; add_numbered(rt, alloc, store, count)?, Ok(count + 1));
+    }
+    let full = Err(EntityFault::Full(Kind::Identity));
+    assert_eq!(rt; add_numbered(rt, alloc, store, 2_048)?, full);
+    Ok(())
+}
+
+#[test]
+fn a_kind_is_limited(rt: HostRuntime) -> Result<(), Fail> {
+    let mut store = Entities::new(rt.alloc())?;
+    fills(&rt, rt.alloc(), &mut store)
+}
