@@ -37,10 +37,19 @@ pub struct Folder<'r, R: Files> {
     mark: Option<R::File>,
 }
 
-// The file at a path, or none where it is absent.
-fn open<R: Files>(rt: &R, path: &str) -> Result<Option<R::File>, Failed> {
+// Makes the names of the files in a folder stable.
+fn keep_names<R: Files>(rt: &R, folder: &str) -> Result<(), Failed> {
+    let folder = given(OpenOptions::new().read(true).open(rt, folder))?;
+    given(folder.sync_all())
+}
+
+// The file at a path, or none where it is absent. Its name is made stable: an earlier run may have stopped before it was.
+fn open<R: Files>(rt: &R, folder: &str, path: &str) -> Result<Option<R::File>, Failed> {
     match OpenOptions::new().read(true).write(true).open(rt, path) {
-        Ok(file) => Ok(Some(file)),
+        Ok(file) => {
+            keep_names(rt, folder)?;
+            Ok(Some(file))
+        }
         Err(error) if error.kind() == ErrorKind::NotFound => Ok(None),
         Err(_) => Err(Failed),
     }
@@ -55,8 +64,7 @@ fn make<R: Files>(rt: &R, folder: &str, path: &str) -> Result<R::File, Failed> {
             .create(true)
             .open(rt, path),
     )?;
-    let folder = given(OpenOptions::new().read(true).open(rt, folder))?;
-    given(folder.sync_all())?;
+    keep_names(rt, folder)?;
     Ok(file)
 }
 
@@ -91,10 +99,11 @@ impl<'r, R: Files> Folder<'r, R> {
     // The file of a part, or none where it is absent.
     fn found(&mut self, part: Part) -> Result<Option<&mut R::File>, Failed> {
         let rt = self.rt;
+        let paths = self.paths;
         let path = self.path(part);
         let slot = self.slot(part);
         if slot.is_none() {
-            *slot = open(rt, path)?;
+            *slot = open(rt, paths.folder, path)?;
         }
         Ok(slot.as_mut())
     }
@@ -106,7 +115,7 @@ impl<'r, R: Files> Folder<'r, R> {
         let path = self.path(part);
         let slot = self.slot(part);
         if slot.is_none() {
-            *slot = open(rt, path)?;
+            *slot = open(rt, paths.folder, path)?;
         }
         match slot {
             Some(file) => Ok(file),
