@@ -1,2 +1,9 @@
 pub mod RisingRows
 pub mod Differences
+pub mod KeyOrders
+pub mod JoinedRows
+pub mod RowsAtKeys
+pub mod RisingStates
+pub mod TableRows
+pub mod SpelledKeys
+pub mod Covers
