@@ -7,3 +7,5 @@ pub mod RisingStates
 pub mod TableRows
 pub mod SpelledKeys
 pub mod Covers
+pub mod WrittenRecords
+pub mod WrittenRows
