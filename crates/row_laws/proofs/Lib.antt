@@ -9,3 +9,5 @@ pub mod SpelledKeys
 pub mod Covers
 pub mod WrittenRecords
 pub mod WrittenRows
+pub mod BatchForms
+pub mod SpelledValues
