@@ -11,3 +11,4 @@ pub mod WrittenRecords
 pub mod WrittenRows
 pub mod BatchForms
 pub mod SpelledValues
+pub mod SameStates
