@@ -12,3 +12,4 @@ pub mod WrittenRows
 pub mod BatchForms
 pub mod SpelledValues
 pub mod SameStates
+pub mod StateBatches

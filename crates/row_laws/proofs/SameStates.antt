@@ -124,7 +124,7 @@ same_from_rows s t v w e =
 
 -- ---- rows that are spelled alike
 
-key_same : (k l : Key) → is_key k ≡ true → is_key l ≡ true → key_bytes k ≡ key_bytes l → k ≡ l
+pub key_same : (k l : Key) → is_key k ≡ true → is_key l ≡ true → key_bytes k ≡ key_bytes l → k ≡ l
 key_same k l h j e = key_exact k l (sym (bytes_order k l h j) ∙ ap (λ b. bytes_cmp (key_bytes k) b) (sym e) ∙ tied_itself nat_list_cmp_total (key_bytes k))
 
 parts_same : {X : Type 0} (x y : X) (xs ys : List X) → (x ∷ xs) ≡ (y ∷ ys) → (x ≡ y) × (xs ≡ ys)
