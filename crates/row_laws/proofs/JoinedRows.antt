@@ -1,22 +1,17 @@
 -- Laws on rows that are joined part by part, as those of the tables of a state: what stands at a key, and that they rise where the
 -- parts do and their numbers climb.
 use Rattle.std.proofs.Common.{◌≡◌, ℕ, ◌<◌, ◌==◌, ◌&&◌, nat_lt, Bool, true, false, cond, List, [], ◌∷◌, ◌++◌, map, find, flat_map, ◌||◌, Option, None, Some, option_and_then, refl, sym, ◌∙◌, ap, arith, ltb-true, ne_eqb, eqb-true}
-use Rattle.std.specs.Prelude.{⊤}
 use Rattle.std.proofs.lemmas.Bool.{and_parts, cond-false}
 use Rattle.std.specs.Option.{option_or}
 use Rattle.std.specs.List.{AllByRecursion, list_all, list_any}
 use Rattle.row_codec.specs.RowKeys.{Key, key_cmp}
 use Rattle.row_codec.specs.RowDifference.{value_at, Rises}
+use Rattle.row_laws.specs.ChangedKeys.{Climbs}
 use Rattle.row_laws.proofs.RisingRows.{Above, All-append, All-flat_map, All-more, value_at-append, Rises-append}
 use Rattle.row_laws.proofs.KeyOrders.{key_total}
 use Rattle.std.proofs.Common.{Less}
 
--- the numbers of parts climb
-abbrev pub Climbs : {X : Type 0} → (X → ℕ) → List X → Type 0
-Climbs g [] = ⊤
-Climbs g (x ∷ xs) = AllByRecursion (λ y. g x < g y) xs × Climbs g xs
-
--- the same as a test, which computes for tables and kinds
+-- that the numbers of parts climb, as a test, which computes for tables and kinds
 abbrev pub climbs : {X : Type 0} → (X → ℕ) → List X → Bool
 climbs g [] = true
 climbs g (x ∷ xs) = list_all (λ y. nat_lt (g x) (g y)) xs && climbs g xs

@@ -13,3 +13,4 @@ pub mod BatchForms
 pub mod SpelledValues
 pub mod SameStates
 pub mod StateBatches
+pub mod TouchedKeys

@@ -14,9 +14,10 @@ use Rattle.row_codec.specs.RowKeys.RowTable.{Next, Setting, Records, Counts}
 use Rattle.row_codec.specs.RowValues.{record_value}
 use Rattle.row_codec.specs.RowDifference.{Rises}
 use Rattle.row_codec.specs.StateRows.{Rows, next_value, setting_value, count_value, row_if_some, rows_in, rows_of}
+use Rattle.row_laws.specs.ChangedKeys.{Climbs}
 use Rattle.row_laws.proofs.RisingRows.{Above, All-each, All-flat_map, All-more}
 use Rattle.row_laws.proofs.KeyOrders.{less_by_table, less_by_first, less_by_second}
-use Rattle.row_laws.proofs.JoinedRows.{Climbs, Climbs-from, Rises-joined}
+use Rattle.row_laws.proofs.JoinedRows.{Climbs-from, Rises-joined}
 
 -- the tables of a state are numbered
 abbrev pub IsNumbered : State → Type 0

@@ -1,1 +1,2 @@
 pub mod SaidChanges
+pub mod ChangedKeys
