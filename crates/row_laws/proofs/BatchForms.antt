@@ -1,5 +1,5 @@
 -- The batch between two valid states is a batch: its keys rise as bytes, and its lengths fit.
-use Rattle.std.proofs.Common.{◌≡◌, ℕ, ◌^◌, ◌<◌, ◌≤◌, ◌==◌, nat_lt, Bool, true, false, cond, List, [], ◌∷◌, ◌++◌, map, length, Option, None, Some, refl, sym, ◌∙◌, ap, subst, arith, bytes_eq, Ordering, Less, Equal, Greater}
+use Rattle.std.proofs.Common.{ℕ, ◌^◌, ◌<◌, ◌≤◌, ◌==◌, nat_lt, Bool, true, false, cond, List, [], ◌∷◌, ◌++◌, length, None, Some, sym, subst, arith, bytes_eq, Ordering, Less, Equal, Greater}
 use Rattle.std.proofs.lemmas.Cmp.{nat_list_cmp_total}
 use Rattle.std.specs.FinMap.{IsAntisymmetric, nat_cmp-IsAntisymmetric, slice_cmp-IsAntisymmetric}
 use Rattle.std.specs.Ordering.{match_ordering}
@@ -9,7 +9,7 @@ use Rattle.ctrl_model.specs.ValidState.{ValidState}
 use Rattle.row_codec.specs.RowKeys.{Key, key_cmp, key_bytes, number_in_key}
 use Rattle.row_codec.specs.RowDifference.{Entry, Rises, put_if_other, with_old, difference}
 use Rattle.row_codec.specs.StateRows.{rows_of}
-use Rattle.row_codec.specs.Batches.{bytes_cmp, entries_of, op_at, ops_of, spelled_rows, batch_between, IsSpelledOp, IsBatch}
+use Rattle.row_codec.specs.Batches.{bytes_cmp, op_at, spelled_rows, batch_between, IsSpelledOp, IsBatch}
 use Rattle.row_laws.proofs.RisingRows.{All-map, All-more, All-each}
 use Rattle.row_laws.proofs.Differences.{Rises-difference}
 use Rattle.row_laws.proofs.RisingStates.{Rises-rows_of}

@@ -1,9 +1,9 @@
 -- Laws on covers: those of neighbouring tables join, tables that stay are covered by no changes, and a cover of all tables makes the
 -- batch.
-use Rattle.std.proofs.Common.{◌≡◌, ℕ, ◌+◌, ◌<◌, ◌≤◌, ◌==◌, ◌||◌, ◌⊎◌, inl, inr, Bool, true, false, cond, List, [], ◌∷◌, ◌++◌, map, flat_map, find, Option, None, Some, option_and_then, option_map, refl, sym, ◌∙◌, ap, ap₂, subst, arith, le_trans, lt_of_lt_of_le, lt_of_le_of_lt, Less, is_eq}
+use Rattle.std.proofs.Common.{◌≡◌, ℕ, ◌+◌, ◌<◌, ◌≤◌, ◌==◌, ◌||◌, ◌⊎◌, inl, inr, Bool, true, false, cond, List, [], ◌∷◌, ◌++◌, map, flat_map, find, Option, None, Some, option_and_then, option_map, refl, sym, ◌∙◌, ap, ap₂, subst, arith, le_trans, lt_of_lt_of_le, Less, is_eq}
 use Rattle.std.proofs.lemmas.Bool.{and_parts, and_from, or_parts, cases_lt, cond-true, cond-false}
 use Rattle.std.specs.Cmp.{Equal-is}
-use Rattle.std.specs.List.{AllByRecursion, list_any, list_all}
+use Rattle.std.specs.List.{AllByRecursion, list_all}
 use Rattle.ctrl_model.specs.declared.kinds.Kind.{Kind}
 use Rattle.ctrl_model.specs.declared.kinds.Relation.{Relation}
 use Rattle.ctrl_model.specs.Numbered.{at}
@@ -11,14 +11,14 @@ use Rattle.ctrl_model.specs.State.{State}
 use Rattle.ctrl_model.specs.Tables.{table}
 use Rattle.ctrl_model.specs.Grants.{count}
 use Rattle.row_codec.specs.declared.changes.Change.{Change}
-use Rattle.row_codec.specs.RowKeys.{RowTable, Key, kinds, kind_number, key_cmp, key_bytes, is_key, table_number, tables}
+use Rattle.row_codec.specs.RowKeys.{RowTable, Key, kinds, kind_number, key_cmp, key_bytes, is_key, table_number}
 use Rattle.row_codec.specs.RowKeys.RowTable.{Next, Setting, Records, Counts}
 use Rattle.row_codec.specs.RowValues.{record_value}
-use Rattle.row_codec.specs.RowDifference.{Entry, Rises, value_at, said_of, IsDifference, difference}
-use Rattle.row_codec.specs.StateRows.{Rows, next_value, setting_value, count_value, row_in, rows_of, row_at}
+use Rattle.row_codec.specs.RowDifference.{Entry, Rises, value_at, said_of, IsDifference}
+use Rattle.row_codec.specs.StateRows.{next_value, count_value, row_in, rows_of, row_at}
 use Rattle.row_codec.specs.Batches.{bytes_cmp, op_at, ops_at, ops_of, batch_of, batch_between, entries_of}
 use Rattle.row_codec.specs.CoveredTables.{Covers, LiesIn, change_at, has_key}
-use Rattle.row_laws.proofs.RisingRows.{Above, All-append, All-more, All-map, All-each, Rises-append, value_at-other}
+use Rattle.row_laws.proofs.RisingRows.{Above, All-append, All-more}
 use Rattle.row_laws.proofs.Differences.{said_of-same, difference_only}
 use Rattle.row_laws.proofs.KeyOrders.{key_total, key_exact, less_by_table}
 use Rattle.row_laws.proofs.RowsAtKeys.{value_at-rows_of}
@@ -50,9 +50,10 @@ before_all b c k (l ∷ ls) h a = (less_by_table k l (lt_of_lt_of_le h a.0.0), b
 Rises-paired : (a b c : ℕ) (ks ls : List Key) → Rises key_cmp (paired ks) → Rises key_cmp (paired ls) → AllByRecursion (LiesIn a b) ks → AllByRecursion (LiesIn b c) ls
     → Rises key_cmp (paired (ks ++ ls))
 Rises-paired a b c [] ls r s w v = s
-Rises-paired a b c (k ∷ ks) ls r s w v =
-    (subst (λ xs. Above key_cmp k xs) (sym (joined ks)) (All-append (λ x. key_cmp k x.0 ≡ Less) (paired ks) (paired ls) r.0 (before_all b c k ls w.0.1 v)),
-    Rises-paired a b c ks ls r.1 s w.1 v)
+Rises-paired a b c (k ∷ ks) ls r s w v = (
+  subst (λ xs. Above key_cmp k xs) (sym (joined ks)) (All-append (λ x. key_cmp k x.0 ≡ Less) (paired ks) (paired ls) r.0 (before_all b c k ls w.0.1 v)),
+  Rises-paired a b c ks ls r.1 s w.1 v,
+)
   where
     joined : (xs : List Key) → paired (xs ++ ls) ≡ paired xs ++ paired ls
     joined [] = refl

@@ -1,18 +1,16 @@
 -- Laws on the difference of two lists of rows: what it says at each key, that it is the only one, and that it leads from the one to
 -- the other.
-use Rattle.std.proofs.Common.{◌≡◌, ℕ, Bool, true, false, cond, not, List, [], ◌∷◌, ◌++◌, map, filter, Option, None, Some, refl, sym, ◌∙◌, ap, subst, option_map, unwrap_or, bytes_eq, Ordering, Less, Equal, Greater, is_lt, is_eq, is_gt}
-use Rattle.std.proofs.lemmas.Bool.{cond-true, cond-false, true≢false, false≢true}
-use Rattle.std.proofs.lemmas.Option.{same_Some, none-some}
-use Rattle.std.proofs.lemmas.Cmp.{tied_itself}
+use Rattle.std.proofs.Common.{◌≡◌, ℕ, Bool, true, false, cond, not, List, [], ◌∷◌, filter, Option, None, Some, refl, sym, ◌∙◌, ap, subst, option_map, unwrap_or, bytes_eq, Ordering, Less, Equal, Greater, is_lt, is_eq, is_gt}
+use Rattle.std.proofs.lemmas.Bool.{cond-true, cond-false, false≢true}
+use Rattle.std.proofs.lemmas.Option.{none-some}
 use Rattle.std.specs.Cmp.{IsTotalOrder, Equal-is}
 use Rattle.std.specs.FinMap.{IsAntisymmetric}
 use Rattle.std.specs.Option.{option_or}
 use Rattle.std.specs.Ordering.{match_ordering, ordering_reverse}
-use Rattle.std.specs.List.{AllByRecursion}
 use Rattle.ctrl_model.proofs.DistinctLaws.{same_name, same_bytes}
 use Rattle.row_codec.specs.RowDifference.{value_at, Rises, Entry, said_of, IsDifference, put_if_other, with_old, difference, with_entry, with_batch, IsTrueDifference}
 use Rattle.row_laws.specs.SaidChanges.{SaysChanges}
-use Rattle.row_laws.proofs.RisingRows.{Above, Above-from, All-append, All-filter, All-passed, All-map, turned, turned_back, value_at-other, value_at-above, value_at-first, value_at-map, value_at-append, Rises-append, Rises-filter, Rises-map, same_rows}
+use Rattle.row_laws.proofs.RisingRows.{Above, Above-from, All-passed, All-map, turned_back, value_at-above, value_at-map, value_at-append, Rises-append, Rises-filter, Rises-map, same_rows}
 
 -- ---- what must be said
 
@@ -285,10 +283,10 @@ module _ {K : Type 0} {R : K → K → Ordering} (o : IsTotalOrder R) (a : IsAnt
         some = d.some;
         rises = rising;
         changes = λ q said here stood.
-        none-some said (sym (said_of-same said)
-        ∙ ap (λ w. said_of w said) (sym stood)
-        ∙ ap (λ w. said_of (value_at R rows q) w) (sym (value_at-with_batch rows batch rising q ∙ ap (λ w. unwrap_or w (value_at R rows q)) here))
-        ∙ sym (ap (λ w. value_at R w q) d.exact ∙ value_at-difference rows after r later q) ∙ here);
+            none-some said (sym (said_of-same said)
+            ∙ ap (λ w. said_of w said) (sym stood)
+            ∙ ap (λ w. said_of (value_at R rows q) w) (sym (value_at-with_batch rows batch rising q ∙ ap (λ w. unwrap_or w (value_at R rows q)) here))
+            ∙ sym (ap (λ w. value_at R w q) d.exact ∙ value_at-difference rows after r later q) ∙ here);
       }
 
   pub true_from_says : (rows : List (K × List ℕ)) (batch : List (Entry K)) → Rises R rows → SaysChanges R rows batch → IsTrueDifference R rows batch

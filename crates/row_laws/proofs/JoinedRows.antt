@@ -1,13 +1,13 @@
 -- Laws on rows that are joined part by part, as those of the tables of a state: what stands at a key, and that they rise where the
 -- parts do and their numbers climb.
-use Rattle.std.proofs.Common.{◌≡◌, ℕ, ◌<◌, ◌==◌, ◌&&◌, nat_lt, Bool, true, false, cond, List, [], ◌∷◌, ◌++◌, map, find, flat_map, ◌||◌, Option, None, Some, option_and_then, refl, sym, ◌∙◌, ap, arith, ltb-true, ne_eqb, eqb-true}
+use Rattle.std.proofs.Common.{◌≡◌, ℕ, ◌<◌, ◌==◌, ◌&&◌, nat_lt, Bool, true, false, cond, List, [], ◌∷◌, find, flat_map, ◌||◌, Option, None, Some, option_and_then, refl, ◌∙◌, ap, arith, ltb-true, ne_eqb, eqb-true}
 use Rattle.std.proofs.lemmas.Bool.{and_parts, cond-false}
 use Rattle.std.specs.Option.{option_or}
 use Rattle.std.specs.List.{AllByRecursion, list_all, list_any}
 use Rattle.row_codec.specs.RowKeys.{Key, key_cmp}
 use Rattle.row_codec.specs.RowDifference.{value_at, Rises}
 use Rattle.row_laws.specs.ChangedKeys.{Climbs}
-use Rattle.row_laws.proofs.RisingRows.{Above, All-append, All-flat_map, All-more, value_at-append, Rises-append}
+use Rattle.row_laws.proofs.RisingRows.{Above, All-append, All-more, value_at-append, Rises-append}
 use Rattle.row_laws.proofs.KeyOrders.{key_total}
 use Rattle.std.proofs.Common.{Less}
 

@@ -1,8 +1,8 @@
 -- Laws on the order of keys: it is total, it tells keys apart, and it is the order of their bytes.
-use Rattle.std.proofs.Common.{◌≡◌, ℕ, ◌+◌, ◌*◌, ◌<◌, ◌^◌, ◌%◌, ◌/◌, ◌==◌, nat_lt, nat_le, ◌&&◌, Bool, true, false, cond, ◌⊎◌, inl, inr, List, [], ◌∷◌, ◌++◌, refl, sym, ◌∙◌, ap, ap₂, subst, arith, eqb-true, eq-eqb, ne_eqb, lt-ltb, le-ltb, ltb-true, le_of_lt, w32, Ordering, Less, Equal, Greater, is_eq, nat_cmp}
-use Rattle.std.proofs.lemmas.Bool.{and_parts, cases_order, cases_eq, cond-true, cond-false}
+use Rattle.std.proofs.Common.{◌≡◌, ℕ, ◌+◌, ◌*◌, ◌<◌, ◌^◌, ◌%◌, ◌/◌, ◌==◌, nat_lt, nat_le, ◌&&◌, Bool, true, false, cond, ◌⊎◌, inl, inr, List, [], ◌∷◌, ◌++◌, refl, sym, ◌∙◌, ap, ap₂, subst, arith, eqb-true, eq-eqb, ne_eqb, lt-ltb, le-ltb, ltb-true, w32, Ordering, Less, Equal, Greater, is_eq, nat_cmp}
+use Rattle.std.proofs.lemmas.Bool.{and_parts, cases_order, cond-true, cond-false}
 use Rattle.std.proofs.lemmas.Cmp.{nat_cmp_total, on_total, then_total}
-use Rattle.std.specs.Cmp.{IsTotalOrder, tied_then, Equal-is}
+use Rattle.std.specs.Cmp.{IsTotalOrder, tied_then}
 use Rattle.std.specs.Cmp.Lexicographic.{slice_cmp}
 use Rattle.std.specs.FinMap.{IsAntisymmetric}
 use Rattle.std.specs.Int.{to_be_bytes}

@@ -1,7 +1,7 @@
 -- Laws on rows under keys of any type that a total order ranks: what stands at a key, rows whose keys rise, and that rising rows
 -- that answer alike at every key are equal.
-use Rattle.std.proofs.Common.{◌≡◌, ℕ, Bool, true, false, cond, not, List, [], ◌∷◌, ◌++◌, map, filter, Option, None, Some, refl, sym, ◌∙◌, ap, subst, option_map, flat_map, Ordering, Less, Equal, Greater, is_lt, is_eq, is_gt}
-use Rattle.std.proofs.lemmas.Bool.{cond-true, cond-false, true≢false, false≢true}
+use Rattle.std.proofs.Common.{◌≡◌, Bool, true, false, cond, List, [], ◌∷◌, ◌++◌, map, filter, None, Some, refl, sym, ◌∙◌, ap, subst, option_map, flat_map, Ordering, Less, Equal, Greater, is_lt, is_eq}
+use Rattle.std.proofs.lemmas.Bool.{cond-true, cond-false, true≢false}
 use Rattle.std.proofs.lemmas.Option.{same_Some, none-some}
 use Rattle.std.proofs.lemmas.Cmp.{tied_itself}
 use Rattle.std.specs.Cmp.{IsTotalOrder, Equal-is}

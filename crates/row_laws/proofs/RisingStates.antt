@@ -1,5 +1,5 @@
 -- The rows of a state rise where its tables are numbered.
-use Rattle.std.proofs.Common.{◌≡◌, ℕ, ◌+◌, ◌<◌, ◌≤◌, List, [], ◌∷◌, map, flat_map, Option, None, Some, refl, sym, ◌∙◌, arith, lt_of_lt_of_le, Less}
+use Rattle.std.proofs.Common.{◌≡◌, ℕ, ◌+◌, ◌<◌, List, [], ◌∷◌, map, flat_map, Option, None, Some, refl, sym, ◌∙◌, arith, lt_of_lt_of_le}
 use Rattle.std.specs.List.{AllByRecursion}
 use Rattle.ctrl_model.specs.declared.kinds.Kind.{Kind}
 use Rattle.ctrl_model.specs.declared.kinds.Kind.TheVariants as kind
@@ -9,13 +9,13 @@ use Rattle.ctrl_model.specs.Numbered.{Between, numbers}
 use Rattle.ctrl_model.specs.State.{State}
 use Rattle.ctrl_model.specs.Tables.{table}
 use Rattle.ctrl_model.specs.Grants.{count, left_numbers, right_numbers}
-use Rattle.row_codec.specs.RowKeys.{RowTable, Key, kinds, kind_number, key_in, key_cmp, table_number, tables}
+use Rattle.row_codec.specs.RowKeys.{RowTable, Key, kinds, kind_number, key_cmp, table_number, tables}
 use Rattle.row_codec.specs.RowKeys.RowTable.{Next, Setting, Records, Counts}
 use Rattle.row_codec.specs.RowValues.{record_value}
 use Rattle.row_codec.specs.RowDifference.{Rises}
-use Rattle.row_codec.specs.StateRows.{Rows, next_value, setting_value, count_value, row_if_some, rows_in, rows_of}
+use Rattle.row_codec.specs.StateRows.{next_value, setting_value, count_value, row_if_some, rows_in, rows_of}
 use Rattle.row_laws.specs.ChangedKeys.{Climbs}
-use Rattle.row_laws.proofs.RisingRows.{Above, All-each, All-flat_map, All-more}
+use Rattle.row_laws.proofs.RisingRows.{Above, All-each, All-flat_map}
 use Rattle.row_laws.proofs.KeyOrders.{less_by_table, less_by_first, less_by_second}
 use Rattle.row_laws.proofs.JoinedRows.{Climbs-from, Rises-joined}
 

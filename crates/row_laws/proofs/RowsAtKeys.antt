@@ -1,5 +1,5 @@
 -- What the rows of a state have at a key: what the state has there, table by table.
-use Rattle.std.proofs.Common.{◌≡◌, ℕ, ◌+◌, ◌==◌, ◌&&◌, ◌||◌, Bool, true, false, cond, List, [], ◌∷◌, map, find, flat_map, Option, None, Some, option_and_then, option_map, refl, sym, ◌∙◌, ap, ap₂, arith, eqb-true, is_eq, count_by}
+use Rattle.std.proofs.Common.{◌≡◌, ℕ, ◌+◌, ◌==◌, ◌&&◌, ◌||◌, Bool, true, false, cond, List, [], ◌∷◌, map, find, flat_map, Option, None, Some, option_and_then, option_map, refl, sym, ◌∙◌, ap, ap₂, arith, eqb-true, count_by}
 use Rattle.std.proofs.lemmas.Bool.{true≢false, false≢true}
 use Rattle.std.proofs.lemmas.Bool.Decides.{nat_tests}
 use Rattle.std.specs.List.{list_any}
@@ -14,7 +14,7 @@ use Rattle.row_codec.specs.RowKeys.{RowTable, Key, kinds, kind_number, key_in, k
 use Rattle.row_codec.specs.RowKeys.RowTable.{Next, Setting, Records, Counts}
 use Rattle.row_codec.specs.RowValues.{record_value}
 use Rattle.row_codec.specs.RowDifference.{value_at}
-use Rattle.row_codec.specs.StateRows.{Rows, next_value, setting_value, count_value, row_if_some, rows_in, rows_of, row_in, row_at}
+use Rattle.row_codec.specs.StateRows.{next_value, setting_value, count_value, row_if_some, rows_in, rows_of, row_in, row_at}
 use Rattle.row_laws.proofs.KeyOrders.{is_eq-key_cmp}
 use Rattle.row_laws.proofs.JoinedRows.{Climbs-from, pick, pick_alike}
 

@@ -1,13 +1,13 @@
 -- Two valid states with equal rows are equal.
-use Rattle.std.proofs.Common.{◌≡◌, ℕ, ◌+◌, ◌^◌, ◌<◌, ◌≤◌, ◌==◌, ◌⊎◌, inl, inr, nat_lt, nat_le, Bool, true, false, cond, List, [], ◌∷◌, Option, None, Some, option_map, refl, sym, ◌∙◌, ap, ap₂, subst, arith, eqb-true, leb-true, lt-ltb, ltb-false, get_or, drop, le_trans}
-use Rattle.std.proofs.lemmas.Bool.{and_parts, cond-true}
+use Rattle.std.proofs.Common.{◌≡◌, ℕ, ◌^◌, ◌<◌, ◌≤◌, ◌==◌, inl, inr, nat_lt, nat_le, Bool, true, false, cond, List, [], ◌∷◌, Option, None, Some, option_map, refl, sym, ◌∙◌, ap, subst, arith, eqb-true, leb-true, lt-ltb, ltb-false, get_or, drop, le_trans}
+use Rattle.std.proofs.lemmas.Bool.{and_parts}
 use Rattle.std.proofs.lemmas.Option.{same_Some, none-some}
 use Rattle.std.proofs.lemmas.Cmp.{tied_itself, nat_list_cmp_total}
 use Rattle.ctrl_model.specs.declared.kinds.Kind.{Kind}
 use Rattle.ctrl_model.specs.declared.kinds.Kind.TheVariants as kind
 use Rattle.ctrl_model.specs.Membership.{Among}
 use Rattle.ctrl_model.specs.Limits.{last_next}
-use Rattle.ctrl_model.specs.Numbered.{Table, at, Between}
+use Rattle.ctrl_model.specs.Numbered.{at, Between}
 use Rattle.ctrl_model.specs.State.{State, start}
 use Rattle.ctrl_model.specs.Tables.{Record, table}
 use Rattle.ctrl_model.specs.ValidState.{ValidState}
@@ -21,7 +21,7 @@ use Rattle.row_laws.proofs.KeyOrders.{key_exact, bytes_order}
 use Rattle.row_laws.proofs.RowsAtKeys.{value_at-rows_of}
 use Rattle.row_laws.proofs.SpelledKeys.{AreKeys}
 use Rattle.row_laws.proofs.SpelledValues.{long_same, same_record}
-use Rattle.row_laws.proofs.WrittenRecords.{fits, record_fits}
+use Rattle.row_laws.proofs.WrittenRecords.{record_fits}
 use Rattle.row_laws.proofs.WrittenRows.{AreKeys-rows_of}
 
 -- ---- numbers

@@ -1,5 +1,5 @@
 -- Values of rows tell records apart: two records that fit and have one value are equal. Each part of a value says where it ends.
-use Rattle.std.proofs.Common.{◌≡◌, ℕ, suc, ◌+◌, ◌^◌, ◌<◌, ◌≤◌, ◌==◌, ◌&&◌, ◌||◌, nat_lt, nat_le, Bool, true, false, cond, List, [], ◌∷◌, ◌++◌, map, length, flat_map, get_or, drop, Option, None, Some, refl, sym, ◌∙◌, ap, ap₂, arith, ltb-true, ne_eqb, append_assoc, append-nil, w16, w32}
+use Rattle.std.proofs.Common.{◌≡◌, ℕ, ◌^◌, ◌==◌, ◌&&◌, ◌||◌, nat_lt, nat_le, Bool, true, false, cond, List, [], ◌∷◌, ◌++◌, length, flat_map, get_or, drop, Option, None, Some, refl, sym, ◌∙◌, ap, ap₂, arith, ltb-true, ne_eqb, append_assoc, w16, w32}
 use Rattle.std.proofs.lemmas.Bool.{and_parts, cond-false, false≢true}
 use Rattle.std.proofs.lemmas.Nat.{from_le_bytes-to_le_bytes_2, from_le_bytes-to_le_bytes_4}
 use Rattle.std.specs.Int.{from_le_bytes}
@@ -185,7 +185,7 @@ entity_same e f h =
 router_same : (r q : Router) → fits kind.Router r ≡ true → fits kind.Router q ≡ true → record_value kind.Router r ≡ record_value kind.Router q → r ≡ q
 router_same r q f g h =
     let costs : (p : Router) → fits kind.Router p ≡ true → is_short p.cost ≡ true =
-        λ p e. (and_parts (are_listed p.attributes) (is_short p.cost) (and_parts (is_name p.name) (are_listed p.attributes && is_short p.cost) e).1).1 in
+    λ p e. (and_parts (are_listed p.attributes) (is_short p.cost) (and_parts (is_name p.name) (are_listed p.attributes && is_short p.cost) e).1).1 in
     let last : Router → List ℕ = λ p. router_marks p.through p.connected ∷ [] in
     let name = text_same r.name q.name (texts r.attributes ++ (short r.cost ++ last r)) (texts q.attributes ++ (short q.cost ++ last q)) h in
     let attributes = texts_same r.attributes q.attributes (short r.cost ++ last r) (short q.cost ++ last q) name.1 in

@@ -1,12 +1,11 @@
 -- The batch between two valid states: it leads from the rows of the one to those of the other, it is empty where they are one, and
 -- else it is a true difference.
-use Rattle.std.proofs.Common.{◌≡◌, ℕ, List, [], ◌∷◌, map, refl, sym, ◌∙◌, ap, subst}
+use Rattle.std.proofs.Common.{◌≡◌, List, [], ◌∷◌, refl, sym, ◌∙◌, ap}
 use Rattle.std.proofs.lemmas.Cmp.{nat_list_cmp_total}
 use Rattle.ctrl_model.specs.State.{State}
 use Rattle.ctrl_model.specs.ValidState.{ValidState}
 use Rattle.row_codec.specs.declared.changes.Op.{Op}
-use Rattle.row_codec.specs.RowKeys.{Key, key_cmp}
-use Rattle.row_codec.specs.RowDifference.{Entry, Rises, difference, with_batch, IsTrueDifference}
+use Rattle.row_codec.specs.RowDifference.{Rises, difference, with_batch, IsTrueDifference}
 use Rattle.row_codec.specs.StateRows.{rows_of}
 use Rattle.row_codec.specs.Batches.{bytes_cmp, entries_of, ops_of, spelled_rows, batch_between}
 use Rattle.row_laws.proofs.Differences.{with_batch-difference, difference-same, same_from_difference}

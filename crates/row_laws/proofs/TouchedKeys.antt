@@ -1,10 +1,10 @@
 -- Covers of one table by the changes at the keys that can differ: of the next numbers, the setting, the records of a kind and the
 -- counts of a relation, and what each change of a table of records touches.
-use Rattle.std.proofs.Common.{◌≡◌, ◌≢◌, ℕ, ◌+◌, ◌<◌, ◌≤◌, ◌==◌, ◌||◌, ◌&&◌, ◌⊎◌, inl, inr, nat_le, Bool, true, false, not, cond, List, [], ◌∷◌, map, find, filter, Option, None, Some, option_map, option_and_then, refl, sym, ◌∙◌, ap, ap₂, subst, arith, eqb-true, eq-eqb, lt-ltb, ◌^◌, Less, is_eq}
-use Rattle.std.proofs.lemmas.Bool.{and_parts, and_from, cond-true, cond-false, both_ways, false_from_ne_true, or_left, or_right, true≢false, false≢true, cases_eq}
+use Rattle.std.proofs.Common.{◌≡◌, ℕ, ◌+◌, ◌<◌, ◌≤◌, ◌==◌, ◌&&◌, inl, inr, nat_le, Bool, true, false, not, cond, List, [], ◌∷◌, map, find, filter, Option, None, Some, option_map, option_and_then, refl, sym, ◌∙◌, ap, subst, arith, eqb-true, lt-ltb, ◌^◌, Less, is_eq}
+use Rattle.std.proofs.lemmas.Bool.{and_parts, and_from, cond-true, cond-false, both_ways, false_from_ne_true, or_left, or_right, false≢true}
 use Rattle.std.proofs.lemmas.Cmp.{tied_itself}
 use Rattle.std.specs.Ordering.{ordering_then}
-use Rattle.std.specs.List.{AllByRecursion, list_all, list_any}
+use Rattle.std.specs.List.{AllByRecursion, list_all}
 use Rattle.ctrl_model.specs.declared.kinds.Kind.{Kind}
 use Rattle.ctrl_model.specs.declared.kinds.Kind.TheVariants as kind
 use Rattle.ctrl_model.specs.declared.kinds.Relation.{Relation}
@@ -17,15 +17,14 @@ use Rattle.ctrl_model.specs.Tables.{Record, table}
 use Rattle.ctrl_model.specs.Grants.{count}
 use Rattle.ctrl_model.proofs.Members.{find_passes}
 use Rattle.ctrl_model.proofs.NumberedLaws.{at-with_last-other, at-edit_at-other, at-without-other, at-map_each, Between-filter}
-use Rattle.row_codec.specs.declared.changes.Change.{Change}
 use Rattle.row_codec.specs.RowKeys.{RowTable, Key, kinds, kind_number, key_cmp, key_in, is_key, is_long, table_number}
 use Rattle.row_codec.specs.RowKeys.RowTable.{Next, Setting, Records, Counts}
 use Rattle.row_codec.specs.RowValues.{record_value}
 use Rattle.row_codec.specs.RowDifference.{Rises}
-use Rattle.row_codec.specs.StateRows.{next_value, setting_value, count_value, row_in, row_at}
+use Rattle.row_codec.specs.StateRows.{next_value, setting_value, count_value, row_in}
 use Rattle.row_codec.specs.CoveredTables.{Covers, LiesIn, change_at, has_key}
 use Rattle.row_laws.specs.ChangedKeys.{Climbs, pair_cmp, next_changes, setting_change, record_changes, count_changes, gone}
-use Rattle.row_laws.proofs.RisingRows.{Above, All-each, All-more, All-map}
+use Rattle.row_laws.proofs.RisingRows.{Above, All-each, All-map}
 use Rattle.row_laws.proofs.KeyOrders.{key_total, less_by_first, nat_cmp-equal}
 use Rattle.row_laws.proofs.RisingStates.{Climbs-numbers}
 use Rattle.row_laws.proofs.TableRows.{row_at-table, has_number, kind_has_number, lies_in_one}

@@ -1,31 +1,30 @@
 -- The records of a valid state can be written: their numbers and lists fit the values of rows, and each row is that of a row's form.
-use Rattle.std.proofs.Common.{◌≡◌, ℕ, suc, ◌+◌, ◌*◌, ◌^◌, ◌<◌, ◌≤◌, ◌==◌, ◌&&◌, nat_lt, nat_le, Bool, true, false, not, cond, ◌⊎◌, inl, inr, List, [], ◌∷◌, ◌++◌, map, length, flat_map, filter, is_some, Option, None, Some, option_map, refl, sym, ◌∙◌, ap, subst, arith, ltb-true, lt-ltb, le-leb, leb-true, eqb-true, eq-eqb, length-append}
+use Rattle.std.proofs.Common.{◌≡◌, ℕ, suc, ◌+◌, ◌^◌, ◌<◌, ◌≤◌, ◌==◌, ◌&&◌, nat_lt, nat_le, Bool, true, not, ◌⊎◌, inl, inr, List, [], ◌∷◌, map, length, filter, Option, None, Some, refl, sym, ◌∙◌, ap, subst, arith, lt-ltb, le-leb, leb-true, eqb-true}
 use Rattle.std.proofs.lemmas.Bool.{and_parts, and_from, or_cases, false≢true}
 use Rattle.std.specs.Option.{option_map_or}
-use Rattle.std.specs.List.{list_all, AllByRecursion}
+use Rattle.std.specs.List.{list_all}
 use Rattle.ctrl_model.specs.declared.kinds.Kind.{Kind}
 use Rattle.ctrl_model.specs.declared.kinds.Kind.TheVariants as kind
 use Rattle.ctrl_model.specs.declared.kinds.Side.{Side}
 use Rattle.ctrl_model.specs.declared.kinds.RouterSeen.{RouterSeen}
 use Rattle.ctrl_model.specs.Membership.{Among}
-use Rattle.ctrl_model.specs.NameForm.{is_name, is_instance, is_name_byte}
-use Rattle.ctrl_model.specs.CommandForm.{are_names, are_attributes, is_stored_side, is_distinct, is_cost, is_link_cost, is_latency, is_service_relation}
-use Rattle.ctrl_model.specs.Matches.{is_nothing}
-use Rattle.ctrl_model.specs.Limits.{limit, last_next}
-use Rattle.ctrl_model.specs.Numbered.{Table, at, is_present, Between, numbers}
-use Rattle.ctrl_model.specs.State.{State, Entity, Router, Link, Policy, Terminator, Circuit}
+use Rattle.ctrl_model.specs.NameForm.{is_name, is_instance}
+use Rattle.ctrl_model.specs.CommandForm.{are_names, are_attributes, is_stored_side, is_distinct, is_cost, is_link_cost, is_latency}
+use Rattle.ctrl_model.specs.Limits.{last_next}
+use Rattle.ctrl_model.specs.Numbered.{at, is_present, Between, numbers}
+use Rattle.ctrl_model.specs.State.{State, Router, Link, Policy, Terminator, Circuit}
 use Rattle.ctrl_model.specs.Tables.{Record, table}
 use Rattle.ctrl_model.specs.ValidState.{ValidState, ValidNumbers, is_valid, may_relate}
-use Rattle.ctrl_model.specs.Networks.{Network, network_of, seen, is_path, hops}
+use Rattle.ctrl_model.specs.Networks.{network_of, seen, is_path, hops}
 use Rattle.ctrl_model.specs.Claims.{router_numbers}
 use Rattle.ctrl_model.specs.Walks.{Hops, is_among, goes}
-use Rattle.ctrl_model.specs.Settling.{link_stays, terminator_stays, stays_in, settle, settle_links, settle_terminators}
-use Rattle.ctrl_model.proofs.Members.{list_all-among, list_all-from_among, by_filter}
+use Rattle.ctrl_model.specs.Settling.{link_stays, terminator_stays, stays_in, settle_links, settle_terminators}
+use Rattle.ctrl_model.proofs.Members.{list_all-among, by_filter}
 use Rattle.ctrl_model.proofs.NumberedLaws.{at-within, by_is_some}
 use Rattle.ctrl_model.proofs.WalkLaws.{by_there, by_goes, LinksAmong, length-path}
 use Rattle.model_laws.proofs.PathLaws.{hops_stay, hops_named, is_on-among}
 use Rattle.row_codec.specs.RowKeys.{is_long}
-use Rattle.row_codec.specs.RowForm.{is_short, are_listed, is_listed_side, is_positive, is_host}
+use Rattle.row_codec.specs.RowForm.{is_short, are_listed, is_listed_side, is_host}
 
 -- the fields of a record fit its row
 abbrev pub fits : (k : Kind) → Record k → Bool

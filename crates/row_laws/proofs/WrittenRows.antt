@@ -1,6 +1,6 @@
 -- The rows of a valid state: each stands under a key, spells a row's form, and is short enough for a batch.
-use Rattle.std.proofs.Common.{◌≡◌, ℕ, zero, suc, ◌+◌, ◌*◌, ◌^◌, ◌<◌, ◌≤◌, ◌==◌, ◌&&◌, ◌⊎◌, inl, inr, eqb-true, nat_lt, nat_le, Bool, true, false, not, cond, List, [], ◌∷◌, ◌++◌, map, length, flat_map, Option, None, Some, option_map, refl, sym, ◌∙◌, ap, subst, arith, lt-ltb, ltb-true, leb-true, length-append, count_by, le_trans, lt_of_le_of_lt, le_refl}
-use Rattle.std.proofs.lemmas.Bool.{and_parts, and_from, or_cases, false≢true, true≢false, not_from_false}
+use Rattle.std.proofs.Common.{◌≡◌, ℕ, suc, ◌+◌, ◌*◌, ◌^◌, ◌<◌, ◌≤◌, ◌==◌, ◌&&◌, ◌⊎◌, inl, inr, eqb-true, nat_lt, nat_le, Bool, true, false, not, cond, List, [], ◌∷◌, ◌++◌, map, length, flat_map, Option, None, Some, option_map, refl, sym, ap, subst, arith, lt-ltb, leb-true, length-append, count_by, le_trans, lt_of_le_of_lt, le_refl}
+use Rattle.std.proofs.lemmas.Bool.{and_parts, and_from, or_cases, false≢true, not_from_false}
 use Rattle.std.proofs.lemmas.List.Sums.{count_by-le-length}
 use Rattle.std.specs.List.{list_all, AllByRecursion}
 use Rattle.ctrl_model.specs.declared.kinds.Kind.{Kind}
@@ -11,10 +11,7 @@ use Rattle.ctrl_model.specs.declared.kinds.Relation.TheVariants.{Dial, Bind, Ide
 use Rattle.ctrl_model.specs.declared.numbering.IdentityNo.{IdentityNo}
 use Rattle.ctrl_model.specs.Membership.{Among}
 use Rattle.ctrl_model.specs.NameForm.{is_name, is_instance}
-use Rattle.ctrl_model.specs.CommandForm.{is_link_cost}
-use Rattle.ctrl_model.specs.Limits.{limit, last_next}
-use Rattle.ctrl_model.specs.Numbered.{at, numbers}
-use Rattle.ctrl_model.specs.State.{State, Entity, Router, Link, Policy, Terminator, Circuit, start}
+use Rattle.ctrl_model.specs.State.{State, Entity, Policy, start}
 use Rattle.ctrl_model.specs.Tables.{Record, table}
 use Rattle.ctrl_model.specs.Grants.{count, joins, policies_for, on_both, left_entity, right_entity, left_numbers, right_numbers}
 use Rattle.ctrl_model.specs.ValidState.{ValidState, may_relate}
@@ -24,8 +21,8 @@ use Rattle.row_codec.specs.declared.rows.Row.TheVariants as row
 use Rattle.row_codec.specs.RowKeys.{RowTable, Key, kinds, kind_number, key_in, key_bytes, table_number, tables, is_key, is_long}
 use Rattle.row_codec.specs.RowKeys.RowTable.{Next, Setting, Records, Counts}
 use Rattle.row_codec.specs.RowValues.{long, short, text, texts, side_bytes, sides_value, record_value, host_number, precedence_byte, router_marks, flag, relation_byte, semantic_byte}
-use Rattle.row_codec.specs.RowForm.{SpellsRow, is_row, are_listed, is_listed_side, is_positive, is_host, is_short}
-use Rattle.row_codec.specs.StateRows.{Rows, next_value, setting_value, count_value, row_if_some, rows_in, rows_of}
+use Rattle.row_codec.specs.RowForm.{SpellsRow, are_listed, is_listed_side, is_positive, is_host, is_short}
+use Rattle.row_codec.specs.StateRows.{next_value, count_value, row_if_some, rows_in, rows_of}
 use Rattle.row_laws.proofs.RisingRows.{All-flat_map, All-more}
 use Rattle.row_laws.proofs.RisingStates.{IsNumbered}
 use Rattle.row_laws.proofs.SpelledKeys.{AreKeys}
@@ -335,9 +332,10 @@ written_records : (k : Kind) → has_number (Records k) ≡ true → (s : State)
     → AllByRecursion Written (map (λ x. ((kind_number k + 2, x.0, 0), record_value k x.1)) rows)
 written_records k has s v [] inside = tt
 written_records k has s v (x ∷ xs) inside =
-    let here = inside x (inl refl) in
-    (written_record k x.0 x.1 has (listed_fits (v.kinds k).numbers x.0 (Among-map (λ (y : ℕ × Record k). y.0) (table k s).rows x here)) (record_fits s v k x here),
-    written_records k has s v xs (λ y m. inside y (inr m)))
+    let here = inside x (inl refl) in (
+      written_record k x.0 x.1 has (listed_fits (v.kinds k).numbers x.0 (Among-map (λ (y : ℕ × Record k). y.0) (table k s).rows x here)) (record_fits s v k x here),
+      written_records k has s v xs (λ y m. inside y (inr m)),
+    )
 
 written_counts : (r : Relation) (s : State) → ValidState s → AllByRecursion Written (rows_in (Counts r) s)
 written_counts r s v =
