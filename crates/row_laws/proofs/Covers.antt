@@ -10,6 +10,8 @@ use Rattle.ctrl_model.specs.Numbered.{at}
 use Rattle.ctrl_model.specs.State.{State}
 use Rattle.ctrl_model.specs.Tables.{table}
 use Rattle.ctrl_model.specs.Grants.{count}
+use Rattle.std.proofs.lemmas.List.Folds.{list_all-append}
+use Rattle.std.proofs.lemmas.List.{map-append}
 use Rattle.row_codec.specs.declared.changes.Change.{Change}
 use Rattle.row_codec.specs.RowKeys.{RowTable, Key, kinds, kind_number, key_cmp, key_bytes, is_key, table_number}
 use Rattle.row_codec.specs.RowKeys.RowTable.{Next, Setting, Records, Counts}
@@ -32,11 +34,6 @@ paired keys = map (λ k. (k, k)) keys
 
 -- ---- neighbours
 
-list_all-append : {X : Type 0} (p : X → Bool) (xs ys : List X) → list_all p xs ≡ true → list_all p ys ≡ true → list_all p (xs ++ ys) ≡ true
-list_all-append p [] ys a b = b
-list_all-append p (x ∷ xs) ys a b =
-    let parts = and_parts (p x) (list_all p xs) a in and_from (p x) (list_all p (xs ++ ys)) parts.0 (list_all-append p xs ys parts.1 b)
-
 pub has_key-append : (ks ls : List Key) (q : Key) → has_key (ks ++ ls) q ≡ false → (has_key ks q ≡ false) × (has_key ls q ≡ false)
 has_key-append [] ls q e = (refl, e)
 has_key-append (k ∷ ks) ls q e =
@@ -51,24 +48,16 @@ Rises-paired : (a b c : ℕ) (ks ls : List Key) → Rises key_cmp (paired ks) �
     → Rises key_cmp (paired (ks ++ ls))
 Rises-paired a b c [] ls r s w v = s
 Rises-paired a b c (k ∷ ks) ls r s w v = (
-  subst (λ xs. Above key_cmp k xs) (sym (joined ks)) (All-append (λ x. key_cmp k x.0 ≡ Less) (paired ks) (paired ls) r.0 (before_all b c k ls w.0.1 v)),
+  subst (λ xs. Above key_cmp k xs) (sym (map-append (λ k. (k, k)) ks ls)) (All-append (λ x. key_cmp k x.0 ≡ Less) (paired ks) (paired ls) r.0 (before_all b c k ls w.0.1 v)),
   Rises-paired a b c ks ls r.1 s w.1 v,
 )
-  where
-    joined : (xs : List Key) → paired (xs ++ ls) ≡ paired xs ++ paired ls
-    joined [] = refl
-    joined (x ∷ xs) = λ i. (x, x) ∷ joined xs i
-
-map_joined : (f : Key → Change) (ks ls : List Key) → map f ks ++ map f ls ≡ map f (ks ++ ls)
-map_joined f [] ls = refl
-map_joined f (k ∷ ks) ls = λ i. f k ∷ map_joined f ks ls i
 
 pub Covers-append : (a b c : ℕ) (s t : State) (xs ys : List Change) → a ≤ b → b ≤ c → Covers a b s t xs → Covers b c s t ys → Covers a c s t (xs ++ ys)
 Covers-append a b c s t xs ys h j x y = record {
   keys = x.keys ++ y.keys;
-  named = ap₂ (λ v w. v ++ w) x.named y.named ∙ map_joined (change_at s t) x.keys y.keys;
+  named = ap₂ (λ v w. v ++ w) x.named y.named ∙ sym (map-append (change_at s t) x.keys y.keys);
   rises = Rises-paired a b c x.keys y.keys x.rises y.rises x.within y.within;
-  fits = list_all-append is_key x.keys y.keys x.fits y.fits;
+  fits = list_all-append is_key x.keys y.keys ∙ and_from (list_all is_key x.keys) (list_all is_key y.keys) x.fits y.fits;
   within = All-append (LiesIn a c) x.keys y.keys
       (All-more (LiesIn a b) (LiesIn a c) (λ k l. (l.0, lt_of_lt_of_le l.1 j)) x.keys x.within)
       (All-more (LiesIn b c) (LiesIn a c) (λ k l. (le_trans h l.0, l.1)) y.keys y.within);

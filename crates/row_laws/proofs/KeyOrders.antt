@@ -1,5 +1,5 @@
 -- Laws on the order of keys: it is total, it tells keys apart, and it is the order of their bytes.
-use Rattle.std.proofs.Common.{◌≡◌, ℕ, ◌+◌, ◌*◌, ◌<◌, ◌^◌, ◌%◌, ◌/◌, ◌==◌, nat_lt, nat_le, ◌&&◌, Bool, true, false, cond, ◌⊎◌, inl, inr, List, [], ◌∷◌, ◌++◌, refl, sym, ◌∙◌, ap, ap₂, subst, arith, eqb-true, eq-eqb, ne_eqb, lt-ltb, le-ltb, ltb-true, w32, Ordering, Less, Equal, Greater, is_eq, nat_cmp}
+use Rattle.std.proofs.Common.{◌≡◌, ℕ, ◌+◌, ◌*◌, ◌<◌, ◌≤◌, ◌^◌, ◌%◌, ◌/◌, ◌==◌, nat_lt, nat_le, ◌&&◌, Bool, true, false, cond, ◌⊎◌, inl, inr, List, [], ◌∷◌, ◌++◌, refl, sym, ◌∙◌, ap, ap₂, subst, arith, eqb-true, eq-eqb, ne_eqb, lt-ltb, le-ltb, ltb-true, w32, Ordering, Less, Equal, Greater, is_eq, nat_cmp}
 use Rattle.std.proofs.lemmas.Bool.{and_parts, cases_order, cond-true, cond-false}
 use Rattle.std.proofs.lemmas.Cmp.{nat_cmp_total, on_total, then_total}
 use Rattle.std.specs.Cmp.{IsTotalOrder, tied_then}
@@ -7,6 +7,7 @@ use Rattle.std.specs.Cmp.Lexicographic.{slice_cmp}
 use Rattle.std.specs.FinMap.{IsAntisymmetric}
 use Rattle.std.specs.Int.{to_be_bytes}
 use Rattle.std.specs.Ordering.{ordering_then}
+use Rattle.ctrl_model.specs.Limits.{last_next}
 use Rattle.row_codec.specs.RowKeys.{Key, key_cmp, key_bytes, is_key, is_long, number_in_key}
 use Rattle.row_codec.specs.Batches.{bytes_cmp}
 
@@ -31,6 +32,10 @@ is_eq-nat_cmp a b = by (cases_order a b)
     by (inl e) = ap is_eq (nat_cmp-equal a b e) ∙ sym (eq-eqb a b e)
     by (inr (inl h)) = ap is_eq (nat_cmp-less a b h) ∙ sym (ne_eqb a b (λ e. absurd (omega arith)))
     by (inr (inr h)) = ap is_eq (nat_cmp-greater a b h) ∙ sym (ne_eqb a b (λ e. absurd (omega arith)))
+
+-- a number up to the last next number fits
+pub long_upto : (n : ℕ) → n ≤ last_next → is_long n ≡ true
+long_upto n h = let below : n < 4294967296 = omega arith in lt-ltb n (2 ^ 32) below
 
 -- ---- the order of keys
 

@@ -1,14 +1,15 @@
 -- Laws on rows under keys of any type that a total order ranks: what stands at a key, rows whose keys rise, and that rising rows
 -- that answer alike at every key are equal.
-use Rattle.std.proofs.Common.{◌≡◌, Bool, true, false, cond, List, [], ◌∷◌, ◌++◌, map, filter, None, Some, refl, sym, ◌∙◌, ap, subst, option_map, flat_map, Ordering, Less, Equal, Greater, is_lt, is_eq}
-use Rattle.std.proofs.lemmas.Bool.{cond-true, cond-false, true≢false}
+use Rattle.std.proofs.Common.{◌≡◌, Bool, true, false, cond, List, [], ◌∷◌, ◌++◌, map, filter, None, Some, refl, sym, ◌∙◌, ap, subst, option_map, flat_map, Ordering, Less, Equal, Greater, is_lt, is_eq, inl, inr}
+use Rattle.std.proofs.lemmas.Bool.{cond-true, cond-false, true≢false, and_parts}
 use Rattle.std.proofs.lemmas.Option.{same_Some, none-some}
 use Rattle.std.proofs.lemmas.Cmp.{tied_itself}
 use Rattle.std.specs.Cmp.{IsTotalOrder, Equal-is}
 use Rattle.std.specs.FinMap.{IsAntisymmetric}
 use Rattle.std.specs.Option.{option_or}
 use Rattle.std.specs.Ordering.{ordering_reverse}
-use Rattle.std.specs.List.{AllByRecursion}
+use Rattle.std.specs.List.{AllByRecursion, list_all}
+use Rattle.ctrl_model.specs.Membership.{Among}
 use Rattle.row_codec.specs.RowDifference.{value_at, Rises}
 
 -- ---- what holds of each element
@@ -24,6 +25,14 @@ All-more P Q f (x ∷ xs) a = (f x a.0, All-more P Q f xs a.1)
 pub All-each : {X : Type 0} (P : X → Type 0) → ((x : X) → P x) → (xs : List X) → AllByRecursion P xs
 All-each P f [] = tt
 All-each P f (x ∷ xs) = (f x, All-each P f xs)
+
+pub All-among : {X : Type 0} (P : X → Type 0) (xs : List X) → ((x : X) → Among x xs → P x) → AllByRecursion P xs
+All-among P [] h = tt
+All-among P (x ∷ xs) h = (h x (inl refl), All-among P xs (λ y m. h y (inr m)))
+
+pub All-tested : {X : Type 0} (p : X → Bool) (xs : List X) → list_all p xs ≡ true → AllByRecursion (λ x. p x ≡ true) xs
+All-tested p [] h = tt
+All-tested p (x ∷ xs) h = let parts = and_parts (p x) (list_all p xs) h in (parts.0, All-tested p xs parts.1)
 
 pub All-map : {X Y : Type 0} (P : Y → Type 0) (f : X → Y) (xs : List X) → AllByRecursion (λ x. P (f x)) xs → AllByRecursion P (map f xs)
 All-map P f [] a = tt

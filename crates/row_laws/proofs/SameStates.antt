@@ -1,26 +1,26 @@
 -- Two valid states with equal rows are equal.
-use Rattle.std.proofs.Common.{◌≡◌, ℕ, ◌^◌, ◌<◌, ◌≤◌, ◌==◌, inl, inr, nat_lt, nat_le, Bool, true, false, cond, List, [], ◌∷◌, Option, None, Some, option_map, refl, sym, ◌∙◌, ap, subst, arith, eqb-true, leb-true, lt-ltb, ltb-false, get_or, drop, le_trans}
+use Rattle.std.proofs.Common.{◌≡◌, ℕ, ◌≤◌, ◌==◌, nat_lt, nat_le, Bool, true, false, cond, List, [], ◌∷◌, Option, None, Some, option_map, refl, sym, ◌∙◌, ap, subst, arith, eqb-true, leb-true, ltb-false, le_trans}
 use Rattle.std.proofs.lemmas.Bool.{and_parts}
 use Rattle.std.proofs.lemmas.Option.{same_Some, none-some}
 use Rattle.std.proofs.lemmas.Cmp.{tied_itself, nat_list_cmp_total}
 use Rattle.ctrl_model.specs.declared.kinds.Kind.{Kind}
 use Rattle.ctrl_model.specs.declared.kinds.Kind.TheVariants as kind
-use Rattle.ctrl_model.specs.Membership.{Among}
 use Rattle.ctrl_model.specs.Limits.{last_next}
 use Rattle.ctrl_model.specs.Numbered.{at, Between}
 use Rattle.ctrl_model.specs.State.{State, start}
 use Rattle.ctrl_model.specs.Tables.{Record, table}
 use Rattle.ctrl_model.specs.ValidState.{ValidState}
 use Rattle.ctrl_model.proofs.NumberedLaws.{same_numbered}
+use Rattle.ctrl_model.proofs.Members.{at-row}
 use Rattle.row_codec.specs.RowKeys.{Key, key_cmp, key_bytes, is_key, is_long}
 use Rattle.row_codec.specs.RowValues.{long, record_value}
 use Rattle.row_codec.specs.RowDifference.{value_at}
 use Rattle.row_codec.specs.StateRows.{Rows, next_value, setting_value, rows_of, row_at}
 use Rattle.row_codec.specs.Batches.{bytes_cmp, spelled_rows}
-use Rattle.row_laws.proofs.KeyOrders.{key_exact, bytes_order}
+use Rattle.row_laws.proofs.KeyOrders.{key_exact, bytes_order, long_upto}
 use Rattle.row_laws.proofs.RowsAtKeys.{value_at-rows_of}
 use Rattle.row_laws.proofs.SpelledKeys.{AreKeys}
-use Rattle.row_laws.proofs.SpelledValues.{long_same, same_record}
+use Rattle.row_laws.proofs.SpelledValues.{long_same, same_record, first_same}
 use Rattle.row_laws.proofs.WrittenRecords.{record_fits}
 use Rattle.row_laws.proofs.WrittenRows.{AreKeys-rows_of}
 
@@ -28,9 +28,6 @@ use Rattle.row_laws.proofs.WrittenRows.{AreKeys-rows_of}
 
 one_long : (m n : ℕ) → is_long m ≡ true → is_long n ≡ true → long m ≡ long n → m ≡ n
 one_long m n h k e = (long_same m n [] [] h k e).0
-
-long_upto : (n : ℕ) → n ≤ 4294967295 → is_long n ≡ true
-long_upto n h = let below : n < 4294967296 = omega arith in lt-ltb n (2 ^ 32) below
 
 next_same : (m n : ℕ) → 1 ≤ m → 1 ≤ n → m ≤ last_next → n ≤ last_next → next_value m ≡ next_value n → m ≡ n
 next_same m n a b h k e = by (nat_lt 1 m) (nat_lt 1 n) refl refl e
@@ -60,14 +57,6 @@ setting_fits s v =
 
 -- ---- tables
 
-pub row_among : {R : Type 0} (rows : List (ℕ × R)) (n : ℕ) (r : R) → at rows n ≡ Some r → Among (n, r) rows
-row_among [] n r e = absurd (none-some r e)
-row_among (x ∷ xs) n r e = by (x.0 == n) refl e (row_among xs n r)
-  where
-    by : (b : Bool) → (x.0 == n) ≡ b → cond b (Some x.1) (at xs n) ≡ Some r → (at xs n ≡ Some r → Among (n, r) xs) → Among (n, r) (x ∷ xs)
-    by true is f h = inl (λ i. (eqb-true x.0 n is i, same_Some x.1 r f i))
-    by false is f h = inr (h f)
-
 same_at : (k : Kind) (s t : State) → ValidState s → ValidState t → (n : ℕ)
     → option_map (record_value k) (at (table k s).rows n) ≡ option_map (record_value k) (at (table k t).rows n) → at (table k s).rows n ≡ at (table k t).rows n
 same_at k s t v w n e = by (at (table k s).rows n) (at (table k t).rows n) refl refl e
@@ -77,7 +66,7 @@ same_at k s t v w n e = by (at (table k s).rows n) (at (table k t).rows n) refl 
     by None (Some q) a b f = absurd (none-some (record_value k q) f)
     by (Some r) None a b f = absurd (none-some (record_value k r) (sym f))
     by (Some r) (Some q) a b f =
-        ap Some (same_record k r q (record_fits s v k (n, r) (row_among (table k s).rows n r a)) (record_fits t w k (n, q) (row_among (table k t).rows n q b))
+        ap Some (same_record k r q (record_fits s v k (n, r) (at-row (table k s).rows n r a)) (record_fits t w k (n, q) (at-row (table k t).rows n q b))
         (same_Some (record_value k r) (record_value k q) f))
 
 -- a table of which the next number and each record are written alike
@@ -127,15 +116,12 @@ same_from_rows s t v w e =
 pub key_same : (k l : Key) → is_key k ≡ true → is_key l ≡ true → key_bytes k ≡ key_bytes l → k ≡ l
 key_same k l h j e = key_exact k l (sym (bytes_order k l h j) ∙ ap (λ b. bytes_cmp (key_bytes k) b) (sym e) ∙ tied_itself nat_list_cmp_total (key_bytes k))
 
-parts_same : {X : Type 0} (x y : X) (xs ys : List X) → (x ∷ xs) ≡ (y ∷ ys) → (x ≡ y) × (xs ≡ ys)
-parts_same x y xs ys e = (ap (λ l. get_or l 0 x) e, ap (drop 1) e)
-
 pub same_spelled : (xs ys : Rows) → AreKeys xs → AreKeys ys → spelled_rows xs ≡ spelled_rows ys → xs ≡ ys
 same_spelled [] [] a b e = refl
 same_spelled [] (y ∷ ys) a b e = absurd (cc)
 same_spelled (x ∷ xs) [] a b e = absurd (cc)
 same_spelled (x ∷ xs) (y ∷ ys) a b e =
-    let parts = parts_same (key_bytes x.0, x.1) (key_bytes y.0, y.1) (spelled_rows xs) (spelled_rows ys) e in
+    let parts = first_same (key_bytes x.0, x.1) (key_bytes y.0, y.1) (spelled_rows xs) (spelled_rows ys) e in
     let key = key_same x.0 y.0 a.0 b.0 (ap (λ (p : List ℕ × List ℕ). p.0) parts.0) in
     let value = ap (λ (p : List ℕ × List ℕ). p.1) parts.0 in
     let rest = same_spelled xs ys a.1 b.1 parts.1 in λ i. (key i, value i) ∷ rest i

@@ -25,7 +25,7 @@ use Rattle.row_laws.proofs.WrittenRecords.{fits}
 
 -- ---- lists
 
-pub first_same : (x y : ℕ) (xs ys : List ℕ) → (x ∷ xs) ≡ (y ∷ ys) → (x ≡ y) × (xs ≡ ys)
+pub first_same : {X : Type 0} (x y : X) (xs ys : List X) → (x ∷ xs) ≡ (y ∷ ys) → (x ≡ y) × (xs ≡ ys)
 first_same x y xs ys e = (ap (λ l. get_or l 0 x) e, ap (drop 1) e)
 
 front_same : (xs ys us vs : List ℕ) → length xs ≡ length ys → xs ++ us ≡ ys ++ vs → (xs ≡ ys) × (us ≡ vs)

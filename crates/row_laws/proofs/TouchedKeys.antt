@@ -1,6 +1,6 @@
 -- Covers of one table by the changes at the keys that can differ: of the next numbers, the setting, the records of a kind and the
 -- counts of a relation, and what each change of a table of records touches.
-use Rattle.std.proofs.Common.{◌≡◌, ℕ, ◌+◌, ◌<◌, ◌≤◌, ◌==◌, ◌&&◌, inl, inr, nat_le, Bool, true, false, not, cond, List, [], ◌∷◌, map, find, filter, Option, None, Some, option_map, option_and_then, refl, sym, ◌∙◌, ap, subst, arith, eqb-true, lt-ltb, ◌^◌, Less, is_eq}
+use Rattle.std.proofs.Common.{◌≡◌, ℕ, ◌+◌, ◌<◌, ◌≤◌, ◌==◌, ◌&&◌, inl, inr, nat_le, Bool, true, false, not, cond, List, [], ◌∷◌, map, find, filter, Option, None, Some, option_map, option_and_then, refl, sym, ◌∙◌, ap, subst, arith, eqb-true, Less, is_eq, le_trans, le_of_lt}
 use Rattle.std.proofs.lemmas.Bool.{and_parts, and_from, cond-true, cond-false, both_ways, false_from_ne_true, or_left, or_right, false≢true}
 use Rattle.std.proofs.lemmas.Cmp.{tied_itself}
 use Rattle.std.specs.Ordering.{ordering_then}
@@ -25,7 +25,7 @@ use Rattle.row_codec.specs.StateRows.{next_value, setting_value, count_value, ro
 use Rattle.row_codec.specs.CoveredTables.{Covers, LiesIn, change_at, has_key}
 use Rattle.row_laws.specs.ChangedKeys.{Climbs, pair_cmp, next_changes, setting_change, record_changes, count_changes, gone}
 use Rattle.row_laws.proofs.RisingRows.{Above, All-each, All-map}
-use Rattle.row_laws.proofs.KeyOrders.{key_total, less_by_first, nat_cmp-equal}
+use Rattle.row_laws.proofs.KeyOrders.{key_total, less_by_first, nat_cmp-equal, long_upto}
 use Rattle.row_laws.proofs.RisingStates.{Climbs-numbers}
 use Rattle.row_laws.proofs.TableRows.{row_at-table, has_number, kind_has_number, lies_in_one}
 use Rattle.row_laws.proofs.Covers.{paired}
@@ -192,12 +192,9 @@ Covers-counts r s t pairs rises fits same =
 
 -- ---- what a change of a table of records touches
 
-long_number : (high : ℕ) → high ≤ last_next → (n : ℕ) → n < high → is_long n ≡ true
-long_number high h n l = let below : n < 4294967296 = omega arith in lt-ltb n (2 ^ 32) below
-
 long_numbers : {R : Type 0} (high : ℕ) → high ≤ last_next → (rows : List (ℕ × R)) (low : ℕ) → Between low high rows → list_all is_long (numbers rows) ≡ true
 long_numbers high h [] low b = refl
-long_numbers high h (x ∷ xs) low b = and_from (is_long x.0) (list_all is_long (numbers xs)) (long_number high h x.0 b.1) (long_numbers high h xs (x.0 + 1) b.2)
+long_numbers high h (x ∷ xs) low b = and_from (is_long x.0) (list_all is_long (numbers xs)) (long_upto x.0 (le_trans (le_of_lt b.1) h)) (long_numbers high h xs (x.0 + 1) b.2)
 
 at-absent : {R : Type 0} (rows : List (ℕ × R)) (n : ℕ) → (Among n (numbers rows) → ⊥) → at rows n ≡ None
 at-absent [] n misses = refl
@@ -231,9 +228,6 @@ Covers-with_new k s t r h last e =
     let n = (table k s).next in
     Covers-records k s t (n ∷ []) h (one_number n) (long_alone n (long_upto n last)) (λ m misses.
     at_table k s t (with_new r (table k s)) m e (sym (at-with_last-other (table k s).rows n m r (λ same. misses (inl (sym same))))))
-  where
-    long_upto : (n : ℕ) → n ≤ last_next → is_long n ≡ true
-    long_upto n l = let below : n < 4294967296 = omega arith in lt-ltb n (2 ^ 32) below
 
 pub Covers-with_edit : (k : Kind) (s t : State) (n : ℕ) (f : Record k → Record k) → 1 ≤ kind_number k → is_long n ≡ true → table k t ≡ with_edit n f (table k s)
     → Covers (kind_number k + 2) (kind_number k + 3) s t (record_changes k s t (n ∷ []))

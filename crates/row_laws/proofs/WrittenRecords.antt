@@ -1,6 +1,6 @@
 -- The records of a valid state can be written: their numbers and lists fit the values of rows, and each row is that of a row's form.
-use Rattle.std.proofs.Common.{◌≡◌, ℕ, suc, ◌+◌, ◌^◌, ◌<◌, ◌≤◌, ◌==◌, ◌&&◌, nat_lt, nat_le, Bool, true, not, ◌⊎◌, inl, inr, List, [], ◌∷◌, map, length, filter, Option, None, Some, refl, sym, ◌∙◌, ap, subst, arith, lt-ltb, le-leb, leb-true, eqb-true}
-use Rattle.std.proofs.lemmas.Bool.{and_parts, and_from, or_cases, false≢true}
+use Rattle.std.proofs.Common.{◌≡◌, ℕ, ◌+◌, ◌^◌, ◌<◌, ◌≤◌, ◌==◌, ◌&&◌, nat_lt, nat_le, Bool, true, not, inl, inr, List, [], ◌∷◌, map, length, filter, Option, None, Some, refl, sym, ◌∙◌, ap, subst, arith, lt-ltb, le-leb, leb-true, le_trans, le_of_lt}
+use Rattle.std.proofs.lemmas.Bool.{and_parts, and_from}
 use Rattle.std.specs.Option.{option_map_or}
 use Rattle.std.specs.List.{list_all}
 use Rattle.ctrl_model.specs.declared.kinds.Kind.{Kind}
@@ -19,10 +19,12 @@ use Rattle.ctrl_model.specs.Networks.{network_of, seen, is_path, hops}
 use Rattle.ctrl_model.specs.Claims.{router_numbers}
 use Rattle.ctrl_model.specs.Walks.{Hops, is_among, goes}
 use Rattle.ctrl_model.specs.Settling.{link_stays, terminator_stays, stays_in, settle_links, settle_terminators}
-use Rattle.ctrl_model.proofs.Members.{list_all-among, by_filter}
+use Rattle.ctrl_model.proofs.Members.{list_all-among, by_filter, Among-from_test}
 use Rattle.ctrl_model.proofs.NumberedLaws.{at-within, by_is_some}
 use Rattle.ctrl_model.proofs.WalkLaws.{by_there, by_goes, LinksAmong, length-path}
 use Rattle.model_laws.proofs.PathLaws.{hops_stay, hops_named, is_on-among}
+use Rattle.std.proofs.lemmas.List.{length-map}
+use Rattle.row_laws.proofs.KeyOrders.{long_upto}
 use Rattle.row_codec.specs.RowKeys.{is_long}
 use Rattle.row_codec.specs.RowForm.{is_short, are_listed, is_listed_side, is_host}
 
@@ -44,7 +46,7 @@ fits kind.Attribute u = true
 -- ---- numbers of records
 
 number_fits : (n next : ℕ) → n < next → next ≤ last_next → is_long n ≡ true
-number_fits n next h k = let below : n < 4294967296 = omega arith in lt-ltb n (2 ^ 32) below
+number_fits n next h k = long_upto n (le_trans (le_of_lt h) k)
 
 pub present_fits : {R : Type 0} {most : ℕ} {rows : List (ℕ × R)} {next : ℕ} → ValidNumbers most rows next → (n : ℕ) → is_present rows n ≡ true
     → (1 ≤ n) × (is_long n ≡ true)
@@ -58,14 +60,6 @@ listed_fits {rows = rows} {next = next} v n m = number_fits n next (below rows 1
     below [] low b h = absurd h
     below (x ∷ xs) low b (inl e) = subst (λ m. m < next) e b.1
     below (x ∷ xs) low b (inr h) = below xs (x.0 + 1) b.2 h
-
-is_among-Among : (n : ℕ) (ns : List ℕ) → is_among n ns ≡ true → Among n ns
-is_among-Among n [] e = absurd (false≢true e)
-is_among-Among n (m ∷ ns) e = by (or_cases (m == n) (is_among n ns) e) (is_among-Among n ns)
-  where
-    by : ((m == n) ≡ true) ⊎ (is_among n ns ≡ true) → (is_among n ns ≡ true → Among n ns) → Among n (m ∷ ns)
-    by (inl s) k = inl (eqb-true m n s)
-    by (inr h) k = inr (k h)
 
 -- ---- ranges
 
@@ -183,10 +177,6 @@ numbers-seen : (rows : List (ℕ × Router)) → map (λ (r : RouterSeen). r.no.
 numbers-seen [] = refl
 numbers-seen (x ∷ xs) = λ i. x.0 ∷ numbers-seen xs i
 
-length-numbers : {R : Type 0} (rows : List (ℕ × R)) → length (numbers rows) ≡ length rows
-length-numbers [] = refl
-length-numbers (x ∷ xs) = ap suc (length-numbers xs)
-
 circuit_fits : (s : State) → ValidState s → (row : ℕ × Circuit) → Among row s.circuits.rows → fits kind.Circuit row.1 ≡ true
 circuit_fits s v row m =
     let c = row.1 in
@@ -198,11 +188,11 @@ circuit_fits s v row m =
     let begins = is_on-among w c.ingress (and_parts _ _ ends.0).0 in
     let routers = numbers-seen s.routers.rows in
     let few = (v.kinds kind.Router).numbers.few in
-    let size = ap length routers ∙ length-numbers s.routers.rows in
+    let size = ap length routers ∙ length-map s.routers.rows (λ (x : ℕ × Router). x.0) in
     let short = length-path (hops w e.router) e.router (router_numbers w) (hops_stay w e.router) c.links c.ingress begins ends.1 in
     let within = at-within s.terminators.next s.terminators.rows 1 c.terminator e (v.kinds kind.Terminator).numbers.ordered is in
-    and_from (is_long c.identity) _ (listed_fits (v.kinds kind.Identity).numbers c.identity (is_among-Among c.identity (numbers s.identities.rows) stands.0))
-    (and_from (is_long c.service) _ (listed_fits (v.kinds kind.Service).numbers c.service (is_among-Among c.service (numbers s.services.rows) rest.0))
+    and_from (is_long c.identity) _ (listed_fits (v.kinds kind.Identity).numbers c.identity (Among-from_test c.identity (numbers s.identities.rows) stands.0))
+    (and_from (is_long c.service) _ (listed_fits (v.kinds kind.Service).numbers c.service (Among-from_test c.service (numbers s.services.rows) rest.0))
     (and_from (is_long c.terminator) _ (number_fits c.terminator s.terminators.next within.1 (v.kinds kind.Terminator).numbers.last)
     (and_from (is_long c.ingress) _ (listed_fits (v.kinds kind.Router).numbers c.ingress (subst (λ ns. Among c.ingress ns) routers begins))
     (and_from (nat_le (length c.links) 255) (list_all is_long c.links)

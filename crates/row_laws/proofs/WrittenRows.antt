@@ -1,5 +1,5 @@
 -- The rows of a valid state: each stands under a key, spells a row's form, and is short enough for a batch.
-use Rattle.std.proofs.Common.{◌≡◌, ℕ, suc, ◌+◌, ◌*◌, ◌^◌, ◌<◌, ◌≤◌, ◌==◌, ◌&&◌, ◌⊎◌, inl, inr, eqb-true, nat_lt, nat_le, Bool, true, false, not, cond, List, [], ◌∷◌, ◌++◌, map, length, flat_map, Option, None, Some, option_map, refl, sym, ap, subst, arith, lt-ltb, leb-true, length-append, count_by, le_trans, lt_of_le_of_lt, le_refl}
+use Rattle.std.proofs.Common.{◌≡◌, ℕ, suc, ◌+◌, ◌*◌, ◌^◌, ◌<◌, ◌≤◌, ◌==◌, ◌&&◌, ◌⊎◌, inl, inr, eqb-true, nat_lt, nat_le, Bool, true, false, not, cond, List, [], ◌∷◌, ◌++◌, map, length, flat_map, Option, None, Some, option_map, refl, sym, ap, subst, arith, leb-true, length-append, count_by, le_trans, lt_of_le_of_lt, le_refl}
 use Rattle.std.proofs.lemmas.Bool.{and_parts, and_from, or_cases, false≢true, not_from_false}
 use Rattle.std.proofs.lemmas.List.Sums.{count_by-le-length}
 use Rattle.std.specs.List.{list_all, AllByRecursion}
@@ -16,6 +16,7 @@ use Rattle.ctrl_model.specs.Tables.{Record, table}
 use Rattle.ctrl_model.specs.Grants.{count, joins, policies_for, on_both, left_entity, right_entity, left_numbers, right_numbers}
 use Rattle.ctrl_model.specs.ValidState.{ValidState, may_relate}
 use Rattle.ctrl_model.proofs.Members.{Among-map}
+use Rattle.row_laws.proofs.KeyOrders.{long_upto}
 use Rattle.row_codec.specs.declared.rows.Row.{Row}
 use Rattle.row_codec.specs.declared.rows.Row.TheVariants as row
 use Rattle.row_codec.specs.RowKeys.{RowTable, Key, kinds, kind_number, key_in, key_bytes, table_number, tables, is_key, is_long}
@@ -23,7 +24,7 @@ use Rattle.row_codec.specs.RowKeys.RowTable.{Next, Setting, Records, Counts}
 use Rattle.row_codec.specs.RowValues.{long, short, text, texts, side_bytes, sides_value, record_value, host_number, precedence_byte, router_marks, flag, relation_byte, semantic_byte}
 use Rattle.row_codec.specs.RowForm.{SpellsRow, are_listed, is_listed_side, is_positive, is_host, is_short}
 use Rattle.row_codec.specs.StateRows.{next_value, count_value, row_if_some, rows_in, rows_of}
-use Rattle.row_laws.proofs.RisingRows.{All-flat_map, All-more}
+use Rattle.row_laws.proofs.RisingRows.{All-flat_map, All-more, All-among, All-tested}
 use Rattle.row_laws.proofs.RisingStates.{IsNumbered}
 use Rattle.row_laws.proofs.SpelledKeys.{AreKeys}
 use Rattle.row_laws.proofs.TableRows.{has_number}
@@ -287,17 +288,6 @@ All-cond P key false v h = tt
 All-uncond : (P : Key × List ℕ → Type 0) (key : Key) (b : Bool) (v : List ℕ) → (b ≡ false → P (key, v)) → AllByRecursion P (row_if_some key (cond b None (Some v)))
 All-uncond P key true v h = tt
 All-uncond P key false v h = (h refl, tt)
-
-All-among : {X : Type 0} (P : X → Type 0) (xs : List X) → ((x : X) → Among x xs → P x) → AllByRecursion P xs
-All-among P [] h = tt
-All-among P (x ∷ xs) h = (h x (inl refl), All-among P xs (λ y m. h y (inr m)))
-
-All-tested : {X : Type 0} (p : X → Bool) (xs : List X) → list_all p xs ≡ true → AllByRecursion (λ x. p x ≡ true) xs
-All-tested p [] h = tt
-All-tested p (x ∷ xs) h = let parts = and_parts (p x) (list_all p xs) h in (parts.0, All-tested p xs parts.1)
-
-long_upto : (n : ℕ) → n ≤ 4294967295 → is_long n ≡ true
-long_upto n h = let below : n < 4294967296 = omega arith in lt-ltb n (2 ^ 32) below
 
 left_fits : (r : Relation) (s : State) → ValidState s → (a : ℕ) → Among a (left_numbers r s) → is_long a ≡ true
 left_fits Dial s v = listed_fits (v.kinds kind.Identity).numbers
