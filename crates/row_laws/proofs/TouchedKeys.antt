@@ -253,3 +253,10 @@ Covers-with_each k s t f high h b last e =
     Covers-records k s t (numbers (table k s).rows) h (Climbs-numbers high (table k s).rows 1 b) (long_numbers high last (table k s).rows 1 b) (λ m misses.
     let none = at-absent (table k s).rows m misses in
     at_table k s t (with_each f (table k s)) m e (none ∙ sym (at-map_each f (table k s).rows m ∙ ap (option_map f) none)))
+
+-- a table that differs from the old one at some numbers alone, of which then the records that pass a test are kept
+pub Covers-then_kept : (k : Kind) (s e t : State) (keeps : ℕ × Record k → Bool) (ns : List ℕ) → 1 ≤ kind_number k → Climbs (λ n. n) ns → list_all is_long ns ≡ true
+    → ((n : ℕ) → (Among n ns → ⊥) → at (table k s).rows n ≡ at (table k e).rows n) → ((n : ℕ) → Among n (gone keeps (table k e).rows) → Among n ns)
+    → table k t ≡ with_kept keeps (table k e) → Covers (kind_number k + 2) (kind_number k + 3) s t (record_changes k s t ns)
+Covers-then_kept k s e t keeps ns h climbs fits same inside is = Covers-records k s t ns h climbs fits (λ n misses.
+    same n misses ∙ at_table k e t (with_kept keeps (table k e)) n is (at-kept keeps (table k e).rows n (λ m. misses (inside n m))))

@@ -50,10 +50,14 @@ pub fn one_record_is_touched()
         → Covers (kind_number k + 2) (kind_number k + 3) s t (record_changes k s t (n ∷ [])) }
 {}
 
-/// Where the records that pass a test are kept, those that do not are touched; where each record is changed, all are.
+/// Where the records that pass a test are kept, those that do not are touched; where each record is changed, all are. Where some
+/// numbers are touched first and then the records that pass a test are kept, as by settling, those numbers and those that go are.
 pub fn many_records_are_touched()
     ensures kept { (k : Kind) (s t : State) (keeps : ℕ × Record k → Bool) (high : ℕ) → 1 ≤ kind_number k → Between 1 high (table k s).rows → high ≤ last_next
         → table k t ≡ with_kept keeps (table k s) → Covers (kind_number k + 2) (kind_number k + 3) s t (record_changes k s t (gone keeps (table k s).rows)) }
     ensures each { (k : Kind) (s t : State) (f : Record k → Record k) (high : ℕ) → 1 ≤ kind_number k → Between 1 high (table k s).rows → high ≤ last_next
         → table k t ≡ with_each f (table k s) → Covers (kind_number k + 2) (kind_number k + 3) s t (record_changes k s t (numbers (table k s).rows)) }
+    ensures then_kept { (k : Kind) (s effect t : State) (keeps : ℕ × Record k → Bool) (ns : List ℕ) → 1 ≤ kind_number k → Climbs (λ n. n) ns → list_all is_long ns ≡ true
+        → ((n : ℕ) → (Among n ns → ⊥) → at (table k s).rows n ≡ at (table k effect).rows n) → ((n : ℕ) → Among n (gone keeps (table k effect).rows) → Among n ns)
+        → table k t ≡ with_kept keeps (table k effect) → Covers (kind_number k + 2) (kind_number k + 3) s t (record_changes k s t ns) }
 {}

@@ -1,4 +1,4 @@
-use Rattle.row_laws.proofs.TouchedKeys.{Covers-with_kept, Covers-with_each}
+use Rattle.row_laws.proofs.TouchedKeys.{Covers-with_kept, Covers-with_each, Covers-then_kept}
 use Rattle.row_laws.proofs.touched_keys.many_records_are_touched.Goals as goal
 
 pub returns-clause-kept : goal.returns-clause-kept
@@ -6,3 +6,6 @@ returns-clause-kept c = Covers-with_kept
 
 pub returns-clause-each : goal.returns-clause-each
 returns-clause-each c = Covers-with_each
+
+pub returns-clause-then_kept : goal.returns-clause-then_kept
+returns-clause-then_kept c = Covers-then_kept
