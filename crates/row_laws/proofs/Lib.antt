@@ -14,3 +14,4 @@ pub mod SpelledValues
 pub mod SameStates
 pub mod StateBatches
 pub mod TouchedKeys
+pub mod SpelledChanges

@@ -1,12 +1,14 @@
 -- The batch between two valid states: it leads from the rows of the one to those of the other, it is empty where they are one, and
 -- else it is a true difference.
-use Rattle.std.proofs.Common.{◌≡◌, List, [], ◌∷◌, refl, sym, ◌∙◌, ap}
+use Rattle.std.proofs.Common.{◌≡◌, List, [], ◌∷◌, refl, sym, ◌∙◌, ap, Some, map, ℕ}
 use Rattle.std.proofs.lemmas.Cmp.{nat_list_cmp_total}
-use Rattle.ctrl_model.specs.State.{State}
+use Rattle.ctrl_model.specs.State.{State, start}
 use Rattle.ctrl_model.specs.ValidState.{ValidState}
+use Rattle.row_codec.specs.RowKeys.{Key, key_cmp, key_bytes}
+use Rattle.row_codec.specs.declared.changes.Op.TheVariants.{Put, Delete}
 use Rattle.row_codec.specs.declared.changes.Op.{Op}
 use Rattle.row_codec.specs.RowDifference.{Rises, difference, with_batch, IsTrueDifference}
-use Rattle.row_codec.specs.StateRows.{rows_of}
+use Rattle.row_codec.specs.StateRows.{rows_of, Rows}
 use Rattle.row_codec.specs.Batches.{bytes_cmp, entries_of, ops_of, spelled_rows, batch_between}
 use Rattle.row_laws.proofs.Differences.{with_batch-difference, difference-same, same_from_difference}
 use Rattle.row_laws.proofs.KeyOrders.{key_total, key_exact}
@@ -45,3 +47,19 @@ batch_is_true s t v w other = record {
     empty : (ops : List Op) → entries_of ops ≡ [] → ops ≡ []
     empty [] e = refl
     empty (o ∷ os) e = absurd (cc)
+
+-- ---- from the start
+
+pub batch_from_start : (s : State) → batch_between start s ≡ map (λ (x : Key × List ℕ). Put (key_bytes x.0) x.1) (rows_of s)
+batch_from_start s = puts (rows_of s)
+  where
+    puts : (rows : Rows) → ops_of (map (λ (x : Key × List ℕ). (x.0, Some x.1)) rows) ≡ map (λ (x : Key × List ℕ). Put (key_bytes x.0) x.1) rows
+    puts [] = refl
+    puts (x ∷ xs) = λ i. Put (key_bytes x.0) x.1 ∷ puts xs i
+
+pub batch_to_start : (s : State) → batch_between s start ≡ map (λ (x : Key × List ℕ). Delete (key_bytes x.0)) (rows_of s)
+batch_to_start s = all_gone (rows_of s)
+  where
+    all_gone : (rows : Rows) → ops_of (difference key_cmp rows []) ≡ map (λ (x : Key × List ℕ). Delete (key_bytes x.0)) rows
+    all_gone [] = refl
+    all_gone (x ∷ xs) = λ i. Delete (key_bytes x.0) ∷ all_gone xs i

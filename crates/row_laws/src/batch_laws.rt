@@ -1,6 +1,8 @@
-ghost use Rattle.std.specs.Prelude.{◌≡◌, []};
-ghost use Rattle.ctrl_model.specs.State.{State};
+ghost use Rattle.std.specs.Prelude.{◌≡◌, ℕ, List, [], map};
+ghost use Rattle.ctrl_model.specs.State.{State, start};
 ghost use Rattle.ctrl_model.specs.ValidState.{ValidState};
+ghost use Rattle.row_codec.specs.declared.changes.Op.TheVariants.{Put, Delete};
+ghost use Rattle.row_codec.specs.RowKeys.{Key, key_bytes};
 ghost use Rattle.row_codec.specs.RowDifference.{difference, with_batch, IsTrueDifference};
 ghost use Rattle.row_codec.specs.StateRows.{rows_of};
 ghost use Rattle.row_codec.specs.Batches.{bytes_cmp, entries_of, spelled_rows, batch_between, IsBatch};
@@ -24,4 +26,10 @@ pub fn empty_batches()
     ensures back { (s t : State) → ValidState s → ValidState t → batch_between s t ≡ [] → s ≡ t }
     ensures others { (s t : State) → ValidState s → ValidState t → (s ≡ t → ⊥)
         → IsTrueDifference bytes_cmp (spelled_rows (rows_of s)) (entries_of (batch_between s t)) }
+{}
+
+/// From the state at the start a batch puts every row, and back to it one deletes every row.
+pub fn batches_of_all_rows()
+    ensures puts { (s : State) → batch_between start s ≡ map (λ (x : Key × List ℕ). Put (key_bytes x.0) x.1) (rows_of s) }
+    ensures deletes { (s : State) → batch_between s start ≡ map (λ (x : Key × List ℕ). Delete (key_bytes x.0)) (rows_of s) }
 {}

@@ -1,4 +1,5 @@
-ghost use Rattle.std.specs.Prelude.{◌≡◌, ℕ, ◌+◌, ◌≤◌, List, [], ◌++◌, map};
+ghost use Rattle.std.specs.Prelude.{◌≡◌, ℕ, ◌+◌, ◌≤◌, List, [], ◌∷◌, ◌++◌, map};
+ghost use Rattle.std.specs.Option.{option_map};
 ghost use Rattle.ctrl_model.specs.declared.kinds.Kind.{Kind};
 ghost use Rattle.ctrl_model.specs.declared.kinds.Relation.{Relation};
 ghost use Rattle.ctrl_model.specs.Numbered.{at, Between};
@@ -6,12 +7,13 @@ ghost use Rattle.ctrl_model.specs.State.{State};
 ghost use Rattle.ctrl_model.specs.Tables.{table};
 ghost use Rattle.ctrl_model.specs.Grants.{count};
 ghost use Rattle.row_codec.specs.declared.changes.Change.{Change};
-ghost use Rattle.row_codec.specs.RowKeys.{Key, kind_number, table_number};
-ghost use Rattle.row_codec.specs.RowKeys.RowTable.{Counts};
+ghost use Rattle.row_codec.specs.RowKeys.{Key, kind_number, key_in, number_in_key, table_number};
+ghost use Rattle.row_codec.specs.RowKeys.RowTable.{Next, Setting, Records, Counts};
+ghost use Rattle.row_codec.specs.RowValues.{record_value};
 ghost use Rattle.row_codec.specs.RowDifference.{Rises};
-ghost use Rattle.row_codec.specs.StateRows.{row_at};
+ghost use Rattle.row_codec.specs.StateRows.{next_value, setting_value, count_value, row_at};
 ghost use Rattle.row_codec.specs.Batches.{bytes_cmp, entries_of, batch_of, batch_between};
-ghost use Rattle.row_codec.specs.CoveredTables.{Covers, LiesIn};
+ghost use Rattle.row_codec.specs.CoveredTables.{Covers, LiesIn, change_at};
 
 /// Covers of neighbouring ranges of tables join.
 pub fn covers_join()
@@ -41,4 +43,16 @@ pub fn covered_keys_rise()
     ensures changes { (low high : ℕ) (s t : State) (changes : List Change) → Covers low high s t changes
         → Rises bytes_cmp (map (λ (c : Change). (c.key, c)) changes) }
     ensures batch { (low high : ℕ) (s t : State) (changes : List Change) → Covers low high s t changes → Rises bytes_cmp (entries_of (batch_of changes)) }
+{}
+
+/// The change at a key of each table, written out.
+pub fn changes_at_keys()
+    ensures next { (k : Kind) (s t : State) → 1 ≤ kind_number k → change_at s t (key_in Next (kind_number k) 0)
+        ≡ record { key = 1 ∷ kind_number k ∷ []; before = next_value (table k s).next; after = next_value (table k t).next } }
+    ensures setting { (s t : State) → change_at s t (key_in Setting 0 0)
+        ≡ record { key = 2 ∷ []; before = setting_value s.least_router_cost; after = setting_value t.least_router_cost } }
+    ensures records { (k : Kind) (s t : State) (n : ℕ) → 1 ≤ kind_number k → change_at s t (key_in (Records k) n 0)
+        ≡ record { key = (kind_number k + 2) ∷ number_in_key n; before = option_map (record_value k) (at (table k s).rows n); after = option_map (record_value k) (at (table k t).rows n) } }
+    ensures counts { (r : Relation) (s t : State) (a b : ℕ) → change_at s t (key_in (Counts r) a b)
+        ≡ record { key = table_number (Counts r) ∷ (number_in_key a ++ number_in_key b); before = count_value (count r s a b); after = count_value (count r t a b) } }
 {}

@@ -10,9 +10,12 @@ mod state_rows;
 mod touched_keys;
 mod worked;
 
-pub use batch_laws::{batches_between_states, batches_of_spelled_rows, empty_batches};
+pub use batch_laws::{
+    batches_between_states, batches_of_all_rows, batches_of_spelled_rows, empty_batches,
+};
 pub use cover_laws::{
-    covered_keys_rise, covers_join, covers_make_the_batch, same_tables_need_no_change,
+    changes_at_keys, covered_keys_rise, covers_join, covers_make_the_batch,
+    same_tables_need_no_change,
 };
 pub use difference_laws::{
     batches_lead_on, no_difference, rows_stay_rising, same_answers, the_difference,
