@@ -5,6 +5,7 @@
 mod batches;
 mod changes;
 mod faults;
+mod fields;
 mod rows;
 mod spelling;
 mod worked;
