@@ -1,21 +1,22 @@
 -- Batches: what is written is read again, what is read is what was written, and bytes spell one batch.
-use Rattle.std.proofs.Common.{◌≡◌, ℕ, zero, suc, ◌+◌, ◌^◌, ◌<◌, ◌≤◌, Bool, true, false, cond, ◌==◌, List, [], ◌∷◌, ◌++◌, length, Option, Some, None, Less, refl, sym, ap, subst, ◌∙◌, append_assoc, arith}
+use Rattle.std.proofs.Common.{◌≡◌, ℕ, suc, ◌<◌, Bool, true, false, cond, ◌==◌, ltb, map, List, [], ◌∷◌, ◌++◌, length, Option, Some, None, Less, refl, sym, ap, subst, ◌∙◌, append_assoc, arith}
 use Rattle.std.specs.Option.{option_map, option_and_then}
-use Rattle.std.specs.Ordering.{is_lt, nat_cmp}
+use Rattle.std.specs.Ordering.{is_lt}
 use Rattle.std.specs.declared.cmp.Ordering.{Ordering}
 use Rattle.std.specs.declared.cmp.Ordering.TheVariants.{Equal, Greater}
-use Rattle.std.specs.List.{flat_map, AllByRecursion}
+use Rattle.std.specs.List.{AllByRecursion, list_all}
 use Rattle.std.proofs.lemmas.Bool.{eqb-true}
 use Rattle.std.proofs.lemmas.Cmp.{nat_list_cmp_total}
 use Rattle.std.proofs.lemmas.List.{append-nil, length-append}
+use Rattle.row_codec.specs.declared.changes.Change.{Change}
 use Rattle.row_codec.specs.declared.changes.Op.{Op}
 use Rattle.row_codec.specs.declared.changes.Op.TheVariants.{Put, Delete}
-use Rattle.row_codec.specs.RowDifference.{Rises}
+use Rattle.row_codec.specs.RowDifference.{Rises, said_of}
 use Rattle.row_codec.specs.RowValues.{long, text}
-use Rattle.row_codec.specs.Batches.{bytes_cmp, entry_of, entries_of, op_at, op_bytes, batch_bytes, IsSpelledOp, IsBatch, Spells}
-use Rattle.row_codec.specs.FieldReading.{Front, front_byte, front_part, front_long, front_text}
-use Rattle.row_codec.specs.BatchReading.{front_put, front_delete, front_op, comes_after, IsSpelled}
-use Rattle.row_codec.proofs.FieldLaws.{AreBytes, Takes, Takes-then, some_is, bind_some, map_some, byte_takes, part_takes, part_again, long_takes, long_again, text_takes, text_again}
+use Rattle.row_codec.specs.Batches.{bytes_cmp, entry_of, entries_of, op_at, op_bytes, batch_bytes, IsSpelledOp, IsBatch, Spells, ops_at, batch_of}
+use Rattle.row_codec.specs.FieldReading.{front_part, front_long, front_text}
+use Rattle.row_codec.specs.BatchReading.{front_put, front_delete, front_op, comes_after}
+use Rattle.row_codec.proofs.FieldLaws.{AreBytes, Takes, Takes-then, behind_byte, are_bytes, some_is, bind_some, map_some, part_takes, part_again, long_takes, long_again, text_takes, text_again}
 
 -- ---- one operation
 
@@ -31,14 +32,14 @@ put_takes bytes x fits e =
     let value = Takes-then a.0.1 (long (length c.0.0)) b.0.1 c.0.0 c.0.1 sized v.takes in
     let whole = Takes-then bytes (text a.0.0) a.0.1 (long (length c.0.0) ++ c.0.0) c.0.1 k.0 value in
     subst (λ (y : Op × List ℕ). Takes (1 ∷ bytes) (op_bytes y.0) y.1 × IsSpelledOp y.0) c.2
-      (record { parts = ap (λ (t : List ℕ). 1 ∷ t) whole.parts; rest_fits = whole.rest_fits }, (k.1, omega (arith, n.1, v.len)))
+      (behind_byte 1 bytes (text a.0.0 ++ (long (length c.0.0) ++ c.0.0)) c.0.1 whole, (k.1, omega (arith, n.1, v.len)))
 
 delete_takes : (bytes : List ℕ) (x : Op × List ℕ) → AreBytes bytes → front_delete bytes ≡ Some x → Takes (2 ∷ bytes) (op_bytes x.0) x.1 × IsSpelledOp x.0
 delete_takes bytes x fits e =
     let a = map_some (front_text bytes) (λ k. (Delete k.0, k.1)) x e in
     let k = text_takes bytes a.0 fits a.1 in
     subst (λ (y : Op × List ℕ). Takes (2 ∷ bytes) (op_bytes y.0) y.1 × IsSpelledOp y.0) a.2
-      (record { parts = ap (λ (t : List ℕ). 2 ∷ t) k.0.parts; rest_fits = k.0.rest_fits }, k.1)
+      (behind_byte 2 bytes (text a.0.0) a.0.1 k.0, k.1)
 
 marked_by : (m : ℕ) (a b : Bool) (bytes : List ℕ) (x : Op × List ℕ) → (a ≡ true → m ≡ 1) → (b ≡ true → m ≡ 2) → AreBytes bytes
     → cond a (front_put bytes) (cond b (front_delete bytes) None) ≡ Some x → Takes (m ∷ bytes) (op_bytes x.0) x.1 × IsSpelledOp x.0
@@ -221,3 +222,39 @@ pub one_batch : (bytes : List ℕ) (os ps : List Op) → Spells bytes os → Spe
 one_batch bytes os ps a b =
     let m = others os ps [] a.batch.fits b.batch.fits (sym b.spelled ∙ a.spelled ∙ sym (append-nil (batch_bytes os))) in
     none_left os ps m.0 m.1 m.2
+
+-- ---- the batch of changes
+
+less_behind : (k key : List ℕ) (said : Option (Option (List ℕ))) (ops : List Op) → bytes_cmp k key ≡ Less → AllByRecursion (λ y. bytes_cmp k y.0 ≡ Less) (entries_of ops)
+    → AllByRecursion (λ y. bytes_cmp k y.0 ≡ Less) (entries_of (ops_at key said ++ ops))
+less_behind k key None ops less each = each
+less_behind k key (Some None) ops less each = (less, each)
+less_behind k key (Some (Some value)) ops less each = (less, each)
+
+rises_behind : (key : List ℕ) (said : Option (Option (List ℕ))) (ops : List Op) → AllByRecursion (λ y. bytes_cmp key y.0 ≡ Less) (entries_of ops) → Rises bytes_cmp (entries_of ops)
+    → Rises bytes_cmp (entries_of (ops_at key said ++ ops))
+rises_behind key None ops each rises = rises
+rises_behind key (Some None) ops each rises = (each, rises)
+rises_behind key (Some (Some value)) ops each rises = (each, rises)
+
+abbrev keyed : List Change → List (List ℕ × Change)
+keyed changes = map (λ c. (c.key, c)) changes
+
+less_than_batch : (k : List ℕ) (cs : List Change) → AllByRecursion (λ y. bytes_cmp k y.0 ≡ Less) (keyed cs) → AllByRecursion (λ y. bytes_cmp k y.0 ≡ Less) (entries_of (batch_of cs))
+less_than_batch k [] each = tt
+less_than_batch k (c ∷ cs) each = less_behind k c.key (said_of c.before c.after) (batch_of cs) each.0 (less_than_batch k cs each.1)
+
+pub batch_rises : (cs : List Change) → Rises bytes_cmp (keyed cs) → Rises bytes_cmp (entries_of (batch_of cs))
+batch_rises [] rises = tt
+batch_rises (c ∷ cs) rises = rises_behind c.key (said_of c.before c.after) (batch_of cs) (less_than_batch c.key cs rises.0) (batch_rises cs rises.1)
+
+-- ---- bytes of literals that spell no batch
+
+pub no_first : (bytes : List ℕ) → list_all (λ b. ltb b 256) bytes ≡ true → 0 < length bytes → front_op bytes ≡ None → (ps : List Op) → Spells bytes ps → ⊥
+no_first bytes fit some none ps = no_next bytes bytes None [] ps (at_start bytes (are_bytes bytes fit)) some none
+
+pub not_second : (bytes rest after : List ℕ) (key next : List ℕ) (value other : Option (List ℕ)) → list_all (λ b. ltb b 256) bytes ≡ true → front_op bytes ≡ Some (op_at key value, rest)
+    → 0 < length rest → front_op rest ≡ Some (op_at next other, after) → comes_after (Some key) next ≡ false → (ps : List Op) → Spells bytes ps → ⊥
+not_second bytes rest after key next value other fit e some second late ps =
+    out_of_order bytes rest after (Some key) (op_at key value ∷ []) ps next other
+      (goes_on bytes bytes rest None [] key value (at_start bytes (are_bytes bytes fit)) e refl) some second late

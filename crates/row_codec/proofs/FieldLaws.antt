@@ -1,8 +1,9 @@
 -- Fields: what is written is read again, and what is read is what was written.
-use Rattle.std.proofs.Common.{◌≡◌, ℕ, zero, suc, ◌+◌, ◌^◌, ◌<◌, ◌≤◌, Bool, true, false, cond, ltb, List, [], ◌∷◌, ◌++◌, length, get_or, take, drop, Option, Some, None, inl, inr, refl, sym, ap, subst, ◌∙◌, append_assoc, arith}
-use Rattle.std.specs.Int.{w16, w32, from_le_bytes, to_le_bytes}
+use Rattle.std.proofs.Common.{◌≡◌, ℕ, zero, suc, ◌+◌, ◌^◌, ◌<◌, ◌≤◌, Bool, true, false, cond, ltb, ◌&&◌, List, [], ◌∷◌, ◌++◌, length, get_or, take, drop, Option, Some, None, inl, inr, refl, sym, ap, subst, ◌∙◌, append_assoc, arith}
+use Rattle.std.specs.Int.{w32, from_le_bytes}
+use Rattle.std.specs.List.{list_all}
 use Rattle.std.specs.Option.{option_map, option_and_then}
-use Rattle.std.proofs.lemmas.Bool.{cases_lt, ltb-false, le-ltb}
+use Rattle.std.proofs.lemmas.Bool.{cases_lt, ltb-false, ltb-true, le-ltb}
 use Rattle.std.proofs.lemmas.List.{take_at, drop_at, take-append-drop, length-append, length-take, get_or-drop, get_or-take, get_or_past}
 use Rattle.std.proofs.lemmas.Nat.{le_bytes_4, from_le_bytes-to_le_bytes_4}
 use Rattle.row_codec.specs.RowValues.{long, text}
@@ -39,6 +40,14 @@ pub guard_some : {A : Type 0} (b : Bool) (x y : A) → cond b None (Some x) ≡ 
 guard_some true x y e = absurd cc
 guard_some false x y e = (refl, cc)
 
+pub and_left : (b c : Bool) → (b && c) ≡ true → b ≡ true
+and_left true c e = refl
+and_left false c e = absurd cc
+
+pub and_right : (b c : Bool) → (b && c) ≡ true → c ≡ true
+and_right true c e = e
+and_right false c e = absurd cc
+
 -- what a reader took from the front
 pub record Takes (bytes text rest : List ℕ) : Type 0 where
   pub parts : bytes ≡ text ++ rest
@@ -46,6 +55,14 @@ pub record Takes (bytes text rest : List ℕ) : Type 0 where
 
 pub Takes-then : (a x b y c : List ℕ) → Takes a x b → Takes b y c → Takes a (x ++ y) c
 Takes-then a x b y c p q = record { parts = p.parts ∙ ap (λ (t : List ℕ). x ++ t) q.parts ∙ sym (append_assoc x y c); rest_fits = q.rest_fits }
+
+pub behind_byte : (b : ℕ) (bytes text rest : List ℕ) → Takes bytes text rest → Takes (b ∷ bytes) (b ∷ text) rest
+behind_byte b bytes text rest t = record { parts = ap (λ (xs : List ℕ). b ∷ xs) t.parts; rest_fits = t.rest_fits }
+
+pub are_bytes : (bytes : List ℕ) → list_all (λ b. ltb b 256) bytes ≡ true → AreBytes bytes
+are_bytes [] e i = omega arith
+are_bytes (b ∷ bytes) e zero = ltb-true b 256 (and_left (ltb b 256) (list_all (λ x. ltb x 256) bytes) e)
+are_bytes (b ∷ bytes) e (suc i) = are_bytes bytes (and_right (ltb b 256) (list_all (λ x. ltb x 256) bytes) e) i
 
 -- ---- bytes and parts
 

@@ -2,7 +2,7 @@
 use Rattle.std.specs.Prelude.{ℕ, cond, nat_lt, List, [], ◌∷◌, length, take, drop, None, Some}
 use Rattle.std.specs.declared.option.Option.{Option}
 use Rattle.std.specs.Option.{option_map, option_and_then}
-use Rattle.std.specs.Int.{w16, w32, from_le_bytes}
+use Rattle.std.specs.Int.{w32, from_le_bytes}
 
 -- What is read at the front, and the bytes that follow it; none where nothing of the kind stands there.
 abbrev pub Front : Type 0 → Type 0

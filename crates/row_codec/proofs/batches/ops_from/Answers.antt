@@ -1,9 +1,8 @@
-use Rattle.std.proofs.Common.{rules, ◌≡◌, ◌++◌, ◌∷◌, [], Some, None, Option, true, false, List, ℕ, ◌<◌, length, arith, sym, subst, ◌∙◌, ap}
+use Rattle.std.proofs.Common.{◌≡◌, Some, None, Option, true, false, List, ℕ, ◌<◌, length, arith, sym, ◌∙◌}
 use Rattle.std.specs.Option.{option_map}
-use Rattle.row_codec.specs.declared.changes.Op.{Op}
 use Rattle.row_codec.specs.Batches.{op_at}
 use Rattle.row_codec.specs.BatchReading.{front_op, comes_after}
-use Rattle.row_codec.proofs.BatchLaws.{SoFar, goes_on, no_next, out_of_order, op_shortens}
+use Rattle.row_codec.proofs.BatchLaws.{goes_on, no_next, out_of_order}
 use Rattle.row_codec.proofs.batches.ops_from.Goals as goal
 
 pub returns-in_default-clause-bad : goal.returns-in_default-clause-bad
