@@ -32,14 +32,14 @@ put_takes bytes x fits e =
     let value = Takes-then a.0.1 (long (length c.0.0)) b.0.1 c.0.0 c.0.1 sized v.takes in
     let whole = Takes-then bytes (text a.0.0) a.0.1 (long (length c.0.0) ++ c.0.0) c.0.1 k.0 value in
     subst (λ (y : Op × List ℕ). Takes (1 ∷ bytes) (op_bytes y.0) y.1 × IsSpelledOp y.0) c.2
-      (behind_byte 1 bytes (text a.0.0 ++ (long (length c.0.0) ++ c.0.0)) c.0.1 whole, (k.1, omega (arith, n.1, v.len)))
+    (behind_byte 1 bytes (text a.0.0 ++ (long (length c.0.0) ++ c.0.0)) c.0.1 whole, (k.1, omega (arith, n.1, v.len)))
 
 delete_takes : (bytes : List ℕ) (x : Op × List ℕ) → AreBytes bytes → front_delete bytes ≡ Some x → Takes (2 ∷ bytes) (op_bytes x.0) x.1 × IsSpelledOp x.0
 delete_takes bytes x fits e =
     let a = map_some (front_text bytes) (λ k. (Delete k.0, k.1)) x e in
     let k = text_takes bytes a.0 fits a.1 in
     subst (λ (y : Op × List ℕ). Takes (2 ∷ bytes) (op_bytes y.0) y.1 × IsSpelledOp y.0) a.2
-      (behind_byte 2 bytes (text a.0.0) a.0.1 k.0, k.1)
+    (behind_byte 2 bytes (text a.0.0) a.0.1 k.0, k.1)
 
 marked_by : (m : ℕ) (a b : Bool) (bytes : List ℕ) (x : Op × List ℕ) → (a ≡ true → m ≡ 1) → (b ≡ true → m ≡ 2) → AreBytes bytes
     → cond a (front_put bytes) (cond b (front_delete bytes) None) ≡ Some x → Takes (m ∷ bytes) (op_bytes x.0) x.1 × IsSpelledOp x.0
@@ -142,7 +142,7 @@ pub goes_on : (bytes rest after : List ℕ) (last : Option (List ℕ)) (ops : Li
 goes_on bytes rest after last ops key value so e next =
     let is = key_at key value in
     subst (λ (k : List ℕ). SoFar bytes (Some k) after (ops ++ op_at key value ∷ [])) is
-      (op_goes_on bytes rest after last ops (op_at key value) so e (ap (comes_after last) is ∙ next))
+    (op_goes_on bytes rest after last ops (op_at key value) so e (ap (comes_after last) is ∙ next))
 
 pub at_end : (bytes rest : List ℕ) (last : Option (List ℕ)) (ops : List Op) → SoFar bytes last rest ops → rest ≡ [] → Spells bytes ops
 at_end bytes rest last ops so e = record { batch = so.batch; spelled = so.parts ∙ ap (λ (t : List ℕ). batch_bytes ops ++ t) e ∙ append-nil (batch_bytes ops) }
@@ -257,4 +257,4 @@ pub not_second : (bytes rest after : List ℕ) (key next : List ℕ) (value othe
     → 0 < length rest → front_op rest ≡ Some (op_at next other, after) → comes_after (Some key) next ≡ false → (ps : List Op) → Spells bytes ps → ⊥
 not_second bytes rest after key next value other fit e some second late ps =
     out_of_order bytes rest after (Some key) (op_at key value ∷ []) ps next other
-      (goes_on bytes bytes rest None [] key value (at_start bytes (are_bytes bytes fit)) e refl) some second late
+    (goes_on bytes bytes rest None [] key value (at_start bytes (are_bytes bytes fit)) e refl) some second late

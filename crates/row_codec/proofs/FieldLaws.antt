@@ -73,7 +73,7 @@ pub byte_takes : (bytes : List ℕ) (x : ℕ × List ℕ) → AreBytes bytes →
 byte_takes [] x fits e = absurd cc
 byte_takes (a ∷ bytes) x fits e =
     subst (λ (y : ℕ × List ℕ). Takes (a ∷ bytes) (y.0 ∷ []) y.1 × (y.0 < 256)) (some_is (a, bytes) x e)
-      (record { parts = refl; rest_fits = AreBytes-rest a bytes fits }, fits 0)
+    (record { parts = refl; rest_fits = AreBytes-rest a bytes fits }, fits 0)
 
 -- a part of the front
 pub record IsPart (n : ℕ) (bytes part rest : List ℕ) : Type 0 where
@@ -86,11 +86,11 @@ part_takes n bytes x fits e =
     let g = guard_some (ltb (length bytes) n) (take n bytes, drop n bytes) x e in
     let long : n ≤ length bytes = ltb-false _ _ g.0 in
     subst (λ (p : List ℕ × List ℕ). IsPart n bytes p.0 p.1) g.1
-      (record {
-        takes = record { parts = sym (take-append-drop n bytes); rest_fits = AreBytes-drop n bytes fits };
-        len = omega (arith, length-take n bytes);
-        fits = AreBytes-take n bytes fits;
-      })
+    (record {
+      takes = record { parts = sym (take-append-drop n bytes); rest_fits = AreBytes-drop n bytes fits };
+      len = omega (arith, length-take n bytes);
+      fits = AreBytes-take n bytes fits;
+    })
 
 pub part_again : (part rest : List ℕ) (n : ℕ) → length part ≡ n → front_part n (part ++ rest) ≡ Some (part, rest)
 part_again part rest n len =

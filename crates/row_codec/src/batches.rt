@@ -182,7 +182,12 @@ fn add_change(ops: &mut Vec<Op>, change: &Change) -> Result<(), AllocError>
         (None, None) => Ok(()),
         (None, Some(value)) => add_put(ops, change.key.as_slice(), value.as_slice()),
         (Some(_), None) => add_delete(ops, change.key.as_slice()),
-        (Some(old), Some(new)) => add_other(ops, change.key.as_slice(), old.as_slice(), new.as_slice()),
+        (Some(old), Some(new)) => add_other(
+            ops,
+            change.key.as_slice(),
+            old.as_slice(),
+            new.as_slice(),
+        ),
     }
 }
 

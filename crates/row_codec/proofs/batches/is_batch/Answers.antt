@@ -23,6 +23,7 @@ pub ops-preserved : goal.ops-preserved
 ops-preserved c =
     let value : Option (List ℕ) = option_map (λ v. v.now) c.in-Some.field-0-1 in
     let is : front_op c.ops.rest.now ≡ Some (op_at c.in-Some.key.now value, c.in-Some.after.now) = sym c.in-Some.ensures in
-    let next : comes_after (option_map (λ l. l.now) c.ops.last) c.in-Some.key.now ≡ true = sym c.comes_after.ensures ∙ c.if-not-comes_after.false in
-    (c.ops.invariant.0 ++ op_at c.in-Some.key.now value ∷ [],
-     goes_on c.args.bytes.now c.ops.rest.now c.in-Some.after.now _ c.ops.invariant.0 c.in-Some.key.now value c.ops.invariant.1 is next)
+    let next : comes_after (option_map (λ l. l.now) c.ops.last) c.in-Some.key.now ≡ true = sym c.comes_after.ensures ∙ c.if-not-comes_after.false in (
+      c.ops.invariant.0 ++ op_at c.in-Some.key.now value ∷ [],
+      goes_on c.args.bytes.now c.ops.rest.now c.in-Some.after.now _ c.ops.invariant.0 c.in-Some.key.now value c.ops.invariant.1 is next,
+    )

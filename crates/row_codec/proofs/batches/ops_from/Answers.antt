@@ -25,4 +25,4 @@ ops-preserved c =
     let is : front_op c.ops.rest.now ≡ Some (op_at c.in-Some.key.now value, c.in-Some.after.now) = sym c.in-Some.ensures in
     let next : comes_after (option_map (λ l. l.now) c.ops.last) c.in-Some.key.now ≡ true = sym c.comes_after.ensures ∙ c.if-not-comes_after.false in
     rw c.in_ok-add_op.ensures
-      (goes_on c.args.bytes.now c.ops.rest.now c.in-Some.after.now _ c.ops.ops.items c.in-Some.key.now value c.ops.invariant is next)
+    (goes_on c.args.bytes.now c.ops.rest.now c.in-Some.after.now _ c.ops.ops.items c.in-Some.key.now value c.ops.invariant is next)
