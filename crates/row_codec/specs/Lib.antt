@@ -7,3 +7,4 @@ pub mod Batches
 pub mod CoveredTables
 pub mod FieldReading
 pub mod BatchReading
+pub mod RowReading

@@ -9,5 +9,5 @@ returns c =
     let a = c.args in
     let costs : List ℕ = short a.cost ++ (short a.latencies.0 ++ (short a.latencies.1 ++ flag a.up ∷ [])) in
     on_ok_weaker c.push_costs.result
-      (λ e. three_written a.out.now.items (text a.name.now) (long a.ends.0.0 ++ long a.ends.1.0) costs _ _ _ c.in_ok-push_name.ensures c.in_ok-push_longs.ensures e)
-      c.push_costs.ensures
+    (λ e. three_written a.out.now.items (text a.name.now) (long a.ends.0.0 ++ long a.ends.1.0) costs _ _ _ c.in_ok-push_name.ensures c.in_ok-push_longs.ensures e)
+    c.push_costs.ensures
