@@ -1,0 +1,16 @@
+pub mod RisingRows
+pub mod Differences
+pub mod KeyOrders
+pub mod JoinedRows
+pub mod RowsAtKeys
+pub mod RisingStates
+pub mod TableRows
+pub mod SpelledKeys
+pub mod Covers
+pub mod WrittenRecords
+pub mod WrittenRows
+pub mod BatchForms
+pub mod SpelledValues
+pub mod SameStates
+pub mod StateBatches
+pub mod TouchedKeys

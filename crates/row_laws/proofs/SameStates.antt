@@ -1,0 +1,144 @@
+-- Two valid states with equal rows are equal.
+use Rattle.std.proofs.Common.{◌≡◌, ℕ, ◌^◌, ◌<◌, ◌≤◌, ◌==◌, inl, inr, nat_lt, nat_le, Bool, true, false, cond, List, [], ◌∷◌, Option, None, Some, option_map, refl, sym, ◌∙◌, ap, subst, arith, eqb-true, leb-true, lt-ltb, ltb-false, get_or, drop, le_trans}
+use Rattle.std.proofs.lemmas.Bool.{and_parts}
+use Rattle.std.proofs.lemmas.Option.{same_Some, none-some}
+use Rattle.std.proofs.lemmas.Cmp.{tied_itself, nat_list_cmp_total}
+use Rattle.ctrl_model.specs.declared.kinds.Kind.{Kind}
+use Rattle.ctrl_model.specs.declared.kinds.Kind.TheVariants as kind
+use Rattle.ctrl_model.specs.Membership.{Among}
+use Rattle.ctrl_model.specs.Limits.{last_next}
+use Rattle.ctrl_model.specs.Numbered.{at, Between}
+use Rattle.ctrl_model.specs.State.{State, start}
+use Rattle.ctrl_model.specs.Tables.{Record, table}
+use Rattle.ctrl_model.specs.ValidState.{ValidState}
+use Rattle.ctrl_model.proofs.NumberedLaws.{same_numbered}
+use Rattle.row_codec.specs.RowKeys.{Key, key_cmp, key_bytes, is_key, is_long}
+use Rattle.row_codec.specs.RowValues.{long, record_value}
+use Rattle.row_codec.specs.RowDifference.{value_at}
+use Rattle.row_codec.specs.StateRows.{Rows, next_value, setting_value, rows_of, row_at}
+use Rattle.row_codec.specs.Batches.{bytes_cmp, spelled_rows}
+use Rattle.row_laws.proofs.KeyOrders.{key_exact, bytes_order}
+use Rattle.row_laws.proofs.RowsAtKeys.{value_at-rows_of}
+use Rattle.row_laws.proofs.SpelledKeys.{AreKeys}
+use Rattle.row_laws.proofs.SpelledValues.{long_same, same_record}
+use Rattle.row_laws.proofs.WrittenRecords.{record_fits}
+use Rattle.row_laws.proofs.WrittenRows.{AreKeys-rows_of}
+
+-- ---- numbers
+
+one_long : (m n : ℕ) → is_long m ≡ true → is_long n ≡ true → long m ≡ long n → m ≡ n
+one_long m n h k e = (long_same m n [] [] h k e).0
+
+long_upto : (n : ℕ) → n ≤ 4294967295 → is_long n ≡ true
+long_upto n h = let below : n < 4294967296 = omega arith in lt-ltb n (2 ^ 32) below
+
+next_same : (m n : ℕ) → 1 ≤ m → 1 ≤ n → m ≤ last_next → n ≤ last_next → next_value m ≡ next_value n → m ≡ n
+next_same m n a b h k e = by (nat_lt 1 m) (nat_lt 1 n) refl refl e
+  where
+    by : (c d : Bool) → nat_lt 1 m ≡ c → nat_lt 1 n ≡ d → cond c (Some (long m)) None ≡ cond d (Some (long n)) None → m ≡ n
+    by true true p q f = one_long m n (long_upto m h) (long_upto n k) (same_Some (long m) (long n) f)
+    by true false p q f = absurd (none-some (long m) (sym f))
+    by false true p q f = absurd (none-some (long n) f)
+    by false false p q f = one_one m n a b (ltb-false 1 m p) (ltb-false 1 n q)
+      where
+        one_one : (m n : ℕ) → 1 ≤ m → 1 ≤ n → m ≤ 1 → n ≤ 1 → m ≡ n
+        one_one m n a b c d = omega arith
+
+setting_same : (m n : ℕ) → is_long m ≡ true → is_long n ≡ true → setting_value m ≡ setting_value n → m ≡ n
+setting_same m n h k e = by (m == start.least_router_cost) (n == start.least_router_cost) refl refl e
+  where
+    by : (c d : Bool) → (m == start.least_router_cost) ≡ c → (n == start.least_router_cost) ≡ d → cond c None (Some (long m)) ≡ cond d None (Some (long n)) → m ≡ n
+    by true true p q f = eqb-true m start.least_router_cost p ∙ sym (eqb-true n start.least_router_cost q)
+    by true false p q f = absurd (none-some (long n) f)
+    by false true p q f = absurd (none-some (long m) (sym f))
+    by false false p q f = one_long m n h k (same_Some (long m) (long n) f)
+
+setting_fits : (s : State) → ValidState s → is_long s.least_router_cost ≡ true
+setting_fits s v =
+    long_upto s.least_router_cost
+    (le_trans (leb-true s.least_router_cost 65535 (and_parts (nat_le 1 s.least_router_cost) (nat_le s.least_router_cost 65535) v.setting).1) (omega arith))
+
+-- ---- tables
+
+pub row_among : {R : Type 0} (rows : List (ℕ × R)) (n : ℕ) (r : R) → at rows n ≡ Some r → Among (n, r) rows
+row_among [] n r e = absurd (none-some r e)
+row_among (x ∷ xs) n r e = by (x.0 == n) refl e (row_among xs n r)
+  where
+    by : (b : Bool) → (x.0 == n) ≡ b → cond b (Some x.1) (at xs n) ≡ Some r → (at xs n ≡ Some r → Among (n, r) xs) → Among (n, r) (x ∷ xs)
+    by true is f h = inl (λ i. (eqb-true x.0 n is i, same_Some x.1 r f i))
+    by false is f h = inr (h f)
+
+same_at : (k : Kind) (s t : State) → ValidState s → ValidState t → (n : ℕ)
+    → option_map (record_value k) (at (table k s).rows n) ≡ option_map (record_value k) (at (table k t).rows n) → at (table k s).rows n ≡ at (table k t).rows n
+same_at k s t v w n e = by (at (table k s).rows n) (at (table k t).rows n) refl refl e
+  where
+    by : (o p : Option (Record k)) → at (table k s).rows n ≡ o → at (table k t).rows n ≡ p → option_map (record_value k) o ≡ option_map (record_value k) p → o ≡ p
+    by None None a b f = refl
+    by None (Some q) a b f = absurd (none-some (record_value k q) f)
+    by (Some r) None a b f = absurd (none-some (record_value k r) (sym f))
+    by (Some r) (Some q) a b f =
+        ap Some (same_record k r q (record_fits s v k (n, r) (row_among (table k s).rows n r a)) (record_fits t w k (n, q) (row_among (table k t).rows n q b))
+        (same_Some (record_value k r) (record_value k q) f))
+
+-- a table of which the next number and each record are written alike
+same_table : (k : Kind) (s t : State) → ValidState s → ValidState t → next_value (table k s).next ≡ next_value (table k t).next
+    → ((n : ℕ) → option_map (record_value k) (at (table k s).rows n) ≡ option_map (record_value k) (at (table k t).rows n)) → table k s ≡ table k t
+same_table k s t v w e f =
+    let a = (v.kinds k).numbers in
+    let b = (w.kinds k).numbers in
+    let next = next_same (table k s).next (table k t).next a.first b.first a.last b.last e in
+    let rows = same_numbered (table k s).next (table k s).rows (table k t).rows 1 a.ordered
+    (subst (λ high. Between 1 high (table k t).rows) (sym next) b.ordered) (λ n. same_at k s t v w n (f n)) in
+    λ i. record { rows = rows i; next = next i }
+
+-- ---- states
+
+pub same_from_keys : (s t : State) → ValidState s → ValidState t → ((key : Key) → row_at s key ≡ row_at t key) → s ≡ t
+same_from_keys s t v w e =
+    let identities = same_table kind.Identity s t v w (e (1, 1, 0)) (λ n. e (3, n, 0)) in
+    let services = same_table kind.Service s t v w (e (1, 2, 0)) (λ n. e (4, n, 0)) in
+    let routers = same_table kind.Router s t v w (e (1, 3, 0)) (λ n. e (5, n, 0)) in
+    let links = same_table kind.Link s t v w (e (1, 4, 0)) (λ n. e (6, n, 0)) in
+    let service_policies = same_table kind.ServicePolicy s t v w (e (1, 5, 0)) (λ n. e (7, n, 0)) in
+    let edge_router_policies = same_table kind.EdgeRouterPolicy s t v w (e (1, 6, 0)) (λ n. e (8, n, 0)) in
+    let service_edge_router_policies = same_table kind.ServiceEdgeRouterPolicy s t v w (e (1, 7, 0)) (λ n. e (9, n, 0)) in
+    let terminators = same_table kind.Terminator s t v w (e (1, 8, 0)) (λ n. e (10, n, 0)) in
+    let circuits = same_table kind.Circuit s t v w (e (1, 9, 0)) (λ n. e (11, n, 0)) in
+    let cost = setting_same s.least_router_cost t.least_router_cost (setting_fits s v) (setting_fits t w) (e (2, 0, 0)) in
+    λ i. record {
+      identities = identities i;
+      services = services i;
+      routers = routers i;
+      links = links i;
+      service_policies = service_policies i;
+      edge_router_policies = edge_router_policies i;
+      service_edge_router_policies = service_edge_router_policies i;
+      terminators = terminators i;
+      circuits = circuits i;
+      least_router_cost = cost i;
+    }
+
+pub same_from_rows : (s t : State) → ValidState s → ValidState t → rows_of s ≡ rows_of t → s ≡ t
+same_from_rows s t v w e =
+    same_from_keys s t v w (λ q. sym (value_at-rows_of s q) ∙ ap (λ (rows : Rows). value_at key_cmp rows q) e ∙ value_at-rows_of t q)
+
+-- ---- rows that are spelled alike
+
+pub key_same : (k l : Key) → is_key k ≡ true → is_key l ≡ true → key_bytes k ≡ key_bytes l → k ≡ l
+key_same k l h j e = key_exact k l (sym (bytes_order k l h j) ∙ ap (λ b. bytes_cmp (key_bytes k) b) (sym e) ∙ tied_itself nat_list_cmp_total (key_bytes k))
+
+parts_same : {X : Type 0} (x y : X) (xs ys : List X) → (x ∷ xs) ≡ (y ∷ ys) → (x ≡ y) × (xs ≡ ys)
+parts_same x y xs ys e = (ap (λ l. get_or l 0 x) e, ap (drop 1) e)
+
+pub same_spelled : (xs ys : Rows) → AreKeys xs → AreKeys ys → spelled_rows xs ≡ spelled_rows ys → xs ≡ ys
+same_spelled [] [] a b e = refl
+same_spelled [] (y ∷ ys) a b e = absurd (cc)
+same_spelled (x ∷ xs) [] a b e = absurd (cc)
+same_spelled (x ∷ xs) (y ∷ ys) a b e =
+    let parts = parts_same (key_bytes x.0, x.1) (key_bytes y.0, y.1) (spelled_rows xs) (spelled_rows ys) e in
+    let key = key_same x.0 y.0 a.0 b.0 (ap (λ (p : List ℕ × List ℕ). p.0) parts.0) in
+    let value = ap (λ (p : List ℕ × List ℕ). p.1) parts.0 in
+    let rest = same_spelled xs ys a.1 b.1 parts.1 in λ i. (key i, value i) ∷ rest i
+
+pub same_from_spelled : (s t : State) → ValidState s → ValidState t → spelled_rows (rows_of s) ≡ spelled_rows (rows_of t) → s ≡ t
+same_from_spelled s t v w e = same_from_rows s t v w (same_spelled (rows_of s) (rows_of t) (AreKeys-rows_of s v) (AreKeys-rows_of t w) e)

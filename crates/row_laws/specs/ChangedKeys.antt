@@ -1,0 +1,42 @@
+-- The changes at the keys of one table that can differ between two states (docs/PROMISES.md, "Rows and batches").
+use Rattle.std.specs.Prelude.{ℕ, ◌<◌, ⊤, Bool, not, List, [], ◌∷◌, map, filter}
+use Rattle.std.specs.List.{AllByRecursion}
+use Rattle.std.specs.declared.cmp.Ordering.{Ordering}
+use Rattle.std.specs.Ordering.{nat_cmp, ordering_then}
+use Rattle.ctrl_model.specs.declared.kinds.Kind.{Kind}
+use Rattle.ctrl_model.specs.declared.kinds.Relation.{Relation}
+use Rattle.ctrl_model.specs.Numbered.{numbers}
+use Rattle.ctrl_model.specs.State.{State}
+use Rattle.row_codec.specs.declared.changes.Change.{Change}
+use Rattle.row_codec.specs.RowKeys.{kind_number, key_in}
+use Rattle.row_codec.specs.RowKeys.RowTable.{Next, Setting, Records, Counts}
+use Rattle.row_codec.specs.CoveredTables.{change_at}
+
+-- The numbers of some things climb: each is below all that follow it.
+abbrev pub Climbs : {X : Type 0} → (X → ℕ) → List X → Type 0
+Climbs number [] = ⊤
+Climbs number (x ∷ xs) = AllByRecursion (λ y. number x < number y) xs × Climbs number xs
+
+-- The order of pairs: by the first number, then by the second.
+abbrev pub pair_cmp : ℕ × ℕ → ℕ × ℕ → Ordering
+pair_cmp p q = ordering_then (nat_cmp p.0 q.0) (nat_cmp p.1 q.1)
+
+-- The changes of the next numbers of some kinds.
+abbrev pub next_changes : State → State → List Kind → List Change
+next_changes s t ks = map (λ k. change_at s t (key_in Next (kind_number k) 0)) ks
+
+-- The change of the setting.
+abbrev pub setting_change : State → State → Change
+setting_change s t = change_at s t (key_in Setting 0 0)
+
+-- The changes of the records of a kind at some numbers.
+abbrev pub record_changes : Kind → State → State → List ℕ → List Change
+record_changes k s t ns = map (λ n. change_at s t (key_in (Records k) n 0)) ns
+
+-- The changes of the counts of a relation at some pairs.
+abbrev pub count_changes : Relation → State → State → List (ℕ × ℕ) → List Change
+count_changes r s t pairs = map (λ p. change_at s t (key_in (Counts r) p.0 p.1)) pairs
+
+-- The numbers of the records that a test does not pass, so those that go where the others are kept.
+abbrev pub gone : {R : Type 0} → (ℕ × R → Bool) → List (ℕ × R) → List ℕ
+gone keeps rows = numbers (filter (λ row. not (keeps row)) rows)

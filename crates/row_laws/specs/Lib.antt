@@ -1,0 +1,2 @@
+pub mod SaidChanges
+pub mod ChangedKeys
