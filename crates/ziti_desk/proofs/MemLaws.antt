@@ -20,6 +20,10 @@ pub may_push : (r : Image) (may : Image → Type 0) (es : List Event) (e : Event
 may_push r may [] e c m = m
 may_push r may (x ∷ es) e c m = may_push (reads_by x r) (may_by x r may) es e c m
 
+pub may_pop : (r : Image) (may : Image → Type 0) (es : List Event) (e : Event) (c : Image) → may_by e (reads_after r es) (MayAfter r may es) c → MayAfter r may (es ++ e ∷ []) c
+may_pop r may [] e c m = m
+may_pop r may (x ∷ es) e c m = may_pop (reads_by x r) (may_by x r may) es e c m
+
 -- At its start a call has taken nothing.
 within_now : (e : Event) (s w : List ℕ) → w ≡ s → Within e s w
 within_now (Saying bytes) s w same = ([], IsFront-none bytes, same ∙ sym (append-nil s))

@@ -7,6 +7,7 @@
 mod answers;
 mod files;
 mod folder;
+mod laws;
 mod mem_desk;
 mod mem_log;
 mod mem_parts;
@@ -15,6 +16,7 @@ mod outlets;
 
 pub use files::{FileDesk, FileSource};
 pub use folder::Paths;
+pub use laws::{pending_until_synced, worked_images};
 pub use mem_desk::{MemDesk, Room};
 pub use mem_parts::Images;
 pub use mem_source::{MemSource, NEVER};
