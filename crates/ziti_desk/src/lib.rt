@@ -5,6 +5,7 @@
 #![tactic(auto)]
 
 mod answers;
+mod failing_calls;
 mod files;
 mod folder;
 mod laws;
@@ -19,5 +20,5 @@ pub use folder::Paths;
 pub use laws::{pending_until_synced, worked_images};
 pub use mem_desk::{MemDesk, Room};
 pub use mem_parts::Images;
-pub use mem_source::{MemSource, NEVER};
+pub use mem_source::MemSource;
 pub use outlets::{Outlet, Writes};
