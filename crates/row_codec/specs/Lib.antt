@@ -5,3 +5,6 @@ pub mod StateRows
 pub mod RowDifference
 pub mod Batches
 pub mod CoveredTables
+pub mod FieldReading
+pub mod BatchReading
+pub mod RowReading

@@ -1,11 +1,10 @@
 //! Rows of commands on policies, links and terminators, and of what is then shown. The rows of a table are one run.
 
-use crate::desks::steady_desk;
+use crate::desks::{steady_desk, steady_source};
 use ctrl_serve::{Bounds, Status, run_within};
 use std::alloc::{AllocError, Global};
 use std::process::Abort;
 use std::test::Fail;
-use ziti_desk::{MemSource, NEVER};
 
 /// A content type, the body of the frame, and the body of its reply.
 pub type Row = (u32, &'static str, &'static str);
@@ -278,7 +277,7 @@ pub(crate) fn check_table(rt: &impl Abort, alloc: Global, rows: &[Row]) -> Resul
     };
     let mut words = Vec::new(alloc);
     words.push(String::from_str(alloc, "dry")?)?;
-    let mut source = MemSource::new(requests(alloc, rows)?, 4_096, NEVER);
+    let mut source = steady_source(alloc, &requests(alloc, rows)?)?;
     let mut desk = steady_desk(alloc)?;
     let status = run_within(alloc, &words, bounds, &mut source, &mut desk);
     let wanted = replies(alloc, rows)?;

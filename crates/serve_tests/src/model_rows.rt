@@ -1,11 +1,10 @@
 //! A realistic network: 300 identities, 40 services, 12 routers with 30 links, 25 policies, 40 terminators and 200 circuits.
 
 use crate::command_rows::{push_request, reply_frame};
-use crate::desks::steady_desk;
+use crate::desks::{steady_desk, steady_source};
 use ctrl_serve::{Bounds, Status, run_within};
 use std::alloc::{AllocError, Global};
 use std::test::Fail;
-use ziti_desk::{MemSource, NEVER};
 
 /// Identities, each in one of five groups; the first 40 are hosts.
 fn push_identities(alloc: Global, bytes: &mut Vec<u8>) -> Result<(), AllocError> {
@@ -172,7 +171,7 @@ fn answers_a_realistic_network(rt: HostRuntime) -> Result<(), Fail> {
     };
     let mut words = Vec::new(alloc);
     words.push(String::from_str(alloc, "dry")?)?;
-    let mut source = MemSource::new(model(alloc)?, 4_096, NEVER);
+    let mut source = steady_source(alloc, &model(alloc)?)?;
     let mut desk = steady_desk(alloc)?;
     let status = run_within(alloc, &words, bounds, &mut source, &mut desk);
     assert_eq!(rt; status, Status::Done);

@@ -1,9 +1,9 @@
-use crate::desks::{failing_desk, steady_desk};
+use crate::desks::{failing_desk, failing_source, steady_desk, steady_source};
 use ctrl_serve::{Bounds, Status, run, run_within};
 use std::alloc::{AllocError, Global};
 use std::process::Abort;
 use std::test::Fail;
-use ziti_desk::{MemDesk, MemSource, NEVER};
+use ziti_desk::MemDesk;
 
 /// A frame that creates ann: content type 1000, sequence 7, no headers.
 pub(crate) const ANN: &[u8] =
@@ -69,7 +69,7 @@ struct Row {
     status: Status,
     piece: usize,
     most: u64,
-    failing_take: u64,
+    failing_takes: &'static [u32],
     failing_says: &'static [u32],
 }
 
@@ -87,7 +87,7 @@ impl Row {
             status,
             piece: 4_096,
             most: 1_000,
-            failing_take: NEVER,
+            failing_takes: &[],
             failing_says: &[],
         }
     }
@@ -100,9 +100,9 @@ impl Row {
         Row { most, ..self }
     }
 
-    fn failing_take(self, failing_take: u64) -> Row {
+    fn failing_takes(self, failing_takes: &'static [u32]) -> Row {
         Row {
-            failing_take,
+            failing_takes,
             ..self
         }
     }
@@ -128,8 +128,8 @@ fn words(alloc: Global, word: &str) -> Result<Vec<String>, AllocError> {
 }
 
 fn outcome(alloc: Global, row: &Row) -> Result<(MemDesk, Status), AllocError> {
-    let piece = row.piece.max(1);
-    let mut source = MemSource::new(joined(alloc, row.input)?, piece, row.failing_take);
+    let input = joined(alloc, row.input)?;
+    let mut source = failing_source(alloc, &input, row.piece, row.failing_takes)?;
     let mut desk = failing_desk(alloc, row.failing_says)?;
     let bounds = Bounds {
         input: row.most.min(1_000),
@@ -178,8 +178,8 @@ fn failing_calls() -> [Row; 4] {
     let read = Status::ReadFault;
     let write = Status::WriteFault;
     [
-        Row::of("the second take", [ANN, NONE], [MADE, NONE], read).failing_take(1),
-        Row::of("the first take", [ANN, NONE], [NONE, NONE], read).failing_take(0),
+        Row::of("the second take", [ANN, NONE], [MADE, NONE], read).failing_takes(&[1]),
+        Row::of("the first take", [ANN, NONE], [NONE, NONE], read).failing_takes(&[0]),
         Row::of("the first say", [ANN, ANN], [NONE, NONE], write).failing_says(&[0]),
         Row::of("the second say", [ANN, ANN], [MADE, NONE], write).failing_says(&[1]),
     ]
@@ -208,7 +208,7 @@ fn answers_with_ample_memory(rt: HostRuntime) -> Result<(), Fail> {
 fn tells_other_words_the_usage(rt: HostRuntime) -> Result<(), Fail> {
     for word in ["", "Dry", "replay", "--help"] {
         let words = words(rt.alloc(), word)?;
-        let mut source = MemSource::new(Vec::from_slice(rt.alloc(), ANN)?, 1, 0);
+        let mut source = steady_source(rt.alloc(), ANN)?;
         let mut desk = steady_desk(rt.alloc())?;
         let status = run(rt.alloc(), &words, &mut source, &mut desk);
         assert_eq!(rt; status, Status::Usage, "{word}");

@@ -1,2 +1,3 @@
 pub mod MemLaws
 pub mod MemSteps
+pub mod PieceLaws

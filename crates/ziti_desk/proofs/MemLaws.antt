@@ -1,14 +1,12 @@
 -- How one more call joins the log of a desk over memory.
 use Rattle.std.proofs.Common.{◌≡◌, ◌⊎◌, inl, inr, ℕ, zero, suc, ◌+◌, ◌≤◌, true, false, List, [], ◌∷◌, ◌++◌, length, take, drop, refl, sym, ap, ◌∙◌, arith, append-nil, length-append}
 use Rattle.std.proofs.lemmas.List.{length-drop, take-append-le, drop-append-le}
-use Rattle.ziti_outside.specs.declared.desk.Part.{Part}
-use Rattle.ziti_outside.specs.declared.desk.Part.TheVariants.{Zero, One, Mark}
-use Rattle.ziti_outside.specs.Images.{Image, Else}
+use Rattle.ziti_outside.specs.Images.{Image}
 use Rattle.ziti_outside.specs.Moments.{Elapses, Remembers}
 use Rattle.ziti_outside.proofs.Moves.{IsFront-none}
 use Rattle.ziti_desk.specs.declared.mem_log.Call.{Call}
 use Rattle.ziti_desk.specs.declared.mem_log.Call.TheVariants.{Said, Wrote, Cut, Synced}
-use Rattle.ziti_desk.specs.MemEvents.{events, said_count, written_count, Event, Saying, Writing, Cutting, Syncing, with_part, reads_by, said_by, may_by, reads_after, said_after, MayAfter, Within, Pairs, Leaving, Since}
+use Rattle.ziti_desk.specs.MemEvents.{events, said_count, written_count, Event, Saying, Writing, Cutting, Syncing, reads_by, said_by, may_by, reads_after, said_after, MayAfter, Within, Pairs, Leaving, Since}
 
 pub reads_push : (r : Image) (es : List Event) (e : Event) → reads_after r (es ++ e ∷ []) ≡ reads_by e (reads_after r es)
 reads_push r [] e = refl
@@ -21,6 +19,10 @@ said_push s (x ∷ es) e = said_push (said_by x s) es e
 pub may_push : (r : Image) (may : Image → Type 0) (es : List Event) (e : Event) (c : Image) → MayAfter r may (es ++ e ∷ []) c → may_by e (reads_after r es) (MayAfter r may es) c
 may_push r may [] e c m = m
 may_push r may (x ∷ es) e c m = may_push (reads_by x r) (may_by x r may) es e c m
+
+pub may_pop : (r : Image) (may : Image → Type 0) (es : List Event) (e : Event) (c : Image) → may_by e (reads_after r es) (MayAfter r may es) c → MayAfter r may (es ++ e ∷ []) c
+may_pop r may [] e c m = m
+may_pop r may (x ∷ es) e c m = may_pop (reads_by x r) (may_by x r may) es e c m
 
 -- At its start a call has taken nothing.
 within_now : (e : Event) (s w : List ℕ) → w ≡ s → Within e s w
@@ -48,39 +50,6 @@ pairs_keep r may s [] e (suc t) c w le p = absurd (omega arith)
 pairs_keep r may s (x ∷ es) e zero c w le (inl here) = inl here
 pairs_keep r may s (x ∷ es) e zero c w le (inr later) = inr (pairs_keep (reads_by x r) (may_by x r may) (said_by x s) es e zero c w (omega arith) later)
 pairs_keep r may s (x ∷ es) e (suc t) c w le p = pairs_keep (reads_by x r) (may_by x r may) (said_by x s) es e t c w (omega arith) p
-
--- The part that was changed, and the others.
-pub with_part_here : (p : Part) (bytes : List ℕ) (r : Image) → with_part p bytes r p ≡ bytes
-with_part_here Zero bytes r = refl
-with_part_here One bytes r = refl
-with_part_here Mark bytes r = refl
-
-else_at : (p q : Part) (bytes : List ℕ) (r : Image) → (q ≡ p → ⊥) → with_part p bytes r q ≡ r q
-else_at Zero Zero bytes r differs = absurd (differs refl)
-else_at Zero One bytes r differs = refl
-else_at Zero Mark bytes r differs = refl
-else_at One Zero bytes r differs = refl
-else_at One One bytes r differs = absurd (differs refl)
-else_at One Mark bytes r differs = refl
-else_at Mark Zero bytes r differs = refl
-else_at Mark One bytes r differs = refl
-else_at Mark Mark bytes r differs = absurd (differs refl)
-
-pub with_part_else : (p : Part) (bytes : List ℕ) (r : Image) → Else p r (with_part p bytes r)
-with_part_else p bytes r = record { same = λ q differs. else_at p q bytes r differs }
-
--- It is the only one.
-only_by : (e : Event) (r : Image) (may : Image → Type 0) (c : Image) → ((i : Image) → may i → i ≡ r) → may_by e r may c → c ≡ reads_by e r
-only_by (Saying bytes) r may c one m = one c m
-only_by (Writing p at bytes true) r may c one m = m
-only_by (Writing p at bytes false) r may c one m = m
-only_by (Cutting p len true) r may c one m = m
-only_by (Cutting p len false) r may c one m = m
-only_by (Syncing p) r may c one m = one c m
-
-pub only_image : (r : Image) (may : Image → Type 0) (es : List Event) (c : Image) → ((i : Image) → may i → i ≡ r) → MayAfter r may es c → c ≡ reads_after r es
-only_image r may [] c one m = one c m
-only_image r may (x ∷ es) c one m = only_image (reads_by x r) (may_by x r may) es c (λ i n. only_by x r may i one n) m
 
 -- Time went on by one call, or by none.
 pub step_elapses : (first : Image) (es more : List Event) (e : Event) (X : Image → List ℕ → Type 0) → more ≡ es ++ e ∷ []

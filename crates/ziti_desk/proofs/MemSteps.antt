@@ -1,14 +1,13 @@
 -- What a call on a desk over memory does to what its log tells.
 use Rattle.std.specs.Prelude.{⊤, OnOk, OnErr, IsTrue}
 use Rattle.std.proofs.Common.{◌≡◌, inl, inr, ℕ, ◌≤◌, min, Bool, true, false, List, [], ◌∷◌, ◌++◌, length, take, Some, Ok, Err, refl, sym, ap, ◌∙◌, subst, arith, append-nil, length-append}
-use Rattle.std.proofs.Math.Nat.{min-eq_left, min-le_right}
 use Rattle.std.proofs.lemmas.List.{take_all}
 use Rattle.std.specs.declared.result.Result.{Result}
 use Rattle.ziti_outside.specs.declared.desk.Part.{Part}
 use Rattle.ziti_outside.specs.declared.failed.Failed.{Failed}
 use Rattle.ziti_outside.specs.Images.{Image, Holds, Torn, CutShort, Else, OnPart, After, IsStable}
 use Rattle.ziti_outside.specs.Moments.{Now, Saying, Elapses, Remembers}
-use Rattle.ziti_outside.proofs.ImageLaws.{Torn-whole, Torn-none, CutShort-whole, CutShort-none}
+use Rattle.ziti_outside.proofs.ImageLaws.{Torn-none, CutShort-none}
 use Rattle.ziti_outside.proofs.Moves.{IsFront-all}
 use Rattle.ziti_outside.proofs.MomentLaws.{Elapses-none}
 use Rattle.ziti_desk.specs.declared.mem_log.Call.{Call}
@@ -17,8 +16,8 @@ use Rattle.ziti_desk.specs.declared.mem_log.Log.{Log}
 use Rattle.ziti_desk.specs.declared.mem_parts.Images.{Images}
 use Rattle.ziti_desk.specs.MemEvents as of
 use Rattle.ziti_desk.specs.MemEvents.{Event, Writing, Cutting, Syncing, events, said_count, written_count, reads_by, said_by, may_by, reads_after, said_after, Within, Leaving, Since, Replayed, LogsCall, IsDone, IsPending, image_of, with_part, written_over, logged}
-use Rattle.ziti_desk.specs.MemStops.{own_image}
-use Rattle.ziti_desk.proofs.MemLaws.{reads_push, said_push, may_push, events_push, said_count_push, written_count_push, step_elapses, step_remembers, only_image, with_part_here, with_part_else}
+use Rattle.ziti_desk.specs.MemStops.{unchanged, with_part_here, with_part_else}
+use Rattle.ziti_desk.proofs.MemLaws.{reads_push, said_push, may_push, events_push, said_count_push, written_count_push, step_elapses, step_remembers}
 
 -- The log got one call more, and the parts and the replies are as behind it.
 pub record Stepped (first held : Image) (log : Log) (said said_before : List ℕ) (before : List Event) (e : Event) : Type 0 where
@@ -93,105 +92,67 @@ outcome_more first held now log new said text X call e old logs quiet none few i
       remembers = step_remembers first es (logged new said) e step.more;
     }
 
--- Where nothing is torn, an image stays.
-torn_none : (part : Part) (at count : ℕ) (M : Image → Type 0) (c : Image) → M c → After (OnPart part (Torn at count)) M c
-torn_none part at count M c m = record { from = c; was = m; by = record { here = Torn-none at count (c part); others = record { same = λ q differs. refl } } }
-
 -- A write, done or failed.
-pub write_outcome : (r : Result ⊤ Failed) (first : Image) (held now : Images) (log new : Log) (said : List ℕ) (part : Part) (at : ℕ) (bytes : List ℕ) → at ≤ length (image_of held part)
+pub write_outcome : (r : Result ⊤ Failed) (first : Image) (held now : Images) (log new : Log) (said : List ℕ) (part : Part) (at : ℕ) (bytes : List ℕ)
     → Replayed first (image_of held) log.calls.items said log.written.items
     → OnOk r (IsDone (Writing part at bytes true) (Wrote part at (length bytes) true) bytes held now log new) → OnErr r (IsPending (Wrote part at (length bytes) false) bytes held now log new)
     → Outcome first (image_of now) log new said (After (OnPart part (Torn at (length bytes))) (λ i. Leaving first (logged log said) i))
-write_outcome r first held now log new said part at bytes fits old ok err = by r ok err
+write_outcome r first held now log new said part at bytes old ok err = by r ok err
   where
-    M : Image → Type 0
-    M i = Leaving first (logged log said) i
-
     X : Image → Type 0
-    X = After (OnPart part (Torn at (length bytes))) M
+    X = After (OnPart part (Torn at (length bytes))) (λ i. Leaving first (logged log said) i)
 
-    within : (c : Image) → M c → X c
-    within c m = torn_none part at (length bytes) M c m
-
-    mine : M (image_of held)
-    mine = own_image first (image_of held) (logged log said) old.reads
-
-    place : ℕ
-    place = min at (length (image_of held part))
-
-    text : List ℕ
-    text = written_over place bytes (image_of held part)
-
-    torn : Torn at (length bytes) (image_of held part) (with_part part text (image_of held) part)
-    torn = subst (λ (n : ℕ). Torn n (length bytes) (image_of held part) (with_part part text (image_of held) part)) (min-eq_left fits)
-        (Torn-whole place bytes (image_of held part) _ (min-le_right at (length (image_of held part))) (with_part_here part text (image_of held)))
-
-    behind : (done : Bool) (c : Image) → may_by (Writing part at bytes done) (image_of held) M c → X c
-    behind true c m = subst (λ (i : Image). X i) (sym m) (record { from = image_of held; was = mine; by = record { here = torn; others = with_part_else part text (image_of held) } })
-    behind false c m = subst (λ (i : Image). X i) (sym m) (within (image_of held) mine)
+    within : (c : Image) → Leaving first (logged log said) c → X c
+    within c m = unchanged part (Torn at (length bytes)) c (λ i. Leaving first (logged log said) i) (Torn-none at (length bytes) (c part)) m
 
     whole : (done : Bool) → events (Wrote part at (length bytes) done ∷ []) [] bytes ≡ Writing part at bytes done ∷ []
     whole done = ap (λ (l : List ℕ). Writing part at l done ∷ []) (take_all (length bytes) bytes (omega arith))
 
     by : (r : Result ⊤ Failed) → OnOk r (IsDone (Writing part at bytes true) (Wrote part at (length bytes) true) bytes held now log new) → OnErr r (IsPending (Wrote part at (length bytes) false) bytes held now log new) → Outcome first (image_of now) log new said X
-    by (Ok u) done pending = outcome_more first (image_of held) (image_of now) log new said bytes X (Wrote part at (length bytes) true) (Writing part at bytes true) old done.logged tt refl (omega arith) (whole true) done.reads within (behind true)
+    by (Ok u) done pending = outcome_more first (image_of held) (image_of now) log new said bytes X (Wrote part at (length bytes) true) (Writing part at bytes true) old done.logged tt refl (omega arith) (whole true) done.reads within (λ c m. m)
     by (Err e) done pending = elim pending.logged as (λ _. Outcome first (image_of now) log new said X) [
       | inl same ↦ outcome_none first (image_of held) (image_of now) log new said X old same pending.reads within
-      | inr logs ↦ outcome_more first (image_of held) (image_of now) log new said bytes X (Wrote part at (length bytes) false) (Writing part at bytes false) old logs tt refl (omega arith) (whole false) pending.reads within (behind false)
+      | inr logs ↦ outcome_more first (image_of held) (image_of now) log new said bytes X (Wrote part at (length bytes) false) (Writing part at bytes false) old logs tt refl (omega arith) (whole false) pending.reads within (λ c m. m)
     ]
 
 -- A cut, done or failed.
-pub cut_outcome : (r : Result ⊤ Failed) (first : Image) (held now : Images) (log new : Log) (said : List ℕ) (part : Part) (len : ℕ) → len ≤ length (image_of held part)
+pub cut_outcome : (r : Result ⊤ Failed) (first : Image) (held now : Images) (log new : Log) (said : List ℕ) (part : Part) (len : ℕ)
     → Replayed first (image_of held) log.calls.items said log.written.items
     → OnOk r (IsDone (Cutting part len true) (Cut part len true) [] held now log new) → OnErr r (IsPending (Cut part len false) [] held now log new)
     → Outcome first (image_of now) log new said (After (OnPart part (CutShort len)) (λ i. Leaving first (logged log said) i))
-cut_outcome r first held now log new said part len fits old ok err = by r ok err
+cut_outcome r first held now log new said part len old ok err = by r ok err
   where
-    M : Image → Type 0
-    M i = Leaving first (logged log said) i
-
     X : Image → Type 0
-    X = After (OnPart part (CutShort len)) M
+    X = After (OnPart part (CutShort len)) (λ i. Leaving first (logged log said) i)
 
-    mine : M (image_of held)
-    mine = own_image first (image_of held) (logged log said) old.reads
-
-    whole : X (image_of held)
-    whole = record { from = image_of held; was = mine; by = record { here = CutShort-none len (image_of held part) fits; others = record { same = λ q differs. refl } } }
-
-    within : (c : Image) → M c → X c
-    within c m = subst (λ (i : Image). X i) (sym (only_image first (λ i. i ≡ first) (logged log said) c (λ i n. n) m ∙ sym old.reads)) whole
-
-    front : List ℕ
-    front = take (min len (length (image_of held part))) (image_of held part)
-
-    short : CutShort len (image_of held part) (with_part part front (image_of held) part)
-    short = subst (λ (l : List ℕ). CutShort len (image_of held part) l) (sym (with_part_here part front (image_of held) ∙ ap (λ (n : ℕ). take n (image_of held part)) (min-eq_left fits))) (CutShort-whole len (image_of held part) fits)
-
-    behind : (done : Bool) (c : Image) → may_by (Cutting part len done) (image_of held) M c → X c
-    behind true c m = subst (λ (i : Image). X i) (sym m) (record { from = image_of held; was = mine; by = record { here = short; others = with_part_else part front (image_of held) } })
-    behind false c m = subst (λ (i : Image). X i) (sym m) whole
+    within : (c : Image) → Leaving first (logged log said) c → X c
+    within c m = unchanged part (CutShort len) c (λ i. Leaving first (logged log said) i) (CutShort-none len (c part)) m
 
     by : (r : Result ⊤ Failed) → OnOk r (IsDone (Cutting part len true) (Cut part len true) [] held now log new) → OnErr r (IsPending (Cut part len false) [] held now log new) → Outcome first (image_of now) log new said X
-    by (Ok u) done pending = outcome_more first (image_of held) (image_of now) log new said [] X (Cut part len true) (Cutting part len true) old done.logged tt refl refl refl done.reads within (behind true)
+    by (Ok u) done pending = outcome_more first (image_of held) (image_of now) log new said [] X (Cut part len true) (Cutting part len true) old done.logged tt refl refl refl done.reads within (λ c m. m)
     by (Err e) done pending = elim pending.logged as (λ _. Outcome first (image_of now) log new said X) [
       | inl same ↦ outcome_none first (image_of held) (image_of now) log new said X old same pending.reads within
-      | inr logs ↦ outcome_more first (image_of held) (image_of now) log new said [] X (Cut part len false) (Cutting part len false) old logs tt refl refl refl pending.reads within (behind false)
+      | inr logs ↦ outcome_more first (image_of held) (image_of now) log new said [] X (Cut part len false) (Cutting part len false) old logs tt refl refl refl pending.reads within (λ c m. m)
     ]
 
 -- A sync, done or failed.
 pub sync_outcome : (r : Result ⊤ Failed) (first : Image) (held : Images) (log new : Log) (said : List ℕ) (part : Part) → Replayed first (image_of held) log.calls.items said log.written.items
     → OnOk r (LogsCall (Synced part) [] log new) → OnErr r (new ≡ log) → Outcome first (image_of held) log new said (λ i. Leaving first (logged log said) i)
 sync_outcome (Ok u) first held log new said part old logs same =
-    outcome_more first (image_of held) (image_of held) log new said [] (λ i. Leaving first (logged log said) i) (Synced part) (Syncing part) old logs tt refl refl refl refl (λ c m. m) (λ c m. m)
+    outcome_more first (image_of held) (image_of held) log new said [] (λ i. Leaving first (logged log said) i) (Synced part) (Syncing part) old logs tt refl refl refl refl (λ c m. m) (λ c m. m.0)
 sync_outcome (Err e) first held log new said part old logs same =
     outcome_none first (image_of held) (image_of held) log new said (λ i. Leaving first (logged log said) i) old same refl (λ c m. m)
 
--- A stop leaves what the parts read.
-pub reads_alone : (first held : Image) (es : List Event) (part : Part) → held ≡ reads_after first es → IsStable part held (λ i. Leaving first es i)
-reads_alone first held es part reads = record {
-  each = λ c m. ap (λ (r : Image). r part) (only_image first (λ i. i ≡ first) es c (λ i n. n) m ∙ sym reads);
-}
+-- Behind a sync a stop leaves in the part what it reads.
+pub sync_stable : (r : Result ⊤ Failed) (first : Image) (held : Images) (log new : Log) (said : List ℕ) (part : Part) → Replayed first (image_of held) log.calls.items said log.written.items
+    → OnOk r (LogsCall (Synced part) [] log new) → OnOk r (IsStable part (image_of held) (λ i. Leaving first (logged new said) i))
+sync_stable (Err e) first held log new said part old logs = tt
+sync_stable (Ok u) first held log new said part old logs =
+    let step = stepped first (image_of held) (image_of held) log new said said [] [] (Synced part) (Syncing part) old logs (sym (append-nil said)) refl refl refl refl refl in
+    let es = logged log said in
+    record { each = λ c m.
+        let both = may_push first (λ i. i ≡ first) es (Syncing part) c (subst (λ (l : List Event). Leaving first l c) step.more m) in
+        both.1 ∙ ap (λ (r : Image). r part) (sym old.reads) }
 
 -- A say, done or failed.
 pub record SayOutcome (first : Image) (held : Images) (log new : Log) (said said_now bytes : List ℕ) : Type 0 where
@@ -223,18 +184,18 @@ say_outcome (Err e) first held log new said said_now bytes old ok err =
     rw err.0 (rw err.1 (record { replayed = old; time = Elapses-none _ _ _; found = λ c m. m; remembers = record { still = λ t c w le p. p } }))
 
 -- What was written is read.
-pub written_holds : (r : Result ⊤ Failed) (held now : Images) (log new : Log) (part : Part) (at : ℕ) (bytes : List ℕ) → at ≤ length (image_of held part)
+pub written_holds : (r : Result ⊤ Failed) (held now : Images) (log new : Log) (part : Part) (at : ℕ) (bytes : List ℕ) 
     → OnOk r (IsDone (Writing part at bytes true) (Wrote part at (length bytes) true) bytes held now log new) → OnOk r (IsTrue true → Holds at bytes (image_of held part) (image_of now part))
-written_holds (Err e) held now log new part at bytes fits ok = tt
-written_holds (Ok u) held now log new part at bytes fits ok = λ told.
-    ap (λ (r : Image). r part) ok.reads ∙ with_part_here part _ (image_of held) ∙ ap (λ (n : ℕ). written_over n bytes (image_of held part)) (min-eq_left fits)
+written_holds (Err e) held now log new part at bytes ok = tt
+written_holds (Ok u) held now log new part at bytes ok = λ told.
+    ap (λ (r : Image). r part) ok.reads ∙ with_part_here part _ (image_of held)
 
 -- What was cut off is gone.
-pub cut_holds : (r : Result ⊤ Failed) (held now : Images) (log new : Log) (part : Part) (len : ℕ) → len ≤ length (image_of held part)
+pub cut_holds : (r : Result ⊤ Failed) (held now : Images) (log new : Log) (part : Part) (len : ℕ) 
     → OnOk r (IsDone (Cutting part len true) (Cut part len true) [] held now log new) → OnOk r (IsTrue true → image_of now part ≡ take len (image_of held part))
-cut_holds (Err e) held now log new part len fits ok = tt
-cut_holds (Ok u) held now log new part len fits ok = λ told.
-    ap (λ (r : Image). r part) ok.reads ∙ with_part_here part _ (image_of held) ∙ ap (λ (n : ℕ). take n (image_of held part)) (min-eq_left fits)
+cut_holds (Err e) held now log new part len ok = tt
+cut_holds (Ok u) held now log new part len ok = λ told.
+    ap (λ (r : Image). r part) ok.reads ∙ with_part_here part _ (image_of held)
 
 -- No other part was changed.
 pub write_elsewhere : (r : Result ⊤ Failed) (held now : Images) (log new : Log) (part : Part) (at : ℕ) (bytes : List ℕ)
@@ -246,11 +207,6 @@ pub cut_elsewhere : (r : Result ⊤ Failed) (held now : Images) (log new : Log) 
     → OnOk r (IsDone (Cutting part len true) (Cut part len true) [] held now log new) → OnErr r (IsPending (Cut part len false) [] held now log new) → Else part (image_of held) (image_of now)
 cut_elsewhere (Ok u) held now log new part len ok err = subst (λ (i : Image). Else part (image_of held) i) (sym ok.reads) (with_part_else part _ (image_of held))
 cut_elsewhere (Err e) held now log new part len ok err = subst (λ (i : Image). Else part (image_of held) i) (sym err.reads) (record { same = λ q differs. refl })
-
--- What always holds holds at success.
-pub at_ok : {X : Type 0} (r : Result ⊤ Failed) → X → OnOk r X
-at_ok (Ok u) x = x
-at_ok (Err e) x = tt
 
 -- A desk of which no call has been made.
 pub replayed_none : (first held : Image) (calls : List Call) (said written : List ℕ) → held ≡ first → calls ≡ [] → said ≡ [] → written ≡ [] → Replayed first held calls said written

@@ -2,3 +2,4 @@ pub mod Answers
 pub mod Untold
 pub mod MemEvents
 pub mod MemStops
+pub mod Pieces

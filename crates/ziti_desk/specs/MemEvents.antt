@@ -1,9 +1,9 @@
 -- The calls that a desk over memory logged: what the parts read behind them, and what a stop at each moment of them may leave
 -- (docs/PROMISES.md, "The desks").
-use Rattle.std.specs.Prelude.{◌≡◌, ◌⊎◌, ℕ, zero, suc, ◌+◌, min, Bool, true, false, List, [], ◌∷◌, ◌++◌, length, take, drop}
+use Rattle.std.specs.Prelude.{◌≡◌, ◌⊎◌, ℕ, zero, suc, ◌+◌, Bool, true, false, List, [], ◌∷◌, ◌++◌, length, take, drop}
 use Rattle.ziti_outside.specs.declared.desk.Part.{Part}
 use Rattle.ziti_outside.specs.declared.desk.Part.TheVariants.{Zero, One, Mark}
-use Rattle.ziti_outside.specs.Images.{Image}
+use Rattle.ziti_outside.specs.Images.{Image, Torn, CutShort, OnPart, After}
 use Rattle.ziti_outside.specs.Told.{IsFront}
 use Rattle.ziti_desk.specs.declared.mem_log.Call.{Call}
 use Rattle.ziti_desk.specs.declared.mem_log.Call.TheVariants.{Said, Wrote, Cut, Synced}
@@ -62,12 +62,12 @@ with_part Mark bytes image = at_parts (image Zero) (image One) bytes
 abbrev pub written_over : ℕ → List ℕ → List ℕ → List ℕ
 written_over at bytes old = take at old ++ (bytes ++ drop (at + length bytes) old)
 
--- What the parts read behind a call. No write begins behind the end, and no cut makes a part longer.
+-- What the parts read behind a call.
 abbrev pub reads_by : Event → Image → Image
 reads_by (Saying bytes) reads = reads
-reads_by (Writing part at bytes true) reads = with_part part (written_over (min at (length (reads part))) bytes (reads part)) reads
+reads_by (Writing part at bytes true) reads = with_part part (written_over at bytes (reads part)) reads
 reads_by (Writing part at bytes false) reads = reads
-reads_by (Cutting part len true) reads = with_part part (take (min len (length (reads part))) (reads part)) reads
+reads_by (Cutting part len true) reads = with_part part (take len (reads part)) reads
 reads_by (Cutting part len false) reads = reads
 reads_by (Syncing part) reads = reads
 
@@ -78,12 +78,13 @@ said_by (Writing part at bytes done) said = said
 said_by (Cutting part len done) said = said
 said_by (Syncing part) said = said
 
--- The images that a stop behind a call may leave: each call is done at once or not at all, so the one that the parts then read.
+-- The images that a stop behind a call may leave. A write and a cut, done or failed, are pending: the part of any earlier image
+-- may have been written or cut in part. A sync leaves those that have in the part what it reads.
 abbrev pub may_by : Event → Image → (Image → Type 0) → Image → Type 0
 may_by (Saying bytes) reads may image = may image
-may_by (Writing part at bytes done) reads may image = image ≡ reads_by (Writing part at bytes done) reads
-may_by (Cutting part len done) reads may image = image ≡ reads_by (Cutting part len done) reads
-may_by (Syncing part) reads may image = may image
+may_by (Writing part at bytes done) reads may image = After (OnPart part (Torn at (length bytes))) may image
+may_by (Cutting part len done) reads may image = After (OnPart part (CutShort len)) may image
+may_by (Syncing part) reads may image = may image × (image part ≡ reads part)
 
 -- What the parts read behind some calls.
 abbrev pub reads_after : Image → List Event → Image

@@ -5,8 +5,10 @@
 #![tactic(auto)]
 
 mod answers;
+mod failing_calls;
 mod files;
 mod folder;
+mod laws;
 mod mem_desk;
 mod mem_log;
 mod mem_parts;
@@ -15,7 +17,8 @@ mod outlets;
 
 pub use files::{FileDesk, FileSource};
 pub use folder::Paths;
+pub use laws::{pending_until_synced, worked_images};
 pub use mem_desk::{MemDesk, Room};
 pub use mem_parts::Images;
-pub use mem_source::{MemSource, NEVER};
+pub use mem_source::MemSource;
 pub use outlets::{Outlet, Writes};

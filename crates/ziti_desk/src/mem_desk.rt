@@ -3,6 +3,7 @@ ghost use Rattle.ziti_outside.specs.Images.{Holds, StandAt};
 ghost use Rattle.ziti_desk.specs.MemEvents.{Writing, Cutting, LogsCall, IsDone, IsPending, Replayed, image_of};
 
 use crate::answers::counted;
+use crate::failing_calls::is_next_listed;
 use crate::mem_log::{Call, Log, append, has_room};
 use crate::mem_parts::{Images, overwrite};
 use std::alloc::{AllocError, Global};
@@ -92,13 +93,6 @@ impl MemDesk {
     {
         self.held.part(part).as_slice()
     }
-}
-
-// Whether the next call is to fail: whether its place is listed.
-fn is_next_listed(calls: &mut u64, failing: &Vec<u32>) -> bool {
-    let call = *calls;
-    *calls = call.saturating_add(1);
-    failing.iter().any(|place| u64::from(*place) == call)
 }
 
 fn say_bytes(said: &mut Vec<u8>, log: &mut Log, bytes: &[u8], fails: bool) -> Result<(), Failed>

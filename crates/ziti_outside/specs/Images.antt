@@ -1,6 +1,6 @@
 -- The folder of three parts: how its bytes read, what a call does to them, and what a stop within a call may leave
 -- (docs/PROMISES.md, "The outside").
-use Rattle.std.specs.Prelude.{◌≡◌, ℕ, ◌+◌, ◌≤◌, max, List, ◌++◌, length, take, drop}
+use Rattle.std.specs.Prelude.{◌≡◌, ℕ, ◌+◌, ◌≤◌, min, max, List, ◌++◌, length, take, drop}
 use Rattle.ziti_outside.specs.declared.desk.Part.{Part}
 use Rattle.ziti_outside.specs.Told.{IsFront}
 
@@ -24,9 +24,11 @@ pub record Torn (at count : ℕ) (old new : List ℕ) : Type 0 where
   pub no_shorter : length old ≤ length new
   pub no_longer : length new ≤ max (length old) (at + count)
 
--- A cut to a length that a stop cut short: a front of the old bytes, of a length between the new and the old one.
+-- A cut to a length that a stop cut short: the bytes that stay are those of the old image, and their length lies between the
+-- shorter of that length and the old image's, and the old image's. An old image may be shorter than the part reads, where
+-- a write past its end is pending; then nothing of it is cut off.
 pub record CutShort (len : ℕ) (old new : List ℕ) : Type 0 where
-  pub no_shorter : len ≤ length new
+  pub no_shorter : min len (length old) ≤ length new
   pub front : IsFront new old
 
 -- Every other part is the same.

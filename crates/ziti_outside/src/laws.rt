@@ -1,4 +1,4 @@
-ghost use Rattle.std.specs.Prelude.{◌≡◌, ℕ, ◌≤◌, List, [], ◌∷◌, length, take, None, Some};
+ghost use Rattle.std.specs.Prelude.{◌≡◌, ℕ, List, [], ◌∷◌, length, take, None, Some};
 ghost use Rattle.std.specs.Io.KnownBytes.{IsAtEnd};
 ghost use Rattle.ziti_outside.specs.Told.{Gave, Took, AreTaken, IsFront};
 ghost use Rattle.ziti_outside.specs.Causes.{Rose};
@@ -34,12 +34,16 @@ pub fn worked_stops()
     ensures cut { CutShort 1 (1 ∷ 2 ∷ 3 ∷ []) (1 ∷ 2 ∷ []) }
     ensures cut_too_far { CutShort 1 (1 ∷ 2 ∷ 3 ∷ []) [] → ⊥ }
     ensures cut_to_other_bytes { CutShort 1 (1 ∷ 2 ∷ 3 ∷ []) (9 ∷ []) → ⊥ }
+    ensures longer_than_the_old_image { CutShort 1 (1 ∷ 2 ∷ 3 ∷ []) (1 ∷ 2 ∷ 3 ∷ 4 ∷ []) → ⊥ }
+    ensures cut_of_a_shorter_image { CutShort 4 (1 ∷ 2 ∷ []) (1 ∷ 2 ∷ []) }
+    ensures a_shorter_image_loses_nothing { CutShort 4 (1 ∷ 2 ∷ []) (1 ∷ []) → ⊥ }
 {}
 
-/// What a write and a cut do when nothing stops them, and that nothing was done, are among what a stop within them may leave.
+/// What a write and a cut do when nothing stops them, and that nothing was done, are among what a stop within them may leave,
+/// also of an image that is shorter than the part reads.
 pub fn stops_allow_both_ends()
-    ensures written { (at : ℕ) (bytes old new : List ℕ) → at ≤ length old → Holds at bytes old new → Torn at (length bytes) old new }
+    ensures written { (at : ℕ) (bytes old new : List ℕ) → Holds at bytes old new → Torn at (length bytes) old new }
     ensures unwritten { (at count : ℕ) (old : List ℕ) → Torn at count old old }
-    ensures cut { (len : ℕ) (old : List ℕ) → len ≤ length old → CutShort len old (take len old) }
-    ensures uncut { (len : ℕ) (old : List ℕ) → len ≤ length old → CutShort len old old }
+    ensures cut { (len : ℕ) (old : List ℕ) → CutShort len old (take len old) }
+    ensures uncut { (len : ℕ) (old : List ℕ) → CutShort len old old }
 {}

@@ -1,0 +1,6 @@
+pub mod FieldLaws
+pub mod BatchLaws
+pub mod SpellingLaws
+pub mod FormLaws
+pub mod ValueLaws
+pub mod RowLaws

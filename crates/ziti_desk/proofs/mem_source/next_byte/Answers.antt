@@ -1,0 +1,17 @@
+use Rattle.std.proofs.Common.{◌≡◌, ◌+◌, length, map, drop, ◌∙◌, ap, sym, arith}
+use Rattle.std.proofs.lemmas.Bool.{cases_lt}
+use Rattle.ziti_desk.specs.Pieces.{from_first, without}
+use Rattle.ziti_desk.proofs.PieceLaws.{without_at, without_past, skip_one, first_here}
+use Rattle.ziti_desk.proofs.mem_source.next_byte.Goals as goal
+
+pub empty-preserved : goal.empty-preserved
+empty-preserved c =
+    let p = c.index-pieces-next.result in
+    let here = without_at (λ v. v.items) c.args.pieces.now c.empty.next c.empty.at p c.empty-test.true c.index-pieces-next.is in
+    sym (ap from_first here ∙ skip_one p.items c.empty.at (drop (c.empty.next + 1) (map (λ v. v.items) c.args.pieces.now)) (omega (arith, c.if-len-at.true))) ∙ c.empty.invariant
+
+pub returns-else-len-at : goal.returns-else-len-at
+returns-else-len-at c =
+    let p = c.index-pieces-next.result in
+    let here = without_at (λ v. v.items) c.args.pieces.now c.empty.next c.empty.at p c.empty-test.true c.index-pieces-next.is in
+    here ∙ sym (first_here p.items c.empty.at (drop (c.empty.next + 1) (map (λ v. v.items) c.args.pieces.now)) (omega (arith, c.if-len-at.false))) ∙ sym (ap from_first here) ∙ c.empty.invariant
