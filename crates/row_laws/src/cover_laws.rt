@@ -6,13 +6,14 @@ ghost use Rattle.ctrl_model.specs.Numbered.{at, Between};
 ghost use Rattle.ctrl_model.specs.State.{State};
 ghost use Rattle.ctrl_model.specs.Tables.{table};
 ghost use Rattle.ctrl_model.specs.Grants.{count};
+ghost use Rattle.ctrl_model.specs.ValidState.{ValidState};
 ghost use Rattle.row_codec.specs.declared.changes.Change.{Change};
 ghost use Rattle.row_codec.specs.RowKeys.{Key, kind_number, key_in, number_in_key, table_number};
 ghost use Rattle.row_codec.specs.RowKeys.RowTable.{Next, Setting, Records, Counts};
 ghost use Rattle.row_codec.specs.RowValues.{record_value};
 ghost use Rattle.row_codec.specs.RowDifference.{Rises};
 ghost use Rattle.row_codec.specs.StateRows.{next_value, setting_value, count_value, row_at};
-ghost use Rattle.row_codec.specs.Batches.{bytes_cmp, entries_of, batch_of, batch_between};
+ghost use Rattle.row_codec.specs.Batches.{bytes_cmp, entries_of, batch_of, batch_between, IsBatch};
 ghost use Rattle.row_codec.specs.CoveredTables.{Covers, LiesIn, change_at};
 
 /// Covers of neighbouring ranges of tables join.
@@ -32,10 +33,12 @@ pub fn same_tables_need_no_change()
         → Covers (table_number (Counts r)) (table_number (Counts r) + 1) s t [] }
 {}
 
-/// A cover of all tables makes the batch between two states whose tables are numbered, as those of valid states are.
+/// A cover of all tables makes the batch between two states whose tables are numbered, as those of valid states are; between valid
+/// states that is a batch, whose lengths fit.
 pub fn covers_make_the_batch()
-    ensures { (s t : State) (changes : List Change) → ((k : Kind) → Between 1 (table k s).next (table k s).rows)
+    ensures batch { (s t : State) (changes : List Change) → ((k : Kind) → Between 1 (table k s).next (table k s).rows)
         → ((k : Kind) → Between 1 (table k t).next (table k t).rows) → Covers 1 16 s t changes → batch_of changes ≡ batch_between s t }
+    ensures form { (s t : State) (changes : List Change) → ValidState s → ValidState t → Covers 1 16 s t changes → IsBatch (batch_of changes) }
 {}
 
 /// The keys of covers rise as bytes, and so do those of the batch that they make.
