@@ -84,6 +84,14 @@ events_push (Wrote p at n done ∷ calls) call s a w b e f =
 events_push (Cut p len done ∷ calls) call s a w b e f = ap (λ (l : List Event). Cutting p len done ∷ l) (events_push calls call s a w b e f)
 events_push (Synced p ∷ calls) call s a w b e f = ap (λ (l : List Event). Syncing p ∷ l) (events_push calls call s a w b e f)
 
+-- A log has as many moments as calls.
+pub events_count : (calls : List Call) (s w : List ℕ) → length (events calls s w) ≡ length calls
+events_count [] s w = refl
+events_count (Said n ∷ calls) s w = ap suc (events_count calls (drop n s) w)
+events_count (Wrote p at n done ∷ calls) s w = ap suc (events_count calls s (drop n w))
+events_count (Cut p len done ∷ calls) s w = ap suc (events_count calls s w)
+events_count (Synced p ∷ calls) s w = ap suc (events_count calls s w)
+
 pub said_count_push : (calls : List Call) (call : Call) → said_count (calls ++ call ∷ []) ≡ said_count calls + said_count (call ∷ [])
 said_count_push [] call = omega arith
 said_count_push (Said n ∷ calls) call = omega (arith, said_count_push calls call)
