@@ -1,5 +1,5 @@
 -- How one more call joins the log of a desk over memory.
-use Rattle.std.proofs.Common.{◌≡◌, ◌⊎◌, inl, inr, ℕ, zero, suc, ◌+◌, ◌≤◌, true, false, List, [], ◌∷◌, ◌++◌, length, take, drop, refl, sym, ap, ◌∙◌, arith, append-nil, length-append}
+use Rattle.std.proofs.Common.{◌≡◌, ◌⊎◌, inl, inr, ℕ, zero, suc, ◌+◌, ◌≤◌, List, [], ◌∷◌, ◌++◌, length, take, drop, refl, sym, ap, ◌∙◌, arith, append-nil, length-append}
 use Rattle.std.proofs.lemmas.List.{length-drop, take-append-le, drop-append-le}
 use Rattle.ziti_outside.specs.Images.{Image}
 use Rattle.ziti_outside.specs.Moments.{Elapses, Remembers}

@@ -1,13 +1,12 @@
 -- What a stop of a desk over memory leaves, found call by call.
 use Rattle.std.specs.Prelude.{OnOk}
 use Rattle.std.specs.declared.result.Result.{Result}
-use Rattle.std.proofs.Common.{Ok, Err, ◌≡◌, inl, inr, ℕ, zero, suc, ◌+◌, ◌-◌, ◌≤◌, ◌<◌, min, max, List, [], ◌∷◌, ◌++◌, length, take, drop, get_or, refl, sym, ap, ◌∙◌, subst, arith, append_assoc, append-nil, length-append, take-append-drop}
+use Rattle.std.proofs.Common.{Ok, Err, ◌≡◌, inl, inr, ℕ, zero, suc, ◌+◌, ◌-◌, ◌≤◌, ◌<◌, min, List, [], ◌∷◌, ◌++◌, length, take, drop, get_or, refl, sym, ap, ◌∙◌, subst, arith, append_assoc, length-append, take-append-drop}
 use Rattle.std.proofs.lemmas.Bool.{cases_lt}
 use Rattle.std.proofs.lemmas.List.{drop_all, drop_more, take_all, drop-drop, length-take}
 use Rattle.ziti_outside.specs.declared.desk.Part.{Part}
 use Rattle.ziti_outside.specs.declared.desk.Part.TheVariants.{Zero, One, Mark}
-use Rattle.ziti_outside.specs.Told.{IsFront}
-use Rattle.ziti_outside.specs.Images.{Image, Holds, Torn, CutShort, Else, OnPart, After}
+use Rattle.ziti_outside.specs.Images.{Image, Torn, CutShort, OnPart, After}
 use Rattle.ziti_outside.proofs.ImageLaws.{Torn-whole}
 use Rattle.ziti_desk.specs.declared.mem_log.Call.{Call}
 use Rattle.ziti_desk.specs.declared.mem_log.Call.TheVariants.{Said, Wrote, Cut, Synced}
@@ -133,7 +132,7 @@ pub stop_within : (first : Image) (es rest : List Event) (n : ℕ) (e : Event) (
 stop_within first es rest n e reads image said taken old within =
     subst (λ (l : List Event). PairsAt first (λ i. i ≡ first) [] l n image taken) old.split
     (subst (λ (k : ℕ). PairsAt first (λ i. i ≡ first) [] (old.done ++ e ∷ rest) k image taken) old.far
-        (at_behind first (λ i. i ≡ first) [] old.done (e ∷ rest) image taken (old.found, subst (λ (s : List ℕ). Within e s taken) old.taken within)))
+    (at_behind first (λ i. i ≡ first) [] old.done (e ∷ rest) image taken (old.found, subst (λ (s : List ℕ). Within e s taken) old.taken within)))
 
 -- A write of fewer bytes is one that a stop within a longer one leaves.
 torn_more : (at count most : ℕ) (old new : List ℕ) → count ≤ most → Torn at count old new → Torn at most old new
@@ -170,9 +169,9 @@ pub over_min : (at : ℕ) (bytes old : List ℕ) → written_over (min at (lengt
 over_min at bytes old = elim (cases_lt at (length old)) as (λ _. written_over (min at (length old)) bytes old ≡ written_over at bytes old) [
   | inl within ↦ let same : min at (length old) ≡ at = omega arith in ap (λ (n : ℕ). written_over n bytes old) same
   | inr past ↦
-    let same : min at (length old) ≡ length old = omega arith in
-    ap (λ (n : ℕ). written_over n bytes old) same
-    ∙ rw (take_all (length old) old (omega arith)) (rw (take_all at old past) (rw (drop_all (length old + length bytes) old (omega arith)) (rw (drop_all (at + length bytes) old (omega arith)) refl)))
+      let same : min at (length old) ≡ length old = omega arith in
+      ap (λ (n : ℕ). written_over n bytes old) same
+      ∙ rw (take_all (length old) old (omega arith)) (rw (take_all at old past) (rw (drop_all (length old + length bytes) old (omega arith)) (rw (drop_all (at + length bytes) old (omega arith)) refl)))
 ]
 
 -- What follows from what holds at success.
@@ -222,7 +221,7 @@ log_more first seen calls index d es s w s_now w_now reads reads_now image image
     let head : events (drop index calls) s w ≡ event_of call s w ∷ rest = ap (λ (l : List Call). events l s w) (log_head seen calls index d same lt) ∙ events_first call (drop (index + 1) calls) s w in
     rw (same_said, same_written)
     (reached_more first.zero.items first.one.items first.mark.items es rest index (event_of call s w) reads reads_now image image_now said said_now
-        (subst (λ (l : List Event). Reached (image_of first) es l index reads image said) head old) r k t)
+    (subst (λ (l : List Event). Reached (image_of first) es l index reads image said) head old) r k t)
 
 -- A stop within a call of a log.
 pub log_within : (first : Images) (seen calls : List Call) (index : ℕ) (d : Call) (es : List Event) (s w : List ℕ) (reads image : Image) (said taken : List ℕ)

@@ -1,11 +1,10 @@
 -- A stop of a desk over memory at one moment: the pairs that it may leave, and how much of what is pending it keeps
 -- (docs/PROMISES.md, "The desks").
-use Rattle.std.specs.Prelude.{◌≡◌, ℕ, zero, suc, ◌+◌, Bool, true, false, List, [], ◌∷◌, ◌++◌, length, take, drop}
-use Rattle.ziti_outside.specs.declared.desk.Part.{Part}
+use Rattle.std.specs.Prelude.{◌≡◌, ℕ, zero, suc, List, [], ◌∷◌, ◌++◌, length, take, drop}
 use Rattle.ziti_outside.specs.Images.{Image, Torn, CutShort, OnPart}
 use Rattle.ziti_desk.specs.declared.mem_log.Call.{Call}
 use Rattle.ziti_desk.specs.declared.mem_log.Call.TheVariants.{Said, Wrote, Cut, Synced}
-use Rattle.ziti_desk.specs.MemEvents.{Event, Saying, Writing, Cutting, Syncing, with_part, reads_by, said_by, may_by, reads_after, said_after, MayAfter, Within, Leaving}
+use Rattle.ziti_desk.specs.MemEvents.{Event, Saying, Writing, Cutting, Syncing, with_part, reads_by, said_by, may_by, reads_after, said_after, Within, Leaving}
 
 -- The pairs of an image and the replies that a stop at one moment may leave: behind so many calls, or within the next one.
 abbrev pub PairsAt : Image → (Image → Type 0) → List ℕ → List Event → ℕ → Image → List ℕ → Type 0

@@ -361,7 +361,15 @@ impl Desk for MemDesk {
 
     fn write_at(&mut self, part: Part, at: u64, bytes: &[u8]) -> Result<(), Failed> {
         let fails = is_next_listed(&mut self.calls, &self.failing);
-        let answer = write_part(&mut self.held, &mut self.log, part, at, bytes, self.file_bytes, fails);
+        let answer = write_part(
+            &mut self.held,
+            &mut self.log,
+            part,
+            at,
+            bytes,
+            self.file_bytes,
+            fails,
+        );
         counted(&mut self.disk_faults, answer)
     }
 

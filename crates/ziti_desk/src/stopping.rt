@@ -49,7 +49,11 @@ impl Keeping {
         match self {
             Keeping::Drawn(generator) => {
                 let word = generator.next_word();
-                if word % 2 == 0 { written } else { (word >> 24) as u8 }
+                if word % 2 == 0 {
+                    written
+                } else {
+                    (word >> 24) as u8
+                }
             }
             _ => written,
         }
@@ -102,7 +106,12 @@ fn read_on(reads: &mut Images, call: &Call, written: &[u8]) -> Result<(), AllocE
     ensures { OnOk result (image_of reads.new ≡ reads_by (event_of call.now [] written.now) (image_of reads.old)) }
 {
     match *call {
-        Call::Wrote { part, at, count, done } => {
+        Call::Wrote {
+            part,
+            at,
+            count,
+            done,
+        } => {
             if done {
                 return reads.put(part, at, parted(written, count).0);
             }
@@ -131,7 +140,12 @@ fn keep_on(
     ensures { OnOk result (KeepsOf (event_of call.now [] written.now) (image_of reads.now) (image_of image.old) (image_of image.new)) }
 {
     match *call {
-        Call::Wrote { part, at, count, .. } => {
+        Call::Wrote {
+            part,
+            at,
+            count,
+            ..
+        } => {
             let text = keeping.text(alloc, parted(written, count).0)?;
             image.put(part, at, text.as_slice())
         }
@@ -157,7 +171,12 @@ fn say_on(taken: &mut Vec<u8>, call: &Call, said: &[u8]) -> Result<(), AllocErro
 }
 
 // What was said within a call.
-fn say_within(taken: &mut Vec<u8>, keeping: &mut Keeping, call: &Call, said: &[u8]) -> Result<(), AllocError>
+fn say_within(
+    taken: &mut Vec<u8>,
+    keeping: &mut Keeping,
+    call: &Call,
+    said: &[u8],
+) -> Result<(), AllocError>
     ensures { OnOk result (Within (event_of call.now said.now []) taken.old.items taken.new.items) }
 {
     match *call {

@@ -1,4 +1,4 @@
-use Rattle.std.proofs.Common.{◌≡◌, ◌∙◌}
+use Rattle.std.proofs.Common.{◌∙◌}
 use Rattle.ziti_desk.specs.MemEvents.{image_of}
 use Rattle.ziti_desk.proofs.StopLaws.{reads_alone, keeps_alone, says_alone, ok_then, at_ok}
 use Rattle.ziti_desk.proofs.stopping.go_on.Goals as goal

@@ -1,4 +1,4 @@
-use Rattle.std.proofs.Common.{◌≡◌, refl}
+use Rattle.std.proofs.Common.{refl}
 use Rattle.ziti_desk.proofs.stopping.read_on.Goals as goal
 
 pub returns-then-done : goal.returns-then-done

@@ -1,4 +1,4 @@
-use Rattle.std.proofs.Common.{◌≡◌, length, ◌∙◌, sym, arith}
+use Rattle.std.proofs.Common.{◌∙◌, sym}
 use Rattle.ziti_desk.proofs.MemLaws.{events_count}
 use Rattle.ziti_desk.proofs.mem_desk.MemDesk.moments.Goals as goal
 

@@ -1,4 +1,4 @@
-use Rattle.std.proofs.Common.{◌≡◌, List, length, sym, ◌∙◌, ap, subst}
+use Rattle.std.proofs.Common.{List, length, sym, ◌∙◌, ap, subst}
 use Rattle.ziti_desk.specs.declared.mem_log.Call.{Call}
 use Rattle.ziti_desk.specs.MemEvents.{events, image_of, Leaving}
 use Rattle.ziti_desk.proofs.MemSteps.{replayed_none}

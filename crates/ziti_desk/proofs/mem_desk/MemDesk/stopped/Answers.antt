@@ -1,4 +1,4 @@
-use Rattle.std.proofs.Common.{◌≡◌, List, [], ℕ, length, subst, arith}
+use Rattle.std.proofs.Common.{◌≡◌, List, [], ℕ, subst, arith}
 use Rattle.ziti_desk.specs.MemEvents.{image_of, logged}
 use Rattle.ziti_desk.specs.StopPoints.{PairsAt}
 use Rattle.ziti_desk.proofs.MemLaws.{events_count}
@@ -13,4 +13,4 @@ returns-clause-since c =
     let desk = c.args.self.now in
     let first = image_of desk.first in
     at_since first (λ i. i ≡ first) [] (logged desk.log desk.said.items) c.args.moment (image_of c.in_ok-stop.stop.image) c.in_ok-stop.stop.taken.items
-        (subst (λ (l : List ℕ). PairsAt first (λ i. i ≡ first) [] (logged desk.log l) c.args.moment (image_of c.in_ok-stop.stop.image) c.in_ok-stop.stop.taken.items) c.as_slice-said.ensures.value c.in_ok-stop.ensures)
+    (subst (λ (l : List ℕ). PairsAt first (λ i. i ≡ first) [] (logged desk.log l) c.args.moment (image_of c.in_ok-stop.stop.image) c.in_ok-stop.stop.taken.items) c.as_slice-said.ensures.value c.in_ok-stop.ensures)

@@ -1,4 +1,4 @@
-use Rattle.std.proofs.Common.{◌≡◌, ◌++◌, List, ℕ, drop, ◌∙◌, ap, take-append-drop}
+use Rattle.std.proofs.Common.{◌++◌, List, ℕ, drop, ◌∙◌, ap, take-append-drop}
 use Rattle.ziti_desk.proofs.stopping.Keeping.front.Goals as goal
 
 pub returns-clause-front : goal.returns-clause-front
