@@ -281,3 +281,78 @@ fn counts_what_the_system_refuses(rt: HostRuntime) -> Result<(), Fail> {
     fs::remove_dir_all(&rt, folder.folder.as_str())?;
     Ok(())
 }
+
+#[test]
+fn counts_what_a_wrong_folder_refuses(rt: HostRuntime) -> Result<(), Fail> {
+    let folder = Folder::of(&rt, "wrong")?;
+    // A file stands in the place of the folder: nothing is found in it, and no call goes through.
+    fs::write(&rt, folder.folder.as_str(), b"no folder")?;
+    let mut said = Vec::new(rt.alloc());
+    let mut noted = Vec::new(rt.alloc());
+    let mut desk = FileDesk::new(
+        &rt,
+        folder.paths(),
+        Writes::new(&mut said),
+        Writes::new(&mut noted),
+    );
+    refuses_all(&rt, &mut desk);
+    fs::remove_file(&rt, folder.folder.as_str())?;
+    Ok(())
+}
+
+fn refuses_all<D: Desk>(rt: &impl Abort, desk: &mut D) {
+    let mut buf = [0u8; 1];
+    for part in [Part::Zero, Part::One, Part::Mark] {
+        assert!(rt; desk.len(part).is_err());
+        assert!(rt; desk.read_at(part, 0, &mut buf).is_err());
+        assert!(rt; desk.write_at(part, 0, b"a").is_err());
+        assert!(rt; desk.cut(part, 0).is_err());
+        assert!(rt; desk.sync(part).is_err());
+    }
+}
+
+#[test]
+fn counts_what_a_guarded_folder_refuses(rt: HostRuntime) -> Result<(), Fail> {
+    let folder = Folder::of(&rt, "guarded")?;
+    let path = folder.folder.as_str();
+    fs::create_dir(&rt, path)?;
+    let mut guarded = fs::metadata(&rt, path)?.permissions();
+    guarded.set_readonly(true);
+    fs::set_permissions(&rt, path, guarded)?;
+    let mut said = Vec::new(rt.alloc());
+    let mut noted = Vec::new(rt.alloc());
+    let mut desk = FileDesk::new(
+        &rt,
+        folder.paths(),
+        Writes::new(&mut said),
+        Writes::new(&mut noted),
+    );
+    // The system refuses the first write, unless the user may write everywhere. Then a later call finds what it wrote.
+    let wrote = desk.write_at(Part::Mark, 0, b"a").is_ok();
+    assert_eq!(rt; desk.len(Part::Mark), Ok(u64::from(wrote)));
+    assert_eq!(rt; desk.sync(Part::Mark), Ok(()));
+    let mut open = fs::metadata(&rt, path)?.permissions();
+    open.set_readonly(false);
+    fs::set_permissions(&rt, path, open)?;
+    fs::remove_dir_all(&rt, path)?;
+    Ok(())
+}
+
+/// A place of the system's own in which no user may make a file.
+const SYSTEM: Paths<'static> = Paths {
+    folder: "/proc/self",
+    zero: "/proc/self/ziti.0",
+    one: "/proc/self/ziti.1",
+    mark: "/proc/self/ziti.mark",
+};
+
+#[test]
+fn counts_what_the_systems_folder_refuses(rt: HostRuntime) -> Result<(), Fail> {
+    let mut said = Vec::new(rt.alloc());
+    let mut noted = Vec::new(rt.alloc());
+    let mut desk = FileDesk::new(&rt, SYSTEM, Writes::new(&mut said), Writes::new(&mut noted));
+    assert_eq!(rt; desk.len(Part::Zero), Ok(0));
+    assert!(rt; desk.write_at(Part::Zero, 0, b"a").is_err());
+    assert_eq!(rt; desk.len(Part::Zero), Ok(0));
+    Ok(())
+}

@@ -13,3 +13,5 @@ mod desks;
 mod model_rows;
 #[cfg(test)]
 mod runs;
+#[cfg(test)]
+mod stops;

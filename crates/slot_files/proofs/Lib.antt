@@ -1,2 +1,3 @@
 pub mod StandLaws
+pub mod SwitchLaws
 mod HeaderLaws

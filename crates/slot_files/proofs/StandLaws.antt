@@ -77,7 +77,7 @@ pub one_stands : (image : Image) (these others : List (List ℕ)) → Stands ima
 one_stands image these others s t = one_by (length (image Mark)) image these others s t
 
 -- The slot that a mark names stands for the batches of the image.
-by_slot : (mark : ℕ) (image : Image) (batches : List (List ℕ)) → 0 < mark → Slot (image (slot_of mark)) batches → StandsBy mark image batches
+pub by_slot : (mark : ℕ) (image : Image) (batches : List (List ℕ)) → 0 < mark → Slot (image (slot_of mark)) batches → StandsBy mark image batches
 by_slot zero image batches some s = absurd (omega (arith, some))
 by_slot (suc turn) image batches some s = s
 
@@ -106,7 +106,7 @@ turn_no_mark : (even : Bool) → Mark ≡ (if even then Zero else One) → ⊥
 turn_no_mark true e = cc
 turn_no_mark false e = cc
 
-slot_no_mark : (mark : ℕ) → Mark ≡ slot_of mark → ⊥
+pub slot_no_mark : (mark : ℕ) → Mark ≡ slot_of mark → ⊥
 slot_no_mark mark e = turn_no_mark ((mark - 1) % 2 == 0) e
 
 -- What a stop left of an append stands for what stood, or for one batch more.

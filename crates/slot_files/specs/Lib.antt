@@ -2,3 +2,4 @@ pub mod FolderImage
 pub mod OpenedSlots
 pub mod Faults
 pub mod WorkedFolders
+pub mod SwitchedSlots

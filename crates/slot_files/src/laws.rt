@@ -1,11 +1,12 @@
 ghost use Rattle.std.specs.Prelude.{◌≡◌, ◌⊎◌, ℕ, ◌<◌, List, [], ◌∷◌, ◌++◌, length};
 ghost use Rattle.ziti_outside.specs.declared.desk.Part.{Part};
 ghost use Rattle.ziti_outside.specs.declared.desk.Part.TheVariants.{Zero, One, Mark};
-ghost use Rattle.ziti_outside.specs.Images.{Image, OnPart};
+ghost use Rattle.ziti_outside.specs.Images.{Image, Torn, OnPart};
 ghost use Rattle.journal_core.specs.Slots.{Slot, IsPayload, ShutOrAdded, text_of, slot_end};
 ghost use Rattle.slot_files.specs.declared.standing.Standing.{Standing};
 ghost use Rattle.slot_files.specs.FolderImage.{slot_of, Stands, StandsAsBefore};
 ghost use Rattle.slot_files.specs.OpenedSlots.{IsNamed, IsFound};
+ghost use Rattle.slot_files.specs.SwitchedSlots.{StandsByEither, other_slot};
 
 /// An image stands for at most one list of batches.
 pub fn one_standing()
@@ -26,4 +27,11 @@ pub fn standing_goes_on()
     // What stands is told by the mark's length and by the slot that it names, and by nothing else.
     ensures other { (old new : Image) → length (new Mark) ≡ length (old Mark) → new (slot_of (length (old Mark))) ≡ old (slot_of (length (old Mark)))
         → StandsAsBefore old new }
+
+    // Whatever a stop left of a byte more of the mark, the image stands for what it stood for, or for what the other slot does.
+    ensures switched { (old new : Image) → 0 < length (old Mark) → OnPart Mark (Torn (length (old Mark)) 1) old new → StandsByEither (length (old Mark)) old old new }
+
+    // Where both slots stand for the same batches, a stop within a switch changes nothing.
+    ensures switched_alike { (old new : Image) (batches : List (List ℕ)) → 0 < length (old Mark) → Stands old batches → Slot (old (other_slot (length (old Mark)))) batches
+        → OnPart Mark (Torn (length (old Mark)) 1) old new → Stands new batches }
 {}

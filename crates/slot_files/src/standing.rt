@@ -20,8 +20,8 @@ pub struct Standing {
     pub mark: u64,
 }
 
-// The slot that a mark of so many bytes names.
-fn slot_of(mark: u64) -> Part
+/// The slot that a mark of so many bytes names.
+pub fn slot_of(mark: u64) -> Part
     requires { 0 < mark }
     ensures { result ≡ slot_of mark }
 {

@@ -1,3 +1,4 @@
 pub mod MemLaws
 pub mod MemSteps
 pub mod PieceLaws
+pub mod StopLaws

@@ -1,5 +1,5 @@
 -- How one more call joins the log of a desk over memory.
-use Rattle.std.proofs.Common.{◌≡◌, ◌⊎◌, inl, inr, ℕ, zero, suc, ◌+◌, ◌≤◌, true, false, List, [], ◌∷◌, ◌++◌, length, take, drop, refl, sym, ap, ◌∙◌, arith, append-nil, length-append}
+use Rattle.std.proofs.Common.{◌≡◌, ◌⊎◌, inl, inr, ℕ, zero, suc, ◌+◌, ◌≤◌, List, [], ◌∷◌, ◌++◌, length, take, drop, refl, sym, ap, ◌∙◌, arith, append-nil, length-append}
 use Rattle.std.proofs.lemmas.List.{length-drop, take-append-le, drop-append-le}
 use Rattle.ziti_outside.specs.Images.{Image}
 use Rattle.ziti_outside.specs.Moments.{Elapses, Remembers}
@@ -83,6 +83,14 @@ events_push (Wrote p at n done ∷ calls) call s a w b e f =
     rw (take-append-le n w b few) (rw (drop-append-le n w b few) (ap (λ (l : List Event). Writing p at (take n w) done ∷ l) (events_push calls call s a (drop n w) b e rest)))
 events_push (Cut p len done ∷ calls) call s a w b e f = ap (λ (l : List Event). Cutting p len done ∷ l) (events_push calls call s a w b e f)
 events_push (Synced p ∷ calls) call s a w b e f = ap (λ (l : List Event). Syncing p ∷ l) (events_push calls call s a w b e f)
+
+-- A log has as many moments as calls.
+pub events_count : (calls : List Call) (s w : List ℕ) → length (events calls s w) ≡ length calls
+events_count [] s w = refl
+events_count (Said n ∷ calls) s w = ap suc (events_count calls (drop n s) w)
+events_count (Wrote p at n done ∷ calls) s w = ap suc (events_count calls s (drop n w))
+events_count (Cut p len done ∷ calls) s w = ap suc (events_count calls s w)
+events_count (Synced p ∷ calls) s w = ap suc (events_count calls s w)
 
 pub said_count_push : (calls : List Call) (call : Call) → said_count (calls ++ call ∷ []) ≡ said_count calls + said_count (call ∷ [])
 said_count_push [] call = omega arith

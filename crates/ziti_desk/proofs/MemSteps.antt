@@ -1,6 +1,6 @@
 -- What a call on a desk over memory does to what its log tells.
 use Rattle.std.specs.Prelude.{⊤, OnOk, OnErr, IsTrue}
-use Rattle.std.proofs.Common.{◌≡◌, inl, inr, ℕ, ◌≤◌, min, Bool, true, false, List, [], ◌∷◌, ◌++◌, length, take, Some, Ok, Err, refl, sym, ap, ◌∙◌, subst, arith, append-nil, length-append}
+use Rattle.std.proofs.Common.{◌≡◌, inl, inr, ℕ, Bool, true, false, List, [], ◌∷◌, ◌++◌, length, take, Some, Ok, Err, refl, sym, ap, ◌∙◌, subst, arith, append-nil, length-append}
 use Rattle.std.proofs.lemmas.List.{take_all}
 use Rattle.std.specs.declared.result.Result.{Result}
 use Rattle.ziti_outside.specs.declared.desk.Part.{Part}
@@ -150,9 +150,11 @@ sync_stable (Err e) first held log new said part old logs = tt
 sync_stable (Ok u) first held log new said part old logs =
     let step = stepped first (image_of held) (image_of held) log new said said [] [] (Synced part) (Syncing part) old logs (sym (append-nil said)) refl refl refl refl refl in
     let es = logged log said in
-    record { each = λ c m.
-        let both = may_push first (λ i. i ≡ first) es (Syncing part) c (subst (λ (l : List Event). Leaving first l c) step.more m) in
-        both.1 ∙ ap (λ (r : Image). r part) (sym old.reads) }
+    record {
+      each = λ c m.
+          let both = may_push first (λ i. i ≡ first) es (Syncing part) c (subst (λ (l : List Event). Leaving first l c) step.more m) in
+          both.1 ∙ ap (λ (r : Image). r part) (sym old.reads);
+    }
 
 -- A say, done or failed.
 pub record SayOutcome (first : Image) (held : Images) (log new : Log) (said said_now bytes : List ℕ) : Type 0 where
@@ -184,14 +186,14 @@ say_outcome (Err e) first held log new said said_now bytes old ok err =
     rw err.0 (rw err.1 (record { replayed = old; time = Elapses-none _ _ _; found = λ c m. m; remembers = record { still = λ t c w le p. p } }))
 
 -- What was written is read.
-pub written_holds : (r : Result ⊤ Failed) (held now : Images) (log new : Log) (part : Part) (at : ℕ) (bytes : List ℕ) 
+pub written_holds : (r : Result ⊤ Failed) (held now : Images) (log new : Log) (part : Part) (at : ℕ) (bytes : List ℕ)
     → OnOk r (IsDone (Writing part at bytes true) (Wrote part at (length bytes) true) bytes held now log new) → OnOk r (IsTrue true → Holds at bytes (image_of held part) (image_of now part))
 written_holds (Err e) held now log new part at bytes ok = tt
 written_holds (Ok u) held now log new part at bytes ok = λ told.
     ap (λ (r : Image). r part) ok.reads ∙ with_part_here part _ (image_of held)
 
 -- What was cut off is gone.
-pub cut_holds : (r : Result ⊤ Failed) (held now : Images) (log new : Log) (part : Part) (len : ℕ) 
+pub cut_holds : (r : Result ⊤ Failed) (held now : Images) (log new : Log) (part : Part) (len : ℕ)
     → OnOk r (IsDone (Cutting part len true) (Cut part len true) [] held now log new) → OnOk r (IsTrue true → image_of now part ≡ take len (image_of held part))
 cut_holds (Err e) held now log new part len ok = tt
 cut_holds (Ok u) held now log new part len ok = λ told.

@@ -3,3 +3,5 @@ pub mod Untold
 pub mod MemEvents
 pub mod MemStops
 pub mod Pieces
+pub mod StopPoints
+pub mod DeskStops

@@ -14,6 +14,7 @@ mod mem_log;
 mod mem_parts;
 mod mem_source;
 mod outlets;
+mod stopping;
 
 pub use files::{FileDesk, FileSource};
 pub use folder::Paths;

@@ -1,11 +1,12 @@
 ghost use Rattle.std.specs.Prelude.{◌≡◌, ◌⊎◌, ◌≤◌, ◌++◌, [], true, false, Some, IfOk, OnOk, OnErr, length, take};
-ghost use Rattle.ziti_outside.specs.Images.{Holds, StandAt};
+ghost use Rattle.ziti_outside.specs.Images.{Image, Holds, StandAt};
 ghost use Rattle.ziti_desk.specs.MemEvents.{Writing, Cutting, LogsCall, IsDone, IsPending, Replayed, image_of};
 
 use crate::answers::counted;
 use crate::failing_calls::is_next_listed;
 use crate::mem_log::{Call, Log, append, has_room};
-use crate::mem_parts::{Images, overwrite};
+use crate::mem_parts::{Images, behind_end, overwrite};
+use crate::stopping::{chosen, stop_at};
 use std::alloc::{AllocError, Global};
 use ziti_outside::{Desk, Failed, Part};
 
@@ -25,7 +26,8 @@ pub struct Room {
 /// Replies, notes and a folder of three parts in memory.
 ///
 /// All its memory is taken when it is made. A call that its room cannot hold is a counted fault and changes nothing. So is one
-/// whose place is listed, counted from 0 over all calls; but a write or a cut that fails so is pending from then on.
+/// whose place is listed, counted from 0 over all calls; but a write or a cut that fails so is pending from then on. Its moments
+/// are the says, writes, cuts and syncs that were made and have room in the log; no other call changes what a stop may leave.
 #[derive(Drop)]
 pub struct MemDesk {
     first: Images,
@@ -33,6 +35,7 @@ pub struct MemDesk {
     said: Vec<u8>,
     noted: Vec<u8>,
     log: Log,
+    file_bytes: u64,
     calls: u64,
     failing: Vec<u32>,
     say_faults: u64,
@@ -55,6 +58,8 @@ impl MemDesk {
         ensures note_faults { IfOk result (λ d. ⟦<MemDesk as Desk>⟧.note_faults d ≡ 0) }
         ensures disk_faults { IfOk result (λ d. ⟦<MemDesk as Desk>⟧.disk_faults d ≡ 0) }
         ensures reads { IfOk result (λ d. ⟦<MemDesk as Desk>⟧.reads d ≡ image_of images) }
+        ensures moment { IfOk result (λ d. ⟦<MemDesk as Desk>⟧.moment d ≡ 0) }
+        ensures nothing_pending { IfOk result (λ d. (image : Image) → ⟦<MemDesk as Desk>⟧.may_leave d image → image ≡ image_of images) }
     {
         let first = images.copy(alloc)?;
         let mut held = images;
@@ -65,12 +70,20 @@ impl MemDesk {
             said: Vec::with_capacity(alloc, room.said_bytes as usize)?,
             noted: Vec::with_capacity(alloc, room.noted_bytes as usize)?,
             log: Log::new(alloc, room.log_bytes)?,
+            file_bytes: room.file_bytes,
             calls: 0,
             failing,
             say_faults: 0,
             note_faults: 0,
             disk_faults: 0,
         })
+    }
+
+    /// How many calls were made that matter to a stop: the clock of the desk.
+    pub fn moments(&self) -> u64
+        ensures { result ≡ ⟦<MemDesk as Desk>⟧.moment self.now }
+    {
+        self.log.calls.len() as u64
     }
 
     /// The reply bytes that were taken.
@@ -92,6 +105,39 @@ impl MemDesk {
         ensures { result.now ≡ ⟦<MemDesk as Desk>⟧.reads self.now part }
     {
         self.held.part(part).as_slice()
+    }
+}
+
+impl MemDesk {
+    ghost use Rattle.std.specs.Prelude.{◌≡◌, ◌≤◌, IfOk};
+    ghost use Rattle.ziti_desk.specs.MemEvents.{image_of};
+    ghost use Rattle.ziti_desk.specs.DeskStops.{StopsAt};
+
+    /// The parts and the replies that a stop at a moment leaves, behind so many of the calls that matter to it or within the next.
+    ///
+    /// The choice 0 keeps nothing that is pending, 1 keeps all of it, and any other draws the bytes and lengths that are kept from
+    /// the generator of that number. Of a say at that moment a front of its bytes is kept likewise.
+    pub fn stopped(
+        &self,
+        alloc: Global,
+        moment: u64,
+        choice: u64,
+    ) -> Result<(Images, Vec<u8>), AllocError>
+        requires { moment ≤ ⟦<MemDesk as Desk>⟧.moment self.now }
+        ensures found { IfOk result (λ stop. StopsAt self.now moment (image_of stop.0) stop.1.items) }
+        ensures since { IfOk result (λ stop. ⟦<MemDesk as Desk>⟧.since self.now moment (image_of stop.0) stop.1.items) }
+    {
+        let mut keeping = chosen(choice);
+        let said = self.said.as_slice();
+        let stop = stop_at(
+            alloc,
+            &mut keeping,
+            &self.first,
+            &self.log,
+            said,
+            moment as usize,
+        )?;
+        Ok((stop.image, stop.taken))
     }
 }
 
@@ -144,12 +190,18 @@ fn read_part(held: &Images, part: Part, at: u64, buf: &mut [u8], fails: bool) ->
     Ok(())
 }
 
+// Whether a part that grows by so many bytes stays within its room.
+fn is_within(len: u64, behind: u64, most: u64) -> bool {
+    behind == 0 || len <= most && behind <= most - len
+}
+
 fn write_file(
     file: &mut Vec<u8>,
     log: &mut Log,
     part: Part,
     at: u64,
     bytes: &[u8],
+    most: u64,
     fails: bool,
 ) -> Result<(), Failed>
     requires { at ≤ length file.old.items }
@@ -159,7 +211,8 @@ fn write_file(
         × ((log.new ≡ log.old) ⊎ LogsCall (Call.Wrote part at (length bytes.now) false) bytes.now log.old log.new)) }
 {
     let count = bytes.len();
-    if !has_room(file, count) {
+    let behind = behind_end(file, at as usize, count);
+    if !has_room(file, behind) || !is_within(file.len() as u64, behind as u64, most) {
         return Err(Failed);
     }
     let done = !fails;
@@ -185,6 +238,7 @@ fn write_part(
     part: Part,
     at: u64,
     bytes: &[u8],
+    most: u64,
     fails: bool,
 ) -> Result<(), Failed>
     requires { at ≤ length (image_of held.old part) }
@@ -192,9 +246,9 @@ fn write_part(
     ensures err { OnErr result (IsPending (Call.Wrote part at (length bytes.now) false) bytes.now held.old held.new log.old log.new) }
 {
     match part {
-        Part::Zero => write_file(&mut held.zero, log, part, at, bytes, fails),
-        Part::One => write_file(&mut held.one, log, part, at, bytes, fails),
-        Part::Mark => write_file(&mut held.mark, log, part, at, bytes, fails),
+        Part::Zero => write_file(&mut held.zero, log, part, at, bytes, most, fails),
+        Part::One => write_file(&mut held.one, log, part, at, bytes, most, fails),
+        Part::Mark => write_file(&mut held.mark, log, part, at, bytes, most, fails),
     }
 }
 
@@ -307,7 +361,15 @@ impl Desk for MemDesk {
 
     fn write_at(&mut self, part: Part, at: u64, bytes: &[u8]) -> Result<(), Failed> {
         let fails = is_next_listed(&mut self.calls, &self.failing);
-        let answer = write_part(&mut self.held, &mut self.log, part, at, bytes, fails);
+        let answer = write_part(
+            &mut self.held,
+            &mut self.log,
+            part,
+            at,
+            bytes,
+            self.file_bytes,
+            fails,
+        );
         counted(&mut self.disk_faults, answer)
     }
 

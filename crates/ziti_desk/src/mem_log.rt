@@ -35,6 +35,8 @@ const ENTRY: u64 = 32;
 pub struct Log {
     pub calls: Vec<Call>,
     pub written: Vec<u8>,
+    // How many bytes of its room no call has taken.
+    room: u64,
 }
 
 /// Whether so many bytes more fit.
@@ -55,6 +57,11 @@ pub fn append(bytes: &mut Vec<u8>, more: &[u8])
     let _ = bytes.extend_from_slice(more);
 }
 
+// The room that a call with so many bytes leaves, where it fits.
+fn room_behind(room: u64, count: usize) -> Option<u64> {
+    room.checked_sub(ENTRY)?.checked_sub(count as u64)
+}
+
 impl Log {
     /// A log of so many bytes.
     pub fn new(alloc: Global, bytes: u64) -> Result<Log, AllocError>
@@ -64,6 +71,7 @@ impl Log {
         Ok(Log {
             calls: Vec::with_capacity(alloc, (bytes / ENTRY) as usize)?,
             written: Vec::with_capacity(alloc, bytes as usize)?,
+            room: bytes,
         })
     }
 
@@ -73,11 +81,15 @@ impl Log {
         ensures written { OnOk result (self.new.written.items ≡ self.old.written.items ++ bytes.now) }
         ensures full { OnErr result (self.new ≡ self.old) }
     {
+        let Some(room) = room_behind(self.room, bytes.len()) else {
+            return Err(Failed);
+        };
         if self.calls.len() >= self.calls.capacity() || !has_room(&self.written, bytes.len()) {
             return Err(Failed);
         }
         append(&mut self.written, bytes);
         let _ = self.calls.push(call);
+        self.room = room;
         Ok(())
     }
 }

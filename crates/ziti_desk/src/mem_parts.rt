@@ -1,7 +1,7 @@
-ghost use Rattle.std.specs.Prelude.{◌≡◌, ◌+◌, ◌≤◌, length, vec_len, [], OnOk, IfOk};
+ghost use Rattle.std.specs.Prelude.{◌≡◌, ◌+◌, ◌-◌, ◌≤◌, length, take, vec_len, [], OnOk, IfOk};
 ghost use Rattle.std.specs.Vec.{vec_capacity};
 ghost use Rattle.ziti_outside.specs.Images.{Holds};
-ghost use Rattle.ziti_desk.specs.MemEvents.{image_of};
+ghost use Rattle.ziti_desk.specs.MemEvents.{image_of, with_part, written_over};
 
 use crate::mem_log::append;
 use std::alloc::{AllocError, Global};
@@ -62,6 +62,55 @@ impl Images {
             Part::Mark => &self.mark,
         }
     }
+
+    /// Writes bytes at a place of a part, over what is there and past the end; a place behind the end is the end.
+    pub fn put(&mut self, part: Part, at: u64, bytes: &[u8]) -> Result<(), AllocError>
+        ensures { OnOk result (image_of self.new ≡ with_part part (written_over at bytes.now (image_of self.old part)) (image_of self.old)) }
+    {
+        match part {
+            Part::Zero => put(&mut self.zero, at, bytes),
+            Part::One => put(&mut self.one, at, bytes),
+            Part::Mark => put(&mut self.mark, at, bytes),
+        }
+    }
+
+    /// Cuts a part to a length.
+    pub fn cut(&mut self, part: Part, len: u64)
+        ensures { image_of self.new ≡ with_part part (take len (image_of self.old part)) (image_of self.old) }
+    {
+        match part {
+            Part::Zero => self.zero.truncate(len as usize),
+            Part::One => self.one.truncate(len as usize),
+            Part::Mark => self.mark.truncate(len as usize),
+        }
+    }
+
+    /// Gives a part these bytes.
+    pub fn set(&mut self, part: Part, bytes: &[u8]) -> Result<(), AllocError>
+        ensures { OnOk result (image_of self.new ≡ with_part part bytes.now (image_of self.old)) }
+    {
+        match part {
+            Part::Zero => set(&mut self.zero, bytes),
+            Part::One => set(&mut self.one, bytes),
+            Part::Mark => set(&mut self.mark, bytes),
+        }
+    }
+}
+
+fn put(file: &mut Vec<u8>, at: u64, bytes: &[u8]) -> Result<(), AllocError>
+    ensures { OnOk result (file.new.items ≡ written_over at bytes.now file.old.items) }
+{
+    file.reserve(bytes.len())?;
+    let at = (at as usize).min(file.len());
+    overwrite(file, at, bytes);
+    Ok(())
+}
+
+fn set(file: &mut Vec<u8>, bytes: &[u8]) -> Result<(), AllocError>
+    ensures { OnOk result (file.new.items ≡ bytes.now) }
+{
+    file.clear();
+    file.extend_from_slice(bytes)
 }
 
 fn grow(bytes: &mut Vec<u8>, most: u64) -> Result<(), AllocError>
@@ -71,10 +120,18 @@ fn grow(bytes: &mut Vec<u8>, most: u64) -> Result<(), AllocError>
     bytes.reserve(more)
 }
 
+/// How many bytes of a write at a place lie behind the end.
+pub fn behind_end(file: &Vec<u8>, at: usize, count: usize) -> usize
+    requires { at ≤ length file.now.items }
+    ensures { result ≡ count - (length file.now.items - at) }
+{
+    count.saturating_sub(file.len() - at)
+}
+
 /// Writes bytes at a place, over what is there and past the end. They fit.
 pub fn overwrite(file: &mut Vec<u8>, at: usize, bytes: &[u8])
     requires within { at ≤ length file.old.items }
-    requires fits { vec_len file.old + length bytes.now ≤ vec_capacity file.old }
+    requires fits { vec_len file.old + (length bytes.now - (length file.old.items - at)) ≤ vec_capacity file.old }
     ensures holds { Holds at bytes.now file.old.items file.new.items }
 {
     let over = bytes.len().min(file.len() - at);

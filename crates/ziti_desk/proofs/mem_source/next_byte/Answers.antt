@@ -1,7 +1,6 @@
-use Rattle.std.proofs.Common.{◌≡◌, ◌+◌, length, map, drop, ◌∙◌, ap, sym, arith}
-use Rattle.std.proofs.lemmas.Bool.{cases_lt}
-use Rattle.ziti_desk.specs.Pieces.{from_first, without}
-use Rattle.ziti_desk.proofs.PieceLaws.{without_at, without_past, skip_one, first_here}
+use Rattle.std.proofs.Common.{◌+◌, map, drop, ◌∙◌, ap, sym, arith}
+use Rattle.ziti_desk.specs.Pieces.{from_first}
+use Rattle.ziti_desk.proofs.PieceLaws.{without_at, skip_one, first_here}
 use Rattle.ziti_desk.proofs.mem_source.next_byte.Goals as goal
 
 pub empty-preserved : goal.empty-preserved

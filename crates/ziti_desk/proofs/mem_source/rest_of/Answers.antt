@@ -1,4 +1,4 @@
-use Rattle.std.proofs.Common.{◌≡◌, ℕ, length, drop, ◌∙◌, ap, sym, arith}
+use Rattle.std.proofs.Common.{ℕ, drop, ◌∙◌, ap, sym, arith}
 use Rattle.ziti_desk.specs.Pieces.{first}
 use Rattle.ziti_desk.proofs.PieceLaws.{without_at, drop_min}
 use Rattle.ziti_desk.proofs.mem_source.rest_of.Goals as goal

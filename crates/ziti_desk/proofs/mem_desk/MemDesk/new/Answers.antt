@@ -1,4 +1,6 @@
-use Rattle.std.proofs.Common.{sym, ◌∙◌}
+use Rattle.std.proofs.Common.{List, length, sym, ◌∙◌, ap, subst}
+use Rattle.ziti_desk.specs.declared.mem_log.Call.{Call}
+use Rattle.ziti_desk.specs.MemEvents.{events, image_of, Leaving}
 use Rattle.ziti_desk.proofs.MemSteps.{replayed_none}
 use Rattle.ziti_desk.proofs.mem_desk.MemDesk.new.Goals as goal
 
@@ -9,3 +11,10 @@ invariant_of-result c = record {
 
 pub returns-clause-reads : goal.returns-clause-reads
 returns-clause-reads c = c.in_ok-grow.ensures
+
+pub returns-clause-nothing_pending : goal.returns-clause-nothing_pending
+returns-clause-nothing_pending c = λ image leaves.
+    subst (λ (calls : List Call). Leaving (image_of c.in_ok-first.first) (events calls c.in_ok-with_capacity.field-0.items c.in_ok-new.field-0.written.items) image) c.in_ok-new.ensures.calls leaves ∙ c.in_ok-first.ensures
+
+pub returns-clause-moment : goal.returns-clause-moment
+returns-clause-moment c = ap (λ (calls : List Call). length (events calls c.in_ok-with_capacity.field-0.items c.in_ok-new.field-0.written.items)) c.in_ok-new.ensures.calls

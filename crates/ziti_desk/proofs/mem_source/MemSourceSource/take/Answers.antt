@@ -1,4 +1,3 @@
-use Rattle.std.proofs.Common.{◌≡◌, length, ◌∙◌, ap}
 use Rattle.ziti_desk.proofs.PieceLaws.{takes_bytes}
 use Rattle.ziti_desk.proofs.mem_source.MemSourceSource.take.Goals as goal
 

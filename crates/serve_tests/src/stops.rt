@@ -1,0 +1,135 @@
+//! Stops of a desk over memory: what it may leave of writes, cuts and replies at each moment.
+
+use std::alloc::{AllocError, Global};
+use std::process::Abort;
+use std::test::Fail;
+use ziti_desk::{Images, MemDesk, Room};
+use ziti_outside::{Desk, Part};
+
+/// A desk of which the first slot reads `abc`, with room for some calls, and which fails at these, counted from 0.
+fn desk(alloc: Global, failing: &[u32]) -> Result<MemDesk, AllocError> {
+    let room = Room {
+        file_bytes: 8,
+        said_bytes: 16,
+        noted_bytes: 16,
+        log_bytes: 1_024,
+    };
+    let mut images = Images::empty(alloc);
+    images.zero.extend_from_slice(b"abc")?;
+    let failing = Vec::from_slice(alloc, failing)?;
+    MemDesk::new(alloc, images, room, failing)
+}
+
+/// Compares what a stop leaves of the first slot, and the replies.
+fn leaves(
+    rt: &impl Abort,
+    alloc: Global,
+    desk: &MemDesk,
+    stop: (u64, u64),
+    zero: &[u8],
+    said: &[u8],
+) -> Result<(), AllocError> {
+    let (moment, choice) = stop;
+    assert!(rt; moment <= desk.moments());
+    let (images, taken) = desk.stopped(alloc, moment, choice)?;
+    assert_eq!(rt; images.zero.as_slice(), zero, "{moment} {choice}");
+    assert_eq!(rt; taken.as_slice(), said, "{moment} {choice}");
+    Ok(())
+}
+
+#[test]
+fn keeps_nothing_or_all_of_what_is_pending(rt: HostRuntime) -> Result<(), Fail> {
+    let alloc = rt.alloc();
+    let mut desk = desk(alloc, &[])?;
+    assert_eq!(rt; desk.write_at(Part::Zero, 1, b"XYZ"), Ok(()));
+    assert_eq!(rt; desk.cut(Part::Zero, 2), Ok(()));
+    assert_eq!(rt; desk.sync(Part::Zero), Ok(()));
+    assert_eq!(rt; desk.say(b"done"), Ok(()));
+    assert_eq!(rt; desk.note(b"a note"), Ok(()));
+    assert_eq!(rt; desk.len(Part::Zero), Ok(2));
+    assert_eq!(rt; desk.moments(), 4);
+    let keeps_nothing: [&[u8]; 5] = [b"abc", b"abc", b"abc", b"aX", b"aX"];
+    let keeps_all: [&[u8]; 5] = [b"abc", b"aXYZ", b"aX", b"aX", b"aX"];
+    let mut moment = 0u64;
+    for zero in keeps_nothing {
+        let said: &[u8] = if moment == 4 { b"done" } else { b"" };
+        leaves(&rt, alloc, &desk, (moment, 0), zero, said)?;
+        moment = moment.saturating_add(1);
+    }
+    moment = 0;
+    for zero in keeps_all {
+        let said: &[u8] = if moment >= 3 { b"done" } else { b"" };
+        leaves(&rt, alloc, &desk, (moment, 1), zero, said)?;
+        moment = moment.saturating_add(1);
+    }
+    Ok(())
+}
+
+#[test]
+fn keeps_a_failed_write_pending(rt: HostRuntime) -> Result<(), Fail> {
+    let alloc = rt.alloc();
+    let mut desk = desk(alloc, &[0, 1, 2, 3])?;
+    assert!(rt; desk.write_at(Part::Zero, 0, b"XY").is_err());
+    assert!(rt; desk.cut(Part::Zero, 1).is_err());
+    assert!(rt; desk.sync(Part::Zero).is_err());
+    assert!(rt; desk.say(b"lost").is_err());
+    assert_eq!(rt; desk.part(Part::Zero), b"abc".as_slice());
+    assert!(rt; desk.said().is_empty());
+    assert_eq!(rt; desk.moments(), 2);
+    leaves(&rt, alloc, &desk, (2, 0), b"abc", b"")?;
+    leaves(&rt, alloc, &desk, (1, 1), b"XYc", b"")?;
+    leaves(&rt, alloc, &desk, (2, 1), b"X", b"")?;
+    assert_eq!(rt; desk.sync(Part::Zero), Ok(()));
+    leaves(&rt, alloc, &desk, (3, 1), b"abc", b"")?;
+    Ok(())
+}
+
+/// What a stop leaves of the first slot behind a first call, where a drawn part is kept.
+fn drawn(alloc: Global, desk: &MemDesk, choice: u64) -> Result<Vec<u8>, AllocError> {
+    let (images, _) = desk.stopped(alloc, 1, choice)?;
+    Ok(images.zero)
+}
+
+/// Whether a drawn part of `WXYZ`, written behind the first byte of `abc`, is kept; the same is drawn again.
+fn is_torn(
+    rt: &impl Abort,
+    alloc: Global,
+    desk: &MemDesk,
+    choice: u64,
+) -> Result<bool, AllocError> {
+    let zero = drawn(alloc, desk, choice)?;
+    let again = drawn(alloc, desk, choice)?;
+    assert_eq!(rt; again.as_slice(), zero.as_slice());
+    assert!(rt; zero.len() >= 3 && zero.len() <= 5);
+    assert_eq!(rt; zero.first(), Some(&b'a'));
+    Ok(zero.as_slice() != b"abc".as_slice() && zero.as_slice() != b"aWXYZ".as_slice())
+}
+
+#[test]
+fn draws_what_is_kept(rt: HostRuntime) -> Result<(), Fail> {
+    let alloc = rt.alloc();
+    let mut desk = desk(alloc, &[])?;
+    assert_eq!(rt; desk.write_at(Part::Zero, 1, b"WXYZ"), Ok(()));
+    let mut torn = 0u32;
+    for choice in 2u64..34 {
+        if is_torn(&rt, alloc, &desk, choice)? {
+            torn = torn.saturating_add(1);
+        }
+    }
+    assert!(rt; torn > 0);
+    Ok(())
+}
+
+#[test]
+fn counts_what_the_room_cannot_hold(rt: HostRuntime) -> Result<(), Fail> {
+    let mut desk = desk(rt.alloc(), &[])?;
+    assert_eq!(rt; desk.write_at(Part::Zero, 3, b"defgh"), Ok(()));
+    assert_eq!(rt; desk.write_at(Part::Zero, 0, b"ABCDEFGH"), Ok(()));
+    assert!(rt; desk.write_at(Part::Zero, 8, b"i").is_err());
+    assert_eq!(rt; desk.part(Part::Zero), b"ABCDEFGH".as_slice());
+    assert_eq!(rt; desk.say(b"sixteen bytes ok"), Ok(()));
+    assert!(rt; desk.say(b"x").is_err());
+    assert!(rt; desk.note(b"seventeen bytes x").is_err());
+    assert_eq!(rt; desk.moments(), 3);
+    Ok(())
+}

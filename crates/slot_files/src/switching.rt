@@ -1,0 +1,45 @@
+ghost use Rattle.std.specs.Prelude.{◌≡◌, ◌+◌, ◌<◌, ◌++◌, ◌∷◌, [], ⊤, IsTrue, OnOk, IfOk, IfErr};
+ghost use Rattle.ziti_outside.specs.declared.desk.Part.TheVariants.{Mark};
+ghost use Rattle.ziti_outside.specs.Causes.{HasCause};
+ghost use Rattle.ziti_outside.specs.Images.{Else, After};
+ghost use Rattle.ziti_outside.specs.Moments.{Remembers, Leaves};
+ghost use Rattle.ziti_outside.specs.Untouched.{OnlyDisk};
+ghost use Rattle.slot_files.specs.OpenedSlots.{IsNamed, IsOpened};
+ghost use Rattle.slot_files.specs.SwitchedSlots.{IsReady, IsSwitched, StandsByEither, SwitchFails};
+ghost use Rattle.slot_files.specs.Faults.{disk_failure};
+
+use crate::faults::SlotFault;
+use crate::standing::{Standing, slot_of};
+use journal_core::put_down;
+use ziti_outside::{Desk, Part};
+
+/// Lets the other slot stand, which is complete and stable: lengthens the mark by one byte, and makes it stable.
+///
+/// `MarkFull` comes exactly where the mark has at least `most` bytes, and then nothing was done. At every moment of the call, and
+/// after it, an image that a stop may leave stands for what an image of its start stood for, or for what the other slot does.
+pub fn switch<D: Desk>(desk: &mut D, standing: Standing, most: u64) -> Result<Standing, SlotFault>
+    requires named { IsNamed standing }
+    requires ready { IsTrue D.tells → IsReady standing.mark (D.reads desk.old) (D.may_leave desk.old) }
+    ensures room { OnOk result (standing.mark < most) }
+    ensures switched { IfOk result (λ now. IsSwitched standing now) }
+    ensures opened { IfOk result (λ now. IsTrue D.tells → IsOpened now (D.reads desk.new) (D.may_leave desk.new)) }
+    ensures mark { OnOk result (IsTrue D.tells → D.reads desk.new Mark ≡ D.reads desk.old Mark ++ 0 ∷ []) }
+    ensures elsewhere { Else Mark (D.reads desk.old) (D.reads desk.new) }
+    ensures fault { IfErr result (λ fault. SwitchFails standing.mark most desk.old desk.new fault) }
+    ensures cause { HasCause (D.disk_faults desk.old) (D.disk_faults desk.new) (disk_failure result) }
+    ensures others { OnlyDisk D.said D.noted D.say_faults D.note_faults desk.old desk.new }
+    ensures quiet { Leaves D.moment D.since D.may_leave D.said desk.old desk.new (λ image. ⊤) }
+    ensures stops { IsTrue D.tells → Leaves D.moment D.since D.may_leave D.said desk.old desk.new
+        (After (StandsByEither standing.mark (D.reads desk.old)) (D.may_leave desk.old)) }
+    ensures remembers { Remembers (D.moment desk.old) (D.since desk.old) (D.since desk.new) }
+{
+    if standing.mark >= most {
+        return Err(SlotFault::MarkFull);
+    }
+    put_down(desk, Part::Mark, standing.mark, &[0])?;
+    let mark = standing.mark + 1;
+    Ok(Standing {
+        part: slot_of(mark),
+        mark,
+    })
+}

@@ -1,0 +1,10 @@
+-- What a stop of a desk over memory at one moment may leave (docs/PROMISES.md, "The desks").
+use Rattle.std.specs.Prelude.{◌≡◌, ℕ, List, []}
+use Rattle.ziti_outside.specs.Images.{Image}
+use Rattle.ziti_desk.specs.declared.mem_desk.MemDesk.{MemDesk}
+use Rattle.ziti_desk.specs.MemEvents.{image_of, logged}
+use Rattle.ziti_desk.specs.StopPoints.{PairsAt}
+
+-- The pairs of an image and the replies at that moment.
+abbrev pub StopsAt : MemDesk → ℕ → Image → List ℕ → Type 0
+StopsAt desk moment image taken = PairsAt (image_of desk.first) (λ i. i ≡ image_of desk.first) [] (logged desk.log desk.said.items) moment image taken
