@@ -4,10 +4,13 @@
 
 mod batches;
 mod changes;
+mod checking;
 mod faults;
 mod fields;
 mod keys;
 mod laws;
+mod name_forms;
+mod reading;
 mod rows;
 mod spelling;
 mod values;
