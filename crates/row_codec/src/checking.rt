@@ -1,14 +1,16 @@
 ghost use Rattle.std.specs.Prelude.{◌≡◌};
 ghost use Rattle.std.specs.Option.{option_map, option_and_then, is_some};
 ghost use Rattle.row_codec.specs.RowForm.{is_positive};
-ghost use Rattle.row_codec.specs.FieldReading.{behind, alone, kept, both, at_end, front_byte, front_long, front_number};
-ghost use Rattle.row_codec.specs.RowReading.{is_kind, is_next, is_setting, front_entity, front_router, front_costs, front_link, front_sides, front_service_policy, front_router_policy, front_place, front_terminator, front_circuit, row_of};
+ghost use Rattle.row_codec.specs.FieldReading.{behind, is_end, alone, kept, both, at_end, front_byte, front_long, front_number};
+ghost use Rattle.row_codec.specs.RowReading.{is_kind, is_next, is_setting, front_entity, front_router, front_costs, front_link, front_sides, front_service_policy, front_router_policy, front_place, front_terminator, front_circuit, is_value, is_row_in, table_seen, row_of};
 
 use crate::fields::{
     past_each_long, past_names, past_side, split_byte, split_flag, split_instance, split_long,
     split_marks, split_name, split_number, split_precedence, split_relation, split_semantic,
     split_short,
 };
+use crate::tables::{Table, table_of};
+use ctrl_model::Kind;
 
 /// A number of four bytes, and nothing behind it.
 pub(crate) fn lone_long(bytes: &[u8]) -> Option<u32>
@@ -165,7 +167,7 @@ fn past_circuit(bytes: &[u8]) -> Option<&[u8]>
 
 // Whether there is a rest, and it is empty.
 fn ends(rest: Option<&[u8]>) -> bool
-    ensures { result ≡ is_some (option_and_then (λ r. at_end tt r) (option_map (λ r. r.now) rest.entry)) }
+    ensures { result ≡ is_end (option_map (λ r. r.now) rest.entry) }
 {
     match rest {
         Some(rest) => rest.is_empty(),
@@ -173,15 +175,45 @@ fn ends(rest: Option<&[u8]>) -> bool
     }
 }
 
-// Whether the value of a record of a kind, by the number of its table, is of the kind's form.
-fn is_record(table: u8, value: &[u8]) -> bool {
+// Whether a value is that of a record of a kind.
+fn is_value(kind: Kind, value: &[u8]) -> bool
+    ensures { result ≡ is_value kind value.now }
+{
+    match kind {
+        Kind::Identity => ends(past_entity(value)),
+        Kind::Service => ends(past_entity(value)),
+        Kind::Router => ends(past_router(value)),
+        Kind::Link => ends(past_link(value)),
+        Kind::ServicePolicy => ends(past_service_policy(value)),
+        Kind::EdgeRouterPolicy => ends(past_router_policy(value)),
+        Kind::ServiceEdgeRouterPolicy => ends(past_router_policy(value)),
+        Kind::Terminator => ends(past_terminator(value)),
+        Kind::Circuit => ends(past_circuit(value)),
+        Kind::Attribute => false,
+    }
+}
+
+// Whether what follows a table in a key, and a value, are those of a row in the table.
+fn is_row_in(table: Table, rest: &[u8], value: &[u8]) -> bool
+    ensures { result ≡ is_row_in (table_seen table) rest.now value.now }
+{
     match table {
-        3 | 4 => ends(past_entity(value)),
-        5 => ends(past_router(value)),
-        6 => ends(past_link(value)),
-        7 => ends(past_service_policy(value)),
-        8 | 9 => ends(past_router_policy(value)),
-        10 => ends(past_terminator(value)),
-        _ => ends(past_circuit(value)),
+        Table::Next => lone_kind(rest).is_some() && lone_next(value).is_some(),
+        Table::Setting => rest.is_empty() && lone_setting(value).is_some(),
+        Table::Records(kind) => lone_number(rest).is_some() && is_value(kind, value),
+        Table::Counts(_) => lone_pair(rest).is_some() && lone_count(value).is_some(),
+    }
+}
+
+/// Whether a key and a value spell a row. No memory is taken.
+pub(crate) fn is_spelled(key: &[u8], value: &[u8]) -> bool
+    ensures { result ≡ is_some (row_of key.now value.now) }
+{
+    let Some((number, rest)) = split_byte(key) else {
+        return false;
+    };
+    match table_of(number) {
+        None => false,
+        Some(table) => is_row_in(table, rest, value),
     }
 }

@@ -13,6 +13,7 @@ mod name_forms;
 mod reading;
 mod rows;
 mod spelling;
+mod tables;
 mod values;
 mod worked;
 mod worked_spellings;
