@@ -1,6 +1,9 @@
 -- Rows: what is written is read again, what is read is what was written, and a key and a value spell one row.
 use Rattle.std.proofs.Common.{◌≡◌, ℕ, zero, suc, ◌+◌, ◌^◌, ◌<◌, ◌≤◌, Bool, true, false, cond, ne_eqb, ltb, leb, not, ◌&&◌, ◌==◌, eqb, List, [], ◌∷◌, ◌++◌, length, get_or, Option, Some, None, refl, sym, ap, subst, ◌∙◌, arith}
-use Rattle.std.specs.Prelude.{find}
+use Rattle.std.specs.Prelude.{find, Ok, Err, IfOk, IsErrOf, ◌↔◌}
+use Rattle.std.specs.declared.result.Result.{Result}
+use Rattle.row_codec.specs.declared.faults.RowFault.{RowFault}
+use Rattle.row_codec.specs.declared.faults.RowFault.TheVariants as faults
 use Rattle.std.specs.Option.{option_map, option_and_then, is_some}
 use Rattle.std.proofs.lemmas.Bool.{eqb-true}
 use Rattle.ctrl_model.proofs.Members.{find_passes}
@@ -15,7 +18,7 @@ use Rattle.row_codec.specs.RowForm.{is_row, key_of, value_of, SpellsRow, is_posi
 use Rattle.row_codec.specs.RowKeys.{RowTable, is_long, key_bytes, number_in_key, table_number, tables}
 use Rattle.row_codec.specs.RowKeys.RowTable.{Next, Setting, Records, Counts}
 use Rattle.row_codec.specs.FieldReading.{Front, front_byte, front_long, front_number, kept, both, alone, behind, is_end, at_end}
-use Rattle.row_codec.specs.RowReading.{is_kind, is_next, is_setting, front_entity, front_router, front_link, front_service_policy, front_router_policy, front_terminator, front_circuit, front_nothing, row_read, count_read, record_read, table_read, table_of, is_row_in, row_of}
+use Rattle.row_codec.specs.RowReading.{is_kind, is_next, is_setting, front_entity, front_router, front_link, front_service_policy, front_router_policy, front_terminator, front_circuit, front_nothing, row_read, count_read, record_read, table_read, table_of, is_row_in, row_of, Gives}
 use Rattle.row_codec.proofs.FieldLaws.{AreBytes, some_is, bind_some, map_some, and_left, and_right}
 use Rattle.row_codec.proofs.FormLaws.{IsForm, and_both, and_regrouped, alone_again, alone_takes}
 use Rattle.row_codec.proofs.ValueLaws.{byte_form, long_form, number_form, entity_form, router_form, link_form, service_policy_form, router_policy_form, terminator_form, circuit_form, count_form, next_form, setting_form, kind_form, nothing_form, pair_form}
@@ -204,3 +207,42 @@ row_of_parts key value rest n t e f = rw (e, f) refl
 -- a key and a value spell at most one row
 pub one_row : (key value : List ℕ) (a b : Row) → SpellsRow key value a → SpellsRow key value b → a ≡ b
 one_row key value a b s t = some_is a b (sym (row_again key value a s) ∙ row_again key value b t)
+
+-- ---- what a reader of rows answers
+
+by_some : {A P : Type 0} (o : Option A) → is_some o ≡ true → ((x : A) → o ≡ Some x → P) → P
+by_some (Some x) e k = k x refl
+by_some None e k = absurd cc
+
+pub none_spelled : (key value : List ℕ) → is_some (row_of key value) ≡ false → (r : Row) → SpellsRow key value r → ⊥
+none_spelled key value e r s =
+    let both : true ≡ false = ap is_some (sym (row_again key value r s)) ∙ e in
+    cc
+
+-- where a row is there, bytes spell one
+some_spelled : (key value : List ℕ) → AreBytes key → AreBytes value → is_some (row_of key value) ≡ true → ((r : Row) → SpellsRow key value r → ⊥) → ⊥
+some_spelled key value fk fv e none = by_some (row_of key value) e (λ r is. none r (row_takes key value r fk fv is))
+
+-- what is answered where a row is there
+pub record ReadsRow (key value : List ℕ) (result : Result Row RowFault) : Type 0 where
+  pub read : IfOk result (λ r. SpellsRow key value r)
+  pub bad : IsErrOf result faults.BadRow ↔ ((r : Row) → SpellsRow key value r → ⊥)
+  pub never : IsErrOf result faults.BadBatch → ⊥
+
+pub reads_row : (key value : List ℕ) (result : Result Row RowFault) → AreBytes key → AreBytes value → is_some (row_of key value) ≡ true → Gives (λ r. r) result (row_of key value) → ReadsRow key value result
+reads_row key value (Ok r) fk fv e gives = record {
+  read = row_takes key value r fk fv gives;
+  bad = (λ h. absurd cc, λ none. absurd (some_spelled key value fk fv e none));
+  never = λ h. cc;
+}
+reads_row key value (Err faults.BadRow) fk fv e gives = absurd (none_there (row_of key value) e gives)
+  where
+    none_there : (o : Option Row) → is_some o ≡ true → o ≡ None → ⊥
+    none_there None e h = cc
+    none_there (Some r) e h = cc
+reads_row key value (Err faults.BadBatch) fk fv e gives = absurd gives
+reads_row key value (Err faults.NoMemory) fk fv e gives = record {
+  read = tt;
+  bad = (λ h. absurd cc, λ none. absurd (some_spelled key value fk fv e none));
+  never = λ h. cc;
+}
