@@ -27,4 +27,7 @@ pub use laws::{batches_of_changes, one_batch, one_row};
 pub use rows::Row;
 pub use spelling::{read_row, write_row};
 pub use worked::{worked_differences, worked_rows};
-pub use worked_spellings::{worked_batches, worked_changes, worked_no_batches};
+pub use worked_spellings::{
+    worked_batches, worked_changes, worked_more_row_spellings, worked_no_batches, worked_no_rows,
+    worked_row_spellings,
+};
