@@ -4,3 +4,4 @@ pub mod SpellingLaws
 pub mod FormLaws
 pub mod ValueLaws
 pub mod RowLaws
+pub mod LoopLaws

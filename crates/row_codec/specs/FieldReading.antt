@@ -61,6 +61,16 @@ front_each front (suc n) bytes = option_and_then (λ x. option_map (λ y. (x.0 �
 abbrev pub front_list : {A : Type 0} → ℕ → (List ℕ → Front A) → List ℕ → Front (List A)
 front_list most front bytes = option_and_then (λ n. cond (nat_le n.0 most) (front_each front n.0 n.1) None) (front_byte bytes)
 
+-- What follows a thing that is read.
+abbrev pub behind : {A : Type 0} → Front A → Option (List ℕ)
+behind front = option_map (λ x. x.1) front
+
+-- Whether there is a rest, and it is empty.
+abbrev pub is_end : Option (List ℕ) → Bool
+is_end None = false
+is_end (Some []) = true
+is_end (Some (b ∷ rest)) = false
+
 -- What is left, where nothing follows.
 abbrev pub at_end : {A : Type 0} → A → List ℕ → Option A
 at_end x [] = Some x

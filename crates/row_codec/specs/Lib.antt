@@ -8,3 +8,4 @@ pub mod CoveredTables
 pub mod FieldReading
 pub mod BatchReading
 pub mod RowReading
+pub mod WorkedRows

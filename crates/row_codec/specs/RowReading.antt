@@ -1,8 +1,8 @@
 -- Rows as they are read: the parts of a key behind its table, and those of a value (docs/FORMATS.md, "Rows").
-use Rattle.std.specs.Prelude.{◌≡◌, ℕ, Bool, true, false, not, cond, nat_lt, nat_le, ◌==◌, ◌&&◌, List, [], ◌∷◌, find, None, Some, Ok, Err}
+use Rattle.std.specs.Prelude.{◌≡◌, ℕ, Bool, true, false, not, cond, nat_lt, nat_le, ◌==◌, ◌&&◌, List, [], ◌∷◌, length, find, None, Some, Ok, Err}
 use Rattle.std.specs.declared.option.Option.{Option}
 use Rattle.std.specs.declared.result.Result.{Result}
-use Rattle.std.specs.Option.{option_map, option_and_then}
+use Rattle.std.specs.Option.{option_map, option_and_then, is_some}
 use Rattle.ctrl_model.specs.declared.kinds.Kind.{Kind}
 use Rattle.ctrl_model.specs.declared.kinds.Kind.TheVariants as kind
 use Rattle.ctrl_model.specs.declared.kinds.Side.{Side}
@@ -17,10 +17,12 @@ use Rattle.row_codec.specs.declared.faults.RowFault.{RowFault}
 use Rattle.row_codec.specs.declared.faults.RowFault.TheVariants.{BadRow, BadBatch, NoMemory}
 use Rattle.row_codec.specs.declared.rows.Row.{Row}
 use Rattle.row_codec.specs.declared.rows.Row.TheVariants as row
+use Rattle.row_codec.specs.declared.tables.Table.{Table}
+use Rattle.row_codec.specs.declared.tables.Table.TheVariants as table
 use Rattle.row_codec.specs.RowForm.{is_positive}
 use Rattle.row_codec.specs.RowKeys.{RowTable, is_long, table_number, tables}
 use Rattle.row_codec.specs.RowKeys.RowTable.{Next, Setting, Records, Counts}
-use Rattle.row_codec.specs.FieldReading.{Front, front_byte, front_code, front_flag, front_instance, front_list, front_long, front_name, front_names, front_number, front_short, front_side, kept, both, mapped, alone}
+use Rattle.row_codec.specs.FieldReading.{Front, front_byte, front_code, front_flag, front_instance, front_list, front_long, front_name, front_names, front_number, front_short, front_side, kept, both, mapped, alone, behind, is_end}
 
 -- The relation of a service policy that a byte means.
 abbrev pub relation_meant : ℕ → Option Relation
@@ -147,9 +149,36 @@ table_read (Counts r) rest value = count_read r rest value
 abbrev pub table_of : ℕ → Option RowTable
 table_of number = find (λ t. table_number t == number) tables
 
+-- A table as the code sees it.
+abbrev pub table_seen : Table → RowTable
+table_seen table.Next = Next
+table_seen table.Setting = Setting
+table_seen (table.Records k) = Records k
+table_seen (table.Counts r) = Counts r
+
 -- The row that a key and a value are read as.
 abbrev pub row_of : List ℕ → List ℕ → Option Row
-row_of key value = option_and_then (λ t. option_and_then (λ table. table_read table t.1 value) (table_of t.0)) (front_byte key)
+row_of key value = option_and_then (λ t. option_and_then (λ found. table_read found t.1 value) (table_of t.0)) (front_byte key)
+
+-- Whether a value is that of a record of a kind.
+abbrev pub is_value : Kind → List ℕ → Bool
+is_value kind.Identity value = is_end (behind (front_entity value))
+is_value kind.Service value = is_end (behind (front_entity value))
+is_value kind.Router value = is_end (behind (front_router value))
+is_value kind.Link value = is_end (behind (front_link value))
+is_value kind.ServicePolicy value = is_end (behind (front_service_policy value))
+is_value kind.EdgeRouterPolicy value = is_end (behind (front_router_policy value))
+is_value kind.ServiceEdgeRouterPolicy value = is_end (behind (front_router_policy value))
+is_value kind.Terminator value = is_end (behind (front_terminator value))
+is_value kind.Circuit value = is_end (behind (front_circuit value))
+is_value kind.Attribute value = false
+
+-- Whether what follows a table in a key, and a value, are those of a row in the table.
+abbrev pub is_row_in : RowTable → List ℕ → List ℕ → Bool
+is_row_in Next rest value = is_some (alone (kept is_kind front_byte) rest) && is_some (alone (kept is_next front_long) value)
+is_row_in Setting rest value = (length rest == 0) && is_some (alone (kept is_setting front_long) value)
+is_row_in (Records k) rest value = is_some (alone front_number rest) && is_value k value
+is_row_in (Counts r) rest value = is_some (alone (both front_number front_number) rest) && is_some (alone (kept is_positive front_long) value)
 
 -- A fault says that nothing is read, unless memory was wanting.
 abbrev pub Fails : {Y : Type 0} → RowFault → Option Y → Type 0

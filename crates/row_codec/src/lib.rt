@@ -4,12 +4,17 @@
 
 mod batches;
 mod changes;
+mod checking;
 mod faults;
 mod fields;
 mod keys;
 mod laws;
+mod name_forms;
+mod reading;
+mod row_building;
 mod rows;
 mod spelling;
+mod tables;
 mod values;
 mod worked;
 mod worked_spellings;
@@ -18,8 +23,11 @@ mod writing;
 pub use batches::{batch_of, read_batch, write_batch};
 pub use changes::{Batch, Change, Changes, Op};
 pub use faults::RowFault;
-pub use laws::{batches_of_changes, one_batch};
+pub use laws::{batches_of_changes, one_batch, one_row};
 pub use rows::Row;
 pub use spelling::{read_row, write_row};
 pub use worked::{worked_differences, worked_rows};
-pub use worked_spellings::{worked_batches, worked_changes, worked_no_batches};
+pub use worked_spellings::{
+    worked_batches, worked_changes, worked_more_row_spellings, worked_no_batches, worked_no_rows,
+    worked_row_spellings,
+};

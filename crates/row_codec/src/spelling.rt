@@ -1,10 +1,12 @@
-ghost use Rattle.std.specs.Prelude.{◌≡◌, true, IfOk, IsErrOf};
+ghost use Rattle.std.specs.Prelude.{◌≡◌, ◌↔◌, true, IfOk, IsErrOf};
 ghost use Rattle.row_codec.specs.declared.rows.Row.{Row};
 ghost use Rattle.row_codec.specs.RowKeys.{key_bytes};
 ghost use Rattle.row_codec.specs.RowForm.{is_row, key_of, value_of, SpellsRow};
 
+use crate::checking::is_spelled;
 use crate::faults::RowFault;
 use crate::keys::write_key;
+use crate::row_building::build_row;
 use crate::rows::Row;
 use crate::values::push_value;
 use ctrl_model::Bytes;
@@ -22,10 +24,13 @@ pub fn write_row(alloc: Global, row: &Row) -> Result<(Bytes, Bytes), AllocError>
 }
 
 /// The row that a key and a value spell. `BadRow` comes exactly where they spell none; `BadBatch` never comes.
-pub fn read_row(_alloc: Global, _key: &[u8], _value: &[u8]) -> Result<Row, RowFault>
-    ensures read { IfOk result (λ row. SpellsRow _key.now _value.now row) }
-    ensures bad { IsErrOf result RowFault.BadRow → (row : Row) → SpellsRow _key.now _value.now row → ⊥ }
+pub fn read_row(alloc: Global, key: &[u8], value: &[u8]) -> Result<Row, RowFault>
+    ensures read { IfOk result (λ row. SpellsRow key.now value.now row) }
+    ensures bad { IsErrOf result RowFault.BadRow ↔ ((row : Row) → SpellsRow key.now value.now row → ⊥) }
     ensures never { IsErrOf result RowFault.BadBatch → ⊥ }
 {
-    Err(RowFault::NoMemory)
+    if !is_spelled(key, value) {
+        return Err(RowFault::BadRow);
+    }
+    build_row(alloc, key, value)
 }

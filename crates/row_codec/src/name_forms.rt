@@ -1,0 +1,52 @@
+ghost use Rattle.std.specs.Prelude.{◌≡◌, IfOk};
+ghost use Rattle.std.specs.List.{list_all};
+ghost use Rattle.ctrl_model.specs.NameForm.{is_name, is_name_byte, is_instance};
+
+use ctrl_model::{Instance, Name};
+use std::alloc::{AllocError, Global};
+
+fn is_name_byte(byte: u8) -> bool
+    ensures { result ≡ is_name_byte byte }
+{
+    byte.is_ascii_alphanumeric() || byte == b'.' || byte == b'_' || byte == b'-'
+}
+
+fn all_of_names(bytes: &[u8]) -> bool
+    ensures { result ≡ list_all is_name_byte bytes.now }
+{
+    bytes.iter().all(|byte| is_name_byte(*byte))
+}
+
+/// Whether the bytes are a name. No memory is taken.
+pub(crate) fn has_name_form(bytes: &[u8]) -> bool
+    ensures { result ≡ is_name bytes.now }
+{
+    !bytes.is_empty() && bytes.len() <= 64 && all_of_names(bytes)
+}
+
+/// Whether the bytes are an instance. No memory is taken.
+pub(crate) fn has_instance_form(bytes: &[u8]) -> bool
+    ensures { result ≡ is_instance bytes.now }
+{
+    bytes.is_empty() || has_name_form(bytes)
+}
+
+/// The name that the bytes are.
+pub(crate) fn named(alloc: Global, bytes: &[u8]) -> Result<Name, AllocError>
+    ensures { IfOk result (λ name. name ≡ bytes.now) }
+{
+    match Name::of(alloc, bytes) {
+        Ok(name) => Ok(name),
+        Err(_) => Err(AllocError),
+    }
+}
+
+/// The instance that the bytes are.
+pub(crate) fn instance_named(alloc: Global, bytes: &[u8]) -> Result<Instance, AllocError>
+    ensures { IfOk result (λ instance. instance ≡ bytes.now) }
+{
+    match Instance::of(alloc, bytes) {
+        Ok(instance) => Ok(instance),
+        Err(_) => Err(AllocError),
+    }
+}
