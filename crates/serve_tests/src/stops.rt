@@ -85,7 +85,13 @@ fn keeps_a_failed_write_pending(rt: HostRuntime) -> Result<(), Fail> {
 }
 
 /// What a stop leaves of the first slot behind a first call, where a drawn part is kept.
-fn drawn(alloc: Global, desk: &MemDesk, choice: u64) -> Result<Vec<u8>, AllocError> {
+fn drawn(
+    rt: &impl Abort,
+    alloc: Global,
+    desk: &MemDesk,
+    choice: u64,
+) -> Result<Vec<u8>, AllocError> {
+    assert!(rt; 1 <= desk.moments());
     let (images, _) = desk.stopped(alloc, 1, choice)?;
     Ok(images.zero)
 }
@@ -97,8 +103,8 @@ fn is_torn(
     desk: &MemDesk,
     choice: u64,
 ) -> Result<bool, AllocError> {
-    let zero = drawn(alloc, desk, choice)?;
-    let again = drawn(alloc, desk, choice)?;
+    let zero = drawn(rt, alloc, desk, choice)?;
+    let again = drawn(rt, alloc, desk, choice)?;
     assert_eq!(rt; again.as_slice(), zero.as_slice());
     assert!(rt; zero.len() >= 3 && zero.len() <= 5);
     assert_eq!(rt; zero.first(), Some(&b'a'));

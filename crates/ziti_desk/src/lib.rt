@@ -18,7 +18,7 @@ mod stopping;
 
 pub use files::{FileDesk, FileSource};
 pub use folder::Paths;
-pub use laws::{pending_until_synced, worked_images};
+pub use laws::{pending_until_synced, worked_images, worked_moments, worked_pieces};
 pub use mem_desk::{MemDesk, Room};
 pub use mem_parts::Images;
 pub use mem_source::MemSource;
