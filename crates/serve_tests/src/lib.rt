@@ -13,5 +13,3 @@ mod desks;
 mod model_rows;
 #[cfg(test)]
 mod runs;
-#[cfg(test)]
-mod stops;

@@ -7,7 +7,7 @@ use ziti_desk::{Images, MemDesk, Room};
 use ziti_outside::{Desk, Part};
 
 /// A desk of which the first slot reads `abc`, with room for some calls, and which fails at these, counted from 0.
-fn desk(alloc: Global, failing: &[u32]) -> Result<MemDesk, AllocError> {
+pub(crate) fn desk(alloc: Global, failing: &[u32]) -> Result<MemDesk, AllocError> {
     let room = Room {
         file_bytes: 8,
         said_bytes: 16,
