@@ -5,6 +5,7 @@ pub mod PlainPathLaws
 pub mod BestLaws
 pub mod CandidateLaws
 pub mod RuleLaws
+pub mod DenialLaws
 pub mod NumberLaws
 pub mod CostLaws
 pub mod ClaimLaws

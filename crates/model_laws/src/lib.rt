@@ -10,7 +10,7 @@ mod worked_laws;
 
 pub use route_laws::{
     claimed_route, each_path, explanations_are_justified, mirrored_walks, no_better, plain_path,
-    the_best, the_rule,
+    the_best, the_denial, the_rule,
 };
 pub use state_laws::{
     absent_pairs_count_nothing, names_find_their_records, next_numbers_have_an_end,
