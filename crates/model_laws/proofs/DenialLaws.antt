@@ -9,7 +9,7 @@ use Rattle.ctrl_model.specs.declared.refusals.Denial.TheVariants.{UnknownIdentit
 use Rattle.ctrl_model.specs.Membership.{Among}
 use Rattle.ctrl_model.specs.Matches.{is_nothing}
 use Rattle.ctrl_model.specs.State.{Terminator}
-use Rattle.ctrl_model.specs.Networks.{Network, is_shared, is_counted, is_in_service, counted, admissible}
+use Rattle.ctrl_model.specs.Networks.{Network, is_shared, is_counted, counted, admissible}
 use Rattle.ctrl_model.specs.Choices.{Ask, Wanted, Any, Absent, One, Candidate, IsIngress, IsAdmissible, IsCandidate, is_wanted, is_absent, shared, ingresses, candidates_for, first_denial, failing, first_rule}
 use Rattle.ctrl_model.proofs.Members.{by_filter, Among-filter, by_something, something, empty_list}
 use Rattle.model_laws.specs.Denials.{AreKnown, IsAddressed, MayDial, IsSharedRouter, HasSharedRouter, MayEnter, IsCounted, HasTerminator, MayEnd, IsDeniedFor, IsDenied}
@@ -168,8 +168,10 @@ module _ (w : Network) (ask : Ask) (i s : ℕ) (known : AreKnown ask i s) where
       → FailsFirst (failing w ask i s) d
   after_end d k r g x h f =
       after_enter d k r g
-      (inr (something (counted w s ask.instance) x (Among-counted w s ask.instance x (admissible-counted x h)),
-      inr (something (admissible w s ask.instance) x (Among-admissible w s ask.instance x h), f)))
+      (inr (
+        something (counted w s ask.instance) x (Among-counted w s ask.instance x (admissible-counted x h)),
+        inr (something (admissible w s ask.instance) x (Among-admissible w s ask.instance x h), f),
+      ))
 
   at_end : MayDial w ask i s → (c : Candidate) → IsCandidate w ask c → w.full ≡ true → FailsFirst (failing w ask i s) CircuitsFull
   at_end may c k full =
@@ -193,8 +195,10 @@ module _ (w : Network) (ask : Ask) (i s : ℕ) (known : AreKnown ask i s) where
       (inl (is_nothing-from (counted w s ask.instance) (λ e m. p.1 e (by_counted w s ask.instance e m)), refl))
   fails NoAdmissibleTerminator p =
       after_enter NoAdmissibleTerminator p.0.may.may p.0.may.router p.0.may.enters
-      (inr (something (counted w s ask.instance) p.0.terminator (Among-counted w s ask.instance p.0.terminator p.0.counts),
-      inl (is_nothing-from (admissible w s ask.instance) (λ e m. p.1 e (by_admissible w s ask.instance e m)), refl)))
+      (inr (
+        something (counted w s ask.instance) p.0.terminator (Among-counted w s ask.instance p.0.terminator p.0.counts),
+        inl (is_nothing-from (admissible w s ask.instance) (λ e m. p.1 e (by_admissible w s ask.instance e m)), refl),
+      ))
   fails NoPath p =
       after_end NoPath p.0.may.may p.0.may.router p.0.may.enters p.0.terminator p.0.ends
       (inl (is_nothing-from (candidates_for w ask i s) (λ c m. p.1 c (by_candidates_for w ask i s c known.who known.what m)), refl))

@@ -12,6 +12,7 @@ pub mod ClaimLaws
 pub mod LeastCostLaws
 pub mod ExplanationLaws
 pub mod KindLaws
+pub mod AbsentRecords
 pub mod NamedLaws
 pub mod RefusalLaws
 pub mod SettleLaws
