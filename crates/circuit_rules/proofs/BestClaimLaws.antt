@@ -1,17 +1,17 @@
 -- Laws on justified claims in the network of a view: its costs are small, so that a justified claim is the best, and the explanation
 -- of a request's best candidate is a justified claim.
-use Rattle.std.proofs.Common.{◌≡◌, ℕ, ◌+◌, ◌≤◌, max, ◌&&◌, nat_lt, nat_le, true, length, Bool, None, Some, Result, Ok, Err, IfOk, unwrap_or, sym, ◌∙◌, ap, subst, arith, lt-ltb}
+use Rattle.std.proofs.Common.{◌≡◌, ℕ, ◌+◌, ◌<◌, ◌≤◌, max, ◌&&◌, nat_lt, nat_le, true, length, Bool, Some, Result, Ok, Err, IfOk, unwrap_or, sym, ◌∙◌, ap, subst, arith, lt-ltb}
 use Rattle.std.proofs.lemmas.Bool.{and_from, le-leb}
 use Rattle.std.specs.List.{list_all}
 use Rattle.std.specs.declared.alloc.AllocError.{AllocError}
 use Rattle.ctrl_model.specs.declared.kinds.RouterSeen.{RouterSeen}
 use Rattle.ctrl_model.specs.declared.claims.Explanation.{Explanation}
 use Rattle.ctrl_model.specs.CommandForm.{is_cost, is_link_cost, is_latency}
-use Rattle.ctrl_model.specs.Numbered.{Between, numbers}
+use Rattle.ctrl_model.specs.Numbered.{numbers}
 use Rattle.ctrl_model.specs.State.{Link}
 use Rattle.ctrl_model.specs.PlainPaths.{NoneTwice}
-use Rattle.ctrl_model.specs.Networks.{Network, link_cost, entry_cost}
-use Rattle.ctrl_model.specs.Choices.{Ask, Candidate, IsCandidate, first_rule, best}
+use Rattle.ctrl_model.specs.Networks.{link_cost, entry_cost}
+use Rattle.ctrl_model.specs.Choices.{Ask, IsCandidate}
 use Rattle.ctrl_model.specs.Claims.{justified, explanation_of}
 use Rattle.ctrl_model.proofs.Tests.{three_parts, in_bounds}
 use Rattle.ctrl_model.proofs.Members.{list_all-among, list_all-from_among}
@@ -20,10 +20,9 @@ use Rattle.model_laws.proofs.CandidateLaws.{best-is}
 use Rattle.model_laws.proofs.ClaimLaws.{IsJustified, justified-parts, justified-unbeaten, justified-candidate}
 use Rattle.model_laws.proofs.ExplanationLaws.{best-justified}
 use Rattle.model_laws.proofs.NumberLaws.{Between-none_twice}
-use Rattle.fabric_graph.specs.FabricTables.{FabricSeen}
 use Rattle.fabric_graph.specs.FabricRules.{KeepsLinks, has_costs}
 use Rattle.fabric_graph.specs.Routers.{AreRouters}
-use Rattle.terminators.specs.TermTables.{TermTables, KeepsTerms}
+use Rattle.terminators.specs.TermTables.{KeepsTerms}
 use Rattle.circuit_rules.specs.declared.views.View.{View}
 use Rattle.circuit_rules.specs.Views.{network}
 use Rattle.circuit_rules.specs.BestClaims.{IsBestClaim}
@@ -83,7 +82,7 @@ best_claim v ask claim kept holds = by_parts (justified-parts (network v) ask cl
 -- so is one that is found to be justified
 pub found_best : (v : View) (ask : Ask) (claim : Explanation) (o : Result Bool AllocError) → IsKept v → IfOk o (λ yes. yes ≡ justified (network v) ask claim)
     → IfOk o (λ yes. yes ≡ true → IsBestClaim (network v) ask claim)
-found_best v ask claim (Ok yes) kept is = λ t. best_claim v ask claim kept (sym is ∙ t)
+found_best v ask claim (Ok certified) kept is = λ t. best_claim v ask claim kept (sym is ∙ t)
 found_best v ask claim (Err fault) kept is = tt
 
 -- an explanation is a justified claim

@@ -30,11 +30,11 @@ returns-clause-explained c =
 pub returns-clause-justified : goal.returns-clause-justified
 returns-clause-justified c =
     found_justified c.args.view.now (asked c.args.ask.now) c.explanation.result
-    (record { links = c.next_link.ensures.numbers; routers = c.requires.routers; terminators = c.next-next.ensures.keeps })
+    (record { links = c.next-next_link.ensures.numbers; routers = c.requires.routers; terminators = c.next-next.ensures.keeps })
     (returns-clause-explained c)
 
 pub returns-clause-best : goal.returns-clause-best
 returns-clause-best c =
     explained_best c.args.view.now (asked c.args.ask.now) c.explanation.result
-    (record { links = c.next_link.ensures.numbers; routers = c.requires.routers; terminators = c.next-next.ensures.keeps })
+    (record { links = c.next-next_link.ensures.numbers; routers = c.requires.routers; terminators = c.next-next.ensures.keeps })
     (returns-clause-explained c)
