@@ -1,10 +1,10 @@
-ghost use Rattle.std.specs.Prelude.{◌≡◌, IfOk, true, map};
+ghost use Rattle.std.specs.Prelude.{◌≡◌, IfOk, IsErrOf, true, map};
 ghost use Rattle.ctrl_model.specs.Claims.{justified};
 ghost use Rattle.ctrl_model.specs.Networks.{admissible};
 ghost use Rattle.fabric_graph.specs.Routers.{AreRouters};
 ghost use Rattle.circuit_rules.specs.Views.{network, asked};
 ghost use Rattle.circuit_rules.specs.BestClaims.{IsBestClaim};
-ghost use Rattle.circuit_rules.specs.Decisions.{Grants};
+ghost use Rattle.circuit_rules.specs.Decisions.{Grants, MayWantMemory};
 ghost use Rattle.circuit_rules.specs.Explanations.{IsExplained, Explains};
 ghost use Rattle.circuit_rules.specs.Offers.{offer_of};
 ghost use Rattle.circuit_rules.specs.Reached.{explained};
@@ -70,6 +70,8 @@ fn explain_route(
 pub fn explain(alloc: Global, view: &View, ask: &Ask) -> Result<Explanation, DecideFault>
     requires { AreRouters view.now.routers.now }
     ensures explains { Explains (network view.now) (asked ask.now) result }
+    // Memory can be wanting only where no rule fails that needs none.
+    ensures memory { IsErrOf result DecideFault.NoMemory → MayWantMemory (network view.now) (asked ask.now) }
     // An explanation is a justified claim, so that no candidate is better.
     ensures justified { IfOk result (λ e. justified (network view.now) (asked ask.now) e ≡ true) }
     ensures best { IfOk result (IsBestClaim (network view.now) (asked ask.now)) }
