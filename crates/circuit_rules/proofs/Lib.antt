@@ -11,3 +11,4 @@ pub mod SettledLaws
 pub mod PartLaws
 pub mod ReachLaws
 pub mod GrantLaws
+pub mod BestClaimLaws

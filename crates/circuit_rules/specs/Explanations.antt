@@ -16,7 +16,7 @@ pub record IsExplained (w : Network) (ask : Ask) (e : Explanation) : Type 0 wher
   pub is_best : best w ask ≡ Some chosen
   pub explained : e ≡ explanation_of w ask (unwrap_or ask.service 0) chosen
 
--- What explains: an explanation, or the first rule that fails; of want of memory nothing is said.
+-- What explains: an explanation, or the first rule that fails. Of want of memory a clause of its own says when it may come.
 abbrev pub Explains : Network → Ask → Result Explanation DecideFault → Type 0
 Explains w ask (Ok e) = IsExplained w ask e
 Explains w ask (Err (fault.Denied d)) = first_rule w ask ≡ Some d

@@ -5,3 +5,4 @@ pub mod Offers
 pub mod Searched
 pub mod Parts
 pub mod Reached
+pub mod BestClaims

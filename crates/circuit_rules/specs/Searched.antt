@@ -53,6 +53,10 @@ end_rules w ask i s = entry_rules w ask.ingress i s ++ offer_rules w s ask.insta
 abbrev pub way_rules : Network → Ask → ℕ → ℕ → List (Bool × Denial)
 way_rules w ask i s = (is_nothing (candidates_for w ask i s), NoPath) ∷ (w.full, CircuitsFull) ∷ []
 
+-- A request passes the rules that take no memory: it names no absent ingress, and its identity is granted Dial on its service.
+abbrev pub PassesAtOnce : Network → Wanted → ℕ → ℕ → Type 0
+PassesAtOnce w ingress i s = (is_absent ingress ≡ false) × ((w.dial i s == 0) ≡ false)
+
 -- What comes of a part of the rules: something where none of them fails, and else the denial of the first that fails.
 abbrev pub Passes : {X : Type 0} → List (Bool × Denial) → (X → Type 0) → Result X DecideFault → Type 0
 Passes rules P (Ok x) = (first_denial rules ≡ None) × P x

@@ -1,11 +1,11 @@
-ghost use Rattle.std.specs.Prelude.{◌≡◌, ◌<◌, ◌≤◌, All, length, IfOk};
+ghost use Rattle.std.specs.Prelude.{◌≡◌, ◌<◌, ◌≤◌, All, length, IfOk, IsErrOf};
 ghost use Rattle.ctrl_model.specs.Claims.{no_path};
 ghost use Rattle.path_certificate.specs.Graphs.{potential};
 ghost use Rattle.path_search.specs.Searches.{IsLeast};
 ghost use Rattle.fabric_graph.specs.Routers.{AreRouters};
 ghost use Rattle.circuit_rules.specs.Views.{network, asked};
-ghost use Rattle.circuit_rules.specs.Decisions.{Decides};
-ghost use Rattle.circuit_rules.specs.Searched.{Passes, end_rules, costs_to, GoesFirst, IsSearched, IsBestWay};
+ghost use Rattle.circuit_rules.specs.Decisions.{Decides, MayWantMemory};
+ghost use Rattle.circuit_rules.specs.Searched.{Passes, PassesAtOnce, end_rules, costs_to, GoesFirst, IsSearched, IsBestWay};
 
 use crate::choosing::{Choice, first_of_all};
 use crate::costs::costs;
@@ -79,7 +79,8 @@ fn best_route(
     requires routers { AreRouters view.now.routers.now }
     requires who { (asked ask.now).identity ≡ Some identity.0 }
     requires what { (asked ask.now).service ≡ Some service.0 }
-    ensures { Passes (end_rules (network view.now) (asked ask.now) identity.0 service.0) (IsBestWay (network view.now) (asked ask.now) identity.0 service.0) result }
+    ensures best { Passes (end_rules (network view.now) (asked ask.now) identity.0 service.0) (IsBestWay (network view.now) (asked ask.now) identity.0 service.0) result }
+    ensures memory { IsErrOf result DecideFault.NoMemory → PassesAtOnce (network view.now) (asked ask.now).ingress identity.0 service.0 }
 {
     let ingresses = allowed_ingresses(alloc, view, ask.ingress, identity, service)?;
     let offers = allowed_offers(alloc, view, service, &ask.instance)?;
@@ -93,7 +94,9 @@ fn best_route(
 /// (docs/RULES.md, "Circuits").
 pub fn decide(alloc: Global, view: &View, ask: &Ask) -> Result<Route, DecideFault>
     requires { AreRouters view.now.routers.now }
-    ensures { Decides (network view.now) (asked ask.now) result }
+    ensures decides { Decides (network view.now) (asked ask.now) result }
+    // Memory can be wanting only where no rule fails that needs none.
+    ensures memory { IsErrOf result DecideFault.NoMemory → MayWantMemory (network view.now) (asked ask.now) }
 {
     let Some(identity) = ask.identity else {
         return Err(DecideFault::Denied(Denial::UnknownIdentity));

@@ -1,8 +1,10 @@
-ghost use Rattle.std.specs.Prelude.{◌≡◌, IfOk, map};
+ghost use Rattle.std.specs.Prelude.{◌≡◌, IfOk, IsErrOf, true, map};
+ghost use Rattle.ctrl_model.specs.Claims.{justified};
 ghost use Rattle.ctrl_model.specs.Networks.{admissible};
 ghost use Rattle.fabric_graph.specs.Routers.{AreRouters};
 ghost use Rattle.circuit_rules.specs.Views.{network, asked};
-ghost use Rattle.circuit_rules.specs.Decisions.{Grants};
+ghost use Rattle.circuit_rules.specs.BestClaims.{IsBestClaim};
+ghost use Rattle.circuit_rules.specs.Decisions.{Grants, MayWantMemory};
 ghost use Rattle.circuit_rules.specs.Explanations.{IsExplained, Explains};
 ghost use Rattle.circuit_rules.specs.Offers.{offer_of};
 ghost use Rattle.circuit_rules.specs.Reached.{explained};
@@ -51,9 +53,12 @@ fn explain_route(
 ) -> Result<Explanation, AllocError>
     requires routers { AreRouters view.now.routers.now }
     requires granted { Grants (network view.now) (asked ask.now) route }
-    ensures { IfOk result (IsExplained (network view.now) (asked ask.now)) }
+    ensures explained { IfOk result (IsExplained (network view.now) (asked ask.now)) }
+    ensures justified { IfOk result (λ e. justified (network view.now) (asked ask.now) e ≡ true) }
+    ensures best { IfOk result (IsBestClaim (network view.now) (asked ask.now)) }
 {
     let _next = view.terminators.next();
+    let _next_link = view.fabric.next();
     let service = ask.service.unwrap();
     let offer = offer_at(view.terminators, route.terminator).unwrap();
     let most = place_of(offer.precedence);
@@ -64,7 +69,12 @@ fn explain_route(
 /// claims").
 pub fn explain(alloc: Global, view: &View, ask: &Ask) -> Result<Explanation, DecideFault>
     requires { AreRouters view.now.routers.now }
-    ensures { Explains (network view.now) (asked ask.now) result }
+    ensures explains { Explains (network view.now) (asked ask.now) result }
+    // Memory can be wanting only where no rule fails that needs none.
+    ensures memory { IsErrOf result DecideFault.NoMemory → MayWantMemory (network view.now) (asked ask.now) }
+    // An explanation is a justified claim, so that no candidate is better.
+    ensures justified { IfOk result (λ e. justified (network view.now) (asked ask.now) e ≡ true) }
+    ensures best { IfOk result (IsBestClaim (network view.now) (asked ask.now)) }
 {
     let route = decide(alloc, view, ask)?;
     let explanation = explain_route(alloc, view, ask, route)?;

@@ -1,8 +1,8 @@
-ghost use Rattle.std.specs.Prelude.{◌≡◌, ◌&&◌, filter, IfOk};
+ghost use Rattle.std.specs.Prelude.{◌≡◌, ◌&&◌, filter, IfOk, IsErrOf};
 ghost use Rattle.ctrl_model.specs.Choices.{is_wanted, shared, ingresses};
 ghost use Rattle.ctrl_model.specs.Networks.{is_shared};
 ghost use Rattle.circuit_rules.specs.Views.{network, wanted_of};
-ghost use Rattle.circuit_rules.specs.Searched.{Passes, entry_rules};
+ghost use Rattle.circuit_rules.specs.Searched.{Passes, PassesAtOnce, entry_rules};
 
 use crate::views::{DecideFault, View, Wanted};
 use ctrl_model::{Denial, IdentityNo, RouterNo, RouterSeen, ServiceNo};
@@ -78,7 +78,8 @@ pub fn allowed_ingresses(
     identity: IdentityNo,
     service: ServiceNo,
 ) -> Result<Vec<RouterSeen>, DecideFault>
-    ensures { Passes (entry_rules (network view.now) (wanted_of ingress) identity.0 service.0) (λ v. v.items ≡ ingresses (network view.now) (wanted_of ingress) identity.0 service.0) result }
+    ensures allowed { Passes (entry_rules (network view.now) (wanted_of ingress) identity.0 service.0) (λ v. v.items ≡ ingresses (network view.now) (wanted_of ingress) identity.0 service.0) result }
+    ensures memory { IsErrOf result DecideFault.NoMemory → PassesAtOnce (network view.now) (wanted_of ingress) identity.0 service.0 }
 {
     if ingress == Wanted::Absent {
         return Err(DecideFault::Denied(Denial::UnknownRouter));

@@ -1,7 +1,9 @@
-ghost use Rattle.std.specs.Prelude.{◌≡◌, ◌==◌, ◌&&◌, IfOk};
+ghost use Rattle.std.specs.Prelude.{◌≡◌, ◌==◌, ◌&&◌, true, IfOk};
 ghost use Rattle.std.specs.List.{list_any};
 ghost use Rattle.ctrl_model.specs.Claims.{is_route, justified, justified_for};
 ghost use Rattle.ctrl_model.specs.Numbered.{numbers};
+ghost use Rattle.fabric_graph.specs.Routers.{AreRouters};
+ghost use Rattle.circuit_rules.specs.BestClaims.{IsBestClaim};
 ghost use Rattle.circuit_rules.specs.Views.{network, asked};
 ghost use Rattle.circuit_rules.specs.Parts.{term_offered, is_entitled_by, is_complete_by, none_beats_by, is_justified_by};
 
@@ -135,13 +137,8 @@ fn is_justified(
     )
 }
 
-/// Whether a claimed route is justified for a request (docs/RULES.md, "Explanations and claims").
-pub fn verify(
-    alloc: Global,
-    view: &View,
-    ask: &Ask,
-    claim: &Explanation,
-) -> Result<bool, AllocError>
+// Whether a claimed route is justified for a request: its identity, its service and its terminator are looked up.
+fn judge(alloc: Global, view: &View, ask: &Ask, claim: &Explanation) -> Result<bool, AllocError>
     ensures { IfOk result (λ yes. yes ≡ justified (network view.now) (asked ask.now) claim.now) }
 {
     let Some(identity) = ask.identity else {
@@ -154,4 +151,20 @@ pub fn verify(
         Some(offer) => is_justified(alloc, view, ask, claim, identity, service, offer),
         None => Ok(false),
     }
+}
+
+/// Whether a claimed route is justified for a request (docs/RULES.md, "Explanations and claims").
+pub fn verify(
+    alloc: Global,
+    view: &View,
+    ask: &Ask,
+    claim: &Explanation,
+) -> Result<bool, AllocError>
+    ensures justified { IfOk result (λ yes. yes ≡ justified (network view.now) (asked ask.now) claim.now) }
+    // After yes the claimed route is a candidate, and none has a better precedence, or the same and a lower total.
+    ensures best { AreRouters view.now.routers.now → IfOk result (λ yes. yes ≡ true → IsBestClaim (network view.now) (asked ask.now) claim.now) }
+{
+    let _next = view.terminators.next();
+    let _next_link = view.fabric.next();
+    judge(alloc, view, ask, claim)
 }

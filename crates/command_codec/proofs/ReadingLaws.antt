@@ -1,17 +1,41 @@
 -- What a reading that says something is made of: each field says something, and the object has no other key.
-use Rattle.std.proofs.Common.{◌≡◌, Bool, true, false, cond, List, Option, Some, None, Result, Ok, Err, refl, ap, ◌∙◌, subst}
+use Rattle.std.proofs.Common.{◌≡◌, Bool, true, false, cond, List, Option, Some, None, Result, Ok, Err, refl, sym, ap, ◌∙◌, subst}
 use Rattle.std.specs.Prelude.{⊤, option_and_then}
 use Rattle.std.specs.Option.{ok_or}
+use Rattle.std.specs.Result.{IsErrAnd}
 use Rattle.serde_json.specs.Data.{Data}
 use Rattle.ctrl_model.specs.declared.commands.Command.{Command}
 use Rattle.ctrl_model.specs.declared.refusals.Field.{Field}
 use Rattle.json_body.specs.declared.fields.FieldFault.{FieldFault}
-use Rattle.json_body.specs.declared.fields.FieldFault.TheVariants.{Missing, WrongKind, Unknown}
+use Rattle.json_body.specs.declared.fields.FieldFault.TheVariants.{Missing, WrongKind, Unknown, NoMemory}
 use Rattle.json_body.specs.FieldKinds.{value_of, required_from, required, optional_from, optional, has_only, finished}
 use Rattle.command_codec.specs.BodyObjects.{Reader, ◌>>=◌, with_cause, said_by}
 
 pub ok_same : {A E : Type 0} (x y : A) → ◌≡◌ {A = Result A E} (Ok x) (Ok y) → x ≡ y
 ok_same x y e = cc
+
+-- ---- want of memory
+
+-- Whether a field that is required is there and of its kind takes no memory.
+required-never_wanting : {A : Type 0} (kind : Data → Option A) (field : Field) (o : Data) → required kind field o ≡ Err NoMemory → ⊥
+required-never_wanting {A} kind field o e = by (value_of field o) e
+  where
+    said : (d : Data) (x : Option A) → ◌≡◌ {A = Result A FieldFault} (ok_or x (WrongKind field)) (Err NoMemory) → ⊥
+    said d None e = absurd (cc)
+    said d (Some x) e = absurd (cc)
+
+    by : (v : Option Data) → required_from field kind v ≡ Err NoMemory → ⊥
+    by None e = absurd (cc)
+    by (Some d) e = said d (kind d) e
+
+-- So what hands its fault on tells no want of memory.
+pub never_wanting : {A T : Type 0} (kind : Data → Option A) (field : Field) (o : Data) (r : Result T FieldFault) (fault : FieldFault) → IsErrAnd r (λ y. y ≡ fault)
+    → required kind field o ≡ Err fault → r ≡ Err NoMemory → ⊥
+never_wanting kind field o (Ok x) fault handed said wanting = absurd handed
+never_wanting {T = T} kind field o (Err y) fault handed said wanting = required-never_wanting kind field o (said ∙ ap Err (sym handed ∙ same y NoMemory wanting))
+  where
+    same : (a b : FieldFault) → ◌≡◌ {A = Result T FieldFault} (Err a) (Err b) → a ≡ b
+    same a b e = cc
 
 -- ---- the object of a body
 

@@ -1,8 +1,8 @@
-ghost use Rattle.std.specs.Prelude.{◌≡◌, [], IfOk, option_map};
+ghost use Rattle.std.specs.Prelude.{◌≡◌, [], IfOk, IsOk, IsErrOf, option_map};
 ghost use Rattle.serde_json.specs.View.{items_view};
 ghost use Rattle.json_body.specs.FieldKinds.{object_of, required, optional};
 ghost use Rattle.role_expr.specs.NameRepeats.{without_repeats};
-ghost use Rattle.json_body.specs.FieldKinds.{as_name};
+ghost use Rattle.json_body.specs.FieldKinds.{as_name, as_list_of};
 ghost use Rattle.command_codec.specs.ItemLists.{each_of};
 ghost use Rattle.command_codec.specs.NameLists.{as_attributes};
 ghost use Rattle.command_codec.specs.ReadResults.{Gives};
@@ -32,7 +32,9 @@ fn names_in(alloc: Global, values: &[Value]) -> Result<Option<Names>, AllocError
 
 // The attributes that an object gives.
 pub(crate) fn attributes(alloc: Global, fields: &Fields) -> Result<Names, FieldFault>
-    ensures { Gives FieldFault.NoMemory (λ ns. ns) result (required as_attributes Field.Attributes (object_of fields.now)) }
+    ensures given { Gives FieldFault.NoMemory (λ ns. ns) result (required as_attributes Field.Attributes (object_of fields.now)) }
+    // Memory can be wanting only where the field is a list that is not too long.
+    ensures memory { IsErrOf result FieldFault.NoMemory → IsOk (required (as_list_of 64) Field.Attributes (object_of fields.now)) }
 {
     let values = fields.list(Field::Attributes, MOST_ATTRIBUTES)?;
     names_in(alloc, values)?.ok_or(FieldFault::WrongKind(Field::Attributes))

@@ -1,6 +1,6 @@
-ghost use Rattle.std.specs.Prelude.{◌≡◌, IfOk, option_map};
+ghost use Rattle.std.specs.Prelude.{◌≡◌, IfOk, IsOk, IsErrOf, option_map};
 ghost use Rattle.serde_json.specs.View.{items_view};
-ghost use Rattle.json_body.specs.FieldKinds.{object_of, required};
+ghost use Rattle.json_body.specs.FieldKinds.{as_list_of, object_of, required};
 ghost use Rattle.command_codec.specs.ItemLists.{each_of, as_each_of};
 ghost use Rattle.command_codec.specs.ReadResults.{Gives};
 
@@ -45,7 +45,9 @@ pub(crate) fn list<T: ListItem>(
     field: Field,
     most: usize,
 ) -> Result<Vec<T>, FieldFault>
-    ensures { Gives FieldFault.NoMemory (λ v. v.items) result (required (as_each_of most T.kind) field (object_of fields.now)) }
+    ensures given { Gives FieldFault.NoMemory (λ v. v.items) result (required (as_each_of most T.kind) field (object_of fields.now)) }
+    // Memory can be wanting only where the field is a list that is not too long.
+    ensures memory { IsErrOf result FieldFault.NoMemory → IsOk (required (as_list_of most) field (object_of fields.now)) }
 {
     let values = fields.list(field, most)?;
     each_in(alloc, values)?.ok_or(FieldFault::WrongKind(field))

@@ -1,4 +1,4 @@
-ghost use Rattle.std.specs.Prelude.{◌≡◌, [], IfOk, None, false};
+ghost use Rattle.std.specs.Prelude.{◌≡◌, [], IfOk, OnErr, IsSome, None, false};
 ghost use Rattle.serde_json.specs.Find.{as_bool};
 ghost use Rattle.ctrl_model.specs.declared.kinds.Precedence.TheVariants.{Normal};
 ghost use Rattle.json_body.specs.FieldKinds.{as_number_in, object_of, optional};
@@ -53,7 +53,8 @@ pub(crate) fn name_or_none(
 
 // The instance that some bytes are, if they are one.
 fn instance_of(alloc: Global, bytes: &[u8]) -> Result<Option<Instance>, AllocError>
-    ensures { IfOk result (λ i. i ≡ instance_of bytes.now) }
+    ensures instance { IfOk result (λ i. i ≡ instance_of bytes.now) }
+    ensures memory { OnErr result (IsSome (instance_of bytes.now)) }
 {
     match Instance::of(alloc, bytes) {
         Ok(instance) => Ok(Some(instance)),

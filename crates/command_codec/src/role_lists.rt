@@ -1,5 +1,6 @@
-ghost use Rattle.std.specs.Prelude.{◌≡◌, IfOk};
+ghost use Rattle.std.specs.Prelude.{◌≡◌, IfOk, OnErr, IsSome};
 ghost use Rattle.json_body.specs.FieldKinds.{object_of, required};
+ghost use Rattle.role_expr.specs.ReadRoles.{role_in};
 ghost use Rattle.command_codec.specs.RoleLists.{side_of, as_side};
 ghost use Rattle.command_codec.specs.ReadResults.{Gives};
 
@@ -13,6 +14,19 @@ use std::alloc::{AllocError, Global};
 // How many entries a role list may have as it is sent.
 const MOST_ROLES: usize = 64;
 
+// The role entry that some bytes are, if they are one.
+fn role_in(alloc: Global, bytes: &[u8]) -> Result<Option<Role>, AllocError>
+    ensures role { IfOk result (λ r. r ≡ role_in bytes.now) }
+    ensures memory { OnErr result (IsSome (role_in bytes.now)) }
+{
+    match read_role(alloc, bytes) {
+        Ok(role) => Ok(Some(role)),
+        Err(RoleFault::BadRole) => Ok(None),
+        Err(RoleFault::AllNotAlone) => unreachable!(),
+        Err(RoleFault::NoMemory) => Err(AllocError),
+    }
+}
+
 // A role entry.
 impl ListItem for Role {
     ghost use Rattle.command_codec.specs.RoleLists.{as_role};
@@ -23,18 +37,14 @@ impl ListItem for Role {
         let Some(text) = value.as_str() else {
             return Ok(None);
         };
-        // Of one entry AllNotAlone never comes.
-        match read_role(alloc, text.as_bytes()) {
-            Ok(role) => Ok(Some(role)),
-            Err(RoleFault::BadRole) => Ok(None),
-            Err(RoleFault::AllNotAlone | RoleFault::NoMemory) => Err(AllocError),
-        }
+        role_in(alloc, text.as_bytes())
     }
 }
 
 // The side of some role entries, if `#all` stands alone.
 fn side_of(alloc: Global, roles: &[Role]) -> Result<Option<Side>, AllocError>
-    ensures { IfOk result (λ s. s ≡ side_of roles.now) }
+    ensures side { IfOk result (λ s. s ≡ side_of roles.now) }
+    ensures memory { OnErr result (IsSome (side_of roles.now)) }
 {
     // Of entries that were read BadRole never comes.
     match role_expr::side_of(alloc, roles) {

@@ -7,12 +7,24 @@ use Rattle.ctrl_model.specs.CommandForm.{is_link_cost, is_latency}
 use Rattle.ctrl_model.specs.Numbered.{Table, with_new, edit_at, without, with_removed}
 use Rattle.ctrl_model.specs.State.{Link, link_named}
 use Rattle.ctrl_model.proofs.NumberedLaws.{length-with_last, length-filter-le}
-use Rattle.ctrl_model.proofs.TableLaws.{each_passes-with_last, each_passes-map, each_passes-filter}
+use Rattle.ctrl_model.proofs.TableLaws.{each_passes-more, each_passes-with_last, each_passes-map, each_passes-filter}
+use Rattle.record_tables.specs.Entries.{KeepsOrder}
 use Rattle.fabric_graph.specs.declared.fabric.FabricFault.{FabricFault}
 use Rattle.fabric_graph.specs.declared.fabric.FabricFault.TheVariants.{Exists, SameRouter, Full}
 use Rattle.fabric_graph.specs.FabricTables.{FabricSeen}
-use Rattle.fabric_graph.specs.FabricRules.{may_add, has_link_room}
+use Rattle.fabric_graph.specs.FabricRules.{may_add, has_link_room, has_costs, KeepsLinks}
 use Rattle.fabric_graph.specs.KeptLinks.{AreFit, is_fit}
+
+-- what a fabric keeps, by the order of its table and what is kept of each link
+pub keeps : (t : Table Link) (least : ℕ) → KeepsOrder t → AreFit t least → KeepsLinks (record { links = t; least = least })
+keeps t least order k = record {
+  first = order.first;
+  last = order.last;
+  ordered = order.ordered;
+  few = k.few;
+  costs = each_passes-more is_fit has_costs (λ l e. (and_parts (not (l.a == l.b)) (has_costs l) e).1) t.rows k.each;
+  setting = k.setting;
+}
 
 -- ---- when a link may be added
 

@@ -1,5 +1,5 @@
 -- The routers of a valid state are places of a graph.
-use Rattle.std.proofs.Common.{◌≡◌, ℕ, ◌+◌, true, ◌&&◌, List, [], ◌∷◌, map, refl, arith}
+use Rattle.std.proofs.Common.{◌≡◌, ℕ, ◌+◌, ◌==◌, true, not, ◌&&◌, List, [], ◌∷◌, map, refl, arith}
 use Rattle.std.proofs.lemmas.Bool.{and_parts, and_from}
 use Rattle.std.proofs.lemmas.List.{length-map}
 use Rattle.std.specs.List.{list_all}
@@ -9,10 +9,11 @@ use Rattle.ctrl_model.specs.CommandForm.{is_cost, are_attributes}
 use Rattle.ctrl_model.specs.NameForm.{is_name}
 use Rattle.ctrl_model.specs.Networks.{seen}
 use Rattle.ctrl_model.specs.Numbered.{Between}
-use Rattle.ctrl_model.specs.State.{State, Router}
-use Rattle.ctrl_model.specs.ValidState.{ValidState, is_valid_router, each_passes}
+use Rattle.ctrl_model.specs.State.{State, Router, Link}
+use Rattle.ctrl_model.specs.ValidState.{ValidState, is_valid_router, is_valid_link, each_passes}
 use Rattle.ctrl_model.proofs.NumberedLaws.{Between-more}
-use Rattle.fabric_graph.specs.FabricRules.{KeepsLinks}
+use Rattle.ctrl_model.proofs.TableLaws.{each_passes-more}
+use Rattle.fabric_graph.specs.FabricRules.{KeepsLinks, has_costs}
 use Rattle.fabric_graph.specs.Routers.{AreRouters, numbered, fabric_of}
 
 seen_ordered : (high : ℕ) (rows : List (ℕ × Router)) (low : ℕ) → Between low high rows → Between low high (map numbered (map seen rows))
@@ -27,10 +28,22 @@ seen_costs (x ∷ rows) e =
     and_from (is_cost x.1.cost) (list_all (λ (r : RouterSeen). is_cost r.cost) (map seen rows))
     (and_parts (are_attributes x.1.attributes) (is_cost x.1.cost) router.1).1 (seen_costs rows parts.1)
 
+-- the costs of a valid link are in their ranges
+valid_costs : (l : Link) → is_valid_link l ≡ true → has_costs l ≡ true
+valid_costs l e =
+    (and_parts (not (l.a == l.b)) (has_costs l) (and_parts (is_name l.name) (not (l.a == l.b) && has_costs l) e).1).1
+
 pub keeps_links : (s : State) → ValidState s → KeepsLinks (fabric_of s)
 keeps_links s v =
     let numbers = (v.kinds kind.Link).numbers in
-    record { first = numbers.first; last = numbers.last; ordered = numbers.ordered; few = numbers.few }
+    record {
+      first = numbers.first;
+      last = numbers.last;
+      ordered = numbers.ordered;
+      few = numbers.few;
+      costs = each_passes-more is_valid_link has_costs valid_costs s.links.rows (v.kinds kind.Link).each;
+      setting = v.setting;
+    }
 
 pub are_routers : (s : State) → ValidState s → AreRouters (map seen s.routers.rows)
 are_routers s v =

@@ -1,10 +1,12 @@
 -- When a link may be added, what is found, and what a fabric keeps (docs/RULES.md, "Commands on links", "Limits").
-use Rattle.std.specs.Prelude.{ℕ, ◌≤◌, ⊤, nat_lt, Bool, ◌==◌, ◌&&◌, cond, List, length, Ok, Err, is_some}
+use Rattle.std.specs.Prelude.{◌≡◌, ℕ, ◌≤◌, ⊤, nat_lt, Bool, true, ◌==◌, ◌&&◌, cond, List, length, Ok, Err, is_some}
 use Rattle.std.specs.declared.result.Result.{Result}
 use Rattle.std.specs.Option.{ok_or, option_map}
 use Rattle.ctrl_model.specs.declared.numbering.LinkNo.{LinkNo}
+use Rattle.ctrl_model.specs.CommandForm.{is_link_cost, is_latency}
 use Rattle.ctrl_model.specs.Numbered.{is_present, Between}
-use Rattle.ctrl_model.specs.State.{link_named}
+use Rattle.ctrl_model.specs.State.{Link, link_named}
+use Rattle.ctrl_model.specs.ValidState.{each_passes}
 use Rattle.fabric_graph.specs.declared.fabric.FabricFault.{FabricFault}
 use Rattle.fabric_graph.specs.declared.fabric.FabricFault.TheVariants.{Exists, Unknown, SameRouter, Full}
 use Rattle.fabric_graph.specs.FabricTables.{FabricSeen}
@@ -27,9 +29,16 @@ found name f = ok_or (option_map (λ n. record { 0 = n }) (link_named f.links.ro
 abbrev pub is_there : ℕ → FabricSeen → Bool
 is_there n f = is_present f.links.rows n
 
--- What a fabric keeps: the numbers ascend from 1 below the next one, which has an end, and at most 4,096 links are present.
+-- Whether what a path pays for a link is in its range: its cost, and the latencies that both ends report.
+abbrev pub has_costs : Link → Bool
+has_costs l = is_link_cost l.cost && (is_latency l.latency_a && is_latency l.latency_b)
+
+-- What a fabric keeps: the numbers ascend from 1 below the next one, which has an end, at most 4,096 links are present, what a path
+-- pays for each is in its range, and so is the least cost of entering a router.
 pub record KeepsLinks (f : FabricSeen) : Type 0 where
   pub first : 1 ≤ f.links.next
   pub last : f.links.next ≤ 4294967295
   pub ordered : Between 1 f.links.next f.links.rows
   pub few : length f.links.rows ≤ 4096
+  pub costs : each_passes has_costs f.links.rows ≡ true
+  pub setting : is_link_cost f.least ≡ true

@@ -106,7 +106,7 @@ impl Fabric {
     /// The number of the link that has the name. `Unknown` comes exactly where none has it.
     pub fn find(&self, name: &Name) -> Result<LinkNo, FabricFault>
         ensures found { result ≡ found name.now self.now }
-        // The numbers ascend from 1 below the next one, and the limit is kept.
+        // The numbers ascend from 1 below the next one, the limit is kept, and costs are in their ranges.
         ensures numbers { KeepsLinks self.now }
     {
         match self.links.find(name.bytes()) {
@@ -157,7 +157,7 @@ impl Fabric {
     /// The numbers of the links, ascending.
     pub fn numbers(&self, alloc: Global) -> Result<Numbers, AllocError>
         ensures all { IfOk result (λ ns. ns ≡ numbers self.now.links.rows) }
-        // The numbers ascend from 1 below the next one, and the limit is kept.
+        // The numbers ascend from 1 below the next one, the limit is kept, and costs are in their ranges.
         ensures numbers { KeepsLinks self.now }
     {
         self.links.numbers(alloc)
@@ -174,7 +174,7 @@ impl Fabric {
     /// The number that the next link gets, 1 in a new fabric.
     pub fn next(&self) -> u32
         ensures next { result ≡ self.now.links.next }
-        // The numbers ascend from 1 below it, and the limit is kept.
+        // The numbers ascend from 1 below it, the limit is kept, and costs are in their ranges.
         ensures numbers { KeepsLinks self.now }
     {
         self.links.next()

@@ -54,7 +54,7 @@ candidates-for w ask i s who what =
     ap (λ o. option_map_or (λ i. option_map_or (candidates_for w ask i) ask.service []) o []) who
     ∙ ap (λ o. option_map_or (candidates_for w ask i) o []) what
 
-by_candidates_for : (w : Network) (ask : Ask) (i s : ℕ) (c : Candidate) → ask.identity ≡ Some i → ask.service ≡ Some s → Among c (candidates_for w ask i s) → IsCandidate w ask c
+pub by_candidates_for : (w : Network) (ask : Ask) (i s : ℕ) (c : Candidate) → ask.identity ≡ Some i → ask.service ≡ Some s → Among c (candidates_for w ask i s) → IsCandidate w ask c
 by_candidates_for w ask i s c who what m =
     by_flat_map (λ r. flat_map (candidates_between w r) (admissible w s ask.instance)) (ingresses w ask.ingress i s) c m (λ r enters n.
     by_flat_map (candidates_between w r) (admissible w s ask.instance) c n (λ e ends k.

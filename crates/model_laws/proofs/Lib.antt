@@ -5,12 +5,14 @@ pub mod PlainPathLaws
 pub mod BestLaws
 pub mod CandidateLaws
 pub mod RuleLaws
+pub mod DenialLaws
 pub mod NumberLaws
 pub mod CostLaws
 pub mod ClaimLaws
 pub mod LeastCostLaws
 pub mod ExplanationLaws
 pub mod KindLaws
+pub mod AbsentRecords
 pub mod NamedLaws
 pub mod RefusalLaws
 pub mod SettleLaws

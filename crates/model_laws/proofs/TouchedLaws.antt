@@ -1,5 +1,6 @@
 -- Each command changes what it may change and settles, or leaves the state.
 use Rattle.std.proofs.Common.{◌≡◌, ◌≢◌, ◌∙◌, ap, sym, ℕ, true, false, ◌⊎◌, inl, inr, List, Option, None, Some, refl, subst}
+use Rattle.std.proofs.lemmas.Option.{same_Some}
 use Rattle.ctrl_model.specs.declared.commands.Command.{Command}
 use Rattle.ctrl_model.specs.declared.commands.Command.TheVariants as command
 use Rattle.ctrl_model.specs.declared.kinds.Kind.{Kind}
@@ -12,7 +13,7 @@ use Rattle.ctrl_model.specs.declared.refusals.Refusal.{Refusal}
 use Rattle.ctrl_model.specs.declared.refusals.Refusal.TheVariants.{NotPermitted, Denied}
 use Rattle.ctrl_model.specs.declared.replies.Reply.{Reply}
 use Rattle.ctrl_model.specs.declared.replies.Reply.TheVariants.{Refused, Done, Made}
-use Rattle.ctrl_model.specs.Numbered.{Table, with_new, with_edit, with_removed, at}
+use Rattle.ctrl_model.specs.Numbered.{Table, with_new, with_edit, with_removed, without, at}
 use Rattle.ctrl_model.specs.State.{State}
 use Rattle.ctrl_model.specs.Tables.{Record, table, with_table, named}
 use Rattle.ctrl_model.specs.Settling.{settle}
@@ -29,8 +30,9 @@ use Rattle.ctrl_model.specs.Permitted.{is_permitted}
 use Rattle.ctrl_model.specs.Controller.{policy, carry, answer}
 use Rattle.model_laws.specs.TouchedTables.{Touched, Added, Changed, Deleted, Nothing, touched_by, records_back, put_back, forgetting, OthersStay, ChangesOne, ChangesOnly}
 use Rattle.model_laws.proofs.KindLaws.{with_table-holds}
-use Rattle.ctrl_model.proofs.NumberedLaws.{at-with_last-other, at-edit_at-other, at-without-other}
-use Rattle.model_laws.proofs.RefusalLaws.{at_number-holds, shown-leaves, cond-holds, decided-holds}
+use Rattle.ctrl_model.proofs.NumberedLaws.{at-edit_at-other, at-without-other}
+use Rattle.model_laws.proofs.AbsentRecords.{at-filter-none, at-without-none, at-edit_at-none}
+use Rattle.model_laws.proofs.RefusalLaws.{or_then-none, at_number-holds, shown-leaves, cond-holds, decided-holds}
 
 -- the state is the old one, or only what may be changed is another
 abbrev pub LeavesOrChanges : Touched → State → Reply × State → Type 0
@@ -40,6 +42,19 @@ step : (touched : Touched) (s : State) (o : Option Refusal) (reply : Reply) (eff
     → LeavesOrChanges touched s (carried_out o s reply effect)
 step touched s None reply effect one = inr (record { effect = effect; changes = one; is_next = refl })
 step touched s (Some r) reply effect one = inl refl
+
+-- where a refusal that comes leaves the state, an effect counts only where none comes
+step_if : (touched : Touched) (s : State) (o : Option Refusal) (reply : Reply) (effect : State) → (o ≡ None → ChangesOne touched s effect)
+    → LeavesOrChanges touched s (carried_out o s reply effect)
+step_if touched s None reply effect one = inr (record { effect = effect; changes = one refl; is_next = refl })
+step_if touched s (Some r) reply effect one = inl refl
+
+-- a record between two others is made where neither of the two is absent
+between : (touched : Touched) (from to : Field) (s : State) (found there : Option ℕ) (effect : ℕ → ℕ → State) → unknown_if_absent from found ≡ None → unknown_if_absent to there ≡ None
+    → ((n m : ℕ) → ChangesOne touched s (effect n m)) → ChangesOne touched s (at_number found s (λ n. at_number there s (effect n)))
+between touched from to s None there effect p q new = absurd (cc)
+between touched from to s (Some n) None effect p q new = absurd (cc)
+between touched from to s (Some n) (Some m) effect p q new = new n m
 
 there : (touched : Touched) (s : State) (found : Option ℕ) (effect : ℕ → State) → ChangesOne touched s s
     → ((n : ℕ) → found ≡ Some n → ChangesOne touched s (effect n)) → ChangesOne touched s (at_number found s effect)
@@ -57,6 +72,10 @@ one e others = record { all_else_stays = e; others_stay = others }
 -- a number that is not the one found
 other : {found : Option ℕ} {n m : ℕ} → found ≡ Some n → (found ≡ Some m → ⊥) → m ≢ n
 other is ne e = ne (is ∙ ap Some (sym e))
+
+-- what is removed is gone
+gone_at : {R : Type 0} {found : Option ℕ} (xs : List (ℕ × R)) (n : ℕ) → found ≡ Some n → (m : ℕ) → found ≡ Some m → at (without xs n) m ≡ None
+gone_at xs n is m e = subst (λ k. at (without xs n) k ≡ None) (same_Some n m (sym is ∙ e)) (at-without-none xs n)
 
 -- ---- what a change of one table leaves
 
@@ -82,20 +101,30 @@ rows_again kind.Attribute t s e = refl
 stays_at : (k : Kind) (t : Table (Record k)) (s : State) (m : ℕ) → at t.rows m ≡ at (table k s).rows m → at (table k (with_table k t s)).rows m ≡ at (table k s).rows m
 stays_at k t s m e = with_table-holds (λ j v. at v.rows m ≡ at (table j s).rows m) s k t refl e (λ j. refl) k
 
-created : (k : Kind) (r : Record k) (s : State) → ChangesOne (Added k) s (after_create k r s)
-created k r s = one (put_again k (with_new r (table k s)) s)
-    (λ m ne. stays_at k (with_new r (table k s)) s m (at-with_last-other (table k s).rows (table k s).next m r (other refl ne)))
+-- no record stands where the new table has none
+none_at : (k : Kind) (t : Table (Record k)) (s : State) (m : ℕ) → at t.rows m ≡ None → at (table k (with_table k t s)).rows m ≡ None
+none_at kind.Identity t s m e = e
+none_at kind.Attribute t s m e = refl
+none_at k t s m e = e
+
+-- the table of a kind that has records is the new one
+created : (k : Kind) (r : Record k) (s : State) → table k (after_create k r s) ≡ with_new r (table k s) → ChangesOne (Added k) s (after_create k r s)
+created k r s new = one (put_again k (with_new r (table k s)) s) (record { made = r; added = new })
 
 edited : (k : Kind) (n : ℕ) (f : Record k → Record k) (s : State) (found : Option ℕ) → found ≡ Some n → ChangesOne (Changed k found) s (after_edit k n f s)
-edited k n f s found is = one (rows_again k (with_edit n f (table k s)) s refl)
-    (λ m ne. stays_at k (with_edit n f (table k s)) s m (at-edit_at-other (table k s).rows n m f (other is ne)))
+edited k n f s found is = one (rows_again k (with_edit n f (table k s)) s refl) (
+  λ m ne. stays_at k (with_edit n f (table k s)) s m (at-edit_at-other (table k s).rows n m f (other is ne)),
+  λ m e. none_at k (with_edit n f (table k s)) s m (at-edit_at-none (table k s).rows n m f e),
+)
 
 removed : (k : Kind) (n : ℕ) (s : State) (found : Option ℕ) → found ≡ Some n → ChangesOne (Changed k found) s (after_remove k n s)
-removed k n s found is = one (rows_again k (with_removed n (table k s)) s refl)
-    (λ m ne. stays_at k (with_removed n (table k s)) s m (at-without-other (table k s).rows n m (other is ne)))
+removed k n s found is = one (rows_again k (with_removed n (table k s)) s refl) (
+  λ m ne. stays_at k (with_removed n (table k s)) s m (at-without-other (table k s).rows n m (other is ne)),
+  λ m e. none_at k (with_removed n (table k s)) s m (at-filter-none _ (table k s).rows m e),
+)
 
 untouched : (k : Kind) (found : Option ℕ) (s : State) → ChangesOne (Changed k found) s s
-untouched k found s = one (again k s) (λ m ne. refl)
+untouched k found s = one (again k s) (λ m ne. refl, λ m e. e)
   where
     again : (k : Kind) (s : State) → records_back k s s ≡ s
     again kind.Link s = refl
@@ -103,8 +132,8 @@ untouched k found s = one (again k s) (λ m ne. refl)
 
 -- ---- what each command on named records leaves
 
-made : (k : Kind) (r : Record k) (s : State) → LeavesOrChanges (Added k) s (create k r s)
-made k r s = step (Added k) s (refusal_of_create k r s) (Made (table k s).next) (after_create k r s) (created k r s)
+made : (k : Kind) (r : Record k) (s : State) → table k (after_create k r s) ≡ with_new r (table k s) → LeavesOrChanges (Added k) s (create k r s)
+made k r s new = step (Added k) s (refusal_of_create k r s) (Made (table k s).next) (after_create k r s) (created k r s new)
 
 changed : (k : Kind) (name : List ℕ) (f : Record k → Record k) (s : State) → ChangesOne (Changed k (named k s name)) s (after_update k name f s)
 changed k name f s = there _ s (named k s name) _ (untouched k (named k s name) s) (λ n is. edited k n f s (named k s name) is)
@@ -122,7 +151,7 @@ create_circuit-changes ask s = decided-holds (LeavesOrChanges (Added kind.Circui
     (λ d. (Refused (Denied d), s)) (λ c. (granted_reply c s, settle (after_create_circuit ask c s))) (λ d. inl refl)
     (λ c none. inr (record {
       effect = after_create_circuit ask c s;
-      changes = created kind.Circuit _ s;
+      changes = created kind.Circuit _ s refl;
       is_next = refl;
     }))
 
@@ -132,41 +161,43 @@ explain-changes ask s = decided-holds (LeavesOrChanges Nothing s) (first_rule (n
 
 carry-changes : (c : Command) (s : State) → LeavesOrChanges (touched_by c s) s (carry c s)
 carry-changes command.Hello s = inl refl
-carry-changes (command.CreateIdentity name attributes) s = made kind.Identity (entity name attributes) s
+carry-changes (command.CreateIdentity name attributes) s = made kind.Identity (entity name attributes) s refl
 carry-changes (command.UpdateIdentity name attributes) s = updated kind.Identity name (described attributes) None s
 carry-changes (command.DeleteIdentity name) s =
     gone (Deleted kind.Identity name (named kind.Identity s name)) field.Name s (named kind.Identity s name) _
-    (λ n is. one refl (λ m ne. at-without-other s.identities.rows n m (other is ne)))
-carry-changes (command.CreateService name attributes) s = made kind.Service (entity name attributes) s
+    (λ n is. one refl (λ m ne. at-without-other s.identities.rows n m (other is ne), gone_at s.identities.rows n is))
+carry-changes (command.CreateService name attributes) s = made kind.Service (entity name attributes) s refl
 carry-changes (command.UpdateService name attributes) s = updated kind.Service name (described attributes) None s
 carry-changes (command.DeleteService name) s =
     gone (Deleted kind.Service name (named kind.Service s name)) field.Name s (named kind.Service s name) _
-    (λ n is. one refl (λ m ne. at-without-other s.services.rows n m (other is ne)))
-carry-changes (command.CreateRouter name attributes cost no_traversal) s = made kind.Router (new_router name attributes cost no_traversal) s
+    (λ n is. one refl (λ m ne. at-without-other s.services.rows n m (other is ne), gone_at s.services.rows n is))
+carry-changes (command.CreateRouter name attributes cost no_traversal) s = made kind.Router (new_router name attributes cost no_traversal) s refl
 carry-changes (command.UpdateRouter name attributes cost no_traversal) s = updated kind.Router name (described_router attributes cost no_traversal) None s
 carry-changes (command.DeleteRouter name) s =
     gone (Deleted kind.Router name (named kind.Router s name)) field.Name s (named kind.Router s name) _
-    (λ n is. one refl (λ m ne. at-without-other s.routers.rows n m (other is ne)))
+    (λ n is. one refl (λ m ne. at-without-other s.routers.rows n m (other is ne), gone_at s.routers.rows n is))
 carry-changes (command.ConnectRouter name) s =
     step _ s (unknown_if_absent field.Name (named kind.Router s name)) Done (after_update kind.Router name (marked true) s) (changed kind.Router name (marked true) s)
 carry-changes (command.DisconnectRouter name) s =
     step _ s (unknown_if_absent field.Name (named kind.Router s name)) Done (after_update kind.Router name (marked false) s) (changed kind.Router name (marked false) s)
-carry-changes (command.CreateServicePolicy name relation semantic left right) s = made kind.ServicePolicy (policy name relation semantic left right) s
+carry-changes (command.CreateServicePolicy name relation semantic left right) s = made kind.ServicePolicy (policy name relation semantic left right) s refl
 carry-changes (command.UpdateServicePolicy name relation semantic left right) s =
     updated kind.ServicePolicy name (replaced_by (policy name relation semantic left right)) (absent_names kind.ServicePolicy (policy name relation semantic left right) s) s
 carry-changes (command.DeleteServicePolicy name) s = deleted kind.ServicePolicy field.Name name s (λ t. refl)
-carry-changes (command.CreateEdgeRouterPolicy name semantic left right) s = made kind.EdgeRouterPolicy (policy name IdentityRouter semantic left right) s
+carry-changes (command.CreateEdgeRouterPolicy name semantic left right) s = made kind.EdgeRouterPolicy (policy name IdentityRouter semantic left right) s refl
 carry-changes (command.UpdateEdgeRouterPolicy name semantic left right) s =
     updated kind.EdgeRouterPolicy name (replaced_by (policy name IdentityRouter semantic left right)) (absent_names kind.EdgeRouterPolicy (policy name IdentityRouter semantic left right) s) s
 carry-changes (command.DeleteEdgeRouterPolicy name) s = deleted kind.EdgeRouterPolicy field.Name name s (λ t. refl)
-carry-changes (command.CreateServiceEdgeRouterPolicy name semantic left right) s = made kind.ServiceEdgeRouterPolicy (policy name ServiceRouter semantic left right) s
+carry-changes (command.CreateServiceEdgeRouterPolicy name semantic left right) s = made kind.ServiceEdgeRouterPolicy (policy name ServiceRouter semantic left right) s refl
 carry-changes (command.UpdateServiceEdgeRouterPolicy name semantic left right) s =
     updated kind.ServiceEdgeRouterPolicy name (replaced_by (policy name ServiceRouter semantic left right)) (absent_names kind.ServiceEdgeRouterPolicy (policy name ServiceRouter semantic left right) s) s
 carry-changes (command.DeleteServiceEdgeRouterPolicy name) s = deleted kind.ServiceEdgeRouterPolicy field.Name name s (λ t. refl)
 carry-changes (command.CreateLink name a b cost latency_a latency_b) s =
-    step _ s (refusal_of_create_link name a b s) (Made s.links.next) (after_create_link name a b cost latency_a latency_b s)
-    (there _ s (named kind.Router s a) _ (one refl (λ m ne. refl)) (λ from at_from.
-    there _ s (named kind.Router s b) _ (one refl (λ m ne. refl)) (λ to at_to. created kind.Link _ s)))
+    step_if _ s (refusal_of_create_link name a b s) (Made s.links.next) (after_create_link name a b cost latency_a latency_b s) (λ none.
+    let rules = or_then-none _ _ none in
+    let from = or_then-none (unknown_if_absent field.A (named kind.Router s a)) _ rules.1 in
+    let to = or_then-none (unknown_if_absent field.B (named kind.Router s b)) _ from.1 in
+    between (Added kind.Link) field.A field.B s (named kind.Router s a) (named kind.Router s b) _ from.0 to.0 (λ n m. created kind.Link _ s refl))
 carry-changes (command.SetLinkCost link cost) s =
     step _ s (unknown_if_absent field.Link (named kind.Link s link)) Done (after_set_link_cost link cost s) (changed kind.Link link _ s)
 carry-changes (command.ReportLatency link router latency) s =
@@ -180,10 +211,12 @@ carry-changes (command.SetLeastRouterCost cost) s =
     (record s { least_router_cost = cost })
     (one refl tt)
 carry-changes (command.CreateTerminator service router instance host cost precedence) s =
-    step _ s (refusal_of_create_terminator service router host s) (Made s.terminators.next)
-    (after_create_terminator service router instance host cost precedence s)
-    (there _ s (named kind.Service s service) _ (one refl (λ m ne. refl)) (λ n is.
-    there _ s (named kind.Router s router) _ (one refl (λ m ne. refl)) (λ r at_r. created kind.Terminator _ s)))
+    step_if _ s (refusal_of_create_terminator service router host s) (Made s.terminators.next)
+    (after_create_terminator service router instance host cost precedence s) (λ none.
+    let offered = or_then-none (unknown_if_absent field.Service (named kind.Service s service)) _ none in
+    let placed = or_then-none (unknown_if_absent field.Router (named kind.Router s router)) _ offered.1 in
+    between (Added kind.Terminator) field.Service field.Router s (named kind.Service s service) (named kind.Router s router) _ offered.0 placed.0
+    (λ n r. created kind.Terminator _ s refl))
 carry-changes (command.UpdateTerminator n cost precedence) s =
     step _ s (no_such_terminator n s) Done (after_update_terminator n cost precedence s) (edited kind.Terminator n _ s (Some n) refl)
 carry-changes (command.DeleteTerminator n) s =

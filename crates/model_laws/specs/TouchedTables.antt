@@ -1,14 +1,14 @@
 -- Which record of which table a command may change before what stands no longer is removed. All else it leaves alone
 -- (docs/RULES.md, "The controller").
-use Rattle.std.specs.Prelude.{◌≡◌, ℕ, List, Some, ⊤}
+use Rattle.std.specs.Prelude.{◌≡◌, ℕ, ◌+◌, ◌≤◌, ◌⊎◌, List, None, Some, ⊤}
 use Rattle.std.specs.declared.option.Option.{Option}
 use Rattle.ctrl_model.specs.declared.commands.Command.{Command}
 use Rattle.ctrl_model.specs.declared.commands.Command.TheVariants as command
 use Rattle.ctrl_model.specs.declared.kinds.Kind.{Kind}
 use Rattle.ctrl_model.specs.declared.kinds.Kind.TheVariants as kind
-use Rattle.ctrl_model.specs.Numbered.{at}
+use Rattle.ctrl_model.specs.Numbered.{Table, at, with_new}
 use Rattle.ctrl_model.specs.State.{State}
-use Rattle.ctrl_model.specs.Tables.{table, with_table, named}
+use Rattle.ctrl_model.specs.Tables.{Record, table, with_table, named}
 use Rattle.ctrl_model.specs.RecordCommands.{forgotten}
 use Rattle.ctrl_model.specs.Settling.{settle}
 
@@ -81,18 +81,37 @@ abbrev pub forgetting : Touched → State → State
 forgetting (Deleted k name n) s = forgotten k name s
 forgetting touched s = s
 
+-- A table is another with one record more: at its end, under the next number, which rises by one.
+pub record IsAdded (k : Kind) (old new : State) : Type 0 where
+  pub made : Record k
+  pub added : table k new ≡ with_new made (table k old)
+
 -- The same records of a kind stand at every number but one, if there is one.
 abbrev pub StayBut : Kind → Option ℕ → State → State → Type 0
 StayBut k number old new = (m : ℕ) → (number ≡ Some m → ⊥) → at (table k new).rows m ≡ at (table k old).rows m
 
+-- Where no record of a kind stood, none stands.
+abbrev pub MakesNone : Kind → State → State → Type 0
+MakesNone k old new = (m : ℕ) → at (table k old).rows m ≡ None → at (table k new).rows m ≡ None
+
+-- No record of a kind stands at a number, if there is one.
+abbrev pub IsGone : Kind → Option ℕ → State → Type 0
+IsGone k number new = (m : ℕ) → number ≡ Some m → at (table k new).rows m ≡ None
+
 -- Of the table that may be changed, the same records stand at every number but that of the record which is added, changed or
--- removed.
+-- removed. Adding makes exactly one record, under the next number; a change makes none; and what is deleted is gone.
 abbrev pub OthersStay : Touched → State → State → Type 0
-OthersStay (Added k) old new = StayBut k (Some (table k old).next) old new
-OthersStay (Changed k n) old new = StayBut k n old new
-OthersStay (Deleted k name n) old new = StayBut k n old new
+OthersStay (Added k) old new = IsAdded k old new
+OthersStay (Changed k n) old new = StayBut k n old new × MakesNone k old new
+OthersStay (Deleted k name n) old new = StayBut k n old new × IsGone k n new
 OthersStay Setting old new = ⊤
 OthersStay Nothing old new = ⊤
+
+-- What a table says of numbers after a change: the next number does not fall, and where no record stood, none stands, unless it is
+-- the next number, which has risen by one. So a number is given once.
+pub record GivesNext {R : Type 0} (old new : Table R) : Type 0 where
+  pub rises : old.next ≤ new.next
+  pub given : (m : ℕ) → at old.rows m ≡ None → (at new.rows m ≡ None) ⊎ ((m ≡ old.next) × (new.next ≡ old.next + 1))
 
 -- An effect changes one record at most: with what may be changed put back it is the old state, in which a deleted entity is named
 -- no more; and of that table all other numbers stay.

@@ -7,15 +7,17 @@ mod state_laws;
 mod validity;
 mod worked;
 mod worked_laws;
+mod worked_requests;
+mod worked_validity;
 
 pub use route_laws::{
     claimed_route, each_path, explanations_are_justified, mirrored_walks, no_better, plain_path,
-    the_best, the_rule,
+    the_best, the_denial, the_rule,
 };
 pub use state_laws::{
     absent_pairs_count_nothing, names_find_their_records, next_numbers_have_an_end,
-    numbers_never_fall, one_record_a_name, refused_leaves_the_state, settled_once,
-    settling_only_removes, untouched_tables,
+    numbers_are_given_once, numbers_never_fall, one_record_a_name, refused_leaves_the_state,
+    settled_once, settling_only_removes, untouched_tables,
 };
 pub use validity::valid_stays_valid;
 pub use worked::{
@@ -24,9 +26,14 @@ pub use worked::{
     equal_paths, equal_totals, forgotten_names, full_kinds, hosts, limit_of_attributes,
     limits_and_links, limits_of_kinds, names_and_words, new_records, no_traversal, own_and_others,
     permissions, precedences, ranges, ranges_of_claims, role_lists, settled_circuits, shown_grants,
-    sides, unknown_names, updates,
+    sides, spelled_commands, unknown_names, updates,
 };
 pub use worked_laws::{
     lists_of_numbers, plain_paths_of_a_line, ranks_and_small_costs, records_of_no_valid_state,
     touched_records, words_of_fields,
 };
+pub use worked_requests::{
+    candidates_of_a_line, ends_without_traversal, listed_services_and_refused_explanations,
+    named_instances_and_ingresses,
+};
+pub use worked_validity::{attributes_of_all_kinds, states_that_are_not_valid};

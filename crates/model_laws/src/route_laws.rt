@@ -1,5 +1,6 @@
 ghost use Rattle.std.specs.Prelude.{◌≡◌, ◌<◌, ◌≤◌, ◌↔◌, ℕ, List, map, true, None, Some};
 ghost use Rattle.ctrl_model.specs.declared.claims.Explanation.{Explanation};
+ghost use Rattle.ctrl_model.specs.declared.refusals.Denial.{Denial};
 ghost use Rattle.ctrl_model.specs.Membership.{Among};
 ghost use Rattle.ctrl_model.specs.Numbered.{at, numbers};
 ghost use Rattle.ctrl_model.specs.State.{State, Terminator};
@@ -9,6 +10,7 @@ ghost use Rattle.ctrl_model.specs.Networks.{Network, network_of, is_path, paths}
 ghost use Rattle.ctrl_model.specs.PlainPaths.{NoneTwice, IsPlainPath};
 ghost use Rattle.ctrl_model.specs.Choices.{Ask, Candidate, IsCandidate, IsBest, IsGranted, place_of, best, first_rule};
 ghost use Rattle.ctrl_model.specs.Claims.{justified, explanation_of};
+ghost use Rattle.model_laws.specs.Denials.{IsDenied};
 ghost use Rattle.model_laws.specs.ClaimedRoutes.{has_small_costs, NoneIsBetter, claimed_candidate};
 ghost use Rattle.ctrl_model.specs.ValidState.{ValidState};
 
@@ -34,6 +36,12 @@ pub fn the_best()
 /// not full.
 pub fn the_rule()
     ensures { (w : Network) (ask : Ask) → ((first_rule w ask ≡ None) ↔ IsGranted w ask) }
+{}
+
+/// What each denial says: it is the first rule of a request that fails exactly where the rules before hold and what this one asks
+/// for is not there. So a request without a path has a possible ingress and an admissible terminator, and no candidate.
+pub fn the_denial()
+    ensures { (w : Network) (ask : Ask) (d : Denial) → ((first_rule w ask ≡ Some d) ↔ IsDenied w ask d) }
 {}
 
 /// No candidate is better than a justified claim: none has an earlier precedence than the terminator that the claim names,

@@ -1,4 +1,4 @@
-ghost use Rattle.std.specs.Prelude.{◌≡◌, ◌⊎◌, ℕ, ◌≤◌, true, List, filter, None, Some};
+ghost use Rattle.std.specs.Prelude.{◌≡◌, ◌⊎◌, ℕ, ◌<◌, ◌≤◌, true, List, filter, None, Some};
 ghost use Rattle.ctrl_model.specs.declared.commands.Command.{Command};
 ghost use Rattle.ctrl_model.specs.declared.kinds.Kind.{Kind};
 ghost use Rattle.ctrl_model.specs.declared.kinds.Relation.{Relation};
@@ -11,7 +11,7 @@ ghost use Rattle.ctrl_model.specs.State.{State, Link, Terminator, Circuit};
 ghost use Rattle.ctrl_model.specs.Tables.{Record, table, has_names, record_name, named};
 ghost use Rattle.ctrl_model.specs.Grants.{count, left_entity, right_entity};
 ghost use Rattle.ctrl_model.specs.Settling.{settle, link_stays, terminator_stays, stays_in};
-ghost use Rattle.model_laws.specs.TouchedTables.{touched_by, ChangesOnly};
+ghost use Rattle.model_laws.specs.TouchedTables.{touched_by, ChangesOnly, GivesNext};
 ghost use Rattle.ctrl_model.specs.Controller.{answer};
 ghost use Rattle.ctrl_model.specs.ValidState.{ValidState};
 
@@ -28,6 +28,14 @@ pub fn settled_once()
 /// The next number of a kind never falls.
 pub fn numbers_never_fall()
     ensures { (who : Who) (c : Command) (s : State) (k : Kind) → (table k s).next ≤ (table k (answer who c s).1).next }
+{}
+
+/// A number is never given again. Where no record of a kind stands, none stands after a command either, unless it is the one that
+/// the command makes: that stands at the kind's next number, which rises by one. So a number below the next one at which nothing
+/// stands stays free, whatever comes.
+pub fn numbers_are_given_once()
+    ensures given { (who : Who) (c : Command) (s : State) (k : Kind) → GivesNext (table k s) (table k (answer who c s).1) }
+    ensures stays_free { (who : Who) (c : Command) (s : State) (k : Kind) (m : ℕ) → m < (table k s).next → at (table k s).rows m ≡ None → at (table k (answer who c s).1).rows m ≡ None }
 {}
 
 /// The count of a pair is 0 where one of the two is absent.
@@ -48,8 +56,8 @@ pub fn settling_only_removes()
     ensures circuit_stood { (s : State) (n : ℕ) (c : Circuit) → Between 1 s.circuits.next s.circuits.rows → at (settle s).circuits.rows n ≡ Some c → at s.circuits.rows n ≡ Some c }
 {}
 
-/// A command leaves the state, or has an effect that is then settled: it adds, changes or deletes one record, that which it names,
-/// and leaves every other record, every other table and every other next number. Deleting an entity also takes its name out of the
+/// A command leaves the state, or has an effect that is then settled: it adds one record under the next number, which rises by one,
+/// or changes or deletes the one that it names and makes none, and leaves every other record, every other table and every other next number. Deleting an entity also takes its name out of the
 /// `@` names of the policies that could name it.
 pub fn untouched_tables()
     ensures { (who : Who) (c : Command) (s : State) → ((answer who c s).1 ≡ s) ⊎ ChangesOnly (touched_by c s) s (answer who c s).1 }

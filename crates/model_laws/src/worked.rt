@@ -1,6 +1,6 @@
-ghost use Rattle.std.specs.Prelude.{◌≡◌, ℕ, codes, true, false, replicate, [], ◌∷◌, None, Some, map};
+ghost use Rattle.std.specs.Prelude.{◌≡◌, ℕ, codes, true, false, replicate, [], ◌∷◌, None, Some, map, drop};
 ghost use Rattle.ctrl_model.specs.declared.claims.Reach.{Reach};
-ghost use Rattle.ctrl_model.specs.declared.commands.Command.TheVariants.{CreateIdentity, DeleteIdentity, CreateService, DeleteService, CreateServicePolicy, DeleteServicePolicy, CreateLink, CreateRouter, ConnectRouter, DisconnectRouter, DeleteRouter, DeleteEdgeRouterPolicy, ReportLatency, ReportState, CreateTerminator, DeleteTerminator, CreateCircuit, ShowGrants, ListServices, ShowCounts, ShowCircuit, UpdateRouter, SetLeastRouterCost, CreateEdgeRouterPolicy, UpdateIdentity, UpdateService, UpdateServicePolicy, UpdateEdgeRouterPolicy, UpdateServiceEdgeRouterPolicy, DeleteServiceEdgeRouterPolicy, CreateServiceEdgeRouterPolicy, SetLinkCost, DeleteLink, UpdateTerminator, DeleteCircuit, VerifyRoute, Hello, Compact};
+ghost use Rattle.ctrl_model.specs.declared.commands.Command.TheVariants.{CreateIdentity, DeleteIdentity, CreateService, DeleteService, CreateServicePolicy, DeleteServicePolicy, CreateLink, CreateRouter, ConnectRouter, DisconnectRouter, DeleteRouter, DeleteEdgeRouterPolicy, ReportLatency, ReportState, CreateTerminator, DeleteTerminator, CreateCircuit, ShowGrants, ListServices, ShowCounts, ShowCircuit, UpdateRouter, SetLeastRouterCost, CreateEdgeRouterPolicy, UpdateIdentity, UpdateService, UpdateServicePolicy, UpdateEdgeRouterPolicy, UpdateServiceEdgeRouterPolicy, DeleteServiceEdgeRouterPolicy, CreateServiceEdgeRouterPolicy, SetLinkCost, DeleteLink, UpdateTerminator, DeleteCircuit, VerifyRoute, Explain, Hello, Compact};
 ghost use Rattle.ctrl_model.specs.declared.kinds.Kind.TheVariants as kind;
 ghost use Rattle.ctrl_model.specs.declared.kinds.Precedence.TheVariants.{Required, Normal, Failed};
 ghost use Rattle.ctrl_model.specs.declared.kinds.Relation.TheVariants.{Dial, Bind, IdentityRouter, ServiceRouter};
@@ -21,7 +21,6 @@ ghost use Rattle.ctrl_model.specs.Networks.{network_of, paths, circuits_full};
 ghost use Rattle.ctrl_model.specs.RecordCommands.{refusal_of_create};
 ghost use Rattle.ctrl_model.specs.EntityCommands.{entity, new_router};
 ghost use Rattle.ctrl_model.specs.LinkCommands.{refusal_of_create_link};
-ghost use Rattle.ctrl_model.specs.Rules.{attributes_full};
 ghost use Rattle.ctrl_model.specs.TerminatorCommands.{refusal_of_create_terminator};
 ghost use Rattle.ctrl_model.specs.Claims.{least_cost, no_path};
 ghost use Rattle.ctrl_model.specs.Permitted.{is_permitted};
@@ -199,6 +198,52 @@ pub fn ranges()
     ensures bad_ingress { is_spelled (CreateCircuit (codes "ann") (codes "web") (Some []) []) ≡ false }
     ensures bad_host { is_spelled (CreateTerminator (codes "web") (codes "r1") [] (Some []) 0 Normal) ≡ false }
     ensures no_service_relation { is_spelled (service_policy (codes "p") ServiceRouter everyone everyone) ≡ false }
+{}
+
+/// Which commands some body spells, of those that say names, sides or numbers alone.
+pub fn spelled_commands()
+    ensures hello { is_spelled Hello ≡ true }
+    ensures delete_identity { is_spelled (DeleteIdentity (codes "ann")) ≡ true }
+    ensures delete_no_identity { is_spelled (DeleteIdentity []) ≡ false }
+    ensures delete_service { is_spelled (DeleteService (codes "web")) ≡ true }
+    ensures delete_no_service { is_spelled (DeleteService (codes "a b")) ≡ false }
+    ensures delete_router { is_spelled (DeleteRouter (codes "r1")) ≡ true }
+    ensures delete_no_router { is_spelled (DeleteRouter []) ≡ false }
+    ensures connect { is_spelled (ConnectRouter (codes "r1")) ≡ true }
+    ensures connect_none { is_spelled (ConnectRouter []) ≡ false }
+    ensures disconnect { is_spelled (DisconnectRouter (codes "r1")) ≡ true }
+    ensures disconnect_none { is_spelled (DisconnectRouter (replicate 65 97)) ≡ false }
+    ensures service_policy { is_spelled (UpdateServicePolicy (codes "p") Bind AllOf everyone (only (codes "web"))) ≡ true }
+    ensures another_relation { is_spelled (UpdateServicePolicy (codes "p") IdentityRouter AllOf everyone everyone) ≡ false }
+    ensures bad_left { is_spelled (service_policy (codes "p") Dial (carrying (codes "all" ∷ [])) everyone) ≡ false }
+    ensures bad_right { is_spelled (UpdateServicePolicy (codes "p") Dial AnyOf everyone (carrying ([] ∷ []))) ≡ false }
+    ensures delete_service_policy { is_spelled (DeleteServicePolicy (codes "p")) ≡ true }
+    ensures delete_no_service_policy { is_spelled (DeleteServicePolicy []) ≡ false }
+    ensures edge_router_policy { is_spelled (CreateEdgeRouterPolicy (codes "p") AnyOf everyone everyone) ≡ true }
+    ensures bad_edge_left { is_spelled (CreateEdgeRouterPolicy (codes "p") AnyOf (only []) everyone) ≡ false }
+    ensures bad_edge_right { is_spelled (UpdateEdgeRouterPolicy (codes "p") AnyOf everyone (only [])) ≡ false }
+    ensures delete_edge_router_policy { is_spelled (DeleteEdgeRouterPolicy []) ≡ false }
+    ensures service_edge_router_policy { is_spelled (UpdateServiceEdgeRouterPolicy (codes "p") AllOf everyone everyone) ≡ true }
+    ensures bad_service_edge_left { is_spelled (CreateServiceEdgeRouterPolicy (codes "p") AnyOf (only []) everyone) ≡ false }
+    ensures bad_service_edge_right { is_spelled (UpdateServiceEdgeRouterPolicy (codes "p") AnyOf everyone (only [])) ≡ false }
+    ensures delete_service_edge_router_policy { is_spelled (DeleteServiceEdgeRouterPolicy []) ≡ false }
+    ensures state { is_spelled (ReportState (codes "l1") (codes "r1") true) ≡ true }
+    ensures state_of_no_link { is_spelled (ReportState [] (codes "r1") true) ≡ false }
+    ensures state_of_no_router { is_spelled (ReportState (codes "l1") [] true) ≡ false }
+    ensures delete_link { is_spelled (DeleteLink (codes "l1")) ≡ true }
+    ensures delete_no_link { is_spelled (DeleteLink []) ≡ false }
+    ensures circuit { is_spelled (CreateCircuit (codes "ann") (codes "web") (Some (codes "r1")) (codes "blue")) ≡ true }
+    ensures circuit_of_none { is_spelled (CreateCircuit [] (codes "web") None []) ≡ false }
+    ensures explain { is_spelled explain_ann_to_web ≡ true }
+    ensures explain_nothing { is_spelled (Explain (codes "ann") [] None []) ≡ false }
+    ensures grants { is_spelled (ShowGrants (codes "ann")) ≡ true }
+    ensures grants_of_none { is_spelled (ShowGrants []) ≡ false }
+    ensures services { is_spelled (ListServices (codes "ann")) ≡ true }
+    ensures services_of_none { is_spelled (ListServices []) ≡ false }
+    ensures counts { is_spelled ShowCounts ≡ true }
+    ensures show_circuit { is_spelled (ShowCircuit 1) ≡ true }
+    ensures show_no_circuit { is_spelled (ShowCircuit 0) ≡ false }
+    ensures compact { is_spelled Compact ≡ true }
 {}
 
 /// Which sides a role list says: `#all` stands alone, no entry stands twice or refers to an attribute named `all`, and there
@@ -481,9 +526,11 @@ pub fn limits_of_kinds()
     ensures no_more_circuits { circuits_full (record start { circuits = record start.circuits { rows = replicate 16384 (1, record { identity = 1; service = 1; terminator = 1; ingress = 1; links = [] }) } }) ≡ true }
 {}
 
-/// At most 1,024 attributes are in use, each counted once however often it is used.
+/// At most 1,024 attributes are in use, each counted once however often it is used: one more is refused, after a kind that is full;
+/// one that is in use already may be used again; and an update may put another in the place of one.
 pub fn limit_of_attributes()
-    ensures as_many { attributes_full (record start { identities = record start.identities { rows = (1, record { name = codes "a"; attributes = names_of_two_bytes }) ∷ [] } }) ≡ false }
-    ensures one_more { attributes_full (record start { identities = record start.identities { rows = (1, record { name = codes "a"; attributes = names_of_two_bytes }) ∷ [] }; services = record start.services { rows = (1, record { name = codes "a"; attributes = codes "a" ∷ [] }) ∷ [] } }) ≡ true }
-    ensures used_twice { attributes_full (record start { identities = record start.identities { rows = (1, record { name = codes "a"; attributes = names_of_two_bytes }) ∷ [] }; services = record start.services { rows = (1, record { name = codes "a"; attributes = codes "AA" ∷ [] }) ∷ [] } }) ≡ false }
+    ensures one_more { reply_to (CreateService (codes "web") (codes "a" ∷ [])) (record start { identities = record { rows = (1, record { name = codes "a"; attributes = names_of_two_bytes }) ∷ []; next = 2 } }) ≡ reply.Refused (refusal.Full kind.Attribute) }
+    ensures used_twice { reply_to (CreateService (codes "web") (codes "AA" ∷ [])) (record start { identities = record { rows = (1, record { name = codes "a"; attributes = names_of_two_bytes }) ∷ []; next = 2 } }) ≡ reply.Made 1 }
+    ensures another { reply_to (UpdateIdentity (codes "a") (codes "a" ∷ drop 1 names_of_two_bytes)) (record start { identities = record { rows = (1, record { name = codes "a"; attributes = names_of_two_bytes }) ∷ []; next = 2 } }) ≡ reply.Done }
+    ensures kind_first { reply_to (CreateService (codes "web") (codes "a" ∷ [])) (record start { identities = record { rows = (1, record { name = codes "a"; attributes = names_of_two_bytes }) ∷ []; next = 2 }; services = record start.services { next = 4294967295 } }) ≡ reply.Refused (refusal.Full kind.Service) }
 {}

@@ -8,7 +8,7 @@ mod roles;
 mod sides;
 mod worked;
 
-pub use laws::one_spelling_a_role;
+pub use laws::{one_spelling_a_role, roles_are_read_by_their_spelling};
 pub use matching::matches;
 pub use names::keep_name;
 pub use roles::{RoleFault, read_role};

@@ -75,6 +75,8 @@ pub fn read_role(alloc: Global, bytes: &[u8]) -> Result<Role, RoleFault>
     ensures role { IfOk result (λ r. (is_role r ≡ true) × (role_spelling r ≡ bytes.now)) }
     ensures bad { IsErrOf result RoleFault.BadRole ↔ ((r : Role) → is_role r ≡ true → role_spelling r ≡ bytes.now → ⊥) }
     ensures alone { IsErrOf result RoleFault.AllNotAlone → ⊥ }
+    // Memory can be wanting for a role entry alone.
+    ensures memory { IsErrOf result RoleFault.NoMemory → IsSome (role_in bytes.now) }
 {
     role_in(alloc, bytes)?.ok_or(RoleFault::BadRole)
 }

@@ -61,6 +61,8 @@ pub fn side_of(alloc: Global, roles: &[Role]) -> Result<Side, RoleFault>
     ensures side { IfOk result (λ s. s ≡ side_from roles.now) }
     ensures beside { IsErrOf result RoleFault.AllNotAlone ↔ (is_all_beside roles.now ≡ true) }
     ensures form { IsErrOf result RoleFault.BadRole → ⊥ }
+    // Memory can be wanting for a side alone.
+    ensures memory { IsErrOf result RoleFault.NoMemory → is_all_beside roles.now ≡ false }
 {
     if has_all(roles) && has_other(roles) {
         return Err(RoleFault::AllNotAlone);

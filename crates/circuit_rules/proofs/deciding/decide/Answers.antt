@@ -12,42 +12,42 @@ best_route-requires c = record {
   what = ap (option_map (λ n. n.0)) c.in-Some-service.is;
 }
 
-pub returns-in_default-2 : goal.returns-in_default-2
-returns-in_default-2 c =
+pub returns-in_default-2-clause-decides : goal.returns-in_default-2-clause-decides
+returns-in_default-2-clause-decides c =
     let w = network c.args.view.now in
     let ask = asked c.args.ask.now in
     no_path w ask c.in-Some.identity.0 c.in-Some-service.service.0
-    (record { who = ap (option_map (λ n. n.0)) c.in-Some.is; what = ap (option_map (λ n. n.0)) c.in-Some-service.is; passes = c.in_ok-route.ensures.0 })
-    (subst (IsBestWay w ask c.in-Some.identity.0 c.in-Some-service.service.0) c.in_default-2.is c.in_ok-route.ensures.1)
+    (record { who = ap (option_map (λ n. n.0)) c.in-Some.is; what = ap (option_map (λ n. n.0)) c.in-Some-service.is; passes = c.in_ok-route.ensures.best.0 })
+    (subst (IsBestWay w ask c.in-Some.identity.0 c.in-Some-service.service.0) c.in_default-2.is c.in_ok-route.ensures.best.1)
 
-pub returns-then-view : goal.returns-then-view
-returns-then-view c =
+pub returns-then-view-clause-decides : goal.returns-then-view-clause-decides
+returns-then-view-clause-decides c =
     let w = network c.args.view.now in
     let ask = asked c.args.ask.now in
     no_room w ask c.in-Some.identity.0 c.in-Some-service.service.0 c.in-Some-2.route
-    (record { who = ap (option_map (λ n. n.0)) c.in-Some.is; what = ap (option_map (λ n. n.0)) c.in-Some-service.is; passes = c.in_ok-route.ensures.0 })
-    (subst (IsBestWay w ask c.in-Some.identity.0 c.in-Some-service.service.0) c.in-Some-2.is c.in_ok-route.ensures.1)
+    (record { who = ap (option_map (λ n. n.0)) c.in-Some.is; what = ap (option_map (λ n. n.0)) c.in-Some-service.is; passes = c.in_ok-route.ensures.best.0 })
+    (subst (IsBestWay w ask c.in-Some.identity.0 c.in-Some-service.service.0) c.in-Some-2.is c.in_ok-route.ensures.best.1)
     c.if-view.true
 
-pub returns : goal.returns
-returns c =
+pub returns-clause-decides : goal.returns-clause-decides
+returns-clause-decides c =
     let w = network c.args.view.now in
     let ask = asked c.args.ask.now in
     granted w ask c.in-Some.identity.0 c.in-Some-service.service.0 c.in-Some-2.route
-    (record { who = ap (option_map (λ n. n.0)) c.in-Some.is; what = ap (option_map (λ n. n.0)) c.in-Some-service.is; passes = c.in_ok-route.ensures.0 })
-    (subst (IsBestWay w ask c.in-Some.identity.0 c.in-Some-service.service.0) c.in-Some-2.is c.in_ok-route.ensures.1)
+    (record { who = ap (option_map (λ n. n.0)) c.in-Some.is; what = ap (option_map (λ n. n.0)) c.in-Some-service.is; passes = c.in_ok-route.ensures.best.0 })
+    (subst (IsBestWay w ask c.in-Some.identity.0 c.in-Some-service.service.0) c.in-Some-2.is c.in_ok-route.ensures.best.1)
     c.if-view.false
 
-pub returns-in_err-route : goal.returns-in_err-route
-returns-in_err-route c =
+pub returns-in_err-route-clause-decides : goal.returns-in_err-route-clause-decides
+returns-in_err-route-clause-decides c =
     let w = network c.args.view.now in
     let ask = asked c.args.ask.now in
     handed_on w ask c.from_residual.result c.in_err-route.field-0.0 c.from_residual.ensures.1
     (denied w ask c.in-Some.identity.0 c.in-Some-service.service.0 c.in_err-route.field-0.0 (ap (option_map (λ n. n.0)) c.in-Some.is) (ap (option_map (λ n. n.0)) c.in-Some-service.is)
-    c.in_err-route.ensures)
+    c.in_err-route.ensures.best)
 
-pub returns-in_default : goal.returns-in_default
-returns-in_default c = search rules
+pub returns-in_default-clause-decides : goal.returns-in_default-clause-decides
+returns-in_default-clause-decides c = search rules
 
-pub returns-in_default-service : goal.returns-in_default-service
-returns-in_default-service c = search rules
+pub returns-in_default-service-clause-decides : goal.returns-in_default-service-clause-decides
+returns-in_default-service-clause-decides c = search rules

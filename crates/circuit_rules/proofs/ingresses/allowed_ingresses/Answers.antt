@@ -1,14 +1,14 @@
 use Rattle.std.proofs.Common.{rules}
 use Rattle.circuit_rules.proofs.ingresses.allowed_ingresses.Goals as goal
 
-pub returns-then-eq : goal.returns-then-eq
-returns-then-eq c = search rules
+pub returns-then-eq-clause-allowed : goal.returns-then-eq-clause-allowed
+returns-then-eq-clause-allowed c = search rules
 
-pub returns-then-count-eq0 : goal.returns-then-count-eq0
-returns-then-count-eq0 c = search rules
+pub returns-then-count-eq0-clause-allowed : goal.returns-then-count-eq0-clause-allowed
+returns-then-count-eq0-clause-allowed c = search rules
 
-pub returns-then-is_empty : goal.returns-then-is_empty
-returns-then-is_empty c = search rules
+pub returns-then-is_empty-clause-allowed : goal.returns-then-is_empty-clause-allowed
+returns-then-is_empty-clause-allowed c = search rules
 
-pub returns-then-is_empty-2 : goal.returns-then-is_empty-2
-returns-then-is_empty-2 c = search rules
+pub returns-then-is_empty-2-clause-allowed : goal.returns-then-is_empty-2-clause-allowed
+returns-then-is_empty-2-clause-allowed c = search rules
