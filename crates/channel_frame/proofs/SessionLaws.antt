@@ -1,5 +1,5 @@
 -- A session's bytes that come in pieces are read as the whole of them.
-use Rattle.std.proofs.Common.{◌≡◌, ℕ, zero, suc, ◌+◌, ◌-◌, ◌<◌, ◌≤◌, List, [], ◌∷◌, ◌++◌, length, drop, Option, None, Some, refl, sym, ap, subst, ◌∙◌, append_assoc, arith}
+use Rattle.std.proofs.Common.{◌≡◌, ℕ, zero, suc, ◌+◌, ◌-◌, ◌<◌, ◌≤◌, List, [], ◌∷◌, ◌++◌, length, drop, Option, None, Some, refl, sym, ap, subst, ◌∙◌, ◌⊎◌, inl, inr, append_assoc, arith}
 use Rattle.std.proofs.lemmas.List.{append-nil, drop-append-le, length-append, length-drop}
 use Rattle.channel_frame.specs.declared.frames.Frame.{Frame}
 use Rattle.channel_frame.specs.declared.frames.FrameFault.{FrameFault}
@@ -230,7 +230,37 @@ no_more b = no_more_parts b.given b.held b.fault
 
 -- ---- the fault is told once
 
--- the fault of what is held, or else of what comes
-abbrev pub first_fault : Option (FrameFault × ℕ) → Option (FrameFault × ℕ) → Option (FrameFault × ℕ)
-first_fault None later = later
-first_fault (Some e) later = Some e
+-- either no fault is held yet, and what comes has the fault of all; or it is held, and nothing is read of what comes
+abbrev pub FaultOn : SessionBytes → List ℕ → Type 0
+FaultOn b more =
+    ((fault_held b ≡ None) × (fault_held (with_more b more) ≡ fault_held (with_more (settled b) more)))
+    ⊎ ((fault_held (with_more b more) ≡ fault_held b) × (fault_held (with_more (settled b) more) ≡ None) × (frames_held (with_more (settled b) more) ≡ []))
+
+fault_on_at : (g : ℕ) (h more : List ℕ) (at : Front) → front (rest_of h) ≡ at → FaultOn (record { given = g; held = h; fault = None }) more
+fault_on_at g h more Short e =
+    let b : SessionBytes = record { given = g; held = h; fault = None } in
+    let is : settled b ≡ record { given = g + (length h - length (rest_of h)); held = rest_of h; fault = None } = ap (λ (f : Front). left_at f (g + (length h - length (rest_of h))) (rest_of h)) e in
+    inl (
+      ap (fault_unless None) is,
+      ap (fault_unless None) (goes_on b more).left
+      ∙ ap (λ (x : SessionBytes). fault_unless None (settled (with_more x more))) is
+      ∙ sym (ap (λ (x : SessionBytes). fault_held (with_more x more)) is),
+    )
+fault_on_at g h more (Bad d) e =
+    let b : SessionBytes = record { given = g; held = h; fault = None } in
+    let is : settled b ≡ record { given = g + (length h - length (rest_of h)); held = []; fault = Some d } = ap (λ (f : Front). left_at f (g + (length h - length (rest_of h))) (rest_of h)) e in
+    inr (
+      ap (fault_unless None) (goes_on b more).left
+      ∙ ap (λ (x : SessionBytes). fault_unless None (settled (with_more x more))) is
+      ∙ sym (ap (fault_unless None) is),
+      ap (λ (x : SessionBytes). fault_held (with_more x more)) is,
+      ap (λ (x : SessionBytes). frames_held (with_more x more)) is,
+    )
+fault_on_at g h more (Whole f n) e = absurd ((reads_on h more).none f n e)
+
+fault_on_parts : (g : ℕ) (h : List ℕ) (o : Option FrameFault) (more : List ℕ) → FaultOn (record { given = g; held = h; fault = o }) more
+fault_on_parts g h None more = fault_on_at g h more (front (rest_of h)) refl
+fault_on_parts g h (Some e) more = inl (refl, refl)
+
+pub fault_on : (b : SessionBytes) (more : List ℕ) → FaultOn b more
+fault_on b more = fault_on_parts b.given b.held b.fault more

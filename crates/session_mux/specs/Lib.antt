@@ -1,0 +1,4 @@
+pub mod Arrivals
+pub mod Completion
+pub mod StreamSteps
+pub mod WorkedTraces
