@@ -130,27 +130,22 @@ quiet_at g r e =
       left = ap (λ (t : List ℕ). left_at (front t) (g + (length r - length t)) t) stop.1 ∙ ap (λ (f : Front). left_at f (g + (length r - length r)) r) e ∙ ap (λ (n : ℕ). record { given = n; held = r; fault = None }) same;
     }
 
-pub quiet_faulty : (g : ℕ) (h : List ℕ) (e : FrameFault) → IsQuiet (record { given = g; held = h; fault = Some e })
-quiet_faulty g h e = record { frames = refl; left = refl }
+quiet_faulty : (g : ℕ) (e : FrameFault) → IsQuiet (record { given = g; held = []; fault = Some e })
+quiet_faulty g e = record { frames = refl; left = refl }
 
 pub quiet_short : (b : SessionBytes) → b.fault ≡ None → front b.held ≡ Short → IsQuiet b
 quiet_short b none e =
     let is : ◌≡◌ {A = SessionBytes} (record { given = b.given; held = b.held; fault = None }) b = ap (λ (o : Option FrameFault). record { given = b.given; held = b.held; fault = o }) (sym none) in
     subst IsQuiet is (quiet_at b.given b.held e)
 
-pub quiet_met : (b : SessionBytes) (e : FrameFault) → b.fault ≡ Some e → IsQuiet b
-quiet_met b e some =
-    let is : ◌≡◌ {A = SessionBytes} (record { given = b.given; held = b.held; fault = Some e }) b = ap (λ (o : Option FrameFault). record { given = b.given; held = b.held; fault = o }) (sym some) in
-    subst IsQuiet is (quiet_faulty b.given b.held e)
-
 settled_quiet_at : (g : ℕ) (h : List ℕ) (at : Front) → front (rest_of h) ≡ at → IsQuiet (settled (record { given = g; held = h; fault = None }))
 settled_quiet_at g h Short e = subst IsQuiet (sym (ap (λ (f : Front). left_at f (g + (length h - length (rest_of h))) (rest_of h)) e)) (quiet_at (g + (length h - length (rest_of h))) (rest_of h) e)
-settled_quiet_at g h (Bad d) e = subst IsQuiet (sym (ap (λ (f : Front). left_at f (g + (length h - length (rest_of h))) (rest_of h)) e)) (quiet_faulty (g + (length h - length (rest_of h))) [] d)
+settled_quiet_at g h (Bad d) e = subst IsQuiet (sym (ap (λ (f : Front). left_at f (g + (length h - length (rest_of h))) (rest_of h)) e)) (quiet_faulty (g + (length h - length (rest_of h))) d)
 settled_quiet_at g h (Whole f n) e = absurd ((reads_on h []).none f n e)
 
 settled_quiet_parts : (g : ℕ) (h : List ℕ) (o : Option FrameFault) → IsQuiet (settled (record { given = g; held = h; fault = o }))
 settled_quiet_parts g h None = settled_quiet_at g h (front (rest_of h)) refl
-settled_quiet_parts g h (Some e) = quiet_faulty g h e
+settled_quiet_parts g h (Some e) = quiet_faulty g e
 
 pub settled_quiet : (b : SessionBytes) → IsQuiet (settled b)
 settled_quiet b = settled_quiet_parts b.given b.held b.fault
@@ -162,6 +157,10 @@ fault_none_at b (Some d) e = refl
 
 pub quiet_fault : (b : SessionBytes) → IsQuiet b → fault_held b ≡ None
 quiet_fault b quiet = ap (fault_unless b.fault) quiet.left ∙ fault_none_at b b.fault refl
+
+-- where a fault was met, there is nothing more
+pub met_nothing : (b : SessionBytes) (e : FrameFault) → b.fault ≡ Some e → (frames_held b ≡ []) × (fault_held b ≡ None)
+met_nothing b e some = (ap (λ (o : Option FrameFault). frames_unless o b.held) some, ap (λ (o : Option FrameFault). fault_unless o (settled b)) some)
 
 -- ---- a frame at a time
 

@@ -43,10 +43,10 @@ left_at Short at rest = record { given = at; held = rest; fault = None }
 left_at (Bad e) at rest = record { given = at; held = []; fault = Some e }
 left_at (Whole f n) at rest = record { given = at; held = rest; fault = None }
 
--- What is left of bytes whose reading no fault has ended.
+-- What is left of what a session holds; nothing after a fault.
 abbrev pub left_unless : Option FrameFault → ℕ → List ℕ → SessionBytes
 left_unless None given held = left_at (front (rest_of held)) (given + (length held - length (rest_of held))) (rest_of held)
-left_unless (Some e) given held = record { given = given; held = held; fault = Some e }
+left_unless (Some e) given held = record { given = given; held = []; fault = Some e }
 
 -- The session's bytes once every frame that is whole in them was given, and the fault behind these, if there is one, was met.
 abbrev pub settled : SessionBytes → SessionBytes

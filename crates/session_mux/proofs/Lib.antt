@@ -1,1 +1,4 @@
 mod FrontParts
+pub mod EventLaws
+pub mod TableLaws
+pub mod RecordLaws

@@ -1,16 +1,22 @@
 -- A trace read as records (docs/FORMATS.md, "Traces and tagged replies"). The reading is given twice: as a relation on whole
 -- inputs (`ReadsRecords`), and as functions that compute it; a law says that they are one.
-use Rattle.std.specs.Prelude.{◌≡◌, ℕ, zero, suc, ◌+◌, ◌-◌, ◌<◌, ◌==◌, nat_lt, Bool, true, false, ◌||◌, if◌then◌else◌, List, [], ◌∷◌, ◌++◌, length, take, drop, set, get_or, replicate, slice_index, None, Some}
+use Rattle.std.specs.Prelude.{◌≡◌, ℕ, zero, suc, ◌+◌, ◌-◌, ◌<◌, ◌≤◌, ◌==◌, nat_lt, Bool, true, false, ◌||◌, if◌then◌else◌, List, [], ◌∷◌, ◌++◌, length, take, drop, set, get_or, replicate, slice_index, None, Some, ⊤}
 use Rattle.std.specs.declared.option.Option.{Option}
 use Rattle.std.specs.Int.{w16, to_le_bytes, from_le_bytes}
 use Rattle.std.specs.List.{flat_map}
 use Rattle.ctrl_model.specs.declared.kinds.Who.{Who}
 use Rattle.ctrl_model.specs.declared.kinds.Who.TheVariants.{Admin, Router, Identity}
 use Rattle.ctrl_model.specs.NameForm.{is_name}
+use Rattle.session_mux.specs.declared.sessions.Stage.{Stage}
+use Rattle.session_mux.specs.declared.sessions.Stage.TheVariants.{Unopened, Opened, Closed}
 
 -- How many session numbers there are.
 abbrev pub session_numbers : ℕ
 session_numbers = 256
+
+-- The most bytes that one data record brings.
+abbrev pub most_data : ℕ
+most_data = 65535
 
 -- What a record of a trace says: a session is opened by someone, bytes of a session come, or a session is closed.
 pub data Arrival : Type 0 where
@@ -40,12 +46,6 @@ record_bytes (Close s) = 3 ∷ s ∷ []
 
 -- ---- which record may follow which
 
--- Whether a session number was opened in a trace, and whether it was closed since.
-pub data Stage : Type 0 where
-  Unopened : Stage
-  Opened : Stage
-  Closed : Stage
-
 -- A trace starts with no session opened.
 abbrev pub no_sessions : List Stage
 no_sessions = replicate session_numbers Unopened
@@ -67,19 +67,19 @@ stages_along stages (a ∷ arrivals) = stages_along (stages_after a stages) arri
 
 -- A role with a name has one by the grammar of names.
 abbrev pub IsRole : Who → Type 0
-IsRole Admin = Unit {0}
+IsRole Admin = ⊤
 IsRole (Router name) = is_name name ≡ true
 IsRole (Identity name) = is_name name ≡ true
 
 -- A record that may come at these stages: a session number is opened once, and data and the close are of an open session.
 abbrev pub IsAllowed : List Stage → Arrival → Type 0
-IsAllowed stages (Open s who) = (s < 256) × IsRole who × (stage_at stages s ≡ Unopened)
-IsAllowed stages (Data s bytes) = (s < 256) × (length bytes < 65536) × (stage_at stages s ≡ Opened)
-IsAllowed stages (Close s) = (s < 256) × (stage_at stages s ≡ Opened)
+IsAllowed stages (Open s who) = (s < session_numbers) × IsRole who × (stage_at stages s ≡ Unopened)
+IsAllowed stages (Data s bytes) = (s < session_numbers) × (length bytes ≤ most_data) × (stage_at stages s ≡ Opened)
+IsAllowed stages (Close s) = (s < session_numbers) × (stage_at stages s ≡ Opened)
 
 -- Records each of which may come after those before it.
 abbrev pub AreAllowed : List Stage → List Arrival → Type 0
-AreAllowed stages [] = Unit {0}
+AreAllowed stages [] = ⊤
 AreAllowed stages (a ∷ arrivals) = IsAllowed stages a × AreAllowed (stages_after a stages) arrivals
 
 -- A tail: no record that may come is spelled at its front.

@@ -12,9 +12,11 @@ use Rattle.session_mux.specs.declared.sessions.Session.{Session}
 use Rattle.session_mux.specs.declared.sessions.Session.TheVariants as session
 use Rattle.session_mux.specs.declared.sessions.Form.{Form}
 use Rattle.session_mux.specs.declared.sessions.Form.TheVariants.{Plain, Trace}
+use Rattle.session_mux.specs.declared.sessions.Stage.{Stage}
+use Rattle.session_mux.specs.declared.sessions.Stage.TheVariants.{Unopened, Opened, Closed}
 use Rattle.session_mux.specs.declared.events.Event.{Event}
 use Rattle.session_mux.specs.declared.events.Event.TheVariants as event
-use Rattle.session_mux.specs.Arrivals.{session_numbers, Arrival, Open, Data, Close, Stage, Unopened, Opened, Closed, RecordFront, record_front, records_of, tail_of, is_bad}
+use Rattle.session_mux.specs.Arrivals.{session_numbers, Arrival, Open, Data, Close, RecordFront, record_front, records_of, tail_of, is_bad}
 
 -- Where many sessions stand: the form of the input, the input bytes that are held, how many came before them, and each
 -- session number's session, which is not opened, open with its role and its bytes, or closed.

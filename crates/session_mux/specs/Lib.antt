@@ -1,4 +1,6 @@
 pub mod Arrivals
 pub mod Completion
 pub mod StreamSteps
+pub mod SessionSteps
+pub mod RecordSteps
 pub mod WorkedTraces

@@ -3,8 +3,10 @@
 
 mod buffers;
 mod events;
+mod records;
 mod sessions;
 mod streams;
+mod tables;
 mod worked;
 
 pub use events::{Event, MuxFault};

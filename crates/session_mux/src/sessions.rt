@@ -1,5 +1,20 @@
-use crate::streams::Stream;
+ghost use Rattle.std.specs.Prelude.{◌≡◌, ℕ, ◌+◌, ◌<◌, ◌≤◌, ◌^◌, [], set, map, IfOk, OnOk, OnErr, length};
+ghost use Rattle.ctrl_model.specs.declared.kinds.Who.TheVariants.{Admin};
+ghost use Rattle.channel_frame.specs.SessionBytes.{no_bytes};
+ghost use Rattle.session_mux.specs.declared.sessions.Session.TheVariants.{Open, Closed};
+ghost use Rattle.session_mux.specs.Arrivals.{stage_at};
+ghost use Rattle.session_mux.specs.Completion.{stage_of, with_data, fault_number as number_of};
+ghost use Rattle.session_mux.specs.SessionSteps.{held_len, taken, GivesEvent, StreamEvent};
+
+use crate::events::Event;
+use crate::streams::{Found, Stream};
+use channel_frame::FrameFault;
 use ctrl_model::Who;
+use std::alloc::{AllocError, Global};
+use std::marker::Model;
+
+/// How many session numbers there are.
+pub const NUMBERS: usize = 256;
 
 /// The form of an input.
 #[derive(Clone, Copy, Debug, PartialEq, Eq)]
@@ -10,6 +25,14 @@ pub enum Form {
     Trace,
 }
 
+/// Whether a session number was opened in a trace, and whether it was closed since.
+#[derive(Clone, Copy, Debug, PartialEq, Eq)]
+pub enum Stage {
+    Unopened,
+    Opened,
+    Closed,
+}
+
 /// Where a session number stands.
 #[derive(Debug, Drop)]
 pub enum Session {
@@ -17,6 +40,75 @@ pub enum Session {
     Unopened,
     /// It is open: who has it, and its bytes.
     Open { who: Who, bytes: Stream },
-    /// It was closed, or the trace would not name it again.
+    /// It was closed. Its number is not opened again.
     Closed,
+}
+
+fn fault_number(fault: FrameFault) -> u8
+    ensures { result ≡ number_of fault }
+{
+    match fault {
+        FrameFault::BadMarker => 1,
+        FrameFault::TooLong => 2,
+        FrameFault::BadHeaders => 3,
+        FrameFault::NoMemory => 0,
+    }
+}
+
+fn next_of(alloc: Global, session: u8, bytes: &mut Stream) -> Result<Option<Event>, AllocError>
+    requires room { bytes.old.given + length bytes.old.held < 2 ^ 63 }
+    ensures ok { IfOk result (λ event. StreamEvent session bytes.old bytes.new event) }
+    ensures err { OnErr result (bytes.new ≡ bytes.old) }
+{
+    match bytes.next(alloc)? {
+        Found::Nothing => Ok(None),
+        Found::Given(frame) => Ok(Some(Event::Arrived { session, frame })),
+        Found::Faulty(fault, at) => Ok(Some(Event::Ended {
+            session,
+            fault: fault_number(fault),
+            at,
+        })),
+    }
+}
+
+impl Session {
+    pub fn stage(&self) -> Stage
+        ensures { result ≡ stage_of self.now }
+    {
+        match self {
+            Session::Unopened => Stage::Unopened,
+            Session::Open { .. } => Stage::Opened,
+            Session::Closed => Stage::Closed,
+        }
+    }
+
+    pub fn held(&self) -> usize
+        ensures { result ≡ held_len self.now }
+    {
+        match self {
+            Session::Open { bytes, .. } => bytes.len(),
+            _ => 0,
+        }
+    }
+
+    pub fn feed(&mut self, piece: &[u8]) -> Result<(), AllocError>
+        ensures ok { OnOk result (self.new ≡ with_data self.old piece.now) }
+        ensures err { OnErr result (self.new ≡ self.old) }
+    {
+        match self {
+            Session::Open { bytes, .. } => bytes.feed(piece),
+            _ => Ok(()),
+        }
+    }
+
+    pub fn next_event(&mut self, alloc: Global, session: u8) -> Result<Option<Event>, AllocError>
+        requires room { taken self.old < 2 ^ 63 }
+        ensures ok { IfOk result (λ event. GivesEvent session self.old self.new event) }
+        ensures err { OnErr result (self.new ≡ self.old) }
+    {
+        match self {
+            Session::Open { bytes, .. } => next_of(alloc, session, bytes),
+            _ => Ok(None),
+        }
+    }
 }

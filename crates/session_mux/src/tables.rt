@@ -1,0 +1,109 @@
+ghost use Rattle.std.specs.Prelude.{◌≡◌, ℕ, ◌+◌, ◌<◌, ◌≤◌, ◌^◌, [], set, map, replicate, IfOk, OnOk, OnErr, length};
+ghost use Rattle.channel_frame.specs.SessionBytes.{no_bytes};
+ghost use Rattle.session_mux.specs.declared.sessions.Session.TheVariants.{Open, Closed};
+ghost use Rattle.session_mux.specs.Arrivals.{stage_at};
+ghost use Rattle.session_mux.specs.Completion.{session_at, unopened, stage_of, with_data, events_held};
+ghost use Rattle.session_mux.specs.SessionSteps.{held_len, taken, SessionsGive};
+
+use crate::events::Event;
+use crate::sessions::{NUMBERS, Session, Stage};
+use crate::streams::Stream;
+use ctrl_model::Who;
+use std::alloc::{AllocError, Global};
+use std::marker::Model;
+
+/// The session of each number.
+///
+/// At most one of them has a frame or a fault that was not told yet. Contracts see the list.
+#[derive(Debug, Drop)]
+pub struct SessionTable {
+    all: Vec<Session>,
+    ready: u8,
+}
+
+impl Model for SessionTable {
+    ghost use Rattle.std.specs.Prelude.{List, ◌≡◌, length};
+    ghost use Rattle.session_mux.specs.declared.sessions.Session.{Session};
+    ghost use Rattle.session_mux.specs.SessionSteps.{IsQuietBut};
+
+    ghost Value = { List Session };
+
+    ghost view = { λ t. t.all.items };
+
+    ghost invariant = { λ t. (length t.all.items ≡ 256) × IsQuietBut t.ready t.all.items };
+}
+
+fn unopened_sessions(alloc: Global) -> Result<Vec<Session>, AllocError>
+    ensures { IfOk result (λ v. v.items ≡ unopened) }
+{
+    let mut all = Vec::new(alloc);
+    'numbers: for _number in 0..NUMBERS {
+        all.push(Session::Unopened)?;
+    }
+    Ok(all)
+}
+
+impl SessionTable {
+    /// No session is opened.
+    pub fn new(alloc: Global) -> Result<SessionTable, AllocError>
+        ensures { IfOk result (λ t. t ≡ unopened) }
+    {
+        let all = unopened_sessions(alloc)?;
+        Ok(SessionTable { all, ready: 0 })
+    }
+
+    /// The stage of a session number.
+    pub fn stage(&self, session: u8) -> Stage
+        ensures { result ≡ stage_at (map stage_of self.now) session }
+    {
+        self.all[session as usize].stage()
+    }
+
+    /// How many bytes a session holds.
+    pub fn held(&self, session: u8) -> usize
+        ensures { result ≡ held_len (session_at self.now session) }
+    {
+        self.all[session as usize].held()
+    }
+
+    /// A session is opened.
+    pub fn open(&mut self, alloc: Global, session: u8, who: Who)
+        requires quiet { events_held 0 self.old ≡ [] }
+        ensures { self.new ≡ set self.old session (Open who no_bytes) }
+    {
+        self.all[session as usize] = Session::Open {
+            who,
+            bytes: Stream::new(alloc),
+        };
+    }
+
+    /// A session is closed.
+    pub fn close(&mut self, session: u8)
+        requires quiet { events_held 0 self.old ≡ [] }
+        ensures { self.new ≡ set self.old session Closed }
+    {
+        self.all[session as usize] = Session::Closed;
+    }
+
+    /// Bytes of a session come.
+    pub fn feed(&mut self, session: u8, piece: &[u8]) -> Result<(), AllocError>
+        requires quiet { events_held 0 self.old ≡ [] }
+        ensures ok { OnOk result (self.new ≡ set self.old session (with_data (session_at self.old session) piece.now)) }
+        ensures err { OnErr result (self.new ≡ self.old) }
+    {
+        self.all[session as usize].feed(piece)?;
+        self.ready = session;
+        Ok(())
+    }
+
+    /// The first event of what the sessions hold.
+    pub fn next_event(&mut self, alloc: Global) -> Result<Option<Event>, AllocError>
+        requires room { (s : ℕ) → taken (session_at self.old s) < 2 ^ 63 }
+        ensures ok { IfOk result (λ event. SessionsGive self.old self.new event) }
+        ensures err { OnErr result (self.new ≡ self.old) }
+    {
+        let session = self.ready;
+        let event = self.all[session as usize].next_event(alloc, session)?;
+        Ok(event)
+    }
+}
