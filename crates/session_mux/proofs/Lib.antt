@@ -2,3 +2,4 @@ mod FrontParts
 pub mod EventLaws
 pub mod TableLaws
 pub mod RecordLaws
+pub mod GoingLaws

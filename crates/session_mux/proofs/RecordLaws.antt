@@ -1,7 +1,7 @@
 -- What stands at the front of a trace, and the records a step at a time.
 use Rattle.std.proofs.Common.{◌≡◌, ℕ, zero, suc, ◌+◌, ◌-◌, ◌<◌, ◌≤◌, Bool, true, false, cond, ltb, eqb, List, [], ◌∷◌, ◌++◌, length, take, drop, get_or, Option, refl, sym, ap, ◌∙◌, arith}
 use Rattle.std.specs.Prelude.{◌||◌}
-use Rattle.std.proofs.lemmas.Bool.{ltb-false, le-ltb}
+use Rattle.std.proofs.lemmas.Bool.{ltb-false, le-ltb, ne_eqb}
 use Rattle.std.proofs.lemmas.List.{get_or_append_left, take-append-le, drop-append-le, length-append, length-drop}
 use Rattle.ctrl_model.specs.declared.kinds.Who.{Who}
 use Rattle.channel_frame.proofs.ReadingLaws.{drop_before}
@@ -114,7 +114,9 @@ kinds_stay false false false x y z x' y' z' a b c stands = refl
 front_is : (stages : List Stage) (bytes : List ℕ) → 0 < length bytes
     → record_front stages bytes ≡ by_kind (eqb (get_or bytes 0 0) 1) (eqb (get_or bytes 0 0) 2) (eqb (get_or bytes 0 0) 3) (open_at stages bytes) (data_at stages bytes) (close_at stages bytes)
 front_is stages [] some = absurd (omega arith)
-front_is stages (b ∷ bytes) some = refl
+front_is stages (b ∷ bytes) some =
+    ap (λ (t : Bool). cond t Unfinished (by_kind (eqb b 1) (eqb b 2) (eqb b 3) (open_at stages (b ∷ bytes)) (data_at stages (b ∷ bytes)) (close_at stages (b ∷ bytes))))
+    (ne_eqb (length (b ∷ bytes)) 0 (λ e. absurd (omega arith)))
 
 front_some : (stages : List Stage) (bytes : List ℕ) → (record_front stages bytes ≡ Unfinished → ⊥) → 0 < length bytes
 front_some stages [] stands = absurd (stands refl)
@@ -148,7 +150,7 @@ pub record_step : (stages : List Stage) (bytes : List ℕ) (a : Arrival) (n : �
 record_step stages [] a n e some = absurd cc
 record_step stages (b ∷ bytes) a n e some = (
     ap (λ (at : RecordFront). and_then_records stages at (records_past bytes)) e
-    ∙ ap (λ (as : List Arrival). a ∷ as) (records_past-drop bytes (stages_after a stages) (n - 1) ∙ ap (records_of (stages_after a stages)) (sym (drop_before n b bytes some))),
+    ∙ ap (λ (later : List Arrival). a ∷ later) (records_past-drop bytes (stages_after a stages) (n - 1) ∙ ap (records_of (stages_after a stages)) (sym (drop_before n b bytes some))),
     ap (λ (at : RecordFront). and_then_tail (b ∷ bytes) stages at (tail_past bytes)) e
     ∙ tail_past-drop bytes (stages_after a stages) (n - 1)
     ∙ ap (tail_of (stages_after a stages)) (sym (drop_before n b bytes some)),

@@ -13,7 +13,7 @@ use Rattle.session_mux.specs.SessionSteps.{taken, GivesEvent, SessionsGive, IsQu
 abbrev pub IsQuietFrom : ℕ → List Session → Type 0
 IsQuietFrom k sessions = (s : ℕ) → session_events (k + s) (session_at sessions s) ≡ []
 
-none_before : {A : Type 0} (x y z : List A) → x ≡ [] → y ≡ z → x ++ y ≡ z
+pub none_before : {A : Type 0} (x y z : List A) → x ≡ [] → y ≡ z → x ++ y ≡ z
 none_before x y z p q = cc
 
 none_each : {A : Type 0} (x y : List A) → x ++ y ≡ [] → (x ≡ []) × (y ≡ [])
@@ -53,13 +53,13 @@ held_of_one k (suc r) (x ∷ sessions) quiet =
     none_before (session_events k x) (events_held (suc k) sessions) (session_events (k + suc r) (session_at sessions r)) (sym (first_is k x) ∙ quiet 0 (λ e. cc))
     (held_of_one (suc k) r sessions (λ s other. sym (from_next k s (session_at sessions s)) ∙ quiet (suc s) (λ e. other cc)) ∙ sym (from_next k r (session_at sessions r)))
 
-from_zero : (s : ℕ) (x : Session) → session_events (0 + s) x ≡ session_events s x
+pub from_zero : (s : ℕ) (x : Session) → session_events (0 + s) x ≡ session_events s x
 from_zero s x =
     let e : 0 + s ≡ s = omega arith in
     ap (λ (n : ℕ). session_events n x) e
 
 -- at most one session has events: all events are its own
-held_of_ready : (r : ℕ) (sessions : List Session) → IsQuietBut r sessions → events_held 0 sessions ≡ session_events r (session_at sessions r)
+pub held_of_ready : (r : ℕ) (sessions : List Session) → IsQuietBut r sessions → events_held 0 sessions ≡ session_events r (session_at sessions r)
 held_of_ready r sessions quiet = held_of_one 0 r sessions (λ s other. from_zero s (session_at sessions s) ∙ quiet s other) ∙ from_zero r (session_at sessions r)
 
 -- no session is open at the start

@@ -3,4 +3,5 @@ pub mod Completion
 pub mod StreamSteps
 pub mod SessionSteps
 pub mod RecordSteps
+pub mod MuxSteps
 pub mod WorkedTraces

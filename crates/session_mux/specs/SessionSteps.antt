@@ -7,12 +7,6 @@ use Rattle.session_mux.specs.declared.sessions.Session.TheVariants as session
 use Rattle.session_mux.specs.declared.events.Event.{Event}
 use Rattle.session_mux.specs.Completion.{bytes_events, session_events, settled_session, session_at, events_held}
 
--- How many bytes a session holds.
-abbrev pub held_len : Session → ℕ
-held_len session.Unopened = 0
-held_len (session.Open who bytes) = length bytes.held
-held_len session.Closed = 0
-
 -- How many bytes of a session came.
 abbrev pub taken : Session → ℕ
 taken session.Unopened = 0

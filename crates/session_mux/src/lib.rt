@@ -3,6 +3,7 @@
 
 mod buffers;
 mod events;
+mod muxing;
 mod records;
 mod sessions;
 mod streams;
@@ -10,6 +11,5 @@ mod tables;
 mod worked;
 
 pub use events::{Event, MuxFault};
-pub use sessions::{Form, Session};
-pub use streams::Stream;
+pub use muxing::Mux;
 pub use worked::{worked_interleaving, worked_session};

@@ -3,8 +3,8 @@ ghost use Rattle.ctrl_model.specs.declared.kinds.Who.TheVariants.{Admin};
 ghost use Rattle.channel_frame.specs.SessionBytes.{no_bytes};
 ghost use Rattle.session_mux.specs.declared.sessions.Session.TheVariants.{Open, Closed};
 ghost use Rattle.session_mux.specs.Arrivals.{stage_at};
-ghost use Rattle.session_mux.specs.Completion.{stage_of, with_data, fault_number as number_of};
-ghost use Rattle.session_mux.specs.SessionSteps.{held_len, taken, GivesEvent, StreamEvent};
+ghost use Rattle.session_mux.specs.Completion.{stage_of, rest_len, session_events, with_data, fault_number as number_of};
+ghost use Rattle.session_mux.specs.SessionSteps.{taken, GivesEvent, StreamEvent};
 
 use crate::events::Event;
 use crate::streams::{Found, Stream};
@@ -82,11 +82,13 @@ impl Session {
         }
     }
 
-    pub fn held(&self) -> usize
-        ensures { result ≡ held_len self.now }
+    // The number of the session is named by what is held quiet.
+    pub fn rest(&self, session: u8) -> u32
+        requires quiet { session_events session self.now ≡ [] }
+        ensures { result ≡ rest_len self.now }
     {
         match self {
-            Session::Open { bytes, .. } => bytes.len(),
+            Session::Open { bytes, .. } => bytes.rest(session) as u32,
             _ => 0,
         }
     }

@@ -1,7 +1,8 @@
-ghost use Rattle.std.specs.Prelude.{◌≡◌, ◌≢◌, ◌+◌, ◌<◌, ◌^◌, IfOk, OnOk, OnErr, length, None};
+ghost use Rattle.std.specs.Prelude.{◌≡◌, ◌≢◌, ◌+◌, ◌<◌, ◌≤◌, ◌^◌, [], IfOk, OnOk, OnErr, length, None};
 ghost use Rattle.channel_frame.specs.declared.frames.Front.TheVariants.{Bad, Whole};
 ghost use Rattle.channel_frame.specs.StreamReading.{front};
-ghost use Rattle.channel_frame.specs.SessionBytes.{no_bytes, with_more};
+ghost use Rattle.channel_frame.specs.SessionBytes.{no_bytes, with_more, settled};
+ghost use Rattle.session_mux.specs.Completion.{bytes_events};
 ghost use Rattle.session_mux.specs.StreamSteps.{IsAnnouncedAt, StreamGives};
 
 use crate::buffers::Buffer;
@@ -89,10 +90,15 @@ impl Stream {
         }
     }
 
-    /// How many bytes are held.
-    pub fn len(&self) -> usize
-        ensures { result ≡ length self.now.held }
+    /// How many bytes of an unfinished frame are held, where there is no event of them.
+    pub fn rest(&self, session: u8) -> usize
+        requires quiet { bytes_events session self.now ≡ [] }
+        ensures rest { result ≡ length (settled self.now).held }
+        ensures few { result ≤ 1114131 }
     {
+        if self.fault.is_some() {
+            return 0;
+        }
         self.held.len()
     }
 

@@ -2,8 +2,8 @@ ghost use Rattle.std.specs.Prelude.{◌≡◌, ℕ, ◌+◌, ◌<◌, ◌≤◌,
 ghost use Rattle.channel_frame.specs.SessionBytes.{no_bytes};
 ghost use Rattle.session_mux.specs.declared.sessions.Session.TheVariants.{Open, Closed};
 ghost use Rattle.session_mux.specs.Arrivals.{stage_at};
-ghost use Rattle.session_mux.specs.Completion.{session_at, unopened, stage_of, with_data, events_held};
-ghost use Rattle.session_mux.specs.SessionSteps.{held_len, taken, SessionsGive};
+ghost use Rattle.session_mux.specs.Completion.{session_at, unopened, stage_of, rest_len, with_data, events_held};
+ghost use Rattle.session_mux.specs.SessionSteps.{taken, SessionsGive};
 
 use crate::events::Event;
 use crate::sessions::{NUMBERS, Session, Stage};
@@ -59,11 +59,12 @@ impl SessionTable {
         self.all[session as usize].stage()
     }
 
-    /// How many bytes a session holds.
-    pub fn held(&self, session: u8) -> usize
-        ensures { result ≡ held_len (session_at self.now session) }
+    /// How many bytes of an unfinished frame a session has, where no session holds an event.
+    pub fn rest(&self, session: u8) -> u32
+        requires quiet { events_held 0 self.now ≡ [] }
+        ensures { result ≡ rest_len (session_at self.now session) }
     {
-        self.all[session as usize].held()
+        self.all[session as usize].rest(session)
     }
 
     /// A session is opened.
