@@ -1,13 +1,17 @@
 -- A session's bytes that come in pieces are read as the whole of them.
-use Rattle.std.proofs.Common.{◌≡◌, ℕ, zero, suc, ◌+◌, ◌-◌, ◌<◌, ◌≤◌, List, [], ◌∷◌, ◌++◌, length, drop, Option, None, Some, refl, sym, ap, subst, ◌∙◌, ◌⊎◌, inl, inr, append_assoc, arith}
+use Rattle.std.proofs.Common.{◌≡◌, ℕ, zero, suc, ◌+◌, ◌-◌, ◌<◌, ◌≤◌, List, [], ◌∷◌, ◌++◌, length, drop, Option, None, Some, Result, Ok, Err, refl, sym, ap, subst, ◌∙◌, ◌⊎◌, inl, inr, append_assoc, arith}
+use Rattle.std.proofs.lemmas.Bool.{cases_lt}
 use Rattle.std.proofs.lemmas.List.{append-nil, drop-append-le, length-append, length-drop}
 use Rattle.channel_frame.specs.declared.frames.Frame.{Frame}
 use Rattle.channel_frame.specs.declared.frames.FrameFault.{FrameFault}
+use Rattle.channel_frame.specs.declared.frames.Head.{Head}
+use Rattle.channel_frame.specs.declared.frames.Header.{Header}
 use Rattle.channel_frame.specs.declared.frames.Front.{Front}
 use Rattle.channel_frame.specs.declared.frames.Front.TheVariants.{Short, Bad, Whole}
-use Rattle.channel_frame.specs.StreamReading.{front, and_then_frames, frames_past, frames_of, and_then_rest, rest_past, rest_of}
+use Rattle.channel_frame.specs.StreamReading.{head_of, frame_len, headers_of, headers_part, with_headers, front, and_then_frames, frames_past, frames_of, and_then_rest, rest_past, rest_of}
 use Rattle.channel_frame.specs.SessionBytes.{SessionBytes, no_bytes, held_with, with_more, frames_unless, frames_held, left_at, left_unless, settled, placed, fault_unless, fault_held}
-use Rattle.channel_frame.proofs.FrontLaws.{front_stays, whole_within}
+use Rattle.channel_frame.proofs.HeadLaws.{head_limits}
+use Rattle.channel_frame.proofs.FrontLaws.{front_stays, whole_within, front_headed, front_behind}
 use Rattle.channel_frame.proofs.ReadingLaws.{HasNone, drop_before, frames_step, rest_step, reading_stops, reading_stops_bad}
 
 -- ---- bytes behind bytes
@@ -263,3 +267,27 @@ fault_on_parts g h (Some e) more = inl (refl, refl)
 
 pub fault_on : (b : SessionBytes) (more : List ℕ) → FaultOn b more
 fault_on b more = fault_on_parts b.given b.held b.fault more
+
+-- ---- how long an unfinished frame may be
+
+not_short : (h : Head) (bytes : List ℕ) (o : Option (List Header)) → with_headers h bytes o ≡ Short → ⊥
+not_short h bytes None e = cc
+not_short h bytes (Some hs) e = cc
+
+few_headed : (bytes : List ℕ) (r : Result Head FrameFault) → 20 ≤ length bytes → head_of bytes ≡ r → front bytes ≡ Short → length bytes ≤ 1114131
+few_headed bytes (Err d) long e short =
+    let bad : front bytes ≡ Bad d = front_headed bytes (Err d) long e in
+    absurd cc
+few_headed bytes (Ok h) long e short =
+    let limits = head_limits bytes h e in
+    elim (cases_lt (length bytes) (frame_len h)) [
+      | inl lt ↦ omega (arith, limits.0, limits.1)
+      | inr le ↦ absurd (not_short h bytes (headers_of (headers_part h bytes)) (sym (front_behind bytes h long e le) ∙ short))
+    ]
+
+pub short_few : (bytes : List ℕ) → front bytes ≡ Short → length bytes ≤ 1114131
+short_few bytes short =
+    elim (cases_lt (length bytes) 20) [
+      | inl lt ↦ omega arith
+      | inr le ↦ few_headed bytes (head_of bytes) le refl short
+    ]

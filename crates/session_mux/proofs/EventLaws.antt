@@ -1,13 +1,15 @@
 -- The events of one session's bytes, and what more bytes do to them.
-use Rattle.std.proofs.Common.{◌≡◌, ℕ, ◌+◌, ◌≤◌, List, [], ◌∷◌, ◌++◌, length, drop, map, Option, None, Some, refl, sym, ap, subst, ◌∙◌, ◌⊎◌, inl, inr, append_assoc, arith}
+use Rattle.std.proofs.Common.{◌≡◌, ℕ, ◌+◌, ◌≤◌, List, [], ◌∷◌, ◌++◌, length, drop, map, Bool, true, false, Option, None, Some, refl, sym, ap, subst, ◌∙◌, ◌⊎◌, inl, inr, append_assoc, arith}
+use Rattle.std.specs.Prelude.{is_some}
 use Rattle.std.proofs.lemmas.List.{append-nil, length-drop, drop_at, map-append}
 use Rattle.channel_frame.specs.declared.frames.Frame.{Frame}
 use Rattle.channel_frame.specs.declared.frames.FrameFault.{FrameFault}
+use Rattle.channel_frame.specs.declared.frames.Front.{Front}
 use Rattle.channel_frame.specs.declared.frames.Front.TheVariants.{Short, Bad, Whole}
 use Rattle.channel_frame.specs.StreamReading.{front}
-use Rattle.channel_frame.specs.SessionBytes.{SessionBytes, no_bytes, with_more, frames_held, settled, fault_held}
+use Rattle.channel_frame.specs.SessionBytes.{SessionBytes, no_bytes, with_more, frames_held, left_unless, settled, fault_held}
 use Rattle.channel_frame.proofs.FrontLaws.{whole_within}
-use Rattle.channel_frame.proofs.SessionLaws.{goes_on, fault_on, FaultOn, more_twice, no_more, IsQuiet, quiet_short, met_nothing, settled_quiet, quiet_fault, gives_frame, tells_fault}
+use Rattle.channel_frame.proofs.SessionLaws.{goes_on, fault_on, FaultOn, more_twice, no_more, IsQuiet, quiet_short, met_nothing, settled_quiet, quiet_fault, gives_frame, tells_fault, short_few}
 use Rattle.session_mux.specs.declared.events.Event.{Event}
 use Rattle.session_mux.specs.declared.events.Event.TheVariants as event
 use Rattle.session_mux.specs.declared.sessions.Session.{Session}
@@ -121,3 +123,46 @@ pub rest_settled : (x : Session) → rest_len (settled_session x) ≡ rest_len x
 rest_settled session.Unopened = refl
 rest_settled (session.Open who b) = ap (λ (b : SessionBytes). length b.held) (settled_quiet b).left
 rest_settled session.Closed = refl
+
+-- ---- what has no event is short
+
+short_at : (s : ℕ) (b : SessionBytes) (at : Front) → b.fault ≡ None → front b.held ≡ at → bytes_events s b ≡ [] → at ≡ Short
+short_at s b Short none e quiet = refl
+short_at s b (Bad d) none e quiet =
+    let t = tells_fault b d none e in
+    let some : bytes_events s b ≡ event.Ended s (fault_number d) b.given ∷ [] =
+      ap (λ (fs : List Frame). map (event.Arrived s) fs ++ ended s (fault_held b)) t.frames ∙ ap (ended s) t.fault
+    in
+    absurd cc
+short_at s b (Whole f n) none e quiet =
+    let g = gives_frame b f n none e in
+    let after : SessionBytes = record { given = b.given + n; held = drop n b.held; fault = None } in
+    let some : bytes_events s b ≡ event.Arrived s f ∷ (map (event.Arrived s) (frames_held after) ++ ended s (fault_held b)) =
+      ap (λ (fs : List Frame). map (event.Arrived s) fs ++ ended s (fault_held b)) g.frames
+    in
+    absurd cc
+
+-- what is left of a session without a fault that has no event is all of it, and is short
+pub left_of_quiet : (s : ℕ) (b : SessionBytes) → b.fault ≡ None → bytes_events s b ≡ [] → (settled b ≡ b) × (length b.held ≤ 1114131)
+left_of_quiet s b none quiet =
+    let short : front b.held ≡ Short = short_at s b (front b.held) none refl quiet in
+    ((quiet_short b none short).left, short_few b.held short)
+
+-- after a fault nothing is left
+pub left_of_met : (b : SessionBytes) (e : FrameFault) → b.fault ≡ Some e → length (settled b).held ≡ 0
+left_of_met b e some = ap (λ (o : Option FrameFault). length (left_unless o b.given b.held).held) some
+
+few_left : (s : ℕ) (b : SessionBytes) (o : Option FrameFault) → b.fault ≡ o → bytes_events s b ≡ [] → length (settled b).held ≤ 1114131
+few_left s b None e quiet =
+    let left = left_of_quiet s b e quiet in
+    omega (arith, left.1, ap (λ (x : SessionBytes). length x.held) left.0)
+few_left s b (Some d) e quiet = omega (arith, left_of_met b d e)
+
+pub few_of_quiet : (s : ℕ) (x : Session) → session_events s x ≡ [] → rest_len x ≤ 1114131
+few_of_quiet s session.Unopened quiet = omega arith
+few_of_quiet s (session.Open who b) quiet = few_left s b b.fault refl quiet
+few_of_quiet s session.Closed quiet = omega arith
+
+pub no_fault : (o : Option FrameFault) → is_some o ≡ false → o ≡ None
+no_fault None e = refl
+no_fault (Some d) e = absurd cc

@@ -3,3 +3,4 @@ pub mod EventLaws
 pub mod TableLaws
 pub mod RecordLaws
 pub mod GoingLaws
+pub mod StepLaws

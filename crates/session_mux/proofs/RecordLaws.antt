@@ -6,6 +6,8 @@ use Rattle.std.proofs.lemmas.List.{get_or_append_left, take-append-le, drop-appe
 use Rattle.ctrl_model.specs.declared.kinds.Who.{Who}
 use Rattle.channel_frame.proofs.ReadingLaws.{drop_before}
 use Rattle.session_mux.specs.declared.sessions.Stage.{Stage}
+use Rattle.session_mux.specs.declared.sessions.Stage.TheVariants.{Unopened, Opened, Closed}
+use Rattle.session_mux.specs.RecordSteps.{is_unopened, is_opened}
 use Rattle.session_mux.specs.Arrivals.{Arrival, Open, Data, Close, RecordFront, Unfinished, Bad, Whole, stage_at, stages_after, role_at, opening, within, data_len, open_at, data_at, close_at, record_front, and_then_records, records_past, records_of, and_then_tail, tail_past, tail_of}
 
 -- what stands whole or bad stands so whatever follows
@@ -176,3 +178,15 @@ pub tail_within : (bytes : List ℕ) (stages : List Stage) (n : ℕ) → length 
 tail_within [] stages n = omega arith
 tail_within (b ∷ bytes) stages (suc n) = omega (arith, tail_within bytes stages n)
 tail_within (b ∷ bytes) stages zero = within_at b bytes stages (record_front stages (b ∷ bytes)) (λ stages n. tail_within bytes stages n)
+
+-- ---- what the stage refuses
+
+pub opened_before : (st : Stage) (s : ℕ) (who : Option Who) (n : ℕ) → is_unopened st ≡ false → opening st s who n ≡ Bad
+opened_before Unopened s who n e = absurd cc
+opened_before Opened s who n e = refl
+opened_before Closed s who n e = refl
+
+pub not_open : (st : Stage) (a : Arrival) (n : ℕ) → is_opened st ≡ false → within st a n ≡ Bad
+not_open Unopened a n e = refl
+not_open Opened a n e = absurd cc
+not_open Closed a n e = refl

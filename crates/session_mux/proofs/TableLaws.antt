@@ -1,12 +1,14 @@
 -- The events of what all sessions hold, where at most one has any.
 use Rattle.std.proofs.Common.{◌≡◌, ℕ, zero, suc, ◌+◌, ◌<◌, ◌≤◌, List, [], ◌∷◌, ◌++◌, length, map, set, get_or, replicate, Option, None, Some, refl, sym, ap, subst, ◌∙◌, ◌⊎◌, inl, inr, arith}
 use Rattle.std.proofs.lemmas.Bool.{cases_eq}
-use Rattle.std.proofs.lemmas.List.{append-nil, get_or-set_same, get_or-set_other, set-get_or}
+use Rattle.std.proofs.lemmas.List.{append-nil, length-append, get_or-set_same, get_or-set_other, set-get_or}
 use Rattle.std.proofs.Math.Seq.{map-set_same}
+use Rattle.channel_frame.specs.declared.frames.FrameFault.{FrameFault}
+use Rattle.channel_frame.specs.SessionBytes.{held_with}
 use Rattle.session_mux.specs.declared.events.Event.{Event}
 use Rattle.session_mux.specs.declared.sessions.Session.{Session}
 use Rattle.session_mux.specs.declared.sessions.Session.TheVariants as session
-use Rattle.session_mux.specs.Completion.{session_at, session_events, settled_session, events_held}
+use Rattle.session_mux.specs.Completion.{session_at, session_events, settled_session, with_data, events_held}
 use Rattle.session_mux.specs.SessionSteps.{taken, GivesEvent, SessionsGive, IsQuietBut}
 
 -- no session has an event
@@ -119,3 +121,44 @@ gives_set r x sessions (Some e) within quiet gives =
       sym (map-set_same settled_session sessions r x session.Unopened (sym gives.1)),
       taken_set r x sessions within gives.2,
     )
+
+-- ---- how many bytes of each session came
+
+-- at most so many bytes came of each session
+abbrev pub AtMost : List Session → ℕ → Type 0
+AtMost sessions most = (s : ℕ) → taken (session_at sessions s) ≤ most
+
+pub at_most_set : (r : ℕ) (x : Session) (sessions : List Session) (most : ℕ) → r < length sessions → taken x ≤ most → AtMost sessions most → AtMost (set sessions r x) most
+at_most_set r x sessions most within few all s =
+    elim (cases_eq s r) [
+      | inl same ↦
+        let a : taken (session_at (set sessions r x) r) ≡ taken x = ap taken (get_or-set_same sessions r x session.Unopened within) in
+        let b : taken (session_at (set sessions r x) r) ≤ most = omega (arith, a, few) in
+        subst (λ (n : ℕ). taken (session_at (set sessions r x) n) ≤ most) (sym same) b
+      | inr apart ↦
+        let a : taken (session_at (set sessions r x) s) ≡ taken (session_at sessions s) = ap taken (set_other sessions r s x apart) in
+        omega (arith, a, all s)
+    ]
+
+pub at_most_more : (sessions : List Session) (most more : ℕ) → most ≤ more → AtMost sessions most → AtMost sessions more
+at_most_more sessions most more le all s = omega (arith, all s)
+
+taken_bytes : (g : ℕ) (h : List ℕ) (o : Option FrameFault) (more : List ℕ) → (held_with o g h more).given + length (held_with o g h more).held ≤ g + length h + length more
+taken_bytes g h None more = omega (arith, length-append h more)
+taken_bytes g h (Some e) more = omega arith
+
+pub taken_data : (x : Session) (more : List ℕ) → taken (with_data x more) ≤ taken x + length more
+taken_data session.Unopened more = omega arith
+taken_data (session.Open who b) more = taken_bytes b.given b.held b.fault more
+taken_data session.Closed more = omega arith
+
+pub at_most_data : (r : ℕ) (bytes : List ℕ) (sessions : List Session) (most n : ℕ) → r < length sessions → length bytes ≤ n → AtMost sessions most
+    → AtMost (set sessions r (with_data (session_at sessions r) bytes)) (most + n)
+at_most_data r bytes sessions most n within few all =
+    at_most_set r (with_data (session_at sessions r) bytes) sessions (most + n) within (omega (arith, taken_data (session_at sessions r) bytes, all r, few))
+    (at_most_more sessions most (most + n) (omega arith) all)
+
+pub at_most_start : (n most : ℕ) → AtMost (replicate n session.Unopened) most
+at_most_start n most s =
+    let a : taken (session_at (replicate n session.Unopened) s) ≡ 0 = ap taken (unopened_at n s) in
+    omega (arith, a)

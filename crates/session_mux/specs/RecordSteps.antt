@@ -2,6 +2,7 @@
 use Rattle.std.specs.Prelude.{◌≡◌, ℕ, ◌+◌, ◌≤◌, ◌==◌, Bool, true, false, if◌then◌else◌, List, length, take, drop}
 use Rattle.ctrl_model.specs.NameForm.{is_name}
 use Rattle.session_mux.specs.declared.sessions.Stage.{Stage}
+use Rattle.session_mux.specs.declared.sessions.Stage.TheVariants.{Unopened, Opened, Closed}
 use Rattle.session_mux.specs.declared.records.Look.{Look}
 use Rattle.session_mux.specs.declared.records.Look.TheVariants as look
 use Rattle.session_mux.specs.Arrivals.{Data, Close, RecordFront, Unfinished, Bad, role_at, opening, within, stage_at, record_front}
@@ -31,3 +32,13 @@ LookFits bytes (look.Closes s) = 2 ≤ length bytes
 pub record IsLook (bytes : List ℕ) (l : Look) : Type 0 where
   pub front : (stages : List Stage) → record_front stages bytes ≡ judged stages bytes l
   pub fits : LookFits bytes l
+
+-- Whether a session number was not opened, and whether it is open.
+abbrev pub is_unopened : Stage → Bool
+is_unopened Unopened = true
+is_unopened Opened = false
+is_unopened Closed = false
+abbrev pub is_opened : Stage → Bool
+is_opened Unopened = false
+is_opened Opened = true
+is_opened Closed = false

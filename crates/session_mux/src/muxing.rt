@@ -10,7 +10,7 @@ ghost use Rattle.session_mux.specs.MuxSteps.{StepGives, HeldGives, GivesNone, Gi
 use crate::buffers::Buffer;
 use crate::events::{Event, MuxFault};
 use crate::records::{Look, peek};
-use crate::sessions::{Form, Stage};
+use crate::sessions::Form;
 use crate::tables::SessionTable;
 use ctrl_model::{Name, NameFault, Who};
 use std::alloc::{AllocError, Global};
@@ -209,21 +209,21 @@ impl Mux {
             Look::Unfinished => Ok(Step::Ended),
             Look::Bad => Ok(Step::Stuck(self.before)),
             Look::Opens { session, role, len } => {
-                if self.sessions.stage(session) == Stage::Unopened {
+                if self.sessions.may_open(session) {
                     self.step_open(session, role, len)
                 } else {
                     Ok(Step::Stuck(self.before))
                 }
             }
             Look::Brings { session, len } => {
-                if self.sessions.stage(session) == Stage::Opened {
+                if self.sessions.is_open(session) {
                     self.step_data(session, len)
                 } else {
                     Ok(Step::Stuck(self.before))
                 }
             }
             Look::Closes { session } => {
-                if self.sessions.stage(session) == Stage::Opened {
+                if self.sessions.is_open(session) {
                     Ok(self.step_close(session))
                 } else {
                     Ok(Step::Stuck(self.before))

@@ -3,10 +3,11 @@ ghost use Rattle.channel_frame.specs.SessionBytes.{no_bytes};
 ghost use Rattle.session_mux.specs.declared.sessions.Session.TheVariants.{Open, Closed};
 ghost use Rattle.session_mux.specs.Arrivals.{stage_at};
 ghost use Rattle.session_mux.specs.Completion.{session_at, unopened, stage_of, rest_len, with_data, events_held};
+ghost use Rattle.session_mux.specs.RecordSteps.{is_unopened, is_opened};
 ghost use Rattle.session_mux.specs.SessionSteps.{taken, SessionsGive};
 
 use crate::events::Event;
-use crate::sessions::{NUMBERS, Session, Stage};
+use crate::sessions::{NUMBERS, Session};
 use crate::streams::Stream;
 use ctrl_model::Who;
 use std::alloc::{AllocError, Global};
@@ -52,11 +53,18 @@ impl SessionTable {
         Ok(SessionTable { all, ready: 0 })
     }
 
-    /// The stage of a session number.
-    pub fn stage(&self, session: u8) -> Stage
-        ensures { result ≡ stage_at (map stage_of self.now) session }
+    /// Whether a session may be opened: its number was not opened before.
+    pub fn may_open(&self, session: u8) -> bool
+        ensures { result ≡ is_unopened (stage_at (map stage_of self.now) session) }
     {
-        self.all[session as usize].stage()
+        matches!(self.all[session as usize], Session::Unopened)
+    }
+
+    /// Whether a session is open.
+    pub fn is_open(&self, session: u8) -> bool
+        ensures { result ≡ is_opened (stage_at (map stage_of self.now) session) }
+    {
+        matches!(self.all[session as usize], Session::Open { .. })
     }
 
     /// How many bytes of an unfinished frame a session has, where no session holds an event.
@@ -70,7 +78,8 @@ impl SessionTable {
     /// A session is opened.
     pub fn open(&mut self, alloc: Global, session: u8, who: Who)
         requires quiet { events_held 0 self.old ≡ [] }
-        ensures { self.new ≡ set self.old session (Open who no_bytes) }
+        ensures after { self.new ≡ set self.old session (Open who no_bytes) }
+        ensures numbers { length self.old ≡ 256 }
     {
         self.all[session as usize] = Session::Open {
             who,
@@ -81,7 +90,8 @@ impl SessionTable {
     /// A session is closed.
     pub fn close(&mut self, session: u8)
         requires quiet { events_held 0 self.old ≡ [] }
-        ensures { self.new ≡ set self.old session Closed }
+        ensures after { self.new ≡ set self.old session Closed }
+        ensures numbers { length self.old ≡ 256 }
     {
         self.all[session as usize] = Session::Closed;
     }
@@ -91,6 +101,7 @@ impl SessionTable {
         requires quiet { events_held 0 self.old ≡ [] }
         ensures ok { OnOk result (self.new ≡ set self.old session (with_data (session_at self.old session) piece.now)) }
         ensures err { OnErr result (self.new ≡ self.old) }
+        ensures numbers { length self.old ≡ 256 }
     {
         self.all[session as usize].feed(piece)?;
         self.ready = session;

@@ -1,0 +1,82 @@
+-- Each step of the mux, said of the fields as they stand before and after it.
+use Rattle.std.proofs.Common.{◌≡◌, ℕ, ◌+◌, ◌<◌, ◌≤◌, List, [], ◌∷◌, ◌++◌, length, take, drop, map, set, Option, None, Some, refl, sym, ap, subst, ◌∙◌, arith}
+use Rattle.ctrl_model.specs.declared.kinds.Who.{Who}
+use Rattle.session_mux.specs.declared.events.Event.{Event}
+use Rattle.session_mux.specs.declared.events.Event.TheVariants as event
+use Rattle.session_mux.specs.declared.sessions.Session.{Session}
+use Rattle.session_mux.specs.declared.sessions.Form.{Form}
+use Rattle.session_mux.specs.declared.sessions.Form.TheVariants.{Plain, Trace}
+use Rattle.session_mux.specs.Arrivals.{Arrival, Open, Data, Close, RecordFront, Unfinished, Bad, Whole, record_front}
+use Rattle.session_mux.specs.Completion.{Standing, session_at, stage_of, settled_session, rest_len, sessions_after, events_by, events_held, GoesTo, IsBadAt, IsUnfinished}
+use Rattle.session_mux.specs.SessionSteps.{SessionsGive}
+use Rattle.session_mux.specs.MuxSteps.{HeldGives, most_frame}
+use Rattle.session_mux.proofs.EventLaws.{few_of_quiet}
+use Rattle.session_mux.proofs.TableLaws.{held_quiet, from_zero}
+use Rattle.session_mux.proofs.GoingLaws.{held_goes, trace_goes, plain_goes, plain_ends, trace_ends, trace_bad}
+
+pub same_standing : (f f' : Form) (t t' : List ℕ) (b b' : ℕ) (xs ys : List Session) → f ≡ f' → t ≡ t' → b ≡ b' → xs ≡ ys
+    → ◌≡◌ {A = Standing} (record { form = f; input = t; before = b; sessions = xs }) (record { form = f'; input = t'; before = b'; sessions = ys })
+same_standing f f' t t' b b' xs ys p q r s = rw (p, q, r, s) refl
+
+-- a standing whose form is known
+formed : (v : Standing) (f : Form) → v.form ≡ f → ◌≡◌ {A = Standing} (record { form = f; input = v.input; before = v.before; sessions = v.sessions }) v
+formed v f e = same_standing f v.form v.input v.input v.before v.before v.sessions v.sessions (sym e) refl refl refl
+
+-- a step of a trace: the old standing is v, by other words st
+pub trace_step : (v st : Standing) (a : Arrival) (n : ℕ) (first : List Event) (input : List ℕ) (before : ℕ) (sessions : List Session) → v ≡ st → st.form ≡ Trace
+    → record_front (map stage_of st.sessions) st.input ≡ Whole a n → 0 < n → n ≤ length st.input → events_held 0 st.sessions ≡ []
+    → events_by a v.sessions ≡ first ++ events_held 0 (sessions_after a v.sessions)
+    → input ≡ drop n v.input → before ≡ v.before + n → sessions ≡ sessions_after a v.sessions
+    → GoesTo st (record { form = v.form; input = input; before = before; sessions = sessions }) first
+trace_step v st a n first input before sessions e form front some le quiet by p q r =
+    let form_v : v.form ≡ Trace = ap (λ (x : Standing). x.form) e ∙ form in
+    let front_v : record_front (map stage_of v.sessions) v.input ≡ Whole a n = ap (λ (x : Standing). record_front (map stage_of x.sessions) x.input) e ∙ front in
+    let le_v : n ≤ length v.input = omega (arith, le, ap (λ (x : Standing). length x.input) e) in
+    let quiet_v : events_held 0 v.sessions ≡ [] = ap (λ (x : Standing). events_held 0 x.sessions) e ∙ quiet in
+    let base = trace_goes a n v.input v.before v.sessions first front_v some le_v quiet_v by in
+    let new = same_standing v.form Trace input (drop n v.input) before (v.before + n) sessions (sessions_after a v.sessions) form_v p q r in
+    subst (λ (x : Standing). GoesTo x (record { form = v.form; input = input; before = before; sessions = sessions }) first) (formed v Trace form_v ∙ e)
+    (subst (λ (x : Standing). GoesTo (record { form = Trace; input = v.input; before = v.before; sessions = v.sessions }) x first) (sym new) base)
+
+pub plain_step : (v st : Standing) (input : List ℕ) (before : ℕ) (sessions : List Session) → v ≡ st → st.form ≡ Plain → 0 < length v.sessions → events_held 0 st.sessions ≡ []
+    → input ≡ [] → before ≡ v.before + length v.input → sessions ≡ sessions_after (Data 0 v.input) v.sessions
+    → GoesTo st (record { form = v.form; input = input; before = before; sessions = sessions }) []
+plain_step v st input before sessions e form within quiet p q r =
+    let form_v : v.form ≡ Plain = ap (λ (x : Standing). x.form) e ∙ form in
+    let quiet_v : events_held 0 v.sessions ≡ [] = ap (λ (x : Standing). events_held 0 x.sessions) e ∙ quiet in
+    let base = plain_goes v.input v.before v.sessions within quiet_v in
+    let new = same_standing v.form Plain input [] before (v.before + length v.input) sessions (sessions_after (Data 0 v.input) v.sessions) form_v p q r in
+    subst (λ (x : Standing). GoesTo x (record { form = v.form; input = input; before = before; sessions = sessions }) []) (formed v Plain form_v ∙ e)
+    (subst (λ (x : Standing). GoesTo (record { form = Plain; input = v.input; before = v.before; sessions = v.sessions }) x []) (sym new) base)
+
+pub held_step : (v st : Standing) (sessions : List Session) (o : Option Event) → v ≡ st → SessionsGive v.sessions sessions o
+    → HeldGives st (record { form = v.form; input = v.input; before = v.before; sessions = sessions }) o
+held_step v st sessions None e gives =
+    let quiet : events_held 0 st.sessions ≡ [] = sym (ap (λ (x : Standing). events_held 0 x.sessions) e) ∙ gives.0 in
+    (
+      same_standing v.form v.form v.input v.input v.before v.before sessions v.sessions refl refl refl gives.1 ∙ e,
+      quiet,
+      λ s. few_of_quiet s (session_at st.sessions s) (sym (from_zero s (session_at st.sessions s)) ∙ held_quiet 0 st.sessions quiet s),
+    )
+held_step v st sessions (Some ev) e gives =
+    subst (λ (x : Standing). GoesTo x (record { form = v.form; input = v.input; before = v.before; sessions = sessions }) (ev ∷ [])) e
+    (held_goes v.form v.input v.before v.sessions sessions (ev ∷ []) gives.0 gives.1)
+
+pub trace_unfinished : (st : Standing) → st.form ≡ Trace → record_front (map stage_of st.sessions) st.input ≡ Unfinished → events_held 0 st.sessions ≡ [] → IsUnfinished st
+trace_unfinished st form front quiet = subst IsUnfinished (formed st Trace form) (trace_ends st.input st.before st.sessions front quiet)
+
+pub trace_stuck : (v st : Standing) → v ≡ st → st.form ≡ Trace → record_front (map stage_of st.sessions) st.input ≡ Bad → events_held 0 st.sessions ≡ [] → IsBadAt st v.before
+trace_stuck v st e form front quiet =
+    subst (λ (n : ℕ). IsBadAt st n) (sym (ap (λ (x : Standing). x.before) e))
+    (subst (λ (x : Standing). IsBadAt x st.before) (formed st Trace form) (trace_bad st.input st.before st.sessions front quiet))
+
+no_input : (input : List ℕ) → length input ≡ 0 → input ≡ []
+no_input [] e = refl
+no_input (b ∷ input) e = absurd (omega arith)
+
+pub plain_unfinished : (st : Standing) → st.form ≡ Plain → length st.input ≡ 0 → events_held 0 st.sessions ≡ [] → IsUnfinished st
+plain_unfinished st form none quiet =
+    let is : ◌≡◌ {A = Standing} (record { form = Plain; input = []; before = st.before; sessions = st.sessions }) st =
+      same_standing Plain st.form [] st.input st.before st.before st.sessions st.sessions (sym form) (sym (no_input st.input none)) refl refl
+    in
+    subst IsUnfinished is (plain_ends st.before st.sessions quiet)
