@@ -1,5 +1,6 @@
 -- Each step of the mux, said of the fields as they stand before and after it.
 use Rattle.std.proofs.Common.{◌≡◌, ℕ, ◌+◌, ◌<◌, ◌≤◌, List, [], ◌∷◌, ◌++◌, length, take, drop, map, set, Option, None, Some, refl, sym, ap, subst, ◌∙◌, arith}
+use Rattle.std.proofs.lemmas.List.{append-nil}
 use Rattle.ctrl_model.specs.declared.kinds.Who.{Who}
 use Rattle.session_mux.specs.declared.events.Event.{Event}
 use Rattle.session_mux.specs.declared.events.Event.TheVariants as event
@@ -7,12 +8,12 @@ use Rattle.session_mux.specs.declared.sessions.Session.{Session}
 use Rattle.session_mux.specs.declared.sessions.Form.{Form}
 use Rattle.session_mux.specs.declared.sessions.Form.TheVariants.{Plain, Trace}
 use Rattle.session_mux.specs.Arrivals.{Arrival, Open, Data, Close, RecordFront, Unfinished, Bad, Whole, record_front}
-use Rattle.session_mux.specs.Completion.{Standing, session_at, stage_of, settled_session, rest_len, sessions_after, events_by, events_held, GoesTo, IsBadAt, IsUnfinished}
+use Rattle.session_mux.specs.Completion.{Standing, fed, events_of, end_of, begins_bad, session_at, stage_of, settled_session, rest_len, sessions_after, events_by, events_held, GoesTo, IsBadAt, IsUnfinished}
 use Rattle.session_mux.specs.SessionSteps.{SessionsGive}
 use Rattle.session_mux.specs.MuxSteps.{HeldGives, most_frame}
 use Rattle.session_mux.proofs.EventLaws.{few_of_quiet}
 use Rattle.session_mux.proofs.TableLaws.{held_quiet, from_zero}
-use Rattle.session_mux.proofs.GoingLaws.{held_goes, trace_goes, plain_goes, plain_ends, trace_ends, trace_bad}
+use Rattle.session_mux.proofs.GoingLaws.{goes_then, held_goes, trace_goes, plain_goes, plain_ends, trace_ends, trace_bad}
 
 pub same_standing : (f f' : Form) (t t' : List ℕ) (b b' : ℕ) (xs ys : List Session) → f ≡ f' → t ≡ t' → b ≡ b' → xs ≡ ys
     → ◌≡◌ {A = Standing} (record { form = f; input = t; before = b; sessions = xs }) (record { form = f'; input = t'; before = b'; sessions = ys })
@@ -80,3 +81,29 @@ plain_unfinished st form none quiet =
       same_standing Plain st.form [] st.input st.before st.before st.sessions st.sessions (sym form) (sym (no_input st.input none)) refl refl
     in
     subst IsUnfinished is (plain_ends st.before st.sessions quiet)
+
+-- ---- several steps
+
+no_more_input : (st : Standing) → fed st [] ≡ st
+no_more_input st = same_standing st.form st.form (st.input ++ []) st.input st.before st.before st.sessions st.sessions refl (append-nil st.input) refl refl
+
+-- what comes first is what a later standing has first
+pub first_then : (a b c : Standing) (e : Event) → GoesTo a b [] → GoesTo b c (e ∷ []) → GoesTo a c (e ∷ [])
+first_then a b c e p q = goes_then a b c [] (e ∷ []) p q
+
+pub none_then : (a b c : Standing) → GoesTo a b [] → GoesTo b c [] → GoesTo a c []
+none_then a b c p q = goes_then a b c [] [] p q
+
+pub unfinished_before : (a b : Standing) → GoesTo a b [] → IsUnfinished b → IsUnfinished a
+unfinished_before a b p is =
+    let events : events_of a ≡ events_of b = ap events_of (sym (no_more_input a)) ∙ p.events [] ∙ ap events_of (no_more_input b) in
+    let ends : end_of a ≡ end_of b = ap end_of (sym (no_more_input a)) ∙ p.ends [] ∙ ap end_of (no_more_input b) in
+    record { none = events ∙ is.none; good = ap begins_bad ends ∙ is.good }
+
+pub bad_before : (a b : Standing) (at : ℕ) → GoesTo a b [] → IsBadAt b at → IsBadAt a at
+bad_before a b at p is =
+    record {
+      none = λ more. p.events more ∙ is.none more;
+      bad = λ more. ap begins_bad (p.ends more) ∙ is.bad more;
+      place = λ more. ap (λ (x : Standing). x.before) (p.ends more) ∙ is.place more;
+    }
