@@ -10,7 +10,8 @@ use Rattle.session_mux.specs.declared.sessions.Form.TheVariants.{Plain, Trace}
 use Rattle.session_mux.specs.Arrivals.{Arrival, Open, Data, Close, RecordFront, Unfinished, Bad, Whole, record_front}
 use Rattle.session_mux.specs.Completion.{Standing, fed, events_of, end_of, begins_bad, session_at, stage_of, settled_session, rest_len, sessions_after, events_by, events_held, GoesTo, IsBadAt, IsUnfinished}
 use Rattle.session_mux.specs.SessionSteps.{SessionsGive}
-use Rattle.session_mux.specs.MuxSteps.{HeldGives, most_frame}
+use Rattle.session_mux.specs.declared.muxing.Step.TheVariants.{Ended}
+use Rattle.session_mux.specs.MuxSteps.{HeldGives, StepGives, HoldsFew, GivesNone}
 use Rattle.session_mux.proofs.EventLaws.{few_of_quiet}
 use Rattle.session_mux.proofs.TableLaws.{held_quiet, from_zero}
 use Rattle.session_mux.proofs.GoingLaws.{goes_then, held_goes, trace_goes, plain_goes, plain_ends, trace_ends, trace_bad}
@@ -106,4 +107,20 @@ bad_before a b at p is =
       none = λ more. p.events more ∙ is.none more;
       bad = λ more. ap begins_bad (p.ends more) ∙ is.bad more;
       place = λ more. ap (λ (x : Standing). x.before) (p.ends more) ∙ is.place more;
+    }
+
+-- ---- nothing is left but an unfinished record
+
+-- the first standing a, the one b that held events are looked for in, c behind that, and d behind the step
+pub ends_here : (a b c d : Standing) → GoesTo a b [] → HeldGives b c None → StepGives c d Ended → GivesNone a d
+ends_here a b c d p held ended =
+    let at_c : GoesTo a c [] = subst (λ (x : Standing). GoesTo a x []) (sym held.0) p in
+    let at_d : GoesTo a d [] = subst (λ (x : Standing). GoesTo a x []) (sym ended.0) at_c in
+    let same : d ≡ b = ended.0 ∙ held.0 in
+    record {
+      goes = at_d;
+      unfinished = unfinished_before a c at_c ended.1;
+      few =
+          subst HoldsFew (sym same)
+          (record { record_few = omega (arith, ended.2, ap (λ (x : Standing). length x.input) held.0); frames_few = held.2 });
     }

@@ -93,6 +93,21 @@ rest_len session.Unopened = 0
 rest_len (session.Open who bytes) = length (settled bytes).held
 rest_len session.Closed = 0
 
+-- How many bytes are held where this fault was met, or none was.
+abbrev pub len_unless : Option FrameFault → List ℕ → ℕ
+len_unless None held = length held
+len_unless (Some e) held = 0
+
+-- How many bytes a session's bytes hold; none after a fault.
+abbrev pub bytes_len : SessionBytes → ℕ
+bytes_len bytes = len_unless bytes.fault bytes.held
+
+-- How many bytes a session holds; none after a fault, and none where it is not open.
+abbrev pub held_len : Session → ℕ
+held_len session.Unopened = 0
+held_len (session.Open who bytes) = bytes_len bytes
+held_len session.Closed = 0
+
 -- ---- what the records do
 
 -- The sessions once a record was read. Bytes of a session are joined to those that it had.

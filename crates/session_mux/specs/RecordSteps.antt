@@ -1,11 +1,12 @@
 -- What stands at the front of a trace, told apart before it is known which sessions are open.
-use Rattle.std.specs.Prelude.{◌≡◌, ℕ, ◌+◌, ◌≤◌, ◌==◌, Bool, true, false, if◌then◌else◌, List, length, take, drop}
+use Rattle.std.specs.Prelude.{◌≡◌, ℕ, ◌+◌, ◌<◌, ◌≤◌, ◌==◌, Bool, true, false, if◌then◌else◌, List, length, take, drop, None, Some}
+use Rattle.std.specs.declared.option.Option.{Option}
 use Rattle.ctrl_model.specs.NameForm.{is_name}
 use Rattle.session_mux.specs.declared.sessions.Stage.{Stage}
 use Rattle.session_mux.specs.declared.sessions.Stage.TheVariants.{Unopened, Opened, Closed}
 use Rattle.session_mux.specs.declared.records.Look.{Look}
 use Rattle.session_mux.specs.declared.records.Look.TheVariants as look
-use Rattle.session_mux.specs.Arrivals.{Data, Close, RecordFront, Unfinished, Bad, role_at, opening, within, stage_at, record_front}
+use Rattle.session_mux.specs.Arrivals.{Arrival, Data, Close, RecordFront, Unfinished, Bad, Whole, stages_after, role_at, opening, within, stage_at, record_front}
 
 -- Whether a role byte and the bytes of a name say a role.
 abbrev pub says_role : ℕ → List ℕ → Bool
@@ -42,3 +43,8 @@ abbrev pub is_opened : Stage → Bool
 is_opened Unopened = false
 is_opened Opened = true
 is_opened Closed = false
+
+-- The whole record at the front is passed over, and the stages are those after it; or none stands there, and they stay.
+abbrev pub Passes : List Stage → List Stage → List ℕ → Option ℕ → Type 0
+Passes old new bytes None = (new ≡ old) × ((a : Arrival) (n : ℕ) → record_front old bytes ≡ Whole a n → ⊥)
+Passes old new bytes (Some n) = (a : Arrival) × (record_front old bytes ≡ Whole a n) × (new ≡ stages_after a old) × (0 < n) × (n ≤ length bytes)

@@ -1,16 +1,16 @@
 ghost use Rattle.std.specs.Prelude.{◌≡◌, ℕ, ◌+◌, ◌<◌, ◌≤◌, ◌^◌, true, Some, [], ◌∷◌, map, take, drop, length, IfOk, IfErr, OnOk, OnErr, MatchOption, MatchResult};
 ghost use Rattle.ctrl_model.specs.declared.kinds.Who.{Who};
 ghost use Rattle.session_mux.specs.declared.sessions.Form.TheVariants.{Plain, Trace};
-ghost use Rattle.session_mux.specs.Arrivals.{record_front, role_at, Whole, Open, Data, Close};
-ghost use Rattle.session_mux.specs.Completion.{start_of, fed, events_of, events_held, tail_left, session_at, stage_of, sessions_after, GoesTo};
+ghost use Rattle.session_mux.specs.Arrivals.{record_front, tail_of, role_at, Whole, Open, Data, Close};
+ghost use Rattle.session_mux.specs.Completion.{start_of, fed, events_of, events_held, tail_left, session_at, stage_of, held_len, rest_len, GoesTo};
 
-ghost use Rattle.session_mux.specs.RecordSteps.{says_role};
+ghost use Rattle.session_mux.specs.RecordSteps.{says_role, Passes};
 ghost use Rattle.session_mux.specs.MuxSteps.{StepGives, HeldGives, GivesNone, GivesFault};
 
 use crate::buffers::Buffer;
 use crate::events::{Event, MuxFault};
 use crate::records::{Look, peek};
-use crate::sessions::Form;
+use crate::sessions::{Form, Stage};
 use crate::tables::SessionTable;
 use ctrl_model::{Name, NameFault, Who};
 use std::alloc::{AllocError, Global};
@@ -78,6 +78,39 @@ fn copy_who(who: &Who) -> Result<Who, AllocError>
         Who::Router(name) => Ok(Who::Router(name.copy()?)),
         Who::Identity(name) => Ok(Who::Identity(name.copy()?)),
     }
+}
+
+// Passes over the record at the front, if a whole one stands there.
+fn pass(stages: &mut [Stage], bytes: &[u8]) -> Option<usize>
+    requires { length stages.old ≡ 256 }
+    ensures { Passes stages.old stages.new bytes.now result }
+{
+    match peek(bytes) {
+        Look::Opens { session, len, .. } if stages[session as usize] == Stage::Unopened => {
+            stages[session as usize] = Stage::Opened;
+            Some(4 + len as usize)
+        }
+        Look::Brings { session, len } if stages[session as usize] == Stage::Opened => {
+            Some(4 + len as usize)
+        }
+        Look::Closes { session } if stages[session as usize] == Stage::Opened => {
+            stages[session as usize] = Stage::Closed;
+            Some(2)
+        }
+        _ => None,
+    }
+}
+
+fn tail_len(stages: &mut [Stage], input: &[u8]) -> usize
+    requires { length stages.old ≡ 256 }
+    ensures { result ≡ length (tail_of stages.old input.now) }
+{
+    let mut rest = input;
+    'records: while let Some(len) = pass(stages, rest) {
+        let (_, after) = rest.split_at(len);
+        rest = after;
+    }
+    rest.len()
 }
 
 impl Mux {
@@ -191,7 +224,7 @@ impl Mux {
         requires long { 2 ≤ length self.old.input }
         ensures { StepGives self.old self.new result }
     {
-        let rest = self.sessions.rest(session);
+        let rest = self.sessions.len(session) as u32;
         self.sessions.close(session);
         self.before += 2;
         self.input.skip(2);
@@ -241,6 +274,26 @@ impl Mux {
             Form::Plain => self.step_plain(),
             Form::Trace => self.step_trace(),
         }
+    }
+
+    /// How many bytes of an unfinished record, or of a bad one and what follows it, are held behind the whole records.
+    pub fn rest(&self) -> usize
+        ensures { result ≡ length (tail_left self.now) }
+    {
+        match self.form {
+            Form::Plain => 0,
+            Form::Trace => tail_len(&mut self.sessions.stages(), self.input.as_slice()),
+        }
+    }
+
+    /// How many bytes a session holds: none where it is not open, and none after a fault.
+    ///
+    /// Where no session holds an event, as after `next` answered `None`, they are those of its unfinished frame.
+    pub fn session_rest(&self, session: u8) -> usize
+        ensures held { result ≡ held_len (session_at self.now.sessions session) }
+        ensures unfinished { events_held 0 self.now.sessions ≡ [] → result ≡ rest_len (session_at self.now.sessions session) }
+    {
+        self.sessions.len(session)
     }
 
     /// The next event, in the order in which the bytes of the input decide them.

@@ -3,7 +3,7 @@ ghost use Rattle.ctrl_model.specs.declared.kinds.Who.TheVariants.{Admin};
 ghost use Rattle.channel_frame.specs.SessionBytes.{no_bytes};
 ghost use Rattle.session_mux.specs.declared.sessions.Session.TheVariants.{Open, Closed};
 ghost use Rattle.session_mux.specs.Arrivals.{stage_at};
-ghost use Rattle.session_mux.specs.Completion.{stage_of, rest_len, session_events, with_data, fault_number as number_of};
+ghost use Rattle.session_mux.specs.Completion.{stage_of, held_len, rest_len, session_events, with_data, fault_number as number_of};
 ghost use Rattle.session_mux.specs.SessionSteps.{taken, GivesEvent, StreamEvent};
 
 use crate::events::Event;
@@ -82,13 +82,12 @@ impl Session {
         }
     }
 
-    // The number of the session is named by what is held quiet.
-    pub fn rest(&self, session: u8) -> u32
-        requires quiet { session_events session self.now ≡ [] }
-        ensures { result ≡ rest_len self.now }
+    pub fn len(&self) -> usize
+        ensures len { result ≡ held_len self.now }
+        ensures rest { (s : ℕ) → session_events s self.now ≡ [] → (result ≡ rest_len self.now) × (result ≤ 1114131) }
     {
         match self {
-            Session::Open { bytes, .. } => bytes.rest(session) as u32,
+            Session::Open { bytes, .. } => bytes.len(),
             _ => 0,
         }
     }

@@ -1,8 +1,8 @@
-ghost use Rattle.std.specs.Prelude.{◌≡◌, ◌≢◌, ◌+◌, ◌<◌, ◌≤◌, ◌^◌, [], IfOk, OnOk, OnErr, length, None};
+ghost use Rattle.std.specs.Prelude.{◌≡◌, ◌≢◌, ℕ, ◌+◌, ◌<◌, ◌≤◌, ◌^◌, [], IfOk, OnOk, OnErr, length, None};
 ghost use Rattle.channel_frame.specs.declared.frames.Front.TheVariants.{Bad, Whole};
 ghost use Rattle.channel_frame.specs.StreamReading.{front};
 ghost use Rattle.channel_frame.specs.SessionBytes.{no_bytes, with_more, settled};
-ghost use Rattle.session_mux.specs.Completion.{bytes_events};
+ghost use Rattle.session_mux.specs.Completion.{bytes_events, bytes_len};
 ghost use Rattle.session_mux.specs.StreamSteps.{IsAnnouncedAt, StreamGives};
 
 use crate::buffers::Buffer;
@@ -90,11 +90,10 @@ impl Stream {
         }
     }
 
-    /// How many bytes of an unfinished frame are held, where there is no event of them.
-    pub fn rest(&self, session: u8) -> usize
-        requires quiet { bytes_events session self.now ≡ [] }
-        ensures rest { result ≡ length (settled self.now).held }
-        ensures few { result ≤ 1114131 }
+    /// How many bytes are held, none after a fault. Where there is no event of them, they are those of an unfinished frame.
+    pub fn len(&self) -> usize
+        ensures len { result ≡ bytes_len self.now }
+        ensures rest { (s : ℕ) → bytes_events s self.now ≡ [] → (result ≡ length (settled self.now).held) × (result ≤ 1114131) }
     {
         if self.fault.is_some() {
             return 0;

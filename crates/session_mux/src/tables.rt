@@ -2,12 +2,12 @@ ghost use Rattle.std.specs.Prelude.{◌≡◌, ℕ, ◌+◌, ◌<◌, ◌≤◌,
 ghost use Rattle.channel_frame.specs.SessionBytes.{no_bytes};
 ghost use Rattle.session_mux.specs.declared.sessions.Session.TheVariants.{Open, Closed};
 ghost use Rattle.session_mux.specs.Arrivals.{stage_at};
-ghost use Rattle.session_mux.specs.Completion.{session_at, unopened, stage_of, rest_len, with_data, events_held};
+ghost use Rattle.session_mux.specs.Completion.{session_at, unopened, stage_of, held_len, rest_len, with_data, events_held};
 ghost use Rattle.session_mux.specs.RecordSteps.{is_unopened, is_opened};
 ghost use Rattle.session_mux.specs.SessionSteps.{taken, SessionsGive};
 
 use crate::events::Event;
-use crate::sessions::{NUMBERS, Session};
+use crate::sessions::{NUMBERS, Session, Stage};
 use crate::streams::Stream;
 use ctrl_model::Who;
 use std::alloc::{AllocError, Global};
@@ -67,12 +67,23 @@ impl SessionTable {
         matches!(self.all[session as usize], Session::Open { .. })
     }
 
-    /// How many bytes of an unfinished frame a session has, where no session holds an event.
-    pub fn rest(&self, session: u8) -> u32
-        requires quiet { events_held 0 self.now ≡ [] }
-        ensures { result ≡ rest_len (session_at self.now session) }
+    /// The stage of each session number.
+    pub fn stages(&self) -> [Stage; NUMBERS]
+        ensures { result ≡ map stage_of self.now }
     {
-        self.all[session as usize].rest(session)
+        let mut stages = [Stage::Unopened; NUMBERS];
+        'numbers: for (number, session) in self.all.iter().enumerate() {
+            stages[number] = session.stage();
+        }
+        stages
+    }
+
+    /// How many bytes a session holds. Where no session holds an event, they are those of an unfinished frame.
+    pub fn len(&self, session: u8) -> usize
+        ensures len { result ≡ held_len (session_at self.now session) }
+        ensures rest { events_held 0 self.now ≡ [] → (result ≡ rest_len (session_at self.now session)) × (result ≤ 1114131) }
+    {
+        self.all[session as usize].len()
     }
 
     /// A session is opened.
