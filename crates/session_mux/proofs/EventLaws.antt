@@ -36,8 +36,8 @@ frame_event s old new f takes =
     let g = gives_frame old f takes.len takes.none takes.there in
     let long = whole_within old.held f takes.len takes.there in
     let events : bytes_events s old ≡ event.Arrived s f ∷ bytes_events s after =
-      ap (λ (fs : List Frame). map (event.Arrived s) fs ++ ended s (fault_held old)) g.frames
-      ∙ ap (λ (o : Option (FrameFault × ℕ)). event.Arrived s f ∷ (map (event.Arrived s) (frames_held after) ++ ended s o)) g.fault
+    ap (λ (fs : List Frame). map (event.Arrived s) fs ++ ended s (fault_held old)) g.frames
+    ∙ ap (λ (o : Option (FrameFault × ℕ)). event.Arrived s f ∷ (map (event.Arrived s) (frames_held after) ++ ended s o)) g.fault
     in
     let few : after.given + length after.held ≤ old.given + length old.held = omega (arith, length-drop takes.len old.held, long.1) in
     subst (λ (x : SessionBytes). StreamEvent s old x (Some (event.Arrived s f))) (sym takes.after) (events, g.left, few)
@@ -47,7 +47,7 @@ fault_event s old new e at meets =
     let after : SessionBytes = record { given = old.given; held = []; fault = Some e } in
     let t = tells_fault old e meets.none meets.there in
     let events : bytes_events s old ≡ event.Ended s (fault_number e) old.given ∷ bytes_events s after =
-      ap (λ (fs : List Frame). map (event.Arrived s) fs ++ ended s (fault_held old)) t.frames ∙ ap (ended s) t.fault
+    ap (λ (fs : List Frame). map (event.Arrived s) fs ++ ended s (fault_held old)) t.frames ∙ ap (ended s) t.fault
     in
     let few : after.given + length after.held ≤ old.given + length old.held = omega arith in
     let there : bytes_events s old ≡ event.Ended s (fault_number e) at ∷ bytes_events s after = events ∙ ap (λ (n : ℕ). event.Ended s (fault_number e) n ∷ bytes_events s after) (sym meets.place) in
@@ -131,14 +131,14 @@ short_at s b Short none e quiet = refl
 short_at s b (Bad d) none e quiet =
     let t = tells_fault b d none e in
     let some : bytes_events s b ≡ event.Ended s (fault_number d) b.given ∷ [] =
-      ap (λ (fs : List Frame). map (event.Arrived s) fs ++ ended s (fault_held b)) t.frames ∙ ap (ended s) t.fault
+    ap (λ (fs : List Frame). map (event.Arrived s) fs ++ ended s (fault_held b)) t.frames ∙ ap (ended s) t.fault
     in
     absurd cc
 short_at s b (Whole f n) none e quiet =
     let g = gives_frame b f n none e in
     let after : SessionBytes = record { given = b.given + n; held = drop n b.held; fault = None } in
     let some : bytes_events s b ≡ event.Arrived s f ∷ (map (event.Arrived s) (frames_held after) ++ ended s (fault_held b)) =
-      ap (λ (fs : List Frame). map (event.Arrived s) fs ++ ended s (fault_held b)) g.frames
+    ap (λ (fs : List Frame). map (event.Arrived s) fs ++ ended s (fault_held b)) g.frames
     in
     absurd cc
 

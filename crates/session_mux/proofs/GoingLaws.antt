@@ -29,7 +29,7 @@ alike_at xs ys alike s =
     sym (get_or-map settled_session xs s session.Unopened) ∙ ap (λ (zs : List Session). get_or zs s session.Unopened) alike ∙ get_or-map settled_session ys s session.Unopened
 
 -- the events of data are those of what is left and the data
-data_events : (s : ℕ) (bytes : List ℕ) (xs : List Session) → events_by (Data s bytes) xs ≡ session_events s (with_data (settled_session (session_at xs s)) bytes)
+pub data_events : (s : ℕ) (bytes : List ℕ) (xs : List Session) → events_by (Data s bytes) xs ≡ session_events s (with_data (settled_session (session_at xs s)) bytes)
 data_events s bytes xs =
     let x : Session = session_at xs s in
     ap (drop (length (session_events s x))) (more_events s x bytes)
@@ -61,8 +61,7 @@ pub alike_along : (later : List Arrival) (xs ys : List Session) → AreAlike xs 
     → (events_along xs later ≡ events_along ys later) × AreAlike (sessions_along xs later) (sessions_along ys later)
 alike_along [] xs ys alike = (refl, alike)
 alike_along (a ∷ later) xs ys alike =
-    let rest = alike_along later (sessions_after a xs) (sessions_after a ys) (alike_after a xs ys alike) in
-    (
+    let rest = alike_along later (sessions_after a xs) (sessions_after a ys) (alike_after a xs ys alike) in (
       ap (λ (es : List Event). es ++ events_along (sessions_after a xs) later) (alike_events a xs ys alike) ∙ ap (λ (es : List Event). events_by a ys ++ es) rest.0,
       rest.1,
     )
@@ -120,7 +119,7 @@ goes_then a b c xs ys p q =
 
 -- ---- a record of a trace is read
 
-stages_read : (a : Arrival) (xs : List Session) → map stage_of (sessions_after a xs) ≡ stages_after a (map stage_of xs)
+pub stages_read : (a : Arrival) (xs : List Session) → map stage_of (sessions_after a xs) ≡ stages_after a (map stage_of xs)
 stages_read (Open s who) xs = map-set stage_of xs s (session.Open who no_bytes)
 stages_read (Data s bytes) xs = map-set_same stage_of xs s (with_data (session_at xs s) bytes) session.Unopened (stage_data (session_at xs s) bytes)
 stages_read (Close s) xs = map-set stage_of xs s session.Closed
@@ -157,14 +156,14 @@ trace_goes a n input before xs first front some le quiet by =
           let step = record_step stages (input ++ more) a n there some in
           let j : List ℕ = drop n input ++ more in
           let tail : tail_of stages (input ++ more) ≡ tail_of (map stage_of ys) j =
-            step.1 ∙ ap (tail_of (stages_after a stages)) cut ∙ ap (λ (ss : List Stage). tail_of ss j) (sym (stages_read a xs))
+          step.1 ∙ ap (tail_of (stages_after a stages)) cut ∙ ap (λ (ss : List Stage). tail_of ss j) (sym (stages_read a xs))
           in
           let arrivals : records_of stages (input ++ more) ≡ a ∷ records_of (map stage_of ys) j =
-            step.0 ∙ ap (λ (x : List ℕ). a ∷ records_of (stages_after a stages) x) cut ∙ ap (λ (ss : List Stage). a ∷ records_of ss j) (sym (stages_read a xs))
+          step.0 ∙ ap (λ (x : List ℕ). a ∷ records_of (stages_after a stages) x) cut ∙ ap (λ (ss : List Stage). a ∷ records_of ss j) (sym (stages_read a xs))
           in
           let few = tail_within j (map stage_of ys) 0 in
           let place : before + (length (input ++ more) - length (tail_of stages (input ++ more))) ≡ before + n + (length j - length (tail_of (map stage_of ys) j)) =
-            omega (arith, ap length tail, length-append input more, length-append (drop n input) more, length-drop n input, few)
+          omega (arith, ap length tail, length-append input more, length-append (drop n input) more, length-drop n input, few)
           in
           same_end Trace _ _ _ _ _ _ tail place (ap (λ (later : List Arrival). map settled_session (sessions_along xs later)) arrivals);
     }
@@ -216,10 +215,10 @@ plain_goes input before xs within quiet =
           let two : session_events 0 (with_data (with_data x input) more) ≡ whole = ap (session_events 0) (data_twice x input more) in
           let old : events_by (Data 0 (input ++ more)) xs ≡ whole = ap (λ (es : List Event). drop (length es) whole) (quiet_at 0 xs quiet) in
           let new : events_by (Data 0 more) ys ≡ drop (length (session_events 0 (with_data x input))) whole =
-            ap (λ (y : Session). drop (length (session_events 0 y)) (session_events 0 (with_data y more))) there ∙ ap (drop (length (session_events 0 (with_data x input)))) two
+          ap (λ (y : Session). drop (length (session_events 0 y)) (session_events 0 (with_data y more))) there ∙ ap (drop (length (session_events 0 (with_data x input)))) two
           in
           let joined : session_events 0 (with_data x input) ++ drop (length (session_events 0 (with_data x input))) whole ≡ whole =
-            behind _ (session_events 0 (with_data (settled_session (with_data x input)) more)) whole (sym two ∙ more_events 0 (with_data x input) more)
+          behind _ (session_events 0 (with_data (settled_session (with_data x input)) more)) whole (sym two ∙ more_events 0 (with_data x input) more)
           in
           none_before (events_held 0 xs) (events_by (Data 0 (input ++ more)) xs ++ []) whole quiet (append-nil (events_by (Data 0 (input ++ more)) xs) ∙ old)
           ∙ sym joined
@@ -228,7 +227,7 @@ plain_goes input before xs within quiet =
       ends = λ more.
           let place : before + (length (input ++ more) - 0) ≡ before + length input + (length more - 0) = omega (arith, length-append input more) in
           let same : set ys 0 (with_data (session_at ys 0) more) ≡ set xs 0 (with_data x (input ++ more)) =
-            ap (λ (y : Session). set ys 0 (with_data y more)) there ∙ set_twice xs 0 (with_data x input) (with_data (with_data x input) more) ∙ ap (set xs 0) (data_twice x input more)
+          ap (λ (y : Session). set ys 0 (with_data y more)) there ∙ set_twice xs 0 (with_data x input) (with_data (with_data x input) more) ∙ ap (set xs 0) (data_twice x input more)
           in
           same_end Plain _ _ [] [] _ _ refl place (ap (map settled_session) (sym same));
     }
@@ -250,7 +249,7 @@ trace_ends input before xs front quiet =
     let stop = record_stop (map stage_of xs) input (λ a n e. cc) in
     let along : sessions_along xs (records_of (map stage_of xs) input) ≡ xs = ap (sessions_along xs) stop.0 in
     let stages : map stage_of (map settled_session (sessions_along xs (records_of (map stage_of xs) input))) ≡ map stage_of xs =
-      ap (λ (zs : List Session). map stage_of (map settled_session zs)) along ∙ stages_settled xs
+    ap (λ (zs : List Session). map stage_of (map settled_session zs)) along ∙ stages_settled xs
     in
     record {
       none = none_before (events_held 0 xs) (events_along xs (records_of (map stage_of xs) input)) [] quiet (ap (events_along xs) stop.0);
@@ -273,7 +272,7 @@ trace_bad input before xs front quiet =
           let there = bad more in
           let stop = record_stop (map stage_of xs) (input ++ more) (λ a n e. cc) in
           let stages : map stage_of (map settled_session (sessions_along xs (records_of (map stage_of xs) (input ++ more)))) ≡ map stage_of xs =
-            ap (λ (zs : List Session). map stage_of (map settled_session zs)) (ap (sessions_along xs) stop.0) ∙ stages_settled xs
+          ap (λ (zs : List Session). map stage_of (map settled_session zs)) (ap (sessions_along xs) stop.0) ∙ stages_settled xs
           in
           ap (λ (ss : List Stage). is_bad_in Trace (record_front ss (tail_of (map stage_of xs) (input ++ more)))) stages
           ∙ ap (λ (t : List ℕ). is_bad_in Trace (record_front (map stage_of xs) t)) stop.1

@@ -4,3 +4,4 @@ pub mod TableLaws
 pub mod RecordLaws
 pub mod GoingLaws
 pub mod StepLaws
+pub mod CompletionLaws

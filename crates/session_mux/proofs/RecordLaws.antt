@@ -1,13 +1,16 @@
 -- What stands at the front of a trace, and the records a step at a time.
-use Rattle.std.proofs.Common.{◌≡◌, ℕ, zero, suc, ◌+◌, ◌-◌, ◌<◌, ◌≤◌, Bool, true, false, cond, ltb, eqb, List, [], ◌∷◌, ◌++◌, length, take, drop, get_or, Option, refl, sym, ap, ◌∙◌, arith}
+use Rattle.std.proofs.Common.{◌≡◌, ℕ, zero, suc, ◌+◌, ◌-◌, ◌<◌, ◌≤◌, Bool, true, false, cond, ltb, eqb, List, [], ◌∷◌, ◌++◌, length, take, drop, set, get_or, Option, None, Some, refl, sym, ap, ◌∙◌, arith}
 use Rattle.std.specs.Prelude.{◌||◌}
 use Rattle.std.proofs.lemmas.Bool.{ltb-false, le-ltb, ne_eqb}
 use Rattle.std.proofs.lemmas.List.{get_or_append_left, take-append-le, drop-append-le, length-append, length-drop}
 use Rattle.ctrl_model.specs.declared.kinds.Who.{Who}
+use Rattle.ctrl_model.specs.declared.kinds.Who.TheVariants.{Admin, Router, Identity}
+use Rattle.ctrl_model.specs.NameForm.{is_name}
 use Rattle.channel_frame.proofs.ReadingLaws.{drop_before}
 use Rattle.session_mux.specs.declared.sessions.Stage.{Stage}
 use Rattle.session_mux.specs.declared.sessions.Stage.TheVariants.{Unopened, Opened, Closed}
-use Rattle.session_mux.specs.RecordSteps.{is_unopened, is_opened}
+use Rattle.session_mux.specs.RecordSteps.{is_unopened, is_opened, says_role, IsLook, Passes}
+use Rattle.session_mux.specs.declared.records.Look.TheVariants as look
 use Rattle.session_mux.specs.Arrivals.{Arrival, Open, Data, Close, RecordFront, Unfinished, Bad, Whole, stage_at, stages_after, role_at, opening, within, data_len, open_at, data_at, close_at, record_front, and_then_records, records_past, records_of, and_then_tail, tail_past, tail_of}
 
 -- what stands whole or bad stands so whatever follows
@@ -151,11 +154,11 @@ pub record_step : (stages : List Stage) (bytes : List ℕ) (a : Arrival) (n : �
     → (records_of stages bytes ≡ a ∷ records_of (stages_after a stages) (drop n bytes)) × (tail_of stages bytes ≡ tail_of (stages_after a stages) (drop n bytes))
 record_step stages [] a n e some = absurd cc
 record_step stages (b ∷ bytes) a n e some = (
-    ap (λ (at : RecordFront). and_then_records stages at (records_past bytes)) e
-    ∙ ap (λ (later : List Arrival). a ∷ later) (records_past-drop bytes (stages_after a stages) (n - 1) ∙ ap (records_of (stages_after a stages)) (sym (drop_before n b bytes some))),
-    ap (λ (at : RecordFront). and_then_tail (b ∷ bytes) stages at (tail_past bytes)) e
-    ∙ tail_past-drop bytes (stages_after a stages) (n - 1)
-    ∙ ap (tail_of (stages_after a stages)) (sym (drop_before n b bytes some)),
+  ap (λ (at : RecordFront). and_then_records stages at (records_past bytes)) e
+      ∙ ap (λ (later : List Arrival). a ∷ later) (records_past-drop bytes (stages_after a stages) (n - 1) ∙ ap (records_of (stages_after a stages)) (sym (drop_before n b bytes some))),
+  ap (λ (at : RecordFront). and_then_tail (b ∷ bytes) stages at (tail_past bytes)) e
+      ∙ tail_past-drop bytes (stages_after a stages) (n - 1)
+      ∙ ap (tail_of (stages_after a stages)) (sym (drop_before n b bytes some)),
 )
 
 stop_at : (stages : List Stage) (b : ℕ) (bytes : List ℕ) (at : RecordFront) → ((a : Arrival) (n : ℕ) → at ≡ Whole a n → ⊥)
@@ -190,3 +193,59 @@ pub not_open : (st : Stage) (a : Arrival) (n : ℕ) → is_opened st ≡ false �
 not_open Unopened a n e = refl
 not_open Opened a n e = absurd cc
 not_open Closed a n e = refl
+
+pub unopened_is : (st : Stage) → is_unopened st ≡ true → st ≡ Unopened
+unopened_is Unopened e = refl
+unopened_is Opened e = absurd cc
+unopened_is Closed e = absurd cc
+
+pub opened_is : (st : Stage) → is_opened st ≡ true → st ≡ Opened
+opened_is Unopened e = absurd cc
+opened_is Opened e = refl
+opened_is Closed e = absurd cc
+
+-- ---- a role that is said is some role
+
+says_at : (p q r e n : Bool) (name : List ℕ) → cond p e (cond q n (cond r n false)) ≡ true
+    → (who : Who) × (cond p (cond e (Some Admin) None) (cond q (cond n (Some (Router name)) None) (cond r (cond n (Some (Identity name)) None) None)) ≡ Some who)
+says_at true q r true n name h = (Admin, refl)
+says_at true q r false n name h = absurd cc
+says_at false true r e true name h = (Router name, refl)
+says_at false true r e false name h = absurd cc
+says_at false false true e true name h = (Identity name, refl)
+says_at false false true e false name h = absurd cc
+says_at false false false e n name h = absurd cc
+
+pub says_some : (role : ℕ) (name : List ℕ) → says_role role name ≡ true → (who : Who) × (role_at role name ≡ Some who)
+says_some role name h = says_at (eqb role 0) (eqb role 1) (eqb role 2) (eqb (length name) 0) (is_name name) name h
+
+-- ---- a record is passed over
+
+pub open_passes : (stages new : List Stage) (bytes : List ℕ) (s role len : ℕ) → IsLook bytes (look.Opens s role len) → is_unopened (stage_at stages s) ≡ true → new ≡ set stages s Opened
+    → Passes stages new bytes (Some (4 + len))
+open_passes stages new bytes s role len is stage after =
+    let says = says_some role (take len (drop 4 bytes)) is.fits.1 in
+    let first : stage_at stages s ≡ Unopened = unopened_is (stage_at stages s) stage in (
+      Open s says.0,
+      is.front stages ∙ ap (λ (st : Stage). opening st s (role_at role (take len (drop 4 bytes))) (4 + len)) first ∙ ap (λ (o : Option Who). opening Unopened s o (4 + len)) says.1,
+      after,
+      omega arith,
+      is.fits.0,
+    )
+
+pub data_passes : (stages new : List Stage) (bytes : List ℕ) (s len : ℕ) → IsLook bytes (look.Brings s len) → is_opened (stage_at stages s) ≡ true → new ≡ stages → Passes stages new bytes (Some (4 + len))
+data_passes stages new bytes s len is stage after =
+    let first : stage_at stages s ≡ Opened = opened_is (stage_at stages s) stage in
+    let a : Arrival = Data s (take len (drop 4 bytes)) in
+    (a, is.front stages ∙ ap (λ (st : Stage). within st a (4 + len)) first, after, omega arith, is.fits)
+
+pub close_passes : (stages new : List Stage) (bytes : List ℕ) (s : ℕ) → IsLook bytes (look.Closes s) → is_opened (stage_at stages s) ≡ true → new ≡ set stages s Closed → Passes stages new bytes (Some 2)
+close_passes stages new bytes s is stage after =
+    let first : stage_at stages s ≡ Opened = opened_is (stage_at stages s) stage in
+    (Close s, is.front stages ∙ ap (λ (st : Stage). within st (Close s) 2) first, after, omega arith, is.fits)
+
+pub passes_tail : (old new : List Stage) (bytes : List ℕ) (n : ℕ) → Passes old new bytes (Some n) → tail_of old bytes ≡ tail_of new (drop n bytes)
+passes_tail old new bytes n p = (record_step old bytes p.0 n p.1 p.3).1 ∙ ap (λ (ss : List Stage). tail_of ss (drop n bytes)) (sym p.2)
+
+pub stops_tail : (old new : List Stage) (bytes : List ℕ) → Passes old new bytes None → tail_of old bytes ≡ bytes
+stops_tail old new bytes p = (record_stop old bytes p.1).1

@@ -54,8 +54,7 @@ plain_step v st input before sessions e form within quiet p q r =
 pub held_step : (v st : Standing) (sessions : List Session) (o : Option Event) → v ≡ st → SessionsGive v.sessions sessions o
     → HeldGives st (record { form = v.form; input = v.input; before = v.before; sessions = sessions }) o
 held_step v st sessions None e gives =
-    let quiet : events_held 0 st.sessions ≡ [] = sym (ap (λ (x : Standing). events_held 0 x.sessions) e) ∙ gives.0 in
-    (
+    let quiet : events_held 0 st.sessions ≡ [] = sym (ap (λ (x : Standing). events_held 0 x.sessions) e) ∙ gives.0 in (
       same_standing v.form v.form v.input v.input v.before v.before sessions v.sessions refl refl refl gives.1 ∙ e,
       quiet,
       λ s. few_of_quiet s (session_at st.sessions s) (sym (from_zero s (session_at st.sessions s)) ∙ held_quiet 0 st.sessions quiet s),
@@ -79,7 +78,7 @@ no_input (b ∷ input) e = absurd (omega arith)
 pub plain_unfinished : (st : Standing) → st.form ≡ Plain → length st.input ≡ 0 → events_held 0 st.sessions ≡ [] → IsUnfinished st
 plain_unfinished st form none quiet =
     let is : ◌≡◌ {A = Standing} (record { form = Plain; input = []; before = st.before; sessions = st.sessions }) st =
-      same_standing Plain st.form [] st.input st.before st.before st.sessions st.sessions (sym form) (sym (no_input st.input none)) refl refl
+    same_standing Plain st.form [] st.input st.before st.before st.sessions st.sessions (sym form) (sym (no_input st.input none)) refl refl
     in
     subst IsUnfinished is (plain_ends st.before st.sessions quiet)
 

@@ -75,7 +75,7 @@ unopened_quiet n r s other = ap (session_events s) (unopened_at n s)
 
 -- ---- one session is set
 
-set_other : (sessions : List Session) (r s : ℕ) (x : Session) → (s ≡ r → ⊥) → session_at (set sessions r x) s ≡ session_at sessions s
+pub set_other : (sessions : List Session) (r s : ℕ) (x : Session) → (s ≡ r → ⊥) → session_at (set sessions r x) s ≡ session_at sessions s
 set_other sessions r s x other = get_or-set_other sessions r s x session.Unopened other
 
 -- where all were quiet, one session may be set
@@ -98,25 +98,24 @@ taken_set : (r : ℕ) (x : Session) (sessions : List Session) → r < length ses
 taken_set r x sessions within few s =
     elim (cases_eq s r) [
       | inl same ↦
-        let a : taken (session_at (set sessions r x) r) ≡ taken x = ap taken (get_or-set_same sessions r x session.Unopened within) in
-        let b : taken (session_at (set sessions r x) r) ≤ taken (session_at sessions r) = omega (arith, a, few) in
-        subst (λ (n : ℕ). taken (session_at (set sessions r x) n) ≤ taken (session_at sessions n)) (sym same) b
+          let a : taken (session_at (set sessions r x) r) ≡ taken x = ap taken (get_or-set_same sessions r x session.Unopened within) in
+          let b : taken (session_at (set sessions r x) r) ≤ taken (session_at sessions r) = omega (arith, a, few) in
+          subst (λ (n : ℕ). taken (session_at (set sessions r x) n) ≤ taken (session_at sessions n)) (sym same) b
       | inr apart ↦
-        let a : taken (session_at (set sessions r x) s) ≡ taken (session_at sessions s) = ap taken (set_other sessions r s x apart) in
-        omega (arith, a)
+          let a : taken (session_at (set sessions r x) s) ≡ taken (session_at sessions s) = ap taken (set_other sessions r s x apart) in
+          omega (arith, a)
     ]
 
 -- what the one session gives, all give
 pub gives_set : (r : ℕ) (x : Session) (sessions : List Session) (o : Option Event) → r < length sessions → IsQuietBut r sessions
     → GivesEvent r (session_at sessions r) x o → SessionsGive sessions (set sessions r x) o
 gives_set r x sessions None within quiet gives = (
-    held_of_ready r sessions quiet ∙ gives.0,
-    ap (set sessions r) gives.1 ∙ set-get_or sessions r session.Unopened,
+  held_of_ready r sessions quiet ∙ gives.0,
+  ap (set sessions r) gives.1 ∙ set-get_or sessions r session.Unopened,
 )
 gives_set r x sessions (Some e) within quiet gives =
     let there : session_at (set sessions r x) r ≡ x = get_or-set_same sessions r x session.Unopened within in
-    let after : events_held 0 (set sessions r x) ≡ session_events r x = held_of_ready r (set sessions r x) (stays_quiet_but r x sessions quiet) ∙ ap (session_events r) there in
-    (
+    let after : events_held 0 (set sessions r x) ≡ session_events r x = held_of_ready r (set sessions r x) (stays_quiet_but r x sessions quiet) ∙ ap (session_events r) there in (
       held_of_ready r sessions quiet ∙ gives.0 ∙ ap (λ (es : List Event). e ∷ es) (sym after),
       sym (map-set_same settled_session sessions r x session.Unopened (sym gives.1)),
       taken_set r x sessions within gives.2,
@@ -132,12 +131,12 @@ pub at_most_set : (r : ℕ) (x : Session) (sessions : List Session) (most : ℕ)
 at_most_set r x sessions most within few all s =
     elim (cases_eq s r) [
       | inl same ↦
-        let a : taken (session_at (set sessions r x) r) ≡ taken x = ap taken (get_or-set_same sessions r x session.Unopened within) in
-        let b : taken (session_at (set sessions r x) r) ≤ most = omega (arith, a, few) in
-        subst (λ (n : ℕ). taken (session_at (set sessions r x) n) ≤ most) (sym same) b
+          let a : taken (session_at (set sessions r x) r) ≡ taken x = ap taken (get_or-set_same sessions r x session.Unopened within) in
+          let b : taken (session_at (set sessions r x) r) ≤ most = omega (arith, a, few) in
+          subst (λ (n : ℕ). taken (session_at (set sessions r x) n) ≤ most) (sym same) b
       | inr apart ↦
-        let a : taken (session_at (set sessions r x) s) ≡ taken (session_at sessions s) = ap taken (set_other sessions r s x apart) in
-        omega (arith, a, all s)
+          let a : taken (session_at (set sessions r x) s) ≡ taken (session_at sessions s) = ap taken (set_other sessions r s x apart) in
+          omega (arith, a, all s)
     ]
 
 pub at_most_more : (sessions : List Session) (most more : ℕ) → most ≤ more → AtMost sessions most → AtMost sessions more

@@ -4,4 +4,5 @@ pub mod StreamSteps
 pub mod SessionSteps
 pub mod RecordSteps
 pub mod MuxSteps
+pub mod SessionFrames
 pub mod WorkedTraces

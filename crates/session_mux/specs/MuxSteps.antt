@@ -11,6 +11,7 @@ use Rattle.session_mux.specs.Completion.{Standing, rest_len, session_at, events_
 -- The most bytes of an unfinished record, and of an unfinished frame.
 abbrev pub most_record : ℕ
 most_record = 65538
+
 abbrev pub most_frame : ℕ
 most_frame = 1114131
 

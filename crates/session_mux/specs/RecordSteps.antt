@@ -39,6 +39,7 @@ abbrev pub is_unopened : Stage → Bool
 is_unopened Unopened = true
 is_unopened Opened = false
 is_unopened Closed = false
+
 abbrev pub is_opened : Stage → Bool
 is_opened Unopened = false
 is_opened Opened = true

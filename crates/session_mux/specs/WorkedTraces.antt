@@ -15,10 +15,13 @@ open_1 = 1 ∷ 1 ∷ 2 ∷ 3 ∷ 97 ∷ 110 ∷ 110 ∷ []
 -- The heads of data records: 34, 20 and 14 bytes of session 0, and 34 of session 1.
 abbrev pub data_34_of_0 : List ℕ
 data_34_of_0 = 2 ∷ 0 ∷ 34 ∷ 0 ∷ []
+
 abbrev pub data_20_of_0 : List ℕ
 data_20_of_0 = 2 ∷ 0 ∷ 20 ∷ 0 ∷ []
+
 abbrev pub data_14_of_0 : List ℕ
 data_14_of_0 = 2 ∷ 0 ∷ 14 ∷ 0 ∷ []
+
 abbrev pub data_34_of_1 : List ℕ
 data_34_of_1 = 2 ∷ 1 ∷ 34 ∷ 0 ∷ []
 

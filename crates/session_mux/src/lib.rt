@@ -3,6 +3,7 @@
 
 mod buffers;
 mod events;
+mod laws;
 mod muxing;
 mod records;
 mod sessions;
@@ -11,5 +12,6 @@ mod tables;
 mod worked;
 
 pub use events::{Event, MuxFault};
+pub use laws::completed_by;
 pub use muxing::Mux;
 pub use worked::{worked_interleaving, worked_session};

@@ -3,14 +3,13 @@ ghost use Rattle.ctrl_model.specs.declared.kinds.Who.{Who};
 ghost use Rattle.session_mux.specs.declared.sessions.Form.TheVariants.{Plain, Trace};
 ghost use Rattle.session_mux.specs.Arrivals.{record_front, tail_of, role_at, Whole, Open, Data, Close};
 ghost use Rattle.session_mux.specs.Completion.{start_of, fed, events_of, events_held, tail_left, session_at, stage_of, held_len, rest_len, GoesTo};
-
 ghost use Rattle.session_mux.specs.RecordSteps.{says_role, Passes};
 ghost use Rattle.session_mux.specs.MuxSteps.{StepGives, HeldGives, GivesNone, GivesFault};
 
 use crate::buffers::Buffer;
 use crate::events::{Event, MuxFault};
 use crate::records::{Look, peek};
-use crate::sessions::{Form, Stage};
+use crate::sessions::{Form, NUMBERS, Stage, is_opened, is_unopened};
 use crate::tables::SessionTable;
 use ctrl_model::{Name, NameFault, Who};
 use std::alloc::{AllocError, Global};
@@ -86,14 +85,14 @@ fn pass(stages: &mut [Stage], bytes: &[u8]) -> Option<usize>
     ensures { Passes stages.old stages.new bytes.now result }
 {
     match peek(bytes) {
-        Look::Opens { session, len, .. } if stages[session as usize] == Stage::Unopened => {
+        Look::Opens { session, len, .. } if is_unopened(stages[session as usize]) => {
             stages[session as usize] = Stage::Opened;
             Some(4 + len as usize)
         }
-        Look::Brings { session, len } if stages[session as usize] == Stage::Opened => {
+        Look::Brings { session, len } if is_opened(stages[session as usize]) => {
             Some(4 + len as usize)
         }
-        Look::Closes { session } if stages[session as usize] == Stage::Opened => {
+        Look::Closes { session } if is_opened(stages[session as usize]) => {
             stages[session as usize] = Stage::Closed;
             Some(2)
         }
@@ -276,13 +275,21 @@ impl Mux {
         }
     }
 
+    fn trace_rest(&self) -> usize
+        ensures { result ≡ length (tail_of (map stage_of self.now.sessions) self.now.input) }
+    {
+        let mut stages = [Stage::Unopened; NUMBERS];
+        self.sessions.stages(&mut stages);
+        tail_len(&mut stages, self.input.as_slice())
+    }
+
     /// How many bytes of an unfinished record, or of a bad one and what follows it, are held behind the whole records.
     pub fn rest(&self) -> usize
         ensures { result ≡ length (tail_left self.now) }
     {
         match self.form {
             Form::Plain => 0,
-            Form::Trace => tail_len(&mut self.sessions.stages(), self.input.as_slice()),
+            Form::Trace => self.trace_rest(),
         }
     }
 

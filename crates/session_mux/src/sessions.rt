@@ -4,6 +4,7 @@ ghost use Rattle.channel_frame.specs.SessionBytes.{no_bytes};
 ghost use Rattle.session_mux.specs.declared.sessions.Session.TheVariants.{Open, Closed};
 ghost use Rattle.session_mux.specs.Arrivals.{stage_at};
 ghost use Rattle.session_mux.specs.Completion.{stage_of, held_len, rest_len, session_events, with_data, fault_number as number_of};
+ghost use Rattle.session_mux.specs.RecordSteps.{is_unopened as stage_is_unopened, is_opened as stage_is_opened};
 ghost use Rattle.session_mux.specs.SessionSteps.{taken, GivesEvent, StreamEvent};
 
 use crate::events::Event;
@@ -42,6 +43,20 @@ pub enum Session {
     Open { who: Who, bytes: Stream },
     /// It was closed. Its number is not opened again.
     Closed,
+}
+
+/// Whether a session number was not opened.
+pub fn is_unopened(stage: Stage) -> bool
+    ensures { result ≡ stage_is_unopened stage }
+{
+    matches!(stage, Stage::Unopened)
+}
+
+/// Whether a session is open.
+pub fn is_opened(stage: Stage) -> bool
+    ensures { result ≡ stage_is_opened stage }
+{
+    matches!(stage, Stage::Opened)
 }
 
 fn fault_number(fault: FrameFault) -> u8

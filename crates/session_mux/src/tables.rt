@@ -44,6 +44,15 @@ fn unopened_sessions(alloc: Global) -> Result<Vec<Session>, AllocError>
     Ok(all)
 }
 
+fn fill_stages(stages: &mut [Stage], sessions: &[Session])
+    requires { length stages.old ≡ length sessions.now }
+    ensures { stages.new ≡ map stage_of sessions.now }
+{
+    'numbers: for (number, session) in sessions.iter().enumerate() {
+        stages[number] = session.stage();
+    }
+}
+
 impl SessionTable {
     /// No session is opened.
     pub fn new(alloc: Global) -> Result<SessionTable, AllocError>
@@ -68,14 +77,11 @@ impl SessionTable {
     }
 
     /// The stage of each session number.
-    pub fn stages(&self) -> [Stage; NUMBERS]
-        ensures { result ≡ map stage_of self.now }
+    pub fn stages(&self, stages: &mut [Stage])
+        requires { length stages.old ≡ 256 }
+        ensures { stages.new ≡ map stage_of self.now }
     {
-        let mut stages = [Stage::Unopened; NUMBERS];
-        'numbers: for (number, session) in self.all.iter().enumerate() {
-            stages[number] = session.stage();
-        }
-        stages
+        fill_stages(stages, self.all.as_slice());
     }
 
     /// How many bytes a session holds. Where no session holds an event, they are those of an unfinished frame.

@@ -10,8 +10,7 @@ use Rattle.session_mux.proofs.muxing.Mux.plain.Goals as goal
 pub invariant_of-result : goal.invariant_of-result
 invariant_of-result c =
     let within : 0 < length unopened = omega (arith, c.open.ensures.numbers, ap length c.in_ok-sessions.ensures) in
-    let after = c.open.ensures.after ∙ ap (λ (xs : List Session). set xs 0 (session.Open Admin no_bytes)) c.in_ok-sessions.ensures in
-    (
+    let after = c.open.ensures.after ∙ ap (λ (xs : List Session). set xs 0 (session.Open Admin no_bytes)) c.in_ok-sessions.ensures in (
       omega (arith, ap length c.new-2.ensures),
       subst (λ (xs : List Session). AtMost xs 0) (sym after) (at_most_set 0 (session.Open Admin no_bytes) unopened 0 within (omega arith) (at_most_start 256 0)),
     )

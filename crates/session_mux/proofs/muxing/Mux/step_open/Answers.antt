@@ -17,7 +17,7 @@ returns-clause-ok c =
     let quiet : events_held 0 v.sessions ≡ [] = ap (λ (x : Standing). events_held 0 x.sessions) c.self.view_is ∙ c.requires.quiet in
     let within : c.args.session < length v.sessions = omega (arith, c.open.ensures.numbers, c.ranges.session) in
     let name : c.split_at-2.result.0.now ≡ take c.args.len (drop 4 st.input) =
-      c.split_at-2.ensures.front ∙ ap (take c.args.len) (c.split_at.ensures.back ∙ ap (drop 4) c.as_slice.ensures) ∙ ap (λ (x : Standing). take c.args.len (drop 4 x.input)) c.self.view_is
+    c.split_at-2.ensures.front ∙ ap (take c.args.len) (c.split_at.ensures.back ∙ ap (drop 4) c.as_slice.ensures) ∙ ap (λ (x : Standing). take c.args.len (drop 4 x.input)) c.self.view_is
     in
     let says : role_at c.args.role (take c.args.len (drop 4 st.input)) ≡ Some who = ap (role_at c.args.role) (sym name) ∙ c.in_ok-who.ensures in
     let some : 0 < n = omega arith in

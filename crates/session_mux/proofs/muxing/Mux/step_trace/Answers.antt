@@ -30,8 +30,8 @@ returns-else-may_open-clause-ok c =
     let bytes : c.as_slice.result.now ≡ st.input = c.as_slice.ensures ∙ ap (λ (x : Standing). x.input) c.self.view_is in
     let stage : is_unopened (stage_at stages c.in-Opens.session) ≡ false = ap (λ (x : Standing). is_unopened (stage_at (map stage_of x.sessions) c.in-Opens.session)) (sym c.self.view_is) ∙ sym c.may_open.ensures ∙ c.if-may_open.false in
     let front : record_front stages st.input ≡ Bad =
-      ap (record_front stages) (sym bytes) ∙ c.in-Opens.ensures.front stages
-      ∙ opened_before (stage_at stages c.in-Opens.session) c.in-Opens.session (role_at c.in-Opens.role (take c.in-Opens.len (drop 4 c.as_slice.result.now))) (4 + c.in-Opens.len) stage
+    ap (record_front stages) (sym bytes) ∙ c.in-Opens.ensures.front stages
+    ∙ opened_before (stage_at stages c.in-Opens.session) c.in-Opens.session (role_at c.in-Opens.role (take c.in-Opens.len (drop 4 c.as_slice.result.now))) (4 + c.in-Opens.len) stage
     in
     (refl, trace_stuck v st c.self.view_is c.requires.form front c.requires.quiet)
 
@@ -43,8 +43,8 @@ returns-else-is_open-clause-ok c =
     let bytes : c.as_slice.result.now ≡ st.input = c.as_slice.ensures ∙ ap (λ (x : Standing). x.input) c.self.view_is in
     let stage : is_opened (stage_at stages c.in-Brings.session) ≡ false = ap (λ (x : Standing). is_opened (stage_at (map stage_of x.sessions) c.in-Brings.session)) (sym c.self.view_is) ∙ sym c.is_open.ensures ∙ c.if-is_open.false in
     let front : record_front stages st.input ≡ Bad =
-      ap (record_front stages) (sym bytes) ∙ c.in-Brings.ensures.front stages
-      ∙ not_open (stage_at stages c.in-Brings.session) (Data c.in-Brings.session (take c.in-Brings.len (drop 4 c.as_slice.result.now))) (4 + c.in-Brings.len) stage
+    ap (record_front stages) (sym bytes) ∙ c.in-Brings.ensures.front stages
+    ∙ not_open (stage_at stages c.in-Brings.session) (Data c.in-Brings.session (take c.in-Brings.len (drop 4 c.as_slice.result.now))) (4 + c.in-Brings.len) stage
     in
     (refl, trace_stuck v st c.self.view_is c.requires.form front c.requires.quiet)
 
@@ -56,7 +56,7 @@ returns-else-is_open-2-clause-ok c =
     let bytes : c.as_slice.result.now ≡ st.input = c.as_slice.ensures ∙ ap (λ (x : Standing). x.input) c.self.view_is in
     let stage : is_opened (stage_at stages c.in-Closes.session) ≡ false = ap (λ (x : Standing). is_opened (stage_at (map stage_of x.sessions) c.in-Closes.session)) (sym c.self.view_is) ∙ sym c.is_open-in-Closes.ensures ∙ c.if-is_open-2.false in
     let front : record_front stages st.input ≡ Bad =
-      ap (record_front stages) (sym bytes) ∙ c.in-Closes.ensures.front stages
-      ∙ not_open (stage_at stages c.in-Closes.session) (Close c.in-Closes.session) 2 stage
+    ap (record_front stages) (sym bytes) ∙ c.in-Closes.ensures.front stages
+    ∙ not_open (stage_at stages c.in-Closes.session) (Close c.in-Closes.session) 2 stage
     in
     (refl, trace_stuck v st c.self.view_is c.requires.form front c.requires.quiet)

@@ -5,6 +5,6 @@ use Rattle.session_mux.proofs.muxing.Mux.traced.Goals as goal
 
 pub invariant_of-result : goal.invariant_of-result
 invariant_of-result c = (
-    omega (arith, ap length c.new-2.ensures),
-    subst (λ (xs : List Session). AtMost xs 0) (sym c.in_ok-sessions.ensures) (at_most_start 256 0),
+  omega (arith, ap length c.new-2.ensures),
+  subst (λ (xs : List Session). AtMost xs 0) (sym c.in_ok-sessions.ensures) (at_most_start 256 0),
 )

@@ -13,8 +13,7 @@ returns-clause-len c =
 pub returns-clause-rest : goal.returns-clause-rest
 returns-clause-rest c = λ s quiet.
     let none : c.args.self.now.fault ≡ None = ap (λ (b : SessionBytes). b.fault) (sym c.self.view_is) ∙ no_fault c.self.inside.fault (sym c.is_some.ensures ∙ c.if-is_some.false) in
-    let left = left_of_quiet s c.args.self.now none quiet in
-    (
+    let left = left_of_quiet s c.args.self.now none quiet in (
       c.len.ensures ∙ ap (λ (b : SessionBytes). length b.held) (c.self.view_is ∙ sym left.0),
       omega (arith, left.1, c.len.ensures, ap (λ (b : SessionBytes). length b.held) c.self.view_is),
     )

@@ -6,6 +6,6 @@ use Rattle.session_mux.proofs.tables.SessionTable.feed.Goals as goal
 
 pub invariant_of-self-2 : goal.invariant_of-self-2
 invariant_of-self-2 c = (
-    length-set c.self.inside.all.items c.args.session c.feed.new.self ∙ c.self.invariant.0,
-    quiet_but_set c.args.session c.feed.new.self c.self.inside.all.items (ap (events_held 0) c.self.view_is ∙ c.requires.quiet),
+  length-set c.self.inside.all.items c.args.session c.feed.new.self ∙ c.self.invariant.0,
+  quiet_but_set c.args.session c.feed.new.self c.self.inside.all.items (ap (events_held 0) c.self.view_is ∙ c.requires.quiet),
 )
