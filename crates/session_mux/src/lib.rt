@@ -14,4 +14,4 @@ mod worked;
 pub use events::{Event, MuxFault};
 pub use laws::completed_by;
 pub use muxing::Mux;
-pub use worked::{worked_interleaving, worked_session};
+pub use worked::{worked_bad_records, worked_fault, worked_interleaving, worked_session, worked_tails};

@@ -106,10 +106,10 @@ impl Stream {
         ensures ok { OnOk result (self.new ≡ with_more self.old piece.now) }
         ensures err { OnErr result (self.new ≡ self.old) }
     {
-        if self.fault.is_some() {
-            return Ok(());
+        match self.fault {
+            Some(_) => Ok(()),
+            None => self.held.append(piece),
         }
-        self.held.append(piece)
     }
 
     fn give(&mut self, frame: Frame, len: u64) -> Found

@@ -3,11 +3,11 @@ ghost use Rattle.channel_frame.specs.SessionBytes.{no_bytes};
 ghost use Rattle.session_mux.specs.declared.sessions.Session.TheVariants.{Open, Closed};
 ghost use Rattle.session_mux.specs.Arrivals.{stage_at};
 ghost use Rattle.session_mux.specs.Completion.{session_at, unopened, stage_of, held_len, rest_len, with_data, events_held};
-ghost use Rattle.session_mux.specs.RecordSteps.{is_unopened, is_opened};
+ghost use Rattle.session_mux.specs.RecordSteps.{is_unopened as stage_is_unopened, is_opened as stage_is_opened};
 ghost use Rattle.session_mux.specs.SessionSteps.{taken, SessionsGive};
 
 use crate::events::Event;
-use crate::sessions::{NUMBERS, Session, Stage};
+use crate::sessions::{NUMBERS, Session, Stage, is_opened, is_unopened};
 use crate::streams::Stream;
 use ctrl_model::Who;
 use std::alloc::{AllocError, Global};
@@ -64,16 +64,16 @@ impl SessionTable {
 
     /// Whether a session may be opened: its number was not opened before.
     pub fn may_open(&self, session: u8) -> bool
-        ensures { result ≡ is_unopened (stage_at (map stage_of self.now) session) }
+        ensures { result ≡ stage_is_unopened (stage_at (map stage_of self.now) session) }
     {
-        matches!(self.all[session as usize], Session::Unopened)
+        is_unopened(self.all[session as usize].stage())
     }
 
     /// Whether a session is open.
     pub fn is_open(&self, session: u8) -> bool
-        ensures { result ≡ is_opened (stage_at (map stage_of self.now) session) }
+        ensures { result ≡ stage_is_opened (stage_at (map stage_of self.now) session) }
     {
-        matches!(self.all[session as usize], Session::Open { .. })
+        is_opened(self.all[session as usize].stage())
     }
 
     /// The stage of each session number.
