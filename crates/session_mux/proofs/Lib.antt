@@ -5,3 +5,4 @@ pub mod RecordLaws
 pub mod GoingLaws
 pub mod StepLaws
 pub mod CompletionLaws
+pub mod RecordReadings

@@ -52,12 +52,12 @@ data_parts : (stages : List Stage) (s s' n n' : ℕ) (part part' : List ℕ) →
     → within (stage_at stages s) (Data s part) (4 + n) ≡ within (stage_at stages s') (Data s' part') (4 + n')
 data_parts stages s s' n n' part part' a b c = rw (a, b, c) refl
 
-open_is : (stages : List Stage) (bytes : List ℕ) → 4 + get_or bytes 3 0 ≤ length bytes
+pub open_is : (stages : List Stage) (bytes : List ℕ) → 4 + get_or bytes 3 0 ≤ length bytes
     → open_at stages bytes ≡ opening (stage_at stages (get_or bytes 1 0)) (get_or bytes 1 0) (role_at (get_or bytes 2 0) (take (get_or bytes 3 0) (drop 4 bytes))) (4 + get_or bytes 3 0)
 open_is stages bytes le =
     test_false _ _ (both_false (ltb (length bytes) 4) (ltb (length bytes) (4 + get_or bytes 3 0)) (le-ltb _ _ (omega arith)) (le-ltb _ _ le))
 
-open_long : (stages : List Stage) (bytes : List ℕ) → (open_at stages bytes ≡ Unfinished → ⊥) → 4 + get_or bytes 3 0 ≤ length bytes
+pub open_long : (stages : List Stage) (bytes : List ℕ) → (open_at stages bytes ≡ Unfinished → ⊥) → 4 + get_or bytes 3 0 ≤ length bytes
 open_long stages bytes stands = ltb-false _ _ (none_true (ltb (length bytes) 4) (ltb (length bytes) (4 + get_or bytes 3 0)) (past_test _ _ stands)).1
 
 open_stays : (stages : List Stage) (bytes more : List ℕ) → Stays (open_at stages bytes) (open_at stages (bytes ++ more))
@@ -76,12 +76,12 @@ same_len bytes more le =
     let b = same_cell bytes more 3 (omega arith) in
     rw (a, b) refl
 
-data_is : (stages : List Stage) (bytes : List ℕ) → 4 + data_len bytes ≤ length bytes
+pub data_is : (stages : List Stage) (bytes : List ℕ) → 4 + data_len bytes ≤ length bytes
     → data_at stages bytes ≡ within (stage_at stages (get_or bytes 1 0)) (Data (get_or bytes 1 0) (take (data_len bytes) (drop 4 bytes))) (4 + data_len bytes)
 data_is stages bytes le =
     test_false _ _ (both_false (ltb (length bytes) 4) (ltb (length bytes) (4 + data_len bytes)) (le-ltb _ _ (omega arith)) (le-ltb _ _ le))
 
-data_long : (stages : List Stage) (bytes : List ℕ) → (data_at stages bytes ≡ Unfinished → ⊥) → 4 + data_len bytes ≤ length bytes
+pub data_long : (stages : List Stage) (bytes : List ℕ) → (data_at stages bytes ≡ Unfinished → ⊥) → 4 + data_len bytes ≤ length bytes
 data_long stages bytes stands = ltb-false _ _ (none_true (ltb (length bytes) 4) (ltb (length bytes) (4 + data_len bytes)) (past_test _ _ stands)).1
 
 data_stays : (stages : List Stage) (bytes more : List ℕ) → Stays (data_at stages bytes) (data_at stages (bytes ++ more))
@@ -93,10 +93,10 @@ data_stays stages bytes more stands =
     let len : 4 + data_len (bytes ++ more) ≤ length (bytes ++ more) = omega (arith, c, length-append bytes more) in
     data_is stages (bytes ++ more) len ∙ data_parts stages _ _ _ _ _ _ a c d ∙ sym (data_is stages bytes long)
 
-close_is : (stages : List Stage) (bytes : List ℕ) → 2 ≤ length bytes → close_at stages bytes ≡ within (stage_at stages (get_or bytes 1 0)) (Close (get_or bytes 1 0)) 2
+pub close_is : (stages : List Stage) (bytes : List ℕ) → 2 ≤ length bytes → close_at stages bytes ≡ within (stage_at stages (get_or bytes 1 0)) (Close (get_or bytes 1 0)) 2
 close_is stages bytes le = test_false _ _ (le-ltb _ _ le)
 
-close_long : (stages : List Stage) (bytes : List ℕ) → (close_at stages bytes ≡ Unfinished → ⊥) → 2 ≤ length bytes
+pub close_long : (stages : List Stage) (bytes : List ℕ) → (close_at stages bytes ≡ Unfinished → ⊥) → 2 ≤ length bytes
 close_long stages bytes stands = ltb-false _ _ (past_test _ _ stands)
 
 close_stays : (stages : List Stage) (bytes more : List ℕ) → Stays (close_at stages bytes) (close_at stages (bytes ++ more))
@@ -116,14 +116,14 @@ kinds_stay false true r x y z x' y' z' a b c stands = b stands
 kinds_stay false false true x y z x' y' z' a b c stands = c stands
 kinds_stay false false false x y z x' y' z' a b c stands = refl
 
-front_is : (stages : List Stage) (bytes : List ℕ) → 0 < length bytes
+pub front_is : (stages : List Stage) (bytes : List ℕ) → 0 < length bytes
     → record_front stages bytes ≡ by_kind (eqb (get_or bytes 0 0) 1) (eqb (get_or bytes 0 0) 2) (eqb (get_or bytes 0 0) 3) (open_at stages bytes) (data_at stages bytes) (close_at stages bytes)
 front_is stages [] some = absurd (omega arith)
 front_is stages (b ∷ bytes) some =
     ap (λ (t : Bool). cond t Unfinished (by_kind (eqb b 1) (eqb b 2) (eqb b 3) (open_at stages (b ∷ bytes)) (data_at stages (b ∷ bytes)) (close_at stages (b ∷ bytes))))
     (ne_eqb (length (b ∷ bytes)) 0 (λ e. absurd (omega arith)))
 
-front_some : (stages : List Stage) (bytes : List ℕ) → (record_front stages bytes ≡ Unfinished → ⊥) → 0 < length bytes
+pub front_some : (stages : List Stage) (bytes : List ℕ) → (record_front stages bytes ≡ Unfinished → ⊥) → 0 < length bytes
 front_some stages [] stands = absurd (stands refl)
 front_some stages (b ∷ bytes) stands = omega arith
 

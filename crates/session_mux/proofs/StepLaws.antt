@@ -1,5 +1,5 @@
 -- Each step of the mux, said of the fields as they stand before and after it.
-use Rattle.std.proofs.Common.{◌≡◌, ℕ, ◌+◌, ◌<◌, ◌≤◌, List, [], ◌∷◌, ◌++◌, length, take, drop, map, set, Option, None, Some, refl, sym, ap, subst, ◌∙◌, arith}
+use Rattle.std.proofs.Common.{◌≡◌, ℕ, ◌+◌, ◌<◌, ◌≤◌, List, [], ◌∷◌, ◌++◌, length, take, drop, map, set, Option, None, Some, Result, Ok, Err, refl, sym, ap, subst, ◌∙◌, arith}
 use Rattle.std.proofs.lemmas.List.{append-nil}
 use Rattle.ctrl_model.specs.declared.kinds.Who.{Who}
 use Rattle.session_mux.specs.declared.events.Event.{Event}
@@ -8,10 +8,14 @@ use Rattle.session_mux.specs.declared.sessions.Session.{Session}
 use Rattle.session_mux.specs.declared.sessions.Form.{Form}
 use Rattle.session_mux.specs.declared.sessions.Form.TheVariants.{Plain, Trace}
 use Rattle.session_mux.specs.Arrivals.{Arrival, Open, Data, Close, RecordFront, Unfinished, Bad, Whole, record_front}
-use Rattle.session_mux.specs.Completion.{Standing, fed, events_of, end_of, begins_bad, session_at, stage_of, settled_session, rest_len, sessions_after, events_by, events_held, GoesTo, IsBadAt, IsUnfinished}
+use Rattle.session_mux.specs.Completion.{Standing, tail_in, fed, events_of, end_of, begins_bad, session_at, stage_of, settled_session, rest_len, sessions_after, events_by, events_held, GoesTo, IsBadAt, IsUnfinished}
 use Rattle.session_mux.specs.SessionSteps.{SessionsGive}
 use Rattle.session_mux.specs.declared.muxing.Step.TheVariants.{Ended}
-use Rattle.session_mux.specs.MuxSteps.{HeldGives, StepGives, HoldsFew, GivesNone}
+use Rattle.session_mux.specs.MuxSteps.{HeldGives, StepGives, HoldsFew, GivesNone, GivesFault}
+use Rattle.session_mux.specs.declared.events.MuxFault.{MuxFault}
+use Rattle.session_mux.specs.declared.events.MuxFault.TheVariants.{BadRecord, NoMemory}
+use Rattle.std.specs.Prelude.{IfOk, IfErr, MatchOption, ◌-◌}
+use Rattle.session_mux.proofs.RecordLaws.{tail_within}
 use Rattle.session_mux.proofs.EventLaws.{few_of_quiet}
 use Rattle.session_mux.proofs.TableLaws.{held_quiet, from_zero}
 use Rattle.session_mux.proofs.GoingLaws.{goes_then, held_goes, trace_goes, plain_goes, plain_ends, trace_ends, trace_bad}
@@ -123,3 +127,28 @@ ends_here a b c d p held ended =
           subst HoldsFew (sym same)
           (record { record_few = omega (arith, ended.2, ap (λ (x : Standing). length x.input) held.0); frames_few = held.2 });
     }
+
+-- ---- no byte of the input is lost
+
+all_taken : (form : Form) (input : List ℕ) (before : ℕ) (sessions : List Session)
+    → before + (length input - length (tail_in form sessions input)) + length (tail_in form sessions input) ≡ before + length input
+all_taken Plain input before sessions = omega arith
+all_taken Trace input before sessions = omega (arith, tail_within input (map stage_of sessions) 0)
+
+abbrev pub came : Standing → ℕ
+came st = st.before + length st.input
+
+end_came : (st : Standing) → came (end_of st) ≡ came st
+end_came st = all_taken st.form st.input st.before st.sessions
+
+same_taken : (old new : Standing) (first : List Event) → GoesTo old new first → came new ≡ came old
+same_taken old new first goes =
+    let ends : end_of old ≡ end_of new = ap end_of (sym (no_more_input old)) ∙ goes.ends [] ∙ ap end_of (no_more_input new) in
+    sym (end_came new) ∙ ap came (sym ends) ∙ end_came old
+
+pub taken_from : (old new : Standing) (r : Result (Option Event) MuxFault) → IfOk r (λ event. MatchOption event (GivesNone old new) (λ e. GoesTo old new (e ∷ [])))
+    → IfErr r (λ e. GivesFault old new e) → came new ≡ came old
+taken_from old new (Ok None) some fault = same_taken old new [] some.goes
+taken_from old new (Ok (Some e)) some fault = same_taken old new (e ∷ []) some
+taken_from old new (Err (BadRecord at)) some fault = same_taken old new [] fault.0
+taken_from old new (Err NoMemory) some fault = same_taken old new [] fault

@@ -12,6 +12,6 @@ mod tables;
 mod worked;
 
 pub use events::{Event, MuxFault};
-pub use laws::completed_by;
+pub use laws::{completed_by, one_reading};
 pub use muxing::Mux;
 pub use worked::{worked_bad_records, worked_fault, worked_interleaving, worked_session, worked_tails};

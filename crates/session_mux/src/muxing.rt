@@ -303,11 +303,7 @@ impl Mux {
         self.sessions.len(session)
     }
 
-    /// The next event, in the order in which the bytes of the input decide them.
-    ///
-    /// `BadRecord` comes exactly where nothing is left but a bad record, and then again. `None` comes where nothing is left but an
-    /// unfinished one. Want of memory loses nothing.
-    pub fn next(&mut self) -> Result<Option<Event>, MuxFault>
+    fn first_event(&mut self) -> Result<Option<Event>, MuxFault>
         ensures some { IfOk result (λ event. MatchOption event (GivesNone self.old self.new) (λ e. GoesTo self.old self.new (e ∷ []))) }
         ensures fault { IfErr result (λ e. GivesFault self.old self.new e) }
     {
@@ -322,5 +318,20 @@ impl Mux {
                 Step::Stuck(at) => return Err(MuxFault::BadRecord { at }),
             }
         }
+    }
+
+    /// The next event, in the order in which the bytes of the input decide them.
+    ///
+    /// `BadRecord` comes exactly where nothing is left but a bad record, and then again. `None` comes where nothing is left but
+    /// unfinished bytes, of which few are held. Whatever the answer is, no byte of the input is lost, and nothing else changes what
+    /// comes: not a cut of the input, and not want of memory.
+    pub fn next(&mut self) -> Result<Option<Event>, MuxFault>
+        ensures some { IfOk result (λ event. MatchOption event (GivesNone self.old self.new) (λ e. GoesTo self.old self.new (e ∷ []))) }
+        ensures fault { IfErr result (λ e. GivesFault self.old self.new e) }
+        // As many bytes of the input have come as before.
+        ensures taken { self.new.before + length self.new.input ≡ self.old.before + length self.old.input }
+    {
+        let event = self.first_event();
+        event
     }
 }

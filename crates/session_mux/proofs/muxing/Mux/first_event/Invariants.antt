@@ -1,6 +1,6 @@
 use Rattle.std.proofs.Common.{ℕ, length, []}
 use Rattle.session_mux.specs.Completion.{GoesTo}
-use Rattle.session_mux.proofs.muxing.Mux.next.Given as goal
+use Rattle.session_mux.proofs.muxing.Mux.first_event.Given as goal
 
 -- no event was given yet: what was moved changed none
 abbrev pub invariant-moves : goal.invariant-moves
