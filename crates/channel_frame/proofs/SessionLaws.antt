@@ -70,12 +70,10 @@ bad_on g h r more e is bad on =
     let there : front (r ++ more) ≡ Bad e = front_stays r more (λ s. cc) ∙ bad in
     let stop = reading_stops_bad (r ++ more) e there in
     let rest : rest_of (h ++ more) ≡ r ++ more = on.rest_on ∙ stop.1 in
-    let len : g + (length (h ++ more) - length (r ++ more)) ≡ g + (length h - length r) = omega (arith, length-append h more, length-append r more, on.within) in
-    (
+    let len : g + (length (h ++ more) - length (r ++ more)) ≡ g + (length h - length r) = omega (arith, length-append h more, length-append r more, on.within) in (
       on.frames_on ∙ ap (λ (fs : List Frame). frames_of h ++ fs) stop.0,
       ap (λ (q : List ℕ). left_at (front q) (g + (length (h ++ more) - length q)) q) rest ∙ ap (λ (f : Front). left_at f (g + (length (h ++ more) - length (r ++ more))) (r ++ more)) there ∙ ap (λ (n : ℕ). record { given = n; held = []; fault = Some e }) len,
     )
-
 
 -- where the tail of what is held is faulty
 goes_on_bad : (g : ℕ) (h more : List ℕ) (e : FrameFault) → front (rest_of h) ≡ Bad e → GoesOn (record { given = g; held = h; fault = None }) more
@@ -206,7 +204,7 @@ tells_fault_parts g h e bad =
     let stop = reading_stops_bad h e bad in
     let same : g + (length h - length h) ≡ g = omega arith in
     let left : settled (record { given = g; held = h; fault = None }) ≡ record { given = g; held = []; fault = Some e } =
-      ap (λ (t : List ℕ). left_at (front t) (g + (length h - length t)) t) stop.1 ∙ ap (λ (f : Front). left_at f (g + (length h - length h)) h) bad ∙ ap (λ (n : ℕ). record { given = n; held = []; fault = Some e }) same
+    ap (λ (t : List ℕ). left_at (front t) (g + (length h - length t)) t) stop.1 ∙ ap (λ (f : Front). left_at f (g + (length h - length h)) h) bad ∙ ap (λ (n : ℕ). record { given = n; held = []; fault = Some e }) same
     in
     record { frames = stop.0; left = left; fault = ap (fault_unless None) left }
 
@@ -246,16 +244,16 @@ fault_on_at g h more Short e =
     inl (
       ap (fault_unless None) is,
       ap (fault_unless None) (goes_on b more).left
-      ∙ ap (λ (x : SessionBytes). fault_unless None (settled (with_more x more))) is
-      ∙ sym (ap (λ (x : SessionBytes). fault_held (with_more x more)) is),
+          ∙ ap (λ (x : SessionBytes). fault_unless None (settled (with_more x more))) is
+          ∙ sym (ap (λ (x : SessionBytes). fault_held (with_more x more)) is),
     )
 fault_on_at g h more (Bad d) e =
     let b : SessionBytes = record { given = g; held = h; fault = None } in
     let is : settled b ≡ record { given = g + (length h - length (rest_of h)); held = []; fault = Some d } = ap (λ (f : Front). left_at f (g + (length h - length (rest_of h))) (rest_of h)) e in
     inr (
       ap (fault_unless None) (goes_on b more).left
-      ∙ ap (λ (x : SessionBytes). fault_unless None (settled (with_more x more))) is
-      ∙ sym (ap (fault_unless None) is),
+          ∙ ap (λ (x : SessionBytes). fault_unless None (settled (with_more x more))) is
+          ∙ sym (ap (fault_unless None) is),
       ap (λ (x : SessionBytes). fault_held (with_more x more)) is,
       ap (λ (x : SessionBytes). frames_held (with_more x more)) is,
     )

@@ -1,13 +1,13 @@
 -- The events of one session's bytes, and what more bytes do to them.
-use Rattle.std.proofs.Common.{◌≡◌, ℕ, ◌+◌, ◌≤◌, List, [], ◌∷◌, ◌++◌, length, drop, map, Bool, true, false, Option, None, Some, refl, sym, ap, subst, ◌∙◌, ◌⊎◌, inl, inr, append_assoc, arith}
+use Rattle.std.proofs.Common.{◌≡◌, ℕ, ◌+◌, ◌≤◌, List, [], ◌∷◌, ◌++◌, length, drop, map, false, Option, None, Some, refl, sym, ap, subst, ◌∙◌, inl, inr, append_assoc, arith}
 use Rattle.std.specs.Prelude.{is_some}
-use Rattle.std.proofs.lemmas.List.{append-nil, length-drop, drop_at, map-append}
+use Rattle.std.proofs.lemmas.List.{append-nil, length-drop, map-append}
 use Rattle.channel_frame.specs.declared.frames.Frame.{Frame}
 use Rattle.channel_frame.specs.declared.frames.FrameFault.{FrameFault}
 use Rattle.channel_frame.specs.declared.frames.Front.{Front}
 use Rattle.channel_frame.specs.declared.frames.Front.TheVariants.{Short, Bad, Whole}
 use Rattle.channel_frame.specs.StreamReading.{front}
-use Rattle.channel_frame.specs.SessionBytes.{SessionBytes, no_bytes, with_more, frames_held, left_unless, settled, fault_held}
+use Rattle.channel_frame.specs.SessionBytes.{SessionBytes, with_more, frames_held, left_unless, settled, fault_held}
 use Rattle.channel_frame.proofs.FrontLaws.{whole_within}
 use Rattle.channel_frame.proofs.SessionLaws.{goes_on, fault_on, FaultOn, more_twice, no_more, IsQuiet, quiet_short, met_nothing, settled_quiet, quiet_fault, gives_frame, tells_fault, short_few}
 use Rattle.session_mux.specs.declared.events.Event.{Event}

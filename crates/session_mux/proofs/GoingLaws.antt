@@ -1,6 +1,6 @@
 -- Going on from one standing to the next keeps the events and the end.
-use Rattle.std.proofs.Common.{◌≡◌, ℕ, zero, suc, ◌+◌, ◌-◌, ◌<◌, ◌≤◌, Bool, true, false, List, [], ◌∷◌, ◌++◌, length, take, drop, map, set, get_or, Option, None, Some, refl, sym, ap, subst, ◌∙◌, append_assoc, arith}
-use Rattle.std.proofs.lemmas.List.{append-nil, drop-append-le, length-append, length-drop, drop_at, map-set, length-set, get_or-set_same}
+use Rattle.std.proofs.Common.{◌≡◌, ℕ, zero, suc, ◌+◌, ◌-◌, ◌<◌, ◌≤◌, List, [], ◌∷◌, ◌++◌, length, drop, map, set, get_or, refl, sym, ap, ◌∙◌, append_assoc, arith}
+use Rattle.std.proofs.lemmas.List.{append-nil, drop-append-le, length-append, length-drop, drop_at, map-set, get_or-set_same}
 use Rattle.std.proofs.Math.Seq.{map-set_same}
 use Rattle.std.proofs.Math.ListN.{get_or-map}
 use Rattle.ctrl_model.specs.declared.kinds.Who.{Who}
@@ -10,12 +10,11 @@ use Rattle.session_mux.specs.declared.events.Event.TheVariants as event
 use Rattle.session_mux.specs.declared.sessions.Session.{Session}
 use Rattle.session_mux.specs.declared.sessions.Session.TheVariants as session
 use Rattle.session_mux.specs.declared.sessions.Stage.{Stage}
-use Rattle.session_mux.specs.declared.sessions.Stage.TheVariants.{Unopened, Opened, Closed}
 use Rattle.session_mux.specs.declared.sessions.Form.{Form}
 use Rattle.session_mux.specs.declared.sessions.Form.TheVariants.{Plain, Trace}
-use Rattle.session_mux.specs.Arrivals.{Arrival, Open, Data, Close, RecordFront, Unfinished, Bad, Whole, stages_after, record_front, records_of, tail_of}
-use Rattle.session_mux.specs.Completion.{Standing, session_at, fed, stage_of, with_data, settled_session, session_events, rest_len, sessions_after, events_by, sessions_along, events_along, events_held, arrivals_in, tail_in, arrivals_of, tail_left, events_of, end_of, is_bad_in, begins_bad, GoesTo, IsBadAt, IsUnfinished}
-use Rattle.session_mux.proofs.EventLaws.{more_events, settled_more, settled_twice, data_twice, data_none, stage_settled, stage_data, rest_settled}
+use Rattle.session_mux.specs.Arrivals.{Arrival, Open, Data, Close, Unfinished, Bad, Whole, stages_after, record_front, records_of, tail_of}
+use Rattle.session_mux.specs.Completion.{Standing, session_at, fed, stage_of, with_data, settled_session, session_events, rest_len, sessions_after, events_by, sessions_along, events_along, events_held, arrivals_in, tail_in, events_of, is_bad_in, GoesTo, IsBadAt, IsUnfinished}
+use Rattle.session_mux.proofs.EventLaws.{more_events, settled_more, data_twice, data_none, stage_settled, stage_data, rest_settled}
 use Rattle.session_mux.proofs.TableLaws.{none_before, held_quiet, held_of_ready, quiet_but_set, from_zero}
 use Rattle.session_mux.proofs.RecordLaws.{record_stays, record_step, record_stop, tail_within}
 

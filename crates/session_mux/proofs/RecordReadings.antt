@@ -9,7 +9,7 @@ use Rattle.ctrl_model.specs.declared.kinds.Who.{Who}
 use Rattle.ctrl_model.specs.declared.kinds.Who.TheVariants.{Admin, Router, Identity}
 use Rattle.ctrl_model.specs.NameForm.{is_name}
 use Rattle.channel_frame.specs.StreamReading.{AreBytes}
-use Rattle.channel_frame.proofs.NumberLaws.{byte_fits, AreBytes-drop, take_four}
+use Rattle.channel_frame.proofs.NumberLaws.{byte_fits}
 use Rattle.channel_frame.proofs.ReadingLaws.{drop_before}
 use Rattle.session_mux.specs.declared.sessions.Stage.{Stage}
 use Rattle.session_mux.specs.declared.sessions.Stage.TheVariants.{Unopened, Opened, Closed}
@@ -147,8 +147,8 @@ open_takes stages bytes a n fits kind e =
     let name_len : length name ≡ len = length-take-le len (drop 4 bytes) (omega (arith, length-drop 4 bytes)) in
     let who_len : length (name_bytes w.0) ≡ len = ap length said.bytes ∙ name_len in
     let text : record_bytes (Open s w.0) ≡ take (4 + len) bytes =
-      open_text s (role_byte w.0) (get_or bytes 2 0) (length (name_bytes w.0)) len (name_bytes w.0) name said.byte who_len said.bytes
-      ∙ ap (λ (k : ℕ). k ∷ s ∷ get_or bytes 2 0 ∷ len ∷ name) (sym kind) ∙ sym (four_first len bytes long)
+    open_text s (role_byte w.0) (get_or bytes 2 0) (length (name_bytes w.0)) len (name_bytes w.0) name said.byte who_len said.bytes
+    ∙ ap (λ (k : ℕ). k ∷ s ∷ get_or bytes 2 0 ∷ len ∷ name) (sym kind) ∙ sym (four_first len bytes long)
     in
     subst (λ (m : ℕ). RecordTakes stages a m bytes) w.4
     (subst (λ (x : Arrival). RecordTakes stages x (4 + len) bytes) w.3
@@ -170,7 +170,7 @@ data_takes stages bytes a n fits kind e =
     let few : len ≤ 65535 = omega (arith, c, d) in
     let again : to_le_bytes w16 (length part) ≡ two = ap (to_le_bytes w16) part_len ∙ spelled in
     let text : record_bytes (Data s part) ≡ take (4 + len) bytes =
-      ap (λ (x : List ℕ). 2 ∷ s ∷ (x ++ part)) again ∙ ap (λ (k : ℕ). k ∷ s ∷ get_or bytes 2 0 ∷ get_or bytes 3 0 ∷ part) (sym kind) ∙ sym (four_first len bytes long)
+    ap (λ (x : List ℕ). 2 ∷ s ∷ (x ++ part)) again ∙ ap (λ (k : ℕ). k ∷ s ∷ get_or bytes 2 0 ∷ get_or bytes 3 0 ∷ part) (sym kind) ∙ sym (four_first len bytes long)
     in
     subst (λ (m : ℕ). RecordTakes stages a m bytes) w.2
     (subst (λ (x : Arrival). RecordTakes stages x (4 + len) bytes) w.1

@@ -1,14 +1,12 @@
 -- Each step of the mux, said of the fields as they stand before and after it.
-use Rattle.std.proofs.Common.{◌≡◌, ℕ, ◌+◌, ◌<◌, ◌≤◌, List, [], ◌∷◌, ◌++◌, length, take, drop, map, set, Option, None, Some, Result, Ok, Err, refl, sym, ap, subst, ◌∙◌, arith}
+use Rattle.std.proofs.Common.{◌≡◌, ℕ, ◌+◌, ◌<◌, ◌≤◌, List, [], ◌∷◌, ◌++◌, length, drop, map, Option, None, Some, Result, Ok, Err, refl, sym, ap, subst, ◌∙◌, arith}
 use Rattle.std.proofs.lemmas.List.{append-nil}
-use Rattle.ctrl_model.specs.declared.kinds.Who.{Who}
 use Rattle.session_mux.specs.declared.events.Event.{Event}
-use Rattle.session_mux.specs.declared.events.Event.TheVariants as event
 use Rattle.session_mux.specs.declared.sessions.Session.{Session}
 use Rattle.session_mux.specs.declared.sessions.Form.{Form}
 use Rattle.session_mux.specs.declared.sessions.Form.TheVariants.{Plain, Trace}
-use Rattle.session_mux.specs.Arrivals.{Arrival, Open, Data, Close, RecordFront, Unfinished, Bad, Whole, record_front}
-use Rattle.session_mux.specs.Completion.{Standing, tail_in, fed, events_of, end_of, begins_bad, session_at, stage_of, settled_session, rest_len, sessions_after, events_by, events_held, GoesTo, IsBadAt, IsUnfinished}
+use Rattle.session_mux.specs.Arrivals.{Arrival, Data, Unfinished, Bad, Whole, record_front}
+use Rattle.session_mux.specs.Completion.{Standing, tail_in, fed, events_of, end_of, begins_bad, session_at, stage_of, sessions_after, events_by, events_held, GoesTo, IsBadAt, IsUnfinished}
 use Rattle.session_mux.specs.SessionSteps.{SessionsGive}
 use Rattle.session_mux.specs.declared.muxing.Step.TheVariants.{Ended}
 use Rattle.session_mux.specs.MuxSteps.{HeldGives, StepGives, HoldsFew, GivesNone, GivesFault}

@@ -1,6 +1,6 @@
 -- The events of many sessions in the order in which their bytes come, and what is left at the end (docs/FORMATS.md, "Traces and tagged replies").
 -- A frame is completed by the record that brings its last byte. Each session's frames are those of all its bytes, joined.
-use Rattle.std.specs.Prelude.{◌≡◌, ℕ, suc, ◌+◌, ◌-◌, ◌==◌, Bool, true, false, ◌&&◌, List, [], ◌∷◌, ◌++◌, length, map, drop, set, get_or, replicate, None, Some}
+use Rattle.std.specs.Prelude.{◌≡◌, ℕ, suc, ◌+◌, ◌-◌, Bool, true, false, List, [], ◌∷◌, ◌++◌, length, map, drop, set, get_or, replicate, None, Some}
 use Rattle.std.specs.declared.option.Option.{Option}
 use Rattle.ctrl_model.specs.declared.kinds.Who.{Who}
 use Rattle.ctrl_model.specs.declared.kinds.Who.TheVariants.{Admin}

@@ -1,5 +1,5 @@
 -- What one step of many sessions gives, and how much is held where nothing more is given.
-use Rattle.std.specs.Prelude.{◌≡◌, ℕ, ◌<◌, ◌≤◌, List, [], ◌∷◌, length, None, Some}
+use Rattle.std.specs.Prelude.{◌≡◌, ℕ, ◌<◌, ◌≤◌, [], ◌∷◌, length, None, Some}
 use Rattle.std.specs.declared.option.Option.{Option}
 use Rattle.session_mux.specs.declared.events.Event.{Event}
 use Rattle.session_mux.specs.declared.events.MuxFault.{MuxFault}

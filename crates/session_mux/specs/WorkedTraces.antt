@@ -1,7 +1,5 @@
 -- Inputs and events of the worked examples (docs/FORMATS.md, "Traces and tagged replies").
-use Rattle.std.specs.Prelude.{ℕ, List, [], ◌∷◌, ◌++◌, take, drop, codes}
-use Rattle.ctrl_model.specs.declared.kinds.Who.{Who}
-use Rattle.ctrl_model.specs.declared.kinds.Who.TheVariants.{Admin, Router, Identity}
+use Rattle.std.specs.Prelude.{ℕ, List, [], ◌∷◌, ◌++◌, take, drop}
 use Rattle.channel_frame.specs.WorkedFrames.{ann_bytes, unmarked_bytes}
 
 -- Session 0 is opened by an administrator.
@@ -56,14 +54,17 @@ open_again = open_0 ++ close_0 ++ open_0
 -- An administrator who has the name ann; a role of the number 3; an identity without a name.
 abbrev pub named_admin : List ℕ
 named_admin = 1 ∷ 0 ∷ 0 ∷ 3 ∷ 97 ∷ 110 ∷ 110 ∷ []
+
 abbrev pub third_role : List ℕ
 third_role = 1 ∷ 0 ∷ 3 ∷ 3 ∷ 97 ∷ 110 ∷ 110 ∷ []
+
 abbrev pub nameless : List ℕ
 nameless = 1 ∷ 0 ∷ 2 ∷ 0 ∷ []
 
 -- Data of session 1, where session 0 alone is open, and its close.
 abbrev pub data_unopened : List ℕ
 data_unopened = open_0 ++ data_34_of_1 ++ ann_bytes
+
 abbrev pub close_unopened : List ℕ
 close_unopened = open_0 ++ (3 ∷ 1 ∷ [])
 

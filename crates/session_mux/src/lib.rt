@@ -14,4 +14,6 @@ mod worked;
 pub use events::{Event, MuxFault};
 pub use laws::{completed_by, one_reading};
 pub use muxing::Mux;
-pub use worked::{worked_bad_records, worked_fault, worked_interleaving, worked_session, worked_tails};
+pub use worked::{
+    worked_bad_records, worked_fault, worked_interleaving, worked_session, worked_tails,
+};

@@ -87,6 +87,7 @@ fn next_of(alloc: Global, session: u8, bytes: &mut Stream) -> Result<Option<Even
 }
 
 impl Session {
+    /// Its stage, by which records are judged.
     pub fn stage(&self) -> Stage
         ensures { result ≡ stage_of self.now }
     {
@@ -97,6 +98,7 @@ impl Session {
         }
     }
 
+    /// How many bytes it holds. Where it holds no event, they are those of an unfinished frame.
     pub fn len(&self) -> usize
         ensures len { result ≡ held_len self.now }
         ensures rest { (s : ℕ) → session_events s self.now ≡ [] → (result ≡ rest_len self.now) × (result ≤ 1114131) }
@@ -107,6 +109,7 @@ impl Session {
         }
     }
 
+    /// Bytes of it come; only an open one takes them.
     pub fn feed(&mut self, piece: &[u8]) -> Result<(), AllocError>
         ensures ok { OnOk result (self.new ≡ with_data self.old piece.now) }
         ensures err { OnErr result (self.new ≡ self.old) }
@@ -117,6 +120,7 @@ impl Session {
         }
     }
 
+    /// The first event of what it holds.
     pub fn next_event(&mut self, alloc: Global, session: u8) -> Result<Option<Event>, AllocError>
         requires room { taken self.old < 2 ^ 63 }
         ensures ok { IfOk result (λ event. GivesEvent session self.old self.new event) }

@@ -1,4 +1,4 @@
-use Rattle.std.proofs.Common.{◌≡◌, refl, sym, ◌∙◌}
+use Rattle.std.proofs.Common.{refl, sym}
 use Rattle.session_mux.proofs.RecordLaws.{open_passes, data_passes, close_passes}
 use Rattle.session_mux.proofs.muxing.pass.Goals as goal
 

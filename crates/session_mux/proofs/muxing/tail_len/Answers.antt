@@ -1,4 +1,4 @@
-use Rattle.std.proofs.Common.{◌≡◌, List, length, drop, sym, ap, ◌∙◌, arith}
+use Rattle.std.proofs.Common.{length, sym, ap, ◌∙◌, arith}
 use Rattle.session_mux.specs.Arrivals.{tail_of}
 use Rattle.session_mux.proofs.RecordLaws.{passes_tail, stops_tail}
 use Rattle.session_mux.proofs.muxing.tail_len.Goals as goal

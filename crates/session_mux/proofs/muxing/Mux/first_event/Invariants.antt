@@ -1,4 +1,4 @@
-use Rattle.std.proofs.Common.{ℕ, length, []}
+use Rattle.std.proofs.Common.{length, []}
 use Rattle.session_mux.specs.Completion.{GoesTo}
 use Rattle.session_mux.proofs.muxing.Mux.first_event.Given as goal
 

@@ -1,4 +1,4 @@
-use Rattle.std.proofs.Common.{◌≡◌, ◌<◌, List, length, set, sym, ap, subst, ◌∙◌, arith}
+use Rattle.std.proofs.Common.{◌<◌, List, length, set, sym, ap, subst, ◌∙◌, arith}
 use Rattle.ctrl_model.specs.declared.kinds.Who.TheVariants.{Admin}
 use Rattle.channel_frame.specs.SessionBytes.{no_bytes}
 use Rattle.session_mux.specs.declared.sessions.Session.{Session}

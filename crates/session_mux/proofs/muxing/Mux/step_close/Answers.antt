@@ -1,4 +1,4 @@
-use Rattle.std.proofs.Common.{◌≡◌, ℕ, ◌+◌, ◌<◌, ◌≤◌, List, [], ◌∷◌, length, refl, sym, ap, subst, ◌∙◌, arith}
+use Rattle.std.proofs.Common.{◌≡◌, ℕ, ◌+◌, ◌<◌, [], ◌∷◌, length, refl, sym, ap, subst, ◌∙◌, arith}
 use Rattle.session_mux.specs.declared.events.Event.TheVariants as event
 use Rattle.session_mux.specs.Arrivals.{Close}
 use Rattle.session_mux.specs.Completion.{Standing, session_at, rest_len, events_held, GoesTo}

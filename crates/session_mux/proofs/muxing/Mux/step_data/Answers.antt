@@ -2,7 +2,7 @@ use Rattle.std.proofs.Common.{◌≡◌, ℕ, ◌+◌, ◌<◌, ◌≤◌, List,
 use Rattle.std.proofs.lemmas.List.{length-drop}
 use Rattle.session_mux.specs.declared.sessions.Session.{Session}
 use Rattle.session_mux.specs.Arrivals.{Data}
-use Rattle.session_mux.specs.Completion.{Standing, session_at, with_data, sessions_after, events_held}
+use Rattle.session_mux.specs.Completion.{Standing, sessions_after, events_held}
 use Rattle.session_mux.proofs.TableLaws.{AtMost, at_most_data}
 use Rattle.session_mux.proofs.GoingLaws.{data_gives}
 use Rattle.session_mux.proofs.StepLaws.{trace_step}

@@ -1,9 +1,8 @@
-use Rattle.std.proofs.Common.{◌≡◌, ℕ, ◌+◌, ◌<◌, ◌≤◌, List, [], ◌∷◌, length, take, drop, Some, refl, sym, ap, subst, ◌∙◌, arith}
+use Rattle.std.proofs.Common.{◌≡◌, ℕ, ◌+◌, ◌<◌, [], ◌∷◌, length, take, drop, Some, refl, sym, ap, subst, ◌∙◌, arith}
 use Rattle.ctrl_model.specs.declared.kinds.Who.{Who}
-use Rattle.session_mux.specs.declared.events.Event.{Event}
 use Rattle.session_mux.specs.declared.events.Event.TheVariants as event
 use Rattle.session_mux.specs.Arrivals.{Open, role_at}
-use Rattle.session_mux.specs.Completion.{Standing, sessions_after, events_held, GoesTo}
+use Rattle.session_mux.specs.Completion.{Standing, events_held, GoesTo}
 use Rattle.session_mux.proofs.GoingLaws.{open_gives}
 use Rattle.session_mux.proofs.StepLaws.{trace_step}
 use Rattle.session_mux.proofs.muxing.Mux.step_open.Goals as goal

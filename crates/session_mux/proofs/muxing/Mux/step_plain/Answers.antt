@@ -1,4 +1,4 @@
-use Rattle.std.proofs.Common.{◌≡◌, ℕ, ◌+◌, ◌<◌, ◌≤◌, List, [], length, refl, sym, ap, ◌∙◌, arith}
+use Rattle.std.proofs.Common.{◌≡◌, ℕ, ◌+◌, ◌<◌, List, length, ap, ◌∙◌, arith}
 use Rattle.session_mux.specs.Arrivals.{Data}
 use Rattle.session_mux.specs.Completion.{Standing, sessions_after}
 use Rattle.session_mux.proofs.StepLaws.{plain_step}

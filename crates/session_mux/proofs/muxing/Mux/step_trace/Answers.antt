@@ -1,4 +1,4 @@
-use Rattle.std.proofs.Common.{◌≡◌, ℕ, ◌+◌, ◌<◌, ◌≤◌, List, [], length, take, drop, map, false, refl, sym, ap, ◌∙◌, arith}
+use Rattle.std.proofs.Common.{◌≡◌, ◌+◌, List, length, take, drop, map, false, refl, sym, ap, ◌∙◌, arith}
 use Rattle.session_mux.specs.declared.sessions.Stage.{Stage}
 use Rattle.session_mux.specs.Arrivals.{Data, Close, role_at, Unfinished, Bad, stage_at, record_front}
 use Rattle.session_mux.specs.Completion.{Standing, stage_of}

@@ -1,4 +1,4 @@
-use Rattle.std.proofs.Common.{◌≡◌, ◌<◌, List, length, sym, ap, subst, arith}
+use Rattle.std.proofs.Common.{List, length, sym, ap, subst, arith}
 use Rattle.session_mux.specs.declared.sessions.Session.{Session}
 use Rattle.session_mux.proofs.TableLaws.{AtMost, at_most_start}
 use Rattle.session_mux.proofs.muxing.Mux.traced.Goals as goal

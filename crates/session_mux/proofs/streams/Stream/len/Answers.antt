@@ -1,6 +1,6 @@
-use Rattle.std.proofs.Common.{◌≡◌, ◌≤◌, length, Option, None, sym, ap, ◌∙◌, arith}
+use Rattle.std.proofs.Common.{◌≡◌, length, Option, None, sym, ap, ◌∙◌, arith}
 use Rattle.channel_frame.specs.declared.frames.FrameFault.{FrameFault}
-use Rattle.channel_frame.specs.SessionBytes.{SessionBytes, settled}
+use Rattle.channel_frame.specs.SessionBytes.{SessionBytes}
 use Rattle.session_mux.specs.Completion.{bytes_len, len_unless}
 use Rattle.session_mux.proofs.EventLaws.{left_of_quiet, no_fault}
 use Rattle.session_mux.proofs.streams.Stream.len.Goals as goal

@@ -1,4 +1,4 @@
-use Rattle.std.proofs.Common.{◌≡◌, length, set, sym, ap, ◌∙◌}
+use Rattle.std.proofs.Common.{ap, ◌∙◌}
 use Rattle.std.proofs.lemmas.List.{length-set}
 use Rattle.session_mux.specs.Completion.{events_held}
 use Rattle.session_mux.proofs.TableLaws.{quiet_but_set}

@@ -1,4 +1,4 @@
-use Rattle.std.proofs.Common.{◌≡◌, length, sym, ap, subst, ◌∙◌}
+use Rattle.std.proofs.Common.{length, sym, ap, subst}
 use Rattle.session_mux.specs.SessionSteps.{IsQuietBut}
 use Rattle.session_mux.proofs.TableLaws.{unopened_quiet}
 use Rattle.session_mux.proofs.tables.SessionTable.new.Goals as goal
