@@ -93,3 +93,14 @@ head_of-same xs ys same =
     let headers_len : number_at 12 xs ≡ number_at 12 ys = number_at-same 12 xs ys (same 12 (omega arith)) (same 13 (omega arith)) (same 14 (omega arith)) (same 15 (omega arith)) in
     let body_len : number_at 16 xs ≡ number_at 16 ys = number_at-same 16 xs ys (same 16 (omega arith)) (same 17 (omega arith)) (same 18 (omega arith)) (same 19 (omega arith)) in
     cc
+
+-- a head that is read keeps the limits
+pub head_limits : (bytes : List ℕ) (h : Head) → head_of bytes ≡ Ok h → (h.headers_len ≤ 65536) × (h.body_len ≤ 1048576)
+head_limits bytes h e =
+    let p = head_past (starts_with_marker bytes) (ltb 65536 (number_at 12 bytes) || ltb 1048576 (number_at 16 bytes)) (head_at bytes) h e in
+    let short = or_parts (ltb 65536 (number_at 12 bytes)) (ltb 1048576 (number_at 16 bytes)) p.1 in
+    let a : number_at 12 bytes ≤ 65536 = ltb-false 65536 (number_at 12 bytes) short.0 in
+    let b : number_at 16 bytes ≤ 1048576 = ltb-false 1048576 (number_at 16 bytes) short.1 in
+    let first : number_at 12 bytes ≡ h.headers_len = ap (λ (x : Head). x.headers_len) p.2 in
+    let second : number_at 16 bytes ≡ h.body_len = ap (λ (x : Head). x.body_len) p.2 in
+    (rw (← first) a, rw (← second) b)

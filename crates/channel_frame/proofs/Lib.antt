@@ -4,3 +4,4 @@ pub mod SpellingLaws
 pub mod HeadLaws
 pub mod FrontLaws
 pub mod ReadingLaws
+pub mod SessionLaws

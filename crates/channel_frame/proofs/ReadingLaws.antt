@@ -26,7 +26,7 @@ tail_has_none bytes fits tail f n e =
 
 -- ---- a frame at a time
 
-drop_before : (n b : ℕ) (bytes : List ℕ) → 0 < n → drop n (b ∷ bytes) ≡ drop (n - 1) bytes
+pub drop_before : (n b : ℕ) (bytes : List ℕ) → 0 < n → drop n (b ∷ bytes) ≡ drop (n - 1) bytes
 drop_before zero b bytes lt = absurd (omega arith)
 drop_before (suc n) b bytes lt =
     let e : suc n - 1 ≡ n = omega arith in

@@ -1,3 +1,4 @@
 pub mod FrameSpelling
 pub mod StreamReading
+pub mod SessionBytes
 pub mod WorkedFrames

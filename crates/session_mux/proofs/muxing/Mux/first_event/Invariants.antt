@@ -1,0 +1,10 @@
+use Rattle.std.proofs.Common.{length, []}
+use Rattle.session_mux.specs.Completion.{GoesTo}
+use Rattle.session_mux.proofs.muxing.Mux.first_event.Given as goal
+
+-- no event was given yet: what was moved changed none
+abbrev pub invariant-moves : goal.invariant-moves
+invariant-moves l = GoesTo l.fn.self l.self []
+
+abbrev pub decreases-moves : goal.decreases-moves
+decreases-moves l = length l.self.input

@@ -1,0 +1,8 @@
+pub mod Arrivals
+pub mod Completion
+pub mod StreamSteps
+pub mod SessionSteps
+pub mod RecordSteps
+pub mod MuxSteps
+pub mod SessionFrames
+pub mod WorkedTraces

@@ -1,0 +1,19 @@
+//! Many sessions in one input (docs/FORMATS.md, "Traces and tagged replies").
+#![tactic(auto)]
+
+mod buffers;
+mod events;
+mod laws;
+mod muxing;
+mod records;
+mod sessions;
+mod streams;
+mod tables;
+mod worked;
+
+pub use events::{Event, MuxFault};
+pub use laws::{completed_by, one_reading};
+pub use muxing::Mux;
+pub use worked::{
+    worked_bad_records, worked_fault, worked_interleaving, worked_session, worked_tails,
+};
