@@ -1,0 +1,6 @@
+pub mod BatchRows
+pub mod Changes
+pub mod OpenedRows
+pub mod StoredRows
+pub mod Faults
+pub mod WorkedStores
