@@ -8,6 +8,7 @@ mod faults;
 mod rows;
 mod spelling;
 mod worked;
+mod writing;
 
 pub use batches::{batch_of, read_batch, write_batch};
 pub use changes::{Batch, Change, Changes, Op};
