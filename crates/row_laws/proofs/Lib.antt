@@ -1,0 +1,2 @@
+pub mod RisingRows
+pub mod Differences
