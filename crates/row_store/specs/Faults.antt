@@ -5,6 +5,7 @@ use Rattle.ziti_outside.specs.Images.{Image}
 use Rattle.row_codec.specs.declared.changes.Op.{Op}
 use Rattle.row_store.specs.declared.faults.StoreFault.{StoreFault}
 use Rattle.row_store.specs.declared.faults.StoreFault.TheVariants.{Disk, Full, Damaged, MarkFull, Spent, NoMemory}
+use Rattle.row_store.specs.BatchRows.{ByteRows}
 use Rattle.row_store.specs.OpenedRows.{IsDamagedAt}
 use Rattle.row_store.specs.StoredRows.{Stored, size_with, spent_of}
 
@@ -46,3 +47,12 @@ CommitFails ops old new desk later (Damaged part at) = ⊥
 CommitFails ops old new desk later MarkFull = ⊥
 CommitFails ops old new desk later Spent = (old.spent ≡ true) × NothingDone old new desk later
 CommitFails ops old new desk later NoMemory = MayCommit old ops × (NothingDone old new desk later ⊎ (new.spent ≡ true))
+
+-- Why a batch for which there is room was not kept: the disk failed, and the rows are as they were; or there is no memory for them.
+abbrev pub KeepFails : (old new : ByteRows) → StoreFault → Type 0
+KeepFails old new Disk = new ≡ old
+KeepFails old new Full = ⊥
+KeepFails old new (Damaged part at) = ⊥
+KeepFails old new MarkFull = ⊥
+KeepFails old new Spent = ⊥
+KeepFails old new NoMemory = ⊤

@@ -14,6 +14,13 @@ pub record OpensTo (image : Image) (rows : ByteRows) : Type 0 where
   pub stands : Stands image batches
   pub give : Give batches rows
 
+-- The bytes of a slot were read up to the gate at this place: the records before it give these rows.
+pub record IsReadTo (bytes : List ℕ) (at : ℕ) (rows : ByteRows) : Type 0 where
+  pub payloads : List (List ℕ)
+  pub front : SlotFront bytes payloads
+  pub give : Give payloads rows
+  pub place : at ≡ slot_end payloads
+
 -- A whole record stands at this place, and its payload leads from the rows nowhere.
 pub record IsUntrue (at : ℕ) (bytes : List ℕ) (rows : ByteRows) : Type 0 where
   pub payload : List ℕ
@@ -23,11 +30,8 @@ pub record IsUntrue (at : ℕ) (bytes : List ℕ) (rows : ByteRows) : Type 0 whe
 -- The bytes of a slot break off at this place: the records before it give rows, and there stands no gate, or no whole record behind
 -- an open one, or a record that leads from these rows nowhere.
 pub record BreaksOff (bytes : List ℕ) (at : ℕ) : Type 0 where
-  pub payloads : List (List ℕ)
   pub rows : ByteRows
-  pub front : SlotFront bytes payloads
-  pub give : Give payloads rows
-  pub place : at ≡ slot_end payloads
+  pub read : IsReadTo bytes at rows
   pub broken : IsDamaged at bytes ⊎ IsUntrue at bytes rows
 
 -- The bytes do not begin with the header of a slot, which is told at the place 0.

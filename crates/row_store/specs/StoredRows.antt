@@ -1,7 +1,7 @@
 -- What a store has, and when the folder reads as it stands (docs/PROMISES.md, "The map of rows").
-use Rattle.std.specs.Prelude.{◌≡◌, ℕ, ◌+◌, ◌<◌, Bool, true, List, length}
+use Rattle.std.specs.Prelude.{◌≡◌, ℕ, ◌+◌, ◌<◌, Bool, true, false, List, [], length}
 use Rattle.ziti_outside.specs.declared.desk.Part.{Part}
-use Rattle.ziti_outside.specs.declared.desk.Part.TheVariants.{Mark}
+use Rattle.ziti_outside.specs.declared.desk.Part.TheVariants.{Zero, Mark}
 use Rattle.ziti_outside.specs.Images.{Image, IsStable}
 use Rattle.journal_core.specs.Slots.{slot_end}
 use Rattle.slot_files.specs.FolderImage.{slot_of, Stands}
@@ -50,3 +50,15 @@ with_ops stored ops = record stored { rows = rows_after stored.rows ops; end = s
 -- The store spent.
 abbrev pub spent_of : Stored → Stored
 spent_of stored = record stored { spent = true }
+
+-- The store of a folder whose mark is empty, as it is seen without creating anything.
+abbrev pub without_rows : Stored
+without_rows = record {
+  rows = [];
+  part = Zero;
+  end = slot_end [];
+  mark = 0;
+  bounds = record { slot = 0; mark = 0 };
+  opened = false;
+  spent = false;
+}

@@ -3,9 +3,19 @@
 #![tactic(auto)]
 
 mod bounds;
+mod changing;
+mod committing;
 mod faults;
+mod laws;
+mod opening;
+mod reading;
+mod scanning;
+mod sizing;
+mod store;
 mod worked;
 
 pub use bounds::StoreBounds;
 pub use faults::StoreFault;
+pub use laws::{one_opening, own_store, reading_stands};
+pub use store::Store;
 pub use worked::{worked_damage, worked_folders, worked_rows};
