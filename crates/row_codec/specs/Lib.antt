@@ -5,3 +5,5 @@ pub mod StateRows
 pub mod RowDifference
 pub mod Batches
 pub mod CoveredTables
+pub mod FieldReading
+pub mod BatchReading

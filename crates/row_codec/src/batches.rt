@@ -1,10 +1,13 @@
-ghost use Rattle.std.specs.Prelude.{◌≡◌, ◌++◌, ◌∷◌, [], Some, IfOk, OnOk, IsErrOf, List};
+ghost use Rattle.std.specs.Prelude.{◌≡◌, ◌↔◌, ◌++◌, ◌∷◌, [], Some, true, false, IfOk, OnOk, IsErrOf, List};
+ghost use Rattle.std.specs.Option.{option_map};
 ghost use Rattle.row_codec.specs.declared.changes.Op.{Op};
-ghost use Rattle.row_codec.specs.Batches.{IsBatch, IsSpelledOp, Spells, op_bytes, batch_bytes, batch_of, ops_at};
+ghost use Rattle.row_codec.specs.Batches.{IsBatch, IsSpelledOp, Spells, op_at, op_bytes, batch_bytes, batch_of, ops_at};
+ghost use Rattle.row_codec.specs.BatchReading.{IsSpelled, front_op, comes_after};
 ghost use Rattle.row_codec.specs.RowDifference.{said_of};
 
 use crate::changes::{Batch, Change, Changes, Op};
 use crate::faults::RowFault;
+use crate::fields::{split_byte, split_long, split_part, split_text};
 use crate::writing::{push_long, push_text};
 use ctrl_model::Bytes;
 use std::alloc::{AllocError, Global};
@@ -57,34 +60,116 @@ pub fn write_batch(alloc: Global, batch: &Batch) -> Result<Bytes, AllocError>
     Ok(Bytes::of(out))
 }
 
-/// The batch that the bytes spell. `BadBatch` comes exactly where they spell none; `BadRow` never comes.
-pub fn read_batch(_alloc: Global, _bytes: &[u8]) -> Result<Batch, RowFault>
-    ensures read { IfOk result (λ batch. Spells _bytes.now batch) }
-    ensures bad { IsErrOf result RowFault.BadBatch → (ops : List Op) → Spells _bytes.now ops → ⊥ }
-    ensures never { IsErrOf result RowFault.BadRow → ⊥ }
+// The operation at the front of some bytes: its key, what it puts there, and what follows it.
+fn split_op(bytes: &[u8]) -> Option<(&[u8], Option<&[u8]>, &[u8])>
+    ensures { option_map (λ p. (op_at p.0.now (option_map (λ v. v.now) p.1), p.2.now)) result ≡ front_op bytes.now }
 {
-    Err(RowFault::NoMemory)
+    let (mark, rest) = split_byte(bytes)?;
+    if mark == 1 {
+        let (key, rest) = split_text(rest)?;
+        let (len, rest) = split_long(rest)?;
+        let (value, rest) = split_part(rest, len as usize)?;
+        return Some((key, Some(value), rest));
+    }
+    if mark == 2 {
+        let (key, rest) = split_text(rest)?;
+        return Some((key, None, rest));
+    }
+    None
 }
 
-fn add_put(ops: &mut Vec<Op>, key: &Bytes, value: &Bytes) -> Result<(), AllocError>
+fn comes_after(last: Option<&[u8]>, key: &[u8]) -> bool
+    ensures { result ≡ comes_after (option_map (λ l. l.now) last.entry) key.now }
+{
+    match last {
+        None => true,
+        Some(last) => last.cmp(key).is_lt(),
+    }
+}
+
+// Whether the bytes spell a batch. No memory is taken.
+fn is_batch(bytes: &[u8]) -> bool
+    ensures yes { result ≡ true → IsSpelled bytes.now }
+    ensures no { result ≡ false → (ops : List Op) → Spells bytes.now ops → ⊥ }
+{
+    let mut last: Option<&[u8]> = None;
+    let mut rest = bytes;
+    'ops: while !rest.is_empty() {
+        let Some((key, _, after)) = split_op(rest) else {
+            return false;
+        };
+        if !comes_after(last, key) {
+            return false;
+        }
+        last = Some(key);
+        rest = after;
+    }
+    true
+}
+
+fn add_op(ops: &mut Vec<Op>, key: &[u8], value: Option<&[u8]>) -> Result<(), AllocError>
+    ensures { OnOk result (ops.new.items ≡ ops.old.items ++ (op_at key.now (option_map (λ v. v.now) value.entry) ∷ [])) }
+{
+    match value {
+        None => add_delete(ops, key),
+        Some(value) => add_put(ops, key, value),
+    }
+}
+
+fn ops_from(alloc: Global, bytes: &[u8]) -> Result<Vec<Op>, RowFault>
+    ensures read { IfOk result (λ ops. Spells bytes.now ops.items) }
+    ensures bad { IsErrOf result RowFault.BadBatch → (ops : List Op) → Spells bytes.now ops → ⊥ }
+    ensures never { IsErrOf result RowFault.BadRow → ⊥ }
+{
+    let mut ops = Vec::new(alloc);
+    let mut last: Option<&[u8]> = None;
+    let mut rest = bytes;
+    'ops: while !rest.is_empty() {
+        let Some((key, value, after)) = split_op(rest) else {
+            return Err(RowFault::BadBatch);
+        };
+        if !comes_after(last, key) {
+            return Err(RowFault::BadBatch);
+        }
+        add_op(&mut ops, key, value)?;
+        last = Some(key);
+        rest = after;
+    }
+    Ok(ops)
+}
+
+/// The batch that the bytes spell. `BadBatch` comes exactly where they spell none; `BadRow` never comes.
+pub fn read_batch(alloc: Global, bytes: &[u8]) -> Result<Batch, RowFault>
+    ensures read { IfOk result (λ batch. Spells bytes.now batch) }
+    ensures bad { IsErrOf result RowFault.BadBatch ↔ ((ops : List Op) → Spells bytes.now ops → ⊥) }
+    ensures never { IsErrOf result RowFault.BadRow → ⊥ }
+{
+    if !is_batch(bytes) {
+        return Err(RowFault::BadBatch);
+    }
+    let ops = ops_from(alloc, bytes)?;
+    Ok(Batch::of(ops))
+}
+
+fn add_put(ops: &mut Vec<Op>, key: &[u8], value: &[u8]) -> Result<(), AllocError>
     ensures { OnOk result (ops.new.items ≡ ops.old.items ++ (Op.Put key.now value.now ∷ [])) }
 {
-    let key = key.copy()?;
-    let value = value.copy()?;
+    let key = Bytes::from_slice(*ops.allocator(), key)?;
+    let value = Bytes::from_slice(*ops.allocator(), value)?;
     Ok(ops.push(Op::Put { key, value })?)
 }
 
-fn add_delete(ops: &mut Vec<Op>, key: &Bytes) -> Result<(), AllocError>
+fn add_delete(ops: &mut Vec<Op>, key: &[u8]) -> Result<(), AllocError>
     ensures { OnOk result (ops.new.items ≡ ops.old.items ++ (Op.Delete key.now ∷ [])) }
 {
-    let key = key.copy()?;
+    let key = Bytes::from_slice(*ops.allocator(), key)?;
     Ok(ops.push(Op::Delete { key })?)
 }
 
-fn add_other(ops: &mut Vec<Op>, key: &Bytes, old: &Bytes, new: &Bytes) -> Result<(), AllocError>
+fn add_other(ops: &mut Vec<Op>, key: &[u8], old: &[u8], new: &[u8]) -> Result<(), AllocError>
     ensures { OnOk result (ops.new.items ≡ ops.old.items ++ ops_at key.now (said_of (Some old.now) (Some new.now))) }
 {
-    if old.as_slice() == new.as_slice() {
+    if old == new {
         return Ok(());
     }
     add_put(ops, key, new)
@@ -95,9 +180,14 @@ fn add_change(ops: &mut Vec<Op>, change: &Change) -> Result<(), AllocError>
 {
     match (&change.before, &change.after) {
         (None, None) => Ok(()),
-        (None, Some(value)) => add_put(ops, &change.key, value),
-        (Some(_), None) => add_delete(ops, &change.key),
-        (Some(old), Some(new)) => add_other(ops, &change.key, old, new),
+        (None, Some(value)) => add_put(ops, change.key.as_slice(), value.as_slice()),
+        (Some(_), None) => add_delete(ops, change.key.as_slice()),
+        (Some(old), Some(new)) => add_other(
+            ops,
+            change.key.as_slice(),
+            old.as_slice(),
+            new.as_slice(),
+        ),
     }
 }
 

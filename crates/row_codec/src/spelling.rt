@@ -4,16 +4,21 @@ ghost use Rattle.row_codec.specs.RowKeys.{key_bytes};
 ghost use Rattle.row_codec.specs.RowForm.{is_row, key_of, value_of, SpellsRow};
 
 use crate::faults::RowFault;
+use crate::keys::write_key;
 use crate::rows::Row;
+use crate::values::push_value;
 use ctrl_model::Bytes;
 use std::alloc::{AllocError, Global};
 
 /// The key and the value of a row that some state can have.
-pub fn write_row(_alloc: Global, _row: &Row) -> Result<(Bytes, Bytes), AllocError>
-    requires { is_row _row.now ≡ true }
-    ensures { IfOk result (λ spelled. (spelled.0 ≡ key_bytes (key_of _row.now)) × (spelled.1 ≡ value_of _row.now)) }
+pub fn write_row(alloc: Global, row: &Row) -> Result<(Bytes, Bytes), AllocError>
+    requires { is_row row.now ≡ true }
+    ensures { IfOk result (λ spelled. (spelled.0 ≡ key_bytes (key_of row.now)) × (spelled.1 ≡ value_of row.now)) }
 {
-    Err(AllocError)
+    let key = write_key(alloc, row)?;
+    let mut value = Vec::new(alloc);
+    push_value(&mut value, row)?;
+    Ok((Bytes::of(key), Bytes::of(value)))
 }
 
 /// The row that a key and a value spell. `BadRow` comes exactly where they spell none; `BadBatch` never comes.
