@@ -1,14 +1,14 @@
 -- The entries of a map as rows: what stands at a key, and what an insertion and a removal make of the rows.
-use Rattle.std.proofs.Common.{◌≡◌, ℕ, Bool, true, false, cond, not, List, [], ◌∷◌, ◌++◌, map, filter, Option, None, Some, refl, sym, ◌∙◌, ap, subst, Ordering, Less, Equal, Greater, is_lt, is_eq, is_gt}
+use Rattle.std.proofs.Common.{◌≡◌, ℕ, Bool, true, false, cond, not, List, [], ◌∷◌, ◌++◌, map, filter, Option, None, Some, refl, sym, ◌∙◌, ap, subst, Ordering, Less, Equal, Greater, is_lt, is_eq, is_gt, bytes_eq, Bor}
 use Rattle.std.proofs.lemmas.Cmp.{nat_list_cmp_total}
 use Rattle.std.proofs.lemmas.Map.Lookups.{exact_bytes}
 use Rattle.std.specs.declared.vec.Vec.{Vec}
-use Rattle.std.specs.Cmp.{IsTotalOrder}
+use Rattle.std.specs.Option.{is_some, option_map, option_copied}
 use Rattle.std.specs.Map.{lookup, remove_entry}
 use Rattle.std.specs.BTreeMap.{insert_entry, is_at}
 use Rattle.std.specs.Ordering.{match_ordering, ordering_reverse, nat_cmp}
 use Rattle.std.specs.Cmp.Lexicographic.{slice_cmp}
-use Rattle.row_codec.specs.RowDifference.{value_at, Rises, with_entry}
+use Rattle.row_codec.specs.RowDifference.{value_at, Rises, said_of, with_entry}
 use Rattle.row_codec.specs.Batches.{bytes_cmp}
 use Rattle.row_laws.proofs.RisingRows.{Above, Above-from, turned, turned_back}
 use Rattle.row_laws.proofs.Differences.{Rises-with_entry}
@@ -76,21 +76,19 @@ pub inserted : (rows : ByteRows) (k v : List ℕ) → Rises bytes_cmp rows → i
 inserted [] k v r = refl
 inserted (x ∷ xs) k v r = by (bytes_cmp k x.0) refl (inserted xs k v r.1)
   where
-    o = nat_list_cmp_total
-
     by : (c : Ordering) → bytes_cmp k x.0 ≡ c → insert_entry bytes_cmp xs k v ≡ below k xs ++ (k, v) ∷ over k xs
         → match_ordering c ((k, v) ∷ x ∷ xs) ((x.0, v) ∷ xs) (x ∷ insert_entry bytes_cmp xs k v) ≡ below k (x ∷ xs) ++ (k, v) ∷ over k (x ∷ xs)
     by Less is h =
-        let above : Above bytes_cmp k (x ∷ xs) = (is, Above-from o k x.0 xs is r.0) in
+        let above : Above bytes_cmp k (x ∷ xs) = (is, Above-from nat_list_cmp_total k x.0 xs is r.0) in
         sym (ap (λ (l : ByteRows). l ++ (k, v) ∷ over k (x ∷ xs)) (above_none k (x ∷ xs) above) ∙ ap (λ (l : ByteRows). (k, v) ∷ l) (above_all k (x ∷ xs) above))
     by Equal is h =
         let same : k ≡ x.0 = exact_bytes k x.0 is in
         let above : Above bytes_cmp k xs = subst (λ (q : List ℕ). Above bytes_cmp q xs) (sym same) r.0 in
-        let tie : bytes_cmp x.0 k ≡ Equal = o.antisymm x.0 k ∙ ap ordering_reverse is in
+        let tie : bytes_cmp x.0 k ≡ Equal = nat_list_cmp_total.antisymm x.0 k ∙ ap ordering_reverse is in
         ap (λ (q : List ℕ). (q, v) ∷ xs) (sym same)
         ∙ sym (split_at k v x xs Equal tie ∙ ap (λ (l : ByteRows). l ++ (k, v) ∷ over k xs) (above_none k xs above) ∙ ap (λ (l : ByteRows). (k, v) ∷ l) (above_all k xs above))
     by Greater is h =
-        ap (λ (l : ByteRows). x ∷ l) h ∙ sym (split_at k v x xs Less (turned_back o k x.0 is))
+        ap (λ (l : ByteRows). x ∷ l) h ∙ sym (split_at k v x xs Less (turned_back nat_list_cmp_total k x.0 is))
 
 -- ---- a row that is deleted
 
@@ -99,20 +97,18 @@ pub removed : (rows : ByteRows) (k : List ℕ) → Rises bytes_cmp rows → remo
 removed [] k r = refl
 removed (x ∷ xs) k r = by (bytes_cmp k x.0) refl (removed xs k r.1)
   where
-    o = nat_list_cmp_total
-
     rest : ByteRows
     rest = filter (λ x. not (is_eq (bytes_cmp x.0 k))) xs
 
     by : (c : Ordering) → bytes_cmp k x.0 ≡ c → remove_entry (is_at (bytes_cmp k)) xs ≡ rest
         → cond (is_eq c) xs (x ∷ remove_entry (is_at (bytes_cmp k)) xs) ≡ cond (not (is_eq (bytes_cmp x.0 k))) (x ∷ rest) rest
-    by Less is h = rw (turned o k x.0 is) (ap (λ (l : ByteRows). x ∷ l) h)
+    by Less is h = rw (turned nat_list_cmp_total k x.0 is) (ap (λ (l : ByteRows). x ∷ l) h)
     by Equal is h =
         let same : k ≡ x.0 = exact_bytes k x.0 is in
         let above : Above bytes_cmp k xs = subst (λ (q : List ℕ). Above bytes_cmp q xs) (sym same) r.0 in
-        let tie : bytes_cmp x.0 k ≡ Equal = o.antisymm x.0 k ∙ ap ordering_reverse is in
+        let tie : bytes_cmp x.0 k ≡ Equal = nat_list_cmp_total.antisymm x.0 k ∙ ap ordering_reverse is in
         rw tie (sym (above_stay k xs above))
-    by Greater is h = rw (turned_back o k x.0 is) (ap (λ (l : ByteRows). x ∷ l) h)
+    by Greater is h = rw (turned_back nat_list_cmp_total k x.0 is) (ap (λ (l : ByteRows). x ∷ l) h)
 
 -- ---- the same in a map
 
@@ -151,3 +147,25 @@ delete_row old new k r e = ap rows_in e ∙ rows_removed old k ∙ removed (rows
 -- The rows rise after either.
 pub still_rise : (old new : ByteRows) (k : List ℕ) (v : Option (List ℕ)) → Rises bytes_cmp old → new ≡ with_entry bytes_cmp old (k, v) → Rises bytes_cmp new
 still_rise old new k v r e = subst (Rises bytes_cmp) (sym e) (Rises-with_entry nat_list_cmp_total exact_bytes old (k, v) r)
+
+-- A deletion must be said exactly where a value is there.
+pub said_none : (o : Option (List ℕ)) → is_some (said_of o None) ≡ is_some o
+said_none None = refl
+said_none (Some v) = refl
+
+-- A put of equal bytes.
+pub same_entry : (rows : ByteRows) {k l v w : List ℕ} → k ≡ l → v ≡ w → with_entry bytes_cmp rows (k, Some v) ≡ with_entry bytes_cmp rows (l, Some w)
+same_entry rows {k} {l} {v} {w} e f = ap (λ (p : List ℕ). with_entry bytes_cmp rows (p, Some v)) e ∙ ap (λ (p : List ℕ). with_entry bytes_cmp rows (l, Some p)) f
+
+-- A put must be said exactly where another value is there.
+pub said_put : (old new : List ℕ) → is_some (said_of (Some old) (Some new)) ≡ not (bytes_eq old new)
+said_put old new = by (bytes_eq old new)
+  where
+    by : (b : Bool) → is_some (cond b None (Some (Some new))) ≡ not b
+    by true = refl
+    by false = refl
+
+-- A value that was lent, as it is there.
+pub copied_is : (o : Option (Bor (List ℕ))) → option_map (λ v. v.now) o ≡ option_copied o
+copied_is None = refl
+copied_is (Some v) = refl

@@ -1,4 +1,5 @@
 ghost use Rattle.std.specs.Prelude.{◌≡◌, ◌↔◌, IsTrue, OnOk};
+ghost use Rattle.std.specs.List.{list_all};
 ghost use Rattle.row_codec.specs.RowDifference.{Rises, with_entry, IsTrueDifference};
 ghost use Rattle.row_codec.specs.Batches.{bytes_cmp, IsBatch, entry_of, entries_of};
 ghost use Rattle.row_store.specs.BatchRows.{rows_in, rows_after};
@@ -87,11 +88,18 @@ fn is_change(rows: &Rows, op: &Op) -> bool
     }
 }
 
+// Whether each operation changes rows.
+fn all_change(rows: &Rows, ops: &[Op]) -> bool
+    ensures { result ≡ list_all (λ op. is_change (rows_in rows.now.entries) (entry_of op)) ops.now }
+{
+    ops.iter().all(|op| is_change(rows, op))
+}
+
 // Whether operations whose keys rise are a true difference of rows.
 pub(crate) fn is_true_difference(rows: &Rows, ops: &[Op]) -> bool
     requires rises { Rises bytes_cmp (rows_in rows.now.entries) }
     requires batch { IsBatch ops.now }
     ensures { IsTrue result ↔ IsTrueDifference bytes_cmp (rows_in rows.now.entries) (entries_of ops.now) }
 {
-    !ops.is_empty() && ops.iter().all(|op| is_change(rows, op))
+    !ops.is_empty() && all_change(rows, ops)
 }
