@@ -1,5 +1,6 @@
 -- What a batch that is kept makes of the folder, stopped or not.
-use Rattle.std.proofs.Common.{◌≡◌, ◌⊎◌, inl, inr, Bool, true, false, if◌then◌else◌, ◌==◌, ℕ, ◌+◌, ◌-◌, ◌%◌, ◌^◌, ◌<◌, ◌≤◌, List, [], ◌∷◌, ◌++◌, length, refl, sym, ap, ◌∙◌, subst, arith}
+use Rattle.std.proofs.Common.{◌≡◌, ◌⊎◌, inl, inr, Bool, true, false, if◌then◌else◌, ◌==◌, ℕ, ◌+◌, ◌-◌, ◌%◌, ◌^◌, ◌<◌, ◌≤◌, List, [], ◌∷◌, ◌++◌, length, refl, sym, ap, ◌∙◌, subst, arith, Err}
+use Rattle.std.specs.declared.result.Result.{Result}
 use Rattle.ziti_outside.specs.declared.desk.Part.{Part}
 use Rattle.ziti_outside.specs.declared.desk.Part.TheVariants.{Zero, One, Mark}
 use Rattle.ziti_outside.specs.Images.{Image, Else, OnPart, After, IsStable}
@@ -10,6 +11,9 @@ use Rattle.slot_files.proofs.StandLaws.{same_stands, append_stands}
 use Rattle.row_codec.specs.declared.changes.Op.{Op}
 use Rattle.row_codec.specs.RowDifference.{IsTrueDifference}
 use Rattle.row_codec.specs.Batches.{bytes_cmp, entries_of, batch_bytes, IsBatch, Spells}
+use Rattle.row_store.specs.declared.faults.StoreFault.{StoreFault}
+use Rattle.row_store.specs.declared.faults.StoreFault.TheVariants.{NoMemory}
+use Rattle.row_store.specs.Faults.{IsKept}
 use Rattle.row_store.specs.BatchRows.{ByteRows, Leads, Give, rows_after}
 use Rattle.row_store.specs.OpenedRows.{OpensTo}
 use Rattle.row_store.specs.StoredRows.{Stored, IsStoreOf, ReadsAs, with_ops}
@@ -130,3 +134,32 @@ seen_stands stored seen next reads new images later ops payload e r batch d f sh
     (end ∙ ap (λ (b : List ℕ). seen.end + 5 + length b) f)
     (added_is ∙ ap (λ (b : List ℕ). added seen.end (text_of b) (reads seen.part)) f) others stable
     (λ image p. subst (λ (b : List ℕ). After (OnPart seen.part (ShutOrAdded seen.end (text_of b))) images image) f (found image p))
+
+-- ---- what was kept, whatever came of the rows in memory
+
+-- Every image of a folder that reads as a store stands opens to the store's rows.
+pub reads_opens : (stored : Stored) (reads : Image) (images : Image → Type 0) → ReadsAs stored reads images → (image : Image) → images image → OpensTo image stored.rows
+reads_opens stored reads images r image p =
+    let mark : length (image Mark) ≡ length (reads Mark) = ap length (r.stable_mark.each image p) in
+    let part : stored.part ≡ slot_of (length (reads Mark)) = r.kept.part ∙ ap slot_of (sym r.kept.mark) in
+    let slot : image (slot_of (length (reads Mark))) ≡ reads (slot_of (length (reads Mark))) = subst (λ (q : Part). image q ≡ reads q) part (r.stable_slot.each image p) in
+    record { batches = r.kept.batches; stands = (same_stands reads image mark slot).still r.kept.batches r.kept.stands; give = r.kept.give }
+
+-- Where the batch was appended, every image opens to the rows after it.
+pub seen_behind : (stored seen : Stored) (reads new : Image) (images later : Image → Type 0) (ops : List Op) (payload : List ℕ) → seen ≡ stored → ReadsAs stored reads images → IsBatch ops
+    → IsTrueDifference bytes_cmp stored.rows (entries_of ops) → payload ≡ batch_bytes ops → IsPayload (batch_bytes ops)
+    → new seen.part ≡ added seen.end (text_of payload) (reads seen.part) → Else seen.part reads new → IsStable seen.part new later
+    → ((image : Image) → later image → After (OnPart seen.part (ShutOrAdded seen.end (text_of payload))) images image)
+    → (image : Image) → later image → OpensTo image (rows_after stored.rows ops)
+seen_behind stored seen reads new images later ops payload e r batch d f short added_is others stable found image p =
+    subst (λ (s : Stored). OpensTo image (rows_after s.rows ops)) e
+    (reads_opens (with_ops seen ops) new later
+    (seen_stands stored seen (with_ops seen ops) reads new images later ops payload e r batch d f short refl refl refl
+    (ap (λ (b : List ℕ). seen.end + 5 + length b) (sym f)) added_is others stable found) image p)
+
+-- Where memory was wanting, the batch had been appended.
+pub kept_none : (T : Type 0) (fault : StoreFault) → fault ≡ NoMemory → IsKept {T = T} (Err fault)
+kept_none T fault e = subst (λ (x : StoreFault). IsKept {T = T} (Err x)) (sym e) tt
+
+pub err_inside : {T : Type 0} (r : Result T StoreFault) (fault : StoreFault) → r ≡ Err fault → r ≡ Err NoMemory → fault ≡ NoMemory
+err_inside {T = T} r fault e none = let both : ◌≡◌ {A = Result T StoreFault} (Err fault) (Err NoMemory) = sym e ∙ none in cc

@@ -54,11 +54,10 @@ one_record payload other x y short small e =
     let this : IsRecord 0 payload whole = record { front = []; more = x; split = refl; place = refl; short = short } in
     let that : IsRecord 0 other whole = record { front = []; more = y; split = ap (λ (l : List ℕ). 1 ∷ l) e; place = refl; short = small } in
     let same : payload ≡ other = one_at 0 payload other whole this that in
-    let rest : record_of payload ++ x ≡ record_of payload ++ y = e ∙ ap (λ (p : List ℕ). record_of p ++ y) (sym same) in
-    (
+    let rest : record_of payload ++ x ≡ record_of payload ++ y = e ∙ ap (λ (p : List ℕ). record_of p ++ y) (sym same) in (
       same,
       sym (drop_at (record_of payload) x (length (record_of payload)) refl) ∙ ap (λ (l : List ℕ). drop (length (record_of payload)) l) rest
-      ∙ drop_at (record_of payload) y (length (record_of payload)) refl,
+          ∙ drop_at (record_of payload) y (length (record_of payload)) refl,
     )
 
 -- One list of payloads goes on from another.
@@ -123,7 +122,7 @@ breaks_no_slot bytes at payloads last b s give =
     let broken : Broken (slot_end these) bytes b.rows = subst (λ (n : ℕ). Broken n bytes b.rows) b.read.place b.broken in
     elim (one_front bytes these payloads b.read.front (slot_front bytes payloads s)) as (λ _. ⊥) [
       | inl g ↦ broken_closed (slot_end these) bytes b.rows broken
-        (subst (λ (l : List (List ℕ)). IsClosed (slot_end l) bytes) (same_or_not bytes these payloads b.rows last b.read.give broken (slot_front bytes payloads s) give g) (slot_closed bytes payloads s))
+          (subst (λ (l : List (List ℕ)). IsClosed (slot_end l) bytes) (same_or_not bytes these payloads b.rows last b.read.give broken (slot_front bytes payloads s) give g) (slot_closed bytes payloads s))
       | inr g ↦ shorter bytes these payloads b.rows broken b.read.front s g
     ]
   where

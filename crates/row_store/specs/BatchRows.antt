@@ -14,7 +14,6 @@ ByteRows = List (List ℕ × List ℕ)
 abbrev pub rows_after : ByteRows → List Op → ByteRows
 rows_after rows ops = with_batch bytes_cmp rows (entries_of ops)
 
-
 -- A payload leads from rows to others: it spells a batch that is a true difference of the first, and the others are those after it.
 pub record Leads (rows : ByteRows) (payload : List ℕ) (next : ByteRows) : Type 0 where
   pub ops : List Op

@@ -7,7 +7,7 @@ use Rattle.row_store.specs.declared.faults.StoreFault.{StoreFault}
 use Rattle.row_store.specs.declared.faults.StoreFault.TheVariants.{Disk, Full, Damaged, MarkFull, Spent, NoMemory}
 use Rattle.row_store.specs.BatchRows.{ByteRows}
 use Rattle.row_store.specs.OpenedRows.{IsDamagedAt}
-use Rattle.row_store.specs.StoredRows.{Stored, size_with, spent_of}
+use Rattle.row_store.specs.StoredRows.{Stored, size_with, spent_of, spent_with}
 
 -- The failure of a call on the disk, if that is how a call ended.
 abbrev pub disk_failure : {T : Type 0} → Result T StoreFault → Result ⊤ StoreFault
@@ -39,14 +39,14 @@ NothingDone old new desk later = (new ≡ old) × (later ≡ desk)
 
 -- Why a batch was not kept, and what then is as it was. Spent comes exactly where the store is spent, and Full exactly where it is
 -- not and the slot would pass its bound; nothing was done on either. Disk leaves the rows and spends the store. Want of memory
--- leaves all as it was or spends the store. Nothing else is told.
+-- leaves all as it was, or spends the store and leaves all but the rows. Nothing else is told.
 abbrev pub CommitFails : {D : Type 0} → List Op → (old new : Stored) (desk later : D) → StoreFault → Type 0
 CommitFails ops old new desk later Disk = MayCommit old ops × (new ≡ spent_of old)
 CommitFails ops old new desk later Full = (old.spent ≡ false) × (old.bounds.slot < size_with old ops) × NothingDone old new desk later
 CommitFails ops old new desk later (Damaged part at) = ⊥
 CommitFails ops old new desk later MarkFull = ⊥
 CommitFails ops old new desk later Spent = (old.spent ≡ true) × NothingDone old new desk later
-CommitFails ops old new desk later NoMemory = MayCommit old ops × (NothingDone old new desk later ⊎ (new.spent ≡ true))
+CommitFails ops old new desk later NoMemory = MayCommit old ops × (NothingDone old new desk later ⊎ (new ≡ spent_with old new.rows))
 
 -- Why a batch for which there is room was not kept: the disk failed, and the rows are as they were; or there is no memory for them.
 abbrev pub KeepFails : (old new : ByteRows) → StoreFault → Type 0
@@ -56,3 +56,13 @@ KeepFails old new (Damaged part at) = ⊥
 KeepFails old new MarkFull = ⊥
 KeepFails old new Spent = ⊥
 KeepFails old new NoMemory = ⊤
+
+-- The batch was appended, whatever came of the rows.
+abbrev pub IsKept : {T : Type 0} → Result T StoreFault → Type 0
+IsKept (Ok x) = ⊤
+IsKept (Err Disk) = ⊥
+IsKept (Err Full) = ⊥
+IsKept (Err (Damaged part at)) = ⊥
+IsKept (Err MarkFull) = ⊥
+IsKept (Err Spent) = ⊥
+IsKept (Err NoMemory) = ⊤

@@ -51,6 +51,10 @@ with_ops stored ops = record stored { rows = rows_after stored.rows ops; end = s
 abbrev pub spent_of : Stored → Stored
 spent_of stored = record stored { spent = true }
 
+-- The store spent, with these rows.
+abbrev pub spent_with : Stored → ByteRows → Stored
+spent_with stored rows = record stored { rows = rows; spent = true }
+
 -- The store of a folder whose mark is empty, as it is seen without creating anything.
 abbrev pub without_rows : Stored
 without_rows = record {

@@ -7,7 +7,7 @@ ghost use Rattle.journal_core.specs.Slots.{IsClosed, text_of, added, ShutOrAdded
 ghost use Rattle.row_codec.specs.RowDifference.{Rises};
 ghost use Rattle.row_codec.specs.Batches.{bytes_cmp, IsBatch, batch_bytes};
 ghost use Rattle.row_store.specs.BatchRows.{rows_in, rows_after};
-ghost use Rattle.row_store.specs.Faults.{disk_failure, KeepFails};
+ghost use Rattle.row_store.specs.Faults.{disk_failure, KeepFails, IsKept};
 
 use crate::changing::{Rows, change_all};
 use crate::faults::StoreFault;
@@ -59,7 +59,8 @@ fn append_within<D: Desk>(
     }
 }
 
-// Appends a batch for which there is room, and then changes the rows. Nothing of the rows changes where the disk fails.
+// Appends a batch for which there is room, and then changes the rows. Where the disk fails, nothing of the rows changes; where memory
+// is wanting, the batch was appended.
 pub(crate) fn keep<D: Desk>(
     alloc: Global,
     desk: &mut D,
@@ -77,8 +78,8 @@ pub(crate) fn keep<D: Desk>(
     ensures next { IfOk result (λ next. next ≡ end + 5 + length packed.now) }
     ensures rows { OnOk result (rows_in rows.new.entries ≡ rows_after (rows_in rows.old.entries) ops.now) }
     ensures rises { Rises bytes_cmp (rows_in rows.new.entries) }
-    ensures added { OnOk result (IsTrue D.tells → D.reads desk.new part ≡ added end (text_of packed.now) (D.reads desk.old part)) }
-    ensures stable { OnOk result (IsStable part (D.reads desk.new) (D.may_leave desk.new)) }
+    ensures added { IsKept result → IsTrue D.tells → D.reads desk.new part ≡ added end (text_of packed.now) (D.reads desk.old part) }
+    ensures stable { IsKept result → IsStable part (D.reads desk.new) (D.may_leave desk.new) }
     ensures fault { IfErr result (λ fault. KeepFails (rows_in rows.old.entries) (rows_in rows.new.entries) fault) }
     ensures cause { HasCause (D.disk_faults desk.old) (D.disk_faults desk.new) (disk_failure result) }
     ensures elsewhere { Else part (D.reads desk.old) (D.reads desk.new) }
@@ -88,7 +89,7 @@ pub(crate) fn keep<D: Desk>(
         (After (OnPart part (ShutOrAdded end (text_of packed.now))) (D.may_leave desk.old)) }
     ensures remembers { Remembers (D.moment desk.old) (D.since desk.old) (D.since desk.new) }
 {
-    let next = append_within(desk, part, end, packed, most)?;
+    let place = append_within(desk, part, end, packed, most)?;
     change_all(alloc, rows, ops)?;
-    Ok(next)
+    Ok(place)
 }

@@ -1,8 +1,8 @@
-ghost use Rattle.std.specs.Prelude.{◌≡◌, ◌⊎◌, ◌≤◌, ◌<◌, ◌^◌, ◌≢◌, ⊤, true, false, zero, length, IsTrue, OnOk, IfOk, IfErr};
+ghost use Rattle.std.specs.Prelude.{◌≡◌, ◌⊎◌, ◌≤◌, ◌<◌, ◌^◌, ◌≢◌, ⊤, true, false, zero, length, IsTrue, OnOk, IfOk, IfErr, IsErrOf};
 ghost use Rattle.std.specs.Option.{option_map};
 ghost use Rattle.ziti_outside.specs.declared.desk.Part.TheVariants.{One, Mark};
 ghost use Rattle.ziti_outside.specs.Causes.{HasCause};
-ghost use Rattle.ziti_outside.specs.Images.{After};
+ghost use Rattle.ziti_outside.specs.Images.{Image, After};
 ghost use Rattle.ziti_outside.specs.Moments.{Remembers, Leaves};
 ghost use Rattle.ziti_outside.specs.Untouched.{OnlyDisk, OnlyReads};
 ghost use Rattle.slot_files.specs.FolderImage.{StandsAsBefore};
@@ -183,17 +183,20 @@ impl Store {
     ///
     /// Whatever comes of it, a stop at any moment of the call leaves a folder that opens to the rows before it or to those after it.
     /// Spent comes exactly where the store is spent, and Full exactly where it is not and the slot would pass its bound, before any
-    /// memory is taken; nothing was done on either. A fault of the disk leaves the rows and spends the store, and so does want of
-    /// memory behind it; want of memory before it leaves all as it was. `Damaged` and `MarkFull` never come.
+    /// memory is taken; nothing was done on either. A fault of the disk leaves the rows and spends the store. Want of memory before
+    /// the first call on the disk leaves all as it was; behind it the folder has the batch, the rows are not told any more, and the
+    /// store is spent. `Damaged` and `MarkFull` never come. A spent store may be asked again with any batch.
     pub fn commit<D: Desk>(&mut self, desk: &mut D, batch: &Batch) -> Result<(), StoreFault>
         requires opened { self.old.opened ≡ true }
         requires batch { IsBatch batch.now }
-        requires changes { IsTrueDifference bytes_cmp self.old.rows (entries_of batch.now) }
+        requires changes { self.old.spent ≡ false → IsTrueDifference bytes_cmp self.old.rows (entries_of batch.now) }
         requires stands { self.old.spent ≡ false → IsTrue D.tells → ReadsAs self.old (D.reads desk.old) (D.may_leave desk.old) }
 
         ensures kept { OnOk result (MayCommit self.old batch.now × (self.new ≡ with_ops self.old batch.now)) }
         ensures fault { IfErr result (λ fault. CommitFails batch.now self.old self.new desk.old desk.new fault) }
         ensures stands { self.new.spent ≡ false → IsTrue D.tells → ReadsAs self.new (D.reads desk.new) (D.may_leave desk.new) }
+        ensures behind { IsErrOf result StoreFault.NoMemory → self.old.spent ≡ false → self.new.spent ≡ true → IsTrue D.tells → (image : Image)
+            → D.may_leave desk.new image → OpensTo image (rows_after self.old.rows batch.now) }
         ensures cause { HasCause (D.disk_faults desk.old) (D.disk_faults desk.new) (disk_failure result) }
         ensures others { OnlyDisk D.said D.noted D.say_faults D.note_faults desk.old desk.new }
         ensures quiet { Leaves D.moment D.since D.may_leave D.said desk.old desk.new (λ image. ⊤) }
