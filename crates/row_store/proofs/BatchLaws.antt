@@ -1,22 +1,21 @@
 -- Batches: what they make of rows one operation after another, when they are true differences, and how many bytes they have.
-use Rattle.std.proofs.Common.{◌≡◌, ◌↔◌, ℕ, ◌+◌, ◌≤◌, Bool, true, false, IsTrue, cond, not, ◌&&◌, List, [], ◌∷◌, ◌++◌, length, map, take, Option, None, Some, refl, sym, ◌∙◌, ap, subst, Ordering, Less, Equal, is_eq, bytes_eq, flat_map, arith, append_assoc, append-nil, length-append, ◌<◌, drop, get_or, take-append-drop, Ok, Err, IfOk}
+use Rattle.std.proofs.Common.{◌≡◌, ◌↔◌, ℕ, ◌+◌, ◌≤◌, Bool, true, false, IsTrue, cond, ◌&&◌, List, [], ◌∷◌, ◌++◌, length, map, take, Option, None, Some, refl, sym, ◌∙◌, ap, subst, is_eq, arith, append-nil, length-append, ◌<◌, drop, get_or, take-append-drop, Ok, Err, IfOk}
 use Rattle.std.specs.declared.result.Result.{Result}
 use Rattle.std.proofs.lemmas.List.{take_more}
 use Rattle.std.proofs.lemmas.Cmp.{nat_list_cmp_total}
 use Rattle.std.proofs.lemmas.Map.Lookups.{exact_bytes}
-use Rattle.std.proofs.lemmas.Bool.{and_parts, and_from, cond-true, cond-false}
+use Rattle.std.proofs.lemmas.Bool.{and_parts, and_from}
 use Rattle.std.specs.Option.{is_some}
-use Rattle.std.specs.List.{AllByRecursion, list_all}
+use Rattle.std.specs.List.{list_all}
 use Rattle.std.specs.Cmp.{Equal-is}
 use Rattle.row_codec.specs.declared.changes.Op.{Op}
 use Rattle.row_codec.specs.declared.changes.Op.TheVariants.{Put, Delete}
-use Rattle.row_codec.specs.RowDifference.{Entry, Rises, value_at, said_of, with_entry, with_batch, IsTrueDifference}
+use Rattle.row_codec.specs.RowDifference.{Entry, Rises, value_at, said_of, with_entry, IsTrueDifference}
 use Rattle.row_codec.specs.Batches.{bytes_cmp, entry_of, entries_of, op_bytes, batch_bytes, IsBatch, Spells}
 use Rattle.row_codec.proofs.BatchLaws.{one_batch}
-use Rattle.row_laws.specs.SaidChanges.{SaysChanges}
-use Rattle.row_laws.proofs.RisingRows.{Above, value_at-above, value_at-first, value_at-other}
+use Rattle.row_laws.proofs.RisingRows.{Above, value_at-above, value_at-first}
 use Rattle.row_laws.proofs.Differences.{said_of-same, said_of-other, true_says, true_from_says, Rises-with_batch}
-use Rattle.row_store.specs.BatchRows.{ByteRows, Leads, LeadFrom, Give, rows_after}
+use Rattle.row_store.specs.BatchRows.{ByteRows, Leads, LeadFrom, rows_after}
 use Rattle.row_store.specs.Changes.{is_change}
 use Rattle.row_store.specs.SlotReading.{Makes, Adds}
 

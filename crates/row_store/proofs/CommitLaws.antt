@@ -10,13 +10,13 @@ use Rattle.slot_files.specs.FolderImage.{slot_of, StandsBy, Stands}
 use Rattle.slot_files.proofs.StandLaws.{same_stands, append_stands}
 use Rattle.row_codec.specs.declared.changes.Op.{Op}
 use Rattle.row_codec.specs.RowDifference.{IsTrueDifference}
-use Rattle.row_codec.specs.Batches.{bytes_cmp, entries_of, batch_bytes, IsBatch, Spells}
+use Rattle.row_codec.specs.Batches.{bytes_cmp, entries_of, batch_bytes, IsBatch}
 use Rattle.row_store.specs.declared.faults.StoreFault.{StoreFault}
 use Rattle.row_store.specs.declared.faults.StoreFault.TheVariants.{NoMemory}
 use Rattle.row_store.specs.Faults.{IsKept}
 use Rattle.row_store.specs.BatchRows.{ByteRows, Leads, Give, rows_after}
 use Rattle.row_store.specs.OpenedRows.{OpensTo}
-use Rattle.row_store.specs.StoredRows.{Stored, IsStoreOf, ReadsAs, with_ops}
+use Rattle.row_store.specs.StoredRows.{Stored, ReadsAs, with_ops}
 use Rattle.row_store.proofs.BatchLaws.{Leads-of, lead-push}
 use Rattle.row_store.proofs.OpeningLaws.{by_slot, of_slot}
 

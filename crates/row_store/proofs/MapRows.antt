@@ -1,5 +1,5 @@
 -- The entries of a map as rows: what stands at a key, and what an insertion and a removal make of the rows.
-use Rattle.std.proofs.Common.{◌≡◌, ℕ, Bool, true, false, cond, not, List, [], ◌∷◌, ◌++◌, map, filter, Option, None, Some, refl, sym, ◌∙◌, ap, subst, Ordering, Less, Equal, Greater, is_lt, is_eq, is_gt, bytes_eq, Bor}
+use Rattle.std.proofs.Common.{◌≡◌, ℕ, Bool, true, false, cond, not, List, [], ◌∷◌, ◌++◌, filter, Option, None, Some, refl, sym, ◌∙◌, ap, subst, Ordering, Less, Equal, Greater, is_lt, is_eq, is_gt, bytes_eq, Bor}
 use Rattle.std.proofs.lemmas.Cmp.{nat_list_cmp_total}
 use Rattle.std.proofs.lemmas.Map.Lookups.{exact_bytes}
 use Rattle.std.specs.declared.vec.Vec.{Vec}

@@ -1,13 +1,13 @@
 -- What an image opens to, and what a folder that was opened reads as.
-use Rattle.std.proofs.Common.{◌≡◌, ◌⊎◌, inl, inr, Bool, true, false, IsTrue, if◌then◌else◌, ◌==◌, ℕ, zero, suc, ◌-◌, ◌%◌, ◌<◌, List, [], ◌∷◌, ◌++◌, length, drop, refl, sym, ap, ◌∙◌, subst, arith}
+use Rattle.std.proofs.Common.{◌≡◌, ◌⊎◌, inl, inr, Bool, IsTrue, ℕ, zero, suc, ◌<◌, List, [], ◌∷◌, ◌++◌, length, drop, refl, sym, ap, ◌∙◌, subst, arith}
 use Rattle.ziti_outside.specs.declared.desk.Part.{Part}
-use Rattle.ziti_outside.specs.declared.desk.Part.TheVariants.{Zero, One, Mark}
-use Rattle.ziti_outside.specs.Images.{Image, IsStable}
-use Rattle.journal_core.specs.Slots.{Slot, slot_end, slot_bytes}
+use Rattle.ziti_outside.specs.declared.desk.Part.TheVariants.{Zero, Mark}
+use Rattle.ziti_outside.specs.Images.{Image}
+use Rattle.journal_core.specs.Slots.{Slot, slot_bytes}
 use Rattle.journal_core.proofs.SlotLaws.{one_slot}
 use Rattle.slot_files.specs.declared.standing.Standing.{Standing}
 use Rattle.slot_files.specs.FolderImage.{slot_of, StandsBy, Stands}
-use Rattle.slot_files.specs.OpenedSlots.{IsNamed, IsFound, IsOpened, IsCreated, Opens}
+use Rattle.slot_files.specs.OpenedSlots.{IsNamed, IsFound, Opens}
 use Rattle.slot_files.proofs.StandLaws.{one_stands}
 use Rattle.row_store.specs.BatchRows.{ByteRows, Give}
 use Rattle.row_store.specs.OpenedRows.{OpensTo, HasNoHeader, BreaksOff, IsDamagedAt}
@@ -15,7 +15,7 @@ use Rattle.row_store.specs.declared.faults.StoreFault.{StoreFault}
 use Rattle.row_store.specs.declared.faults.StoreFault.TheVariants.{Disk, Full, Damaged, MarkFull, Spent, NoMemory}
 use Rattle.row_store.specs.SlotReading.{IsReadWhole, SlotFails}
 use Rattle.row_store.specs.Faults.{OpenFails}
-use Rattle.row_store.specs.StoredRows.{Stored, IsStoreOf, ReadsAs}
+use Rattle.row_store.specs.StoredRows.{Stored, IsStoreOf}
 use Rattle.row_store.proofs.BatchLaws.{one_after}
 use Rattle.row_store.proofs.SlotReadings.{breaks_no_slot, one_break, breaks_header, slot_front, header_stands}
 

@@ -1,7 +1,7 @@
 -- Reading a slot: records that stand behind others, one step after another, and where a reading breaks off.
-use Rattle.std.proofs.Common.{◌≡◌, ◌≢◌, ◌⊎◌, inl, inr, ℕ, ◌+◌, ◌-◌, ◌^◌, ◌<◌, ◌≤◌, min, Bool, IsTrue, List, [], ◌∷◌, ◌++◌, length, take, drop, refl, sym, ap, ◌∙◌, subst, arith, length-append, append_assoc, append-nil}
+use Rattle.std.proofs.Common.{◌≡◌, ◌⊎◌, inl, inr, ℕ, ◌+◌, ◌^◌, ◌<◌, ◌≤◌, Bool, IsTrue, List, [], ◌∷◌, ◌++◌, length, drop, refl, sym, ap, ◌∙◌, subst, arith, length-append, append_assoc, append-nil}
 use Rattle.std.specs.List.{AllByRecursion}
-use Rattle.std.proofs.lemmas.List.{take_at, drop_at}
+use Rattle.std.proofs.lemmas.List.{drop_at}
 use Rattle.ziti_outside.specs.declared.desk.Part.{Part}
 use Rattle.ziti_outside.specs.Told.{IsFront}
 use Rattle.journal_core.specs.Slots.{Slot, SlotFront, IsClosed, IsRecord, IsDamaged, IsPayload, header, record_of, records_of, slot_end}
@@ -9,8 +9,8 @@ use Rattle.journal_core.proofs.SlotLaws.{one_at, closed_or_open, front_start, fr
 use Rattle.journal_core.proofs.GateLaws.{closed_within}
 use Rattle.row_store.specs.declared.faults.StoreFault.{StoreFault}
 use Rattle.row_store.specs.declared.faults.StoreFault.TheVariants.{Disk, Full, Damaged, MarkFull, Spent, NoMemory}
-use Rattle.row_store.specs.BatchRows.{ByteRows, Leads, LeadFrom, Give}
-use Rattle.row_store.specs.OpenedRows.{IsReadTo, IsUntrue, BreaksOff, HasNoHeader}
+use Rattle.row_store.specs.BatchRows.{ByteRows, Leads, Give}
+use Rattle.row_store.specs.OpenedRows.{IsReadTo, IsUntrue, BreaksOff}
 use Rattle.row_store.specs.SlotReading.{Steps, StepFails, IsReadWhole, SlotFails}
 use Rattle.row_store.proofs.BatchLaws.{lead-push, lead_on, one_after}
 

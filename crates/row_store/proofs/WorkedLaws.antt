@@ -4,13 +4,13 @@ use Rattle.std.specs.Int.{w32, to_le_bytes, from_le_bytes}
 use Rattle.std.proofs.lemmas.List.{drop_at}
 use Rattle.std.proofs.lemmas.Nat.{from_le_bytes-to_le_bytes_4}
 use Rattle.ziti_outside.specs.declared.desk.Part.TheVariants.{Zero}
-use Rattle.journal_core.specs.Slots.{Slot, IsRecord, IsClosed, IsDamaged, record_of}
+use Rattle.journal_core.specs.Slots.{IsDamaged, record_of}
 use Rattle.journal_core.specs.WorkedSlots.{batch_of_ann, slot_of_ann}
 use Rattle.row_codec.specs.declared.changes.Op.{Op}
 use Rattle.row_codec.specs.declared.changes.Op.TheVariants.{Delete}
 use Rattle.row_codec.specs.Batches.{Spells}
 use Rattle.row_store.specs.BatchRows.{Leads, Give}
-use Rattle.row_store.specs.OpenedRows.{OpensTo, IsReadTo, IsUntrue, IsDamagedAt}
+use Rattle.row_store.specs.OpenedRows.{OpensTo, IsDamagedAt}
 use Rattle.row_store.specs.WorkedStores.{rows_of_ann, ops_of_ann, folder_of, deletes_absent, slot_with_deletion}
 use Rattle.row_store.proofs.BatchLaws.{Leads-of, leads_nowhere}
 use Rattle.row_store.proofs.SlotReadings.{read_past, record_within}

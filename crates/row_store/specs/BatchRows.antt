@@ -1,5 +1,5 @@
 -- The rows that batches give, one after another (docs/FORMATS.md, "Batches").
-use Rattle.std.specs.Prelude.{◌≡◌, ℕ, ◌==◌, Bool, true, false, List, [], ◌∷◌, map, filter}
+use Rattle.std.specs.Prelude.{◌≡◌, ℕ, ◌==◌, Bool, false, List, [], ◌∷◌, map, filter}
 use Rattle.std.specs.declared.vec.Vec.{Vec}
 use Rattle.row_codec.specs.declared.changes.Op.{Op}
 use Rattle.row_codec.specs.declared.changes.Op.TheVariants.{Put}

@@ -4,7 +4,7 @@ use Rattle.ziti_outside.specs.declared.desk.Part.TheVariants.{Zero, One, Mark}
 use Rattle.ziti_outside.specs.Images.{Image}
 use Rattle.journal_core.specs.WorkedSlots.{slot_of_ann}
 use Rattle.row_codec.specs.declared.changes.Op.{Op}
-use Rattle.row_codec.specs.declared.changes.Op.TheVariants.{Put, Delete}
+use Rattle.row_codec.specs.declared.changes.Op.TheVariants.{Put}
 use Rattle.row_store.specs.BatchRows.{ByteRows}
 
 -- The keys of the rows of the first identity: the next number of identities, and identity 1.

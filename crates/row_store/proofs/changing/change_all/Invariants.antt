@@ -1,8 +1,5 @@
-use Rattle.std.proofs.Common.{◌≡◌, ℕ, List, take}
-use Rattle.row_codec.specs.declared.changes.Op.{Op}
-use Rattle.row_codec.specs.RowDifference.{Rises}
-use Rattle.row_codec.specs.Batches.{bytes_cmp}
-use Rattle.row_store.specs.BatchRows.{rows_in, rows_after}
+use Rattle.std.proofs.Common.{take}
+use Rattle.row_store.specs.BatchRows.{rows_in}
 use Rattle.row_store.proofs.BatchLaws.{Changed}
 use Rattle.row_store.proofs.changing.change_all.Given as goal
 

@@ -1,4 +1,4 @@
-use Rattle.std.proofs.Common.{ap, sym, ◌∙◌, ◌≡◌, None, subst, List, ℕ}
+use Rattle.std.proofs.Common.{◌≡◌, None, subst, List, ℕ}
 use Rattle.std.specs.Map.{remove_entry}
 use Rattle.std.specs.BTreeMap.{is_at}
 use Rattle.row_codec.specs.RowDifference.{with_entry}

@@ -1,8 +1,7 @@
-use Rattle.std.proofs.Common.{ap, sym, ◌∙◌, ◌≡◌, None, Some, subst, List, ℕ, Bool}
+use Rattle.std.proofs.Common.{ap, sym, ◌∙◌, ◌≡◌, subst, List, ℕ}
 use Rattle.std.specs.Option.{is_some}
 use Rattle.std.specs.Map.{lookup}
 use Rattle.std.specs.BTreeMap.{is_at}
-use Rattle.row_store.specs.BatchRows.{rows_in}
 use Rattle.row_store.proofs.MapRows.{to_vec, looked_up, said_none}
 use Rattle.row_store.proofs.changing.has_row.Goals as goal
 

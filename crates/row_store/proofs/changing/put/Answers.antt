@@ -1,7 +1,7 @@
-use Rattle.std.proofs.Common.{◌≡◌, ◌∙◌, ap, sym, subst, Some, List, ℕ}
+use Rattle.std.proofs.Common.{◌≡◌, ◌∙◌, Some}
 use Rattle.row_codec.specs.RowDifference.{with_entry}
 use Rattle.row_codec.specs.Batches.{bytes_cmp}
-use Rattle.row_store.specs.BatchRows.{ByteRows, rows_in}
+use Rattle.row_store.specs.BatchRows.{rows_in}
 use Rattle.row_store.proofs.MapRows.{put_row, still_rise, same_entry}
 use Rattle.row_store.proofs.changing.put.Goals as goal
 

@@ -2,9 +2,7 @@ use Rattle.std.proofs.Common.{ap, sym, ◌∙◌, ◌≡◌, None, Some, subst, 
 use Rattle.std.specs.Option.{is_some, option_copied}
 use Rattle.std.specs.Map.{lookup}
 use Rattle.std.specs.BTreeMap.{is_at}
-use Rattle.row_codec.specs.RowDifference.{said_of, value_at}
-use Rattle.row_codec.specs.Batches.{bytes_cmp}
-use Rattle.row_store.specs.BatchRows.{rows_in}
+use Rattle.row_codec.specs.RowDifference.{said_of}
 use Rattle.row_store.proofs.MapRows.{to_vec, looked_up, said_put}
 use Rattle.row_store.proofs.changing.puts_other.Goals as goal
 

@@ -1,4 +1,4 @@
-use Rattle.std.proofs.Common.{rules, ◌≡◌, ℕ, ◌^◌, ◌<◌, length, None, Some, Option, subst, sym, ap, ◌∙◌, arith}
+use Rattle.std.proofs.Common.{rules, ℕ, ◌^◌, ◌<◌, length, None, Some, Option, subst, ◌∙◌}
 use Rattle.ziti_outside.specs.Images.{Image}
 use Rattle.ziti_outside.proofs.MomentLaws.{OnlyReads-then}
 use Rattle.row_store.specs.BatchRows.{rows_in}

@@ -1,4 +1,4 @@
-use Rattle.std.proofs.Common.{◌≡◌, ℕ, ◌+◌, ◌≤◌, ◌^◌, false, subst, sym, ap, ◌∙◌, refl, List, length, arith}
+use Rattle.std.proofs.Common.{◌≡◌, ℕ, ◌+◌, ◌≤◌, false, subst, sym, ap, ◌∙◌, refl, List, length}
 use Rattle.std.proofs.lemmas.Result.{err_from_is_err_and}
 use Rattle.ziti_outside.proofs.MomentLaws.{Leaves-weaker}
 use Rattle.journal_core.specs.Slots.{IsPayload}

@@ -1,4 +1,3 @@
-use Rattle.std.proofs.Common.{subst, sym, ap, ◌∙◌}
 use Rattle.std.proofs.lemmas.Result.{err_from_is_err_and}
 use Rattle.row_store.proofs.OpeningLaws.{open_rows, open_fails}
 use Rattle.row_store.proofs.store.Store.open.Goals as goal
