@@ -1,0 +1,165 @@
+-- What a batch that is kept makes of the folder, stopped or not.
+use Rattle.std.proofs.Common.{◌≡◌, ◌⊎◌, inl, inr, Bool, true, false, if◌then◌else◌, ◌==◌, ℕ, ◌+◌, ◌-◌, ◌%◌, ◌^◌, ◌<◌, ◌≤◌, List, [], ◌∷◌, ◌++◌, length, refl, sym, ap, ◌∙◌, subst, arith, Err}
+use Rattle.std.specs.declared.result.Result.{Result}
+use Rattle.ziti_outside.specs.declared.desk.Part.{Part}
+use Rattle.ziti_outside.specs.declared.desk.Part.TheVariants.{Zero, One, Mark}
+use Rattle.ziti_outside.specs.Images.{Image, Else, OnPart, After, IsStable}
+use Rattle.journal_core.specs.Slots.{Slot, IsClosed, IsPayload, ShutOrAdded, added, text_of, slot_end}
+use Rattle.journal_core.proofs.SlotLaws.{slot_closed, slot_added, end-push}
+use Rattle.slot_files.specs.FolderImage.{slot_of, StandsBy, Stands}
+use Rattle.slot_files.proofs.StandLaws.{same_stands, append_stands}
+use Rattle.row_codec.specs.declared.changes.Op.{Op}
+use Rattle.row_codec.specs.RowDifference.{IsTrueDifference}
+use Rattle.row_codec.specs.Batches.{bytes_cmp, entries_of, batch_bytes, IsBatch}
+use Rattle.row_store.specs.declared.faults.StoreFault.{StoreFault}
+use Rattle.row_store.specs.declared.faults.StoreFault.TheVariants.{NoMemory}
+use Rattle.row_store.specs.Faults.{IsKept}
+use Rattle.row_store.specs.BatchRows.{ByteRows, Leads, Give, rows_after}
+use Rattle.row_store.specs.OpenedRows.{OpensTo}
+use Rattle.row_store.specs.StoredRows.{Stored, ReadsAs, with_ops}
+use Rattle.row_store.proofs.BatchLaws.{Leads-of, lead-push}
+use Rattle.row_store.proofs.OpeningLaws.{by_slot, of_slot}
+
+-- A slot is not the mark.
+turn_no_mark : (even : Bool) → Mark ≡ (if even then Zero else One) → ⊥
+turn_no_mark true e = cc
+turn_no_mark false e = cc
+
+mark_apart : (part : Part) (mark : ℕ) → part ≡ slot_of mark → Mark ≡ part → ⊥
+mark_apart part mark e f = turn_no_mark ((mark - 1) % 2 == 0) (f ∙ e)
+
+-- The slot that stands, as the store has it.
+pub own_slot : (stored : Stored) (reads : Image) (images : Image → Type 0) (r : ReadsAs stored reads images) → Slot (reads stored.part) r.kept.batches
+own_slot stored reads images r =
+    let some : 0 < length (reads Mark) = subst (λ (m : ℕ). 0 < m) (sym r.kept.mark) r.some in
+    let part : stored.part ≡ slot_of (length (reads Mark)) = r.kept.part ∙ ap slot_of (sym r.kept.mark) in
+    subst (λ (q : Part). Slot (reads q) r.kept.batches) (sym part) (of_slot (length (reads Mark)) reads r.kept.batches some r.kept.stands)
+
+-- Its gate is closed at the kept end.
+pub own_gate : (stored : Stored) (reads : Image) (images : Image → Type 0) → ReadsAs stored reads images → IsClosed stored.end (reads stored.part)
+own_gate stored reads images r =
+    subst (λ (n : ℕ). IsClosed n (reads stored.part)) (sym r.kept.end) (slot_closed (reads stored.part) r.kept.batches (own_slot stored reads images r))
+
+-- The batch of operations leads from the kept rows to those after it.
+own_lead : (stored : Stored) (ops : List Op) → IsBatch ops → IsTrueDifference bytes_cmp stored.rows (entries_of ops) → Leads stored.rows (batch_bytes ops) (rows_after stored.rows ops)
+own_lead stored ops batch d = Leads-of stored.rows (rows_after stored.rows ops) (batch_bytes ops) ops (record { batch = batch; spelled = refl }) d refl
+
+-- A batch that the bound of a slot allows has a length that fits four bytes.
+pub short_batch : (end most : ℕ) (bytes : List ℕ) → end + 6 + length bytes ≤ most → most ≤ 2 ^ 30 → IsPayload bytes
+short_batch end most bytes room bound = omega arith
+
+-- What a stop within the append leaves opens to the rows before or to those after it.
+pub commit_stops : (stored : Stored) (reads : Image) (images : Image → Type 0) (ops : List Op) → ReadsAs stored reads images → IsBatch ops
+    → IsTrueDifference bytes_cmp stored.rows (entries_of ops) → IsPayload (batch_bytes ops)
+    → (image : Image) → After (OnPart stored.part (ShutOrAdded stored.end (text_of (batch_bytes ops)))) images image
+    → OpensTo image stored.rows ⊎ OpensTo image (rows_after stored.rows ops)
+commit_stops stored reads images ops r batch d short image p =
+    let from = p.from in
+    let mark : length (from Mark) ≡ length (reads Mark) = ap length (r.stable_mark.each from p.was) in
+    let part : stored.part ≡ slot_of (length (reads Mark)) = r.kept.part ∙ ap slot_of (sym r.kept.mark) in
+    let slot : from (slot_of (length (reads Mark))) ≡ reads (slot_of (length (reads Mark))) = subst (λ (q : Part). from q ≡ reads q) part (r.stable_slot.each from p.was) in
+    let stands : Stands from r.kept.batches = (same_stands reads from mark slot).still r.kept.batches r.kept.stands in
+    let some : 0 < length (from Mark) = subst (λ (m : ℕ). 0 < m) (sym (mark ∙ r.kept.mark)) r.some in
+    let here : stored.part ≡ slot_of (length (from Mark)) = part ∙ ap slot_of (sym mark) in
+    let step : OnPart (slot_of (length (from Mark))) (ShutOrAdded (slot_end r.kept.batches) (text_of (batch_bytes ops))) from image =
+    subst (λ (n : ℕ). OnPart (slot_of (length (from Mark))) (ShutOrAdded n (text_of (batch_bytes ops))) from image) r.kept.end
+    (subst (λ (q : Part). OnPart q (ShutOrAdded stored.end (text_of (batch_bytes ops))) from image) here p.by) in
+    elim (append_stands from image (batch_bytes ops) r.kept.batches some stands short step) as (λ _. OpensTo image stored.rows ⊎ OpensTo image (rows_after stored.rows ops)) [
+      | inl s ↦ inl (record { batches = r.kept.batches; stands = s; give = r.kept.give })
+      | inr s ↦ inr (record {
+        batches = r.kept.batches ++ batch_bytes ops ∷ [];
+        stands = s;
+        give = lead-push [] r.kept.batches (batch_bytes ops) stored.rows (rows_after stored.rows ops) r.kept.give (own_lead stored ops batch d);
+      })
+    ]
+
+-- The folder reads as the store stands after the append.
+pub commit_stands : (stored next : Stored) (reads new : Image) (images later : Image → Type 0) (ops : List Op) → ReadsAs stored reads images → IsBatch ops
+    → IsTrueDifference bytes_cmp stored.rows (entries_of ops) → IsPayload (batch_bytes ops)
+    → next.rows ≡ rows_after stored.rows ops → next.part ≡ stored.part → next.mark ≡ stored.mark → next.end ≡ stored.end + 5 + length (batch_bytes ops)
+    → new stored.part ≡ added stored.end (text_of (batch_bytes ops)) (reads stored.part) → Else stored.part reads new → IsStable stored.part new later
+    → ((image : Image) → later image → After (OnPart stored.part (ShutOrAdded stored.end (text_of (batch_bytes ops)))) images image)
+    → ReadsAs next new later
+commit_stands stored next reads new images later ops r batch d short rows part mark end e others stable found =
+    let apart = mark_apart stored.part stored.mark r.kept.part in
+    let same : new Mark ≡ reads Mark = others.same Mark apart in
+    let longer = r.kept.batches ++ batch_bytes ops ∷ [] in
+    let slot : Slot (new stored.part) longer = slot_added (reads stored.part) (new stored.part) (batch_bytes ops) r.kept.batches (own_slot stored reads images r) short
+    (e ∙ ap (λ (n : ℕ). added n (text_of (batch_bytes ops)) (reads stored.part)) r.kept.end) in
+    let count : length (new Mark) ≡ stored.mark = ap length same ∙ r.kept.mark in
+    let by_part : Slot (new (slot_of stored.mark)) longer = subst (λ (q : Part). Slot (new q) longer) r.kept.part slot in
+    let place = r.kept.end in
+    let push = end-push (batch_bytes ops) r.kept.batches in
+    record {
+      some = subst (λ (m : ℕ). 0 < m) (sym mark) r.some;
+      kept = record {
+        mark = count ∙ sym mark;
+        part = part ∙ r.kept.part ∙ ap slot_of (sym mark);
+        batches = longer;
+        stands = subst (λ (m : ℕ). StandsBy m new longer) (sym count) (by_slot stored.mark new longer r.some by_part);
+        give = subst (λ (l : ByteRows). Give longer l) (sym rows)
+            (lead-push [] r.kept.batches (batch_bytes ops) stored.rows (rows_after stored.rows ops) r.kept.give (own_lead stored ops batch d));
+        end = omega arith;
+      };
+      stable_mark = record {
+        each = λ image p. let before = found image p in before.by.others.same Mark apart ∙ r.stable_mark.each before.from before.was ∙ sym same;
+      };
+      stable_slot = subst (λ (q : Part). IsStable q new later) (sym part) stable;
+    }
+
+-- ---- the same, of a store that is seen by its fields
+
+pub seen_gate : (stored seen : Stored) (reads : Image) (images : Image → Type 0) → seen ≡ stored → ReadsAs stored reads images → IsClosed seen.end (reads seen.part)
+seen_gate stored seen reads images e r = own_gate seen reads images (subst (λ (s : Stored). ReadsAs s reads images) (sym e) r)
+
+pub seen_stops : (stored seen : Stored) (reads : Image) (images : Image → Type 0) (ops : List Op) (payload : List ℕ) → seen ≡ stored → ReadsAs stored reads images → IsBatch ops
+    → IsTrueDifference bytes_cmp stored.rows (entries_of ops) → payload ≡ batch_bytes ops → IsPayload (batch_bytes ops)
+    → (image : Image) → After (OnPart seen.part (ShutOrAdded seen.end (text_of payload))) images image
+    → OpensTo image stored.rows ⊎ OpensTo image (rows_after stored.rows ops)
+seen_stops stored seen reads images ops payload e r batch d f short image p =
+    commit_stops stored reads images ops r batch d short image
+    (subst (λ (s : Stored). After (OnPart s.part (ShutOrAdded s.end (text_of (batch_bytes ops)))) images image) e
+    (subst (λ (b : List ℕ). After (OnPart seen.part (ShutOrAdded seen.end (text_of b))) images image) f p))
+
+pub seen_stands : (stored seen next : Stored) (reads new : Image) (images later : Image → Type 0) (ops : List Op) (payload : List ℕ) → seen ≡ stored → ReadsAs stored reads images → IsBatch ops
+    → IsTrueDifference bytes_cmp stored.rows (entries_of ops) → payload ≡ batch_bytes ops → IsPayload (batch_bytes ops)
+    → next.rows ≡ rows_after seen.rows ops → next.part ≡ seen.part → next.mark ≡ seen.mark → next.end ≡ seen.end + 5 + length payload
+    → new seen.part ≡ added seen.end (text_of payload) (reads seen.part) → Else seen.part reads new → IsStable seen.part new later
+    → ((image : Image) → later image → After (OnPart seen.part (ShutOrAdded seen.end (text_of payload))) images image)
+    → ReadsAs next new later
+seen_stands stored seen next reads new images later ops payload e r batch d f short rows part mark end added_is others stable found =
+    commit_stands seen next reads new images later ops
+    (subst (λ (s : Stored). ReadsAs s reads images) (sym e) r) batch
+    (subst (λ (s : Stored). IsTrueDifference bytes_cmp s.rows (entries_of ops)) (sym e) d) short rows part mark
+    (end ∙ ap (λ (b : List ℕ). seen.end + 5 + length b) f)
+    (added_is ∙ ap (λ (b : List ℕ). added seen.end (text_of b) (reads seen.part)) f) others stable
+    (λ image p. subst (λ (b : List ℕ). After (OnPart seen.part (ShutOrAdded seen.end (text_of b))) images image) f (found image p))
+
+-- ---- what was kept, whatever came of the rows in memory
+
+-- Every image of a folder that reads as a store stands opens to the store's rows.
+pub reads_opens : (stored : Stored) (reads : Image) (images : Image → Type 0) → ReadsAs stored reads images → (image : Image) → images image → OpensTo image stored.rows
+reads_opens stored reads images r image p =
+    let mark : length (image Mark) ≡ length (reads Mark) = ap length (r.stable_mark.each image p) in
+    let part : stored.part ≡ slot_of (length (reads Mark)) = r.kept.part ∙ ap slot_of (sym r.kept.mark) in
+    let slot : image (slot_of (length (reads Mark))) ≡ reads (slot_of (length (reads Mark))) = subst (λ (q : Part). image q ≡ reads q) part (r.stable_slot.each image p) in
+    record { batches = r.kept.batches; stands = (same_stands reads image mark slot).still r.kept.batches r.kept.stands; give = r.kept.give }
+
+-- Where the batch was appended, every image opens to the rows after it.
+pub seen_behind : (stored seen : Stored) (reads new : Image) (images later : Image → Type 0) (ops : List Op) (payload : List ℕ) → seen ≡ stored → ReadsAs stored reads images → IsBatch ops
+    → IsTrueDifference bytes_cmp stored.rows (entries_of ops) → payload ≡ batch_bytes ops → IsPayload (batch_bytes ops)
+    → new seen.part ≡ added seen.end (text_of payload) (reads seen.part) → Else seen.part reads new → IsStable seen.part new later
+    → ((image : Image) → later image → After (OnPart seen.part (ShutOrAdded seen.end (text_of payload))) images image)
+    → (image : Image) → later image → OpensTo image (rows_after stored.rows ops)
+seen_behind stored seen reads new images later ops payload e r batch d f short added_is others stable found image p =
+    subst (λ (s : Stored). OpensTo image (rows_after s.rows ops)) e
+    (reads_opens (with_ops seen ops) new later
+    (seen_stands stored seen (with_ops seen ops) reads new images later ops payload e r batch d f short refl refl refl
+    (ap (λ (b : List ℕ). seen.end + 5 + length b) (sym f)) added_is others stable found) image p)
+
+-- Where memory was wanting, the batch had been appended.
+pub kept_none : (T : Type 0) (fault : StoreFault) → fault ≡ NoMemory → IsKept {T = T} (Err fault)
+kept_none T fault e = subst (λ (x : StoreFault). IsKept {T = T} (Err x)) (sym e) tt
+
+pub err_inside : {T : Type 0} (r : Result T StoreFault) (fault : StoreFault) → r ≡ Err fault → r ≡ Err NoMemory → fault ≡ NoMemory
+err_inside {T = T} r fault e none = let both : ◌≡◌ {A = Result T StoreFault} (Err fault) (Err NoMemory) = sym e ∙ none in cc

@@ -1,0 +1,6 @@
+pub mod MapRows
+pub mod BatchLaws
+pub mod SlotReadings
+pub mod OpeningLaws
+pub mod CommitLaws
+mod WorkedLaws

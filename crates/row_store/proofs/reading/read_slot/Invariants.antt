@@ -1,0 +1,20 @@
+use Rattle.std.proofs.Common.{◌≡◌, ◌-◌, IsTrue, length}
+use Rattle.ziti_outside.specs.Untouched.{OnlyReads}
+use Rattle.row_codec.specs.RowDifference.{Rises}
+use Rattle.row_codec.specs.Batches.{bytes_cmp}
+use Rattle.row_store.specs.BatchRows.{rows_in}
+use Rattle.row_store.specs.OpenedRows.{IsReadTo}
+use Rattle.row_store.proofs.reading.read_slot.Given as goal
+
+-- the bytes are read up to this place, and the desk was read alone, without a fault
+abbrev pub invariant-records : goal.invariant-records
+invariant-records g l = record {
+  rises : Rises bytes_cmp (rows_in l.rows.entries);
+  read : IsTrue g.D.Desk.tells → IsReadTo (g.D.Desk.reads l.fn.desk l.part) l.at (rows_in l.rows.entries);
+  calm : g.D.Desk.disk_faults l.desk ≡ g.D.Desk.disk_faults l.fn.desk;
+  end : IsTrue g.D.Desk.tells → l.end ≡ length (g.D.Desk.reads l.fn.desk l.part);
+  only : OnlyReads g.D.Desk.reads g.D.Desk.said g.D.Desk.noted g.D.Desk.say_faults g.D.Desk.note_faults g.D.Desk.moment g.D.Desk.since g.D.Desk.may_leave l.fn.desk l.desk;
+}
+
+abbrev pub decreases-records : goal.decreases-records
+decreases-records g l = l.end - l.at

@@ -1,0 +1,8 @@
+use Rattle.row_store.proofs.WorkedLaws.{ann_leads, ann_gives}
+use Rattle.row_store.proofs.worked.worked_rows.Goals as goal
+
+pub returns-clause-leads : goal.returns-clause-leads
+returns-clause-leads c = ann_leads
+
+pub returns-clause-give : goal.returns-clause-give
+returns-clause-give c = ann_gives

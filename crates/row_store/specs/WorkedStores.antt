@@ -1,0 +1,44 @@
+-- Rows, folders and damaged slots whose bytes were worked by hand.
+use Rattle.std.specs.Prelude.{ℕ, List, [], ◌∷◌, ◌++◌, take}
+use Rattle.ziti_outside.specs.declared.desk.Part.TheVariants.{Zero, One, Mark}
+use Rattle.ziti_outside.specs.Images.{Image}
+use Rattle.journal_core.specs.WorkedSlots.{slot_of_ann}
+use Rattle.row_codec.specs.declared.changes.Op.{Op}
+use Rattle.row_codec.specs.declared.changes.Op.TheVariants.{Put}
+use Rattle.row_store.specs.BatchRows.{ByteRows}
+
+-- The keys of the rows of the first identity: the next number of identities, and identity 1.
+abbrev pub key_of_next : List ℕ
+key_of_next = 1 ∷ 1 ∷ []
+
+abbrev pub key_of_ann : List ℕ
+key_of_ann = 3 ∷ 0 ∷ 0 ∷ 0 ∷ 1 ∷ []
+
+-- Their values: the number 2, and the name ann without attributes.
+abbrev pub value_of_next : List ℕ
+value_of_next = 2 ∷ 0 ∷ 0 ∷ 0 ∷ []
+
+abbrev pub value_of_ann : List ℕ
+value_of_ann = 3 ∷ 97 ∷ 110 ∷ 110 ∷ 0 ∷ []
+
+-- The two rows.
+abbrev pub rows_of_ann : ByteRows
+rows_of_ann = (key_of_next, value_of_next) ∷ (key_of_ann, value_of_ann) ∷ []
+
+-- The operations of the batch that creates the first identity.
+abbrev pub ops_of_ann : List Op
+ops_of_ann = Put key_of_next value_of_next ∷ Put key_of_ann value_of_ann ∷ []
+
+-- A folder whose first slot has these bytes and stands.
+abbrev pub folder_of : List ℕ → Image
+folder_of bytes Zero = bytes
+folder_of bytes One = []
+folder_of bytes Mark = 0 ∷ []
+
+-- A batch that deletes identity 2, which is not there.
+abbrev pub deletes_absent : List ℕ
+deletes_absent = 2 ∷ 5 ∷ 3 ∷ 0 ∷ 0 ∷ 0 ∷ 2 ∷ []
+
+-- The slot of the first identity with that batch behind it.
+abbrev pub slot_with_deletion : List ℕ
+slot_with_deletion = take 41 slot_of_ann ++ 1 ∷ 7 ∷ 0 ∷ 0 ∷ 0 ∷ (deletes_absent ++ 0 ∷ [])

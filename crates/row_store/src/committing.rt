@@ -1,0 +1,95 @@
+ghost use Rattle.std.specs.Prelude.{◌≡◌, ◌+◌, ◌^◌, ◌<◌, ◌≤◌, ⊤, [], length, IsTrue, OnOk, IfOk, IfErr};
+ghost use Rattle.ziti_outside.specs.Causes.{HasCause};
+ghost use Rattle.ziti_outside.specs.Images.{Else, OnPart, After, IsStable};
+ghost use Rattle.ziti_outside.specs.Moments.{Remembers, Leaves};
+ghost use Rattle.ziti_outside.specs.Untouched.{OnlyDisk};
+ghost use Rattle.journal_core.specs.Slots.{IsClosed, text_of, added, ShutOrAdded};
+ghost use Rattle.row_codec.specs.RowDifference.{Rises};
+ghost use Rattle.row_codec.specs.Batches.{bytes_cmp, IsBatch, batch_bytes};
+ghost use Rattle.row_store.specs.BatchRows.{rows_in, rows_after};
+ghost use Rattle.row_store.specs.Faults.{disk_failure, KeepFails, IsKept};
+
+use crate::changing::{Rows, change_all};
+use crate::faults::StoreFault;
+use journal_core::{JournalFault, Packed, append};
+use row_codec::{Batch, Op, write_batch};
+use std::alloc::{AllocError, Global};
+use ziti_outside::{Desk, Part};
+
+// The spelling of a batch, packed.
+pub(crate) fn pack(alloc: Global, batch: &Batch) -> Result<Packed, AllocError>
+    requires batch { IsBatch batch.now }
+    requires some { batch.now ≡ [] → ⊥ }
+    requires at_most { length (batch_bytes batch.now) ≤ 2 ^ 30 }
+    ensures { IfOk result (λ packed. packed ≡ batch_bytes batch.now) }
+{
+    let payload = write_batch(alloc, batch)?;
+    Packed::of(alloc, &payload)
+}
+
+// Appends a record for which there is room. Its only fault is that of the disk.
+fn append_within<D: Desk>(
+    desk: &mut D,
+    part: Part,
+    end: u64,
+    packed: &Packed,
+    most: u64,
+) -> Result<u64, StoreFault>
+    requires room { end + 6 + length packed.now ≤ most }
+    requires closed { IsTrue D.tells → IsClosed end (D.reads desk.old part) }
+    requires stable { IsTrue D.tells → IsStable part (D.reads desk.old) (D.may_leave desk.old) }
+    ensures next { IfOk result (λ next. next ≡ end + 5 + length packed.now) }
+    ensures added { OnOk result (IsTrue D.tells → D.reads desk.new part ≡ added end (text_of packed.now) (D.reads desk.old part)) }
+    ensures stable { OnOk result (IsStable part (D.reads desk.new) (D.may_leave desk.new)) }
+    ensures fault { IfErr result (λ fault. fault ≡ StoreFault.Disk) }
+    ensures cause { HasCause (D.disk_faults desk.old) (D.disk_faults desk.new) (disk_failure result) }
+    ensures elsewhere { Else part (D.reads desk.old) (D.reads desk.new) }
+    ensures others { OnlyDisk D.said D.noted D.say_faults D.note_faults desk.old desk.new }
+    ensures quiet { Leaves D.moment D.since D.may_leave D.said desk.old desk.new (λ image. ⊤) }
+    ensures stops { IsTrue D.tells → Leaves D.moment D.since D.may_leave D.said desk.old desk.new
+        (After (OnPart part (ShutOrAdded end (text_of packed.now))) (D.may_leave desk.old)) }
+    ensures remembers { Remembers (D.moment desk.old) (D.since desk.old) (D.since desk.new) }
+{
+    match append(desk, part, end, packed, most) {
+        Ok(next) => Ok(next),
+        Err(JournalFault::Disk) => Err(StoreFault::Disk),
+        Err(JournalFault::Full) => Err(StoreFault::Full),
+        Err(JournalFault::Damaged { at }) => Err(StoreFault::Damaged { part, at }),
+        Err(JournalFault::NoMemory) => Err(StoreFault::NoMemory),
+    }
+}
+
+// Appends a batch for which there is room, and then changes the rows. Where the disk fails, nothing of the rows changes; where memory
+// is wanting, the batch was appended.
+pub(crate) fn keep<D: Desk>(
+    alloc: Global,
+    desk: &mut D,
+    part: Part,
+    end: u64,
+    packed: &Packed,
+    most: u64,
+    rows: &mut Rows,
+    ops: &[Op],
+) -> Result<u64, StoreFault>
+    requires room { end + 6 + length packed.now ≤ most }
+    requires closed { IsTrue D.tells → IsClosed end (D.reads desk.old part) }
+    requires stable { IsTrue D.tells → IsStable part (D.reads desk.old) (D.may_leave desk.old) }
+    requires rises { Rises bytes_cmp (rows_in rows.old.entries) }
+    ensures next { IfOk result (λ next. next ≡ end + 5 + length packed.now) }
+    ensures rows { OnOk result (rows_in rows.new.entries ≡ rows_after (rows_in rows.old.entries) ops.now) }
+    ensures rises { Rises bytes_cmp (rows_in rows.new.entries) }
+    ensures added { IsKept result → IsTrue D.tells → D.reads desk.new part ≡ added end (text_of packed.now) (D.reads desk.old part) }
+    ensures stable { IsKept result → IsStable part (D.reads desk.new) (D.may_leave desk.new) }
+    ensures fault { IfErr result (λ fault. KeepFails (rows_in rows.old.entries) (rows_in rows.new.entries) fault) }
+    ensures cause { HasCause (D.disk_faults desk.old) (D.disk_faults desk.new) (disk_failure result) }
+    ensures elsewhere { Else part (D.reads desk.old) (D.reads desk.new) }
+    ensures others { OnlyDisk D.said D.noted D.say_faults D.note_faults desk.old desk.new }
+    ensures quiet { Leaves D.moment D.since D.may_leave D.said desk.old desk.new (λ image. ⊤) }
+    ensures stops { IsTrue D.tells → Leaves D.moment D.since D.may_leave D.said desk.old desk.new
+        (After (OnPart part (ShutOrAdded end (text_of packed.now))) (D.may_leave desk.old)) }
+    ensures remembers { Remembers (D.moment desk.old) (D.since desk.old) (D.since desk.new) }
+{
+    let place = append_within(desk, part, end, packed, most)?;
+    change_all(alloc, rows, ops)?;
+    Ok(place)
+}

@@ -1,0 +1,21 @@
+//! The map of rows that the folder keeps: opened from batches that are true differences, and changed by one batch at a time so that
+//! a stop at any moment leaves the rows before it or after it (docs/FORMATS.md, "Damage").
+#![tactic(auto)]
+
+mod bounds;
+mod changing;
+mod committing;
+mod faults;
+mod laws;
+mod opening;
+mod reading;
+mod scanning;
+mod sizing;
+mod store;
+mod worked;
+
+pub use bounds::StoreBounds;
+pub use faults::StoreFault;
+pub use laws::{one_opening, own_store, reading_stands};
+pub use store::Store;
+pub use worked::{worked_damage, worked_folders, worked_rows};
