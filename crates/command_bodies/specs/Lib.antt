@@ -1,0 +1,5 @@
+pub mod RoleEntries
+pub mod WrittenFields
+pub mod WrittenWords
+pub mod CommandFields
+pub mod BodyTexts

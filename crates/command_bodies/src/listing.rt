@@ -1,0 +1,135 @@
+ghost use Rattle.std.specs.Prelude.{◌≡◌, ◌∷◌, [], ◌++◌, codes, IfOk, OnOk, map};
+ghost use Rattle.serde_json.specs.Data.{array, string};
+ghost use Rattle.serde_json.specs.View.{view, items_of};
+ghost use Rattle.command_bodies.specs.WrittenFields.{natural, list_of, value_or_null, potential};
+ghost use Rattle.command_bodies.specs.RoleEntries.{role_texts};
+
+use crate::spelling::name_text;
+use ctrl_model::{Name, Names, Numbers, Potentials, Reach, Reaches, Side};
+use serde_json::{Value, json};
+use std::alloc::{AllocError, Global};
+
+fn number_value(number: u32) -> Value
+    ensures { view result ≡ natural number }
+{
+    Value::from(number)
+}
+
+// A list of numbers.
+pub(crate) fn numbers_value(alloc: Global, numbers: &Numbers) -> Result<Value, AllocError>
+    ensures { IfOk result (λ v. view v ≡ list_of natural numbers.now) }
+{
+    let mut values = Vec::new(alloc);
+    'numbers: for number in numbers.as_slice() {
+        values.push(number_value(*number))?;
+    }
+    Ok(Value::Array(values))
+}
+
+fn name_value(alloc: Global, name: &Name) -> Result<Value, AllocError>
+    ensures { IfOk result (λ v. view v ≡ string name.now) }
+{
+    Value::try_from_str(alloc, name_text(name))
+}
+
+// A list of names.
+pub(crate) fn names_value(alloc: Global, names: &Names) -> Result<Value, AllocError>
+    ensures { IfOk result (λ v. view v ≡ list_of (λ t. string t) names.now) }
+{
+    let mut values = Vec::new(alloc);
+    'names: for name in names.as_slice() {
+        values.push(name_value(alloc, name)?)?;
+    }
+    Ok(Value::Array(values))
+}
+
+// A name behind its mark.
+fn marked_value(alloc: Global, mark: &str, name: &Name) -> Result<Value, AllocError>
+    ensures { IfOk result (λ v. view v ≡ string (mark.now ++ name.now)) }
+{
+    let mut text = String::from_str(alloc, mark)?;
+    text.push_str(name_text(name))?;
+    Ok(Value::String(text))
+}
+
+// Puts names, each behind the mark, at the end of some values.
+fn push_marked(
+    alloc: Global,
+    values: &mut Vec<Value>,
+    mark: &str,
+    names: &Names,
+) -> Result<(), AllocError>
+    ensures { OnOk result (map view values.new.items ≡ map view values.old.items ++ map (λ n. string (mark.now ++ n)) names.now) }
+{
+    'names: for name in names.as_slice() {
+        values.push(marked_value(alloc, mark, name)?)?;
+    }
+    Ok(())
+}
+
+fn all_value(alloc: Global) -> Result<Value, AllocError>
+    ensures { IfOk result (λ v. view v ≡ list_of (λ t. string t) (codes "#all" ∷ [])) }
+{
+    let mut values = Vec::new(alloc);
+    values.push(Value::try_from_str(alloc, "#all")?)?;
+    Ok(Value::Array(values))
+}
+
+fn marked_values(alloc: Global, side: &Side) -> Result<Vec<Value>, AllocError>
+    ensures { IfOk result (λ v. map view v.items ≡ map (λ n. string (codes "@" ++ n)) side.now.ids ++ map (λ n. string (codes "#" ++ n)) side.now.attributes) }
+{
+    let mut values = Vec::new(alloc);
+    push_marked(alloc, &mut values, "@", &side.ids)?;
+    push_marked(alloc, &mut values, "#", &side.attributes)?;
+    Ok(values)
+}
+
+// The role list of a side.
+pub(crate) fn roles_value(alloc: Global, side: &Side) -> Result<Value, AllocError>
+    ensures { IfOk result (λ v. view v ≡ list_of (λ t. string t) (role_texts side.now)) }
+{
+    if side.all {
+        return all_value(alloc);
+    }
+    let values = marked_values(alloc, side)?;
+    Ok(Value::Array(values))
+}
+
+fn cost_value(cost: u64) -> Value
+    ensures { view result ≡ value_or_null cost }
+{
+    if cost == u64::MAX {
+        Value::Null
+    } else {
+        Value::from(cost)
+    }
+}
+
+fn costs_value(alloc: Global, costs: &Potentials) -> Result<Value, AllocError>
+    ensures { IfOk result (λ v. view v ≡ array (items_of (map value_or_null costs.now))) }
+{
+    let mut values = Vec::new(alloc);
+    'costs: for cost in costs.as_slice() {
+        values.push(cost_value(*cost))?;
+    }
+    Ok(Value::Array(values))
+}
+
+fn reach_value(alloc: Global, reach: &Reach) -> Result<Value, AllocError>
+    ensures { IfOk result (λ v. view v ≡ potential reach.now) }
+{
+    let router = number_value(reach.router.0);
+    let values = costs_value(alloc, &reach.values)?;
+    json!(in alloc; {"router": router, "values": values})
+}
+
+// A list of potentials.
+pub(crate) fn reaches_value(alloc: Global, reaches: &Reaches) -> Result<Value, AllocError>
+    ensures { IfOk result (λ v. view v ≡ list_of potential reaches.now) }
+{
+    let mut values = Vec::new(alloc);
+    'reaches: for reach in reaches.as_slice() {
+        values.push(reach_value(alloc, reach)?)?;
+    }
+    Ok(Value::Array(values))
+}

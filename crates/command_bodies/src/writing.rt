@@ -1,0 +1,46 @@
+ghost use Rattle.std.specs.Prelude.{◌≡◌, true, IfOk, Some, Ok};
+ghost use Rattle.serde_json.specs.View.{view};
+ghost use Rattle.serde_json.specs.Written.{compact_text};
+ghost use Rattle.ctrl_model.specs.CommandForm.{is_spelled};
+ghost use Rattle.command_codec.specs.BodyMeaning.{meaning};
+ghost use Rattle.command_codec.specs.BodyObjects.{object_of_body};
+ghost use Rattle.command_codec.specs.ContentTypes.{content_of};
+ghost use Rattle.command_codec.specs.ReadCommands.{is_read};
+ghost use Rattle.command_bodies.specs.BodyTexts.{body_object, body_text};
+
+use crate::giving::put_fields;
+use ctrl_model::{Bytes, Command};
+use serde_json::{Map, Value};
+use std::alloc::{AllocError, Global};
+
+fn object_value(alloc: Global, command: &Command) -> Result<Value, AllocError>
+    ensures { IfOk result (λ v. view v ≡ body_object command.now) }
+{
+    let mut members = Map::new(alloc);
+    put_fields(alloc, &mut members, command)?;
+    Ok(Value::Object(members))
+}
+
+// The object of a command's fields as compact JSON, which reads as the object.
+fn object_bytes(alloc: Global, command: &Command) -> Result<Bytes, AllocError>
+    ensures text { IfOk result (λ b. b ≡ compact_text (body_object command.now)) }
+    ensures reads { IfOk result (λ b. object_of_body b ≡ Some (body_object command.now)) }
+{
+    let value = object_value(alloc, command)?;
+    let bytes = value.to_vec(alloc)?;
+    Ok(Bytes::of(bytes))
+}
+
+/// The body that is written for a command that some body spells: compact JSON with keys in ascending order and every field but a
+/// host or an ingress that is none; no bytes for Hello. It is the one body that is written, and it reads as the command, where the
+/// command is one of those that are read (docs/FORMATS.md, "Bodies").
+pub fn write(alloc: Global, command: &Command) -> Result<Bytes, AllocError>
+    requires { is_spelled command.now ≡ true }
+    ensures body { IfOk result (λ b. b ≡ body_text command.now) }
+    ensures reads_back { IfOk result (λ b. is_read command.now ≡ true → meaning (content_of command.now) b ≡ Ok command.now) }
+{
+    if let Command::Hello = command {
+        return Ok(Bytes::of(Vec::new(alloc)));
+    }
+    object_bytes(alloc, command)
+}
