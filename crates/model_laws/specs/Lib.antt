@@ -1,3 +1,4 @@
 pub mod TouchedTables
 pub mod ClaimedRoutes
 pub mod Denials
+pub mod Plans
