@@ -7,5 +7,3 @@ pub mod Batches
 pub mod CoveredTables
 pub mod FieldReading
 pub mod BatchReading
-pub mod RowReading
-pub mod WorkedRows

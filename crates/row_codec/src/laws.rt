@@ -2,19 +2,12 @@ ghost use Rattle.std.specs.Prelude.{◌≡◌, ℕ, List, map};
 ghost use Rattle.std.specs.List.{AllByRecursion};
 ghost use Rattle.row_codec.specs.declared.changes.Change.{Change};
 ghost use Rattle.row_codec.specs.declared.changes.Op.{Op};
-ghost use Rattle.row_codec.specs.declared.rows.Row.{Row};
-ghost use Rattle.row_codec.specs.RowForm.{SpellsRow};
 ghost use Rattle.row_codec.specs.RowDifference.{Rises};
 ghost use Rattle.row_codec.specs.Batches.{IsBatch, IsSpelledOp, Spells, bytes_cmp, batch_of};
 
 /// Bytes spell at most one batch.
 pub fn one_batch()
     ensures { (bytes : List ℕ) (a b : List Op) → Spells bytes a → Spells bytes b → a ≡ b }
-{}
-
-/// A key and a value spell at most one row.
-pub fn one_row()
-    ensures { (key value : List ℕ) (a b : Row) → SpellsRow key value a → SpellsRow key value b → a ≡ b }
 {}
 
 /// Changes whose keys rise make a batch, where its lengths fit.

@@ -1,33 +1,22 @@
-//! The rows of a state and their changes: one spelling for every row of the folder, batches of changes, and the exact difference
-//! of two states (docs/FORMATS.md, "Rows").
+//! The rows of a state and their changes, in definitions; batches of changes and their spelling (docs/FORMATS.md, "Rows", "Batches").
 #![tactic(auto)]
 
+mod batch_examples;
 mod batches;
 mod changes;
-mod checking;
 mod faults;
 mod fields;
-mod keys;
 mod laws;
-mod name_forms;
-mod reading;
-mod row_building;
 mod rows;
-mod spelling;
-mod tables;
-mod values;
 mod worked;
-mod worked_spellings;
 mod writing;
 
+pub use batch_examples::{worked_batches, worked_changes, worked_no_batches};
 pub use batches::{batch_of, read_batch, write_batch};
 pub use changes::{Batch, Change, Changes, Op};
 pub use faults::RowFault;
-pub use laws::{batches_of_changes, one_batch, one_row};
+pub use fields::{split_byte, split_long, split_part, split_text};
+pub use laws::{batches_of_changes, one_batch};
 pub use rows::Row;
-pub use spelling::{read_row, write_row};
 pub use worked::{worked_differences, worked_rows};
-pub use worked_spellings::{
-    worked_batches, worked_changes, worked_more_row_spellings, worked_no_batches, worked_no_rows,
-    worked_row_spellings,
-};
+pub use writing::{push_long, push_text};

@@ -1,0 +1,5 @@
+mod SpellingLaws
+mod FormLaws
+mod ValueLaws
+mod RowLaws
+mod LoopLaws

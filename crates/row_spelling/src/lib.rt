@@ -1,0 +1,20 @@
+//! Rows as bytes: each row is written under its key in one spelling, and what is read is what the bytes spell (docs/FORMATS.md,
+//! "Rows").
+#![tactic(auto)]
+
+mod checking;
+mod fields;
+mod keys;
+mod laws;
+mod name_forms;
+mod reading;
+mod row_building;
+mod spelling;
+mod tables;
+mod values;
+mod worked_spellings;
+mod writing;
+
+pub use laws::one_row;
+pub use spelling::{read_row, write_row};
+pub use worked_spellings::{worked_more_row_spellings, worked_no_rows, worked_row_spellings};

@@ -1,0 +1,40 @@
+ghost use Rattle.std.specs.Prelude.{◌≡◌, true, [], ◌∷◌};
+ghost use Rattle.std.specs.List.{list_all};
+ghost use Rattle.row_codec.specs.declared.rows.Row.{Row};
+ghost use Rattle.row_codec.specs.RowForm.{is_row, SpellsRow};
+ghost use Rattle.row_spelling.specs.WorkedRows.{worked_rows, spelled, next_identity, cost_of_twenty, ann, web, marked_router, second_link, bind_policy, edge_policy, service_edge_policy, plain_terminator, hosted_terminator, first_circuit, dial_count, bind_count, identity_router_count, service_router_count};
+
+/// Rows of the first nine tables as their keys and values, worked by hand.
+pub fn worked_row_spellings()
+    ensures form { list_all is_row worked_rows ≡ true }
+    ensures next { spelled next_identity ≡ (1 ∷ 1 ∷ [], 2 ∷ 0 ∷ 0 ∷ 0 ∷ []) }
+    ensures setting { spelled cost_of_twenty ≡ (2 ∷ [], 20 ∷ 0 ∷ 0 ∷ 0 ∷ []) }
+    ensures identity { spelled ann ≡ (3 ∷ 0 ∷ 0 ∷ 0 ∷ 1 ∷ [], 3 ∷ 97 ∷ 110 ∷ 110 ∷ 1 ∷ 1 ∷ 97 ∷ []) }
+    ensures service { spelled web ≡ (4 ∷ 0 ∷ 0 ∷ 1 ∷ 2 ∷ [], 3 ∷ 119 ∷ 101 ∷ 98 ∷ 0 ∷ []) }
+    ensures router { spelled marked_router ≡ (5 ∷ 0 ∷ 0 ∷ 0 ∷ 1 ∷ [], 2 ∷ 114 ∷ 49 ∷ 0 ∷ 44 ∷ 1 ∷ 3 ∷ []) }
+    ensures link { spelled second_link ≡ (6 ∷ 0 ∷ 0 ∷ 0 ∷ 2 ∷ [], 2 ∷ 108 ∷ 50 ∷ 2 ∷ 0 ∷ 0 ∷ 0 ∷ 3 ∷ 0 ∷ 0 ∷ 0 ∷ 1 ∷ 0 ∷ 5 ∷ 0 ∷ 6 ∷ 0 ∷ 1 ∷ []) }
+    ensures service_policy { spelled bind_policy ≡ (7 ∷ 0 ∷ 0 ∷ 0 ∷ 1 ∷ [], 1 ∷ 112 ∷ 2 ∷ 2 ∷ 1 ∷ 0 ∷ 0 ∷ 0 ∷ 1 ∷ 1 ∷ 119 ∷ 1 ∷ 1 ∷ 120 ∷ []) }
+    ensures edge_router_policy { spelled edge_policy ≡ (8 ∷ 0 ∷ 0 ∷ 0 ∷ 3 ∷ [], 1 ∷ 101 ∷ 1 ∷ 0 ∷ 1 ∷ 1 ∷ 97 ∷ 0 ∷ 1 ∷ 0 ∷ 0 ∷ []) }
+    ensures service_edge_router_policy { spelled service_edge_policy ≡ (9 ∷ 0 ∷ 0 ∷ 0 ∷ 1 ∷ [], 1 ∷ 115 ∷ 1 ∷ 1 ∷ 0 ∷ 0 ∷ 1 ∷ 0 ∷ 0 ∷ []) }
+{}
+
+/// Rows of the other tables.
+pub fn worked_more_row_spellings()
+    ensures no_host { spelled plain_terminator ≡ (10 ∷ 0 ∷ 0 ∷ 0 ∷ 1 ∷ [], 1 ∷ 0 ∷ 0 ∷ 0 ∷ 3 ∷ 0 ∷ 0 ∷ 0 ∷ 0 ∷ 0 ∷ 0 ∷ 0 ∷ 0 ∷ 0 ∷ 0 ∷ 2 ∷ []) }
+    ensures host { spelled hosted_terminator ≡ (10 ∷ 0 ∷ 0 ∷ 0 ∷ 2 ∷ [], 1 ∷ 0 ∷ 0 ∷ 0 ∷ 4 ∷ 0 ∷ 0 ∷ 0 ∷ 7 ∷ 0 ∷ 0 ∷ 0 ∷ 1 ∷ 98 ∷ 244 ∷ 1 ∷ 3 ∷ []) }
+    ensures circuit { spelled first_circuit ≡ (11 ∷ 0 ∷ 0 ∷ 0 ∷ 1 ∷ [], 1 ∷ 0 ∷ 0 ∷ 0 ∷ 1 ∷ 0 ∷ 0 ∷ 0 ∷ 1 ∷ 0 ∷ 0 ∷ 0 ∷ 1 ∷ 0 ∷ 0 ∷ 0 ∷ 2 ∷ 1 ∷ 0 ∷ 0 ∷ 0 ∷ 2 ∷ 0 ∷ 0 ∷ 0 ∷ []) }
+    ensures dial { spelled dial_count ≡ (12 ∷ 0 ∷ 0 ∷ 0 ∷ 1 ∷ 0 ∷ 0 ∷ 0 ∷ 2 ∷ [], 3 ∷ 0 ∷ 0 ∷ 0 ∷ []) }
+    ensures bind { spelled bind_count ≡ (13 ∷ 0 ∷ 0 ∷ 0 ∷ 1 ∷ 0 ∷ 0 ∷ 0 ∷ 1 ∷ [], 1 ∷ 0 ∷ 0 ∷ 0 ∷ []) }
+    ensures identity_router { spelled identity_router_count ≡ (14 ∷ 0 ∷ 0 ∷ 0 ∷ 1 ∷ 0 ∷ 0 ∷ 1 ∷ 0 ∷ [], 1 ∷ 0 ∷ 0 ∷ 0 ∷ []) }
+    ensures service_router { spelled service_router_count ≡ (15 ∷ 0 ∷ 0 ∷ 0 ∷ 2 ∷ 0 ∷ 0 ∷ 0 ∷ 3 ∷ [], 0 ∷ 0 ∷ 1 ∷ 0 ∷ []) }
+{}
+
+/// Keys and values that spell no row: a mark that has no meaning, a key and a value cut short, and values that have no row.
+pub fn worked_no_rows()
+    ensures unused_mark { (r : Row) → SpellsRow (5 ∷ 0 ∷ 0 ∷ 0 ∷ 1 ∷ []) (2 ∷ 114 ∷ 49 ∷ 0 ∷ 44 ∷ 1 ∷ 4 ∷ []) r → ⊥ }
+    ensures short_key { (r : Row) → SpellsRow (3 ∷ 0 ∷ 0 ∷ 1 ∷ []) (3 ∷ 97 ∷ 110 ∷ 110 ∷ 1 ∷ 1 ∷ 97 ∷ []) r → ⊥ }
+    ensures cut { (r : Row) → SpellsRow (10 ∷ 0 ∷ 0 ∷ 0 ∷ 2 ∷ []) (1 ∷ 0 ∷ 0 ∷ 0 ∷ 4 ∷ 0 ∷ 0 ∷ 0 ∷ 7 ∷ 0 ∷ 0 ∷ []) r → ⊥ }
+    ensures next_of_one { (r : Row) → SpellsRow (1 ∷ 1 ∷ []) (1 ∷ 0 ∷ 0 ∷ 0 ∷ []) r → ⊥ }
+    ensures cost_of_ten { (r : Row) → SpellsRow (2 ∷ []) (10 ∷ 0 ∷ 0 ∷ 0 ∷ []) r → ⊥ }
+    ensures count_of_none { (r : Row) → SpellsRow (12 ∷ 0 ∷ 0 ∷ 0 ∷ 1 ∷ 0 ∷ 0 ∷ 0 ∷ 2 ∷ []) (0 ∷ 0 ∷ 0 ∷ 0 ∷ []) r → ⊥ }
+{}
