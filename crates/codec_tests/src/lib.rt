@@ -1,4 +1,4 @@
-//! Tests of what is read and written: frames, roles, the fields of bodies, commands and replies.
+//! Tests of what is read and written: frames, roles, the fields of bodies, commands, replies, rows and batches.
 #![tactic(auto)]
 
 #[cfg(test)]
@@ -11,3 +11,5 @@ mod frames;
 mod replies;
 #[cfg(test)]
 mod roles;
+#[cfg(test)]
+mod rows;
