@@ -123,7 +123,7 @@ fn push_count_changes(
 
 /// The changes of the rows of a relation's grant counts: one for each pair to whose count the steps lead from another, with its
 /// row before and after, in the order of the pairs. No pair may have more steps down than its count, nor so many up that its
-/// count passes 4,294,967,295. The time grows with the steps and not with the pairs that have counts. An Err is want of memory.
+/// count passes 4,294,967,295. It reads the counts of these pairs alone. An Err is want of memory.
 pub fn count_changes(
     alloc: Global,
     relation: Relation,

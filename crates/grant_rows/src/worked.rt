@@ -19,7 +19,7 @@ pub fn a_policy_that_joins_two()
         ∷ 1 ∷ 9 ∷ 12 ∷ 0 ∷ 0 ∷ 0 ∷ 2 ∷ 0 ∷ 0 ∷ 0 ∷ 1 ∷ 4 ∷ 0 ∷ 0 ∷ 0 ∷ 1 ∷ 0 ∷ 0 ∷ 0 ∷ [] }
 {}
 
-/// Steps that cancel change no row, so that a list with a change is not theirs.
+/// Steps that cancel leave the count as it was, and put no row.
 pub fn steps_that_cancel()
     ensures even { ups there_and_back 1 1 ≡ downs there_and_back 1 1 }
     ensures stays { count_after one_grant there_and_back (1, 1) ≡ 1 }
