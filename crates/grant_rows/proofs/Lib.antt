@@ -1,0 +1,2 @@
+pub mod MovedEntries
+pub mod CoveredCounts

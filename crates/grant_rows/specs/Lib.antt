@@ -1,0 +1,3 @@
+pub mod CountChanges
+pub mod MovedCounts
+pub mod WorkedMoves

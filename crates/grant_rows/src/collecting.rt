@@ -1,0 +1,173 @@
+ghost use Rattle.std.specs.Prelude.{◌≡◌, ℕ, ◌+◌, ◌<◌, ◌≤◌, ◌&&◌, ◌++◌, ◌∷◌, [], true, map, filter, IfOk, OnOk};
+ghost use Rattle.std.specs.List.{list_all};
+ghost use Rattle.std.specs.List.Sorted.{IsStrictlySortedBy};
+ghost use Rattle.std.specs.Map.{keys_of};
+ghost use Rattle.ctrl_model.specs.declared.kinds.Relation.{Relation};
+ghost use Rattle.ctrl_model.specs.State.{State};
+ghost use Rattle.ctrl_model.specs.Grants.{count};
+ghost use Rattle.grant_denorm.specs.PairCounts.{count_of};
+ghost use Rattle.grant_denorm.specs.Deltas.{ups, downs};
+ghost use Rattle.grant_denorm.specs.MovedCounts.{AreCountsOf, Moves};
+ghost use Rattle.row_codec.specs.RowKeys.{key_bytes, key_in, table_number, is_long};
+ghost use Rattle.row_codec.specs.RowKeys.RowTable.{Counts};
+ghost use Rattle.row_codec.specs.StateRows.{count_value};
+ghost use Rattle.row_codec.specs.CoveredTables.{Covers};
+ghost use Rattle.row_laws.specs.ChangedKeys.{pair_cmp};
+ghost use Rattle.grant_rows.specs.CountChanges.{change_from, AreCountChanges, AddsCountChanges, AreGrantChanges, counts_of, steps_of};
+ghost use Rattle.grant_rows.specs.MovedCounts.{differs, entry_changes};
+
+use crate::moves::GrantMoves;
+use crate::stepping::take_steps;
+use ctrl_model::{Bytes, Relation};
+use grant_denorm::{Counted, Delta};
+use row_codec::{Change, Changes};
+use std::alloc::{AllocError, Global};
+use std::collections::BTreeMap;
+
+fn table_byte(relation: Relation) -> u8
+    ensures { result ≡ table_number (Counts relation) }
+{
+    match relation {
+        Relation::Dial => 12,
+        Relation::Bind => 13,
+        Relation::IdentityRouter => 14,
+        Relation::ServiceRouter => 15,
+    }
+}
+
+fn count_key(alloc: Global, relation: Relation, pair: (u32, u32)) -> Result<Bytes, AllocError>
+    ensures { IfOk result (λ key. key ≡ key_bytes (key_in (Counts relation) pair.0 pair.1)) }
+{
+    let mut key = Vec::new(alloc);
+    key.push(table_byte(relation))?;
+    key.extend_from_slice(&pair.0.to_be_bytes())?;
+    key.extend_from_slice(&pair.1.to_be_bytes())?;
+    Ok(Bytes::of(key))
+}
+
+// A count of 0 has no row.
+fn count_row(alloc: Global, count: u32) -> Result<Option<Bytes>, AllocError>
+    ensures { IfOk result (λ value. value ≡ count_value count) }
+{
+    if count == 0 {
+        return Ok(None);
+    }
+    let value = Bytes::from_slice(alloc, &count.to_le_bytes())?;
+    Ok(Some(value))
+}
+
+fn change_from(
+    alloc: Global,
+    relation: Relation,
+    pair: (u32, u32),
+    before: u32,
+    after: u32,
+) -> Result<Change, AllocError>
+    ensures { IfOk result (λ change. change ≡ change_from relation pair before after) }
+{
+    let key = count_key(alloc, relation, pair)?;
+    let before = count_row(alloc, before)?;
+    let after = count_row(alloc, after)?;
+    Ok(Change { key, before, after })
+}
+
+// A pair whose steps cancel has the count that it had, and no change.
+fn push_if_other(
+    changes: &mut Vec<Change>,
+    relation: Relation,
+    counted: &Counted,
+    pair: (u32, u32),
+    after: u32,
+) -> Result<(), AllocError>
+    ensures changes { OnOk result (changes.new.items ≡ changes.old.items ++ entry_changes relation counted.now ((pair, after) ∷ [])) }
+    ensures long { (is_long pair.0 && is_long pair.1) ≡ true }
+{
+    let before = counted.count(pair.0, pair.1);
+    if before == after {
+        return Ok(());
+    }
+    let change = change_from(*changes.allocator(), relation, pair, before, after)?;
+    Ok(changes.push(change)?)
+}
+
+fn push_others(
+    changes: &mut Vec<Change>,
+    relation: Relation,
+    counted: &Counted,
+    moved: &BTreeMap<(u32, u32), u32>,
+) -> Result<(), AllocError>
+    ensures changes { OnOk result (changes.new.items ≡ changes.old.items ++ entry_changes relation counted.now moved.now.entries) }
+    ensures ordered { OnOk result (IsStrictlySortedBy pair_cmp (keys_of moved.now.entries)) }
+    ensures long { OnOk result (list_all (λ e. is_long e.0.0 && is_long e.0.1) moved.now.entries ≡ true) }
+{
+    'pairs: for (pair, after) in moved.iter() {
+        push_if_other(changes, relation, counted, *pair, *after)?;
+    }
+    Ok(())
+}
+
+fn push_count_changes(
+    changes: &mut Vec<Change>,
+    relation: Relation,
+    counted: &Counted,
+    steps: &[Delta],
+) -> Result<(), AllocError>
+    requires least { (p q : ℕ) → downs steps.now p q ≤ count_of counted.now p q }
+    requires most { (p q : ℕ) → count_of counted.now p q + ups steps.now p q < 4294967296 }
+    ensures { OnOk result (AddsCountChanges relation counted.now steps.now changes.old.items changes.new.items) }
+{
+    let moved = take_steps(*changes.allocator(), counted, steps)?;
+    push_others(changes, relation, counted, &moved)?;
+    Ok(())
+}
+
+/// The changes of the rows of a relation's grant counts: one for each pair to whose count the steps lead from another, with its
+/// row before and after, in the order of the pairs. No pair may have more steps down than its count, nor so many up that its
+/// count passes 4,294,967,295. It reads the counts of these pairs alone. An Err is want of memory.
+pub fn count_changes(
+    alloc: Global,
+    relation: Relation,
+    counted: &Counted,
+    steps: &[Delta],
+) -> Result<Changes, AllocError>
+    requires least { (p q : ℕ) → downs steps.now p q ≤ count_of counted.now p q }
+    requires most { (p q : ℕ) → count_of counted.now p q + ups steps.now p q < 4294967296 }
+    ensures exact { IfOk result (AreCountChanges relation counted.now steps.now) }
+    ensures covers { IfOk result (λ changes. (s t : State) → AreCountsOf (count relation s) counted.now → Moves (count relation s) (count relation t) steps.now
+        → Covers (table_number (Counts relation)) (table_number (Counts relation) + 1) s t changes) }
+{
+    let mut changes = Vec::new(alloc);
+    push_count_changes(&mut changes, relation, counted, steps)?;
+    Ok(Changes::of(changes))
+}
+
+/// The changes of the rows of all grant counts: those of Dial, then of Bind, of identities and routers, and of services and
+/// routers. What holds of the counts and steps of one relation must hold of each. An Err is want of memory.
+pub fn all_count_changes(alloc: Global, moves: &GrantMoves) -> Result<Changes, AllocError>
+    requires least { (r : Relation) (p q : ℕ) → downs (steps_of r moves.now) p q ≤ count_of (counts_of r moves.now) p q }
+    requires most { (r : Relation) (p q : ℕ) → count_of (counts_of r moves.now) p q + ups (steps_of r moves.now) p q < 4294967296 }
+    ensures exact { IfOk result (AreGrantChanges moves.now) }
+    ensures covers { IfOk result (λ changes. (s t : State) → ((r : Relation) → AreCountsOf (count r s) (counts_of r moves.now))
+        → ((r : Relation) → Moves (count r s) (count r t) (steps_of r moves.now)) → Covers 12 16 s t changes) }
+{
+    let mut changes = Vec::new(alloc);
+    let dial = moves.dial;
+    push_count_changes(&mut changes, Relation::Dial, dial.counted, dial.steps)?;
+    let bind = moves.bind;
+    push_count_changes(&mut changes, Relation::Bind, bind.counted, bind.steps)?;
+    let to_router = moves.identity_router;
+    push_count_changes(
+        &mut changes,
+        Relation::IdentityRouter,
+        to_router.counted,
+        to_router.steps,
+    )?;
+    let of_service = moves.service_router;
+    push_count_changes(
+        &mut changes,
+        Relation::ServiceRouter,
+        of_service.counted,
+        of_service.steps,
+    )?;
+    Ok(Changes::of(changes))
+}
