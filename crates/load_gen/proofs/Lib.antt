@@ -1,0 +1,4 @@
+pub mod NumberedNames
+pub mod LoadLaws
+pub mod LoadLengths
+pub mod SpelledLoads

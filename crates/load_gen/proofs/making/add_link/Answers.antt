@@ -1,0 +1,17 @@
+use Rattle.std.proofs.Common.{◌+◌, codes, refl, arith}
+use Rattle.std.proofs.lemmas.Result.{on_ok_weaker}
+use Rattle.load_gen.specs.LoadCommands.{a_link}
+use Rattle.load_gen.proofs.LoadLaws.{adds_pushed}
+use Rattle.load_gen.proofs.SpelledLoads.{name_form, link_cost_form, both_hold}
+use Rattle.load_gen.proofs.making.add_link.Goals as goal
+
+pub push-requires-clause-spelled : goal.push-requires-clause-spelled
+push-requires-clause-spelled c =
+    rw (c.in_ok-name.ensures, c.in_ok-a.ensures, c.in_ok-b.ensures) (both_hold _ _ (name_form (codes "l") (c.args.i) refl (omega arith)) (both_hold _ _ (name_form (codes "r") (1 + c.draw-first.result) refl (omega arith)) (both_hold _ _ (name_form (codes "r") (1 + c.draw-second.result) refl (omega arith)) (both_hold _ _ (link_cost_form c.draw-cost.result c.draw-cost.ensures.below) refl))))
+
+pub returns : goal.returns
+returns c =
+    on_ok_weaker c.push.result
+    (λ p. adds_pushed _ _ _ c.args.rng.now _ (a_link c.args.i) p
+    (rw (c.in_ok-name.ensures, c.in_ok-a.ensures, c.in_ok-b.ensures, c.draw-cost.ensures.value, c.draw-second.ensures.value, c.draw-first.ensures.value, c.draw-second.ensures.left, c.draw-first.ensures.left) refl)
+    (rw (c.draw-cost.ensures.left, c.draw-second.ensures.left, c.draw-first.ensures.left) refl)) c.push.ensures

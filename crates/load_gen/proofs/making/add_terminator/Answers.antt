@@ -1,0 +1,17 @@
+use Rattle.std.proofs.Common.{◌+◌, codes, refl, arith}
+use Rattle.std.proofs.lemmas.Result.{on_ok_weaker}
+use Rattle.load_gen.specs.LoadCommands.{a_terminator}
+use Rattle.load_gen.proofs.LoadLaws.{adds_pushed}
+use Rattle.load_gen.proofs.SpelledLoads.{name_form, cost_form, both_hold}
+use Rattle.load_gen.proofs.making.add_terminator.Goals as goal
+
+pub push-requires-clause-spelled : goal.push-requires-clause-spelled
+push-requires-clause-spelled c =
+    rw (c.in_ok-service.ensures, c.in_ok-router.ensures, c.in_ok-instance.ensures) (both_hold _ _ (name_form (codes "s") (1 + c.draw-s.result) refl (omega arith)) (both_hold _ _ (name_form (codes "r") (1 + c.draw-r.result) refl (omega arith)) (cost_form c.draw-cost.result c.draw-cost.ensures.below)))
+
+pub returns : goal.returns
+returns c =
+    on_ok_weaker c.push.result
+    (λ p. adds_pushed _ _ _ c.args.rng.now _ a_terminator p
+    (rw (c.in_ok-service.ensures, c.in_ok-router.ensures, c.in_ok-instance.ensures, c.draw-cost.ensures.value, c.draw-r.ensures.value, c.draw-s.ensures.value, c.draw-r.ensures.left, c.draw-s.ensures.left) refl)
+    (rw (c.draw-cost.ensures.left, c.draw-r.ensures.left, c.draw-s.ensures.left) refl)) c.push.ensures

@@ -1,0 +1,4 @@
+pub mod Draws
+pub mod LoadCommands
+pub mod LoadFrames
+pub mod LoadSteps

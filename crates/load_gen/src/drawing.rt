@@ -1,0 +1,67 @@
+ghost use Rattle.std.specs.Prelude.{◌≡◌, ◌<◌, ◌∷◌, [], IfOk, OnOk, Ok, true};
+ghost use Rattle.ctrl_model.specs.CommandForm.{is_spelled};
+ghost use Rattle.command_codec.specs.BodyMeaning.{meaning};
+ghost use Rattle.command_codec.specs.ContentTypes.{content_of};
+ghost use Rattle.command_codec.specs.ReadCommands.{is_read};
+ghost use Rattle.command_bodies.specs.BodyTexts.{body_text};
+ghost use Rattle.load_gen.specs.Draws.{draw};
+ghost use Rattle.load_gen.specs.LoadFrames.{frame_at};
+ghost use Rattle.load_gen.specs.LoadSteps.{Pushes};
+
+use channel_frame::{Frame, Headers};
+use command_bodies::{content_of, write};
+use ctrl_model::Command;
+use rand_core::utils::NextWord;
+use rand_pcg::Lcg64Xsh32;
+use std::alloc::{AllocError, Global};
+
+// One word modulo k.
+pub(crate) fn draw(rng: &mut Lcg64Xsh32, k: u32) -> u32
+    requires { 0 < k }
+    ensures value { result ≡ (draw k rng.old).0 }
+    ensures left { rng.new ≡ (draw k rng.old).1 }
+    ensures below { result < k }
+{
+    rng.next_word() % k
+}
+
+fn frame(alloc: Global, place: u32, command: &Command) -> Result<Frame, AllocError>
+    requires spelled { is_spelled command.now ≡ true }
+    requires known { is_read command.now ≡ true }
+    ensures frame { IfOk result (λ f. f ≡ frame_at place command.now) }
+    ensures meant { OnOk result (meaning (content_of command.now) (body_text command.now) ≡ Ok command.now) }
+{
+    let body = write(alloc, command)?;
+    Ok(Frame {
+        content: content_of(command),
+        sequence: place,
+        headers: Headers::of(Vec::new(alloc)),
+        body,
+    })
+}
+
+fn push_frame(alloc: Global, frames: &mut Vec<Frame>, command: &Command) -> Result<(), AllocError>
+    requires spelled { is_spelled command.now ≡ true }
+    requires known { is_read command.now ≡ true }
+    ensures { OnOk result (Pushes frames.old.items frames.new.items (command.now ∷ [])) }
+{
+    let Ok(place) = u32::try_from(frames.len()) else {
+        return Err(AllocError);
+    };
+    let made = frame(alloc, place, command)?;
+    frames.push(made)?;
+    Ok(())
+}
+
+// Puts the frame of a command behind the others. More frames than there are numbers of 32 bits find no memory.
+pub(crate) fn push(
+    alloc: Global,
+    frames: &mut Vec<Frame>,
+    command: Command,
+) -> Result<(), AllocError>
+    requires spelled { is_spelled command ≡ true }
+    requires known { is_read command ≡ true }
+    ensures { OnOk result (Pushes frames.old.items frames.new.items (command ∷ [])) }
+{
+    push_frame(alloc, frames, &command)
+}
