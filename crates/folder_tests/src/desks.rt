@@ -1,0 +1,57 @@
+//! Desks over memory with a folder, and the slots in them.
+
+use std::alloc::{AllocError, Global};
+use ziti_desk::{Images, MemDesk, Room};
+
+/// Room for some records.
+const ROOM: Room = Room {
+    file_bytes: 4_096,
+    said_bytes: 16,
+    noted_bytes: 16,
+    log_bytes: 16_384,
+};
+
+/// The batch that creates the first identity, with the name ann.
+pub const BATCH_OF_ANN: [u8; 28] = [
+    1, 2, 1, 1, 4, 0, 0, 0, 2, 0, 0, 0, 1, 5, 3, 0, 0, 0, 1, 5, 0, 0, 0, 3, 97, 110, 110, 0,
+];
+
+/// The header of a slot.
+pub const HEADER_OF_SLOT: [u8; 8] = [0x5A, 0x43, 0x54, 0x4C, 1, 0, 0, 0];
+
+/// A desk with an empty folder.
+pub fn empty_desk(alloc: Global) -> Result<MemDesk, AllocError> {
+    MemDesk::new(alloc, Images::empty(alloc), ROOM, Vec::new(alloc))
+}
+
+/// A desk with a folder whose first slot has these bytes and stands.
+pub fn desk_of(alloc: Global, slot: &[u8]) -> Result<MemDesk, AllocError> {
+    let mut images = Images::empty(alloc);
+    images.zero.extend_from_slice(slot)?;
+    images.mark.push(0)?;
+    MemDesk::new(alloc, images, ROOM, Vec::new(alloc))
+}
+
+/// Adds a record behind an open gate.
+pub fn add_record(slot: &mut Vec<u8>, payload: &[u8]) -> Result<(), AllocError> {
+    slot.push(1)?;
+    slot.extend_from_slice(&(payload.len() as u32 & 0xFFFF).to_le_bytes())?;
+    slot.extend_from_slice(payload)
+}
+
+/// The slot of the first identity with another record behind it, and a closed gate.
+pub fn slot_with(alloc: Global, payload: &[u8]) -> Result<Vec<u8>, AllocError> {
+    let mut slot = Vec::from_slice(alloc, &HEADER_OF_SLOT)?;
+    add_record(&mut slot, &BATCH_OF_ANN)?;
+    add_record(&mut slot, payload)?;
+    slot.push(0)?;
+    Ok(slot)
+}
+
+/// A slot with one record, and a closed gate.
+pub fn slot_of(alloc: Global, payload: &[u8]) -> Result<Vec<u8>, AllocError> {
+    let mut slot = Vec::from_slice(alloc, &HEADER_OF_SLOT)?;
+    add_record(&mut slot, payload)?;
+    slot.push(0)?;
+    Ok(slot)
+}

@@ -1,0 +1,9 @@
+//! Tests of folders over memory: what a store keeps in them, and where hostile ones are damaged.
+#![tactic(auto)]
+
+#[cfg(test)]
+mod damage;
+#[cfg(test)]
+mod desks;
+#[cfg(test)]
+mod stores;
