@@ -136,33 +136,45 @@ fn counts_what_the_system_refuses(rt: HostRuntime) -> Result<(), Fail> {
     Ok(())
 }
 
+/// Every call is refused.
+fn refuses_all<D: Desk>(rt: &impl Abort, desk: &mut D) {
+    let mut buf = [0u8; 1];
+    assert!(rt; desk.len(Part::Zero).is_err());
+    assert!(rt; desk.read_at(Part::One, 0, &mut buf).is_err());
+    assert!(rt; desk.write_at(Part::Mark, 0, b"a").is_err());
+    assert!(rt; desk.cut(Part::Zero, 0).is_err());
+    assert!(rt; desk.sync(Part::One).is_err());
+}
+
 #[test]
 fn counts_what_a_wrong_folder_refuses(rt: HostRuntime) -> Result<(), Fail> {
     let folder = Folder::of(&rt, "wrong")?;
-    // A file stands in the place of the folder: nothing is found in it, and no call goes through.
+    // A file stands in the place of the folder.
     fs::write(&rt, folder.folder.as_str(), b"no folder")?;
-    let mut said = Vec::new(rt.alloc());
-    let mut noted = Vec::new(rt.alloc());
-    let mut desk = FileDesk::new(
-        &rt,
-        folder.paths(),
-        Writes::new(&mut said),
-        Writes::new(&mut noted),
-    );
-    refuses_all(&rt, &mut desk);
+    {
+        let mut said = Vec::new(rt.alloc());
+        let mut noted = Vec::new(rt.alloc());
+        let replies = Writes::new(&mut said);
+        let notes = Writes::new(&mut noted);
+        let mut desk = FileDesk::new(&rt, folder.paths(), replies, notes);
+        refuses_all(&rt, &mut desk);
+    }
     fs::remove_file(&rt, folder.folder.as_str())?;
     Ok(())
 }
 
-fn refuses_all<D: Desk>(rt: &impl Abort, desk: &mut D) {
-    let mut buf = [0u8; 1];
-    for part in [Part::Zero, Part::One, Part::Mark] {
-        assert!(rt; desk.len(part).is_err());
-        assert!(rt; desk.read_at(part, 0, &mut buf).is_err());
-        assert!(rt; desk.write_at(part, 0, b"a").is_err());
-        assert!(rt; desk.cut(part, 0).is_err());
-        assert!(rt; desk.sync(part).is_err());
-    }
+/// The system refuses the first write, unless the user may write everywhere. Then a later call finds what it wrote.
+fn writes_if_let<D: Desk>(rt: &impl Abort, desk: &mut D) {
+    let wrote = desk.write_at(Part::Mark, 0, b"a").is_ok();
+    assert_eq!(rt; desk.len(Part::Mark), Ok(u64::from(wrote)));
+    assert_eq!(rt; desk.sync(Part::Mark), Ok(()));
+}
+
+/// Lets nobody write to a folder, or everybody.
+fn guard(rt: &HostRuntime, path: &str, guarded: bool) -> io::Result<()> {
+    let mut permissions = fs::metadata(rt, path)?.permissions();
+    permissions.set_readonly(guarded);
+    fs::set_permissions(rt, path, permissions)
 }
 
 #[test]
@@ -170,24 +182,16 @@ fn counts_what_a_guarded_folder_refuses(rt: HostRuntime) -> Result<(), Fail> {
     let folder = Folder::of(&rt, "guarded")?;
     let path = folder.folder.as_str();
     fs::create_dir(&rt, path)?;
-    let mut guarded = fs::metadata(&rt, path)?.permissions();
-    guarded.set_readonly(true);
-    fs::set_permissions(&rt, path, guarded)?;
-    let mut said = Vec::new(rt.alloc());
-    let mut noted = Vec::new(rt.alloc());
-    let mut desk = FileDesk::new(
-        &rt,
-        folder.paths(),
-        Writes::new(&mut said),
-        Writes::new(&mut noted),
-    );
-    // The system refuses the first write, unless the user may write everywhere. Then a later call finds what it wrote.
-    let wrote = desk.write_at(Part::Mark, 0, b"a").is_ok();
-    assert_eq!(rt; desk.len(Part::Mark), Ok(u64::from(wrote)));
-    assert_eq!(rt; desk.sync(Part::Mark), Ok(()));
-    let mut open = fs::metadata(&rt, path)?.permissions();
-    open.set_readonly(false);
-    fs::set_permissions(&rt, path, open)?;
+    guard(&rt, path, true)?;
+    {
+        let mut said = Vec::new(rt.alloc());
+        let mut noted = Vec::new(rt.alloc());
+        let replies = Writes::new(&mut said);
+        let notes = Writes::new(&mut noted);
+        let mut desk = FileDesk::new(&rt, folder.paths(), replies, notes);
+        writes_if_let(&rt, &mut desk);
+    }
+    guard(&rt, path, false)?;
     fs::remove_dir_all(&rt, path)?;
     Ok(())
 }

@@ -37,10 +37,8 @@ fn leaves(
     Ok(())
 }
 
-#[test]
-fn keeps_nothing_or_all_of_what_is_pending(rt: HostRuntime) -> Result<(), Fail> {
-    let alloc = rt.alloc();
-    let mut desk = desk(alloc, &[])?;
+/// Writes, cuts and syncs the first slot, and says and notes.
+fn works(rt: &impl Abort, desk: &mut MemDesk) {
     assert_eq!(rt; desk.write_at(Part::Zero, 1, b"XYZ"), Ok(()));
     assert_eq!(rt; desk.cut(Part::Zero, 2), Ok(()));
     assert_eq!(rt; desk.sync(Part::Zero), Ok(()));
@@ -48,27 +46,37 @@ fn keeps_nothing_or_all_of_what_is_pending(rt: HostRuntime) -> Result<(), Fail> 
     assert_eq!(rt; desk.note(b"a note"), Ok(()));
     assert_eq!(rt; desk.len(Part::Zero), Ok(2));
     assert_eq!(rt; desk.moments(), 4);
-    let keeps_nothing: [&[u8]; 5] = [b"abc", b"abc", b"abc", b"aX", b"aX"];
-    let keeps_all: [&[u8]; 5] = [b"abc", b"aXYZ", b"aX", b"aX", b"aX"];
-    let mut moment = 0u64;
-    for zero in keeps_nothing {
-        let said: &[u8] = if moment == 4 { b"done" } else { b"" };
-        leaves(&rt, alloc, &desk, (moment, 0), zero, said)?;
-        moment = moment.saturating_add(1);
-    }
-    moment = 0;
-    for zero in keeps_all {
-        let said: &[u8] = if moment >= 3 { b"done" } else { b"" };
-        leaves(&rt, alloc, &desk, (moment, 1), zero, said)?;
-        moment = moment.saturating_add(1);
-    }
-    Ok(())
+}
+
+/// What a stop that keeps nothing leaves at each moment of it.
+fn keeps_nothing(rt: &impl Abort, alloc: Global, desk: &MemDesk) -> Result<(), AllocError> {
+    leaves(rt, alloc, desk, (0, 0), b"abc", b"")?;
+    leaves(rt, alloc, desk, (1, 0), b"abc", b"")?;
+    leaves(rt, alloc, desk, (2, 0), b"abc", b"")?;
+    leaves(rt, alloc, desk, (3, 0), b"aX", b"")?;
+    leaves(rt, alloc, desk, (4, 0), b"aX", b"done")
+}
+
+/// What a stop that keeps all leaves at each moment of it.
+fn keeps_all(rt: &impl Abort, alloc: Global, desk: &MemDesk) -> Result<(), AllocError> {
+    leaves(rt, alloc, desk, (0, 1), b"abc", b"")?;
+    leaves(rt, alloc, desk, (1, 1), b"aXYZ", b"")?;
+    leaves(rt, alloc, desk, (2, 1), b"aX", b"")?;
+    leaves(rt, alloc, desk, (3, 1), b"aX", b"done")?;
+    leaves(rt, alloc, desk, (4, 1), b"aX", b"done")
 }
 
 #[test]
-fn keeps_a_failed_write_pending(rt: HostRuntime) -> Result<(), Fail> {
-    let alloc = rt.alloc();
-    let mut desk = desk(alloc, &[0, 1, 2, 3])?;
+fn keeps_nothing_or_all_of_what_is_pending(rt: HostRuntime) -> Result<(), Fail> {
+    let mut desk = desk(rt.alloc(), &[])?;
+    works(&rt, &mut desk);
+    keeps_nothing(&rt, rt.alloc(), &desk)?;
+    keeps_all(&rt, rt.alloc(), &desk)?;
+    Ok(())
+}
+
+/// A write and a cut that fail, and a sync and a say that fail too.
+fn fails(rt: &impl Abort, desk: &mut MemDesk) {
     assert!(rt; desk.write_at(Part::Zero, 0, b"XY").is_err());
     assert!(rt; desk.cut(Part::Zero, 1).is_err());
     assert!(rt; desk.sync(Part::Zero).is_err());
@@ -76,11 +84,22 @@ fn keeps_a_failed_write_pending(rt: HostRuntime) -> Result<(), Fail> {
     assert_eq!(rt; desk.part(Part::Zero), b"abc".as_slice());
     assert!(rt; desk.said().is_empty());
     assert_eq!(rt; desk.moments(), 2);
-    leaves(&rt, alloc, &desk, (2, 0), b"abc", b"")?;
-    leaves(&rt, alloc, &desk, (1, 1), b"XYc", b"")?;
-    leaves(&rt, alloc, &desk, (2, 1), b"X", b"")?;
     assert_eq!(rt; desk.sync(Part::Zero), Ok(()));
-    leaves(&rt, alloc, &desk, (3, 1), b"abc", b"")?;
+}
+
+/// What a stop leaves of them.
+fn keeps_failed(rt: &impl Abort, alloc: Global, desk: &MemDesk) -> Result<(), AllocError> {
+    leaves(rt, alloc, desk, (2, 0), b"abc", b"")?;
+    leaves(rt, alloc, desk, (1, 1), b"XYc", b"")?;
+    leaves(rt, alloc, desk, (2, 1), b"X", b"")?;
+    leaves(rt, alloc, desk, (3, 1), b"abc", b"")
+}
+
+#[test]
+fn keeps_a_failed_write_pending(rt: HostRuntime) -> Result<(), Fail> {
+    let mut desk = desk(rt.alloc(), &[0, 1, 2, 3])?;
+    fails(&rt, &mut desk);
+    keeps_failed(&rt, rt.alloc(), &desk)?;
     Ok(())
 }
 
@@ -111,24 +130,33 @@ fn is_torn(
     Ok(zero.as_slice() != b"abc".as_slice() && zero.as_slice() != b"aWXYZ".as_slice())
 }
 
-#[test]
-fn draws_what_is_kept(rt: HostRuntime) -> Result<(), Fail> {
-    let alloc = rt.alloc();
-    let mut desk = desk(alloc, &[])?;
-    assert_eq!(rt; desk.write_at(Part::Zero, 1, b"WXYZ"), Ok(()));
+/// How many of some choices keep a part.
+fn torn(rt: &impl Abort, alloc: Global, desk: &MemDesk) -> Result<u32, AllocError> {
     let mut torn = 0u32;
-    for choice in 2u64..34 {
-        if is_torn(&rt, alloc, &desk, choice)? {
+    'choices: for choice in 2u64..34 {
+        if is_torn(rt, alloc, desk, choice)? {
             torn = torn.saturating_add(1);
         }
     }
-    assert!(rt; torn > 0);
+    Ok(torn)
+}
+
+#[test]
+fn draws_what_is_kept(rt: HostRuntime) -> Result<(), Fail> {
+    let mut desk = desk(rt.alloc(), &[])?;
+    assert_eq!(rt; desk.write_at(Part::Zero, 1, b"WXYZ"), Ok(()));
+    assert!(rt; torn(&rt, rt.alloc(), &desk)? > 0);
     Ok(())
 }
 
 #[test]
 fn counts_what_the_room_cannot_hold(rt: HostRuntime) -> Result<(), Fail> {
     let mut desk = desk(rt.alloc(), &[])?;
+    fills(&rt, &mut desk);
+    Ok(())
+}
+
+fn fills(rt: &impl Abort, desk: &mut MemDesk) {
     assert_eq!(rt; desk.write_at(Part::Zero, 3, b"defgh"), Ok(()));
     assert_eq!(rt; desk.write_at(Part::Zero, 0, b"ABCDEFGH"), Ok(()));
     assert!(rt; desk.write_at(Part::Zero, 8, b"i").is_err());
@@ -137,5 +165,4 @@ fn counts_what_the_room_cannot_hold(rt: HostRuntime) -> Result<(), Fail> {
     assert!(rt; desk.say(b"x").is_err());
     assert!(rt; desk.note(b"seventeen bytes x").is_err());
     assert_eq!(rt; desk.moments(), 3);
-    Ok(())
 }
