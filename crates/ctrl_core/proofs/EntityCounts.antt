@@ -16,14 +16,14 @@ use Rattle.ctrl_model.specs.ValidState.{ValidState, HaveUniqueNames}
 use Rattle.ctrl_model.proofs.DistinctLaws.{same_name}
 use Rattle.ctrl_model.proofs.NumberedLaws.{at-map, at-map-back, at-with_last, at-with_last-other, at-edit_at, at-edit_at-other, at-without, at-without-other, at-without-back, Between-map}
 use Rattle.ctrl_model.proofs.TableLaws.{at-next, found-named}
-use Rattle.entity_store.specs.EntityTables.{is_entity_kind}
+use Rattle.ctrl_model.specs.Tables.{is_entity_kind}
 use Rattle.grant_denorm.specs.declared.deltas.Delta.{Delta}
 use Rattle.grant_moves.specs.CountMoves.{LeadCounts}
 use Rattle.grant_moves.proofs.EntityMoves.{entity_leads}
 use Rattle.grant_moves.proofs.ForgottenNames.{forget_left_leaves, forget_right_leaves}
 use Rattle.grant_moves.proofs.LeadingCounts.{leads_on, unchanged_leads}
 use Rattle.policy_store.specs.declared.steps.GrantSteps.{GrantSteps}
-use Rattle.ctrl_core.specs.Changes.{is_plain_kind, with_plain, with_described, without_named}
+use Rattle.entity_commands.specs.EntityChanges.{is_plain_kind, with_plain, with_described, without_named}
 use Rattle.policy_store.specs.GrantChanges.{HasNoSteps, steps_of}
 use Rattle.policy_store.specs.GrantChanges.{MovedEntity, StepsOfEntity}
 

@@ -1,44 +1,38 @@
--- Plans of commands on links, terminators and circuits, whose crates plan them over parts of the state.
+-- Plans of commands whose crates plan them over parts of the state and whose changes move no count, as those of links, terminators
+-- and circuits; and what settling leaves.
 use Rattle.std.proofs.Common.{◌≡◌, false, Option, None, Some, refl, sym, ◌∙◌, ap, subst}
-use Rattle.std.proofs.lemmas.Bool.{false≢true}
+use Rattle.std.proofs.lemmas.Option.{none-some}
+use Rattle.std.specs.Option.{option_map}
 use Rattle.ctrl_model.specs.declared.kinds.Relation.{Relation}
 use Rattle.ctrl_model.specs.declared.kinds.Relation.TheVariants.{Dial, Bind, IdentityRouter, ServiceRouter}
 use Rattle.ctrl_model.specs.declared.replies.Reply.{Reply}
 use Rattle.ctrl_model.specs.Grants.{count}
 use Rattle.ctrl_model.specs.Settling.{settle}
 use Rattle.ctrl_model.specs.State.{State}
+use Rattle.model_laws.specs.declared.plans.Plan.{Plan}
+use Rattle.model_laws.specs.Plans as plans
 use Rattle.grant_moves.specs.CountMoves.{LeadCounts}
 use Rattle.link_commands.specs.declared.changes.LinkChange.{LinkChange}
-use Rattle.link_commands.specs.declared.changes.LinkPlan.{LinkPlan}
-use Rattle.link_commands.specs.LinkPlans as links
 use Rattle.link_commands.specs.LinkChanges as linked
 use Rattle.policy_store.specs.declared.steps.GrantSteps.{GrantSteps}
 use Rattle.policy_store.specs.GrantChanges.{HasNoSteps, steps_of}
 use Rattle.circuits.specs.declared.changes.CircuitChange.{CircuitChange}
-use Rattle.ctrl_core.specs.declared.circuit_planning.CircuitPlan.{CircuitPlan}
-use Rattle.ctrl_core.specs.CircuitPlans as circuits
 use Rattle.circuits.specs.CircuitChanges as granted
 use Rattle.circuits.specs.CircuitTables.{CircuitTables}
 use Rattle.fabric_graph.specs.FabricTables.{FabricSeen}
 use Rattle.terminators.specs.TermTables.{TermTables}
 use Rattle.terminator_commands.specs.declared.changes.TermChange.{TermChange}
-use Rattle.terminator_commands.specs.declared.changes.TermPlan.{TermPlan}
-use Rattle.terminator_commands.specs.TermPlans as terms
 use Rattle.terminator_commands.specs.TermChanges as offered
 use Rattle.ctrl_core.specs.declared.changes.Change.{Change}
 use Rattle.ctrl_core.specs.declared.changes.Change.TheVariants as change
 use Rattle.ctrl_core.specs.declared.changes.Planned.{Planned}
 use Rattle.ctrl_core.specs.declared.stores.Stores.{Stores}
 use Rattle.ctrl_core.specs.AppliedChanges.{Carries}
+use Rattle.ctrl_core.specs.CircuitPlans.{CanRoute, routed}
 use Rattle.ctrl_core.specs.KeptState.{HoldsPolicies, state_of}
-use Rattle.ctrl_core.specs.Changes.{CanChange, after_change, carried_by, is_nothing}
-use Rattle.ctrl_core.specs.PlannedCommands.{Plans, IsUncounted, circuit_change, link_change, term_change}
-use Rattle.ctrl_core.proofs.PlanLaws.{no_steps_lead}
-
--- a change that changes something is settled
-pub carried_settled : (c : Change) (s : State) → is_nothing c ≡ false → carried_by c s ≡ settle (after_change c s)
-carried_settled change.Nothing s e = absurd (false≢true (sym e))
-carried_settled c s e = refl
+use Rattle.ctrl_core.specs.Changes.{CanChange, LeadAllCounts, after_change}
+use Rattle.ctrl_core.specs.PlannedCommands.{Plans, IsShown, IsUncounted}
+use Rattle.ctrl_core.proofs.PlanLaws.{no_steps_lead, settled_lead}
 
 -- ---- settling
 
@@ -54,94 +48,90 @@ settled_carries st f k g links_are terms_are circuits_are held = record {
 }
 
 -- a change that is made, and then settled
-pub carries_then : (st mid new : Stores) (c : Change) → is_nothing c ≡ false → Carries st mid (after_change c (state_of st)) → Carries mid new (settle (state_of mid))
-    → Carries st new (carried_by c (state_of st))
-carries_then st mid new c some made settled = record {
-  next = settled.next ∙ (ap settle made.next ∙ sym (carried_settled c (state_of st) some));
+pub carries_then : (st mid new : Stores) (t : State) → Carries st mid t → Carries mid new (settle (state_of mid)) → Carries st new (settle t)
+carries_then st mid new t made settled = record {
+  next = settled.next ∙ ap settle made.next;
   held = settled.held;
   counts = settled.counts ∙ made.counts;
 }
 
--- ---- links
+-- ---- the plans of a family
 
-can_link : (o : Option LinkChange) (s : State) → links.CanLeadBy o s → CanChange (link_change o) s
-can_link None s can = tt
-can_link (Some c) s can = can
+module _ {C : Type 0} (after : C → State → State) (can_be : C → State → Type 0) (embed : C → Change) (s : State)
+    (same : (c : C) → after_change (embed c) s ≡ after c s) (allows : (c : C) → can_be c s → CanChange (embed c) s) where
+  can_lead : (o : Option C) → plans.CanLeadBy can_be o s → plans.CanLeadBy CanChange (option_map embed o) s
+  can_lead None can = tt
+  can_lead (Some c) can = allows c can
 
-led_link : (o : Option LinkChange) (s : State) → carried_by (link_change o) s ≡ links.led_by o s
-led_link None s = refl
-led_link (Some c) s = refl
+  leads : (o : Option C) → plans.led_by after_change (option_map embed o) s ≡ plans.led_by after o s
+  leads None = refl
+  leads (Some c) = ap settle (same c)
 
-links_uncounted : (o : Option LinkChange) (s : State) (steps : GrantSteps) → HasNoSteps steps → (r : Relation)
-    → LeadCounts (count r s) (count r (links.led_by o s)) (steps_of r steps)
-links_uncounted None s steps none r = no_steps_lead s steps none r
-links_uncounted (Some c) s steps none Dial = no_steps_lead s steps none Dial
-links_uncounted (Some c) s steps none Bind = no_steps_lead s steps none Bind
-links_uncounted (Some c) s steps none IdentityRouter = no_steps_lead s steps none IdentityRouter
-links_uncounted (Some c) s steps none ServiceRouter = no_steps_lead s steps none ServiceRouter
+  -- a plan of a family, with steps to the counts of the state that it leads to
+  pub counted_planned : (made : Plan C) (p : Planned) (answered : Reply × State) → plans.Plans after can_be made answered s
+      → p.reply ≡ made.reply → p.change ≡ option_map embed made.change → (made.change ≡ None → HasNoSteps p.steps) → LeadAllCounts s (plans.led_by after made.change s) p.steps
+      → Plans p answered s
+  counted_planned made p answered planned reply_is change_is none counted = record {
+    reply = reply_is ∙ planned.reply;
+    can = subst (λ (o : Option Change). plans.CanLeadBy CanChange o s) (sym change_is) (can_lead made.change planned.can);
+    next = ap (λ (o : Option Change). plans.led_by after_change o s) change_is ∙ leads made.change ∙ planned.next;
+    still = λ tells. record { change = change_is ∙ ap (option_map embed) (planned.still tells); steps = none (planned.still tells) };
+    counts = subst (λ t. LeadAllCounts s t p.steps) planned.next counted;
+  }
 
--- a plan of a command on links is one of the core
-pub links_planned : (made : LinkPlan) (p : Planned) (answered : Reply × State) (s : State) → links.PlansLinks made answered s
-    → IsUncounted made.reply (link_change made.change) p → Plans p answered s
-links_planned made p answered s plans is = record {
-  reply = is.reply_is ∙ plans.reply;
-  can = subst (λ (c : Change). CanChange c s) (sym is.change_is) (can_link made.change s plans.can);
-  next = ap (λ (c : Change). carried_by c s) is.change_is ∙ led_link made.change s ∙ plans.next;
-  counts = λ r. subst (λ (t : State). LeadCounts (count r s) (count r t) (steps_of r p.steps)) plans.next (links_uncounted made.change s p.steps is.no_steps r);
-}
+  -- a plan of a family without a change
+  pub shown_planned : (made : Plan C) (p : Planned) (answered : Reply × State) → made.change ≡ None → IsShown made.reply p → plans.Plans after can_be made answered s → Plans p answered s
+  shown_planned made p answered none is planned =
+      counted_planned made p answered planned is.reply_is (is.change_is ∙ sym (ap (option_map embed) none)) (λ e. is.no_steps)
+      (λ r. subst (λ o. LeadCounts (count r s) (count r (plans.led_by after o s)) (steps_of r p.steps)) (sym none) (no_steps_lead s p.steps is.no_steps r))
 
--- ---- terminators
+  -- a plan of a family with a change, whose steps are known
+  pub changed_planned : (made : Plan C) (c : C) (steps : GrantSteps) (answered : Reply × State) → made.change ≡ Some c → LeadAllCounts s (after c s) steps
+      → plans.Plans after can_be made answered s → Plans (record { reply = made.reply; change = Some (embed c); steps = steps }) answered s
+  changed_planned made c steps answered some leading planned =
+      counted_planned made (record { reply = made.reply; change = Some (embed c); steps = steps }) answered planned refl (sym (ap (option_map embed) some))
+      (λ e. absurd (none-some c (sym e ∙ some)))
+      (λ r. subst (λ o. LeadCounts (count r s) (count r (plans.led_by after o s)) (steps_of r steps)) (sym some) (settled_lead r s (after c s) (steps_of r steps) (leading r)))
 
-can_term : (o : Option TermChange) (s : State) → terms.CanLeadBy o s → CanChange (term_change o) s
-can_term None s can = tt
-can_term (Some c) s can = can
+  -- a plan of a family whose changes move no count
+  pub family_planned : ((c : C) (r : Relation) → count r (settle (after c s)) ≡ count r s) → (made : Plan C) (p : Planned) (answered : Reply × State)
+      → plans.Plans after can_be made answered s → IsUncounted made.reply (option_map embed made.change) p → Plans p answered s
+  family_planned uncounted made p answered planned is =
+      counted_planned made p answered planned is.reply_is is.change_is (λ e. is.no_steps)
+      (λ r. subst (λ f. LeadCounts (count r s) f (steps_of r p.steps)) (sym (stay made.change r)) (no_steps_lead s p.steps is.no_steps r))
+    where
+      stay : (o : Option C) (r : Relation) → count r (plans.led_by after o s) ≡ count r s
+      stay None r = refl
+      stay (Some c) r = uncounted c r
 
-led_term : (o : Option TermChange) (s : State) → carried_by (term_change o) s ≡ terms.led_by o s
-led_term None s = refl
-led_term (Some c) s = refl
+-- ---- links, terminators and circuits
 
-terms_uncounted : (o : Option TermChange) (s : State) (steps : GrantSteps) → HasNoSteps steps → (r : Relation)
-    → LeadCounts (count r s) (count r (terms.led_by o s)) (steps_of r steps)
-terms_uncounted None s steps none r = no_steps_lead s steps none r
-terms_uncounted (Some c) s steps none Dial = no_steps_lead s steps none Dial
-terms_uncounted (Some c) s steps none Bind = no_steps_lead s steps none Bind
-terms_uncounted (Some c) s steps none IdentityRouter = no_steps_lead s steps none IdentityRouter
-terms_uncounted (Some c) s steps none ServiceRouter = no_steps_lead s steps none ServiceRouter
+links_uncounted : (s : State) (c : LinkChange) (r : Relation) → count r (settle (linked.linked c s)) ≡ count r s
+links_uncounted s c Dial = refl
+links_uncounted s c Bind = refl
+links_uncounted s c IdentityRouter = refl
+links_uncounted s c ServiceRouter = refl
 
--- a plan of a command on terminators is one of the core
-pub terms_planned : (made : TermPlan) (p : Planned) (answered : Reply × State) (s : State) → terms.PlansTerms made answered s
-    → IsUncounted made.reply (term_change made.change) p → Plans p answered s
-terms_planned made p answered s plans is = record {
-  reply = is.reply_is ∙ plans.reply;
-  can = subst (λ (c : Change). CanChange c s) (sym is.change_is) (can_term made.change s plans.can);
-  next = ap (λ (c : Change). carried_by c s) is.change_is ∙ led_term made.change s ∙ plans.next;
-  counts = λ r. subst (λ (t : State). LeadCounts (count r s) (count r t) (steps_of r p.steps)) plans.next (terms_uncounted made.change s p.steps is.no_steps r);
-}
+pub links_planned : (s : State) (made : Plan LinkChange) (p : Planned) (answered : Reply × State) → plans.Plans linked.linked linked.CanLink made answered s
+    → IsUncounted made.reply (option_map change.Link made.change) p → Plans p answered s
+links_planned s = family_planned linked.linked linked.CanLink change.Link s (λ c. refl) (λ c can. can) (links_uncounted s)
 
--- ---- circuits
+terms_uncounted : (s : State) (c : TermChange) (r : Relation) → count r (settle (offered.offered c s)) ≡ count r s
+terms_uncounted s c Dial = refl
+terms_uncounted s c Bind = refl
+terms_uncounted s c IdentityRouter = refl
+terms_uncounted s c ServiceRouter = refl
 
-can_circuit : (o : Option CircuitChange) (s : State) → circuits.CanLeadBy o s → CanChange (circuit_change o) s
-can_circuit None s can = tt
-can_circuit (Some c) s can = can
+pub terms_planned : (s : State) (made : Plan TermChange) (p : Planned) (answered : Reply × State) → plans.Plans offered.offered offered.CanOffer made answered s
+    → IsUncounted made.reply (option_map change.Terminator made.change) p → Plans p answered s
+terms_planned s = family_planned offered.offered offered.CanOffer change.Terminator s (λ c. refl) (λ c can. can) (terms_uncounted s)
 
-led_circuit : (o : Option CircuitChange) (s : State) → carried_by (circuit_change o) s ≡ circuits.led_by o s
-led_circuit None s = refl
-led_circuit (Some c) s = refl
+circuits_uncounted : (s : State) (c : CircuitChange) (r : Relation) → count r (settle (routed c s)) ≡ count r s
+circuits_uncounted s c Dial = refl
+circuits_uncounted s c Bind = refl
+circuits_uncounted s c IdentityRouter = refl
+circuits_uncounted s c ServiceRouter = refl
 
-circuits_uncounted : (o : Option CircuitChange) (s : State) (steps : GrantSteps) → HasNoSteps steps → (r : Relation)
-    → LeadCounts (count r s) (count r (circuits.led_by o s)) (steps_of r steps)
-circuits_uncounted None s steps none r = no_steps_lead s steps none r
-circuits_uncounted (Some c) s steps none Dial = no_steps_lead s steps none Dial
-circuits_uncounted (Some c) s steps none Bind = no_steps_lead s steps none Bind
-circuits_uncounted (Some c) s steps none IdentityRouter = no_steps_lead s steps none IdentityRouter
-circuits_uncounted (Some c) s steps none ServiceRouter = no_steps_lead s steps none ServiceRouter
-
--- a plan of a command on circuits is one of the core
-pub circuits_planned : (made : CircuitPlan) (p : Planned) (answered : Reply × State) (s : State) → circuits.PlansCircuits made answered s
-    → IsUncounted made.reply (circuit_change made.change) p → Plans p answered s
-circuits_planned made p answered s plans is = record {
-  reply = is.reply_is ∙ plans.reply;
-  can = subst (λ (c : Change). CanChange c s) (sym is.change_is) (can_circuit made.change s plans.can);
-  next = ap (λ (c : Change). carried_by c s) is.change_is ∙ led_circuit made.change s ∙ plans.next;
-  counts = λ r. subst (λ (t : State). LeadCounts (count r s) (count r t) (steps_of r p.steps)) plans.next (circuits_uncounted made.change s p.steps is.no_steps r);
-}
+pub circuits_planned : (s : State) (made : Plan CircuitChange) (p : Planned) (answered : Reply × State) → plans.Plans routed CanRoute made answered s
+    → IsUncounted made.reply (option_map change.Circuit made.change) p → Plans p answered s
+circuits_planned s = family_planned routed CanRoute change.Circuit s (λ c. refl) (λ c can. can) (circuits_uncounted s)

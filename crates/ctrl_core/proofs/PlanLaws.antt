@@ -1,27 +1,34 @@
 -- What a plan has to show: of a reply that changes nothing, of a refusal, and of a change that is carried out.
-use Rattle.std.proofs.Common.{◌≡◌, true, List, Option, None, Some, refl, sym, ap, subst}
+use Rattle.std.proofs.Common.{◌≡◌, true, false, ◌||◌, List, Option, None, Some, refl, sym, ap, subst}
+use Rattle.std.proofs.lemmas.Bool.{true≢false, false≢true}
 use Rattle.ctrl_model.specs.declared.commands.Command.{Command}
+use Rattle.ctrl_model.specs.declared.commands.Command.TheVariants as command
 use Rattle.ctrl_model.specs.declared.kinds.Relation.{Relation}
 use Rattle.ctrl_model.specs.declared.kinds.Who.TheVariants.{Admin}
 use Rattle.ctrl_model.specs.declared.kinds.Relation.TheVariants.{Dial, Bind, IdentityRouter, ServiceRouter}
-use Rattle.ctrl_model.specs.declared.refusals.Refusal.{Refusal}
 use Rattle.ctrl_model.specs.declared.replies.Reply.{Reply}
-use Rattle.ctrl_model.specs.declared.replies.Reply.TheVariants.{Refused}
+use Rattle.ctrl_model.specs.declared.replies.Reply.TheVariants.{Empty}
 use Rattle.ctrl_model.specs.State.{State}
 use Rattle.ctrl_model.specs.Grants.{count}
 use Rattle.ctrl_model.specs.CommandForm.{is_spelled}
 use Rattle.ctrl_model.specs.Controller.{carry}
 use Rattle.ctrl_model.specs.ValidState.{ValidState}
 use Rattle.ctrl_model.specs.Settling.{settle}
-use Rattle.ctrl_model.specs.Rules.{carried_out, shown}
 use Rattle.model_laws.proofs.ValidCommands.{answer-valid}
+use Rattle.model_laws.specs.Plans.{CanLeadBy, led_by}
 use Rattle.grant_denorm.specs.declared.deltas.Delta.{Delta}
 use Rattle.grant_moves.specs.CountMoves.{LeadCounts}
 use Rattle.grant_moves.proofs.LeadingCounts.{unchanged_leads}
+use Rattle.entity_commands.specs.EntityPlans.{is_entity_command}
+use Rattle.link_commands.specs.LinkPlans.{is_link_command}
+use Rattle.policy_store.specs.PolicyPlans.{is_policy_command}
+use Rattle.terminator_commands.specs.TermPlans.{is_terminator_command}
+use Rattle.ctrl_core.specs.CarriedCommands.{is_carried, is_grant_command}
+use Rattle.ctrl_core.specs.CircuitPlans.{is_circuit_command}
 use Rattle.ctrl_core.specs.declared.changes.Change.{Change}
 use Rattle.policy_store.specs.declared.steps.GrantSteps.{GrantSteps}
 use Rattle.ctrl_core.specs.declared.changes.Planned.{Planned}
-use Rattle.ctrl_core.specs.Changes.{CanChange, LeadsFrom, carried_by, led}
+use Rattle.ctrl_core.specs.Changes.{CanChange, LeadsFrom, after_change, led}
 use Rattle.policy_store.specs.GrantChanges.{HasNoSteps, steps_of}
 use Rattle.ctrl_core.specs.PlannedCommands.{Plans, IsShown}
 
@@ -38,36 +45,18 @@ no_steps_lead s steps none ServiceRouter =
 pub plans_reply : (p : Planned) (reply : Reply) (s : State) → IsShown reply p → Plans p (reply, s) s
 plans_reply p reply s is = record {
   reply = is.reply_is;
-  can = subst (λ (c : Change). CanChange c s) (sym is.change_is) tt;
-  next = ap (λ (c : Change). carried_by c s) is.change_is;
+  can = subst (λ (o : Option Change). CanLeadBy CanChange o s) (sym is.change_is) tt;
+  next = ap (λ (o : Option Change). led_by after_change o s) is.change_is;
+  still = λ tells. record { change = is.change_is; steps = is.no_steps };
   counts = no_steps_lead s p.steps is.no_steps;
 }
 
--- a command without an effect that is not refused
-pub plans_shown : (p : Planned) (o : Option Refusal) (s : State) (reply : Reply) → o ≡ None → IsShown reply p → Plans p (shown o s reply) s
-plans_shown p o s reply e is = subst (λ q. Plans p (shown q s reply) s) (sym e) (plans_reply p reply s is)
-
--- a command without an effect that is refused
-pub plans_unshown : (p : Planned) (o : Option Refusal) (r : Refusal) (s : State) (reply : Reply) → o ≡ Some r → IsShown (Refused r) p → Plans p (shown o s reply) s
-plans_unshown p o r s reply e is = subst (λ q. Plans p (shown q s reply) s) (sym e) (plans_reply p (Refused r) s is)
-
--- a command with an effect that is refused
-pub plans_refused : (p : Planned) (o : Option Refusal) (r : Refusal) (s : State) (reply : Reply) (effect : State) → o ≡ Some r → IsShown (Refused r) p
-    → Plans p (carried_out o s reply effect) s
-plans_refused p o r s reply effect e is = subst (λ q. Plans p (carried_out q s reply effect) s) (sym e) (plans_reply p (Refused r) s is)
-
 -- settling changes no count
-settled_lead : (r : Relation) (s effect : State) (ds : List Delta) → LeadCounts (count r s) (count r effect) ds → LeadCounts (count r s) (count r (settle effect)) ds
+pub settled_lead : (r : Relation) (s effect : State) (ds : List Delta) → LeadCounts (count r s) (count r effect) ds → LeadCounts (count r s) (count r (settle effect)) ds
 settled_lead Dial s effect ds leads = leads
 settled_lead Bind s effect ds leads = leads
 settled_lead IdentityRouter s effect ds leads = leads
 settled_lead ServiceRouter s effect ds leads = leads
-
--- where no refusal comes, the change leads to the settled effect, and the steps to its counts
-pub plans_carried : (p : Planned) (o : Option Refusal) (s : State) (reply : Reply) (effect : State) → o ≡ None → p.reply ≡ reply → CanChange p.change s
-    → led p s ≡ settle effect → ((r : Relation) → LeadCounts (count r s) (count r effect) (steps_of r p.steps)) → Plans p (carried_out o s reply effect) s
-plans_carried p o s reply effect e replies can next counts =
-    subst (λ q. Plans p (carried_out q s reply effect) s) (sym e) (record { reply = replies; can = can; next = next; counts = λ r. settled_lead r s effect (steps_of r p.steps) (counts r) })
 
 -- a plan of a command that some body spells leads from a valid state to the controller's next one, which is valid
 pub leads_from : (p : Planned) (c : Command) (s : State) → is_spelled c ≡ true → ValidState s → Plans p (carry c s) s → LeadsFrom p s (carry c s).1
@@ -79,3 +68,16 @@ leads_from p c s spelled valid plans = record {
   };
   next = plans.next;
 }
+
+-- a command of no family that is carried out is a greeting
+pub only_greeting : (c : Command) (s : State) → is_carried c ≡ true → is_entity_command c ≡ false → is_policy_command c ≡ false → is_link_command c ≡ false
+    → is_terminator_command c ≡ false → is_circuit_command c ≡ false → is_grant_command c ≡ false → carry c s ≡ (Empty, s)
+only_greeting c s carried entity policy link terminator circuit grant =
+    by c carried (λ i. entity i || (policy i || (link i || (terminator i || (circuit i || grant i)))))
+  where
+    by : (c : Command) → is_carried c ≡ true
+        → (is_entity_command c || (is_policy_command c || (is_link_command c || (is_terminator_command c || (is_circuit_command c || is_grant_command c))))) ≡ false
+        → carry c s ≡ (Empty, s)
+    by command.Hello carried none = refl
+    by command.Compact carried none = absurd (false≢true carried)
+    by _ carried none = absurd (true≢false none)

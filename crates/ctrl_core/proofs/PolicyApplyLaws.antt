@@ -24,12 +24,15 @@ use Rattle.circuits.specs.CircuitTables.{CircuitTables}
 use Rattle.terminators.specs.TermTables.{TermTables}
 use Rattle.ctrl_core.specs.declared.stores.Stores.{Stores}
 use Rattle.ctrl_core.specs.AppliedChanges.{Carries, LetsPolicyGo}
-use Rattle.ctrl_core.specs.Changes.{policies_in, with_policy, with_replaced, without_policy}
-use Rattle.ctrl_core.specs.KeptState.{HoldsPolicies, policy_attributes, state_of}
-use Rattle.ctrl_core.proofs.UseLaws.{Between-from_map, times-append, times-at}
-use Rattle.ctrl_core.proofs.RoomLaws.{room_by_uses}
-use Rattle.ctrl_core.proofs.InUseLaws.{names_of, in_use-split, uses_in_state, has_room_in_state, policy_added, policy_replaced, policy_removed}
-use Rattle.ctrl_core.proofs.ApplyLaws.{new_record}
+use Rattle.entity_store.proofs.UseLaws.{times-append}
+use Rattle.entity_store.proofs.TimesLaws.{Between-from_map, times-at}
+use Rattle.entity_store.proofs.RoomLaws.{room_by_uses}
+use Rattle.entity_store.proofs.InUseLaws.{in_use-split, uses_in_state, has_room_in_state}
+use Rattle.model_laws.proofs.NewRecords.{new_record}
+use Rattle.policy_store.specs.PolicyChanges.{policies_in, with_policy, with_replaced, without_policy}
+use Rattle.policy_store.proofs.PolicyUses.{names_of, policy_added, policy_replaced, policy_removed}
+use Rattle.ctrl_core.specs.KeptState.{HoldsPolicies, state_of}
+use Rattle.ctrl_core.proofs.ApplyLaws.{attributes_of}
 
 -- ---- the state of stores whose policies change
 
@@ -89,28 +92,28 @@ ordered_before _ n p s is valid = absurd (false≢true is)
 -- ---- the attributes of policies after a change
 
 more_attributes : (k : Kind) (p : Policy) (st : Stores) → is_policy_kind k ≡ true → (x : List ℕ)
-    → times x (policy_attributes (tables.with_policy k p st.policies)) ≡ times x (policy_attributes st.policies) + times x (names_of p)
+    → times x (attributes_of (tables.with_policy k p st.policies)) ≡ times x (attributes_of st.policies) + times x (names_of p)
 more_attributes k p st is x =
-    let before = in_use-split x st in
-    let after = in_use-split x (record st { policies = tables.with_policy k p st.policies }) in
+    let before = in_use-split x st.entities (state_of st) in
+    let after = in_use-split x st.entities (state_of (record st { policies = tables.with_policy k p st.policies })) in
     let same = ap (λ (s : State). times x (attributes_in_use s)) (state_with k p st) in
     let more = policy_added k p (state_of st) is x in
     omega (arith, before, after, same, more)
 
 other_attributes : (k : Kind) (n : ℕ) (p old : Policy) (st : Stores) → is_policy_kind k ≡ true → ValidState (settle (with_replaced k n p (state_of st))) → at (policies_in k (state_of st)) n ≡ Some old → (x : List ℕ)
-    → times x (policy_attributes (tables.with_replaced k n p st.policies)) + times x (names_of old) ≡ times x (policy_attributes st.policies) + times x (names_of p)
+    → times x (attributes_of (tables.with_replaced k n p st.policies)) + times x (names_of old) ≡ times x (attributes_of st.policies) + times x (names_of p)
 other_attributes k n p old st is valid stands x =
-    let before = in_use-split x st in
-    let after = in_use-split x (record st { policies = tables.with_replaced k n p st.policies }) in
+    let before = in_use-split x st.entities (state_of st) in
+    let after = in_use-split x st.entities (state_of (record st { policies = tables.with_replaced k n p st.policies })) in
     let same = ap (λ (s : State). times x (attributes_in_use s)) (state_replaced k n p st) in
     let moved = policy_replaced k n p (state_of st) (next_in k (state_of st)) old is (ordered_before k n p (state_of st) is valid) stands x in
     omega (arith, before, after, same, moved)
 
 fewer_attributes : (k : Kind) (n : ℕ) (old : Policy) (st : Stores) → is_policy_kind k ≡ true → ValidState (state_of st) → at (policies_in k (state_of st)) n ≡ Some old → (x : List ℕ)
-    → times x (policy_attributes (tables.without_policy k n st.policies)) + times x (names_of old) ≡ times x (policy_attributes st.policies)
+    → times x (attributes_of (tables.without_policy k n st.policies)) + times x (names_of old) ≡ times x (attributes_of st.policies)
 fewer_attributes k n old st is valid stands x =
-    let before = in_use-split x st in
-    let after = in_use-split x (record st { policies = tables.without_policy k n st.policies }) in
+    let before = in_use-split x st.entities (state_of st) in
+    let after = in_use-split x st.entities (state_of (record st { policies = tables.without_policy k n st.policies })) in
     let same = ap (λ (s : State). times x (attributes_in_use s)) (state_without k n st) in
     let fewer = policy_removed k n (state_of st) (next_in k (state_of st)) old is (ordered k (state_of st) is valid) stands x in
     omega (arith, before, after, same, fewer)
@@ -134,7 +137,7 @@ can_put_fresh _ p st is valid = absurd (false≢true is)
 
 pub room_to_put : (k : Kind) (p : Policy) (st : Stores) → is_policy_kind k ≡ true → HoldsPolicies st → ValidState (settle (with_policy k p (state_of st))) → has_attribute_room st.entities [] (names_of p) ≡ true
 room_to_put k p st is held valid =
-    has_room_in_state st [] (names_of p) (with_policy k p (state_of st)) held (λ x. let more = policy_added k p (state_of st) is x in omega (arith, more)) valid.attributes
+    has_room_in_state st.entities (state_of st) [] (names_of p) (with_policy k p (state_of st)) held (λ x. let more = policy_added k p (state_of st) is x in omega (arith, more)) valid.attributes
 
 pub carried_policy : (k : Kind) (p : Policy) (st : Stores) (t : Tables) → is_policy_kind k ≡ true → HoldsPolicies st → Holds (names_of p) st.entities t
     → Carries st (record st { entities = t; policies = put_in k p true st.policies }) (with_policy k p (state_of st))
@@ -149,7 +152,7 @@ carried_policy k p st t is held holds = record {
 pub are_held : (k : Kind) (n : ℕ) (p : Policy) (st : Stores) → is_policy_kind k ≡ true → at (policies k st.policies) n ≡ Some p → HoldsPolicies st → AreHeld st.entities (names_of p)
 are_held k n p st is stands held x = by k is stands
   where
-    parts : times x (policy_attributes st.policies) ≡ times x (flat_map side_attributes st.policies.service_policies.rows)
+    parts : times x (attributes_of st.policies) ≡ times x (flat_map side_attributes st.policies.service_policies.rows)
         + (times x (flat_map side_attributes st.policies.edge_router_policies.rows) + times x (flat_map side_attributes st.policies.service_edge_router_policies.rows))
     parts =
         let one = times-append x (flat_map side_attributes st.policies.service_policies.rows)
@@ -186,7 +189,7 @@ carried_without k n st mid is valid held gone = record {
   held = λ x.
       let fewer = gone.uses_go.fewer x in let before = held x in
       let after = fewer_attributes k n gone.policy st is valid gone.stands x in
-      let same = ap (λ (q : PolicyTables). times x (policy_attributes (tables.without_policy k n q))) gone.policies_stay in
+      let same = ap (λ (q : PolicyTables). times x (attributes_of (tables.without_policy k n q))) gone.policies_stay in
       omega (arith, fewer, before, after, same);
   counts = gone.counts_stay;
 }
@@ -203,7 +206,7 @@ pub room_to_replace : (k : Kind) (n : ℕ) (p : Policy) (st mid : Stores) → is
 room_to_replace k n p st mid is valid held gone =
     room_by_uses mid.entities [] (names_of p) (attributes_in_use (with_replaced k n p (state_of st))) (λ x.
     let moved = policy_replaced k n p (state_of st) (next_in k (state_of st)) gone.policy is (ordered_before k n p (state_of st) is valid) gone.stands x in
-    let these = uses_in_state st held x in
+    let these = uses_in_state st.entities (state_of st) held x in
     let fewer = gone.uses_go.fewer x in
     let same = ap (λ (e : Tables). times x (entity_attributes e)) gone.uses_go.others in
     omega (arith, moved, these, fewer, same)) ∙ ap not valid.attributes
@@ -225,7 +228,7 @@ carried_replaced k n p st mid t is named valid held gone holds = record {
   held = λ x.
       let more = holds.more x in let fewer = gone.uses_go.fewer x in let before = held x in
       let after = other_attributes k n p gone.policy st is valid gone.stands x in
-      let same = ap (λ (q : PolicyTables). times x (policy_attributes q)) put in
+      let same = ap (λ (q : PolicyTables). times x (attributes_of q)) put in
       omega (arith, more, fewer, before, after, same);
   counts = gone.counts_stay;
 }

@@ -19,7 +19,7 @@ use Rattle.grant_moves.proofs.LeadingCounts.{unchanged_leads}
 use Rattle.grant_moves.proofs.PolicyMoves.{policy_leads}
 use Rattle.policy_store.specs.PolicyTables.{is_policy_kind}
 use Rattle.policy_store.specs.declared.steps.GrantSteps.{GrantSteps}
-use Rattle.ctrl_core.specs.Changes.{policies_in, with_policy, with_replaced, without_policy}
+use Rattle.policy_store.specs.PolicyChanges.{policies_in, with_policy, with_replaced, without_policy}
 use Rattle.policy_store.specs.GrantChanges.{steps_of}
 use Rattle.policy_store.specs.GrantChanges.{ArePolicySteps, StepsOfPolicy}
 use Rattle.ctrl_core.proofs.OrderedSides.{left_high, right_high, policies_high, left_ordered, right_ordered, policies_ordered}

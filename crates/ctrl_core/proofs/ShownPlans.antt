@@ -1,7 +1,7 @@
 -- Plans of replies that change nothing: what is shown, and what is refused.
 use Rattle.std.proofs.Common.{◌≡◌, ℕ, nat_lt, List, map, Option, None, Some, Result, Ok, Err, refl, sym, ◌∙◌, ap, subst}
 use Rattle.std.proofs.lemmas.Simd.{map-map}
-use Rattle.std.specs.Option.{ok_or, unwrap_or}
+use Rattle.std.specs.Option.{unwrap_or}
 use Rattle.std.specs.List.{filter}
 use Rattle.ctrl_model.specs.declared.kinds.Kind.TheVariants as kind
 use Rattle.ctrl_model.specs.declared.kinds.Relation.TheVariants.{Dial, Bind, IdentityRouter}
@@ -20,15 +20,6 @@ use Rattle.ctrl_core.specs.declared.stores.Stores.{Stores}
 use Rattle.ctrl_core.specs.KeptState.{Keeps, state_of}
 use Rattle.ctrl_core.specs.PlannedCommands.{Plans, IsShown}
 use Rattle.ctrl_core.proofs.PlanLaws.{plans_reply}
-
--- what a look-up by name answers
-pub some_from_ok : {E : Type 0} (o : Option ℕ) (fault : E) (n : ℕ) → ◌≡◌ {A = Result ℕ E} (Ok n) (ok_or o fault) → o ≡ Some n
-some_from_ok None fault n e = absurd (cc)
-some_from_ok (Some m) fault n e = let same : n ≡ m = cc in ap Some (sym same)
-
-pub none_from_err : {E : Type 0} (o : Option ℕ) (fault f : E) → ◌≡◌ {A = Result ℕ E} (Err f) (ok_or o fault) → o ≡ None
-none_from_err None fault f e = refl
-none_from_err (Some m) fault f e = absurd (cc)
 
 -- ---- what an identity is granted
 

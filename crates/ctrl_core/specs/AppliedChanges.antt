@@ -1,21 +1,35 @@
 -- What the private functions of applying leave. No public contract cites it.
-use Rattle.std.specs.Prelude.{◌≡◌, ℕ, ◌+◌, ◌<◌, ◌≤◌, List, ◌++◌, Some}
+use Rattle.std.specs.Prelude.{◌≡◌, ℕ, ◌+◌, ◌<◌, ◌≤◌, ⊤, true, List, ◌++◌, Some}
 use Rattle.ctrl_model.specs.declared.kinds.Kind.{Kind}
 use Rattle.ctrl_model.specs.Numbered.{at}
 use Rattle.ctrl_model.specs.State.{State, Policy}
+use Rattle.ctrl_model.specs.Tables.{is_entity_kind}
 use Rattle.entity_store.specs.AttributeUses.{LetsGo}
 use Rattle.grant_denorm.specs.declared.deltas.Delta.{Delta}
 use Rattle.grant_denorm.specs.PairCounts.{count_of}
 use Rattle.grant_denorm.specs.Deltas.{ups, downs}
+use Rattle.policy_store.specs.PolicyTables.{PolicyTables, forgetting}
+use Rattle.policy_store.specs.PolicyChanges.{policies_in}
+use Rattle.entity_commands.specs.declared.changes.EntityChange.{EntityChange}
+use Rattle.entity_commands.specs.declared.changes.EntityChange.TheVariants as change
 use Rattle.ctrl_core.specs.declared.stores.Stores.{Stores}
 use Rattle.ctrl_core.specs.KeptState.{HoldsPolicies, state_of}
-use Rattle.ctrl_core.specs.Changes.{policies_in}
 
 -- The stores stand for a state, the attributes of its policies are in use, and the counts are as they were.
 pub record Carries (old new : Stores) (t : State) : Type 0 where
   pub next : state_of new ≡ t
   pub held : HoldsPolicies new
   pub counts : new.grants ≡ old.grants
+
+-- What a change that removes an entity needs of the policies: that its kind is one of entities.
+abbrev pub ForgetsEntity : EntityChange → Type 0
+ForgetsEntity (change.Remove k n name) = is_entity_kind k ≡ true
+ForgetsEntity _ = ⊤
+
+-- The policies once no side names an entity that a change removes.
+abbrev pub forgetting_by : EntityChange → PolicyTables → PolicyTables
+forgetting_by (change.Remove k n name) p = forgetting k name p
+forgetting_by _ p = p
 
 -- The uses of one policy's attributes are let go, and all else stays.
 pub record LetsPolicyGo (k : Kind) (n : ℕ) (old new : Stores) : Type 0 where

@@ -1,15 +1,12 @@
 -- The state that the stores of a core stand for, and what a core keeps of them (docs/PROMISES.md, "The core").
-use Rattle.std.specs.Prelude.{◌≡◌, ℕ, Bool, List, ◌++◌}
-use Rattle.std.specs.List.{flat_map}
+use Rattle.std.specs.Prelude.{ℕ, Bool, List}
 use Rattle.ctrl_model.specs.declared.kinds.Relation.{Relation}
 use Rattle.ctrl_model.specs.declared.kinds.Relation.TheVariants.{Dial, Bind, IdentityRouter, ServiceRouter}
 use Rattle.ctrl_model.specs.State.{State}
 use Rattle.ctrl_model.specs.Grants.{count}
-use Rattle.ctrl_model.specs.Rules.{side_attributes}
 use Rattle.ctrl_model.specs.ValidState.{ValidState}
-use Rattle.entity_store.specs.AttributeUses.{times, held_times}
 use Rattle.grant_denorm.specs.MovedCounts.{AreCountsOf}
-use Rattle.policy_store.specs.PolicyTables.{PolicyTables}
+use Rattle.policy_store.specs.PolicyChanges.{HoldsUses}
 use Rattle.ctrl_core.specs.declared.stores.Grants.{Grants}
 use Rattle.ctrl_core.specs.declared.stores.Stores.{Stores}
 
@@ -35,15 +32,9 @@ counts_of Bind g = g.bind
 counts_of IdentityRouter g = g.identity_router
 counts_of ServiceRouter g = g.service_router
 
--- The attributes of all policies, with repeats.
-abbrev pub policy_attributes : PolicyTables → List (List ℕ)
-policy_attributes p =
-    flat_map side_attributes p.service_policies.rows
-    ++ (flat_map side_attributes p.edge_router_policies.rows ++ flat_map side_attributes p.service_edge_router_policies.rows)
-
 -- The uses that are held beside those of entities are those of policies.
 abbrev pub HoldsPolicies : Stores → Type 0
-HoldsPolicies st = (name : List ℕ) → held_times name st.entities.held ≡ times name (policy_attributes st.policies)
+HoldsPolicies st = HoldsUses st.entities st.policies
 
 -- What a core keeps of its stores: their state is valid, the attributes of policies are in use beside those of entities, and
 -- the counts are the grant counts of the state for every pair.

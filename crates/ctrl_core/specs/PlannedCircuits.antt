@@ -1,5 +1,5 @@
 -- What the steps of a plan find and make. Only private functions and proofs of this crate cite this file.
-use Rattle.std.specs.Prelude.{Bool, true, false, ℕ, List, map, None, Some}
+use Rattle.std.specs.Prelude.{Bool, true, false, ℕ, List, map}
 use Rattle.ctrl_model.specs.declared.commands.Command.{Command}
 use Rattle.ctrl_model.specs.declared.commands.Command.TheVariants as command
 use Rattle.ctrl_model.specs.declared.kinds.Kind.{Kind}
@@ -15,28 +15,15 @@ use Rattle.entity_store.specs.EntityTables.{Tables, entities}
 use Rattle.grant_denorm.specs.PairCounts.{count_of}
 use Rattle.ctrl_core.specs.declared.circuit_asking.Request.{Request}
 use Rattle.circuits.specs.declared.changes.CircuitChange.{CircuitChange}
-use Rattle.ctrl_core.specs.declared.circuit_planning.CircuitPlan.{CircuitPlan}
+use Rattle.model_laws.specs.declared.plans.Plan.{Plan}
 use Rattle.ctrl_core.specs.declared.circuit_parts.Parts.{Parts}
 use Rattle.ctrl_core.specs.CircuitParts.{with_parts, AreGrants}
 use Rattle.ctrl_core.specs.CircuitPlans.{PlansCircuits}
 
--- The commands that claim a route.
-abbrev pub is_claim : Command → Bool
-is_claim (command.VerifyRoute identity service ingress instance chosen links potentials routers terminator total) = true
-is_claim _ = false
-
 -- A plan of an answer in every valid state with these parts and these grant counts.
-abbrev pub Answers : (State → Reply × State) → Parts → CircuitPlan → Type 0
+abbrev pub Answers : (State → Reply × State) → Parts → Plan CircuitChange → Type 0
 Answers answer p plan = (s : State) → ValidState (with_parts p s) → AreGrants p (with_parts p s)
     → PlansCircuits plan (answer (with_parts p s)) (with_parts p s)
-
--- The plan of a reply that changes nothing.
-abbrev pub unchanged : Reply → CircuitPlan
-unchanged reply = record { reply = reply; change = None }
-
--- The plan of a reply with a change.
-abbrev pub changed : Reply → CircuitChange → CircuitPlan
-changed reply c = record { reply = reply; change = Some c }
 
 -- The state of these entities alone.
 abbrev pub with_entities : Tables → State

@@ -1,113 +1,48 @@
-ghost use Rattle.std.specs.Prelude.{◌≡◌, true, not, Some, OnOk};
-ghost use Rattle.ctrl_model.specs.declared.kinds.Kind.TheVariants as kind;
+ghost use Rattle.std.specs.Prelude.{◌≡◌, true, Some, OnOk};
 ghost use Rattle.ctrl_model.specs.declared.kinds.Relation.{Relation};
-ghost use Rattle.ctrl_model.specs.RecordCommands.{after_create};
-ghost use Rattle.ctrl_model.specs.EntityCommands.{new_router};
 ghost use Rattle.ctrl_model.specs.Settling.{settle};
 ghost use Rattle.ctrl_model.specs.ValidState.{ValidState};
+ghost use Rattle.model_laws.specs.Plans.{CanLeadBy, led_by};
 ghost use Rattle.ctrl_model.specs.Numbered.{is_present};
 ghost use Rattle.ctrl_model.specs.State.{policy_named};
-ghost use Rattle.entity_store.specs.EntityTables.{is_entity_kind};
+ghost use Rattle.entity_commands.specs.EntityChanges.{CanEnter, entered};
 ghost use Rattle.policy_store.specs.PolicyTables.{is_policy_kind};
-ghost use Rattle.ctrl_core.specs.Changes.{CanChange, is_plain_kind, is_there, policies_in, after_change, carried_by, with_plain, with_described, with_described_router, with_marked, without_named, with_policy, with_replaced, without_policy};
+ghost use Rattle.policy_store.specs.PolicyChanges.{CanRule, policies_in, ruled, with_policy, with_replaced, without_policy};
+ghost use Rattle.ctrl_core.specs.Changes.{CanChange, after_change};
 ghost use Rattle.policy_store.specs.GrantChanges.{steps_of};
 ghost use Rattle.ctrl_core.specs.KeptState.{HoldsPolicies, counts_of, state_of};
-ghost use Rattle.ctrl_core.specs.AppliedChanges.{Carries, LetsPolicyGo, HaveRoom, Taken};
+ghost use Rattle.ctrl_core.specs.AppliedChanges.{Carries, ForgetsEntity, LetsPolicyGo, HaveRoom, Taken, forgetting_by};
 
 use crate::changes::Change;
-use crate::policy_names::policy_names;
 use crate::stores::{Grants, Stores};
 use circuits::{apply_circuit_change, settle_circuits};
-use ctrl_model::{Kind, Name, Names, PolicyNo, RouterNo};
+use ctrl_model::{Kind, PolicyNo};
+use entity_commands::{EntityChange, apply_entity_change};
 use grant_denorm::apply_changes;
 use link_commands::{apply_link_change, settle_links};
-use policy_store::{GrantSteps, Policy};
+use policy_store::{GrantSteps, Policies, Policy, PolicyChange, policy_names};
 use std::alloc::{AllocError, Global};
 use terminator_commands::{apply_term_change, settle_terminators};
 
-fn add(stores: &mut Stores, kind: Kind, name: &Name, attributes: &Names) -> Result<(), AllocError>
-    requires kind { is_plain_kind kind ≡ true }
-    requires valid { ValidState (settle (with_plain kind name.now attributes.now (state_of stores.old))) }
+fn apply_entity(stores: &mut Stores, change: &EntityChange) -> Result<(), AllocError>
+    requires can { CanEnter change.now (state_of stores.old) }
+    requires valid { ValidState (settle (entered change.now (state_of stores.old))) }
     requires held { HoldsPolicies stores.old }
-    ensures { OnOk result (Carries stores.old stores.new (with_plain kind name.now attributes.now (state_of stores.old))) }
+    ensures { OnOk result (Carries stores.old stores.new (entered change.now (state_of stores.old))) }
 {
-    stores.entities.add(kind, name, attributes)?;
+    apply_entity_change(&mut stores.entities, change)?;
+    forget_by(&mut stores.policies, change);
     Ok(())
 }
 
-fn add_router(
-    stores: &mut Stores,
-    name: &Name,
-    attributes: &Names,
-    cost: u32,
-    through: bool,
-) -> Result<(), AllocError>
-    requires valid { ValidState (settle (after_create kind.Router (new_router name.now attributes.now cost (not through)) (state_of stores.old))) }
-    requires held { HoldsPolicies stores.old }
-    ensures { OnOk result (Carries stores.old stores.new (after_create kind.Router (new_router name.now attributes.now cost (not through)) (state_of stores.old))) }
+// No side of a policy names an entity that goes.
+fn forget_by(policies: &mut Policies, change: &EntityChange)
+    requires { ForgetsEntity change.now }
+    ensures { policies.new ≡ forgetting_by change.now policies.old }
 {
-    let number = stores.entities.next(Kind::Router);
-    stores.entities.add(Kind::Router, name, attributes)?;
-    stores
-        .entities
-        .set_router(RouterNo(number), cost, through, false);
-    Ok(())
-}
-
-fn describe(
-    stores: &mut Stores,
-    kind: Kind,
-    number: u32,
-    attributes: &Names,
-) -> Result<(), AllocError>
-    requires kind { is_plain_kind kind ≡ true }
-    requires there { is_there kind number (state_of stores.old) ≡ true }
-    requires valid { ValidState (settle (with_described kind number attributes.now (state_of stores.old))) }
-    requires held { HoldsPolicies stores.old }
-    ensures { OnOk result (Carries stores.old stores.new (with_described kind number attributes.now (state_of stores.old))) }
-{
-    stores.entities.update(kind, number, attributes)
-}
-
-fn describe_router(
-    stores: &mut Stores,
-    number: u32,
-    attributes: &Names,
-    cost: u32,
-    through: bool,
-    connected: bool,
-) -> Result<(), AllocError>
-    requires there { is_there kind.Router number (state_of stores.old) ≡ true }
-    requires valid { ValidState (settle (with_described_router number attributes.now cost through connected (state_of stores.old))) }
-    requires held { HoldsPolicies stores.old }
-    ensures { OnOk result (Carries stores.old stores.new (with_described_router number attributes.now cost through connected (state_of stores.old))) }
-{
-    stores.entities.update(Kind::Router, number, attributes)?;
-    stores
-        .entities
-        .set_router(RouterNo(number), cost, through, connected);
-    Ok(())
-}
-
-fn mark(stores: &mut Stores, number: u32, cost: u32, through: bool, connected: bool)
-    requires there { is_there kind.Router number (state_of stores.old) ≡ true }
-    requires valid { ValidState (settle (with_marked number cost through connected (state_of stores.old))) }
-    requires held { HoldsPolicies stores.old }
-    ensures { Carries stores.old stores.new (with_marked number cost through connected (state_of stores.old)) }
-{
-    stores
-        .entities
-        .set_router(RouterNo(number), cost, through, connected);
-}
-
-fn remove(stores: &mut Stores, kind: Kind, number: u32, name: &Name)
-    requires kind { is_entity_kind kind ≡ true }
-    requires there { is_there kind number (state_of stores.old) ≡ true }
-    requires held { HoldsPolicies stores.old }
-    ensures { Carries stores.old stores.new (without_named kind number name.now (state_of stores.old)) }
-{
-    stores.entities.remove(kind, number);
-    stores.policies.forget(kind, name);
+    if let EntityChange::Remove { kind, name, .. } = change {
+        policies.forget(*kind, name);
+    }
 }
 
 fn add_policy(
@@ -184,6 +119,24 @@ fn remove_policy(
     Ok(())
 }
 
+fn apply_policy(alloc: Global, stores: &mut Stores, change: PolicyChange) -> Result<(), AllocError>
+    requires can { CanRule change (state_of stores.old) }
+    requires before { ValidState (state_of stores.old) }
+    requires valid { ValidState (settle (ruled change (state_of stores.old))) }
+    requires held { HoldsPolicies stores.old }
+    ensures { OnOk result (Carries stores.old stores.new (ruled change (state_of stores.old))) }
+{
+    match change {
+        PolicyChange::Add { kind, policy } => add_policy(alloc, stores, kind, policy),
+        PolicyChange::Replace {
+            kind,
+            number,
+            policy,
+        } => replace_policy(alloc, stores, kind, number, policy),
+        PolicyChange::Remove { kind, number } => remove_policy(alloc, stores, kind, number),
+    }
+}
+
 // Makes a change that leads, once settled, from a valid state to a valid one. Of a change that fails for want of memory nothing is
 // said.
 fn apply_change(alloc: Global, stores: &mut Stores, change: Change) -> Result<(), AllocError>
@@ -194,50 +147,8 @@ fn apply_change(alloc: Global, stores: &mut Stores, change: Change) -> Result<()
     ensures { OnOk result (Carries stores.old stores.new (after_change change (state_of stores.old))) }
 {
     match change {
-        Change::Nothing => Ok(()),
-        Change::Add {
-            kind,
-            name,
-            attributes,
-        } => add(stores, kind, &name, &attributes),
-        Change::AddRouter {
-            name,
-            attributes,
-            cost,
-            through,
-        } => add_router(stores, &name, &attributes, cost, through),
-        Change::Describe {
-            kind,
-            number,
-            attributes,
-        } => describe(stores, kind, number, &attributes),
-        Change::DescribeRouter {
-            number,
-            attributes,
-            cost,
-            through,
-            connected,
-        } => describe_router(stores, number, &attributes, cost, through, connected),
-        Change::Mark {
-            number,
-            cost,
-            through,
-            connected,
-        } => {
-            mark(stores, number, cost, through, connected);
-            Ok(())
-        }
-        Change::Remove { kind, number, name } => {
-            remove(stores, kind, number, &name);
-            Ok(())
-        }
-        Change::AddPolicy { kind, policy } => add_policy(alloc, stores, kind, policy),
-        Change::ReplacePolicy {
-            kind,
-            number,
-            policy,
-        } => replace_policy(alloc, stores, kind, number, policy),
-        Change::RemovePolicy { kind, number } => remove_policy(alloc, stores, kind, number),
+        Change::Entity(change) => apply_entity(stores, &change),
+        Change::Policy(change) => apply_policy(alloc, stores, change),
         Change::Link(change) => apply_link_change(&mut stores.fabric, change),
         Change::Terminator(change) => apply_term_change(&mut stores.terminators, change),
         Change::Circuit(change) => apply_circuit_change(&mut stores.circuits, change),
@@ -260,18 +171,22 @@ fn settle(alloc: Global, stores: &mut Stores) -> Result<(), AllocError>
     )
 }
 
-/// Carries a change out that leads from a valid state to a valid one: it is made, and the state is settled. Of a change that fails
-/// for want of memory nothing is said.
-pub fn carry_out(alloc: Global, stores: &mut Stores, change: Change) -> Result<(), AllocError>
-    requires can { CanChange change (state_of stores.old) }
+/// Carries a change out that leads from a valid state to a valid one: it is made, and the state is settled. Where there is none the
+/// stores stay. Of a change that fails for want of memory nothing is said.
+pub fn carry_out(
+    alloc: Global,
+    stores: &mut Stores,
+    change: Option<Change>,
+) -> Result<(), AllocError>
+    requires can { CanLeadBy CanChange change (state_of stores.old) }
     requires before { ValidState (state_of stores.old) }
-    requires valid { ValidState (carried_by change (state_of stores.old)) }
+    requires valid { ValidState (led_by after_change change (state_of stores.old)) }
     requires held { HoldsPolicies stores.old }
-    ensures { OnOk result (Carries stores.old stores.new (carried_by change (state_of stores.old))) }
+    ensures { OnOk result (Carries stores.old stores.new (led_by after_change change (state_of stores.old))) }
 {
-    if change.is_nothing() {
+    let Some(change) = change else {
         return Ok(());
-    }
+    };
     apply_change(alloc, stores, change)?;
     settle(alloc, stores)
 }

@@ -1,14 +1,12 @@
-ghost use Rattle.std.specs.Prelude.{◌≡◌, true, IfOk};
+ghost use Rattle.std.specs.Prelude.{◌≡◌, true, false, IfOk, MatchOption};
 ghost use Rattle.ctrl_model.specs.CircuitCommands.{create_circuit, delete_circuit, explain, verify_route, show_circuit};
-ghost use Rattle.ctrl_model.specs.CommandForm.{is_spelled};
 ghost use Rattle.ctrl_model.specs.Controller.{carry};
 ghost use Rattle.ctrl_model.specs.State.{State};
-ghost use Rattle.ctrl_model.specs.ValidState.{ValidState};
 ghost use Rattle.circuit_rules.specs.Decisions.{Grants};
 ghost use Rattle.circuit_rules.specs.Views.{asked};
-ghost use Rattle.ctrl_core.specs.CircuitParts.{with_parts, AreGrants, AreParts};
-ghost use Rattle.ctrl_core.specs.CircuitPlans.{is_circuit_command, PlansCircuits};
-ghost use Rattle.ctrl_core.specs.PlannedCircuits.{is_claim, Answers, unchanged, changed, ask_at, network_in};
+ghost use Rattle.ctrl_core.specs.CircuitParts.{AreParts};
+ghost use Rattle.ctrl_core.specs.CircuitPlans.{is_circuit_command, is_claim, is_unclaimed};
+ghost use Rattle.ctrl_core.specs.PlannedCircuits.{Answers, ask_at, network_in};
 ghost use Rattle.circuit_rules.specs.Explanations.{IsExplained};
 
 use crate::circuit_asking::{Request, ask_of, decided, explained, verified};
@@ -20,38 +18,11 @@ use ctrl_model::{
     CircuitNo, Command, Explanation, Field, Kind, Name, Numbers, Reaches, Refusal, Reply, RouterNo,
     TermNo,
 };
+use model_laws::Plan;
 use std::alloc::{AllocError, Global};
 
-/// The answer to a command on circuits, planned: the reply, and the change that carries it out. None is a reply that changes
-/// nothing.
-#[derive(Drop)]
-pub struct CircuitPlan {
-    pub reply: Reply,
-    pub change: Option<CircuitChange>,
-}
-
-// The plan of a reply that changes nothing.
-fn unchanged(reply: Reply) -> CircuitPlan
-    ensures { result ≡ unchanged reply }
-{
-    CircuitPlan {
-        reply,
-        change: None,
-    }
-}
-
-// The plan of a reply with a change.
-fn changed(reply: Reply, change: CircuitChange) -> CircuitPlan
-    ensures { result ≡ changed reply change }
-{
-    CircuitPlan {
-        reply,
-        change: Some(change),
-    }
-}
-
 // Plans the circuit of a route that was granted.
-fn plan_grant(parts: &Parts, ask: &Ask, route: Route) -> Result<CircuitPlan, AllocError>
+fn plan_grant(parts: &Parts, ask: &Ask, route: Route) -> Result<Plan<CircuitChange>, AllocError>
     requires parts { AreParts parts.now }
     requires granted { Grants (network_in parts.now) (asked ask.now) route }
     ensures { IfOk result (Answers (create_circuit (asked ask.now)) parts.now) }
@@ -78,7 +49,7 @@ fn plan_grant(parts: &Parts, ask: &Ask, route: Route) -> Result<CircuitPlan, All
         ingress: route.ingress,
         links: route.links,
     };
-    Ok(changed(reply, CircuitChange::Add(circuit)))
+    Ok(Plan::changed(reply, CircuitChange::Add(circuit)))
 }
 
 // Plans the answer to CreateCircuit.
@@ -86,47 +57,55 @@ fn plan_create_circuit(
     alloc: Global,
     parts: &Parts,
     request: &Request,
-) -> Result<CircuitPlan, AllocError>
+) -> Result<Plan<CircuitChange>, AllocError>
     requires { AreParts parts.now }
     ensures { IfOk result (Answers (λ s. create_circuit (ask_at request.now s) s) parts.now) }
 {
     let ask = ask_of(parts.entities, request)?;
     match decided(alloc, parts, &ask) {
         Ok(route) => plan_grant(parts, &ask, route),
-        Err(DecideFault::Denied(denial)) => Ok(unchanged(Reply::Refused(Refusal::Denied(denial)))),
+        Err(DecideFault::Denied(denial)) => Ok(Plan::refused(Refusal::Denied(denial))),
         Err(DecideFault::NoMemory) => Err(AllocError),
     }
 }
 
 // Plans the answer to DeleteCircuit.
-fn plan_delete_circuit(parts: &Parts, no: CircuitNo) -> CircuitPlan
+fn plan_delete_circuit(parts: &Parts, no: CircuitNo) -> Plan<CircuitChange>
     ensures { Answers (delete_circuit no.0) parts.now result }
 {
     match parts.circuits.get(no) {
-        Ok(_) => changed(Reply::Done, CircuitChange::Remove(no)),
-        Err(_) => unchanged(Reply::Refused(Refusal::Unknown { field: Field::No })),
+        Ok(_) => Plan::changed(Reply::Done, CircuitChange::Remove(no)),
+        Err(_) => Plan::refused(Refusal::Unknown { field: Field::No }),
     }
 }
 
 // Plans the reply to Explain, of the explanation of a route that would be granted.
-fn plan_explained(parts: &Parts, ask: &Ask, claim: Explanation) -> Result<CircuitPlan, AllocError>
+fn plan_explained(
+    parts: &Parts,
+    ask: &Ask,
+    claim: Explanation,
+) -> Result<Plan<CircuitChange>, AllocError>
     requires parts { AreParts parts.now }
     requires explained { IsExplained (network_in parts.now) (asked ask.now) claim }
     ensures { IfOk result (Answers (explain (asked ask.now)) parts.now) }
 {
     let ingress = router_name(parts.entities, claim.ingress)?;
-    Ok(unchanged(Reply::Explained { ingress, claim }))
+    Ok(Plan::shown(Reply::Explained { ingress, claim }))
 }
 
 // Plans the answer to Explain.
-fn plan_explain(alloc: Global, parts: &Parts, request: &Request) -> Result<CircuitPlan, AllocError>
+fn plan_explain(
+    alloc: Global,
+    parts: &Parts,
+    request: &Request,
+) -> Result<Plan<CircuitChange>, AllocError>
     requires { AreParts parts.now }
     ensures { IfOk result (Answers (λ s. explain (ask_at request.now s) s) parts.now) }
 {
     let ask = ask_of(parts.entities, request)?;
     match explained(alloc, parts, &ask) {
         Ok(claim) => plan_explained(parts, &ask, claim),
-        Err(DecideFault::Denied(denial)) => Ok(unchanged(Reply::Refused(Refusal::Denied(denial)))),
+        Err(DecideFault::Denied(denial)) => Ok(Plan::refused(Refusal::Denied(denial))),
         Err(DecideFault::NoMemory) => Err(AllocError),
     }
 }
@@ -142,11 +121,11 @@ fn plan_verify_route(
     routers: &Numbers,
     terminator: u32,
     total: u32,
-) -> Result<CircuitPlan, AllocError>
+) -> Result<Plan<CircuitChange>, AllocError>
     ensures { IfOk result (Answers (λ s. verify_route (ask_at request.now s) chosen.now links.now potentials.now routers.now terminator total s) parts.now) }
 {
     let Ok(ingress) = parts.entities.find(Kind::Router, chosen) else {
-        return Ok(unchanged(Reply::Verified { certified: false }));
+        return Ok(Plan::shown(Reply::Verified { certified: false }));
     };
     let claim = Explanation {
         ingress: RouterNo(ingress),
@@ -158,13 +137,16 @@ fn plan_verify_route(
     };
     let ask = ask_of(parts.entities, request)?;
     let certified = verified(alloc, parts, &ask, &claim)?;
-    Ok(unchanged(Reply::Verified { certified }))
+    Ok(Plan::shown(Reply::Verified { certified }))
 }
 
-// Plans the answer to a VerifyRoute.
-fn plan_claim(alloc: Global, parts: &Parts, command: &Command) -> Result<CircuitPlan, AllocError>
-    requires { is_claim command.now ≡ true }
-    ensures { IfOk result (Answers (carry command.now) parts.now) }
+// Plans the answer to a VerifyRoute. None is another command.
+fn plan_claim(
+    alloc: Global,
+    parts: &Parts,
+    command: &Command,
+) -> Result<Option<Plan<CircuitChange>>, AllocError>
+    ensures { IfOk result (λ o. MatchOption o (is_claim command.now ≡ false) (Answers (carry command.now) parts.now)) }
 {
     let Command::VerifyRoute {
         identity,
@@ -179,10 +161,10 @@ fn plan_claim(alloc: Global, parts: &Parts, command: &Command) -> Result<Circuit
         total,
     } = command
     else {
-        unreachable!()
+        return Ok(None);
     };
     let request = Request::of(identity, service, ingress, instance);
-    plan_verify_route(
+    let plan = plan_verify_route(
         alloc,
         parts,
         &request,
@@ -192,22 +174,23 @@ fn plan_claim(alloc: Global, parts: &Parts, command: &Command) -> Result<Circuit
         routers,
         *terminator,
         *total,
-    )
+    )?;
+    Ok(Some(plan))
 }
 
 // Plans the answer to ShowCircuit.
-fn plan_show_circuit(parts: &Parts, no: CircuitNo) -> Result<CircuitPlan, AllocError>
+fn plan_show_circuit(parts: &Parts, no: CircuitNo) -> Result<Plan<CircuitChange>, AllocError>
     requires { AreParts parts.now }
     ensures { IfOk result (Answers (show_circuit no.0) parts.now) }
 {
     let Ok(circuit) = parts.circuits.get(no) else {
-        return Ok(unchanged(Reply::Refused(Refusal::Unknown { field: Field::No })));
+        return Ok(Plan::refused(Refusal::Unknown { field: Field::No }));
     };
     let identity = name_at(parts.entities, Kind::Identity, circuit.identity.0)?;
     let ingress = router_name(parts.entities, circuit.ingress)?;
     let service = name_at(parts.entities, Kind::Service, circuit.service.0)?;
     let links = circuit.links.copy()?;
-    Ok(unchanged(Reply::Shown {
+    Ok(Plan::shown(Reply::Shown {
         identity,
         ingress,
         links,
@@ -216,18 +199,14 @@ fn plan_show_circuit(parts: &Parts, no: CircuitNo) -> Result<CircuitPlan, AllocE
     }))
 }
 
-/// Plans the answer to a command on circuits that some body spells: in every valid state with these parts and these grant counts it
-/// is the controller's (docs/RULES.md, "Circuits").
-pub fn plan_circuit_command(
+// Plans the answer to a command on circuits that has no claim. None is another command.
+fn plan_without_claim(
     alloc: Global,
     parts: &Parts,
     command: &Command,
-) -> Result<CircuitPlan, AllocError>
-    requires circuits { is_circuit_command command.now ≡ true }
-    requires spelled { is_spelled command.now ≡ true }
-    requires parts { AreParts parts.now }
-    ensures { IfOk result (λ p. (s : State) → ValidState (with_parts parts.now s) → AreGrants parts.now (with_parts parts.now s)
-        → PlansCircuits p (carry command.now (with_parts parts.now s)) (with_parts parts.now s)) }
+) -> Result<Option<Plan<CircuitChange>>, AllocError>
+    requires { AreParts parts.now }
+    ensures { IfOk result (λ o. MatchOption o (is_unclaimed command.now ≡ false) (Answers (carry command.now) parts.now)) }
 {
     match command {
         Command::CreateCircuit {
@@ -237,9 +216,9 @@ pub fn plan_circuit_command(
             instance,
         } => {
             let request = Request::of(identity, service, ingress, instance);
-            plan_create_circuit(alloc, parts, &request)
+            Ok(Some(plan_create_circuit(alloc, parts, &request)?))
         }
-        Command::DeleteCircuit { no } => Ok(plan_delete_circuit(parts, CircuitNo(*no))),
+        Command::DeleteCircuit { no } => Ok(Some(plan_delete_circuit(parts, CircuitNo(*no)))),
         Command::Explain {
             identity,
             service,
@@ -247,9 +226,25 @@ pub fn plan_circuit_command(
             instance,
         } => {
             let request = Request::of(identity, service, ingress, instance);
-            plan_explain(alloc, parts, &request)
+            Ok(Some(plan_explain(alloc, parts, &request)?))
         }
-        Command::ShowCircuit { no } => plan_show_circuit(parts, CircuitNo(*no)),
-        _ => plan_claim(alloc, parts, command),
+        Command::ShowCircuit { no } => Ok(Some(plan_show_circuit(parts, CircuitNo(*no))?)),
+        _ => Ok(None),
     }
+}
+
+/// Plans the answer to a command on circuits: in every valid state with these parts and these grant counts it is the controller's
+/// (docs/RULES.md, "Circuits"). None is a command on something else.
+pub fn plan_circuit_command(
+    alloc: Global,
+    parts: &Parts,
+    command: &Command,
+) -> Result<Option<Plan<CircuitChange>>, AllocError>
+    requires { AreParts parts.now }
+    ensures { IfOk result (λ o. MatchOption o (is_circuit_command command.now ≡ false) (Answers (carry command.now) parts.now)) }
+{
+    if let Some(plan) = plan_without_claim(alloc, parts, command)? {
+        return Ok(Some(plan));
+    }
+    plan_claim(alloc, parts, command)
 }

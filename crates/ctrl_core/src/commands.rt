@@ -1,282 +1,190 @@
-ghost use Rattle.std.specs.Prelude.{◌≡◌, true, IfOk};
+ghost use Rattle.std.specs.Prelude.{◌≡◌, true, false, IfOk, MatchOption, option_map};
+ghost use Rattle.ctrl_core.specs.declared.changes.Change.TheVariants.{Link, Terminator, Circuit};
 ghost use Rattle.ctrl_model.specs.CommandForm.{is_spelled};
-ghost use Rattle.ctrl_model.specs.Controller.{carry, policy};
-ghost use Rattle.ctrl_core.specs.CarriedCommands.{family_of, is_carried};
+ghost use Rattle.ctrl_model.specs.Controller.{carry};
+ghost use Rattle.ctrl_model.specs.State.{State};
+ghost use Rattle.ctrl_model.specs.declared.replies.Reply.{Reply};
+ghost use Rattle.model_laws.specs.Plans.{CanLeadBy};
+ghost use Rattle.entity_commands.specs.EntityChanges.{CanEnter};
+ghost use Rattle.entity_commands.specs.EntityPlans.{is_entity_command, PlansEntities};
+ghost use Rattle.link_commands.specs.LinkPlans.{is_link_command};
+ghost use Rattle.policy_store.specs.PolicyChanges.{CanRule};
+ghost use Rattle.policy_store.specs.PolicyPlans.{is_policy_command, PlansPolicies};
+ghost use Rattle.terminator_commands.specs.TermPlans.{is_terminator_command};
+ghost use Rattle.ctrl_core.specs.CarriedCommands.{is_carried, is_grant_command};
+ghost use Rattle.ctrl_core.specs.CircuitPlans.{is_circuit_command};
 ghost use Rattle.ctrl_core.specs.KeptState.{Keeps, state_of};
-ghost use Rattle.ctrl_core.specs.PlannedCommands.{Plans, circuit_change, link_change, term_change};
+ghost use Rattle.ctrl_core.specs.PlannedCommands.{Plans};
 
 use crate::changes::{Change, Planned};
 use crate::circuit_parts::Parts;
-use crate::circuit_planning::{CircuitPlan, plan_circuit_command};
-use crate::families::{Family, family_of};
-use crate::planning::{
-    plan_add, plan_add_router, plan_delete, plan_mark, plan_update, plan_update_router,
-};
-use crate::policy_planning::{plan_create_policy, plan_delete_policy, plan_replace_policy};
+use crate::circuit_planning::plan_circuit_command;
+use crate::counting::{entity_change_steps, policy_change_steps};
 use crate::showing::{plan_list_services, plan_show_counts, plan_show_grants};
 use crate::stores::Stores;
 use circuits::CircuitChange;
-use ctrl_model::{Command, Kind, Name, Relation, Reply, Semantic, Side};
-use link_commands::{LinkChange, LinkPlan, plan_link_command};
-use policy_store::Policy;
+use ctrl_model::{Command, Reply};
+use entity_commands::{EntityChange, plan_entity_command};
+use link_commands::{LinkChange, plan_link_command};
+use model_laws::Plan;
+use policy_store::{PolicyChange, plan_policy_command};
 use std::alloc::{AllocError, Global};
-use terminator_commands::{TermChange, TermPlan, plan_terminator_command};
+use terminator_commands::{TermChange, plan_terminator_command};
 
-fn copy_side(side: &Side) -> Result<Side, AllocError>
-    ensures { IfOk result (λ s. s ≡ side.now) }
+// The plan of a change of the entities, if there is one, with its steps.
+fn counted_entities(
+    alloc: Global,
+    stores: &Stores,
+    plan: Plan<EntityChange>,
+) -> Result<Planned, AllocError>
+    requires kept { Keeps stores.now }
+    requires can { CanLeadBy CanEnter plan.change (state_of stores.now) }
+    ensures { IfOk result (λ p. (answered : Reply × State) → PlansEntities plan answered (state_of stores.now) → Plans p answered (state_of stores.now)) }
 {
-    let ids = side.ids.copy()?;
-    let attributes = side.attributes.copy()?;
-    Ok(Side {
-        all: side.all,
-        ids,
-        attributes,
+    let Plan { reply, change } = plan;
+    let Some(change) = change else {
+        return Ok(Planned::shown(alloc, reply));
+    };
+    let steps = entity_change_steps(alloc, stores, &change)?;
+    Ok(Planned {
+        reply,
+        change: Some(Change::Entity(change)),
+        steps,
     })
 }
 
-// The policy that a command's fields say.
-fn policy(
-    name: &Name,
-    relation: Relation,
-    semantic: Semantic,
-    left: &Side,
-    right: &Side,
-) -> Result<Policy, AllocError>
-    ensures { IfOk result (λ p. p ≡ policy name.now relation semantic left.now right.now) }
+// Plans the answer to a command on entities. None is a command on something else.
+fn plan_entities(
+    alloc: Global,
+    stores: &Stores,
+    command: &Command,
+) -> Result<Option<Planned>, AllocError>
+    requires { Keeps stores.now }
+    ensures { IfOk result (λ o. MatchOption o (is_entity_command command.now ≡ false) (λ p. Plans p (carry command.now (state_of stores.now)) (state_of stores.now))) }
 {
-    let name = name.copy()?;
-    let left = copy_side(left)?;
-    let right = copy_side(right)?;
-    Ok(Policy {
-        name,
-        relation,
-        semantic,
-        left,
-        right,
+    match plan_entity_command(alloc, &stores.entities, command)? {
+        Some(plan) => Ok(Some(counted_entities(alloc, stores, plan)?)),
+        None => Ok(None),
+    }
+}
+
+// The plan of a change of the policies, if there is one, with its steps.
+fn counted_policies(
+    alloc: Global,
+    stores: &Stores,
+    plan: Plan<PolicyChange>,
+) -> Result<Planned, AllocError>
+    requires kept { Keeps stores.now }
+    requires can { CanLeadBy CanRule plan.change (state_of stores.now) }
+    ensures { IfOk result (λ p. (answered : Reply × State) → PlansPolicies plan answered (state_of stores.now) → Plans p answered (state_of stores.now)) }
+{
+    let Plan { reply, change } = plan;
+    let Some(change) = change else {
+        return Ok(Planned::shown(alloc, reply));
+    };
+    let steps = policy_change_steps(alloc, stores, &change)?;
+    Ok(Planned {
+        reply,
+        change: Some(Change::Policy(change)),
+        steps,
     })
 }
 
-// Plans the answer to a command on identities, services or edge routers.
-fn plan_entities(alloc: Global, stores: &Stores, command: &Command) -> Result<Planned, AllocError>
-    requires kept { Keeps stores.now }
-    requires family { family_of command.now ≡ Family.Entities }
-    ensures { IfOk result (λ p. Plans p (carry command.now (state_of stores.now)) (state_of stores.now)) }
-{
-    match command {
-        Command::CreateIdentity { name, attributes } => {
-            plan_add(alloc, stores, Kind::Identity, name, attributes)
-        }
-        Command::UpdateIdentity { name, attributes } => {
-            plan_update(alloc, stores, Kind::Identity, name, attributes)
-        }
-        Command::DeleteIdentity { name } => plan_delete(alloc, stores, Kind::Identity, name),
-        Command::CreateService { name, attributes } => {
-            plan_add(alloc, stores, Kind::Service, name, attributes)
-        }
-        Command::UpdateService { name, attributes } => {
-            plan_update(alloc, stores, Kind::Service, name, attributes)
-        }
-        Command::DeleteService { name } => plan_delete(alloc, stores, Kind::Service, name),
-        Command::CreateRouter {
-            name,
-            attributes,
-            cost,
-            no_traversal,
-        } => plan_add_router(alloc, stores, name, attributes, *cost, *no_traversal),
-        Command::UpdateRouter {
-            name,
-            attributes,
-            cost,
-            no_traversal,
-        } => plan_update_router(alloc, stores, name, attributes, *cost, *no_traversal),
-        Command::DeleteRouter { name } => plan_delete(alloc, stores, Kind::Router, name),
-        Command::ConnectRouter { name } => plan_mark(alloc, stores, name, true),
-        Command::DisconnectRouter { name } => plan_mark(alloc, stores, name, false),
-        _ => unreachable!(),
-    }
-}
-
-// Plans the answer to a command on service policies.
-fn plan_service_policies(
+// Plans the answer to a command on policies. None is a command on something else.
+fn plan_policies(
     alloc: Global,
     stores: &Stores,
     command: &Command,
-) -> Result<Planned, AllocError>
+) -> Result<Option<Planned>, AllocError>
     requires kept { Keeps stores.now }
     requires spelled { is_spelled command.now ≡ true }
-    requires family { family_of command.now ≡ Family.ServicePolicies }
-    ensures { IfOk result (λ p. Plans p (carry command.now (state_of stores.now)) (state_of stores.now)) }
+    ensures { IfOk result (λ o. MatchOption o (is_policy_command command.now ≡ false) (λ p. Plans p (carry command.now (state_of stores.now)) (state_of stores.now))) }
 {
-    let kind = Kind::ServicePolicy;
-    match command {
-        Command::CreateServicePolicy {
-            name,
-            relation,
-            semantic,
-            identity_roles,
-            service_roles,
-        } => {
-            let policy = policy(name, *relation, *semantic, identity_roles, service_roles)?;
-            plan_create_policy(alloc, stores, kind, policy)
-        }
-        Command::UpdateServicePolicy {
-            name,
-            relation,
-            semantic,
-            identity_roles,
-            service_roles,
-        } => {
-            let policy = policy(name, *relation, *semantic, identity_roles, service_roles)?;
-            plan_replace_policy(alloc, stores, kind, policy)
-        }
-        Command::DeleteServicePolicy { name } => plan_delete_policy(alloc, stores, kind, name),
-        _ => unreachable!(),
+    match plan_policy_command(alloc, &stores.entities, &stores.policies, command)? {
+        Some(plan) => Ok(Some(counted_policies(alloc, stores, plan)?)),
+        None => Ok(None),
     }
 }
 
-// Plans the answer to a command on edge-router policies.
-fn plan_edge_router_policies(
-    alloc: Global,
-    stores: &Stores,
-    command: &Command,
-) -> Result<Planned, AllocError>
-    requires kept { Keeps stores.now }
-    requires spelled { is_spelled command.now ≡ true }
-    requires family { family_of command.now ≡ Family.EdgeRouterPolicies }
-    ensures { IfOk result (λ p. Plans p (carry command.now (state_of stores.now)) (state_of stores.now)) }
-{
-    let kind = Kind::EdgeRouterPolicy;
-    let relation = Relation::IdentityRouter;
-    match command {
-        Command::CreateEdgeRouterPolicy {
-            name,
-            semantic,
-            identity_roles,
-            router_roles,
-        } => {
-            let policy = policy(name, relation, *semantic, identity_roles, router_roles)?;
-            plan_create_policy(alloc, stores, kind, policy)
-        }
-        Command::UpdateEdgeRouterPolicy {
-            name,
-            semantic,
-            identity_roles,
-            router_roles,
-        } => {
-            let policy = policy(name, relation, *semantic, identity_roles, router_roles)?;
-            plan_replace_policy(alloc, stores, kind, policy)
-        }
-        Command::DeleteEdgeRouterPolicy { name } => plan_delete_policy(alloc, stores, kind, name),
-        _ => unreachable!(),
-    }
-}
-
-// Plans the answer to a command on service-edge-router policies.
-fn plan_service_edge_router_policies(
-    alloc: Global,
-    stores: &Stores,
-    command: &Command,
-) -> Result<Planned, AllocError>
-    requires kept { Keeps stores.now }
-    requires spelled { is_spelled command.now ≡ true }
-    requires family { family_of command.now ≡ Family.ServiceEdgeRouterPolicies }
-    ensures { IfOk result (λ p. Plans p (carry command.now (state_of stores.now)) (state_of stores.now)) }
-{
-    let kind = Kind::ServiceEdgeRouterPolicy;
-    let relation = Relation::ServiceRouter;
-    match command {
-        Command::CreateServiceEdgeRouterPolicy {
-            name,
-            semantic,
-            service_roles,
-            router_roles,
-        } => {
-            let policy = policy(name, relation, *semantic, service_roles, router_roles)?;
-            plan_create_policy(alloc, stores, kind, policy)
-        }
-        Command::UpdateServiceEdgeRouterPolicy {
-            name,
-            semantic,
-            service_roles,
-            router_roles,
-        } => {
-            let policy = policy(name, relation, *semantic, service_roles, router_roles)?;
-            plan_replace_policy(alloc, stores, kind, policy)
-        }
-        Command::DeleteServiceEdgeRouterPolicy { name } => {
-            plan_delete_policy(alloc, stores, kind, name)
-        }
-        _ => unreachable!(),
-    }
-}
-
-// The change that a plan of a command on links has.
-fn link_change(change: Option<LinkChange>) -> Change
-    ensures { result ≡ link_change change }
+// The change of links that a plan has, as one of the core.
+fn link_change(change: Option<LinkChange>) -> Option<Change>
+    ensures { result ≡ option_map Link change }
 {
     match change {
-        Some(change) => Change::Link(change),
-        None => Change::Nothing,
+        Some(change) => Some(Change::Link(change)),
+        None => None,
     }
 }
 
-// Plans the answer to a command on links or on the least router cost.
-fn plan_links(alloc: Global, stores: &Stores, command: &Command) -> Result<Planned, AllocError>
+// Plans the answer to a command on links or on the least router cost. None is a command on something else.
+fn plan_links(
+    alloc: Global,
+    stores: &Stores,
+    command: &Command,
+) -> Result<Option<Planned>, AllocError>
     requires kept { Keeps stores.now }
     requires spelled { is_spelled command.now ≡ true }
-    requires family { family_of command.now ≡ Family.Links }
-    ensures { IfOk result (λ p. Plans p (carry command.now (state_of stores.now)) (state_of stores.now)) }
+    ensures { IfOk result (λ o. MatchOption o (is_link_command command.now ≡ false) (λ p. Plans p (carry command.now (state_of stores.now)) (state_of stores.now))) }
 {
-    let LinkPlan { reply, change } = plan_link_command(&stores.entities, &stores.fabric, command)?;
-    Ok(Planned::uncounted(alloc, reply, link_change(change)))
-}
-
-// The change that a plan of a command on terminators has.
-fn term_change(change: Option<TermChange>) -> Change
-    ensures { result ≡ term_change change }
-{
-    match change {
-        Some(change) => Change::Terminator(change),
-        None => Change::Nothing,
+    match plan_link_command(&stores.entities, &stores.fabric, command)? {
+        Some(plan) => {
+            let Plan { reply, change } = plan;
+            let change = link_change(change);
+            Ok(Some(Planned::uncounted(alloc, reply, change)))
+        }
+        None => Ok(None),
     }
 }
 
-// Plans the answer to a command on terminators.
+// The change of terminators that a plan has, as one of the core.
+fn term_change(change: Option<TermChange>) -> Option<Change>
+    ensures { result ≡ option_map Terminator change }
+{
+    match change {
+        Some(change) => Some(Change::Terminator(change)),
+        None => None,
+    }
+}
+
+// Plans the answer to a command on terminators. None is a command on something else.
 fn plan_terminators(
     alloc: Global,
     stores: &Stores,
     command: &Command,
-) -> Result<Planned, AllocError>
+) -> Result<Option<Planned>, AllocError>
     requires kept { Keeps stores.now }
     requires spelled { is_spelled command.now ≡ true }
-    requires family { family_of command.now ≡ Family.Terminators }
-    ensures { IfOk result (λ p. Plans p (carry command.now (state_of stores.now)) (state_of stores.now)) }
+    ensures { IfOk result (λ o. MatchOption o (is_terminator_command command.now ≡ false) (λ p. Plans p (carry command.now (state_of stores.now)) (state_of stores.now))) }
 {
-    let TermPlan { reply, change } = plan_terminator_command(
-        &stores.entities,
-        &stores.terminators,
-        &stores.grants.bind,
-        command,
-    )?;
-    Ok(Planned::uncounted(alloc, reply, term_change(change)))
-}
-
-// The change that a plan of a command on circuits has.
-fn circuit_change(change: Option<CircuitChange>) -> Change
-    ensures { result ≡ circuit_change change }
-{
-    match change {
-        Some(change) => Change::Circuit(change),
-        None => Change::Nothing,
+    let bind = &stores.grants.bind;
+    match plan_terminator_command(&stores.entities, &stores.terminators, bind, command)? {
+        Some(plan) => {
+            let Plan { reply, change } = plan;
+            let change = term_change(change);
+            Ok(Some(Planned::uncounted(alloc, reply, change)))
+        }
+        None => Ok(None),
     }
 }
 
-// Plans the answer to a command on circuits.
-fn plan_circuits(alloc: Global, stores: &Stores, command: &Command) -> Result<Planned, AllocError>
-    requires kept { Keeps stores.now }
-    requires spelled { is_spelled command.now ≡ true }
-    requires family { family_of command.now ≡ Family.Circuits }
-    ensures { IfOk result (λ p. Plans p (carry command.now (state_of stores.now)) (state_of stores.now)) }
+// The change of circuits that a plan has, as one of the core.
+fn circuit_change(change: Option<CircuitChange>) -> Option<Change>
+    ensures { result ≡ option_map Circuit change }
+{
+    match change {
+        Some(change) => Some(Change::Circuit(change)),
+        None => None,
+    }
+}
+
+// Plans the answer to a command on circuits. None is a command on something else.
+fn plan_circuits(
+    alloc: Global,
+    stores: &Stores,
+    command: &Command,
+) -> Result<Option<Planned>, AllocError>
+    requires { Keeps stores.now }
+    ensures { IfOk result (λ o. MatchOption o (is_circuit_command command.now ≡ false) (λ p. Plans p (carry command.now (state_of stores.now)) (state_of stores.now))) }
 {
     let parts = Parts {
         entities: &stores.entities,
@@ -288,25 +196,37 @@ fn plan_circuits(alloc: Global, stores: &Stores, command: &Command) -> Result<Pl
         identity_router: &stores.grants.identity_router,
         service_router: &stores.grants.service_router,
     };
-    let CircuitPlan { reply, change } = plan_circuit_command(alloc, &parts, command)?;
-    Ok(Planned::uncounted(alloc, reply, circuit_change(change)))
-}
-
-// Plans the answer to a command that shows grants or counts.
-fn plan_grants(alloc: Global, stores: &Stores, command: &Command) -> Result<Planned, AllocError>
-    requires kept { Keeps stores.now }
-    requires family { family_of command.now ≡ Family.Grants }
-    ensures { IfOk result (λ p. Plans p (carry command.now (state_of stores.now)) (state_of stores.now)) }
-{
-    match command {
-        Command::ShowGrants { identity } => plan_show_grants(alloc, stores, identity),
-        Command::ListServices { identity } => plan_list_services(alloc, stores, identity),
-        Command::ShowCounts => plan_show_counts(alloc, stores),
-        _ => unreachable!(),
+    match plan_circuit_command(alloc, &parts, command)? {
+        Some(plan) => {
+            let Plan { reply, change } = plan;
+            let change = circuit_change(change);
+            Ok(Some(Planned::uncounted(alloc, reply, change)))
+        }
+        None => Ok(None),
     }
 }
 
-/// Plans the answer to a command that is carried out over the state of some stores.
+// Plans the answer to a command that shows grants or counts. None is another command.
+fn plan_grants(
+    alloc: Global,
+    stores: &Stores,
+    command: &Command,
+) -> Result<Option<Planned>, AllocError>
+    requires { Keeps stores.now }
+    ensures { IfOk result (λ o. MatchOption o (is_grant_command command.now ≡ false) (λ p. Plans p (carry command.now (state_of stores.now)) (state_of stores.now))) }
+{
+    match command {
+        Command::ShowGrants { identity } => Ok(Some(plan_show_grants(alloc, stores, identity)?)),
+        Command::ListServices { identity } => {
+            Ok(Some(plan_list_services(alloc, stores, identity)?))
+        }
+        Command::ShowCounts => Ok(Some(plan_show_counts(alloc, stores)?)),
+        _ => Ok(None),
+    }
+}
+
+/// Plans the answer to a command that is carried out over the state of some stores: it is planned by the family that it belongs to,
+/// and what belongs to none is Hello.
 pub fn plan_command(
     alloc: Global,
     stores: &Stores,
@@ -317,18 +237,23 @@ pub fn plan_command(
     requires carried { is_carried command.now ≡ true }
     ensures { IfOk result (λ p. Plans p (carry command.now (state_of stores.now)) (state_of stores.now)) }
 {
-    match family_of(command) {
-        Family::Greeting => Ok(Planned::shown(alloc, Reply::Empty)),
-        Family::Entities => plan_entities(alloc, stores, command),
-        Family::ServicePolicies => plan_service_policies(alloc, stores, command),
-        Family::EdgeRouterPolicies => plan_edge_router_policies(alloc, stores, command),
-        Family::ServiceEdgeRouterPolicies => {
-            plan_service_edge_router_policies(alloc, stores, command)
-        }
-        Family::Links => plan_links(alloc, stores, command),
-        Family::Terminators => plan_terminators(alloc, stores, command),
-        Family::Circuits => plan_circuits(alloc, stores, command),
-        Family::Grants => plan_grants(alloc, stores, command),
-        Family::Others => unreachable!(),
+    if let Some(planned) = plan_entities(alloc, stores, command)? {
+        return Ok(planned);
     }
+    if let Some(planned) = plan_policies(alloc, stores, command)? {
+        return Ok(planned);
+    }
+    if let Some(planned) = plan_links(alloc, stores, command)? {
+        return Ok(planned);
+    }
+    if let Some(planned) = plan_terminators(alloc, stores, command)? {
+        return Ok(planned);
+    }
+    if let Some(planned) = plan_circuits(alloc, stores, command)? {
+        return Ok(planned);
+    }
+    if let Some(planned) = plan_grants(alloc, stores, command)? {
+        return Ok(planned);
+    }
+    Ok(Planned::shown(alloc, Reply::Empty))
 }

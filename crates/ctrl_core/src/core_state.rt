@@ -4,9 +4,10 @@ ghost use Rattle.ctrl_model.specs.CommandForm.{is_spelled};
 ghost use Rattle.ctrl_model.specs.Controller.{carry};
 ghost use Rattle.ctrl_model.specs.Grants.{count};
 ghost use Rattle.ctrl_model.specs.ValidState.{ValidState};
+ghost use Rattle.model_laws.specs.Plans.{tells_change};
 ghost use Rattle.grant_denorm.specs.MovedCounts.{AreCountsOf};
 ghost use Rattle.ctrl_core.specs.CarriedCommands.{is_carried};
-ghost use Rattle.ctrl_core.specs.Changes.{CanLead, LeadsFrom, led};
+ghost use Rattle.ctrl_core.specs.Changes.{CanLead, IsStill, LeadsFrom, led};
 
 use crate::applying::{apply_steps, carry_out};
 use crate::changes::Planned;
@@ -59,13 +60,15 @@ impl Core {
     }
 
     /// Plans the answer to a command that some body spells, as the controller gives it to who may send it. So far the commands are
-    /// all but Compact. The state stays, and it is valid.
+    /// all but Compact. A plan of a refusal, or of a reply that shows something, has no change and moves no count. The state stays,
+    /// and it is valid.
     pub fn plan(&self, command: &Command) -> Result<Planned, AllocError>
         requires live { self.now.live ≡ true }
         requires spelled { is_spelled command.now ≡ true }
         requires carried { is_carried command.now ≡ true }
         ensures reply { IfOk result (λ p. p.reply ≡ (carry command.now self.now.state).0) }
         ensures leads { IfOk result (λ p. LeadsFrom p self.now.state (carry command.now self.now.state).1) }
+        ensures still { IfOk result (λ p. tells_change p.reply ≡ false → IsStill p) }
         ensures valid { ValidState self.now.state }
     {
         plan_command(self.alloc, &self.stores, command)

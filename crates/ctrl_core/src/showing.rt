@@ -1,16 +1,25 @@
 ghost use Rattle.std.specs.Prelude.{◌≡◌, IfOk};
+ghost use Rattle.ctrl_model.specs.declared.refusals.Refusal.TheVariants.{Unknown};
+ghost use Rattle.ctrl_model.specs.declared.replies.Reply.TheVariants.{Refused};
 ghost use Rattle.ctrl_model.specs.ShowCommands.{show_grants, list_services, show_counts, grants_in_all};
 ghost use Rattle.ctrl_core.specs.KeptState.{Keeps, state_of};
-ghost use Rattle.ctrl_core.specs.PlannedCommands.{Plans};
+ghost use Rattle.ctrl_core.specs.PlannedCommands.{IsShown, Plans};
 
 use crate::changes::Planned;
-use crate::planning::unknown_identity;
 use crate::stores::Stores;
 use circuits::count_circuits;
-use ctrl_model::{Kind, Name, Names, Reply, Tallies};
+use ctrl_model::{Field, Kind, Name, Names, Refusal, Reply, Tallies};
 use policy_store::count_all_policies;
 use shown_records::{count_entities, count_links, count_terminators, names_of, tallies};
 use std::alloc::{AllocError, Global};
+
+// The plan of a command whose identity nothing has.
+fn unknown_identity(alloc: Global) -> Planned
+    ensures { IsShown (Refused (Unknown Field.Identity)) result }
+{
+    let field = Field::Identity;
+    Planned::refused(alloc, Refusal::Unknown { field })
+}
 
 /// Plans what an identity is granted.
 pub fn plan_show_grants(

@@ -6,6 +6,7 @@ use Rattle.ctrl_model.specs.declared.kinds.Kind.{Kind}
 use Rattle.ctrl_model.specs.declared.kinds.Kind.TheVariants as kind
 use Rattle.ctrl_model.specs.Numbered.{Table, no_rows, with_new, with_edit, with_removed}
 use Rattle.ctrl_model.specs.State.{Entity, Router, as_entity, entity_named, router_named}
+pub use Rattle.ctrl_model.specs.Tables.{is_entity_kind}
 
 -- The tables.
 pub record Tables : Type 0 where
@@ -17,13 +18,6 @@ pub record Tables : Type 0 where
 -- A store without entities.
 abbrev pub no_entities : Tables
 no_entities = record { identities = no_rows; services = no_rows; routers = no_rows; held = [] }
-
--- The kinds of entity.
-abbrev pub is_entity_kind : Kind → Bool
-is_entity_kind kind.Identity = true
-is_entity_kind kind.Service = true
-is_entity_kind kind.Router = true
-is_entity_kind _ = false
 
 -- The entities of a kind: routers by their names and attributes alone.
 abbrev pub entities : Kind → Tables → List (ℕ × Entity)

@@ -3,3 +3,4 @@ pub mod AttributeUses
 pub mod TableRules
 pub mod Parts
 pub mod WorkedTables
+pub mod HeldUses

@@ -23,10 +23,12 @@ use Rattle.fabric_graph.specs.declared.fabric.FabricFault.TheVariants as fault
 use Rattle.fabric_graph.specs.FabricTables.{FabricSeen}
 use Rattle.fabric_graph.specs.FabricRules.{may_add, has_link_room}
 use Rattle.link_commands.specs.declared.changes.LinkChange.TheVariants as change
-use Rattle.link_commands.specs.declared.changes.LinkPlan.{LinkPlan}
+use Rattle.link_commands.specs.declared.changes.LinkChange.{LinkChange}
+use Rattle.model_laws.specs.declared.plans.Plan.{Plan}
+use Rattle.model_laws.specs.Plans.{changed}
 use Rattle.link_commands.specs.LinkChanges.{over}
 use Rattle.link_commands.specs.PlannedLinks.{Answers, Joins, RefusesJoin}
-use Rattle.link_commands.proofs.PlanLaws.{plan, planned}
+use Rattle.link_commands.proofs.PlanLaws.{planned}
 
 -- the refusal of making a link, by what it is judged on
 abbrev judged : Option ℕ → Option ℕ → Option ℕ → Bool → Bool → Option Refusal
@@ -91,17 +93,17 @@ pub same_router_refused : (name a b : List ℕ) (t : Tables) (f : FabricSeen) (f
     → may_add name from to f ≡ Err fault.SameRouter → RefusesJoin name a b t f refusal.SameRouter
 same_router_refused name a b t f from to starts ends may s valid = judged_so name a b t f s from to true valid starts ends may
 
-pub create_planned : (name a b : List ℕ) (cost latency_a latency_b : ℕ) (t : Tables) (f : FabricSeen) (from to : RouterNo) (kept : List ℕ) (n : ℕ) (p : LinkPlan)
+pub create_planned : (name a b : List ℕ) (cost latency_a latency_b : ℕ) (t : Tables) (f : FabricSeen) (from to : RouterNo) (kept : List ℕ) (n : ℕ) (p : Plan LinkChange)
     → is_link_cost cost ≡ true → is_latency latency_a ≡ true → is_latency latency_b ≡ true → Joins name a b t f from.0 to.0 → kept ≡ name → n ≡ f.links.next
-    → p ≡ plan (Made n) (change.Add (record { name = kept; a = from.0; b = to.0; cost = cost; latency_a = latency_a; latency_b = latency_b; up = true }))
+    → p ≡ changed (Made n) (change.Add (record { name = kept; a = from.0; b = to.0; cost = cost; latency_a = latency_a; latency_b = latency_b; up = true }))
     → Answers (create_link name a b cost latency_a latency_b) t f p
 create_planned name a b cost latency_a latency_b t f from to kept n p c d e joins is_name is_next is s valid =
     planned p (Made f.links.next) (change.Add (record { name = name; a = from.0; b = to.0; cost = cost; latency_a = latency_a; latency_b = latency_b; up = true }))
     (refusal_of_create_link name a b (over t f s)) (over t f s) (after_create_link name a b cost latency_a latency_b (over t f s))
-    (judged_so name a b t f s from.0 to.0 false valid joins.starts joins.ends joins.may) (joins.may, c, d, e)
+    (judged_so name a b t f s from.0 to.0 false valid joins.starts joins.ends joins.may) refl (joins.may, c, d, e)
     (sym (ap (λ o. at_number o (over t f s) (λ x. at_number (router_named t.routers.rows b) (over t f s) (λ y. linked x y))) joins.starts
     ∙ ap (λ o. at_number o (over t f s) (λ y. linked from.0 y)) joins.ends))
-    (is ∙ (λ i. plan (Made (is_next i)) (change.Add (record { name = is_name i; a = from.0; b = to.0; cost = cost; latency_a = latency_a; latency_b = latency_b; up = true }))))
+    (is ∙ (λ i. changed (Made (is_next i)) (change.Add (record { name = is_name i; a = from.0; b = to.0; cost = cost; latency_a = latency_a; latency_b = latency_b; up = true }))))
   where
     linked : ℕ → ℕ → State
     linked x y = record (over t f s) {

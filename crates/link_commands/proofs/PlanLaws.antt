@@ -15,7 +15,6 @@ use Rattle.ctrl_model.specs.LinkCommands.{is_end_of, with_latency, refusal_of_re
 use Rattle.ctrl_model.specs.Numbered.{at, edit_at, with_edit, with_removed, Between}
 use Rattle.ctrl_model.specs.RecordCommands.{after_delete}
 use Rattle.ctrl_model.specs.Rules.{or_then, carried_out, unknown_if_absent, at_number}
-use Rattle.ctrl_model.specs.Settling.{settle}
 use Rattle.ctrl_model.specs.State.{State, Link, link_named, router_named}
 use Rattle.ctrl_model.specs.ValidState.{ValidState, is_valid_link}
 use Rattle.ctrl_model.proofs.NumberedLaws.{at-edit_at, Between-edit_at, same_numbered}
@@ -28,21 +27,18 @@ use Rattle.fabric_graph.specs.FabricTables.{FabricSeen}
 use Rattle.fabric_graph.specs.Routers.{fabric_of}
 use Rattle.link_commands.specs.declared.changes.LinkChange.{LinkChange}
 use Rattle.link_commands.specs.declared.changes.LinkChange.TheVariants as change
-use Rattle.link_commands.specs.declared.changes.LinkPlan.{LinkPlan}
+use Rattle.model_laws.specs.declared.plans.Plan.{Plan}
+use Rattle.model_laws.specs.Plans.{changed, tells_change}
+use Rattle.model_laws.proofs.PlannedLaws.{plans_carried}
 use Rattle.link_commands.specs.LinkChanges.{with_fabric, over, after_link_change, CanChangeLinks}
 use Rattle.link_commands.specs.LinkPlans.{PlansLinks}
 use Rattle.link_commands.specs.PlannedLinks.{Answers, IsLink, Reports, end_of}
 
--- the plan of a reply with a change
-abbrev pub plan : Reply → LinkChange → LinkPlan
-plan reply c = record { reply = reply; change = Some c }
-
 -- where no refusal comes, the change leads to the settled effect
-pub planned : (p : LinkPlan) (reply : Reply) (c : LinkChange) (o : Option Refusal) (s effect : State) → o ≡ None → CanChangeLinks c (fabric_of s)
-    → with_fabric (after_link_change c (fabric_of s)) s ≡ effect → p ≡ plan reply c → PlansLinks p (carried_out o s reply effect) s
-planned p reply c o s effect e can leads is =
-    subst (λ q. PlansLinks p (carried_out q s reply effect) s) (sym e)
-    (subst (λ q. PlansLinks q (carried_out None s reply effect) s) (sym is) (record { reply = refl; can = can; next = ap settle leads }))
+pub planned : (p : Plan LinkChange) (reply : Reply) (c : LinkChange) (o : Option Refusal) (s effect : State) → o ≡ None → tells_change reply ≡ true
+    → CanChangeLinks c (fabric_of s) → with_fabric (after_link_change c (fabric_of s)) s ≡ effect → p ≡ changed reply c → PlansLinks p (carried_out o s reply effect) s
+planned p reply c o s effect e tells can leads is =
+    subst (λ q. PlansLinks q (carried_out o s reply effect) s) (sym is) (plans_carried c o s reply effect e tells can leads)
 
 -- changes that agree on a record agree on all where it stands
 same_edit : {R : Type 0} (high : ℕ) (rows : List (ℕ × R)) (low n : ℕ) (r : R) (g h : R → R) → Between low high rows → at rows n ≡ Some r → g r ≡ h r
@@ -59,13 +55,13 @@ same_edit {R} high rows low n r g h b stands e =
         ap Some (ap g one ∙ e ∙ sym (ap h one))
 
 -- a present link that is set to what an effect makes of it
-set_planned : (p : LinkPlan) (n : LinkNo) (l : Link) (cost latency_a latency_b : ℕ) (up : Bool) (f : FabricSeen) (s : State) (o : Option Refusal) (effect : Link → Link) (after : State)
+set_planned : (p : Plan LinkChange) (n : LinkNo) (l : Link) (cost latency_a latency_b : ℕ) (up : Bool) (f : FabricSeen) (s : State) (o : Option Refusal) (effect : Link → Link) (after : State)
     → fabric_of s ≡ f → Between 1 f.links.next f.links.rows → at f.links.rows n.0 ≡ Some l → is_link_cost cost ≡ true → is_latency latency_a ≡ true → is_latency latency_b ≡ true
     → record l { cost = cost; latency_a = latency_a; latency_b = latency_b; up = up } ≡ effect l → o ≡ None
-    → with_fabric (record f { links = with_edit n.0 effect f.links }) s ≡ after → p ≡ plan Done (change.Set n cost latency_a latency_b up)
+    → with_fabric (record f { links = with_edit n.0 effect f.links }) s ≡ after → p ≡ changed Done (change.Set n cost latency_a latency_b up)
     → PlansLinks p (carried_out o s Done after) s
 set_planned p n l cost latency_a latency_b up f s o effect after of b stands c a d e none leads is =
-    planned p Done (change.Set n cost latency_a latency_b up) o s after none
+    planned p Done (change.Set n cost latency_a latency_b up) o s after none refl
     (subst (λ g. CanChangeLinks (change.Set n cost latency_a latency_b up) g) (sym of) (ap is_some stands, c, a, d))
     (ap (λ g. with_fabric (after_link_change (change.Set n cost latency_a latency_b up) g) s) of
     ∙ ap (λ rows. with_fabric (record f { links = record f.links { rows = rows } }) s)
@@ -86,19 +82,19 @@ in_range s n l valid stands =
 
 -- ---- the commands
 
-pub least_planned : (cost : ℕ) (p : LinkPlan) → is_link_cost cost ≡ true → p ≡ plan Done (change.SetLeast cost)
+pub least_planned : (cost : ℕ) (p : Plan LinkChange) → is_link_cost cost ≡ true → p ≡ changed Done (change.SetLeast cost)
     → (t : Tables) (f : FabricSeen) → Answers (set_least_router_cost cost) t f p
-least_planned cost p fits is t f s valid = planned p Done (change.SetLeast cost) None (over t f s) (record (over t f s) { least_router_cost = cost }) refl fits refl is
+least_planned cost p fits is t f s valid = planned p Done (change.SetLeast cost) None (over t f s) (record (over t f s) { least_router_cost = cost }) refl refl fits refl is
 
-pub delete_planned : (link : List ℕ) (f : FabricSeen) (n : LinkNo) (l : Link) (p : LinkPlan) → IsLink link f n.0 l → p ≡ plan Done (change.Remove n)
+pub delete_planned : (link : List ℕ) (f : FabricSeen) (n : LinkNo) (l : Link) (p : Plan LinkChange) → IsLink link f n.0 l → p ≡ changed Done (change.Remove n)
     → (t : Tables) → Answers (delete_link link) t f p
 delete_planned link f n l p there is t s valid =
     planned p Done (change.Remove n) (unknown_if_absent field.Link (link_named f.links.rows link)) (over t f s) (after_delete kind.Link link (over t f s))
-    (ap (unknown_if_absent field.Link) there.named) (ap is_some there.stands)
+    (ap (unknown_if_absent field.Link) there.named) refl (ap is_some there.stands)
     (sym (ap (λ o. at_number o (over t f s) (λ m. record (over t f s) { links = with_removed m f.links })) there.named)) is
 
-pub cost_planned : (link : List ℕ) (cost : ℕ) (f : FabricSeen) (n : LinkNo) (l : Link) (p : LinkPlan) → is_link_cost cost ≡ true → IsLink link f n.0 l
-    → p ≡ plan Done (change.Set n cost l.latency_a l.latency_b l.up) → (t : Tables) → Answers (set_link_cost link cost) t f p
+pub cost_planned : (link : List ℕ) (cost : ℕ) (f : FabricSeen) (n : LinkNo) (l : Link) (p : Plan LinkChange) → is_link_cost cost ≡ true → IsLink link f n.0 l
+    → p ≡ changed Done (change.Set n cost l.latency_a l.latency_b l.up) → (t : Tables) → Answers (set_link_cost link cost) t f p
 cost_planned link cost f n l p fits there is t s valid =
     let ranges = in_range (over t f s) n.0 l valid there.stands in
     set_planned p n l cost l.latency_a l.latency_b l.up f (over t f s) (unknown_if_absent field.Link (link_named f.links.rows link)) (λ r. record r { cost = cost })
@@ -127,8 +123,8 @@ end_named router l t reporter e = by (router_named t.routers.rows router) e
     by None h = absurd (none-some reporter h)
     by (Some q) h = is (is_end_of q l) q h
 
-pub state_planned : (link router : List ℕ) (up : Bool) (t : Tables) (f : FabricSeen) (n : LinkNo) (l : Link) (reporter : ℕ) (p : LinkPlan)
-    → Reports link router t f n.0 l reporter → p ≡ plan Done (change.Set n l.cost l.latency_a l.latency_b up) → Answers (report_state link router up) t f p
+pub state_planned : (link router : List ℕ) (up : Bool) (t : Tables) (f : FabricSeen) (n : LinkNo) (l : Link) (reporter : ℕ) (p : Plan LinkChange)
+    → Reports link router t f n.0 l reporter → p ≡ changed Done (change.Set n l.cost l.latency_a l.latency_b up) → Answers (report_state link router up) t f p
 state_planned link router up t f n l reporter p reports is s valid =
     let ranges = in_range (over t f s) n.0 l valid reports.is_link.stands in
     set_planned p n l l.cost l.latency_a l.latency_b up f (over t f s) (refusal_of_report link router (over t f s)) (λ r. record r { up = up })
@@ -141,10 +137,10 @@ either : (c : Bool) (latency old : ℕ) → is_latency latency ≡ true → is_l
 either true latency old e h = e
 either false latency old e h = h
 
-pub latency_planned : (link router : List ℕ) (latency : ℕ) (t : Tables) (f : FabricSeen) (n : LinkNo) (l : Link) (reporter latency_a latency_b : ℕ) (p : LinkPlan)
+pub latency_planned : (link router : List ℕ) (latency : ℕ) (t : Tables) (f : FabricSeen) (n : LinkNo) (l : Link) (reporter latency_a latency_b : ℕ) (p : Plan LinkChange)
     → is_latency latency ≡ true → Reports link router t f n.0 l reporter
     → latency_a ≡ cond (l.a == reporter) latency l.latency_a → latency_b ≡ cond (l.b == reporter) latency l.latency_b
-    → p ≡ plan Done (change.Set n l.cost latency_a latency_b l.up) → Answers (report_latency link router latency) t f p
+    → p ≡ changed Done (change.Set n l.cost latency_a latency_b l.up) → Answers (report_latency link router latency) t f p
 latency_planned link router latency t f n l reporter latency_a latency_b p fits reports at_a at_b is s valid =
     let ranges = in_range (over t f s) n.0 l valid reports.is_link.stands in
     let ends = end_named router l t reporter reports.is_end in

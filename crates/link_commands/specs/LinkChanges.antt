@@ -8,6 +8,7 @@ use Rattle.ctrl_model.specs.State.{State, start}
 use Rattle.entity_store.specs.EntityTables.{Tables}
 use Rattle.fabric_graph.specs.FabricTables.{FabricSeen, with_link, with_set, without_link, with_least}
 use Rattle.fabric_graph.specs.FabricRules.{may_add, is_there}
+use Rattle.fabric_graph.specs.Routers.{fabric_of}
 use Rattle.link_commands.specs.declared.changes.LinkChange.{LinkChange}
 use Rattle.link_commands.specs.declared.changes.LinkChange.TheVariants as change
 
@@ -37,6 +38,14 @@ CanChangeLinks (change.Set n cost latency_a latency_b up) f =
     (is_there n.0 f ≡ true) × (is_link_cost cost ≡ true) × (is_latency latency_a ≡ true) × (is_latency latency_b ≡ true)
 CanChangeLinks (change.Remove n) f = is_there n.0 f ≡ true
 CanChangeLinks (change.SetLeast cost) f = is_link_cost cost ≡ true
+
+-- The state after a change of its links, not yet settled.
+abbrev pub linked : LinkChange → State → State
+linked c s = with_fabric (after_link_change c (fabric_of s)) s
+
+-- What a change needs of a state.
+abbrev pub CanLink : LinkChange → State → Type 0
+CanLink c s = CanChangeLinks c (fabric_of s)
 
 -- The links of which both routers are among these entities.
 abbrev pub settled : Tables → FabricSeen → FabricSeen

@@ -5,7 +5,6 @@ use Rattle.std.specs.Option.{option_map_or}
 use Rattle.ctrl_model.specs.Numbered.{with_kept}
 use Rattle.ctrl_model.specs.declared.refusals.Refusal.{Refusal}
 use Rattle.ctrl_model.specs.declared.replies.Reply.{Reply}
-use Rattle.ctrl_model.specs.declared.replies.Reply.TheVariants.{Refused}
 use Rattle.ctrl_model.specs.LinkCommands.{is_end_of, refusal_of_create_link, refusal_of_report}
 use Rattle.ctrl_model.specs.Numbered.{at}
 use Rattle.ctrl_model.specs.Settling.{link_stays}
@@ -14,17 +13,14 @@ use Rattle.ctrl_model.specs.ValidState.{ValidState}
 use Rattle.entity_store.specs.EntityTables.{Tables}
 use Rattle.fabric_graph.specs.FabricTables.{FabricSeen}
 use Rattle.fabric_graph.specs.FabricRules.{may_add}
-use Rattle.link_commands.specs.declared.changes.LinkPlan.{LinkPlan}
+use Rattle.link_commands.specs.declared.changes.LinkChange.{LinkChange}
+use Rattle.model_laws.specs.declared.plans.Plan.{Plan}
 use Rattle.link_commands.specs.LinkChanges.{over}
 use Rattle.link_commands.specs.LinkPlans.{PlansLinks}
 
 -- A plan of an answer in every valid state with these routers and these links.
-abbrev pub Answers : (State → Reply × State) → Tables → FabricSeen → LinkPlan → Type 0
+abbrev pub Answers : (State → Reply × State) → Tables → FabricSeen → Plan LinkChange → Type 0
 Answers answer t f p = (s : State) → ValidState (over t f s) → PlansLinks p (answer (over t f s)) (over t f s)
-
--- The plan of a refusal.
-abbrev pub refused : Refusal → LinkPlan
-refused r = record { reply = Refused r; change = None }
 
 -- A link of a name may join two routers, whose numbers these are.
 pub record Joins (name a b : List ℕ) (t : Tables) (f : FabricSeen) (from to : ℕ) : Type 0 where

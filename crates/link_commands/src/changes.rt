@@ -1,4 +1,4 @@
-use ctrl_model::{LinkNo, Reply};
+use ctrl_model::LinkNo;
 use fabric_graph::LinkRow;
 
 /// One change of the links or of the least router cost.
@@ -18,12 +18,4 @@ pub enum LinkChange {
     Remove(LinkNo),
     /// Another least cost of entering a router.
     SetLeast(u32),
-}
-
-/// The answer to a command on links, planned: the reply, and the change that carries it out. None is a reply that changes
-/// nothing.
-#[derive(Drop)]
-pub struct LinkPlan {
-    pub reply: Reply,
-    pub change: Option<LinkChange>,
 }

@@ -5,10 +5,8 @@ mod applying;
 mod changes;
 mod planning;
 mod settling;
-#[cfg(test)]
-mod tests;
 
 pub use applying::apply_link_change;
-pub use changes::{LinkChange, LinkPlan};
+pub use changes::LinkChange;
 pub use planning::plan_link_command;
 pub use settling::settle_links;

@@ -1,4 +1,4 @@
-ghost use Rattle.std.specs.Prelude.{◌≡◌, ◌==◌, true, cond, None, Some, IfOk, IfErr, MatchOption};
+ghost use Rattle.std.specs.Prelude.{◌≡◌, ◌==◌, true, false, cond, None, Some, IfOk, IfErr, MatchOption};
 ghost use Rattle.ctrl_model.specs.CommandForm.{is_spelled, is_link_cost, is_latency};
 ghost use Rattle.ctrl_model.specs.Controller.{carry};
 ghost use Rattle.ctrl_model.specs.LinkCommands.{create_link, set_link_cost, report_latency, report_state, delete_link, set_least_router_cost};
@@ -8,31 +8,14 @@ ghost use Rattle.entity_store.specs.EntityTables.{Tables};
 ghost use Rattle.fabric_graph.specs.FabricTables.{FabricSeen};
 ghost use Rattle.link_commands.specs.LinkChanges.{over};
 ghost use Rattle.link_commands.specs.LinkPlans.{is_link_command, PlansLinks};
-ghost use Rattle.link_commands.specs.PlannedLinks.{Answers, refused, Joins, RefusesJoin, IsLink, Reports, RefusesReport, end_of};
+ghost use Rattle.link_commands.specs.PlannedLinks.{Answers, Joins, RefusesJoin, IsLink, Reports, RefusesReport, end_of};
 
-use crate::changes::{LinkChange, LinkPlan};
+use crate::changes::LinkChange;
 use ctrl_model::{Command, Field, Kind, LinkNo, Name, Refusal, Reply, RouterNo};
 use entity_store::Entities;
 use fabric_graph::{Fabric, FabricFault, LinkRow};
+use model_laws::Plan;
 use std::alloc::AllocError;
-
-fn refused(refusal: Refusal) -> LinkPlan
-    ensures { result ≡ refused refusal }
-{
-    LinkPlan {
-        reply: Reply::Refused(refusal),
-        change: None,
-    }
-}
-
-fn changed(reply: Reply, change: LinkChange) -> LinkPlan
-    ensures { result ≡ record { reply = reply; change = Some change } }
-{
-    LinkPlan {
-        reply,
-        change: Some(change),
-    }
-}
 
 fn router_named(entities: &Entities, name: &Name) -> Option<u32>
     ensures { result ≡ router_named entities.now.routers.rows name.now }
@@ -89,7 +72,7 @@ fn plan_create_link(
     cost: u32,
     latency_a: u32,
     latency_b: u32,
-) -> Result<LinkPlan, AllocError>
+) -> Result<Plan<LinkChange>, AllocError>
     requires cost { is_link_cost cost ≡ true }
     requires latency_a { is_latency latency_a ≡ true }
     requires latency_b { is_latency latency_b ≡ true }
@@ -97,7 +80,7 @@ fn plan_create_link(
 {
     let (a, b) = match joined(entities, fabric, name, a, b) {
         Ok(ends) => ends,
-        Err(refusal) => return Ok(refused(refusal)),
+        Err(refusal) => return Ok(Plan::refused(refusal)),
     };
     let name = name.copy()?;
     let link = LinkRow {
@@ -110,16 +93,16 @@ fn plan_create_link(
         up: true,
     };
     let number = fabric.next();
-    Ok(changed(Reply::Made { no: number }, LinkChange::Add(link)))
+    Ok(Plan::changed(Reply::Made { no: number }, LinkChange::Add(link)))
 }
 
 // Plans another static cost of a link.
-fn plan_set_link_cost(fabric: &Fabric, link: &Name, cost: u32) -> LinkPlan
+fn plan_set_link_cost(fabric: &Fabric, link: &Name, cost: u32) -> Plan<LinkChange>
     requires { is_link_cost cost ≡ true }
     ensures { (t : Tables) → Answers (set_link_cost link.now cost) t fabric.now result }
 {
     let Some((no, row)) = link_named(fabric, link) else {
-        return refused(Refusal::Unknown { field: Field::Link });
+        return Plan::refused(Refusal::Unknown { field: Field::Link });
     };
     let change = LinkChange::Set {
         no,
@@ -128,7 +111,7 @@ fn plan_set_link_cost(fabric: &Fabric, link: &Name, cost: u32) -> LinkPlan
         latency_b: row.latency_b,
         up: row.up,
     };
-    changed(Reply::Done, change)
+    Plan::changed(Reply::Done, change)
 }
 
 // The number of the router of the name, if it is an end of the link.
@@ -178,12 +161,12 @@ fn plan_report_latency(
     link: &Name,
     router: &Name,
     latency: u32,
-) -> LinkPlan
+) -> Plan<LinkChange>
     requires { is_latency latency ≡ true }
     ensures { Answers (report_latency link.now router.now latency) entities.now fabric.now result }
 {
     match reported(entities, fabric, link, router) {
-        Err(refusal) => refused(refusal),
+        Err(refusal) => Plan::refused(refusal),
         Ok((no, row, reporter)) => {
             let latency_a = latency_at(row.a, reporter, latency, row.latency_a);
             let latency_b = latency_at(row.b, reporter, latency, row.latency_b);
@@ -194,7 +177,7 @@ fn plan_report_latency(
                 latency_b,
                 up: row.up,
             };
-            changed(Reply::Done, change)
+            Plan::changed(Reply::Done, change)
         }
     }
 }
@@ -206,11 +189,11 @@ fn plan_report_state(
     link: &Name,
     router: &Name,
     up: bool,
-) -> LinkPlan
+) -> Plan<LinkChange>
     ensures { Answers (report_state link.now router.now up) entities.now fabric.now result }
 {
     match reported(entities, fabric, link, router) {
-        Err(refusal) => refused(refusal),
+        Err(refusal) => Plan::refused(refusal),
         Ok((no, row, _reporter)) => {
             let change = LinkChange::Set {
                 no,
@@ -219,40 +202,40 @@ fn plan_report_state(
                 latency_b: row.latency_b,
                 up,
             };
-            changed(Reply::Done, change)
+            Plan::changed(Reply::Done, change)
         }
     }
 }
 
 // Plans that a link goes.
-fn plan_delete_link(fabric: &Fabric, link: &Name) -> LinkPlan
+fn plan_delete_link(fabric: &Fabric, link: &Name) -> Plan<LinkChange>
     ensures { (t : Tables) → Answers (delete_link link.now) t fabric.now result }
 {
     match link_named(fabric, link) {
-        Some((no, _row)) => changed(Reply::Done, LinkChange::Remove(no)),
-        None => refused(Refusal::Unknown { field: Field::Link }),
+        Some((no, _row)) => Plan::changed(Reply::Done, LinkChange::Remove(no)),
+        None => Plan::refused(Refusal::Unknown { field: Field::Link }),
     }
 }
 
 // Plans another least router cost.
-fn plan_set_least_router_cost(cost: u32) -> LinkPlan
+fn plan_set_least_router_cost(cost: u32) -> Plan<LinkChange>
     requires { is_link_cost cost ≡ true }
     ensures { (t : Tables) (f : FabricSeen) → Answers (set_least_router_cost cost) t f result }
 {
-    changed(Reply::Done, LinkChange::SetLeast(cost))
+    Plan::changed(Reply::Done, LinkChange::SetLeast(cost))
 }
 
 /// Plans the answer to a command on links, or on the least router cost, that some body spells: in every valid state with these
-/// routers and these links it is the controller's (docs/RULES.md, "Commands on links").
+/// routers and these links it is the controller's (docs/RULES.md, "Commands on links"). None is a command on something else.
 pub fn plan_link_command(
     entities: &Entities,
     fabric: &Fabric,
     command: &Command,
-) -> Result<LinkPlan, AllocError>
-    requires links { is_link_command command.now ≡ true }
-    requires spelled { is_spelled command.now ≡ true }
-    ensures { IfOk result (λ p. (s : State) → ValidState (over entities.now fabric.now s)
-        → PlansLinks p (carry command.now (over entities.now fabric.now s)) (over entities.now fabric.now s)) }
+) -> Result<Option<Plan<LinkChange>>, AllocError>
+    requires { is_spelled command.now ≡ true }
+    ensures { IfOk result (λ o. MatchOption o (is_link_command command.now ≡ false)
+        (λ p. (s : State) → ValidState (over entities.now fabric.now s)
+        → PlansLinks p (carry command.now (over entities.now fabric.now s)) (over entities.now fabric.now s))) }
 {
     match command {
         Command::CreateLink {
@@ -262,18 +245,20 @@ pub fn plan_link_command(
             cost,
             latency_a,
             latency_b,
-        } => plan_create_link(entities, fabric, name, a, b, *cost, *latency_a, *latency_b),
-        Command::SetLinkCost { link, cost } => Ok(plan_set_link_cost(fabric, link, *cost)),
+        } => Ok(Some(plan_create_link(
+            entities, fabric, name, a, b, *cost, *latency_a, *latency_b,
+        )?)),
+        Command::SetLinkCost { link, cost } => Ok(Some(plan_set_link_cost(fabric, link, *cost))),
         Command::ReportLatency {
             link,
             router,
             latency,
-        } => Ok(plan_report_latency(entities, fabric, link, router, *latency)),
+        } => Ok(Some(plan_report_latency(entities, fabric, link, router, *latency))),
         Command::ReportState { link, router, up } => {
-            Ok(plan_report_state(entities, fabric, link, router, *up))
+            Ok(Some(plan_report_state(entities, fabric, link, router, *up)))
         }
-        Command::DeleteLink { link } => Ok(plan_delete_link(fabric, link)),
-        Command::SetLeastRouterCost { cost } => Ok(plan_set_least_router_cost(*cost)),
-        _ => unreachable!(),
+        Command::DeleteLink { link } => Ok(Some(plan_delete_link(fabric, link))),
+        Command::SetLeastRouterCost { cost } => Ok(Some(plan_set_least_router_cost(*cost))),
+        _ => Ok(None),
     }
 }

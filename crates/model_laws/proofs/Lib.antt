@@ -19,6 +19,8 @@ pub mod RecordCommandLaws
 pub mod LinkCommandLaws
 pub mod TerminatorCommandLaws
 pub mod CircuitCommandLaws
+pub mod PlannedLaws
+pub mod NewRecords
 pub mod ValidCommands
 pub mod TouchedLaws
 pub mod RefusedStates

@@ -1,2 +1,3 @@
 pub mod TouchedTables
 pub mod ClaimedRoutes
+pub mod Plans

@@ -1,13 +1,15 @@
 //! Laws of the controller's definitions, and worked examples that the checker computes from them: what a reader who would not
-//! take a definition on trust looks at first. Nothing here runs.
+//! take a definition on trust looks at first. Of it only the plan of a command runs.
 #![tactic(auto)]
 
+mod plans;
 mod route_laws;
 mod state_laws;
 mod validity;
 mod worked;
 mod worked_laws;
 
+pub use plans::{Plan, told_changes};
 pub use route_laws::{
     claimed_route, each_path, explanations_are_justified, mirrored_walks, no_better, plain_path,
     the_best, the_rule,

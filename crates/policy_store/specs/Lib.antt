@@ -4,3 +4,6 @@ pub mod Stores
 pub mod WorkedPolicies
 pub mod GrantKinds
 pub mod GrantChanges
+pub mod PolicyChanges
+pub mod PolicyPlans
+pub mod PlannedPolicies

@@ -11,6 +11,7 @@ use Rattle.ctrl_model.specs.Numbered.{Table, no_rows, with_new, with_edit, with_
 use Rattle.ctrl_model.specs.PolicyCommands.{replaced_by}
 use Rattle.ctrl_model.specs.Rules.{forget_left, forget_right}
 use Rattle.ctrl_model.specs.State.{Policy, policy_named}
+pub use Rattle.ctrl_model.specs.Tables.{is_policy_kind, left_kind, right_kind}
 
 -- The tables.
 pub record PolicyTables : Type 0 where
@@ -21,13 +22,6 @@ pub record PolicyTables : Type 0 where
 -- A store without policies.
 abbrev pub no_policies : PolicyTables
 no_policies = record { service_policies = no_rows; edge_router_policies = no_rows; service_edge_router_policies = no_rows }
-
--- The kinds of policy.
-abbrev pub is_policy_kind : Kind → Bool
-is_policy_kind kind.ServicePolicy = true
-is_policy_kind kind.EdgeRouterPolicy = true
-is_policy_kind kind.ServiceEdgeRouterPolicy = true
-is_policy_kind _ = false
 
 -- The table of a kind. What is no kind of policy has no policies.
 abbrev pub policies_of : Kind → PolicyTables → Table Policy
@@ -86,20 +80,6 @@ forgetting kind.Router name t = record t {
   service_edge_router_policies = with_each (forget_right name) t.service_edge_router_policies;
 }
 forgetting _ name t = t
-
--- The kind of entity that the left sides of a kind of policy name.
-abbrev pub left_kind : Kind → Kind
-left_kind kind.ServicePolicy = kind.Identity
-left_kind kind.EdgeRouterPolicy = kind.Identity
-left_kind kind.ServiceEdgeRouterPolicy = kind.Service
-left_kind k = k
-
--- The kind of entity that the right sides of a kind of policy name.
-abbrev pub right_kind : Kind → Kind
-right_kind kind.ServicePolicy = kind.Service
-right_kind kind.EdgeRouterPolicy = kind.Router
-right_kind kind.ServiceEdgeRouterPolicy = kind.Router
-right_kind k = k
 
 -- Whether a relation fits a kind of policy.
 abbrev pub fits : Kind → Relation → Bool

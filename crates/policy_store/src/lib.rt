@@ -1,22 +1,28 @@
-//! The store of the three kinds of policies: by name and by number, the entities that a side of a policy matches, and the steps
-//! that grant counts take where an entity or a policy changes.
+//! The store of the three kinds of policies: by name and by number, the entities that a side of a policy matches, the steps that
+//! grant counts take where an entity or a policy changes, and the commands on policies, planned.
 #![tactic(auto)]
 
+mod changes;
 mod counting;
 mod granting;
 mod membership;
+mod naming;
+mod planning;
 mod policies;
 mod records;
 mod steps;
 mod worked;
 
+pub use changes::PolicyChange;
 pub use counting::count_all_policies;
 pub use granting::{Moved, entity_steps, policy_steps};
 pub use membership::members;
+pub use naming::policy_names;
+pub use planning::plan_policy_command;
 pub use policies::{Policies, PolicyFault};
 pub use records::Policy;
 pub use steps::GrantSteps;
 pub use worked::{
-    members_of_sides, names_and_numbers_of_policies, replaced_and_forgotten, sides_and_relations,
-    what_may_be_put,
+    changes_of_policies, members_of_sides, names_and_numbers_of_policies, replaced_and_forgotten,
+    sides_and_relations, what_may_be_put,
 };

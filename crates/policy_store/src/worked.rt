@@ -8,6 +8,11 @@ ghost use Rattle.entity_store.specs.WorkedTables.{ann};
 ghost use Rattle.policy_store.specs.declared.policies.PolicyFault.TheVariants.{Exists, Unknown, UnknownRef, Full};
 ghost use Rattle.policy_store.specs.PolicyTables.{no_policies, policies, next_of, without_policy, with_next, forgetting, left_kind, right_kind, fits};
 ghost use Rattle.policy_store.specs.PolicyRules.{may_put, found, put_in, put_number, members_of};
+ghost use Rattle.ctrl_model.specs.declared.commands.Command.TheVariants.{DeleteEdgeRouterPolicy, DeleteService};
+ghost use Rattle.ctrl_model.specs.State.{start};
+ghost use Rattle.policy_store.specs.declared.changes.PolicyChange.TheVariants as change;
+ghost use Rattle.policy_store.specs.PolicyChanges.{ruled, with_tables};
+ghost use Rattle.policy_store.specs.PolicyPlans.{is_policy_command};
 ghost use Rattle.policy_store.specs.WorkedPolicies.{ann_and_web, two_identities, dial_web, bind_web, one_policy};
 
 /// The first service policy has the number 1. Each kind has names and numbers of its own, and a removed number is not given
@@ -71,4 +76,14 @@ pub fn sides_and_relations()
     ensures identity_router { fits kind.EdgeRouterPolicy IdentityRouter ≡ true }
     ensures service_router { fits kind.ServiceEdgeRouterPolicy ServiceRouter ≡ true }
     ensures no_service_router { fits kind.ServicePolicy ServiceRouter ≡ false }
+{}
+
+/// The changes of policies: a new one has the next number, one that replaces it has its number, and one that goes leaves its number
+/// behind. Which commands are on policies.
+pub fn changes_of_policies()
+    ensures add { ruled (change.Add kind.ServicePolicy dial_web) start ≡ with_tables one_policy start }
+    ensures replace { ruled (change.Replace kind.ServicePolicy 1 bind_web) (with_tables one_policy start) ≡ record start { service_policies = record { rows = (1, bind_web) ∷ []; next = 2 } } }
+    ensures remove { ruled (change.Remove kind.ServicePolicy 1) (with_tables one_policy start) ≡ record start { service_policies = record { rows = []; next = 2 } } }
+    ensures on_policies { is_policy_command (DeleteEdgeRouterPolicy (codes "all")) ≡ true }
+    ensures on_services { is_policy_command (DeleteService (codes "web")) ≡ false }
 {}

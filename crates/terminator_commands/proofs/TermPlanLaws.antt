@@ -24,22 +24,14 @@ use Rattle.grant_denorm.specs.MovedCounts.{AreCountsOf}
 use Rattle.grant_denorm.specs.PairCounts.{count_of}
 use Rattle.terminators.specs.TermTables.{TermTables}
 use Rattle.terminators.specs.TermRules.{has_term_room, is_not_bindable}
+use Rattle.model_laws.specs.Plans.{refused, changed}
+use Rattle.model_laws.proofs.PlannedLaws.{plans_refused, plans_carried}
 use Rattle.terminator_commands.specs.declared.changes.TermChange.{TermChange}
 use Rattle.terminator_commands.specs.declared.changes.TermChange.TheVariants as change
 use Rattle.terminator_commands.specs.declared.planning.Places.{Places}
 use Rattle.terminator_commands.specs.TermChanges.{terms_of, with_terms, over, after_term_change, CanChangeTerms}
 use Rattle.terminator_commands.specs.TermPlans.{PlansTerms}
-use Rattle.terminator_commands.specs.PlannedTerms.{refused, unknown_place, named_host, lacks_host, plan_of_add, ArePlaced, PlansIn}
-
--- a refusal that comes changes nothing
-plans_refused : (o : Option Refusal) (r : Refusal) (s : State) (reply : Reply) (effect : State) → o ≡ Some r → PlansTerms (refused r) (carried_out o s reply effect) s
-plans_refused o r s reply effect e = subst (λ o. PlansTerms (refused r) (carried_out o s reply effect) s) (sym e) (record { reply = refl; can = tt; next = refl })
-
--- where none comes the change is made
-plans_carried : (o : Option Refusal) (c : TermChange) (s : State) (reply : Reply) (effect : State) → o ≡ None → CanChangeTerms c (terms_of s)
-    → with_terms (after_term_change c (terms_of s)) s ≡ effect → PlansTerms (record { reply = reply; change = Some c }) (carried_out o s reply effect) s
-plans_carried o c s reply effect e can leads =
-    subst (λ o. PlansTerms (record { reply = reply; change = Some c }) (carried_out o s reply effect) s) (sym e) (record { reply = refl; can = can; next = ap settle leads })
+use Rattle.terminator_commands.specs.PlannedTerms.{unknown_place, named_host, lacks_host, plan_of_add, ArePlaced, PlansIn}
 
 -- a name that is unknown is the controller's refusal
 pub create_unknown : (t : Tables) (k : TermTables) (bind : List ((ℕ × ℕ) × ℕ)) (service router instance : List ℕ) (host : Option (List ℕ)) (cost : ℕ) (precedence : Precedence) (f : Field)
@@ -86,8 +78,8 @@ create_planned t k bind service router host places term placed es er eh cost = �
     by : (s effect : State) (o : Option Refusal) (room lacks : Bool) → has_term_room (terms_of s) ≡ room
         → o ≡ or_then (refuse_if (not room) (Full kind.Terminator)) (refuse_if lacks NotBindable)
         → with_terms (after_term_change (change.Add term) (terms_of s)) s ≡ effect
-        → PlansTerms (cond room (cond lacks (refused NotBindable) (record { reply = Made s.terminators.next; change = Some (change.Add term) })) (refused (Full kind.Terminator)))
+        → PlansTerms (cond room (cond lacks (refused NotBindable) (changed (Made s.terminators.next) (change.Add term))) (refused (Full kind.Terminator)))
         (carried_out o s (Made s.terminators.next) effect) s
     by s effect o false lacks is e leads = plans_refused o (Full kind.Terminator) s (Made s.terminators.next) effect e
     by s effect o true true is e leads = plans_refused o NotBindable s (Made s.terminators.next) effect e
-    by s effect o true false is e leads = plans_carried o (change.Add term) s (Made s.terminators.next) effect e (is, cost) leads
+    by s effect o true false is e leads = plans_carried (change.Add term) o s (Made s.terminators.next) effect e refl (is, cost) leads

@@ -6,10 +6,9 @@ use Rattle.ctrl_model.specs.declared.kinds.Kind.TheVariants as kind
 use Rattle.ctrl_model.specs.declared.kinds.Relation.TheVariants.{Bind}
 use Rattle.ctrl_model.specs.declared.refusals.Field.{Field}
 use Rattle.ctrl_model.specs.declared.refusals.Field.TheVariants as field
-use Rattle.ctrl_model.specs.declared.refusals.Refusal.{Refusal}
 use Rattle.ctrl_model.specs.declared.refusals.Refusal.TheVariants.{Full, NotBindable}
 use Rattle.ctrl_model.specs.declared.replies.Reply.{Reply}
-use Rattle.ctrl_model.specs.declared.replies.Reply.TheVariants.{Made, Refused}
+use Rattle.ctrl_model.specs.declared.replies.Reply.TheVariants.{Made}
 use Rattle.ctrl_model.specs.Grants.{count}
 use Rattle.ctrl_model.specs.State.{State, Terminator, entity_named, router_named}
 use Rattle.entity_store.specs.EntityTables.{Tables}
@@ -17,21 +16,19 @@ use Rattle.grant_denorm.specs.MovedCounts.{AreCountsOf}
 use Rattle.terminators.specs.TermTables.{TermTables}
 use Rattle.terminators.specs.TermRules.{has_term_room, is_not_bindable}
 use Rattle.terminator_commands.specs.declared.changes.TermChange.TheVariants as change
-use Rattle.terminator_commands.specs.declared.changes.TermPlan.{TermPlan}
+use Rattle.terminator_commands.specs.declared.changes.TermChange.{TermChange}
+use Rattle.model_laws.specs.declared.plans.Plan.{Plan}
+use Rattle.model_laws.specs.Plans.{refused, changed}
 use Rattle.terminator_commands.specs.declared.planning.Places.{Places}
 use Rattle.terminator_commands.specs.TermChanges.{with_terms, over}
 use Rattle.terminator_commands.specs.TermPlans.{PlansTerms}
 
--- The plan of a refusal.
-abbrev pub refused : Refusal → TermPlan
-refused r = record { reply = Refused r; change = None }
-
 -- A plan of an answer in every state with these terminators.
-abbrev pub PlansOver : TermPlan → (State → Reply × State) → TermTables → Type 0
+abbrev pub PlansOver : Plan TermChange → (State → Reply × State) → TermTables → Type 0
 PlansOver p answer k = (s : State) → PlansTerms p (answer (with_terms k s)) (with_terms k s)
 
 -- A plan of an answer in every state with these entities, these terminators and these counts of Bind.
-abbrev pub PlansIn : TermPlan → (State → Reply × State) → Tables → TermTables → List ((ℕ × ℕ) × ℕ) → Type 0
+abbrev pub PlansIn : Plan TermChange → (State → Reply × State) → Tables → TermTables → List ((ℕ × ℕ) × ℕ) → Type 0
 PlansIn p answer t k bind = (s : State) → AreCountsOf (count Bind (over t k s)) bind → PlansTerms p (answer (over t k s)) (over t k s)
 
 -- The number of the host that is named; none where none is named, or where it is absent.
@@ -57,8 +54,8 @@ pub record ArePlaced (t : Tables) (service router : List ℕ) (host : Option (Li
   pub host_there : lacks_host t host ≡ false
 
 -- The plan to add a terminator.
-abbrev pub plan_of_add : Terminator → TermTables → List ((ℕ × ℕ) × ℕ) → TermPlan
+abbrev pub plan_of_add : Terminator → TermTables → List ((ℕ × ℕ) × ℕ) → Plan TermChange
 plan_of_add term k bind =
     cond (has_term_room k)
-    (cond (is_not_bindable term bind) (refused NotBindable) (record { reply = Made k.terminators.next; change = Some (change.Add term) }))
+    (cond (is_not_bindable term bind) (refused NotBindable) (changed (Made k.terminators.next) (change.Add term)))
     (refused (Full kind.Terminator))

@@ -37,6 +37,14 @@ CanChangeTerms (change.Add term) k = (has_term_room k ≡ true) × (is_cost term
 CanChangeTerms (change.Set n cost precedence) k = (is_present k.terminators.rows n.0 ≡ true) × (is_cost cost ≡ true)
 CanChangeTerms (change.Remove n) k = is_present k.terminators.rows n.0 ≡ true
 
+-- The state after a change of its terminators, not yet settled.
+abbrev pub offered : TermChange → State → State
+offered c s = with_terms (after_term_change c (terms_of s)) s
+
+-- What a change needs of a state.
+abbrev pub CanOffer : TermChange → State → Type 0
+CanOffer c s = CanChangeTerms c (terms_of s)
+
 -- The terminators of which service, router and host are among these entities.
 abbrev pub settled : Tables → TermTables → TermTables
 settled t k = record k {

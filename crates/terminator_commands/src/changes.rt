@@ -1,4 +1,4 @@
-use ctrl_model::{Precedence, Reply, TermNo};
+use ctrl_model::{Precedence, TermNo};
 use terminators::Term;
 
 /// One change of the terminators.
@@ -14,12 +14,4 @@ pub enum TermChange {
     },
     /// A terminator goes.
     Remove(TermNo),
-}
-
-/// The answer to a command on terminators, planned: the reply, and the change that carries it out. None is a reply that changes
-/// nothing.
-#[derive(Drop)]
-pub struct TermPlan {
-    pub reply: Reply,
-    pub change: Option<TermChange>,
 }

@@ -5,10 +5,8 @@ mod applying;
 mod changes;
 mod planning;
 mod settling;
-#[cfg(test)]
-mod tests;
 
 pub use applying::apply_term_change;
-pub use changes::{TermChange, TermPlan};
+pub use changes::TermChange;
 pub use planning::plan_terminator_command;
 pub use settling::settle_terminators;

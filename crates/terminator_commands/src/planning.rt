@@ -1,4 +1,4 @@
-ghost use Rattle.std.specs.Prelude.{◌≡◌, true, IfOk, Some, MatchResult};
+ghost use Rattle.std.specs.Prelude.{◌≡◌, true, false, IfOk, Some, MatchOption, MatchResult};
 ghost use Rattle.ctrl_model.specs.declared.kinds.Relation.TheVariants.{Bind};
 ghost use Rattle.ctrl_model.specs.CommandForm.{is_cost, is_spelled};
 ghost use Rattle.ctrl_model.specs.Controller.{carry};
@@ -9,15 +9,16 @@ ghost use Rattle.ctrl_model.specs.TerminatorCommands.{create_terminator, update_
 ghost use Rattle.grant_denorm.specs.MovedCounts.{AreCountsOf};
 ghost use Rattle.terminator_commands.specs.TermChanges.{over};
 ghost use Rattle.terminator_commands.specs.TermPlans.{is_terminator_command, PlansTerms};
-ghost use Rattle.terminator_commands.specs.PlannedTerms.{refused, unknown_place, plan_of_add, ArePlaced, PlansOver, PlansIn};
+ghost use Rattle.terminator_commands.specs.PlannedTerms.{unknown_place, plan_of_add, ArePlaced, PlansOver, PlansIn};
 
-use crate::changes::{TermChange, TermPlan};
+use crate::changes::TermChange;
 use ctrl_model::{
     Command, Field, IdentityNo, Instance, Kind, Name, Precedence, Refusal, Reply, RouterNo,
     ServiceNo, TermNo,
 };
 use entity_store::Entities;
 use grant_denorm::Counted;
+use model_laws::Plan;
 use std::alloc::AllocError;
 use terminators::{Term, TermFault, Terminators};
 
@@ -35,16 +36,6 @@ struct Places {
     service: ServiceNo,
     router: RouterNo,
     host: Option<IdentityNo>,
-}
-
-// The plan of a refusal.
-fn refused(refusal: Refusal) -> TermPlan
-    ensures { result ≡ refused refusal }
-{
-    TermPlan {
-        reply: Reply::Refused(refusal),
-        change: None,
-    }
 }
 
 // Whether a terminator has the number.
@@ -85,20 +76,20 @@ fn places_of(
 }
 
 // Plans one more terminator.
-fn plan_add(terminators: &Terminators, bind: &Counted, term: Term) -> TermPlan
+fn plan_add(terminators: &Terminators, bind: &Counted, term: Term) -> Plan<TermChange>
     ensures { result ≡ plan_of_add term terminators.now bind.now }
 {
     match terminators.may_add(&term, bind) {
-        Err(TermFault::Full) => refused(Refusal::Full {
+        Err(TermFault::Full) => Plan::refused(Refusal::Full {
             kind: Kind::Terminator,
         }),
-        Err(_) => refused(Refusal::NotBindable),
-        Ok(()) => TermPlan {
-            reply: Reply::Made {
+        Err(_) => Plan::refused(Refusal::NotBindable),
+        Ok(()) => {
+            let reply = Reply::Made {
                 no: terminators.next(),
-            },
-            change: Some(TermChange::Add(term)),
-        },
+            };
+            Plan::changed(reply, TermChange::Add(term))
+        }
     }
 }
 
@@ -111,14 +102,14 @@ fn plan_create_terminator(
     host: &Option<Name>,
     cost: u32,
     precedence: Precedence,
-) -> Result<TermPlan, AllocError>
+) -> Result<Plan<TermChange>, AllocError>
     requires { is_cost cost ≡ true }
     ensures { IfOk result (λ p. PlansIn p (create_terminator service.now router.now instance.now host.now cost precedence)
         stores.now.entities.now stores.now.terminators.now stores.now.bind.now) }
 {
     let places = match places_of(stores.entities, service, router, host) {
         Ok(places) => places,
-        Err(field) => return Ok(refused(Refusal::Unknown { field })),
+        Err(field) => return Ok(Plan::refused(Refusal::Unknown { field })),
     };
     let instance = instance.copy()?;
     let term = Term {
@@ -138,48 +129,44 @@ fn plan_update_terminator(
     no: TermNo,
     cost: u32,
     precedence: Precedence,
-) -> TermPlan
+) -> Plan<TermChange>
     requires { is_cost cost ≡ true }
     ensures { PlansOver result (update_terminator no.0 cost precedence) terminators.now }
 {
     if !is_there(terminators, no) {
-        return refused(Refusal::Unknown { field: Field::No });
+        return Plan::refused(Refusal::Unknown { field: Field::No });
     }
-    TermPlan {
-        reply: Reply::Done,
-        change: Some(TermChange::Set {
-            no,
-            cost,
-            precedence,
-        }),
-    }
+    let change = TermChange::Set {
+        no,
+        cost,
+        precedence,
+    };
+    Plan::changed(Reply::Done, change)
 }
 
 // Plans the answer to DeleteTerminator.
-fn plan_delete_terminator(terminators: &Terminators, no: TermNo) -> TermPlan
+fn plan_delete_terminator(terminators: &Terminators, no: TermNo) -> Plan<TermChange>
     ensures { PlansOver result (delete_terminator no.0) terminators.now }
 {
     if !is_there(terminators, no) {
-        return refused(Refusal::Unknown { field: Field::No });
+        return Plan::refused(Refusal::Unknown { field: Field::No });
     }
-    TermPlan {
-        reply: Reply::Done,
-        change: Some(TermChange::Remove(no)),
-    }
+    Plan::changed(Reply::Done, TermChange::Remove(no))
 }
 
 /// Plans the answer to a command on terminators that some body spells: in every state with these entities, these
-/// terminators and these counts of Bind it is the controller's (docs/RULES.md, "Commands on terminators").
+/// terminators and these counts of Bind it is the controller's (docs/RULES.md, "Commands on terminators"). None is a command on
+/// something else.
 pub fn plan_terminator_command(
     entities: &Entities,
     terminators: &Terminators,
     bind: &Counted,
     command: &Command,
-) -> Result<TermPlan, AllocError>
-    requires terminators { is_terminator_command command.now ≡ true }
-    requires spelled { is_spelled command.now ≡ true }
-    ensures { IfOk result (λ p. (s : State) → AreCountsOf (count Bind (over entities.now terminators.now s)) bind.now
-        → PlansTerms p (carry command.now (over entities.now terminators.now s)) (over entities.now terminators.now s)) }
+) -> Result<Option<Plan<TermChange>>, AllocError>
+    requires { is_spelled command.now ≡ true }
+    ensures { IfOk result (λ o. MatchOption o (is_terminator_command command.now ≡ false)
+        (λ p. (s : State) → AreCountsOf (count Bind (over entities.now terminators.now s)) bind.now
+        → PlansTerms p (carry command.now (over entities.now terminators.now s)) (over entities.now terminators.now s))) }
 {
     let stores = Stores {
         entities,
@@ -194,13 +181,23 @@ pub fn plan_terminator_command(
             host,
             cost,
             precedence,
-        } => plan_create_terminator(&stores, service, router, instance, host, *cost, *precedence),
+        } => Ok(Some(plan_create_terminator(
+            &stores,
+            service,
+            router,
+            instance,
+            host,
+            *cost,
+            *precedence,
+        )?)),
         Command::UpdateTerminator {
             no,
             cost,
             precedence,
-        } => Ok(plan_update_terminator(terminators, TermNo(*no), *cost, *precedence)),
-        Command::DeleteTerminator { no } => Ok(plan_delete_terminator(terminators, TermNo(*no))),
-        _ => unreachable!(),
+        } => Ok(Some(plan_update_terminator(terminators, TermNo(*no), *cost, *precedence))),
+        Command::DeleteTerminator { no } => {
+            Ok(Some(plan_delete_terminator(terminators, TermNo(*no))))
+        }
+        _ => Ok(None),
     }
 }

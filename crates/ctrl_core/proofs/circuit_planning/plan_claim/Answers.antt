@@ -1,13 +1,13 @@
-use Rattle.std.proofs.Common.{IfOk, sym, subst}
+use Rattle.std.proofs.Common.{sym, subst}
 use Rattle.ctrl_model.specs.CircuitCommands.{ask_of, verify_route}
 use Rattle.ctrl_model.specs.Controller.{carry}
 use Rattle.ctrl_core.specs.PlannedCircuits.{Answers}
-use Rattle.ctrl_core.proofs.CircuitPlanLaws.{requested}
+use Rattle.ctrl_core.proofs.CircuitPlanLaws.{asked_as}
 use Rattle.ctrl_core.proofs.circuit_planning.plan_claim.Goals as goal
 
 pub returns : goal.returns
 returns c =
     let v = c.in-VerifyRoute in
-    subst (λ command. IfOk c.plan_verify_route.result (Answers (carry command) c.args.parts.now)) (sym v.is)
-    (requested (λ a. verify_route a v.chosen v.links v.potentials v.routers v.terminator v.total) c.of-request.result (ask_of v.identity v.service v.ingress v.instance)
-    c.args.parts.now c.plan_verify_route.result c.of-request.ensures c.plan_verify_route.ensures)
+    subst (λ command. Answers (carry command) c.args.parts.now c.in_ok-plan.plan) (sym v.is)
+    (asked_as (λ a. verify_route a v.chosen v.links v.potentials v.routers v.terminator v.total) c.of-request.result (ask_of v.identity v.service v.ingress v.instance)
+    c.args.parts.now c.in_ok-plan.plan c.of-request.ensures c.in_ok-plan.ensures)

@@ -10,6 +10,6 @@ pub returns-in-Err-Denied : goal.returns-in-Err-Denied
 returns-in-Err-Denied c =
     let p = c.args.parts.now in
     let ask = asked c.in_ok-ask.ask in
-    asked_so create_circuit ask c.args.request.now p c.unchanged.result c.in_ok-ask.ensures
-    (subst (Answers (create_circuit ask) p) (sym c.unchanged.ensures)
+    asked_so create_circuit ask c.args.request.now p c.refused.result c.in_ok-ask.ensures
+    (subst (Answers (create_circuit ask) p) (sym c.refused.ensures)
     (denied_planned p ask c.in-Err-Denied.denial (creates ask) (subst (λ f. Decides (network_in p) ask (Err f)) c.in-Err-Denied.field-0-is c.in-Err-Denied.ensures)))

@@ -4,7 +4,8 @@ use Rattle.ctrl_model.specs.declared.replies.Reply.TheVariants.{Explained}
 use Rattle.ctrl_model.specs.CircuitCommands.{explain}
 use Rattle.ctrl_model.specs.Numbered.{is_present}
 use Rattle.circuit_rules.specs.Views.{asked}
-use Rattle.ctrl_core.specs.PlannedCircuits.{Answers, unchanged, router_at}
+use Rattle.model_laws.specs.Plans.{shown}
+use Rattle.ctrl_core.specs.PlannedCircuits.{Answers, router_at}
 use Rattle.ctrl_core.proofs.PresentLaws.{ingress_present}
 use Rattle.ctrl_core.proofs.CircuitPlanLaws.{explanation_planned}
 use Rattle.ctrl_core.proofs.circuit_planning.plan_explained.Goals as goal
@@ -20,5 +21,5 @@ returns c =
     let p = c.args.parts.now in
     let claim = c.args.claim in
     let name : c.in_ok-ingress.ingress ≡ router_at claim.ingress.0 p.entities.now = c.in_ok-ingress.ensures in
-    let is : c.unchanged.result ≡ unchanged (Explained (router_at claim.ingress.0 p.entities.now) claim) = c.unchanged.ensures ∙ ap (λ n. unchanged (Explained n claim)) name in
+    let is : c.shown.result ≡ shown (Explained (router_at claim.ingress.0 p.entities.now) claim) = c.shown.ensures ∙ ap (λ n. shown (Explained n claim)) name in
     subst (Answers (explain (asked c.args.ask.now)) p) (sym is) (explanation_planned p (asked c.args.ask.now) claim c.requires.explained)

@@ -5,9 +5,10 @@ use Rattle.ctrl_model.specs.CircuitCommands.{create_circuit}
 use Rattle.ctrl_model.specs.Numbered.{is_present}
 use Rattle.circuit_rules.specs.declared.views.Route.{Route}
 use Rattle.circuit_rules.specs.Views.{asked}
+use Rattle.model_laws.specs.Plans.{changed}
 use Rattle.ctrl_model.specs.State.{Circuit as Granted}
 use Rattle.circuits.specs.declared.changes.CircuitChange.TheVariants as change
-use Rattle.ctrl_core.specs.PlannedCircuits.{Answers, changed, router_at}
+use Rattle.ctrl_core.specs.PlannedCircuits.{Answers, router_at}
 use Rattle.ctrl_core.proofs.PresentLaws.{ingress_present}
 use Rattle.ctrl_core.proofs.CircuitPlanLaws.{plan_of_grant, grant_planned}
 use Rattle.ctrl_core.proofs.circuit_planning.plan_grant.Goals as goal

@@ -17,7 +17,7 @@ returns c =
     let is : c.in_ok-certified.certified ≡ justified (network_in p) ask (claim_from c.args.links.now c.args.potentials.now c.args.routers.now c.args.terminator c.args.total c.in-Ok.ingress) =
     c.in_ok-certified.ensures
     ∙ (λ i. justified (network_in p) ask (claim_from (links i) (potentials i) (routers i) c.args.terminator c.args.total c.in-Ok.ingress)) in
-    asked_so (λ a. verify_route a c.args.chosen.now c.args.links.now c.args.potentials.now c.args.routers.now c.args.terminator c.args.total) ask c.args.request.now p c.unchanged-2.result c.in_ok-ask.ensures
-    (subst (Answers (verify_route ask c.args.chosen.now c.args.links.now c.args.potentials.now c.args.routers.now c.args.terminator c.args.total) p) (sym c.unchanged-2.ensures)
+    asked_so (λ a. verify_route a c.args.chosen.now c.args.links.now c.args.potentials.now c.args.routers.now c.args.terminator c.args.total) ask c.args.request.now p c.shown-2.result c.in_ok-ask.ensures
+    (subst (Answers (verify_route ask c.args.chosen.now c.args.links.now c.args.potentials.now c.args.routers.now c.args.terminator c.args.total) p) (sym c.shown-2.ensures)
     (claim_planned p ask c.args.chosen.now c.args.links.now c.args.potentials.now c.args.routers.now c.args.terminator c.args.total c.in-Ok.ingress c.in_ok-certified.certified
     (found_so _ _ _ c.in-Ok.ensures.found) is))

@@ -1,15 +1,16 @@
-use Rattle.std.proofs.Common.{subst}
+use Rattle.std.proofs.Common.{Option, subst}
 use Rattle.ctrl_model.specs.declared.kinds.Relation.TheVariants.{Bind}
 use Rattle.ctrl_model.specs.Controller.{carry}
 use Rattle.ctrl_core.specs.declared.changes.Change.{Change}
 use Rattle.ctrl_core.specs.KeptState.{state_of}
 use Rattle.ctrl_core.specs.PlannedCommands.{IsUncounted}
+use Rattle.ctrl_core.proofs.FoundPlans.{found_plan}
 use Rattle.ctrl_core.proofs.NetworkPlans.{terms_planned}
 use Rattle.ctrl_core.proofs.commands.plan_terminators.Goals as goal
 
-pub returns : goal.returns
-returns c =
-    let made = c.in_ok-reply.field-0 in
-    terms_planned made c.uncounted.result (carry c.args.command.now (state_of c.args.stores.now)) (state_of c.args.stores.now)
-    (c.in_ok-reply.ensures (state_of c.args.stores.now) (c.requires.kept.counts Bind))
-    (subst (λ (x : Change). IsUncounted made.reply x c.uncounted.result) c.term_change.ensures c.uncounted.ensures)
+pub returns-in-Some : goal.returns-in-Some
+returns-in-Some c =
+    let made = c.in-Some.plan in
+    terms_planned (state_of c.args.stores.now) made c.uncounted.result (carry c.args.command.now (state_of c.args.stores.now))
+    (found_plan _ _ c.in_ok-plan.field-0 made c.in-Some.is c.in_ok-plan.ensures (state_of c.args.stores.now) (c.requires.kept.counts Bind))
+    (subst (λ (x : Option Change). IsUncounted made.reply x c.uncounted.result) c.term_change-change.ensures c.uncounted.ensures)

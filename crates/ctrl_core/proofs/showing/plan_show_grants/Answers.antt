@@ -2,7 +2,8 @@ use Rattle.std.proofs.Common.{◌∙◌}
 use Rattle.ctrl_model.specs.State.{entity_named}
 use Rattle.entity_store.specs.declared.entities.EntityFault.TheVariants.{Unknown}
 use Rattle.ctrl_core.specs.KeptState.{state_of}
-use Rattle.ctrl_core.proofs.ShownPlans.{some_from_ok, none_from_err, grants_unknown, grants_planned}
+use Rattle.entity_store.proofs.LookUps.{some_from_ok, none_from_err}
+use Rattle.ctrl_core.proofs.ShownPlans.{grants_unknown, grants_planned}
 use Rattle.ctrl_core.proofs.showing.plan_show_grants.Goals as goal
 
 pub returns-in_default : goal.returns-in_default

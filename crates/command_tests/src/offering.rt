@@ -1,0 +1,161 @@
+ghost use Rattle.std.specs.Prelude.{◌≡◌, true, IfOk};
+ghost use Rattle.std.specs.Bool.{OnTrue};
+ghost use Rattle.ctrl_model.specs.CommandForm.{is_spelled};
+ghost use Rattle.entity_store.specs.EntityTables.{is_entity_kind};
+ghost use Rattle.terminator_commands.specs.TermChanges.{CanChangeTerms};
+
+use ctrl_model::{Command, Field, Instance, Kind, Name, Names, Precedence, Refusal, Reply, TermNo};
+use entity_store::Entities;
+use grant_denorm::Counted;
+use model_laws::Plan;
+use std::alloc::Global;
+use std::process::Abort;
+use std::test::Fail;
+use terminator_commands::{
+    TermChange, apply_term_change, plan_terminator_command, settle_terminators,
+};
+use terminators::Terminators;
+
+// Adds an entity as a caller has to.
+fn add(
+    rt: &impl Abort,
+    alloc: Global,
+    known: &mut Entities,
+    kind: Kind,
+    name: &[u8],
+) -> Result<(), Fail>
+    requires { is_entity_kind kind ≡ true }
+{
+    let name = Name::of(alloc, name)?;
+    let attributes = Names::of(Vec::new(alloc));
+    assert!(rt; known.has_room(&Names::of(Vec::new(alloc)), &attributes));
+    known.may_add(kind, &name)?;
+    known.add(kind, &name, &attributes)?;
+    Ok(())
+}
+
+// Ann, a service and a router.
+fn one_of_each(rt: &impl Abort, alloc: Global) -> Result<Entities, Fail> {
+    let mut known = Entities::new(alloc)?;
+    add(rt, alloc, &mut known, Kind::Identity, b"ann")?;
+    add(rt, alloc, &mut known, Kind::Service, b"mail")?;
+    add(rt, alloc, &mut known, Kind::Router, b"east")?;
+    Ok(known)
+}
+
+// The service is offered on the router, by ann.
+fn offer_of_ann(alloc: Global) -> Result<Command, Fail>
+    ensures { IfOk result (λ c. is_spelled c ≡ true) }
+{
+    let service = Name::of(alloc, b"mail")?;
+    let router = Name::of(alloc, b"east")?;
+    let host = Name::of(alloc, b"ann")?;
+    let instance = Instance::of(alloc, b"blue")?;
+    Ok(Command::CreateTerminator {
+        service,
+        router,
+        instance,
+        host: Some(host),
+        cost: 7,
+        precedence: Precedence::Normal,
+    })
+}
+
+// Whether a change can be made.
+fn can_change(store: &Terminators, bind: &Counted, change: &TermChange) -> bool
+    ensures { OnTrue result (CanChangeTerms change.now store.now) }
+{
+    match change {
+        TermChange::Add(term) => term.cost <= 65_535 && store.may_add(term, bind).is_ok(),
+        TermChange::Set { no, cost, .. } => *cost <= 65_535 && store.get(*no).is_ok(),
+        TermChange::Remove(no) => store.get(*no).is_ok(),
+    }
+}
+
+// Carries a command out as a caller has to.
+fn carry(
+    rt: &impl Abort,
+    alloc: Global,
+    known: &Entities,
+    store: &mut Terminators,
+    bind: &Counted,
+    command: &Command,
+) -> Result<Reply, Fail>
+    requires { is_spelled command.now ≡ true }
+{
+    let Some(plan) = plan_terminator_command(known, store, bind, command)? else {
+        return Err(Fail::new("the command is on terminators"));
+    };
+    let Plan { reply, change } = plan;
+    if let Some(change) = change {
+        assert!(rt; can_change(store, bind, &change));
+        apply_term_change(store, change)?;
+    }
+    settle_terminators(alloc, known, store)?;
+    Ok(reply)
+}
+
+// The offer is made and changed, and no other is there to go.
+fn carries(
+    rt: &impl Abort,
+    alloc: Global,
+    known: &Entities,
+    store: &mut Terminators,
+    bind: &Counted,
+) -> Result<(), Fail> {
+    let made = carry(rt, alloc, known, store, bind, &offer_of_ann(alloc)?)?;
+    assert!(rt; matches!(&made, Reply::Made { no: 1 }));
+    let dearer = Command::UpdateTerminator {
+        no: 1,
+        cost: 9,
+        precedence: Precedence::Failed,
+    };
+    let done = carry(rt, alloc, known, store, bind, &dearer)?;
+    assert!(rt; matches!(&done, Reply::Done));
+    assert_eq!(rt; store.get(TermNo(1)).map(|term| term.cost), Ok(9));
+    let gone = Command::DeleteTerminator { no: 2 };
+    let refused = carry(rt, alloc, known, store, bind, &gone)?;
+    assert!(rt;
+        matches!(
+            &refused,
+            Reply::Refused(Refusal::Unknown { field: Field::No })
+        )
+    );
+    Ok(())
+}
+
+// Ann may host the service.
+fn hosts(
+    rt: &impl Abort,
+    alloc: Global,
+    known: &Entities,
+    store: &mut Terminators,
+) -> Result<(), Fail> {
+    let mut bind = Counted::new(alloc)?;
+    if bind.count(1, 1) == 0 {
+        bind.raise(1, 1)?;
+    }
+    carries(rt, alloc, known, store, &bind)
+}
+
+// Where nothing else is present, no terminator stays.
+fn empties(rt: &impl Abort, alloc: Global, store: &mut Terminators) -> Result<(), Fail> {
+    let nothing = Entities::new(alloc)?;
+    assert_eq!(rt; store.numbers(alloc)?.as_slice(), [1].as_slice());
+    settle_terminators(alloc, &nothing, store)?;
+    assert!(rt; store.numbers(alloc)?.is_empty());
+    Ok(())
+}
+
+fn offers(rt: &impl Abort, alloc: Global, known: &Entities) -> Result<(), Fail> {
+    let mut store = Terminators::new(alloc)?;
+    hosts(rt, alloc, known, &mut store)?;
+    empties(rt, alloc, &mut store)
+}
+
+#[test]
+fn carries_commands_on_terminators(rt: HostRuntime) -> Result<(), Fail> {
+    let alloc = rt.alloc();
+    let known = one_of_each(&rt, alloc)?;
+    offers(&rt, alloc, &known)
+}

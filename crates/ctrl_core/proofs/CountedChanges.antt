@@ -1,0 +1,105 @@
+-- The steps of a change of entities or of policies lead to the counts of the state after it.
+use Rattle.std.proofs.Common.{◌≡◌, ℕ, Bool, true, not, List, None, Some, refl, sym, ◌∙◌, ap, subst}
+use Rattle.std.proofs.lemmas.Bool.{false≢true}
+use Rattle.ctrl_model.specs.declared.kinds.Kind.{Kind}
+use Rattle.ctrl_model.specs.declared.kinds.Kind.TheVariants as kind
+use Rattle.ctrl_model.specs.Numbered.{at, is_present}
+use Rattle.ctrl_model.specs.EntityCommands.{new_router}
+use Rattle.ctrl_model.specs.RecordCommands.{after_create}
+use Rattle.ctrl_model.specs.Settling.{settle}
+use Rattle.ctrl_model.specs.State.{State, Policy}
+use Rattle.ctrl_model.specs.Tables.{table, named, is_entity_kind, is_policy_kind}
+use Rattle.ctrl_model.proofs.NumberedLaws.{by_is_some}
+use Rattle.ctrl_model.proofs.TableLaws.{found-named}
+use Rattle.entity_store.specs.TableRules.{is_there}
+use Rattle.entity_commands.specs.EntityChanges.{is_plain_kind, with_plain, with_described, with_described_router, with_marked, without_named}
+use Rattle.entity_commands.proofs.EntityPlans.{named_as, there_from_number}
+use Rattle.policy_store.specs.declared.steps.GrantSteps.{GrantSteps}
+use Rattle.policy_store.specs.GrantChanges.{granting_state, HasNoSteps, StepsOfPolicy}
+use Rattle.policy_store.specs.PolicyTables.{no_policies, policies, number_of}
+use Rattle.policy_store.specs.PolicyChanges.{with_policy, with_replaced, without_policy}
+use Rattle.ctrl_core.specs.declared.stores.Stores.{Stores}
+use Rattle.ctrl_core.specs.KeptState.{Keeps, state_of}
+use Rattle.ctrl_core.specs.Changes.{LeadAllCounts}
+use Rattle.ctrl_core.specs.PlannedCommands.{Coming, Going, IsDescribed}
+use Rattle.ctrl_core.proofs.EntityCounts.{added_leads, added_router_leads, described_leads, described_router_leads, marked_leads, removed_leads}
+use Rattle.ctrl_core.proofs.PlanLaws.{settled_lead}
+use Rattle.ctrl_core.proofs.PolicyCounts.{next_in, kind_ordered, created_leads, replaced_leads, removed_leads as removed_policy_leads}
+use Rattle.ctrl_core.proofs.StepsInState.{entity_steps_in_state, policy_steps_in_state}
+
+-- steps to the counts after a change are steps to those of the settled state
+pub settled_leads : (s t : State) (steps : GrantSteps) → LeadAllCounts s t steps → LeadAllCounts s (settle t) steps
+settled_leads s t steps leads r = settled_lead r s t _ (leads r)
+
+-- ---- entities
+
+pub plain_comes : (k : Kind) (name : List ℕ) (attributes : List (List ℕ)) (st : Stores) (steps : GrantSteps) → is_plain_kind k ≡ true → Keeps st → Coming k name attributes st steps
+    → LeadAllCounts (state_of st) (with_plain k name attributes (state_of st)) steps
+plain_comes kind.Identity name attributes st steps plain keeps is = added_leads kind.Identity name attributes (state_of st) steps refl keeps.valid (entity_steps_in_state kind.Identity _ _ st steps is)
+plain_comes kind.Service name attributes st steps plain keeps is = added_leads kind.Service name attributes (state_of st) steps refl keeps.valid (entity_steps_in_state kind.Service _ _ st steps is)
+plain_comes _ name attributes st steps plain keeps is = absurd (false≢true plain)
+
+pub router_comes : (name : List ℕ) (attributes : List (List ℕ)) (cost : ℕ) (through : Bool) (st : Stores) (steps : GrantSteps) → Keeps st → Coming kind.Router name attributes st steps
+    → LeadAllCounts (state_of st) (after_create kind.Router (new_router name attributes cost (not through)) (state_of st)) steps
+router_comes name attributes cost through st steps keeps is =
+    added_router_leads name attributes cost (not through) (state_of st) steps keeps.valid (entity_steps_in_state kind.Router _ _ st steps is)
+
+pub plain_described : (k : Kind) (n : ℕ) (attributes : List (List ℕ)) (st : Stores) (steps : GrantSteps) → is_plain_kind k ≡ true → Keeps st → IsDescribed k n attributes st steps
+    → LeadAllCounts (state_of st) (with_described k n attributes (state_of st)) steps
+plain_described kind.Identity n attributes st steps plain keeps is = described_leads kind.Identity n attributes (state_of st) steps refl keeps.valid (entity_steps_in_state kind.Identity n _ st steps is)
+plain_described kind.Service n attributes st steps plain keeps is = described_leads kind.Service n attributes (state_of st) steps refl keeps.valid (entity_steps_in_state kind.Service n _ st steps is)
+plain_described _ n attributes st steps plain keeps is = absurd (false≢true plain)
+
+pub router_described : (n : ℕ) (attributes : List (List ℕ)) (cost : ℕ) (through connected : Bool) (st : Stores) (steps : GrantSteps) → Keeps st → IsDescribed kind.Router n attributes st steps
+    → LeadAllCounts (state_of st) (with_described_router n attributes cost through connected (state_of st)) steps
+router_described n attributes cost through connected st steps keeps is =
+    described_router_leads n attributes (λ r. record r { attributes = attributes; cost = cost; through = through; connected = connected }) (state_of st) steps keeps.valid (λ r. refl) (entity_steps_in_state kind.Router n _ st steps is)
+
+pub router_marked : (n cost : ℕ) (through connected : Bool) (st : Stores) (steps : GrantSteps) → HasNoSteps steps
+    → LeadAllCounts (state_of st) (with_marked n cost through connected (state_of st)) steps
+router_marked n cost through connected st steps none =
+    marked_leads n (λ r. record r { cost = cost; through = through; connected = connected }) (state_of st) steps (λ r. refl) none
+
+pub entity_goes : (k : Kind) (n : ℕ) (name : List ℕ) (st : Stores) (steps : GrantSteps) → is_entity_kind k ≡ true → named k (state_of st) name ≡ Some n → Keeps st
+    → Going k n st steps
+    → LeadAllCounts (state_of st) (without_named k n name (state_of st)) steps
+entity_goes kind.Identity n name st steps is_kind found keeps is = removed_leads kind.Identity n name (state_of st) steps refl keeps.valid found (entity_steps_in_state kind.Identity n _ st steps is)
+entity_goes kind.Service n name st steps is_kind found keeps is = removed_leads kind.Service n name (state_of st) steps refl keeps.valid found (entity_steps_in_state kind.Service n _ st steps is)
+entity_goes kind.Router n name st steps is_kind found keeps is = removed_leads kind.Router n name (state_of st) steps refl keeps.valid found (entity_steps_in_state kind.Router n _ st steps is)
+entity_goes _ n name st steps is_kind found keeps is = absurd (false≢true is_kind)
+
+-- what is there in the state is there in the store
+pub plain_is_there : (k : Kind) (n : ℕ) (st : Stores) → is_plain_kind k ≡ true → is_present (table k (state_of st)).rows n ≡ true → is_there k n st.entities ≡ true
+plain_is_there kind.Identity n st plain there = there
+plain_is_there kind.Service n st plain there = there
+plain_is_there _ n st plain there = absurd (false≢true plain)
+
+pub plain_is_entity : (k : Kind) → is_plain_kind k ≡ true → is_entity_kind k ≡ true
+plain_is_entity kind.Identity plain = refl
+plain_is_entity kind.Service plain = refl
+plain_is_entity _ plain = absurd (false≢true plain)
+
+pub named_is_there : (k : Kind) (n : ℕ) (name : List ℕ) (st : Stores) → is_entity_kind k ≡ true → named k (state_of st) name ≡ Some n → is_there k n st.entities ≡ true
+named_is_there k n name st is_kind found =
+    there_from_number k name st.entities n (sym (named_as k name (record { entities = st.entities; rest = state_of st }) is_kind) ∙ found)
+
+-- ---- policies
+
+pub policy_comes : (k : Kind) (p : Policy) (st : Stores) (steps : GrantSteps) → is_policy_kind k ≡ true → Keeps st
+    → StepsOfPolicy k None (Some p) (granting_state st.entities no_policies) steps → LeadAllCounts (state_of st) (with_policy k p (state_of st)) steps
+policy_comes k p st steps is keeps stepped = created_leads k p (state_of st) steps is keeps.valid (policy_steps_in_state k None (Some p) st steps stepped)
+
+pub policy_replaced : (k : Kind) (n : ℕ) (p : Policy) (st : Stores) (steps : GrantSteps) → is_policy_kind k ≡ true → number_of k p.name st.policies ≡ Some n → Keeps st
+    → StepsOfPolicy k (at (policies k st.policies) n) (Some p) (granting_state st.entities no_policies) steps → LeadAllCounts (state_of st) (with_replaced k n p (state_of st)) steps
+policy_replaced k n p st steps is named keeps stepped =
+    by (found-named (λ (q : Policy). q.name) (policies k st.policies) n p.name (next_in k (state_of st)) 1 (kind_ordered k (state_of st) keeps.valid) named)
+  where
+    by : (old : Policy) × (at (policies k st.policies) n ≡ Some old) × (old.name ≡ p.name) → LeadAllCounts (state_of st) (with_replaced k n p (state_of st)) steps
+    by f = replaced_leads k n f.0 p (state_of st) steps is keeps.valid f.1 (ap (λ name. record p { name = name }) f.2)
+        (policy_steps_in_state k (Some f.0) (Some p) st steps (subst (λ o. StepsOfPolicy k o (Some p) (granting_state st.entities no_policies) steps) f.1 stepped))
+
+pub policy_goes : (k : Kind) (n : ℕ) (st : Stores) (steps : GrantSteps) → is_policy_kind k ≡ true → is_present (policies k st.policies) n ≡ true → Keeps st
+    → StepsOfPolicy k (at (policies k st.policies) n) None (granting_state st.entities no_policies) steps → LeadAllCounts (state_of st) (without_policy k n (state_of st)) steps
+policy_goes k n st steps is there keeps stepped = by_is_some (at (policies k st.policies) n) there (λ old stands.
+    removed_policy_leads k n old (state_of st) steps is keeps.valid stands
+    (policy_steps_in_state k (Some old) None st steps (subst (λ o. StepsOfPolicy k o None (granting_state st.entities no_policies) steps) stands stepped)))

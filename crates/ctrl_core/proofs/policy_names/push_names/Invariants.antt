@@ -1,6 +1,0 @@
-use Rattle.std.proofs.Common.{◌≡◌, ◌++◌, take}
-use Rattle.ctrl_core.proofs.policy_names.push_names.Given as goal
-
--- behind what stood there are the names before the index
-abbrev pub invariant-names : goal.invariant-names
-invariant-names l = l.kept.items ≡ l.fn.kept.items ++ take l.name-index l.names

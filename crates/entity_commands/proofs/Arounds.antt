@@ -1,0 +1,20 @@
+-- Some entities and a state around them, which is valid and of whose policies the uses of attributes are held.
+use Rattle.ctrl_model.specs.State.{State}
+use Rattle.ctrl_model.specs.ValidState.{ValidState}
+use Rattle.entity_store.specs.EntityTables.{Tables}
+use Rattle.entity_store.specs.HeldUses as held_uses
+use Rattle.entity_store.specs.HeldUses.{with_entities}
+
+pub record Around : Type 0 where
+  pub entities : Tables
+  pub rest : State
+
+abbrev pub state_of : Around → State
+state_of st = with_entities st.entities st.rest
+
+abbrev pub HoldsPolicies : Around → Type 0
+HoldsPolicies st = held_uses.HoldsPolicies st.entities st.rest
+
+pub record Keeps (st : Around) : Type 0 where
+  pub valid : ValidState (state_of st)
+  pub held : HoldsPolicies st

@@ -1,0 +1,4 @@
+pub mod Arounds
+pub mod UsedLaws
+pub mod EntityPlans
+pub mod ApplyLaws

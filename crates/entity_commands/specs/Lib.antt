@@ -1,0 +1,4 @@
+pub mod EntityChanges
+pub mod EntityPlans
+pub mod PlannedEntities
+pub mod WorkedEntities
