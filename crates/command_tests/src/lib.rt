@@ -1,8 +1,6 @@
-//! Tests of the commands on entities, links and terminators: planned, made and settled.
+//! Tests of the commands on links and terminators: planned, made and settled.
 #![tactic(auto)]
 
-#[cfg(test)]
-mod entering;
 #[cfg(test)]
 mod linking;
 #[cfg(test)]

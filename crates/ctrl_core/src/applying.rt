@@ -119,11 +119,7 @@ fn remove_policy(
     Ok(())
 }
 
-fn apply_policy(
-    alloc: Global,
-    stores: &mut Stores,
-    change: PolicyChange,
-) -> Result<(), AllocError>
+fn apply_policy(alloc: Global, stores: &mut Stores, change: PolicyChange) -> Result<(), AllocError>
     requires can { CanRule change (state_of stores.old) }
     requires before { ValidState (state_of stores.old) }
     requires valid { ValidState (settle (ruled change (state_of stores.old))) }

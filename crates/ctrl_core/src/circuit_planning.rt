@@ -80,7 +80,11 @@ fn plan_delete_circuit(parts: &Parts, no: CircuitNo) -> Plan<CircuitChange>
 }
 
 // Plans the reply to Explain, of the explanation of a route that would be granted.
-fn plan_explained(parts: &Parts, ask: &Ask, claim: Explanation) -> Result<Plan<CircuitChange>, AllocError>
+fn plan_explained(
+    parts: &Parts,
+    ask: &Ask,
+    claim: Explanation,
+) -> Result<Plan<CircuitChange>, AllocError>
     requires parts { AreParts parts.now }
     requires explained { IsExplained (network_in parts.now) (asked ask.now) claim }
     ensures { IfOk result (Answers (explain (asked ask.now)) parts.now) }
@@ -90,7 +94,11 @@ fn plan_explained(parts: &Parts, ask: &Ask, claim: Explanation) -> Result<Plan<C
 }
 
 // Plans the answer to Explain.
-fn plan_explain(alloc: Global, parts: &Parts, request: &Request) -> Result<Plan<CircuitChange>, AllocError>
+fn plan_explain(
+    alloc: Global,
+    parts: &Parts,
+    request: &Request,
+) -> Result<Plan<CircuitChange>, AllocError>
     requires { AreParts parts.now }
     ensures { IfOk result (Answers (λ s. explain (ask_at request.now s) s) parts.now) }
 {

@@ -133,7 +133,9 @@ pub fn entity_change_steps(
             attributes,
         } => coming_steps(alloc, stores, *kind, name, attributes),
         EntityChange::AddRouter {
-            name, attributes, ..
+            name,
+            attributes,
+            ..
         } => coming_router_steps(alloc, stores, name, attributes),
         EntityChange::Describe {
             kind,
@@ -141,7 +143,9 @@ pub fn entity_change_steps(
             attributes,
         } => described_steps(alloc, stores, *kind, *number, attributes),
         EntityChange::DescribeRouter {
-            number, attributes, ..
+            number,
+            attributes,
+            ..
         } => described_router_steps(alloc, stores, *number, attributes),
         EntityChange::Mark { .. } => Ok(GrantSteps::none(alloc)),
         EntityChange::Remove { kind, number, .. } => going_steps(alloc, stores, *kind, *number),

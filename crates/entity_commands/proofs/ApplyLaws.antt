@@ -170,14 +170,18 @@ plain_there _ n st plain there = absurd (false≢true plain)
 pub can_apply : (c : EntityChange) (st : Around) → CanEnter c (state_of st) → ValidState (settle (entered c (state_of st))) → HoldsPolicies st → CanChangeEntities c st.entities
 can_apply (change.Add k name attributes) st plain valid held =
     (plain, may_add_plain k name attributes st plain valid, room_to_add k name attributes st plain held valid)
-can_apply (change.AddRouter name attributes cost through) st can valid held =
-    (may_add_router name attributes cost (not through) st valid, room_to_add_router name attributes cost (not through) st held valid,
-    cost_of_new st.entities.routers.rows st.entities.routers.next (made_router name attributes cost (not through)) (valid.kinds kind.Router).each)
+can_apply (change.AddRouter name attributes cost through) st can valid held = (
+  may_add_router name attributes cost (not through) st valid,
+  room_to_add_router name attributes cost (not through) st held valid,
+  cost_of_new st.entities.routers.rows st.entities.routers.next (made_router name attributes cost (not through)) (valid.kinds kind.Router).each,
+)
 can_apply (change.Describe k n attributes) st can valid held =
     (can.0, plain_there k n st can.0 can.1, room_to_describe k n attributes st can.0 can.1 held valid)
-can_apply (change.DescribeRouter n attributes cost through connected) st there valid held =
-    (router_there n st.entities there, room_to_describe_router n attributes cost through connected st there held valid,
-    cost_of_edit st.entities.routers.rows n (described attributes cost through connected) cost (λ r. refl) there (valid.kinds kind.Router).each)
+can_apply (change.DescribeRouter n attributes cost through connected) st there valid held = (
+  router_there n st.entities there,
+  room_to_describe_router n attributes cost through connected st there held valid,
+  cost_of_edit st.entities.routers.rows n (described attributes cost through connected) cost (λ r. refl) there (valid.kinds kind.Router).each,
+)
 can_apply (change.Mark n cost through connected) st there valid held =
     (router_there n st.entities there, cost_of_edit st.entities.routers.rows n (marked cost through connected) cost (λ r. refl) there (valid.kinds kind.Router).each)
 can_apply (change.Remove k n name) st can valid held =

@@ -48,10 +48,7 @@ fn describe_router(
 }
 
 /// Makes a change of the entities. Of a change that fails for want of memory nothing is said.
-pub fn apply_entity_change(
-    entities: &mut Entities,
-    change: &EntityChange,
-) -> Result<(), AllocError>
+pub fn apply_entity_change(entities: &mut Entities, change: &EntityChange) -> Result<(), AllocError>
     requires { CanChangeEntities change.now entities.old }
     ensures { OnOk result (entities.new ≡ after_entity_change change.now entities.old) }
 {

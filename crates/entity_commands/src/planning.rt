@@ -261,11 +261,33 @@ pub fn plan_entity_command(
         → PlansEntities p (carry command.now (with_entities entities.now s)) (with_entities entities.now s))) }
 {
     match command {
-        Command::CreateIdentity { name, attributes } => Ok(Some(plan_add(alloc, entities, Kind::Identity, name, attributes)?)),
-        Command::UpdateIdentity { name, attributes } => Ok(Some(plan_update(entities, Kind::Identity, name, attributes)?)),
+        Command::CreateIdentity { name, attributes } => Ok(Some(plan_add(
+            alloc,
+            entities,
+            Kind::Identity,
+            name,
+            attributes,
+        )?)),
+        Command::UpdateIdentity { name, attributes } => Ok(Some(plan_update(
+            entities,
+            Kind::Identity,
+            name,
+            attributes,
+        )?)),
         Command::DeleteIdentity { name } => Ok(Some(plan_delete(entities, Kind::Identity, name)?)),
-        Command::CreateService { name, attributes } => Ok(Some(plan_add(alloc, entities, Kind::Service, name, attributes)?)),
-        Command::UpdateService { name, attributes } => Ok(Some(plan_update(entities, Kind::Service, name, attributes)?)),
+        Command::CreateService { name, attributes } => Ok(Some(plan_add(
+            alloc,
+            entities,
+            Kind::Service,
+            name,
+            attributes,
+        )?)),
+        Command::UpdateService { name, attributes } => Ok(Some(plan_update(
+            entities,
+            Kind::Service,
+            name,
+            attributes,
+        )?)),
         Command::DeleteService { name } => Ok(Some(plan_delete(entities, Kind::Service, name)?)),
         Command::CreateRouter {
             name,

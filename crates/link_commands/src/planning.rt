@@ -253,9 +253,7 @@ pub fn plan_link_command(
             link,
             router,
             latency,
-        } => Ok(Some(plan_report_latency(
-            entities, fabric, link, router, *latency,
-        ))),
+        } => Ok(Some(plan_report_latency(entities, fabric, link, router, *latency))),
         Command::ReportState { link, router, up } => {
             Ok(Some(plan_report_state(entities, fabric, link, router, *up)))
         }

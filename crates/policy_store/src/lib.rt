@@ -23,6 +23,6 @@ pub use policies::{Policies, PolicyFault};
 pub use records::Policy;
 pub use steps::GrantSteps;
 pub use worked::{
-    changes_of_policies, members_of_sides, names_and_numbers_of_policies, replaced_and_forgotten, sides_and_relations,
-    what_may_be_put,
+    changes_of_policies, members_of_sides, names_and_numbers_of_policies, replaced_and_forgotten,
+    sides_and_relations, what_may_be_put,
 };

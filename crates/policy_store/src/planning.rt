@@ -14,8 +14,8 @@ ghost use Rattle.policy_store.specs.PolicyPlans.{is_policy_command, is_service_p
 ghost use Rattle.policy_store.specs.PlannedPolicies.{Answers, AreShort, IsPlaced, ids_of, refusal_for, refusal_to_put, answer_create, answer_replace, roles_field};
 
 use crate::changes::PolicyChange;
-use crate::policies::{Policies, PolicyFault};
 use crate::naming::policy_names;
+use crate::policies::{Policies, PolicyFault};
 use crate::records::Policy;
 use ctrl_model::{Command, Field, Kind, Name, Names, Refusal, Relation, Reply, Semantic, Side};
 use entity_store::Entities;
@@ -285,7 +285,11 @@ fn plan_edge_router_policy(
             let policy = policy(name, relation, *semantic, identity_roles, router_roles)?;
             Ok(Some(plan_replace(alloc, known, kind, policy)?))
         }
-        Command::DeleteEdgeRouterPolicy { name } => Ok(Some(plan_delete(known.policies, kind, name))),
+        Command::DeleteEdgeRouterPolicy { name } => Ok(Some(plan_delete(
+            known.policies,
+            kind,
+            name,
+        ))),
         _ => Ok(None),
     }
 }
@@ -322,7 +326,11 @@ fn plan_service_edge_router_policy(
             let policy = policy(name, relation, *semantic, service_roles, router_roles)?;
             Ok(Some(plan_replace(alloc, known, kind, policy)?))
         }
-        Command::DeleteServiceEdgeRouterPolicy { name } => Ok(Some(plan_delete(known.policies, kind, name))),
+        Command::DeleteServiceEdgeRouterPolicy { name } => Ok(Some(plan_delete(
+            known.policies,
+            kind,
+            name,
+        ))),
         _ => Ok(None),
     }
 }

@@ -194,12 +194,7 @@ pub fn plan_terminator_command(
             no,
             cost,
             precedence,
-        } => Ok(Some(plan_update_terminator(
-            terminators,
-            TermNo(*no),
-            *cost,
-            *precedence,
-        ))),
+        } => Ok(Some(plan_update_terminator(terminators, TermNo(*no), *cost, *precedence))),
         Command::DeleteTerminator { no } => {
             Ok(Some(plan_delete_terminator(terminators, TermNo(*no))))
         }
