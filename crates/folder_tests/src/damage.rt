@@ -21,7 +21,13 @@ fn fault_of(alloc: Global, slot: &[u8]) -> Result<Option<StoreFault>, AllocError
 
 fn is_damaged(rt: &impl Abort, alloc: Global, slot: &[u8], at: u64) -> Result<(), AllocError> {
     let fault = fault_of(alloc, slot)?;
-    assert_eq!(rt; fault, Some(StoreFault::Damaged { part: Part::Zero, at }));
+    assert_eq!(rt;
+        fault,
+        Some(StoreFault::Damaged {
+            part: Part::Zero,
+            at
+        })
+    );
     Ok(())
 }
 

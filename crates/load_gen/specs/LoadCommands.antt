@@ -27,12 +27,14 @@ everything = record { all = true; ids = []; attributes = [] }
 abbrev pub two_attributes : ℕ → ℕ → List (List ℕ)
 two_attributes g h = numbered (codes "g") g ∷ numbered (codes "h") h ∷ []
 
+-- An identity with two attributes, each one of eight.
 abbrev pub an_identity : ℕ → Drawn (List Command)
 an_identity i = do
   g ← draw 8
   h ← draw 8
   one (command.CreateIdentity (numbered (codes "u") i) (two_attributes g h))
 
+-- A service with one attribute of four.
 abbrev pub a_service : ℕ → Drawn (List Command)
 a_service i = do
   c ← draw 4
@@ -46,6 +48,7 @@ a_router i = do
   passed ← draw 6
   those (command.CreateRouter (numbered (codes "r") i) (numbered (codes "e") e ∷ []) cost (passed == 0) ∷ command.ConnectRouter (numbered (codes "r") i) ∷ [])
 
+-- A link between two of the twelve routers.
 abbrev pub a_link : ℕ → Drawn (List Command)
 a_link i = do
   a ← draw 12
@@ -53,6 +56,7 @@ a_link i = do
   cost ← draw 100
   one (command.CreateLink (numbered (codes "l") i) (numbered (codes "r") (1 + a)) (numbered (codes "r") (1 + b)) (1 + cost) 0 0)
 
+-- A service policy between two attributes of identities and one of services.
 abbrev pub a_service_policy : ℕ → Drawn (List Command)
 a_service_policy i = do
   relation ← draw 4
@@ -63,17 +67,20 @@ a_service_policy i = do
   one (command.CreateServicePolicy (numbered (codes "d") i) (if relation == 0 then Bind else Dial) (if semantic == 0 then AnyOf else AllOf)
       (with_attributes (two_attributes g h)) (with_attributes (numbered (codes "c") c ∷ [])))
 
+-- An edge-router policy between one attribute of identities and one of routers.
 abbrev pub an_edge_router_policy : ℕ → Drawn (List Command)
 an_edge_router_policy i = do
   g ← draw 8
   e ← draw 3
   one (command.CreateEdgeRouterPolicy (numbered (codes "e") i) AnyOf (with_attributes (numbered (codes "g") g ∷ [])) (with_attributes (numbered (codes "e") e ∷ [])))
 
+-- A service-edge-router policy between one attribute of services and every router.
 abbrev pub a_service_edge_router_policy : ℕ → Drawn (List Command)
 a_service_edge_router_policy i = do
   c ← draw 4
   one (command.CreateServiceEdgeRouterPolicy (numbered (codes "f") i) AnyOf (with_attributes (numbered (codes "c") c ∷ [])) everything)
 
+-- A terminator of one of the services on one of the routers.
 abbrev pub a_terminator : Drawn (List Command)
 a_terminator = do
   s ← draw 40
@@ -81,13 +88,14 @@ a_terminator = do
   cost ← draw 200
   one (command.CreateTerminator (numbered (codes "s") (1 + s)) (numbered (codes "r") (1 + r)) [] None cost Normal)
 
--- The commands on what is there by then.
+-- A circuit of one of the identities to one of the services.
 abbrev pub a_circuit : Drawn (List Command)
 a_circuit = do
   u ← draw 200
   s ← draw 40
   one (command.CreateCircuit (numbered (codes "u") (1 + u)) (numbered (codes "s") (1 + s)) None [])
 
+-- Other attributes of one of the identities.
 abbrev pub a_changed_identity : Drawn (List Command)
 a_changed_identity = do
   u ← draw 200
@@ -95,17 +103,20 @@ a_changed_identity = do
   h ← draw 8
   one (command.UpdateIdentity (numbered (codes "u") (1 + u)) (two_attributes g h))
 
+-- Another cost of one of the links.
 abbrev pub a_changed_cost : Drawn (List Command)
 a_changed_cost = do
   l ← draw 30
   cost ← draw 100
   one (command.SetLinkCost (numbered (codes "l") (1 + l)) (1 + cost))
 
+-- One of the routers is disconnected.
 abbrev pub a_disconnection : Drawn (List Command)
 a_disconnection = do
   r ← draw 12
   one (command.DisconnectRouter (numbered (codes "r") (1 + r)))
 
+-- One of the routers is connected.
 abbrev pub a_connection : Drawn (List Command)
 a_connection = do
   r ← draw 12
@@ -120,6 +131,7 @@ request_of kind =
     else (if kind == 8 then a_disconnection
     else a_connection)))
 
+-- A command of the last group.
 abbrev pub a_request : Drawn (List Command)
 a_request = draw 10 >>= request_of
 

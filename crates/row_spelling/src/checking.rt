@@ -4,7 +4,10 @@ ghost use Rattle.row_codec.specs.RowForm.{is_positive};
 ghost use Rattle.row_codec.specs.FieldReading.{behind, is_end, alone, kept, both, at_end, front_byte, front_long, front_number};
 ghost use Rattle.row_spelling.specs.RowReading.{is_kind, is_next, is_setting, front_entity, front_router, front_costs, front_link, front_sides, front_service_policy, front_router_policy, front_place, front_terminator, front_circuit, is_value, is_row_in, table_seen, row_of};
 
-use crate::fields::{past_each_long, past_names, past_side, split_flag, split_instance, split_marks, split_name, split_number, split_precedence, split_relation, split_semantic, split_short};
+use crate::fields::{
+    past_each_long, past_names, past_side, split_flag, split_instance, split_marks, split_name,
+    split_number, split_precedence, split_relation, split_semantic, split_short,
+};
 use crate::tables::{Table, table_of};
 use ctrl_model::Kind;
 use row_codec::{split_byte, split_long};

@@ -3,7 +3,10 @@ ghost use Rattle.std.specs.Option.{option_map};
 ghost use Rattle.row_codec.specs.FieldReading.{alone, at_end, both, front_code, front_short, front_each, front_list, front_long, front_name, front_names, front_side};
 ghost use Rattle.row_spelling.specs.RowReading.{Gives, marks_meant, host_named, front_entity, front_router, front_costs, front_link, front_sides, front_service_policy, front_router_policy, front_place, front_terminator, front_circuit};
 
-use crate::fields::{split_flag, split_instance, split_marks, split_name, split_precedence, split_relation, split_semantic, split_short};
+use crate::fields::{
+    split_flag, split_instance, split_marks, split_name, split_precedence, split_relation,
+    split_semantic, split_short,
+};
 use crate::name_forms::{instance_named, named};
 use ctrl_model::{
     IdentityNo, Instance, Name, Names, Numbers, Precedence, Relation, Semantic, Side,

@@ -11,6 +11,7 @@ use Rattle.row_store.specs.BatchRows.{ByteRows}
 abbrev pub key_of_next : List ℕ
 key_of_next = 1 ∷ 1 ∷ []
 
+-- The key of identity 1.
 abbrev pub key_of_ann : List ℕ
 key_of_ann = 3 ∷ 0 ∷ 0 ∷ 0 ∷ 1 ∷ []
 
@@ -18,6 +19,7 @@ key_of_ann = 3 ∷ 0 ∷ 0 ∷ 0 ∷ 1 ∷ []
 abbrev pub value_of_next : List ℕ
 value_of_next = 2 ∷ 0 ∷ 0 ∷ 0 ∷ []
 
+-- The value of the identity ann.
 abbrev pub value_of_ann : List ℕ
 value_of_ann = 3 ∷ 97 ∷ 110 ∷ 110 ∷ 0 ∷ []
 
