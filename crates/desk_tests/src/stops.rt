@@ -39,6 +39,7 @@ fn leaves(
 
 /// Writes, cuts and syncs the first slot, and says and notes.
 fn works(rt: &impl Abort, desk: &mut MemDesk) {
+    assert!(rt; desk.part(Part::Zero).len() >= 1);
     assert_eq!(rt; desk.write_at(Part::Zero, 1, b"XYZ"), Ok(()));
     assert_eq!(rt; desk.cut(Part::Zero, 2), Ok(()));
     assert_eq!(rt; desk.sync(Part::Zero), Ok(()));
@@ -78,6 +79,7 @@ fn keeps_nothing_or_all_of_what_is_pending(rt: HostRuntime) -> Result<(), Fail> 
 /// A write and a cut that fail, and a sync and a say that fail too.
 fn fails(rt: &impl Abort, desk: &mut MemDesk) {
     assert!(rt; desk.write_at(Part::Zero, 0, b"XY").is_err());
+    assert!(rt; desk.part(Part::Zero).len() >= 1);
     assert!(rt; desk.cut(Part::Zero, 1).is_err());
     assert!(rt; desk.sync(Part::Zero).is_err());
     assert!(rt; desk.say(b"lost").is_err());
@@ -144,6 +146,7 @@ fn torn(rt: &impl Abort, alloc: Global, desk: &MemDesk) -> Result<u32, AllocErro
 #[test]
 fn draws_what_is_kept(rt: HostRuntime) -> Result<(), Fail> {
     let mut desk = desk(rt.alloc(), &[])?;
+    assert!(rt; desk.part(Part::Zero).len() >= 1);
     assert_eq!(rt; desk.write_at(Part::Zero, 1, b"WXYZ"), Ok(()));
     assert!(rt; torn(&rt, rt.alloc(), &desk)? > 0);
     Ok(())
@@ -157,6 +160,7 @@ fn counts_what_the_room_cannot_hold(rt: HostRuntime) -> Result<(), Fail> {
 }
 
 fn fills(rt: &impl Abort, desk: &mut MemDesk) {
+    assert!(rt; desk.part(Part::Zero).len() >= 3);
     assert_eq!(rt; desk.write_at(Part::Zero, 3, b"defgh"), Ok(()));
     assert_eq!(rt; desk.write_at(Part::Zero, 0, b"ABCDEFGH"), Ok(()));
     assert!(rt; desk.write_at(Part::Zero, 8, b"i").is_err());

@@ -35,7 +35,8 @@ pub fn desk_of(alloc: Global, slot: &[u8]) -> Result<MemDesk, AllocError> {
 /// Adds a record behind an open gate.
 pub fn add_record(slot: &mut Vec<u8>, payload: &[u8]) -> Result<(), AllocError> {
     slot.push(1)?;
-    slot.extend_from_slice(&(payload.len() as u32 & 0xFFFF).to_le_bytes())?;
+    let len = u32::try_from(payload.len()).unwrap_or(u32::MAX);
+    slot.extend_from_slice(&len.to_le_bytes())?;
     slot.extend_from_slice(payload)
 }
 
