@@ -1,5 +1,7 @@
 pub mod CarriedCommands
 pub mod KeptState
+pub mod SettledNumbers
+pub mod ChangeParts
 pub mod Changes
 pub mod PlannedCommands
 pub mod AppliedChanges
