@@ -1,5 +1,6 @@
 -- What a change is to each family: its own change, or none. Only private functions and proofs of this crate cite this file.
-use Rattle.std.specs.Prelude.{None, Some}
+use Rattle.std.specs.Prelude.{◌==◌, Bool, false, None, Some}
+use Rattle.std.specs.Option.{option_map_or}
 use Rattle.std.specs.declared.option.Option.{Option}
 use Rattle.ctrl_model.specs.declared.kinds.Kind.{Kind}
 use Rattle.ctrl_model.specs.declared.kinds.Kind.TheVariants as kind
@@ -13,6 +14,7 @@ use Rattle.terminators.specs.declared.changes.TermChange.{TermChange}
 use Rattle.terminators.specs.declared.changes.TermChange.TheVariants as term
 use Rattle.circuits.specs.declared.changes.CircuitChange.{CircuitChange}
 use Rattle.circuits.specs.declared.changes.CircuitChange.TheVariants as circuit
+use Rattle.row_codec.specs.RowKeys.{kind_number}
 use Rattle.ctrl_core.specs.declared.changes.Change.{Change}
 use Rattle.ctrl_core.specs.declared.changes.Change.TheVariants as change
 
@@ -50,3 +52,7 @@ added_kind (change.Link (link.Add l)) = Some kind.Link
 added_kind (change.Terminator (term.Add e)) = Some kind.Terminator
 added_kind (change.Circuit (circuit.Add c)) = Some kind.Circuit
 added_kind _ = None
+
+-- Whether a change adds a record of a kind.
+abbrev pub adds : Kind → Change → Bool
+adds k c = option_map_or (λ added. kind_number added == kind_number k) (added_kind c) false

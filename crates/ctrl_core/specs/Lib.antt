@@ -4,6 +4,8 @@ pub mod SettledNumbers
 pub mod ChangeParts
 pub mod Changes
 pub mod PlannedCommands
+pub mod ChangedStores
+pub mod CompletedPlans
 pub mod AppliedChanges
 pub mod CircuitParts
 pub mod CircuitPlans
