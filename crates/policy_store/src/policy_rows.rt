@@ -1,5 +1,6 @@
 ghost use Rattle.std.specs.Prelude.{◌≡◌, ℕ, ◌++◌, true, Some, IfOk, IfSome, OnOk};
 ghost use Rattle.std.specs.Option.{option_map};
+ghost use Rattle.ctrl_model.specs.declared.kinds.Kind.TheVariants as kind;
 ghost use Rattle.ctrl_model.specs.Numbered.{at};
 ghost use Rattle.ctrl_model.specs.PolicyCommands.{replaced_by};
 ghost use Rattle.ctrl_model.specs.State.{State};
@@ -17,9 +18,9 @@ use crate::changes::PolicyChange;
 use crate::copying::copy_policy;
 use crate::policies::Policies;
 use crate::records::{Hand, Policy, forget_on_side};
-use ctrl_model::{Kind, Name, PolicyNo};
+use ctrl_model::{Bytes, Kind, Name, PolicyNo};
 use row_codec::{Change, Changes, Row};
-use row_spelling::change_of;
+use row_spelling::{change_of, value_of};
 use std::alloc::{AllocError, Global};
 
 // The row of a policy of a kind.
@@ -65,17 +66,32 @@ fn policy_row(kind: Kind, number: u32, policy: Policy) -> Row
     }
 }
 
-// The row of a policy, if there is one.
-fn row_of(kind: Kind, number: u32, policy: Option<Policy>) -> Option<Row>
+// The value of the row of a policy of a kind.
+fn policy_value(alloc: Global, kind: Kind, number: u32, policy: Policy) -> Result<Bytes, AllocError>
+    requires kind { is_policy_kind kind ≡ true }
+    requires long { is_long number ≡ true }
+    requires fits { fits_row kind policy ≡ true }
+    ensures { IfOk result (λ value. value ≡ policy_value kind policy) }
+{
+    let row = policy_row(kind, number, policy);
+    value_of(alloc, &row)
+}
+
+// The value of the row of a policy, if there is one.
+fn value_if_some(
+    alloc: Global,
+    kind: Kind,
+    number: u32,
+    policy: Option<Policy>,
+) -> Result<Option<Bytes>, AllocError>
     requires kind { is_policy_kind kind ≡ true }
     requires long { is_long number ≡ true }
     requires fits { IfSome policy (λ p. fits_row kind p ≡ true) }
-    ensures form { IfSome result (λ r. is_row r ≡ true) }
-    ensures value { option_map value_of result ≡ option_map (policy_value kind) policy }
+    ensures { IfOk result (λ value. value ≡ option_map (policy_value kind) policy) }
 {
     match policy {
-        Some(policy) => Some(policy_row(kind, number, policy)),
-        None => None,
+        Some(policy) => Ok(Some(policy_value(alloc, kind, number, policy)?)),
+        None => Ok(None),
     }
 }
 
@@ -93,28 +109,28 @@ fn change_at(
     requires after { IfSome after (λ p. fits_row kind p ≡ true) }
     ensures { IfOk result (λ change. change ≡ policy_change_of kind number before after) }
 {
-    let before = row_of(kind, number, before);
-    let after = row_of(kind, number, after);
-    change_of(alloc, kind, number, before.as_ref(), after.as_ref())
+    let before = value_if_some(alloc, kind, number, before)?;
+    let after = value_if_some(alloc, kind, number, after)?;
+    change_of(alloc, kind, number, before, after)
 }
 
 // The policy of a number, copied, if it is there.
-fn policy_before(policies: &Policies, kind: Kind, number: u32) -> Result<Option<Policy>, AllocError>
-    ensures { IfOk result (λ p. p ≡ at (policies kind policies.now) number) }
+fn policy_before(kept: &Policies, kind: Kind, number: u32) -> Result<Option<Policy>, AllocError>
+    ensures { IfOk result (λ p. p ≡ at (policies kind kept.now) number) }
 {
-    match policies.get(kind, PolicyNo(number)) {
+    match kept.get(kind, PolicyNo(number)) {
         Some(policy) => Ok(Some(copy_policy(policy)?)),
         None => Ok(None),
     }
 }
 
 // The kind and the number of the policy that a change touches.
-fn touched(policies: &Policies, change: &PolicyChange) -> (Kind, u32)
+fn touched(kept: &Policies, change: &PolicyChange) -> (Kind, u32)
     ensures kind { result.0 ≡ touched_kind change.now }
-    ensures number { result.1 ≡ touched_number change.now policies.now }
+    ensures number { result.1 ≡ touched_number change.now kept.now }
 {
     match change {
-        PolicyChange::Add { kind, .. } => (*kind, policies.next(*kind)),
+        PolicyChange::Add { kind, .. } => (*kind, kept.next(*kind)),
         PolicyChange::Replace { kind, number, .. } => (*kind, *number),
         PolicyChange::Remove { kind, number } => (*kind, *number),
     }
@@ -122,7 +138,7 @@ fn touched(policies: &Policies, change: &PolicyChange) -> (Kind, u32)
 
 // A policy with another's parts under its own name, if it is there.
 fn with_parts(kept: Option<Policy>, other: &Policy) -> Result<Option<Policy>, AllocError>
-    ensures { IfOk result (λ p. p ≡ option_map (replaced_by other.now) kept.entry) }
+    ensures { IfOk result (λ p. p ≡ option_map (replaced_by other.now) kept) }
 {
     let Some(kept) = kept else {
         return Ok(None);
@@ -133,24 +149,21 @@ fn with_parts(kept: Option<Policy>, other: &Policy) -> Result<Option<Policy>, Al
 }
 
 // The policy that a change touches, as it will be.
-fn policy_after(
-    policies: &Policies,
-    change: &PolicyChange,
-) -> Result<Option<Policy>, AllocError>
-    requires { CanChangePolicies change.now policies.now }
-    ensures { IfOk result (λ p. p ≡ at (policies (touched_kind change.now) (after_policy_change change.now policies.now)) (touched_number change.now policies.now)) }
+fn policy_after(kept: &Policies, change: &PolicyChange) -> Result<Option<Policy>, AllocError>
+    requires { CanChangePolicies change.now kept.now }
+    ensures { IfOk result (λ p. p ≡ at (policies (touched_kind change.now) (after_policy_change change.now kept.now)) (touched_number change.now kept.now)) }
 {
     match change {
         PolicyChange::Add { kind, policy } => {
             // With it comes that the numbers ascend below it, so that no policy has it yet.
-            let _next = policies.next(*kind);
+            let _next = kept.next(*kind);
             Ok(Some(copy_policy(policy)?))
         }
         PolicyChange::Replace {
             kind,
             number,
             policy,
-        } => with_parts(policy_before(policies, *kind, *number)?, policy),
+        } => with_parts(policy_before(kept, *kind, *number)?, policy),
         PolicyChange::Remove { .. } => Ok(None),
     }
 }
@@ -159,17 +172,17 @@ fn policy_after(
 /// want of memory.
 pub fn policy_changes(
     alloc: Global,
-    policies: &Policies,
+    kept: &Policies,
     change: &PolicyChange,
 ) -> Result<Changes, AllocError>
-    requires can { CanChangePolicies change.now policies.now }
-    requires before { AreValid policies.now }
-    requires after { AreValid (after_policy_change change.now policies.now) }
-    ensures { IfOk result (λ changes. (s t : State) → tables_of s ≡ policies.now → tables_of t ≡ after_policy_change change.now policies.now → Covers 7 10 s t changes) }
+    requires can { CanChangePolicies change.now kept.now }
+    requires before { AreValid kept.now }
+    requires after { AreValid (after_policy_change change.now kept.now) }
+    ensures { IfOk result (λ changes. (s t : State) → tables_of s ≡ kept.now → tables_of t ≡ after_policy_change change.now kept.now → Covers 7 10 s t changes) }
 {
-    let (kind, number) = touched(policies, change);
-    let before = policy_before(policies, kind, number)?;
-    let after = policy_after(policies, change)?;
+    let (kind, number) = touched(kept, change);
+    let before = policy_before(kept, kind, number)?;
+    let after = policy_after(kept, change)?;
     let mut changes = Vec::new(alloc);
     changes.push(change_at(alloc, kind, number, before, after)?)?;
     Ok(Changes::of(changes))
@@ -177,15 +190,15 @@ pub fn policy_changes(
 
 // A policy that loses an `@` name on one hand, if it is there.
 fn policy_forgetting(
-    policies: &Policies,
+    kept: &Policies,
     kind: Kind,
     number: u32,
     hand: Hand,
     name: &Name,
 ) -> Result<Option<Policy>, AllocError>
-    ensures { IfOk result (λ p. p ≡ option_map (forget_on hand name.now) (at (policies kind policies.now) number)) }
+    ensures { IfOk result (λ p. p ≡ option_map (forget_on hand name.now) (at (policies kind kept.now) number)) }
 {
-    let Some(policy) = policies.get(kind, PolicyNo(number)) else {
+    let Some(policy) = kept.get(kind, PolicyNo(number)) else {
         return Ok(None);
     };
     let mut policy = copy_policy(policy)?;
@@ -196,7 +209,7 @@ fn policy_forgetting(
 // The change of the row of a policy that loses an `@` name on one hand.
 fn forgotten_at(
     alloc: Global,
-    policies: &Policies,
+    kept: &Policies,
     kind: Kind,
     number: u32,
     hand: Hand,
@@ -204,12 +217,12 @@ fn forgotten_at(
 ) -> Result<Change, AllocError>
     requires kind { is_policy_kind kind ≡ true }
     requires long { is_long number ≡ true }
-    requires before { IfSome (at (policies kind policies.now) number) (λ p. fits_row kind p ≡ true) }
-    requires after { IfSome (option_map (forget_on hand name.now) (at (policies kind policies.now) number)) (λ p. fits_row kind p ≡ true) }
-    ensures { IfOk result (λ change. change ≡ forgotten_at kind hand name.now (policies kind policies.now) number) }
+    requires before { IfSome (at (policies kind kept.now) number) (λ p. fits_row kind p ≡ true) }
+    requires after { IfSome (option_map (forget_on hand name.now) (at (policies kind kept.now) number)) (λ p. fits_row kind p ≡ true) }
+    ensures { IfOk result (λ change. change ≡ forgotten_at kind hand name.now (policies kind kept.now) number) }
 {
-    let before = policy_before(policies, kind, number)?;
-    let after = policy_forgetting(policies, kind, number, hand, name)?;
+    let before = policy_before(kept, kind, number)?;
+    let after = policy_forgetting(kept, kind, number, hand, name)?;
     change_at(alloc, kind, number, before, after)
 }
 
@@ -217,52 +230,119 @@ fn forgotten_at(
 fn push_forgotten(
     alloc: Global,
     changes: &mut Vec<Change>,
-    policies: &Policies,
+    kept: &Policies,
     kind: Kind,
     hand: Hand,
     name: &Name,
 ) -> Result<(), AllocError>
     requires kind { is_policy_kind kind ≡ true }
-    requires before { (n : ℕ) (p : state.Policy) → at (policies kind policies.now) n ≡ Some p → fits_row kind p ≡ true }
-    requires after { (n : ℕ) (p : state.Policy) → at (policies kind policies.now) n ≡ Some p → fits_row kind (forget_on hand name.now p) ≡ true }
-    ensures { OnOk result (changes.new.items ≡ changes.old.items ++ forgotten_rows kind hand name.now policies.now) }
+    requires before { AreValid kept.now }
+    requires after { (n : ℕ) (p : state.Policy) → at (policies kind kept.now) n ≡ Some p → fits_row kind (forget_on hand name.now p) ≡ true }
+    ensures { OnOk result (changes.new.items ≡ changes.old.items ++ forgotten_rows kind hand name.now kept.now) }
 {
-    let numbers = policies.numbers(alloc, kind)?;
+    let numbers = kept.numbers(alloc, kind)?;
     'numbers: for number in numbers.as_slice() {
-        let change = forgotten_at(alloc, policies, kind, *number, hand, name)?;
+        let change = forgotten_at(alloc, kept, kind, *number, hand, name)?;
         changes.push(change)?;
     }
     Ok(())
+}
+
+// The changes where the `@` name of an identity goes.
+fn forgotten_identity(alloc: Global, kept: &Policies, name: &Name) -> Result<Changes, AllocError>
+    requires before { AreValid kept.now }
+    requires after { AreValid (forgetting kind.Identity name.now kept.now) }
+    ensures { IfOk result (λ changes. (s t : State) → tables_of s ≡ kept.now → tables_of t ≡ forgetting kind.Identity name.now kept.now → Covers 7 10 s t changes) }
+{
+    let mut changes = Vec::new(alloc);
+    push_forgotten(
+        alloc,
+        &mut changes,
+        kept,
+        Kind::ServicePolicy,
+        Hand::Left,
+        name,
+    )?;
+    push_forgotten(
+        alloc,
+        &mut changes,
+        kept,
+        Kind::EdgeRouterPolicy,
+        Hand::Left,
+        name,
+    )?;
+    Ok(Changes::of(changes))
+}
+
+// The changes where the `@` name of a service goes.
+fn forgotten_service(alloc: Global, kept: &Policies, name: &Name) -> Result<Changes, AllocError>
+    requires before { AreValid kept.now }
+    requires after { AreValid (forgetting kind.Service name.now kept.now) }
+    ensures { IfOk result (λ changes. (s t : State) → tables_of s ≡ kept.now → tables_of t ≡ forgetting kind.Service name.now kept.now → Covers 7 10 s t changes) }
+{
+    let mut changes = Vec::new(alloc);
+    push_forgotten(
+        alloc,
+        &mut changes,
+        kept,
+        Kind::ServicePolicy,
+        Hand::Right,
+        name,
+    )?;
+    push_forgotten(
+        alloc,
+        &mut changes,
+        kept,
+        Kind::ServiceEdgeRouterPolicy,
+        Hand::Left,
+        name,
+    )?;
+    Ok(Changes::of(changes))
+}
+
+// The changes where the `@` name of a router goes.
+fn forgotten_router(alloc: Global, kept: &Policies, name: &Name) -> Result<Changes, AllocError>
+    requires before { AreValid kept.now }
+    requires after { AreValid (forgetting kind.Router name.now kept.now) }
+    ensures { IfOk result (λ changes. (s t : State) → tables_of s ≡ kept.now → tables_of t ≡ forgetting kind.Router name.now kept.now → Covers 7 10 s t changes) }
+{
+    let mut changes = Vec::new(alloc);
+    push_forgotten(
+        alloc,
+        &mut changes,
+        kept,
+        Kind::EdgeRouterPolicy,
+        Hand::Right,
+        name,
+    )?;
+    push_forgotten(
+        alloc,
+        &mut changes,
+        kept,
+        Kind::ServiceEdgeRouterPolicy,
+        Hand::Right,
+        name,
+    )?;
+    Ok(Changes::of(changes))
 }
 
 /// The changes of the rows of policies where the `@` name of an entity goes out of every side that may name it: of all policies of the
 /// kinds that could name it. The policies are those of a valid state, before and after. An Err is want of memory.
 pub fn forgotten_changes(
     alloc: Global,
-    policies: &Policies,
+    kept: &Policies,
     kind: Kind,
     name: &Name,
 ) -> Result<Changes, AllocError>
     requires kind { is_entity_kind kind ≡ true }
-    requires before { AreValid policies.now }
-    requires after { AreValid (forgetting kind name.now policies.now) }
-    ensures { IfOk result (λ changes. (s t : State) → tables_of s ≡ policies.now → tables_of t ≡ forgetting kind name.now policies.now → Covers 7 10 s t changes) }
+    requires before { AreValid kept.now }
+    requires after { AreValid (forgetting kind name.now kept.now) }
+    ensures { IfOk result (λ changes. (s t : State) → tables_of s ≡ kept.now → tables_of t ≡ forgetting kind name.now kept.now → Covers 7 10 s t changes) }
 {
-    let mut changes = Vec::new(alloc);
     match kind {
-        Kind::Identity => {
-            push_forgotten(alloc, &mut changes, policies, Kind::ServicePolicy, Hand::Left, name)?;
-            push_forgotten(alloc, &mut changes, policies, Kind::EdgeRouterPolicy, Hand::Left, name)?;
-        }
-        Kind::Service => {
-            push_forgotten(alloc, &mut changes, policies, Kind::ServicePolicy, Hand::Right, name)?;
-            push_forgotten(alloc, &mut changes, policies, Kind::ServiceEdgeRouterPolicy, Hand::Left, name)?;
-        }
-        Kind::Router => {
-            push_forgotten(alloc, &mut changes, policies, Kind::EdgeRouterPolicy, Hand::Right, name)?;
-            push_forgotten(alloc, &mut changes, policies, Kind::ServiceEdgeRouterPolicy, Hand::Right, name)?;
-        }
+        Kind::Identity => forgotten_identity(alloc, kept, name),
+        Kind::Service => forgotten_service(alloc, kept, name),
+        Kind::Router => forgotten_router(alloc, kept, name),
         _ => unreachable!(),
     }
-    Ok(Changes::of(changes))
 }
