@@ -5,3 +5,4 @@ pub mod NameKeys
 pub mod ChangedLists
 pub mod ChangedEntries
 pub mod RecordLaws
+pub mod GoneLaws

@@ -1,3 +1,5 @@
 pub mod Entries
 pub mod Changes
 pub mod TableCodes
+pub mod Climbing
+pub mod AfterChange

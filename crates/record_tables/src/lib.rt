@@ -5,9 +5,11 @@
 mod entries;
 mod named_tables;
 mod numbered_tables;
+mod touching;
 mod worked;
 
 pub use entries::{Entries, Named};
 pub use named_tables::NamedTable;
 pub use numbered_tables::NumberedTable;
-pub use worked::records_at_places;
+pub use touching::{kept_are_not_gone, numbers_are_touched, touched};
+pub use worked::{records_at_places, tables_as_they_will_be};

@@ -1,6 +1,7 @@
 ghost use Rattle.std.specs.Prelude.{◌≡◌, ◌≤◌, ◌<◌, true, length, slice_get, None, IfOk, IfSome, OnOk, OnErr};
 ghost use Rattle.std.specs.Option.{option_map};
 ghost use Rattle.ctrl_model.specs.Numbered.{at, is_present, numbers, no_rows, with_new, with_edit, with_removed, with_each};
+ghost use Rattle.record_tables.specs.AfterChange.{without_numbers};
 ghost use Rattle.record_tables.specs.Changes.{ChangesAt, Does, KeepsPart, IsCopied, one_call};
 ghost use Rattle.record_tables.specs.Entries.{rows_of, table_of, number_named, KeepsOrder, AreKept};
 
@@ -180,5 +181,32 @@ impl<R: Named> NamedTable<R> {
             entries,
             next: self.next,
         })
+    }
+}
+
+// Removes the record that has the number, if one has it.
+fn remove_if_there<R: Named>(table: &mut NamedTable<R>, number: u32)
+    ensures { table.new ≡ with_removed number table.old }
+{
+    if table.get(number).is_some() {
+        table.remove(number);
+    }
+}
+
+// Removes the records of some numbers, where one is there.
+fn remove_all<R: Named>(table: &mut NamedTable<R>, gone: &[u32])
+    ensures { table.new ≡ without_numbers gone.now table.old }
+{
+    'numbers: for number in gone {
+        remove_if_there(table, *number);
+    }
+}
+
+impl<R: Named> NamedTable<R> {
+    /// Removes the records of some numbers, where one is there.
+    pub fn remove_each(&mut self, gone: &Numbers)
+        ensures { self.new ≡ without_numbers gone.now self.old }
+    {
+        remove_all(self, gone.as_slice());
     }
 }

@@ -1,6 +1,7 @@
 ghost use Rattle.std.specs.Prelude.{◌≡◌, ◌+◌, ◌<◌, ◌≤◌, true, length, Some, IfOk, OnOk, OnErr};
 ghost use Rattle.std.specs.Option.{option_map};
 ghost use Rattle.ctrl_model.specs.Numbered.{at, is_present, numbers, without, no_rows, with_new, with_edit, with_removed, Between};
+ghost use Rattle.record_tables.specs.AfterChange.{without_numbers};
 ghost use Rattle.record_tables.specs.Changes.{ChangesAt, Does, IsCopied};
 ghost use Rattle.record_tables.specs.Entries.{listed, KeepsOrder};
 
@@ -183,5 +184,23 @@ impl<R: Drop> NumberedTable<R> {
             records,
             next: self.next,
         })
+    }
+}
+
+// Removes the records of some numbers, where one is there.
+fn remove_all<R: Drop>(table: &mut NumberedTable<R>, gone: &[u32])
+    ensures { table.new ≡ without_numbers gone.now table.old }
+{
+    'numbers: for number in gone {
+        table.remove(*number);
+    }
+}
+
+impl<R: Drop> NumberedTable<R> {
+    /// Removes the records of some numbers, where one is there.
+    pub fn remove_each(&mut self, gone: &Numbers)
+        ensures { self.new ≡ without_numbers gone.now self.old }
+    {
+        remove_all(self, gone.as_slice());
     }
 }

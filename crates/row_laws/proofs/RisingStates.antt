@@ -14,6 +14,7 @@ use Rattle.row_codec.specs.RowKeys.RowTable.{Next, Setting, Records, Counts}
 use Rattle.row_codec.specs.RowValues.{record_value}
 use Rattle.row_codec.specs.RowDifference.{Rises}
 use Rattle.row_codec.specs.StateRows.{next_value, setting_value, count_value, row_if_some, rows_in, rows_of}
+use Rattle.record_tables.proofs.GoneLaws.{Climbs-numbers}
 use Rattle.row_laws.specs.ChangedKeys.{Climbs}
 use Rattle.row_laws.proofs.RisingRows.{Above, All-each, All-flat_map}
 use Rattle.row_laws.proofs.KeyOrders.{less_by_table, less_by_first, less_by_second}
@@ -33,15 +34,6 @@ All-row P key (Some v) h = (h, tt)
 Rises-row : (key : Key) (o : Option (List ℕ)) → Rises key_cmp (row_if_some key o)
 Rises-row key None = tt
 Rises-row key (Some v) = (tt, tt)
-
--- the numbers of records climb
-pub All-numbers : {R : Type 0} (high : ℕ) (rows : List (ℕ × R)) (low n : ℕ) → Between low high rows → n < low → AllByRecursion (λ m. n < m) (numbers rows)
-All-numbers high [] low n b h = tt
-All-numbers high (x ∷ xs) low n b h = (lt_of_lt_of_le h b.0, All-numbers high xs (x.0 + 1) n b.2 (omega arith))
-
-pub Climbs-numbers : {R : Type 0} (high : ℕ) (rows : List (ℕ × R)) (low : ℕ) → Between low high rows → Climbs (λ n. n) (numbers rows)
-Climbs-numbers high [] low b = tt
-Climbs-numbers high (x ∷ xs) low b = (All-numbers high xs (x.0 + 1) x.0 b.2 (omega arith), Climbs-numbers high xs (x.0 + 1) b.2)
 
 -- ---- the rows of each table rise
 

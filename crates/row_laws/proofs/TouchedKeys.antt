@@ -26,7 +26,7 @@ use Rattle.row_codec.specs.CoveredTables.{Covers, LiesIn, change_at, has_key}
 use Rattle.row_laws.specs.ChangedKeys.{Climbs, pair_cmp, next_changes, setting_change, record_changes, count_changes, gone}
 use Rattle.row_laws.proofs.RisingRows.{Above, All-each, All-map}
 use Rattle.row_laws.proofs.KeyOrders.{key_total, less_by_first, nat_cmp-equal, long_upto}
-use Rattle.row_laws.proofs.RisingStates.{Climbs-numbers}
+use Rattle.record_tables.proofs.GoneLaws.{Climbs-numbers}
 use Rattle.row_laws.proofs.TableRows.{row_at-table, has_number, kind_has_number, lies_in_one}
 use Rattle.row_laws.proofs.Covers.{paired}
 

@@ -1,21 +1,16 @@
 -- The changes at the keys of one table that can differ between two states (docs/PROMISES.md, "Rows and batches").
-use Rattle.std.specs.Prelude.{ℕ, ◌<◌, ⊤, Bool, not, List, [], ◌∷◌, map, filter}
-use Rattle.std.specs.List.{AllByRecursion}
+use Rattle.std.specs.Prelude.{ℕ, Bool, not, List, [], ◌∷◌, map, filter}
 use Rattle.std.specs.declared.cmp.Ordering.{Ordering}
 use Rattle.std.specs.Ordering.{nat_cmp, ordering_then}
 use Rattle.ctrl_model.specs.declared.kinds.Kind.{Kind}
 use Rattle.ctrl_model.specs.declared.kinds.Relation.{Relation}
 use Rattle.ctrl_model.specs.Numbered.{numbers}
 use Rattle.ctrl_model.specs.State.{State}
+pub use Rattle.record_tables.specs.Climbing.{Climbs}
 use Rattle.row_codec.specs.declared.changes.Change.{Change}
 use Rattle.row_codec.specs.RowKeys.{kind_number, key_in}
 use Rattle.row_codec.specs.RowKeys.RowTable.{Next, Setting, Records, Counts}
 use Rattle.row_codec.specs.CoveredTables.{change_at}
-
--- The numbers of some things climb: each is below all that follow it.
-abbrev pub Climbs : {X : Type 0} → (X → ℕ) → List X → Type 0
-Climbs number [] = ⊤
-Climbs number (x ∷ xs) = AllByRecursion (λ y. number x < number y) xs × Climbs number xs
 
 -- The order of pairs: by the first number, then by the second.
 abbrev pub pair_cmp : ℕ × ℕ → ℕ × ℕ → Ordering
