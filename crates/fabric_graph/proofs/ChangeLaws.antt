@@ -1,9 +1,9 @@
 -- Laws of links as they will be: their numbers, and the link at a number.
 use Rattle.std.proofs.Common.{◌≡◌, ℕ, ◌==◌, Bool, true, false, not, cond, List, Option, None, Some, refl, sym, ◌∙◌, ap}
-use Rattle.ctrl_model.specs.Numbered.{at, numbers}
+use Rattle.ctrl_model.specs.Numbered.{at, numbers, Between}
 use Rattle.ctrl_model.specs.State.{Link}
 use Rattle.ctrl_model.specs.Walks.{is_among}
-use Rattle.ctrl_model.proofs.NumberedLaws.{at-edit_at, at-without}
+use Rattle.ctrl_model.proofs.NumberedLaws.{at-edit_at, at-without, Between-with_last, Between-edit_at, Between-without, Between-filter}
 use Rattle.record_tables.specs.AfterChange.{changed_by}
 use Rattle.record_tables.specs.Turns.{turned, left_of}
 use Rattle.record_tables.proofs.TurnLaws.{numbers-edit_at, numbers-filter, numbers-with_last, at-filter, at-new}
@@ -48,3 +48,17 @@ module _ (change : Option LinkChange) (gone : List ℕ) (f : FabricSeen) where
   at-left n e =
       sym (at-filter (λ m. not (is_among m gone)) (changed_by after_link_change change f).links.rows n
       ∙ ap (λ b. cond (not b) (at (changed_by after_link_change change f).links.rows n) None) e)
+
+ordered-after : (c : LinkChange) (f : FabricSeen) → KeepsLinks f → Between 1 (after_link_change c f).links.next (after_link_change c f).links.rows
+ordered-after (change.Add row) f keeps = Between-with_last f.links.next f.links.rows 1 row keeps.first keeps.ordered
+ordered-after (change.Set m cost latency_a latency_b up) f keeps = Between-edit_at f.links.next f.links.rows 1 m.0 (set_to cost latency_a latency_b up) keeps.ordered
+ordered-after (change.Remove m) f keeps = Between-without f.links.next f.links.rows 1 m.0 keeps.ordered
+ordered-after (change.SetLeast cost) f keeps = keeps.ordered
+
+pub ordered-left : (change : Option LinkChange) (gone : List ℕ) (f : FabricSeen) → KeepsLinks f → Between 1 (fabric_after change gone f).links.next (fabric_after change gone f).links.rows
+ordered-left change gone f keeps =
+    Between-filter (λ (row : ℕ × Link). not (is_among row.0 gone)) (changed_by after_link_change change f).links.next (changed_by after_link_change change f).links.rows 1 (by change)
+  where
+    by : (o : Option LinkChange) → Between 1 (changed_by after_link_change o f).links.next (changed_by after_link_change o f).links.rows
+    by None = keeps.ordered
+    by (Some c) = ordered-after c f keeps

@@ -1,7 +1,7 @@
-ghost use Rattle.std.specs.Prelude.{◌≡◌, IfOk};
+ghost use Rattle.std.specs.Prelude.{◌≡◌, IfOk, OnOk};
 ghost use Rattle.std.specs.Option.{option_map};
 ghost use Rattle.ctrl_model.specs.Networks.{hops};
-ghost use Rattle.ctrl_model.specs.Numbered.{at, numbers};
+ghost use Rattle.ctrl_model.specs.Numbered.{at, numbers, Between};
 ghost use Rattle.fabric_graph.specs.ChangedLinks.{turn_of, link_after};
 ghost use Rattle.fabric_graph.specs.FabricChanges.{after_link_change};
 ghost use Rattle.fabric_graph.specs.Hops.{hop_of};
@@ -104,7 +104,8 @@ fn changed_link<'a>(fabric: &'a Fabric, change: &'a LinkChange, no: LinkNo) -> O
 impl<'a> FabricAfter<'a> {
     /// The numbers of the links, ascending.
     pub fn numbers(&self, alloc: Global) -> Result<Numbers, AllocError>
-        ensures { IfOk result (λ ns. ns ≡ numbers self.now.links.rows) }
+        ensures all { IfOk result (λ ns. ns ≡ numbers self.now.links.rows) }
+        ensures ordered { OnOk result (Between 1 self.now.links.next self.now.links.rows) }
     {
         let numbers = self.fabric.numbers(alloc)?;
         let changed = turned(alloc, turn_of(self.change), self.fabric.next(), numbers)?;
