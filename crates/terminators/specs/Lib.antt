@@ -1,3 +1,4 @@
 pub mod TermTables
 pub mod TermRules
 pub mod WorkedTerms
+pub mod TermChanges
