@@ -51,12 +51,7 @@ fn numbers_and(numbers: Numbers, last: u32) -> Result<Numbers, AllocError>
 }
 
 /// The numbers of a table after a turn. One that comes is the next one.
-pub fn turned(
-    alloc: Global,
-    turn: Turn,
-    next: u32,
-    numbers: Numbers,
-) -> Result<Numbers, AllocError>
+pub fn turned(alloc: Global, turn: Turn, next: u32, numbers: Numbers) -> Result<Numbers, AllocError>
     ensures { IfOk result (λ ns. ns ≡ turned turn next numbers) }
 {
     match turn {

@@ -21,7 +21,7 @@ use Rattle.ctrl_model.specs.ValidState.{may_relate}
 use Rattle.row_codec.specs.RowKeys.{is_long}
 use Rattle.row_codec.specs.RowValues.{long, short, text, texts, side_bytes, sides_value, record_value, host_number, precedence_byte, router_marks, flag, relation_byte, semantic_byte}
 use Rattle.row_codec.specs.RowForm.{is_short, are_listed, is_listed_side, is_host}
-use Rattle.row_laws.proofs.WrittenRecords.{fits}
+use Rattle.row_laws.specs.FittingRecords.{fits}
 
 -- ---- lists
 

@@ -19,7 +19,7 @@ use Rattle.ctrl_model.specs.Networks.{network_of, seen, is_path, hops}
 use Rattle.ctrl_model.specs.Claims.{router_numbers}
 use Rattle.ctrl_model.specs.Walks.{Hops, is_among, goes}
 use Rattle.ctrl_model.specs.Settling.{link_stays, terminator_stays, stays_in, settle_links, settle_terminators}
-use Rattle.ctrl_model.proofs.Members.{list_all-among, by_filter, Among-from_test}
+use Rattle.ctrl_model.proofs.Members.{list_all-among, by_filter, Among-from_test, at-row, at-among}
 use Rattle.ctrl_model.proofs.NumberedLaws.{at-within, by_is_some}
 use Rattle.ctrl_model.proofs.WalkLaws.{by_there, by_goes, LinksAmong, length-path}
 use Rattle.model_laws.proofs.PathLaws.{hops_stay, hops_named, is_on-among}
@@ -27,21 +27,7 @@ use Rattle.std.proofs.lemmas.List.{length-map}
 use Rattle.row_laws.proofs.KeyOrders.{long_upto}
 use Rattle.row_codec.specs.RowKeys.{is_long}
 use Rattle.row_codec.specs.RowForm.{is_short, are_listed, is_listed_side, is_host}
-
--- the fields of a record fit its row
-abbrev pub fits : (k : Kind) → Record k → Bool
-fits kind.Identity e = is_name e.name && are_listed e.attributes
-fits kind.Service e = is_name e.name && are_listed e.attributes
-fits kind.Router r = is_name r.name && (are_listed r.attributes && is_short r.cost)
-fits kind.Link l = is_name l.name && (is_long l.a && (is_long l.b && (is_short l.cost && (is_short l.latency_a && is_short l.latency_b))))
-fits kind.ServicePolicy p = is_name p.name && (may_relate kind.ServicePolicy p.relation && (is_listed_side p.left && is_listed_side p.right))
-fits kind.EdgeRouterPolicy p = is_name p.name && (may_relate kind.EdgeRouterPolicy p.relation && (is_listed_side p.left && is_listed_side p.right))
-fits kind.ServiceEdgeRouterPolicy p =
-    is_name p.name && (may_relate kind.ServiceEdgeRouterPolicy p.relation && (is_listed_side p.left && is_listed_side p.right))
-fits kind.Terminator t = is_long t.service && (is_long t.router && (is_host t.host && (is_instance t.instance && is_short t.cost)))
-fits kind.Circuit c =
-    is_long c.identity && (is_long c.service && (is_long c.terminator && (is_long c.ingress && (nat_le (length c.links) 255 && list_all is_long c.links))))
-fits kind.Attribute u = true
+use Rattle.row_laws.specs.FittingRecords.{fits}
 
 -- ---- numbers of records
 
@@ -217,3 +203,7 @@ record_fits s v k row m = by k row m (list_all-among (λ (x : ℕ × Record k). 
     by kind.Terminator row m e = terminator_fits s v row m e
     by kind.Circuit row m e = circuit_fits s v row m
     by kind.Attribute row m e = refl
+
+-- a record of a valid state, under its number
+pub record_at_fits : (k : Kind) (s : State) (n : ℕ) (r : Record k) → ValidState s → at (table k s).rows n ≡ Some r → (is_long n ≡ true) × (fits k r ≡ true)
+record_at_fits k s n r v e = (listed_fits (v.kinds k).numbers n (at-among (table k s).rows n r e), record_fits s v k (n, r) (at-row (table k s).rows n r e))

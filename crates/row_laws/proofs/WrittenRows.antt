@@ -28,7 +28,8 @@ use Rattle.row_laws.proofs.RisingRows.{All-flat_map, All-more, All-among, All-te
 use Rattle.row_laws.proofs.RisingStates.{IsNumbered}
 use Rattle.row_laws.proofs.SpelledKeys.{AreKeys}
 use Rattle.row_laws.proofs.TableRows.{has_number}
-use Rattle.row_laws.proofs.WrittenRecords.{fits, listed_fits, record_fits}
+use Rattle.row_laws.specs.FittingRecords.{fits}
+use Rattle.row_laws.proofs.WrittenRecords.{listed_fits, record_fits}
 
 -- a row under a key, of a row's form, with a value that is short enough
 pub record Written (x : Key × List ℕ) : Type 0 where

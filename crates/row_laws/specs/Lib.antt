@@ -1,2 +1,3 @@
 pub mod SaidChanges
 pub mod ChangedKeys
+pub mod FittingRecords

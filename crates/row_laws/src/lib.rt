@@ -22,7 +22,9 @@ pub use difference_laws::{
     true_differences,
 };
 pub use key_laws::{bytes_keep_the_order, keys_are_ordered};
-pub use state_rows::{equal_rows_equal_states, rows_at_keys, rows_have_their_form, rows_rise};
+pub use state_rows::{
+    equal_rows_equal_states, records_fit, rows_at_keys, rows_have_their_form, rows_rise,
+};
 pub use touched_keys::{
     counts_are_covered, many_records_are_touched, next_numbers_are_covered, one_record_is_touched,
     records_are_covered, the_setting_is_covered,

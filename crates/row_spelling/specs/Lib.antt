@@ -1,2 +1,3 @@
 pub mod RowReading
 pub mod WorkedRows
+pub mod RecordChanges

@@ -11,7 +11,8 @@ fn short_key(alloc: Global, bytes: &[u8]) -> Result<Vec<u8>, AllocError>
     Vec::from_slice(alloc, bytes)
 }
 
-fn record_key(alloc: Global, table: u8, no: u32) -> Result<Vec<u8>, AllocError>
+/// The key of a record: the number of its table, and its own.
+pub(crate) fn record_key(alloc: Global, table: u8, no: u32) -> Result<Vec<u8>, AllocError>
     ensures { IfOk result (λ key. key.items ≡ table ∷ number_in_key no) }
 {
     let mut key = Vec::new(alloc);

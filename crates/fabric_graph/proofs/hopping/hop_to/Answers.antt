@@ -1,5 +1,5 @@
 use Rattle.std.proofs.Common.{rules}
-use Rattle.fabric_graph.proofs.fabric.Fabric.hop_to.Goals as goal
+use Rattle.fabric_graph.proofs.hopping.hop_to.Goals as goal
 
 pub returns-then-router : goal.returns-then-router
 returns-then-router c = search rules

@@ -1,0 +1,73 @@
+ghost use Rattle.std.specs.Prelude.{◌≡◌, ◌∷◌, ◌++◌, ◌+◌, [], nat_le, true, IfOk, IfSome, OnOk, OnErr};
+ghost use Rattle.std.specs.Option.{option_map};
+ghost use Rattle.row_codec.specs.RowForm.{is_row, value_of};
+ghost use Rattle.row_codec.specs.RowKeys.{key_in, key_bytes, kind_number};
+ghost use Rattle.row_codec.specs.RowKeys.RowTable.{Records};
+ghost use Rattle.row_spelling.specs.RecordChanges.{change_of};
+
+use crate::keys::record_key;
+use crate::values::push_value;
+use ctrl_model::{Bytes, Kind};
+use row_codec::{Change, Row};
+use std::alloc::{AllocError, Global};
+
+// The number of the table of a kind's records.
+fn table_number(kind: Kind) -> u8
+    requires { nat_le 1 (kind_number kind) ≡ true }
+    ensures { result ≡ kind_number kind + 2 }
+{
+    match kind {
+        Kind::Identity => 3,
+        Kind::Service => 4,
+        Kind::Router => 5,
+        Kind::Link => 6,
+        Kind::ServicePolicy => 7,
+        Kind::EdgeRouterPolicy => 8,
+        Kind::ServiceEdgeRouterPolicy => 9,
+        Kind::Terminator => 10,
+        Kind::Circuit => 11,
+        Kind::Attribute => unreachable!(),
+    }
+}
+
+// The key of a kind's record.
+fn key_of(alloc: Global, kind: Kind, number: u32) -> Result<Bytes, AllocError>
+    requires { nat_le 1 (kind_number kind) ≡ true }
+    ensures { IfOk result (λ key. key ≡ key_bytes (key_in (Records kind) number 0)) }
+{
+    let key = record_key(alloc, table_number(kind), number)?;
+    Ok(Bytes::of(key))
+}
+
+// The value of a row, if there is one.
+fn value_of(alloc: Global, row: Option<&Row>) -> Result<Option<Bytes>, AllocError>
+    requires { IfSome row (λ r. is_row r.now ≡ true) }
+    ensures { IfOk result (λ value. value ≡ option_map (λ r. value_of r.now) row.entry) }
+{
+    let Some(row) = row else {
+        return Ok(None);
+    };
+    let mut value = Vec::new(alloc);
+    push_value(&mut value, row)?;
+    Ok(Some(Bytes::of(value)))
+}
+
+/// The change of the row of a kind's record under a number: its row before, if it was there, and after, if it is there. The kind is
+/// one that has records, and each row one that some state can have.
+pub fn change_of(
+    alloc: Global,
+    kind: Kind,
+    number: u32,
+    before: Option<&Row>,
+    after: Option<&Row>,
+) -> Result<Change, AllocError>
+    requires kind { nat_le 1 (kind_number kind) ≡ true }
+    requires before { IfSome before (λ r. is_row r.now ≡ true) }
+    requires after { IfSome after (λ r. is_row r.now ≡ true) }
+    ensures { IfOk result (λ change. change ≡ change_of kind number (option_map (λ r. value_of r.now) before.entry) (option_map (λ r. value_of r.now) after.entry)) }
+{
+    let key = key_of(alloc, kind, number)?;
+    let before = value_of(alloc, before)?;
+    let after = value_of(alloc, after)?;
+    Ok(Change { key, before, after })
+}
