@@ -12,7 +12,7 @@ use Rattle.ctrl_model.specs.Walks.{is_among}
 use Rattle.ctrl_model.proofs.NumberedLaws.{length-with_last, length-filter-le}
 use Rattle.ctrl_model.proofs.TableLaws.{each_passes-with_last, each_passes-map, each_passes-filter}
 use Rattle.record_tables.specs.AfterChange.{without_numbers}
-use Rattle.terminators.specs.TermTables.{TermTables, AreFit}
+use Rattle.terminators.specs.TermTables.{AreFit}
 use Rattle.terminators.specs.TermRules.{has_term_room}
 
 pub room_left : (t : Table Terminator) → has_term_room (record { terminators = t }) ≡ true → (length t.rows < 4096) × (t.next < 4294967295)

@@ -1,9 +1,7 @@
 -- What one change makes of the terminators, and the terminators as they will be after it (docs/PROMISES.md, "Terminators").
-use Rattle.std.specs.Prelude.{ℕ, List, None, Some}
+use Rattle.std.specs.Prelude.{ℕ, List}
 use Rattle.std.specs.declared.option.Option.{Option}
 use Rattle.record_tables.specs.AfterChange.{changed_by, without_numbers}
-use Rattle.record_tables.specs.declared.number_lists.Turn.{Turn}
-use Rattle.record_tables.specs.declared.number_lists.Turn.TheVariants.{Adds, Removes, Keeps}
 use Rattle.terminators.specs.declared.changes.TermChange.{TermChange}
 use Rattle.terminators.specs.declared.changes.TermChange.TheVariants as change
 use Rattle.terminators.specs.TermTables.{TermTables, with_term, with_set, without_term}
@@ -21,10 +19,3 @@ without_terms gone k = record k { terminators = without_numbers gone k.terminato
 -- The terminators after a change, if there is one, without those of some numbers.
 abbrev pub terms_after : Option TermChange → List ℕ → TermTables → TermTables
 terms_after change gone k = without_terms gone (changed_by after_term_change change k)
-
--- What a change does to the numbers of the terminators.
-abbrev pub turn_of : Option TermChange → Turn
-turn_of None = Keeps
-turn_of (Some (change.Add term)) = Adds
-turn_of (Some (change.Set n cost precedence)) = Keeps
-turn_of (Some (change.Remove n)) = Removes n.0

@@ -1,7 +1,8 @@
-ghost use Rattle.std.specs.Prelude.{◌≡◌, IfOk};
+ghost use Rattle.std.specs.Prelude.{◌≡◌, IfOk, OnOk};
 ghost use Rattle.std.specs.Option.{option_map};
-ghost use Rattle.ctrl_model.specs.Numbered.{at, numbers};
-ghost use Rattle.terminators.specs.TermChanges.{after_term_change, turn_of};
+ghost use Rattle.ctrl_model.specs.Numbered.{at, numbers, Between};
+ghost use Rattle.terminators.specs.ChangedTerms.{term_after, turn_of};
+ghost use Rattle.terminators.specs.TermChanges.{after_term_change};
 
 use crate::changes::TermChange;
 use crate::offers::TermView;
@@ -51,6 +52,39 @@ fn present_term<'a>(terminators: &'a Terminators, no: TermNo) -> Option<TermView
     }
 }
 
+// The terminator that will have a number, where one has it now or none has.
+fn term_after<'a>(
+    change: &'a TermChange,
+    next: u32,
+    no: TermNo,
+    present: Option<TermView<'a>>,
+) -> Option<TermView<'a>>
+    ensures { result ≡ term_after change.now next no.0 present.entry }
+{
+    match change {
+        TermChange::Add(term) => {
+            if next == no.0 {
+                Some(TermView::of(term))
+            } else {
+                present
+            }
+        }
+        TermChange::Set {
+            no: set,
+            cost,
+            precedence,
+        } => {
+            let term = present?;
+            if no.0 == set.0 {
+                Some(term.set(*cost, *precedence))
+            } else {
+                Some(term)
+            }
+        }
+        TermChange::Remove(gone) => { if gone.0 == no.0 { None } else { present } }
+    }
+}
+
 // The terminator that will have a number after a change.
 fn changed_term<'a>(
     terminators: &'a Terminators,
@@ -61,43 +95,22 @@ fn changed_term<'a>(
 {
     // With it comes that the numbers ascend below it, so that no terminator has it yet.
     let next = terminators.next();
-    match change {
-        TermChange::Add(term) => {
-            if next == no.0 {
-                Some(TermView::of(term))
-            } else {
-                present_term(terminators, no)
-            }
-        }
-        TermChange::Set {
-            no: set,
-            cost,
-            precedence,
-        } => {
-            let term = present_term(terminators, no)?;
-            if no.0 == set.0 {
-                Some(term.set(*cost, *precedence))
-            } else {
-                Some(term)
-            }
-        }
-        TermChange::Remove(gone) => {
-            if gone.0 == no.0 {
-                None
-            } else {
-                present_term(terminators, no)
-            }
-        }
-    }
+    term_after(change, next, no, present_term(terminators, no))
 }
 
 impl<'a> TerminatorsAfter<'a> {
     /// The numbers of the terminators, ascending.
     pub fn numbers(&self, alloc: Global) -> Result<Numbers, AllocError>
-        ensures { IfOk result (λ ns. ns ≡ numbers self.now.terminators.rows) }
+        ensures all { IfOk result (λ ns. ns ≡ numbers self.now.terminators.rows) }
+        ensures ordered { OnOk result (Between 1 self.now.terminators.next self.now.terminators.rows) }
     {
         let numbers = self.terminators.numbers(alloc)?;
-        let changed = turned(alloc, turn_of(self.change), self.terminators.next(), numbers)?;
+        let changed = turned(
+            alloc,
+            turn_of(self.change),
+            self.terminators.next(),
+            numbers,
+        )?;
         left_of(alloc, &changed, self.gone)
     }
 
