@@ -21,7 +21,7 @@ use Rattle.circuits.specs.CircuitChanges as granted
 use Rattle.circuits.specs.CircuitTables.{CircuitTables}
 use Rattle.fabric_graph.specs.FabricTables.{FabricSeen}
 use Rattle.terminators.specs.TermTables.{TermTables}
-use Rattle.terminator_commands.specs.declared.changes.TermChange.{TermChange}
+use Rattle.terminators.specs.declared.changes.TermChange.{TermChange}
 use Rattle.terminator_commands.specs.TermChanges as offered
 use Rattle.ctrl_core.specs.declared.changes.Change.{Change}
 use Rattle.ctrl_core.specs.declared.changes.Change.TheVariants as change

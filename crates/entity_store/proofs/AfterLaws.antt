@@ -1,5 +1,5 @@
 -- Laws of a change of entities: which numbers there are after it, which of them stand, and how routes see the routers.
-use Rattle.std.proofs.Common.{◌≡◌, ◌≢◌, ℕ, ◌+◌, ◌==◌, ◌&&◌, ◌||◌, Bool, true, false, cond, not, List, [], ◌∷◌, ◌++◌, map, Option, None, Some, refl, sym, ◌∙◌, ap, arith, eq-eqb, eqb-true, ne_eqb}
+use Rattle.std.proofs.Common.{◌≡◌, ◌≢◌, ℕ, ◌+◌, ◌==◌, ◌&&◌, ◌||◌, Bool, true, false, cond, not, List, [], ◌∷◌, ◌++◌, map, Option, Some, refl, sym, ◌∙◌, ap, arith, eq-eqb, eqb-true, ne_eqb}
 use Rattle.std.proofs.lemmas.Bool.{cond-false, false≢true}
 use Rattle.std.proofs.lemmas.List.{map-append}
 use Rattle.std.specs.List.{filter}
@@ -11,33 +11,20 @@ use Rattle.ctrl_model.specs.Networks.{seen}
 use Rattle.ctrl_model.specs.Numbered.{at, is_present, numbers, with_last, edit_at, without, Between}
 use Rattle.ctrl_model.specs.State.{Router}
 use Rattle.ctrl_model.specs.Walks.{is_among}
+use Rattle.record_tables.specs.declared.number_lists.Turn.{Turn}
+use Rattle.record_tables.specs.declared.number_lists.Turn.TheVariants.{Adds, Removes, Keeps}
+use Rattle.record_tables.specs.Turns.{turned}
+use Rattle.record_tables.proofs.GoneLaws.{among-append}
+use Rattle.record_tables.proofs.TurnLaws.{numbers-edit_at, numbers-filter, numbers-with_last}
 use Rattle.entity_store.specs.declared.changes.EntityChange.{EntityChange}
 use Rattle.entity_store.specs.declared.changes.EntityChange.TheVariants as change
-use Rattle.entity_store.specs.declared.turns.Turn.{Turn}
-use Rattle.entity_store.specs.declared.turns.Turn.TheVariants.{Adds, Removes, Keeps}
-use Rattle.entity_store.specs.ChangedNumbers.{turn_of, turned, stands_after, router_seen, marked, routers_after}
+use Rattle.entity_store.specs.ChangedNumbers.{turn_of, stands_after, router_seen, marked, routers_after}
 use Rattle.entity_store.specs.EntityChanges.{after_entity_change}
 use Rattle.entity_store.specs.EntityTables.{Tables, entities, next_of, is_entity_kind, new_router, with_attributes}
 use Rattle.entity_store.specs.TableRules.{is_there}
 use Rattle.entity_store.proofs.EntityLaws.{router-numbers}
 
 -- ---- numbers of changed tables
-
-numbers-edit_at : {R : Type 0} (rows : List (ℕ × R)) (n : ℕ) (f : R → R) → numbers (edit_at rows n f) ≡ numbers rows
-numbers-edit_at [] n f = refl
-numbers-edit_at (x ∷ rows) n f = ap (λ ns. x.0 ∷ ns) (numbers-edit_at rows n f)
-
-numbers-without : {R : Type 0} (rows : List (ℕ × R)) (n : ℕ) → numbers (without rows n) ≡ filter (λ m. not (m == n)) (numbers rows)
-numbers-without [] n = refl
-numbers-without (x ∷ rows) n = by (x.0 == n) (numbers-without rows n)
-  where
-    by : (b : Bool) → numbers (without rows n) ≡ filter (λ m. not (m == n)) (numbers rows)
-        → numbers (cond (not b) (x ∷ without rows n) (without rows n)) ≡ cond (not b) (x.0 ∷ filter (λ m. not (m == n)) (numbers rows)) (filter (λ m. not (m == n)) (numbers rows))
-    by true h = h
-    by false h = ap (λ ns. x.0 ∷ ns) h
-
-numbers-with_last : {R : Type 0} (rows : List (ℕ × R)) (n : ℕ) (r : R) → numbers (with_last rows n r) ≡ numbers rows ++ n ∷ []
-numbers-with_last rows n r = map-append (λ x. x.0) rows ((n, r) ∷ [])
 
 -- the numbers of routers as entities are those of the routers
 module _ (c : EntityChange) (t : Tables) where
@@ -58,7 +45,7 @@ router_numbers_turned (change.DescribeRouter n attributes cost through connected
     numbers-edit_at (with_attributes kind.Router n attributes t).routers.rows n (λ r. record r { cost = cost; through = through; connected = connected })
     ∙ numbers-edit_at t.routers.rows n (λ r. record r { attributes = attributes })
 router_numbers_turned (change.Mark n cost through connected) t = numbers-edit_at t.routers.rows n (λ r. record r { cost = cost; through = through; connected = connected })
-router_numbers_turned (change.Remove kind.Router n name) t = numbers-without t.routers.rows n
+router_numbers_turned (change.Remove kind.Router n name) t = numbers-filter (λ m. not (m == n)) t.routers.rows
 router_numbers_turned (change.Remove _ n name) t = refl
 
 -- the numbers of a kind after a change
@@ -72,7 +59,7 @@ numbers-after kind.Identity (change.Describe kind.Identity n attributes) t e = n
 numbers-after kind.Identity (change.Describe _ n attributes) t e = refl
 numbers-after kind.Identity (change.DescribeRouter n attributes cost through connected) t e = refl
 numbers-after kind.Identity (change.Mark n cost through connected) t e = refl
-numbers-after kind.Identity (change.Remove kind.Identity n name) t e = numbers-without t.identities.rows n
+numbers-after kind.Identity (change.Remove kind.Identity n name) t e = numbers-filter (λ m. not (m == n)) t.identities.rows
 numbers-after kind.Identity (change.Remove _ n name) t e = refl
 numbers-after kind.Service (change.Add kind.Service name attributes) t e =
     numbers-with_last t.services.rows t.services.next (record { name = name; attributes = attributes })
@@ -82,7 +69,7 @@ numbers-after kind.Service (change.Describe kind.Service n attributes) t e = num
 numbers-after kind.Service (change.Describe _ n attributes) t e = refl
 numbers-after kind.Service (change.DescribeRouter n attributes cost through connected) t e = refl
 numbers-after kind.Service (change.Mark n cost through connected) t e = refl
-numbers-after kind.Service (change.Remove kind.Service n name) t e = numbers-without t.services.rows n
+numbers-after kind.Service (change.Remove kind.Service n name) t e = numbers-filter (λ m. not (m == n)) t.services.rows
 numbers-after kind.Service (change.Remove _ n name) t e = refl
 numbers-after kind.Router c t e = routers_turned c t (router_numbers_turned c t)
 numbers-after _ c t e = absurd (false≢true e)
@@ -96,18 +83,6 @@ present-is_among {R} (x ∷ rows) n = by (x.0 == n) (at rows n) (present-is_amon
     by : (b : Bool) (o : Option R) → is_some o ≡ is_among n (numbers rows) → is_some (cond b (Some x.1) o) ≡ (b || is_among n (numbers rows))
     by true o h = refl
     by false o h = h
-
-is_among-append : (ns : List ℕ) (m n : ℕ) → is_among n (ns ++ m ∷ []) ≡ (is_among n ns || (m == n))
-is_among-append [] m n = by (m == n)
-  where
-    by : (b : Bool) → (b || false) ≡ b
-    by true = refl
-    by false = refl
-is_among-append (x ∷ ns) m n = by (x == n) (is_among-append ns m n)
-  where
-    by : (b : Bool) → is_among n (ns ++ m ∷ []) ≡ (is_among n ns || (m == n)) → (b || is_among n (ns ++ m ∷ [])) ≡ ((b || is_among n ns) || (m == n))
-    by true h = refl
-    by false h = h
 
 is_among-filter : (p : ℕ → Bool) (ns : List ℕ) (n : ℕ) → is_among n (filter p ns) ≡ (is_among n ns && p n)
 is_among-filter p [] n = refl
@@ -127,7 +102,7 @@ is_among-filter p (x ∷ ns) n = by (p x) (x == n) refl refl (is_among-filter p 
     by false false e same h = h
 
 stands-turned : (turn : Turn) (next n : ℕ) (ns : List ℕ) → is_among n (turned turn next ns) ≡ stands_after turn next n (is_among n ns)
-stands-turned Adds next n ns = is_among-append ns next n
+stands-turned Adds next n ns = among-append n next ns
 stands-turned (Removes gone) next n ns = is_among-filter (λ m. not (m == gone)) ns n
 stands-turned Keeps next n ns = refl
 

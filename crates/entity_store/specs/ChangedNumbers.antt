@@ -4,10 +4,10 @@ use Rattle.std.specs.Prelude.{ℕ, Bool, true, false, not, ◌&&◌, ◌||◌, �
 use Rattle.ctrl_model.specs.declared.kinds.Kind.{Kind}
 use Rattle.ctrl_model.specs.declared.kinds.Kind.TheVariants as kind
 use Rattle.ctrl_model.specs.declared.kinds.RouterSeen.{RouterSeen}
+use Rattle.record_tables.specs.declared.number_lists.Turn.{Turn}
+use Rattle.record_tables.specs.declared.number_lists.Turn.TheVariants.{Adds, Removes, Keeps}
 use Rattle.entity_store.specs.declared.changes.EntityChange.{EntityChange}
 use Rattle.entity_store.specs.declared.changes.EntityChange.TheVariants as change
-use Rattle.entity_store.specs.declared.turns.Turn.{Turn}
-use Rattle.entity_store.specs.declared.turns.Turn.TheVariants.{Adds, Removes, Keeps}
 
 -- Whether two kinds are one kind of entity.
 abbrev pub is_one_kind : Kind → Kind → Bool
@@ -23,15 +23,9 @@ turn_of k (change.AddRouter name attributes cost through) = cond (is_one_kind k 
 turn_of k (change.Remove gone n name) = cond (is_one_kind k gone) (Removes n) Keeps
 turn_of k _ = Keeps
 
--- The numbers after a turn, of which the next one is the one that is added.
-abbrev pub turned : Turn → ℕ → List ℕ → List ℕ
-turned Adds next ns = ns ++ next ∷ []
-turned (Removes n) next ns = filter (λ m. not (m == n)) ns
-turned Keeps next ns = ns
-
 -- Whether a number stands after a turn, where it stood before or not.
 abbrev pub stands_after : Turn → ℕ → ℕ → Bool → Bool
-stands_after Adds next n stood = stood || (next == n)
+stands_after Adds next n stood = stood || (n == next)
 stands_after (Removes gone) next n stood = stood && not (n == gone)
 stands_after Keeps next n stood = stood
 

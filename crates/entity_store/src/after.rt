@@ -7,8 +7,9 @@ ghost use Rattle.entity_store.specs.TableRules.{is_there};
 use crate::changed_routers::routers_after;
 use crate::changes::EntityChange;
 use crate::entities::Entities;
-use crate::turns::{stands_after, turn_of, turned};
+use crate::turns::{stands_after, turn_of};
 use ctrl_model::{Kind, Numbers, RouterSeen};
+use record_tables::turned;
 use std::alloc::{AllocError, Global};
 use std::marker::Model;
 

@@ -18,10 +18,7 @@ fn router_seen(number: u32, cost: u32, through: bool, connected: bool) -> Router
 }
 
 // The routers, and one more at their end.
-fn routers_and(
-    routers: Vec<RouterSeen>,
-    last: RouterSeen,
-) -> Result<Vec<RouterSeen>, AllocError>
+fn routers_and(routers: Vec<RouterSeen>, last: RouterSeen) -> Result<Vec<RouterSeen>, AllocError>
     ensures { IfOk result (λ v. v.items ≡ routers.items ++ last ∷ []) }
 {
     let mut found = routers;
@@ -39,7 +36,11 @@ fn marked(
 {
     routers
         .iter()
-        .map(|router| if router.no.0 == new.no.0 { new } else { *router })
+        .map(|router| if router.no.0 == new.no.0 {
+            new
+        } else {
+            *router
+        })
         .collect(alloc)
 }
 
@@ -69,7 +70,8 @@ pub fn routers_after(
 {
     match change {
         EntityChange::Add {
-            kind: Kind::Router, ..
+            kind: Kind::Router,
+            ..
         } => routers_and(routers, router_seen(next, 0, true, false)),
         EntityChange::AddRouter { cost, through, .. } => {
             routers_and(routers, router_seen(next, *cost, *through, false))

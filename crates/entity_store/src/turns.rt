@@ -1,17 +1,9 @@
-ghost use Rattle.std.specs.Prelude.{◌≡◌, IfOk};
-ghost use Rattle.entity_store.specs.ChangedNumbers.{is_one_kind, stands_after, turn_of, turned};
+ghost use Rattle.std.specs.Prelude.{◌≡◌};
+ghost use Rattle.entity_store.specs.ChangedNumbers.{is_one_kind, stands_after, turn_of};
 
 use crate::changes::EntityChange;
-use ctrl_model::{Kind, Numbers};
-use std::alloc::{AllocError, Global};
-
-/// What a change does to the numbers of a kind of entity.
-#[derive(Clone, Copy)]
-pub enum Turn {
-    Adds,
-    Removes(u32),
-    Keeps,
-}
+use ctrl_model::Kind;
+use record_tables::Turn;
 
 // Whether two kinds are one kind of entity.
 fn is_one_kind(kind: Kind, other: Kind) -> bool
@@ -45,7 +37,9 @@ pub fn turn_of(kind: Kind, change: &EntityChange) -> Turn
             }
         }
         EntityChange::Remove {
-            kind: gone, number, ..
+            kind: gone,
+            number,
+            ..
         } => {
             if is_one_kind(kind, *gone) {
                 Turn::Removes(*number)
@@ -57,50 +51,12 @@ pub fn turn_of(kind: Kind, change: &EntityChange) -> Turn
     }
 }
 
-// The numbers, with one more at their end.
-fn numbers_and(numbers: Numbers, last: u32) -> Result<Numbers, AllocError>
-    ensures { IfOk result (λ ns. ns ≡ turned Turn.Adds last numbers) }
-{
-    let mut items = numbers.items;
-    items.push(last)?;
-    Ok(Numbers::of(items))
-}
-
-// The numbers without one.
-fn numbers_but(alloc: Global, numbers: &Numbers, gone: u32) -> Result<Numbers, AllocError>
-    ensures { IfOk result (λ ns. ns ≡ turned (Turn.Removes gone) 0 numbers.now) }
-{
-    let left = numbers
-        .as_slice()
-        .iter()
-        .copied()
-        .filter(|number| *number != gone)
-        .collect(alloc)?;
-    Ok(Numbers::of(left))
-}
-
-/// The numbers after a turn. One that is added is the next one.
-pub fn turned(
-    alloc: Global,
-    turn: Turn,
-    next: u32,
-    numbers: Numbers,
-) -> Result<Numbers, AllocError>
-    ensures { IfOk result (λ ns. ns ≡ turned turn next numbers) }
-{
-    match turn {
-        Turn::Adds => numbers_and(numbers, next),
-        Turn::Removes(gone) => numbers_but(alloc, &numbers, gone),
-        Turn::Keeps => Ok(numbers),
-    }
-}
-
 /// Whether a number stands after a turn, of which the next one is the one that is added.
 pub fn stands_after(turn: Turn, next: u32, number: u32, stood: bool) -> bool
     ensures { result ≡ stands_after turn next number stood }
 {
     match turn {
-        Turn::Adds => stood || next == number,
+        Turn::Adds => stood || number == next,
         Turn::Removes(gone) => stood && number != gone,
         Turn::Keeps => stood,
     }

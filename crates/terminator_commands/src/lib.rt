@@ -2,11 +2,10 @@
 #![tactic(auto)]
 
 mod applying;
-mod changes;
 mod planning;
 mod settling;
 
 pub use applying::apply_term_change;
-pub use changes::TermChange;
 pub use planning::plan_terminator_command;
 pub use settling::settle_terminators;
+pub use terminators::TermChange;

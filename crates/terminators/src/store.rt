@@ -4,6 +4,7 @@ ghost use Rattle.std.specs.Result.{result_map_both};
 ghost use Rattle.ctrl_model.specs.CommandForm.{is_cost};
 ghost use Rattle.ctrl_model.specs.Networks.{admissible};
 ghost use Rattle.ctrl_model.specs.Numbered.{at, is_present, numbers};
+ghost use Rattle.terminators.specs.TermChanges.{without_terms};
 ghost use Rattle.terminators.specs.TermTables.{no_terminators, with_term, with_set, without_term, with_next, KeepsTerms};
 ghost use Rattle.terminators.specs.TermRules.{has_term_room, may_add, network, granted, is_admissible};
 
@@ -128,6 +129,13 @@ impl Terminators {
         ensures { self.new ≡ without_term no.0 self.old }
     {
         self.terms.remove(no.0);
+    }
+
+    /// Removes the terminators of some numbers, where one is there.
+    pub fn remove_each(&mut self, gone: &Numbers)
+        ensures { self.new ≡ without_terms gone.now self.old }
+    {
+        self.terms.remove_each(gone);
     }
 
     /// The numbers of the present terminators, ascending.

@@ -1,5 +1,5 @@
+use crate::offers::Term;
 use ctrl_model::{Precedence, TermNo};
-use terminators::Term;
 
 /// One change of the terminators.
 #[derive(Drop)]
