@@ -25,7 +25,7 @@ use Rattle.terminators.specs.declared.changes.TermChange.{TermChange}
 use Rattle.terminator_commands.specs.TermChanges as offered
 use Rattle.ctrl_core.specs.declared.changes.Change.{Change}
 use Rattle.ctrl_core.specs.declared.changes.Change.TheVariants as change
-use Rattle.ctrl_core.specs.declared.changes.Planned.{Planned}
+use Rattle.ctrl_core.specs.declared.changes.Draft.{Draft}
 use Rattle.ctrl_core.specs.declared.stores.Stores.{Stores}
 use Rattle.ctrl_core.specs.AppliedChanges.{Carries}
 use Rattle.ctrl_core.specs.CircuitPlans.{CanRoute, routed}
@@ -68,19 +68,19 @@ module _ {C : Type 0} (after : C → State → State) (can_be : C → State → 
   leads (Some c) = ap settle (same c)
 
   -- a plan of a family, with steps to the counts of the state that it leads to
-  pub counted_planned : (made : Plan C) (p : Planned) (answered : Reply × State) → plans.Plans after can_be made answered s
+  pub counted_planned : (made : Plan C) (p : Draft) (answered : Reply × State) → plans.Plans after can_be made answered s
       → p.reply ≡ made.reply → p.change ≡ option_map embed made.change → (made.change ≡ None → HasNoSteps p.steps) → LeadAllCounts s (plans.led_by after made.change s) p.steps
       → Plans p answered s
   counted_planned made p answered planned reply_is change_is none counted = record {
     reply = reply_is ∙ planned.reply;
     can = subst (λ (o : Option Change). plans.CanLeadBy CanChange o s) (sym change_is) (can_lead made.change planned.can);
     next = ap (λ (o : Option Change). plans.led_by after_change o s) change_is ∙ leads made.change ∙ planned.next;
-    still = λ tells. record { change = change_is ∙ ap (option_map embed) (planned.still tells); steps = none (planned.still tells) };
+    still = λ tells. record { change_is = change_is ∙ ap (option_map embed) (planned.still tells); no_steps = none (planned.still tells) };
     counts = subst (λ t. LeadAllCounts s t p.steps) planned.next counted;
   }
 
   -- a plan of a family without a change
-  pub shown_planned : (made : Plan C) (p : Planned) (answered : Reply × State) → made.change ≡ None → IsShown made.reply p → plans.Plans after can_be made answered s → Plans p answered s
+  pub shown_planned : (made : Plan C) (p : Draft) (answered : Reply × State) → made.change ≡ None → IsShown made.reply p → plans.Plans after can_be made answered s → Plans p answered s
   shown_planned made p answered none is planned =
       counted_planned made p answered planned is.reply_is (is.change_is ∙ sym (ap (option_map embed) none)) (λ e. is.no_steps)
       (λ r. subst (λ o. LeadCounts (count r s) (count r (plans.led_by after o s)) (steps_of r p.steps)) (sym none) (no_steps_lead s p.steps is.no_steps r))
@@ -94,7 +94,7 @@ module _ {C : Type 0} (after : C → State → State) (can_be : C → State → 
       (λ r. subst (λ o. LeadCounts (count r s) (count r (plans.led_by after o s)) (steps_of r steps)) (sym some) (settled_lead r s (after c s) (steps_of r steps) (leading r)))
 
   -- a plan of a family whose changes move no count
-  pub family_planned : ((c : C) (r : Relation) → count r (settle (after c s)) ≡ count r s) → (made : Plan C) (p : Planned) (answered : Reply × State)
+  pub family_planned : ((c : C) (r : Relation) → count r (settle (after c s)) ≡ count r s) → (made : Plan C) (p : Draft) (answered : Reply × State)
       → plans.Plans after can_be made answered s → IsUncounted made.reply (option_map embed made.change) p → Plans p answered s
   family_planned uncounted made p answered planned is =
       counted_planned made p answered planned is.reply_is is.change_is (λ e. is.no_steps)
@@ -112,7 +112,7 @@ links_uncounted s c Bind = refl
 links_uncounted s c IdentityRouter = refl
 links_uncounted s c ServiceRouter = refl
 
-pub links_planned : (s : State) (made : Plan LinkChange) (p : Planned) (answered : Reply × State) → plans.Plans linked.linked linked.CanLink made answered s
+pub links_planned : (s : State) (made : Plan LinkChange) (p : Draft) (answered : Reply × State) → plans.Plans linked.linked linked.CanLink made answered s
     → IsUncounted made.reply (option_map change.Link made.change) p → Plans p answered s
 links_planned s = family_planned linked.linked linked.CanLink change.Link s (λ c. refl) (λ c can. can) (links_uncounted s)
 
@@ -122,7 +122,7 @@ terms_uncounted s c Bind = refl
 terms_uncounted s c IdentityRouter = refl
 terms_uncounted s c ServiceRouter = refl
 
-pub terms_planned : (s : State) (made : Plan TermChange) (p : Planned) (answered : Reply × State) → plans.Plans offered.offered offered.CanOffer made answered s
+pub terms_planned : (s : State) (made : Plan TermChange) (p : Draft) (answered : Reply × State) → plans.Plans offered.offered offered.CanOffer made answered s
     → IsUncounted made.reply (option_map change.Terminator made.change) p → Plans p answered s
 terms_planned s = family_planned offered.offered offered.CanOffer change.Terminator s (λ c. refl) (λ c can. can) (terms_uncounted s)
 
@@ -132,6 +132,6 @@ circuits_uncounted s c Bind = refl
 circuits_uncounted s c IdentityRouter = refl
 circuits_uncounted s c ServiceRouter = refl
 
-pub circuits_planned : (s : State) (made : Plan CircuitChange) (p : Planned) (answered : Reply × State) → plans.Plans routed CanRoute made answered s
+pub circuits_planned : (s : State) (made : Plan CircuitChange) (p : Draft) (answered : Reply × State) → plans.Plans routed CanRoute made answered s
     → IsUncounted made.reply (option_map change.Circuit made.change) p → Plans p answered s
 circuits_planned s = family_planned routed CanRoute change.Circuit s (λ c. refl) (λ c can. can) (circuits_uncounted s)

@@ -27,7 +27,7 @@ use Rattle.ctrl_core.specs.CarriedCommands.{is_carried, is_grant_command}
 use Rattle.ctrl_core.specs.CircuitPlans.{is_circuit_command}
 use Rattle.ctrl_core.specs.declared.changes.Change.{Change}
 use Rattle.policy_store.specs.declared.steps.GrantSteps.{GrantSteps}
-use Rattle.ctrl_core.specs.declared.changes.Planned.{Planned}
+use Rattle.ctrl_core.specs.declared.changes.Draft.{Draft}
 use Rattle.ctrl_core.specs.Changes.{CanChange, LeadsFrom, after_change, led}
 use Rattle.policy_store.specs.GrantChanges.{HasNoSteps, steps_of}
 use Rattle.ctrl_core.specs.PlannedCommands.{Plans, IsShown}
@@ -42,12 +42,12 @@ no_steps_lead s steps none ServiceRouter =
     subst (λ ds. LeadCounts (count ServiceRouter s) (count ServiceRouter s) ds) (sym none.service_router) (unchanged_leads ServiceRouter s s refl refl refl)
 
 -- a reply that changes nothing
-pub plans_reply : (p : Planned) (reply : Reply) (s : State) → IsShown reply p → Plans p (reply, s) s
+pub plans_reply : (p : Draft) (reply : Reply) (s : State) → IsShown reply p → Plans p (reply, s) s
 plans_reply p reply s is = record {
   reply = is.reply_is;
   can = subst (λ (o : Option Change). CanLeadBy CanChange o s) (sym is.change_is) tt;
   next = ap (λ (o : Option Change). led_by after_change o s) is.change_is;
-  still = λ tells. record { change = is.change_is; steps = is.no_steps };
+  still = λ tells. record { change_is = is.change_is; no_steps = is.no_steps };
   counts = no_steps_lead s p.steps is.no_steps;
 }
 
@@ -59,7 +59,7 @@ settled_lead IdentityRouter s effect ds leads = leads
 settled_lead ServiceRouter s effect ds leads = leads
 
 -- a plan of a command that some body spells leads from a valid state to the controller's next one, which is valid
-pub leads_from : (p : Planned) (c : Command) (s : State) → is_spelled c ≡ true → ValidState s → Plans p (carry c s) s → LeadsFrom p s (carry c s).1
+pub leads_from : (p : Draft) (c : Command) (s : State) → is_spelled c ≡ true → ValidState s → Plans p (carry c s) s → LeadsFrom p s (carry c s).1
 leads_from p c s spelled valid plans = record {
   can = record {
     can = plans.can;

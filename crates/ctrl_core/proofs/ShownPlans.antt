@@ -15,7 +15,7 @@ use Rattle.ctrl_model.specs.Rules.{shown, unknown_if_absent}
 use Rattle.ctrl_model.specs.ShowCommands.{tally_of, tallies, grants_of, services_of, show_grants, list_services}
 use Rattle.entity_store.specs.EntityTables.{entities}
 use Rattle.grant_denorm.specs.PairCounts.{count_of}
-use Rattle.ctrl_core.specs.declared.changes.Planned.{Planned}
+use Rattle.ctrl_core.specs.declared.changes.Draft.{Draft}
 use Rattle.ctrl_core.specs.declared.stores.Stores.{Stores}
 use Rattle.ctrl_core.specs.KeptState.{Keeps, state_of}
 use Rattle.ctrl_core.specs.PlannedCommands.{Plans, IsShown}
@@ -23,12 +23,12 @@ use Rattle.ctrl_core.proofs.PlanLaws.{plans_reply}
 
 -- ---- what an identity is granted
 
-pub grants_unknown : (name : List ℕ) (s : State) (p : Planned) → entity_named s.identities.rows name ≡ None → IsShown (reply.Refused (Unknown field.Identity)) p → Plans p (show_grants name s) s
+pub grants_unknown : (name : List ℕ) (s : State) (p : Draft) → entity_named s.identities.rows name ≡ None → IsShown (reply.Refused (Unknown field.Identity)) p → Plans p (show_grants name s) s
 grants_unknown name s p absent is =
     subst (λ found. Plans p (shown (unknown_if_absent field.Identity found) s (grants_of (unwrap_or found 0) s)) s) (sym absent)
     (plans_reply p (reply.Refused (Unknown field.Identity)) s is)
 
-pub grants_planned : (name : List ℕ) (st : Stores) (n : ℕ) (p : Planned) (bind dial routers : List Tally) → Keeps st → entity_named st.entities.identities.rows name ≡ Some n
+pub grants_planned : (name : List ℕ) (st : Stores) (n : ℕ) (p : Draft) (bind dial routers : List Tally) → Keeps st → entity_named st.entities.identities.rows name ≡ Some n
     → bind ≡ tallies (count_of st.grants.bind n) st.entities.services.rows → dial ≡ tallies (count_of st.grants.dial n) st.entities.services.rows
     → routers ≡ tallies (count_of st.grants.identity_router n) (entities kind.Router st.entities)
     → IsShown (reply.Grants bind dial routers) p → Plans p (show_grants name (state_of st)) (state_of st)
@@ -41,12 +41,12 @@ grants_planned name st n p bind dial routers kept named bound dialled routed is 
         ((dialled ∙ (λ j. tallies (λ b. kept.counts Dial n b j) st.entities.services.rows)) i)
         ((routed ∙ (λ j. tallies (λ b. kept.counts IdentityRouter n b j) (entities kind.Router st.entities))) i)
 
-pub services_unknown : (name : List ℕ) (s : State) (p : Planned) → entity_named s.identities.rows name ≡ None → IsShown (reply.Refused (Unknown field.Identity)) p → Plans p (list_services name s) s
+pub services_unknown : (name : List ℕ) (s : State) (p : Draft) → entity_named s.identities.rows name ≡ None → IsShown (reply.Refused (Unknown field.Identity)) p → Plans p (list_services name s) s
 services_unknown name s p absent is =
     subst (λ found. Plans p (shown (unknown_if_absent field.Identity found) s (services_of (unwrap_or found 0) s)) s) (sym absent)
     (plans_reply p (reply.Refused (Unknown field.Identity)) s is)
 
-pub services_planned : (name : List ℕ) (st : Stores) (n : ℕ) (p : Planned) (names : List (List ℕ)) (dialled : List Tally) → Keeps st → entity_named st.entities.identities.rows name ≡ Some n
+pub services_planned : (name : List ℕ) (st : Stores) (n : ℕ) (p : Draft) (names : List (List ℕ)) (dialled : List Tally) → Keeps st → entity_named st.entities.identities.rows name ≡ Some n
     → names ≡ map (λ (t : Tally). t.name) dialled → dialled ≡ tallies (count_of st.grants.dial n) st.entities.services.rows
     → IsShown (reply.Services names) p → Plans p (list_services name (state_of st)) (state_of st)
 services_planned name st n p names dialled kept named told dials is =

@@ -1,6 +1,7 @@
 -- What a plan keeps to carry out: one change of the stores and the steps of the counts, where it leads, and when it can
 -- (docs/PROMISES.md, "The core").
-use Rattle.std.specs.Prelude.{◌≡◌, None}
+use Rattle.std.specs.Prelude.{◌≡◌, [], None, Some}
+use Rattle.std.specs.declared.option.Option.{Option}
 use Rattle.ctrl_model.specs.declared.kinds.Relation.{Relation}
 use Rattle.ctrl_model.specs.State.{State}
 use Rattle.ctrl_model.specs.Grants.{count}
@@ -16,7 +17,9 @@ use Rattle.terminator_commands.specs.TermChanges.{CanOffer, offered}
 use Rattle.ctrl_core.specs.CircuitPlans.{CanRoute, routed}
 use Rattle.ctrl_core.specs.declared.changes.Change.{Change}
 use Rattle.ctrl_core.specs.declared.changes.Change.TheVariants as change
-use Rattle.ctrl_core.specs.declared.changes.Planned.{Planned}
+use Rattle.ctrl_core.specs.declared.plans.Planned.{Planned}
+use Rattle.ctrl_core.specs.declared.plans.Settled.{Settled}
+use Rattle.ctrl_core.specs.SettledNumbers.{AreSettled}
 
 -- The state after a change, not yet settled.
 abbrev pub after_change : Change → State → State
@@ -38,20 +41,26 @@ CanChange (change.Circuit c) s = CanRoute c s
 abbrev pub led : Planned → State → State
 led p s = led_by after_change p.change s
 
--- A plan that changes nothing: it has no change, and no count moves.
-pub record IsStill (p : Planned) : Type 0 where
-  pub change : p.change ≡ None
-  pub steps : HasNoSteps p.steps
+-- Nothing changes: there is no change, and no count moves.
+pub record IsStill (change : Option Change) (steps : GrantSteps) : Type 0 where
+  pub change_is : change ≡ None
+  pub no_steps : HasNoSteps steps
 
 -- Steps that lead the grant counts of one state to those of another.
 abbrev pub LeadAllCounts : State → State → GrantSteps → Type 0
 LeadAllCounts s t steps = (r : Relation) → LeadCounts (count r s) (count r t) (steps_of r steps)
 
--- A plan can lead from a state: what it keeps can be changed there, where it leads is a valid state, and its steps lead the
--- grant counts of the one state to those of the other.
+-- What settles after a change is named: the numbers of what is taken out of the state after it. Where nothing changes there are none.
+abbrev pub NamesSettled : Option Change → State → Settled → Type 0
+NamesSettled None s g = (g.links ≡ []) × (g.terminators ≡ []) × (g.circuits ≡ [])
+NamesSettled (Some c) s g = AreSettled (after_change c s) g
+
+-- A plan can lead from a state: what it keeps can be changed there, where it leads is a valid state, it names what settles, and its
+-- steps lead the grant counts of the one state to those of the other.
 pub record CanLead (p : Planned) (s : State) : Type 0 where
   pub can : CanLeadBy CanChange p.change s
   pub valid : ValidState (led p s)
+  pub settled : NamesSettled p.change s p.settled
   pub counts : LeadAllCounts s (led p s) p.steps
 
 -- A plan leads from one state to another.

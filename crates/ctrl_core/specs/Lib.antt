@@ -1,7 +1,11 @@
 pub mod CarriedCommands
 pub mod KeptState
+pub mod SettledNumbers
+pub mod ChangeParts
 pub mod Changes
 pub mod PlannedCommands
+pub mod ChangedStores
+pub mod CompletedPlans
 pub mod AppliedChanges
 pub mod CircuitParts
 pub mod CircuitPlans

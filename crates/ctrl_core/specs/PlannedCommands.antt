@@ -6,32 +6,32 @@ use Rattle.ctrl_model.specs.declared.replies.Reply.{Reply}
 use Rattle.ctrl_model.specs.State.{State}
 use Rattle.ctrl_model.specs.EntityCommands.{described}
 use Rattle.ctrl_model.specs.Numbered.{at}
-use Rattle.model_laws.specs.Plans.{CanLeadBy, tells_change}
+use Rattle.model_laws.specs.Plans.{CanLeadBy, led_by, tells_change}
 use Rattle.entity_store.specs.EntityTables.{entities, next_of}
 use Rattle.policy_store.specs.declared.steps.GrantSteps.{GrantSteps}
 use Rattle.policy_store.specs.GrantChanges.{granting_state, HasNoSteps, StepsOfEntity}
-use Rattle.ctrl_core.specs.declared.changes.Planned.{Planned}
+use Rattle.ctrl_core.specs.declared.changes.Draft.{Draft}
 use Rattle.ctrl_core.specs.declared.changes.Change.{Change}
 use Rattle.ctrl_core.specs.declared.stores.Stores.{Stores}
-use Rattle.ctrl_core.specs.Changes.{CanChange, IsStill, LeadAllCounts, led}
+use Rattle.ctrl_core.specs.Changes.{CanChange, IsStill, LeadAllCounts, after_change}
 
 -- The plan of an answer: its reply, that it leads to the answer's state, that its steps lead to that state's counts, and that it
 -- changes nothing where its reply tells of no change.
-pub record Plans (p : Planned) (answered : Reply × State) (s : State) : Type 0 where
+pub record Plans (p : Draft) (answered : Reply × State) (s : State) : Type 0 where
   pub reply : p.reply ≡ answered.0
   pub can : CanLeadBy CanChange p.change s
-  pub next : led p s ≡ answered.1
-  pub still : tells_change answered.0 ≡ false → IsStill p
+  pub next : led_by after_change p.change s ≡ answered.1
+  pub still : tells_change answered.0 ≡ false → IsStill p.change p.steps
   pub counts : LeadAllCounts s answered.1 p.steps
 
 -- The plan of a reply and a change, if there is one, that moves no count.
-pub record IsUncounted (reply : Reply) (change : Option Change) (p : Planned) : Type 0 where
+pub record IsUncounted (reply : Reply) (change : Option Change) (p : Draft) : Type 0 where
   pub reply_is : p.reply ≡ reply
   pub change_is : p.change ≡ change
   pub no_steps : HasNoSteps p.steps
 
 -- The plan of a reply that changes nothing.
-abbrev pub IsShown : Reply → Planned → Type 0
+abbrev pub IsShown : Reply → Draft → Type 0
 IsShown reply p = IsUncounted reply None p
 
 -- The steps of one more entity of a kind.

@@ -8,21 +8,23 @@ ghost use Rattle.ctrl_model.specs.State.{policy_named};
 ghost use Rattle.entity_commands.specs.EntityChanges.{CanEnter, entered};
 ghost use Rattle.policy_store.specs.PolicyTables.{is_policy_kind};
 ghost use Rattle.policy_store.specs.PolicyChanges.{CanRule, policies_in, ruled, with_policy, with_replaced, without_policy};
-ghost use Rattle.ctrl_core.specs.Changes.{CanChange, after_change};
+ghost use Rattle.ctrl_core.specs.Changes.{CanChange, NamesSettled, after_change};
 ghost use Rattle.policy_store.specs.GrantChanges.{steps_of};
 ghost use Rattle.ctrl_core.specs.KeptState.{HoldsPolicies, counts_of, state_of};
 ghost use Rattle.ctrl_core.specs.AppliedChanges.{Carries, ForgetsEntity, LetsPolicyGo, HaveRoom, Taken, forgetting_by};
 
 use crate::changes::Change;
+use crate::plans::Settled;
+use crate::settling::take_out;
 use crate::stores::{Grants, Stores};
-use circuits::{apply_circuit_change, settle_circuits};
+use circuits::apply_circuit_change;
 use ctrl_model::{Kind, PolicyNo};
 use entity_commands::{EntityChange, apply_entity_change};
 use grant_denorm::apply_changes;
-use link_commands::{apply_link_change, settle_links};
+use link_commands::apply_link_change;
 use policy_store::{GrantSteps, Policies, Policy, PolicyChange, policy_names};
 use std::alloc::{AllocError, Global};
-use terminator_commands::{apply_term_change, settle_terminators};
+use terminator_commands::apply_term_change;
 
 fn apply_entity(stores: &mut Stores, change: &EntityChange) -> Result<(), AllocError>
     requires can { CanEnter change.now (state_of stores.old) }
@@ -155,32 +157,18 @@ fn apply_change(alloc: Global, stores: &mut Stores, change: Change) -> Result<()
     }
 }
 
-// Removes what stands no longer: links first, then terminators, and last circuits.
-fn settle(alloc: Global, stores: &mut Stores) -> Result<(), AllocError>
-    requires { HoldsPolicies stores.old }
-    ensures { OnOk result (Carries stores.old stores.new (settle (state_of stores.old))) }
-{
-    settle_links(alloc, &stores.entities, &mut stores.fabric)?;
-    settle_terminators(alloc, &stores.entities, &mut stores.terminators)?;
-    settle_circuits(
-        alloc,
-        &stores.entities,
-        &stores.fabric,
-        &stores.terminators,
-        &mut stores.circuits,
-    )
-}
-
-/// Carries a change out that leads from a valid state to a valid one: it is made, and the state is settled. Where there is none the
-/// stores stay. Of a change that fails for want of memory nothing is said.
+/// Carries a change out that leads from a valid state to a valid one: it is made, and what settles is taken out, whose numbers are
+/// known. Where there is none the stores stay. Of a change that fails for want of memory nothing is said.
 pub fn carry_out(
     alloc: Global,
     stores: &mut Stores,
     change: Option<Change>,
+    settled: &Settled,
 ) -> Result<(), AllocError>
     requires can { CanLeadBy CanChange change (state_of stores.old) }
     requires before { ValidState (state_of stores.old) }
     requires valid { ValidState (led_by after_change change (state_of stores.old)) }
+    requires settled { NamesSettled change (state_of stores.old) settled.now }
     requires held { HoldsPolicies stores.old }
     ensures { OnOk result (Carries stores.old stores.new (led_by after_change change (state_of stores.old))) }
 {
@@ -188,7 +176,8 @@ pub fn carry_out(
         return Ok(());
     };
     apply_change(alloc, stores, change)?;
-    settle(alloc, stores)
+    take_out(stores, settled);
+    Ok(())
 }
 
 /// Takes the steps of each relation's counts.

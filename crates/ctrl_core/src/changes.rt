@@ -26,38 +26,38 @@ pub enum Change {
     Circuit(CircuitChange),
 }
 
-/// The answer to a command, planned: the reply, and what is kept to carry it out: the change, if there is one, and the steps of the
-/// counts. A plan leads from the state in which it was made to the controller's next one (docs/PROMISES.md, "The core").
+/// The answer to a command while it is planned: the reply, the change, if there is one, and the steps of the counts. What settles and
+/// the rows that differ are found from it (`Planned`).
 #[derive(Drop)]
-pub struct Planned {
+pub struct Draft {
     pub reply: Reply,
-    pub(crate) change: Option<Change>,
-    pub(crate) steps: GrantSteps,
+    pub change: Option<Change>,
+    pub steps: GrantSteps,
 }
 
-impl Planned {
-    /// The plan of a reply and of a change, if there is one, that moves no count.
-    pub(crate) fn uncounted(alloc: Global, reply: Reply, change: Option<Change>) -> Planned
+impl Draft {
+    /// The draft of a reply and of a change, if there is one, that moves no count.
+    pub fn uncounted(alloc: Global, reply: Reply, change: Option<Change>) -> Draft
         ensures { IsUncounted reply change result }
     {
-        Planned {
+        Draft {
             reply,
             change,
             steps: GrantSteps::none(alloc),
         }
     }
 
-    /// The plan of a reply that changes nothing.
-    pub(crate) fn shown(alloc: Global, reply: Reply) -> Planned
+    /// The draft of a reply that changes nothing.
+    pub fn shown(alloc: Global, reply: Reply) -> Draft
         ensures { IsShown reply result }
     {
-        Planned::uncounted(alloc, reply, None)
+        Draft::uncounted(alloc, reply, None)
     }
 
-    /// The plan of a refusal, which changes nothing.
-    pub(crate) fn refused(alloc: Global, refusal: Refusal) -> Planned
+    /// The draft of a refusal, which changes nothing.
+    pub fn refused(alloc: Global, refusal: Refusal) -> Draft
         ensures { IsShown (Refused refusal) result }
     {
-        Planned::shown(alloc, Reply::Refused(refusal))
+        Draft::shown(alloc, Reply::Refused(refusal))
     }
 }

@@ -16,7 +16,7 @@ ghost use Rattle.ctrl_core.specs.CircuitPlans.{is_circuit_command};
 ghost use Rattle.ctrl_core.specs.KeptState.{Keeps, state_of};
 ghost use Rattle.ctrl_core.specs.PlannedCommands.{Plans};
 
-use crate::changes::{Change, Planned};
+use crate::changes::{Change, Draft};
 use crate::circuit_parts::Parts;
 use crate::circuit_planning::plan_circuit_command;
 use crate::counting::{entity_change_steps, policy_change_steps};
@@ -36,17 +36,17 @@ fn counted_entities(
     alloc: Global,
     stores: &Stores,
     plan: Plan<EntityChange>,
-) -> Result<Planned, AllocError>
+) -> Result<Draft, AllocError>
     requires kept { Keeps stores.now }
     requires can { CanLeadBy CanEnter plan.change (state_of stores.now) }
     ensures { IfOk result (λ p. (answered : Reply × State) → PlansEntities plan answered (state_of stores.now) → Plans p answered (state_of stores.now)) }
 {
     let Plan { reply, change } = plan;
     let Some(change) = change else {
-        return Ok(Planned::shown(alloc, reply));
+        return Ok(Draft::shown(alloc, reply));
     };
     let steps = entity_change_steps(alloc, stores, &change)?;
-    Ok(Planned {
+    Ok(Draft {
         reply,
         change: Some(Change::Entity(change)),
         steps,
@@ -58,7 +58,7 @@ fn plan_entities(
     alloc: Global,
     stores: &Stores,
     command: &Command,
-) -> Result<Option<Planned>, AllocError>
+) -> Result<Option<Draft>, AllocError>
     requires { Keeps stores.now }
     ensures { IfOk result (λ o. MatchOption o (is_entity_command command.now ≡ false) (λ p. Plans p (carry command.now (state_of stores.now)) (state_of stores.now))) }
 {
@@ -73,17 +73,17 @@ fn counted_policies(
     alloc: Global,
     stores: &Stores,
     plan: Plan<PolicyChange>,
-) -> Result<Planned, AllocError>
+) -> Result<Draft, AllocError>
     requires kept { Keeps stores.now }
     requires can { CanLeadBy CanRule plan.change (state_of stores.now) }
     ensures { IfOk result (λ p. (answered : Reply × State) → PlansPolicies plan answered (state_of stores.now) → Plans p answered (state_of stores.now)) }
 {
     let Plan { reply, change } = plan;
     let Some(change) = change else {
-        return Ok(Planned::shown(alloc, reply));
+        return Ok(Draft::shown(alloc, reply));
     };
     let steps = policy_change_steps(alloc, stores, &change)?;
-    Ok(Planned {
+    Ok(Draft {
         reply,
         change: Some(Change::Policy(change)),
         steps,
@@ -95,7 +95,7 @@ fn plan_policies(
     alloc: Global,
     stores: &Stores,
     command: &Command,
-) -> Result<Option<Planned>, AllocError>
+) -> Result<Option<Draft>, AllocError>
     requires kept { Keeps stores.now }
     requires spelled { is_spelled command.now ≡ true }
     ensures { IfOk result (λ o. MatchOption o (is_policy_command command.now ≡ false) (λ p. Plans p (carry command.now (state_of stores.now)) (state_of stores.now))) }
@@ -121,7 +121,7 @@ fn plan_links(
     alloc: Global,
     stores: &Stores,
     command: &Command,
-) -> Result<Option<Planned>, AllocError>
+) -> Result<Option<Draft>, AllocError>
     requires kept { Keeps stores.now }
     requires spelled { is_spelled command.now ≡ true }
     ensures { IfOk result (λ o. MatchOption o (is_link_command command.now ≡ false) (λ p. Plans p (carry command.now (state_of stores.now)) (state_of stores.now))) }
@@ -130,7 +130,7 @@ fn plan_links(
         Some(plan) => {
             let Plan { reply, change } = plan;
             let change = link_change(change);
-            Ok(Some(Planned::uncounted(alloc, reply, change)))
+            Ok(Some(Draft::uncounted(alloc, reply, change)))
         }
         None => Ok(None),
     }
@@ -151,7 +151,7 @@ fn plan_terminators(
     alloc: Global,
     stores: &Stores,
     command: &Command,
-) -> Result<Option<Planned>, AllocError>
+) -> Result<Option<Draft>, AllocError>
     requires kept { Keeps stores.now }
     requires spelled { is_spelled command.now ≡ true }
     ensures { IfOk result (λ o. MatchOption o (is_terminator_command command.now ≡ false) (λ p. Plans p (carry command.now (state_of stores.now)) (state_of stores.now))) }
@@ -161,7 +161,7 @@ fn plan_terminators(
         Some(plan) => {
             let Plan { reply, change } = plan;
             let change = term_change(change);
-            Ok(Some(Planned::uncounted(alloc, reply, change)))
+            Ok(Some(Draft::uncounted(alloc, reply, change)))
         }
         None => Ok(None),
     }
@@ -182,7 +182,7 @@ fn plan_circuits(
     alloc: Global,
     stores: &Stores,
     command: &Command,
-) -> Result<Option<Planned>, AllocError>
+) -> Result<Option<Draft>, AllocError>
     requires { Keeps stores.now }
     ensures { IfOk result (λ o. MatchOption o (is_circuit_command command.now ≡ false) (λ p. Plans p (carry command.now (state_of stores.now)) (state_of stores.now))) }
 {
@@ -200,7 +200,7 @@ fn plan_circuits(
         Some(plan) => {
             let Plan { reply, change } = plan;
             let change = circuit_change(change);
-            Ok(Some(Planned::uncounted(alloc, reply, change)))
+            Ok(Some(Draft::uncounted(alloc, reply, change)))
         }
         None => Ok(None),
     }
@@ -211,7 +211,7 @@ fn plan_grants(
     alloc: Global,
     stores: &Stores,
     command: &Command,
-) -> Result<Option<Planned>, AllocError>
+) -> Result<Option<Draft>, AllocError>
     requires { Keeps stores.now }
     ensures { IfOk result (λ o. MatchOption o (is_grant_command command.now ≡ false) (λ p. Plans p (carry command.now (state_of stores.now)) (state_of stores.now))) }
 {
@@ -231,7 +231,7 @@ pub fn plan_command(
     alloc: Global,
     stores: &Stores,
     command: &Command,
-) -> Result<Planned, AllocError>
+) -> Result<Draft, AllocError>
     requires kept { Keeps stores.now }
     requires spelled { is_spelled command.now ≡ true }
     requires carried { is_carried command.now ≡ true }
@@ -255,5 +255,5 @@ pub fn plan_command(
     if let Some(planned) = plan_grants(alloc, stores, command)? {
         return Ok(planned);
     }
-    Ok(Planned::shown(alloc, Reply::Empty))
+    Ok(Draft::shown(alloc, Reply::Empty))
 }

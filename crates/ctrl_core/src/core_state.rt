@@ -6,12 +6,14 @@ ghost use Rattle.ctrl_model.specs.Grants.{count};
 ghost use Rattle.ctrl_model.specs.ValidState.{ValidState};
 ghost use Rattle.model_laws.specs.Plans.{tells_change};
 ghost use Rattle.grant_denorm.specs.MovedCounts.{AreCountsOf};
+ghost use Rattle.row_codec.specs.Batches.{batch_between};
 ghost use Rattle.ctrl_core.specs.CarriedCommands.{is_carried};
 ghost use Rattle.ctrl_core.specs.Changes.{CanLead, IsStill, LeadsFrom, led};
 
 use crate::applying::{apply_steps, carry_out};
-use crate::changes::Planned;
 use crate::commands::plan_command;
+use crate::completing::completed;
+use crate::plans::Planned;
 use crate::stores::Stores;
 use ctrl_model::{Command, Relation, Reply};
 use grant_denorm::Counted;
@@ -60,7 +62,8 @@ impl Core {
     }
 
     /// Plans the answer to a command that some body spells, as the controller gives it to who may send it. So far the commands are
-    /// all but Compact. A plan of a refusal, or of a reply that shows something, has no change and moves no count. The state stays,
+    /// all but Compact. A plan of a refusal, or of a reply that shows something, has no change and moves no count. Its batch is exactly
+    /// the difference between the rows of the state and those of the next one, so it is empty where they are equal. The state stays,
     /// and it is valid.
     pub fn plan(&self, command: &Command) -> Result<Planned, AllocError>
         requires live { self.now.live ≡ true }
@@ -68,10 +71,12 @@ impl Core {
         requires carried { is_carried command.now ≡ true }
         ensures reply { IfOk result (λ p. p.reply ≡ (carry command.now self.now.state).0) }
         ensures leads { IfOk result (λ p. LeadsFrom p self.now.state (carry command.now self.now.state).1) }
-        ensures still { IfOk result (λ p. tells_change p.reply ≡ false → IsStill p) }
+        ensures still { IfOk result (λ p. tells_change p.reply ≡ false → IsStill p.change p.steps) }
+        ensures batch { IfOk result (λ p. p.batch ≡ batch_between self.now.state (carry command.now self.now.state).1) }
         ensures valid { ValidState self.now.state }
     {
-        plan_command(self.alloc, &self.stores, command)
+        let draft = plan_command(self.alloc, &self.stores, command)?;
+        completed(self.alloc, &self.stores, draft)
     }
 
     /// Moves the state to where a plan leads, and answers the plan's reply. After want of memory the core is given up.
@@ -85,10 +90,12 @@ impl Core {
         let Planned {
             reply,
             change,
+            settled,
             steps,
+            ..
         } = planned;
         self.live = false;
-        carry_out(self.alloc, &mut self.stores, change)?;
+        carry_out(self.alloc, &mut self.stores, change, &settled)?;
         apply_steps(&mut self.stores.grants, &steps)?;
         self.live = true;
         Ok(reply)

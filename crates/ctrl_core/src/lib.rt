@@ -2,18 +2,23 @@
 #![tactic(auto)]
 
 mod applying;
+mod change_parts;
 mod changes;
 mod circuit_asking;
 mod circuit_names;
 mod circuit_parts;
 mod circuit_planning;
 mod commands;
+mod completing;
 mod core_state;
 mod counting;
+mod plans;
+mod row_changes;
+mod settling;
 mod showing;
 mod stores;
 mod worked;
 
-pub use changes::Planned;
 pub use core_state::Core;
+pub use plans::Planned;
 pub use worked::{worked_changes, worked_starts};

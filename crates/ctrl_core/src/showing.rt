@@ -5,7 +5,7 @@ ghost use Rattle.ctrl_model.specs.ShowCommands.{show_grants, list_services, show
 ghost use Rattle.ctrl_core.specs.KeptState.{Keeps, state_of};
 ghost use Rattle.ctrl_core.specs.PlannedCommands.{IsShown, Plans};
 
-use crate::changes::Planned;
+use crate::changes::Draft;
 use crate::stores::Stores;
 use circuits::count_circuits;
 use ctrl_model::{Field, Kind, Name, Names, Refusal, Reply, Tallies};
@@ -14,11 +14,11 @@ use shown_records::{count_entities, count_links, count_terminators, names_of, ta
 use std::alloc::{AllocError, Global};
 
 // The plan of a command whose identity nothing has.
-fn unknown_identity(alloc: Global) -> Planned
+fn unknown_identity(alloc: Global) -> Draft
     ensures { IsShown (Refused (Unknown Field.Identity)) result }
 {
     let field = Field::Identity;
-    Planned::refused(alloc, Refusal::Unknown { field })
+    Draft::refused(alloc, Refusal::Unknown { field })
 }
 
 /// Plans what an identity is granted.
@@ -26,7 +26,7 @@ pub fn plan_show_grants(
     alloc: Global,
     stores: &Stores,
     identity: &Name,
-) -> Result<Planned, AllocError>
+) -> Result<Draft, AllocError>
     requires { Keeps stores.now }
     ensures { IfOk result (λ p. Plans p (show_grants identity.now (state_of stores.now)) (state_of stores.now)) }
 {
@@ -44,7 +44,7 @@ pub fn plan_show_grants(
         &grants.identity_router,
         number,
     )?;
-    Ok(Planned::shown(
+    Ok(Draft::shown(
         alloc,
         Reply::Grants {
             bind: Tallies::of(bind),
@@ -59,7 +59,7 @@ pub fn plan_list_services(
     alloc: Global,
     stores: &Stores,
     identity: &Name,
-) -> Result<Planned, AllocError>
+) -> Result<Draft, AllocError>
     requires { Keeps stores.now }
     ensures { IfOk result (λ p. Plans p (list_services identity.now (state_of stores.now)) (state_of stores.now)) }
 {
@@ -69,7 +69,7 @@ pub fn plan_list_services(
     };
     let dialled = tallies(alloc, entities, Kind::Service, &stores.grants.dial, number)?;
     let names = names_of(alloc, dialled.as_slice())?;
-    Ok(Planned::shown(
+    Ok(Draft::shown(
         alloc,
         Reply::Services {
             names: Names::of(names),
@@ -90,7 +90,7 @@ fn count_grants(stores: &Stores) -> u64
 }
 
 /// Plans how many there are of each kind.
-pub fn plan_show_counts(alloc: Global, stores: &Stores) -> Result<Planned, AllocError>
+pub fn plan_show_counts(alloc: Global, stores: &Stores) -> Result<Draft, AllocError>
     requires { Keeps stores.now }
     ensures { IfOk result (λ p. Plans p (show_counts (state_of stores.now)) (state_of stores.now)) }
 {
@@ -103,7 +103,7 @@ pub fn plan_show_counts(alloc: Global, stores: &Stores) -> Result<Planned, Alloc
     let circuits = count_circuits(alloc, &stores.circuits)?;
     let links = count_links(alloc, &stores.fabric)?;
     let terminators = count_terminators(alloc, &stores.terminators)?;
-    Ok(Planned::shown(
+    Ok(Draft::shown(
         alloc,
         Reply::Counts {
             circuits,

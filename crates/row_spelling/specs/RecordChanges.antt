@@ -1,11 +1,20 @@
--- The change of one record's row.
+-- The change of one row: of a record, of a next number, of the setting.
 use Rattle.std.specs.Prelude.{ℕ, List}
 use Rattle.std.specs.declared.option.Option.{Option}
 use Rattle.ctrl_model.specs.declared.kinds.Kind.{Kind}
 use Rattle.row_codec.specs.declared.changes.Change.{Change}
-use Rattle.row_codec.specs.RowKeys.{key_in, key_bytes}
-use Rattle.row_codec.specs.RowKeys.RowTable.{Records}
+use Rattle.row_codec.specs.RowKeys.{key_in, key_bytes, kind_number}
+use Rattle.row_codec.specs.RowKeys.RowTable.{Next, Setting, Records}
+use Rattle.row_codec.specs.StateRows.{next_value, setting_value}
 
 -- The change of the row of a kind's record under a number: its value before, if it was there, and after, if it is there.
 abbrev pub change_of : Kind → ℕ → Option (List ℕ) → Option (List ℕ) → Change
 change_of k n before after = record { key = key_bytes (key_in (Records k) n 0); before = before; after = after }
+
+-- The change of the row of a kind's next number, which goes from one to another.
+abbrev pub next_change_of : Kind → ℕ → ℕ → Change
+next_change_of k before after = record { key = key_bytes (key_in Next (kind_number k) 0); before = next_value before; after = next_value after }
+
+-- The change of the row of the least router cost, which goes from one to another.
+abbrev pub setting_change_of : ℕ → ℕ → Change
+setting_change_of before after = record { key = key_bytes (key_in Setting 0 0); before = setting_value before; after = setting_value after }

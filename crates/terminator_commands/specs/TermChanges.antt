@@ -1,11 +1,12 @@
 -- What a command on terminators changes, in the terminators themselves and in a state, and which terminators stay
 -- (docs/PROMISES.md, "Commands on terminators").
-use Rattle.std.specs.Prelude.{◌≡◌, true, filter}
+use Rattle.std.specs.Prelude.{◌≡◌, ℕ, Bool, true}
 use Rattle.ctrl_model.specs.CommandForm.{is_cost}
 use Rattle.ctrl_model.specs.Numbered.{is_present, with_kept}
 use Rattle.ctrl_model.specs.Settling.{terminator_stays}
-use Rattle.ctrl_model.specs.State.{State, start}
+use Rattle.ctrl_model.specs.State.{State, Terminator, start}
 use Rattle.entity_store.specs.EntityTables.{Tables}
+use Rattle.entity_store.specs.HeldUses.{with_entities}
 pub use Rattle.terminators.specs.TermChanges.{after_term_change}
 use Rattle.terminators.specs.TermTables.{TermTables}
 use Rattle.terminators.specs.TermRules.{has_term_room}
@@ -40,8 +41,10 @@ offered c s = with_terms (after_term_change c (terms_of s)) s
 abbrev pub CanOffer : TermChange → State → Type 0
 CanOffer c s = CanChangeTerms c (terms_of s)
 
+-- A terminator stays whose service, router and host are among these entities.
+abbrev pub stays : Tables → ℕ × Terminator → Bool
+stays t row = terminator_stays (with_entities t start) row
+
 -- The terminators of which service, router and host are among these entities.
 abbrev pub settled : Tables → TermTables → TermTables
-settled t k = record k {
-  terminators = with_kept (terminator_stays (record start { identities = t.identities; services = t.services; routers = t.routers })) k.terminators;
-}
+settled t k = record k { terminators = with_kept (stays t) k.terminators }

@@ -7,5 +7,5 @@ mod settling;
 
 pub use applying::apply_term_change;
 pub use planning::plan_terminator_command;
-pub use settling::settle_terminators;
+pub use settling::{settle_terminators, terminators_that_go};
 pub use terminators::TermChange;

@@ -1,0 +1,47 @@
+-- What completing a draft makes of it. Only private functions and proofs of this crate cite this file.
+use Rattle.std.specs.Prelude.{◌≡◌, List, [], None}
+use Rattle.ctrl_model.specs.declared.replies.Reply.{Reply}
+use Rattle.policy_store.specs.declared.steps.GrantSteps.{GrantSteps}
+use Rattle.ctrl_model.specs.ValidState.{ValidState}
+use Rattle.model_laws.specs.Plans.{CanLeadBy, led_by}
+use Rattle.row_codec.specs.declared.changes.Op.{Op}
+use Rattle.row_codec.specs.Batches.{batch_between}
+use Rattle.ctrl_core.specs.declared.changes.Change.{Change}
+use Rattle.ctrl_core.specs.declared.changes.Draft.{Draft}
+use Rattle.ctrl_core.specs.declared.plans.Planned.{Planned}
+use Rattle.ctrl_core.specs.declared.plans.Settled.{Settled}
+use Rattle.ctrl_core.specs.declared.stores.Stores.{Stores}
+use Rattle.ctrl_core.specs.ChangedStores.{next_state}
+use Rattle.ctrl_core.specs.Changes.{CanChange, LeadAllCounts, NamesSettled, after_change}
+use Rattle.ctrl_core.specs.KeptState.{Keeps, state_of}
+use Rattle.ctrl_core.specs.SettledNumbers.{AreSettled}
+
+-- A draft that can be carried out in the state of some stores, and leads to a valid state by its change and its steps.
+pub record CanComplete (st : Stores) (d : Draft) : Type 0 where
+  pub kept : Keeps st
+  pub can : CanLeadBy CanChange d.change (state_of st)
+  pub valid : ValidState (led_by after_change d.change (state_of st))
+  pub counts : LeadAllCounts (state_of st) (led_by after_change d.change (state_of st)) d.steps
+
+-- What settles after a change, and the batch of the rows that differ.
+pub record SettlesAs (st : Stores) (c : Change) (g : Settled) (batch : List Op) : Type 0 where
+  pub settled : AreSettled (after_change c (state_of st)) g
+  pub batch_is : batch ≡ batch_between (state_of st) (next_state st c)
+
+-- A plan is a draft with what settles and with the batch of the rows that differ.
+pub record Completes (st : Stores) (d : Draft) (p : Planned) : Type 0 where
+  pub reply_is : p.reply ≡ d.reply
+  pub change_is : p.change ≡ d.change
+  pub steps_are : p.steps ≡ d.steps
+  pub settled : NamesSettled d.change (state_of st) p.settled
+  pub batch_is : p.batch ≡ batch_between (state_of st) (led_by after_change d.change (state_of st))
+
+-- The plan of a reply that changes nothing: it has no change, nothing settles, and its batch is empty.
+pub record IsUnchanged (reply : Reply) (steps : GrantSteps) (p : Planned) : Type 0 where
+  pub reply_is : p.reply ≡ reply
+  pub change_is : p.change ≡ None
+  pub steps_are : p.steps ≡ steps
+  pub links_stay : p.settled.links ≡ []
+  pub terminators_stay : p.settled.terminators ≡ []
+  pub circuits_stay : p.settled.circuits ≡ []
+  pub empty : p.batch ≡ []
