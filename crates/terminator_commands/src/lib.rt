@@ -3,9 +3,11 @@
 
 mod applying;
 mod planning;
+mod rows;
 mod settling;
 
 pub use applying::apply_term_change;
 pub use planning::plan_terminator_command;
+pub use rows::term_changes;
 pub use settling::{settle_terminators, terminators_that_go};
 pub use terminators::TermChange;

@@ -42,16 +42,6 @@ fn turn_of(change: Option<&TermChange>) -> Turn
     }
 }
 
-// The terminator that has a number now.
-fn present_term<'a>(terminators: &'a Terminators, no: TermNo) -> Option<TermView<'a>>
-    ensures { result ≡ at terminators.now.terminators.rows no.0 }
-{
-    match terminators.get(no) {
-        Ok(term) => Some(TermView::of(term)),
-        Err(_) => None,
-    }
-}
-
 // The terminator that will have a number, where one has it now or none has.
 fn term_after<'a>(
     change: &'a TermChange,
@@ -95,7 +85,7 @@ fn changed_term<'a>(
 {
     // With it comes that the numbers ascend below it, so that no terminator has it yet.
     let next = terminators.next();
-    term_after(change, next, no, present_term(terminators, no))
+    term_after(change, next, no, terminators.seen(no))
 }
 
 impl<'a> TerminatorsAfter<'a> {
@@ -138,7 +128,7 @@ impl<'a> TerminatorsAfter<'a> {
         }
         match self.change {
             Some(change) => changed_term(self.terminators, change, no),
-            None => present_term(self.terminators, no),
+            None => self.terminators.seen(no),
         }
     }
 }

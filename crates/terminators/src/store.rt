@@ -9,7 +9,7 @@ ghost use Rattle.terminators.specs.TermTables.{no_terminators, with_term, with_s
 ghost use Rattle.terminators.specs.TermRules.{has_term_room, may_add, network, granted, is_admissible};
 
 use crate::admitting::{Grants, is_admissible};
-use crate::offers::{Term, is_not_bindable};
+use crate::offers::{Term, TermView, is_not_bindable};
 use ctrl_model::{Instance, Numbers, Precedence, RouterSeen, ServiceNo, TermNo};
 use grant_denorm::Counted;
 use record_tables::NumberedTable;
@@ -109,6 +109,16 @@ impl Terminators {
         ensures { result_map_both (λ t. t.now) (λ fault. fault) result ≡ ok_or (at self.now.terminators.rows no.0) TermFault.Unknown }
     {
         self.terms.get(no.0).ok_or(TermFault::Unknown)
+    }
+
+    /// The terminator that has the number, lent. None exactly where none has it.
+    pub fn seen(&self, no: TermNo) -> Option<TermView<'_>>
+        ensures { result ≡ at self.now.terminators.rows no.0 }
+    {
+        match self.terms.get(no.0) {
+            Some(term) => Some(TermView::of(term)),
+            None => None,
+        }
     }
 
     /// Sets the cost, 0 to 65,535, and the precedence of a present terminator.
