@@ -18,8 +18,8 @@ use Rattle.model_laws.proofs.NewRecords.{new_record}
 use Rattle.entity_store.specs.EntityTables.{Tables, new_router, with_entity, with_attributes, with_router, without_entity}
 use Rattle.entity_store.specs.AttributeUses.{times, held_times}
 use Rattle.entity_store.specs.HeldUses.{policy_attributes}
-use Rattle.entity_commands.specs.declared.changes.EntityChange.{EntityChange}
-use Rattle.entity_commands.specs.declared.changes.EntityChange.TheVariants as change
+use Rattle.entity_store.specs.declared.changes.EntityChange.{EntityChange}
+use Rattle.entity_store.specs.declared.changes.EntityChange.TheVariants as change
 use Rattle.entity_commands.specs.EntityChanges.{CanEnter, is_plain_kind, with_plain, with_described, with_described_router, without_named, entered, after_entity_change}
 use Rattle.entity_commands.proofs.ApplyLaws.{marked}
 use Rattle.policy_store.specs.PolicyTables.{PolicyTables, forgetting}

@@ -10,8 +10,8 @@ use Rattle.grant_denorm.specs.PairCounts.{count_of}
 use Rattle.grant_denorm.specs.Deltas.{ups, downs}
 use Rattle.policy_store.specs.PolicyTables.{PolicyTables, forgetting}
 use Rattle.policy_store.specs.PolicyChanges.{policies_in}
-use Rattle.entity_commands.specs.declared.changes.EntityChange.{EntityChange}
-use Rattle.entity_commands.specs.declared.changes.EntityChange.TheVariants as change
+use Rattle.entity_store.specs.declared.changes.EntityChange.{EntityChange}
+use Rattle.entity_store.specs.declared.changes.EntityChange.TheVariants as change
 use Rattle.ctrl_core.specs.declared.stores.Stores.{Stores}
 use Rattle.ctrl_core.specs.KeptState.{HoldsPolicies, state_of}
 

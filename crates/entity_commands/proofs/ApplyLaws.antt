@@ -27,8 +27,8 @@ use Rattle.entity_store.specs.TableRules.{may_add, attributes_at}
 use Rattle.entity_store.specs.TableRules as table_rules
 use Rattle.entity_store.proofs.TimesLaws.{Between-from_map}
 use Rattle.entity_store.proofs.InUseLaws.{has_room_in_state}
-use Rattle.entity_commands.specs.declared.changes.EntityChange.{EntityChange}
-use Rattle.entity_commands.specs.declared.changes.EntityChange.TheVariants as change
+use Rattle.entity_store.specs.declared.changes.EntityChange.{EntityChange}
+use Rattle.entity_store.specs.declared.changes.EntityChange.TheVariants as change
 use Rattle.entity_commands.specs.EntityChanges.{is_plain_kind, with_plain, with_described, with_described_router, entered, CanEnter, CanChangeEntities}
 use Rattle.entity_commands.proofs.Arounds.{Around, state_of, HoldsPolicies}
 use Rattle.entity_commands.proofs.UsedLaws.{added, added_router, described_identity, described_service, described_router}

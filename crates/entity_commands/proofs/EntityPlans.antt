@@ -32,7 +32,7 @@ use Rattle.entity_store.specs.TableRules.{has_kind_room, found, is_there, attrib
 use Rattle.entity_store.proofs.UseLaws.{times-append}
 use Rattle.entity_store.proofs.TimesLaws.{times-at, edit_at-same}
 use Rattle.entity_store.proofs.InUseLaws.{room_in_state}
-use Rattle.entity_commands.specs.declared.changes.EntityChange.TheVariants as change
+use Rattle.entity_store.specs.declared.changes.EntityChange.TheVariants as change
 use Rattle.entity_commands.specs.EntityChanges.{is_plain_kind, with_described, without_named}
 use Rattle.entity_commands.specs.EntityPlans.{PlansEntities}
 use Rattle.entity_commands.specs.PlannedEntities.{answer_add, answer_update, refusal_of_add, refusal_of_describe}

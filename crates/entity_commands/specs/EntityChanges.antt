@@ -8,11 +8,12 @@ use Rattle.ctrl_model.specs.State.{State}
 use Rattle.ctrl_model.specs.Tables.{table, named, is_entity_kind}
 use Rattle.ctrl_model.specs.RecordCommands.{after_create, after_edit, after_remove, forgotten}
 use Rattle.ctrl_model.specs.EntityCommands.{entity, described, new_router}
-use Rattle.entity_store.specs.EntityTables.{Tables, number_of, with_entity, with_attributes, with_router, without_entity}
+use Rattle.entity_store.specs.declared.changes.EntityChange.{EntityChange}
+use Rattle.entity_store.specs.declared.changes.EntityChange.TheVariants as change
+pub use Rattle.entity_store.specs.EntityChanges.{after_entity_change}
+use Rattle.entity_store.specs.EntityTables.{Tables}
 use Rattle.entity_store.specs.AttributeUses.{has_attribute_room}
 use Rattle.entity_store.specs.TableRules.{may_add, is_there, attributes_at}
-use Rattle.entity_commands.specs.declared.changes.EntityChange.{EntityChange}
-use Rattle.entity_commands.specs.declared.changes.EntityChange.TheVariants as change
 
 -- The kinds of entity that have a name and attributes alone.
 abbrev pub is_plain_kind : Kind → Bool
@@ -64,17 +65,6 @@ CanEnter (change.Describe k n attributes) s = (is_plain_kind k ≡ true) × (is_
 CanEnter (change.DescribeRouter n attributes cost through connected) s = is_present s.routers.rows n ≡ true
 CanEnter (change.Mark n cost through connected) s = is_present s.routers.rows n ≡ true
 CanEnter (change.Remove k n name) s = (is_entity_kind k ≡ true) × (named k s name ≡ Some n)
-
--- The entities after a change. That no side of a policy names one that is removed is not said of them.
-abbrev pub after_entity_change : EntityChange → Tables → Tables
-after_entity_change (change.Add k name attributes) t = with_entity k name attributes t
-after_entity_change (change.AddRouter name attributes cost through) t =
-    with_router t.routers.next cost through false (with_entity kind.Router name attributes t)
-after_entity_change (change.Describe k n attributes) t = with_attributes k n attributes t
-after_entity_change (change.DescribeRouter n attributes cost through connected) t =
-    with_router n cost through connected (with_attributes kind.Router n attributes t)
-after_entity_change (change.Mark n cost through connected) t = with_router n cost through connected t
-after_entity_change (change.Remove k n name) t = without_entity k n t
 
 -- What a change needs of the entities: that its kind fits it, that an entity that is added may be and one that is changed or removed
 -- is there, that there is room for its attributes, and that each cost is in its range.

@@ -6,7 +6,7 @@ use Rattle.ctrl_model.specs.declared.replies.Reply.{Reply}
 use Rattle.ctrl_model.specs.State.{State}
 use Rattle.model_laws.specs.declared.plans.Plan.{Plan}
 use Rattle.model_laws.specs.Plans.{Plans}
-use Rattle.entity_commands.specs.declared.changes.EntityChange.{EntityChange}
+use Rattle.entity_store.specs.declared.changes.EntityChange.{EntityChange}
 use Rattle.entity_commands.specs.EntityChanges.{entered, CanEnter}
 
 -- The commands on identities, services and edge routers.

@@ -16,7 +16,7 @@ use Rattle.entity_store.specs.EntityTables.{Tables, number_of}
 use Rattle.entity_store.specs.AttributeUses.{has_attribute_room}
 use Rattle.entity_store.specs.HeldUses.{with_entities, HoldsPolicies}
 use Rattle.entity_store.specs.TableRules.{has_kind_room, attributes_at}
-use Rattle.entity_commands.specs.declared.changes.EntityChange.{EntityChange}
+use Rattle.entity_store.specs.declared.changes.EntityChange.{EntityChange}
 use Rattle.entity_commands.specs.EntityPlans.{PlansEntities}
 
 -- A plan of an answer in every valid state with these entities, of whose policies these uses are held.

@@ -6,9 +6,8 @@ ghost use Rattle.entity_store.specs.EntityTables.{with_attributes, with_entity, 
 ghost use Rattle.entity_store.specs.TableRules.{attributes_at, is_there, may_add};
 ghost use Rattle.entity_commands.specs.EntityChanges.{CanChangeEntities, after_entity_change};
 
-use crate::changes::EntityChange;
 use ctrl_model::{Kind, Name, Names, RouterNo};
-use entity_store::Entities;
+use entity_store::{Entities, EntityChange};
 use std::alloc::AllocError;
 
 fn add_router(

@@ -2,11 +2,10 @@
 #![tactic(auto)]
 
 mod applying;
-mod changes;
 mod planning;
 mod worked;
 
 pub use applying::apply_entity_change;
-pub use changes::EntityChange;
+pub use entity_store::EntityChange;
 pub use planning::plan_entity_command;
 pub use worked::{changes_of_entities, changes_of_routers};

@@ -6,7 +6,7 @@ ghost use Rattle.entity_store.specs.EntityTables.{no_entities};
 ghost use Rattle.entity_commands.specs.EntityChanges.{after_entity_change, entered};
 ghost use Rattle.entity_commands.specs.EntityPlans.{is_entity_command};
 ghost use Rattle.entity_commands.specs.WorkedEntities.{holding, of_ann, of_router, r1};
-ghost use Rattle.entity_commands.specs.declared.changes.EntityChange.TheVariants.{Add, AddRouter, Describe, DescribeRouter, Mark, Remove};
+ghost use Rattle.entity_store.specs.declared.changes.EntityChange.TheVariants.{Add, AddRouter, Describe, DescribeRouter, Mark, Remove};
 
 /// Changes of identities in a small state, and which commands are on entities.
 pub fn changes_of_entities()

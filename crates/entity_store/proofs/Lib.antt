@@ -6,3 +6,4 @@ pub mod TimesLaws
 pub mod RoomLaws
 pub mod InUseLaws
 pub mod LookUps
+pub mod AfterLaws

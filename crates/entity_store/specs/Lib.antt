@@ -4,3 +4,5 @@ pub mod TableRules
 pub mod Parts
 pub mod WorkedTables
 pub mod HeldUses
+pub mod EntityChanges
+pub mod ChangedNumbers

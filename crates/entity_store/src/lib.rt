@@ -1,10 +1,16 @@
 //! The store of identities, services and edge routers: by name and by number, with the uses of attributes.
 #![tactic(auto)]
 
+mod after;
+mod changed_routers;
+mod changes;
 mod entities;
 mod names_in_use;
 mod records;
+mod turns;
 mod worked;
 
+pub use after::EntitiesAfter;
+pub use changes::EntityChange;
 pub use entities::{Entities, EntityFault};
 pub use worked::{attributes_in_use, names_and_numbers};

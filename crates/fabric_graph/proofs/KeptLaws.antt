@@ -8,6 +8,8 @@ use Rattle.ctrl_model.specs.Numbered.{Table, with_new, edit_at, without, with_re
 use Rattle.ctrl_model.specs.State.{Link, link_named}
 use Rattle.ctrl_model.proofs.NumberedLaws.{length-with_last, length-filter-le}
 use Rattle.ctrl_model.proofs.TableLaws.{each_passes-more, each_passes-with_last, each_passes-map, each_passes-filter}
+use Rattle.ctrl_model.specs.Walks.{is_among}
+use Rattle.record_tables.specs.AfterChange.{without_numbers}
 use Rattle.record_tables.specs.Entries.{KeepsOrder}
 use Rattle.fabric_graph.specs.declared.fabric.FabricFault.{FabricFault}
 use Rattle.fabric_graph.specs.declared.fabric.FabricFault.TheVariants.{Exists, SameRouter, Full}
@@ -80,6 +82,12 @@ fit_set t least n cost latency_a latency_b up k c a b = record {
         let both = and_parts (not (l.a == l.b)) (is_link_cost l.cost && (is_latency l.latency_a && is_latency l.latency_b)) p in
         fit_from (not (l.a == l.b)) (is_link_cost cost) (is_latency latency_a) (is_latency latency_b) both.0 c a b
     by false l p = p
+
+pub fit_gone : (t : Table Link) (least : ℕ) (gone : List ℕ) → AreFit t least → AreFit (without_numbers gone t) least
+fit_gone t least gone k =
+    let fewer : length (without_numbers gone t).rows ≤ length t.rows = length-filter-le _ _ in
+    let few = k.few in
+    record { few = omega arith; each = each_passes-filter is_fit (λ x. not (is_among x.0 gone)) t.rows k.each; setting = k.setting }
 
 pub fit_remove : (t : Table Link) (least n : ℕ) → AreFit t least → AreFit (with_removed n t) least
 fit_remove t least n k =

@@ -2,6 +2,8 @@ pub mod FabricTables
 pub mod FabricRules
 pub mod Routers
 pub mod Hops
+pub mod FabricChanges
+pub mod ChangedLinks
 pub mod KeptLinks
 pub mod Steps
 pub mod WorkedFabrics

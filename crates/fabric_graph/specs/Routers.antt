@@ -5,7 +5,7 @@ use Rattle.std.specs.List.{list_all}
 use Rattle.ctrl_model.specs.declared.kinds.RouterSeen.{RouterSeen}
 use Rattle.ctrl_model.specs.CommandForm.{is_cost}
 use Rattle.ctrl_model.specs.Networks.{Network}
-use Rattle.ctrl_model.specs.Numbered.{Between}
+use Rattle.ctrl_model.specs.Numbered.{Between, no_rows}
 use Rattle.ctrl_model.specs.State.{State}
 use Rattle.path_certificate.specs.declared.graph.Step.{Step}
 use Rattle.fabric_graph.specs.FabricTables.{FabricSeen}
@@ -41,6 +41,10 @@ network f routers = record {
   service_router = λ _ _. 0;
   full = false;
 }
+
+-- The network of these routers and of a least router cost, without links. That is all that the hop over a given link depends on.
+abbrev pub crossed : ℕ → List RouterSeen → Network
+crossed least routers = network (record { links = no_rows; least = least }) routers
 
 -- Whether each step costs at most so much.
 abbrev pub costs_at_most : ℕ → List Step → Bool

@@ -7,6 +7,7 @@ ghost use Rattle.ctrl_model.specs.Networks.{hops};
 ghost use Rattle.ctrl_model.specs.Numbered.{at, numbers};
 ghost use Rattle.path_certificate.specs.Graphs.{graph_hops};
 ghost use Rattle.fabric_graph.specs.FabricTables.{no_links, with_link, with_set, without_link, with_least, with_next};
+ghost use Rattle.fabric_graph.specs.FabricChanges.{without_links};
 ghost use Rattle.fabric_graph.specs.FabricRules.{may_add, found, is_there, KeepsLinks};
 ghost use Rattle.fabric_graph.specs.Routers.{AreRouters, network, number_at, costs_at_most};
 
@@ -144,6 +145,13 @@ impl Fabric {
         ensures { self.new ≡ without_link no.0 self.old }
     {
         self.links.remove(no.0);
+    }
+
+    /// Removes the links of some numbers, where one is present.
+    pub fn remove_each(&mut self, gone: &Numbers)
+        ensures { self.new ≡ without_links gone.now self.old }
+    {
+        self.links.remove_each(gone);
     }
 
     /// Sets what a path pays at least to enter a router, 1 to 65,535.

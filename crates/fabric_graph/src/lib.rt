@@ -1,6 +1,8 @@
 //! The links of a fabric by name and by number, the least router cost, the graph of the usable links, and the hops over them.
 #![tactic(auto)]
 
+mod after;
+mod changes;
 mod fabric;
 mod hopping;
 mod links;
@@ -8,8 +10,10 @@ mod state_laws;
 mod steps;
 mod worked;
 
+pub use after::FabricAfter;
+pub use changes::LinkChange;
 pub use fabric::{Fabric, FabricFault};
 pub use hopping::Hop;
-pub use links::LinkRow;
+pub use links::{LinkRow, LinkView};
 pub use state_laws::fabric_of_a_state;
 pub use worked::{graph_of_a_line, links_and_numbers};

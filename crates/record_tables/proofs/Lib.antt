@@ -6,3 +6,4 @@ pub mod ChangedLists
 pub mod ChangedEntries
 pub mod RecordLaws
 pub mod GoneLaws
+pub mod TurnLaws

@@ -3,3 +3,4 @@ pub mod Changes
 pub mod TableCodes
 pub mod Climbing
 pub mod AfterChange
+pub mod Turns

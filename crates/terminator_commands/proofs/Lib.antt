@@ -1,2 +1,3 @@
 pub mod SweepLaws
 pub mod TermPlanLaws
+pub mod RowLaws

@@ -6,8 +6,14 @@ use Rattle.std.proofs.lemmas.List.Elements.{filter-append}
 use Rattle.std.specs.List.{filter}
 use Rattle.std.specs.Option.{is_some, option_map_or}
 use Rattle.ctrl_model.specs.Numbered.{at, is_present, numbers, without, Between}
+use Rattle.ctrl_model.specs.State.{Terminator}
+use Rattle.entity_store.specs.EntityTables.{Tables}
+use Rattle.record_tables.proofs.GoneLaws.{filter_among}
+use Rattle.record_tables.proofs.NumberLoops.{at_among}
 use Rattle.record_tables.proofs.PlaceLaws.{without-above}
-use Rattle.terminator_commands.specs.SweptTerms.{swept}
+use Rattle.record_tables.proofs.TurnLaws.{numbers-filter}
+use Rattle.terminator_commands.specs.SweptTerms.{stays_at, swept}
+use Rattle.terminator_commands.specs.TermChanges.{stays}
 
 -- the number at a place, and the record that has it
 record Stands {R : Type 0} (xs : List (ℕ × R)) (i n : ℕ) : Type 0 where
@@ -96,3 +102,13 @@ module _ {R : Type 0} (p : ℕ × R → Bool) (high : ℕ) (xs : List (ℕ × R)
 -- once all are gone over, all are filtered
 pub swept_all : {X : Type 0} (p : X → Bool) (xs : List X) (i : ℕ) → length xs ≤ i → swept p i xs ≡ filter p xs
 swept_all p xs i l = (λ j. filter p (take_all i xs l j) ++ drop_all i xs l j) ∙ append-nil (filter p xs)
+
+-- ---- terminators that go, without removing one
+
+-- the numbers whose terminator does not stay are those of the terminators that do not
+pub going_are : (t : Tables) (high : ℕ) (rows : List (ℕ × Terminator)) → Between 1 high rows
+    → filter (λ n. not (stays_at t n rows)) (numbers rows) ≡ numbers (filter (λ row. not (stays t row)) rows)
+going_are t high rows b =
+    sym (numbers-filter (λ n. not (stays_at t n rows)) rows)
+    ∙ ap numbers (filter_among (λ (row : ℕ × Terminator). not (stays_at t row.0 rows)) (λ row. not (stays t row)) rows (λ x m.
+    ap (λ o. not (option_map_or (λ e. stays t (x.0, e)) o true)) (at_among high rows 1 x.0 x.1 b m)))

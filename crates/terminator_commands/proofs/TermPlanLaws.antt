@@ -26,8 +26,8 @@ use Rattle.terminators.specs.TermTables.{TermTables}
 use Rattle.terminators.specs.TermRules.{has_term_room, is_not_bindable}
 use Rattle.model_laws.specs.Plans.{refused, changed}
 use Rattle.model_laws.proofs.PlannedLaws.{plans_refused, plans_carried}
-use Rattle.terminator_commands.specs.declared.changes.TermChange.{TermChange}
-use Rattle.terminator_commands.specs.declared.changes.TermChange.TheVariants as change
+use Rattle.terminators.specs.declared.changes.TermChange.{TermChange}
+use Rattle.terminators.specs.declared.changes.TermChange.TheVariants as change
 use Rattle.terminator_commands.specs.declared.planning.Places.{Places}
 use Rattle.terminator_commands.specs.TermChanges.{terms_of, with_terms, over, after_term_change, CanChangeTerms}
 use Rattle.terminator_commands.specs.TermPlans.{PlansTerms}

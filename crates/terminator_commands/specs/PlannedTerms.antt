@@ -15,8 +15,8 @@ use Rattle.entity_store.specs.EntityTables.{Tables}
 use Rattle.grant_denorm.specs.MovedCounts.{AreCountsOf}
 use Rattle.terminators.specs.TermTables.{TermTables}
 use Rattle.terminators.specs.TermRules.{has_term_room, is_not_bindable}
-use Rattle.terminator_commands.specs.declared.changes.TermChange.TheVariants as change
-use Rattle.terminator_commands.specs.declared.changes.TermChange.{TermChange}
+use Rattle.terminators.specs.declared.changes.TermChange.TheVariants as change
+use Rattle.terminators.specs.declared.changes.TermChange.{TermChange}
 use Rattle.model_laws.specs.declared.plans.Plan.{Plan}
 use Rattle.model_laws.specs.Plans.{refused, changed}
 use Rattle.terminator_commands.specs.declared.planning.Places.{Places}

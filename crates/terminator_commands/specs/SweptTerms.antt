@@ -2,18 +2,14 @@
 use Rattle.std.specs.Prelude.{ℕ, Bool, true, cond, List, ◌++◌, take, drop, filter}
 use Rattle.std.specs.Option.{option_map_or}
 use Rattle.ctrl_model.specs.Numbered.{at, without}
-use Rattle.ctrl_model.specs.Settling.{terminator_stays}
-use Rattle.ctrl_model.specs.State.{State, Terminator, start}
+use Rattle.ctrl_model.specs.State.{Terminator}
 use Rattle.entity_store.specs.EntityTables.{Tables}
 use Rattle.terminators.specs.TermTables.{TermTables}
-
--- The state of these entities alone.
-abbrev pub with_entities : Tables → State
-with_entities t = record start { identities = t.identities; services = t.services; routers = t.routers }
+use Rattle.terminator_commands.specs.TermChanges.{stays}
 
 -- Whether a terminator stays; where none has the number, nothing has to go.
 abbrev pub stays_at : Tables → ℕ → List (ℕ × Terminator) → Bool
-stays_at t n rows = option_map_or (λ e. terminator_stays (with_entities t) (n, e)) (at rows n) true
+stays_at t n rows = option_map_or (λ e. stays t (n, e)) (at rows n) true
 
 -- The terminators, of which the one of this number goes unless it stays.
 abbrev pub settled_at : ℕ → Tables → TermTables → TermTables

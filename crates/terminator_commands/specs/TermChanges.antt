@@ -1,15 +1,17 @@
 -- What a command on terminators changes, in the terminators themselves and in a state, and which terminators stay
 -- (docs/PROMISES.md, "Commands on terminators").
-use Rattle.std.specs.Prelude.{◌≡◌, true, filter}
+use Rattle.std.specs.Prelude.{◌≡◌, ℕ, Bool, true}
 use Rattle.ctrl_model.specs.CommandForm.{is_cost}
 use Rattle.ctrl_model.specs.Numbered.{is_present, with_kept}
 use Rattle.ctrl_model.specs.Settling.{terminator_stays}
-use Rattle.ctrl_model.specs.State.{State, start}
+use Rattle.ctrl_model.specs.State.{State, Terminator, start}
 use Rattle.entity_store.specs.EntityTables.{Tables}
-use Rattle.terminators.specs.TermTables.{TermTables, with_term, with_set, without_term}
+use Rattle.entity_store.specs.HeldUses.{with_entities}
+pub use Rattle.terminators.specs.TermChanges.{after_term_change}
+use Rattle.terminators.specs.TermTables.{TermTables}
 use Rattle.terminators.specs.TermRules.{has_term_room}
-use Rattle.terminator_commands.specs.declared.changes.TermChange.{TermChange}
-use Rattle.terminator_commands.specs.declared.changes.TermChange.TheVariants as change
+use Rattle.terminators.specs.declared.changes.TermChange.{TermChange}
+use Rattle.terminators.specs.declared.changes.TermChange.TheVariants as change
 
 -- The terminators of a state.
 abbrev pub terms_of : State → TermTables
@@ -23,12 +25,6 @@ with_terms k s = record s { terminators = k.terminators }
 -- by these and by the counts of Bind alone, so what is said of all such states is said of the one whose parts they are.
 abbrev pub over : Tables → TermTables → State → State
 over t k s = with_terms k (record s { identities = t.identities; services = t.services; routers = t.routers })
-
--- The terminators after a change.
-abbrev pub after_term_change : TermChange → TermTables → TermTables
-after_term_change (change.Add term) k = with_term term k
-after_term_change (change.Set n cost precedence) k = with_set n.0 cost precedence k
-after_term_change (change.Remove n) k = without_term n.0 k
 
 -- What a change needs of the terminators: that there is room for one that is added, that one that is changed or removed is there,
 -- and that each cost is in its range.
@@ -45,8 +41,10 @@ offered c s = with_terms (after_term_change c (terms_of s)) s
 abbrev pub CanOffer : TermChange → State → Type 0
 CanOffer c s = CanChangeTerms c (terms_of s)
 
+-- A terminator stays whose service, router and host are among these entities.
+abbrev pub stays : Tables → ℕ × Terminator → Bool
+stays t row = terminator_stays (with_entities t start) row
+
 -- The terminators of which service, router and host are among these entities.
 abbrev pub settled : Tables → TermTables → TermTables
-settled t k = record k {
-  terminators = with_kept (terminator_stays (record start { identities = t.identities; services = t.services; routers = t.routers })) k.terminators;
-}
+settled t k = record k { terminators = with_kept (stays t) k.terminators }

@@ -6,7 +6,7 @@ use Rattle.ctrl_model.specs.declared.replies.Reply.{Reply}
 use Rattle.ctrl_model.specs.State.{State}
 use Rattle.model_laws.specs.declared.plans.Plan.{Plan}
 use Rattle.model_laws.specs.Plans.{Plans}
-use Rattle.terminator_commands.specs.declared.changes.TermChange.{TermChange}
+use Rattle.terminators.specs.declared.changes.TermChange.{TermChange}
 use Rattle.terminator_commands.specs.TermChanges.{offered, CanOffer}
 
 -- The commands on terminators.

@@ -1,9 +1,8 @@
 ghost use Rattle.std.specs.Prelude.{◌≡◌, OnOk, OnErr};
 ghost use Rattle.terminator_commands.specs.TermChanges.{CanChangeTerms, after_term_change};
 
-use crate::changes::TermChange;
 use std::alloc::AllocError;
-use terminators::Terminators;
+use terminators::{TermChange, Terminators};
 
 /// Makes a change of the terminators. For want of memory they stay.
 pub fn apply_term_change(

@@ -2,11 +2,12 @@
 #![tactic(auto)]
 
 mod applying;
-mod changes;
 mod planning;
+mod rows;
 mod settling;
 
 pub use applying::apply_term_change;
-pub use changes::TermChange;
 pub use planning::plan_terminator_command;
-pub use settling::settle_terminators;
+pub use rows::term_changes;
+pub use settling::{settle_terminators, terminators_that_go};
+pub use terminators::TermChange;

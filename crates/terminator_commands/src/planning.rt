@@ -11,7 +11,6 @@ ghost use Rattle.terminator_commands.specs.TermChanges.{over};
 ghost use Rattle.terminator_commands.specs.TermPlans.{is_terminator_command, PlansTerms};
 ghost use Rattle.terminator_commands.specs.PlannedTerms.{unknown_place, plan_of_add, ArePlaced, PlansOver, PlansIn};
 
-use crate::changes::TermChange;
 use ctrl_model::{
     Command, Field, IdentityNo, Instance, Kind, Name, Precedence, Refusal, Reply, RouterNo,
     ServiceNo, TermNo,
@@ -20,7 +19,7 @@ use entity_store::Entities;
 use grant_denorm::Counted;
 use model_laws::Plan;
 use std::alloc::AllocError;
-use terminators::{Term, TermFault, Terminators};
+use terminators::{Term, TermChange, TermFault, Terminators};
 
 // What a command on terminators is judged by.
 #[derive(Drop)]

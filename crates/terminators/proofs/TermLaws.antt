@@ -8,9 +8,11 @@ use Rattle.ctrl_model.specs.declared.kinds.Precedence.{Precedence}
 use Rattle.ctrl_model.specs.CommandForm.{is_cost}
 use Rattle.ctrl_model.specs.Numbered.{Table, with_new, with_edit, with_removed, without}
 use Rattle.ctrl_model.specs.State.{Terminator}
+use Rattle.ctrl_model.specs.Walks.{is_among}
 use Rattle.ctrl_model.proofs.NumberedLaws.{length-with_last, length-filter-le}
 use Rattle.ctrl_model.proofs.TableLaws.{each_passes-with_last, each_passes-map, each_passes-filter}
-use Rattle.terminators.specs.TermTables.{TermTables, AreFit}
+use Rattle.record_tables.specs.AfterChange.{without_numbers}
+use Rattle.terminators.specs.TermTables.{AreFit}
 use Rattle.terminators.specs.TermRules.{has_term_room}
 
 pub room_left : (t : Table Terminator) → has_term_room (record { terminators = t }) ≡ true → (length t.rows < 4096) × (t.next < 4294967295)
@@ -44,6 +46,13 @@ fit_removed n t k =
     let fewer : length (without t.rows n) ≤ length t.rows = length-filter-le _ _ in
     let few = k.few in
     record { few = omega arith; costs = each_passes-filter (λ e. is_cost e.cost) (λ x. not (x.0 == n)) t.rows k.costs }
+
+pub fit_without : (gone : List ℕ) (t : Table Terminator) → AreFit t → AreFit (without_numbers gone t)
+fit_without gone t k =
+    let left : ℕ × Terminator → Bool = λ x. not (is_among x.0 gone) in
+    let fewer : length (filter left t.rows) ≤ length t.rows = length-filter-le left t.rows in
+    let few = k.few in
+    record { few = omega arith; costs = each_passes-filter (λ e. is_cost e.cost) left t.rows k.costs }
 
 -- two filters in a row are one by both tests
 pub filter-both : {X : Type 0} (p q : X → Bool) (xs : List X) → filter (λ x. p x && q x) xs ≡ filter q (filter p xs)

@@ -1,3 +1,5 @@
 pub mod TermTables
 pub mod TermRules
 pub mod WorkedTerms
+pub mod TermChanges
+pub mod ChangedTerms

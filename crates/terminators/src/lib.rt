@@ -2,12 +2,18 @@
 #![tactic(auto)]
 
 mod admitting;
+mod after;
+mod changes;
 mod offers;
 mod routers;
 mod store;
 mod worked;
 
-pub use offers::Term;
+pub use after::TerminatorsAfter;
+pub use changes::TermChange;
+pub use offers::{Term, TermView};
 pub use routers::{is_connected, router_at};
 pub use store::{TermFault, Terminators};
-pub use worked::{admissible_offers, offers_by_number, whether_an_offer_may_be_added};
+pub use worked::{
+    admissible_offers, offers_as_they_will_be, offers_by_number, whether_an_offer_may_be_added,
+};

@@ -45,6 +45,57 @@ impl Clone for Term {
     }
 }
 
+/// A terminator as it will be: its instance is lent, the rest are values (`Term`). Contracts see it as a terminator of the
+/// controller's state.
+#[derive(Debug, Drop)]
+pub struct TermView<'a> {
+    pub service: ServiceNo,
+    pub router: RouterNo,
+    pub instance: &'a Instance,
+    pub host: Option<IdentityNo>,
+    pub cost: u32,
+    pub precedence: Precedence,
+}
+
+impl<'a> Model for TermView<'a> {
+    ghost use Rattle.std.specs.Prelude.{option_map};
+    ghost use Rattle.ctrl_model.specs.State.{Terminator};
+
+    ghost Value = { Terminator };
+
+    ghost view = { λ t. record { service = t.service.0; router = t.router.0; instance = t.instance.now; host = option_map (λ h. h.0) t.host; cost = t.cost; precedence = t.precedence } };
+}
+
+impl<'a> TermView<'a> {
+    /// A terminator as it is.
+    pub fn of(term: &'a Term) -> TermView<'a>
+        ensures { result ≡ term.now }
+    {
+        TermView {
+            service: term.service,
+            router: term.router,
+            instance: &term.instance,
+            host: term.host,
+            cost: term.cost,
+            precedence: term.precedence,
+        }
+    }
+
+    /// The terminator with another cost and another precedence.
+    pub fn set(self, cost: u32, precedence: Precedence) -> TermView<'a>
+        ensures { result ≡ record self.entry { cost = cost; precedence = precedence } }
+    {
+        TermView {
+            service: self.service,
+            router: self.router,
+            instance: self.instance,
+            host: self.host,
+            cost,
+            precedence,
+        }
+    }
+}
+
 /// Whether the terminator names a host that lacks Bind on its service.
 pub fn is_not_bindable(term: &Term, bind: &Counted) -> bool
     ensures { result ≡ is_not_bindable term.now bind.now }

@@ -4,11 +4,12 @@ ghost use Rattle.std.specs.Result.{result_map_both};
 ghost use Rattle.ctrl_model.specs.CommandForm.{is_cost};
 ghost use Rattle.ctrl_model.specs.Networks.{admissible};
 ghost use Rattle.ctrl_model.specs.Numbered.{at, is_present, numbers};
+ghost use Rattle.terminators.specs.TermChanges.{without_terms};
 ghost use Rattle.terminators.specs.TermTables.{no_terminators, with_term, with_set, without_term, with_next, KeepsTerms};
 ghost use Rattle.terminators.specs.TermRules.{has_term_room, may_add, network, granted, is_admissible};
 
 use crate::admitting::{Grants, is_admissible};
-use crate::offers::{Term, is_not_bindable};
+use crate::offers::{Term, TermView, is_not_bindable};
 use ctrl_model::{Instance, Numbers, Precedence, RouterSeen, ServiceNo, TermNo};
 use grant_denorm::Counted;
 use record_tables::NumberedTable;
@@ -110,6 +111,16 @@ impl Terminators {
         self.terms.get(no.0).ok_or(TermFault::Unknown)
     }
 
+    /// The terminator that has the number, lent. None exactly where none has it.
+    pub fn seen(&self, no: TermNo) -> Option<TermView<'_>>
+        ensures { result ≡ at self.now.terminators.rows no.0 }
+    {
+        match self.terms.get(no.0) {
+            Some(term) => Some(TermView::of(term)),
+            None => None,
+        }
+    }
+
     /// Sets the cost, 0 to 65,535, and the precedence of a present terminator.
     pub fn set(&mut self, no: TermNo, cost: u32, precedence: Precedence)
         requires there { is_present self.old.terminators.rows no.0 ≡ true }
@@ -128,6 +139,13 @@ impl Terminators {
         ensures { self.new ≡ without_term no.0 self.old }
     {
         self.terms.remove(no.0);
+    }
+
+    /// Removes the terminators of some numbers, where one is there.
+    pub fn remove_each(&mut self, gone: &Numbers)
+        ensures { self.new ≡ without_terms gone.now self.old }
+    {
+        self.terms.remove_each(gone);
     }
 
     /// The numbers of the present terminators, ascending.

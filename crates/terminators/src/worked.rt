@@ -3,6 +3,8 @@ ghost use Rattle.ctrl_model.specs.declared.kinds.Precedence.TheVariants.{Require
 ghost use Rattle.ctrl_model.specs.Networks.{admissible};
 ghost use Rattle.ctrl_model.specs.Numbered.{at, numbers};
 ghost use Rattle.terminators.specs.declared.store.TermFault.TheVariants.{NotBindable, Full};
+ghost use Rattle.terminators.specs.declared.changes.TermChange.TheVariants.{Add, Set, Remove};
+ghost use Rattle.terminators.specs.TermChanges.{terms_after};
 ghost use Rattle.terminators.specs.TermTables.{no_terminators, with_set, without_term, with_term, with_next};
 ghost use Rattle.terminators.specs.TermRules.{may_add, has_term_room, is_not_bindable};
 ghost use Rattle.terminators.specs.WorkedTerms.{offer, two_offers, six_offers, binds, offered};
@@ -35,4 +37,13 @@ pub fn admissible_offers()
     ensures instance { numbers (admissible offered 1 (codes "blue")) ≡ 3 ∷ [] }
     ensures no_instance { numbers (admissible offered 1 (codes "red")) ≡ [] }
     ensures no_service { numbers (admissible offered 2 []) ≡ [] }
+{}
+
+/// The two offers as they will be: one more has the number 3, a change touches its own offer alone, and those that are gone are absent.
+pub fn offers_as_they_will_be()
+    ensures unchanged { terms_after None [] two_offers ≡ two_offers }
+    ensures added { numbers (terms_after (Some (Add (offer 1 [] None))) (2 ∷ []) two_offers).terminators.rows ≡ 1 ∷ 3 ∷ [] }
+    ensures set { terms_after (Some (Set (record { 0 = 2 }) 7 Required)) (1 ∷ []) two_offers
+        ≡ record { terminators = record { rows = (2, record (offer 2 [] None) { cost = 7; precedence = Required }) ∷ []; next = 3 } } }
+    ensures removed { numbers (terms_after (Some (Remove (record { 0 = 1 }))) [] two_offers).terminators.rows ≡ 2 ∷ [] }
 {}

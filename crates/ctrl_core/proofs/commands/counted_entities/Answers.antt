@@ -1,6 +1,6 @@
 use Rattle.std.proofs.Common.{Option, subst, refl}
 use Rattle.model_laws.specs.Plans.{CanLeadBy}
-use Rattle.entity_commands.specs.declared.changes.EntityChange.{EntityChange}
+use Rattle.entity_store.specs.declared.changes.EntityChange.{EntityChange}
 use Rattle.entity_commands.specs.EntityChanges.{CanEnter, entered}
 use Rattle.ctrl_core.specs.declared.changes.Change.TheVariants as change
 use Rattle.ctrl_core.specs.KeptState.{state_of}

@@ -1,6 +1,6 @@
 use Rattle.std.proofs.Common.{sym, subst}
 use Rattle.std.proofs.lemmas.Result.{IfOk-weaker}
-use Rattle.entity_commands.specs.declared.changes.EntityChange.{EntityChange}
+use Rattle.entity_store.specs.declared.changes.EntityChange.{EntityChange}
 use Rattle.entity_commands.specs.EntityChanges.{CanEnter, entered}
 use Rattle.ctrl_core.specs.Changes.{LeadAllCounts}
 use Rattle.ctrl_core.specs.KeptState.{state_of}

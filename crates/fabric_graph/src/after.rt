@@ -1,0 +1,167 @@
+ghost use Rattle.std.specs.Prelude.{◌≡◌, IfOk, OnOk};
+ghost use Rattle.std.specs.Option.{option_map};
+ghost use Rattle.ctrl_model.specs.Networks.{hops};
+ghost use Rattle.ctrl_model.specs.Numbered.{at, numbers, Between};
+ghost use Rattle.fabric_graph.specs.ChangedLinks.{turn_of, link_after};
+ghost use Rattle.fabric_graph.specs.FabricChanges.{after_link_change, fabric_after};
+ghost use Rattle.fabric_graph.specs.Hops.{hop_of};
+ghost use Rattle.fabric_graph.specs.Routers.{network};
+
+use crate::changes::LinkChange;
+use crate::fabric::Fabric;
+use crate::hopping::{Hop, across};
+use crate::links::LinkView;
+use ctrl_model::{LinkNo, Numbers, RouterNo, RouterSeen};
+use record_tables::{Turn, is_among, left_of, turned};
+use std::alloc::{AllocError, Global};
+use std::marker::Model;
+
+/// The links as they will be after a change, if there is one, and without those that are gone. Contracts see them as a fabric
+/// (`FabricTables`).
+#[derive(Drop)]
+pub struct FabricAfter<'a> {
+    pub fabric: &'a Fabric,
+    pub change: Option<&'a LinkChange>,
+    pub gone: &'a Numbers,
+}
+
+impl<'a> Model for FabricAfter<'a> {
+    ghost use Rattle.std.specs.Prelude.{option_map};
+    ghost use Rattle.fabric_graph.specs.FabricTables.{FabricSeen};
+    ghost use Rattle.fabric_graph.specs.FabricChanges.{fabric_after};
+
+    ghost Value = { FabricSeen };
+
+    ghost view = { λ a. fabric_after (option_map (λ c. c.now) a.change) a.gone.now a.fabric.now };
+}
+
+// What a change does to the numbers of the links.
+fn turn_of(change: Option<&LinkChange>) -> Turn
+    ensures { result ≡ turn_of (option_map (λ c. c.now) change.entry) }
+{
+    match change {
+        Some(LinkChange::Add(_)) => Turn::Adds,
+        Some(LinkChange::Remove(no)) => Turn::Removes(no.0),
+        _ => Turn::Keeps,
+    }
+}
+
+// The link that has a number now.
+fn present_link<'a>(fabric: &'a Fabric, no: LinkNo) -> Option<LinkView<'a>>
+    ensures { result ≡ at fabric.now.links.rows no.0 }
+{
+    match fabric.link(no) {
+        Some(row) => Some(LinkView::of(row)),
+        None => None,
+    }
+}
+
+// The link that will have a number, where one has it now or none has.
+fn link_after<'a>(
+    change: &'a LinkChange,
+    next: u32,
+    no: LinkNo,
+    present: Option<LinkView<'a>>,
+) -> Option<LinkView<'a>>
+    ensures { result ≡ link_after change.now next no.0 present.entry }
+{
+    match change {
+        LinkChange::Add(row) => {
+            if next == no.0 {
+                Some(LinkView::of(row))
+            } else {
+                present
+            }
+        }
+        LinkChange::Set {
+            no: set,
+            cost,
+            latency_a,
+            latency_b,
+            up,
+        } => {
+            let link = present?;
+            if no.0 == set.0 {
+                Some(link.set(*cost, *latency_a, *latency_b, *up))
+            } else {
+                Some(link)
+            }
+        }
+        LinkChange::Remove(gone) => { if gone.0 == no.0 { None } else { present } }
+        LinkChange::SetLeast(_) => present,
+    }
+}
+
+// The link that will have a number after a change.
+fn changed_link<'a>(fabric: &'a Fabric, change: &'a LinkChange, no: LinkNo) -> Option<LinkView<'a>>
+    ensures { result ≡ at (after_link_change change.now fabric.now).links.rows no.0 }
+{
+    // With it comes that the numbers ascend below it, so that no link has it yet.
+    let next = fabric.next();
+    link_after(change, next, no, present_link(fabric, no))
+}
+
+impl<'a> FabricAfter<'a> {
+    /// The links after a change, if there is one, and without those of some numbers.
+    pub fn new(
+        fabric: &'a Fabric,
+        change: Option<&'a LinkChange>,
+        gone: &'a Numbers,
+    ) -> FabricAfter<'a>
+        ensures { result ≡ fabric_after (option_map (λ c. c.now) change.entry) gone.now fabric.now }
+    {
+        FabricAfter {
+            fabric,
+            change,
+            gone,
+        }
+    }
+
+    /// The numbers of the links, ascending.
+    pub fn numbers(&self, alloc: Global) -> Result<Numbers, AllocError>
+        ensures all { IfOk result (λ ns. ns ≡ numbers self.now.links.rows) }
+        ensures ordered { OnOk result (Between 1 self.now.links.next self.now.links.rows) }
+    {
+        let numbers = self.fabric.numbers(alloc)?;
+        let changed = turned(alloc, turn_of(self.change), self.fabric.next(), numbers)?;
+        left_of(alloc, &changed, self.gone)
+    }
+
+    /// The link of the number. None exactly where it will be absent.
+    pub fn link(&self, no: LinkNo) -> Option<LinkView<'a>>
+        ensures { result ≡ at self.now.links.rows no.0 }
+    {
+        if is_among(no.0, self.gone.as_slice()) {
+            return None;
+        }
+        match self.change {
+            Some(change) => changed_link(self.fabric, change, no),
+            None => present_link(self.fabric, no),
+        }
+    }
+
+    /// What a path will pay at least to enter a router.
+    pub fn least(&self) -> u32
+        ensures { result ≡ self.now.least }
+    {
+        match self.change {
+            Some(LinkChange::SetLeast(cost)) => *cost,
+            _ => self.fabric.least(),
+        }
+    }
+
+    /// The hop that there will be over the link of a number from a router on the way to a target, between these routers. None
+    /// exactly where the link is not usable or the hop is not allowed (`Fabric::hop`).
+    pub fn hop(
+        &self,
+        routers: &[RouterSeen],
+        target: RouterNo,
+        at: RouterNo,
+        link: LinkNo,
+    ) -> Option<Hop>
+        ensures { option_map hop_of result ≡ hops (network self.now routers.now) target.0 at.0 link.0 }
+    {
+        let link = self.link(link)?;
+        across(self.least(), routers, target, at, &link)
+    }
+}

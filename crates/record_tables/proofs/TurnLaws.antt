@@ -1,0 +1,65 @@
+-- Laws of changed tables, and of those without some numbers: their numbers, and what stands at one.
+use Rattle.std.proofs.Common.{◌≡◌, ℕ, ◌==◌, Bool, true, false, cond, not, List, [], ◌∷◌, ◌++◌, Option, None, Some, refl, sym, ◌∙◌, ap, arith, eqb-true}
+use Rattle.std.proofs.lemmas.List.{map-append}
+use Rattle.std.specs.List.{filter}
+use Rattle.ctrl_model.specs.Numbered.{Table, at, numbers, with_last, edit_at, without, Between}
+use Rattle.ctrl_model.specs.Walks.{is_among}
+use Rattle.ctrl_model.proofs.NumberedLaws.{at-past, at-with_last, Between-filter}
+use Rattle.record_tables.specs.AfterChange.{without_numbers}
+use Rattle.record_tables.specs.Turns.{left_of}
+
+module _ {R : Type 0} where
+  pub numbers-edit_at : (rows : List (ℕ × R)) (n : ℕ) (f : R → R) → numbers (edit_at rows n f) ≡ numbers rows
+  numbers-edit_at [] n f = refl
+  numbers-edit_at (x ∷ rows) n f = ap (λ ns. x.0 ∷ ns) (numbers-edit_at rows n f)
+
+  -- where the numbers decide which records are left
+  pub numbers-filter : (p : ℕ → Bool) (rows : List (ℕ × R)) → numbers (filter (λ row. p row.0) rows) ≡ filter p (numbers rows)
+  numbers-filter p [] = refl
+  numbers-filter p (x ∷ rows) = by (p x.0) (numbers-filter p rows)
+    where
+      by : (b : Bool) → numbers (filter (λ row. p row.0) rows) ≡ filter p (numbers rows)
+          → numbers (cond b (x ∷ filter (λ row. p row.0) rows) (filter (λ row. p row.0) rows)) ≡ cond b (x.0 ∷ filter p (numbers rows)) (filter p (numbers rows))
+      by true h = ap (λ ns. x.0 ∷ ns) h
+      by false h = h
+
+  pub at-filter : (p : ℕ → Bool) (rows : List (ℕ × R)) (n : ℕ) → at (filter (λ row. p row.0) rows) n ≡ cond (p n) (at rows n) None
+  at-filter p [] n = by (p n)
+    where
+      by : (b : Bool) → ◌≡◌ {A = Option R} None (cond b None None)
+      by true = refl
+      by false = refl
+  at-filter p (x ∷ rows) n = by (x.0 == n) refl (p x.0) refl (at-filter p rows n)
+    where
+      by : (c : Bool) → (x.0 == n) ≡ c → (b : Bool) → p x.0 ≡ b → at (filter (λ row. p row.0) rows) n ≡ cond (p n) (at rows n) None
+          → at (cond b (x ∷ filter (λ row. p row.0) rows) (filter (λ row. p row.0) rows)) n ≡ cond (p n) (cond c (Some x.1) (at rows n)) None
+      by true same true e h =
+          ap (λ d. cond d (Some x.1) (at (filter (λ row. p row.0) rows) n)) same
+          ∙ sym (ap (λ d. cond d (Some x.1) None) (ap p (sym (eqb-true x.0 n same)) ∙ e))
+      by true same false e h =
+          let goes : p n ≡ false = ap p (sym (eqb-true x.0 n same)) ∙ e in
+          h ∙ ap (λ d. cond d (at rows n) None) goes ∙ sym (ap (λ d. cond d (Some x.1) None) goes)
+      by false other true e h = ap (λ d. cond d (Some x.1) (at (filter (λ row. p row.0) rows) n)) other ∙ h
+      by false other false e h = h
+
+  -- one more record, under the number behind all others
+  pub at-new : (rows : List (ℕ × R)) (next n : ℕ) (r : R) → Between 1 next rows → at (with_last rows next r) n ≡ cond (next == n) (Some r) (at rows n)
+  at-new rows next n r b = at-with_last rows next n r (at-past next rows 1 next b (omega arith))
+
+pub numbers-with_last : {R : Type 0} (rows : List (ℕ × R)) (n : ℕ) (r : R) → numbers (with_last rows n r) ≡ numbers rows ++ n ∷ []
+numbers-with_last rows n r = map-append (λ x. x.0) rows ((n, r) ∷ [])
+
+-- ---- a table without some numbers
+
+module _ {R : Type 0} (gone : List ℕ) (t : Table R) where
+  pub numbers-left : left_of gone (numbers t.rows) ≡ numbers (without_numbers gone t).rows
+  numbers-left = sym (numbers-filter (λ n. not (is_among n gone)) t.rows)
+
+  pub ordered-left : (low high : ℕ) → Between low high t.rows → Between low high (without_numbers gone t).rows
+  ordered-left low high b = Between-filter (λ (row : ℕ × R). not (is_among row.0 gone)) high t.rows low b
+
+  pub at-gone : (n : ℕ) → is_among n gone ≡ true → None ≡ at (without_numbers gone t).rows n
+  at-gone n e = sym (at-filter (λ m. not (is_among m gone)) t.rows n ∙ ap (λ b. cond (not b) (at t.rows n) None) e)
+
+  pub at-left : (n : ℕ) → is_among n gone ≡ false → at t.rows n ≡ at (without_numbers gone t).rows n
+  at-left n e = sym (at-filter (λ m. not (is_among m gone)) t.rows n ∙ ap (λ b. cond (not b) (at t.rows n) None) e)
