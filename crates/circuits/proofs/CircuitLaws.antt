@@ -1,14 +1,11 @@
 -- Laws of the table of circuits: whether there is room, and what one more circuit and a removal keep.
-use Rattle.std.proofs.Common.{◌≡◌, ℕ, ◌≤◌, ◌<◌, ◌&&◌, Bool, true, false, cond, not, nat_lt, List, [], ◌∷◌, ◌++◌, length, ap, arith, append_assoc}
+use Rattle.std.proofs.Common.{◌≡◌, ℕ, ◌≤◌, ◌<◌, ◌&&◌, false, not, nat_lt, List, length, arith}
 use Rattle.std.proofs.lemmas.Bool.Decides.{nat_tests}
-use Rattle.std.proofs.lemmas.List.{append-nil}
-use Rattle.std.specs.List.{filter}
-use Rattle.ctrl_model.specs.Numbered.{Table, with_new, with_removed, without, numbers}
+use Rattle.ctrl_model.specs.Numbered.{Table, with_new, with_removed, without}
 use Rattle.ctrl_model.specs.State.{Circuit}
 use Rattle.ctrl_model.proofs.NumberedLaws.{length-with_last, length-filter-le}
-use Rattle.circuits.specs.declared.staying.Present.{Present}
+use Rattle.record_tables.specs.AfterChange.{without_numbers}
 use Rattle.circuits.specs.CircuitTables.{is_full}
-use Rattle.circuits.specs.PresentRecords.{stays_beside, gone_of}
 
 pub has_room : (t : Table Circuit) → is_full (record { circuits = t }) ≡ false → (length t.rows < 16384) × (t.next < 4294967295)
 has_room t e = at (length t.rows) t.next e
@@ -22,11 +19,5 @@ few_new c t room = let more = length-with_last t.rows t.next c in let left = (ha
 pub few_removed : (n : ℕ) (t : Table Circuit) → length t.rows ≤ 16384 → length (with_removed n t).rows ≤ 16384
 few_removed n t few = let fewer : length (without t.rows n) ≤ length t.rows = length-filter-le _ _ in omega arith
 
--- the numbers so far, and that of the next circuit where it does not stay
-pub gone_next : (p : Present) (xs : List ℕ) (n : ℕ) (c : Circuit) (rows : List (ℕ × Circuit))
-    → (xs ++ cond (not (stays_beside p c)) (n ∷ []) []) ++ gone_of p rows ≡ xs ++ gone_of p ((n, c) ∷ rows)
-gone_next p xs n c rows = by (not (stays_beside p c))
-  where
-    by : (b : Bool) → (xs ++ cond b (n ∷ []) []) ++ gone_of p rows ≡ xs ++ numbers (cond b ((n, c) ∷ filter (λ row. not (stays_beside p row.1)) rows) (filter (λ row. not (stays_beside p row.1)) rows))
-    by true = append_assoc xs (n ∷ []) (gone_of p rows)
-    by false = ap (λ ys. ys ++ gone_of p rows) (append-nil xs)
+pub few_gone : (gone : List ℕ) (t : Table Circuit) → length t.rows ≤ 16384 → length (without_numbers gone t).rows ≤ 16384
+few_gone gone t few = let fewer : length (without_numbers gone t).rows ≤ length t.rows = length-filter-le _ _ in omega arith

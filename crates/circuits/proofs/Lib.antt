@@ -1,4 +1,5 @@
 pub mod CircuitLaws
+pub mod ChangeLaws
 pub mod WalkedLinks
 pub mod RemovalLaws
 pub mod SettledLaws

@@ -1,10 +1,15 @@
 -- Laws of removing circuits by their numbers: each is there when its turn comes, and in the end exactly those are left that stay.
-use Rattle.std.proofs.Common.{◌≡◌, ℕ, ◌+◌, ◌≤◌, ◌==◌, Bool, true, false, cond, not, List, [], ◌∷◌, Some, is_some, refl, sym, ◌∙◌, ap, subst, arith, eq-eqb, ne_eqb}
+use Rattle.std.proofs.Common.{◌≡◌, ℕ, ◌+◌, ◌≤◌, ◌==◌, Bool, true, false, cond, not, List, [], ◌∷◌, Some, None, is_some, refl, sym, ◌∙◌, ap, subst, arith, eq-eqb, ne_eqb}
 use Rattle.std.specs.Bool.{⊤}
 use Rattle.std.specs.List.{filter}
 use Rattle.ctrl_model.specs.Numbered.{at, numbers, without, Between}
 use Rattle.ctrl_model.proofs.NumberedLaws.{Between-filter}
+use Rattle.fabric_graph.specs.FabricChanges.{fabric_after}
+use Rattle.fabric_graph.specs.FabricTables.{FabricSeen}
+use Rattle.record_tables.proofs.GoneLaws.{gone_none}
 use Rattle.record_tables.proofs.PlaceLaws.{without-above}
+use Rattle.terminators.specs.TermChanges.{terms_after}
+use Rattle.terminators.specs.TermTables.{TermTables}
 use Rattle.circuits.specs.RemovedCircuits.{left, AreThere}
 
 -- each number is at least so much
@@ -66,3 +71,11 @@ module _ {R : Type 0} (p : ℕ × R → Bool) (high : ℕ) where
           → left (numbers (cond (not c) (x ∷ filter (λ y. not (p y)) rows) (filter (λ y. not (p y)) rows))) (x ∷ rows) ≡ cond c (x ∷ filter p rows) (filter p rows)
       by true h = left-front (going rows) x rows (going_from rows (x.0 + 1) b.2) ∙ ap (λ ys. x ∷ ys) h
       by false h = ap (left (going rows)) (without-first x rows b.2) ∙ h
+
+-- ---- a network of which nothing is changed and nothing gone
+
+pub links_unchanged : (ns : List ℕ) (f : FabricSeen) → ns ≡ [] → fabric_after None ns f ≡ f
+links_unchanged ns f e = ap (λ ms. fabric_after None ms f) e ∙ ap (λ t. record f { links = t }) (sym (gone_none f.links))
+
+pub terms_unchanged : (ns : List ℕ) (e : TermTables) → ns ≡ [] → terms_after None ns e ≡ e
+terms_unchanged ns e h = ap (λ ms. terms_after None ms e) h ∙ ap (λ t. record e { terminators = t }) (sym (gone_none e.terminators))

@@ -2,4 +2,5 @@ pub mod CircuitTables
 pub mod PresentRecords
 pub mod WorkedCircuits
 pub mod CircuitChanges
+pub mod ChangedCircuits
 pub mod RemovedCircuits

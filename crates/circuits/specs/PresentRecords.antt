@@ -1,8 +1,9 @@
 -- What is present, as settling circuits asks (docs/RULES.md, "Settling").
-use Rattle.std.specs.Prelude.{ℕ, Bool, false, not, List, filter}
+use Rattle.std.specs.Prelude.{ℕ, Bool, true, false, List}
+use Rattle.std.specs.Option.{option_map_or}
 use Rattle.ctrl_model.specs.declared.kinds.RouterSeen.{RouterSeen}
 use Rattle.ctrl_model.specs.Networks.{Network}
-use Rattle.ctrl_model.specs.Numbered.{numbers}
+use Rattle.ctrl_model.specs.Numbered.{at}
 use Rattle.ctrl_model.specs.Settling.{circuit_stays}
 use Rattle.ctrl_model.specs.State.{Circuit}
 use Rattle.fabric_graph.specs.FabricTables.{FabricSeen}
@@ -36,6 +37,6 @@ network_in p = network p.terminators.now p.fabric.now p.routers.now
 abbrev pub stays_beside : Present → Circuit → Bool
 stays_beside p c = stays (network_in p) p.identities.now p.services.now c
 
--- The numbers of the circuits that do not stay beside what is present.
-abbrev pub gone_of : Present → List (ℕ × Circuit) → List ℕ
-gone_of p rows = numbers (filter (λ row. not (stays_beside p row.1)) rows)
+-- Whether the circuit at a number stays beside what is present, if one is there.
+abbrev pub stays_at : Present → List (ℕ × Circuit) → ℕ → Bool
+stays_at p rows n = option_map_or (stays_beside p) (at rows n) true

@@ -1,6 +1,7 @@
 //! The store of granted circuits, what commands change in it, and which circuits stay.
 #![tactic(auto)]
 
+mod after;
 mod applying;
 mod changes;
 mod counting;
@@ -12,12 +13,13 @@ mod staying;
 mod store;
 mod worked;
 
+pub use after::CircuitsAfter;
 pub use applying::apply_circuit_change;
 pub use changes::CircuitChange;
 pub use counting::count_circuits;
 pub use grants::Circuit;
 pub use laws::{as_a_state_settles, settled_as_a_state};
-pub use settling::settle_circuits;
+pub use settling::{circuits_that_go, settle_circuits};
 pub use staying::Present;
 pub use store::{CircuitFault, Circuits};
 pub use worked::{circuits_by_number, circuits_on_a_line};

@@ -1,24 +1,13 @@
 ghost use Rattle.std.specs.Prelude.{◌≡◌, [], ◌∷◌, IfOk};
 ghost use Rattle.ctrl_model.specs.Networks.{is_path, hops};
-ghost use Rattle.ctrl_model.specs.Walks.{is_among, goes};
+ghost use Rattle.ctrl_model.specs.Walks.{goes};
 ghost use Rattle.circuits.specs.PresentRecords.{network_in};
 
 use crate::staying::Present;
 use ctrl_model::{LinkNo, Numbers, RouterNo};
+use record_tables::is_among;
 use std::alloc::{AllocError, Global};
 use terminators::is_connected;
-
-/// Whether a number stands among some.
-pub fn is_among(number: u32, numbers: &[u32]) -> bool
-    ensures { result ≡ is_among number numbers.now }
-{
-    'numbers: for other in numbers {
-        if *other == number {
-            return true;
-        }
-    }
-    false
-}
 
 // Whether the links are a walk to the target, on which no router is visited twice.
 fn goes(

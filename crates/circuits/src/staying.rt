@@ -2,11 +2,12 @@ ghost use Rattle.std.specs.Prelude.{◌≡◌, IfOk};
 ghost use Rattle.circuits.specs.PresentRecords.{stays_beside};
 
 use crate::grants::Circuit;
-use crate::paths::{is_among, is_path};
+use crate::paths::is_path;
 use ctrl_model::{Numbers, RouterSeen};
-use fabric_graph::Fabric;
+use fabric_graph::FabricAfter;
+use record_tables::is_among;
 use std::alloc::{AllocError, Global};
-use terminators::Terminators;
+use terminators::TerminatorsAfter;
 
 /// What is present, as circuits need it: the numbers of the identities and of the services, the terminators, the routers, and
 /// the links.
@@ -14,9 +15,9 @@ use terminators::Terminators;
 pub struct Present<'a> {
     pub identities: &'a Numbers,
     pub services: &'a Numbers,
-    pub terminators: &'a Terminators,
+    pub terminators: &'a TerminatorsAfter<'a>,
     pub routers: &'a [RouterSeen],
-    pub fabric: &'a Fabric,
+    pub fabric: &'a FabricAfter<'a>,
 }
 
 /// Whether the circuit stays: its identity, its service and its terminator are present, and its links are a path from its
@@ -31,7 +32,7 @@ pub fn stays(alloc: Global, present: &Present, circuit: &Circuit) -> Result<bool
         return Ok(false);
     }
     match present.terminators.get(circuit.terminator) {
-        Ok(term) => is_path(alloc, present, circuit.ingress, &circuit.links, term.router),
-        Err(_) => Ok(false),
+        Some(term) => is_path(alloc, present, circuit.ingress, &circuit.links, term.router),
+        None => Ok(false),
     }
 }

@@ -1,12 +1,14 @@
-ghost use Rattle.std.specs.Prelude.{◌≡◌, ◌≤◌, ◌++◌, [], ◌∷◌, true, false, not, cond, length, filter, IfOk, OnOk, OnErr};
+ghost use Rattle.std.specs.Prelude.{◌≡◌, ◌≤◌, true, false, not, length, filter, IfOk, OnErr};
 ghost use Rattle.std.specs.Option.{ok_or};
 ghost use Rattle.std.specs.Result.{result_map_both};
 ghost use Rattle.ctrl_model.specs.Numbered.{at, is_present, numbers};
+ghost use Rattle.circuits.specs.CircuitChanges.{without_circuits};
 ghost use Rattle.circuits.specs.CircuitTables.{no_circuits, is_full, with_circuit, without_circuit, with_next, KeepsCircuits};
-ghost use Rattle.circuits.specs.PresentRecords.{network, stays, stays_beside, gone_of};
+ghost use Rattle.circuits.specs.PresentRecords.{network, stays};
 
+use crate::after::CircuitsAfter;
 use crate::grants::Circuit;
-use crate::staying::{Present, stays};
+use crate::staying::Present;
 use ctrl_model::{CircuitNo, Numbers};
 use record_tables::NumberedTable;
 use std::alloc::{AllocError, Global};
@@ -39,37 +41,6 @@ impl Model for Circuits {
     ghost view = { λ c. record { circuits = c.granted } };
 
     ghost invariant = { λ c. length c.granted.rows ≤ 16384 };
-}
-
-// Adds the number of a circuit where it does not stay.
-fn push_gone(
-    alloc: Global,
-    gone: &mut Vec<u32>,
-    present: &Present,
-    number: u32,
-    circuit: &Circuit,
-) -> Result<(), AllocError>
-    ensures { OnOk result (gone.new.items ≡ gone.old.items ++ cond (not (stays_beside present.now circuit.now)) (number ∷ []) []) }
-{
-    if !stays(alloc, present, circuit)? {
-        gone.push(number)?;
-    }
-    Ok(())
-}
-
-// The numbers of the circuits that do not stay, ascending.
-fn gone_in(
-    alloc: Global,
-    granted: &NumberedTable<Circuit>,
-    present: &Present,
-) -> Result<Vec<u32>, AllocError>
-    ensures { IfOk result (λ v. v.items ≡ gone_of present.now granted.now.rows) }
-{
-    let mut gone = Vec::new(alloc);
-    'circuits: for (number, circuit) in granted.rows() {
-        push_gone(alloc, &mut gone, present, *number, circuit)?;
-    }
-    Ok(gone)
 }
 
 impl Circuits {
@@ -114,6 +85,13 @@ impl Circuits {
         self.granted.remove(no.0);
     }
 
+    /// Removes the circuits of some numbers, where one is present.
+    pub fn remove_each(&mut self, gone: &Numbers)
+        ensures { self.new ≡ without_circuits gone.now self.old }
+    {
+        self.granted.remove_each(gone);
+    }
+
     /// The numbers of the present circuits, ascending.
     pub fn numbers(&self, alloc: Global) -> Result<Numbers, AllocError>
         ensures all { IfOk result (λ ns. ns ≡ numbers self.now.circuits.rows) }
@@ -154,7 +132,8 @@ impl Circuits {
     pub fn settle(&self, alloc: Global, present: &Present) -> Result<Numbers, AllocError>
         ensures { IfOk result (λ ns. ns ≡ numbers (filter (λ row. not (stays (network present.now.terminators.now present.now.fabric.now present.now.routers.now) present.now.identities.now present.now.services.now row.1)) self.now.circuits.rows)) }
     {
-        let gone = gone_in(alloc, &self.granted, present)?;
-        Ok(Numbers::of(gone))
+        let none = Numbers::of(Vec::new(alloc));
+        let unchanged = CircuitsAfter::new(self, None, &none);
+        unchanged.settle(alloc, present)
     }
 }

@@ -12,7 +12,7 @@ use Rattle.ctrl_model.specs.State.{State}
 use Rattle.model_laws.specs.declared.plans.Plan.{Plan}
 use Rattle.model_laws.specs.Plans as plans
 use Rattle.grant_moves.specs.CountMoves.{LeadCounts}
-use Rattle.link_commands.specs.declared.changes.LinkChange.{LinkChange}
+use Rattle.fabric_graph.specs.declared.changes.LinkChange.{LinkChange}
 use Rattle.link_commands.specs.LinkChanges as linked
 use Rattle.policy_store.specs.declared.steps.GrantSteps.{GrantSteps}
 use Rattle.policy_store.specs.GrantChanges.{HasNoSteps, steps_of}

@@ -15,7 +15,7 @@ ghost use Rattle.terminators.specs.TermTables.{no_terminators};
 ghost use Rattle.ctrl_core.specs.WorkedChanges.{ann_dials, with_dial};
 ghost use Rattle.ctrl_core.specs.declared.changes.Change.TheVariants.{Entity, Policy, Link};
 ghost use Rattle.entity_store.specs.declared.changes.EntityChange.TheVariants.{Add, Remove};
-ghost use Rattle.link_commands.specs.declared.changes.LinkChange.TheVariants.{SetLeast};
+ghost use Rattle.fabric_graph.specs.declared.changes.LinkChange.TheVariants.{SetLeast};
 ghost use Rattle.policy_store.specs.declared.changes.PolicyChange.TheVariants as policy;
 
 /// Stores without records stand for the state at the start. Commands that are carried out so far, and one that is not.

@@ -1,6 +1,9 @@
 ghost use Rattle.std.specs.Prelude.{◌≡◌, true, IfOk, map};
+ghost use Rattle.std.specs.Option.{option_map};
 ghost use Rattle.ctrl_model.specs.Networks.{seen};
 ghost use Rattle.ctrl_model.specs.Numbered.{numbers};
+ghost use Rattle.record_tables.specs.AfterChange.{changed_by};
+ghost use Rattle.entity_store.specs.EntityChanges.{after_entity_change};
 ghost use Rattle.entity_store.specs.EntityTables.{is_entity_kind, entities};
 ghost use Rattle.entity_store.specs.TableRules.{is_there};
 
@@ -42,6 +45,13 @@ fn stood(entities: &Entities, kind: Kind, no: u32) -> bool
 }
 
 impl<'a> EntitiesAfter<'a> {
+    /// The entities after a change, if there is one.
+    pub fn new(entities: &'a Entities, change: Option<&'a EntityChange>) -> EntitiesAfter<'a>
+        ensures { result ≡ changed_by after_entity_change (option_map (λ c. c.now) change.entry) entities.now }
+    {
+        EntitiesAfter { entities, change }
+    }
+
     /// Whether an entity of a kind and number will be present.
     pub fn has(&self, kind: Kind, no: u32) -> bool
         requires { is_entity_kind kind ≡ true }

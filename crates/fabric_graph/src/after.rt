@@ -3,7 +3,7 @@ ghost use Rattle.std.specs.Option.{option_map};
 ghost use Rattle.ctrl_model.specs.Networks.{hops};
 ghost use Rattle.ctrl_model.specs.Numbered.{at, numbers, Between};
 ghost use Rattle.fabric_graph.specs.ChangedLinks.{turn_of, link_after};
-ghost use Rattle.fabric_graph.specs.FabricChanges.{after_link_change};
+ghost use Rattle.fabric_graph.specs.FabricChanges.{after_link_change, fabric_after};
 ghost use Rattle.fabric_graph.specs.Hops.{hop_of};
 ghost use Rattle.fabric_graph.specs.Routers.{network};
 
@@ -102,6 +102,21 @@ fn changed_link<'a>(fabric: &'a Fabric, change: &'a LinkChange, no: LinkNo) -> O
 }
 
 impl<'a> FabricAfter<'a> {
+    /// The links after a change, if there is one, and without those of some numbers.
+    pub fn new(
+        fabric: &'a Fabric,
+        change: Option<&'a LinkChange>,
+        gone: &'a Numbers,
+    ) -> FabricAfter<'a>
+        ensures { result ≡ fabric_after (option_map (λ c. c.now) change.entry) gone.now fabric.now }
+    {
+        FabricAfter {
+            fabric,
+            change,
+            gone,
+        }
+    }
+
     /// The numbers of the links, ascending.
     pub fn numbers(&self, alloc: Global) -> Result<Numbers, AllocError>
         ensures all { IfOk result (λ ns. ns ≡ numbers self.now.links.rows) }

@@ -22,8 +22,8 @@ use Rattle.fabric_graph.specs.declared.fabric.FabricFault.{FabricFault}
 use Rattle.fabric_graph.specs.declared.fabric.FabricFault.TheVariants as fault
 use Rattle.fabric_graph.specs.FabricTables.{FabricSeen}
 use Rattle.fabric_graph.specs.FabricRules.{may_add, has_link_room}
-use Rattle.link_commands.specs.declared.changes.LinkChange.TheVariants as change
-use Rattle.link_commands.specs.declared.changes.LinkChange.{LinkChange}
+use Rattle.fabric_graph.specs.declared.changes.LinkChange.TheVariants as change
+use Rattle.fabric_graph.specs.declared.changes.LinkChange.{LinkChange}
 use Rattle.model_laws.specs.declared.plans.Plan.{Plan}
 use Rattle.model_laws.specs.Plans.{changed}
 use Rattle.link_commands.specs.LinkChanges.{over}

@@ -25,12 +25,13 @@ use Rattle.fabric_graph.specs.declared.fabric.FabricFault.TheVariants.{Unknown}
 use Rattle.fabric_graph.specs.FabricRules.{found, KeepsLinks}
 use Rattle.fabric_graph.specs.FabricTables.{FabricSeen}
 use Rattle.fabric_graph.specs.Routers.{fabric_of}
-use Rattle.link_commands.specs.declared.changes.LinkChange.{LinkChange}
-use Rattle.link_commands.specs.declared.changes.LinkChange.TheVariants as change
+use Rattle.fabric_graph.specs.declared.changes.LinkChange.{LinkChange}
+use Rattle.fabric_graph.specs.declared.changes.LinkChange.TheVariants as change
 use Rattle.model_laws.specs.declared.plans.Plan.{Plan}
 use Rattle.model_laws.specs.Plans.{changed, tells_change}
 use Rattle.model_laws.proofs.PlannedLaws.{plans_carried}
-use Rattle.link_commands.specs.LinkChanges.{with_fabric, over, after_link_change, CanChangeLinks}
+use Rattle.fabric_graph.specs.FabricChanges.{after_link_change}
+use Rattle.link_commands.specs.LinkChanges.{with_fabric, over, CanChangeLinks}
 use Rattle.link_commands.specs.LinkPlans.{PlansLinks}
 use Rattle.link_commands.specs.PlannedLinks.{Answers, IsLink, Reports, end_of}
 

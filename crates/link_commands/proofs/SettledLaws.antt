@@ -12,11 +12,14 @@ use Rattle.ctrl_model.specs.Walks.{is_among}
 use Rattle.ctrl_model.proofs.Members.{Among-map, is_among-from}
 use Rattle.ctrl_model.proofs.NumberedLaws.{at-map}
 use Rattle.entity_store.specs.EntityTables.{Tables, entities}
+use Rattle.entity_store.specs.TableRules.{is_there}
 use Rattle.fabric_graph.specs.FabricRules.{KeepsLinks}
 use Rattle.fabric_graph.specs.FabricTables.{FabricSeen, without_link}
+use Rattle.record_tables.proofs.GoneLaws.{filter_among, filter_all, filter_twice, among-append}
 use Rattle.record_tables.proofs.NumberLoops.{at_among}
-use Rattle.link_commands.specs.LinkChanges.{settled}
-use Rattle.link_commands.specs.PlannedLinks.{stays, settled_where}
+use Rattle.record_tables.proofs.TurnLaws.{numbers-filter}
+use Rattle.link_commands.specs.LinkChanges.{settled, stays}
+use Rattle.link_commands.specs.PlannedLinks.{stays_at, settled_where}
 
 -- ---- routers
 
@@ -24,30 +27,15 @@ is_some-map : {A B : Type 0} (g : A → B) (o : Option A) → is_some (option_ma
 is_some-map g None = refl
 is_some-map g (Some x) = refl
 
+-- as an entity a router is there exactly where it is present
+pub router_is_there : (t : Tables) (n : ℕ) → is_there kind.Router n t ≡ is_present t.routers.rows n
+router_is_there t n = ap is_some (at-map (λ row. as_entity row.1) t.routers.rows n) ∙ is_some-map as_entity (at t.routers.rows n)
+
 -- a router is seen exactly where it is present
 pub router_is_seen : {A B : Type 0} (g : A → B) (seen : Option A) (o : Option B) (t : Tables) (n : ℕ) → option_map g seen ≡ o → is_some o ≡ is_some (at (entities kind.Router t) n)
     → is_some seen ≡ is_present t.routers.rows n
 router_is_seen g seen o t n is e =
     sym (is_some-map g seen) ∙ ap is_some is ∙ e ∙ ap is_some (at-map (λ row. as_entity row.1) t.routers.rows n) ∙ is_some-map as_entity (at t.routers.rows n)
-
--- ---- filters
-
-filter_among : {X : Type 0} (p q : X → Bool) (xs : List X) → ((x : X) → Among x xs → p x ≡ q x) → filter p xs ≡ filter q xs
-filter_among p q [] h = refl
-filter_among p q (x ∷ xs) h = ap₂ (λ c ys. cond c (x ∷ ys) ys) (h x (inl refl)) (filter_among p q xs (λ y m. h y (inr m)))
-
-filter_all : {X : Type 0} (xs : List X) → filter (λ _. true) xs ≡ xs
-filter_all [] = refl
-filter_all (x ∷ xs) = ap (λ ys. x ∷ ys) (filter_all xs)
-
-filter_twice : {X : Type 0} (p q : X → Bool) (xs : List X) → filter p (filter q xs) ≡ filter (λ x. q x && p x) xs
-filter_twice p q [] = refl
-filter_twice p q (x ∷ xs) = by (q x) (filter_twice p q xs)
-  where
-    by : (c : Bool) → filter p (filter q xs) ≡ filter (λ y. q y && p y) xs
-        → filter p (cond c (x ∷ filter q xs) (filter q xs)) ≡ cond (c && p x) (x ∷ filter (λ y. q y && p y) xs) (filter (λ y. q y && p y) xs)
-    by true e = ap (λ ys. cond (p x) (x ∷ ys) ys) e
-    by false e = e
 
 -- ---- one number
 
@@ -88,20 +76,6 @@ leaves_there t f n e = by (at f.links.rows n) e
 
 -- ---- one number after the other
 
-among-append : (n m : ℕ) (ns : List ℕ) → is_among n (ns ++ m ∷ []) ≡ (is_among n ns || (n == m))
-among-append n m [] = by (m == n) (n == m) refl refl
-  where
-    by : (c d : Bool) → (m == n) ≡ c → (n == m) ≡ d → (c || false) ≡ d
-    by true true p q = refl
-    by false false p q = refl
-    by true false p q = absurd (grind (arith, nat_tests))
-    by false true p q = absurd (grind (arith, nat_tests))
-among-append n m (k ∷ ns) = ap (λ b. (k == n) || b) (among-append n m ns) ∙ by (k == n) (is_among n ns) (n == m)
-  where
-    by : (a b c : Bool) → (a || (b || c)) ≡ ((a || b) || c)
-    by true b c = refl
-    by false b c = refl
-
 pub settled_none : (t : Tables) (f : FabricSeen) → f ≡ settled_where (λ n. is_among n []) t f
 settled_none t f = ap (λ rows. record f { links = record f.links { rows = rows } }) (sym (filter_all f.links.rows))
 
@@ -127,3 +101,13 @@ pub settled_whole : (t : Tables) (f : FabricSeen) → settled_where (λ n. is_am
 settled_whole t f =
     ap (λ rows. record f { links = record f.links { rows = rows } }) (filter_among (λ row. not (is_among row.0 (numbers f.links.rows)) || stays t row) (stays t) f.links.rows (λ x m.
     ap (λ b. not b || stays t x) (is_among-from x.0 (numbers f.links.rows) (Among-map (λ (y : ℕ × Link). y.0) f.links.rows x m))))
+
+-- ---- links that go, without removing one
+
+-- the numbers whose link does not stay are those of the links that do not
+pub going_are : (t : Tables) (rows : List (ℕ × Link)) (high : ℕ) → Between 1 high rows
+    → filter (λ n. not (stays_at t rows n)) (numbers rows) ≡ numbers (filter (λ row. not (stays t row)) rows)
+going_are t rows high b =
+    sym (numbers-filter (λ n. not (stays_at t rows n)) rows)
+    ∙ ap numbers (filter_among (λ (row : ℕ × Link). not (stays_at t rows row.0)) (λ row. not (stays t row)) rows (λ x m.
+    ap (λ o. not (option_map_or (λ l. stays t (x.0, l)) o true)) (at_among high rows 1 x.0 x.1 b m)))

@@ -1,16 +1,17 @@
 -- What a command on links changes, in the links themselves and in a state, and which links stay (docs/PROMISES.md, "Commands
 -- on links").
-use Rattle.std.specs.Prelude.{◌≡◌, true, filter, Ok}
+use Rattle.std.specs.Prelude.{◌≡◌, ℕ, Bool, true, Ok}
 use Rattle.ctrl_model.specs.Numbered.{with_kept}
 use Rattle.ctrl_model.specs.CommandForm.{is_link_cost, is_latency}
 use Rattle.ctrl_model.specs.Settling.{link_stays}
-use Rattle.ctrl_model.specs.State.{State, start}
+use Rattle.ctrl_model.specs.State.{State, Link, start}
 use Rattle.entity_store.specs.EntityTables.{Tables}
-use Rattle.fabric_graph.specs.FabricTables.{FabricSeen, with_link, with_set, without_link, with_least}
+use Rattle.fabric_graph.specs.FabricChanges.{after_link_change}
+use Rattle.fabric_graph.specs.FabricTables.{FabricSeen}
 use Rattle.fabric_graph.specs.FabricRules.{may_add, is_there}
 use Rattle.fabric_graph.specs.Routers.{fabric_of}
-use Rattle.link_commands.specs.declared.changes.LinkChange.{LinkChange}
-use Rattle.link_commands.specs.declared.changes.LinkChange.TheVariants as change
+use Rattle.fabric_graph.specs.declared.changes.LinkChange.{LinkChange}
+use Rattle.fabric_graph.specs.declared.changes.LinkChange.TheVariants as change
 
 -- A state with these links and this least router cost in place of its own.
 abbrev pub with_fabric : FabricSeen → State → State
@@ -20,13 +21,6 @@ with_fabric f s = record s { links = f.links; least_router_cost = f.least }
 -- alone, so what is said of all such states is said of the one whose parts they are.
 abbrev pub over : Tables → FabricSeen → State → State
 over t f s = with_fabric f (record s { routers = t.routers })
-
--- The links after a change.
-abbrev pub after_link_change : LinkChange → FabricSeen → FabricSeen
-after_link_change (change.Add row) f = with_link row f
-after_link_change (change.Set n cost latency_a latency_b up) f = with_set n.0 cost latency_a latency_b up f
-after_link_change (change.Remove n) f = without_link n.0 f
-after_link_change (change.SetLeast cost) f = with_least cost f
 
 -- What a change needs of the links: a link that is added may be, one that is changed or removed is there, and every number is in
 -- its range.
@@ -47,6 +41,10 @@ linked c s = with_fabric (after_link_change c (fabric_of s)) s
 abbrev pub CanLink : LinkChange → State → Type 0
 CanLink c s = CanChangeLinks c (fabric_of s)
 
+-- A link stays whose two routers are among these entities.
+abbrev pub stays : Tables → ℕ × Link → Bool
+stays t row = link_stays (record start { routers = t.routers }) row
+
 -- The links of which both routers are among these entities.
 abbrev pub settled : Tables → FabricSeen → FabricSeen
-settled t f = record f { links = with_kept (link_stays (record start { routers = t.routers })) f.links }
+settled t f = record f { links = with_kept (stays t) f.links }

@@ -6,7 +6,7 @@ use Rattle.ctrl_model.specs.declared.replies.Reply.{Reply}
 use Rattle.ctrl_model.specs.State.{State}
 use Rattle.model_laws.specs.declared.plans.Plan.{Plan}
 use Rattle.model_laws.specs.Plans.{Plans}
-use Rattle.link_commands.specs.declared.changes.LinkChange.{LinkChange}
+use Rattle.fabric_graph.specs.declared.changes.LinkChange.{LinkChange}
 use Rattle.link_commands.specs.LinkChanges.{linked, CanLink}
 
 -- The commands on links and on the least router cost.

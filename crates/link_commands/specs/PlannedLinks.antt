@@ -1,5 +1,5 @@
 -- What the private functions of planning and of settling promise. Nothing public cites it.
-use Rattle.std.specs.Prelude.{◌≡◌, ℕ, Bool, not, ◌||◌, cond, List, None, Some, Ok, filter}
+use Rattle.std.specs.Prelude.{◌≡◌, ℕ, Bool, true, not, ◌||◌, cond, List, None, Some, Ok, filter}
 use Rattle.std.specs.declared.option.Option.{Option}
 use Rattle.std.specs.Option.{option_map_or}
 use Rattle.ctrl_model.specs.Numbered.{with_kept}
@@ -7,15 +7,14 @@ use Rattle.ctrl_model.specs.declared.refusals.Refusal.{Refusal}
 use Rattle.ctrl_model.specs.declared.replies.Reply.{Reply}
 use Rattle.ctrl_model.specs.LinkCommands.{is_end_of, refusal_of_create_link, refusal_of_report}
 use Rattle.ctrl_model.specs.Numbered.{at}
-use Rattle.ctrl_model.specs.Settling.{link_stays}
-use Rattle.ctrl_model.specs.State.{State, Link, start, link_named, router_named}
+use Rattle.ctrl_model.specs.State.{State, Link, link_named, router_named}
 use Rattle.ctrl_model.specs.ValidState.{ValidState}
 use Rattle.entity_store.specs.EntityTables.{Tables}
 use Rattle.fabric_graph.specs.FabricTables.{FabricSeen}
 use Rattle.fabric_graph.specs.FabricRules.{may_add}
-use Rattle.link_commands.specs.declared.changes.LinkChange.{LinkChange}
+use Rattle.fabric_graph.specs.declared.changes.LinkChange.{LinkChange}
 use Rattle.model_laws.specs.declared.plans.Plan.{Plan}
-use Rattle.link_commands.specs.LinkChanges.{over}
+use Rattle.link_commands.specs.LinkChanges.{over, stays}
 use Rattle.link_commands.specs.LinkPlans.{PlansLinks}
 
 -- A plan of an answer in every valid state with these routers and these links.
@@ -50,9 +49,9 @@ pub record Reports (link router : List ℕ) (t : Tables) (f : FabricSeen) (n : �
 abbrev pub RefusesReport : List ℕ → List ℕ → Tables → FabricSeen → Refusal → Type 0
 RefusesReport link router t f r = (s : State) → refusal_of_report link router (over t f s) ≡ Some r
 
--- A link stays whose two routers are among these entities.
-abbrev pub stays : Tables → ℕ × Link → Bool
-stays t row = link_stays (record start { routers = t.routers }) row
+-- Whether the link at a number stays, if one is there.
+abbrev pub stays_at : Tables → List (ℕ × Link) → ℕ → Bool
+stays_at t rows n = option_map_or (λ l. stays t (n, l)) (at rows n) true
 
 -- The links of which those whose number passes a test stay only if both their routers are among these entities.
 abbrev pub settled_where : (ℕ → Bool) → Tables → FabricSeen → FabricSeen

@@ -1,8 +1,8 @@
 ghost use Rattle.std.specs.Prelude.{◌≡◌, OnOk, OnErr};
-ghost use Rattle.link_commands.specs.LinkChanges.{CanChangeLinks, after_link_change};
+ghost use Rattle.fabric_graph.specs.FabricChanges.{after_link_change};
+ghost use Rattle.link_commands.specs.LinkChanges.{CanChangeLinks};
 
-use crate::changes::LinkChange;
-use fabric_graph::Fabric;
+use fabric_graph::{Fabric, LinkChange};
 use std::alloc::AllocError;
 
 /// Makes a change of the links. For want of memory the links stay.

@@ -2,11 +2,10 @@
 #![tactic(auto)]
 
 mod applying;
-mod changes;
 mod planning;
 mod settling;
 
 pub use applying::apply_link_change;
-pub use changes::LinkChange;
+pub use fabric_graph::LinkChange;
 pub use planning::plan_link_command;
 pub use settling::settle_links;

@@ -2,9 +2,11 @@
 use Rattle.std.proofs.Common.{◌≡◌, ℕ, ◌==◌, Bool, true, false, cond, not, List, [], ◌∷◌, ◌++◌, Option, None, Some, refl, sym, ◌∙◌, ap, arith, eqb-true}
 use Rattle.std.proofs.lemmas.List.{map-append}
 use Rattle.std.specs.List.{filter}
-use Rattle.ctrl_model.specs.Numbered.{at, numbers, with_last, edit_at, without, Between}
+use Rattle.ctrl_model.specs.Numbered.{Table, at, numbers, with_last, edit_at, without, Between}
 use Rattle.ctrl_model.specs.Walks.{is_among}
-use Rattle.ctrl_model.proofs.NumberedLaws.{at-past, at-with_last}
+use Rattle.ctrl_model.proofs.NumberedLaws.{at-past, at-with_last, Between-filter}
+use Rattle.record_tables.specs.AfterChange.{without_numbers}
+use Rattle.record_tables.specs.Turns.{left_of}
 
 module _ {R : Type 0} where
   pub numbers-edit_at : (rows : List (ℕ × R)) (n : ℕ) (f : R → R) → numbers (edit_at rows n f) ≡ numbers rows
@@ -46,3 +48,18 @@ module _ {R : Type 0} where
 
 pub numbers-with_last : {R : Type 0} (rows : List (ℕ × R)) (n : ℕ) (r : R) → numbers (with_last rows n r) ≡ numbers rows ++ n ∷ []
 numbers-with_last rows n r = map-append (λ x. x.0) rows ((n, r) ∷ [])
+
+-- ---- a table without some numbers
+
+module _ {R : Type 0} (gone : List ℕ) (t : Table R) where
+  pub numbers-left : left_of gone (numbers t.rows) ≡ numbers (without_numbers gone t).rows
+  numbers-left = sym (numbers-filter (λ n. not (is_among n gone)) t.rows)
+
+  pub ordered-left : (low high : ℕ) → Between low high t.rows → Between low high (without_numbers gone t).rows
+  ordered-left low high b = Between-filter (λ (row : ℕ × R). not (is_among row.0 gone)) high t.rows low b
+
+  pub at-gone : (n : ℕ) → is_among n gone ≡ true → None ≡ at (without_numbers gone t).rows n
+  at-gone n e = sym (at-filter (λ m. not (is_among m gone)) t.rows n ∙ ap (λ b. cond (not b) (at t.rows n) None) e)
+
+  pub at-left : (n : ℕ) → is_among n gone ≡ false → at t.rows n ≡ at (without_numbers gone t).rows n
+  at-left n e = sym (at-filter (λ m. not (is_among m gone)) t.rows n ∙ ap (λ b. cond (not b) (at t.rows n) None) e)

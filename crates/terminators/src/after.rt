@@ -2,7 +2,7 @@ ghost use Rattle.std.specs.Prelude.{◌≡◌, IfOk, OnOk};
 ghost use Rattle.std.specs.Option.{option_map};
 ghost use Rattle.ctrl_model.specs.Numbered.{at, numbers, Between};
 ghost use Rattle.terminators.specs.ChangedTerms.{term_after, turn_of};
-ghost use Rattle.terminators.specs.TermChanges.{after_term_change};
+ghost use Rattle.terminators.specs.TermChanges.{after_term_change, terms_after};
 
 use crate::changes::TermChange;
 use crate::offers::TermView;
@@ -89,6 +89,21 @@ fn changed_term<'a>(
 }
 
 impl<'a> TerminatorsAfter<'a> {
+    /// The terminators after a change, if there is one, and without those of some numbers.
+    pub fn new(
+        terminators: &'a Terminators,
+        change: Option<&'a TermChange>,
+        gone: &'a Numbers,
+    ) -> TerminatorsAfter<'a>
+        ensures { result ≡ terms_after (option_map (λ c. c.now) change.entry) gone.now terminators.now }
+    {
+        TerminatorsAfter {
+            terminators,
+            change,
+            gone,
+        }
+    }
+
     /// The numbers of the terminators, ascending.
     pub fn numbers(&self, alloc: Global) -> Result<Numbers, AllocError>
         ensures all { IfOk result (λ ns. ns ≡ numbers self.now.terminators.rows) }

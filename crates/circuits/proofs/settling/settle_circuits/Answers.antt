@@ -1,6 +1,7 @@
 use Rattle.std.proofs.Common.{◌≡◌, sym, ◌∙◌, ap, subst}
+use Rattle.circuits.specs.CircuitChanges.{stays_with, gone}
 use Rattle.circuits.specs.CircuitTables.{CircuitTables}
-use Rattle.circuits.specs.RemovedCircuits.{stays_with, gone, left, AreThere}
+use Rattle.circuits.specs.RemovedCircuits.{left, AreThere}
 use Rattle.circuits.proofs.RemovalLaws.{going_there, left_are}
 use Rattle.circuits.proofs.settling.settle_circuits.Goals as goal
 
