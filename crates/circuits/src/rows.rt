@@ -5,7 +5,6 @@ ghost use Rattle.ctrl_model.specs.declared.kinds.Kind.TheVariants as kind;
 ghost use Rattle.ctrl_model.specs.State.{State};
 ghost use Rattle.record_tables.specs.Climbing.{Climbs};
 ghost use Rattle.row_codec.specs.CoveredTables.{Covers};
-ghost use Rattle.row_codec.specs.RowForm.{is_row, value_of};
 ghost use Rattle.row_codec.specs.RowKeys.{is_long};
 ghost use Rattle.row_codec.specs.RowValues.{circuit_value};
 ghost use Rattle.row_laws.specs.FittingRecords.{fits};
@@ -16,37 +15,40 @@ use crate::after::CircuitsAfter;
 use crate::changes::CircuitChange;
 use crate::grants::Circuit;
 use crate::store::Circuits;
-use ctrl_model::{CircuitNo, Kind, Numbers};
+use ctrl_model::{Bytes, CircuitNo, Kind, Numbers};
 use record_tables::touched;
 use row_codec::{Change, Changes, Row};
-use row_spelling::change_of;
+use row_spelling::{change_of, value_of};
 use std::alloc::{AllocError, Global};
 
-// The row of a circuit under a number.
-fn row_of(no: CircuitNo, circuit: &Circuit) -> Result<Row, AllocError>
+// The value of the row of a circuit under a number.
+fn row_value(alloc: Global, no: CircuitNo, circuit: &Circuit) -> Result<Bytes, AllocError>
     requires { fits kind.Circuit circuit.now ≡ true }
-    ensures form { IfOk result (λ row. is_row row ≡ true) }
-    ensures value { IfOk result (λ row. value_of row ≡ circuit_value circuit.now) }
+    ensures { IfOk result (λ value. value ≡ circuit_value circuit.now) }
 {
     let links = circuit.links.copy()?;
-    Ok(Row::Circuit {
+    let row = Row::Circuit {
         no,
         identity: circuit.identity,
         service: circuit.service,
         terminator: circuit.terminator,
         ingress: circuit.ingress,
         links,
-    })
+    };
+    value_of(alloc, &row)
 }
 
-// The row of a circuit under a number, if there is one.
-fn row_if_some(no: CircuitNo, circuit: Option<&Circuit>) -> Result<Option<Row>, AllocError>
+// The value of the row of a circuit under a number, if there is one.
+fn value_if_some(
+    alloc: Global,
+    no: CircuitNo,
+    circuit: Option<&Circuit>,
+) -> Result<Option<Bytes>, AllocError>
     requires { IfSome circuit (λ c. fits kind.Circuit c.now ≡ true) }
-    ensures form { IfOk result (λ row. IfSome row (λ r. is_row r ≡ true)) }
-    ensures value { IfOk result (λ row. option_map value_of row ≡ option_map circuit_value (option_map (λ c. c.now) circuit.entry)) }
+    ensures { IfOk result (λ value. value ≡ option_map circuit_value (option_map (λ c. c.now) circuit.entry)) }
 {
     match circuit {
-        Some(circuit) => Ok(Some(row_of(no, circuit)?)),
+        Some(circuit) => Ok(Some(row_value(alloc, no, circuit)?)),
         None => Ok(None),
     }
 }
@@ -62,9 +64,9 @@ fn change_at(
     requires after { IfSome after (λ c. fits kind.Circuit c.now ≡ true) }
     ensures { IfOk result (λ change. change ≡ circuit_change_of no.0 (option_map (λ c. c.now) before.entry) (option_map (λ c. c.now) after.entry)) }
 {
-    let before = row_if_some(no, before)?;
-    let after = row_if_some(no, after)?;
-    change_of(alloc, Kind::Circuit, no.0, before.as_ref(), after.as_ref())
+    let before = value_if_some(alloc, no, before)?;
+    let after = value_if_some(alloc, no, after)?;
+    change_of(alloc, Kind::Circuit, no.0, before, after)
 }
 
 // The changes of the rows of circuits at some numbers.
