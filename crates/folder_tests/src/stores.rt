@@ -3,6 +3,7 @@ ghost use Rattle.ziti_outside.specs.declared.desk.Part.TheVariants.{Mark};
 ghost use Rattle.row_store.specs.WorkedStores.{rows_of_ann};
 ghost use Rattle.folder_tests.specs.ReadyStores.{IsReady};
 
+use crate::checks::{are_bytes, is_fault};
 use crate::desks::{BATCH_OF_ANN, empty_desk};
 use row_codec::{RowFault, read_batch};
 use row_store::{Store, StoreBounds, StoreFault, worked_rows};
@@ -43,23 +44,41 @@ fn keep_ann(alloc: Global, desk: &mut MemDesk, store: &mut Store) -> Result<(), 
     Ok(())
 }
 
-// What comes of the second batch.
-fn keep_bob(
+// Why the second batch is not kept.
+fn fault_of_bob(
     alloc: Global,
     desk: &mut MemDesk,
     store: &mut Store,
-) -> Result<Result<(), StoreFault>, RowFault>
+) -> Result<Option<StoreFault>, RowFault>
     requires { IsReady store.old rows_of_ann (⟦<MemDesk as Desk>⟧.reads desk.old) (⟦<MemDesk as Desk>⟧.may_leave desk.old) }
 {
     let batch = read_batch(alloc, &BATCH_OF_BOB)?;
-    Ok(store.commit(desk, &batch))
+    Ok(store.commit(desk, &batch).err())
+}
+
+fn refuses_bob(
+    rt: &impl Abort,
+    alloc: Global,
+    desk: &mut MemDesk,
+    store: &mut Store,
+) -> Result<(), RowFault>
+    requires { IsReady store.old rows_of_ann (⟦<MemDesk as Desk>⟧.reads desk.old) (⟦<MemDesk as Desk>⟧.may_leave desk.old) }
+{
+    let fault = fault_of_bob(alloc, desk, store)?;
+    is_fault(rt, fault, Some(StoreFault::Full));
+    Ok(())
+}
+
+// The mark has one byte, and the slots have these bytes.
+fn are_slots(rt: &impl Abort, desk: &MemDesk, zero: &[u8], one: &[u8]) {
+    are_bytes(rt, desk.part(Part::Zero), zero);
+    are_bytes(rt, desk.part(Part::One), one);
+    assert_eq!(rt; desk.part(Part::Mark).len(), 1);
 }
 
 // The folder and the store have the first batch.
 fn have_ann(rt: &impl Abort, desk: &MemDesk, store: &Store) {
-    assert_eq!(rt; desk.part(Part::Zero), SLOT_OF_ANN.as_slice());
-    assert_eq!(rt; desk.part(Part::One).len(), 0);
-    assert_eq!(rt; desk.part(Part::Mark).len(), 1);
+    are_slots(rt, desk, &SLOT_OF_ANN, &[]);
     assert_eq!(rt; store.end(), (Part::Zero, 41));
 }
 
@@ -69,23 +88,16 @@ fn keeps(rt: &impl Abort, alloc: Global, desk: &mut MemDesk, store: &mut Store) 
 {
     keep_ann(alloc, desk, store)?;
     have_ann(rt, desk, store);
-    assert_eq!(rt; keep_bob(alloc, desk, store)?, Err(StoreFault::Full));
+    refuses_bob(rt, alloc, desk, store)?;
     have_ann(rt, desk, store);
     Ok(())
-}
-
-// A folder that was created has an empty slot and a mark of one byte.
-fn is_created(rt: &impl Abort, desk: &MemDesk) {
-    let slot = desk.part(Part::Zero);
-    assert_eq!(rt; slot, [0x5A, 0x43, 0x54, 0x4C, 1, 0, 0, 0, 0].as_slice());
-    assert_eq!(rt; desk.part(Part::Mark).len(), 1);
 }
 
 fn creates(rt: &impl Abort, alloc: Global, desk: &mut MemDesk) -> Result<(), Fail>
     requires { ⟦<MemDesk as Desk>⟧.reads desk.old Mark ≡ [] }
 {
     let mut store = open(alloc, desk)?;
-    is_created(rt, desk);
+    are_slots(rt, desk, &[0x5A, 0x43, 0x54, 0x4C, 1, 0, 0, 0, 0], &[]);
     keeps(rt, alloc, desk, &mut store)
 }
 
