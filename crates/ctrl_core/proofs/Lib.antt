@@ -16,3 +16,4 @@ pub mod FoundPlans
 pub mod StateParts
 pub mod NextNumbers
 pub mod RowEnds
+pub mod CountRows

@@ -1,14 +1,22 @@
 -- The next numbers after a change: that of the kind of which it adds a record rises by one, and no other moves.
-use Rattle.std.proofs.Common.{◌≡◌, ℕ, ◌+◌, ◌≤◌, ◌<◌, Bool, true, false, cond, nat_le, Option, None, Some, refl, sym, ◌∙◌, ap, subst, arith}
+use Rattle.std.proofs.Common.{◌≡◌, ℕ, ◌+◌, ◌≤◌, ◌<◌, Bool, true, false, cond, nat_le, leb-true, List, [], ◌∷◌, map, inl, inr, Option, None, Some, refl, sym, ◌∙◌, ap, subst, arith}
 use Rattle.std.proofs.lemmas.Bool.{false≢true}
 use Rattle.ctrl_model.specs.declared.kinds.Kind.{Kind}
 use Rattle.ctrl_model.specs.declared.kinds.Kind.TheVariants as kind
+use Rattle.ctrl_model.specs.Membership.{Among}
+use Rattle.ctrl_model.proofs.Members.{list_all-among}
 use Rattle.ctrl_model.specs.Settling.{settle}
 use Rattle.ctrl_model.specs.State.{State}
 use Rattle.ctrl_model.specs.Tables.{table}
 use Rattle.ctrl_model.specs.ValidState.{ValidState}
 use Rattle.record_tables.specs.AfterChange.{changed_by}
-use Rattle.row_codec.specs.RowKeys.{kind_number}
+use Rattle.row_codec.specs.CoveredTables.{Covers, change_at}
+use Rattle.row_codec.specs.RowKeys.{kind_number, kinds, key_in}
+use Rattle.row_codec.specs.RowKeys.RowTable.{Next}
+use Rattle.row_laws.specs.ChangedKeys.{next_changes}
+use Rattle.row_laws.proofs.JoinedRows.{Climbs-from}
+use Rattle.row_laws.proofs.SpelledChanges.{change_at-next}
+use Rattle.row_laws.proofs.TouchedKeys.{Covers-next}
 use Rattle.circuits.specs.declared.changes.CircuitChange.{CircuitChange}
 use Rattle.circuits.specs.declared.changes.CircuitChange.TheVariants as circuit
 use Rattle.circuits.specs.CircuitChanges.{after_circuit_change}
@@ -34,41 +42,45 @@ use Rattle.ctrl_core.specs.declared.changes.Change.TheVariants as change
 use Rattle.ctrl_core.specs.declared.stores.Stores.{Stores}
 use Rattle.ctrl_core.specs.AppliedChanges.{forgetting_by}
 use Rattle.ctrl_core.specs.ChangeParts.{entity_part, policy_part, link_part, term_part, circuit_part, adds, adds_entity, adds_policy, adds_link, adds_term, adds_circuit}
-use Rattle.ctrl_core.specs.ChangedStores.{CanSettle, next_state}
+use Rattle.ctrl_core.specs.ChangedStores.{CanSettle, next_change_in, next_state}
 use Rattle.ctrl_core.specs.KeptState.{state_of}
 use Rattle.ctrl_core.proofs.StateParts.{parts_after, state_then, policies_then}
+
+none_more : (n : ℕ) → n ≡ n + 0
+none_more n = omega arith
 
 -- ---- entities
 
 identity_next : (o : Option EntityChange) (t : Tables) → (changed_by after_entity_change o t).identities.next ≡ t.identities.next + cond (adds_entity o kind.Identity) 1 0
-identity_next None t = refl
+identity_next None t = none_more t.identities.next
 identity_next (Some (entity.Add kind.Identity name attributes)) t = refl
-identity_next (Some (entity.Add _ name attributes)) t = refl
-identity_next (Some (entity.Describe kind.Identity n attributes)) t = refl
-identity_next (Some (entity.Describe _ n attributes)) t = refl
-identity_next (Some (entity.Remove kind.Identity n name)) t = refl
-identity_next (Some (entity.Remove _ n name)) t = refl
-identity_next (Some _) t = refl
+identity_next (Some (entity.Add _ name attributes)) t = none_more t.identities.next
+identity_next (Some (entity.Describe kind.Identity n attributes)) t = none_more t.identities.next
+identity_next (Some (entity.Describe _ n attributes)) t = none_more t.identities.next
+identity_next (Some (entity.Remove kind.Identity n name)) t = none_more t.identities.next
+identity_next (Some (entity.Remove _ n name)) t = none_more t.identities.next
+identity_next (Some _) t = none_more t.identities.next
 
 service_next : (o : Option EntityChange) (t : Tables) → (changed_by after_entity_change o t).services.next ≡ t.services.next + cond (adds_entity o kind.Service) 1 0
-service_next None t = refl
+service_next None t = none_more t.services.next
 service_next (Some (entity.Add kind.Service name attributes)) t = refl
-service_next (Some (entity.Add _ name attributes)) t = refl
-service_next (Some (entity.Describe kind.Service n attributes)) t = refl
-service_next (Some (entity.Describe _ n attributes)) t = refl
-service_next (Some (entity.Remove kind.Service n name)) t = refl
-service_next (Some (entity.Remove _ n name)) t = refl
-service_next (Some _) t = refl
+service_next (Some (entity.Add _ name attributes)) t = none_more t.services.next
+service_next (Some (entity.Describe kind.Service n attributes)) t = none_more t.services.next
+service_next (Some (entity.Describe _ n attributes)) t = none_more t.services.next
+service_next (Some (entity.Remove kind.Service n name)) t = none_more t.services.next
+service_next (Some (entity.Remove _ n name)) t = none_more t.services.next
+service_next (Some _) t = none_more t.services.next
 
 router_next : (o : Option EntityChange) (t : Tables) → (changed_by after_entity_change o t).routers.next ≡ t.routers.next + cond (adds_entity o kind.Router) 1 0
-router_next None t = refl
+router_next None t = none_more t.routers.next
 router_next (Some (entity.Add kind.Router name attributes)) t = refl
-router_next (Some (entity.Add _ name attributes)) t = refl
-router_next (Some (entity.Describe kind.Router n attributes)) t = refl
-router_next (Some (entity.Describe _ n attributes)) t = refl
-router_next (Some (entity.Remove kind.Router n name)) t = refl
-router_next (Some (entity.Remove _ n name)) t = refl
-router_next (Some _) t = refl
+router_next (Some (entity.Add _ name attributes)) t = none_more t.routers.next
+router_next (Some (entity.Describe kind.Router n attributes)) t = none_more t.routers.next
+router_next (Some (entity.Describe _ n attributes)) t = none_more t.routers.next
+router_next (Some (entity.Remove kind.Router n name)) t = none_more t.routers.next
+router_next (Some (entity.Remove _ n name)) t = none_more t.routers.next
+router_next (Some (entity.AddRouter name attributes cost through)) t = refl
+router_next (Some _) t = none_more t.routers.next
 
 -- ---- policies
 
@@ -92,59 +104,59 @@ forgotten_last _ p = refl
 
 policy_next : (c : PolicyChange) (p : PolicyTables) → (after_policy_change c p).service_policies.next ≡ p.service_policies.next + cond (adds_policy (Some c) kind.ServicePolicy) 1 0
 policy_next (policy.Add kind.ServicePolicy q) p = refl
-policy_next (policy.Add _ q) p = refl
-policy_next (policy.Replace kind.ServicePolicy n q) p = refl
-policy_next (policy.Replace _ n q) p = refl
-policy_next (policy.Remove kind.ServicePolicy n) p = refl
-policy_next (policy.Remove _ n) p = refl
+policy_next (policy.Add _ q) p = none_more p.service_policies.next
+policy_next (policy.Replace kind.ServicePolicy n q) p = none_more p.service_policies.next
+policy_next (policy.Replace _ n q) p = none_more p.service_policies.next
+policy_next (policy.Remove kind.ServicePolicy n) p = none_more p.service_policies.next
+policy_next (policy.Remove _ n) p = none_more p.service_policies.next
 
 edge_next : (c : PolicyChange) (p : PolicyTables) → (after_policy_change c p).edge_router_policies.next ≡ p.edge_router_policies.next + cond (adds_policy (Some c) kind.EdgeRouterPolicy) 1 0
 edge_next (policy.Add kind.EdgeRouterPolicy q) p = refl
-edge_next (policy.Add _ q) p = refl
-edge_next (policy.Replace kind.EdgeRouterPolicy n q) p = refl
-edge_next (policy.Replace _ n q) p = refl
-edge_next (policy.Remove kind.EdgeRouterPolicy n) p = refl
-edge_next (policy.Remove _ n) p = refl
+edge_next (policy.Add _ q) p = none_more p.edge_router_policies.next
+edge_next (policy.Replace kind.EdgeRouterPolicy n q) p = none_more p.edge_router_policies.next
+edge_next (policy.Replace _ n q) p = none_more p.edge_router_policies.next
+edge_next (policy.Remove kind.EdgeRouterPolicy n) p = none_more p.edge_router_policies.next
+edge_next (policy.Remove _ n) p = none_more p.edge_router_policies.next
 
 last_next : (c : PolicyChange) (p : PolicyTables) → (after_policy_change c p).service_edge_router_policies.next ≡ p.service_edge_router_policies.next + cond (adds_policy (Some c) kind.ServiceEdgeRouterPolicy) 1 0
 last_next (policy.Add kind.ServiceEdgeRouterPolicy q) p = refl
-last_next (policy.Add _ q) p = refl
-last_next (policy.Replace kind.ServiceEdgeRouterPolicy n q) p = refl
-last_next (policy.Replace _ n q) p = refl
-last_next (policy.Remove kind.ServiceEdgeRouterPolicy n) p = refl
-last_next (policy.Remove _ n) p = refl
+last_next (policy.Add _ q) p = none_more p.service_edge_router_policies.next
+last_next (policy.Replace kind.ServiceEdgeRouterPolicy n q) p = none_more p.service_edge_router_policies.next
+last_next (policy.Replace _ n q) p = none_more p.service_edge_router_policies.next
+last_next (policy.Remove kind.ServiceEdgeRouterPolicy n) p = none_more p.service_edge_router_policies.next
+last_next (policy.Remove _ n) p = none_more p.service_edge_router_policies.next
 
 service_policies_next : (c : Change) (st : Stores) → (policies_then c st).service_policies.next ≡ st.policies.service_policies.next + cond (adds_policy (policy_part c) kind.ServicePolicy) 1 0
-service_policies_next (change.Entity e) st = forgotten_next e st.policies
+service_policies_next (change.Entity e) st = forgotten_next e st.policies ∙ none_more st.policies.service_policies.next
 service_policies_next (change.Policy p) st = policy_next p st.policies
-service_policies_next _ st = refl
+service_policies_next _ st = none_more st.policies.service_policies.next
 
 edge_policies_next : (c : Change) (st : Stores) → (policies_then c st).edge_router_policies.next ≡ st.policies.edge_router_policies.next + cond (adds_policy (policy_part c) kind.EdgeRouterPolicy) 1 0
-edge_policies_next (change.Entity e) st = forgotten_edge e st.policies
+edge_policies_next (change.Entity e) st = forgotten_edge e st.policies ∙ none_more st.policies.edge_router_policies.next
 edge_policies_next (change.Policy p) st = edge_next p st.policies
-edge_policies_next _ st = refl
+edge_policies_next _ st = none_more st.policies.edge_router_policies.next
 
 last_policies_next : (c : Change) (st : Stores) → (policies_then c st).service_edge_router_policies.next ≡ st.policies.service_edge_router_policies.next + cond (adds_policy (policy_part c) kind.ServiceEdgeRouterPolicy) 1 0
-last_policies_next (change.Entity e) st = forgotten_last e st.policies
+last_policies_next (change.Entity e) st = forgotten_last e st.policies ∙ none_more st.policies.service_edge_router_policies.next
 last_policies_next (change.Policy p) st = last_next p st.policies
-last_policies_next _ st = refl
+last_policies_next _ st = none_more st.policies.service_edge_router_policies.next
 
 -- ---- links, terminators and circuits
 
 link_next : (o : Option LinkChange) (f : FabricSeen) → (changed_by after_link_change o f).links.next ≡ f.links.next + cond (adds_link o) 1 0
-link_next None f = refl
+link_next None f = none_more f.links.next
 link_next (Some (link.Add l)) f = refl
-link_next (Some _) f = refl
+link_next (Some _) f = none_more f.links.next
 
 term_next : (o : Option TermChange) (e : TermTables) → (changed_by after_term_change o e).terminators.next ≡ e.terminators.next + cond (adds_term o) 1 0
-term_next None e = refl
+term_next None e = none_more e.terminators.next
 term_next (Some (term.Add t)) e = refl
-term_next (Some _) e = refl
+term_next (Some _) e = none_more e.terminators.next
 
 circuit_next : (o : Option CircuitChange) (k : CircuitTables) → (changed_by after_circuit_change o k).circuits.next ≡ k.circuits.next + cond (adds_circuit o) 1 0
-circuit_next None k = refl
+circuit_next None k = none_more k.circuits.next
 circuit_next (Some (circuit.Add c)) k = refl
-circuit_next (Some _) k = refl
+circuit_next (Some _) k = none_more k.circuits.next
 
 -- ---- each kind
 
@@ -168,5 +180,31 @@ pub next_rises : (k : Kind) (c : Change) (st : Stores) → CanSettle st c → na
 next_rises k c st can h e =
     let last : (table k (next_state st c)).next ≤ 4294967295 = (can.valid.kinds k).numbers.last in
     let is : (table k (next_state st c)).next ≡ (table k (state_of st)).next + cond (adds c k) 1 0 = next_is k c st can h in
-    let one : cond (adds c k) 1 0 ≡ 1 = ap (λ b. cond b 1 0) e in
+    let one : ◌≡◌ {A = ℕ} (cond (adds c k) 1 0) 1 = ap (λ b. cond b 1 0) e in
     omega (arith, last, is, one)
+
+-- ---- the changes of the next numbers of all kinds cover their table
+
+pointwise : {A B : Type 0} (f g : A → B) (xs : List A) → ((x : A) → Among x xs → f x ≡ g x) → map f xs ≡ map g xs
+pointwise f g [] h = refl
+pointwise f g (x ∷ xs) h = λ i. h x (inl refl) i ∷ pointwise f g xs (λ y m. h y (inr m)) i
+
+among_kinds : (k : Kind) → (Among k kinds → ⊥) → k ≡ kind.Attribute
+among_kinds kind.Identity h = absurd (h (inl refl))
+among_kinds kind.Service h = absurd (h (inr (inl refl)))
+among_kinds kind.Router h = absurd (h (inr (inr (inl refl))))
+among_kinds kind.Link h = absurd (h (inr (inr (inr (inl refl)))))
+among_kinds kind.ServicePolicy h = absurd (h (inr (inr (inr (inr (inl refl))))))
+among_kinds kind.EdgeRouterPolicy h = absurd (h (inr (inr (inr (inr (inr (inl refl)))))))
+among_kinds kind.ServiceEdgeRouterPolicy h = absurd (h (inr (inr (inr (inr (inr (inr (inl refl))))))))
+among_kinds kind.Terminator h = absurd (h (inr (inr (inr (inr (inr (inr (inr (inl refl)))))))))
+among_kinds kind.Circuit h = absurd (h (inr (inr (inr (inr (inr (inr (inr (inr (inl refl))))))))))
+among_kinds kind.Attribute h = refl
+
+pub next_covered : (s t : State) → Covers 1 2 s t (map (next_change_in s t) kinds)
+next_covered s t =
+    subst (λ cs. Covers 1 2 s t cs) same
+    (Covers-next s t kinds (Climbs-from kind_number kinds refl) refl (λ k misses. ap (λ j. (table j s).next) (among_kinds k misses) ∙ sym (ap (λ j. (table j t).next) (among_kinds k misses))))
+  where
+    same : next_changes s t kinds ≡ map (next_change_in s t) kinds
+    same = pointwise (λ k. change_at s t (key_in Next (kind_number k) 0)) (next_change_in s t) kinds (λ k m. change_at-next k s t (leb-true 1 (kind_number k) (list_all-among (λ j. nat_le 1 (kind_number j)) kinds k refl m)))

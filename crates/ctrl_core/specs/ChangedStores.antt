@@ -1,8 +1,12 @@
 -- When what a change leads to can be told of some stores. Only private functions and proofs of this crate cite this file.
 use Rattle.std.specs.Prelude.{◌≡◌}
+use Rattle.ctrl_model.specs.declared.kinds.Kind.{Kind}
 use Rattle.ctrl_model.specs.Settling.{settle}
 use Rattle.ctrl_model.specs.State.{State}
+use Rattle.ctrl_model.specs.Tables.{table}
 use Rattle.ctrl_model.specs.ValidState.{ValidState}
+use Rattle.row_codec.specs.declared.changes.Change as row
+use Rattle.row_spelling.specs.RecordChanges.{next_change_of}
 use Rattle.ctrl_core.specs.declared.changes.Change.{Change}
 use Rattle.ctrl_core.specs.declared.plans.Settled.{Settled}
 use Rattle.ctrl_core.specs.declared.stores.Stores.{Stores}
@@ -25,3 +29,7 @@ pub record CanSettle (st : Stores) (c : Change) : Type 0 where
 pub record KnowsSettled (st : Stores) (c : Change) (g : Settled) : Type 0 where
   pub can : CanSettle st c
   pub settled : AreSettled (after_change c (state_of st)) g
+
+-- The change of the row of a kind's next number between two states.
+abbrev pub next_change_in : State → State → Kind → row.Change
+next_change_in s t k = next_change_of k (table k s).next (table k t).next

@@ -1,11 +1,12 @@
-ghost use Rattle.std.specs.Prelude.{◌≡◌, ◌==◌, ◌+◌, ◌<◌, ◌++◌, cond, nat_le, true, option_map, IfOk, OnOk};
+ghost use Rattle.std.specs.Prelude.{◌≡◌, ◌==◌, ◌+◌, ◌<◌, ◌++◌, cond, nat_le, true, map, option_map, IfOk, OnOk};
+ghost use Rattle.std.specs.List.{list_all};
 ghost use Rattle.ctrl_model.specs.Tables.{table};
 ghost use Rattle.row_codec.specs.Batches.{batch_between};
 ghost use Rattle.row_codec.specs.CoveredTables.{Covers};
 ghost use Rattle.row_codec.specs.RowKeys.{kind_number};
-ghost use Rattle.row_spelling.specs.RecordChanges.{next_change_of, setting_change_of};
+ghost use Rattle.row_spelling.specs.RecordChanges.{setting_change_of};
 ghost use Rattle.ctrl_core.specs.ChangeParts.{adds, adds_entity, adds_policy, forgotten_name, least_after};
-ghost use Rattle.ctrl_core.specs.ChangedStores.{CanSettle, KnowsSettled, next_state};
+ghost use Rattle.ctrl_core.specs.ChangedStores.{CanSettle, KnowsSettled, next_change_in, next_state};
 ghost use Rattle.ctrl_core.specs.Changes.{LeadAllCounts};
 ghost use Rattle.ctrl_core.specs.KeptState.{Keeps, state_of};
 
@@ -115,11 +116,13 @@ fn next_of(stores: &Stores, kind: Kind) -> u32
     ensures { result ≡ (table kind (state_of stores.now)).next }
 {
     match kind {
-        Kind::Identity | Kind::Service | Kind::Router => stores.entities.next(kind),
+        Kind::Identity => stores.entities.next(Kind::Identity),
+        Kind::Service => stores.entities.next(Kind::Service),
+        Kind::Router => stores.entities.next(Kind::Router),
         Kind::Link => stores.fabric.next(),
-        Kind::ServicePolicy | Kind::EdgeRouterPolicy | Kind::ServiceEdgeRouterPolicy => {
-            stores.policies.next(kind)
-        }
+        Kind::ServicePolicy => stores.policies.next(Kind::ServicePolicy),
+        Kind::EdgeRouterPolicy => stores.policies.next(Kind::EdgeRouterPolicy),
+        Kind::ServiceEdgeRouterPolicy => stores.policies.next(Kind::ServiceEdgeRouterPolicy),
         Kind::Terminator => stores.terminators.next(),
         Kind::Circuit => stores.circuits.next(),
         Kind::Attribute => unreachable!(),
@@ -144,11 +147,29 @@ fn next_change_at(
 ) -> Result<RowChange, AllocError>
     requires kind { nat_le 1 (kind_number kind) ≡ true }
     requires can { CanSettle stores.now change.now }
-    ensures { IfOk result (λ c. c ≡ next_change_of kind (table kind (state_of stores.now)).next (table kind (next_state stores.now change.now)).next) }
+    ensures { IfOk result (λ c. c ≡ next_change_in (state_of stores.now) (next_state stores.now change.now) kind) }
 {
     let before = next_of(stores, kind);
     let after = next_after(stores, change, kind);
     next_change(alloc, kind, before, after)
+}
+
+// The changes of the next numbers of some kinds.
+fn next_changes_of(
+    alloc: Global,
+    stores: &Stores,
+    change: &Change,
+    kinds: &[Kind],
+) -> Result<Vec<RowChange>, AllocError>
+    requires numbered { list_all (λ k. nat_le 1 (kind_number k)) kinds.now ≡ true }
+    requires can { CanSettle stores.now change.now }
+    ensures { IfOk result (λ v. v.items ≡ map (next_change_in (state_of stores.now) (next_state stores.now change.now)) kinds.now) }
+{
+    let mut changes = Vec::new(alloc);
+    'kinds: for kind in kinds {
+        changes.push(next_change_at(alloc, stores, change, *kind)?)?;
+    }
+    Ok(changes)
 }
 
 // The changes of the next numbers.
@@ -160,11 +181,7 @@ fn next_changes(
     requires { CanSettle stores.now change.now }
     ensures { IfOk result (λ v. Covers 1 2 (state_of stores.now) (next_state stores.now change.now) v.items) }
 {
-    let mut changes = Vec::new(alloc);
-    'kinds: for kind in &KINDS {
-        changes.push(next_change_at(alloc, stores, change, *kind)?)?;
-    }
-    Ok(changes)
+    next_changes_of(alloc, stores, change, &KINDS)
 }
 
 // The least router cost after a change of the links, if there is one.
