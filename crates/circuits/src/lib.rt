@@ -24,4 +24,4 @@ pub use rows::circuit_changes;
 pub use settling::{circuits_that_go, settle_circuits};
 pub use staying::Present;
 pub use store::{CircuitFault, Circuits};
-pub use worked::{circuits_by_number, circuits_on_a_line};
+pub use worked::{circuits_as_they_will_be, circuits_by_number, circuits_on_a_line};
