@@ -2,3 +2,4 @@ pub mod Arounds
 pub mod UsedLaws
 pub mod EntityPlans
 pub mod ApplyLaws
+pub mod RowLaws

@@ -9,7 +9,7 @@ ghost use Rattle.entity_store.specs.TableRules.{may_add, found, is_there, attrib
 ghost use Rattle.entity_store.specs.Parts.{all_of};
 
 use crate::names_in_use::{Parts, are_few, hold_names, let_names_go};
-use crate::records::{KeptEntity, KeptRouter};
+use crate::records::{EntityView, KeptEntity, KeptRouter, RouterView};
 use ctrl_model::{Kind, Name, Names, Numbers, RouterNo, RouterSeen};
 use record_tables::NamedTable;
 use std::alloc::{AllocError, Global};
@@ -306,6 +306,31 @@ impl Entities {
             Kind::Router => seen_router(&self.routers, no),
             _ => unreachable!(),
         }
+    }
+
+    /// The entity of a number, lent. None exactly where it is absent.
+    pub fn entity(&self, kind: Kind, no: u32) -> Option<EntityView<'_>>
+        requires { is_entity_kind kind ≡ true }
+        ensures { result ≡ at (entities kind self.now) no }
+    {
+        match self.seen(kind, no) {
+            Some((name, attributes)) => Some(EntityView { name, attributes }),
+            None => None,
+        }
+    }
+
+    /// The router of a number, lent. None exactly where it is absent.
+    pub fn router(&self, no: RouterNo) -> Option<RouterView<'_>>
+        ensures { result ≡ at self.now.routers.rows no.0 }
+    {
+        let router = self.routers.get(no.0)?;
+        Some(RouterView {
+            name: &router.name,
+            attributes: &router.attributes,
+            cost: router.cost,
+            through: router.through,
+            connected: router.connected,
+        })
     }
 
     /// The numbers of the present entities of a kind, ascending.

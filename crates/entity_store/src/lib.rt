@@ -13,4 +13,5 @@ mod worked;
 pub use after::EntitiesAfter;
 pub use changes::EntityChange;
 pub use entities::{Entities, EntityFault};
+pub use records::{EntityView, RouterView};
 pub use worked::{attributes_in_use, names_and_numbers};

@@ -52,3 +52,39 @@ impl Named for KeptRouter {
         self.name.bytes()
     }
 }
+
+/// An identity or a service, or a router by its name and attributes alone, as it is: both are lent. Contracts see it as an entity of
+/// the controller's state.
+#[derive(Debug, Drop)]
+pub struct EntityView<'a> {
+    pub name: &'a Name,
+    pub attributes: &'a Names,
+}
+
+impl<'a> Model for EntityView<'a> {
+    ghost use Rattle.ctrl_model.specs.State.{Entity};
+
+    ghost Value = { Entity };
+
+    ghost view = { λ e. record { name = e.name.now; attributes = e.attributes.now } };
+}
+
+/// An edge router as it is: its name and its attributes are lent, the rest are values. Contracts see it as a router of the
+/// controller's state.
+#[derive(Debug, Drop)]
+pub struct RouterView<'a> {
+    pub name: &'a Name,
+    pub attributes: &'a Names,
+    /// What a path pays to enter it, 0 to 65,535.
+    pub cost: u32,
+    pub through: bool,
+    pub connected: bool,
+}
+
+impl<'a> Model for RouterView<'a> {
+    ghost use Rattle.ctrl_model.specs.State.{Router};
+
+    ghost Value = { Router };
+
+    ghost view = { λ r. record { name = r.name.now; attributes = r.attributes.now; cost = r.cost; through = r.through; connected = r.connected } };
+}

@@ -5,3 +5,4 @@ pub mod PolicyUses
 pub mod SpelledPolicies
 pub mod RefusedPolicies
 pub mod PolicyPlans
+pub mod PolicyRowLaws

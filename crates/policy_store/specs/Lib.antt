@@ -7,3 +7,4 @@ pub mod GrantChanges
 pub mod PolicyChanges
 pub mod PolicyPlans
 pub mod PlannedPolicies
+pub mod PolicyRows

@@ -3,12 +3,14 @@
 #![tactic(auto)]
 
 mod changes;
+mod copying;
 mod counting;
 mod granting;
 mod membership;
 mod naming;
 mod planning;
 mod policies;
+mod policy_rows;
 mod records;
 mod steps;
 mod worked;
@@ -20,6 +22,7 @@ pub use membership::members;
 pub use naming::policy_names;
 pub use planning::plan_policy_command;
 pub use policies::{Policies, PolicyFault};
+pub use policy_rows::{forgotten_changes, policy_changes};
 pub use records::Policy;
 pub use steps::GrantSteps;
 pub use worked::{

@@ -14,6 +14,7 @@ ghost use Rattle.policy_store.specs.PolicyPlans.{is_policy_command, is_service_p
 ghost use Rattle.policy_store.specs.PlannedPolicies.{Answers, AreShort, IsPlaced, ids_of, refusal_for, refusal_to_put, answer_create, answer_replace, roles_field};
 
 use crate::changes::PolicyChange;
+use crate::copying::copy_side;
 use crate::naming::policy_names;
 use crate::policies::{Policies, PolicyFault};
 use crate::records::Policy;
@@ -27,18 +28,6 @@ use std::alloc::{AllocError, Global};
 struct Known<'a> {
     entities: &'a Entities,
     policies: &'a Policies,
-}
-
-fn copy_side(side: &Side) -> Result<Side, AllocError>
-    ensures { IfOk result (λ s. s ≡ side.now) }
-{
-    let ids = side.ids.copy()?;
-    let attributes = side.attributes.copy()?;
-    Ok(Side {
-        all: side.all,
-        ids,
-        attributes,
-    })
 }
 
 // The policy that a command's fields say.

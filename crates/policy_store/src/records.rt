@@ -51,8 +51,8 @@ fn forget_name(names: &mut Names, name: &Name)
     names.items.retain(|other| other.bytes() != name.bytes());
 }
 
-// Takes an `@` name out of one side.
-fn forget_on_side(policy: &mut Policy, hand: Hand, name: &Name)
+/// Takes an `@` name out of one side.
+pub fn forget_on_side(policy: &mut Policy, hand: Hand, name: &Name)
     ensures { policy.new ≡ forget_on hand name.now policy.old }
 {
     match hand {

@@ -1,5 +1,4 @@
-ghost use Rattle.std.specs.Prelude.{◌≡◌, ◌∷◌, ◌++◌, ◌+◌, [], nat_le, true, IfOk, IfSome, OnOk, OnErr};
-ghost use Rattle.std.specs.Option.{option_map};
+ghost use Rattle.std.specs.Prelude.{◌≡◌, ◌+◌, nat_le, true, IfOk};
 ghost use Rattle.row_codec.specs.RowForm.{is_row, value_of};
 ghost use Rattle.row_codec.specs.RowKeys.{key_in, key_bytes, kind_number};
 ghost use Rattle.row_codec.specs.RowKeys.RowTable.{Records};
@@ -41,36 +40,29 @@ fn key_of(alloc: Global, kind: Kind, number: u32) -> Result<Bytes, AllocError>
     Ok(Bytes::of(key))
 }
 
-// The value of a row, if there is one.
-fn value_of(alloc: Global, row: Option<&Row>) -> Result<Option<Bytes>, AllocError>
-    requires { IfSome row (λ r. is_row r.now ≡ true) }
-    ensures { IfOk result (λ value. value ≡ option_map (λ r. value_of r.now) row.entry) }
+/// The value of a row that some state can have.
+pub fn value_of(alloc: Global, row: &Row) -> Result<Bytes, AllocError>
+    requires { is_row row.now ≡ true }
+    ensures { IfOk result (λ value. value ≡ value_of row.now) }
 {
-    let Some(row) = row else {
-        return Ok(None);
-    };
     let mut value = Vec::new(alloc);
     push_value(&mut value, row)?;
-    Ok(Some(Bytes::of(value)))
+    Ok(Bytes::of(value))
 }
 
-/// The change of the row of a kind's record under a number: its row before, if it was there, and after, if it is there. The kind is
-/// one that has records, and each row one that some state can have.
+/// The change of the row of a kind's record under a number: its value before, if it was there, and after, if it is there. The kind is
+/// one that has records.
 pub fn change_of(
     alloc: Global,
     kind: Kind,
     number: u32,
-    before: Option<&Row>,
-    after: Option<&Row>,
+    before: Option<Bytes>,
+    after: Option<Bytes>,
 ) -> Result<Change, AllocError>
-    requires kind { nat_le 1 (kind_number kind) ≡ true }
-    requires before { IfSome before (λ r. is_row r.now ≡ true) }
-    requires after { IfSome after (λ r. is_row r.now ≡ true) }
-    ensures { IfOk result (λ change. change ≡ change_of kind number (option_map (λ r. value_of r.now) before.entry) (option_map (λ r. value_of r.now) after.entry)) }
+    requires { nat_le 1 (kind_number kind) ≡ true }
+    ensures { IfOk result (λ change. change ≡ change_of kind number before after) }
 {
     let key = key_of(alloc, kind, number)?;
-    let before = value_of(alloc, before)?;
-    let after = value_of(alloc, after)?;
     Ok(Change { key, before, after })
 }
 

@@ -16,7 +16,7 @@ mod values;
 mod worked_spellings;
 mod writing;
 
-pub use changing::{change_of, next_change, setting_change};
+pub use changing::{change_of, next_change, setting_change, value_of};
 pub use laws::one_row;
 pub use spelling::{read_row, write_row};
 pub use worked_spellings::{worked_more_row_spellings, worked_no_rows, worked_row_spellings};

@@ -1,0 +1,24 @@
+use Rattle.std.proofs.Common.{List, [], ◌∷◌, sym, ◌∙◌, ap, subst}
+use Rattle.std.proofs.lemmas.Result.{IfOk-weaker}
+use Rattle.std.specs.Option.{option_map}
+use Rattle.entity_store.specs.EntityChanges.{after_entity_change}
+use Rattle.record_tables.specs.AfterChange.{changed_by}
+use Rattle.row_codec.specs.declared.changes.Change.{Change}
+use Rattle.row_codec.specs.CoveredTables.{Covers}
+use Rattle.entity_commands.specs.EntityRows.{Has}
+use Rattle.entity_commands.proofs.RowLaws.{same_covers, touched_covers}
+use Rattle.entity_commands.proofs.rows.entity_changes.Goals as goal
+
+pub returns-in-None : goal.returns-in-None
+returns-in-None c = λ s u before after.
+    let t = c.args.entities.now in
+    subst (λ (cs : List Change). Covers 3 6 s u cs) (sym (c.of.ensures ∙ c.new.ensures.items))
+    (same_covers s u t before (subst (λ o. Has (changed_by after_entity_change (option_map (λ d. d.now) o) t) u) c.in-None.is after))
+
+pub returns : goal.returns
+returns c =
+    let t = c.args.entities.now in
+    let made = c.in_ok-made.ensures in
+    IfOk-weaker c.one_change.result _ _ (λ changes e s u before after.
+    let there = subst (λ o. Has (changed_by after_entity_change (option_map (λ d. d.now) o) t) u) c.in-Some.is after in
+    subst (λ (cs : List Change). Covers 3 6 s u cs) (sym (e ∙ ap (λ (x : Change). x ∷ []) made.made)) (touched_covers s u t c.in-Some.change.now before there made.long made.entity)) c.one_change.ensures
