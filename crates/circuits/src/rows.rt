@@ -16,10 +16,10 @@ use crate::after::CircuitsAfter;
 use crate::changes::CircuitChange;
 use crate::grants::Circuit;
 use crate::store::Circuits;
-use ctrl_model::{CircuitNo, Kind, Numbers};
+use ctrl_model::{Bytes, CircuitNo, Kind, Numbers};
 use record_tables::touched;
 use row_codec::{Change, Changes, Row};
-use row_spelling::change_of;
+use row_spelling::{change_of, value_of};
 use std::alloc::{AllocError, Global};
 
 // The row of a circuit under a number.
@@ -39,14 +39,26 @@ fn row_of(no: CircuitNo, circuit: &Circuit) -> Result<Row, AllocError>
     })
 }
 
-// The row of a circuit under a number, if there is one.
-fn row_if_some(no: CircuitNo, circuit: Option<&Circuit>) -> Result<Option<Row>, AllocError>
+// The value of the row of a circuit under a number.
+fn row_value(alloc: Global, no: CircuitNo, circuit: &Circuit) -> Result<Bytes, AllocError>
+    requires { fits kind.Circuit circuit.now ≡ true }
+    ensures { IfOk result (λ value. value ≡ circuit_value circuit.now) }
+{
+    let row = row_of(no, circuit)?;
+    value_of(alloc, &row)
+}
+
+// The value of the row of a circuit under a number, if there is one.
+fn value_if_some(
+    alloc: Global,
+    no: CircuitNo,
+    circuit: Option<&Circuit>,
+) -> Result<Option<Bytes>, AllocError>
     requires { IfSome circuit (λ c. fits kind.Circuit c.now ≡ true) }
-    ensures form { IfOk result (λ row. IfSome row (λ r. is_row r ≡ true)) }
-    ensures value { IfOk result (λ row. option_map value_of row ≡ option_map circuit_value (option_map (λ c. c.now) circuit.entry)) }
+    ensures { IfOk result (λ value. value ≡ option_map circuit_value (option_map (λ c. c.now) circuit.entry)) }
 {
     match circuit {
-        Some(circuit) => Ok(Some(row_of(no, circuit)?)),
+        Some(circuit) => Ok(Some(row_value(alloc, no, circuit)?)),
         None => Ok(None),
     }
 }
@@ -62,9 +74,9 @@ fn change_at(
     requires after { IfSome after (λ c. fits kind.Circuit c.now ≡ true) }
     ensures { IfOk result (λ change. change ≡ circuit_change_of no.0 (option_map (λ c. c.now) before.entry) (option_map (λ c. c.now) after.entry)) }
 {
-    let before = row_if_some(no, before)?;
-    let after = row_if_some(no, after)?;
-    change_of(alloc, Kind::Circuit, no.0, before.as_ref(), after.as_ref())
+    let before = value_if_some(alloc, no, before)?;
+    let after = value_if_some(alloc, no, after)?;
+    change_of(alloc, Kind::Circuit, no.0, before, after)
 }
 
 // The changes of the rows of circuits at some numbers.

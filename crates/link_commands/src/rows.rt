@@ -12,11 +12,11 @@ ghost use Rattle.row_laws.specs.FittingRecords.{fits};
 ghost use Rattle.fabric_graph.specs.FabricChanges.{fabric_after};
 ghost use Rattle.link_commands.specs.LinkRows.{HaveRows, changed_number, link_change_of, link_changes_at};
 
-use ctrl_model::{Kind, LinkNo, Numbers};
+use ctrl_model::{Bytes, Kind, LinkNo, Numbers};
 use fabric_graph::{Fabric, FabricAfter, LinkChange, LinkView};
 use record_tables::touched;
 use row_codec::{Change, Changes, Row};
-use row_spelling::change_of;
+use row_spelling::{change_of, value_of};
 use std::alloc::{AllocError, Global};
 
 // The row of a link under a number.
@@ -38,14 +38,26 @@ fn row_of(no: LinkNo, link: LinkView) -> Result<Row, AllocError>
     })
 }
 
-// The row of a link under a number, if there is one.
-fn row_if_some(no: LinkNo, link: Option<LinkView>) -> Result<Option<Row>, AllocError>
+// The value of the row of a link under a number.
+fn row_value(alloc: Global, no: LinkNo, link: LinkView) -> Result<Bytes, AllocError>
+    requires { fits kind.Link link ≡ true }
+    ensures { IfOk result (λ value. value ≡ link_value link.entry) }
+{
+    let row = row_of(no, link)?;
+    value_of(alloc, &row)
+}
+
+// The value of the row of a link under a number, if there is one.
+fn value_if_some(
+    alloc: Global,
+    no: LinkNo,
+    link: Option<LinkView>,
+) -> Result<Option<Bytes>, AllocError>
     requires { IfSome link (λ l. fits kind.Link l ≡ true) }
-    ensures form { IfOk result (λ row. IfSome row (λ r. is_row r ≡ true)) }
-    ensures value { IfOk result (λ row. option_map value_of row ≡ option_map link_value link.entry) }
+    ensures { IfOk result (λ value. value ≡ option_map link_value link.entry) }
 {
     match link {
-        Some(link) => Ok(Some(row_of(no, link)?)),
+        Some(link) => Ok(Some(row_value(alloc, no, link)?)),
         None => Ok(None),
     }
 }
@@ -61,9 +73,9 @@ fn change_at(
     requires after { IfSome after (λ l. fits kind.Link l ≡ true) }
     ensures { IfOk result (λ change. change ≡ link_change_of no.0 before.entry after.entry) }
 {
-    let before = row_if_some(no, before)?;
-    let after = row_if_some(no, after)?;
-    change_of(alloc, Kind::Link, no.0, before.as_ref(), after.as_ref())
+    let before = value_if_some(alloc, no, before)?;
+    let after = value_if_some(alloc, no, after)?;
+    change_of(alloc, Kind::Link, no.0, before, after)
 }
 
 // The changes of the rows of links at some numbers.
