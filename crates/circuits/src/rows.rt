@@ -5,7 +5,6 @@ ghost use Rattle.ctrl_model.specs.declared.kinds.Kind.TheVariants as kind;
 ghost use Rattle.ctrl_model.specs.State.{State};
 ghost use Rattle.record_tables.specs.Climbing.{Climbs};
 ghost use Rattle.row_codec.specs.CoveredTables.{Covers};
-ghost use Rattle.row_codec.specs.RowForm.{is_row, value_of};
 ghost use Rattle.row_codec.specs.RowKeys.{is_long};
 ghost use Rattle.row_codec.specs.RowValues.{circuit_value};
 ghost use Rattle.row_laws.specs.FittingRecords.{fits};
@@ -22,29 +21,20 @@ use row_codec::{Change, Changes, Row};
 use row_spelling::{change_of, value_of};
 use std::alloc::{AllocError, Global};
 
-// The row of a circuit under a number.
-fn row_of(no: CircuitNo, circuit: &Circuit) -> Result<Row, AllocError>
+// The value of the row of a circuit under a number.
+fn row_value(alloc: Global, no: CircuitNo, circuit: &Circuit) -> Result<Bytes, AllocError>
     requires { fits kind.Circuit circuit.now ≡ true }
-    ensures form { IfOk result (λ row. is_row row ≡ true) }
-    ensures value { IfOk result (λ row. value_of row ≡ circuit_value circuit.now) }
+    ensures { IfOk result (λ value. value ≡ circuit_value circuit.now) }
 {
     let links = circuit.links.copy()?;
-    Ok(Row::Circuit {
+    let row = Row::Circuit {
         no,
         identity: circuit.identity,
         service: circuit.service,
         terminator: circuit.terminator,
         ingress: circuit.ingress,
         links,
-    })
-}
-
-// The value of the row of a circuit under a number.
-fn row_value(alloc: Global, no: CircuitNo, circuit: &Circuit) -> Result<Bytes, AllocError>
-    requires { fits kind.Circuit circuit.now ≡ true }
-    ensures { IfOk result (λ value. value ≡ circuit_value circuit.now) }
-{
-    let row = row_of(no, circuit)?;
+    };
     value_of(alloc, &row)
 }
 

@@ -1,6 +1,6 @@
 -- What applying a change of an entity has to show: that a change that leads, once settled, to a valid state is allowed by the store.
-use Rattle.std.proofs.Common.{◌≡◌, ◌≢◌, ℕ, ◌+◌, ◌<◌, ◌==◌, Bool, true, false, cond, not, ◌&&◌, nat_lt, inl, List, [], ◌∷◌, length, Option, None, Some, Ok, Err, refl, sym, ◌∙◌, ap, arith, eq-eqb, ne_eqb, lt-ltb, is_some}
-use Rattle.std.proofs.lemmas.Bool.{cond-false, cond-true, false≢true, and_parts}
+use Rattle.std.proofs.Common.{◌≡◌, ℕ, ◌<◌, ◌==◌, Bool, true, false, cond, not, ◌&&◌, nat_lt, inl, List, [], ◌∷◌, length, Option, None, Some, Ok, Err, refl, sym, ◌∙◌, ap, arith, eq-eqb, lt-ltb, is_some}
+use Rattle.std.proofs.lemmas.Bool.{cond-true, false≢true, and_parts}
 use Rattle.std.proofs.lemmas.List.{length-map}
 use Rattle.std.specs.Bool.{⊤}
 use Rattle.std.specs.Option.{option_map}
@@ -11,8 +11,8 @@ use Rattle.ctrl_model.specs.CommandForm.{is_cost, are_attributes}
 use Rattle.ctrl_model.specs.NameForm.{is_name}
 use Rattle.ctrl_model.specs.RecordCommands.{after_create}
 use Rattle.ctrl_model.specs.EntityCommands.{new_router as made_router}
-use Rattle.ctrl_model.specs.Numbered.{at, is_present, with_last, edit_at, Between}
-use Rattle.ctrl_model.specs.State.{State, Entity, Router, as_entity}
+use Rattle.ctrl_model.specs.Numbered.{at, is_present, with_last, edit_at}
+use Rattle.ctrl_model.specs.State.{Entity, Router, as_entity}
 use Rattle.ctrl_model.specs.Tables.{table}
 use Rattle.ctrl_model.specs.Settling.{settle}
 use Rattle.ctrl_model.specs.ValidState.{ValidState, each_passes, is_valid_router}

@@ -7,7 +7,7 @@ use Rattle.std.proofs.lemmas.List.{length-map}
 use Rattle.std.proofs.lemmas.Option.{same_Some, none-some}
 use Rattle.std.specs.List.{find, flat_map}
 use Rattle.std.specs.Option.{ok_or, option_map, option_map_or}
-use Rattle.ctrl_model.specs.RecordCommands.{after_create, after_edit, after_update, after_delete, refusal_of_create, refusal_of_update, delete}
+use Rattle.ctrl_model.specs.RecordCommands.{after_create, after_update, refusal_of_create, refusal_of_update, delete}
 use Rattle.ctrl_model.specs.declared.kinds.Kind.{Kind}
 use Rattle.ctrl_model.specs.declared.kinds.Kind.TheVariants as kind
 use Rattle.ctrl_model.specs.declared.kinds.RouterSeen.{RouterSeen}
@@ -19,7 +19,7 @@ use Rattle.ctrl_model.specs.Numbered.{with_edit, at, is_present, edit_at, first_
 use Rattle.ctrl_model.specs.Networks.{seen}
 use Rattle.ctrl_model.specs.State.{State, Entity, Router, as_entity}
 use Rattle.ctrl_model.specs.Tables.{named, is_entity_kind}
-use Rattle.ctrl_model.specs.Rules.{carried_out, or_then, refuse_if, unknown_if_absent, exists_if_present, at_number, attributes_in_use, attributes_full}
+use Rattle.ctrl_model.specs.Rules.{or_then, refuse_if, unknown_if_absent, exists_if_present, at_number, attributes_in_use, attributes_full}
 use Rattle.ctrl_model.specs.EntityCommands.{entity, described, new_router, described_router, marked, create_router, update_router, mark_router}
 use Rattle.ctrl_model.proofs.NumberedLaws.{at-map, at-map-back}
 use Rattle.model_laws.specs.Plans.{refused, changed}

@@ -1,11 +1,11 @@
 -- Laws of the row of the entity that a change touches: what stands at its number afterwards, and that nothing else changes.
-use Rattle.std.proofs.Common.{◌≡◌, ℕ, ◌+◌, ◌≤◌, ◌==◌, Bool, true, false, cond, List, [], ◌∷◌, Option, None, Some, Bor, IfSome, inl, inr, refl, sym, ◌∙◌, ap, subst, lit≤, eq-eqb}
+use Rattle.std.proofs.Common.{◌≡◌, ℕ, ◌+◌, ◌≤◌, ◌==◌, true, false, cond, List, [], ◌∷◌, Option, None, Some, IfSome, inl, refl, sym, ◌∙◌, ap, subst, lit≤, eq-eqb}
 use Rattle.std.proofs.lemmas.Bool.{and_from, cond-true, false≢true}
-use Rattle.std.specs.Option.{option_map, option_copied}
+use Rattle.std.specs.Option.{option_map}
 use Rattle.ctrl_model.specs.declared.kinds.Kind.{Kind}
 use Rattle.ctrl_model.specs.declared.kinds.Kind.TheVariants as kind
 use Rattle.ctrl_model.specs.Numbered.{at, with_last, edit_at, without, Between, Table}
-use Rattle.ctrl_model.specs.State.{State, Entity, Router, start}
+use Rattle.ctrl_model.specs.State.{State, Router, start}
 use Rattle.ctrl_model.specs.Tables.{Record, table, is_entity_kind}
 use Rattle.ctrl_model.proofs.NumberedLaws.{at-edit_at, at-without, at-with_last-other, at-edit_at-other, at-without-other}
 use Rattle.entity_store.specs.declared.changes.EntityChange.{EntityChange}
@@ -14,9 +14,7 @@ use Rattle.entity_store.specs.EntityChanges.{after_entity_change}
 use Rattle.entity_store.specs.EntityTables.{Tables, new_router}
 use Rattle.entity_store.specs.HeldUses.{with_entities}
 use Rattle.record_tables.proofs.TurnLaws.{at-new}
-use Rattle.row_codec.specs.declared.rows.Row.{Row}
 use Rattle.row_codec.specs.CoveredTables.{Covers, change_at}
-use Rattle.row_codec.specs.RowForm.{value_of}
 use Rattle.row_codec.specs.RowKeys.{kind_number, key_in, is_long}
 use Rattle.row_codec.specs.RowKeys.RowTable.{Records}
 use Rattle.row_codec.specs.RowValues.{entity_value, router_value, record_value}
@@ -25,13 +23,8 @@ use Rattle.row_laws.proofs.Covers.{Covers-append, Covers-same_records}
 use Rattle.row_laws.proofs.SpelledChanges.{row_at-record}
 use Rattle.row_laws.proofs.TouchedKeys.{Covers-records}
 use Rattle.row_spelling.specs.RecordChanges.{change_of}
-use Rattle.entity_commands.specs.EntityChanges.{CanChangeEntities, is_plain_kind}
+use Rattle.entity_commands.specs.EntityChanges.{CanChangeEntities}
 use Rattle.entity_commands.specs.EntityRows.{AreFit, Has, plain_after, router_after, row_change, touched_kind, touched_number}
-
--- the value of a row that is lent is that of the row
-pub lent_value : (o : Option (Bor Row)) → option_map (λ r. value_of r.now) o ≡ option_map value_of (option_copied o)
-lent_value None = refl
-lent_value (Some r) = refl
 
 pub if_some : {X : Type 0} (P : X → Type 0) (o : Option X) → ((x : X) → o ≡ Some x → P x) → IfSome o P
 if_some P None h = tt

@@ -1,5 +1,5 @@
 -- Small tables and states for worked examples.
-use Rattle.std.specs.Prelude.{ℕ, Bool, true, false, List, [], ◌∷◌, codes}
+use Rattle.std.specs.Prelude.{ℕ, Bool, List, [], ◌∷◌, codes}
 use Rattle.ctrl_model.specs.State.{State, Router, start}
 use Rattle.entity_store.specs.EntityTables.{Tables, no_entities}
 

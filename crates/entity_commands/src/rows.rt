@@ -7,57 +7,65 @@ ghost use Rattle.entity_store.specs.EntityTables as entity_tables;
 ghost use Rattle.entity_store.specs.EntityTables.{is_entity_kind};
 ghost use Rattle.record_tables.specs.AfterChange.{changed_by};
 ghost use Rattle.row_codec.specs.CoveredTables.{Covers};
-ghost use Rattle.row_codec.specs.RowForm.{is_row, value_of};
 ghost use Rattle.row_codec.specs.RowKeys.{is_long};
 ghost use Rattle.row_codec.specs.RowValues.{entity_value, router_value};
 ghost use Rattle.row_laws.specs.FittingRecords.{fits};
 ghost use Rattle.row_spelling.specs.RecordChanges.{change_of};
-ghost use Rattle.entity_commands.specs.EntityChanges.{CanChangeEntities, is_plain_kind};
+ghost use Rattle.entity_commands.specs.EntityChanges.{CanChangeEntities};
 ghost use Rattle.entity_commands.specs.EntityRows.{AreFit, Has, plain_after, router_after, row_change, touched_kind, touched_number};
 
-use ctrl_model::{IdentityNo, Kind, RouterNo, ServiceNo};
+use ctrl_model::{Bytes, IdentityNo, Kind, RouterNo, ServiceNo};
 use entity_store::{Entities, EntityChange, EntityView, RouterView};
 use row_codec::{Change, Changes, Row};
-use row_spelling::change_of;
+use row_spelling::{change_of, value_of};
 use std::alloc::{AllocError, Global};
 
-// The row of an identity or a service under a number.
-fn plain_row(kind: Kind, number: u32, entity: EntityView) -> Result<Row, AllocError>
-    requires plain { is_plain_kind kind ≡ true }
-    requires fits { fits Kind.Identity entity ≡ true }
-    ensures form { IfOk result (λ row. is_row row ≡ true) }
-    ensures value { IfOk result (λ row. value_of row ≡ entity_value entity.entry) }
+// The value of the row of an identity under a number.
+fn identity_value(alloc: Global, number: u32, entity: EntityView) -> Result<Bytes, AllocError>
+    requires { fits Kind.Identity entity ≡ true }
+    ensures { IfOk result (λ value. value ≡ entity_value entity.entry) }
 {
     let name = entity.name.copy()?;
     let attributes = entity.attributes.copy()?;
-    match kind {
-        Kind::Identity => Ok(Row::Identity {
-            no: IdentityNo(number),
-            name,
-            attributes,
-        }),
-        _ => Ok(Row::Service {
-            no: ServiceNo(number),
-            name,
-            attributes,
-        }),
-    }
+    let row = Row::Identity {
+        no: IdentityNo(number),
+        name,
+        attributes,
+    };
+    value_of(alloc, &row)
 }
 
-// The row of an identity or a service under a number, if there is one.
+// The value of the row of a service under a number.
+fn service_value(alloc: Global, number: u32, entity: EntityView) -> Result<Bytes, AllocError>
+    requires { fits Kind.Service entity ≡ true }
+    ensures { IfOk result (λ value. value ≡ entity_value entity.entry) }
+{
+    let name = entity.name.copy()?;
+    let attributes = entity.attributes.copy()?;
+    let row = Row::Service {
+        no: ServiceNo(number),
+        name,
+        attributes,
+    };
+    value_of(alloc, &row)
+}
+
+// The value of the row of an identity or a service, if there is one.
 fn plain_if_some(
+    alloc: Global,
     kind: Kind,
     number: u32,
     entity: Option<EntityView>,
-) -> Result<Option<Row>, AllocError>
-    requires plain { is_plain_kind kind ≡ true }
-    requires fits { IfSome entity (λ e. fits Kind.Identity e ≡ true) }
-    ensures form { IfOk result (λ row. IfSome row (λ r. is_row r ≡ true)) }
-    ensures value { IfOk result (λ row. option_map value_of row ≡ option_map entity_value entity.entry) }
+) -> Result<Option<Bytes>, AllocError>
+    requires { IfSome entity (λ e. fits Kind.Identity e ≡ true) }
+    ensures { IfOk result (λ value. value ≡ option_map entity_value entity.entry) }
 {
-    match entity {
-        Some(entity) => Ok(Some(plain_row(kind, number, entity)?)),
-        None => Ok(None),
+    let Some(entity) = entity else {
+        return Ok(None);
+    };
+    match kind {
+        Kind::Identity => Ok(Some(identity_value(alloc, number, entity)?)),
+        _ => Ok(Some(service_value(alloc, number, entity)?)),
     }
 }
 
@@ -73,7 +81,9 @@ fn plain_after<'a>(
 {
     match change {
         EntityChange::Add {
-            name, attributes, ..
+            name,
+            attributes,
+            ..
         } => Some(EntityView { name, attributes }),
         EntityChange::Describe { attributes, .. } => {
             let entity = entities.entity(kind, number)?;
@@ -86,32 +96,35 @@ fn plain_after<'a>(
     }
 }
 
-// The row of a router under a number.
-fn router_row(no: RouterNo, router: RouterView) -> Result<Row, AllocError>
+// The value of the row of a router under a number.
+fn row_value(alloc: Global, no: RouterNo, router: RouterView) -> Result<Bytes, AllocError>
     requires { fits Kind.Router router ≡ true }
-    ensures form { IfOk result (λ row. is_row row ≡ true) }
-    ensures value { IfOk result (λ row. value_of row ≡ router_value router.entry) }
+    ensures { IfOk result (λ value. value ≡ router_value router.entry) }
 {
     let name = router.name.copy()?;
     let attributes = router.attributes.copy()?;
-    Ok(Row::Router {
+    let row = Row::Router {
         no,
         name,
         attributes,
         cost: router.cost,
         through: router.through,
         connected: router.connected,
-    })
+    };
+    value_of(alloc, &row)
 }
 
-// The row of a router under a number, if there is one.
-fn router_if_some(no: RouterNo, router: Option<RouterView>) -> Result<Option<Row>, AllocError>
+// The value of the row of a router under a number, if there is one.
+fn router_if_some(
+    alloc: Global,
+    no: RouterNo,
+    router: Option<RouterView>,
+) -> Result<Option<Bytes>, AllocError>
     requires { IfSome router (λ r. fits Kind.Router r ≡ true) }
-    ensures form { IfOk result (λ row. IfSome row (λ r. is_row r ≡ true)) }
-    ensures value { IfOk result (λ row. option_map value_of row ≡ option_map router_value router.entry) }
+    ensures { IfOk result (λ value. value ≡ option_map router_value router.entry) }
 {
     match router {
-        Some(router) => Ok(Some(router_row(no, router)?)),
+        Some(router) => Ok(Some(row_value(alloc, no, router)?)),
         None => Ok(None),
     }
 }
@@ -172,22 +185,6 @@ fn router_after<'a>(
     }
 }
 
-// The change of a row, which there was or is not.
-fn change_between(
-    alloc: Global,
-    kind: Kind,
-    number: u32,
-    before: Option<Row>,
-    after: Option<Row>,
-) -> Result<Change, AllocError>
-    requires kind { is_entity_kind kind ≡ true }
-    requires before { IfSome before (λ r. is_row r ≡ true) }
-    requires after { IfSome after (λ r. is_row r ≡ true) }
-    ensures { IfOk result (λ change. change ≡ change_of kind number (option_map value_of before) (option_map value_of after)) }
-{
-    change_of(alloc, kind, number, before.as_ref(), after.as_ref())
-}
-
 // The change of the row of an identity or a service.
 fn plain_change(
     alloc: Global,
@@ -196,16 +193,20 @@ fn plain_change(
     number: u32,
     change: &EntityChange,
 ) -> Result<Change, AllocError>
-    requires plain { is_plain_kind kind ≡ true }
     requires entity { is_entity_kind kind ≡ true }
     requires before { IfSome (at (entity_tables.entities kind entities.now) number) (λ e. fits Kind.Identity e ≡ true) }
     requires after { IfSome (plain_after change.now (at (entity_tables.entities kind entities.now) number)) (λ e. fits Kind.Identity e ≡ true) }
     ensures { IfOk result (λ made. made ≡ change_of kind number (option_map entity_value (at (entity_tables.entities kind entities.now) number))
         (option_map entity_value (plain_after change.now (at (entity_tables.entities kind entities.now) number)))) }
 {
-    let before = plain_if_some(kind, number, entities.entity(kind, number))?;
-    let after = plain_if_some(kind, number, plain_after(entities, kind, number, change))?;
-    change_between(alloc, kind, number, before, after)
+    let before = plain_if_some(alloc, kind, number, entities.entity(kind, number))?;
+    let after = plain_if_some(
+        alloc,
+        kind,
+        number,
+        plain_after(entities, kind, number, change),
+    )?;
+    change_of(alloc, kind, number, before, after)
 }
 
 // The change of the row of a router.
@@ -220,9 +221,9 @@ fn router_change(
     ensures { IfOk result (λ made. made ≡ change_of Kind.Router no.0 (option_map router_value (at entities.now.routers.rows no.0))
         (option_map router_value (router_after change.now (at entities.now.routers.rows no.0)))) }
 {
-    let before = router_if_some(no, entities.router(no))?;
-    let after = router_if_some(no, router_after(entities, no, change))?;
-    change_between(alloc, Kind::Router, no.0, before, after)
+    let before = router_if_some(alloc, no, entities.router(no))?;
+    let after = router_if_some(alloc, no, router_after(entities, no, change))?;
+    change_of(alloc, Kind::Router, no.0, before, after)
 }
 
 // The kind and the number of the entity that a change touches.

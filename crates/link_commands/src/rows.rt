@@ -5,7 +5,6 @@ ghost use Rattle.ctrl_model.specs.declared.kinds.Kind.TheVariants as kind;
 ghost use Rattle.ctrl_model.specs.State.{State};
 ghost use Rattle.record_tables.specs.Climbing.{Climbs};
 ghost use Rattle.row_codec.specs.CoveredTables.{Covers};
-ghost use Rattle.row_codec.specs.RowForm.{is_row, value_of};
 ghost use Rattle.row_codec.specs.RowKeys.{is_long};
 ghost use Rattle.row_codec.specs.RowValues.{link_value};
 ghost use Rattle.row_laws.specs.FittingRecords.{fits};
@@ -19,14 +18,13 @@ use row_codec::{Change, Changes, Row};
 use row_spelling::{change_of, value_of};
 use std::alloc::{AllocError, Global};
 
-// The row of a link under a number.
-fn row_of(no: LinkNo, link: LinkView) -> Result<Row, AllocError>
+// The value of the row of a link under a number.
+fn row_value(alloc: Global, no: LinkNo, link: LinkView) -> Result<Bytes, AllocError>
     requires { fits kind.Link link ≡ true }
-    ensures form { IfOk result (λ row. is_row row ≡ true) }
-    ensures value { IfOk result (λ row. value_of row ≡ link_value link.entry) }
+    ensures { IfOk result (λ value. value ≡ link_value link.entry) }
 {
     let name = link.name.copy()?;
-    Ok(Row::Link {
+    let row = Row::Link {
         no,
         name,
         a: link.a,
@@ -35,15 +33,7 @@ fn row_of(no: LinkNo, link: LinkView) -> Result<Row, AllocError>
         latency_a: link.latency_a,
         latency_b: link.latency_b,
         up: link.up,
-    })
-}
-
-// The value of the row of a link under a number.
-fn row_value(alloc: Global, no: LinkNo, link: LinkView) -> Result<Bytes, AllocError>
-    requires { fits kind.Link link ≡ true }
-    ensures { IfOk result (λ value. value ≡ link_value link.entry) }
-{
-    let row = row_of(no, link)?;
+    };
     value_of(alloc, &row)
 }
 

@@ -1,7 +1,6 @@
 -- Laws of the rows of terminators: the numbers at which they can differ, and that the changes there cover them.
-use Rattle.std.proofs.Common.{◌≡◌, ℕ, Bool, true, false, List, Option, None, Some, Bor, inl, inr, refl, sym, ◌∙◌, ap, subst, lit≤}
+use Rattle.std.proofs.Common.{◌≡◌, ℕ, Bool, true, false, List, Option, None, Some, inl, inr, refl, sym, ◌∙◌, ap, subst, lit≤}
 use Rattle.std.specs.List.{list_all}
-use Rattle.std.specs.Option.{option_map, option_copied}
 use Rattle.ctrl_model.specs.declared.kinds.Kind.TheVariants as kind
 use Rattle.ctrl_model.specs.Membership.{Among}
 use Rattle.ctrl_model.specs.Numbered.{at, Table}
@@ -13,8 +12,6 @@ use Rattle.record_tables.specs.AfterChange.{changed_by, touched_numbers}
 use Rattle.record_tables.specs.Climbing.{Climbs}
 use Rattle.record_tables.proofs.GoneLaws.{touched_are, touched_climb}
 use Rattle.row_codec.specs.CoveredTables.{Covers}
-use Rattle.row_codec.specs.declared.rows.Row.{Row}
-use Rattle.row_codec.specs.RowForm.{value_of}
 use Rattle.row_codec.specs.RowKeys.{is_long}
 use Rattle.row_laws.proofs.TouchedKeys.{Covers-records}
 use Rattle.terminators.specs.declared.changes.TermChange.{TermChange}
@@ -23,11 +20,6 @@ use Rattle.terminators.specs.TermChanges.{after_term_change, terms_after}
 use Rattle.terminators.specs.TermTables.{TermTables}
 use Rattle.terminators.proofs.AfterLaws.{at-left}
 use Rattle.terminator_commands.specs.TermRows.{changed_number, term_changes_at}
-
--- the value of a row that is lent is that of the row
-pub lent_value : (o : Option (Bor Row)) → option_map (λ r. value_of r.now) o ≡ option_map value_of (option_copied o)
-lent_value None = refl
-lent_value (Some r) = refl
 
 -- a change touches its own number alone
 untouched : (c : Option TermChange) (k : TermTables) (n : ℕ) → (changed_number c k.terminators.next ≡ Some n → ⊥)

@@ -5,28 +5,26 @@ ghost use Rattle.ctrl_model.specs.declared.kinds.Kind.TheVariants as kind;
 ghost use Rattle.ctrl_model.specs.State.{State};
 ghost use Rattle.record_tables.specs.Climbing.{Climbs};
 ghost use Rattle.row_codec.specs.CoveredTables.{Covers};
-ghost use Rattle.row_codec.specs.RowForm.{is_row, value_of};
 ghost use Rattle.row_codec.specs.RowKeys.{is_long};
 ghost use Rattle.row_codec.specs.RowValues.{terminator_value};
 ghost use Rattle.row_laws.specs.FittingRecords.{fits};
 ghost use Rattle.terminators.specs.TermChanges.{terms_after};
 ghost use Rattle.terminator_commands.specs.TermRows.{AreFit, changed_number, term_change_of, term_changes_at};
 
-use ctrl_model::{Kind, Numbers, TermNo};
+use ctrl_model::{Bytes, Kind, Numbers, TermNo};
 use record_tables::touched;
 use row_codec::{Change, Changes, Row};
-use row_spelling::change_of;
+use row_spelling::{change_of, value_of};
 use std::alloc::{AllocError, Global};
 use terminators::{TermChange, TermView, Terminators, TerminatorsAfter};
 
-// The row of a terminator under a number.
-fn row_of(no: TermNo, term: TermView) -> Result<Row, AllocError>
+// The value of the row of a terminator under a number.
+fn row_value(alloc: Global, no: TermNo, term: TermView) -> Result<Bytes, AllocError>
     requires { fits kind.Terminator term ≡ true }
-    ensures form { IfOk result (λ row. is_row row ≡ true) }
-    ensures value { IfOk result (λ row. value_of row ≡ terminator_value term.entry) }
+    ensures { IfOk result (λ value. value ≡ terminator_value term.entry) }
 {
     let instance = term.instance.copy()?;
-    Ok(Row::Terminator {
+    let row = Row::Terminator {
         no,
         service: term.service,
         router: term.router,
@@ -34,17 +32,21 @@ fn row_of(no: TermNo, term: TermView) -> Result<Row, AllocError>
         instance,
         cost: term.cost,
         precedence: term.precedence,
-    })
+    };
+    value_of(alloc, &row)
 }
 
-// The row of a terminator under a number, if there is one.
-fn row_if_some(no: TermNo, term: Option<TermView>) -> Result<Option<Row>, AllocError>
+// The value of the row of a terminator under a number, if there is one.
+fn value_if_some(
+    alloc: Global,
+    no: TermNo,
+    term: Option<TermView>,
+) -> Result<Option<Bytes>, AllocError>
     requires { IfSome term (λ e. fits kind.Terminator e ≡ true) }
-    ensures form { IfOk result (λ row. IfSome row (λ r. is_row r ≡ true)) }
-    ensures value { IfOk result (λ row. option_map value_of row ≡ option_map terminator_value term.entry) }
+    ensures { IfOk result (λ value. value ≡ option_map terminator_value term.entry) }
 {
     match term {
-        Some(term) => Ok(Some(row_of(no, term)?)),
+        Some(term) => Ok(Some(row_value(alloc, no, term)?)),
         None => Ok(None),
     }
 }
@@ -60,15 +62,9 @@ fn change_at(
     requires after { IfSome after (λ e. fits kind.Terminator e ≡ true) }
     ensures { IfOk result (λ change. change ≡ term_change_of no.0 before.entry after.entry) }
 {
-    let before = row_if_some(no, before)?;
-    let after = row_if_some(no, after)?;
-    change_of(
-        alloc,
-        Kind::Terminator,
-        no.0,
-        before.as_ref(),
-        after.as_ref(),
-    )
+    let before = value_if_some(alloc, no, before)?;
+    let after = value_if_some(alloc, no, after)?;
+    change_of(alloc, Kind::Terminator, no.0, before, after)
 }
 
 // The changes of the rows of terminators at some numbers.

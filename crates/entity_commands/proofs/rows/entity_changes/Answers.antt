@@ -15,10 +15,10 @@ returns-in-None c = λ s u before after.
     subst (λ (cs : List Change). Covers 3 6 s u cs) (sym (c.of.ensures ∙ c.new.ensures.items))
     (same_covers s u t before (subst (λ o. Has (changed_by after_entity_change (option_map (λ d. d.now) o) t) u) c.in-None.is after))
 
-pub returns : goal.returns
-returns c =
+pub returns-in_ok-made-in-Some : goal.returns-in_ok-made-in-Some
+returns-in_ok-made-in-Some c =
     let t = c.args.entities.now in
-    let made = c.in_ok-made.ensures in
+    let made = c.in_ok-made-in-Some.ensures in
     IfOk-weaker c.one_change.result _ _ (λ changes e s u before after.
     let there = subst (λ o. Has (changed_by after_entity_change (option_map (λ d. d.now) o) t) u) c.in-Some.is after in
     subst (λ (cs : List Change). Covers 3 6 s u cs) (sym (e ∙ ap (λ (x : Change). x ∷ []) made.made)) (touched_covers s u t c.in-Some.change.now before there made.long made.entity)) c.one_change.ensures

@@ -1,7 +1,5 @@
 use Rattle.std.proofs.Common.{◌≡◌, ℕ, IfOk, ◌∙◌, sym, subst}
 use Rattle.ctrl_model.specs.declared.kinds.Kind.{Kind}
-use Rattle.ctrl_model.specs.declared.kinds.Kind.TheVariants as kind
-use Rattle.ctrl_model.specs.Numbered.{Between}
 use Rattle.ctrl_model.specs.State.{Router, as_entity}
 use Rattle.entity_store.specs.TableRules.{KeepsNumbers}
 use Rattle.entity_store.proofs.TimesLaws.{Between-from_map}
