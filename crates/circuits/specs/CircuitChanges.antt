@@ -3,7 +3,7 @@
 use Rattle.std.specs.Prelude.{◌≡◌, ℕ, Bool, true, false, not, List, map, filter}
 use Rattle.std.specs.declared.option.Option.{Option}
 use Rattle.ctrl_model.specs.Networks.{seen}
-use Rattle.ctrl_model.specs.Numbered.{is_present, numbers, with_kept}
+use Rattle.ctrl_model.specs.Numbered.{is_present, numbers}
 use Rattle.ctrl_model.specs.State.{State, Circuit}
 use Rattle.circuits.specs.CircuitTables.{CircuitTables, is_full, with_circuit, without_circuit}
 use Rattle.circuits.specs.PresentRecords.{network, stays}
@@ -39,10 +39,6 @@ CanChangeCircuits (change.Remove n) k = is_present k.circuits.rows n.0 ≡ true
 -- A circuit stays beside these entities, links and terminators.
 abbrev pub stays_with : Tables → FabricSeen → TermTables → ℕ × Circuit → Bool
 stays_with t f e row = stays (network e f (map seen t.routers.rows)) (numbers t.identities.rows) (numbers t.services.rows) row.1
-
--- The circuits that stay beside these entities, links and terminators.
-abbrev pub settled : Tables → FabricSeen → TermTables → CircuitTables → CircuitTables
-settled t f e k = record k { circuits = with_kept (stays_with t f e) k.circuits }
 
 -- The numbers of the circuits that do not stay, ascending.
 abbrev pub gone : Tables → FabricSeen → TermTables → CircuitTables → List ℕ

@@ -4,4 +4,3 @@ pub mod WorkedCircuits
 pub mod CircuitChanges
 pub mod ChangedCircuits
 pub mod CircuitRows
-pub mod RemovedCircuits

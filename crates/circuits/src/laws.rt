@@ -1,10 +1,10 @@
-ghost use Rattle.std.specs.Prelude.{◌≡◌, ℕ, List, map};
+ghost use Rattle.std.specs.Prelude.{◌≡◌, ℕ, not, List, map, filter};
 ghost use Rattle.ctrl_model.specs.Networks.{network_of, seen};
-ghost use Rattle.ctrl_model.specs.Numbered.{numbers, with_kept};
+ghost use Rattle.ctrl_model.specs.Numbered.{numbers};
 ghost use Rattle.ctrl_model.specs.Settling.{stays_in};
 ghost use Rattle.ctrl_model.specs.State.{State, Circuit};
 ghost use Rattle.fabric_graph.specs.Routers.{fabric_of};
-ghost use Rattle.circuits.specs.CircuitChanges.{circuits_of, settled};
+ghost use Rattle.circuits.specs.CircuitChanges.{circuits_of, gone};
 ghost use Rattle.circuits.specs.PresentRecords.{network, stays};
 
 /// A circuit stays in a state exactly where it stays in the state's network beside its identities and services; and of the
@@ -14,13 +14,13 @@ pub fn as_a_state_settles()
     ensures parts { (s : State) (row : ℕ × Circuit) → stays (network (record { terminators = s.terminators }) (record { links = s.links; least = s.least_router_cost }) (map seen s.routers.rows)) (numbers s.identities.rows) (numbers s.services.rows) row.1 ≡ stays_in s row }
 {}
 
-/// Beside the entities, links and terminators of a state exactly those of its circuits stay that stay in the state, whatever uses
-/// of attributes are held (docs/RULES.md, "Settling").
-pub fn settled_as_a_state()
-    ensures { (s : State) (held : List (List ℕ × ℕ)) → settled
+/// Beside the entities, links and terminators of a state exactly the numbers of those of its circuits are gone that do not stay in the
+/// state, whatever uses of attributes are held (docs/RULES.md, "Settling").
+pub fn gone_from_a_state()
+    ensures { (s : State) (held : List (List ℕ × ℕ)) → gone
         (record { identities = s.identities; services = s.services; routers = s.routers; held = held })
         (fabric_of s)
         (record { terminators = s.terminators })
         (circuits_of s)
-        ≡ record (circuits_of s) { circuits = with_kept (stays_in s) s.circuits } }
+        ≡ numbers (filter (λ row. not (stays_in s row)) s.circuits.rows) }
 {}

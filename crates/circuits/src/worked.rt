@@ -1,5 +1,7 @@
 ghost use Rattle.std.specs.Prelude.{◌≡◌, [], ◌∷◌, true, false, None, Some};
 ghost use Rattle.ctrl_model.specs.Numbered.{at, numbers};
+ghost use Rattle.circuits.specs.declared.changes.CircuitChange.TheVariants.{Add, Remove};
+ghost use Rattle.circuits.specs.CircuitChanges.{circuits_after};
 ghost use Rattle.circuits.specs.CircuitTables.{no_circuits, is_full, with_circuit, without_circuit, with_next};
 ghost use Rattle.circuits.specs.PresentRecords.{stays};
 ghost use Rattle.circuits.specs.WorkedCircuits.{over, line, two_circuits};
@@ -14,6 +16,16 @@ pub fn circuits_by_number()
     ensures room { is_full two_circuits ≡ false }
     ensures last { is_full (with_next 4294967294 two_circuits) ≡ false }
     ensures run_out { is_full (with_next 4294967295 two_circuits) ≡ true }
+{}
+
+/// The circuits 1 and 2 as they will be: circuit 3 comes, circuit 1 goes, and either may be gone.
+pub fn circuits_as_they_will_be()
+    ensures unchanged { circuits_after None [] two_circuits ≡ two_circuits }
+    ensures added { numbers (circuits_after (Some (Add (over []))) [] two_circuits).circuits.rows ≡ 1 ∷ 2 ∷ 3 ∷ [] }
+    ensures removed { numbers (circuits_after (Some (Remove (record { 0 = 1 }))) [] two_circuits).circuits.rows ≡ 2 ∷ [] }
+    ensures gone { numbers (circuits_after (Some (Add (over []))) (1 ∷ 2 ∷ []) two_circuits).circuits.rows ≡ 3 ∷ [] }
+    ensures absent { at (circuits_after None (2 ∷ []) two_circuits).circuits.rows 2 ≡ None }
+    ensures next { (circuits_after (Some (Add (over []))) (3 ∷ []) two_circuits).circuits.next ≡ 4 }
 {}
 
 /// On the line a circuit over both links stays, with its identity 3, its service 2 and terminator 1 present. It goes where one of

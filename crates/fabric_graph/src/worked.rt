@@ -1,8 +1,10 @@
 ghost use Rattle.std.specs.Prelude.{◌≡◌, ◌∷◌, [], codes, true, false, Some, None, Ok, Err};
 ghost use Rattle.ctrl_model.specs.Networks.{hops};
-ghost use Rattle.ctrl_model.specs.Numbered.{at};
+ghost use Rattle.ctrl_model.specs.Numbered.{at, numbers};
 ghost use Rattle.path_certificate.specs.WorkedGraphs.{row_steps};
 ghost use Rattle.fabric_graph.specs.declared.fabric.FabricFault.TheVariants.{Exists, Unknown, SameRouter, Full};
+ghost use Rattle.fabric_graph.specs.declared.changes.LinkChange.TheVariants.{Add, Set, Remove, SetLeast};
+ghost use Rattle.fabric_graph.specs.FabricChanges.{fabric_after};
 ghost use Rattle.fabric_graph.specs.FabricTables.{no_links, with_link, with_set, without_link, with_least, with_next};
 ghost use Rattle.fabric_graph.specs.FabricRules.{may_add, found, is_there};
 ghost use Rattle.fabric_graph.specs.Routers.{AreRouters, network, number_at, costs_at_most};
@@ -25,6 +27,18 @@ pub fn links_and_numbers()
     ensures removed { is_there 2 (without_link 2 line) ≡ false }
     ensures not_again { (with_link (link_of_eleven (codes "l2") 2 3) (without_link 2 line)).links.next ≡ 4 }
     ensures least { no_links.least ≡ 10 }
+{}
+
+/// The line of two links as it will be: link 3 comes, link 1 is set or removed, the setting changes, and link 2 may be gone.
+pub fn links_as_they_will_be()
+    ensures unchanged { fabric_after None [] line ≡ line }
+    ensures added { numbers (fabric_after (Some (Add (link_of_eleven (codes "l3") 1 3))) [] line).links.rows ≡ 1 ∷ 2 ∷ 3 ∷ [] }
+    ensures removed { numbers (fabric_after (Some (Remove (record { 0 = 1 }))) [] line).links.rows ≡ 2 ∷ [] }
+    ensures gone { numbers (fabric_after (Some (Add (link_of_eleven (codes "l3") 1 3))) (2 ∷ []) line).links.rows ≡ 1 ∷ 3 ∷ [] }
+    ensures set { at (fabric_after (Some (Set (record { 0 = 1 }) 7 0 9 false)) (2 ∷ []) line).links.rows 1 ≡ Some (record { name = codes "l1"; a = 1; b = 2; cost = 7; latency_a = 0; latency_b = 9; up = false }) }
+    ensures absent { at (fabric_after None (2 ∷ []) line).links.rows 2 ≡ None }
+    ensures next { (fabric_after (Some (Add (link_of_eleven (codes "l3") 1 3))) (3 ∷ []) line).links.next ≡ 4 }
+    ensures least { (fabric_after (Some (SetLeast 25)) [] line).least ≡ 25 }
 {}
 
 /// The line of three routers: each step costs 21, which is a link of 11 and a router of 10. A link is no step while it is down, while

@@ -1,7 +1,6 @@
 -- What a command on links changes, in the links themselves and in a state, and which links stay (docs/PROMISES.md, "Commands
 -- on links").
 use Rattle.std.specs.Prelude.{◌≡◌, ℕ, Bool, true, Ok}
-use Rattle.ctrl_model.specs.Numbered.{with_kept}
 use Rattle.ctrl_model.specs.CommandForm.{is_link_cost, is_latency}
 use Rattle.ctrl_model.specs.Settling.{link_stays}
 use Rattle.ctrl_model.specs.State.{State, Link, start}
@@ -44,7 +43,3 @@ CanLink c s = CanChangeLinks c (fabric_of s)
 -- A link stays whose two routers are among these entities.
 abbrev pub stays : Tables → ℕ × Link → Bool
 stays t row = link_stays (record start { routers = t.routers }) row
-
--- The links of which both routers are among these entities.
-abbrev pub settled : Tables → FabricSeen → FabricSeen
-settled t f = record f { links = with_kept (stays t) f.links }

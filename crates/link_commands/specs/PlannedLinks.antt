@@ -1,8 +1,7 @@
 -- What the private functions of planning and of settling promise. Nothing public cites it.
-use Rattle.std.specs.Prelude.{◌≡◌, ℕ, Bool, true, not, ◌||◌, cond, List, None, Some, Ok, filter}
+use Rattle.std.specs.Prelude.{◌≡◌, ℕ, Bool, true, cond, List, None, Some, Ok}
 use Rattle.std.specs.declared.option.Option.{Option}
 use Rattle.std.specs.Option.{option_map_or}
-use Rattle.ctrl_model.specs.Numbered.{with_kept}
 use Rattle.ctrl_model.specs.declared.refusals.Refusal.{Refusal}
 use Rattle.ctrl_model.specs.declared.replies.Reply.{Reply}
 use Rattle.ctrl_model.specs.LinkCommands.{is_end_of, refusal_of_create_link, refusal_of_report}
@@ -52,7 +51,3 @@ RefusesReport link router t f r = (s : State) → refusal_of_report link router 
 -- Whether the link at a number stays, if one is there.
 abbrev pub stays_at : Tables → List (ℕ × Link) → ℕ → Bool
 stays_at t rows n = option_map_or (λ l. stays t (n, l)) (at rows n) true
-
--- The links of which those whose number passes a test stay only if both their routers are among these entities.
-abbrev pub settled_where : (ℕ → Bool) → Tables → FabricSeen → FabricSeen
-settled_where test t f = record f { links = with_kept (λ row. not (test row.0) || stays t row) f.links }

@@ -10,4 +10,4 @@ pub use applying::apply_link_change;
 pub use fabric_graph::LinkChange;
 pub use planning::plan_link_command;
 pub use rows::link_changes;
-pub use settling::{links_that_go, settle_links};
+pub use settling::links_that_go;

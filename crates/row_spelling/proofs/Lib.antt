@@ -3,4 +3,3 @@ mod FormLaws
 mod ValueLaws
 mod RowLaws
 mod LoopLaws
-pub mod LentRows

@@ -6,11 +6,11 @@ use ctrl_model::{
     CircuitNo, IdentityNo, Instance, LinkNo, Name, Numbers, Precedence, RouterNo, RouterSeen,
     ServiceNo, TermNo,
 };
-use fabric_graph::{Fabric, LinkRow};
+use fabric_graph::{Fabric, FabricAfter, LinkRow};
 use std::alloc::Global;
 use std::process::Abort;
 use std::test::Fail;
-use terminators::{Term, Terminators};
+use terminators::{Term, Terminators, TerminatorsAfter};
 
 const fn router(no: u32) -> RouterSeen {
     RouterSeen {
@@ -118,8 +118,8 @@ fn settles_with(
     rt: &impl Abort,
     alloc: Global,
     circuits: &Circuits,
-    fabric: &Fabric,
-    terminators: &Terminators,
+    fabric: &FabricAfter,
+    terminators: &TerminatorsAfter,
     identities: &Numbers,
     gone: &[u32],
 ) -> Result<(), Fail> {
@@ -134,18 +134,44 @@ fn settles_with(
     settles(rt, alloc, circuits, &present, gone)
 }
 
-fn settles_at_offers(
+fn settles_among(
     rt: &impl Abort,
     alloc: Global,
     circuits: &Circuits,
-    fabric: &Fabric,
-    terminators: &Terminators,
+    fabric: &FabricAfter,
+    terminators: &TerminatorsAfter,
     gone: &[u32],
 ) -> Result<(), Fail> {
     let identities = Numbers::from_slice(alloc, &[1, 5])?;
     settles_with(rt, alloc, circuits, fabric, terminators, &identities, gone)
 }
 
+// No terminator changes, and none is gone.
+fn settles_at_offers(
+    rt: &impl Abort,
+    alloc: Global,
+    circuits: &Circuits,
+    fabric: &FabricAfter,
+    terminators: &Terminators,
+    gone: &[u32],
+) -> Result<(), Fail> {
+    let none = Numbers::of(Vec::new(alloc));
+    let terminators = TerminatorsAfter::new(terminators, None, &none);
+    settles_among(rt, alloc, circuits, fabric, &terminators, gone)
+}
+
+fn settles_with_offers(
+    rt: &impl Abort,
+    alloc: Global,
+    circuits: &Circuits,
+    fabric: &FabricAfter,
+    gone: &[u32],
+) -> Result<(), Fail> {
+    let terminators = offers(alloc)?;
+    settles_at_offers(rt, alloc, circuits, fabric, &terminators, gone)
+}
+
+// No link changes, and none is gone.
 fn settles_over(
     rt: &impl Abort,
     alloc: Global,
@@ -153,8 +179,9 @@ fn settles_over(
     fabric: &Fabric,
     gone: &[u32],
 ) -> Result<(), Fail> {
-    let terminators = offers(alloc)?;
-    settles_at_offers(rt, alloc, circuits, fabric, &terminators, gone)
+    let none = Numbers::of(Vec::new(alloc));
+    let fabric = FabricAfter::new(fabric, None, &none);
+    settles_with_offers(rt, alloc, circuits, &fabric, gone)
 }
 
 // Over a line two circuits go, and none stays without its second link.
