@@ -1,10 +1,9 @@
 -- The counts and the steps that are lent to make rows are those of the stores and of the plan, relation by relation.
-use Rattle.std.proofs.Common.{◌≡◌, ℕ, ◌+◌, ◌<◌, ◌≤◌, List, Bor, sym, subst}
+use Rattle.std.proofs.Common.{◌≡◌, ℕ, ◌+◌, ◌<◌, ◌≤◌, sym, subst}
 use Rattle.ctrl_model.specs.declared.kinds.Relation.{Relation}
 use Rattle.ctrl_model.specs.declared.kinds.Relation.TheVariants.{Dial, Bind, IdentityRouter, ServiceRouter}
 use Rattle.ctrl_model.specs.Grants.{count}
 use Rattle.ctrl_model.specs.State.{State}
-use Rattle.grant_denorm.specs.declared.deltas.Delta.{Delta}
 use Rattle.grant_denorm.specs.Deltas.{ups, downs}
 use Rattle.grant_denorm.specs.MovedCounts.{AreCountsOf, Moves}
 use Rattle.grant_denorm.specs.PairCounts.{count_of}
@@ -19,7 +18,7 @@ use Rattle.ctrl_core.specs.KeptState.{Keeps, counts_of, state_of}
 
 module _ (m : GrantMoves) (steps : GrantSteps) (dial : m.dial.steps.now ≡ steps.dial.items) (bind : m.bind.steps.now ≡ steps.bind.items)
     (identity_router : m.identity_router.steps.now ≡ steps.identity_router.items) (service_router : m.service_router.steps.now ≡ steps.service_router.items) where
-  same_steps : (r : Relation) → rows.steps_of r m ≡ steps_of r steps
+  pub same_steps : (r : Relation) → rows.steps_of r m ≡ steps_of r steps
   same_steps Dial = dial
   same_steps Bind = bind
   same_steps IdentityRouter = identity_router
@@ -28,11 +27,25 @@ module _ (m : GrantMoves) (steps : GrantSteps) (dial : m.dial.steps.now ≡ step
   pub moves_each : (s t : State) → LeadAllCounts s t steps → (r : Relation) → Moves (count r s) (count r t) (rows.steps_of r m)
   moves_each s t leads r = subst (λ ds. Moves (count r s) (count r t) ds) (sym (same_steps r)) (leads r).moves
 
-  module _ (st : Stores) (same : (r : Relation) → rows.counts_of r m ≡ counts_of r st.grants) (room : (r : Relation) → HaveRoom (counts_of r st.grants) (steps_of r steps)) where
-    pub least_each : (r : Relation) (p q : ℕ) → downs (rows.steps_of r m) p q ≤ count_of (rows.counts_of r m) p q
-    least_each r p q = subst (λ ds. downs ds p q ≤ count_of (rows.counts_of r m) p q) (sym (same_steps r)) (subst (λ cs. downs (steps_of r steps) p q ≤ count_of cs p q) (sym (same r)) ((room r).least p q))
+module _ (m : GrantMoves) (st : Stores) (dial : m.dial.counted.now ≡ st.grants.dial) (bind : m.bind.counted.now ≡ st.grants.bind)
+    (identity_router : m.identity_router.counted.now ≡ st.grants.identity_router) (service_router : m.service_router.counted.now ≡ st.grants.service_router) where
+  pub same_counts : (r : Relation) → rows.counts_of r m ≡ counts_of r st.grants
+  same_counts Dial = dial
+  same_counts Bind = bind
+  same_counts IdentityRouter = identity_router
+  same_counts ServiceRouter = service_router
 
-    pub most_each : (r : Relation) (p q : ℕ) → count_of (rows.counts_of r m) p q + ups (rows.steps_of r m) p q < 4294967296
-    most_each r p q =
-        subst (λ ds. count_of (rows.counts_of r m) p q + ups ds p q < 4294967296) (sym (same_steps r))
-        (subst (λ cs. count_of cs p q + ups (steps_of r steps) p q < 4294967296) (sym (same r)) ((room r).most p q))
+  pub counts_each : Keeps st → (r : Relation) → AreCountsOf (count r (state_of st)) (rows.counts_of r m)
+  counts_each keeps r = subst (λ cs. AreCountsOf (count r (state_of st)) cs) (sym (same_counts r)) (keeps.counts r)
+
+-- what steps need of the counts
+pub least_each : (m : GrantMoves) (st : Stores) (steps : GrantSteps) → ((r : Relation) → rows.steps_of r m ≡ steps_of r steps) → ((r : Relation) → rows.counts_of r m ≡ counts_of r st.grants)
+    → ((r : Relation) → HaveRoom (counts_of r st.grants) (steps_of r steps)) → (r : Relation) (p q : ℕ) → downs (rows.steps_of r m) p q ≤ count_of (rows.counts_of r m) p q
+least_each m st steps taken same room r p q =
+    subst (λ ds. downs ds p q ≤ count_of (rows.counts_of r m) p q) (sym (taken r)) (subst (λ cs. downs (steps_of r steps) p q ≤ count_of cs p q) (sym (same r)) ((room r).least p q))
+
+pub most_each : (m : GrantMoves) (st : Stores) (steps : GrantSteps) → ((r : Relation) → rows.steps_of r m ≡ steps_of r steps) → ((r : Relation) → rows.counts_of r m ≡ counts_of r st.grants)
+    → ((r : Relation) → HaveRoom (counts_of r st.grants) (steps_of r steps)) → (r : Relation) (p q : ℕ) → count_of (rows.counts_of r m) p q + ups (rows.steps_of r m) p q < 4294967296
+most_each m st steps taken same room r p q =
+    subst (λ ds. count_of (rows.counts_of r m) p q + ups ds p q < 4294967296) (sym (taken r))
+    (subst (λ cs. count_of cs p q + ups (steps_of r steps) p q < 4294967296) (sym (same r)) ((room r).most p q))

@@ -10,7 +10,7 @@ use Rattle.ctrl_model.specs.Numbered.{with_removed, with_edit, at, with_last, ed
 use Rattle.ctrl_model.specs.State.{State, Entity, Router, as_entity, entity_named, router_named}
 use Rattle.ctrl_model.specs.Grants.{count}
 use Rattle.ctrl_model.specs.ShowCommands.{router_entities}
-use Rattle.ctrl_model.specs.RecordCommands.{after_create, after_edit, after_remove, forgotten}
+use Rattle.ctrl_model.specs.RecordCommands.{after_create}
 use Rattle.ctrl_model.specs.EntityCommands.{described, new_router}
 use Rattle.ctrl_model.specs.ValidState.{ValidState, HaveUniqueNames}
 use Rattle.ctrl_model.proofs.DistinctLaws.{same_name}

@@ -1,6 +1,6 @@
 -- Plans of commands whose crates plan them over parts of the state and whose changes move no count, as those of links, terminators
 -- and circuits; and what settling leaves.
-use Rattle.std.proofs.Common.{◌≡◌, false, Option, None, Some, refl, sym, ◌∙◌, ap, subst}
+use Rattle.std.proofs.Common.{◌≡◌, Option, None, Some, refl, sym, ◌∙◌, ap, subst}
 use Rattle.std.proofs.lemmas.Option.{none-some}
 use Rattle.std.specs.Option.{option_map}
 use Rattle.ctrl_model.specs.declared.kinds.Relation.{Relation}

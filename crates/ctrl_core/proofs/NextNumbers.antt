@@ -1,5 +1,5 @@
 -- The next numbers after a change: that of the kind of which it adds a record rises by one, and no other moves.
-use Rattle.std.proofs.Common.{◌≡◌, ℕ, ◌+◌, ◌≤◌, ◌<◌, Bool, true, false, cond, nat_le, leb-true, List, [], ◌∷◌, map, inl, inr, Option, None, Some, refl, sym, ◌∙◌, ap, subst, arith}
+use Rattle.std.proofs.Common.{◌≡◌, ℕ, ◌+◌, ◌≤◌, ◌<◌, true, cond, nat_le, leb-true, List, [], ◌∷◌, map, inl, inr, Option, None, Some, refl, sym, ◌∙◌, ap, subst, arith}
 use Rattle.std.proofs.lemmas.Bool.{false≢true}
 use Rattle.ctrl_model.specs.declared.kinds.Kind.{Kind}
 use Rattle.ctrl_model.specs.declared.kinds.Kind.TheVariants as kind
@@ -8,7 +8,6 @@ use Rattle.ctrl_model.proofs.Members.{list_all-among}
 use Rattle.ctrl_model.specs.Settling.{settle}
 use Rattle.ctrl_model.specs.State.{State}
 use Rattle.ctrl_model.specs.Tables.{table}
-use Rattle.ctrl_model.specs.ValidState.{ValidState}
 use Rattle.record_tables.specs.AfterChange.{changed_by}
 use Rattle.row_codec.specs.CoveredTables.{Covers, change_at}
 use Rattle.row_codec.specs.RowKeys.{kind_number, kinds, key_in}

@@ -1,5 +1,5 @@
 -- What a plan has to show: of a reply that changes nothing, of a refusal, and of a change that is carried out.
-use Rattle.std.proofs.Common.{◌≡◌, true, false, ◌||◌, List, Option, None, Some, refl, sym, ◌∙◌, ap, subst}
+use Rattle.std.proofs.Common.{◌≡◌, true, false, ◌||◌, List, Option, refl, sym, ◌∙◌, ap, subst}
 use Rattle.std.proofs.lemmas.Bool.{true≢false, false≢true}
 use Rattle.ctrl_model.specs.declared.commands.Command.{Command}
 use Rattle.ctrl_model.specs.declared.commands.Command.TheVariants as command

@@ -1,5 +1,5 @@
 -- The tables of the state after a change, settled, as the families that make rows see them; and what their calls need.
-use Rattle.std.proofs.Common.{◌≡◌, ℕ, true, List, Option, None, Some, Bor, IfSome, refl, sym, ◌∙◌, ap, subst}
+use Rattle.std.proofs.Common.{◌≡◌, ℕ, true, List, [], Option, None, Some, Bor, IfSome, refl, sym, ◌∙◌, ap, subst, arith}
 use Rattle.std.proofs.lemmas.Option.{none-some}
 use Rattle.std.specs.Option.{option_map, unwrap_or}
 use Rattle.ctrl_model.specs.declared.kinds.Kind.{Kind}
@@ -11,7 +11,8 @@ use Rattle.ctrl_model.specs.ValidState.{ValidState}
 use Rattle.record_tables.specs.AfterChange.{changed_by}
 use Rattle.record_tables.specs.Climbing.{Climbs}
 use Rattle.record_tables.proofs.GoneLaws.{gone_climb}
-use Rattle.row_laws.specs.FittingRecords.{fits}
+use Rattle.row_codec.specs.CoveredTables.{Covers}
+use Rattle.row_laws.proofs.Covers.{Covers-append, Covers-same_records}
 use Rattle.row_laws.proofs.WrittenRecords.{record_at_fits}
 use Rattle.circuits.specs.declared.changes.CircuitChange.{CircuitChange}
 use Rattle.circuits.specs.CircuitChanges.{circuits_after}
@@ -30,7 +31,7 @@ use Rattle.link_commands.specs.LinkRows as link_rows
 use Rattle.policy_store.specs.declared.changes.PolicyChange.{PolicyChange}
 use Rattle.policy_store.specs.PolicyChanges.{CanChangePolicies, after_policy_change, tables_of}
 use Rattle.policy_store.specs.PolicyRows.{AreValid}
-use Rattle.policy_store.specs.PolicyTables.{forgetting}
+use Rattle.policy_store.specs.PolicyTables.{PolicyTables, forgetting}
 use Rattle.terminators.specs.declared.changes.TermChange.{TermChange}
 use Rattle.terminators.specs.TermChanges.{terms_after}
 use Rattle.terminator_commands.specs.TermRows as term_rows
@@ -40,10 +41,9 @@ use Rattle.ctrl_core.specs.declared.plans.Settled.{Settled}
 use Rattle.ctrl_core.specs.declared.stores.Stores.{Stores}
 use Rattle.ctrl_core.specs.ChangeParts.{entity_part, policy_part, link_part, term_part, circuit_part, forgotten_name, least_after}
 use Rattle.ctrl_core.specs.ChangedStores.{CanSettle, KnowsSettled, next_state}
-use Rattle.ctrl_core.specs.Changes.{after_change}
 use Rattle.ctrl_core.specs.KeptState.{state_of}
 use Rattle.ctrl_core.specs.SettledNumbers.{without_settled, links_failing, terminators_failing, circuits_failing}
-use Rattle.ctrl_core.proofs.StateParts.{parts_after, state_then, entities_then, policies_then, links_then, terms_then, circuits_then, links_ordered, terms_ordered, circuits_ordered, without_is_settled}
+use Rattle.ctrl_core.proofs.StateParts.{parts_after, state_then, policies_then, links_then, terms_then, circuits_then, links_ordered, terms_ordered, circuits_ordered, without_is_settled}
 
 -- ---- the tables of the next state
 
@@ -181,7 +181,7 @@ can_rule (change.Circuit q) st p can e = absurd (none-some p e)
 
 -- a change that takes an `@` name out makes them so
 pub forgotten_then : (c : Change) (st : Stores) (f : Kind × List ℕ) → forgotten_name (entity_part c) ≡ Some f → policies_then c st ≡ forgetting f.0 f.1 st.policies
-forgotten_then (change.Entity (entity.Remove k n name)) st f e = ap (λ o. forgetting (unwrap_or o (k, name)).0 (unwrap_or o (k, name)).1 st.policies) e
+forgotten_then (change.Entity (entity.Remove k n name)) st f e = ap (λ (o : Option (Kind × List ℕ)). forgetting (unwrap_or {T = Kind × List ℕ} o (k, name)).0 (unwrap_or {T = Kind × List ℕ} o (k, name)).1 st.policies) e
 forgotten_then (change.Entity _) st f e = absurd (none-some f e)
 forgotten_then (change.Policy q) st f e = absurd (none-some f e)
 forgotten_then (change.Link q) st f e = absurd (none-some f e)
@@ -189,7 +189,7 @@ forgotten_then (change.Terminator q) st f e = absurd (none-some f e)
 forgotten_then (change.Circuit q) st f e = absurd (none-some f e)
 
 pub can_forget : (c : Change) (st : Stores) (f : Kind × List ℕ) → CanSettle st c → forgotten_name (entity_part c) ≡ Some f → is_entity_kind f.0 ≡ true
-can_forget (change.Entity (entity.Remove k n name)) st f can e = ap (λ o. is_entity_kind (unwrap_or o (k, name)).0) (sym e) ∙ can.can.0
+can_forget (change.Entity (entity.Remove k n name)) st f can e = ap (λ (o : Option (Kind × List ℕ)). is_entity_kind (unwrap_or {T = Kind × List ℕ} o (k, name)).0) (sym e) ∙ can.can.0
 can_forget (change.Entity _) st f can e = absurd (none-some f e)
 can_forget (change.Policy q) st f can e = absurd (none-some f e)
 can_forget (change.Link q) st f can e = absurd (none-some f e)
@@ -204,3 +204,10 @@ kept_then (change.Entity _) st e f = refl
 kept_then (change.Link q) st e f = refl
 kept_then (change.Terminator q) st e f = refl
 kept_then (change.Circuit q) st e f = refl
+
+-- states with the same policies
+pub policies_same : (s t : State) → tables_of s ≡ tables_of t → Covers 7 10 s t []
+policies_same s t e =
+    Covers-append 7 8 10 s t [] [] (omega arith) (omega arith) (Covers-same_records kind.ServicePolicy s t (omega arith) (λ m. ap (λ (p : PolicyTables). at p.service_policies.rows m) e))
+    (Covers-append 8 9 10 s t [] [] (omega arith) (omega arith) (Covers-same_records kind.EdgeRouterPolicy s t (omega arith) (λ m. ap (λ (p : PolicyTables). at p.edge_router_policies.rows m) e))
+    (Covers-same_records kind.ServiceEdgeRouterPolicy s t (omega arith) (λ m. ap (λ (p : PolicyTables). at p.service_edge_router_policies.rows m) e)))

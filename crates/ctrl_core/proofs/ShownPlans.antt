@@ -1,5 +1,5 @@
 -- Plans of replies that change nothing: what is shown, and what is refused.
-use Rattle.std.proofs.Common.{◌≡◌, ℕ, nat_lt, List, map, Option, None, Some, Result, Ok, Err, refl, sym, ◌∙◌, ap, subst}
+use Rattle.std.proofs.Common.{◌≡◌, ℕ, nat_lt, List, map, None, Some, sym, ◌∙◌, ap, subst}
 use Rattle.std.proofs.lemmas.Simd.{map-map}
 use Rattle.std.specs.Option.{unwrap_or}
 use Rattle.std.specs.List.{filter}

@@ -1,10 +1,9 @@
 -- The state after a change, by its parts: what each store makes of the change, as it is looked at before it is made.
-use Rattle.std.proofs.Common.{◌≡◌, ℕ, ◌+◌, ◌≤◌, List, [], not, filter, Option, None, Some, refl, sym, ◌∙◌, ap, subst, arith}
+use Rattle.std.proofs.Common.{◌≡◌, ℕ, ◌+◌, ◌≤◌, List, [], not, filter, Option, None, Some, refl, sym, ◌∙◌, ap, subst}
 use Rattle.ctrl_model.specs.declared.kinds.Kind.TheVariants as kind
-use Rattle.ctrl_model.specs.Numbered.{Table, numbers, Between, with_kept}
+use Rattle.ctrl_model.specs.Numbered.{numbers, Between, with_kept}
 use Rattle.ctrl_model.specs.Settling.{link_stays, terminator_stays, stays_in, settle, settle_links, settle_terminators}
 use Rattle.ctrl_model.specs.State.{State}
-use Rattle.ctrl_model.specs.ValidState.{ValidState}
 use Rattle.ctrl_model.proofs.NumberedLaws.{Between-with_last, Between-edit_at, Between-without}
 use Rattle.record_tables.specs.AfterChange.{changed_by, without_numbers}
 use Rattle.record_tables.proofs.GoneLaws.{gone_none, kept}
@@ -30,11 +29,11 @@ use Rattle.ctrl_core.specs.declared.changes.Change.{Change}
 use Rattle.ctrl_core.specs.declared.changes.Change.TheVariants as change
 use Rattle.ctrl_core.specs.declared.plans.Settled.{Settled}
 use Rattle.ctrl_core.specs.declared.stores.Stores.{Stores}
-use Rattle.ctrl_core.specs.AppliedChanges.{Carries, forgetting_by}
+use Rattle.ctrl_core.specs.AppliedChanges.{forgetting_by}
 use Rattle.ctrl_core.specs.ChangeParts.{entity_part, link_part, term_part, circuit_part}
 use Rattle.ctrl_core.specs.ChangedStores.{CanSettle}
 use Rattle.ctrl_core.specs.Changes.{after_change}
-use Rattle.ctrl_core.specs.KeptState.{HoldsPolicies, state_of}
+use Rattle.ctrl_core.specs.KeptState.{state_of}
 use Rattle.ctrl_core.specs.SettledNumbers.{AreSettled, links_failing, terminators_failing, circuits_failing, without_settled}
 use Rattle.ctrl_core.proofs.ApplyLaws.{carried_entity}
 

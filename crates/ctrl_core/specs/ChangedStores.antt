@@ -1,5 +1,4 @@
 -- When what a change leads to can be told of some stores. Only private functions and proofs of this crate cite this file.
-use Rattle.std.specs.Prelude.{◌≡◌}
 use Rattle.ctrl_model.specs.declared.kinds.Kind.{Kind}
 use Rattle.ctrl_model.specs.Settling.{settle}
 use Rattle.ctrl_model.specs.State.{State}

@@ -1,7 +1,5 @@
 -- What the steps of a plan find and make. Only private functions and proofs of this crate cite this file.
-use Rattle.std.specs.Prelude.{Bool, true, false, ℕ, List, map}
-use Rattle.ctrl_model.specs.declared.commands.Command.{Command}
-use Rattle.ctrl_model.specs.declared.commands.Command.TheVariants as command
+use Rattle.std.specs.Prelude.{ℕ, List, map}
 use Rattle.ctrl_model.specs.declared.kinds.Kind.{Kind}
 use Rattle.ctrl_model.specs.declared.kinds.RouterSeen.{RouterSeen}
 use Rattle.ctrl_model.specs.declared.replies.Reply.{Reply}

@@ -1,4 +1,4 @@
-use Rattle.std.proofs.Common.{◌≡◌, sym, ◌∙◌, ap, subst, arith}
+use Rattle.std.proofs.Common.{sym, ◌∙◌, ap, subst, arith}
 use Rattle.std.proofs.lemmas.Result.{IfOk-weaker}
 use Rattle.row_codec.specs.Batches.{batch_of}
 use Rattle.row_codec.specs.CoveredTables.{Covers}
@@ -14,5 +14,5 @@ returns c =
     let t = next_state c.args.stores.now c.args.change.now in
     let all = subst (λ cs. Covers 1 16 s t cs) (sym c.in_ok-append.ensures)
     (Covers-append 1 12 16 s t c.push_records.new.changes.items c.in_ok-count_rows.field-0 (omega arith) (omega arith) c.in_ok-push_records.ensures c.in_ok-count_rows.ensures) in
-    IfOk-weaker c.batch_of.result _ _ (λ batch is.
-    is ∙ ap batch_of c.of.ensures ∙ Covers-batch s t c.append.new.changes.items (IsNumbered-valid s c.requires.known.can.before) (IsNumbered-valid t c.requires.known.can.valid) all) c.batch_of.ensures
+    IfOk-weaker c.batch_of-2.result _ _ (λ batch is.
+    is ∙ ap batch_of c.of.ensures ∙ Covers-batch s t c.append.new.changes.items (IsNumbered-valid s c.requires.known.can.before) (IsNumbered-valid t c.requires.known.can.valid) all) c.batch_of-2.ensures

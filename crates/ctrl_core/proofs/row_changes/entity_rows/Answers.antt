@@ -1,6 +1,4 @@
-use Rattle.std.proofs.Common.{Option, None, Some, IfSome, sym, ap, subst}
 use Rattle.std.proofs.lemmas.Result.{IfOk-weaker}
-use Rattle.entity_store.specs.declared.changes.EntityChange.{EntityChange}
 use Rattle.ctrl_core.specs.ChangedStores.{next_state}
 use Rattle.ctrl_core.specs.KeptState.{state_of}
 use Rattle.ctrl_core.proofs.RowEnds.{entities_now, entities_end, entities_fit, entities_fit_now, entities_can}

@@ -1,4 +1,4 @@
-use Rattle.std.proofs.Common.{sym, ◌∙◌, ap, subst, arith}
+use Rattle.std.proofs.Common.{sym, subst, arith}
 use Rattle.row_codec.specs.CoveredTables.{Covers}
 use Rattle.row_laws.proofs.Covers.{Covers-append}
 use Rattle.ctrl_core.specs.ChangedStores.{next_state}

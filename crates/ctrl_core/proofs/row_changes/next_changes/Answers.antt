@@ -1,4 +1,4 @@
-use Rattle.std.proofs.Common.{sym, ◌∙◌, ap, subst}
+use Rattle.std.proofs.Common.{sym, subst}
 use Rattle.std.proofs.lemmas.Result.{IfOk-weaker}
 use Rattle.row_codec.specs.CoveredTables.{Covers}
 use Rattle.ctrl_core.specs.ChangedStores.{next_state}

@@ -1,4 +1,4 @@
-use Rattle.std.proofs.Common.{refl, ◌∙◌, ap}
+use Rattle.std.proofs.Common.{◌∙◌, ap}
 use Rattle.std.proofs.lemmas.Result.{IfOk-weaker}
 use Rattle.record_tables.specs.AfterChange.{changed_by}
 use Rattle.circuits.specs.CircuitChanges.{after_circuit_change}

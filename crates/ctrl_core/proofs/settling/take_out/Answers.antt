@@ -1,5 +1,3 @@
-use Rattle.std.proofs.Common.{refl}
-use Rattle.ctrl_core.specs.KeptState.{state_of}
 use Rattle.ctrl_core.proofs.NetworkPlans.{taken_out}
 use Rattle.ctrl_core.proofs.settling.take_out.Goals as goal
 
