@@ -3,3 +3,4 @@ pub mod ChangeLaws
 pub mod WalkedLinks
 pub mod RemovalLaws
 pub mod SettledLaws
+pub mod RowLaws

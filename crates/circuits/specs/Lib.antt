@@ -3,4 +3,5 @@ pub mod PresentRecords
 pub mod WorkedCircuits
 pub mod CircuitChanges
 pub mod ChangedCircuits
+pub mod CircuitRows
 pub mod RemovedCircuits

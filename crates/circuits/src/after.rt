@@ -44,13 +44,6 @@ fn turn_of(change: Option<&CircuitChange>) -> Turn
     }
 }
 
-// The circuit that has a number now.
-fn present_circuit<'a>(circuits: &'a Circuits, no: CircuitNo) -> Option<&'a Circuit>
-    ensures { option_map (λ c. c.now) result ≡ at circuits.now.circuits.rows no.0 }
-{
-    circuits.get(no).ok()
-}
-
 // The circuit that will have a number, where one has it now or none has.
 fn circuit_after<'a>(
     change: &'a CircuitChange,
@@ -76,7 +69,7 @@ fn changed_circuit<'a>(
 {
     // With it comes that the numbers ascend below it, so that no circuit has it yet.
     let next = circuits.next();
-    circuit_after(change, next, no, present_circuit(circuits, no))
+    circuit_after(change, next, no, circuits.seen(no))
 }
 
 // Whether the circuit that will have a number stays, if one will have it.
@@ -147,7 +140,7 @@ impl<'a> CircuitsAfter<'a> {
         }
         match self.change {
             Some(change) => changed_circuit(self.circuits, change, no),
-            None => present_circuit(self.circuits, no),
+            None => self.circuits.seen(no),
         }
     }
 

@@ -1,5 +1,5 @@
 ghost use Rattle.std.specs.Prelude.{◌≡◌, ◌≤◌, true, false, not, length, filter, IfOk, OnErr};
-ghost use Rattle.std.specs.Option.{ok_or};
+ghost use Rattle.std.specs.Option.{ok_or, option_map};
 ghost use Rattle.std.specs.Result.{result_map_both};
 ghost use Rattle.ctrl_model.specs.Numbered.{at, is_present, numbers};
 ghost use Rattle.circuits.specs.CircuitChanges.{without_circuits};
@@ -75,6 +75,13 @@ impl Circuits {
         ensures { result_map_both (λ c. c.now) (λ fault. fault) result ≡ ok_or (at self.now.circuits.rows no.0) CircuitFault.Unknown }
     {
         self.granted.get(no.0).ok_or(CircuitFault::Unknown)
+    }
+
+    /// The circuit that has the number. None exactly where none has it.
+    pub fn seen(&self, no: CircuitNo) -> Option<&Circuit>
+        ensures { option_map (λ c. c.now) result ≡ at self.now.circuits.rows no.0 }
+    {
+        self.granted.get(no.0)
     }
 
     /// Removes a present circuit.

@@ -13,3 +13,4 @@ pub mod PresentLaws
 pub mod CircuitPlanLaws
 pub mod CountedChanges
 pub mod FoundPlans
+pub mod StateParts

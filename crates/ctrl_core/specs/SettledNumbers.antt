@@ -10,12 +10,23 @@ use Rattle.ctrl_core.specs.declared.plans.Settled.{Settled}
 abbrev pub failing : {R : Type 0} → (ℕ × R → Bool) → List (ℕ × R) → List ℕ
 failing stays rows = numbers (filter (λ row. not (stays row)) rows)
 
--- The numbers of the links that do not stay in a state, of the terminators that do not stay once those links are gone, and of the
--- circuits that do not stay once both are gone.
+-- The numbers of the links that do not stay in a state.
+abbrev pub links_failing : State → List ℕ
+links_failing s = failing (link_stays s) s.links.rows
+
+-- The numbers of the terminators that do not stay in a state once those links are gone.
+abbrev pub terminators_failing : State → List ℕ
+terminators_failing s = failing (terminator_stays (settle_links s)) s.terminators.rows
+
+-- The numbers of the circuits that do not stay in a state once those links and terminators are gone.
+abbrev pub circuits_failing : State → List ℕ
+circuits_failing s = failing (stays_in (settle_terminators (settle_links s))) s.circuits.rows
+
+-- What settling takes out of a state is named.
 pub record AreSettled (s : State) (g : Settled) : Type 0 where
-  pub links : g.links ≡ failing (link_stays s) s.links.rows
-  pub terminators : g.terminators ≡ failing (terminator_stays (settle_links s)) s.terminators.rows
-  pub circuits : g.circuits ≡ failing (stays_in (settle_terminators (settle_links s))) s.circuits.rows
+  pub links : g.links ≡ links_failing s
+  pub terminators : g.terminators ≡ terminators_failing s
+  pub circuits : g.circuits ≡ circuits_failing s
 
 -- A state without the links, terminators and circuits of some numbers.
 abbrev pub without_settled : Settled → State → State

@@ -1,11 +1,9 @@
 ghost use Rattle.std.specs.Prelude.{◌≡◌, IfOk};
-ghost use Rattle.ctrl_model.specs.Settling.{link_stays, terminator_stays, stays_in, settle, settle_links, settle_terminators};
-ghost use Rattle.ctrl_model.specs.ValidState.{ValidState};
 ghost use Rattle.ctrl_core.specs.AppliedChanges.{Carries};
 ghost use Rattle.ctrl_core.specs.ChangedStores.{CanSettle};
-ghost use Rattle.ctrl_core.specs.Changes.{CanChange, after_change};
-ghost use Rattle.ctrl_core.specs.KeptState.{HoldsPolicies, Keeps, state_of};
-ghost use Rattle.ctrl_core.specs.SettledNumbers.{AreSettled, failing, without_settled};
+ghost use Rattle.ctrl_core.specs.Changes.{after_change};
+ghost use Rattle.ctrl_core.specs.KeptState.{HoldsPolicies, state_of};
+ghost use Rattle.ctrl_core.specs.SettledNumbers.{AreSettled, links_failing, terminators_failing, circuits_failing, without_settled};
 
 use crate::changes::Change;
 use crate::plans::Settled;
@@ -22,36 +20,22 @@ use terminators::TerminatorsAfter;
 // The numbers of the links that go after a change.
 fn links_gone(alloc: Global, stores: &Stores, change: &Change) -> Result<Numbers, AllocError>
     requires { CanSettle stores.now change.now }
-    ensures { IfOk result (λ ns. ns ≡ failing (link_stays (after_change change.now (state_of stores.now))) (after_change change.now (state_of stores.now)).links.rows) }
+    ensures { IfOk result (λ ns. ns ≡ links_failing (after_change change.now (state_of stores.now))) }
 {
     let none = Numbers::of(Vec::new(alloc));
-    let entities = EntitiesAfter {
-        entities: &stores.entities,
-        change: change.of_entities(),
-    };
-    let fabric = FabricAfter {
-        fabric: &stores.fabric,
-        change: change.of_links(),
-        gone: &none,
-    };
+    let entities = EntitiesAfter::new(&stores.entities, change.of_entities());
+    let fabric = FabricAfter::new(&stores.fabric, change.of_links(), &none);
     links_that_go(alloc, &entities, &fabric)
 }
 
 // The numbers of the terminators that go after a change.
 fn terminators_gone(alloc: Global, stores: &Stores, change: &Change) -> Result<Numbers, AllocError>
     requires { CanSettle stores.now change.now }
-    ensures { IfOk result (λ ns. ns ≡ failing (terminator_stays (settle_links (after_change change.now (state_of stores.now)))) (after_change change.now (state_of stores.now)).terminators.rows) }
+    ensures { IfOk result (λ ns. ns ≡ terminators_failing (after_change change.now (state_of stores.now))) }
 {
     let none = Numbers::of(Vec::new(alloc));
-    let entities = EntitiesAfter {
-        entities: &stores.entities,
-        change: change.of_entities(),
-    };
-    let terminators = TerminatorsAfter {
-        terminators: &stores.terminators,
-        change: change.of_terminators(),
-        gone: &none,
-    };
+    let entities = EntitiesAfter::new(&stores.entities, change.of_entities());
+    let terminators = TerminatorsAfter::new(&stores.terminators, change.of_terminators(), &none);
     terminators_that_go(alloc, &entities, &terminators)
 }
 
@@ -64,25 +48,19 @@ fn circuits_gone(
     terminators: &Numbers,
 ) -> Result<Numbers, AllocError>
     requires can { CanSettle stores.now change.now }
-    requires links { links.now ≡ failing (link_stays (after_change change.now (state_of stores.now))) (after_change change.now (state_of stores.now)).links.rows }
-    requires terminators { terminators.now ≡ failing (terminator_stays (settle_links (after_change change.now (state_of stores.now)))) (after_change change.now (state_of stores.now)).terminators.rows }
-    ensures { IfOk result (λ ns. ns ≡ failing (stays_in (settle_terminators (settle_links (after_change change.now (state_of stores.now))))) (after_change change.now (state_of stores.now)).circuits.rows) }
+    requires links { links.now ≡ links_failing (after_change change.now (state_of stores.now)) }
+    requires terminators { terminators.now ≡ terminators_failing (after_change change.now (state_of stores.now)) }
+    ensures { IfOk result (λ ns. ns ≡ circuits_failing (after_change change.now (state_of stores.now))) }
 {
-    let entities = EntitiesAfter {
-        entities: &stores.entities,
-        change: change.of_entities(),
-    };
-    let fabric = FabricAfter {
-        fabric: &stores.fabric,
-        change: change.of_links(),
-        gone: links,
-    };
-    let terminators = TerminatorsAfter {
-        terminators: &stores.terminators,
-        change: change.of_terminators(),
-        gone: terminators,
-    };
-    circuits_that_go(alloc, &stores.circuits, change.of_circuits(), &entities, &fabric, &terminators)
+    let entities = EntitiesAfter::new(&stores.entities, change.of_entities());
+    let fabric = FabricAfter::new(&stores.fabric, change.of_links(), links);
+    let terminators = TerminatorsAfter::new(
+        &stores.terminators,
+        change.of_terminators(),
+        terminators,
+    );
+    let circuits = &stores.circuits;
+    circuits_that_go(alloc, circuits, change.of_circuits(), &entities, &fabric, &terminators)
 }
 
 /// What settling takes out after a change, by its numbers. The stores stay.

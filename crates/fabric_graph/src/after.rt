@@ -46,16 +46,6 @@ fn turn_of(change: Option<&LinkChange>) -> Turn
     }
 }
 
-// The link that has a number now.
-fn present_link<'a>(fabric: &'a Fabric, no: LinkNo) -> Option<LinkView<'a>>
-    ensures { result ≡ at fabric.now.links.rows no.0 }
-{
-    match fabric.link(no) {
-        Some(row) => Some(LinkView::of(row)),
-        None => None,
-    }
-}
-
 // The link that will have a number, where one has it now or none has.
 fn link_after<'a>(
     change: &'a LinkChange,
@@ -98,7 +88,7 @@ fn changed_link<'a>(fabric: &'a Fabric, change: &'a LinkChange, no: LinkNo) -> O
 {
     // With it comes that the numbers ascend below it, so that no link has it yet.
     let next = fabric.next();
-    link_after(change, next, no, present_link(fabric, no))
+    link_after(change, next, no, fabric.seen(no))
 }
 
 impl<'a> FabricAfter<'a> {
@@ -136,7 +126,7 @@ impl<'a> FabricAfter<'a> {
         }
         match self.change {
             Some(change) => changed_link(self.fabric, change, no),
-            None => present_link(self.fabric, no),
+            None => self.fabric.seen(no),
         }
     }
 

@@ -11,7 +11,7 @@ ghost use Rattle.fabric_graph.specs.FabricChanges.{without_links};
 ghost use Rattle.fabric_graph.specs.FabricRules.{may_add, found, is_there, KeepsLinks};
 ghost use Rattle.fabric_graph.specs.Routers.{AreRouters, network, number_at, costs_at_most};
 
-use crate::links::LinkRow;
+use crate::links::{LinkRow, LinkView};
 use crate::steps::{all_steps, by_place, flags};
 use ctrl_model::{LinkNo, Name, Numbers, RouterNo, RouterSeen};
 use path_certificate::Graph;
@@ -121,6 +121,16 @@ impl Fabric {
         ensures { option_map (λ l. l.now) result ≡ at self.now.links.rows no.0 }
     {
         self.links.get(no.0)
+    }
+
+    /// The link of the number, lent. None exactly where it is absent.
+    pub fn seen(&self, no: LinkNo) -> Option<LinkView<'_>>
+        ensures { result ≡ at self.now.links.rows no.0 }
+    {
+        match self.links.get(no.0) {
+            Some(row) => Some(LinkView::of(row)),
+            None => None,
+        }
     }
 
     /// Sets what a present link costs, 1 to 65,535, the latencies that its two ends report, 0 to 60,000 each, and whether it is up.

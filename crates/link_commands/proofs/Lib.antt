@@ -1,3 +1,4 @@
 pub mod PlanLaws
 pub mod JoinLaws
 pub mod SettledLaws
+pub mod RowLaws

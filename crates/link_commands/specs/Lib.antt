@@ -1,3 +1,4 @@
 pub mod LinkChanges
 pub mod LinkPlans
 pub mod PlannedLinks
+pub mod LinkRows

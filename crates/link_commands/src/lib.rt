@@ -3,9 +3,11 @@
 
 mod applying;
 mod planning;
+mod rows;
 mod settling;
 
 pub use applying::apply_link_change;
 pub use fabric_graph::LinkChange;
 pub use planning::plan_link_command;
-pub use settling::settle_links;
+pub use rows::link_changes;
+pub use settling::{links_that_go, settle_links};

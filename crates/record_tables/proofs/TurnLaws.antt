@@ -1,11 +1,14 @@
 -- Laws of changed tables, and of those without some numbers: their numbers, and what stands at one.
-use Rattle.std.proofs.Common.{◌≡◌, ℕ, ◌==◌, Bool, true, false, cond, not, List, [], ◌∷◌, ◌++◌, Option, None, Some, refl, sym, ◌∙◌, ap, arith, eqb-true}
+use Rattle.std.proofs.Common.{◌≡◌, ℕ, ◌==◌, Bool, true, false, cond, not, List, [], ◌∷◌, ◌++◌, Option, None, Some, inl, inr, refl, sym, ◌∙◌, ap, arith, eqb-true}
 use Rattle.std.proofs.lemmas.List.{map-append}
 use Rattle.std.specs.List.{filter}
+use Rattle.ctrl_model.specs.Membership.{Among}
 use Rattle.ctrl_model.specs.Numbered.{Table, at, numbers, with_last, edit_at, without, Between}
 use Rattle.ctrl_model.specs.Walks.{is_among}
+use Rattle.ctrl_model.proofs.Members.{Among-from_test}
 use Rattle.ctrl_model.proofs.NumberedLaws.{at-past, at-with_last, Between-filter}
-use Rattle.record_tables.specs.AfterChange.{without_numbers}
+use Rattle.record_tables.specs.AfterChange.{without_numbers, touched_numbers}
+use Rattle.record_tables.proofs.GoneLaws.{touched_are}
 use Rattle.record_tables.specs.Turns.{left_of}
 
 module _ {R : Type 0} where
@@ -63,3 +66,13 @@ module _ {R : Type 0} (gone : List ℕ) (t : Table R) where
 
   pub at-left : (n : ℕ) → is_among n gone ≡ false → at t.rows n ≡ at (without_numbers gone t).rows n
   at-left n e = sym (at-filter (λ m. not (is_among m gone)) t.rows n ∙ ap (λ b. cond (not b) (at t.rows n) None) e)
+
+-- where one change leaves all numbers but one as they are, nothing differs but there and at the numbers that are gone
+pub elsewhere : {R : Type 0} (changed : Option ℕ) (gone : List ℕ) (before after : Table R) → ((n : ℕ) → (changed ≡ Some n → ⊥) → at before.rows n ≡ at after.rows n)
+    → (n : ℕ) → (Among n (touched_numbers changed gone) → ⊥) → at before.rows n ≡ at (without_numbers gone after).rows n
+elsewhere changed gone before after untouched n misses =
+    untouched n (λ e. misses ((touched_are n changed gone).1 (inl e))) ∙ at-left gone after n (by (is_among n gone) refl)
+  where
+    by : (b : Bool) → is_among n gone ≡ b → b ≡ false
+    by false e = refl
+    by true e = absurd (misses ((touched_are n changed gone).1 (inr (Among-from_test n gone e))))

@@ -26,6 +26,6 @@ pub returns-in-None : goal.returns-in-None
 returns-in-None c =
     let i = c.self.inside in
     let left : is_among c.args.no.0 i.gone.now ≡ false = ap (is_among c.args.no.0) (sym c.as_slice.ensures) ∙ sym c.is_among.ensures ∙ c.if-is_among.false in
-    c.present_circuit.ensures
+    c.seen.ensures
     ∙ ap (λ o. at (changed_by after_circuit_change (option_map (λ d. d.now) o) i.circuits.now).circuits.rows c.args.no.0) (sym c.in-None.is)
     ∙ at-left i.gone.now (changed_by after_circuit_change (option_map (λ d. d.now) i.change) i.circuits.now).circuits c.args.no.0 left ∙ ap (λ (f : CircuitTables). at f.circuits.rows c.args.no.0) c.self.view_is

@@ -1,0 +1,168 @@
+-- The state after a change, by its parts: what each store makes of the change, as it is looked at before it is made.
+use Rattle.std.proofs.Common.{◌≡◌, ℕ, ◌+◌, ◌≤◌, List, [], not, filter, Option, None, Some, refl, sym, ◌∙◌, ap, subst, arith}
+use Rattle.ctrl_model.specs.declared.kinds.Kind.TheVariants as kind
+use Rattle.ctrl_model.specs.Numbered.{Table, numbers, Between, with_kept}
+use Rattle.ctrl_model.specs.Settling.{link_stays, terminator_stays, stays_in, settle, settle_links, settle_terminators}
+use Rattle.ctrl_model.specs.State.{State}
+use Rattle.ctrl_model.specs.ValidState.{ValidState}
+use Rattle.ctrl_model.proofs.NumberedLaws.{Between-with_last, Between-edit_at, Between-without}
+use Rattle.record_tables.specs.AfterChange.{changed_by, without_numbers}
+use Rattle.record_tables.proofs.GoneLaws.{gone_none, kept}
+use Rattle.circuits.specs.declared.changes.CircuitChange.{CircuitChange}
+use Rattle.circuits.specs.declared.changes.CircuitChange.TheVariants as circuit
+use Rattle.circuits.specs.CircuitChanges.{after_circuit_change, gone}
+use Rattle.circuits.specs.CircuitTables.{CircuitTables}
+use Rattle.entity_store.specs.EntityChanges.{after_entity_change}
+use Rattle.entity_store.specs.EntityTables.{Tables}
+use Rattle.fabric_graph.specs.declared.changes.LinkChange.{LinkChange}
+use Rattle.fabric_graph.specs.declared.changes.LinkChange.TheVariants as link
+use Rattle.fabric_graph.specs.FabricChanges.{after_link_change, fabric_after}
+use Rattle.fabric_graph.specs.FabricTables.{FabricSeen}
+use Rattle.link_commands.specs.LinkChanges as linked
+use Rattle.policy_store.specs.PolicyChanges.{after_policy_change}
+use Rattle.policy_store.specs.PolicyTables.{PolicyTables}
+use Rattle.terminators.specs.declared.changes.TermChange.{TermChange}
+use Rattle.terminators.specs.declared.changes.TermChange.TheVariants as term
+use Rattle.terminators.specs.TermChanges.{after_term_change, terms_after}
+use Rattle.terminators.specs.TermTables.{TermTables}
+use Rattle.terminator_commands.specs.TermChanges as offered
+use Rattle.ctrl_core.specs.declared.changes.Change.{Change}
+use Rattle.ctrl_core.specs.declared.changes.Change.TheVariants as change
+use Rattle.ctrl_core.specs.declared.plans.Settled.{Settled}
+use Rattle.ctrl_core.specs.declared.stores.Stores.{Stores}
+use Rattle.ctrl_core.specs.AppliedChanges.{Carries, forgetting_by}
+use Rattle.ctrl_core.specs.ChangeParts.{entity_part, link_part, term_part, circuit_part}
+use Rattle.ctrl_core.specs.ChangedStores.{CanSettle}
+use Rattle.ctrl_core.specs.Changes.{after_change}
+use Rattle.ctrl_core.specs.KeptState.{HoldsPolicies, state_of}
+use Rattle.ctrl_core.specs.SettledNumbers.{AreSettled, links_failing, terminators_failing, circuits_failing, without_settled}
+use Rattle.ctrl_core.proofs.ApplyLaws.{carried_entity}
+
+-- the state of some tables
+abbrev pub assembled : Tables → PolicyTables → FabricSeen → TermTables → CircuitTables → State
+assembled t p f e k = record {
+  identities = t.identities;
+  services = t.services;
+  routers = t.routers;
+  links = f.links;
+  service_policies = p.service_policies;
+  edge_router_policies = p.edge_router_policies;
+  service_edge_router_policies = p.service_edge_router_policies;
+  terminators = e.terminators;
+  circuits = k.circuits;
+  least_router_cost = f.least;
+}
+
+-- each table after a change
+abbrev pub entities_then : Change → Stores → Tables
+entities_then c st = changed_by after_entity_change (entity_part c) st.entities
+
+abbrev pub policies_then : Change → Stores → PolicyTables
+policies_then (change.Entity e) st = forgetting_by e st.policies
+policies_then (change.Policy p) st = after_policy_change p st.policies
+policies_then _ st = st.policies
+
+abbrev pub links_then : Change → Stores → FabricSeen
+links_then c st = changed_by after_link_change (link_part c) st.fabric
+
+abbrev pub terms_then : Change → Stores → TermTables
+terms_then c st = changed_by after_term_change (term_part c) st.terminators
+
+abbrev pub circuits_then : Change → Stores → CircuitTables
+circuits_then c st = changed_by after_circuit_change (circuit_part c) st.circuits
+
+abbrev pub state_then : Change → Stores → State
+state_then c st = assembled (entities_then c st) (policies_then c st) (links_then c st) (terms_then c st) (circuits_then c st)
+
+-- the state after a change is that of the tables after it
+pub parts_after : (c : Change) (st : Stores) → CanSettle st c → after_change c (state_of st) ≡ state_then c st
+parts_after (change.Entity e) st can = sym (carried_entity e st can.can can.valid can.kept.held).next
+parts_after (change.Policy p) st can = refl
+parts_after (change.Link l) st can = refl
+parts_after (change.Terminator e) st can = refl
+parts_after (change.Circuit k) st can = refl
+
+-- ---- the tables after a change are numbered
+
+pub record IsNumbered {R : Type 0} (rows : List (ℕ × R)) : Type 0 where
+  pub high : ℕ
+  pub ordered : Between 1 high rows
+
+links_numbered : (o : Option LinkChange) (f : FabricSeen) → 1 ≤ f.links.next → Between 1 f.links.next f.links.rows → IsNumbered (changed_by after_link_change o f).links.rows
+links_numbered None f h b = record { high = f.links.next; ordered = b }
+links_numbered (Some (link.Add l)) f h b = record { high = f.links.next + 1; ordered = Between-with_last f.links.next f.links.rows 1 l h b }
+links_numbered (Some (link.Set n cost x y up)) f h b = record { high = f.links.next; ordered = Between-edit_at f.links.next f.links.rows 1 n.0 _ b }
+links_numbered (Some (link.Remove n)) f h b = record { high = f.links.next; ordered = Between-without f.links.next f.links.rows 1 n.0 b }
+links_numbered (Some (link.SetLeast cost)) f h b = record { high = f.links.next; ordered = b }
+
+terms_numbered : (o : Option TermChange) (e : TermTables) → 1 ≤ e.terminators.next → Between 1 e.terminators.next e.terminators.rows → IsNumbered (changed_by after_term_change o e).terminators.rows
+terms_numbered None e h b = record { high = e.terminators.next; ordered = b }
+terms_numbered (Some (term.Add t)) e h b = record { high = e.terminators.next + 1; ordered = Between-with_last e.terminators.next e.terminators.rows 1 t h b }
+terms_numbered (Some (term.Set n cost precedence)) e h b = record { high = e.terminators.next; ordered = Between-edit_at e.terminators.next e.terminators.rows 1 n.0 _ b }
+terms_numbered (Some (term.Remove n)) e h b = record { high = e.terminators.next; ordered = Between-without e.terminators.next e.terminators.rows 1 n.0 b }
+
+circuits_numbered : (o : Option CircuitChange) (k : CircuitTables) → 1 ≤ k.circuits.next → Between 1 k.circuits.next k.circuits.rows → IsNumbered (changed_by after_circuit_change o k).circuits.rows
+circuits_numbered None k h b = record { high = k.circuits.next; ordered = b }
+circuits_numbered (Some (circuit.Add c)) k h b = record { high = k.circuits.next + 1; ordered = Between-with_last k.circuits.next k.circuits.rows 1 c h b }
+circuits_numbered (Some (circuit.Remove n)) k h b = record { high = k.circuits.next; ordered = Between-without k.circuits.next k.circuits.rows 1 n.0 b }
+
+pub links_ordered : (c : Change) (st : Stores) → CanSettle st c → IsNumbered (links_then c st).links.rows
+links_ordered c st can = let v = (can.kept.valid.kinds kind.Link).numbers in links_numbered (link_part c) st.fabric v.first v.ordered
+
+pub terms_ordered : (c : Change) (st : Stores) → CanSettle st c → IsNumbered (terms_then c st).terminators.rows
+terms_ordered c st can = let v = (can.kept.valid.kinds kind.Terminator).numbers in terms_numbered (term_part c) st.terminators v.first v.ordered
+
+pub circuits_ordered : (c : Change) (st : Stores) → CanSettle st c → IsNumbered (circuits_then c st).circuits.rows
+circuits_ordered c st can = let v = (can.kept.valid.kinds kind.Circuit).numbers in circuits_numbered (circuit_part c) st.circuits v.first v.ordered
+
+-- ---- what settles, by what was looked at
+
+pub links_go : (c : Change) (st : Stores) → CanSettle st c → (t : Tables) (f : FabricSeen) (ns : List ℕ) → t ≡ entities_then c st → f ≡ fabric_after (link_part c) [] st.fabric
+    → ns ≡ numbers (filter (λ row. not (linked.stays t row)) f.links.rows) → ns ≡ links_failing (after_change c (state_of st))
+links_go c st can t f ns et ef e =
+    e
+    ∙ (λ i. numbers (filter (λ row. not (linked.stays (et i) row)) ((ef ∙ ap (λ ls. record (links_then c st) { links = ls }) (sym (gone_none (links_then c st).links))) i).links.rows))
+    ∙ ap links_failing (sym (parts_after c st can))
+
+pub terms_go : (c : Change) (st : Stores) → CanSettle st c → (t : Tables) (k : TermTables) (ns : List ℕ) → t ≡ entities_then c st → k ≡ terms_after (term_part c) [] st.terminators
+    → ns ≡ numbers (filter (λ row. not (offered.stays t row)) k.terminators.rows) → ns ≡ terminators_failing (after_change c (state_of st))
+terms_go c st can t k ns et ek e =
+    e
+    ∙ (λ i. numbers (filter (λ row. not (offered.stays (et i) row)) ((ek ∙ ap (λ ts. record (terms_then c st) { terminators = ts }) (sym (gone_none (terms_then c st).terminators))) i).terminators.rows))
+    ∙ ap terminators_failing (sym (parts_after c st can))
+
+-- the links and the terminators that are left are those of the state once both are settled
+links_left : (c : Change) (st : Stores) → CanSettle st c → with_kept (link_stays (state_then c st)) (links_then c st).links ≡ without_numbers (links_failing (state_then c st)) (links_then c st).links
+links_left c st can = let o = links_ordered c st can in kept (link_stays (state_then c st)) (links_then c st).links o.high o.ordered
+
+terms_left : (c : Change) (st : Stores) → CanSettle st c
+    → with_kept (terminator_stays (settle_links (state_then c st))) (terms_then c st).terminators ≡ without_numbers (terminators_failing (state_then c st)) (terms_then c st).terminators
+terms_left c st can = let o = terms_ordered c st can in kept (terminator_stays (settle_links (state_then c st))) (terms_then c st).terminators o.high o.ordered
+
+circuits_left : (c : Change) (st : Stores) → CanSettle st c
+    → with_kept (stays_in (settle_terminators (settle_links (state_then c st)))) (circuits_then c st).circuits ≡ without_numbers (circuits_failing (state_then c st)) (circuits_then c st).circuits
+circuits_left c st can = let o = circuits_ordered c st can in kept (stays_in (settle_terminators (settle_links (state_then c st)))) (circuits_then c st).circuits o.high o.ordered
+
+pub circuits_go : (c : Change) (st : Stores) → CanSettle st c → (t : Tables) (f : FabricSeen) (k : TermTables) (g : CircuitTables) (links terms ns : List ℕ) → t ≡ entities_then c st
+    → links ≡ links_failing (after_change c (state_of st)) → terms ≡ terminators_failing (after_change c (state_of st))
+    → f ≡ fabric_after (link_part c) links st.fabric → k ≡ terms_after (term_part c) terms st.terminators → g ≡ circuits_then c st
+    → ns ≡ gone t f k g → ns ≡ circuits_failing (after_change c (state_of st))
+circuits_go c st can t f k g links terms ns et el ek ef em eg e =
+    let whole = parts_after c st can in
+    e
+    ∙ (λ i. gone (et i)
+    ((ef ∙ ap (λ ls. fabric_after (link_part c) ls st.fabric) (el ∙ ap links_failing whole) ∙ ap (λ ls. record (links_then c st) { links = ls }) (sym (links_left c st can))) i)
+    ((em ∙ ap (λ ls. terms_after (term_part c) ls st.terminators) (ek ∙ ap terminators_failing whole) ∙ ap (λ ts. record (terms_then c st) { terminators = ts }) (sym (terms_left c st can))) i)
+    (eg i))
+    ∙ ap circuits_failing (sym whole)
+
+-- a state without what settles is settled
+pub without_is_settled : (c : Change) (st : Stores) (g : Settled) → CanSettle st c → AreSettled (after_change c (state_of st)) g
+    → without_settled g (after_change c (state_of st)) ≡ settle (after_change c (state_of st))
+without_is_settled c st g can are =
+    let whole = parts_after c st can in
+    subst (λ s. AreSettled s g → without_settled g s ≡ settle s) (sym whole) (λ named i. record (state_then c st) {
+      links = (ap (λ ls. without_numbers ls (links_then c st).links) named.links ∙ sym (links_left c st can)) i;
+      terminators = (ap (λ ls. without_numbers ls (terms_then c st).terminators) named.terminators ∙ sym (terms_left c st can)) i;
+      circuits = (ap (λ ls. without_numbers ls (circuits_then c st).circuits) named.circuits ∙ sym (circuits_left c st can)) i;
+    }) are
