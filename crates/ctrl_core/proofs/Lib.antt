@@ -14,3 +14,5 @@ pub mod CircuitPlanLaws
 pub mod CountedChanges
 pub mod FoundPlans
 pub mod StateParts
+pub mod NextNumbers
+pub mod RowEnds

@@ -17,7 +17,7 @@ use Rattle.link_commands.specs.LinkChanges as linked
 use Rattle.policy_store.specs.declared.steps.GrantSteps.{GrantSteps}
 use Rattle.policy_store.specs.GrantChanges.{HasNoSteps, steps_of}
 use Rattle.circuits.specs.declared.changes.CircuitChange.{CircuitChange}
-use Rattle.circuits.specs.CircuitChanges as granted
+use Rattle.circuits.specs.CircuitChanges.{without_circuits}
 use Rattle.circuits.specs.CircuitTables.{CircuitTables}
 use Rattle.fabric_graph.specs.FabricTables.{FabricSeen}
 use Rattle.terminators.specs.TermTables.{TermTables}
@@ -31,28 +31,33 @@ use Rattle.ctrl_core.specs.AppliedChanges.{Carries}
 use Rattle.ctrl_core.specs.CircuitPlans.{CanRoute, routed}
 use Rattle.ctrl_core.specs.KeptState.{HoldsPolicies, state_of}
 use Rattle.ctrl_core.specs.Changes.{CanChange, LeadAllCounts, after_change}
+use Rattle.ctrl_core.specs.ChangedStores.{CanSettle}
+use Rattle.ctrl_core.specs.SettledNumbers.{AreSettled, without_settled}
+use Rattle.ctrl_core.specs.declared.plans.Settled.{Settled}
+use Rattle.ctrl_core.proofs.StateParts.{without_is_settled}
+use Rattle.fabric_graph.specs.FabricChanges.{without_links}
+use Rattle.terminators.specs.TermChanges.{without_terms}
 use Rattle.ctrl_core.specs.PlannedCommands.{Plans, IsShown, IsUncounted}
 use Rattle.ctrl_core.proofs.PlanLaws.{no_steps_lead, settled_lead}
 
 -- ---- settling
 
--- links, terminators and circuits that are settled in turn are those of the settled state
-pub settled_carries : (st : Stores) (f : FabricSeen) (k : TermTables) (g : CircuitTables) → f ≡ linked.settled st.entities st.fabric → k ≡ offered.settled st.entities st.terminators
-    → g ≡ granted.settled st.entities f k st.circuits → HoldsPolicies st → Carries st (record st { fabric = f; terminators = k; circuits = g }) (settle (state_of st))
-settled_carries st f k g links_are terms_are circuits_are held = record {
-  next = ap (λ (x : CircuitTables). state_of (record st { fabric = f; terminators = k; circuits = x })) circuits_are
-      ∙ (ap (λ (x : FabricSeen). state_of (record st { fabric = x; terminators = k; circuits = granted.settled st.entities x k st.circuits })) links_are
-      ∙ ap (λ (x : TermTables). state_of (record st { fabric = linked.settled st.entities st.fabric; terminators = x; circuits = granted.settled st.entities (linked.settled st.entities st.fabric) x st.circuits })) terms_are);
+-- what is taken out of each store is taken out of the state
+pub taken_out : (st : Stores) (g : Settled) (f : FabricSeen) (k : TermTables) (r : CircuitTables) → f ≡ without_links g.links st.fabric → k ≡ without_terms g.terminators st.terminators
+    → r ≡ without_circuits g.circuits st.circuits → HoldsPolicies st → Carries st (record st { fabric = f; terminators = k; circuits = r }) (without_settled g (state_of st))
+taken_out st g f k r links_are terms_are circuits_are held = record {
+  next = λ i. state_of (record st { fabric = links_are i; terminators = terms_are i; circuits = circuits_are i });
   held = held;
   counts = refl;
 }
 
--- a change that is made, and then settled
-pub carries_then : (st mid new : Stores) (t : State) → Carries st mid t → Carries mid new (settle (state_of mid)) → Carries st new (settle t)
-carries_then st mid new t made settled = record {
-  next = settled.next ∙ ap settle made.next;
-  held = settled.held;
-  counts = settled.counts ∙ made.counts;
+-- a change that is made, and what settles taken out
+pub carries_then : (c : Change) (st mid new : Stores) (g : Settled) → CanSettle st c → AreSettled (after_change c (state_of st)) g → Carries st mid (after_change c (state_of st))
+    → Carries mid new (without_settled g (state_of mid)) → Carries st new (settle (after_change c (state_of st)))
+carries_then c st mid new g can are made taken = record {
+  next = taken.next ∙ ap (without_settled g) made.next ∙ without_is_settled c st g can are;
+  held = taken.held;
+  counts = taken.counts ∙ made.counts;
 }
 
 -- ---- the plans of a family

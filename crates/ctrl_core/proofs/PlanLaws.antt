@@ -1,5 +1,5 @@
 -- What a plan has to show: of a reply that changes nothing, of a refusal, and of a change that is carried out.
-use Rattle.std.proofs.Common.{◌≡◌, true, false, ◌||◌, List, Option, None, Some, refl, sym, ap, subst}
+use Rattle.std.proofs.Common.{◌≡◌, true, false, ◌||◌, List, Option, None, Some, refl, sym, ◌∙◌, ap, subst}
 use Rattle.std.proofs.lemmas.Bool.{true≢false, false≢true}
 use Rattle.ctrl_model.specs.declared.commands.Command.{Command}
 use Rattle.ctrl_model.specs.declared.commands.Command.TheVariants as command
@@ -28,7 +28,11 @@ use Rattle.ctrl_core.specs.CircuitPlans.{is_circuit_command}
 use Rattle.ctrl_core.specs.declared.changes.Change.{Change}
 use Rattle.policy_store.specs.declared.steps.GrantSteps.{GrantSteps}
 use Rattle.ctrl_core.specs.declared.changes.Draft.{Draft}
-use Rattle.ctrl_core.specs.Changes.{CanChange, LeadsFrom, after_change, led}
+use Rattle.ctrl_core.specs.Changes.{CanChange, IsStill, LeadsFrom, NamesSettled, after_change}
+use Rattle.ctrl_core.specs.CompletedPlans.{CanComplete, Completes}
+use Rattle.ctrl_core.specs.KeptState.{Keeps, state_of}
+use Rattle.ctrl_core.specs.declared.plans.Planned.{Planned}
+use Rattle.ctrl_core.specs.declared.stores.Stores.{Stores}
 use Rattle.policy_store.specs.GrantChanges.{HasNoSteps, steps_of}
 use Rattle.ctrl_core.specs.PlannedCommands.{Plans, IsShown}
 
@@ -58,15 +62,33 @@ settled_lead Bind s effect ds leads = leads
 settled_lead IdentityRouter s effect ds leads = leads
 settled_lead ServiceRouter s effect ds leads = leads
 
--- a plan of a command that some body spells leads from a valid state to the controller's next one, which is valid
-pub leads_from : (p : Draft) (c : Command) (s : State) → is_spelled c ≡ true → ValidState s → Plans p (carry c s) s → LeadsFrom p s (carry c s).1
-leads_from p c s spelled valid plans = record {
+-- a draft of a command that some body spells can be completed
+pub can_complete : (st : Stores) (d : Draft) (c : Command) → Keeps st → is_spelled c ≡ true → Plans d (carry c (state_of st)) (state_of st) → CanComplete st d
+can_complete st d c keeps spelled plans = record {
+  kept = keeps;
+  can = plans.can;
+  valid = subst (λ t. ValidState t) (sym plans.next) (answer-valid Admin c (state_of st) spelled keeps.valid);
+  counts = λ r. subst (λ t. LeadCounts (count r (state_of st)) (count r t) (steps_of r d.steps)) (sym plans.next) (plans.counts r);
+}
+
+-- a plan that completes a draft of a command leads to the controller's next state
+pub leads_from : (st : Stores) (d : Draft) (p : Planned) (c : Command) → CanComplete st d → Plans d (carry c (state_of st)) (state_of st) → Completes st d p → LeadsFrom p (state_of st) (carry c (state_of st)).1
+leads_from st d p c can plans made = record {
   can = record {
-    can = plans.can;
-    valid = subst (λ t. ValidState t) (sym plans.next) (answer-valid Admin c s spelled valid);
-    counts = λ r. subst (λ t. LeadCounts (count r s) (count r t) (steps_of r p.steps)) (sym plans.next) (plans.counts r);
+    can = subst (λ o. CanLeadBy CanChange o (state_of st)) (sym made.change_is) can.can;
+    valid = subst (λ o. ValidState (led_by after_change o (state_of st))) (sym made.change_is) can.valid;
+    settled = subst (λ o. NamesSettled o (state_of st) p.settled) (sym made.change_is) made.settled;
+    counts = λ r. subst (λ o. LeadCounts (count r (state_of st)) (count r (led_by after_change o (state_of st))) (steps_of r p.steps)) (sym made.change_is)
+        (subst (λ ds. LeadCounts (count r (state_of st)) (count r (led_by after_change d.change (state_of st))) (steps_of r ds)) (sym made.steps_are) (can.counts r));
   };
-  next = plans.next;
+  next = ap (λ o. led_by after_change o (state_of st)) made.change_is ∙ plans.next;
+}
+
+-- what stays still in a draft does so in its plan
+pub still_is : (st : Stores) (d : Draft) (p : Planned) → Completes st d p → IsStill d.change d.steps → IsStill p.change p.steps
+still_is st d p made still = record {
+  change_is = made.change_is ∙ still.change_is;
+  no_steps = subst HasNoSteps (sym made.steps_are) still.no_steps;
 }
 
 -- a command of no family that is carried out is a greeting

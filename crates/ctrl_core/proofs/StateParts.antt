@@ -76,7 +76,7 @@ state_then c st = assembled (entities_then c st) (policies_then c st) (links_the
 
 -- the state after a change is that of the tables after it
 pub parts_after : (c : Change) (st : Stores) → CanSettle st c → after_change c (state_of st) ≡ state_then c st
-parts_after (change.Entity e) st can = sym (carried_entity e st can.can can.valid can.kept.held).next
+parts_after (change.Entity e) st can = sym (carried_entity e st can.can can.valid can.held).next
 parts_after (change.Policy p) st can = refl
 parts_after (change.Link l) st can = refl
 parts_after (change.Terminator e) st can = refl
@@ -107,13 +107,13 @@ circuits_numbered (Some (circuit.Add c)) k h b = record { high = k.circuits.next
 circuits_numbered (Some (circuit.Remove n)) k h b = record { high = k.circuits.next; ordered = Between-without k.circuits.next k.circuits.rows 1 n.0 b }
 
 pub links_ordered : (c : Change) (st : Stores) → CanSettle st c → IsNumbered (links_then c st).links.rows
-links_ordered c st can = let v = (can.kept.valid.kinds kind.Link).numbers in links_numbered (link_part c) st.fabric v.first v.ordered
+links_ordered c st can = let v = (can.before.kinds kind.Link).numbers in links_numbered (link_part c) st.fabric v.first v.ordered
 
 pub terms_ordered : (c : Change) (st : Stores) → CanSettle st c → IsNumbered (terms_then c st).terminators.rows
-terms_ordered c st can = let v = (can.kept.valid.kinds kind.Terminator).numbers in terms_numbered (term_part c) st.terminators v.first v.ordered
+terms_ordered c st can = let v = (can.before.kinds kind.Terminator).numbers in terms_numbered (term_part c) st.terminators v.first v.ordered
 
 pub circuits_ordered : (c : Change) (st : Stores) → CanSettle st c → IsNumbered (circuits_then c st).circuits.rows
-circuits_ordered c st can = let v = (can.kept.valid.kinds kind.Circuit).numbers in circuits_numbered (circuit_part c) st.circuits v.first v.ordered
+circuits_ordered c st can = let v = (can.before.kinds kind.Circuit).numbers in circuits_numbered (circuit_part c) st.circuits v.first v.ordered
 
 -- ---- what settles, by what was looked at
 

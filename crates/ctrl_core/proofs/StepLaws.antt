@@ -9,11 +9,11 @@ use Rattle.ctrl_model.specs.ValidState.{ValidState}
 use Rattle.grant_denorm.specs.PairCounts.{count_of}
 use Rattle.grant_moves.proofs.CountBounds.{has_count_room}
 use Rattle.policy_store.specs.declared.steps.GrantSteps.{GrantSteps}
-use Rattle.ctrl_core.specs.declared.changes.Planned.{Planned}
+use Rattle.ctrl_core.specs.declared.plans.Planned.{Planned}
 use Rattle.ctrl_core.specs.declared.stores.Grants.{Grants}
 use Rattle.ctrl_core.specs.declared.stores.Stores.{Stores}
 use Rattle.ctrl_core.specs.AppliedChanges.{Carries, HaveRoom, Taken}
-use Rattle.ctrl_core.specs.Changes.{CanLead, led}
+use Rattle.ctrl_core.specs.Changes.{CanLead, LeadAllCounts, led}
 use Rattle.policy_store.specs.GrantChanges.{steps_of}
 use Rattle.ctrl_core.specs.KeptState.{Keeps, counts_of, state_of}
 
@@ -32,15 +32,18 @@ policies_few Bind s valid = (valid.kinds kind.ServicePolicy).numbers.few
 policies_few IdentityRouter s valid = let few = (valid.kinds kind.EdgeRouterPolicy).numbers.few in omega (arith, few)
 policies_few ServiceRouter s valid = let few = (valid.kinds kind.ServiceEdgeRouterPolicy).numbers.few in omega (arith, few)
 
-pub steps_have_room : (st mid : Stores) (p : Planned) → Keeps st → CanLead p (state_of st) → mid.grants ≡ st.grants → (r : Relation) → HaveRoom (counts_of r mid.grants) (steps_of r p.steps)
-steps_have_room st mid p keeps can same r = subst (λ (g : Grants). HaveRoom (counts_of r g) (steps_of r p.steps)) (sym same) (record {
-  least = λ a b. let least = (can.counts r).least a b in let counted = keeps.counts r a b in omega (arith, least, counted);
+pub steps_fit : (st : Stores) (t : State) (steps : GrantSteps) → Keeps st → ValidState t → LeadAllCounts (state_of st) t steps → (r : Relation) → HaveRoom (counts_of r st.grants) (steps_of r steps)
+steps_fit st t steps keeps valid leads r = record {
+  least = λ a b. let least = (leads r).least a b in let counted = keeps.counts r a b in omega (arith, least, counted);
   most = λ a b.
-      let room = has_count_room r (state_of st) (led p (state_of st)) (steps_of r p.steps) (can.counts r) (policies_few r (state_of st) keeps.valid)
-      (policies_few r (led p (state_of st)) can.valid) a b in
+      let room = has_count_room r (state_of st) t (steps_of r steps) (leads r) (policies_few r (state_of st) keeps.valid) (policies_few r t valid) a b in
       let counted = keeps.counts r a b in
       omega (arith, room, counted);
-})
+}
+
+pub steps_have_room : (st mid : Stores) (p : Planned) → Keeps st → CanLead p (state_of st) → mid.grants ≡ st.grants → (r : Relation) → HaveRoom (counts_of r mid.grants) (steps_of r p.steps)
+steps_have_room st mid p keeps can same r =
+    subst (λ (g : Grants). HaveRoom (counts_of r g) (steps_of r p.steps)) (sym same) (steps_fit st (led p (state_of st)) p.steps keeps can.valid can.counts r)
 
 -- the state after a change and the counts after its steps belong together
 pub keeps_after : (st mid : Stores) (g : Grants) (p : Planned) → Keeps st → CanLead p (state_of st) → Carries st mid (led p (state_of st))

@@ -1,6 +1,5 @@
 -- What a change is to each family: its own change, or none. Only private functions and proofs of this crate cite this file.
-use Rattle.std.specs.Prelude.{◌==◌, Bool, false, None, Some}
-use Rattle.std.specs.Option.{option_map_or}
+use Rattle.std.specs.Prelude.{ℕ, ◌==◌, Bool, true, false, List, None, Some}
 use Rattle.std.specs.declared.option.Option.{Option}
 use Rattle.ctrl_model.specs.declared.kinds.Kind.{Kind}
 use Rattle.ctrl_model.specs.declared.kinds.Kind.TheVariants as kind
@@ -43,16 +42,51 @@ abbrev pub circuit_part : Change → Option CircuitChange
 circuit_part (change.Circuit c) = Some c
 circuit_part _ = None
 
--- The kind of which a change adds a record, if it adds one.
-abbrev pub added_kind : Change → Option Kind
-added_kind (change.Entity (entity.Add k name attributes)) = Some k
-added_kind (change.Entity (entity.AddRouter name attributes cost through)) = Some kind.Router
-added_kind (change.Policy (policy.Add k p)) = Some k
-added_kind (change.Link (link.Add l)) = Some kind.Link
-added_kind (change.Terminator (term.Add e)) = Some kind.Terminator
-added_kind (change.Circuit (circuit.Add c)) = Some kind.Circuit
-added_kind _ = None
+-- Whether a change adds an entity of a kind.
+abbrev pub adds_entity : Option EntityChange → Kind → Bool
+adds_entity (Some (entity.Add added name attributes)) k = kind_number added == kind_number k
+adds_entity (Some (entity.AddRouter name attributes cost through)) k = kind_number kind.Router == kind_number k
+adds_entity _ k = false
+
+-- Whether a change adds a policy of a kind.
+abbrev pub adds_policy : Option PolicyChange → Kind → Bool
+adds_policy (Some (policy.Add added p)) k = kind_number added == kind_number k
+adds_policy _ k = false
+
+-- Whether a change adds a link.
+abbrev pub adds_link : Option LinkChange → Bool
+adds_link (Some (link.Add l)) = true
+adds_link _ = false
+
+-- Whether a change adds a terminator.
+abbrev pub adds_term : Option TermChange → Bool
+adds_term (Some (term.Add e)) = true
+adds_term _ = false
+
+-- Whether a change adds a circuit.
+abbrev pub adds_circuit : Option CircuitChange → Bool
+adds_circuit (Some (circuit.Add c)) = true
+adds_circuit _ = false
 
 -- Whether a change adds a record of a kind.
-abbrev pub adds : Kind → Change → Bool
-adds k c = option_map_or (λ added. kind_number added == kind_number k) (added_kind c) false
+abbrev pub adds : Change → Kind → Bool
+adds c kind.Identity = adds_entity (entity_part c) kind.Identity
+adds c kind.Service = adds_entity (entity_part c) kind.Service
+adds c kind.Router = adds_entity (entity_part c) kind.Router
+adds c kind.Link = adds_link (link_part c)
+adds c kind.ServicePolicy = adds_policy (policy_part c) kind.ServicePolicy
+adds c kind.EdgeRouterPolicy = adds_policy (policy_part c) kind.EdgeRouterPolicy
+adds c kind.ServiceEdgeRouterPolicy = adds_policy (policy_part c) kind.ServiceEdgeRouterPolicy
+adds c kind.Terminator = adds_term (term_part c)
+adds c kind.Circuit = adds_circuit (circuit_part c)
+adds c kind.Attribute = false
+
+-- The least router cost after a change of the links.
+abbrev pub least_after : Option LinkChange → ℕ → ℕ
+least_after (Some (link.SetLeast cost)) least = cost
+least_after _ least = least
+
+-- The `@` name that a change takes out of the sides of policies, and the kind of its entity.
+abbrev pub forgotten_name : Option EntityChange → Option (Kind × List ℕ)
+forgotten_name (Some (entity.Remove k n name)) = Some (k, name)
+forgotten_name _ = None

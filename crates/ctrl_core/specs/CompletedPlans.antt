@@ -4,6 +4,8 @@ use Rattle.ctrl_model.specs.declared.replies.Reply.{Reply}
 use Rattle.policy_store.specs.declared.steps.GrantSteps.{GrantSteps}
 use Rattle.ctrl_model.specs.ValidState.{ValidState}
 use Rattle.model_laws.specs.Plans.{CanLeadBy, led_by}
+use Rattle.row_codec.specs.declared.changes.Op.{Op}
+use Rattle.row_codec.specs.Batches.{batch_between}
 use Rattle.ctrl_core.specs.declared.changes.Change.{Change}
 use Rattle.ctrl_core.specs.declared.changes.Draft.{Draft}
 use Rattle.ctrl_core.specs.declared.plans.Planned.{Planned}
@@ -21,14 +23,20 @@ pub record CanComplete (st : Stores) (d : Draft) : Type 0 where
   pub valid : ValidState (led_by after_change d.change (state_of st))
   pub counts : LeadAllCounts (state_of st) (led_by after_change d.change (state_of st)) d.steps
 
--- A plan is a draft with what settles.
+-- What settles after a change, and the batch of the rows that differ.
+pub record SettlesAs (st : Stores) (c : Change) (g : Settled) (batch : List Op) : Type 0 where
+  pub settled : AreSettled (after_change c (state_of st)) g
+  pub batch_is : batch ≡ batch_between (state_of st) (next_state st c)
+
+-- A plan is a draft with what settles and with the batch of the rows that differ.
 pub record Completes (st : Stores) (d : Draft) (p : Planned) : Type 0 where
   pub reply_is : p.reply ≡ d.reply
   pub change_is : p.change ≡ d.change
   pub steps_are : p.steps ≡ d.steps
   pub settled : NamesSettled d.change (state_of st) p.settled
+  pub batch_is : p.batch ≡ batch_between (state_of st) (led_by after_change d.change (state_of st))
 
--- The plan of a reply that changes nothing: it has no change, and nothing settles.
+-- The plan of a reply that changes nothing: it has no change, nothing settles, and its batch is empty.
 pub record IsUnchanged (reply : Reply) (steps : GrantSteps) (p : Planned) : Type 0 where
   pub reply_is : p.reply ≡ reply
   pub change_is : p.change ≡ None
@@ -36,3 +44,4 @@ pub record IsUnchanged (reply : Reply) (steps : GrantSteps) (p : Planned) : Type
   pub links_stay : p.settled.links ≡ []
   pub terminators_stay : p.settled.terminators ≡ []
   pub circuits_stay : p.settled.circuits ≡ []
+  pub empty : p.batch ≡ []

@@ -227,11 +227,7 @@ fn plan_grants(
 
 /// Plans the answer to a command that is carried out over the state of some stores: it is planned by the family that it belongs to,
 /// and what belongs to none is Hello.
-pub fn plan_command(
-    alloc: Global,
-    stores: &Stores,
-    command: &Command,
-) -> Result<Draft, AllocError>
+pub fn plan_command(alloc: Global, stores: &Stores, command: &Command) -> Result<Draft, AllocError>
     requires kept { Keeps stores.now }
     requires spelled { is_spelled command.now ≡ true }
     requires carried { is_carried command.now ≡ true }

@@ -1,19 +1,36 @@
-ghost use Rattle.std.specs.Prelude.{◌≡◌, IfOk};
-ghost use Rattle.ctrl_model.specs.ValidState.{ValidState};
-ghost use Rattle.model_laws.specs.Plans.{CanLeadBy, led_by};
-ghost use Rattle.row_codec.specs.Batches.{batch_between};
-ghost use Rattle.ctrl_core.specs.Changes.{CanChange, LeadAllCounts, NamesSettled, after_change};
+ghost use Rattle.std.specs.Prelude.{IfOk};
+ghost use Rattle.ctrl_core.specs.Changes.{LeadAllCounts};
 ghost use Rattle.ctrl_core.specs.ChangedStores.{CanSettle, next_state};
 ghost use Rattle.ctrl_core.specs.KeptState.{Keeps, state_of};
 ghost use Rattle.ctrl_core.specs.CompletedPlans.{Completes, CanComplete, SettlesAs};
 
-use crate::changes::Draft;
-use crate::plans::Planned;
+use crate::changes::{Change, Draft};
+use crate::plans::{Planned, Settled};
+use crate::row_changes::batch_for;
 use crate::settling::settled_by;
 use crate::stores::Stores;
+use policy_store::GrantSteps;
+use row_codec::Batch;
 use std::alloc::{AllocError, Global};
 
-/// The plan of a draft: with what settles after its change.
+// What settles after a change, and the batch of the rows that differ.
+fn settled_rows(
+    alloc: Global,
+    stores: &Stores,
+    change: &Change,
+    steps: &GrantSteps,
+) -> Result<(Settled, Batch), AllocError>
+    requires kept { Keeps stores.now }
+    requires can { CanSettle stores.now change.now }
+    requires counts { LeadAllCounts (state_of stores.now) (next_state stores.now change.now) steps.now }
+    ensures { IfOk result (λ p. SettlesAs stores.now change.now p.0 p.1) }
+{
+    let settled = settled_by(alloc, stores, change)?;
+    let batch = batch_for(alloc, stores, change, &settled, steps)?;
+    Ok((settled, batch))
+}
+
+/// The plan of a draft: with what settles after its change, and the batch of the rows that differ.
 pub fn completed(alloc: Global, stores: &Stores, draft: Draft) -> Result<Planned, AllocError>
     requires { CanComplete stores.now draft }
     ensures { IfOk result (Completes stores.now draft) }
@@ -26,9 +43,10 @@ pub fn completed(alloc: Global, stores: &Stores, draft: Draft) -> Result<Planned
     let Some(change) = change else {
         return Ok(Planned::still(alloc, reply, steps));
     };
-    let settled = settled_by(alloc, stores, &change)?;
+    let (settled, batch) = settled_rows(alloc, stores, &change, &steps)?;
     Ok(Planned {
         reply,
+        batch,
         change: Some(change),
         settled,
         steps,

@@ -6,6 +6,7 @@ ghost use Rattle.ctrl_model.specs.Grants.{count};
 ghost use Rattle.ctrl_model.specs.ValidState.{ValidState};
 ghost use Rattle.model_laws.specs.Plans.{tells_change};
 ghost use Rattle.grant_denorm.specs.MovedCounts.{AreCountsOf};
+ghost use Rattle.row_codec.specs.Batches.{batch_between};
 ghost use Rattle.ctrl_core.specs.CarriedCommands.{is_carried};
 ghost use Rattle.ctrl_core.specs.Changes.{CanLead, IsStill, LeadsFrom, led};
 
@@ -71,6 +72,7 @@ impl Core {
         ensures reply { IfOk result (λ p. p.reply ≡ (carry command.now self.now.state).0) }
         ensures leads { IfOk result (λ p. LeadsFrom p self.now.state (carry command.now self.now.state).1) }
         ensures still { IfOk result (λ p. tells_change p.reply ≡ false → IsStill p.change p.steps) }
+        ensures batch { IfOk result (λ p. p.batch ≡ batch_between self.now.state (carry command.now self.now.state).1) }
         ensures valid { ValidState self.now.state }
     {
         let draft = plan_command(self.alloc, &self.stores, command)?;

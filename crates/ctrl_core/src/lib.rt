@@ -13,6 +13,7 @@ mod completing;
 mod core_state;
 mod counting;
 mod plans;
+mod row_changes;
 mod settling;
 mod showing;
 mod stores;

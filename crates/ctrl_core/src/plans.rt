@@ -4,6 +4,7 @@ ghost use Rattle.ctrl_core.specs.CompletedPlans.{IsUnchanged};
 use crate::changes::Change;
 use ctrl_model::{Numbers, Reply};
 use policy_store::GrantSteps;
+use row_codec::Batch;
 use std::alloc::Global;
 
 /// What settling takes out after a change: the numbers of the links, of the terminators and of the circuits that go, ascending.
@@ -20,6 +21,8 @@ pub struct Settled {
 #[derive(Drop)]
 pub struct Planned {
     pub reply: Reply,
+    /// Exactly the difference between the rows of the two states.
+    pub batch: Batch,
     pub(crate) change: Option<Change>,
     pub(crate) settled: Settled,
     pub(crate) steps: GrantSteps,
@@ -45,6 +48,7 @@ impl Planned {
     {
         Planned {
             reply,
+            batch: Batch::of(Vec::new(alloc)),
             change: None,
             settled: Settled::nothing(alloc),
             steps,

@@ -60,7 +60,14 @@ fn circuits_gone(
         terminators,
     );
     let circuits = &stores.circuits;
-    circuits_that_go(alloc, circuits, change.of_circuits(), &entities, &fabric, &terminators)
+    circuits_that_go(
+        alloc,
+        circuits,
+        change.of_circuits(),
+        &entities,
+        &fabric,
+        &terminators,
+    )
 }
 
 /// What settling takes out after a change, by its numbers. The stores stay.

@@ -1,23 +1,42 @@
 //! Stops of a desk over memory: what it may leave of writes, cuts and replies at each moment.
 
+use crate::checks::{are_bytes, has_len, is_done, is_refused};
 use std::alloc::{AllocError, Global};
 use std::process::Abort;
 use std::test::Fail;
 use ziti_desk::{Images, MemDesk, Room};
 use ziti_outside::{Desk, Part};
 
-/// A desk of which the first slot reads `abc`, with room for some calls, and which fails at these, counted from 0.
-pub(crate) fn desk(alloc: Global, failing: &[u32]) -> Result<MemDesk, AllocError> {
-    let room = Room {
-        file_bytes: 8,
-        said_bytes: 16,
-        noted_bytes: 16,
-        log_bytes: 1_024,
-    };
+/// Room for some calls.
+const ROOM: Room = Room {
+    file_bytes: 8,
+    said_bytes: 16,
+    noted_bytes: 16,
+    log_bytes: 1_024,
+};
+
+// Parts of which the first slot has the bytes `abc`.
+fn letters(alloc: Global) -> Result<Images, AllocError> {
     let mut images = Images::empty(alloc);
     images.zero.extend_from_slice(b"abc")?;
+    Ok(images)
+}
+
+/// A desk of which the first slot reads `abc`, with room for some calls, and which fails at these, counted from 0.
+pub(crate) fn desk(alloc: Global, failing: &[u32]) -> Result<MemDesk, AllocError> {
     let failing = Vec::from_slice(alloc, failing)?;
-    MemDesk::new(alloc, images, room, failing)
+    let images = letters(alloc)?;
+    MemDesk::new(alloc, images, ROOM, failing)
+}
+
+fn has_moments(rt: &impl Abort, desk: &MemDesk, wanted: u64) {
+    assert_eq!(rt; desk.moments(), wanted);
+}
+
+/// Compares bytes that a stop at a moment leaves, by a choice.
+fn are_left(rt: &impl Abort, stop: (u64, u64), found: &[u8], wanted: &[u8]) {
+    let (moment, choice) = stop;
+    assert_eq!(rt; found, wanted, "{moment} {choice}");
 }
 
 /// Compares what a stop leaves of the first slot, and the replies.
@@ -32,8 +51,8 @@ fn leaves(
     let (moment, choice) = stop;
     assert!(rt; moment <= desk.moments());
     let (images, taken) = desk.stopped(alloc, moment, choice)?;
-    assert_eq!(rt; images.zero.as_slice(), zero, "{moment} {choice}");
-    assert_eq!(rt; taken.as_slice(), said, "{moment} {choice}");
+    are_left(rt, stop, images.zero.as_slice(), zero);
+    are_left(rt, stop, taken.as_slice(), said);
     Ok(())
 }
 
@@ -41,12 +60,12 @@ fn leaves(
 fn works(rt: &impl Abort, desk: &mut MemDesk) {
     assert!(rt; desk.part(Part::Zero).len() >= 1);
     assert_eq!(rt; desk.write_at(Part::Zero, 1, b"XYZ"), Ok(()));
-    assert_eq!(rt; desk.cut(Part::Zero, 2), Ok(()));
-    assert_eq!(rt; desk.sync(Part::Zero), Ok(()));
-    assert_eq!(rt; desk.say(b"done"), Ok(()));
-    assert_eq!(rt; desk.note(b"a note"), Ok(()));
-    assert_eq!(rt; desk.len(Part::Zero), Ok(2));
-    assert_eq!(rt; desk.moments(), 4);
+    is_done(rt, desk.cut(Part::Zero, 2));
+    is_done(rt, desk.sync(Part::Zero));
+    is_done(rt, desk.say(b"done"));
+    is_done(rt, desk.note(b"a note"));
+    has_len(rt, desk, Part::Zero, 2);
+    has_moments(rt, desk, 4);
 }
 
 /// What a stop that keeps nothing leaves at each moment of it.
@@ -67,26 +86,34 @@ fn keeps_all(rt: &impl Abort, alloc: Global, desk: &MemDesk) -> Result<(), Alloc
     leaves(rt, alloc, desk, (4, 1), b"aX", b"done")
 }
 
+fn keeps_nothing_or_all(rt: &impl Abort, alloc: Global, desk: &MemDesk) -> Result<(), AllocError> {
+    keeps_nothing(rt, alloc, desk)?;
+    keeps_all(rt, alloc, desk)
+}
+
 #[test]
 fn keeps_nothing_or_all_of_what_is_pending(rt: HostRuntime) -> Result<(), Fail> {
     let mut desk = desk(rt.alloc(), &[])?;
     works(&rt, &mut desk);
-    keeps_nothing(&rt, rt.alloc(), &desk)?;
-    keeps_all(&rt, rt.alloc(), &desk)?;
+    keeps_nothing_or_all(&rt, rt.alloc(), &desk)?;
     Ok(())
 }
 
 /// A write and a cut that fail, and a sync and a say that fail too.
 fn fails(rt: &impl Abort, desk: &mut MemDesk) {
-    assert!(rt; desk.write_at(Part::Zero, 0, b"XY").is_err());
+    is_refused(rt, desk.write_at(Part::Zero, 0, b"XY"));
     assert!(rt; desk.part(Part::Zero).len() >= 1);
-    assert!(rt; desk.cut(Part::Zero, 1).is_err());
-    assert!(rt; desk.sync(Part::Zero).is_err());
-    assert!(rt; desk.say(b"lost").is_err());
-    assert_eq!(rt; desk.part(Part::Zero), b"abc".as_slice());
-    assert!(rt; desk.said().is_empty());
-    assert_eq!(rt; desk.moments(), 2);
-    assert_eq!(rt; desk.sync(Part::Zero), Ok(()));
+    is_refused(rt, desk.cut(Part::Zero, 1));
+    is_refused(rt, desk.sync(Part::Zero));
+    is_refused(rt, desk.say(b"lost"));
+}
+
+/// They are pending, and change nothing that is read or was said; a sync is made behind them.
+fn stays(rt: &impl Abort, desk: &mut MemDesk) {
+    are_bytes(rt, desk.part(Part::Zero), b"abc");
+    are_bytes(rt, desk.said(), b"");
+    has_moments(rt, desk, 2);
+    is_done(rt, desk.sync(Part::Zero));
 }
 
 /// What a stop leaves of them.
@@ -101,6 +128,7 @@ fn keeps_failed(rt: &impl Abort, alloc: Global, desk: &MemDesk) -> Result<(), Al
 fn keeps_a_failed_write_pending(rt: HostRuntime) -> Result<(), Fail> {
     let mut desk = desk(rt.alloc(), &[0, 1, 2, 3])?;
     fails(&rt, &mut desk);
+    stays(&rt, &mut desk);
     keeps_failed(&rt, rt.alloc(), &desk)?;
     Ok(())
 }
@@ -117,7 +145,27 @@ fn drawn(
     Ok(images.zero)
 }
 
-/// Whether a drawn part of `WXYZ`, written behind the first byte of `abc`, is kept; the same is drawn again.
+/// The same is drawn again.
+fn is_drawn_again(
+    rt: &impl Abort,
+    alloc: Global,
+    desk: &MemDesk,
+    choice: u64,
+    zero: &[u8],
+) -> Result<(), AllocError> {
+    let again = drawn(rt, alloc, desk, choice)?;
+    are_bytes(rt, again.as_slice(), zero);
+    Ok(())
+}
+
+/// Whether a part of `WXYZ`, written behind the first byte of `abc`, is there.
+fn has_part(rt: &impl Abort, zero: &[u8]) -> bool {
+    assert!(rt; zero.len() >= 3 && zero.len() <= 5);
+    assert_eq!(rt; zero.first(), Some(&b'a'));
+    zero != b"abc".as_slice() && zero != b"aWXYZ".as_slice()
+}
+
+/// Whether a drawn part of it is kept; the same is drawn again.
 fn is_torn(
     rt: &impl Abort,
     alloc: Global,
@@ -125,11 +173,8 @@ fn is_torn(
     choice: u64,
 ) -> Result<bool, AllocError> {
     let zero = drawn(rt, alloc, desk, choice)?;
-    let again = drawn(rt, alloc, desk, choice)?;
-    assert_eq!(rt; again.as_slice(), zero.as_slice());
-    assert!(rt; zero.len() >= 3 && zero.len() <= 5);
-    assert_eq!(rt; zero.first(), Some(&b'a'));
-    Ok(zero.as_slice() != b"abc".as_slice() && zero.as_slice() != b"aWXYZ".as_slice())
+    is_drawn_again(rt, alloc, desk, choice, zero.as_slice())?;
+    Ok(has_part(rt, zero.as_slice()))
 }
 
 /// How many of some choices keep a part.
@@ -143,30 +188,39 @@ fn torn(rt: &impl Abort, alloc: Global, desk: &MemDesk) -> Result<u32, AllocErro
     Ok(torn)
 }
 
+fn draws(rt: &impl Abort, alloc: Global, desk: &mut MemDesk) -> Result<(), AllocError> {
+    assert!(rt; desk.part(Part::Zero).len() >= 1);
+    is_done(rt, desk.write_at(Part::Zero, 1, b"WXYZ"));
+    assert!(rt; torn(rt, alloc, desk)? > 0);
+    Ok(())
+}
+
 #[test]
 fn draws_what_is_kept(rt: HostRuntime) -> Result<(), Fail> {
     let mut desk = desk(rt.alloc(), &[])?;
-    assert!(rt; desk.part(Part::Zero).len() >= 1);
-    assert_eq!(rt; desk.write_at(Part::Zero, 1, b"WXYZ"), Ok(()));
-    assert!(rt; torn(&rt, rt.alloc(), &desk)? > 0);
+    draws(&rt, rt.alloc(), &mut desk)?;
     Ok(())
+}
+
+fn fills_the_part(rt: &impl Abort, desk: &mut MemDesk) {
+    assert!(rt; desk.part(Part::Zero).len() >= 3);
+    assert_eq!(rt; desk.write_at(Part::Zero, 3, b"defgh"), Ok(()));
+    assert_eq!(rt; desk.write_at(Part::Zero, 0, b"ABCDEFGH"), Ok(()));
+    is_refused(rt, desk.write_at(Part::Zero, 8, b"i"));
+    are_bytes(rt, desk.part(Part::Zero), b"ABCDEFGH");
+}
+
+fn fills_the_outlets(rt: &impl Abort, desk: &mut MemDesk) {
+    is_done(rt, desk.say(b"sixteen bytes ok"));
+    is_refused(rt, desk.say(b"x"));
+    is_refused(rt, desk.note(b"seventeen bytes x"));
+    has_moments(rt, desk, 3);
 }
 
 #[test]
 fn counts_what_the_room_cannot_hold(rt: HostRuntime) -> Result<(), Fail> {
     let mut desk = desk(rt.alloc(), &[])?;
-    fills(&rt, &mut desk);
+    fills_the_part(&rt, &mut desk);
+    fills_the_outlets(&rt, &mut desk);
     Ok(())
-}
-
-fn fills(rt: &impl Abort, desk: &mut MemDesk) {
-    assert!(rt; desk.part(Part::Zero).len() >= 3);
-    assert_eq!(rt; desk.write_at(Part::Zero, 3, b"defgh"), Ok(()));
-    assert_eq!(rt; desk.write_at(Part::Zero, 0, b"ABCDEFGH"), Ok(()));
-    assert!(rt; desk.write_at(Part::Zero, 8, b"i").is_err());
-    assert_eq!(rt; desk.part(Part::Zero), b"ABCDEFGH".as_slice());
-    assert_eq!(rt; desk.say(b"sixteen bytes ok"), Ok(()));
-    assert!(rt; desk.say(b"x").is_err());
-    assert!(rt; desk.note(b"seventeen bytes x").is_err());
-    assert_eq!(rt; desk.moments(), 3);
 }

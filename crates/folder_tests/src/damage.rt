@@ -1,8 +1,10 @@
+use crate::checks::is_fault;
 use crate::desks::{BATCH_OF_ANN, desk_of, slot_of, slot_with};
 use row_store::{Store, StoreFault};
 use std::alloc::{AllocError, Global};
 use std::process::Abort;
 use std::test::Fail;
+use ziti_desk::MemDesk;
 use ziti_outside::Part;
 
 /// The batch of the first identity with its two rows out of order.
@@ -10,25 +12,33 @@ const OUT_OF_ORDER: [u8; 28] = [
     1, 5, 3, 0, 0, 0, 1, 5, 0, 0, 0, 3, 97, 110, 110, 0, 1, 2, 1, 1, 4, 0, 0, 0, 2, 0, 0, 0,
 ];
 
+// Why the folder of a desk is not opened.
+fn fault_at(alloc: Global, desk: &mut MemDesk) -> Option<StoreFault> {
+    Store::peek(alloc, desk).err()
+}
+
 // Why a folder whose first slot has these bytes is not opened.
 fn fault_of(alloc: Global, slot: &[u8]) -> Result<Option<StoreFault>, AllocError> {
     let mut desk = desk_of(alloc, slot)?;
-    match Store::peek(alloc, &mut desk) {
-        Ok(_) => Ok(None),
-        Err(fault) => Ok(Some(fault)),
-    }
+    Ok(fault_at(alloc, &mut desk))
 }
 
 fn is_damaged(rt: &impl Abort, alloc: Global, slot: &[u8], at: u64) -> Result<(), AllocError> {
+    let part = Part::Zero;
     let fault = fault_of(alloc, slot)?;
-    assert_eq!(rt;
-        fault,
-        Some(StoreFault::Damaged {
-            part: Part::Zero,
-            at
-        })
-    );
+    is_fault(rt, fault, Some(StoreFault::Damaged { part, at }));
     Ok(())
+}
+
+// A slot of which so many bytes are left is damaged at a place.
+fn is_cut(
+    rt: &impl Abort,
+    alloc: Global,
+    slot: &[u8],
+    left: usize,
+    at: u64,
+) -> Result<(), AllocError> {
+    is_damaged(rt, alloc, slot.get(..left).unwrap_or(slot), at)
 }
 
 // A folder whose first record is this one is damaged at its first gate.
@@ -43,21 +53,29 @@ fn is_bad_behind(rt: &impl Abort, alloc: Global, payload: &[u8]) -> Result<(), A
     is_damaged(rt, alloc, slot.as_slice(), 41)
 }
 
+fn is_whole(rt: &impl Abort, alloc: Global, slot: &[u8]) -> Result<(), AllocError> {
+    let fault = fault_of(alloc, slot)?;
+    is_fault(rt, fault, None);
+    Ok(())
+}
+
 #[test]
 fn opens_a_whole_slot(rt: HostRuntime) -> Result<(), Fail> {
     let slot = slot_of(rt.alloc(), &BATCH_OF_ANN)?;
-    let fault = fault_of(rt.alloc(), slot.as_slice())?;
-    assert_eq!(rt; fault, None);
+    is_whole(&rt, rt.alloc(), slot.as_slice())?;
     Ok(())
+}
+
+fn are_cut(rt: &impl Abort, alloc: Global, slot: &[u8]) -> Result<(), AllocError> {
+    is_cut(rt, alloc, slot, 20, 8)?;
+    is_cut(rt, alloc, slot, 41, 41)?;
+    is_cut(rt, alloc, slot, 7, 0)
 }
 
 #[test]
 fn finds_a_slot_that_was_cut(rt: HostRuntime) -> Result<(), Fail> {
     let slot = slot_of(rt.alloc(), &BATCH_OF_ANN)?;
-    let bytes = slot.as_slice();
-    is_damaged(&rt, rt.alloc(), bytes.get(..20).unwrap_or(bytes), 8)?;
-    is_damaged(&rt, rt.alloc(), bytes.get(..41).unwrap_or(bytes), 41)?;
-    is_damaged(&rt, rt.alloc(), bytes.get(..7).unwrap_or(bytes), 0)?;
+    are_cut(&rt, rt.alloc(), slot.as_slice())?;
     Ok(())
 }
 

@@ -1,7 +1,11 @@
 //! Desks over memory with a folder, and the slots in them.
 
+ghost use Rattle.std.specs.Prelude.{◌≡◌, [], IfOk};
+ghost use Rattle.ziti_outside.specs.declared.desk.Part.TheVariants.{Mark};
+
 use std::alloc::{AllocError, Global};
 use ziti_desk::{Images, MemDesk, Room};
+use ziti_outside::Desk;
 
 /// Room for some records.
 const ROOM: Room = Room {
@@ -20,7 +24,9 @@ pub const BATCH_OF_ANN: [u8; 28] = [
 pub const HEADER_OF_SLOT: [u8; 8] = [0x5A, 0x43, 0x54, 0x4C, 1, 0, 0, 0];
 
 /// A desk with an empty folder.
-pub fn empty_desk(alloc: Global) -> Result<MemDesk, AllocError> {
+pub fn empty_desk(alloc: Global) -> Result<MemDesk, AllocError>
+    ensures { IfOk result (λ desk. ⟦<MemDesk as Desk>⟧.reads desk Mark ≡ []) }
+{
     MemDesk::new(alloc, Images::empty(alloc), ROOM, Vec::new(alloc))
 }
 

@@ -1,6 +1,7 @@
-ghost use Rattle.std.specs.Prelude.{◌≡◌, ◌+◌, length};
+ghost use Rattle.std.specs.Prelude.{◌≡◌, ◌+◌, ◌<◌, ◌^◌, length, OnOk};
 
 use session_mux::{Event, Mux, MuxFault};
+use std::process::Abort;
 use std::test::Fail;
 
 // Two sessions that send one frame each: session 1, the identity ann, sends it whole between the two parts of session 0's.
@@ -24,56 +25,121 @@ fn told(mux: &mut Mux) -> Result<(u8, u8, u32), MuxFault>
     }
 }
 
-#[test]
-fn frames_come_in_the_order_of_their_last_bytes(rt: HostRuntime) -> Result<(), Fail> {
-    let mut mux = Mux::traced(rt.alloc())?;
+// The next event, in short, is the wanted one.
+fn tells(rt: &impl Abort, mux: &mut Mux, wanted: (u8, u8, u32)) -> Result<(), MuxFault>
+    ensures { mux.new.before + length mux.new.input ≡ mux.old.before + length mux.old.input }
+{
+    assert_eq!(rt; told(mux)?, wanted);
+    Ok(())
+}
+
+// The sessions 0 and 1 open.
+fn opens_two(rt: &impl Abort, mux: &mut Mux) -> Result<(), MuxFault>
+    ensures { mux.new.before + length mux.new.input ≡ mux.old.before + length mux.old.input }
+{
+    tells(rt, mux, (1, 0, 0))?;
+    tells(rt, mux, (1, 1, 0))
+}
+
+// The frame of session 1 comes, and then that of session 0.
+fn brings_two(rt: &impl Abort, mux: &mut Mux) -> Result<(), MuxFault> {
+    tells(rt, mux, (2, 1, 1000))?;
+    tells(rt, mux, (2, 0, 1000))
+}
+
+fn takes_all(rt: &impl Abort, mux: &mut Mux) -> Result<(), Fail>
+    requires { mux.old.before + length mux.old.input ≡ 0 }
+{
     mux.feed(&TRACE)?;
-    assert_eq!(rt; told(&mut mux)?, (1, 0, 0));
-    assert_eq!(rt; told(&mut mux)?, (1, 1, 0));
-    assert_eq!(rt; told(&mut mux)?, (2, 1, 1000));
-    assert_eq!(rt; told(&mut mux)?, (2, 0, 1000));
-    assert_eq!(rt; told(&mut mux)?, (0, 0, 0));
+    opens_two(rt, mux)?;
+    brings_two(rt, mux)?;
+    tells(rt, mux, (0, 0, 0))?;
     assert_eq!(rt; mux.rest(), 0);
     Ok(())
 }
 
 #[test]
-fn a_cut_changes_nothing(rt: HostRuntime) -> Result<(), Fail> {
-    let (first, later) = TRACE.split_at(72);
+fn frames_come_in_the_order_of_their_last_bytes(rt: HostRuntime) -> Result<(), Fail> {
     let mut mux = Mux::traced(rt.alloc())?;
-    mux.feed(first)?;
-    assert_eq!(rt; told(&mut mux)?, (1, 0, 0));
-    assert_eq!(rt; told(&mut mux)?, (1, 1, 0));
-    assert_eq!(rt; told(&mut mux)?, (0, 0, 0));
-    assert_eq!(rt; mux.rest(), 37);
-    assert_eq!(rt; mux.session_rest(0), 20);
-    mux.feed(later)?;
-    assert_eq!(rt; told(&mut mux)?, (2, 1, 1000));
-    assert_eq!(rt; told(&mut mux)?, (2, 0, 1000));
+    takes_all(&rt, &mut mux)
+}
+
+fn takes_the_front(rt: &impl Abort, mux: &mut Mux, front: &[u8]) -> Result<(), Fail>
+    requires { mux.old.before + length mux.old.input + length front.now < 2 ^ 63 }
+    ensures { OnOk result (mux.new.before + length mux.new.input ≡ mux.old.before + length mux.old.input + length front.now) }
+{
+    mux.feed(front)?;
+    opens_two(rt, mux)?;
+    tells(rt, mux, (0, 0, 0))?;
+    assert_eq!(rt; (mux.rest(), mux.session_rest(0)), (37, 20));
+    Ok(())
+}
+
+fn takes_the_rest(rt: &impl Abort, mux: &mut Mux, rest: &[u8]) -> Result<(), Fail>
+    requires { mux.old.before + length mux.old.input + length rest.now < 2 ^ 63 }
+{
+    mux.feed(rest)?;
+    brings_two(rt, mux)?;
     assert_eq!(rt; mux.session_rest(0), 0);
+    Ok(())
+}
+
+fn takes_both(rt: &impl Abort, mux: &mut Mux) -> Result<(), Fail>
+    requires { mux.old.before + length mux.old.input ≡ 0 }
+{
+    let (front, rest) = TRACE.split_at(72);
+    takes_the_front(rt, mux, front)?;
+    takes_the_rest(rt, mux, rest)
+}
+
+#[test]
+fn a_cut_changes_nothing(rt: HostRuntime) -> Result<(), Fail> {
+    let mut mux = Mux::traced(rt.alloc())?;
+    takes_both(&rt, &mut mux)
+}
+
+// The next event is none, since the record at this place is bad.
+fn is_bad(rt: &impl Abort, mux: &mut Mux, at: u64) {
+    assert_eq!(rt; told(mux).err(), Some(MuxFault::BadRecord { at }));
+}
+
+fn tells_a_bad_record(rt: &impl Abort, mux: &mut Mux) -> Result<(), Fail>
+    requires { mux.old.before + length mux.old.input ≡ 0 }
+{
+    mux.feed(&[1, 0, 0, 0, 5])?;
+    tells(rt, mux, (1, 0, 0))?;
+    is_bad(rt, mux, 4);
+    is_bad(rt, mux, 4);
     Ok(())
 }
 
 #[test]
 fn a_bad_record_is_told_again(rt: HostRuntime) -> Result<(), Fail> {
     let mut mux = Mux::traced(rt.alloc())?;
-    mux.feed(&[1, 0, 0, 0, 5])?;
-    assert_eq!(rt; told(&mut mux)?, (1, 0, 0));
-    assert_eq!(rt; told(&mut mux).err(), Some(MuxFault::BadRecord { at: 4 }));
-    assert_eq!(rt; told(&mut mux).err(), Some(MuxFault::BadRecord { at: 4 }));
+    tells_a_bad_record(&rt, &mut mux)
+}
+
+// A frame comes whole, and the next bytes are none.
+fn takes_a_frame(rt: &impl Abort, mux: &mut Mux) -> Result<(), MuxFault> {
+    tells(rt, mux, (2, 0, 1000))?;
+    tells(rt, mux, (3, 0, 1))?;
+    tells(rt, mux, (0, 0, 0))
+}
+
+fn takes_plain_input(rt: &impl Abort, mux: &mut Mux) -> Result<(), Fail>
+    requires { mux.old.before + length mux.old.input ≡ 0 }
+{
+    let (_, frame) = TRACE.split_at(39);
+    let (frame, _) = frame.split_at(34);
+    mux.feed(frame)?;
+    mux.feed(&[3, 6, 9, 13, 0, 0, 0, 0, 0, 0, 0, 0, 0, 0, 0, 0, 0, 0, 0, 0])?;
+    takes_a_frame(rt, mux)?;
+    assert_eq!(rt; mux.session_rest(0), 0);
     Ok(())
 }
 
 #[test]
 fn plain_input_is_one_session(rt: HostRuntime) -> Result<(), Fail> {
-    let (_, frame) = TRACE.split_at(39);
-    let (frame, _) = frame.split_at(34);
     let mut mux = Mux::plain(rt.alloc())?;
-    mux.feed(frame)?;
-    mux.feed(&[3, 6, 9, 13, 0, 0, 0, 0, 0, 0, 0, 0, 0, 0, 0, 0, 0, 0, 0, 0])?;
-    assert_eq!(rt; told(&mut mux)?, (2, 0, 1000));
-    assert_eq!(rt; told(&mut mux)?, (3, 0, 1));
-    assert_eq!(rt; told(&mut mux)?, (0, 0, 0));
-    assert_eq!(rt; mux.session_rest(0), 0);
-    Ok(())
+    takes_plain_input(&rt, &mut mux)
 }

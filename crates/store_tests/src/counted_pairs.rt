@@ -92,17 +92,27 @@ fn moves_from(
     moves_policy(rt, alloc, before, &after, wanted)
 }
 
+// A policy moves from some lefts and the right 5.
+fn moves(
+    rt: &impl Abort,
+    alloc: Global,
+    before: &[u32],
+    after: (&[u32], &[u32]),
+    wanted: &[(u32, u32, u32)],
+) -> Result<(), AllocError> {
+    let before = cross(alloc, before, &[5])?;
+    moves_from(rt, alloc, &before, after, wanted)
+}
+
 #[test]
 fn moves_counts_of_policies(rt: HostRuntime) -> Result<(), Fail> {
-    let table: [([u32; 3], [u32; 2], [u32; 2], [(u32, u32, u32); 2]); 3] = [
-        ([1, 2, 1], [2, 3], [5, 5], [(2, 5, 1), (3, 5, 1)]),
-        ([2, 1, 2], [1, 2], [7, 7], [(1, 7, 1), (2, 7, 1)]),
-        ([1, 2, 4], [9, 8], [5, 5], [(8, 5, 1), (9, 5, 1)]),
-    ];
-    'table: for (before, after, right, wanted) in &table {
-        let before = cross(rt.alloc(), before, &[5])?;
-        moves_from(&rt, rt.alloc(), &before, (after, right), wanted)?;
-    }
+    let alloc = rt.alloc();
+    let first = [(2, 5, 1), (3, 5, 1)];
+    moves(&rt, alloc, &[1, 2, 1], (&[2, 3], &[5, 5]), &first)?;
+    let second = [(1, 7, 1), (2, 7, 1)];
+    moves(&rt, alloc, &[2, 1, 2], (&[1, 2], &[7, 7]), &second)?;
+    let third = [(8, 5, 1), (9, 5, 1)];
+    moves(&rt, alloc, &[1, 2, 4], (&[9, 8], &[5, 5]), &third)?;
     Ok(())
 }
 

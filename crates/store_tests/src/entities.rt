@@ -65,21 +65,43 @@ fn remove(store: &mut Entities, kind: Kind, no: u32) -> Result<(), Fail>
     Ok(())
 }
 
+// An addition answers what is wanted.
+fn adds_one(
+    rt: &impl Abort,
+    alloc: Global,
+    store: &mut Entities,
+    kind: Kind,
+    name: &[u8],
+    wanted: Result<u32, EntityFault>,
+) -> Result<(), Fail>
+    requires { is_entity_kind kind ≡ true }
+{
+    let made = add(rt, alloc, store, kind, name, &[b"red", b"blue"])?;
+    assert_eq!(rt; made, wanted);
+    Ok(())
+}
+
 // Two entities of a kind are added, and none twice.
 fn adds(rt: &impl Abort, alloc: Global, store: &mut Entities, kind: Kind) -> Result<(), Fail>
     requires { is_entity_kind kind ≡ true }
 {
-    let wanted = [
-        (b"ann".as_slice(), Ok(1)),
-        (b"bob".as_slice(), Ok(2)),
-        (b"ann".as_slice(), Err(EntityFault::Exists)),
-    ];
-    'adds: for (name, made) in wanted {
-        assert_eq!(rt;
-            add(rt, alloc, store, kind, name, &[b"red", b"blue"])?,
-            made
-        );
-    }
+    adds_one(rt, alloc, store, kind, b"ann", Ok(1))?;
+    adds_one(rt, alloc, store, kind, b"bob", Ok(2))?;
+    adds_one(rt, alloc, store, kind, b"ann", Err(EntityFault::Exists))
+}
+
+fn finds_one(
+    rt: &impl Abort,
+    alloc: Global,
+    store: &Entities,
+    kind: Kind,
+    name: &[u8],
+    wanted: Result<u32, EntityFault>,
+) -> Result<(), Fail>
+    requires { is_entity_kind kind ≡ true }
+{
+    let name = Name::of(alloc, name)?;
+    assert_eq!(rt; store.find(kind, &name), wanted);
     Ok(())
 }
 
@@ -87,13 +109,24 @@ fn adds(rt: &impl Abort, alloc: Global, store: &mut Entities, kind: Kind) -> Res
 fn finds(rt: &impl Abort, alloc: Global, store: &Entities, kind: Kind) -> Result<(), Fail>
     requires { is_entity_kind kind ≡ true }
 {
-    let wanted = [
-        (b"bob".as_slice(), Ok(2)),
-        (b"carl".as_slice(), Err(EntityFault::Unknown)),
-    ];
-    'finds: for (name, found) in wanted {
-        assert_eq!(rt; store.find(kind, &Name::of(alloc, name)?), found);
-    }
+    finds_one(rt, alloc, store, kind, b"bob", Ok(2))?;
+    finds_one(rt, alloc, store, kind, b"carl", Err(EntityFault::Unknown))
+}
+
+// The second is bob, with one attribute.
+fn has_bob(rt: &impl Abort, store: &Entities, kind: Kind) -> Result<(), Fail>
+    requires { is_entity_kind kind ≡ true }
+{
+    let (name, attributes) = store.seen(kind, 2).ok_or("bob is there")?;
+    assert!(rt; name.bytes() == b"bob".as_slice() && attributes.len() == 1);
+    Ok(())
+}
+
+fn has_numbers(rt: &impl Abort, alloc: Global, store: &Entities, kind: Kind) -> Result<(), Fail>
+    requires { is_entity_kind kind ≡ true }
+{
+    let numbers = store.numbers(alloc, kind)?;
+    assert_eq!(rt; numbers.as_slice(), [2, 3].as_slice());
     Ok(())
 }
 
@@ -102,12 +135,10 @@ fn changes(rt: &impl Abort, alloc: Global, store: &mut Entities, kind: Kind) -> 
     requires { is_entity_kind kind ≡ true }
 {
     update(rt, alloc, store, kind, 2, &[b"green"])?;
-    let (name, attributes) = store.seen(kind, 2).ok_or("bob is there")?;
-    assert!(rt; name.bytes() == b"bob".as_slice() && attributes.len() == 1);
+    has_bob(rt, store, kind)?;
     remove(store, kind, 1)?;
-    assert_eq!(rt; add(rt, alloc, store, kind, b"ann", &[])?, Ok(3));
-    assert_eq!(rt; store.numbers(alloc, kind)?.as_slice(), [2, 3].as_slice());
-    Ok(())
+    adds_one(rt, alloc, store, kind, b"ann", Ok(3))?;
+    has_numbers(rt, alloc, store, kind)
 }
 
 fn keeps(rt: &impl Abort, alloc: Global, store: &mut Entities, kind: Kind) -> Result<(), Fail>
@@ -118,6 +149,12 @@ fn keeps(rt: &impl Abort, alloc: Global, store: &mut Entities, kind: Kind) -> Re
     changes(rt, alloc, store, kind)
 }
 
+fn are_marked(rt: &impl Abort, alloc: Global, store: &Entities) -> Result<(), Fail> {
+    let routers = store.routers(alloc)?;
+    assert_eq!(rt; routers.as_slice(), [MARKED, MADE].as_slice());
+    Ok(())
+}
+
 // A router is marked, and the next number of a kind raised.
 fn marks(rt: &impl Abort, alloc: Global, store: &mut Entities) -> Result<(), Fail> {
     if store.seen(Kind::Router, 2).is_none() || store.next(Kind::Router) > 9 {
@@ -125,8 +162,7 @@ fn marks(rt: &impl Abort, alloc: Global, store: &mut Entities) -> Result<(), Fai
     }
     store.set_router(RouterNo(2), 7, false, true);
     store.skip(Kind::Router, 9);
-    let routers = store.routers(alloc)?;
-    assert_eq!(rt; routers.as_slice(), [MARKED, MADE].as_slice());
+    are_marked(rt, alloc, store)?;
     assert_eq!(rt; store.next(Kind::Router), 9);
     Ok(())
 }

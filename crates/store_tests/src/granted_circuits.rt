@@ -46,16 +46,22 @@ fn join(alloc: Global, fabric: &mut Fabric, name: &[u8], a: u32, b: u32) -> Resu
 }
 
 // Service 2 is offered on router 3.
-fn offers(alloc: Global) -> Result<Terminators, Fail> {
-    let mut terminators = Terminators::new(alloc)?;
-    let term = Term {
+fn offer(alloc: Global) -> Result<Term, Fail>
+    ensures { IfOk result (λ t. t.cost ≡ 0) }
+{
+    Ok(Term {
         service: ServiceNo(2),
         router: RouterNo(3),
         instance: Instance::of(alloc, b"")?,
         host: None,
         cost: 0,
         precedence: Precedence::Normal,
-    };
+    })
+}
+
+fn offers(alloc: Global) -> Result<Terminators, Fail> {
+    let term = offer(alloc)?;
+    let mut terminators = Terminators::new(alloc)?;
     terminators.add(term)?;
     Ok(terminators)
 }
@@ -70,14 +76,29 @@ fn circuit(alloc: Global, service: u32, links: &[u32]) -> Result<Circuit, Fail> 
     })
 }
 
+fn grant(
+    rt: &impl Abort,
+    alloc: Global,
+    circuits: &mut Circuits,
+    service: u32,
+    links: &[u32],
+) -> Result<(), Fail> {
+    let circuit = circuit(alloc, service, links)?;
+    assert!(rt; !circuits.is_full());
+    circuits.add(circuit)?;
+    Ok(())
+}
+
 // The first circuit stays, the second is of an absent service, and the links of the third lead back.
+fn grant_three(rt: &impl Abort, alloc: Global, circuits: &mut Circuits) -> Result<(), Fail> {
+    grant(rt, alloc, circuits, 2, &[1, 2])?;
+    grant(rt, alloc, circuits, 4, &[1, 2])?;
+    grant(rt, alloc, circuits, 2, &[1, 1, 1, 2])
+}
+
 fn granted(rt: &impl Abort, alloc: Global) -> Result<Circuits, Fail> {
     let mut circuits = Circuits::new(alloc)?;
-    let wanted: [(u32, &[u32]); 3] = [(2, &[1, 2]), (4, &[1, 2]), (2, &[1, 1, 1, 2])];
-    'wanted: for (service, links) in wanted {
-        assert!(rt; !circuits.is_full());
-        circuits.add(circuit(alloc, service, links)?)?;
-    }
+    grant_three(rt, alloc, &mut circuits)?;
     Ok(circuits)
 }
 

@@ -44,6 +44,20 @@ fn put(
     Ok(store.put(Kind::ServicePolicy, policy, fresh)?)
 }
 
+// The policy of a relation is put, and has the number 1.
+fn puts_one(
+    rt: &impl Abort,
+    alloc: Global,
+    store: &mut Policies,
+    known: &Entities,
+    relation: Relation,
+    fresh: bool,
+) -> Result<(), Fail> {
+    let made = put(store, policy_of_ann(alloc, relation)?, fresh, known)?;
+    assert_eq!(rt; made, PolicyNo(1));
+    Ok(())
+}
+
 // A policy is put and another in its place.
 fn puts(
     rt: &impl Abort,
@@ -51,11 +65,8 @@ fn puts(
     store: &mut Policies,
     known: &Entities,
 ) -> Result<(), Fail> {
-    let made = put(store, policy_of_ann(alloc, Relation::Dial)?, true, known)?;
-    assert_eq!(rt; made, PolicyNo(1));
-    let replaced = put(store, policy_of_ann(alloc, Relation::Bind)?, false, known)?;
-    assert_eq!(rt; replaced, PolicyNo(1));
-    Ok(())
+    puts_one(rt, alloc, store, known, Relation::Dial, true)?;
+    puts_one(rt, alloc, store, known, Relation::Bind, false)
 }
 
 fn is_found(rt: &impl Abort, alloc: Global, store: &Policies) -> Result<(), Fail> {

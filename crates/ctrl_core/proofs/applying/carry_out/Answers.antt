@@ -1,10 +1,9 @@
 use Rattle.std.proofs.Common.{Option, sym, subst}
-use Rattle.std.proofs.lemmas.Result.{IfOk-weaker}
 use Rattle.ctrl_model.specs.ValidState.{ValidState}
 use Rattle.model_laws.specs.Plans.{CanLeadBy, led_by}
 use Rattle.ctrl_core.specs.declared.changes.Change.{Change}
 use Rattle.ctrl_core.specs.AppliedChanges.{Carries}
-use Rattle.ctrl_core.specs.Changes.{CanChange, after_change}
+use Rattle.ctrl_core.specs.Changes.{CanChange, NamesSettled, after_change}
 use Rattle.ctrl_core.specs.KeptState.{state_of}
 use Rattle.ctrl_core.proofs.NetworkPlans.{carries_then}
 use Rattle.ctrl_core.proofs.applying.carry_out.Goals as goal
@@ -16,6 +15,14 @@ pub apply_change-requires-clause-valid : goal.apply_change-requires-clause-valid
 apply_change-requires-clause-valid c = subst (λ (o : Option Change). ValidState (led_by after_change o (state_of c.args.stores.now))) c.in-Some.is c.requires.valid
 
 pub returns : goal.returns
-returns c = IfOk-weaker c.settle.result _ _ (λ u settled.
-    subst (λ (o : Option Change). Carries c.args.stores.now c.settle.new.stores (led_by after_change o (state_of c.args.stores.now))) (sym c.in-Some.is)
-    (carries_then c.args.stores.now c.apply_change.new.stores c.settle.new.stores (after_change c.in-Some.change (state_of c.args.stores.now)) c.in_ok-apply_change.ensures settled)) c.settle.ensures
+returns c =
+    let s = state_of c.args.stores.now in
+    subst (λ (o : Option Change). Carries c.args.stores.now c.take_out.new.stores (led_by after_change o s)) (sym c.in-Some.is)
+    (carries_then c.in-Some.change c.args.stores.now c.apply_change.new.stores c.take_out.new.stores c.args.settled.now
+    (record {
+      before = c.requires.before;
+      held = c.requires.held;
+      can = subst (λ (o : Option Change). CanLeadBy CanChange o s) c.in-Some.is c.requires.can;
+      valid = subst (λ (o : Option Change). ValidState (led_by after_change o s)) c.in-Some.is c.requires.valid;
+    })
+    (subst (λ (o : Option Change). NamesSettled o s c.args.settled.now) c.in-Some.is c.requires.settled) c.in_ok-apply_change.ensures c.take_out.ensures)

@@ -1,0 +1,172 @@
+-- The next numbers after a change: that of the kind of which it adds a record rises by one, and no other moves.
+use Rattle.std.proofs.Common.{◌≡◌, ℕ, ◌+◌, ◌≤◌, ◌<◌, Bool, true, false, cond, nat_le, Option, None, Some, refl, sym, ◌∙◌, ap, subst, arith}
+use Rattle.std.proofs.lemmas.Bool.{false≢true}
+use Rattle.ctrl_model.specs.declared.kinds.Kind.{Kind}
+use Rattle.ctrl_model.specs.declared.kinds.Kind.TheVariants as kind
+use Rattle.ctrl_model.specs.Settling.{settle}
+use Rattle.ctrl_model.specs.State.{State}
+use Rattle.ctrl_model.specs.Tables.{table}
+use Rattle.ctrl_model.specs.ValidState.{ValidState}
+use Rattle.record_tables.specs.AfterChange.{changed_by}
+use Rattle.row_codec.specs.RowKeys.{kind_number}
+use Rattle.circuits.specs.declared.changes.CircuitChange.{CircuitChange}
+use Rattle.circuits.specs.declared.changes.CircuitChange.TheVariants as circuit
+use Rattle.circuits.specs.CircuitChanges.{after_circuit_change}
+use Rattle.circuits.specs.CircuitTables.{CircuitTables}
+use Rattle.entity_store.specs.declared.changes.EntityChange.{EntityChange}
+use Rattle.entity_store.specs.declared.changes.EntityChange.TheVariants as entity
+use Rattle.entity_store.specs.EntityChanges.{after_entity_change}
+use Rattle.entity_store.specs.EntityTables.{Tables}
+use Rattle.fabric_graph.specs.declared.changes.LinkChange.{LinkChange}
+use Rattle.fabric_graph.specs.declared.changes.LinkChange.TheVariants as link
+use Rattle.fabric_graph.specs.FabricChanges.{after_link_change}
+use Rattle.fabric_graph.specs.FabricTables.{FabricSeen}
+use Rattle.policy_store.specs.declared.changes.PolicyChange.{PolicyChange}
+use Rattle.policy_store.specs.declared.changes.PolicyChange.TheVariants as policy
+use Rattle.policy_store.specs.PolicyChanges.{after_policy_change}
+use Rattle.policy_store.specs.PolicyTables.{PolicyTables}
+use Rattle.terminators.specs.declared.changes.TermChange.{TermChange}
+use Rattle.terminators.specs.declared.changes.TermChange.TheVariants as term
+use Rattle.terminators.specs.TermChanges.{after_term_change}
+use Rattle.terminators.specs.TermTables.{TermTables}
+use Rattle.ctrl_core.specs.declared.changes.Change.{Change}
+use Rattle.ctrl_core.specs.declared.changes.Change.TheVariants as change
+use Rattle.ctrl_core.specs.declared.stores.Stores.{Stores}
+use Rattle.ctrl_core.specs.AppliedChanges.{forgetting_by}
+use Rattle.ctrl_core.specs.ChangeParts.{entity_part, policy_part, link_part, term_part, circuit_part, adds, adds_entity, adds_policy, adds_link, adds_term, adds_circuit}
+use Rattle.ctrl_core.specs.ChangedStores.{CanSettle, next_state}
+use Rattle.ctrl_core.specs.KeptState.{state_of}
+use Rattle.ctrl_core.proofs.StateParts.{parts_after, state_then, policies_then}
+
+-- ---- entities
+
+identity_next : (o : Option EntityChange) (t : Tables) → (changed_by after_entity_change o t).identities.next ≡ t.identities.next + cond (adds_entity o kind.Identity) 1 0
+identity_next None t = refl
+identity_next (Some (entity.Add kind.Identity name attributes)) t = refl
+identity_next (Some (entity.Add _ name attributes)) t = refl
+identity_next (Some (entity.Describe kind.Identity n attributes)) t = refl
+identity_next (Some (entity.Describe _ n attributes)) t = refl
+identity_next (Some (entity.Remove kind.Identity n name)) t = refl
+identity_next (Some (entity.Remove _ n name)) t = refl
+identity_next (Some _) t = refl
+
+service_next : (o : Option EntityChange) (t : Tables) → (changed_by after_entity_change o t).services.next ≡ t.services.next + cond (adds_entity o kind.Service) 1 0
+service_next None t = refl
+service_next (Some (entity.Add kind.Service name attributes)) t = refl
+service_next (Some (entity.Add _ name attributes)) t = refl
+service_next (Some (entity.Describe kind.Service n attributes)) t = refl
+service_next (Some (entity.Describe _ n attributes)) t = refl
+service_next (Some (entity.Remove kind.Service n name)) t = refl
+service_next (Some (entity.Remove _ n name)) t = refl
+service_next (Some _) t = refl
+
+router_next : (o : Option EntityChange) (t : Tables) → (changed_by after_entity_change o t).routers.next ≡ t.routers.next + cond (adds_entity o kind.Router) 1 0
+router_next None t = refl
+router_next (Some (entity.Add kind.Router name attributes)) t = refl
+router_next (Some (entity.Add _ name attributes)) t = refl
+router_next (Some (entity.Describe kind.Router n attributes)) t = refl
+router_next (Some (entity.Describe _ n attributes)) t = refl
+router_next (Some (entity.Remove kind.Router n name)) t = refl
+router_next (Some (entity.Remove _ n name)) t = refl
+router_next (Some _) t = refl
+
+-- ---- policies
+
+forgotten_next : (e : EntityChange) (p : PolicyTables) → (forgetting_by e p).service_policies.next ≡ p.service_policies.next
+forgotten_next (entity.Remove kind.Identity n name) p = refl
+forgotten_next (entity.Remove kind.Service n name) p = refl
+forgotten_next (entity.Remove _ n name) p = refl
+forgotten_next _ p = refl
+
+forgotten_edge : (e : EntityChange) (p : PolicyTables) → (forgetting_by e p).edge_router_policies.next ≡ p.edge_router_policies.next
+forgotten_edge (entity.Remove kind.Identity n name) p = refl
+forgotten_edge (entity.Remove kind.Router n name) p = refl
+forgotten_edge (entity.Remove _ n name) p = refl
+forgotten_edge _ p = refl
+
+forgotten_last : (e : EntityChange) (p : PolicyTables) → (forgetting_by e p).service_edge_router_policies.next ≡ p.service_edge_router_policies.next
+forgotten_last (entity.Remove kind.Service n name) p = refl
+forgotten_last (entity.Remove kind.Router n name) p = refl
+forgotten_last (entity.Remove _ n name) p = refl
+forgotten_last _ p = refl
+
+policy_next : (c : PolicyChange) (p : PolicyTables) → (after_policy_change c p).service_policies.next ≡ p.service_policies.next + cond (adds_policy (Some c) kind.ServicePolicy) 1 0
+policy_next (policy.Add kind.ServicePolicy q) p = refl
+policy_next (policy.Add _ q) p = refl
+policy_next (policy.Replace kind.ServicePolicy n q) p = refl
+policy_next (policy.Replace _ n q) p = refl
+policy_next (policy.Remove kind.ServicePolicy n) p = refl
+policy_next (policy.Remove _ n) p = refl
+
+edge_next : (c : PolicyChange) (p : PolicyTables) → (after_policy_change c p).edge_router_policies.next ≡ p.edge_router_policies.next + cond (adds_policy (Some c) kind.EdgeRouterPolicy) 1 0
+edge_next (policy.Add kind.EdgeRouterPolicy q) p = refl
+edge_next (policy.Add _ q) p = refl
+edge_next (policy.Replace kind.EdgeRouterPolicy n q) p = refl
+edge_next (policy.Replace _ n q) p = refl
+edge_next (policy.Remove kind.EdgeRouterPolicy n) p = refl
+edge_next (policy.Remove _ n) p = refl
+
+last_next : (c : PolicyChange) (p : PolicyTables) → (after_policy_change c p).service_edge_router_policies.next ≡ p.service_edge_router_policies.next + cond (adds_policy (Some c) kind.ServiceEdgeRouterPolicy) 1 0
+last_next (policy.Add kind.ServiceEdgeRouterPolicy q) p = refl
+last_next (policy.Add _ q) p = refl
+last_next (policy.Replace kind.ServiceEdgeRouterPolicy n q) p = refl
+last_next (policy.Replace _ n q) p = refl
+last_next (policy.Remove kind.ServiceEdgeRouterPolicy n) p = refl
+last_next (policy.Remove _ n) p = refl
+
+service_policies_next : (c : Change) (st : Stores) → (policies_then c st).service_policies.next ≡ st.policies.service_policies.next + cond (adds_policy (policy_part c) kind.ServicePolicy) 1 0
+service_policies_next (change.Entity e) st = forgotten_next e st.policies
+service_policies_next (change.Policy p) st = policy_next p st.policies
+service_policies_next _ st = refl
+
+edge_policies_next : (c : Change) (st : Stores) → (policies_then c st).edge_router_policies.next ≡ st.policies.edge_router_policies.next + cond (adds_policy (policy_part c) kind.EdgeRouterPolicy) 1 0
+edge_policies_next (change.Entity e) st = forgotten_edge e st.policies
+edge_policies_next (change.Policy p) st = edge_next p st.policies
+edge_policies_next _ st = refl
+
+last_policies_next : (c : Change) (st : Stores) → (policies_then c st).service_edge_router_policies.next ≡ st.policies.service_edge_router_policies.next + cond (adds_policy (policy_part c) kind.ServiceEdgeRouterPolicy) 1 0
+last_policies_next (change.Entity e) st = forgotten_last e st.policies
+last_policies_next (change.Policy p) st = last_next p st.policies
+last_policies_next _ st = refl
+
+-- ---- links, terminators and circuits
+
+link_next : (o : Option LinkChange) (f : FabricSeen) → (changed_by after_link_change o f).links.next ≡ f.links.next + cond (adds_link o) 1 0
+link_next None f = refl
+link_next (Some (link.Add l)) f = refl
+link_next (Some _) f = refl
+
+term_next : (o : Option TermChange) (e : TermTables) → (changed_by after_term_change o e).terminators.next ≡ e.terminators.next + cond (adds_term o) 1 0
+term_next None e = refl
+term_next (Some (term.Add t)) e = refl
+term_next (Some _) e = refl
+
+circuit_next : (o : Option CircuitChange) (k : CircuitTables) → (changed_by after_circuit_change o k).circuits.next ≡ k.circuits.next + cond (adds_circuit o) 1 0
+circuit_next None k = refl
+circuit_next (Some (circuit.Add c)) k = refl
+circuit_next (Some _) k = refl
+
+-- ---- each kind
+
+next_then : (k : Kind) (c : Change) (st : Stores) → nat_le 1 (kind_number k) ≡ true → (table k (settle (state_then c st))).next ≡ (table k (state_of st)).next + cond (adds c k) 1 0
+next_then kind.Identity c st h = identity_next (entity_part c) st.entities
+next_then kind.Service c st h = service_next (entity_part c) st.entities
+next_then kind.Router c st h = router_next (entity_part c) st.entities
+next_then kind.Link c st h = link_next (link_part c) st.fabric
+next_then kind.ServicePolicy c st h = service_policies_next c st
+next_then kind.EdgeRouterPolicy c st h = edge_policies_next c st
+next_then kind.ServiceEdgeRouterPolicy c st h = last_policies_next c st
+next_then kind.Terminator c st h = term_next (term_part c) st.terminators
+next_then kind.Circuit c st h = circuit_next (circuit_part c) st.circuits
+next_then kind.Attribute c st h = absurd (false≢true h)
+
+pub next_is : (k : Kind) (c : Change) (st : Stores) → CanSettle st c → nat_le 1 (kind_number k) ≡ true → (table k (next_state st c)).next ≡ (table k (state_of st)).next + cond (adds c k) 1 0
+next_is k c st can h = ap (λ s. (table k (settle s)).next) (parts_after c st can) ∙ next_then k c st h
+
+-- a next number that rises is below its end
+pub next_rises : (k : Kind) (c : Change) (st : Stores) → CanSettle st c → nat_le 1 (kind_number k) ≡ true → adds c k ≡ true → (table k (state_of st)).next < 4294967295
+next_rises k c st can h e =
+    let last : (table k (next_state st c)).next ≤ 4294967295 = (can.valid.kinds k).numbers.last in
+    let is : (table k (next_state st c)).next ≡ (table k (state_of st)).next + cond (adds c k) 1 0 = next_is k c st can h in
+    let one : cond (adds c k) 1 0 ≡ 1 = ap (λ b. cond b 1 0) e in
+    omega (arith, last, is, one)
