@@ -1,6 +1,6 @@
 -- What planning for a terminator has to show: that the refusals are the controller's, and that the change leads to the
 -- controller's next state.
-use Rattle.std.proofs.Common.{◌≡◌, ℕ, ◌+◌, Bool, true, false, cond, not, nat_lt, List, Option, None, Some, refl, sym, ◌∙◌, ap, subst, is_none}
+use Rattle.std.proofs.Common.{◌≡◌, ℕ, Bool, true, false, cond, not, nat_lt, List, Option, None, Some, refl, sym, ◌∙◌, ap, is_none}
 use Rattle.std.proofs.lemmas.Option.{none-some}
 use Rattle.std.specs.Option.{option_map, option_map_or}
 use Rattle.ctrl_model.specs.declared.kinds.Kind.TheVariants as kind
@@ -10,13 +10,11 @@ use Rattle.ctrl_model.specs.declared.refusals.Field.{Field}
 use Rattle.ctrl_model.specs.declared.refusals.Field.TheVariants as field
 use Rattle.ctrl_model.specs.declared.refusals.Refusal.{Refusal}
 use Rattle.ctrl_model.specs.declared.refusals.Refusal.TheVariants.{Full, NotBindable, Unknown}
-use Rattle.ctrl_model.specs.declared.replies.Reply.{Reply}
 use Rattle.ctrl_model.specs.declared.replies.Reply.TheVariants.{Made}
 use Rattle.ctrl_model.specs.CommandForm.{is_cost}
 use Rattle.ctrl_model.specs.Grants.{count}
 use Rattle.ctrl_model.specs.Numbered.{with_new}
 use Rattle.ctrl_model.specs.Rules.{or_then, refuse_if, carried_out, at_number}
-use Rattle.ctrl_model.specs.Settling.{settle}
 use Rattle.ctrl_model.specs.State.{State, Terminator, entity_named, router_named}
 use Rattle.ctrl_model.specs.TerminatorCommands.{create_terminator, refusal_of_create_terminator, after_create_terminator, lacks_bind}
 use Rattle.entity_store.specs.EntityTables.{Tables}
@@ -26,10 +24,9 @@ use Rattle.terminators.specs.TermTables.{TermTables}
 use Rattle.terminators.specs.TermRules.{has_term_room, is_not_bindable}
 use Rattle.model_laws.specs.Plans.{refused, changed}
 use Rattle.model_laws.proofs.PlannedLaws.{plans_refused, plans_carried}
-use Rattle.terminators.specs.declared.changes.TermChange.{TermChange}
 use Rattle.terminators.specs.declared.changes.TermChange.TheVariants as change
 use Rattle.terminator_commands.specs.declared.planning.Places.{Places}
-use Rattle.terminator_commands.specs.TermChanges.{terms_of, with_terms, over, after_term_change, CanChangeTerms}
+use Rattle.terminator_commands.specs.TermChanges.{terms_of, with_terms, over, after_term_change}
 use Rattle.terminator_commands.specs.TermPlans.{PlansTerms}
 use Rattle.terminator_commands.specs.PlannedTerms.{unknown_place, named_host, lacks_host, plan_of_add, ArePlaced, PlansIn}
 
