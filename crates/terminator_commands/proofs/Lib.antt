@@ -1,3 +1,3 @@
-pub mod SweepLaws
+pub mod GoingLaws
 pub mod TermPlanLaws
 pub mod RowLaws

@@ -1,5 +1,5 @@
 pub mod TermChanges
 pub mod TermPlans
 pub mod PlannedTerms
-pub mod SweptTerms
+pub mod GoingTerms
 pub mod TermRows

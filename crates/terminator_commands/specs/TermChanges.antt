@@ -2,7 +2,7 @@
 -- (docs/PROMISES.md, "Commands on terminators").
 use Rattle.std.specs.Prelude.{◌≡◌, ℕ, Bool, true}
 use Rattle.ctrl_model.specs.CommandForm.{is_cost}
-use Rattle.ctrl_model.specs.Numbered.{is_present, with_kept}
+use Rattle.ctrl_model.specs.Numbered.{is_present}
 use Rattle.ctrl_model.specs.Settling.{terminator_stays}
 use Rattle.ctrl_model.specs.State.{State, Terminator, start}
 use Rattle.entity_store.specs.EntityTables.{Tables}
@@ -44,7 +44,3 @@ CanOffer c s = CanChangeTerms c (terms_of s)
 -- A terminator stays whose service, router and host are among these entities.
 abbrev pub stays : Tables → ℕ × Terminator → Bool
 stays t row = terminator_stays (with_entities t start) row
-
--- The terminators of which service, router and host are among these entities.
-abbrev pub settled : Tables → TermTables → TermTables
-settled t k = record k { terminators = with_kept (stays t) k.terminators }

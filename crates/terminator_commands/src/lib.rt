@@ -1,4 +1,4 @@
-//! The commands on terminators: planned, made, and settled.
+//! The commands on terminators: planned and made, the terminators that go, and the changes of rows.
 #![tactic(auto)]
 
 mod applying;
@@ -9,5 +9,5 @@ mod settling;
 pub use applying::apply_term_change;
 pub use planning::plan_terminator_command;
 pub use rows::term_changes;
-pub use settling::{settle_terminators, terminators_that_go};
+pub use settling::terminators_that_go;
 pub use terminators::TermChange;

@@ -1,13 +1,13 @@
-ghost use Rattle.std.specs.Prelude.{◌≡◌, true, not, filter, IfOk, OnOk, OnErr, option_map};
+ghost use Rattle.std.specs.Prelude.{◌≡◌, true, not, filter, IfOk, option_map};
 ghost use Rattle.std.specs.Option.{option_map_or};
 ghost use Rattle.ctrl_model.specs.Numbered.{is_present, numbers};
-ghost use Rattle.terminator_commands.specs.TermChanges.{settled, stays};
-ghost use Rattle.terminator_commands.specs.SweptTerms.{settled_at, stays_at};
+ghost use Rattle.terminator_commands.specs.TermChanges.{stays};
+ghost use Rattle.terminator_commands.specs.GoingTerms.{stays_at};
 
 use ctrl_model::{IdentityNo, Kind, Numbers, RouterNo, TermNo};
-use entity_store::{Entities, EntitiesAfter};
+use entity_store::EntitiesAfter;
 use std::alloc::{AllocError, Global};
-use terminators::{TermView, Terminators, TerminatorsAfter};
+use terminators::{TermView, TerminatorsAfter};
 
 // Whether a router will be present.
 fn has_router(entities: &EntitiesAfter, router: RouterNo) -> bool
@@ -75,44 +75,4 @@ pub fn terminators_that_go(
     let numbers = terminators.numbers(alloc)?;
     let going = going(alloc, entities, terminators, numbers.as_slice())?;
     Ok(Numbers::of(going))
-}
-
-// Whether a terminator stays beside the entities that are there now.
-fn stays_now(entities: &Entities, term: &TermView) -> bool
-    ensures { result ≡ stays entities.now (0, term.now) }
-{
-    let entities = EntitiesAfter {
-        entities,
-        change: None,
-    };
-    stays(&entities, term)
-}
-
-// Removes a present terminator, unless it stays.
-fn settle_one(entities: &Entities, terminators: &mut Terminators, no: TermNo)
-    requires { is_present terminators.old.terminators.rows no.0 ≡ true }
-    ensures { terminators.new ≡ settled_at no.0 entities.now terminators.old }
-{
-    let Ok(term) = terminators.get(no) else {
-        unreachable!()
-    };
-    if !stays_now(entities, &TermView::of(term)) {
-        terminators.remove(no);
-    }
-}
-
-/// Removes each terminator of which the service, the router or the host is absent. For want of memory they stay.
-pub fn settle_terminators(
-    alloc: Global,
-    entities: &Entities,
-    terminators: &mut Terminators,
-) -> Result<(), AllocError>
-    ensures ok { OnOk result (terminators.new ≡ settled entities.now terminators.old) }
-    ensures err { OnErr result (terminators.new ≡ terminators.old) }
-{
-    let numbers = terminators.numbers(alloc)?;
-    for number in numbers.as_slice() {
-        settle_one(entities, terminators, TermNo(*number));
-    }
-    Ok(())
 }

@@ -1,6 +1,6 @@
 use Rattle.std.proofs.Common.{◌≡◌, ◌++◌, not, drop}
 use Rattle.std.specs.List.{filter}
-use Rattle.terminator_commands.specs.SweptTerms.{stays_at}
+use Rattle.terminator_commands.specs.GoingTerms.{stays_at}
 use Rattle.terminator_commands.proofs.settling.going.Given as goal
 
 -- those so far and those that are left are all

@@ -1,7 +1,7 @@
 use Rattle.std.proofs.Common.{not, ◌∙◌, ap}
 use Rattle.std.specs.List.{filter}
-use Rattle.terminator_commands.specs.SweptTerms.{stays_at}
-use Rattle.terminator_commands.proofs.SweepLaws.{going_are}
+use Rattle.terminator_commands.specs.GoingTerms.{stays_at}
+use Rattle.terminator_commands.proofs.GoingLaws.{going_are}
 use Rattle.terminator_commands.proofs.settling.terminators_that_go.Goals as goal
 
 pub returns : goal.returns
