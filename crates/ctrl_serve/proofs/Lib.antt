@@ -5,3 +5,7 @@ pub mod FrontParts
 pub mod TurnLaws
 pub mod FailureLaws
 pub mod SaidLaws
+pub mod NoteLaws
+pub mod EndingLaws
+pub mod RunLaws
+pub mod IntakeLaws

@@ -1,22 +1,25 @@
 -- How the turns of the serving loop make up the run.
-use Rattle.std.proofs.Common.{◌≡◌, ℕ, ◌+◌, ◌≤◌, ◌%◌, ◌^◌, ◌++◌, List, [], ◌∷◌, length, drop, eqb, refl, sym, ap, ◌∙◌, subst, append_assoc, append-nil, arith}
-use Rattle.std.proofs.lemmas.Bool.Decides.{nat_tests}
+use Rattle.std.proofs.Common.{◌≡◌, ℕ, ◌+◌, ◌-◌, ◌≤◌, ◌%◌, ◌^◌, ◌++◌, List, [], ◌∷◌, length, drop, None, refl, sym, ap, ◌∙◌, subst, append_assoc, append-nil, arith}
 use Rattle.std.specs.declared.option.Option.{Option}
+use Rattle.std.specs.Option.{option_map}
 use Rattle.std.proofs.lemmas.Grind.{flat_map-append}
 use Rattle.std.specs.declared.result.Result.TheVariants.{Err}
 use Rattle.ziti_outside.specs.Told.{Took, TookFront}
 use Rattle.ziti_outside.proofs.Moves.{Took-none, Took-then}
 use Rattle.channel_frame.specs.declared.frames.Frame.{Frame}
-use Rattle.channel_frame.specs.declared.frames.Front.TheVariants.{Whole}
+use Rattle.channel_frame.specs.declared.frames.FrameFault.{FrameFault}
+use Rattle.channel_frame.specs.declared.frames.Front.{Front}
+use Rattle.channel_frame.specs.declared.frames.Front.TheVariants.{Short, Bad, Whole}
 use Rattle.channel_frame.specs.FrameSpelling.{spelling}
-use Rattle.channel_frame.specs.StreamReading.{front, frames_of, rest_of}
+use Rattle.channel_frame.specs.StreamReading.{front, fault_in, frames_of, rest_of}
 use Rattle.channel_frame.proofs.FrontLaws.{front_stands}
 use Rattle.channel_frame.proofs.ReadingLaws.{HasNone, frames_step, rest_step, reading_stops}
 use Rattle.ctrl_model.specs.declared.kinds.Who.TheVariants.{Admin}
 use Rattle.ctrl_model.specs.declared.replies.Reply.{Reply}
 use Rattle.ctrl_model.specs.State.{State, start}
-use Rattle.ctrl_model.specs.Matches.{is_nothing}
 use Rattle.reply_codec.specs.ReplyFrame.{reply_frame}
+use Rattle.ctrl_serve.specs.declared.tails.Tail.TheVariants.{Faulty}
+use Rattle.ctrl_serve.specs.Ending.{tail_from, tail_of}
 use Rattle.ctrl_serve.specs.FrameAnswer.{frame_answer, spoken, each_reply, replies}
 use Rattle.ctrl_serve.specs.SaidReplies.{joined, TookWhole, TookCut}
 use Rattle.ctrl_serve.specs.declared.serving.Cut.{Cut}
@@ -108,10 +111,26 @@ told_all n s rest bytes a b none told =
     sym (append-nil told.done) ∙ ap (λ (fs : List Frame). told.done ++ spoken Admin n s fs) (sym stops.0) ∙ told.same in
     (subst (λ (x : List (List ℕ)). Took a b (joined x)) all told.took, sym stops.1 ∙ told.tail)
 
--- A list is empty where it has no length.
-pub is_nothing-length : (xs : List ℕ) → eqb (length xs) 0 ≡ is_nothing xs
-is_nothing-length [] = refl
-is_nothing-length (x ∷ xs) = grind (arith, nat_tests)
+-- The tail of some bytes, by what stands at the front of their rest.
+tail_at : (rest bytes : List ℕ) (x : Front) → front rest ≡ x → rest ≡ rest_of bytes
+    → tail_from (option_map (λ (d : FrameFault). (d, length bytes - length rest)) (fault_in x)) (length rest) ≡ tail_of bytes
+tail_at rest bytes x e same =
+    ap (λ (y : Front). tail_from (option_map (λ (d : FrameFault). (d, length bytes - length rest)) (fault_in y)) (length rest)) (sym e)
+    ∙ ap (λ (r : List ℕ). tail_from (option_map (λ (d : FrameFault). (d, length bytes - length r)) (fault_in (front r))) (length r)) same
+
+-- Where the rest begins a frame and does not end it, all replies were said, and the tail is what is left.
+pub told_short : (n : ℕ) (s : State) (rest bytes : List ℕ) (a b : Option (List ℕ)) → front rest ≡ Short → Told n s rest bytes a b
+    → Took a b (replies bytes) × (tail_from None (length rest) ≡ tail_of bytes)
+told_short n s rest bytes a b e told =
+    let all = told_all n s rest bytes a b (λ f k w. let whole : Short ≡ Whole f k = sym e ∙ w in cc) told in
+    (all.0, tail_at rest bytes Short e all.1)
+
+-- Where the rest begins no frame, all replies were said, and the tail is the fault there.
+pub told_bad : (n : ℕ) (s : State) (rest bytes : List ℕ) (a b : Option (List ℕ)) (d : FrameFault) → front rest ≡ Bad d → Told n s rest bytes a b
+    → Took a b (replies bytes) × (Faulty d (length bytes - length rest) ≡ tail_of bytes)
+told_bad n s rest bytes a b d e told =
+    let all = told_all n s rest bytes a b (λ f k w. let whole : Bad d ≡ Whole f k = sym e ∙ w in cc) told in
+    (all.0, tail_at rest bytes (Bad d) e all.1)
 
 -- Where a turn was cut short, what was said are whole replies, and after a failed say a front of the next one beside them.
 pub cut_served : (cut : Cut) (n k : ℕ) (f : Frame) (s : State) (rest bytes : List ℕ) (a b c : Option (List ℕ))

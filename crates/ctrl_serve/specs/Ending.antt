@@ -1,15 +1,34 @@
 -- The ending that the input's bytes decide (docs/RULES.md, "How a run ends").
-use Rattle.std.specs.Prelude.{◌≡◌, ℕ, Bool, true, false, if◌then◌else◌, List}
-use Rattle.ctrl_model.specs.Matches.{is_nothing}
-use Rattle.channel_frame.specs.StreamReading.{rest_of}
+use Rattle.std.specs.Prelude.{◌≡◌, ℕ, zero, suc, Bool, true, false, if◌then◌else◌, List, length, None, Some}
+use Rattle.std.specs.declared.option.Option.{Option}
+use Rattle.channel_frame.specs.declared.frames.FrameFault.{FrameFault}
+use Rattle.channel_frame.specs.StreamReading.{fault_of, rest_of}
+use Rattle.ctrl_serve.specs.declared.tails.Tail.{Tail}
+use Rattle.ctrl_serve.specs.declared.tails.Tail.TheVariants.{Empty, Unfinished, Faulty}
 use Rattle.ctrl_serve.specs.declared.status.Status.{Status}
 use Rattle.ctrl_serve.specs.declared.status.Status.TheVariants.{Done, Usage, BadInput, Truncated, ReadFault, WriteFault, DiskFault, Damaged, NoMemory, InputTooLong, FolderFull}
 use Rattle.ctrl_serve.specs.SaidReplies.{joined, AreWhole, AreCut}
 
--- The status that the used bytes decide, and whether the source gave more than are used: a tail that is not empty is bad
--- input, until sessions and their notes tell an unfinished frame from a fault.
+-- The tail of a session whose reading ended with a fault at a place, or with so many bytes left.
+abbrev pub tail_from : Option (FrameFault × ℕ) → ℕ → Tail
+tail_from (Some fault) left = Faulty fault.0 fault.1
+tail_from None zero = Empty
+tail_from None (suc left) = Unfinished (suc left)
+
+-- The tail of a session's bytes.
+abbrev pub tail_of : List ℕ → Tail
+tail_of bytes = tail_from (fault_of bytes) (length (rest_of bytes))
+
+-- The status that a session's tail decides, and whether the source gave more bytes than are used.
+abbrev pub ending_at : Tail → Bool → Status
+ending_at (Faulty fault at) more = BadInput
+ending_at (Unfinished left) more = if more then InputTooLong else Truncated
+ending_at Empty more = if more then InputTooLong else Done
+
+-- The status that the used bytes decide, and whether the source gave more: a fault comes first, then a longer input, then the rest
+-- of an unfinished frame.
 abbrev pub ending : List ℕ → Bool → Status
-ending used more = if is_nothing (rest_of used) then (if more then InputTooLong else Done) else BadInput
+ending used more = ending_at (tail_of used) more
 
 -- Whether a status cuts a run short: a fault of a call, or want of memory.
 abbrev pub is_cut : Status → Bool
@@ -32,7 +51,7 @@ abbrev pub Says : Status → List ℕ → List (List ℕ) → Type 0
 Says Done said all = said ≡ joined all
 Says Usage said all = ⊥
 Says BadInput said all = said ≡ joined all
-Says Truncated said all = ⊥
+Says Truncated said all = said ≡ joined all
 Says ReadFault said all = said ≡ joined all
 Says WriteFault said all = AreCut said all
 Says DiskFault said all = ⊥

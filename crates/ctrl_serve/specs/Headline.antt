@@ -5,14 +5,16 @@ use Rattle.std.specs.Io.KnownBytes.{IsAtEnd}
 use Rattle.ziti_outside.specs.Told.{Gave, Took, TookFront}
 use Rattle.ziti_outside.specs.Causes.{Rose}
 use Rattle.ziti_outside.specs.Images.{Image}
-use Rattle.ziti_outside.specs.Untouched.{OnlySays, OnlyNotes}
+use Rattle.ziti_outside.specs.Untouched.{OnlyNotes}
 use Rattle.ctrl_serve.specs.declared.bounds.Bounds.{Bounds}
+use Rattle.ctrl_serve.specs.declared.command_line.Form.{Form}
+use Rattle.ctrl_serve.specs.declared.command_line.Form.TheVariants.{Dry}
 use Rattle.ctrl_serve.specs.declared.status.Status.{Status}
 use Rattle.ctrl_serve.specs.declared.status.Status.TheVariants.{Done, Usage, ReadFault, WriteFault, NoMemory}
-use Rattle.ctrl_serve.specs.CommandLine.{Form, Dry, usage_note}
 use Rattle.ctrl_serve.specs.Failures.{RisesOnce, TakesUntilFailure}
 use Rattle.ctrl_serve.specs.FrameAnswer.{each_reply, replies}
-use Rattle.ctrl_serve.specs.Ending.{ending, is_cut, Says}
+use Rattle.ctrl_serve.specs.Ending.{tail_of, ending, is_cut, Says}
+use Rattle.ctrl_serve.specs.Notes.{usage_note, notes_of}
 
 -- The bounds that a run takes.
 pub record AreBounds (b : Bounds) : Type 0 where
@@ -22,11 +24,23 @@ pub record AreBounds (b : Bounds) : Type 0 where
   pub mark_low : 1 ≤ b.mark
   pub mark_high : b.mark ≤ 2 ^ 20
 
+-- These lines were noted: all of them where the count of failed notes did not rise, else a front of them.
+pub record NotesLines (lines : List ℕ) (noted_before noted_now : Option (List ℕ)) (faults_before faults_now : ℕ) : Type 0 where
+  pub part : TookFront noted_before noted_now lines
+  pub whole : (Rose faults_before faults_now → ⊥) → Took noted_before noted_now lines
+
+-- Replies were said and notes were written, and nothing else was done on a desk: the folder is as it was, and no fault of its calls
+-- was counted. A stop leaves no image that it did not leave before.
+pub record OnlySaysAndNotes {D : Type 0} (reads : D → Image) (may_leave : D → Image → Type 0) (disk_faults : D → ℕ) (old new : D) : Type 0 where
+  pub parts : reads new ≡ reads old
+  pub found : (image : Image) → may_leave new image → may_leave old image
+  pub failed_calls : disk_faults new ≡ disk_faults old
+
 -- A run over plain input. Of what the source gave, the first `most` bytes are used. What was said are the replies of the
 -- controller's run along their frames: all of them, but the first ones where memory was wanting, and a front of the next one
 -- beside those where a say failed. A run that was not cut short ends as the bytes decide, and only once nothing is left or more
--- than `most` bytes were given.
-pub record Serves (most : ℕ) (left_before left_now said_before said_now : Option (List ℕ)) (status : Status) : Type 0 where
+-- than `most` bytes were given. What was noted are the fault of the used bytes, where it was found, and the lines of the status.
+pub record Serves (most : ℕ) (left_before left_now said_before said_now noted_before noted_now : Option (List ℕ)) (note_faults_before note_faults_now : ℕ) (status : Status) : Type 0 where
   pub taken : List ℕ
   pub gave : Gave left_before left_now taken
   pub few : length taken ≤ most + 65536
@@ -35,11 +49,7 @@ pub record Serves (most : ℕ) (left_before left_now said_before said_now : Opti
   pub says : Says status said (each_reply (take most taken))
   pub ends : is_cut status ≡ false → status ≡ ending (take most taken) (nat_lt most (length taken))
   pub read_on : is_cut status ≡ false → IsAtEnd left_now ⊎ (most < length taken)
-
--- A faulty command line is answered by the usage note: all of it where the count of failed notes did not rise, else a front.
-pub record NotesUsage (noted_before noted_now : Option (List ℕ)) (faults_before faults_now : ℕ) : Type 0 where
-  pub part : TookFront noted_before noted_now usage_note
-  pub whole : (Rose faults_before faults_now → ⊥) → Took noted_before noted_now usage_note
+  pub notes : NotesLines (notes_of (tail_of (take most taken)) status) noted_before noted_now note_faults_before note_faults_now
 
 -- A complete run: it ended as the used bytes decide, all replies to their whole frames were said, and nothing is left or more
 -- than `most` bytes were given.
@@ -63,13 +73,13 @@ IsComplete most left_before left_now said_before said_now status =
 -- A fault comes only where its count rose in this run. A failed take cuts the run short, and nothing is taken after it. A failed
 -- say ends the run with WriteFault. No count falls, or rises by more than one.
 --
--- Under `dry` the replies are the controller's, the status is the one that the input decides, and the desk is left alone
--- otherwise: nothing is noted, and the folder stays.
+-- Under `dry` the replies are the controller's, the status is the one that the input decides, and the notes tell both; the folder
+-- stays. Done comes once the input was read to its end.
 pub record Runs {S D : Type 0} (left : S → Option (List ℕ)) (faults : S → ℕ) (said noted : D → Option (List ℕ)) (say_faults note_faults : D → ℕ) (reads : D → Image) (may_leave : D → Image → Type 0) (disk_faults : D → ℕ) (most : ℕ) (form : Option Form) (source source_now : S) (desk desk_now : D) (status : Status) : Type 0 where
   pub usage : (status ≡ Usage) ↔ (form ≡ None)
   pub usage_takes_nothing : form ≡ None → source_now ≡ source
   pub usage_notes_alone : form ≡ None → OnlyNotes said say_faults reads may_leave disk_faults desk desk_now
-  pub usage_note : form ≡ None → NotesUsage (noted desk) (noted desk_now) (note_faults desk) (note_faults desk_now)
+  pub usage_note : form ≡ None → NotesLines usage_note (noted desk) (noted desk_now) (note_faults desk) (note_faults desk_now)
   pub read_fault : status ≡ ReadFault → Rose (faults source) (faults source_now)
   pub write_fault : status ≡ WriteFault → Rose (say_faults desk) (say_faults desk_now)
   pub failed_take : is_cut status ≡ false → faults source_now ≡ faults source
@@ -78,8 +88,8 @@ pub record Runs {S D : Type 0} (left : S → Option (List ℕ)) (faults : S → 
   pub say_faults_once : RisesOnce (say_faults desk) (say_faults desk_now)
   pub note_faults_once : RisesOnce (note_faults desk) (note_faults desk_now)
   pub takes_until_failure : TakesUntilFailure left faults source source_now
-  pub dry : form ≡ Some Dry → Serves most (left source) (left source_now) (said desk) (said desk_now) status
-  pub dry_says_alone : form ≡ Some Dry → OnlySays noted note_faults reads may_leave disk_faults desk desk_now
+  pub dry : form ≡ Some Dry → Serves most (left source) (left source_now) (said desk) (said desk_now) (noted desk) (noted desk_now) (note_faults desk) (note_faults desk_now) status
+  pub dry_says_and_notes_alone : form ≡ Some Dry → OnlySaysAndNotes reads may_leave disk_faults desk desk_now
   pub complete : form ≡ Some Dry → (Rose (faults source) (faults source_now) → ⊥) → (Rose (say_faults desk) (say_faults desk_now) → ⊥)
       → IsComplete most (left source) (left source_now) (said desk) (said desk_now) status
   pub read_to_the_end : status ≡ Done → IsAtEnd (left source_now)

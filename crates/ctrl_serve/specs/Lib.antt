@@ -6,6 +6,7 @@ pub mod FrameAnswer
 pub mod SaidReplies
 pub mod WorkedAnswers
 pub mod Ending
+pub mod Notes
 pub mod Headline
 pub mod Turns
 pub mod Runs

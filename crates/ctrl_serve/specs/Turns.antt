@@ -1,19 +1,20 @@
--- One turn of the serving loop, and the loop as a whole.
-use Rattle.std.specs.Prelude.{◌≡◌, ℕ, ◌≤◌, ⊤, Bool, List, length, Ok, Err}
+-- One turn of the serving loop, and the loop as a whole. Only private contracts cite these.
+use Rattle.std.specs.Prelude.{◌≡◌, ℕ, ◌≤◌, ⊤, List, length, Ok, Err}
 use Rattle.std.specs.declared.option.Option.{Option}
 use Rattle.std.specs.declared.result.Result.{Result}
 use Rattle.ziti_outside.specs.Told.{Took, TookFront}
 use Rattle.channel_frame.specs.declared.frames.Frame.{Frame}
 use Rattle.channel_frame.specs.declared.frames.Head.{Head}
 use Rattle.channel_frame.specs.FrameSpelling.{spelling}
-use Rattle.channel_frame.specs.StreamReading.{head_of, frame_len, rest_of}
+use Rattle.channel_frame.specs.StreamReading.{head_of, frame_len}
 use Rattle.ctrl_model.specs.declared.kinds.Who.TheVariants.{Admin}
 use Rattle.ctrl_model.specs.State.{State}
-use Rattle.ctrl_model.specs.Matches.{is_nothing}
 use Rattle.ctrl_serve.specs.declared.serving.Cut.{Cut}
 use Rattle.ctrl_serve.specs.declared.serving.Cut.TheVariants.{NoMemory, Unsaid}
+use Rattle.ctrl_serve.specs.declared.tails.Tail.{Tail}
 use Rattle.reply_codec.specs.ReplyFrame.{reply_frame}
 use Rattle.ctrl_serve.specs.FrameAnswer.{frame_answer, each_reply, replies}
+use Rattle.ctrl_serve.specs.Ending.{tail_of}
 use Rattle.ctrl_serve.specs.SaidReplies.{TookWhole, TookCut}
 
 -- The bytes begin with a good head, and all the bytes that it announces are there.
@@ -43,9 +44,9 @@ unsaid (Ok x) = Ok tt
 unsaid (Err NoMemory) = Ok tt
 unsaid (Err Unsaid) = Err Unsaid
 
--- What serving some bytes said: all replies, with whether a tail is left behind the frames; for want of memory whole replies;
--- after a failed say a front of the next one beside them.
-abbrev pub IsServed : Result Bool Cut → List ℕ → Option (List ℕ) → Option (List ℕ) → Type 0
-IsServed (Ok clean) bytes said_before said_now = Took said_before said_now (replies bytes) × (clean ≡ is_nothing (rest_of bytes))
+-- What serving some bytes said: all replies, with the tail behind the frames; for want of memory whole replies; after a failed say
+-- a front of the next one beside them.
+abbrev pub IsServed : Result Tail Cut → List ℕ → Option (List ℕ) → Option (List ℕ) → Type 0
+IsServed (Ok tail) bytes said_before said_now = Took said_before said_now (replies bytes) × (tail ≡ tail_of bytes)
 IsServed (Err NoMemory) bytes said_before said_now = TookWhole said_before said_now (each_reply bytes)
 IsServed (Err Unsaid) bytes said_before said_now = TookCut said_before said_now (each_reply bytes)

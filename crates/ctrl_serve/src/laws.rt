@@ -1,27 +1,46 @@
-ghost use Rattle.std.specs.Prelude.{◌≡◌, ℕ, ◌≤◌, List, [], ◌++◌, length, None, Some};
+ghost use Rattle.std.specs.Prelude.{◌≡◌, ℕ, ◌≢◌, ◌≤◌, List, [], ◌++◌, codes, decimal, length, None, Some};
 ghost use Rattle.std.specs.declared.option.Option.{Option};
 ghost use Rattle.channel_frame.specs.declared.frames.Frame.{Frame};
-ghost use Rattle.channel_frame.specs.StreamReading.{Reads, rest_of};
+ghost use Rattle.channel_frame.specs.StreamReading.{Reads, fault_of, rest_of};
 ghost use Rattle.ctrl_model.specs.declared.kinds.Who.TheVariants.{Admin};
 ghost use Rattle.ctrl_model.specs.State.{start};
-ghost use Rattle.ctrl_serve.specs.declared.status.Status.TheVariants.{Done};
-ghost use Rattle.ziti_outside.specs.Told.{IsFront};
+ghost use Rattle.ctrl_serve.specs.declared.status.Status.TheVariants.{Done, Truncated};
+ghost use Rattle.ziti_outside.specs.Told.{IsFront, Took};
+ghost use Rattle.ziti_outside.specs.Causes.{Rose};
 ghost use Rattle.ctrl_serve.specs.FrameAnswer.{answers, replies};
 ghost use Rattle.ctrl_serve.specs.SaidReplies.{joined, AreWhole, AreCut};
+ghost use Rattle.ctrl_serve.specs.Notes.{session_note};
 ghost use Rattle.ctrl_serve.specs.Headline.{Serves};
 
 /// What `Done` says of a told input, in plain words: it was read to its end and is no longer than the bound, it leaves no
 /// tail, and exactly the controller's replies were said. Where it is the spellings of some frames, these are the replies to
-/// those frames.
+/// those frames. Nothing was noted.
 pub fn done_says_all()
-    ensures read { (most : ℕ) (bytes before : List ℕ) (left after : Option (List ℕ)) → Serves most (Some bytes) left (Some before) after Done
-        → (left ≡ Some []) × (length bytes ≤ most) }
-    ensures whole { (most : ℕ) (bytes before : List ℕ) (left after : Option (List ℕ)) → Serves most (Some bytes) left (Some before) after Done
-        → rest_of bytes ≡ [] }
-    ensures said { (most : ℕ) (bytes before : List ℕ) (left after : Option (List ℕ)) → Serves most (Some bytes) left (Some before) after Done
-        → after ≡ Some (before ++ replies bytes) }
-    ensures frames { (most : ℕ) (bytes before : List ℕ) (left after : Option (List ℕ)) (frames : List Frame)
-        → Serves most (Some bytes) left (Some before) after Done → Reads bytes frames [] → after ≡ Some (before ++ answers Admin 0 start frames) }
+    ensures read { (most : ℕ) (bytes before : List ℕ) (left after noted_before noted_after : Option (List ℕ)) (faults faults_now : ℕ)
+        → Serves most (Some bytes) left (Some before) after noted_before noted_after faults faults_now Done → (left ≡ Some []) × (length bytes ≤ most) }
+    ensures whole { (most : ℕ) (bytes before : List ℕ) (left after noted_before noted_after : Option (List ℕ)) (faults faults_now : ℕ)
+        → Serves most (Some bytes) left (Some before) after noted_before noted_after faults faults_now Done → rest_of bytes ≡ [] }
+    ensures said { (most : ℕ) (bytes before : List ℕ) (left after noted_before noted_after : Option (List ℕ)) (faults faults_now : ℕ)
+        → Serves most (Some bytes) left (Some before) after noted_before noted_after faults faults_now Done → after ≡ Some (before ++ replies bytes) }
+    ensures frames { (most : ℕ) (bytes before : List ℕ) (left after noted_before noted_after : Option (List ℕ)) (faults faults_now : ℕ) (frames : List Frame)
+        → Serves most (Some bytes) left (Some before) after noted_before noted_after faults faults_now Done → Reads bytes frames [] → after ≡ Some (before ++ answers Admin 0 start frames) }
+    ensures noted { (most : ℕ) (bytes before : List ℕ) (left after noted_before noted_after : Option (List ℕ)) (faults faults_now : ℕ)
+        → Serves most (Some bytes) left (Some before) after noted_before noted_after faults faults_now Done → Took noted_before noted_after [] }
+{}
+
+/// What `Truncated` says of a told input, in plain words: it was read to its end and is no longer than the bound, and exactly the
+/// controller's replies were said. Behind the frames stands no fault but the rest of an unfinished frame, which is not empty;
+/// and the note, where no note failed, counts its bytes.
+pub fn truncated_says_all()
+    ensures read { (most : ℕ) (bytes before : List ℕ) (left after noted_before noted_after : Option (List ℕ)) (faults faults_now : ℕ)
+        → Serves most (Some bytes) left (Some before) after noted_before noted_after faults faults_now Truncated → (left ≡ Some []) × (length bytes ≤ most) }
+    ensures rest { (most : ℕ) (bytes before : List ℕ) (left after noted_before noted_after : Option (List ℕ)) (faults faults_now : ℕ)
+        → Serves most (Some bytes) left (Some before) after noted_before noted_after faults faults_now Truncated → (fault_of bytes ≡ None) × (rest_of bytes ≢ []) }
+    ensures said { (most : ℕ) (bytes before : List ℕ) (left after noted_before noted_after : Option (List ℕ)) (faults faults_now : ℕ)
+        → Serves most (Some bytes) left (Some before) after noted_before noted_after faults faults_now Truncated → after ≡ Some (before ++ replies bytes) }
+    ensures noted { (most : ℕ) (bytes before : List ℕ) (left after noted_before noted_after : Option (List ℕ)) (faults faults_now : ℕ)
+        → Serves most (Some bytes) left (Some before) after noted_before noted_after faults faults_now Truncated → (Rose faults faults_now → ⊥)
+        → Took noted_before noted_after (session_note 0 (decimal (length (rest_of bytes)) ++ codes " bytes left")) }
 {}
 
 /// What was said of the replies where a run was cut short is a front of all of them.

@@ -5,15 +5,20 @@ mod bounds;
 mod command_line;
 mod intake;
 mod laws;
+mod notes;
 mod serving;
 mod status;
+mod tails;
 mod top;
 mod worked;
 
 pub use bounds::Bounds;
-pub use laws::{cut_runs_say_fronts, done_says_all};
+pub use command_line::Form;
+pub use laws::{cut_runs_say_fronts, done_says_all, truncated_says_all};
 pub use status::Status;
+pub use tails::Tail;
 pub use top::{run, run_within};
 pub use worked::{
-    worked_answers, worked_circuits, worked_networks, worked_policies, worked_runs, worked_words,
+    worked_answers, worked_circuits, worked_endings, worked_networks, worked_notes,
+    worked_policies, worked_runs, worked_words,
 };

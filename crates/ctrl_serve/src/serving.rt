@@ -1,4 +1,4 @@
-ghost use Rattle.std.specs.Prelude.{◌≡◌, ◌≢◌, true, IfOk, IfErr, OnOk};
+ghost use Rattle.std.specs.Prelude.{◌≡◌, ◌≢◌, true, IfOk, IfErr, None, OnOk, length};
 ghost use Rattle.ziti_outside.specs.Told.{Took};
 ghost use Rattle.channel_frame.specs.declared.frames.Front.TheVariants.{Bad};
 ghost use Rattle.channel_frame.specs.FrameSpelling.{spelling};
@@ -10,11 +10,13 @@ ghost use Rattle.ctrl_model.specs.State.{start};
 ghost use Rattle.ctrl_model.specs.Controller.{answer};
 ghost use Rattle.reply_codec.specs.ReplyFrame.{reply_frame};
 ghost use Rattle.reply_codec.specs.ReplyLimits.{keeps_limits};
+ghost use Rattle.ctrl_serve.specs.Ending.{tail_from};
 ghost use Rattle.ctrl_serve.specs.FrameAnswer.{frame_answer, refusal_for};
 ghost use Rattle.ziti_outside.specs.Causes.{HasCause};
 ghost use Rattle.ziti_outside.specs.Untouched.{OnlySays};
 ghost use Rattle.ctrl_serve.specs.Turns.{IsAnnouncedAt, TakesTurn, CutsTurn, IsServed, unsaid};
 
+use crate::tails::Tail;
 use channel_frame::{Frame, FrameFault, Front, encode, read_frame, read_head};
 use command_codec::{CodecFault, read};
 use ctrl_core::Core;
@@ -155,13 +157,23 @@ fn serve_frame<D: Desk>(
     }
 }
 
+// The tail of some bytes that begin a frame and do not end it.
+fn unfinished(rest: &[u8]) -> Tail
+    ensures { result ≡ tail_from None (length rest.now) }
+{
+    match rest.len() {
+        0 => Tail::Empty,
+        left => Tail::Unfinished(left as u64),
+    }
+}
+
 /// Answers the whole frames of the bytes in order by a core at the start, as `serve` does.
 fn serve_frames<D: Desk>(
     alloc: Global,
     desk: &mut D,
     core: &mut Core,
     bytes: &[u8],
-) -> Result<bool, Cut>
+) -> Result<Tail, Cut>
     requires live { core.old.live ≡ true }
     requires at_start { core.old.state ≡ start }
     ensures said { IsServed result bytes.now (D.said desk.old) (D.said desk.new) }
@@ -170,17 +182,24 @@ fn serve_frames<D: Desk>(
 {
     let mut sequence = 0u32;
     let mut rest = bytes;
-    'frames: while let Front::Whole(frame, len) = front_of(alloc, rest)? {
-        serve_frame(alloc, desk, core, sequence, &frame)?;
-        sequence = sequence.wrapping_add(1);
-        let (_, after) = rest.split_at(len as usize);
-        rest = after;
+    'frames: loop {
+        match front_of(alloc, rest)? {
+            Front::Whole(frame, len) => {
+                serve_frame(alloc, desk, core, sequence, &frame)?;
+                sequence = sequence.wrapping_add(1);
+                let (_, after) = rest.split_at(len as usize);
+                rest = after;
+            }
+            Front::Short => return Ok(unfinished(rest)),
+            Front::Bad(fault) => {
+                return Ok(Tail::Faulty(fault, (bytes.len() - rest.len()) as u64));
+            }
+        }
     }
-    Ok(rest.is_empty())
 }
 
-/// Answers the whole frames of the bytes in order and says their replies. Answers whether no tail is left behind them.
-pub fn serve<D: Desk>(alloc: Global, desk: &mut D, bytes: &[u8]) -> Result<bool, Cut>
+/// Answers the whole frames of the bytes in order and says their replies. Answers the tail that is left behind them.
+pub fn serve<D: Desk>(alloc: Global, desk: &mut D, bytes: &[u8]) -> Result<Tail, Cut>
     ensures said { IsServed result bytes.now (D.said desk.old) (D.said desk.new) }
     ensures cause { HasCause (D.say_faults desk.old) (D.say_faults desk.new) (unsaid result) }
     ensures others { OnlySays D.noted D.note_faults D.reads D.may_leave D.disk_faults desk.old desk.new }

@@ -1,16 +1,16 @@
 ghost use Rattle.std.specs.Prelude.{◌≡◌, ◌↔◌, ◌≤◌, ◌^◌, false, None, Some, take};
 ghost use Rattle.std.specs.Io.KnownBytes.{IsAtEnd};
 ghost use Rattle.ziti_outside.specs.Causes.{Rose};
-ghost use Rattle.ziti_outside.specs.Untouched.{OnlySays, OnlyNotes};
 ghost use Rattle.ctrl_serve.specs.Failures.{RisesOnce, TakesUntilFailure};
 ghost use Rattle.ctrl_serve.specs.CommandLine.{form_of, texts};
-ghost use Rattle.ctrl_serve.specs.Runs.{status_at, SaysIntake, IsWriteCaused};
+ghost use Rattle.ctrl_serve.specs.Runs.{SaysIntake, IsWriteCaused};
 ghost use Rattle.ctrl_serve.specs.Ending.{is_cut};
-ghost use Rattle.ctrl_serve.specs.Headline.{AreBounds, Serves, NotesUsage, Runs};
+ghost use Rattle.ctrl_serve.specs.Headline.{AreBounds, OnlySaysAndNotes, Serves, Runs};
 
 use crate::bounds::Bounds;
-use crate::command_line::{USAGE, is_in_table};
-use crate::intake::{End, Intake, take_all};
+use crate::command_line::{Form, form_of};
+use crate::intake::{Intake, take_all};
+use crate::notes::{note_lines, status_line, tell_cut, tell_ending};
 use crate::serving::{Cut, serve};
 use crate::status::Status;
 use std::alloc::Global;
@@ -26,54 +26,33 @@ fn first_bytes(bytes: &[u8], most: u64) -> &[u8]
     first
 }
 
-fn status_of(clean: bool, end: End) -> Status
-    ensures { result ≡ status_at clean end }
-{
-    match (end, clean) {
-        (End::Fault, _) => Status::ReadFault,
-        (_, false) => Status::BadInput,
-        (End::More, true) => Status::InputTooLong,
-        (End::Whole, true) => Status::Done,
-    }
-}
-
 fn answer_intake<D: Desk>(alloc: Global, most: u64, intake: &Intake, desk: &mut D) -> Status
-    ensures said { SaysIntake most intake.now (D.said desk.old) (D.said desk.new) result }
+    ensures says { SaysIntake most intake.now (D.said desk.old) (D.said desk.new) (D.noted desk.old) (D.noted desk.new) (D.note_faults desk.old) (D.note_faults desk.new) result }
     ensures cause { IsWriteCaused (D.say_faults desk.old) (D.say_faults desk.new) result }
-    ensures others { OnlySays D.noted D.note_faults D.reads D.may_leave D.disk_faults desk.old desk.new }
+    ensures others { OnlySaysAndNotes D.reads D.may_leave D.disk_faults desk.old desk.new }
 {
     let used = first_bytes(intake.bytes.as_slice(), most);
     match serve(alloc, desk, used) {
-        Ok(clean) => status_of(clean, intake.end),
-        Err(Cut::NoMemory) => Status::NoMemory,
-        Err(Cut::Unsaid) => Status::WriteFault,
+        Ok(tail) => tell_ending(alloc, tail, intake.end, desk),
+        Err(cut) => tell_cut(cut, desk),
     }
 }
 
 fn run_dry<S: Source, D: Desk>(alloc: Global, most: u64, source: &mut S, desk: &mut D) -> Status
     requires { most ≤ 2 ^ 32 }
-    ensures serves { Serves most (S.left source.old) (S.left source.new) (D.said desk.old) (D.said desk.new) result }
+    ensures serves { Serves most (S.left source.old) (S.left source.new) (D.said desk.old) (D.said desk.new) (D.noted desk.old) (D.noted desk.new) (D.note_faults desk.old) (D.note_faults desk.new) result }
     ensures read_fault { result ≡ Status.ReadFault → Rose (S.faults source.old) (S.faults source.new) }
-    ensures write_fault { result ≡ Status.WriteFault → Rose (D.say_faults desk.old) (D.say_faults desk.new) }
     ensures failed_take { is_cut result ≡ false → S.faults source.new ≡ S.faults source.old }
-    ensures failed_say { (result ≡ Status.WriteFault → ⊥) → D.say_faults desk.new ≡ D.say_faults desk.old }
+    ensures write_cause { IsWriteCaused (D.say_faults desk.old) (D.say_faults desk.new) result }
     ensures read_faults_once { RisesOnce (S.faults source.old) (S.faults source.new) }
-    ensures say_faults_once { RisesOnce (D.say_faults desk.old) (D.say_faults desk.new) }
+    ensures note_faults_once { RisesOnce (D.note_faults desk.old) (D.note_faults desk.new) }
     ensures takes_until_failure { TakesUntilFailure S.left S.faults source.old source.new }
-    ensures others { OnlySays D.noted D.note_faults D.reads D.may_leave D.disk_faults desk.old desk.new }
+    ensures others { OnlySaysAndNotes D.reads D.may_leave D.disk_faults desk.old desk.new }
 {
     match take_all(alloc, most, source) {
         Ok(intake) => answer_intake(alloc, most, &intake, desk),
-        Err(_) => Status::NoMemory,
+        Err(_) => tell_cut(Cut::NoMemory, desk),
     }
-}
-
-fn tell_usage<D: Desk>(desk: &mut D)
-    ensures note { NotesUsage (D.noted desk.old) (D.noted desk.new) (D.note_faults desk.old) (D.note_faults desk.new) }
-    ensures counted { RisesOnce (D.note_faults desk.old) (D.note_faults desk.new) }
-    ensures others { OnlyNotes D.said D.say_faults D.reads D.may_leave D.disk_faults desk.old desk.new }
-{
-    let _ = desk.note(USAGE);
 }
 
 /// Runs the controller on the words after the program's name, within bounds.
@@ -92,11 +71,12 @@ pub fn run_within<S: Source, D: Desk>(
     ensures runs { Runs S.left S.faults D.said D.noted D.say_faults D.note_faults D.reads D.may_leave D.disk_faults
         bounds.input (form_of (texts words.now.items)) source.old source.new desk.old desk.new result }
 {
-    if is_in_table(words.as_slice()) {
-        run_dry(alloc, bounds.input, source, desk)
-    } else {
-        tell_usage(desk);
-        Status::Usage
+    match form_of(words.as_slice()) {
+        Some(Form::Dry) => run_dry(alloc, bounds.input, source, desk),
+        None => {
+            note_lines(status_line(Status::Usage), desk);
+            Status::Usage
+        }
     }
 }
 

@@ -1,16 +1,18 @@
-ghost use Rattle.std.specs.Prelude.{◌≡◌, [], ◌∷◌, ◌++◌, codes, take, true, false, None, Some};
+ghost use Rattle.std.specs.Prelude.{◌≡◌, [], ◌∷◌, ◌++◌, codes, true, false, None, Some};
 ghost use Rattle.channel_frame.specs.FrameSpelling.{spelling};
-ghost use Rattle.channel_frame.specs.WorkedFrames.{ann_bytes, reply_bytes, cut_bytes, unmarked_bytes};
+ghost use Rattle.channel_frame.specs.WorkedFrames.{ann_bytes, reply_bytes, cut_bytes, unmarked_bytes, longer_body, short_header};
 ghost use Rattle.ctrl_model.specs.declared.refusals.Denial.TheVariants as denial;
 ghost use Rattle.ctrl_model.specs.declared.refusals.Field.TheVariants as field;
 ghost use Rattle.ctrl_model.specs.declared.refusals.Reason.TheVariants as reason;
 ghost use Rattle.ctrl_model.specs.declared.refusals.Refusal.TheVariants as refusal;
 ghost use Rattle.ctrl_model.specs.declared.replies.Reply.TheVariants as reply;
-ghost use Rattle.ctrl_serve.specs.CommandLine.{Dry, form_of};
+ghost use Rattle.ctrl_serve.specs.CommandLine.{form_of};
+ghost use Rattle.ctrl_serve.specs.declared.command_line.Form.TheVariants.{Dry};
+ghost use Rattle.ctrl_serve.specs.Notes.{notes_of, session_note, usage_note};
 ghost use Rattle.ctrl_serve.specs.FrameAnswer.{replies};
 ghost use Rattle.ctrl_serve.specs.WorkedAnswers.{reply_at_start, reply_behind, ann_may_dial, all_may_dial, first_goes, ann_comes_again, two_routers, router_goes, line, ann_asks, middle_closes};
 ghost use Rattle.reply_codec.specs.ReplyFrame.{reply_frame};
-ghost use Rattle.ctrl_serve.specs.Ending.{ending};
+ghost use Rattle.ctrl_serve.specs.Ending.{ending, tail_of};
 ghost use Rattle.ctrl_serve.specs.declared.status.Status.TheVariants as status;
 
 /// Words of the command line.
@@ -70,16 +72,39 @@ pub fn worked_circuits()
     ensures denied { reply_behind (line ++ middle_closes) 1402 ann_asks ≡ reply.Refused (refusal.Denied denial.NoPath) }
 {}
 
-/// The replies to one frame that creates ann, to the same frame twice, and to a frame before a cut one; and how these inputs
-/// end.
+/// The replies to one frame that creates ann, to the same frame twice, and to a frame before a cut one.
 pub fn worked_runs()
     ensures once { replies ann_bytes ≡ reply_bytes }
     ensures twice { replies (ann_bytes ++ ann_bytes) ≡ reply_bytes ++ spelling (reply_frame 1 7 (reply.Refused refusal.Exists)) }
     ensures nothing { replies [] ≡ [] }
-    ensures before_a_tail { replies (ann_bytes ++ take 19 ann_bytes) ≡ reply_bytes }
+    ensures before_a_tail { replies (ann_bytes ++ cut_bytes) ≡ reply_bytes }
+{}
+
+/// How whole, cut and faulty inputs end, as long as they may be and longer: a fault comes before a longer input, and this before the
+/// rest of a frame.
+pub fn worked_endings()
+    ensures empty { ending [] false ≡ status.Done }
     ensures whole { ending ann_bytes false ≡ status.Done }
     ensures longer { ending ann_bytes true ≡ status.InputTooLong }
-    ensures cut { ending (take 19 ann_bytes) false ≡ status.BadInput }
-    ensures cut_first { ending (take 19 ann_bytes) true ≡ status.BadInput }
-    ensures empty { ending [] false ≡ status.Done }
+    ensures cut { ending cut_bytes false ≡ status.Truncated }
+    ensures cut_second { ending (ann_bytes ++ cut_bytes) false ≡ status.Truncated }
+    ensures cut_and_longer { ending cut_bytes true ≡ status.InputTooLong }
+    ensures faulty { ending (ann_bytes ++ unmarked_bytes) false ≡ status.BadInput }
+    ensures faulty_and_longer { ending (ann_bytes ++ unmarked_bytes) true ≡ status.BadInput }
+{}
+
+/// The notes of such inputs. A read fault is noted behind the fault of the input; a write fault and want of memory are noted alone.
+pub fn worked_notes()
+    ensures done { notes_of (tail_of ann_bytes) status.Done ≡ [] }
+    ensures cut { notes_of (tail_of cut_bytes) status.Truncated ≡ codes "zitictl: session 0: 19 bytes left\n" }
+    ensures marker { notes_of (tail_of (ann_bytes ++ unmarked_bytes)) status.BadInput ≡ codes "zitictl: session 0: BadMarker at 34\n" }
+    ensures body { notes_of (tail_of longer_body) status.BadInput ≡ codes "zitictl: session 0: TooLong at 0\n" }
+    ensures headers { notes_of (tail_of short_header) status.BadInput ≡ codes "zitictl: session 0: BadHeaders at 0\n" }
+    ensures longer { notes_of (tail_of cut_bytes) status.InputTooLong ≡ codes "zitictl: input too long\n" }
+    ensures unread { notes_of (tail_of cut_bytes) status.ReadFault ≡ codes "zitictl: read fault\n" }
+    ensures unread_behind { notes_of (tail_of (ann_bytes ++ unmarked_bytes)) status.ReadFault ≡ codes "zitictl: session 0: BadMarker at 34\nzitictl: read fault\n" }
+    ensures unsaid { notes_of (tail_of (ann_bytes ++ unmarked_bytes)) status.WriteFault ≡ codes "zitictl: write fault\n" }
+    ensures no_memory { notes_of (tail_of (ann_bytes ++ unmarked_bytes)) status.NoMemory ≡ codes "zitictl: no memory\n" }
+    ensures usage { usage_note ≡ codes "zitictl: usage: zitictl dry | replay [--sessions] | audit | compact | load N\n" }
+    ensures another_session { session_note 12 (codes "3 bytes left") ≡ codes "zitictl: session 12: 3 bytes left\n" }
 {}

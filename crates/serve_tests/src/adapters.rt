@@ -125,6 +125,10 @@ fn ends_at_a_failing_writer(rt: HostRuntime) -> Result<(), Fail> {
     // The first reply has 49 bytes, so five writes; the sixth takes ten of the second reply.
     assert_eq!(rt; broken.bytes.len(), 59);
     assert_eq!(rt; broken.writes, 7);
+    assert_eq!(rt;
+        noted.as_slice(),
+        b"zitictl: write fault\nzitictl: write fault\n".as_slice()
+    );
     Ok(())
 }
 
@@ -135,17 +139,22 @@ fn ends_at_a_failing_reader(rt: HostRuntime) -> Result<(), Fail> {
     let status = ends_with(&rt, Broken { bytes: ANN }, &mut said, &mut noted)?;
     assert_eq!(rt; status, Status::ReadFault);
     assert_eq!(rt; said.as_slice(), MADE);
+    assert_eq!(rt; noted.as_slice(), b"zitictl: read fault\n".as_slice());
     Ok(())
 }
 
 #[test]
-fn ends_with_bad_input_at_a_cut_frame(rt: HostRuntime) -> Result<(), Fail> {
+fn ends_with_truncated_at_a_cut_frame(rt: HostRuntime) -> Result<(), Fail> {
     let alloc = rt.alloc();
     let input = joined(alloc, ANN, b"\x03\x06\x09")?;
     let mut said = Vec::new(alloc);
     let mut noted = Vec::new(alloc);
     let status = ends_with(&rt, input.as_slice(), &mut said, &mut noted)?;
-    assert_eq!(rt; status.number(), 2);
+    assert_eq!(rt; status.number(), 3);
     assert_eq!(rt; said.as_slice(), MADE);
+    assert_eq!(rt;
+        noted.as_slice(),
+        b"zitictl: session 0: 3 bytes left\n".as_slice()
+    );
     Ok(())
 }

@@ -1,0 +1,14 @@
+use Rattle.ctrl_serve.proofs.EndingLaws.{truncated_read, truncated_rest, truncated_said, truncated_noted}
+use Rattle.ctrl_serve.proofs.laws.truncated_says_all.Goals as goal
+
+pub returns-clause-read : goal.returns-clause-read
+returns-clause-read c most bytes before left after noted_before noted_after x y s = truncated_read most bytes left _ _ _ _ x y s
+
+pub returns-clause-rest : goal.returns-clause-rest
+returns-clause-rest c most bytes before left after noted_before noted_after x y s = truncated_rest most bytes left _ _ _ _ x y s
+
+pub returns-clause-said : goal.returns-clause-said
+returns-clause-said c most bytes before left after noted_before noted_after x y s = truncated_said most bytes before left after _ _ x y s
+
+pub returns-clause-noted : goal.returns-clause-noted
+returns-clause-noted c most bytes before left after noted_before noted_after x y s calm = truncated_noted most bytes left _ _ _ _ x y s calm
