@@ -101,12 +101,7 @@ fn setting_value(alloc: Global, cost: u32) -> Result<Option<Bytes>, AllocError>
 }
 
 /// The change of the row of a kind's next number, which goes from one to another. The kind is one that has records.
-pub fn next_change(
-    alloc: Global,
-    kind: Kind,
-    before: u32,
-    after: u32,
-) -> Result<Change, AllocError>
+pub fn next_change(alloc: Global, kind: Kind, before: u32, after: u32) -> Result<Change, AllocError>
     requires { nat_le 1 (kind_number kind) ≡ true }
     ensures { IfOk result (λ change. change ≡ next_change_of kind before after) }
 {
