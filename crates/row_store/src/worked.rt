@@ -1,8 +1,10 @@
-ghost use Rattle.std.specs.Prelude.{◌≡◌, [], ◌∷◌, take};
+ghost use Rattle.std.specs.Prelude.{◌≡◌, [], ◌∷◌, codes, take, true};
+ghost use Rattle.ctrl_model.specs.WorkedStates.{after, line, ann_to_web};
+ghost use Rattle.ctrl_model.specs.declared.commands.Command.TheVariants.{UpdateRouter, DeleteRouter, DeleteLink, DeleteTerminator};
 ghost use Rattle.ziti_outside.specs.declared.desk.Part.TheVariants.{Zero};
 ghost use Rattle.journal_core.specs.WorkedSlots.{batch_of_ann, slot_of_ann};
 ghost use Rattle.slot_files.specs.WorkedFolders.{no_files, slot_without_mark};
-ghost use Rattle.row_codec.specs.Batches.{batch_bytes, Spells};
+ghost use Rattle.row_codec.specs.Batches.{batch_between, batch_bytes, Spells};
 ghost use Rattle.row_store.specs.BatchRows.{Leads, Give, rows_after, puts_of};
 ghost use Rattle.row_store.specs.OpenedRows.{OpensTo, IsDamagedAt};
 ghost use Rattle.row_store.specs.WorkedStores.{rows_of_ann, ops_of_ann, key_of_ann, value_of_ann, folder_of, deletes_absent, slot_with_deletion};
@@ -32,4 +34,19 @@ pub fn worked_damage()
     ensures no_gate { IsDamagedAt (folder_of (take 41 slot_of_ann)) Zero 41 }
     ensures no_header { IsDamagedAt (folder_of []) Zero 0 }
     ensures deletes_absent { IsDamagedAt (folder_of slot_with_deletion) Zero 41 }
+{}
+
+/// The batches of commands of other families, worked by hand, on a line of three routers with a circuit over both its links: router 2
+/// may not be passed through any more, so the circuit goes; it is deleted, and with it both links, the circuit and a count; a link
+/// goes, and the terminator, each with the circuit.
+pub fn worked_commands()
+    ensures no_traversal { batch_bytes (batch_between (after (ann_to_web ∷ []) line) (after (ann_to_web ∷ UpdateRouter (codes "r2") [] 0 true ∷ []) line))
+        ≡ 1 ∷ 5 ∷ 5 ∷ 0 ∷ 0 ∷ 0 ∷ 2 ∷ 7 ∷ 0 ∷ 0 ∷ 0 ∷ 2 ∷ 114 ∷ 50 ∷ 0 ∷ 0 ∷ 0 ∷ 3 ∷ 2 ∷ 5 ∷ 11 ∷ 0 ∷ 0 ∷ 0 ∷ 1 ∷ [] }
+    ensures router_gone { batch_bytes (batch_between (after (ann_to_web ∷ []) line) (after (ann_to_web ∷ DeleteRouter (codes "r2") ∷ []) line))
+        ≡ 2 ∷ 5 ∷ 5 ∷ 0 ∷ 0 ∷ 0 ∷ 2 ∷ 2 ∷ 5 ∷ 6 ∷ 0 ∷ 0 ∷ 0 ∷ 1 ∷ 2 ∷ 5 ∷ 6 ∷ 0 ∷ 0 ∷ 0 ∷ 2 ∷ 2 ∷ 5 ∷ 11 ∷ 0 ∷ 0 ∷ 0 ∷ 1
+        ∷ 2 ∷ 9 ∷ 15 ∷ 0 ∷ 0 ∷ 0 ∷ 1 ∷ 0 ∷ 0 ∷ 0 ∷ 2 ∷ [] }
+    ensures link_gone { batch_bytes (batch_between (after (ann_to_web ∷ []) line) (after (ann_to_web ∷ DeleteLink (codes "l1") ∷ []) line))
+        ≡ 2 ∷ 5 ∷ 6 ∷ 0 ∷ 0 ∷ 0 ∷ 1 ∷ 2 ∷ 5 ∷ 11 ∷ 0 ∷ 0 ∷ 0 ∷ 1 ∷ [] }
+    ensures terminator_gone { batch_bytes (batch_between (after (ann_to_web ∷ []) line) (after (ann_to_web ∷ DeleteTerminator 1 ∷ []) line))
+        ≡ 2 ∷ 5 ∷ 10 ∷ 0 ∷ 0 ∷ 0 ∷ 1 ∷ 2 ∷ 5 ∷ 11 ∷ 0 ∷ 0 ∷ 0 ∷ 1 ∷ [] }
 {}
