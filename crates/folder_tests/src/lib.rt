@@ -8,4 +8,6 @@ mod damage;
 #[cfg(test)]
 mod desks;
 #[cfg(test)]
+mod row_reading;
+#[cfg(test)]
 mod stores;

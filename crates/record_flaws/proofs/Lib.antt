@@ -1,0 +1,3 @@
+pub mod SoundPolicies
+pub mod LinkFlaws
+pub mod EntityFlaws

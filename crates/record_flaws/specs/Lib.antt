@@ -1,0 +1,4 @@
+pub mod SoundRows
+pub mod StoresOfStates
+pub mod FoundFlaws
+pub mod WorkedFlaws

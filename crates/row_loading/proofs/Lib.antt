@@ -1,0 +1,17 @@
+pub mod SameRows
+pub mod ListedStates
+pub mod FrontStates
+pub mod NextRecords
+pub mod ListedBuilds
+pub mod SaidNumbers
+pub mod LoadedStates
+pub mod RefusedStates
+pub mod ToldCounts
+pub mod CountedRows
+pub mod GivenTables
+pub mod NextNumbersOfRows
+pub mod ReadRows
+pub mod RisingParts
+pub mod RowThings
+pub mod SoundRows
+pub mod ThingsAtKeys

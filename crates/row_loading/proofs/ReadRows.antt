@@ -1,0 +1,169 @@
+-- Changes that put rows in the order of their keys, read one after another.
+use Rattle.std.proofs.Common.{◌≡◌, ℕ, suc, ◌+◌, ◌<◌, Bool, true, false, ◌&&◌, nat_le, List, [], ◌∷◌, ◌++◌, length, map, take, drop, get_or, Option, None, Some, Err, IsErrOf, refl, sym, ◌∙◌, ap, ap₂, subst, Less, take-append-drop}
+use Rattle.std.proofs.lemmas.Bool.{and_parts, and_from, true≢false}
+use Rattle.std.proofs.lemmas.List.{map-append, length-map, take_more}
+use Rattle.std.proofs.lemmas.List.Folds.{list_all-append}
+use Rattle.std.proofs.Math.Seq.{drop-cons}
+use Rattle.std.specs.declared.result.Result.{Result}
+use Rattle.std.specs.List.{AllByRecursion, list_all}
+use Rattle.row_codec.specs.declared.rows.Row.{Row}
+use Rattle.row_codec.specs.declared.rows.Row.TheVariants as row
+use Rattle.row_codec.specs.declared.changes.Op.{Op}
+use Rattle.row_codec.specs.RowKeys.{Key, key_cmp, key_bytes, is_key, is_long}
+use Rattle.row_codec.specs.RowForm.{is_row, key_of}
+use Rattle.row_codec.specs.RowDifference.{Rises}
+use Rattle.row_codec.specs.Batches.{bytes_cmp, entry_of, entries_of}
+use Rattle.row_codec.specs.BatchReading.{comes_after}
+use Rattle.row_codec.proofs.BatchLaws.{key_of_op, last_key, last_key-more, rises_more, comes_next}
+use Rattle.row_laws.proofs.KeyOrders.{bytes_order}
+use Rattle.state_building.specs.declared.flaws.Flaw.{Flaw}
+use Rattle.state_building.specs.declared.flaws.Flaw.TheVariants.{NoRecord, OutOfOrder, NameTaken, Hanging, Unsettled, TooMany, WrongCount}
+use Rattle.row_loading.specs.LoadedRows.{put_of, keyed, Loads}
+use Rattle.row_loading.specs.NextPuts.{Puts, PutsNext, PutsNoNext}
+use Rattle.row_loading.specs.RefusedRows.{PutsNoRow, AreUnread}
+
+-- ---- a row that some state can have stands under a key
+
+first_and : (a b : Bool) → (a && b) ≡ true → (a && true) ≡ true
+first_and true b e = refl
+first_and false b e = e
+
+first_two : (a b c : Bool) → (a && (b && c)) ≡ true → (a && b) ≡ true
+first_two true true c e = refl
+first_two true false c e = e
+first_two false b c e = e
+
+kind_fits : (a b c : Bool) → ((a && b) && c) ≡ true → (a && (b && true)) ≡ true
+kind_fits true true c e = refl
+kind_fits true false c e = e
+kind_fits false b c e = e
+
+pub is_key-key_of : (x : Row) → is_row x ≡ true → is_key (key_of x) ≡ true
+is_key-key_of (row.Next k next) f = kind_fits (nat_le 1 k) (nat_le k 9) _ f
+is_key-key_of (row.Setting cost) f = refl
+is_key-key_of (row.Identity n name attributes) f = first_and (is_long n.0) _ f
+is_key-key_of (row.Service n name attributes) f = first_and (is_long n.0) _ f
+is_key-key_of (row.Router n name attributes cost through connected) f = first_and (is_long n.0) _ f
+is_key-key_of (row.Link n name a b cost latency_a latency_b up) f = first_and (is_long n.0) _ f
+is_key-key_of (row.ServicePolicy n name relation semantic identities services) f = first_and (is_long n.0) _ f
+is_key-key_of (row.EdgeRouterPolicy n name semantic identities routers) f = first_and (is_long n.0) _ f
+is_key-key_of (row.ServiceEdgeRouterPolicy n name semantic services routers) f = first_and (is_long n.0) _ f
+is_key-key_of (row.Terminator n service router host instance cost precedence) f = first_and (is_long n.0) _ f
+is_key-key_of (row.Circuit n identity service terminator ingress links) f = first_and (is_long n.0) _ f
+is_key-key_of (row.Dial identity service count) f = first_two (is_long identity.0) (is_long service.0) _ f
+is_key-key_of (row.Bind identity service count) f = first_two (is_long identity.0) (is_long service.0) _ f
+is_key-key_of (row.IdentityRouter identity router count) f = first_two (is_long identity.0) (is_long router.0) _ f
+is_key-key_of (row.ServiceRouter service router count) f = first_two (is_long service.0) (is_long router.0) _ f
+
+-- ---- rows rise where the changes that put them do
+
+above_rows : (k : Key) (xs : List Row) → is_key k ≡ true → list_all is_row xs ≡ true
+    → AllByRecursion (λ y. bytes_cmp (key_bytes k) y.0 ≡ Less) (entries_of (map put_of xs)) → AllByRecursion (λ y. key_cmp k y.0 ≡ Less) (keyed xs)
+above_rows k [] h f a = tt
+above_rows k (x ∷ xs) h f a =
+    let parts = and_parts (is_row x) (list_all is_row xs) f in
+    (sym (bytes_order k (key_of x) h (is_key-key_of x parts.0)) ∙ a.0, above_rows k xs h parts.1 a.1)
+
+rise_as_rows : (xs : List Row) → list_all is_row xs ≡ true → Rises bytes_cmp (entries_of (map put_of xs)) → Rises key_cmp (keyed xs)
+rise_as_rows [] f r = tt
+rise_as_rows (x ∷ xs) f r =
+    let parts = and_parts (is_row x) (list_all is_row xs) f in
+    (above_rows (key_of x) xs (is_key-key_of x parts.0) parts.1 r.0, rise_as_rows xs parts.1 r.1)
+
+above_puts : (k : Key) (xs : List Row) → is_key k ≡ true → list_all is_row xs ≡ true
+    → AllByRecursion (λ y. key_cmp k y.0 ≡ Less) (keyed xs) → AllByRecursion (λ y. bytes_cmp (key_bytes k) y.0 ≡ Less) (entries_of (map put_of xs))
+above_puts k [] h f a = tt
+above_puts k (x ∷ xs) h f a =
+    let parts = and_parts (is_row x) (list_all is_row xs) f in
+    (bytes_order k (key_of x) h (is_key-key_of x parts.0) ∙ a.0, above_puts k xs h parts.1 a.1)
+
+rise_as_puts : (xs : List Row) → list_all is_row xs ≡ true → Rises key_cmp (keyed xs) → Rises bytes_cmp (entries_of (map put_of xs))
+rise_as_puts [] f r = tt
+rise_as_puts (x ∷ xs) f r =
+    let parts = and_parts (is_row x) (list_all is_row xs) f in
+    (above_puts (key_of x) xs (is_key-key_of x parts.0) parts.1 r.0, rise_as_puts xs parts.1 r.1)
+
+-- ---- the changes so far
+
+-- they put these rows, and the last key is that of the last one
+pub record AreRead (ops : List Op) (last : Option (List ℕ)) (rows : List Row) : Type 0 where
+  pub spelled : ops ≡ map put_of rows
+  pub form : list_all is_row rows ≡ true
+  pub rises : Rises bytes_cmp (entries_of ops)
+  pub last_is : last ≡ last_key None ops
+
+pub none_read : AreRead [] None []
+none_read = record { spelled = refl; form = refl; rises = tt; last_is = refl }
+
+all_form : (rows : List Row) (x : Row) → list_all is_row rows ≡ true → is_row x ≡ true → list_all is_row (rows ++ x ∷ []) ≡ true
+all_form rows x f g = list_all-append is_row rows (x ∷ []) ∙ and_from (list_all is_row rows) (is_row x && true) f (and_from (is_row x) true g refl)
+
+pub reads_on : (ops : List Op) (last : Option (List ℕ)) (rows : List Row) (op : Op) (x : Row) → AreRead ops last rows → PutsNext last op x
+    → AreRead (ops ++ op ∷ []) (Some (entry_of op).0) (rows ++ x ∷ [])
+reads_on ops last rows op x so next =
+    let comes : comes_after (last_key None ops) (key_of_op op) ≡ true =
+    ap₂ comes_after (sym so.last_is) (ap key_of_op next.puts.put) ∙ next.comes in
+    record {
+      spelled = ap₂ (λ (xs : List Op) (y : Op). xs ++ y ∷ []) so.spelled next.puts.put ∙ sym (map-append put_of rows (x ∷ []));
+      form = all_form rows x so.form next.puts.form;
+      rises = rises_more ops op so.rises comes;
+      last_is = sym (last_key-more None ops op);
+    }
+
+pub loads : (ops : List Op) (last : Option (List ℕ)) (rows : List Row) → AreRead ops last rows → Loads ops rows
+loads ops last rows so = record {
+  spelled = so.spelled;
+  form = so.form;
+  rises = rise_as_rows rows so.form (subst (λ (xs : List Op). Rises bytes_cmp (entries_of xs)) so.spelled so.rises);
+}
+
+-- a change that puts a row, at a key that comes after the last one
+pub puts_next : (last : Option (List ℕ)) (op : Op) (x : Row) (key : List ℕ) (comes : Bool) → Puts op x → key ≡ (entry_of op).0 → comes ≡ comes_after last key
+    → comes ≡ true → PutsNext last op x
+puts_next last op x key comes puts at told is = record {
+  puts = puts;
+  comes = ap (λ (o : Op). comes_after last (entry_of o).0) (sym puts.put) ∙ ap (comes_after last) (sym at) ∙ sym told ∙ is;
+}
+
+-- ---- a change that puts no row behind them
+
+early : (ops : List Op) (last : Option (List ℕ)) (rows : List Row) (x : Row) → AreRead ops last rows → is_row x ≡ true
+    → comes_after last (key_bytes (key_of x)) ≡ false → Rises key_cmp (keyed (rows ++ x ∷ [])) → ⊥
+early ops last rows x so form is rises =
+    let puts = rise_as_puts (rows ++ x ∷ []) (all_form rows x so.form form) rises in
+    let whole : map put_of (rows ++ x ∷ []) ≡ ops ++ put_of x ∷ [] =
+    map-append put_of rows (x ∷ []) ∙ ap (λ (xs : List Op). xs ++ put_of x ∷ []) (sym so.spelled) in
+    let next = comes_next ops (put_of x) [] (subst (λ (xs : List Op). Rises bytes_cmp (entries_of xs)) whole puts) in
+    true≢false (sym next ∙ ap (λ (k : Option (List ℕ)). comes_after k (key_bytes (key_of x))) (sym so.last_is) ∙ is)
+
+puts_no_row : (flaw : Flaw) (ops : List Op) (last : Option (List ℕ)) (rows : List Row) (op : Op) → AreRead ops last rows → PutsNoNext flaw last op → PutsNoRow flaw rows op
+puts_no_row NoRecord ops last rows op so refused = refused
+puts_no_row OutOfOrder ops last rows op so refused = (refused.row, refused.puts.form, refused.puts.put, early ops last rows refused.row so refused.puts.form refused.early)
+puts_no_row NameTaken ops last rows op so refused = refused
+puts_no_row Hanging ops last rows op so refused = refused
+puts_no_row Unsettled ops last rows op so refused = refused
+puts_no_row TooMany ops last rows op so refused = refused
+puts_no_row WrongCount ops last rows op so refused = refused
+
+pub unread : (all : List Op) (i : ℕ) (last : Option (List ℕ)) (rows : List Row) (op : Op) (place : ℕ) (flaw : Flaw) → AreRead (take i all) last rows
+    → i < length all → op ≡ get_or all i op → place ≡ length rows → PutsNoNext flaw last op → AreUnread all place flaw
+unread all i last rows op place flaw so within is at refused = record {
+  before = take i all;
+  op = op;
+  after = drop (suc i) all;
+  split = sym (take-append-drop i all) ∙ ap (λ (xs : List Op). take i all ++ xs) (drop-cons all i op within ∙ ap (λ (y : Op). y ∷ drop (suc i) all) (sym is));
+  rows = rows;
+  loads = loads (take i all) last rows so;
+  place_is = ap length so.spelled ∙ length-map rows put_of ∙ sym at;
+  reason = puts_no_row flaw (take i all) last rows op so refused;
+}
+
+pub reads_next : (all : List Op) (i : ℕ) (last : Option (List ℕ)) (rows : List Row) (op : Op) (x : Row) → AreRead (take i all) last rows
+    → i < length all → op ≡ get_or all i op → PutsNext last op x → AreRead (take (i + 1) all) (Some (entry_of op).0) (rows ++ x ∷ [])
+reads_next all i last rows op x so within is next =
+    subst (λ (xs : List Op). AreRead xs (Some (entry_of op).0) (rows ++ x ∷ [])) (ap (λ (y : Op). take i all ++ y ∷ []) is ∙ sym (take_more all i op within))
+    (reads_on (take i all) last rows op x so next)
+
+-- an error is handed on
+pub handed_on : {T U E : Type 0} (r : Result T E) (e f : E) → r ≡ Err e → IsErrOf r f → IsErrOf {T = U} (Err e) f
+handed_on r e f is told = let same : e ≡ f = cc in ap Err same

@@ -1,0 +1,4 @@
+pub mod LoadedRows
+pub mod RefusedRows
+pub mod NextPuts
+pub mod CountRows

@@ -1,0 +1,88 @@
+ghost use Rattle.std.specs.Prelude.{◌≡◌, ℕ, IfOk, IsErrOf};
+ghost use Rattle.std.specs.Option.{option_map};
+ghost use Rattle.row_codec.specs.Batches.{entry_of};
+ghost use Rattle.row_codec.specs.BatchReading.{comes_after};
+ghost use Rattle.state_building.specs.declared.flaws.Flaw.{Flaw};
+ghost use Rattle.row_loading.specs.declared.faults.CoreFault.TheVariants.{NotAState};
+ghost use Rattle.row_loading.specs.LoadedRows.{Loads};
+ghost use Rattle.row_loading.specs.NextPuts.{Puts, PutsNone, PutsNext, PutsNoNext};
+ghost use Rattle.row_loading.specs.RefusedRows.{AreUnread};
+
+use crate::faults::CoreFault;
+use row_codec::{Op, Row, RowFault};
+use row_spelling::read_row;
+use state_building::Flaw;
+use std::alloc::Global;
+
+// The key of a change.
+fn key_of(op: &Op) -> &[u8]
+    ensures { result.now ≡ (entry_of op.now).0 }
+{
+    match op {
+        Op::Put { key, .. } => key.as_slice(),
+        Op::Delete { key } => key.as_slice(),
+    }
+}
+
+// Whether a key comes after the last one, if there is one.
+fn comes_after(last: Option<&[u8]>, key: &[u8]) -> bool
+    ensures { result ≡ comes_after (option_map (λ l. l.now) last.entry) key.now }
+{
+    match last {
+        None => true,
+        Some(last) => last.cmp(key).is_lt(),
+    }
+}
+
+// The row that a change puts. `BadRow` comes exactly where it puts none.
+fn row_put(alloc: Global, op: &Op) -> Result<Row, RowFault>
+    ensures read { IfOk result (Puts op.now) }
+    ensures bad { IsErrOf result RowFault.BadRow → PutsNone op.now }
+    ensures never { IsErrOf result RowFault.BadBatch → ⊥ }
+{
+    match op {
+        Op::Put { key, value } => read_row(alloc, key.as_slice(), value.as_slice()),
+        Op::Delete { .. } => Err(RowFault::BadRow),
+    }
+}
+
+// The row that the change at a place puts behind the last key.
+fn next_row(alloc: Global, place: u64, last: Option<&[u8]>, op: &Op) -> Result<Row, CoreFault>
+    ensures read { IfOk result (PutsNext (option_map (λ l. l.now) last.entry) op.now) }
+    ensures place { (at : ℕ) (flaw : Flaw) → IsErrOf result (NotAState at flaw) → at ≡ place }
+    ensures flaw { (at : ℕ) (flaw : Flaw) → IsErrOf result (NotAState at flaw) → PutsNoNext flaw (option_map (λ l. l.now) last.entry) op.now }
+{
+    let row = match row_put(alloc, op) {
+        Ok(row) => row,
+        Err(RowFault::NoMemory) => return Err(CoreFault::NoMemory),
+        Err(_) => {
+            return Err(CoreFault::NotAState {
+                place,
+                flaw: Flaw::NoRecord,
+            });
+        }
+    };
+    if !comes_after(last, key_of(op)) {
+        return Err(CoreFault::NotAState {
+            place,
+            flaw: Flaw::OutOfOrder,
+        });
+    }
+    Ok(row)
+}
+
+/// The rows that changes put, in the order of their keys. `NotAState` comes exactly where a change puts no row, or one whose key does
+/// not come after that of the one before it, and tells the first such place.
+pub fn read_rows(alloc: Global, ops: &[Op]) -> Result<Vec<Row>, CoreFault>
+    ensures read { IfOk result (λ rows. Loads ops.now rows.items) }
+    ensures unread { (place : ℕ) (flaw : Flaw) → IsErrOf result (NotAState place flaw) → AreUnread ops.now place flaw }
+{
+    let mut rows = Vec::new(alloc);
+    let mut last: Option<&[u8]> = None;
+    'ops: for op in ops {
+        let row = next_row(alloc, rows.len() as u64, last, op)?;
+        rows.push(row)?;
+        last = Some(key_of(op));
+    }
+    Ok(rows)
+}

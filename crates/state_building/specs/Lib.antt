@@ -1,0 +1,3 @@
+pub mod RowForms
+pub mod JoinedRecords
+pub mod BuiltStates
