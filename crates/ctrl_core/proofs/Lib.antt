@@ -17,3 +17,7 @@ pub mod StateParts
 pub mod NextNumbers
 pub mod RowEnds
 pub mod CountRows
+pub mod TakenLaws
+pub mod LoadedLaws
+pub mod JoinedLaws
+pub mod PolicyFlaws

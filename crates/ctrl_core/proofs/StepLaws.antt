@@ -41,21 +41,31 @@ steps_fit st t steps keeps valid leads r = record {
       omega (arith, room, counted);
 }
 
-pub steps_have_room : (st mid : Stores) (p : Planned) → Keeps st → CanLead p (state_of st) → mid.grants ≡ st.grants → (r : Relation) → HaveRoom (counts_of r mid.grants) (steps_of r p.steps)
-steps_have_room st mid p keeps can same r =
-    subst (λ (g : Grants). HaveRoom (counts_of r g) (steps_of r p.steps)) (sym same) (steps_fit st (led p (state_of st)) p.steps keeps can.valid can.counts r)
+-- the counts that are kept have room for steps to the counts of a valid state
+pub room_for_steps : (st mid : Stores) (t : State) (steps : GrantSteps) → Keeps st → ValidState t → LeadAllCounts (state_of st) t steps → mid.grants ≡ st.grants
+    → (r : Relation) → HaveRoom (counts_of r mid.grants) (steps_of r steps)
+room_for_steps st mid t steps keeps valid leads same r =
+    subst (λ (g : Grants). HaveRoom (counts_of r g) (steps_of r steps)) (sym same) (steps_fit st t steps keeps valid leads r)
 
--- the state after a change and the counts after its steps belong together
-pub keeps_after : (st mid : Stores) (g : Grants) (p : Planned) → Keeps st → CanLead p (state_of st) → Carries st mid (led p (state_of st))
-    → ((r : Relation) → Taken (counts_of r mid.grants) (counts_of r g) (steps_of r p.steps)) → Keeps (record mid { grants = g })
-keeps_after st mid g p keeps can carries taken = record {
-  valid = subst ValidState (sym carries.next) can.valid;
+-- a state and the counts after the steps to it belong together
+pub keeps_with_steps : (st mid : Stores) (g : Grants) (t : State) (steps : GrantSteps) → Keeps st → ValidState t → LeadAllCounts (state_of st) t steps → Carries st mid t
+    → ((r : Relation) → Taken (counts_of r mid.grants) (counts_of r g) (steps_of r steps)) → Keeps (record mid { grants = g })
+keeps_with_steps st mid g t steps keeps valid leads carries taken = record {
+  valid = subst ValidState (sym carries.next) valid;
   held = carries.held;
   counts = λ r a b.
-      let moved = (can.counts r).moves a b in
-      let steps = taken r a b in
+      let moved = (leads r).moves a b in
+      let stepped = taken r a b in
       let before = keeps.counts r a b in
       let same : count_of (counts_of r mid.grants) a b ≡ count_of (counts_of r st.grants) a b = ap (λ (q : Grants). count_of (counts_of r q) a b) carries.counts in
-      let there : count r (state_of mid) a b ≡ count r (led p (state_of st)) a b = ap (λ (s : State). count r s a b) carries.next in
-      omega (arith, moved, steps, before, same, there);
+      let there : count r (state_of mid) a b ≡ count r t a b = ap (λ (s : State). count r s a b) carries.next in
+      omega (arith, moved, stepped, before, same, there);
 }
+
+-- the same of the state to which a plan leads
+pub steps_have_room : (st mid : Stores) (p : Planned) → Keeps st → CanLead p (state_of st) → mid.grants ≡ st.grants → (r : Relation) → HaveRoom (counts_of r mid.grants) (steps_of r p.steps)
+steps_have_room st mid p keeps can = room_for_steps st mid (led p (state_of st)) p.steps keeps can.valid can.counts
+
+pub keeps_after : (st mid : Stores) (g : Grants) (p : Planned) → Keeps st → CanLead p (state_of st) → Carries st mid (led p (state_of st))
+    → ((r : Relation) → Taken (counts_of r mid.grants) (counts_of r g) (steps_of r p.steps)) → Keeps (record mid { grants = g })
+keeps_after st mid g p keeps can = keeps_with_steps st mid g (led p (state_of st)) p.steps keeps can.valid can.counts

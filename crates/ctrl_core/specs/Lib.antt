@@ -11,3 +11,6 @@ pub mod CircuitParts
 pub mod CircuitPlans
 pub mod PlannedCircuits
 pub mod WorkedChanges
+pub mod JoinedRows
+pub mod LoadedRows
+pub mod TakenRows

@@ -1,4 +1,4 @@
-ghost use Rattle.std.specs.Prelude.{◌≡◌, true, false, IfOk, OnErr};
+ghost use Rattle.std.specs.Prelude.{◌≡◌, ℕ, true, false, IfOk, IsErrOf, OnErr};
 ghost use Rattle.ctrl_model.specs.State.{start};
 ghost use Rattle.ctrl_model.specs.CommandForm.{is_spelled};
 ghost use Rattle.ctrl_model.specs.Controller.{carry};
@@ -7,16 +7,23 @@ ghost use Rattle.ctrl_model.specs.ValidState.{ValidState};
 ghost use Rattle.model_laws.specs.Plans.{tells_change};
 ghost use Rattle.grant_denorm.specs.MovedCounts.{AreCountsOf};
 ghost use Rattle.row_codec.specs.Batches.{batch_between};
+ghost use Rattle.state_building.specs.declared.flaws.Flaw.{Flaw};
+ghost use Rattle.row_loading.specs.declared.faults.CoreFault.TheVariants.{NotAState};
+ghost use Rattle.row_loading.specs.LoadedRows.{AreOfNoState};
+ghost use Rattle.row_loading.specs.RefusedRows.{RefusesRows};
 ghost use Rattle.ctrl_core.specs.CarriedCommands.{is_carried};
 ghost use Rattle.ctrl_core.specs.Changes.{CanLead, IsStill, LeadsFrom, led};
 
 use crate::applying::{apply_steps, carry_out};
 use crate::commands::plan_command;
 use crate::completing::completed;
+use crate::loading::load;
 use crate::plans::Planned;
 use crate::stores::Stores;
 use ctrl_model::{Command, Relation, Reply};
 use grant_denorm::Counted;
+use row_codec::Batch;
+use row_loading::{CoreFault, read_rows};
 use std::alloc::{AllocError, Global};
 use std::marker::Model;
 
@@ -46,6 +53,27 @@ impl Core {
         ensures { IfOk result (λ c. c ≡ record { state = start; live = true }) }
     {
         let stores = Stores::new(alloc)?;
+        Ok(Core {
+            alloc,
+            live: true,
+            stores,
+        })
+    }
+
+    /// The core of the state whose rows a batch puts, all of them, where no row was. Nothing is taken on trust: the counts are found
+    /// anew from the policies, and those of the rows have to be the same.
+    ///
+    /// `NotAState` comes exactly where they are not all rows of a valid state. It tells the first place at which a row cannot be the
+    /// next one, or where a count is missing, and why (docs/FORMATS.md, "Rows of a valid state").
+    pub fn from_rows(alloc: Global, rows: &Batch) -> Result<Core, CoreFault>
+        ensures live { IfOk result (λ c. c.live ≡ true) }
+        ensures rows { IfOk result (λ c. rows.now ≡ batch_between start c.state) }
+        ensures valid { IfOk result (λ c. ValidState c.state) }
+        ensures refused { (place : ℕ) (flaw : Flaw) → IsErrOf result (NotAState place flaw) → RefusesRows rows.now place flaw }
+        ensures none { (place : ℕ) (flaw : Flaw) → IsErrOf result (NotAState place flaw) → AreOfNoState rows.now }
+    {
+        let rows = read_rows(alloc, rows.as_slice())?;
+        let stores = load(alloc, rows.as_slice())?;
         Ok(Core {
             alloc,
             live: true,

@@ -12,13 +12,18 @@ mod commands;
 mod completing;
 mod core_state;
 mod counting;
+mod loading;
 mod plans;
 mod row_changes;
+mod row_flaws;
+mod row_joining;
 mod settling;
 mod showing;
 mod stores;
+mod taking;
 mod worked;
 
 pub use core_state::Core;
 pub use plans::Planned;
+pub use row_loading::CoreFault;
 pub use worked::{worked_changes, worked_starts};

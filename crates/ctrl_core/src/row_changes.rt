@@ -27,7 +27,7 @@ use terminator_commands::term_changes;
 use terminators::TermChange;
 
 /// The kinds that have records, in the order of their numbers.
-const KINDS: [Kind; 9] = [
+pub(crate) const KINDS: [Kind; 9] = [
     Kind::Identity,
     Kind::Service,
     Kind::Router,

@@ -16,6 +16,7 @@ mod steps;
 mod worked;
 
 pub use changes::PolicyChange;
+pub use copying::copy_side;
 pub use counting::count_all_policies;
 pub use granting::{Moved, entity_steps, policy_steps};
 pub use membership::members;
