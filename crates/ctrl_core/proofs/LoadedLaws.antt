@@ -1,5 +1,5 @@
 -- What loading rows leaves: the stores of the state that they build, or the first flaw.
-use Rattle.std.proofs.Common.{◌≡◌, ◌⊎◌, inl, inr, ℕ, suc, ◌+◌, ◌<◌, ◌≤◌, ◌&&◌, true, false, List, [], ◌∷◌, ◌++◌, length, map, take, drop, get_or, Option, None, Some, Err, IsErrOf, refl, sym, ◌∙◌, ap, ap₂, subst, arith, take-append-drop}
+use Rattle.std.proofs.Common.{◌≡◌, ◌⊎◌, inr, ℕ, suc, ◌+◌, ◌<◌, ◌≤◌, true, List, [], ◌∷◌, ◌++◌, length, map, take, drop, get_or, Option, None, Some, Err, IsErrOf, refl, sym, ◌∙◌, ap, subst, arith, take-append-drop}
 use Rattle.std.proofs.lemmas.Bool.{and_parts}
 use Rattle.std.proofs.lemmas.List.{take_all, take_more, length-take-le}
 use Rattle.std.proofs.Math.Seq.{drop-cons}
@@ -117,8 +117,16 @@ row_at rows i x form within is =
 -- ---- the counts
 
 -- the rows have every count where they have those of each relation
-pub have_counts : (rows : List Row) (st : Stores) → Keeps st → ((r : Relation) (a b : ℕ) → count_in rows r a b ≡ count_of (counts_of r st.grants) a b) → HaveCounts rows (state_of st)
-have_counts rows st k each r a b = each r a b ∙ k.counts r a b
+pub have_all : (rows : List Row) (st : Stores) → Keeps st → ((a b : ℕ) → count_in rows Dial a b ≡ count_of st.grants.dial a b) → ((a b : ℕ) → count_in rows Bind a b ≡ count_of st.grants.bind a b)
+    → ((a b : ℕ) → count_in rows IdentityRouter a b ≡ count_of st.grants.identity_router a b) → ((a b : ℕ) → count_in rows ServiceRouter a b ≡ count_of st.grants.service_router a b)
+    → HaveCounts rows (state_of st)
+have_all rows st k dial bind identity_router service_router = by
+  where
+    by : HaveCounts rows (state_of st)
+    by Dial a b = dial a b ∙ k.counts Dial a b
+    by Bind a b = bind a b ∙ k.counts Bind a b
+    by IdentityRouter a b = identity_router a b ∙ k.counts IdentityRouter a b
+    by ServiceRouter a b = service_router a b ∙ k.counts ServiceRouter a b
 
 -- a count that is kept, and that the rows do not have
 pub lacks_one : (rows : List Row) (st : Stores) → Keeps st → (r : Relation) (pairs : List ((ℕ × ℕ) × ℕ)) → pairs ≡ counts_of r st.grants

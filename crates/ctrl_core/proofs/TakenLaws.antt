@@ -1,6 +1,6 @@
 -- What taking a row leaves: the flaw is told, or the stores keep the state after the row.
-use Rattle.std.proofs.Common.{◌≡◌, ◌⊎◌, inl, inr, ℕ, ◌≤◌, ◌==◌, Bool, true, false, not, nat_le, List, Option, None, Some, is_some, refl, sym, ◌∙◌, ap, ap₂, arith}
-use Rattle.std.proofs.lemmas.Bool.{and_from, false≢true, le-leb}
+use Rattle.std.proofs.Common.{◌≡◌, ◌⊎◌, inl, inr, ℕ, ◌≤◌, ◌==◌, Bool, true, false, not, nat_le, List, Option, None, Some, is_some, refl, sym, ◌∙◌, ap, arith, eqb-true}
+use Rattle.std.proofs.lemmas.Bool.{and_from, eq-eqb, false≢true, le-leb}
 use Rattle.std.proofs.lemmas.Option.{none-some}
 use Rattle.ctrl_model.specs.declared.kinds.Kind.{Kind}
 use Rattle.ctrl_model.specs.declared.kinds.Kind.TheVariants as kind
@@ -14,12 +14,13 @@ use Rattle.ctrl_model.specs.ValidState.{is_valid_entity}
 use Rattle.entity_commands.specs.EntityChanges.{is_plain_kind}
 use Rattle.fabric_graph.specs.FabricTables.{with_least}
 use Rattle.grant_denorm.specs.MovedCounts.{AreCountsOf}
+use Rattle.grant_denorm.specs.PairCounts.{count_of}
 use Rattle.policy_store.specs.PolicyTables.{is_policy_kind}
 use Rattle.record_flaws.specs.declared.coming.Coming.{Coming}
 use Rattle.record_flaws.specs.StoresOfStates.{AreEntitiesOf}
 use Rattle.row_codec.specs.declared.rows.Row.TheVariants as row
 use Rattle.state_building.specs.declared.flaws.Flaw.{Flaw}
-use Rattle.state_building.specs.declared.flaws.Flaw.TheVariants.{NoRecord}
+use Rattle.state_building.specs.declared.flaws.Flaw.TheVariants.{NoRecord, WrongCount}
 use Rattle.state_building.specs.JoinedRecords.{flaw_if, flaw_of, is_sound}
 use Rattle.state_building.proofs.ComingRows.{row-valid}
 use Rattle.ctrl_core.specs.declared.stores.Stores.{Stores}
@@ -59,9 +60,9 @@ plain_kinds k e = absurd (false≢true e)
 pub plain_told : (k : Kind) (c : Coming) (name : List ℕ) (attributes : List (List ℕ)) (st : Stores) (told : Option Flaw) → is_plain_kind k ≡ true → HoldsPolicies st
     → c.sound ≡ is_valid_entity (record { name = name; attributes = attributes })
     → ((e : Entity) (s : State) → k ≡ kind.Identity → e ≡ record { name = name; attributes = attributes } → AreEntitiesOf st.entities s
-      → c.sound ≡ is_sound kind.Identity e → told ≡ flaw_of (λ j. c.end) kind.Identity c.number e s)
+    → c.sound ≡ is_sound kind.Identity e → told ≡ flaw_of (λ j. c.end) kind.Identity c.number e s)
     → ((e : Entity) (s : State) → k ≡ kind.Service → e ≡ record { name = name; attributes = attributes } → AreEntitiesOf st.entities s
-      → c.sound ≡ is_sound kind.Service e → told ≡ flaw_of (λ j. c.end) kind.Service c.number e s)
+    → c.sound ≡ is_sound kind.Service e → told ≡ flaw_of (λ j. c.end) kind.Service c.number e s)
     → told ≡ plain_flaw_of c.end k c.number name attributes (state_of st)
 plain_told kind.Identity c name attributes st told p held sound identity service = identity _ (state_of st) refl refl (entities_of st held) sound
 plain_told kind.Service c name attributes st told p held sound identity service = service _ (state_of st) refl refl (entities_of st held) sound
@@ -110,3 +111,20 @@ set_kept cost st k fits = record { told_is = ap (λ b. flaw_if (not b) NoRecord 
 -- a cost that is neither below nor above the range is in it
 pub is_cost_so : (cost : ℕ) → 1 ≤ cost → cost ≤ 65535 → is_link_cost cost ≡ true
 is_cost_so cost low high = and_from (nat_le 1 cost) (nat_le cost 65535) (le-leb 1 cost low) (le-leb cost 65535 high)
+
+-- ---- the counts
+
+-- a count that is kept is the one of the state
+pub count_kept : (st : Stores) (r : Relation) (pairs : List ((ℕ × ℕ) × ℕ)) (a b n : ℕ) → Keeps st → pairs ≡ counts_of r st.grants → n ≡ count_of pairs a b
+    → n ≡ count r (state_of st) a b
+count_kept st r pairs a b n k is e = e ∙ ap (λ ps. count_of ps a b) is ∙ k.counts r a b
+
+pub judged_wrong : (n told m : ℕ) → n ≡ m → (n ≡ told → ⊥) → Some WrongCount ≡ flaw_if (not (m == told)) WrongCount None
+judged_wrong n told m is differs = by (m == told) refl
+  where
+    by : (c : Bool) → (m == told) ≡ c → Some WrongCount ≡ flaw_if (not c) WrongCount None
+    by true e = absurd (differs (is ∙ eqb-true m told e))
+    by false e = refl
+
+pub judged_right : (n told m : ℕ) → n ≡ m → n ≡ told → None ≡ flaw_if (not (m == told)) WrongCount None
+judged_right n told m is same = ap (λ c. flaw_if (not c) WrongCount None) (sym (eq-eqb m told (sym is ∙ same)))

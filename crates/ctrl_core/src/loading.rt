@@ -56,7 +56,11 @@ fn lacks(stores: &Stores, rows: &[Row]) -> bool
 {
     lacks_counts(rows, Relation::Dial, &stores.grants.dial)
         || lacks_counts(rows, Relation::Bind, &stores.grants.bind)
-        || lacks_counts(rows, Relation::IdentityRouter, &stores.grants.identity_router)
+        || lacks_counts(
+            rows,
+            Relation::IdentityRouter,
+            &stores.grants.identity_router,
+        )
         || lacks_counts(rows, Relation::ServiceRouter, &stores.grants.service_router)
 }
 

@@ -15,7 +15,9 @@ ghost use Rattle.ctrl_core.specs.LoadedRows.{policy_flaw_of};
 ghost use Rattle.ctrl_core.specs.TakenRows.{Takes, plain_flaw_of};
 
 use crate::row_flaws::{circuit_flaw, policy_flaw};
-use crate::row_joining::{join_circuit, join_link, join_plain, join_policy, join_router, join_term};
+use crate::row_joining::{
+    join_circuit, join_link, join_plain, join_policy, join_router, join_term,
+};
 use crate::stores::Stores;
 use circuits::Circuit;
 use ctrl_model::{Kind, Name, Names, Relation, Semantic, Side};
@@ -345,13 +347,7 @@ pub fn take_row(
         } => {
             let coming = coming(rows, Kind::ServiceEdgeRouterPolicy, no.0, sound);
             let policy = policy(name, Relation::ServiceRouter, *semantic, services, routers)?;
-            take_policy(
-                alloc,
-                stores,
-                Kind::ServiceEdgeRouterPolicy,
-                coming,
-                policy,
-            )
+            take_policy(alloc, stores, Kind::ServiceEdgeRouterPolicy, coming, policy)
         }
         Row::Terminator {
             no,
@@ -395,24 +391,12 @@ pub fn take_row(
             identity,
             service,
             count,
-        } => Ok(judge_count(
-            stores,
-            Relation::Dial,
-            identity.0,
-            service.0,
-            *count,
-        )),
+        } => Ok(judge_count(stores, Relation::Dial, identity.0, service.0, *count)),
         Row::Bind {
             identity,
             service,
             count,
-        } => Ok(judge_count(
-            stores,
-            Relation::Bind,
-            identity.0,
-            service.0,
-            *count,
-        )),
+        } => Ok(judge_count(stores, Relation::Bind, identity.0, service.0, *count)),
         Row::IdentityRouter {
             identity,
             router,
@@ -428,12 +412,6 @@ pub fn take_row(
             service,
             router,
             count,
-        } => Ok(judge_count(
-            stores,
-            Relation::ServiceRouter,
-            service.0,
-            router.0,
-            *count,
-        )),
+        } => Ok(judge_count(stores, Relation::ServiceRouter, service.0, router.0, *count)),
     }
 }

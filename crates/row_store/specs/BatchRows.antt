@@ -39,6 +39,10 @@ abbrev pub is_of_table : ℕ → List ℕ → Bool
 is_of_table table [] = false
 is_of_table table (byte ∷ key) = byte == table
 
+-- Rows as puts, in the order of their keys.
+abbrev pub puts : ByteRows → List Op
+puts rows = map (λ x. Put x.0 x.1) rows
+
 -- The rows of a table, as puts in the order of their keys.
 abbrev pub puts_of : ℕ → ByteRows → List Op
-puts_of table rows = map (λ x. Put x.0 x.1) (filter (λ x. is_of_table table x.0) rows)
+puts_of table rows = puts (filter (λ x. is_of_table table x.0) rows)

@@ -1,5 +1,5 @@
 ghost use Rattle.std.specs.Prelude.{◌≡◌, ◌++◌, ◌∷◌, [], OnOk, IfOk};
-ghost use Rattle.row_store.specs.BatchRows.{rows_in, is_of_table, puts_of};
+ghost use Rattle.row_store.specs.BatchRows.{rows_in, is_of_table, puts, puts_of};
 
 use crate::changing::Rows;
 use ctrl_model::Bytes;
@@ -46,6 +46,17 @@ pub(crate) fn puts_of(alloc: Global, rows: &Rows, table: u8) -> Result<Batch, Al
     let mut items = Vec::new(alloc);
     'rows: for (key, value) in rows {
         add_put(alloc, &mut items, table, key.as_slice(), value)?;
+    }
+    Ok(Batch::of(items))
+}
+
+// All rows as puts.
+pub(crate) fn puts(alloc: Global, rows: &Rows) -> Result<Batch, AllocError>
+    ensures { IfOk result (λ batch. batch ≡ puts (rows_in rows.now.entries)) }
+{
+    let mut items = Vec::new(alloc);
+    'rows: for (key, value) in rows {
+        items.push(put_of(alloc, key.as_slice(), value)?)?;
     }
     Ok(Batch::of(items))
 }

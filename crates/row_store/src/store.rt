@@ -9,7 +9,7 @@ ghost use Rattle.slot_files.specs.FolderImage.{StandsAsBefore};
 ghost use Rattle.slot_files.specs.OpenedSlots.{Opens};
 ghost use Rattle.row_codec.specs.RowDifference.{Rises, value_at, IsTrueDifference};
 ghost use Rattle.row_codec.specs.Batches.{bytes_cmp, IsBatch, entries_of};
-ghost use Rattle.row_store.specs.BatchRows.{rows_after, puts_of};
+ghost use Rattle.row_store.specs.BatchRows.{rows_after, puts, puts_of};
 ghost use Rattle.row_store.specs.OpenedRows.{OpensTo};
 ghost use Rattle.row_store.specs.StoredRows.{IsStoreOf, ReadsAs, with_ops, without_rows};
 ghost use Rattle.row_store.specs.Faults.{disk_failure, OpenFails, MayCommit, CommitFails};
@@ -19,7 +19,7 @@ use crate::changing::Rows;
 use crate::committing::{keep, pack};
 use crate::faults::StoreFault;
 use crate::opening::{load, look, settle};
-use crate::scanning::puts_of;
+use crate::scanning::{puts, puts_of};
 use crate::sizing::has_room;
 use ctrl_model::Bytes;
 use journal_core::HEADER;
@@ -163,6 +163,13 @@ impl Store {
         ensures rises { Rises bytes_cmp self.now.rows }
     {
         puts_of(self.alloc, &self.rows, table)
+    }
+
+    /// All rows as puts, in the order of their keys.
+    pub fn all(&self) -> Result<Batch, AllocError>
+        ensures puts { IfOk result (λ batch. batch ≡ puts self.now.rows) }
+    {
+        puts(self.alloc, &self.rows)
     }
 
     /// The slot that stands and the place of its closed gate; the first slot and place 8 over an empty mark.

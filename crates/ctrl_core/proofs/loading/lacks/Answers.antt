@@ -1,6 +1,7 @@
 use Rattle.std.proofs.Common.{refl, sym, ◌∙◌}
+use Rattle.std.proofs.lemmas.Bool.{false≢true}
 use Rattle.ctrl_model.specs.declared.kinds.Relation.TheVariants.{Dial, Bind, IdentityRouter, ServiceRouter}
-use Rattle.ctrl_core.proofs.LoadedLaws.{lacks_one}
+use Rattle.ctrl_core.proofs.LoadedLaws.{have_all, lacks_one}
 use Rattle.ctrl_core.proofs.loading.lacks.Goals as goal
 use Rattle.ctrl_core.proofs.loading.lacks.Goals.{then-lacks_counts, else-lacks_counts, then-lacks_counts-2, else-lacks_counts-2}
 
@@ -19,15 +20,29 @@ lacks_counts-requires-else-lacks_counts-3-clause-kept c = λ a b h. c.requires.t
 pub returns-then-lacks_counts-3-clause-lacks : goal.returns-then-lacks_counts-3-clause-lacks
 returns-then-lacks_counts-3-clause-lacks c = λ e.
     elim c.if-lacks_counts-2.branch [
-      then-lacks_counts-2 w ↦
-        elim c.if-lacks_counts.branch [
-          then-lacks_counts u ↦ lacks_one c.args.rows.now c.args.stores.now c.requires.kept Dial _ refl (c.lacks_counts.ensures.lacks u.if-lacks_counts.true)
-        | else-lacks_counts u ↦
-            lacks_one c.args.rows.now c.args.stores.now c.requires.kept Bind _ refl (u.lacks_counts-else-lacks_counts.ensures.lacks (sym u.value-is ∙ w.if-lacks_counts-2.true))
-        ]
-    | else-lacks_counts-2 w ↦
-        lacks_one c.args.rows.now c.args.stores.now c.requires.kept IdentityRouter _ refl (w.lacks_counts-else-lacks_counts-2.ensures.lacks (sym w.value-is ∙ e))
+      | then-lacks_counts-2 w ↦
+          elim c.if-lacks_counts.branch [
+            | then-lacks_counts u ↦ lacks_one c.args.rows.now c.args.stores.now c.requires.kept Dial _ refl (c.lacks_counts.ensures.lacks u.if-lacks_counts.true)
+            | else-lacks_counts u ↦
+                lacks_one c.args.rows.now c.args.stores.now c.requires.kept Bind _ refl (u.lacks_counts-else-lacks_counts.ensures.lacks (sym u.value-is ∙ w.if-lacks_counts-2.true))
+          ]
+      | else-lacks_counts-2 w ↦
+          lacks_one c.args.rows.now c.args.stores.now c.requires.kept IdentityRouter _ refl (w.lacks_counts-else-lacks_counts-2.ensures.lacks (sym w.value-is ∙ e))
     ]
 
 pub returns-else-lacks_counts-3-clause-lacks : goal.returns-else-lacks_counts-3-clause-lacks
 returns-else-lacks_counts-3-clause-lacks c = λ e. lacks_one c.args.rows.now c.args.stores.now c.requires.kept ServiceRouter _ refl (c.lacks_counts-else-lacks_counts-3.ensures.lacks e)
+
+pub returns-else-lacks_counts-3-clause-all : goal.returns-else-lacks_counts-3-clause-all
+returns-else-lacks_counts-3-clause-all c = λ e.
+    elim c.if-lacks_counts-2.branch [
+      | then-lacks_counts-2 w ↦ absurd (false≢true (sym c.if-lacks_counts-3.false ∙ w.value-is ∙ w.if-lacks_counts-2.true))
+      | else-lacks_counts-2 w ↦
+          elim c.if-lacks_counts.branch [
+            | then-lacks_counts u ↦ absurd (false≢true (sym w.if-lacks_counts-2.false ∙ u.value-is ∙ u.if-lacks_counts.true))
+            | else-lacks_counts u ↦
+                have_all c.args.rows.now c.args.stores.now c.requires.kept (c.lacks_counts.ensures.all u.if-lacks_counts.false)
+                (u.lacks_counts-else-lacks_counts.ensures.all (sym u.value-is ∙ w.if-lacks_counts-2.false))
+                (w.lacks_counts-else-lacks_counts-2.ensures.all (sym w.value-is ∙ c.if-lacks_counts-3.false)) (c.lacks_counts-else-lacks_counts-3.ensures.all e)
+          ]
+    ]

@@ -1,0 +1,189 @@
+-- A plan that is kept and carried out: what the folder opens to meanwhile, what is kept behind it, and why it was not done.
+use Rattle.std.proofs.Common.{◌≡◌, ◌⊎◌, inl, inr, ℕ, suc, ◌≤◌, ◌<◌, ◌==◌, Bool, true, false, List, [], ◌∷◌, length, Err, Option, refl, sym, ap, ◌∙◌, subst, true≢false, arith}
+use Rattle.std.proofs.lemmas.Bool.Decides.{nat_tests}
+use Rattle.std.specs.declared.result.Result.{Result}
+use Rattle.ziti_outside.specs.Images.{Image}
+use Rattle.ziti_outside.specs.Moments.{Leaves}
+use Rattle.ziti_outside.proofs.MomentLaws.{Leaves-none, Leaves-weaker}
+use Rattle.ctrl_model.specs.declared.commands.Command.{Command}
+use Rattle.ctrl_model.specs.declared.kinds.Who.{Who}
+use Rattle.ctrl_model.specs.declared.refusals.Refusal.TheVariants.{JournalFull}
+use Rattle.ctrl_model.specs.declared.replies.Reply.{Reply}
+use Rattle.ctrl_model.specs.declared.replies.Reply.TheVariants.{Refused}
+use Rattle.ctrl_model.specs.State.{State}
+use Rattle.ctrl_model.specs.Permitted.{is_permitted}
+use Rattle.ctrl_model.specs.Controller.{carry}
+use Rattle.row_codec.specs.declared.changes.Op.{Op}
+use Rattle.row_codec.specs.Batches.{batch_between}
+use Rattle.row_store.specs.BatchRows.{rows_after}
+use Rattle.row_store.specs.OpenedRows.{OpensTo}
+use Rattle.row_store.specs.StoredRows.{Stored, ReadsAs, size_with, with_ops}
+use Rattle.row_store.proofs.CommitLaws.{reads_opens}
+use Rattle.ctrl_core.specs.declared.plans.Planned.{Planned}
+use Rattle.ctrl_core.specs.Changes.{CanLead, LeadsFrom, led}
+use Rattle.ctrl_core.specs.KeptState.{Cored}
+use Rattle.ctrl_keep.specs.declared.faults.KeepFault.{KeepFault}
+use Rattle.ctrl_keep.specs.declared.faults.KeepFault.TheVariants.{Disk, Damaged, Spent, NoMemory}
+use Rattle.ctrl_keep.specs.OpenedStates.{OpensToState}
+use Rattle.ctrl_keep.specs.KeptMachine.{Machine, step}
+use Rattle.ctrl_keep.specs.KeptController.{Controlled, machine_with, machine_of, made_of, Keeps, IsPlanned}
+use Rattle.ctrl_keep.specs.Faults.{KeepFails, AdvanceFails, SubmitFails}
+use Rattle.ctrl_keep.proofs.KeptStates.{rows_lead, opens_next, opens_either}
+use Rattle.ctrl_keep.proofs.MachineSteps.{kept_with_room, kept_without_room, kept_still, step_planned}
+
+-- A plan that changes rows can be kept and carried out.
+pub record CanAdvance (p : Planned) (core : Cored) (stored : Stored) : Type 0 where
+  pub keeps : Keeps core stored
+  pub leads : CanLead p core.state
+  pub batch : p.batch ≡ batch_between core.state (led p core.state)
+  pub changes : p.batch ≡ [] → ⊥
+
+-- Whether its batch is empty, as the code asks.
+some_items : (ops : List Op) → (length ops == 0) ≡ false → ops ≡ [] → ⊥
+some_items ops e none = let both : (0 == 0) ≡ false = sym (ap (λ (l : List Op). length l == 0) none) ∙ e in cc
+
+no_items : (ops : List Op) → (length ops == 0) ≡ true → ops ≡ []
+no_items [] e = refl
+no_items (op ∷ ops) e = absurd (some_length (length ops) e)
+  where
+    some_length : (n : ℕ) → (suc n == 0) ≡ true → ⊥
+    some_length n e = grind (arith, nat_tests, e)
+
+pub can_advance : (p : Planned) (core : Cored) (stored : Stored) (ops : List Op) (empty : Bool) → IsPlanned p core stored → ops ≡ p.batch → empty ≡ (length ops == 0) → empty ≡ false
+    → CanAdvance p core stored
+can_advance p core stored ops empty planned e f is = record {
+  keeps = planned.keeps;
+  leads = planned.leads;
+  batch = planned.batch;
+  changes = λ none. some_items ops (sym f ∙ is) (e ∙ none);
+}
+
+-- A plan that changes no row is answered at once.
+pub step_still : (p : Planned) (core : Cored) (stored : Stored) (ops : List Op) (empty : Bool) → ops ≡ p.batch → empty ≡ (length ops == 0) → empty ≡ true
+    → (p.reply, machine_with core.state stored) ≡ made_of p core.state stored
+step_still p core stored ops empty e f is =
+    sym (kept_still stored.bounds.slot p.reply core.state (led p core.state) p.batch stored (sym e ∙ no_items ops (sym f ∙ is)))
+
+-- ---- what the machine makes of a plan
+
+pub made_next : (p : Planned) (core : Cored) (stored : Stored) → CanAdvance p core stored → size_with stored p.batch ≤ stored.bounds.slot
+    → made_of p core.state stored ≡ (p.reply, machine_with (led p core.state) (with_ops stored p.batch))
+made_next p core stored can room = kept_with_room stored.bounds.slot p.reply core.state (led p core.state) p.batch stored can.changes room
+
+pub made_full : (p : Planned) (core : Cored) (stored : Stored) → CanAdvance p core stored → stored.bounds.slot < size_with stored p.batch
+    → made_of p core.state stored ≡ (Refused JournalFull, machine_with core.state stored)
+made_full p core stored can full = kept_without_room stored.bounds.slot p.reply core.state (led p core.state) p.batch stored can.changes full
+
+-- ---- what the folder opens to
+
+-- Whatever comes of the call, to the state before or to the one after.
+pub advance_either : (p : Planned) (core : Cored) (stored : Stored) → CanAdvance p core stored → size_with stored p.batch ≤ stored.bounds.slot
+    → (image : Image) → OpensTo image stored.rows ⊎ OpensTo image (rows_after stored.rows p.batch)
+    → OpensToState image core.state ⊎ OpensToState image (made_of p core.state stored).1.state
+advance_either p core stored can room image o =
+    subst (λ (a : Reply × Machine). OpensToState image core.state ⊎ OpensToState image a.1.state) (sym (made_next p core stored can room))
+    (opens_either image core.state (led p core.state) stored.rows p.batch can.keeps.valid can.leads.valid can.keeps.rows can.batch o)
+
+-- Behind the append, to the one after.
+pub advance_next : (p : Planned) (core : Cored) (stored : Stored) → CanAdvance p core stored → size_with stored p.batch ≤ stored.bounds.slot
+    → (image : Image) → OpensTo image (rows_after stored.rows p.batch) → OpensToState image (made_of p core.state stored).1.state
+advance_next p core stored can room image o =
+    subst (λ (a : Reply × Machine). OpensToState image a.1.state) (sym (made_next p core stored can room))
+    (opens_next image core.state (led p core.state) stored.rows p.batch can.keeps.valid can.leads.valid can.keeps.rows can.batch o)
+
+-- ---- what is kept
+
+-- The store with the batch keeps the next state.
+pub keeps_next : (p : Planned) (core next : Cored) (stored later : Stored) → CanAdvance p core stored → next ≡ record { state = led p core.state; live = true }
+    → later ≡ with_ops stored p.batch → Keeps next later
+keeps_next p core next stored later can e f =
+    subst (λ (n : Cored). Keeps n later) (sym e)
+    (subst (λ (l : Stored). Keeps (record { state = led p core.state; live = true }) l) (sym f)
+    (record {
+      live = refl;
+      valid = can.leads.valid;
+      opened = can.keeps.opened;
+      unspent = can.keeps.unspent;
+      rows = rows_lead core.state (led p core.state) stored.rows p.batch can.keeps.valid can.leads.valid can.keeps.rows can.batch;
+    }))
+
+-- ---- why it was not done
+
+-- A fault of the disk and want of memory come only where there is room.
+pub fails_with_room : {D : Type 0} (ops : List Op) (old new : Stored) (desk later : D) (fault : KeepFault) → KeepFails ops old new desk later fault → size_with old ops ≤ old.bounds.slot
+fails_with_room ops old new desk later Disk f = f.0
+fails_with_room ops old new desk later (Damaged part at) f = absurd f
+fails_with_room ops old new desk later Spent f = absurd f
+fails_with_room ops old new desk later NoMemory f = f.0
+
+-- ---- the whole controller
+
+-- What was planned in the state.
+pub is_planned : (p : Planned) (core : Cored) (stored : Stored) (t : State) → Keeps core stored → LeadsFrom p core.state t → p.batch ≡ batch_between core.state t → IsPlanned p core stored
+is_planned p core stored t keeps leads batch = record {
+  keeps = keeps;
+  leads = leads.can;
+  batch = batch ∙ ap (batch_between core.state) (sym leads.next);
+}
+
+-- The machine's step is what it makes of the plan.
+pub step_is : (who : Who) (c : Command) (old : Controlled) (core : Cored) (stored : Stored) (spent : Bool) (p : Planned)
+    → record { state = core.state; stored = stored; spent = spent } ≡ old → is_permitted who c ≡ true → p.reply ≡ (carry c core.state).0
+    → LeadsFrom p core.state (carry c core.state).1 → p.batch ≡ batch_between core.state (carry c core.state).1
+    → step old.stored.bounds.slot who c (machine_of old) ≡ made_of p core.state stored
+step_is who c old core stored spent p view may reply leads batch =
+    subst (λ (k : Controlled). step k.stored.bounds.slot who c (machine_of k) ≡ made_of p core.state stored) view
+    (step_planned who c core.state stored p may reply leads batch)
+
+pub submit_fails : {D : Type 0} (old new : Controlled) (core coming : Cored) (stored later_stored : Stored) (before spent : Bool) (desk later : D) (fault : KeepFault)
+    → record { state = core.state; stored = stored; spent = before } ≡ old → record { state = coming.state; stored = later_stored; spent = spent } ≡ new → before ≡ false
+    → AdvanceFails core coming stored later_stored spent desk later fault → SubmitFails old new desk later fault
+submit_fails old new core coming stored later_stored before spent desk later fault e f fresh a =
+    subst (λ (k : Controlled). SubmitFails k new desk later fault) e
+    (subst (λ (k : Controlled). SubmitFails (record { state = core.state; stored = stored; spent = before }) k desk later fault) f (by fault a))
+  where
+    Seen : KeepFault → Type 0
+    Seen x = SubmitFails (record { state = core.state; stored = stored; spent = before }) (record { state = coming.state; stored = later_stored; spent = spent }) desk later x
+
+    by : (x : KeepFault) → AdvanceFails core coming stored later_stored spent desk later x → Seen x
+    by Disk (is_spent, same) = (fresh, is_spent, same)
+    by (Damaged part at) none = none
+    by Spent none = absurd none
+    by NoMemory (inl (same, kept, unspent, quiet)) =
+        (fresh, inl (ap (λ (n : Cored). record { state = n.state; stored = later_stored; spent = spent }) same
+            ∙ ap (λ (l : Stored). record { state = core.state; stored = l; spent = spent }) kept
+            ∙ ap (λ (b : Bool). record { state = core.state; stored = stored; spent = b }) (unspent ∙ sym fresh), quiet))
+    by NoMemory (inr is_spent) = (fresh, inr is_spent)
+
+-- ---- what a folder opens to where nothing was done, and behind the append
+
+-- Nothing was done to the desk.
+pub quiet_stops : {D : Type 0} {moment : D → ℕ} {since : D → ℕ → Image → List ℕ → Type 0} {may_leave : D → Image → Type 0} {said : D → Option (List ℕ)} (desk later : D) (X : Image → Type 0)
+    → later ≡ desk → ((image : Image) → may_leave desk image → X image) → Leaves moment since may_leave said desk later X
+quiet_stops {D} {moment} {since} {may_leave} {said} desk later X e x =
+    subst (λ (d : D). Leaves moment since may_leave said desk d X) (sym e) (Leaves-weaker X (Leaves-none desk) x)
+
+-- Where the store has the batch, every image opens to the state after it.
+pub behind_kept : (p : Planned) (core : Cored) (stored later : Stored) (reads : Image) (images : Image → Type 0) → CanAdvance p core stored → size_with stored p.batch ≤ stored.bounds.slot
+    → later ≡ with_ops stored p.batch → (later.spent ≡ false → ReadsAs later reads images) → (image : Image) → images image → OpensToState image (made_of p core.state stored).1.state
+behind_kept p core stored later reads images can room e stands image m =
+    let unspent : later.spent ≡ false = ap (λ (s : Stored). s.spent) e ∙ can.keeps.unspent in
+    advance_next p core stored can room image (subst (λ (s : Stored). OpensTo image s.rows) e (reads_opens later reads images (stands unspent) image m))
+
+-- Where there is no room, the machine refuses the change.
+pub step_full : (p : Planned) (core : Cored) (stored later : Stored) → CanAdvance p core stored → stored.bounds.slot < size_with stored p.batch → later ≡ stored
+    → (Refused JournalFull, machine_with core.state later) ≡ made_of p core.state stored
+step_full p core stored later can full e = ap (λ (l : Stored). (Refused JournalFull, machine_with core.state l)) e ∙ sym (made_full p core stored can full)
+
+-- A store that is not spent behind a failure is as it was.
+pub keeps_still : {D : Type 0} (ops : List Op) (core : Cored) (old new : Stored) (desk later : D) (fault : KeepFault) → Keeps core old → KeepFails ops old new desk later fault
+    → new.spent ≡ false → Keeps core new
+keeps_still ops core old new desk later Disk k f e = absurd (true≢false (sym (ap (λ (s : Stored). s.spent) f.1) ∙ e))
+keeps_still ops core old new desk later (Damaged part at) k f e = absurd f
+keeps_still ops core old new desk later Spent k f e = absurd f
+keeps_still ops core old new desk later NoMemory k (room, inl (same, quiet)) e = subst (Keeps core) (sym same) k
+keeps_still ops core old new desk later NoMemory k (room, inr done) e = absurd (true≢false (sym (ap (λ (s : Stored). s.spent) done) ∙ e))
+
+-- A fault that is told on.
+pub same_fault : {T : Type 0} (U : Type 0) (r : Result T KeepFault) (fault other : KeepFault) → r ≡ Err fault → ◌≡◌ {A = Result U KeepFault} (Err fault) (Err other) → r ≡ Err other
+same_fault {T = T} U r fault other e f = let g : fault ≡ other = cc in subst (λ (x : KeepFault). ◌≡◌ {A = Result T KeepFault} r (Err x)) g e

@@ -1,0 +1,75 @@
+use Rattle.std.proofs.Common.{inl, Bool, refl, sym, ◌∙◌, subst}
+use Rattle.ziti_outside.specs.Images.{Image}
+use Rattle.ziti_outside.proofs.MomentLaws.{Leaves-weaker}
+use Rattle.ctrl_core.specs.Changes.{led}
+use Rattle.ctrl_keep.specs.Faults.{KeptOrFull}
+use Rattle.ctrl_keep.proofs.KeptStates.{batch_form, batch_changes, still_opens}
+use Rattle.ctrl_keep.proofs.AdvancedPlans.{can_advance, step_still, advance_either, advance_next, keeps_next, fails_with_room, keeps_still, same_fault, behind_kept, quiet_stops, step_full}
+use Rattle.ctrl_keep.proofs.advancing.advance.Goals as goal
+
+pub keep-kept-requires-clause-batch : goal.keep-kept-requires-clause-batch
+keep-kept-requires-clause-batch g c =
+    let can = can_advance c.args.planned c.args.core.now c.args.store.now c.as_slice.result.now c.is_empty.result c.requires.planned c.as_slice.ensures c.is_empty.ensures c.if-is_empty.false in
+    batch_form c.args.core.now.state (led c.args.planned c.args.core.now.state) c.args.planned.batch can.keeps.valid can.leads.valid can.batch
+
+pub keep-kept-requires-clause-changes : goal.keep-kept-requires-clause-changes
+keep-kept-requires-clause-changes g c =
+    let can = can_advance c.args.planned c.args.core.now c.args.store.now c.as_slice.result.now c.is_empty.result c.requires.planned c.as_slice.ensures c.is_empty.ensures c.if-is_empty.false in
+    batch_changes c.args.core.now.state (led c.args.planned c.args.core.now.state) c.args.store.now.rows c.args.planned.batch can.keeps.valid can.leads.valid can.keeps.rows can.batch can.changes
+
+pub returns-in_err-reply-in-Ok-true-clause-behind : goal.returns-in_err-reply-in-Ok-true-clause-behind
+returns-in_err-reply-in-Ok-true-clause-behind g c = λ none spent told image m.
+    let kept = subst (λ (b : Bool). KeptOrFull c.args.planned.batch c.args.store.now c.keep-kept.new.store c.args.desk.now c.keep-kept.new.desk b) c.in-Ok-true.field-0-test c.in-Ok-true.ensures.kept in
+    behind_kept c.args.planned c.args.core.now c.args.store.now c.keep-kept.new.store (g.D.Desk.reads c.keep-kept.new.desk) (g.D.Desk.may_leave c.keep-kept.new.desk)
+    (can_advance c.args.planned c.args.core.now c.args.store.now c.as_slice.result.now c.is_empty.result c.requires.planned c.as_slice.ensures c.is_empty.ensures c.if-is_empty.false) kept.0 kept.1 (λ fresh. c.keep-kept.ensures.stands fresh told) image m
+
+pub returns-in_err-reply-in-Ok-true-clause-stops : goal.returns-in_err-reply-in-Ok-true-clause-stops
+returns-in_err-reply-in-Ok-true-clause-stops g c = λ told.
+    let kept = subst (λ (b : Bool). KeptOrFull c.args.planned.batch c.args.store.now c.keep-kept.new.store c.args.desk.now c.keep-kept.new.desk b) c.in-Ok-true.field-0-test c.in-Ok-true.ensures.kept in
+    Leaves-weaker _ (c.keep-kept.ensures.stops told) (advance_either c.args.planned c.args.core.now c.args.store.now (can_advance c.args.planned c.args.core.now c.args.store.now c.as_slice.result.now c.is_empty.result c.requires.planned c.as_slice.ensures c.is_empty.ensures c.if-is_empty.false) kept.0)
+
+pub returns-in-Err-clause-keeps : goal.returns-in-Err-clause-keeps
+returns-in-Err-clause-keeps g c = λ fresh.
+    keeps_still c.args.planned.batch c.args.core.now c.args.store.now c.keep-kept.new.store c.args.desk.now c.keep-kept.new.desk c.in-Err.fault c.requires.planned.keeps c.in-Err.ensures.fault
+    (sym c.is_spent.ensures ∙ fresh)
+
+pub returns-in-Err-clause-behind : goal.returns-in-Err-clause-behind
+returns-in-Err-clause-behind g c = λ none spent told image m.
+    advance_next c.args.planned c.args.core.now c.args.store.now (can_advance c.args.planned c.args.core.now c.args.store.now c.as_slice.result.now c.is_empty.result c.requires.planned c.as_slice.ensures c.is_empty.ensures c.if-is_empty.false)
+    (fails_with_room c.args.planned.batch c.args.store.now c.keep-kept.new.store c.args.desk.now c.keep-kept.new.desk c.in-Err.fault c.in-Err.ensures.fault) image
+    (c.keep-kept.ensures.behind (same_fault _ c.keep-kept.result c.in-Err.fault _ c.in-Err.is none) (sym c.is_spent.ensures ∙ spent) told image m)
+
+pub returns-in-Err-clause-stops : goal.returns-in-Err-clause-stops
+returns-in-Err-clause-stops g c = λ told.
+    Leaves-weaker _ (c.keep-kept.ensures.stops told) (advance_either c.args.planned c.args.core.now c.args.store.now (can_advance c.args.planned c.args.core.now c.args.store.now c.as_slice.result.now c.is_empty.result c.requires.planned c.as_slice.ensures c.is_empty.ensures c.if-is_empty.false)
+    (fails_with_room c.args.planned.batch c.args.store.now c.keep-kept.new.store c.args.desk.now c.keep-kept.new.desk c.in-Err.fault c.in-Err.ensures.fault))
+
+pub returns-in_ok-reply-in-Ok-true-clause-keeps : goal.returns-in_ok-reply-in-Ok-true-clause-keeps
+returns-in_ok-reply-in-Ok-true-clause-keeps g c = λ fresh.
+    let kept = subst (λ (b : Bool). KeptOrFull c.args.planned.batch c.args.store.now c.keep-kept.new.store c.args.desk.now c.keep-kept.new.desk b) c.in-Ok-true.field-0-test c.in-Ok-true.ensures.kept in
+    keeps_next c.args.planned c.args.core.now c.apply.new.self c.args.store.now c.keep-kept.new.store (can_advance c.args.planned c.args.core.now c.args.store.now c.as_slice.result.now c.is_empty.result c.requires.planned c.as_slice.ensures c.is_empty.ensures c.if-is_empty.false) c.in_ok-reply-in-Ok-true.ensures.next kept.1
+
+pub returns-in_ok-reply-in-Ok-true-clause-stops : goal.returns-in_ok-reply-in-Ok-true-clause-stops
+returns-in_ok-reply-in-Ok-true-clause-stops g c = λ told.
+    let kept = subst (λ (b : Bool). KeptOrFull c.args.planned.batch c.args.store.now c.keep-kept.new.store c.args.desk.now c.keep-kept.new.desk b) c.in-Ok-true.field-0-test c.in-Ok-true.ensures.kept in
+    Leaves-weaker _ (c.keep-kept.ensures.stops told) (advance_either c.args.planned c.args.core.now c.args.store.now (can_advance c.args.planned c.args.core.now c.args.store.now c.as_slice.result.now c.is_empty.result c.requires.planned c.as_slice.ensures c.is_empty.ensures c.if-is_empty.false) kept.0)
+
+pub returns-in-Ok-false-clause-step : goal.returns-in-Ok-false-clause-step
+returns-in-Ok-false-clause-step g c =
+    let full = subst (λ (b : Bool). KeptOrFull c.args.planned.batch c.args.store.now c.keep-kept.new.store c.args.desk.now c.keep-kept.new.desk b) c.in-Ok-false.field-0-test c.in-Ok-false.ensures.kept in
+    step_full c.args.planned c.args.core.now c.args.store.now c.keep-kept.new.store (can_advance c.args.planned c.args.core.now c.args.store.now c.as_slice.result.now c.is_empty.result c.requires.planned c.as_slice.ensures c.is_empty.ensures c.if-is_empty.false) full.0 full.1
+
+pub returns-in-Ok-false-clause-stops : goal.returns-in-Ok-false-clause-stops
+returns-in-Ok-false-clause-stops g c = λ told.
+    let full = subst (λ (b : Bool). KeptOrFull c.args.planned.batch c.args.store.now c.keep-kept.new.store c.args.desk.now c.keep-kept.new.desk b) c.in-Ok-false.field-0-test c.in-Ok-false.ensures.kept in
+    quiet_stops c.args.desk.now c.keep-kept.new.desk _ full.2
+    (λ (image : Image) m. inl (still_opens c.args.core.now c.args.store.now (g.D.Desk.reads c.args.desk.now) (g.D.Desk.may_leave c.args.desk.now) c.requires.planned.keeps (c.requires.stands told) image m))
+
+pub returns-then-is_empty-clause-step : goal.returns-then-is_empty-clause-step
+returns-then-is_empty-clause-step g c =
+    step_still c.args.planned c.args.core.now c.args.store.now c.as_slice.result.now c.is_empty.result c.as_slice.ensures c.is_empty.ensures c.if-is_empty.true
+
+pub returns-then-is_empty-clause-stops : goal.returns-then-is_empty-clause-stops
+returns-then-is_empty-clause-stops g c = λ told.
+    quiet_stops c.args.desk.now c.args.desk.now _ refl
+    (λ (image : Image) m. inl (still_opens c.args.core.now c.args.store.now (g.D.Desk.reads c.args.desk.now) (g.D.Desk.may_leave c.args.desk.now) c.requires.planned.keeps (c.requires.stands told) image m))

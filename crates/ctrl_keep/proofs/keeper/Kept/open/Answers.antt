@@ -1,0 +1,10 @@
+use Rattle.std.proofs.lemmas.Result.{IfErr-weaker}
+use Rattle.ctrl_keep.proofs.OpenedFolders.{load_fails}
+use Rattle.ctrl_keep.proofs.keeper.Kept.open.Goals as goal
+
+pub returns-in-Ok-clause-fault : goal.returns-in-Ok-clause-fault
+returns-in-Ok-clause-fault g c =
+    IfErr-weaker c.load.result _ _
+    (λ fault f. load_fails g.D.Desk.tells (g.D.Desk.reads c.args.desk.now) (g.D.Desk.reads c.open.new.desk) c.in-Ok.store fault
+        c.in-Ok.ensures.created c.in-Ok.ensures.opens (λ told. (c.in-Ok.ensures.stands told).kept) f)
+    c.load.ensures.fault

@@ -1,0 +1,67 @@
+use Rattle.std.proofs.Common.{◌⊎◌, inl, refl, sym, ap, ◌∙◌, subst}
+use Rattle.std.proofs.lemmas.Result.{IfErr-weaker}
+use Rattle.ziti_outside.specs.Images.{Image}
+use Rattle.ziti_outside.proofs.MomentLaws.{Leaves-weaker}
+use Rattle.ctrl_model.specs.declared.replies.Reply.{Reply}
+use Rattle.ctrl_model.specs.Controller.{carry}
+use Rattle.row_store.specs.StoredRows.{ReadsAs}
+use Rattle.ctrl_keep.specs.OpenedStates.{OpensToState}
+use Rattle.ctrl_keep.specs.KeptMachine.{Machine, step}
+use Rattle.ctrl_keep.specs.KeptController.{Controlled, machine_with, machine_of, made_of}
+use Rattle.ctrl_keep.proofs.AdvancedPlans.{is_planned, step_is, submit_fails, quiet_stops}
+use Rattle.ctrl_keep.proofs.SubmittedCommands.{still_state, refused_is, either_same, steps_as}
+use Rattle.ctrl_keep.proofs.keeper.Kept.submit.Goals as goal
+
+pub returns-then-not-permitted-clause-step : goal.returns-then-not-permitted-clause-step
+returns-then-not-permitted-clause-step g c =
+    refused_is c.args.who.now c.args.command.now c.args.self.now c.self.inside.core c.self.inside.store c.self.inside.spent c.self.view_is (c.self.invariant c.if-self.false).valid
+    (sym c.permitted.ensures ∙ c.if-not-permitted.true)
+
+pub returns-then-not-permitted-clause-stops : goal.returns-then-not-permitted-clause-stops
+returns-then-not-permitted-clause-stops g c = λ fresh told.
+    quiet_stops c.args.desk.now c.args.desk.now _ refl (λ (image : Image) m. inl
+    (still_state c.args.self.now c.self.inside.core c.self.inside.store c.self.inside.spent (g.D.Desk.reads c.args.desk.now) (g.D.Desk.may_leave c.args.desk.now)
+    c.self.view_is (c.self.invariant c.if-self.false) (c.requires.stands fresh told) image m))
+
+pub returns-in_err-planned-clause-stops : goal.returns-in_err-planned-clause-stops
+returns-in_err-planned-clause-stops g c = λ fresh told.
+    quiet_stops c.args.desk.now c.args.desk.now _ refl (λ (image : Image) m. inl
+    (still_state c.args.self.now c.self.inside.core c.self.inside.store c.self.inside.spent (g.D.Desk.reads c.args.desk.now) (g.D.Desk.may_leave c.args.desk.now)
+    c.self.view_is (c.self.invariant c.if-self.false) (c.requires.stands fresh told) image m))
+
+pub advance-requires-clause-planned : goal.advance-requires-clause-planned
+advance-requires-clause-planned g c =
+    is_planned c.in_ok-planned.planned c.self.inside.core c.self.inside.store (carry c.args.command.now c.self.inside.core.state).1 (c.self.invariant c.if-self.false)
+    c.in_ok-planned.ensures.leads c.in_ok-planned.ensures.batch
+
+pub advance-requires-clause-stands : goal.advance-requires-clause-stands
+advance-requires-clause-stands g c = λ told.
+    subst (λ (k : Controlled). ReadsAs k.stored (g.D.Desk.reads c.args.desk.now) (g.D.Desk.may_leave c.args.desk.now)) (sym c.self.view_is)
+    (c.requires.stands (sym (ap (λ (k : Controlled). k.spent) c.self.view_is) ∙ c.if-self.false) told)
+
+pub returns-clause-step : goal.returns-clause-step
+returns-clause-step g c =
+    let same = step_is c.args.who.now c.args.command.now c.args.self.now c.self.inside.core c.self.inside.store c.self.inside.spent c.in_ok-planned.planned c.self.view_is
+    (sym c.permitted.ensures ∙ c.if-not-permitted.false) c.in_ok-planned.ensures.reply c.in_ok-planned.ensures.leads c.in_ok-planned.ensures.batch in
+    steps_as c.advance.result (machine_with c.advance.new.core.state c.advance.new.store) (made_of c.in_ok-planned.planned c.self.inside.core.state c.self.inside.store)
+    (step c.args.self.now.stored.bounds.slot c.args.who.now c.args.command.now (machine_of c.args.self.now)) same c.advance.ensures.step
+
+pub returns-clause-fault : goal.returns-clause-fault
+returns-clause-fault g c =
+    IfErr-weaker c.advance.result _ _
+    (λ fault a. submit_fails c.args.self.now _ c.self.inside.core c.advance.new.core c.self.inside.store c.advance.new.store c.self.inside.spent c.advance.new.spent
+        c.args.desk.now c.advance.new.desk fault c.self.view_is refl c.if-self.false a)
+    c.advance.ensures.fault
+
+pub returns-clause-behind : goal.returns-clause-behind
+returns-clause-behind g c = λ none fresh spent told image m.
+    let same = step_is c.args.who.now c.args.command.now c.args.self.now c.self.inside.core c.self.inside.store c.self.inside.spent c.in_ok-planned.planned c.self.view_is
+    (sym c.permitted.ensures ∙ c.if-not-permitted.false) c.in_ok-planned.ensures.reply c.in_ok-planned.ensures.leads c.in_ok-planned.ensures.batch in
+    subst (λ (a : Reply × Machine). OpensToState image a.1.state) (sym same) (c.advance.ensures.behind none spent told image m)
+
+pub returns-clause-stops : goal.returns-clause-stops
+returns-clause-stops g c = λ fresh told.
+    let same = step_is c.args.who.now c.args.command.now c.args.self.now c.self.inside.core c.self.inside.store c.self.inside.spent c.in_ok-planned.planned c.self.view_is
+    (sym c.permitted.ensures ∙ c.if-not-permitted.false) c.in_ok-planned.ensures.reply c.in_ok-planned.ensures.leads c.in_ok-planned.ensures.batch in
+    Leaves-weaker {X = λ image. OpensToState image c.self.inside.core.state ⊎ OpensToState image (made_of c.in_ok-planned.planned c.self.inside.core.state c.self.inside.store).1.state} _
+    (c.advance.ensures.stops told) (λ image o. either_same image _ _ _ _ (ap (λ (k : Controlled). k.state) c.self.view_is) (sym same) o)

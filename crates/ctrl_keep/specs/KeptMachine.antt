@@ -1,0 +1,48 @@
+-- The controller with a folder: a command is answered as the controller does, unless its change has no room in the journal
+-- (docs/RULES.md, "The controller with a folder"). Without a folder it is the controller alone.
+use Rattle.std.specs.Prelude.{ℕ, ◌+◌, cond, nat_lt, List, [], ◌∷◌, length, None, Some}
+use Rattle.std.specs.declared.option.Option.{Option}
+use Rattle.ctrl_model.specs.declared.commands.Command.{Command}
+use Rattle.ctrl_model.specs.declared.kinds.Who.{Who}
+use Rattle.ctrl_model.specs.declared.refusals.Refusal.TheVariants.{JournalFull}
+use Rattle.ctrl_model.specs.declared.replies.Reply.{Reply}
+use Rattle.ctrl_model.specs.declared.replies.Reply.TheVariants.{Refused}
+use Rattle.ctrl_model.specs.State.{State}
+use Rattle.ctrl_model.specs.Controller.{answer}
+use Rattle.row_codec.specs.declared.changes.Op.{Op}
+use Rattle.row_codec.specs.Batches.{batch_between, batch_bytes}
+
+-- Where the journal goes on: the place of the closed gate of the slot that stands, and the length of the mark.
+pub record Place : Type 0 where
+  pub end : ℕ
+  pub mark : ℕ
+
+-- The controller's state, and the place in its folder if it has one.
+pub record Machine : Type 0 where
+  pub state : State
+  pub place : Option Place
+
+-- The bytes that a slot has with one batch more at its end: the gate, the length, the batch, and the next gate.
+abbrev pub slot_with : List Op → Place → ℕ
+slot_with batch place = place.end + 6 + length (batch_bytes batch)
+
+-- The place behind one batch more.
+abbrev pub behind : List Op → Place → Place
+behind batch place = record place { end = place.end + 5 + length (batch_bytes batch) }
+
+-- What becomes of an answer whose change is a batch, in a slot that may have so many bytes: an empty batch changes nothing; one
+-- without room is refused and changes nothing; else it is kept, and the state is the next one.
+abbrev pub kept : ℕ → Reply → State → List Op → State → Place → Reply × Machine
+kept most reply s [] next place = (reply, record { state = s; place = Some place })
+kept most reply s (op ∷ ops) next place =
+    cond (nat_lt most (slot_with (op ∷ ops) place)) (Refused JournalFull, record { state = s; place = Some place })
+    (reply, record { state = next; place = Some (behind (op ∷ ops) place) })
+
+-- What becomes of an answer, with a folder or without.
+abbrev pub answered : ℕ → Reply × State → State → Option Place → Reply × Machine
+answered most a s None = (a.0, record { state = a.1; place = None })
+answered most a s (Some place) = kept most a.0 s (batch_between s a.1) a.1 place
+
+-- One step: who sends which command gets which reply, and how the machine goes on.
+abbrev pub step : ℕ → Who → Command → Machine → Reply × Machine
+step most who c m = answered most (answer who c m.state) m.state m.place

@@ -1,0 +1,5 @@
+pub mod OpenedStates
+pub mod KeptMachine
+pub mod KeptController
+pub mod Faults
+pub mod WorkedMachines

@@ -1,0 +1,94 @@
+ghost use Rattle.std.specs.Prelude.{◌≡◌, ◌⊎◌, ⊤, true, false, IsTrue, OnOk, IfOk, IfErr, IsErrOf};
+ghost use Rattle.ziti_outside.specs.Causes.{HasCause};
+ghost use Rattle.ziti_outside.specs.Images.{Image};
+ghost use Rattle.ziti_outside.specs.Moments.{Remembers, Leaves};
+ghost use Rattle.ziti_outside.specs.Untouched.{OnlyDisk};
+ghost use Rattle.row_codec.specs.RowDifference.{IsTrueDifference};
+ghost use Rattle.row_codec.specs.Batches.{bytes_cmp, entries_of, IsBatch};
+ghost use Rattle.row_store.specs.BatchRows.{rows_after};
+ghost use Rattle.row_store.specs.OpenedRows.{OpensTo};
+ghost use Rattle.row_store.specs.StoredRows.{ReadsAs};
+ghost use Rattle.ctrl_keep.specs.OpenedStates.{OpensToState};
+ghost use Rattle.ctrl_keep.specs.KeptController.{machine_with, made_of, Keeps, IsPlanned};
+ghost use Rattle.ctrl_keep.specs.Faults.{disk_failure, KeptOrFull, KeepFails, AdvanceFails};
+
+use crate::faults::KeepFault;
+use ctrl_core::{Core, Planned};
+use ctrl_model::{Refusal, Reply};
+use row_codec::Batch;
+use row_store::{Store, StoreFault};
+use ziti_outside::Desk;
+
+// Keeps a batch, and tells whether there was room for it.
+fn keep<D: Desk>(store: &mut Store, desk: &mut D, batch: &Batch) -> Result<bool, KeepFault>
+    requires opened { store.old.opened ≡ true }
+    requires unspent { store.old.spent ≡ false }
+    requires batch { IsBatch batch.now }
+    requires changes { IsTrueDifference bytes_cmp store.old.rows (entries_of batch.now) }
+    requires stands { IsTrue D.tells → ReadsAs store.old (D.reads desk.old) (D.may_leave desk.old) }
+
+    ensures kept { IfOk result (λ kept. KeptOrFull batch.now store.old store.new desk.old desk.new kept) }
+    ensures fault { IfErr result (λ fault. KeepFails batch.now store.old store.new desk.old desk.new fault) }
+    ensures stands { store.new.spent ≡ false → IsTrue D.tells → ReadsAs store.new (D.reads desk.new) (D.may_leave desk.new) }
+    ensures behind { IsErrOf result KeepFault.NoMemory → store.new.spent ≡ true → IsTrue D.tells → (image : Image)
+        → D.may_leave desk.new image → OpensTo image (rows_after store.old.rows batch.now) }
+    ensures cause { HasCause (D.disk_faults desk.old) (D.disk_faults desk.new) (disk_failure result) }
+    ensures others { OnlyDisk D.said D.noted D.say_faults D.note_faults desk.old desk.new }
+    ensures quiet { Leaves D.moment D.since D.may_leave D.said desk.old desk.new (λ image. ⊤) }
+    ensures stops { IsTrue D.tells → Leaves D.moment D.since D.may_leave D.said desk.old desk.new
+        (λ image. OpensTo image store.old.rows ⊎ OpensTo image (rows_after store.old.rows batch.now)) }
+    ensures remembers { Remembers (D.moment desk.old) (D.since desk.old) (D.since desk.new) }
+{
+    match store.commit(desk, batch) {
+        Ok(()) => Ok(true),
+        Err(StoreFault::Full) => Ok(false),
+        Err(StoreFault::Disk) => Err(KeepFault::Disk),
+        Err(StoreFault::NoMemory) => Err(KeepFault::NoMemory),
+        Err(StoreFault::Damaged { part, at }) => Err(KeepFault::Damaged { part, at }),
+        Err(StoreFault::MarkFull | StoreFault::Spent) => Err(KeepFault::Spent),
+    }
+}
+
+// Keeps the batch of a plan, and then carries the plan out. A plan that changes no row is answered at once, and one without room for its
+// batch is refused.
+pub(crate) fn advance<D: Desk>(
+    core: &mut Core,
+    store: &mut Store,
+    spent: &mut bool,
+    desk: &mut D,
+    planned: Planned,
+) -> Result<Reply, KeepFault>
+    requires planned { IsPlanned planned core.old store.old }
+    requires unspent { spent.old ≡ false }
+    requires stands { IsTrue D.tells → ReadsAs store.old (D.reads desk.old) (D.may_leave desk.old) }
+
+    ensures step { IfOk result (λ reply. (reply, machine_with core.new.state store.new) ≡ made_of planned core.old.state store.old) }
+    ensures unspent { OnOk result ((spent.new ≡ false) × (store.new.bounds ≡ store.old.bounds)) }
+    ensures keeps { spent.new ≡ false → Keeps core.new store.new }
+    ensures fault { IfErr result (λ fault. AdvanceFails core.old core.new store.old store.new spent.new desk.old desk.new fault) }
+    ensures stands { spent.new ≡ false → IsTrue D.tells → ReadsAs store.new (D.reads desk.new) (D.may_leave desk.new) }
+    ensures behind { IsErrOf result KeepFault.NoMemory → spent.new ≡ true → IsTrue D.tells → (image : Image)
+        → D.may_leave desk.new image → OpensToState image (made_of planned core.old.state store.old).1.state }
+    ensures cause { HasCause (D.disk_faults desk.old) (D.disk_faults desk.new) (disk_failure result) }
+    ensures others { OnlyDisk D.said D.noted D.say_faults D.note_faults desk.old desk.new }
+    ensures quiet { Leaves D.moment D.since D.may_leave D.said desk.old desk.new (λ image. ⊤) }
+    ensures stops { IsTrue D.tells → Leaves D.moment D.since D.may_leave D.said desk.old desk.new
+        (λ image. OpensToState image core.old.state ⊎ OpensToState image (made_of planned core.old.state store.old).1.state) }
+    ensures remembers { Remembers (D.moment desk.old) (D.since desk.old) (D.since desk.new) }
+{
+    if planned.batch.as_slice().is_empty() {
+        return Ok(planned.reply);
+    }
+    let kept = keep(store, desk, &planned.batch);
+    *spent = store.is_spent();
+    match kept {
+        Err(fault) => Err(fault),
+        Ok(false) => Ok(Reply::Refused(Refusal::JournalFull)),
+        Ok(true) => {
+            *spent = true;
+            let reply = core.apply(planned)?;
+            *spent = false;
+            Ok(reply)
+        }
+    }
+}

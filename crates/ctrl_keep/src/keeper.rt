@@ -1,0 +1,142 @@
+ghost use Rattle.std.specs.Prelude.{◌≡◌, ◌⊎◌, ◌≤◌, ◌<◌, ◌^◌, ⊤, true, false, length, IsTrue, OnOk, IfOk, IfErr, IsErrOf};
+ghost use Rattle.ziti_outside.specs.declared.desk.Part.TheVariants.{One, Mark};
+ghost use Rattle.ziti_outside.specs.Causes.{HasCause};
+ghost use Rattle.ziti_outside.specs.Images.{Image, After};
+ghost use Rattle.ziti_outside.specs.Moments.{Remembers, Leaves};
+ghost use Rattle.ziti_outside.specs.Untouched.{OnlyDisk};
+ghost use Rattle.slot_files.specs.FolderImage.{StandsAsBefore};
+ghost use Rattle.slot_files.specs.OpenedSlots.{Opens};
+ghost use Rattle.ctrl_model.specs.CommandForm.{is_spelled};
+ghost use Rattle.ctrl_model.specs.ValidState.{ValidState};
+ghost use Rattle.ctrl_core.specs.CarriedCommands.{is_carried};
+ghost use Rattle.row_store.specs.StoredRows.{ReadsAs};
+ghost use Rattle.ctrl_keep.specs.OpenedStates.{byte_rows_of, OpensToState};
+ghost use Rattle.ctrl_keep.specs.KeptMachine.{step};
+ghost use Rattle.ctrl_keep.specs.KeptController.{HoldsRows, machine_of};
+ghost use Rattle.ctrl_keep.specs.Faults.{disk_failure, OpenFails, LoadFails, SubmitFails};
+
+use crate::advancing::advance;
+use crate::faults::{KeepFault, fault_of};
+use access_rules::permitted;
+use ctrl_core::{Core, CoreFault};
+use ctrl_model::{Command, Refusal, Reply, Who};
+use row_store::{Store, StoreBounds};
+use std::alloc::Global;
+use std::marker::Model;
+use ziti_outside::Desk;
+
+/// A controller whose state a folder keeps. Contracts see its state, its store, and whether it is spent.
+#[derive(Drop)]
+pub struct Kept {
+    core: Core,
+    store: Store,
+    spent: bool,
+}
+
+impl Model for Kept {
+    ghost use Rattle.std.specs.Prelude.{◌≡◌, false};
+    ghost use Rattle.ctrl_keep.specs.KeptController.{Controlled, Keeps};
+
+    ghost Value = { Controlled };
+
+    ghost view = { λ k. record { state = k.core.state; stored = k.store; spent = k.spent } };
+
+    ghost invariant = { λ k. k.spent ≡ false → Keeps k.core k.store };
+}
+
+impl Kept {
+    /// The controller whose state a folder keeps, which is created where its mark is empty. `bounds` are those of the later changes.
+    ///
+    /// `Damaged` comes exactly where the folder opens to no state, with the first place at which it is damaged, and then it reads as
+    /// before. At every moment of the call, and after it, an image that a stop may leave stands for what an image of its start stood
+    /// for. `Spent` never comes.
+    pub fn open<D: Desk>(alloc: Global, desk: &mut D, bounds: StoreBounds) -> Result<Kept, KeepFault>
+        requires { bounds.slot ≤ 2 ^ 30 }
+        ensures opens { IfOk result (λ kept. IsTrue D.tells → OpensToState (D.reads desk.old) kept.state) }
+        ensures stands { IfOk result (λ kept. IsTrue D.tells → ReadsAs kept.stored (D.reads desk.new) (D.may_leave desk.new)) }
+        ensures holds { IfOk result HoldsRows }
+        ensures opened { IfOk result (λ kept. (kept.stored.bounds ≡ bounds) × (kept.spent ≡ false)) }
+        ensures created { OnOk result (IsTrue D.tells → Opens (length (D.reads desk.old Mark)) (D.reads desk.old) (D.reads desk.new)) }
+
+        // A folder whose mark is not empty reads as before, whatever comes of the call; and the second slot always does.
+        ensures kept { IsTrue D.tells → 0 < length (D.reads desk.old Mark) → D.reads desk.new ≡ D.reads desk.old }
+        ensures second { D.reads desk.new One ≡ D.reads desk.old One }
+
+        ensures fault { IfErr result (λ fault. OpenFails D.tells (D.reads desk.old) fault) }
+        ensures cause { HasCause (D.disk_faults desk.old) (D.disk_faults desk.new) (disk_failure result) }
+        ensures others { OnlyDisk D.said D.noted D.say_faults D.note_faults desk.old desk.new }
+        ensures quiet { Leaves D.moment D.since D.may_leave D.said desk.old desk.new (λ image. ⊤) }
+        ensures stops { IsTrue D.tells → Leaves D.moment D.since D.may_leave D.said desk.old desk.new (After StandsAsBefore (D.may_leave desk.old)) }
+        ensures remembers { Remembers (D.moment desk.old) (D.since desk.old) (D.since desk.new) }
+    {
+        match Store::open(alloc, desk, bounds) {
+            Ok(store) => Kept::load(alloc, store),
+            Err(fault) => Err(fault_of(fault)),
+        }
+    }
+
+    // The controller of a store's rows.
+    fn load(alloc: Global, store: Store) -> Result<Kept, KeepFault>
+        requires { (store.opened ≡ true) × (store.spent ≡ false) }
+        ensures stored { IfOk result (λ kept. (kept.stored ≡ store) × (kept.spent ≡ false)) }
+        ensures valid { IfOk result (λ kept. ValidState kept.state) }
+        ensures rows { IfOk result (λ kept. store.rows ≡ byte_rows_of kept.state) }
+        ensures fault { IfErr result (λ fault. LoadFails store fault) }
+    {
+        let rows = store.all()?;
+        match Core::from_rows(alloc, &rows) {
+            Ok(core) => Ok(Kept {
+                core,
+                store,
+                spent: false,
+            }),
+            Err(CoreFault::NotAState { .. }) => {
+                let (part, at) = store.end();
+                Err(KeepFault::Damaged { part, at })
+            }
+            Err(CoreFault::NoMemory) => Err(KeepFault::NoMemory),
+        }
+    }
+
+    /// Answers a command that some body spells, whoever sends it, and keeps what it changes in the folder before it answers.
+    ///
+    /// The reply and what comes after are the machine's: a change without room in the journal is refused as `JournalFull`, and one that
+    /// changes no row is answered at once. Whatever comes of the call, a stop at any moment of it leaves a folder that opens to the state
+    /// before the command or to the one after it. `Spent` comes exactly where the controller is spent, and then nothing was done. A fault
+    /// of the disk spends it, and so does want of memory behind the first call on the disk, where the folder opens to the state after
+    /// the command; want of memory before that leaves all as it was. `Damaged` never comes. So far the commands are all but Compact.
+    pub fn submit<D: Desk>(&mut self, desk: &mut D, who: &Who, command: &Command) -> Result<Reply, KeepFault>
+        requires spelled { is_spelled command.now ≡ true }
+        requires carried { is_carried command.now ≡ true }
+        requires stands { self.old.spent ≡ false → IsTrue D.tells → ReadsAs self.old.stored (D.reads desk.old) (D.may_leave desk.old) }
+
+        ensures step { IfOk result (λ reply. (reply, machine_of self.new) ≡ step self.old.stored.bounds.slot who.now command.now (machine_of self.old)) }
+        ensures unspent { OnOk result ((self.old.spent ≡ false) × (self.new.spent ≡ false) × (self.new.stored.bounds ≡ self.old.stored.bounds)) }
+        ensures holds { self.new.spent ≡ false → HoldsRows self.new }
+        ensures fault { IfErr result (λ fault. SubmitFails self.old self.new desk.old desk.new fault) }
+        ensures stands { self.new.spent ≡ false → IsTrue D.tells → ReadsAs self.new.stored (D.reads desk.new) (D.may_leave desk.new) }
+        ensures behind { IsErrOf result KeepFault.NoMemory → self.old.spent ≡ false → self.new.spent ≡ true → IsTrue D.tells → (image : Image)
+            → D.may_leave desk.new image → OpensToState image (step self.old.stored.bounds.slot who.now command.now (machine_of self.old)).1.state }
+        ensures cause { HasCause (D.disk_faults desk.old) (D.disk_faults desk.new) (disk_failure result) }
+        ensures others { OnlyDisk D.said D.noted D.say_faults D.note_faults desk.old desk.new }
+        ensures quiet { Leaves D.moment D.since D.may_leave D.said desk.old desk.new (λ image. ⊤) }
+        ensures stops { self.old.spent ≡ false → IsTrue D.tells → Leaves D.moment D.since D.may_leave D.said desk.old desk.new
+            (λ image. OpensToState image self.old.state ⊎ OpensToState image (step self.old.stored.bounds.slot who.now command.now (machine_of self.old)).1.state) }
+        ensures remembers { Remembers (D.moment desk.old) (D.since desk.old) (D.since desk.new) }
+    {
+        if self.spent {
+            return Err(KeepFault::Spent);
+        }
+        if !permitted(who, command) {
+            return Ok(Reply::Refused(Refusal::NotPermitted));
+        }
+        let planned = self.core.plan(command)?;
+        advance(
+            &mut self.core,
+            &mut self.store,
+            &mut self.spent,
+            desk,
+            planned,
+        )
+    }
+}

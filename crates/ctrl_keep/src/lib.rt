@@ -1,0 +1,14 @@
+//! The controller with its state in a folder: a command's change is kept there before its reply is given, so that a stop at any
+//! moment leaves the state before it or after it.
+#![tactic(auto)]
+
+mod advancing;
+mod faults;
+mod keeper;
+mod laws;
+mod worked;
+
+pub use faults::KeepFault;
+pub use keeper::Kept;
+pub use laws::one_state;
+pub use worked::worked_machine;
