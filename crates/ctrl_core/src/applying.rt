@@ -139,8 +139,8 @@ fn apply_policy(alloc: Global, stores: &mut Stores, change: PolicyChange) -> Res
     }
 }
 
-// Makes a change that leads, once settled, from a valid state to a valid one. Of a change that fails for want of memory nothing is
-// said.
+/// Makes a change that leads, once settled, from a valid state to a valid one. Of a change that fails for want of memory nothing is
+/// said.
 pub fn apply_change(alloc: Global, stores: &mut Stores, change: Change) -> Result<(), AllocError>
     requires can { CanChange change (state_of stores.old) }
     requires before { ValidState (state_of stores.old) }
