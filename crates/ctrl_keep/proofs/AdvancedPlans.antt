@@ -149,10 +149,15 @@ submit_fails old new core coming stored later_stored before spent desk later fau
     by Disk (is_spent, same) = (fresh, is_spent, same)
     by (Damaged part at) none = none
     by Spent none = absurd none
-    by NoMemory (inl (same, kept, unspent, quiet)) =
-        (fresh, inl (ap (λ (n : Cored). record { state = n.state; stored = later_stored; spent = spent }) same
+    by NoMemory (inl (same, kept, unspent, quiet)) = (
+      fresh,
+      inl (
+        ap (λ (n : Cored). record { state = n.state; stored = later_stored; spent = spent }) same
             ∙ ap (λ (l : Stored). record { state = core.state; stored = l; spent = spent }) kept
-            ∙ ap (λ (b : Bool). record { state = core.state; stored = stored; spent = b }) (unspent ∙ sym fresh), quiet))
+            ∙ ap (λ (b : Bool). record { state = core.state; stored = stored; spent = b }) (unspent ∙ sym fresh),
+        quiet,
+      ),
+    )
     by NoMemory (inr is_spent) = (fresh, inr is_spent)
 
 -- ---- what a folder opens to where nothing was done, and behind the append

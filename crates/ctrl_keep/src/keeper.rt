@@ -50,7 +50,11 @@ impl Kept {
     /// `Damaged` comes exactly where the folder opens to no state, with the first place at which it is damaged, and then it reads as
     /// before. At every moment of the call, and after it, an image that a stop may leave stands for what an image of its start stood
     /// for. `Spent` never comes.
-    pub fn open<D: Desk>(alloc: Global, desk: &mut D, bounds: StoreBounds) -> Result<Kept, KeepFault>
+    pub fn open<D: Desk>(
+        alloc: Global,
+        desk: &mut D,
+        bounds: StoreBounds,
+    ) -> Result<Kept, KeepFault>
         requires { bounds.slot ≤ 2 ^ 30 }
         ensures opens { IfOk result (λ kept. IsTrue D.tells → OpensToState (D.reads desk.old) kept.state) }
         ensures stands { IfOk result (λ kept. IsTrue D.tells → ReadsAs kept.stored (D.reads desk.new) (D.may_leave desk.new)) }
@@ -105,7 +109,12 @@ impl Kept {
     /// before the command or to the one after it. `Spent` comes exactly where the controller is spent, and then nothing was done. A fault
     /// of the disk spends it, and so does want of memory behind the first call on the disk, where the folder opens to the state after
     /// the command; want of memory before that leaves all as it was. `Damaged` never comes. So far the commands are all but Compact.
-    pub fn submit<D: Desk>(&mut self, desk: &mut D, who: &Who, command: &Command) -> Result<Reply, KeepFault>
+    pub fn submit<D: Desk>(
+        &mut self,
+        desk: &mut D,
+        who: &Who,
+        command: &Command,
+    ) -> Result<Reply, KeepFault>
         requires spelled { is_spelled command.now ≡ true }
         requires carried { is_carried command.now ≡ true }
         requires stands { self.old.spent ≡ false → IsTrue D.tells → ReadsAs self.old.stored (D.reads desk.old) (D.may_leave desk.old) }

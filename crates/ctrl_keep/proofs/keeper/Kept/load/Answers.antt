@@ -18,6 +18,9 @@ returns-in-Ok-clause-rows c = rows_are c.args.store.rows c.in-Ok.core.state (sym
 
 pub returns-in-Err-NotAState-clause-fault : goal.returns-in-Err-NotAState-clause-fault
 returns-in-Err-NotAState-clause-fault c =
-    let told = subst (λ (x : CoreFault). IsErrOf c.from_rows.result x) c.in-Err-NotAState.field-0-is c.in-Err-NotAState.is in
-    (c.end-part.ensures.0, c.end-part.ensures.1, no_rows c.args.store.rows (subst AreOfNoState c.in_ok-rows.ensures.puts
-    (c.from_rows.ensures.none c.in-Err-NotAState.field-0-0 c.in-Err-NotAState.field-0-1 told)))
+    let told = subst (λ (x : CoreFault). IsErrOf c.from_rows.result x) c.in-Err-NotAState.field-0-is c.in-Err-NotAState.is in (
+      c.end-part.ensures.0,
+      c.end-part.ensures.1,
+      no_rows c.args.store.rows (subst AreOfNoState c.in_ok-rows.ensures.puts
+          (c.from_rows.ensures.none c.in-Err-NotAState.field-0-0 c.in-Err-NotAState.field-0-1 told)),
+    )

@@ -6,5 +6,5 @@ pub returns-in-Ok-clause-fault : goal.returns-in-Ok-clause-fault
 returns-in-Ok-clause-fault g c =
     IfErr-weaker c.load.result _ _
     (λ fault f. load_fails g.D.Desk.tells (g.D.Desk.reads c.args.desk.now) (g.D.Desk.reads c.open.new.desk) c.in-Ok.store fault
-        c.in-Ok.ensures.created c.in-Ok.ensures.opens (λ told. (c.in-Ok.ensures.stands told).kept) f)
+    c.in-Ok.ensures.created c.in-Ok.ensures.opens (λ told. (c.in-Ok.ensures.stands told).kept) f)
     c.load.ensures.fault

@@ -50,7 +50,7 @@ pub returns-clause-fault : goal.returns-clause-fault
 returns-clause-fault g c =
     IfErr-weaker c.advance.result _ _
     (λ fault a. submit_fails c.args.self.now _ c.self.inside.core c.advance.new.core c.self.inside.store c.advance.new.store c.self.inside.spent c.advance.new.spent
-        c.args.desk.now c.advance.new.desk fault c.self.view_is refl c.if-self.false a)
+    c.args.desk.now c.advance.new.desk fault c.self.view_is refl c.if-self.false a)
     c.advance.ensures.fault
 
 pub returns-clause-behind : goal.returns-clause-behind
