@@ -2,7 +2,7 @@
 use Rattle.ctrl_model.specs.declared.kinds.Kind.{Kind}
 use Rattle.ctrl_model.specs.declared.kinds.Kind.TheVariants as kind
 use Rattle.ctrl_model.specs.declared.refusals.Field.{Field}
-use Rattle.std.proofs.Common.{◌≡◌, ℕ, ◌≤◌, true, false, Bool, List, Option, None, Some, unwrap_or, nat_le, length, map, filter, refl, arith}
+use Rattle.std.proofs.Common.{◌≡◌, ℕ, ◌≤◌, true, false, cond, nat_lt, Bool, List, [], ◌∷◌, Option, None, Some, unwrap_or, nat_le, length, map, filter, refl, arith}
 use Rattle.std.proofs.lemmas.Bool.{false≢true, le-leb, and_from}
 use Rattle.std.proofs.lemmas.List.{length-map}
 use Rattle.ctrl_model.proofs.NumberedLaws.{length-filter-le}
@@ -12,7 +12,12 @@ use Rattle.ctrl_model.specs.declared.refusals.Refusal.{Refusal}
 use Rattle.ctrl_model.specs.declared.kinds.Relation.TheVariants.{Dial, Bind, IdentityRouter, ServiceRouter}
 use Rattle.ctrl_model.specs.declared.refusals.Field.TheVariants.{Identity, Name, Link}
 use Rattle.ctrl_model.specs.declared.replies.Reply.{Reply}
-use Rattle.ctrl_model.specs.declared.replies.Reply.TheVariants.{Done, Made}
+use Rattle.ctrl_model.specs.declared.replies.Reply.TheVariants.{Done, Made, Refused}
+use Rattle.ctrl_model.specs.declared.refusals.Refusal.TheVariants.{JournalFull}
+use Rattle.ctrl_model.specs.declared.kinds.Who.TheVariants.{Admin}
+use Rattle.row_codec.specs.declared.changes.Op.{Op}
+use Rattle.row_codec.specs.Batches.{batch_between}
+use Rattle.ctrl_keep.specs.KeptMachine.{Place, Machine, slot_with, behind, kept, answered, step}
 use Rattle.ctrl_model.specs.State.{State, Entity, as_entity, entity_named, link_named}
 use Rattle.ctrl_model.specs.Rules.{carried_out, shown, unknown_if_absent}
 use Rattle.ctrl_model.specs.Tables.{Record, table, named}
@@ -26,7 +31,7 @@ use Rattle.ctrl_model.specs.ShowCommands.{tally_of, router_entities, grants_of, 
 use Rattle.ctrl_model.specs.ValidState.{ValidState}
 use Rattle.ctrl_model.specs.CircuitCommands.{ask_of, shown_circuit, no_such_circuit}
 use Rattle.ctrl_model.specs.Numbered.{at}
-use Rattle.ctrl_model.specs.Controller.{policy, carry}
+use Rattle.ctrl_model.specs.Controller.{policy, carry, answer}
 use Rattle.ctrl_serve.proofs.RouteFits.{create_fits, explain_fits, shown_fit}
 use Rattle.std.specs.Option.{option_map_or}
 use Rattle.ctrl_core.specs.CarriedCommands.{is_carried}
@@ -131,3 +136,20 @@ carried_fits (command.ListServices identity) s valid carried =
     shown_fits (unknown_if_absent Identity (entity_named s.identities.rows identity)) s (services_of i s) (services_fit i s valid)
 carried_fits command.ShowCounts s valid carried = refl
 carried_fits _ s valid carried = absurd (false≢true carried)
+
+-- So does the answer that is kept in a journal, also where it has no room there.
+kept_fits : (most : ℕ) (reply : Reply) (s : State) (batch : List Op) (next : State) (place : Place) → keeps_limits reply ≡ true → keeps_limits (kept most reply s batch next place).0 ≡ true
+kept_fits most reply s [] next place fits = fits
+kept_fits most reply s (op ∷ ops) next place fits = by (nat_lt most (slot_with (op ∷ ops) place))
+  where
+    by : (full : Bool) → keeps_limits (cond {A = Reply × Machine} full (Refused JournalFull, record { state = s; place = Some place }) (reply, record { state = next; place = Some (behind (op ∷ ops) place) })).0 ≡ true
+    by true = refl
+    by false = fits
+
+answered_fits : (most : ℕ) (a : Reply × State) (s : State) (place : Option Place) → keeps_limits a.0 ≡ true → keeps_limits (answered most a s place).0 ≡ true
+answered_fits most a s None fits = fits
+answered_fits most a s (Some place) fits = kept_fits most a.0 s (batch_between s a.1) a.1 place fits
+
+-- The reply of a machine to each of these commands fits.
+pub step_fits : (most : ℕ) (c : Command) (m : Machine) → ValidState m.state → is_carried c ≡ true → keeps_limits (step most Admin c m).0 ≡ true
+step_fits most c m valid carried = answered_fits most (answer Admin c m.state) m.state m.place (carried_fits c m.state valid carried)

@@ -15,6 +15,7 @@ use Rattle.ctrl_serve.specs.declared.status.Status.TheVariants.{Done, Truncated}
 use Rattle.ctrl_serve.specs.declared.tails.Tail.{Tail}
 use Rattle.ctrl_serve.specs.declared.tails.Tail.TheVariants.{Empty, Unfinished, Faulty}
 use Rattle.ctrl_serve.specs.Ending.{tail_from, tail_of, ending_at, is_cut}
+use Rattle.ctrl_keep.specs.KeptMachine.{Machine}
 use Rattle.ctrl_serve.specs.FrameAnswer.{replies}
 use Rattle.ctrl_serve.specs.Headline.{Serves}
 use Rattle.ctrl_serve.specs.Notes.{session_note, notes_of}
@@ -90,70 +91,70 @@ nothing_is_front a b (x ∷ part) front took = absurd (let e = front.1 in cc)
 
 -- ---- Done
 
-done_reads : (most : ℕ) (bytes : List ℕ) (left b c d e : Option (List ℕ)) (x y : ℕ) (s : Serves most (Some bytes) left b c d e x y Done)
+done_reads : (slot : ℕ) (m : Machine) (most : ℕ) (bytes : List ℕ) (left b c d e : Option (List ℕ)) (x y : ℕ) (s : Serves slot m most (Some bytes) left b c d e x y Done)
     → WasRead most bytes s.taken left × (tail_of (take most s.taken) ≡ Empty)
-done_reads most bytes left b c d e x y s =
+done_reads slot m most bytes left b c d e x y s =
     let tail = done_tail (tail_of (take most s.taken)) (ltb most (length s.taken)) (s.ends refl) in
     (was_read most bytes s.taken left s.gave (at_end most left s.taken tail.1 (s.read_on refl)) tail.1, tail.0)
 
-pub done_read : (most : ℕ) (bytes : List ℕ) (left b c d e : Option (List ℕ)) (x y : ℕ) → Serves most (Some bytes) left b c d e x y Done → (left ≡ Some []) × (length bytes ≤ most)
-done_read most bytes left b c d e x y s = let r = (done_reads most bytes left b c d e x y s).0 in (r.none_left, r.few)
+pub done_read : (slot : ℕ) (m : Machine) (most : ℕ) (bytes : List ℕ) (left b c d e : Option (List ℕ)) (x y : ℕ) → Serves slot m most (Some bytes) left b c d e x y Done → (left ≡ Some []) × (length bytes ≤ most)
+done_read slot m most bytes left b c d e x y s = let r = (done_reads slot m most bytes left b c d e x y s).0 in (r.none_left, r.few)
 
 no_bytes : (xs : List ℕ) → length xs ≡ 0 → xs ≡ []
 no_bytes [] e = refl
 no_bytes (x ∷ xs) e = absurd (omega (arith, e))
 
-pub done_whole : (most : ℕ) (bytes : List ℕ) (left b c d e : Option (List ℕ)) (x y : ℕ) → Serves most (Some bytes) left b c d e x y Done → rest_of bytes ≡ []
-done_whole most bytes left b c d e x y s =
-    let r = done_reads most bytes left b c d e x y s in
+pub done_whole : (slot : ℕ) (m : Machine) (most : ℕ) (bytes : List ℕ) (left b c d e : Option (List ℕ)) (x y : ℕ) → Serves slot m most (Some bytes) left b c d e x y Done → rest_of bytes ≡ []
+done_whole slot m most bytes left b c d e x y s =
+    let r = done_reads slot m most bytes left b c d e x y s in
     no_bytes (rest_of bytes) (tail_empty (fault_of bytes) (length (rest_of bytes)) (ap tail_of (sym r.0.used) ∙ r.1))
 
-pub done_said : (most : ℕ) (bytes before : List ℕ) (left after d e : Option (List ℕ)) (x y : ℕ) → Serves most (Some bytes) left (Some before) after d e x y Done
-    → after ≡ Some (before ++ replies bytes)
-done_said most bytes before left after d e x y s =
-    let r = (done_reads most bytes left (Some before) after d e x y s).0 in
-    told_took before s.said after s.took ∙ ap (λ (l : List ℕ). Some (before ++ l)) (s.says ∙ ap replies r.used)
+pub done_said : (slot : ℕ) (m : Machine) (most : ℕ) (bytes before : List ℕ) (left after d e : Option (List ℕ)) (x y : ℕ) → Serves slot m most (Some bytes) left (Some before) after d e x y Done
+    → after ≡ Some (before ++ replies slot m bytes)
+done_said slot m most bytes before left after d e x y s =
+    let r = (done_reads slot m most bytes left (Some before) after d e x y s).0 in
+    told_took before s.said after s.took ∙ ap (λ (l : List ℕ). Some (before ++ l)) (s.says ∙ ap (replies slot m) r.used)
 
-pub done_noted : (most : ℕ) (bytes : List ℕ) (left b c d e : Option (List ℕ)) (x y : ℕ) → Serves most (Some bytes) left b c d e x y Done → Took d e []
-done_noted most bytes left b c d e x y s =
-    let r = done_reads most bytes left b c d e x y s in
+pub done_noted : (slot : ℕ) (m : Machine) (most : ℕ) (bytes : List ℕ) (left b c d e : Option (List ℕ)) (x y : ℕ) → Serves slot m most (Some bytes) left b c d e x y Done → Took d e []
+done_noted slot m most bytes left b c d e x y s =
+    let r = done_reads slot m most bytes left b c d e x y s in
     nothing_is_front d e s.notes.part.0 (subst (λ (t : Tail). IsFront s.notes.part.0 (notes_of t Done)) r.1 s.notes.part.1) s.notes.part.2
 
 -- ---- Truncated
 
-truncated_reads : (most : ℕ) (bytes : List ℕ) (left b c d e : Option (List ℕ)) (x y : ℕ) (s : Serves most (Some bytes) left b c d e x y Truncated)
+truncated_reads : (slot : ℕ) (m : Machine) (most : ℕ) (bytes : List ℕ) (left b c d e : Option (List ℕ)) (x y : ℕ) (s : Serves slot m most (Some bytes) left b c d e x y Truncated)
     → WasRead most bytes s.taken left × IsRest (tail_of (take most s.taken)) (ltb most (length s.taken))
-truncated_reads most bytes left b c d e x y s =
+truncated_reads slot m most bytes left b c d e x y s =
     let rest = truncated_tail (tail_of (take most s.taken)) (ltb most (length s.taken)) (s.ends refl) in
     (was_read most bytes s.taken left s.gave (at_end most left s.taken rest.whole (s.read_on refl)) rest.whole, rest)
 
-pub truncated_read : (most : ℕ) (bytes : List ℕ) (left b c d e : Option (List ℕ)) (x y : ℕ) → Serves most (Some bytes) left b c d e x y Truncated
+pub truncated_read : (slot : ℕ) (m : Machine) (most : ℕ) (bytes : List ℕ) (left b c d e : Option (List ℕ)) (x y : ℕ) → Serves slot m most (Some bytes) left b c d e x y Truncated
     → (left ≡ Some []) × (length bytes ≤ most)
-truncated_read most bytes left b c d e x y s = let r = (truncated_reads most bytes left b c d e x y s).0 in (r.none_left, r.few)
+truncated_read slot m most bytes left b c d e x y s = let r = (truncated_reads slot m most bytes left b c d e x y s).0 in (r.none_left, r.few)
 
 -- What the reading of a cut input says.
-truncated_is : (most : ℕ) (bytes : List ℕ) (left b c d e : Option (List ℕ)) (x y : ℕ) (s : Serves most (Some bytes) left b c d e x y Truncated)
-    → (fault_of bytes ≡ None) × (length (rest_of bytes) ≡ (truncated_reads most bytes left b c d e x y s).1.left) × (length (rest_of bytes) ≡ 0 → ⊥)
-truncated_is most bytes left b c d e x y s =
-    let r = truncated_reads most bytes left b c d e x y s in
+truncated_is : (slot : ℕ) (m : Machine) (most : ℕ) (bytes : List ℕ) (left b c d e : Option (List ℕ)) (x y : ℕ) (s : Serves slot m most (Some bytes) left b c d e x y Truncated)
+    → (fault_of bytes ≡ None) × (length (rest_of bytes) ≡ (truncated_reads slot m most bytes left b c d e x y s).1.left) × (length (rest_of bytes) ≡ 0 → ⊥)
+truncated_is slot m most bytes left b c d e x y s =
+    let r = truncated_reads slot m most bytes left b c d e x y s in
     tail_unfinished (fault_of bytes) (length (rest_of bytes)) r.1.left (ap tail_of (sym r.0.used) ∙ r.1.is)
 
-pub truncated_rest : (most : ℕ) (bytes : List ℕ) (left b c d e : Option (List ℕ)) (x y : ℕ) → Serves most (Some bytes) left b c d e x y Truncated
+pub truncated_rest : (slot : ℕ) (m : Machine) (most : ℕ) (bytes : List ℕ) (left b c d e : Option (List ℕ)) (x y : ℕ) → Serves slot m most (Some bytes) left b c d e x y Truncated
     → (fault_of bytes ≡ None) × (rest_of bytes ≡ [] → ⊥)
-truncated_rest most bytes left b c d e x y s =
-    let is = truncated_is most bytes left b c d e x y s in
+truncated_rest slot m most bytes left b c d e x y s =
+    let is = truncated_is slot m most bytes left b c d e x y s in
     (is.0, λ none. is.2 (ap length none))
 
-pub truncated_said : (most : ℕ) (bytes before : List ℕ) (left after d e : Option (List ℕ)) (x y : ℕ) → Serves most (Some bytes) left (Some before) after d e x y Truncated
-    → after ≡ Some (before ++ replies bytes)
-truncated_said most bytes before left after d e x y s =
-    let r = (truncated_reads most bytes left (Some before) after d e x y s).0 in
-    told_took before s.said after s.took ∙ ap (λ (l : List ℕ). Some (before ++ l)) (s.says ∙ ap replies r.used)
+pub truncated_said : (slot : ℕ) (m : Machine) (most : ℕ) (bytes before : List ℕ) (left after d e : Option (List ℕ)) (x y : ℕ) → Serves slot m most (Some bytes) left (Some before) after d e x y Truncated
+    → after ≡ Some (before ++ replies slot m bytes)
+truncated_said slot m most bytes before left after d e x y s =
+    let r = (truncated_reads slot m most bytes left (Some before) after d e x y s).0 in
+    told_took before s.said after s.took ∙ ap (λ (l : List ℕ). Some (before ++ l)) (s.says ∙ ap (replies slot m) r.used)
 
-pub truncated_noted : (most : ℕ) (bytes : List ℕ) (left b c d e : Option (List ℕ)) (x y : ℕ) → Serves most (Some bytes) left b c d e x y Truncated → (Rose x y → ⊥)
+pub truncated_noted : (slot : ℕ) (m : Machine) (most : ℕ) (bytes : List ℕ) (left b c d e : Option (List ℕ)) (x y : ℕ) → Serves slot m most (Some bytes) left b c d e x y Truncated → (Rose x y → ⊥)
     → Took d e (session_note 0 (decimal (length (rest_of bytes)) ++ codes " bytes left"))
-truncated_noted most bytes left b c d e x y s calm =
-    let r = truncated_reads most bytes left b c d e x y s in
-    let is = truncated_is most bytes left b c d e x y s in
+truncated_noted slot m most bytes left b c d e x y s calm =
+    let r = truncated_reads slot m most bytes left b c d e x y s in
+    let is = truncated_is slot m most bytes left b c d e x y s in
     let told : Took d e (notes_of (Unfinished r.1.left) Truncated) = subst (λ (t : Tail). Took d e (notes_of t Truncated)) r.1.is (s.notes.whole calm) in
     subst (λ (n : ℕ). Took d e (session_note 0 (decimal n ++ codes " bytes left"))) (sym is.1) told

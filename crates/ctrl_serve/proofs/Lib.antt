@@ -2,10 +2,14 @@ pub mod RouteFits
 pub mod CarriedFits
 pub mod ReadCommandLaws
 pub mod FrontParts
+pub mod ControllerLaws
 pub mod TurnLaws
+pub mod StopLaws
 pub mod FailureLaws
 pub mod SaidLaws
 pub mod NoteLaws
 pub mod EndingLaws
 pub mod RunLaws
 pub mod IntakeLaws
+pub mod OpenedMachines
+pub mod ReplayLaws

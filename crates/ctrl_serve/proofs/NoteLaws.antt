@@ -1,6 +1,6 @@
 -- What was noted, line after line.
 use Rattle.std.specs.Prelude.{⊤}
-use Rattle.std.proofs.Common.{◌≡◌, ℕ, List, [], ◌++◌, Ok, Err, codes, refl, sym, ap, ◌∙◌, subst, append_assoc, append-nil}
+use Rattle.std.proofs.Common.{◌≡◌, ℕ, List, [], ◌++◌, Ok, Err, inl, codes, refl, sym, ap, ◌∙◌, subst, append_assoc, append-nil}
 use Rattle.std.specs.declared.option.Option.{Option}
 use Rattle.std.specs.declared.result.Result.{Result}
 use Rattle.ziti_outside.specs.declared.failed.Failed.{Failed}
@@ -11,9 +11,12 @@ use Rattle.ctrl_serve.specs.declared.intake.End.{End}
 use Rattle.ctrl_serve.specs.declared.intake.End.TheVariants.{Whole, More, Fault}
 use Rattle.ctrl_serve.specs.declared.tails.Tail.{Tail}
 use Rattle.ctrl_serve.specs.declared.tails.Tail.TheVariants.{Empty, Unfinished, Faulty}
+use Rattle.ctrl_serve.specs.declared.status.Status.TheVariants.{Damaged}
+use Rattle.ctrl_serve.specs.Failures.{RisesOnce}
 use Rattle.ctrl_serve.specs.Headline.{NotesLines}
-use Rattle.ctrl_serve.specs.Notes.{note_of, status_lines, rest_lines, notes_of}
-use Rattle.ctrl_serve.specs.Runs.{session_lines, status_at}
+use Rattle.ctrl_serve.specs.Notes.{note_of, damaged_note, status_lines, rest_lines, notes_of}
+use Rattle.ctrl_serve.specs.Runs.{session_lines, status_at, TellsDamage}
+use Rattle.ziti_outside.specs.declared.desk.Part.{Part}
 
 -- A note writes its lines whole, or fails.
 pub notes_lines : (r : Result ⊤ Failed) (lines : List ℕ) (a b : Option (List ℕ)) (x y : ℕ) → Hands a b r lines → HasCause x y r → NotesLines lines a b x y
@@ -64,3 +67,18 @@ rest_text session left =
     ap (λ (l : List ℕ). codes "zitictl: session " ++ l)
     (ap (λ (l : List ℕ). session ++ (codes ": " ++ l)) (sym (append_assoc left (codes " bytes left") (codes "\n")))
     ∙ sym (append_assoc session (codes ": " ++ (left ++ codes " bytes left")) (codes "\n")))
+
+-- And those of a damaged folder's note.
+pub damage_text : (file at : List ℕ)
+    → codes "zitictl: damaged: file " ++ (file ++ (codes " at " ++ (at ++ codes "\n"))) ≡ note_of (codes "damaged: file " ++ (file ++ (codes " at " ++ at)))
+damage_text file at =
+    ap (λ (l : List ℕ). codes "zitictl: damaged: file " ++ l) (sym (append_assoc file (codes " at " ++ at) (codes "\n")))
+
+-- A damaged folder's line was noted, or a front of it.
+pub damage_told : (part : Part) (at : ℕ) (lines : List ℕ) (a b : Option (List ℕ)) (x y : ℕ) → lines ≡ damaged_note part at → NotesLines lines a b x y → RisesOnce x y → TellsDamage part at Damaged a b x y
+damage_told part at lines a b x y is noted counted = record {
+  same = inl refl;
+  damaged = λ _. subst (λ (l : List ℕ). NotesLines l a b x y) is noted;
+  memory = λ e. cc;
+  counted = counted;
+}

@@ -1,5 +1,5 @@
 -- How what the parts of a run promise makes up what the run promises.
-use Rattle.std.specs.Prelude.{⊤, is_some, false, true, Bool}
+use Rattle.std.specs.Prelude.{⊤, is_some, false, true, Bool, IsTrue}
 use Rattle.std.proofs.Common.{◌≡◌, ℕ, ◌<◌, ◌≤◌, ◌+◌, ◌⊎◌, inl, inr, List, [], ◌++◌, length, take, None, Some, Ok, Err, refl, sym, ap, ◌∙◌, subst, append-nil, arith}
 use Rattle.std.proofs.Math.Dec.{ltb}
 use Rattle.std.specs.declared.option.Option.{Option}
@@ -8,17 +8,20 @@ use Rattle.ziti_outside.specs.Images.{Image}
 use Rattle.ziti_outside.specs.Causes.{Rose}
 use Rattle.ziti_outside.specs.Told.{Took}
 use Rattle.ziti_outside.specs.Untouched.{OnlySays, OnlyNotes}
+use Rattle.ctrl_model.specs.State.{start}
+use Rattle.ctrl_keep.specs.KeptMachine.{Machine}
 use Rattle.ctrl_serve.specs.declared.command_line.Form.{Form}
-use Rattle.ctrl_serve.specs.declared.command_line.Form.TheVariants.{Dry}
+use Rattle.ctrl_serve.specs.declared.command_line.Form.TheVariants.{Dry, Replay}
 use Rattle.ctrl_serve.specs.declared.status.Status.{Status}
 use Rattle.ctrl_serve.specs.declared.status.Status.TheVariants.{Done, Usage, BadInput, Truncated, ReadFault, WriteFault, DiskFault, Damaged, NoMemory, InputTooLong, FolderFull}
 use Rattle.ctrl_serve.specs.declared.tails.Tail.{Tail}
 use Rattle.ctrl_serve.specs.declared.tails.Tail.TheVariants.{Empty, Unfinished, Faulty}
 use Rattle.ctrl_serve.specs.Ending.{tail_of, ending_at, is_cut}
 use Rattle.ctrl_serve.specs.Failures.{RisesOnce, TakesUntilFailure}
-use Rattle.ctrl_serve.specs.Headline.{NotesLines, OnlySaysAndNotes, Serves, IsComplete, Runs}
+use Rattle.ctrl_serve.specs.FrameAnswer.{alone}
+use Rattle.ctrl_serve.specs.Headline.{NotesLines, OnlySaysAndNotes, Serves, IsComplete, StaysClosed, Refuses, Replays, Runs}
 use Rattle.ctrl_serve.specs.Notes.{usage_note}
-use Rattle.ctrl_serve.specs.Runs.{IsWriteCaused}
+use Rattle.ctrl_serve.specs.Runs.{CountsFaults}
 use Rattle.ctrl_serve.proofs.EndingLaws.{done_tail, at_end}
 use Rattle.ctrl_serve.proofs.FailureLaws.{takes_none}
 
@@ -31,68 +34,140 @@ says_then_notes says notes = record {
   failed_calls = notes.failed_calls ∙ says.failed_calls;
 }
 
--- A run that served its input and met no fault is complete, unless memory was wanting.
-pub serves_completely : (status : Status) (most : ℕ) (a b c d e f : Option (List ℕ)) (x y : ℕ)
-    → Serves most a b c d e f x y status → (status ≡ ReadFault → ⊥) → (status ≡ WriteFault → ⊥) → IsComplete most a b c d status
-serves_completely Done most a b c d e f x y s read write = inr (record { taken = s.taken; gave = s.gave; ends = s.ends refl; said = subst (λ (l : List ℕ). Took c d l) s.says s.took; read_on = s.read_on refl })
-serves_completely Usage most a b c d e f x y s read write = absurd s.says
-serves_completely BadInput most a b c d e f x y s read write = inr (record { taken = s.taken; gave = s.gave; ends = s.ends refl; said = subst (λ (l : List ℕ). Took c d l) s.says s.took; read_on = s.read_on refl })
-serves_completely Truncated most a b c d e f x y s read write = inr (record { taken = s.taken; gave = s.gave; ends = s.ends refl; said = subst (λ (l : List ℕ). Took c d l) s.says s.took; read_on = s.read_on refl })
-serves_completely ReadFault most a b c d e f x y s read write = absurd (read refl)
-serves_completely WriteFault most a b c d e f x y s read write = absurd (write refl)
-serves_completely DiskFault most a b c d e f x y s read write = absurd s.says
-serves_completely Damaged most a b c d e f x y s read write = absurd s.says
-serves_completely NoMemory most a b c d e f x y s read write = inl refl
-serves_completely InputTooLong most a b c d e f x y s read write = inr (record { taken = s.taken; gave = s.gave; ends = s.ends refl; said = subst (λ (l : List ℕ). Took c d l) s.says s.took; read_on = s.read_on refl })
-serves_completely FolderFull most a b c d e f x y s read write = absurd s.says
+-- And where notes alone were written.
+pub notes_alone : {D : Type 0} {said : D → Option (List ℕ)} {say_faults : D → ℕ} {reads : D → Image} {may_leave : D → Image → Type 0} {disk_faults : D → ℕ} {old new : D}
+    → OnlyNotes said say_faults reads may_leave disk_faults old new → OnlySaysAndNotes reads may_leave disk_faults old new
+notes_alone notes = record { parts = notes.parts; found = notes.found; failed_calls = notes.failed_calls }
 
--- No run that serves an input ends with Usage.
-serves_no_usage : (status : Status) (most : ℕ) (a b c d e f : Option (List ℕ)) (x y : ℕ) → Serves most a b c d e f x y status → status ≡ Usage → ⊥
-serves_no_usage status most a b c d e f x y s is = (subst (λ (u : Status). Serves most a b c d e f x y u) is s).says
+-- ---- a run that serves its input
 
--- A run that is done read its input to the end.
-done_at_end : (most : ℕ) (a b c d e f : Option (List ℕ)) (x y : ℕ) → Serves most a b c d e f x y Done → IsAtEnd b
-done_at_end most a b c d e f x y s =
+-- Where no call failed it is complete, unless memory was wanting.
+serves_completely : (status : Status) (slot : ℕ) (m : Machine) (most : ℕ) (a b c d e f : Option (List ℕ)) (x y : ℕ)
+    → Serves slot m most a b c d e f x y status → (status ≡ ReadFault → ⊥) → (status ≡ WriteFault → ⊥) → (status ≡ DiskFault → ⊥) → IsComplete slot m most a b c d status
+serves_completely Done slot m most a b c d e f x y s read write disk = inr (record { taken = s.taken; gave = s.gave; ends = s.ends refl; said = subst (λ (l : List ℕ). Took c d l) s.says s.took; read_on = s.read_on refl })
+serves_completely Usage slot m most a b c d e f x y s read write disk = absurd s.says
+serves_completely BadInput slot m most a b c d e f x y s read write disk = inr (record { taken = s.taken; gave = s.gave; ends = s.ends refl; said = subst (λ (l : List ℕ). Took c d l) s.says s.took; read_on = s.read_on refl })
+serves_completely Truncated slot m most a b c d e f x y s read write disk = inr (record { taken = s.taken; gave = s.gave; ends = s.ends refl; said = subst (λ (l : List ℕ). Took c d l) s.says s.took; read_on = s.read_on refl })
+serves_completely ReadFault slot m most a b c d e f x y s read write disk = absurd (read refl)
+serves_completely WriteFault slot m most a b c d e f x y s read write disk = absurd (write refl)
+serves_completely DiskFault slot m most a b c d e f x y s read write disk = absurd (disk refl)
+serves_completely Damaged slot m most a b c d e f x y s read write disk = absurd s.says
+serves_completely NoMemory slot m most a b c d e f x y s read write disk = inl refl
+serves_completely InputTooLong slot m most a b c d e f x y s read write disk = inr (record { taken = s.taken; gave = s.gave; ends = s.ends refl; said = subst (λ (l : List ℕ). Took c d l) s.says s.took; read_on = s.read_on refl })
+serves_completely FolderFull slot m most a b c d e f x y s read write disk = absurd s.says
+
+-- It does not end with Usage.
+serves_no_usage : (status : Status) (slot : ℕ) (m : Machine) (most : ℕ) (a b c d e f : Option (List ℕ)) (x y : ℕ) → Serves slot m most a b c d e f x y status → status ≡ Usage → ⊥
+serves_no_usage status slot m most a b c d e f x y s is = (subst (λ (u : Status). Serves slot m most a b c d e f x y u) is s).says
+
+-- Where it is done it read its input to the end.
+done_at_end : (slot : ℕ) (m : Machine) (most : ℕ) (a b c d e f : Option (List ℕ)) (x y : ℕ) → Serves slot m most a b c d e f x y Done → IsAtEnd b
+done_at_end slot m most a b c d e f x y s =
     let tail = done_tail (tail_of (take most s.taken)) (ltb most (length s.taken)) (s.ends refl) in
     at_end most b s.taken tail.1 (s.read_on refl)
 
--- What is asked for is plain input.
-pub asks_for_dry : (form : Form) → Some form ≡ Some Dry
-asks_for_dry Dry = refl
+serves_to_end : (status : Status) (slot : ℕ) (m : Machine) (most : ℕ) (a b c d e f : Option (List ℕ)) (x y : ℕ) → Serves slot m most a b c d e f x y status → status ≡ Done → IsAtEnd b
+serves_to_end status slot m most a b c d e f x y s is = done_at_end slot m most a b c d e f x y (subst (λ (u : Status). Serves slot m most a b c d e f x y u) is s)
 
--- A run over plain input, as it was asked for.
+-- ---- a run as it was asked for
+
+-- What is asked for is a line of the table.
+pub asks_for : (form : Option Form) (asked is : Form) → form ≡ Some asked → asked ≡ is → form ≡ Some is
+asks_for form asked is e same = e ∙ ap Some same
+
+-- A run without a folder.
 pub dry_runs : {S D : Type 0} {left : S → Option (List ℕ)} {faults : S → ℕ} {said noted : D → Option (List ℕ)} {say_faults note_faults : D → ℕ} {reads : D → Image} {may_leave : D → Image → Type 0} {disk_faults : D → ℕ}
-    (most : ℕ) (form : Option Form) (source source_now : S) (desk desk_now : D) (status : Status) → form ≡ Some Dry
-    → Serves most (left source) (left source_now) (said desk) (said desk_now) (noted desk) (noted desk_now) (note_faults desk) (note_faults desk_now) status
-    → (status ≡ ReadFault → Rose (faults source) (faults source_now)) → (is_cut status ≡ false → faults source_now ≡ faults source)
-    → IsWriteCaused (say_faults desk) (say_faults desk_now) status → RisesOnce (faults source) (faults source_now) → RisesOnce (note_faults desk) (note_faults desk_now)
-    → TakesUntilFailure left faults source source_now → OnlySaysAndNotes reads may_leave disk_faults desk desk_now
-    → Runs left faults said noted say_faults note_faults reads may_leave disk_faults most form source source_now desk desk_now status
-dry_runs {S} {D} {left} {faults} {said} {noted} {say_faults} {note_faults} most form source source_now desk desk_now status is serves read_fault failed_take write taken_once noted_once until others = record {
-  usage = (λ u. absurd (serves_no_usage status most _ _ _ _ _ _ _ _ serves u), λ n. cc);
+    (tells : Bool) (slot most : ℕ) (form : Option Form) (source source_now : S) (desk desk_now : D) (status : Status) → form ≡ Some Dry
+    → Serves 0 (alone start) most (left source) (left source_now) (said desk) (said desk_now) (noted desk) (noted desk_now) (note_faults desk) (note_faults desk_now) status
+    → CountsFaults left faults say_faults note_faults disk_faults source source_now desk desk_now status
+    → (status ≡ DiskFault → ⊥) → OnlySaysAndNotes reads may_leave disk_faults desk desk_now
+    → Runs left faults said noted say_faults note_faults reads may_leave disk_faults tells slot most form source source_now desk desk_now status
+dry_runs {S} {D} {left} {faults} {said} {noted} {say_faults} {note_faults} tells slot most form source source_now desk desk_now status is serves counts calm others = record {
+  usage = (λ u. absurd (serves_no_usage status _ _ most _ _ _ _ _ _ _ _ serves u), λ n. cc);
   usage_takes_nothing = λ n. cc;
   usage_notes_alone = λ n. cc;
   usage_note = λ n. cc;
-  read_fault = read_fault;
-  write_fault = write.rose;
-  failed_take = failed_take;
-  failed_say = write.calm;
-  read_faults_once = taken_once;
-  say_faults_once = write.counted;
-  note_faults_once = noted_once;
-  takes_until_failure = until;
+  read_fault = counts.read_fault;
+  write_fault = counts.write.rose;
+  failed_take = counts.failed_take;
+  failed_say = counts.write.calm;
+  read_faults_once = counts.read_faults_once;
+  say_faults_once = counts.write.counted;
+  disk_fault = counts.disk.rose;
+  failed_disk = counts.disk.calm;
+  disk_faults_once = counts.disk.counted;
+  note_faults_once = counts.note_faults_once;
+  takes_until_failure = counts.takes_until_failure;
   dry = λ _. serves;
   dry_says_and_notes_alone = λ _. others;
-  complete = λ _ read say. serves_completely status most _ _ _ _ _ _ _ _ serves (λ r. read (read_fault r)) (λ w. say (write.rose w));
-  read_to_the_end = λ done. done_at_end most _ _ _ _ _ _ _ _ (subst (λ (u : Status). Serves most (left source) (left source_now) (said desk) (said desk_now) (noted desk) (noted desk_now) (note_faults desk) (note_faults desk_now) u) done serves);
+  complete = λ _ read say. serves_completely status _ _ most _ _ _ _ _ _ _ _ serves (λ r. read (counts.read_fault r)) (λ w. say (counts.write.rose w)) calm;
+  read_to_the_end = λ done. serves_to_end status _ _ most _ _ _ _ _ _ _ _ serves done;
+  replay = λ e. cc;
 }
+
+-- Where a folder was not opened the run ends with none of these.
+closed_status : (tells : Bool) (before now : Image) (c d : Option (List ℕ)) (x y : ℕ) (status : Status) → StaysClosed tells before now c d x y status
+    → (status ≡ Usage → ⊥) × (status ≡ Done → ⊥)
+closed_status tells before now c d x y Done why = absurd why
+closed_status tells before now c d x y Usage why = absurd why
+closed_status tells before now c d x y BadInput why = absurd why
+closed_status tells before now c d x y Truncated why = absurd why
+closed_status tells before now c d x y ReadFault why = absurd why
+closed_status tells before now c d x y WriteFault why = absurd why
+closed_status tells before now c d x y DiskFault why = (λ e. cc, λ e. cc)
+closed_status tells before now c d x y Damaged why = (λ e. cc, λ e. cc)
+closed_status tells before now c d x y NoMemory why = (λ e. cc, λ e. cc)
+closed_status tells before now c d x y InputTooLong why = absurd why
+closed_status tells before now c d x y FolderFull why = absurd why
+
+-- A run on the folder, which was not opened or from which the run went on.
+replays_status : {S D : Type 0} {said noted : D → Option (List ℕ)} {note_faults : D → ℕ} {reads : D → Image} (left : S → Option (List ℕ)) (may_leave : D → Image → Type 0)
+    (tells : Bool) (slot most : ℕ) (source source_now : S) (desk desk_now : D) (status : Status)
+    → Refuses said noted note_faults tells reads source source_now desk desk_now status
+    ⊎ Replays slot most (left source) (left source_now) (said desk) (said desk_now) (noted desk) (noted desk_now) (note_faults desk) (note_faults desk_now) tells (reads desk) (reads desk_now) (may_leave desk_now) status
+    → (status ≡ Usage → ⊥) × (status ≡ Done → IsAtEnd (left source_now))
+replays_status left may_leave tells slot most source source_now desk desk_now status (inl closed) =
+    let none = closed_status tells _ _ _ _ _ _ status closed.why in (none.0, λ done. absurd (none.1 done))
+replays_status left may_leave tells slot most source source_now desk desk_now status (inr on) =
+    (serves_no_usage status slot on.machine most _ _ _ _ _ _ _ _ on.serves, serves_to_end status slot on.machine most _ _ _ _ _ _ _ _ on.serves)
+
+pub replay_runs : {S D : Type 0} {left : S → Option (List ℕ)} {faults : S → ℕ} {said noted : D → Option (List ℕ)} {say_faults note_faults : D → ℕ} {reads : D → Image} {may_leave : D → Image → Type 0} {disk_faults : D → ℕ}
+    (tells : Bool) (slot most : ℕ) (form : Option Form) (source source_now : S) (desk desk_now : D) (status : Status) → form ≡ Some Replay
+    → Refuses said noted note_faults tells reads source source_now desk desk_now status
+    ⊎ Replays slot most (left source) (left source_now) (said desk) (said desk_now) (noted desk) (noted desk_now) (note_faults desk) (note_faults desk_now) tells (reads desk) (reads desk_now) (may_leave desk_now) status
+    → CountsFaults left faults say_faults note_faults disk_faults source source_now desk desk_now status
+    → Runs left faults said noted say_faults note_faults reads may_leave disk_faults tells slot most form source source_now desk desk_now status
+replay_runs {S} {D} {left} {faults} {said} {noted} {say_faults} {note_faults} {reads} {may_leave} tells slot most form source source_now desk desk_now status is replays counts =
+    let at : (status ≡ Usage → ⊥) × (status ≡ Done → IsAtEnd (left source_now)) = replays_status {said = said} {noted = noted} {note_faults = note_faults} {reads = reads} left may_leave tells slot most source source_now desk desk_now status replays in
+    record {
+      usage = (λ u. absurd (at.0 u), λ n. cc);
+      usage_takes_nothing = λ n. cc;
+      usage_notes_alone = λ n. cc;
+      usage_note = λ n. cc;
+      read_fault = counts.read_fault;
+      write_fault = counts.write.rose;
+      failed_take = counts.failed_take;
+      failed_say = counts.write.calm;
+      read_faults_once = counts.read_faults_once;
+      say_faults_once = counts.write.counted;
+      disk_fault = counts.disk.rose;
+      failed_disk = counts.disk.calm;
+      disk_faults_once = counts.disk.counted;
+      note_faults_once = counts.note_faults_once;
+      takes_until_failure = counts.takes_until_failure;
+      dry = λ e. cc;
+      dry_says_and_notes_alone = λ e. cc;
+      complete = λ e. cc;
+      read_to_the_end = at.1;
+      replay = λ _. replays;
+    }
 
 -- A run that only wrote the usage note, where the words are no line of the table.
 pub usage_runs : {S D : Type 0} {left : S → Option (List ℕ)} {faults : S → ℕ} {said noted : D → Option (List ℕ)} {say_faults note_faults : D → ℕ} {reads : D → Image} {may_leave : D → Image → Type 0} {disk_faults : D → ℕ}
-    (most : ℕ) (form : Option Form) (source : S) (desk desk_now : D) → form ≡ None → OnlyNotes said say_faults reads may_leave disk_faults desk desk_now
+    (tells : Bool) (slot most : ℕ) (form : Option Form) (source : S) (desk desk_now : D) → form ≡ None → OnlyNotes said say_faults reads may_leave disk_faults desk desk_now
     → NotesLines usage_note (noted desk) (noted desk_now) (note_faults desk) (note_faults desk_now) → RisesOnce (note_faults desk) (note_faults desk_now)
-    → Runs left faults said noted say_faults note_faults reads may_leave disk_faults most form source source desk desk_now Usage
-usage_runs most form source desk desk_now is others note counted = record {
+    → Runs left faults said noted say_faults note_faults reads may_leave disk_faults tells slot most form source source desk desk_now Usage
+usage_runs tells slot most form source desk desk_now is others note counted = record {
   usage = (λ _. is, λ _. refl);
   usage_takes_nothing = λ _. refl;
   usage_notes_alone = λ _. others;
@@ -103,10 +178,14 @@ usage_runs most form source desk desk_now is others note counted = record {
   failed_say = λ _. others.failed_says;
   read_faults_once = record { later = omega arith; once = omega arith };
   say_faults_once = record { later = omega (arith, others.failed_says); once = omega (arith, others.failed_says) };
+  disk_fault = λ e. cc;
+  failed_disk = λ _. others.failed_calls;
+  disk_faults_once = record { later = omega (arith, others.failed_calls); once = omega (arith, others.failed_calls) };
   note_faults_once = counted;
   takes_until_failure = takes_none source;
   dry = λ e. cc;
   dry_says_and_notes_alone = λ e. cc;
   complete = λ e. cc;
   read_to_the_end = λ e. cc;
+  replay = λ e. cc;
 }

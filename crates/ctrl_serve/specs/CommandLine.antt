@@ -5,7 +5,7 @@ use Rattle.std.specs.Str.{bytes_eq}
 use Rattle.std.specs.String.{string_bytes}
 use Rattle.std.specs.declared.string.String.{String}
 use Rattle.ctrl_serve.specs.declared.command_line.Form.{Form}
-use Rattle.ctrl_serve.specs.declared.command_line.Form.TheVariants.{Dry}
+use Rattle.ctrl_serve.specs.declared.command_line.Form.TheVariants.{Dry, Replay}
 
 -- The bytes of each word.
 abbrev pub texts : {A : Type 0} → List (String A) → List (List ℕ)
@@ -14,5 +14,5 @@ texts words = map string_bytes words
 -- What the words run, if they are a line of the table of words.
 abbrev pub form_of : List (List ℕ) → Option Form
 form_of [] = None
-form_of (word ∷ []) = if bytes_eq word (codes "dry") then Some Dry else None
+form_of (word ∷ []) = if bytes_eq word (codes "dry") then Some Dry else if bytes_eq word (codes "replay") then Some Replay else None
 form_of (word ∷ next ∷ words) = None

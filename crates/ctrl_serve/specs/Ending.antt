@@ -45,8 +45,8 @@ is_cut InputTooLong = false
 is_cut FolderFull = false
 
 -- What a run over plain input has said at a status, of all the replies to its whole frames: all of them, also after a read
--- fault; where memory was wanting the first of them, each whole; where a reply was not taken, a front of the next one beside
--- them. The other statuses never come.
+-- fault; where memory was wanting or the disk failed the first of them, each whole; where a reply was not taken, a front of the next
+-- one beside them. The other statuses never come.
 abbrev pub Says : Status → List ℕ → List (List ℕ) → Type 0
 Says Done said all = said ≡ joined all
 Says Usage said all = ⊥
@@ -54,8 +54,22 @@ Says BadInput said all = said ≡ joined all
 Says Truncated said all = said ≡ joined all
 Says ReadFault said all = said ≡ joined all
 Says WriteFault said all = AreCut said all
-Says DiskFault said all = ⊥
+Says DiskFault said all = AreWhole said all
 Says Damaged said all = ⊥
 Says NoMemory said all = AreWhole said all
 Says InputTooLong said all = said ≡ joined all
 Says FolderFull said all = ⊥
+
+-- Whether a run ended, at a status, with all that it answered kept in its folder: no reply failed, no call on the disk, and memory sufficed.
+abbrev pub is_kept : Status → Bool
+is_kept Done = true
+is_kept Usage = false
+is_kept BadInput = true
+is_kept Truncated = true
+is_kept ReadFault = true
+is_kept WriteFault = false
+is_kept DiskFault = false
+is_kept Damaged = false
+is_kept NoMemory = false
+is_kept InputTooLong = true
+is_kept FolderFull = false

@@ -1,20 +1,27 @@
--- What a run promises, so far for the word `dry` (docs/PROMISES.md, "The headline").
-use Rattle.std.specs.Prelude.{◌≡◌, ◌↔◌, ℕ, ◌+◌, ◌<◌, ◌≤◌, ◌^◌, ◌⊎◌, nat_lt, false, None, Some, List, length, take}
+-- What a run promises, so far for the words `dry` and `replay` (docs/PROMISES.md, "The headline").
+use Rattle.std.specs.Prelude.{◌≡◌, ◌↔◌, ℕ, ◌+◌, ◌<◌, ◌≤◌, ◌^◌, ◌⊎◌, nat_lt, Bool, true, false, IsTrue, None, Some, is_some, List, [], length, take}
 use Rattle.std.specs.declared.option.Option.{Option}
 use Rattle.std.specs.Io.KnownBytes.{IsAtEnd}
 use Rattle.ziti_outside.specs.Told.{Gave, Took, TookFront}
 use Rattle.ziti_outside.specs.Causes.{Rose}
 use Rattle.ziti_outside.specs.Images.{Image}
 use Rattle.ziti_outside.specs.Untouched.{OnlyNotes}
+use Rattle.ziti_outside.specs.declared.desk.Part.{Part}
+use Rattle.ziti_outside.specs.declared.desk.Part.TheVariants.{Mark}
+use Rattle.ctrl_model.specs.State.{start}
+use Rattle.ctrl_model.specs.ValidState.{ValidState}
+use Rattle.ctrl_keep.specs.OpenedStates.{IsStateless, OpensToState}
+use Rattle.ctrl_keep.specs.KeptMachine.{Machine}
+use Rattle.ctrl_serve.specs.OpenedFolders.{Keeps, OpensTo}
 use Rattle.ctrl_serve.specs.declared.bounds.Bounds.{Bounds}
 use Rattle.ctrl_serve.specs.declared.command_line.Form.{Form}
-use Rattle.ctrl_serve.specs.declared.command_line.Form.TheVariants.{Dry}
+use Rattle.ctrl_serve.specs.declared.command_line.Form.TheVariants.{Dry, Replay}
 use Rattle.ctrl_serve.specs.declared.status.Status.{Status}
-use Rattle.ctrl_serve.specs.declared.status.Status.TheVariants.{Done, Usage, ReadFault, WriteFault, NoMemory}
+use Rattle.ctrl_serve.specs.declared.status.Status.TheVariants.{Done, Usage, ReadFault, WriteFault, DiskFault, Damaged, NoMemory}
 use Rattle.ctrl_serve.specs.Failures.{RisesOnce, TakesUntilFailure}
-use Rattle.ctrl_serve.specs.FrameAnswer.{each_reply, replies}
-use Rattle.ctrl_serve.specs.Ending.{tail_of, ending, is_cut, Says}
-use Rattle.ctrl_serve.specs.Notes.{usage_note, notes_of}
+use Rattle.ctrl_serve.specs.FrameAnswer.{each_reply, replies, last_machine, alone}
+use Rattle.ctrl_serve.specs.Ending.{tail_of, ending, is_cut, is_kept, Says}
+use Rattle.ctrl_serve.specs.Notes.{usage_note, damaged_note, status_lines, notes_of}
 
 -- The bounds that a run takes.
 pub record AreBounds (b : Bounds) : Type 0 where
@@ -36,34 +43,63 @@ pub record OnlySaysAndNotes {D : Type 0} (reads : D → Image) (may_leave : D �
   pub found : (image : Image) → may_leave new image → may_leave old image
   pub failed_calls : disk_faults new ≡ disk_faults old
 
--- A run over plain input. Of what the source gave, the first `most` bytes are used. What was said are the replies of the
--- controller's run along their frames: all of them, but the first ones where memory was wanting, and a front of the next one
--- beside those where a say failed. A run that was not cut short ends as the bytes decide, and only once nothing is left or more
+-- A run over plain input from a machine on, whose slot may have so many bytes. Of what the source gave, the first `most` bytes are
+-- used. What was said are the replies of the machine's run along their frames: all of them, but the first ones where memory was wanting
+-- or the disk failed, and a front of the next one beside those where a say failed. A run that was not cut short ends as the bytes decide, and only once nothing is left or more
 -- than `most` bytes were given. What was noted are the fault of the used bytes, where it was found, and the lines of the status.
-pub record Serves (most : ℕ) (left_before left_now said_before said_now noted_before noted_now : Option (List ℕ)) (note_faults_before note_faults_now : ℕ) (status : Status) : Type 0 where
+pub record Serves (slot : ℕ) (machine : Machine) (most : ℕ) (left_before left_now said_before said_now noted_before noted_now : Option (List ℕ)) (note_faults_before note_faults_now : ℕ) (status : Status) : Type 0 where
   pub taken : List ℕ
   pub gave : Gave left_before left_now taken
   pub few : length taken ≤ most + 65536
   pub said : List ℕ
   pub took : Took said_before said_now said
-  pub says : Says status said (each_reply (take most taken))
+  pub says : Says status said (each_reply slot machine (take most taken))
   pub ends : is_cut status ≡ false → status ≡ ending (take most taken) (nat_lt most (length taken))
   pub read_on : is_cut status ≡ false → IsAtEnd left_now ⊎ (most < length taken)
   pub notes : NotesLines (notes_of (tail_of (take most taken)) status) noted_before noted_now note_faults_before note_faults_now
 
 -- A complete run: it ended as the used bytes decide, all replies to their whole frames were said, and nothing is left or more
 -- than `most` bytes were given.
-pub record Completes (most : ℕ) (left_before left_now said_before said_now : Option (List ℕ)) (status : Status) : Type 0 where
+pub record Completes (slot : ℕ) (machine : Machine) (most : ℕ) (left_before left_now said_before said_now : Option (List ℕ)) (status : Status) : Type 0 where
   pub taken : List ℕ
   pub gave : Gave left_before left_now taken
   pub ends : status ≡ ending (take most taken) (nat_lt most (length taken))
-  pub said : Took said_before said_now (replies (take most taken))
+  pub said : Took said_before said_now (replies slot machine (take most taken))
   pub read_on : IsAtEnd left_now ⊎ (most < length taken)
 
 -- A run without faults is complete, unless memory was wanting.
-abbrev pub IsComplete : ℕ → Option (List ℕ) → Option (List ℕ) → Option (List ℕ) → Option (List ℕ) → Status → Type 0
-IsComplete most left_before left_now said_before said_now status =
-    (status ≡ NoMemory) ⊎ Completes most left_before left_now said_before said_now status
+abbrev pub IsComplete : ℕ → Machine → ℕ → Option (List ℕ) → Option (List ℕ) → Option (List ℕ) → Option (List ℕ) → Status → Type 0
+IsComplete slot machine most left_before left_now said_before said_now status =
+    (status ≡ NoMemory) ⊎ Completes slot machine most left_before left_now said_before said_now status
+
+-- Why the folder was not opened, at a status, and what was noted: a call on the disk failed; it opens to no state, and then it reads as
+-- before and the place of the damage is told; or memory was wanting. The other statuses never come.
+abbrev pub StaysClosed : (tells : Bool) → (reads_before reads_now : Image) → (noted_before noted_now : Option (List ℕ)) → (note_faults_before note_faults_now : ℕ) → Status → Type 0
+StaysClosed tells reads_before reads_now noted_before noted_now faults faults_now DiskFault = NotesLines (status_lines [] DiskFault) noted_before noted_now faults faults_now
+StaysClosed tells reads_before reads_now noted_before noted_now faults faults_now Damaged =
+    (part : Part) × (at : ℕ) × (IsTrue tells → IsStateless reads_before part at) × (IsTrue tells → reads_now ≡ reads_before)
+    × NotesLines (damaged_note part at) noted_before noted_now faults faults_now
+StaysClosed tells reads_before reads_now noted_before noted_now faults faults_now NoMemory = NotesLines (status_lines [] NoMemory) noted_before noted_now faults faults_now
+StaysClosed tells reads_before reads_now noted_before noted_now faults faults_now _ = ⊥
+
+-- A run whose folder was not opened: nothing was taken, and nothing was said. A folder whose mark is not empty reads as before.
+pub record Refuses {S D : Type 0} (said noted : D → Option (List ℕ)) (note_faults : D → ℕ) (tells : Bool) (reads : D → Image) (source source_now : S) (desk desk_now : D) (status : Status) : Type 0 where
+  pub takes_nothing : source_now ≡ source
+  pub says_nothing : said desk_now ≡ said desk
+  pub stays : IsTrue tells → 0 < length (reads desk Mark) → reads desk_now ≡ reads desk
+  pub why : StaysClosed tells (reads desk) (reads desk_now) (noted desk) (noted desk_now) (note_faults desk) (note_faults desk_now) status
+
+-- A run over plain input on the folder: the folder opens to a machine in a valid state and with a place, from which the run goes on.
+-- Where it ended with all kept, the folder keeps the machine behind all frames of the used bytes: exactly the rows of its state, and its
+-- place; and what a stop may leave then opens to that state.
+pub record Replays (slot most : ℕ) (left_before left_now said_before said_now noted_before noted_now : Option (List ℕ)) (note_faults_before note_faults_now : ℕ) (tells : Bool) (reads_before reads_now : Image) (may_leave_now : Image → Type 0) (status : Status) : Type 0 where
+  pub machine : Machine
+  pub valid : ValidState machine.state
+  pub placed : is_some machine.place ≡ true
+  pub opens : IsTrue tells → OpensTo reads_before machine
+  pub serves : Serves slot machine most left_before left_now said_before said_now noted_before noted_now note_faults_before note_faults_now status
+  pub keeps : is_kept status ≡ true → IsTrue tells → Keeps reads_now (last_machine slot machine (take most serves.taken))
+  pub found : is_kept status ≡ true → IsTrue tells → (image : Image) → may_leave_now image → OpensToState image (last_machine slot machine (take most serves.taken)).state
 
 -- A run that was asked for a line of the table of words, or for none of its lines.
 --
@@ -71,11 +107,14 @@ IsComplete most left_before left_now said_before said_now status =
 -- otherwise: nothing is said, and the folder stays.
 --
 -- A fault comes only where its count rose in this run. A failed take cuts the run short, and nothing is taken after it. A failed
--- say ends the run with WriteFault. No count falls, or rises by more than one.
+-- say ends the run with WriteFault, and a failed call on the disk with DiskFault. No count falls, or rises by more than one.
 --
 -- Under `dry` the replies are the controller's, the status is the one that the input decides, and the notes tell both; the folder
 -- stays. Done comes once the input was read to its end.
-pub record Runs {S D : Type 0} (left : S → Option (List ℕ)) (faults : S → ℕ) (said noted : D → Option (List ℕ)) (say_faults note_faults : D → ℕ) (reads : D → Image) (may_leave : D → Image → Type 0) (disk_faults : D → ℕ) (most : ℕ) (form : Option Form) (source source_now : S) (desk desk_now : D) (status : Status) : Type 0 where
+--
+-- Under `replay` the folder is opened first. Where it opens to a machine, the replies are that machine's, and at the end the folder keeps
+-- the machine behind all frames; where it opens to none, nothing is taken and said, and the folder stays.
+pub record Runs {S D : Type 0} (left : S → Option (List ℕ)) (faults : S → ℕ) (said noted : D → Option (List ℕ)) (say_faults note_faults : D → ℕ) (reads : D → Image) (may_leave : D → Image → Type 0) (disk_faults : D → ℕ) (tells : Bool) (slot most : ℕ) (form : Option Form) (source source_now : S) (desk desk_now : D) (status : Status) : Type 0 where
   pub usage : (status ≡ Usage) ↔ (form ≡ None)
   pub usage_takes_nothing : form ≡ None → source_now ≡ source
   pub usage_notes_alone : form ≡ None → OnlyNotes said say_faults reads may_leave disk_faults desk desk_now
@@ -86,10 +125,16 @@ pub record Runs {S D : Type 0} (left : S → Option (List ℕ)) (faults : S → 
   pub failed_say : (status ≡ WriteFault → ⊥) → say_faults desk_now ≡ say_faults desk
   pub read_faults_once : RisesOnce (faults source) (faults source_now)
   pub say_faults_once : RisesOnce (say_faults desk) (say_faults desk_now)
+  pub disk_fault : status ≡ DiskFault → Rose (disk_faults desk) (disk_faults desk_now)
+  pub failed_disk : (status ≡ DiskFault → ⊥) → disk_faults desk_now ≡ disk_faults desk
+  pub disk_faults_once : RisesOnce (disk_faults desk) (disk_faults desk_now)
   pub note_faults_once : RisesOnce (note_faults desk) (note_faults desk_now)
   pub takes_until_failure : TakesUntilFailure left faults source source_now
-  pub dry : form ≡ Some Dry → Serves most (left source) (left source_now) (said desk) (said desk_now) (noted desk) (noted desk_now) (note_faults desk) (note_faults desk_now) status
+  pub dry : form ≡ Some Dry → Serves 0 (alone start) most (left source) (left source_now) (said desk) (said desk_now) (noted desk) (noted desk_now) (note_faults desk) (note_faults desk_now) status
   pub dry_says_and_notes_alone : form ≡ Some Dry → OnlySaysAndNotes reads may_leave disk_faults desk desk_now
   pub complete : form ≡ Some Dry → (Rose (faults source) (faults source_now) → ⊥) → (Rose (say_faults desk) (say_faults desk_now) → ⊥)
-      → IsComplete most (left source) (left source_now) (said desk) (said desk_now) status
+      → IsComplete 0 (alone start) most (left source) (left source_now) (said desk) (said desk_now) status
   pub read_to_the_end : status ≡ Done → IsAtEnd (left source_now)
+  pub replay : form ≡ Some Replay
+      → Refuses said noted note_faults tells reads source source_now desk desk_now status
+      ⊎ Replays slot most (left source) (left source_now) (said desk) (said desk_now) (noted desk) (noted desk_now) (note_faults desk) (note_faults desk_now) tells (reads desk) (reads desk_now) (may_leave desk_now) status

@@ -6,7 +6,10 @@ pub mod FrameAnswer
 pub mod SaidReplies
 pub mod WorkedAnswers
 pub mod Ending
+pub mod OpenedFolders
 pub mod Notes
 pub mod Headline
+pub mod Controllers
+pub mod ControllerViews
 pub mod Turns
 pub mod Runs

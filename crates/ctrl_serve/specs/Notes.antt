@@ -1,5 +1,7 @@
 -- The notes of a run, a line each (docs/FORMATS.md, "Notes").
 use Rattle.std.specs.Prelude.{ℕ, List, [], ◌++◌, codes, decimal}
+use Rattle.ziti_outside.specs.declared.desk.Part.{Part}
+use Rattle.ziti_outside.specs.declared.desk.Part.TheVariants.{Zero, One, Mark}
 use Rattle.channel_frame.specs.declared.frames.FrameFault.{FrameFault}
 use Rattle.channel_frame.specs.declared.frames.FrameFault.TheVariants as fault
 use Rattle.ctrl_serve.specs.declared.tails.Tail.{Tail}
@@ -38,7 +40,17 @@ rest_lines session (Faulty f at) = []
 abbrev pub usage_note : List ℕ
 usage_note = note_of (codes "usage: zitictl dry | replay [--sessions] | audit | compact | load N")
 
--- The lines of a status, given those of what is left of the sessions. Those of the folder come with it.
+-- The number by which a note names a part of the folder: the slots by theirs. The mark is named by none.
+abbrev pub file_number : Part → ℕ
+file_number Zero = 0
+file_number One = 1
+file_number Mark = 2
+
+-- The note of a folder that opens to no state: the slot and the place at which it is damaged.
+abbrev pub damaged_note : Part → ℕ → List ℕ
+damaged_note part at = note_of (codes "damaged: file " ++ (decimal (file_number part) ++ (codes " at " ++ decimal at)))
+
+-- The lines of a status, given those of what is left of the sessions. That of a damaged folder tells its place besides.
 abbrev pub status_lines : List ℕ → Status → List ℕ
 status_lines rests Done = []
 status_lines rests Usage = usage_note
@@ -46,16 +58,17 @@ status_lines rests BadInput = []
 status_lines rests Truncated = rests
 status_lines rests ReadFault = note_of (codes "read fault")
 status_lines rests WriteFault = note_of (codes "write fault")
-status_lines rests DiskFault = []
+status_lines rests DiskFault = note_of (codes "disk fault")
 status_lines rests Damaged = []
 status_lines rests NoMemory = note_of (codes "no memory")
 status_lines rests InputTooLong = note_of (codes "input too long")
 status_lines rests FolderFull = []
 
 -- The lines of the faults that a run had found when it ended, given those of all faults of its bytes: a run that was cut short at
--- a reply or for want of memory had found none.
+-- a reply, by the disk or for want of memory had found none.
 abbrev pub found_lines : List ℕ → Status → List ℕ
 found_lines faults WriteFault = []
+found_lines faults DiskFault = []
 found_lines faults NoMemory = []
 found_lines faults _ = faults
 

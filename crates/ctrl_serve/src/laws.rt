@@ -3,7 +3,7 @@ ghost use Rattle.std.specs.declared.option.Option.{Option};
 ghost use Rattle.channel_frame.specs.declared.frames.Frame.{Frame};
 ghost use Rattle.channel_frame.specs.StreamReading.{Reads, fault_of, rest_of};
 ghost use Rattle.ctrl_model.specs.declared.kinds.Who.TheVariants.{Admin};
-ghost use Rattle.ctrl_model.specs.State.{start};
+ghost use Rattle.ctrl_keep.specs.KeptMachine.{Machine};
 ghost use Rattle.ctrl_serve.specs.declared.status.Status.TheVariants.{Done, Truncated};
 ghost use Rattle.ziti_outside.specs.Told.{IsFront, Took};
 ghost use Rattle.ziti_outside.specs.Causes.{Rose};
@@ -13,33 +13,33 @@ ghost use Rattle.ctrl_serve.specs.Notes.{session_note};
 ghost use Rattle.ctrl_serve.specs.Headline.{Serves};
 
 /// What `Done` says of a told input, in plain words: it was read to its end and is no longer than the bound, it leaves no
-/// tail, and exactly the controller's replies were said. Where it is the spellings of some frames, these are the replies to
+/// tail, and exactly the machine's replies were said. Where it is the spellings of some frames, these are the replies to
 /// those frames. Nothing was noted.
 pub fn done_says_all()
-    ensures read { (most : ℕ) (bytes before : List ℕ) (left after noted_before noted_after : Option (List ℕ)) (faults faults_now : ℕ)
-        → Serves most (Some bytes) left (Some before) after noted_before noted_after faults faults_now Done → (left ≡ Some []) × (length bytes ≤ most) }
-    ensures whole { (most : ℕ) (bytes before : List ℕ) (left after noted_before noted_after : Option (List ℕ)) (faults faults_now : ℕ)
-        → Serves most (Some bytes) left (Some before) after noted_before noted_after faults faults_now Done → rest_of bytes ≡ [] }
-    ensures said { (most : ℕ) (bytes before : List ℕ) (left after noted_before noted_after : Option (List ℕ)) (faults faults_now : ℕ)
-        → Serves most (Some bytes) left (Some before) after noted_before noted_after faults faults_now Done → after ≡ Some (before ++ replies bytes) }
-    ensures frames { (most : ℕ) (bytes before : List ℕ) (left after noted_before noted_after : Option (List ℕ)) (faults faults_now : ℕ) (frames : List Frame)
-        → Serves most (Some bytes) left (Some before) after noted_before noted_after faults faults_now Done → Reads bytes frames [] → after ≡ Some (before ++ answers Admin 0 start frames) }
-    ensures noted { (most : ℕ) (bytes before : List ℕ) (left after noted_before noted_after : Option (List ℕ)) (faults faults_now : ℕ)
-        → Serves most (Some bytes) left (Some before) after noted_before noted_after faults faults_now Done → Took noted_before noted_after [] }
+    ensures read { (slot : ℕ) (machine : Machine) (most : ℕ) (bytes before : List ℕ) (left after noted_before noted_after : Option (List ℕ)) (faults faults_now : ℕ)
+        → Serves slot machine most (Some bytes) left (Some before) after noted_before noted_after faults faults_now Done → (left ≡ Some []) × (length bytes ≤ most) }
+    ensures whole { (slot : ℕ) (machine : Machine) (most : ℕ) (bytes before : List ℕ) (left after noted_before noted_after : Option (List ℕ)) (faults faults_now : ℕ)
+        → Serves slot machine most (Some bytes) left (Some before) after noted_before noted_after faults faults_now Done → rest_of bytes ≡ [] }
+    ensures said { (slot : ℕ) (machine : Machine) (most : ℕ) (bytes before : List ℕ) (left after noted_before noted_after : Option (List ℕ)) (faults faults_now : ℕ)
+        → Serves slot machine most (Some bytes) left (Some before) after noted_before noted_after faults faults_now Done → after ≡ Some (before ++ replies slot machine bytes) }
+    ensures frames { (slot : ℕ) (machine : Machine) (most : ℕ) (bytes before : List ℕ) (left after noted_before noted_after : Option (List ℕ)) (faults faults_now : ℕ) (frames : List Frame)
+        → Serves slot machine most (Some bytes) left (Some before) after noted_before noted_after faults faults_now Done → Reads bytes frames [] → after ≡ Some (before ++ answers slot Admin 0 machine frames) }
+    ensures noted { (slot : ℕ) (machine : Machine) (most : ℕ) (bytes before : List ℕ) (left after noted_before noted_after : Option (List ℕ)) (faults faults_now : ℕ)
+        → Serves slot machine most (Some bytes) left (Some before) after noted_before noted_after faults faults_now Done → Took noted_before noted_after [] }
 {}
 
 /// What `Truncated` says of a told input, in plain words: it was read to its end and is no longer than the bound, and exactly the
-/// controller's replies were said. Behind the frames stands no fault but the rest of an unfinished frame, which is not empty;
+/// machine's replies were said. Behind the frames stands no fault but the rest of an unfinished frame, which is not empty;
 /// and the note, where no note failed, counts its bytes.
 pub fn truncated_says_all()
-    ensures read { (most : ℕ) (bytes before : List ℕ) (left after noted_before noted_after : Option (List ℕ)) (faults faults_now : ℕ)
-        → Serves most (Some bytes) left (Some before) after noted_before noted_after faults faults_now Truncated → (left ≡ Some []) × (length bytes ≤ most) }
-    ensures rest { (most : ℕ) (bytes before : List ℕ) (left after noted_before noted_after : Option (List ℕ)) (faults faults_now : ℕ)
-        → Serves most (Some bytes) left (Some before) after noted_before noted_after faults faults_now Truncated → (fault_of bytes ≡ None) × (rest_of bytes ≢ []) }
-    ensures said { (most : ℕ) (bytes before : List ℕ) (left after noted_before noted_after : Option (List ℕ)) (faults faults_now : ℕ)
-        → Serves most (Some bytes) left (Some before) after noted_before noted_after faults faults_now Truncated → after ≡ Some (before ++ replies bytes) }
-    ensures noted { (most : ℕ) (bytes before : List ℕ) (left after noted_before noted_after : Option (List ℕ)) (faults faults_now : ℕ)
-        → Serves most (Some bytes) left (Some before) after noted_before noted_after faults faults_now Truncated → (Rose faults faults_now → ⊥)
+    ensures read { (slot : ℕ) (machine : Machine) (most : ℕ) (bytes before : List ℕ) (left after noted_before noted_after : Option (List ℕ)) (faults faults_now : ℕ)
+        → Serves slot machine most (Some bytes) left (Some before) after noted_before noted_after faults faults_now Truncated → (left ≡ Some []) × (length bytes ≤ most) }
+    ensures rest { (slot : ℕ) (machine : Machine) (most : ℕ) (bytes before : List ℕ) (left after noted_before noted_after : Option (List ℕ)) (faults faults_now : ℕ)
+        → Serves slot machine most (Some bytes) left (Some before) after noted_before noted_after faults faults_now Truncated → (fault_of bytes ≡ None) × (rest_of bytes ≢ []) }
+    ensures said { (slot : ℕ) (machine : Machine) (most : ℕ) (bytes before : List ℕ) (left after noted_before noted_after : Option (List ℕ)) (faults faults_now : ℕ)
+        → Serves slot machine most (Some bytes) left (Some before) after noted_before noted_after faults faults_now Truncated → after ≡ Some (before ++ replies slot machine bytes) }
+    ensures noted { (slot : ℕ) (machine : Machine) (most : ℕ) (bytes before : List ℕ) (left after noted_before noted_after : Option (List ℕ)) (faults faults_now : ℕ)
+        → Serves slot machine most (Some bytes) left (Some before) after noted_before noted_after faults faults_now Truncated → (Rose faults faults_now → ⊥)
         → Took noted_before noted_after (session_note 0 (decimal (length (rest_of bytes)) ++ codes " bytes left")) }
 {}
 

@@ -3,6 +3,7 @@
 
 mod bounds;
 mod command_line;
+mod controller;
 mod intake;
 mod laws;
 mod notes;

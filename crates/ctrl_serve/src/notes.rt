@@ -3,8 +3,8 @@ ghost use Rattle.std.specs.String.{string_bytes};
 ghost use Rattle.ziti_outside.specs.Untouched.{OnlyNotes};
 ghost use Rattle.ctrl_serve.specs.Failures.{RisesOnce};
 ghost use Rattle.ctrl_serve.specs.Headline.{NotesLines};
-ghost use Rattle.ctrl_serve.specs.Notes.{fault_word, session_note, status_lines};
-ghost use Rattle.ctrl_serve.specs.Runs.{session_lines, status_at, status_of_cut, TellsEnding, IsNoteCaused};
+ghost use Rattle.ctrl_serve.specs.Notes.{damaged_note, fault_word, file_number, session_note, status_lines};
+ghost use Rattle.ctrl_serve.specs.Runs.{session_lines, status_at, status_of_cut, TellsDamage, TellsEnding, IsNoteCaused};
 
 use crate::intake::End;
 use crate::serving::Cut;
@@ -12,7 +12,7 @@ use crate::status::Status;
 use crate::tails::Tail;
 use channel_frame::FrameFault;
 use std::alloc::{AllocError, Global};
-use ziti_outside::Desk;
+use ziti_outside::{Desk, Part};
 
 /// The number of the one session of plain input.
 const SESSION: u8 = 0;
@@ -27,6 +27,7 @@ pub fn status_line(status: Status) -> &'static [u8]
         }
         Status::ReadFault => b"zitictl: read fault\n",
         Status::WriteFault => b"zitictl: write fault\n",
+        Status::DiskFault => b"zitictl: disk fault\n",
         Status::NoMemory => b"zitictl: no memory\n",
         Status::InputTooLong => b"zitictl: input too long\n",
         _ => b"",
@@ -127,8 +128,42 @@ pub fn tell_cut<D: Desk>(cut: Cut, desk: &mut D) -> Status
 {
     let status = match cut {
         Cut::NoMemory => Status::NoMemory,
+        Cut::Disk => Status::DiskFault,
         Cut::Unsaid => Status::WriteFault,
     };
     note_lines(status_line(status), desk);
     status
+}
+
+// The number by which a note names a part of the folder.
+fn file_number(part: Part) -> u8
+    ensures { result ≡ file_number part }
+{
+    match part {
+        Part::Zero => 0,
+        Part::One => 1,
+        Part::Mark => 2,
+    }
+}
+
+// The line of a folder that opens to no state.
+fn damaged_line(alloc: Global, part: Part, at: u64) -> Result<String, AllocError>
+    ensures { IfOk result (λ line. string_bytes line ≡ damaged_note part at) }
+{
+    let file = file_number(part);
+    format!(in alloc; "zitictl: damaged: file {file} at {at}\n")
+}
+
+/// Notes that the folder opens to no state, and answers that status; for want of memory that one is noted.
+pub fn tell_damage<D: Desk>(alloc: Global, part: Part, at: u64, desk: &mut D) -> Status
+    ensures told { TellsDamage part at result (D.noted desk.old) (D.noted desk.new) (D.note_faults desk.old) (D.note_faults desk.new) }
+    ensures others { OnlyNotes D.said D.say_faults D.reads D.may_leave D.disk_faults desk.old desk.new }
+{
+    match damaged_line(alloc, part, at) {
+        Ok(line) => {
+            note_lines(line.as_bytes(), desk);
+            Status::Damaged
+        }
+        Err(_) => tell_cut(Cut::NoMemory, desk),
+    }
 }

@@ -1,26 +1,26 @@
-ghost use Rattle.std.specs.Prelude.{◌≡◌, ◌≢◌, true, IfOk, IfErr, None, OnOk, length};
+ghost use Rattle.std.specs.Prelude.{◌≡◌, ◌⊎◌, ◌≢◌, true, IsTrue, IsSome, IfOk, IfErr, IsErrOf, None, OnOk, length};
 ghost use Rattle.ziti_outside.specs.Told.{Took};
 ghost use Rattle.channel_frame.specs.declared.frames.Front.TheVariants.{Bad};
 ghost use Rattle.channel_frame.specs.FrameSpelling.{spelling};
 ghost use Rattle.channel_frame.specs.StreamReading.{front};
 ghost use Rattle.ctrl_model.specs.declared.kinds.Who.TheVariants.{Admin};
-ghost use Rattle.ctrl_core.specs.CarriedCommands.{is_carried};
-ghost use Rattle.ctrl_model.specs.CommandForm.{is_spelled};
-ghost use Rattle.ctrl_model.specs.State.{start};
-ghost use Rattle.ctrl_model.specs.Controller.{answer};
+ghost use Rattle.ctrl_keep.specs.OpenedStates.{OpensToState};
 ghost use Rattle.reply_codec.specs.ReplyFrame.{reply_frame};
 ghost use Rattle.reply_codec.specs.ReplyLimits.{keeps_limits};
 ghost use Rattle.ctrl_serve.specs.Ending.{tail_from};
-ghost use Rattle.ctrl_serve.specs.FrameAnswer.{frame_answer, refusal_for};
+ghost use Rattle.ctrl_serve.specs.ControllerViews.{serving_of};
+ghost use Rattle.ctrl_serve.specs.Controllers.{GoesOn, IsReady, LeavesNotes, Turn};
+ghost use Rattle.ctrl_serve.specs.FrameAnswer.{frame_answer, last_machine, refusal_for};
 ghost use Rattle.ziti_outside.specs.Causes.{HasCause};
-ghost use Rattle.ziti_outside.specs.Untouched.{OnlySays};
-ghost use Rattle.ctrl_serve.specs.Turns.{IsAnnouncedAt, TakesTurn, CutsTurn, IsServed, unsaid};
+ghost use Rattle.ziti_outside.specs.Moments.{Elapses, Leaves, Remembers};
+ghost use Rattle.ziti_outside.specs.Untouched.{OnlyDisk, OnlySays};
+ghost use Rattle.ctrl_serve.specs.Turns.{IsAnnouncedAt, TakesTurn, CutsTurn, IsServed, reply_to_frame, unkept, unsaid};
 
+use crate::controller::Controller;
 use crate::tails::Tail;
 use channel_frame::{Frame, FrameFault, Front, encode, read_frame, read_head};
 use command_codec::{CodecFault, read};
-use ctrl_core::Core;
-use ctrl_model::{Bytes, Command, Refusal, Reply};
+use ctrl_model::{Bytes, Refusal, Reply};
 use reply_codec::write;
 use std::alloc::{AllocError, Global};
 use ziti_outside::{Desk, Failed};
@@ -33,6 +33,8 @@ const HEAD: usize = 20;
 pub enum Cut {
     /// There is no memory.
     NoMemory,
+    /// A call on the disk failed.
+    Disk,
     /// The desk failed to take a reply.
     Unsaid,
 }
@@ -48,19 +50,6 @@ impl From<AllocError> for Cut {
     }
 }
 
-// Carries out a command as an administrator's.
-fn carry_out(core: &mut Core, command: &Command) -> Result<Reply, AllocError>
-    requires live { core.old.live ≡ true }
-    requires spelled { is_spelled command.now ≡ true }
-    requires carried { is_carried command.now ≡ true }
-    ensures ok { IfOk result (λ r. (r, core.new.state) ≡ answer Admin command.now core.old.state) }
-    ensures live { OnOk result (core.new.live ≡ true) }
-    ensures limits { IfOk result (λ r. keeps_limits r ≡ true) }
-{
-    let planned = core.plan(command)?;
-    core.apply(planned)
-}
-
 fn refusal_of(fault: CodecFault) -> Result<Refusal, AllocError>
     ensures { IfOk result (λ r. (fault ≢ CodecFault.NoMemory) × (r ≡ refusal_for fault)) }
 {
@@ -71,14 +60,31 @@ fn refusal_of(fault: CodecFault) -> Result<Refusal, AllocError>
     }
 }
 
-fn answer_frame(alloc: Global, core: &mut Core, frame: &Frame) -> Result<Reply, AllocError>
-    requires live { core.old.live ≡ true }
-    ensures ok { IfOk result (λ r. (r, core.new.state) ≡ frame_answer Admin frame.now core.old.state) }
-    ensures live { OnOk result (core.new.live ≡ true) }
+// Answers a frame: the command that it spells is carried out, and what spells none is refused.
+fn answer_frame<D: Desk>(
+    alloc: Global,
+    desk: &mut D,
+    controller: &mut Controller,
+    frame: &Frame,
+) -> Result<Reply, Cut>
+    requires able { (serving_of controller.old).able ≡ true }
+    requires ready { IsReady D.tells (serving_of controller.old).kept (D.reads desk.old) (D.may_leave desk.old) }
+    ensures ok { IfOk result (λ r. (r, (serving_of controller.new).machine) ≡ frame_answer (serving_of controller.old).slot Admin frame.now (serving_of controller.old).machine) }
+    ensures on { OnOk result (GoesOn (serving_of controller.old) (serving_of controller.new)) }
+    ensures ready { OnOk result (IsReady D.tells (serving_of controller.new).kept (D.reads desk.new) (D.may_leave desk.new)) }
     ensures limits { IfOk result (λ r. keeps_limits r ≡ true) }
+    ensures cut { IfErr result (λ c. c ≢ Cut.Unsaid) }
+    ensures cause { HasCause (D.disk_faults desk.old) (D.disk_faults desk.new) (unkept result) }
+    ensures undisked { (serving_of controller.old).kept ≡ None → IsErrOf result Cut.Disk → ⊥ }
+    ensures alone { (serving_of controller.old).kept ≡ None → desk.new ≡ desk.old }
+    ensures others { OnlyDisk D.said D.noted D.say_faults D.note_faults desk.old desk.new }
+    ensures stops { IsSome (serving_of controller.old).kept → IsTrue D.tells → Leaves D.moment D.since D.may_leave D.said desk.old desk.new
+        (λ image. OpensToState image (serving_of controller.old).machine.state
+            ⊎ OpensToState image (frame_answer (serving_of controller.old).slot Admin frame.now (serving_of controller.old).machine).1.state) }
+    ensures remembers { Remembers (D.moment desk.old) (D.since desk.old) (D.since desk.new) }
 {
     match read(alloc, frame.content, frame.body.as_slice()) {
-        Ok(command) => carry_out(core, &command),
+        Ok(command) => controller.carry_out(desk, &command),
         Err(fault) => Ok(Reply::Refused(refusal_of(fault)?)),
     }
 }
@@ -134,22 +140,32 @@ fn reply_bytes(
     encode(alloc, &frame)
 }
 
-/// Answers one frame and says the reply.
+/// Answers one frame and says the reply. With a folder, a stop at any moment of the turn leaves the state after the frame, or, where no
+/// byte of the reply was taken, that before it.
 fn serve_frame<D: Desk>(
     alloc: Global,
     desk: &mut D,
-    core: &mut Core,
+    controller: &mut Controller,
     sequence: u32,
     frame: &Frame,
 ) -> Result<(), Cut>
-    requires live { core.old.live ≡ true }
-    ensures ok { OnOk result (TakesTurn sequence frame.now core.old.state core.new.state (D.said desk.old) (D.said desk.new)) }
-    ensures live { OnOk result (core.new.live ≡ true) }
-    ensures cut { IfErr result (λ c. CutsTurn c sequence frame.now core.old.state (D.said desk.old) (D.said desk.new)) }
-    ensures cause { HasCause (D.say_faults desk.old) (D.say_faults desk.new) (unsaid result) }
-    ensures others { OnlySays D.noted D.note_faults D.reads D.may_leave D.disk_faults desk.old desk.new }
+    requires able { (serving_of controller.old).able ≡ true }
+    requires ready { IsReady D.tells (serving_of controller.old).kept (D.reads desk.old) (D.may_leave desk.old) }
+    ensures ok { OnOk result (TakesTurn (serving_of controller.old).slot sequence frame.now (serving_of controller.old).machine (serving_of controller.new).machine (D.said desk.old) (D.said desk.new)) }
+    ensures on { OnOk result (GoesOn (serving_of controller.old) (serving_of controller.new)) }
+    ensures ready { OnOk result (IsReady D.tells (serving_of controller.new).kept (D.reads desk.new) (D.may_leave desk.new)) }
+    ensures cut { IfErr result (λ c. CutsTurn c (serving_of controller.old).slot sequence frame.now (serving_of controller.old).machine (D.said desk.old) (D.said desk.new)) }
+    ensures say_cause { HasCause (D.say_faults desk.old) (D.say_faults desk.new) (unsaid result) }
+    ensures disk_cause { HasCause (D.disk_faults desk.old) (D.disk_faults desk.new) (unkept result) }
+    ensures notes { LeavesNotes D.noted D.note_faults desk.old desk.new }
+    ensures undisked { (serving_of controller.old).kept ≡ None → IsErrOf result Cut.Disk → ⊥ }
+    ensures alone { (serving_of controller.old).kept ≡ None → OnlySays D.noted D.note_faults D.reads D.may_leave D.disk_faults desk.old desk.new }
+    ensures stops { IsSome (serving_of controller.old).kept → IsTrue D.tells → Elapses (D.moment desk.old) (D.moment desk.new) (D.since desk.old) (D.since desk.new)
+        (Turn (serving_of controller.old).machine.state
+            (frame_answer (serving_of controller.old).slot Admin frame.now (serving_of controller.old).machine).1.state
+            (reply_to_frame (serving_of controller.old).slot sequence frame.now (serving_of controller.old).machine) (D.said desk.old)) }
 {
-    let reply = answer_frame(alloc, core, frame)?;
+    let reply = answer_frame(alloc, desk, controller, frame)?;
     let bytes = reply_bytes(alloc, sequence, frame.sequence, &reply)?;
     match desk.say(bytes.as_slice()) {
         Ok(()) => Ok(()),
@@ -167,25 +183,31 @@ fn unfinished(rest: &[u8]) -> Tail
     }
 }
 
-/// Answers the whole frames of the bytes in order by a core at the start, as `serve` does.
-fn serve_frames<D: Desk>(
+/// Answers the whole frames of the bytes in order and says their replies. Answers the tail that is left behind them.
+pub fn serve_frames<D: Desk>(
     alloc: Global,
     desk: &mut D,
-    core: &mut Core,
+    controller: &mut Controller,
     bytes: &[u8],
 ) -> Result<Tail, Cut>
-    requires live { core.old.live ≡ true }
-    requires at_start { core.old.state ≡ start }
-    ensures said { IsServed result bytes.now (D.said desk.old) (D.said desk.new) }
-    ensures cause { HasCause (D.say_faults desk.old) (D.say_faults desk.new) (unsaid result) }
-    ensures others { OnlySays D.noted D.note_faults D.reads D.may_leave D.disk_faults desk.old desk.new }
+    requires able { (serving_of controller.old).able ≡ true }
+    requires ready { IsReady D.tells (serving_of controller.old).kept (D.reads desk.old) (D.may_leave desk.old) }
+    ensures said { IsServed (serving_of controller.old).slot (serving_of controller.old).machine result bytes.now (D.said desk.old) (D.said desk.new) }
+    ensures last { OnOk result ((serving_of controller.new).machine ≡ last_machine (serving_of controller.old).slot (serving_of controller.old).machine bytes.now) }
+    ensures on { OnOk result (GoesOn (serving_of controller.old) (serving_of controller.new)) }
+    ensures ready { OnOk result (IsReady D.tells (serving_of controller.new).kept (D.reads desk.new) (D.may_leave desk.new)) }
+    ensures say_cause { HasCause (D.say_faults desk.old) (D.say_faults desk.new) (unsaid result) }
+    ensures disk_cause { HasCause (D.disk_faults desk.old) (D.disk_faults desk.new) (unkept result) }
+    ensures notes { LeavesNotes D.noted D.note_faults desk.old desk.new }
+    ensures undisked { (serving_of controller.old).kept ≡ None → IsErrOf result Cut.Disk → ⊥ }
+    ensures alone { (serving_of controller.old).kept ≡ None → OnlySays D.noted D.note_faults D.reads D.may_leave D.disk_faults desk.old desk.new }
 {
     let mut sequence = 0u32;
     let mut rest = bytes;
     'frames: loop {
         match front_of(alloc, rest)? {
             Front::Whole(frame, len) => {
-                serve_frame(alloc, desk, core, sequence, &frame)?;
+                serve_frame(alloc, desk, controller, sequence, &frame)?;
                 sequence = sequence.wrapping_add(1);
                 let (_, after) = rest.split_at(len as usize);
                 rest = after;
@@ -196,14 +218,4 @@ fn serve_frames<D: Desk>(
             }
         }
     }
-}
-
-/// Answers the whole frames of the bytes in order and says their replies. Answers the tail that is left behind them.
-pub fn serve<D: Desk>(alloc: Global, desk: &mut D, bytes: &[u8]) -> Result<Tail, Cut>
-    ensures said { IsServed result bytes.now (D.said desk.old) (D.said desk.new) }
-    ensures cause { HasCause (D.say_faults desk.old) (D.say_faults desk.new) (unsaid result) }
-    ensures others { OnlySays D.noted D.note_faults D.reads D.may_leave D.disk_faults desk.old desk.new }
-{
-    let mut core = Core::empty(alloc)?;
-    serve_frames(alloc, desk, &mut core, bytes)
 }

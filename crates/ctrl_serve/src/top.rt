@@ -1,18 +1,22 @@
-ghost use Rattle.std.specs.Prelude.{◌≡◌, ◌↔◌, ◌≤◌, ◌^◌, false, None, Some, take};
-ghost use Rattle.std.specs.Io.KnownBytes.{IsAtEnd};
-ghost use Rattle.ziti_outside.specs.Causes.{Rose};
-ghost use Rattle.ctrl_serve.specs.Failures.{RisesOnce, TakesUntilFailure};
+ghost use Rattle.std.specs.Prelude.{◌≡◌, ◌⊎◌, ◌≢◌, ◌≤◌, ◌^◌, true, None, take};
+ghost use Rattle.ctrl_model.specs.State.{start};
+ghost use Rattle.ctrl_serve.specs.ControllerViews.{serving_of};
+ghost use Rattle.ctrl_serve.specs.Controllers.{IsReady};
+ghost use Rattle.ctrl_serve.specs.FrameAnswer.{alone};
 ghost use Rattle.ctrl_serve.specs.CommandLine.{form_of, texts};
-ghost use Rattle.ctrl_serve.specs.Runs.{SaysIntake, IsWriteCaused};
-ghost use Rattle.ctrl_serve.specs.Ending.{is_cut};
-ghost use Rattle.ctrl_serve.specs.Headline.{AreBounds, OnlySaysAndNotes, Serves, Runs};
+ghost use Rattle.ctrl_serve.specs.Runs.{CountsFaults, IsDiskCaused, IsWriteCaused, KeepsUsed, RunsOn, SaysIntake};
+ghost use Rattle.ctrl_serve.specs.Headline.{AreBounds, OnlySaysAndNotes, Refuses, Replays, Serves, Runs};
 
 use crate::bounds::Bounds;
 use crate::command_line::{Form, form_of};
+use crate::controller::Controller;
 use crate::intake::{Intake, take_all};
-use crate::notes::{note_lines, status_line, tell_cut, tell_ending};
-use crate::serving::{Cut, serve};
+use crate::notes::{note_lines, status_line, tell_cut, tell_damage, tell_ending};
+use crate::serving::{Cut, serve_frames};
 use crate::status::Status;
+use ctrl_core::Core;
+use ctrl_keep::{KeepFault, Kept};
+use row_store::StoreBounds;
 use std::alloc::Global;
 use ziti_outside::{Desk, Source};
 
@@ -26,39 +30,95 @@ fn first_bytes(bytes: &[u8], most: u64) -> &[u8]
     first
 }
 
-fn answer_intake<D: Desk>(alloc: Global, most: u64, intake: &Intake, desk: &mut D) -> Status
-    ensures says { SaysIntake most intake.now (D.said desk.old) (D.said desk.new) (D.noted desk.old) (D.noted desk.new) (D.note_faults desk.old) (D.note_faults desk.new) result }
-    ensures cause { IsWriteCaused (D.say_faults desk.old) (D.say_faults desk.new) result }
-    ensures others { OnlySaysAndNotes D.reads D.may_leave D.disk_faults desk.old desk.new }
+// Answers the frames of what was taken, and notes how that ended.
+fn answer_intake<D: Desk>(
+    alloc: Global,
+    most: u64,
+    controller: &mut Controller,
+    intake: &Intake,
+    desk: &mut D,
+) -> Status
+    requires able { (serving_of controller.old).able ≡ true }
+    requires ready { IsReady D.tells (serving_of controller.old).kept (D.reads desk.old) (D.may_leave desk.old) }
+    ensures says { SaysIntake (serving_of controller.old).slot (serving_of controller.old).machine most intake.now (D.said desk.old) (D.said desk.new) (D.noted desk.old) (D.noted desk.new) (D.note_faults desk.old) (D.note_faults desk.new) result }
+    ensures keeps { KeepsUsed (serving_of controller.old) (take most intake.now.bytes.items) D.tells (D.reads desk.new) (D.may_leave desk.new) result }
+    ensures write_cause { IsWriteCaused (D.say_faults desk.old) (D.say_faults desk.new) result }
+    ensures disk_cause { IsDiskCaused (D.disk_faults desk.old) (D.disk_faults desk.new) result }
+    ensures undisked { (serving_of controller.old).kept ≡ None → result ≢ Status.DiskFault }
+    ensures alone { (serving_of controller.old).kept ≡ None → OnlySaysAndNotes D.reads D.may_leave D.disk_faults desk.old desk.new }
 {
     let used = first_bytes(intake.bytes.as_slice(), most);
-    match serve(alloc, desk, used) {
+    match serve_frames(alloc, desk, controller, used) {
         Ok(tail) => tell_ending(alloc, tail, intake.end, desk),
         Err(cut) => tell_cut(cut, desk),
     }
 }
 
-fn run_dry<S: Source, D: Desk>(alloc: Global, most: u64, source: &mut S, desk: &mut D) -> Status
-    requires { most ≤ 2 ^ 32 }
-    ensures serves { Serves most (S.left source.old) (S.left source.new) (D.said desk.old) (D.said desk.new) (D.noted desk.old) (D.noted desk.new) (D.note_faults desk.old) (D.note_faults desk.new) result }
-    ensures read_fault { result ≡ Status.ReadFault → Rose (S.faults source.old) (S.faults source.new) }
-    ensures failed_take { is_cut result ≡ false → S.faults source.new ≡ S.faults source.old }
-    ensures write_cause { IsWriteCaused (D.say_faults desk.old) (D.say_faults desk.new) result }
-    ensures read_faults_once { RisesOnce (S.faults source.old) (S.faults source.new) }
-    ensures note_faults_once { RisesOnce (D.note_faults desk.old) (D.note_faults desk.new) }
-    ensures takes_until_failure { TakesUntilFailure S.left S.faults source.old source.new }
-    ensures others { OnlySaysAndNotes D.reads D.may_leave D.disk_faults desk.old desk.new }
+// Takes the input and answers its frames.
+fn run_on<S: Source, D: Desk>(
+    alloc: Global,
+    most: u64,
+    mut controller: Controller,
+    source: &mut S,
+    desk: &mut D,
+) -> Status
+    requires most { most ≤ 2 ^ 32 }
+    requires able { (serving_of controller).able ≡ true }
+    requires ready { IsReady D.tells (serving_of controller).kept (D.reads desk.old) (D.may_leave desk.old) }
+    ensures runs { RunsOn (serving_of controller) most (S.left source.old) (S.left source.new) (D.said desk.old) (D.said desk.new) (D.noted desk.old) (D.noted desk.new) (D.note_faults desk.old) (D.note_faults desk.new) D.tells (D.reads desk.new) (D.may_leave desk.new) result }
+    ensures counts { CountsFaults S.left S.faults D.say_faults D.note_faults D.disk_faults source.old source.new desk.old desk.new result }
+    ensures undisked { (serving_of controller).kept ≡ None → result ≢ Status.DiskFault }
+    ensures alone { (serving_of controller).kept ≡ None → OnlySaysAndNotes D.reads D.may_leave D.disk_faults desk.old desk.new }
 {
     match take_all(alloc, most, source) {
-        Ok(intake) => answer_intake(alloc, most, &intake, desk),
+        Ok(intake) => answer_intake(alloc, most, &mut controller, &intake, desk),
         Err(_) => tell_cut(Cut::NoMemory, desk),
+    }
+}
+
+// Runs without a folder, from the start.
+fn run_dry<S: Source, D: Desk>(alloc: Global, most: u64, source: &mut S, desk: &mut D) -> Status
+    requires { most ≤ 2 ^ 32 }
+    ensures serves { Serves 0 (alone start) most (S.left source.old) (S.left source.new) (D.said desk.old) (D.said desk.new) (D.noted desk.old) (D.noted desk.new) (D.note_faults desk.old) (D.note_faults desk.new) result }
+    ensures counts { CountsFaults S.left S.faults D.say_faults D.note_faults D.disk_faults source.old source.new desk.old desk.new result }
+    ensures undisked { result ≢ Status.DiskFault }
+    ensures others { OnlySaysAndNotes D.reads D.may_leave D.disk_faults desk.old desk.new }
+{
+    match Core::empty(alloc) {
+        Ok(core) => run_on(alloc, most, Controller::Alone(core), source, desk),
+        Err(_) => tell_cut(Cut::NoMemory, desk),
+    }
+}
+
+// Runs on the folder, from the state to which it opens.
+fn run_replay<S: Source, D: Desk>(
+    alloc: Global,
+    bounds: Bounds,
+    source: &mut S,
+    desk: &mut D,
+) -> Status
+    requires { AreBounds bounds }
+    ensures replays { Refuses D.said D.noted D.note_faults D.tells D.reads source.old source.new desk.old desk.new result
+        ⊎ Replays bounds.slot bounds.input (S.left source.old) (S.left source.new) (D.said desk.old) (D.said desk.new) (D.noted desk.old) (D.noted desk.new) (D.note_faults desk.old) (D.note_faults desk.new) D.tells (D.reads desk.old) (D.reads desk.new) (D.may_leave desk.new) result }
+    ensures counts { CountsFaults S.left S.faults D.say_faults D.note_faults D.disk_faults source.old source.new desk.old desk.new result }
+{
+    let store = StoreBounds {
+        slot: bounds.slot,
+        mark: bounds.mark,
+    };
+    match Kept::open(alloc, desk, store) {
+        Ok(kept) => run_on(alloc, bounds.input, Controller::Kept(kept), source, desk),
+        Err(KeepFault::Disk) => tell_cut(Cut::Disk, desk),
+        Err(KeepFault::Damaged { part, at }) => tell_damage(alloc, part, at, desk),
+        Err(KeepFault::NoMemory) => tell_cut(Cut::NoMemory, desk),
+        Err(KeepFault::Spent) => unreachable!(),
     }
 }
 
 /// Runs the controller on the words after the program's name, within bounds.
 ///
-/// So far the one line of words is `dry`: the whole input is taken, up to `bounds.input` bytes, its whole frames are answered
-/// in order, and their replies are said. Want of memory may end the run early, with the status `NoMemory`; it is the one
+/// So far the lines of words are `dry` and `replay`: the whole input is taken, up to `bounds.input` bytes, its whole frames are answered
+/// in order, and their replies are said; under `replay` the folder is opened before, and keeps each change before its reply is said. Want of memory may end the run early, with the status `NoMemory`; it is the one
 /// answer without a cause in the contract. docs/PROMISES.md tells what each part of the clause promises.
 pub fn run_within<S: Source, D: Desk>(
     alloc: Global,
@@ -69,10 +129,11 @@ pub fn run_within<S: Source, D: Desk>(
 ) -> Status
     requires { AreBounds bounds }
     ensures runs { Runs S.left S.faults D.said D.noted D.say_faults D.note_faults D.reads D.may_leave D.disk_faults
-        bounds.input (form_of (texts words.now.items)) source.old source.new desk.old desk.new result }
+        D.tells bounds.slot bounds.input (form_of (texts words.now.items)) source.old source.new desk.old desk.new result }
 {
     match form_of(words.as_slice()) {
         Some(Form::Dry) => run_dry(alloc, bounds.input, source, desk),
+        Some(Form::Replay) => run_replay(alloc, bounds, source, desk),
         None => {
             note_lines(status_line(Status::Usage), desk);
             Status::Usage
@@ -88,7 +149,7 @@ pub fn run<S: Source, D: Desk>(
     desk: &mut D,
 ) -> Status
     ensures runs { Runs S.left S.faults D.said D.noted D.say_faults D.note_faults D.reads D.may_leave D.disk_faults
-        4294967296 (form_of (texts words.now.items)) source.old source.new desk.old desk.new result }
+        D.tells 1073741824 4294967296 (form_of (texts words.now.items)) source.old source.new desk.old desk.new result }
 {
     run_within(alloc, words, Bounds::PROGRAM, source, desk)
 }

@@ -6,18 +6,21 @@ ghost use Rattle.ctrl_model.specs.declared.refusals.Field.TheVariants as field;
 ghost use Rattle.ctrl_model.specs.declared.refusals.Reason.TheVariants as reason;
 ghost use Rattle.ctrl_model.specs.declared.refusals.Refusal.TheVariants as refusal;
 ghost use Rattle.ctrl_model.specs.declared.replies.Reply.TheVariants as reply;
+ghost use Rattle.ctrl_model.specs.State.{start};
 ghost use Rattle.ctrl_serve.specs.CommandLine.{form_of};
-ghost use Rattle.ctrl_serve.specs.declared.command_line.Form.TheVariants.{Dry};
-ghost use Rattle.ctrl_serve.specs.Notes.{notes_of, session_note, usage_note};
-ghost use Rattle.ctrl_serve.specs.FrameAnswer.{replies};
+ghost use Rattle.ctrl_serve.specs.declared.command_line.Form.TheVariants.{Dry, Replay};
+ghost use Rattle.ctrl_serve.specs.Notes.{damaged_note, notes_of, session_note, usage_note};
+ghost use Rattle.ctrl_serve.specs.FrameAnswer.{alone, replies};
 ghost use Rattle.ctrl_serve.specs.WorkedAnswers.{reply_at_start, reply_behind, ann_may_dial, all_may_dial, first_goes, ann_comes_again, two_routers, router_goes, line, ann_asks, middle_closes};
 ghost use Rattle.reply_codec.specs.ReplyFrame.{reply_frame};
+ghost use Rattle.ziti_outside.specs.declared.desk.Part.TheVariants.{Zero};
 ghost use Rattle.ctrl_serve.specs.Ending.{ending, tail_of};
 ghost use Rattle.ctrl_serve.specs.declared.status.Status.TheVariants as status;
 
 /// Words of the command line.
 pub fn worked_words()
     ensures dry { form_of (codes "dry" ∷ []) ≡ Some Dry }
+    ensures replay { form_of (codes "replay" ∷ []) ≡ Some Replay }
     ensures none { form_of [] ≡ None }
     ensures other { form_of (codes "Dry" ∷ []) ≡ None }
     ensures more { form_of (codes "dry" ∷ codes "dry" ∷ []) ≡ None }
@@ -74,10 +77,10 @@ pub fn worked_circuits()
 
 /// The replies to one frame that creates ann, to the same frame twice, and to a frame before a cut one.
 pub fn worked_runs()
-    ensures once { replies ann_bytes ≡ reply_bytes }
-    ensures twice { replies (ann_bytes ++ ann_bytes) ≡ reply_bytes ++ spelling (reply_frame 1 7 (reply.Refused refusal.Exists)) }
-    ensures nothing { replies [] ≡ [] }
-    ensures before_a_tail { replies (ann_bytes ++ cut_bytes) ≡ reply_bytes }
+    ensures once { replies 0 (alone start) ann_bytes ≡ reply_bytes }
+    ensures twice { replies 0 (alone start) (ann_bytes ++ ann_bytes) ≡ reply_bytes ++ spelling (reply_frame 1 7 (reply.Refused refusal.Exists)) }
+    ensures nothing { replies 0 (alone start) [] ≡ [] }
+    ensures before_a_tail { replies 0 (alone start) (ann_bytes ++ cut_bytes) ≡ reply_bytes }
 {}
 
 /// How whole, cut and faulty inputs end, as long as they may be and longer: a fault comes before a longer input, and this before the
@@ -93,7 +96,8 @@ pub fn worked_endings()
     ensures faulty_and_longer { ending (ann_bytes ++ unmarked_bytes) true ≡ status.BadInput }
 {}
 
-/// The notes of such inputs. A read fault is noted behind the fault of the input; a write fault and want of memory are noted alone.
+/// The notes of such inputs. A read fault is noted behind the fault of the input; a write fault, a disk
+/// fault and want of memory are noted alone. A damaged folder is told by the slot and the place.
 pub fn worked_notes()
     ensures done { notes_of (tail_of ann_bytes) status.Done ≡ [] }
     ensures cut { notes_of (tail_of cut_bytes) status.Truncated ≡ codes "zitictl: session 0: 19 bytes left\n" }
@@ -105,6 +109,8 @@ pub fn worked_notes()
     ensures unread_behind { notes_of (tail_of (ann_bytes ++ unmarked_bytes)) status.ReadFault ≡ codes "zitictl: session 0: BadMarker at 34\nzitictl: read fault\n" }
     ensures unsaid { notes_of (tail_of (ann_bytes ++ unmarked_bytes)) status.WriteFault ≡ codes "zitictl: write fault\n" }
     ensures no_memory { notes_of (tail_of (ann_bytes ++ unmarked_bytes)) status.NoMemory ≡ codes "zitictl: no memory\n" }
+    ensures disk { notes_of (tail_of (ann_bytes ++ unmarked_bytes)) status.DiskFault ≡ codes "zitictl: disk fault\n" }
+    ensures damaged { damaged_note Zero 8 ≡ codes "zitictl: damaged: file 0 at 8\n" }
     ensures usage { usage_note ≡ codes "zitictl: usage: zitictl dry | replay [--sessions] | audit | compact | load N\n" }
     ensures another_session { session_note 12 (codes "3 bytes left") ≡ codes "zitictl: session 12: 3 bytes left\n" }
 {}

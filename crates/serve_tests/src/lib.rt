@@ -12,4 +12,6 @@ mod desks;
 #[cfg(test)]
 mod model_rows;
 #[cfg(test)]
+mod replays;
+#[cfg(test)]
 mod runs;

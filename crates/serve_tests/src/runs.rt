@@ -340,7 +340,7 @@ fn check_usage(rt: &impl Abort, alloc: Global, words: &Vec<String>) -> Result<()
 
 #[test]
 fn tells_other_words_the_usage(rt: HostRuntime) -> Result<(), Fail> {
-    for word in ["", "Dry", "load", "replay", "--help"] {
+    for word in ["", "Dry", "load", "Replay", "--help"] {
         let words = words(rt.alloc(), word)?;
         check_usage(&rt, rt.alloc(), &words)?;
     }

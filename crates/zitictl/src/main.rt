@@ -31,10 +31,10 @@ fn run_stored<S: Source, D: Desk>(
     desk: &mut D,
 ) -> Status
     ensures stored { IfOk stored (λ words. Runs S.left S.faults D.said D.noted D.say_faults D.note_faults D.reads D.may_leave D.disk_faults
-        4294967296 (form_of (texts words.items)) source.old source.new desk.old desk.new result) }
+        D.tells 1073741824 4294967296 (form_of (texts words.items)) source.old source.new desk.old desk.new result) }
     ensures no_text { IfErr stored (λ error. error_kind error ≢ ErrorKind.OutOfMemory
         → Runs S.left S.faults D.said D.noted D.say_faults D.note_faults D.reads D.may_leave D.disk_faults
-        4294967296 None source.old source.new desk.old desk.new result) }
+        D.tells 1073741824 4294967296 None source.old source.new desk.old desk.new result) }
     ensures no_memory { IfErr stored (λ error. error_kind error ≡ ErrorKind.OutOfMemory
         → (result ≡ Status.NoMemory) × (source.new ≡ source.old) × (desk.new ≡ desk.old)) }
 {

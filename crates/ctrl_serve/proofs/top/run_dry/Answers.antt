@@ -1,6 +1,25 @@
-use Rattle.ctrl_serve.proofs.IntakeLaws.{intake_serves, cut_intake_serves}
+use Rattle.std.proofs.Common.{refl, arith}
+use Rattle.ctrl_serve.proofs.FailureLaws.{takes_none}
+use Rattle.ctrl_serve.proofs.ReplayLaws.{started_serves, none_serves, cut_counts}
+use Rattle.ctrl_serve.proofs.RunLaws.{notes_alone}
 use Rattle.ctrl_serve.proofs.top.run_dry.Goals as goal
+
+pub returns-in-Ok-clause-serves : goal.returns-in-Ok-clause-serves
+returns-in-Ok-clause-serves g c = started_serves c.in-Ok.core c.args.most _ _ _ _ _ _ _ _ c.run_on.result c.in-Ok.ensures c.run_on.ensures.runs.serves
 
 pub returns-in-Err-clause-serves : goal.returns-in-Err-clause-serves
 returns-in-Err-clause-serves g c =
-    cut_intake_serves c.args.most _ _ _ _ _ _ _ _ c.tell_cut.result c.in-Err.ensures.cut c.tell_cut.ensures.status c.tell_cut.ensures.others.replies c.tell_cut.ensures.told
+    none_serves _ _ c.args.most _ _ _ _ _ _ _ c.tell_cut.result c.tell_cut.ensures.status c.tell_cut.ensures.others.replies c.tell_cut.ensures.told
+
+pub returns-in-Ok-clause-undisked : goal.returns-in-Ok-clause-undisked
+returns-in-Ok-clause-undisked g c = c.run_on.ensures.undisked refl
+
+pub returns-in-Ok-clause-others : goal.returns-in-Ok-clause-others
+returns-in-Ok-clause-others g c = c.run_on.ensures.alone refl
+
+pub returns-in-Err-clause-counts : goal.returns-in-Err-clause-counts
+returns-in-Err-clause-counts g c =
+    cut_counts c.args.source.now _ _ _ c.tell_cut.result c.tell_cut.ensures.status (record { later = omega arith; once = omega arith }) (takes_none c.args.source.now) c.tell_cut.ensures.others c.tell_cut.ensures.counted
+
+pub returns-in-Err-clause-others : goal.returns-in-Err-clause-others
+returns-in-Err-clause-others g c = notes_alone c.tell_cut.ensures.others

@@ -25,3 +25,7 @@ returns-clause-unread_behind c = refl
 pub returns-clause-another_session : goal.returns-clause-another_session
 unfolding digits
 returns-clause-another_session c = refl
+
+pub returns-clause-damaged : goal.returns-clause-damaged
+unfolding digits
+returns-clause-damaged c = refl

@@ -2,7 +2,7 @@ use Rattle.std.proofs.Common.{ap, ◌∙◌}
 use Rattle.std.proofs.lemmas.Result.{IfOk-weaker}
 use Rattle.reply_codec.specs.ReplyLimits.{keeps_limits}
 use Rattle.ctrl_serve.proofs.CarriedFits.{carried_fits}
-use Rattle.ctrl_serve.proofs.serving.carry_out.Goals as goal
+use Rattle.ctrl_serve.proofs.controller.carry_alone.Goals as goal
 
 pub returns-clause-limits : goal.returns-clause-limits
 returns-clause-limits c = IfOk-weaker c.apply.result _ _

@@ -1,0 +1,117 @@
+-- The machine to which a folder opens, and the one that a kept controller's folder keeps.
+use Rattle.std.specs.Prelude.{IsTrue, is_some}
+use Rattle.std.proofs.Common.{◌≡◌, ℕ, zero, suc, ◌<◌, inl, inr, List, [], length, Bool, true, None, Some, refl, sym, ap, ap₂, ◌∙◌, subst, arith}
+use Rattle.std.specs.declared.option.Option.{Option}
+use Rattle.ziti_outside.specs.Images.{Image}
+use Rattle.ziti_outside.specs.declared.desk.Part.{Part}
+use Rattle.ziti_outside.specs.declared.desk.Part.TheVariants.{Zero, Mark}
+use Rattle.journal_core.specs.Slots.{Slot, slot_end}
+use Rattle.journal_core.proofs.SlotLaws.{one_slot}
+use Rattle.slot_files.specs.FolderImage.{Stands, StandsBy, slot_of}
+use Rattle.slot_files.proofs.StandLaws.{same_stands}
+use Rattle.slot_files.specs.OpenedSlots.{IsCreated, Opens}
+use Rattle.ctrl_model.specs.declared.kinds.Kind.{Kind}
+use Rattle.ctrl_model.specs.declared.kinds.Kind.TheVariants as kind
+use Rattle.ctrl_model.specs.State.{State, start}
+use Rattle.ctrl_model.specs.Tables.{table}
+use Rattle.ctrl_model.specs.ValidState.{ValidState, ValidTable}
+use Rattle.ctrl_model.proofs.TableLaws.{valid-none}
+use Rattle.row_laws.proofs.SameStates.{same_from_spelled}
+use Rattle.row_store.specs.BatchRows.{ByteRows, Give}
+use Rattle.row_store.specs.StoredRows.{ReadsAs}
+use Rattle.ctrl_keep.specs.OpenedStates.{OpensToState, HasNoState, IsStateless, byte_rows_of}
+use Rattle.ctrl_keep.specs.KeptMachine.{Machine, Place}
+use Rattle.ctrl_keep.specs.KeptController.{Controlled, HoldsRows, machine_of}
+use Rattle.ctrl_serve.specs.declared.controller.Controller.{Controller}
+use Rattle.ctrl_serve.specs.declared.controller.Controller.TheVariants.{Alone, Kept}
+use Rattle.ctrl_serve.specs.Controllers.{IsReady}
+use Rattle.ctrl_serve.specs.ControllerViews.{serving_of}
+use Rattle.ctrl_serve.specs.OpenedFolders.{Keeps, OpensBy}
+
+-- ---- the state at the start
+
+kinds : (k : Kind) → ValidTable k start (table k start)
+kinds kind.Link = valid-none kind.Link start
+kinds k = valid-none k start
+
+start_valid : ValidState start
+start_valid = record { kinds = kinds; setting = refl; attributes = refl; settled = refl }
+
+start_rows : byte_rows_of start ≡ []
+start_rows = refl
+
+-- ---- a machine by its state and its place
+
+abbrev machine_at : State → ℕ → ℕ → Machine
+machine_at s end mark = record { state = s; place = Some (record { end = end; mark = mark }) }
+
+abbrev place_at : ℕ → ℕ → Option Place
+place_at end mark = Some (record { end = end; mark = mark })
+
+-- The folder of a kept controller keeps its machine.
+abbrev pub kept_keeps : (k : Controlled) (reads : Image) (images : Image → Type 0) → HoldsRows k → ReadsAs k.stored reads images → Keeps reads (machine_of k)
+kept_keeps k reads images holds held = record {
+  valid = holds.valid;
+  batches = held.kept.batches;
+  stands = held.kept.stands;
+  give = subst (λ (rows : ByteRows). Give held.kept.batches rows) holds.rows held.kept.give;
+  place = ap₂ place_at held.kept.end (sym held.kept.mark);
+}
+
+-- What a stop may leave opens to its state.
+kept_found : (k : Controlled) (reads : Image) (images : Image → Type 0) → HoldsRows k → ReadsAs k.stored reads images → (image : Image) → images image → OpensToState image k.state
+kept_found k reads images holds held image is =
+    let mark : image Mark ≡ reads Mark = held.stable_mark.each image is in
+    let slot : image k.stored.part ≡ reads k.stored.part = held.stable_slot.each image is in
+    let named : k.stored.part ≡ slot_of (length (reads Mark)) = held.kept.part ∙ ap slot_of (sym held.kept.mark) in
+    let same : image (slot_of (length (reads Mark))) ≡ reads (slot_of (length (reads Mark))) = subst (λ (p : Part). image p ≡ reads p) named slot in
+    let kept = kept_keeps k reads images holds held in
+    record { valid = holds.valid; rows = record { batches = kept.batches; stands = (same_stands reads image (ap length mark) same).still kept.batches kept.stands; give = kept.give } }
+
+-- So it is with a controller that has a folder.
+pub ready_keeps : (c : Controller) (tells : Bool) (reads : Image) (images : Image → Type 0) → is_some (serving_of c).kept ≡ true → IsReady tells (serving_of c).kept reads images → IsTrue tells
+    → Keeps reads (serving_of c).machine × ((image : Image) → images image → OpensToState image (serving_of c).machine.state)
+ready_keeps (Alone core) tells reads images is ready told = absurd cc
+ready_keeps (Kept k) tells reads images is ready told = (kept_keeps k reads images ready.0 (ready.1 told), kept_found k reads images ready.0 (ready.1 told))
+
+-- ---- the machine to which a folder opens
+
+-- No batches give no rows.
+no_rows : (batches : List (List ℕ)) (rows : ByteRows) → batches ≡ [] → Give batches rows → rows ≡ []
+no_rows batches rows none give = subst (λ (b : List (List ℕ)). Give b rows) none give
+
+-- With an empty mark an image opens to the state at the start alone.
+opens_to_start : (image : Image) (s : State) → length (image Mark) ≡ 0 → OpensToState image s → s ≡ start
+opens_to_start image s empty opens =
+    let none : opens.rows.batches ≡ [] = subst (λ (n : ℕ). StandsBy n image opens.rows.batches) empty opens.rows.stands in
+    same_from_spelled s start opens.valid start_valid (no_rows opens.rows.batches (byte_rows_of s) none opens.rows.give ∙ sym start_rows)
+
+-- A created folder stands for no batches.
+created_end : (old reads : Image) (batches : List (List ℕ)) → IsCreated old reads → Stands reads batches → slot_end batches ≡ slot_end []
+created_end old reads batches made stands =
+    let slot : Slot (reads Zero) batches = subst (λ (n : ℕ). StandsBy n reads batches) (ap length made.mark) stands in
+    let first : Slot (reads Zero) [] = record { gate = 0; more = _; split = made.first; closed = λ e. absurd (omega (arith, e)); short = tt } in
+    ap slot_end (one_slot (reads Zero) batches [] slot first)
+
+-- The machine of a kept controller is that to which the folder opens.
+pub opens_by : (mark : ℕ) (image reads : Image) (images : Image → Type 0) (k : Controlled) → length (image Mark) ≡ mark → OpensToState image k.state → HoldsRows k
+    → ReadsAs k.stored reads images → Opens mark image reads → OpensBy mark image (machine_of k)
+opens_by zero image reads images k is opens holds held made =
+    let end : k.stored.end ≡ slot_end [] = held.kept.end ∙ created_end image reads held.kept.batches made held.kept.stands in
+    let mark : k.stored.mark ≡ 1 = sym held.kept.mark ∙ ap length made.mark in
+    ap₂ (machine_at k.state) end mark ∙ ap (λ (s : State). machine_at s (slot_end []) 1) (opens_to_start image k.state is opens)
+opens_by (suc turn) image reads images k is opens holds held same =
+    subst (λ (i : Image). Keeps i (machine_of k)) same (kept_keeps k reads images holds held)
+
+-- ---- a folder that opens to no state
+
+-- Its mark is not empty, since an empty mark opens to the state at the start.
+no_state_marked : (mark : ℕ) (image : Image) (part : Part) (at : ℕ) → length (image Mark) ≡ mark → HasNoState image part at → 0 < mark
+no_state_marked zero image part at empty h =
+    let none : h.batches ≡ [] = subst (λ (n : ℕ). StandsBy n image h.batches) empty h.stands in
+    absurd (h.none start start_valid (no_rows h.batches h.rows none h.give ∙ sym start_rows))
+no_state_marked (suc turn) image part at is h = omega arith
+
+pub stateless_marked : (image : Image) (part : Part) (at : ℕ) → IsStateless image part at → 0 < length (image Mark)
+stateless_marked image part at (inl damaged) = damaged.some
+stateless_marked image part at (inr none) = no_state_marked (length (image Mark)) image part at refl none

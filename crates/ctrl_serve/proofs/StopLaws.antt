@@ -1,0 +1,123 @@
+-- What a stop within a turn of the serving loop finds.
+use Rattle.std.specs.Prelude.{is_some}
+use Rattle.std.proofs.Common.{◌≡◌, ◌⊎◌, inl, inr, ℕ, Bool, List, [], refl, sym, ap, ◌∙◌, subst, IsTrue, IsSome, Ok}
+use Rattle.std.specs.declared.option.Option.{Option}
+use Rattle.std.specs.declared.result.Result.{Result}
+use Rattle.ziti_outside.specs.Images.{Image}
+use Rattle.ziti_outside.specs.Told.{Took, IsFront}
+use Rattle.ziti_outside.specs.Moments.{Now, Saying, Elapses, Leaves}
+use Rattle.ziti_outside.proofs.Moves.{Took-taken, IsFront-none}
+use Rattle.ziti_outside.proofs.MomentLaws.{Elapses-then, Elapses-weaker, Leaves-none, Leaves-weaker}
+use Rattle.ctrl_model.specs.State.{State}
+use Rattle.row_store.specs.BatchRows.{ByteRows}
+use Rattle.row_store.specs.OpenedRows.{OpensTo}
+use Rattle.row_store.proofs.CommitLaws.{reads_opens}
+use Rattle.ctrl_keep.specs.OpenedStates.{OpensToState}
+use Rattle.ctrl_serve.specs.declared.controller.Controller.{Controller}
+use Rattle.ctrl_serve.specs.declared.controller.Controller.TheVariants.{Alone, Kept}
+use Rattle.channel_frame.specs.declared.frames.Frame.{Frame}
+use Rattle.channel_frame.specs.FrameSpelling.{spelling}
+use Rattle.command_codec.specs.BodyMeaning.{meaning}
+use Rattle.ctrl_model.specs.declared.commands.Command.{Command}
+use Rattle.ctrl_model.specs.declared.kinds.Who.TheVariants.{Admin}
+use Rattle.ctrl_model.specs.declared.replies.Reply.{Reply}
+use Rattle.ctrl_keep.specs.KeptMachine.{Machine, step}
+use Rattle.reply_codec.specs.ReplyFrame.{reply_frame}
+use Rattle.ctrl_serve.specs.Controllers.{IsReady, Turn}
+use Rattle.ctrl_serve.specs.FrameAnswer.{answer_to, frame_answer}
+use Rattle.ctrl_serve.specs.Turns.{reply_to_frame}
+use Rattle.ctrl_serve.specs.ControllerViews.{serving_of}
+
+-- The folder of a kept controller opens to its state, whatever image a stop leaves.
+pub ready_opens : (c : Controller) (tells : Bool) (reads : Image) (images : Image → Type 0) → IsSome (serving_of c).kept → IsReady tells (serving_of c).kept reads images → IsTrue tells
+    → (image : Image) → images image → OpensToState image (serving_of c).machine.state
+ready_opens (Alone core) tells reads images some ready told image p = cc
+ready_opens (Kept k) tells reads images some ready told image p = record {
+  valid = ready.0.valid;
+  rows = subst (λ (rows : ByteRows). OpensTo image rows) ready.0.rows (reads_opens k.stored reads images (ready.1 told) image p);
+}
+
+-- A stop within the answering of a frame finds no byte of the reply taken.
+stop_answering : (before next : State) (reply : List ℕ) (said : Option (List ℕ)) (image : Image) (taken : List ℕ)
+    → Now (λ i. OpensToState i before ⊎ OpensToState i next) said image taken → Turn before next reply said image taken
+stop_answering before next reply said image taken now = record {
+  front = [];
+  is_front = IsFront-none reply;
+  replies = Took-taken said taken now.replies;
+  found = elim now.found as (λ _. OpensToState image next ⊎ (◌≡◌ {A = List ℕ} [] [] × OpensToState image before)) [ | inl p ↦ inr (refl, p) | inr p ↦ inl p ];
+}
+
+-- A stop within the saying of the reply finds the folder as it is then.
+stop_saying : (before next : State) (bytes : List ℕ) (said : Option (List ℕ)) (images : Image → Type 0) (image : Image) (taken : List ℕ)
+    → ((i : Image) → images i → OpensToState i next) → Saying images said bytes image taken → Turn before next bytes said image taken
+stop_saying before next bytes said images image taken opens now = record {
+  front = now.front;
+  is_front = now.is_front;
+  replies = now.replies;
+  found = inl (opens image now.found);
+}
+
+-- A turn that ended before its reply was said.
+pub turn_stops_short : {D : Type 0} {moment : D → ℕ} {since : D → ℕ → Image → List ℕ → Type 0} {may_leave : D → Image → Type 0} {said : D → Option (List ℕ)} {old new : D}
+    (before next : State) (reply : List ℕ) → Leaves moment since may_leave said old new (λ i. OpensToState i before ⊎ OpensToState i next)
+    → Elapses (moment old) (moment new) (since old) (since new) (Turn before next reply (said old))
+turn_stops_short {said = said} {old = old} before next reply answering =
+    Elapses-weaker (Turn before next reply (said old)) answering.time (λ i w now. stop_answering before next reply (said old) i w now)
+
+-- A turn with the saying of its reply.
+pub turn_stops : {D : Type 0} {moment : D → ℕ} {since : D → ℕ → Image → List ℕ → Type 0} {may_leave : D → Image → Type 0} {said : D → Option (List ℕ)} {old mid new : D}
+    (before next : State) (reply bytes : List ℕ) → Leaves moment since may_leave said old mid (λ i. OpensToState i before ⊎ OpensToState i next) → bytes ≡ reply
+    → ((i : Image) → may_leave mid i → OpensToState i next)
+    → Elapses (moment mid) (moment new) (since mid) (since new) (Saying (may_leave mid) (said mid) bytes)
+    → Elapses (moment old) (moment new) (since old) (since new) (Turn before next reply (said old))
+turn_stops {may_leave = may_leave} {said = said} {old = old} {mid = mid} before next reply bytes answering same opens saying =
+    Elapses-then (Turn before next reply (said old)) answering.time saying
+    (λ i w now. stop_answering before next reply (said old) i w now)
+    (λ i w now.
+    subst (λ (x : Option (List ℕ)). Turn before next reply x i w) answering.quiet
+    (subst (λ (x : List ℕ). Turn before next x (said mid) i w) same (stop_saying before next bytes (said mid) (may_leave mid) i w opens now)))
+
+-- Where nothing was done, every image opens to the state before.
+pub refused_stops : {D : Type 0} {moment : D → ℕ} {since : D → ℕ → Image → List ℕ → Type 0} {may_leave : D → Image → Type 0} {said : D → Option (List ℕ)}
+    (desk : D) (c : Controller) (next : State) (tells : Bool) (reads : Image) → IsSome (serving_of c).kept → IsReady tells (serving_of c).kept reads (may_leave desk) → IsTrue tells
+    → Leaves moment since may_leave said desk desk (λ i. OpensToState i (serving_of c).machine.state ⊎ OpensToState i next)
+refused_stops {may_leave = may_leave} desk c next tells reads some ready told =
+    Leaves-weaker (λ i. OpensToState i (serving_of c).machine.state ⊎ OpensToState i next) (Leaves-none desk)
+    (λ i p. inl (ready_opens c tells reads (may_leave desk) some ready told i p))
+
+-- A stop within the carrying out of the command that a frame spells is one within the answering of the frame.
+pub carried_stops : {D : Type 0} {moment : D → ℕ} {since : D → ℕ → Image → List ℕ → Type 0} {may_leave : D → Image → Type 0} {said : D → Option (List ℕ)} {old new : D}
+    (slot : ℕ) (f : Frame) (body : List ℕ) (m : Machine) (c : Command) → body ≡ f.body → meaning f.content body ≡ Ok c
+    → Leaves moment since may_leave said old new (λ i. OpensToState i m.state ⊎ OpensToState i (step slot Admin c m).1.state)
+    → Leaves moment since may_leave said old new (λ i. OpensToState i m.state ⊎ OpensToState i (frame_answer slot Admin f m).1.state)
+carried_stops slot f body m c same e stops =
+    Leaves-weaker (λ i. OpensToState i m.state ⊎ OpensToState i (frame_answer slot Admin f m).1.state) stops
+    (λ i p. subst (λ (a : Reply × Machine). OpensToState i m.state ⊎ OpensToState i a.1.state) (sym (ap (λ (b : List ℕ). answer_to slot Admin m (meaning f.content b)) (sym same) ∙ ap (answer_to slot Admin m) e)) p)
+
+-- Behind the answering of a frame every image opens to the state after it.
+pub answered_opens : (x y : Controller) (f : Frame) (reply : Reply) (tells : Bool) (reads : Image) (images : Image → Type 0)
+    → (reply, (serving_of y).machine) ≡ frame_answer (serving_of x).slot Admin f (serving_of x).machine
+    → is_some (serving_of y).kept ≡ is_some (serving_of x).kept → IsSome (serving_of x).kept → IsReady tells (serving_of y).kept reads images → IsTrue tells
+    → (image : Image) → images image → OpensToState image (frame_answer (serving_of x).slot Admin f (serving_of x).machine).1.state
+answered_opens x y f reply tells reads images e kind some ready told image p =
+    subst (λ (a : Reply × Machine). OpensToState image a.1.state) e (ready_opens y tells reads images (kind ∙ some) ready told image p)
+
+-- The bytes of the reply that was answered to a frame.
+pub answered_bytes : (slot n : ℕ) (f : Frame) (m next : Machine) (reply : Reply) (bytes : List ℕ) → (reply, next) ≡ frame_answer slot Admin f m
+    → bytes ≡ spelling (reply_frame n f.sequence reply) → bytes ≡ reply_to_frame slot n f m
+answered_bytes slot n f m next reply bytes e h = h ∙ ap (λ (a : Reply × Machine). spelling (reply_frame n f.sequence a.0)) e
+
+-- A stop within a turn whose reply was said, all of it or a front.
+pub served_stops : {D : Type 0} {moment : D → ℕ} {since : D → ℕ → Image → List ℕ → Type 0} {may_leave : D → Image → Type 0} {said : D → Option (List ℕ)} {old mid new : D}
+    (x y : Controller) (n : ℕ) (f : Frame) (reply : Reply) (bytes : List ℕ) (tells : Bool) (reads : Image)
+    → Leaves moment since may_leave said old mid (λ i. OpensToState i (serving_of x).machine.state ⊎ OpensToState i (frame_answer (serving_of x).slot Admin f (serving_of x).machine).1.state)
+    → (reply, (serving_of y).machine) ≡ frame_answer (serving_of x).slot Admin f (serving_of x).machine → bytes ≡ spelling (reply_frame n f.sequence reply)
+    → is_some (serving_of y).kept ≡ is_some (serving_of x).kept → IsSome (serving_of x).kept → IsReady tells (serving_of y).kept reads (may_leave mid) → IsTrue tells
+    → Elapses (moment mid) (moment new) (since mid) (since new) (Saying (may_leave mid) (said mid) bytes)
+    → Elapses (moment old) (moment new) (since old) (since new) (Turn (serving_of x).machine.state (frame_answer (serving_of x).slot Admin f (serving_of x).machine).1.state
+        (reply_to_frame (serving_of x).slot n f (serving_of x).machine) (said old))
+served_stops {may_leave = may_leave} {mid = mid} x y n f reply bytes tells reads answering e h kind some ready told saying =
+    turn_stops (serving_of x).machine.state (frame_answer (serving_of x).slot Admin f (serving_of x).machine).1.state
+    (reply_to_frame (serving_of x).slot n f (serving_of x).machine) bytes answering
+    (answered_bytes (serving_of x).slot n f (serving_of x).machine (serving_of y).machine reply bytes e h)
+    (answered_opens x y f reply tells reads (may_leave mid) e kind some ready told) saying

@@ -1,0 +1,14 @@
+use Rattle.ctrl_serve.proofs.StopLaws.{refused_stops, carried_stops}
+use Rattle.ctrl_serve.proofs.serving.answer_frame.Goals as goal
+
+pub returns-in_err-refusal_of-in-Err-clause-stops : goal.returns-in_err-refusal_of-in-Err-clause-stops
+returns-in_err-refusal_of-in-Err-clause-stops g c = λ some told.
+    refused_stops c.args.desk.now c.args.controller.now _ _ _ some c.requires.ready told
+
+pub returns-in_ok-refusal_of-in-Err-clause-stops : goal.returns-in_ok-refusal_of-in-Err-clause-stops
+returns-in_ok-refusal_of-in-Err-clause-stops g c = λ some told.
+    refused_stops c.args.desk.now c.args.controller.now _ _ _ some c.requires.ready told
+
+pub returns-in-Ok-clause-stops : goal.returns-in-Ok-clause-stops
+returns-in-Ok-clause-stops g c = λ some told.
+    carried_stops _ c.args.frame.now c.as_slice.result.now _ c.in-Ok.command c.as_slice.ensures c.in-Ok.ensures.command (c.carry_out.ensures.stops some told)

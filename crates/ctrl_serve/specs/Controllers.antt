@@ -1,0 +1,42 @@
+-- What answers in a run: the core alone, or a controller whose state a folder keeps. Only private contracts cite these.
+use Rattle.std.specs.Prelude.{◌≡◌, ◌⊎◌, ℕ, ⊤, Bool, true, IsTrue, List, [], None, Some, is_some}
+use Rattle.std.specs.declared.option.Option.{Option}
+use Rattle.ziti_outside.specs.Images.{Image}
+use Rattle.ziti_outside.specs.Told.{Took, IsFront}
+use Rattle.ctrl_model.specs.State.{State}
+use Rattle.row_store.specs.StoredRows.{ReadsAs}
+use Rattle.ctrl_keep.specs.OpenedStates.{OpensToState}
+use Rattle.ctrl_keep.specs.KeptMachine.{Machine}
+use Rattle.ctrl_keep.specs.KeptController.{Controlled, HoldsRows}
+
+-- A machine, how many bytes its slot may have, the kept controller if it is one, and whether it can answer: it was not given up for
+-- want of memory, and its folder has not failed.
+pub record Serving : Type 0 where
+  pub machine : Machine
+  pub slot : ℕ
+  pub kept : Option Controlled
+  pub able : Bool
+
+-- A kept controller has the rows of its state, and the folder reads as its store stands. Of the core alone nothing is asked.
+abbrev pub IsReady : Bool → Option Controlled → Image → (Image → Type 0) → Type 0
+IsReady tells None reads images = ⊤
+IsReady tells (Some k) reads images = HoldsRows k × (IsTrue tells → ReadsAs k.stored reads images)
+
+-- It can answer on, within the same slot, with a folder exactly if it had one.
+pub record GoesOn (old new : Serving) : Type 0 where
+  pub able : new.able ≡ true
+  pub slot : new.slot ≡ old.slot
+  pub kind : is_some new.kept ≡ is_some old.kept
+
+-- What a stop within a turn finds: some front of the reply was taken, and the folder opens to the state after the frame, or, where none
+-- of the reply was taken, to that before it.
+pub record Turn (before next : State) (reply : List ℕ) (said : Option (List ℕ)) (image : Image) (taken : List ℕ) : Type 0 where
+  pub front : List ℕ
+  pub is_front : IsFront front reply
+  pub replies : Took said (Some taken) front
+  pub found : OpensToState image next ⊎ ((front ≡ []) × OpensToState image before)
+
+-- The notes are as they were, and no fault of theirs was counted.
+pub record LeavesNotes {D : Type 0} (noted : D → Option (List ℕ)) (note_faults : D → ℕ) (old new : D) : Type 0 where
+  pub notes : noted new ≡ noted old
+  pub failed_notes : note_faults new ≡ note_faults old

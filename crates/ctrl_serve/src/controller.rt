@@ -1,0 +1,83 @@
+ghost use Rattle.std.specs.Prelude.{◌≡◌, ◌⊎◌, ◌≢◌, true, None, IsTrue, IsSome, OnOk, IfOk, IfErr, IsErrOf, Ok, Err};
+ghost use Rattle.ctrl_core.specs.CarriedCommands.{is_carried};
+ghost use Rattle.ctrl_keep.specs.KeptMachine.{step};
+ghost use Rattle.ctrl_keep.specs.OpenedStates.{OpensToState};
+ghost use Rattle.ctrl_model.specs.CommandForm.{is_spelled};
+ghost use Rattle.ctrl_model.specs.Controller.{answer};
+ghost use Rattle.ctrl_model.specs.declared.kinds.Who.TheVariants.{Admin};
+ghost use Rattle.ctrl_serve.specs.ControllerViews.{serving_of};
+ghost use Rattle.ctrl_serve.specs.Controllers.{GoesOn, IsReady};
+ghost use Rattle.ctrl_serve.specs.Turns.{unkept};
+ghost use Rattle.reply_codec.specs.ReplyLimits.{keeps_limits};
+ghost use Rattle.ziti_outside.specs.Causes.{HasCause};
+ghost use Rattle.ziti_outside.specs.Moments.{Leaves, Remembers};
+ghost use Rattle.ziti_outside.specs.Untouched.{OnlyDisk};
+
+use crate::serving::Cut;
+use ctrl_core::Core;
+use ctrl_keep::{KeepFault, Kept};
+use ctrl_model::{Command, Reply, Who};
+use std::alloc::AllocError;
+use ziti_outside::Desk;
+
+/// What answers in a run: the core alone, or a controller whose state a folder keeps. Contracts speak of the machine that it is.
+#[derive(Drop)]
+pub enum Controller {
+    /// The core, without a folder.
+    Alone(Core),
+    /// A controller with its folder.
+    Kept(Kept),
+}
+
+// Carries a command out without a folder.
+fn carry_alone(core: &mut Core, command: &Command) -> Result<Reply, AllocError>
+    requires live { core.old.live ≡ true }
+    requires spelled { is_spelled command.now ≡ true }
+    requires carried { is_carried command.now ≡ true }
+    ensures ok { IfOk result (λ r. (r, core.new.state) ≡ answer Admin command.now core.old.state) }
+    ensures live { OnOk result (core.new.live ≡ true) }
+    ensures limits { IfOk result (λ r. keeps_limits r ≡ true) }
+{
+    let planned = core.plan(command)?;
+    core.apply(planned)
+}
+
+// What cut a command short that a kept controller did not answer. It was not spent, and no folder was opened.
+fn cut_of(fault: KeepFault) -> Cut
+    ensures { (fault ≡ KeepFault.Disk → result ≡ Cut.Disk) × (fault ≡ KeepFault.NoMemory → result ≡ Cut.NoMemory) }
+{
+    match fault {
+        KeepFault::Disk => Cut::Disk,
+        _ => Cut::NoMemory,
+    }
+}
+
+impl Controller {
+    /// Carries a command out as an administrator's. With a folder its change is kept there before the reply is given.
+    pub fn carry_out<D: Desk>(&mut self, desk: &mut D, command: &Command) -> Result<Reply, Cut>
+        requires able { (serving_of self.old).able ≡ true }
+        requires ready { IsReady D.tells (serving_of self.old).kept (D.reads desk.old) (D.may_leave desk.old) }
+        requires spelled { is_spelled command.now ≡ true }
+        requires carried { is_carried command.now ≡ true }
+        ensures ok { IfOk result (λ r. (r, (serving_of self.new).machine) ≡ step (serving_of self.old).slot Admin command.now (serving_of self.old).machine) }
+        ensures on { OnOk result (GoesOn (serving_of self.old) (serving_of self.new)) }
+        ensures ready { (serving_of self.new).able ≡ true → IsReady D.tells (serving_of self.new).kept (D.reads desk.new) (D.may_leave desk.new) }
+        ensures limits { IfOk result (λ r. keeps_limits r ≡ true) }
+        ensures cut { IfErr result (λ c. c ≢ Cut.Unsaid) }
+        ensures cause { HasCause (D.disk_faults desk.old) (D.disk_faults desk.new) (unkept result) }
+        ensures undisked { (serving_of self.old).kept ≡ None → IsErrOf result Cut.Disk → ⊥ }
+        ensures alone { (serving_of self.old).kept ≡ None → desk.new ≡ desk.old }
+        ensures others { OnlyDisk D.said D.noted D.say_faults D.note_faults desk.old desk.new }
+        ensures stops { IsSome (serving_of self.old).kept → IsTrue D.tells → Leaves D.moment D.since D.may_leave D.said desk.old desk.new
+            (λ image. OpensToState image (serving_of self.old).machine.state ⊎ OpensToState image (step (serving_of self.old).slot Admin command.now (serving_of self.old).machine).1.state) }
+        ensures remembers { Remembers (D.moment desk.old) (D.since desk.old) (D.since desk.new) }
+    {
+        match self {
+            Controller::Alone(core) => Ok(carry_alone(core, command)?),
+            Controller::Kept(kept) => match kept.submit(desk, &Who::Admin, command) {
+                Ok(reply) => Ok(reply),
+                Err(fault) => Err(cut_of(fault)),
+            },
+        }
+    }
+}
