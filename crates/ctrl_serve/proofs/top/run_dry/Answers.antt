@@ -23,3 +23,9 @@ returns-in-Err-clause-counts g c =
 
 pub returns-in-Err-clause-others : goal.returns-in-Err-clause-others
 returns-in-Err-clause-others g c = notes_alone c.tell_cut.ensures.others
+
+pub returns-in-Ok-clause-counts : goal.returns-in-Ok-clause-counts
+returns-in-Ok-clause-counts g c = c.run_on.ensures.counts
+
+pub returns-in-Err-clause-undisked : goal.returns-in-Err-clause-undisked
+returns-in-Err-clause-undisked g c = λ e. let is = c.tell_cut.ensures.status in cc

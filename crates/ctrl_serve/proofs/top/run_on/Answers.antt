@@ -23,3 +23,12 @@ returns-in-Err-clause-counts g c =
 
 pub returns-in-Err-clause-alone : goal.returns-in-Err-clause-alone
 returns-in-Err-clause-alone g c = λ none. notes_alone c.tell_cut.ensures.others
+
+pub returns-in-Ok-clause-undisked : goal.returns-in-Ok-clause-undisked
+returns-in-Ok-clause-undisked g c = c.answer_intake.ensures.undisked
+
+pub returns-in-Ok-clause-alone : goal.returns-in-Ok-clause-alone
+returns-in-Ok-clause-alone g c = c.answer_intake.ensures.alone
+
+pub returns-in-Err-clause-undisked : goal.returns-in-Err-clause-undisked
+returns-in-Err-clause-undisked g c = λ none e. let is = c.tell_cut.ensures.status in cc
