@@ -58,20 +58,20 @@ fn answer_intake<D: Desk>(
 fn run_on<S: Source, D: Desk>(
     alloc: Global,
     most: u64,
-    mut controller: Controller,
+    controller: &mut Controller,
     source: &mut S,
     desk: &mut D,
 ) -> Status
     requires most { most ≤ 2 ^ 32 }
-    requires able { (serving_of controller).able ≡ true }
-    requires ready { IsReady D.tells (serving_of controller).kept (D.reads desk.old) (D.may_leave desk.old) }
-    ensures runs { RunsOn (serving_of controller) most (S.left source.old) (S.left source.new) (D.said desk.old) (D.said desk.new) (D.noted desk.old) (D.noted desk.new) (D.note_faults desk.old) (D.note_faults desk.new) D.tells (D.reads desk.new) (D.may_leave desk.new) result }
+    requires able { (serving_of controller.old).able ≡ true }
+    requires ready { IsReady D.tells (serving_of controller.old).kept (D.reads desk.old) (D.may_leave desk.old) }
+    ensures runs { RunsOn (serving_of controller.old) most (S.left source.old) (S.left source.new) (D.said desk.old) (D.said desk.new) (D.noted desk.old) (D.noted desk.new) (D.note_faults desk.old) (D.note_faults desk.new) D.tells (D.reads desk.new) (D.may_leave desk.new) result }
     ensures counts { CountsFaults S.left S.faults D.say_faults D.note_faults D.disk_faults source.old source.new desk.old desk.new result }
-    ensures undisked { (serving_of controller).kept ≡ None → result ≢ Status.DiskFault }
-    ensures alone { (serving_of controller).kept ≡ None → OnlySaysAndNotes D.reads D.may_leave D.disk_faults desk.old desk.new }
+    ensures undisked { (serving_of controller.old).kept ≡ None → result ≢ Status.DiskFault }
+    ensures alone { (serving_of controller.old).kept ≡ None → OnlySaysAndNotes D.reads D.may_leave D.disk_faults desk.old desk.new }
 {
     match take_all(alloc, most, source) {
-        Ok(intake) => answer_intake(alloc, most, &mut controller, &intake, desk),
+        Ok(intake) => answer_intake(alloc, most, controller, &intake, desk),
         Err(_) => tell_cut(Cut::NoMemory, desk),
     }
 }
@@ -85,7 +85,10 @@ fn run_dry<S: Source, D: Desk>(alloc: Global, most: u64, source: &mut S, desk: &
     ensures others { OnlySaysAndNotes D.reads D.may_leave D.disk_faults desk.old desk.new }
 {
     match Core::empty(alloc) {
-        Ok(core) => run_on(alloc, most, Controller::Alone(core), source, desk),
+        Ok(core) => {
+            let mut controller = Controller::Alone(core);
+            run_on(alloc, most, &mut controller, source, desk)
+        }
         Err(_) => tell_cut(Cut::NoMemory, desk),
     }
 }
@@ -107,7 +110,10 @@ fn run_replay<S: Source, D: Desk>(
         mark: bounds.mark,
     };
     match Kept::open(alloc, desk, store) {
-        Ok(kept) => run_on(alloc, bounds.input, Controller::Kept(kept), source, desk),
+        Ok(kept) => {
+            let mut controller = Controller::Kept(kept);
+            run_on(alloc, bounds.input, &mut controller, source, desk)
+        }
         Err(KeepFault::Disk) => tell_cut(Cut::Disk, desk),
         Err(KeepFault::Damaged { part, at }) => tell_damage(alloc, part, at, desk),
         Err(KeepFault::NoMemory) => tell_cut(Cut::NoMemory, desk),

@@ -6,7 +6,7 @@ use Rattle.ctrl_serve.proofs.top.run_on.Goals as goal
 
 pub returns-in-Ok-clause-runs : goal.returns-in-Ok-clause-runs
 returns-in-Ok-clause-runs g c =
-    intake_runs (serving_of c.args.controller) c.args.most c.in-Ok.intake _ _ _ _ _ _ _ _ g.D.Desk.tells _ _ c.answer_intake.result c.in-Ok.ensures.taken c.answer_intake.ensures.says c.answer_intake.ensures.keeps
+    intake_runs (serving_of c.args.controller.now) c.args.most c.in-Ok.intake _ _ _ _ _ _ _ _ g.D.Desk.tells _ _ c.answer_intake.result c.in-Ok.ensures.taken c.answer_intake.ensures.says c.answer_intake.ensures.keeps
 
 pub returns-in-Ok-clause-counts : goal.returns-in-Ok-clause-counts
 returns-in-Ok-clause-counts g c =
@@ -15,7 +15,7 @@ returns-in-Ok-clause-counts g c =
 
 pub returns-in-Err-clause-runs : goal.returns-in-Err-clause-runs
 returns-in-Err-clause-runs g c =
-    cut_runs (serving_of c.args.controller) c.args.most _ _ _ _ _ _ _ _ g.D.Desk.tells _ _ c.tell_cut.result c.in-Err.ensures.cut c.tell_cut.ensures.status c.tell_cut.ensures.others.replies c.tell_cut.ensures.told
+    cut_runs (serving_of c.args.controller.now) c.args.most _ _ _ _ _ _ _ _ g.D.Desk.tells _ _ c.tell_cut.result c.in-Err.ensures.cut c.tell_cut.ensures.status c.tell_cut.ensures.others.replies c.tell_cut.ensures.told
 
 pub returns-in-Err-clause-counts : goal.returns-in-Err-clause-counts
 returns-in-Err-clause-counts g c =
