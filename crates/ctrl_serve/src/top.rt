@@ -87,7 +87,9 @@ fn run_dry<S: Source, D: Desk>(alloc: Global, most: u64, source: &mut S, desk: &
     match Core::empty(alloc) {
         Ok(core) => {
             let mut controller = Controller::Alone(core);
-            run_on(alloc, most, &mut controller, source, desk)
+            let status = run_on(alloc, most, &mut controller, source, desk);
+            drop(controller);
+            status
         }
         Err(_) => tell_cut(Cut::NoMemory, desk),
     }
@@ -112,7 +114,9 @@ fn run_replay<S: Source, D: Desk>(
     match Kept::open(alloc, desk, store) {
         Ok(kept) => {
             let mut controller = Controller::Kept(kept);
-            run_on(alloc, bounds.input, &mut controller, source, desk)
+            let status = run_on(alloc, bounds.input, &mut controller, source, desk);
+            drop(controller);
+            status
         }
         Err(KeepFault::Disk) => tell_cut(Cut::Disk, desk),
         Err(KeepFault::Damaged { part, at }) => tell_damage(alloc, part, at, desk),

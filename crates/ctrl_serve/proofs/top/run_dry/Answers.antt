@@ -1,21 +1,22 @@
-use Rattle.std.proofs.Common.{refl, arith}
+use Rattle.std.proofs.Common.{refl, ap, arith}
+use Rattle.ctrl_core.specs.KeptState.{Cored}
 use Rattle.ctrl_serve.proofs.FailureLaws.{takes_none}
 use Rattle.ctrl_serve.proofs.ReplayLaws.{started_serves, none_serves, cut_counts}
 use Rattle.ctrl_serve.proofs.RunLaws.{notes_alone}
 use Rattle.ctrl_serve.proofs.top.run_dry.Goals as goal
 
 pub returns-in-Ok-clause-serves : goal.returns-in-Ok-clause-serves
-returns-in-Ok-clause-serves g c = started_serves c.in-Ok.core c.args.most _ _ _ _ _ _ _ _ c.run_on.result c.in-Ok.ensures c.run_on.ensures.runs.serves
+returns-in-Ok-clause-serves g c = started_serves c.in-Ok.core c.args.most _ _ _ _ _ _ _ _ c.run_on-status.result c.in-Ok.ensures c.run_on-status.ensures.runs.serves
 
 pub returns-in-Err-clause-serves : goal.returns-in-Err-clause-serves
 returns-in-Err-clause-serves g c =
     none_serves _ _ c.args.most _ _ _ _ _ _ _ c.tell_cut.result c.tell_cut.ensures.status c.tell_cut.ensures.others.replies c.tell_cut.ensures.told
 
 pub returns-in-Ok-clause-undisked : goal.returns-in-Ok-clause-undisked
-returns-in-Ok-clause-undisked g c = c.run_on.ensures.undisked refl
+returns-in-Ok-clause-undisked g c = c.run_on-status.ensures.undisked refl
 
 pub returns-in-Ok-clause-others : goal.returns-in-Ok-clause-others
-returns-in-Ok-clause-others g c = c.run_on.ensures.alone refl
+returns-in-Ok-clause-others g c = c.run_on-status.ensures.alone refl
 
 pub returns-in-Err-clause-counts : goal.returns-in-Err-clause-counts
 returns-in-Err-clause-counts g c =
@@ -25,7 +26,7 @@ pub returns-in-Err-clause-others : goal.returns-in-Err-clause-others
 returns-in-Err-clause-others g c = notes_alone c.tell_cut.ensures.others
 
 pub returns-in-Ok-clause-counts : goal.returns-in-Ok-clause-counts
-returns-in-Ok-clause-counts g c = c.run_on.ensures.counts
+returns-in-Ok-clause-counts g c = c.run_on-status.ensures.counts
 
 pub returns-in-Err-clause-undisked : goal.returns-in-Err-clause-undisked
 returns-in-Err-clause-undisked g c = λ e. let is = c.tell_cut.ensures.status in cc

@@ -1,3 +1,4 @@
+use Rattle.std.specs.Prelude.{not}
 use Rattle.std.proofs.Common.{inl, inr, refl, sym, ap, subst, ◌∙◌}
 use Rattle.row_store.specs.declared.bounds.StoreBounds.{StoreBounds}
 use Rattle.ctrl_serve.specs.declared.status.Status.{Status}
@@ -10,12 +11,12 @@ use Rattle.ctrl_serve.proofs.top.run_replay.Goals as goal
 pub returns-in-Ok-clause-replays : goal.returns-in-Ok-clause-replays
 returns-in-Ok-clause-replays g c =
     let e = c.in-Ok.ensures in
-    inr (replays_on g.D.Desk.reads g.D.Desk.may_leave c.args.bounds.slot c.args.bounds.input c.in-Ok.kept _ _ g.D.Desk.tells c.args.desk.now c.open.new.desk c.run_on.new.desk c.run_on.result
-        e.opens e.stands e.holds (ap (λ (b : StoreBounds). b.slot) e.opened.0) e.created c.open.ensures.others c.run_on.ensures.runs)
+    inr (replays_on g.D.Desk.reads g.D.Desk.may_leave c.args.bounds.slot c.args.bounds.input c.in-Ok.kept _ _ g.D.Desk.tells c.args.desk.now c.open.new.desk c.run_on-status.new.desk c.run_on-status.result
+        e.opens e.stands e.holds (ap (λ (b : StoreBounds). b.slot) e.opened.0) e.created c.open.ensures.others c.run_on-status.ensures.runs)
 
 pub returns-in-Ok-clause-counts : goal.returns-in-Ok-clause-counts
 returns-in-Ok-clause-counts g c =
-    opened_counts _ _ c.args.desk.now c.open.new.desk c.run_on.new.desk c.run_on.result c.open.ensures.others c.in-Ok.ensures.cause.calm c.run_on.ensures.counts
+    opened_counts _ _ c.args.desk.now c.open.new.desk c.run_on-status.new.desk c.run_on-status.result c.open.ensures.others c.in-Ok.ensures.cause.calm c.run_on-status.ensures.counts
 
 pub returns-in-Err-Disk-clause-replays : goal.returns-in-Err-Disk-clause-replays
 returns-in-Err-Disk-clause-replays g c =
@@ -59,3 +60,6 @@ returns-in-Err-NoMemory-clause-counts g c =
     closed_counts _ c.args.desk.now c.open.new.desk c.tell_cut.new.desk c.tell_cut.result c.open.ensures.others t.others t.counted
     (disk_calm _ _ c.tell_cut.result (t.others.failed_calls ∙ c.in-Err-NoMemory.ensures.cause.calm) (λ r. let is = t.status in cc))
     (λ r. let is = t.status in cc) (λ r. let is = t.status in cc)
+
+pub unreachable-requires : goal.unreachable-requires
+unreachable-requires g c = c.in-Err-Spent.ensures.fault
