@@ -219,6 +219,11 @@ pub closed_by_damage : (tells : Bool) (before now : Image) (part : Part) (at : �
     → (IsTrue tells → IsStateless before part at) → (IsTrue tells → now ≡ before) → TellsDamage part at status c d x y → StaysClosed tells before now c d x y status
 closed_by_damage tells before now part at c d x y status none still told = closed_at tells before now part at c d x y status told.same none still told
 
+-- A part and a place by which it was told are those that are theirs.
+pub told_at : {part part' : Part} {at at' : ℕ} (status : Status) (c d : Option (List ℕ)) (x y : ℕ) → part ≡ part' → at ≡ at' → TellsDamage part at status c d x y → TellsDamage part' at' status c d x y
+told_at {part} {part'} {at} {at'} status c d x y same_part same_at told =
+    subst (λ (p : Part). TellsDamage p at' status c d x y) same_part (subst (λ (n : ℕ). TellsDamage part n status c d x y) same_at told)
+
 -- Neither status is another fault.
 pub damage_statuses : (status : Status) → (status ≡ Damaged) ⊎ (status ≡ NoMemory) → (status ≡ ReadFault → ⊥) × (status ≡ WriteFault → ⊥) × (status ≡ DiskFault → ⊥)
 damage_statuses status (inl is) = (λ e. cc, λ e. cc, λ e. cc)
