@@ -9,13 +9,13 @@ use Rattle.ctrl_serve.proofs.top.run_within.Goals as goal
 pub returns-in-Some-Dry : goal.returns-in-Some-Dry
 returns-in-Some-Dry g c =
     let e = c.run_dry.ensures in
-    let form = ap (λ ws. form_of (texts ws)) (sym c.as_slice.ensures.value) ∙ sym c.form_of.ensures ∙ c.in-Some-Dry.is in
+    let form = ap (λ ws. form_of (texts ws)) (sym c.as_slice.ensures.value) ∙ sym c.form_of.ensures ∙ c.in-Some-Dry.is ∙ ap (λ (f : Form). Some f) c.in-Some-Dry.field-0-is in
     record { runs = dry_runs g.D.Desk.tells c.args.bounds.slot c.args.bounds.input _ _ _ _ _ _ form e.serves e.counts e.undisked e.others }
 
 pub returns-in-Some-Replay : goal.returns-in-Some-Replay
 returns-in-Some-Replay g c =
     let e = c.run_replay.ensures in
-    let form = ap (λ ws. form_of (texts ws)) (sym c.as_slice.ensures.value) ∙ sym c.form_of.ensures ∙ c.in-Some-Replay.is in
+    let form = ap (λ ws. form_of (texts ws)) (sym c.as_slice.ensures.value) ∙ sym c.form_of.ensures ∙ c.in-Some-Replay.is ∙ ap (λ (f : Form). Some f) c.in-Some-Replay.field-0-is in
     record { runs = replay_runs g.D.Desk.tells c.args.bounds.slot c.args.bounds.input _ _ _ _ _ _ form e.replays e.counts }
 
 pub returns-in-None : goal.returns-in-None
