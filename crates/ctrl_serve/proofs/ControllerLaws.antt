@@ -13,7 +13,7 @@ use Rattle.ctrl_keep.specs.KeptMachine.{Machine, step}
 use Rattle.ctrl_keep.specs.OpenedStates.{OpensToState}
 use Rattle.reply_codec.specs.ReplyLimits.{keeps_limits}
 use Rattle.ctrl_serve.specs.declared.controller.Controller.{Controller}
-use Rattle.ctrl_serve.specs.declared.controller.Controller.TheVariants.{Alone, Kept}
+use Rattle.ctrl_serve.specs.declared.controller.Controller.TheVariants.{Kept}
 use Rattle.ctrl_serve.specs.Controllers.{Serving, IsReady, GoesOn, LeavesNotes}
 use Rattle.ctrl_serve.specs.ControllerViews.{serving_of}
 use Rattle.ctrl_serve.proofs.CarriedFits.{step_fits}

@@ -10,11 +10,10 @@ use Rattle.ziti_outside.specs.Causes.{Rose}
 use Rattle.ziti_outside.specs.Told.{Gave, Took, IsFront}
 use Rattle.channel_frame.specs.declared.frames.FrameFault.{FrameFault}
 use Rattle.channel_frame.specs.StreamReading.{fault_of, rest_of}
-use Rattle.ctrl_serve.specs.declared.status.Status.{Status}
 use Rattle.ctrl_serve.specs.declared.status.Status.TheVariants.{Done, Truncated}
 use Rattle.ctrl_serve.specs.declared.tails.Tail.{Tail}
 use Rattle.ctrl_serve.specs.declared.tails.Tail.TheVariants.{Empty, Unfinished, Faulty}
-use Rattle.ctrl_serve.specs.Ending.{tail_from, tail_of, ending_at, is_cut}
+use Rattle.ctrl_serve.specs.Ending.{tail_from, tail_of, ending_at}
 use Rattle.ctrl_keep.specs.KeptMachine.{Machine}
 use Rattle.ctrl_serve.specs.FrameAnswer.{replies}
 use Rattle.ctrl_serve.specs.Headline.{Serves}

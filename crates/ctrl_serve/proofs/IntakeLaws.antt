@@ -1,6 +1,6 @@
 -- How what was taken, answered and noted makes up a run over plain input.
 use Rattle.std.specs.Prelude.{⊤, false, true, Bool}
-use Rattle.std.proofs.Common.{◌≡◌, ℕ, ◌<◌, ◌≤◌, ◌+◌, ◌⊎◌, inl, inr, List, [], ◌++◌, length, take, Ok, Err, refl, sym, ap, ◌∙◌, subst, append-nil, arith}
+use Rattle.std.proofs.Common.{◌≡◌, ℕ, ◌<◌, ◌⊎◌, inl, inr, List, [], length, take, Ok, Err, refl, sym, ap, ◌∙◌, subst, append-nil, arith}
 use Rattle.std.proofs.lemmas.Bool.{lt-ltb, le-ltb}
 use Rattle.std.proofs.Math.Dec.{ltb}
 use Rattle.std.specs.declared.option.Option.{Option}
@@ -8,7 +8,7 @@ use Rattle.std.specs.declared.result.Result.{Result}
 use Rattle.std.specs.Io.KnownBytes.{IsAtEnd}
 use Rattle.ziti_outside.specs.Images.{Image}
 use Rattle.ziti_outside.specs.Causes.{HasCause, Rose}
-use Rattle.ziti_outside.specs.Told.{Gave, Took}
+use Rattle.ziti_outside.specs.Told.{Took}
 use Rattle.ziti_outside.specs.Untouched.{OnlyNotes}
 use Rattle.ctrl_keep.specs.KeptMachine.{Machine}
 use Rattle.ziti_outside.proofs.Moves.{Took-none}
@@ -21,7 +21,7 @@ use Rattle.ctrl_serve.specs.declared.status.Status.{Status}
 use Rattle.ctrl_serve.specs.declared.status.Status.TheVariants.{Done, Usage, BadInput, Truncated, ReadFault, WriteFault, DiskFault, Damaged, NoMemory, InputTooLong, FolderFull}
 use Rattle.ctrl_serve.specs.declared.tails.Tail.{Tail}
 use Rattle.ctrl_serve.specs.declared.tails.Tail.TheVariants.{Empty, Unfinished, Faulty}
-use Rattle.ctrl_serve.specs.Ending.{tail_of, ending, ending_at, is_cut, Says}
+use Rattle.ctrl_serve.specs.Ending.{tail_of, ending_at, is_cut, Says}
 use Rattle.ctrl_serve.specs.Controllers.{LeavesNotes}
 use Rattle.ctrl_serve.specs.Failures.{RisesOnce}
 use Rattle.ctrl_serve.specs.FrameAnswer.{each_reply, replies}

@@ -1,6 +1,6 @@
 -- How the opening of the folder, the serving of the frames and the notes make up a run on the folder, with the counts of their faults.
-use Rattle.std.specs.Prelude.{⊤, is_some, false, true, Bool, IsTrue}
-use Rattle.std.proofs.Common.{◌≡◌, ℕ, ◌≤◌, ◌+◌, ◌<◌, ◌⊎◌, inl, inr, List, [], length, take, None, Some, Ok, Err, refl, sym, ap, ◌∙◌, subst, arith}
+use Rattle.std.specs.Prelude.{true, Bool, IsTrue}
+use Rattle.std.proofs.Common.{◌≡◌, ℕ, ◌<◌, ◌⊎◌, inl, inr, List, [], length, take, refl, sym, ap, ◌∙◌, subst, arith}
 use Rattle.std.specs.declared.option.Option.{Option}
 use Rattle.ziti_outside.specs.Images.{Image}
 use Rattle.ziti_outside.specs.declared.desk.Part.{Part}
@@ -44,9 +44,10 @@ pub served_keeps : {D : Type 0} {said : D → Option (List ℕ)} {say_faults : D
     → OnlyNotes said say_faults reads may_leave disk_faults mid now → KeepsUsed c first tells (reads now) (may_leave now) status
 served_keeps {reads = reads} {may_leave = may_leave} c new used first tells mid now status is last on ready notes = λ has kept told.
     let end : (serving_of new).machine ≡ last_machine c.slot c.machine first = last ∙ ap (last_machine c.slot c.machine) is in
-    let there = ready_keeps new tells (reads mid) (may_leave mid) (on.kind ∙ has) ready told in
-    ( subst (λ (i : Image). Keeps i (last_machine c.slot c.machine first)) (sym notes.parts) (subst (λ (m : Machine). Keeps (reads mid) m) end there.0),
-      λ image left. subst (λ (m : Machine). OpensToState image m.state) end (there.1 image (notes.found image left)) )
+    let there = ready_keeps new tells (reads mid) (may_leave mid) (on.kind ∙ has) ready told in (
+      subst (λ (i : Image). Keeps i (last_machine c.slot c.machine first)) (sym notes.parts) (subst (λ (m : Machine). Keeps (reads mid) m) end there.0),
+      λ image left. subst (λ (m : Machine). OpensToState image m.state) end (there.1 image (notes.found image left)),
+    )
 
 -- Nothing is promised of it where the answering was cut short.
 not_kept : (by : Cut) → is_kept (status_of_cut by) ≡ true → ⊥

@@ -1,11 +1,10 @@
 -- How what the parts of a run promise makes up what the run promises.
-use Rattle.std.specs.Prelude.{⊤, is_some, false, true, Bool, IsTrue}
-use Rattle.std.proofs.Common.{◌≡◌, ℕ, ◌<◌, ◌≤◌, ◌+◌, ◌⊎◌, inl, inr, List, [], ◌++◌, length, take, None, Some, Ok, Err, refl, sym, ap, ◌∙◌, subst, append-nil, arith}
+use Rattle.std.specs.Prelude.{Bool}
+use Rattle.std.proofs.Common.{◌≡◌, ℕ, ◌⊎◌, inl, inr, List, length, take, None, Some, refl, ap, ◌∙◌, subst, arith}
 use Rattle.std.proofs.Math.Dec.{ltb}
 use Rattle.std.specs.declared.option.Option.{Option}
 use Rattle.std.specs.Io.KnownBytes.{IsAtEnd}
 use Rattle.ziti_outside.specs.Images.{Image}
-use Rattle.ziti_outside.specs.Causes.{Rose}
 use Rattle.ziti_outside.specs.Told.{Took}
 use Rattle.ziti_outside.specs.Untouched.{OnlySays, OnlyNotes}
 use Rattle.ctrl_model.specs.State.{start}
@@ -14,10 +13,8 @@ use Rattle.ctrl_serve.specs.declared.command_line.Form.{Form}
 use Rattle.ctrl_serve.specs.declared.command_line.Form.TheVariants.{Dry, Replay}
 use Rattle.ctrl_serve.specs.declared.status.Status.{Status}
 use Rattle.ctrl_serve.specs.declared.status.Status.TheVariants.{Done, Usage, BadInput, Truncated, ReadFault, WriteFault, DiskFault, Damaged, NoMemory, InputTooLong, FolderFull}
-use Rattle.ctrl_serve.specs.declared.tails.Tail.{Tail}
-use Rattle.ctrl_serve.specs.declared.tails.Tail.TheVariants.{Empty, Unfinished, Faulty}
-use Rattle.ctrl_serve.specs.Ending.{tail_of, ending_at, is_cut}
-use Rattle.ctrl_serve.specs.Failures.{RisesOnce, TakesUntilFailure}
+use Rattle.ctrl_serve.specs.Ending.{tail_of}
+use Rattle.ctrl_serve.specs.Failures.{RisesOnce}
 use Rattle.ctrl_serve.specs.FrameAnswer.{alone}
 use Rattle.ctrl_serve.specs.Headline.{NotesLines, OnlySaysAndNotes, Serves, IsComplete, StaysClosed, Refuses, Replays, Runs}
 use Rattle.ctrl_serve.specs.Notes.{usage_note}

@@ -2,9 +2,7 @@
 use Rattle.std.specs.Prelude.{is_some}
 use Rattle.std.proofs.Common.{◌≡◌, ◌⊎◌, inl, inr, ℕ, Bool, List, [], refl, sym, ap, ◌∙◌, subst, IsTrue, IsSome, Ok}
 use Rattle.std.specs.declared.option.Option.{Option}
-use Rattle.std.specs.declared.result.Result.{Result}
 use Rattle.ziti_outside.specs.Images.{Image}
-use Rattle.ziti_outside.specs.Told.{Took, IsFront}
 use Rattle.ziti_outside.specs.Moments.{Now, Saying, Elapses, Leaves}
 use Rattle.ziti_outside.proofs.Moves.{Took-taken, IsFront-none}
 use Rattle.ziti_outside.proofs.MomentLaws.{Elapses-then, Elapses-weaker, Leaves-none, Leaves-weaker}
@@ -44,7 +42,7 @@ stop_answering before next reply said image taken now = record {
   front = [];
   is_front = IsFront-none reply;
   replies = Took-taken said taken now.replies;
-  found = elim now.found as (λ _. OpensToState image next ⊎ (◌≡◌ {A = List ℕ} [] [] × OpensToState image before)) [ | inl p ↦ inr (refl, p) | inr p ↦ inl p ];
+  found = elim now.found as (λ _. OpensToState image next ⊎ (◌≡◌ {A = List ℕ} [] [] × OpensToState image before)) [ inl p ↦ inr (refl, p) | inr p ↦ inl p ];
 }
 
 -- A stop within the saying of the reply finds the folder as it is then.
@@ -115,7 +113,7 @@ pub served_stops : {D : Type 0} {moment : D → ℕ} {since : D → ℕ → Imag
     → is_some (serving_of y).kept ≡ is_some (serving_of x).kept → IsSome (serving_of x).kept → IsReady tells (serving_of y).kept reads (may_leave mid) → IsTrue tells
     → Elapses (moment mid) (moment new) (since mid) (since new) (Saying (may_leave mid) (said mid) bytes)
     → Elapses (moment old) (moment new) (since old) (since new) (Turn (serving_of x).machine.state (frame_answer (serving_of x).slot Admin f (serving_of x).machine).1.state
-        (reply_to_frame (serving_of x).slot n f (serving_of x).machine) (said old))
+    (reply_to_frame (serving_of x).slot n f (serving_of x).machine) (said old))
 served_stops {may_leave = may_leave} {mid = mid} x y n f reply bytes tells reads answering e h kind some ready told saying =
     turn_stops (serving_of x).machine.state (frame_answer (serving_of x).slot Admin f (serving_of x).machine).1.state
     (reply_to_frame (serving_of x).slot n f (serving_of x).machine) bytes answering

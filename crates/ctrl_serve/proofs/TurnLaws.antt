@@ -124,8 +124,7 @@ pub told_all : (slot n : ℕ) (m first : Machine) (rest bytes : List ℕ) (a b :
 told_all slot n m first rest bytes a b none told =
     let stops = reading_stops rest none in
     let all : told.done ≡ each_reply slot first bytes =
-    sym (append-nil told.done) ∙ ap (λ (fs : List Frame). told.done ++ spoken slot Admin n m fs) (sym stops.0) ∙ told.same in
-    (
+    sym (append-nil told.done) ∙ ap (λ (fs : List Frame). told.done ++ spoken slot Admin n m fs) (sym stops.0) ∙ told.same in (
       subst (λ (x : List (List ℕ)). Took a b (joined x)) all told.took,
       sym stops.1 ∙ told.tail,
       ap (λ (fs : List Frame). machine_behind slot Admin m fs) (sym stops.0) ∙ told.last,

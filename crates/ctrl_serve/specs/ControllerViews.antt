@@ -1,6 +1,5 @@
 -- The machine that a controller is (docs/PROMISES.md, "The headline"). Only private contracts cite it.
 use Rattle.std.specs.Prelude.{not, None, Some}
-use Rattle.ctrl_core.specs.KeptState.{Cored}
 use Rattle.ctrl_keep.specs.KeptController.{machine_of}
 use Rattle.ctrl_serve.specs.declared.controller.Controller.{Controller}
 use Rattle.ctrl_serve.specs.declared.controller.Controller.TheVariants.{Alone, Kept}

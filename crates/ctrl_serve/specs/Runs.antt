@@ -14,7 +14,7 @@ use Rattle.ctrl_serve.specs.declared.serving.Cut.TheVariants as cut
 use Rattle.ctrl_serve.specs.declared.status.Status.{Status}
 use Rattle.ctrl_serve.specs.declared.status.Status.TheVariants.{Truncated, ReadFault, WriteFault, DiskFault, Damaged, NoMemory}
 use Rattle.ctrl_serve.specs.declared.tails.Tail.{Tail}
-use Rattle.ctrl_serve.specs.declared.tails.Tail.TheVariants.{Empty, Unfinished, Faulty}
+use Rattle.ctrl_serve.specs.declared.tails.Tail.TheVariants.{Unfinished, Faulty}
 use Rattle.ctrl_keep.specs.KeptMachine.{Machine}
 use Rattle.ctrl_keep.specs.OpenedStates.{OpensToState}
 use Rattle.ctrl_serve.specs.Controllers.{Serving}

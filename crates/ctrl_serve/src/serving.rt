@@ -80,7 +80,7 @@ fn answer_frame<D: Desk>(
     ensures others { OnlyDisk D.said D.noted D.say_faults D.note_faults desk.old desk.new }
     ensures stops { IsSome (serving_of controller.old).kept → IsTrue D.tells → Leaves D.moment D.since D.may_leave D.said desk.old desk.new
         (λ image. OpensToState image (serving_of controller.old).machine.state
-            ⊎ OpensToState image (frame_answer (serving_of controller.old).slot Admin frame.now (serving_of controller.old).machine).1.state) }
+        ⊎ OpensToState image (frame_answer (serving_of controller.old).slot Admin frame.now (serving_of controller.old).machine).1.state) }
     ensures remembers { Remembers (D.moment desk.old) (D.since desk.old) (D.since desk.new) }
 {
     match read(alloc, frame.content, frame.body.as_slice()) {
@@ -162,8 +162,8 @@ fn serve_frame<D: Desk>(
     ensures alone { (serving_of controller.old).kept ≡ None → OnlySays D.noted D.note_faults D.reads D.may_leave D.disk_faults desk.old desk.new }
     ensures stops { IsSome (serving_of controller.old).kept → IsTrue D.tells → Elapses (D.moment desk.old) (D.moment desk.new) (D.since desk.old) (D.since desk.new)
         (Turn (serving_of controller.old).machine.state
-            (frame_answer (serving_of controller.old).slot Admin frame.now (serving_of controller.old).machine).1.state
-            (reply_to_frame (serving_of controller.old).slot sequence frame.now (serving_of controller.old).machine) (D.said desk.old)) }
+        (frame_answer (serving_of controller.old).slot Admin frame.now (serving_of controller.old).machine).1.state
+        (reply_to_frame (serving_of controller.old).slot sequence frame.now (serving_of controller.old).machine) (D.said desk.old)) }
 {
     let reply = answer_frame(alloc, desk, controller, frame)?;
     let bytes = reply_bytes(alloc, sequence, frame.sequence, &reply)?;

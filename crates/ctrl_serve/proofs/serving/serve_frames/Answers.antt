@@ -1,7 +1,6 @@
 use Rattle.std.proofs.Common.{sym, ◌∙◌, arith}
 use Rattle.std.proofs.lemmas.Result.{err_from_is_err_and}
 use Rattle.ziti_outside.proofs.MomentLaws.{OnlySays-then}
-use Rattle.ctrl_serve.specs.ControllerViews.{serving_of}
 use Rattle.ctrl_serve.proofs.ControllerLaws.{GoesOn-then, LeavesNotes-then, still_alone}
 use Rattle.ctrl_serve.proofs.TurnLaws.{told_more, told_short, told_bad, cut_told, whole_is_long, whole_fits}
 use Rattle.ctrl_serve.proofs.serving.serve_frames.Goals as goal

@@ -1,6 +1,6 @@
 use Rattle.std.proofs.Common.{Err, take, ap, ◌∙◌}
 use Rattle.ctrl_serve.specs.ControllerViews.{serving_of}
-use Rattle.ctrl_serve.proofs.IntakeLaws.{served_says, cut_says, said_before_noted, served_cause, cut_cause, served_disk, cut_disk, told_no_disk_fault}
+use Rattle.ctrl_serve.proofs.IntakeLaws.{served_says, cut_says, said_before_noted, served_disk, cut_disk, told_no_disk_fault}
 use Rattle.ctrl_serve.proofs.ReplayLaws.{served_keeps, cut_keeps, cut_undisked}
 use Rattle.ctrl_serve.proofs.RunLaws.{says_then_notes}
 use Rattle.ctrl_serve.proofs.top.answer_intake.Goals as goal

@@ -1,5 +1,4 @@
-use Rattle.std.proofs.Common.{refl, ap, arith}
-use Rattle.ctrl_core.specs.KeptState.{Cored}
+use Rattle.std.proofs.Common.{refl, arith}
 use Rattle.ctrl_serve.proofs.FailureLaws.{takes_none}
 use Rattle.ctrl_serve.proofs.ReplayLaws.{started_serves, none_serves, cut_counts}
 use Rattle.ctrl_serve.proofs.RunLaws.{notes_alone}

@@ -1,4 +1,4 @@
-use Rattle.std.proofs.Common.{take, refl}
+use Rattle.std.proofs.Common.{take}
 use Rattle.ctrl_serve.specs.ControllerViews.{serving_of}
 use Rattle.ctrl_serve.proofs.ReplayLaws.{intake_runs, cut_runs, intake_counts, cut_counts}
 use Rattle.ctrl_serve.proofs.RunLaws.{notes_alone}

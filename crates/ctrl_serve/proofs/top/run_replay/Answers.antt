@@ -1,4 +1,3 @@
-use Rattle.std.specs.Prelude.{not}
 use Rattle.std.proofs.Common.{Err, inl, inr, refl, sym, ap, subst, ◌∙◌}
 use Rattle.row_store.specs.declared.bounds.StoreBounds.{StoreBounds}
 use Rattle.ziti_outside.specs.Causes.{HasCause}
@@ -16,7 +15,7 @@ pub returns-in-Ok-clause-replays : goal.returns-in-Ok-clause-replays
 returns-in-Ok-clause-replays g c =
     let e = c.in-Ok.ensures in
     inr (replays_on g.D.Desk.reads g.D.Desk.may_leave c.args.bounds.slot c.args.bounds.input c.in-Ok.kept _ _ g.D.Desk.tells c.args.desk.now c.open.new.desk c.run_on-status.new.desk c.run_on-status.result
-        e.opens e.stands e.holds (ap (λ (b : StoreBounds). b.slot) e.opened.0) e.created c.open.ensures.others c.run_on-status.ensures.runs)
+    e.opens e.stands e.holds (ap (λ (b : StoreBounds). b.slot) e.opened.0) e.created c.open.ensures.others c.run_on-status.ensures.runs)
 
 pub returns-in-Ok-clause-counts : goal.returns-in-Ok-clause-counts
 returns-in-Ok-clause-counts g c =
@@ -26,7 +25,7 @@ pub returns-in-Err-Disk-clause-replays : goal.returns-in-Err-Disk-clause-replays
 returns-in-Err-Disk-clause-replays g c =
     let t = c.tell_cut.ensures in
     inl (refuses g.D.Desk.tells _ c.args.desk.now c.open.new.desk c.tell_cut.new.desk c.tell_cut.result c.open.ensures.others t.others c.open.ensures.kept
-        (closed_by_disk g.D.Desk.tells _ _ _ _ _ _ c.tell_cut.result t.status t.told))
+    (closed_by_disk g.D.Desk.tells _ _ _ _ _ _ c.tell_cut.result t.status t.told))
 
 pub returns-in-Err-Disk-clause-counts : goal.returns-in-Err-Disk-clause-counts
 returns-in-Err-Disk-clause-counts g c =
@@ -34,7 +33,7 @@ returns-in-Err-Disk-clause-counts g c =
     let cause = (subst (λ (f : KeepFault). HasCause (g.D.Desk.disk_faults c.args.desk.now) (g.D.Desk.disk_faults c.open.new.desk) (disk_failure {T = Controlled} (Err f))) c.in-Err-Disk.field-0-is c.in-Err-Disk.ensures.cause) in
     closed_counts _ c.args.desk.now c.open.new.desk c.tell_cut.new.desk c.tell_cut.result c.open.ensures.others t.others t.counted
     (subst (λ (u : Status). IsDiskCaused (g.D.Desk.disk_faults c.args.desk.now) (g.D.Desk.disk_faults c.tell_cut.new.desk) u) (sym t.status)
-        (disk_fault _ (g.D.Desk.disk_faults c.open.new.desk) _ _ _ refl cause t.others.failed_calls))
+    (disk_fault _ (g.D.Desk.disk_faults c.open.new.desk) _ _ _ refl cause t.others.failed_calls))
     (λ r. let is = t.status in cc) (λ r. let is = t.status in cc)
 
 pub returns-in-Err-Damaged-clause-replays : goal.returns-in-Err-Damaged-clause-replays
@@ -44,8 +43,8 @@ returns-in-Err-Damaged-clause-replays g c =
     let kept = c.open.ensures.kept in
     let told = told_at c.tell_damage.result _ _ _ _ c.in-Err-Damaged.part-is c.in-Err-Damaged.at-is t.told in
     inl (refuses g.D.Desk.tells _ c.args.desk.now c.open.new.desk c.tell_damage.new.desk c.tell_damage.result c.open.ensures.others t.others kept
-        (closed_by_damage g.D.Desk.tells _ _ c.in-Err-Damaged.part c.in-Err-Damaged.at _ _ _ _ c.tell_damage.result none
-            (λ yes. t.others.parts ∙ kept yes (stateless_marked _ c.in-Err-Damaged.part c.in-Err-Damaged.at (none yes))) told))
+    (closed_by_damage g.D.Desk.tells _ _ c.in-Err-Damaged.part c.in-Err-Damaged.at _ _ _ _ c.tell_damage.result none
+    (λ yes. t.others.parts ∙ kept yes (stateless_marked _ c.in-Err-Damaged.part c.in-Err-Damaged.at (none yes))) told))
 
 pub returns-in-Err-Damaged-clause-counts : goal.returns-in-Err-Damaged-clause-counts
 returns-in-Err-Damaged-clause-counts g c =
@@ -59,7 +58,7 @@ pub returns-in-Err-NoMemory-clause-replays : goal.returns-in-Err-NoMemory-clause
 returns-in-Err-NoMemory-clause-replays g c =
     let t = c.tell_cut-in-Err-NoMemory.ensures in
     inl (refuses g.D.Desk.tells _ c.args.desk.now c.open.new.desk c.tell_cut-in-Err-NoMemory.new.desk c.tell_cut-in-Err-NoMemory.result c.open.ensures.others t.others c.open.ensures.kept
-        (closed_by_memory g.D.Desk.tells _ _ _ _ _ _ c.tell_cut-in-Err-NoMemory.result t.status t.told))
+    (closed_by_memory g.D.Desk.tells _ _ _ _ _ _ c.tell_cut-in-Err-NoMemory.result t.status t.told))
 
 pub returns-in-Err-NoMemory-clause-counts : goal.returns-in-Err-NoMemory-clause-counts
 returns-in-Err-NoMemory-clause-counts g c =

@@ -1,6 +1,5 @@
-use Rattle.std.proofs.Common.{List, ℕ, Some, refl, sym, ap, subst, ◌∙◌}
+use Rattle.std.proofs.Common.{List, ℕ, Some, sym, ap, subst, ◌∙◌}
 use Rattle.ctrl_serve.specs.declared.command_line.Form.{Form}
-use Rattle.ctrl_serve.specs.declared.command_line.Form.TheVariants.{Dry, Replay}
 use Rattle.ctrl_serve.specs.CommandLine.{form_of, texts}
 use Rattle.ctrl_serve.specs.Headline.{NotesLines}
 use Rattle.ctrl_serve.proofs.RunLaws.{dry_runs, replay_runs, usage_runs}
