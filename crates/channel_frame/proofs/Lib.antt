@@ -5,3 +5,4 @@ pub mod HeadLaws
 pub mod FrontLaws
 pub mod ReadingLaws
 pub mod SessionLaws
+mod FrontParts

@@ -9,7 +9,7 @@ use Rattle.channel_frame.specs.declared.frames.Header.{Header}
 use Rattle.channel_frame.specs.declared.frames.Front.{Front}
 use Rattle.channel_frame.specs.declared.frames.Front.TheVariants.{Short, Bad, Whole}
 use Rattle.channel_frame.specs.StreamReading.{head_of, frame_len, headers_of, headers_part, with_headers, front, and_then_frames, frames_past, frames_of, and_then_rest, rest_past, rest_of}
-use Rattle.channel_frame.specs.SessionBytes.{SessionBytes, no_bytes, held_with, with_more, frames_unless, frames_held, left_at, left_unless, settled, placed, fault_unless, fault_held}
+use Rattle.channel_frame.specs.SessionBytes.{SessionBytes, held_with, with_more, frames_unless, frames_held, left_at, settled, placed, fault_unless, fault_held}
 use Rattle.channel_frame.proofs.HeadLaws.{head_limits}
 use Rattle.channel_frame.proofs.FrontLaws.{front_stays, whole_within, front_headed, front_behind}
 use Rattle.channel_frame.proofs.ReadingLaws.{HasNone, drop_before, frames_step, rest_step, reading_stops, reading_stops_bad}

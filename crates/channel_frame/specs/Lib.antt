@@ -2,3 +2,4 @@ pub mod FrameSpelling
 pub mod StreamReading
 pub mod SessionBytes
 pub mod WorkedFrames
+pub mod AnnouncedFrames

@@ -4,11 +4,13 @@
 mod decoding;
 mod encoding;
 mod frames;
+mod fronts;
 mod laws;
 mod worked;
 
 pub use decoding::{read_frame, read_head};
 pub use encoding::encode;
 pub use frames::{Frame, FrameFault, Frames, Front, Head, Header, Headers};
+pub use fronts::front_of;
 pub use laws::{one_reading, one_spelling, what_stands};
 pub use worked::{worked_faults, worked_readings, worked_spellings, worked_unfinished};

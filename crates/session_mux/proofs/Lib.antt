@@ -1,4 +1,3 @@
-mod FrontParts
 pub mod EventLaws
 pub mod TableLaws
 pub mod RecordLaws

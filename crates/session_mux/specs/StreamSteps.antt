@@ -1,20 +1,12 @@
 -- What one step takes off a session's bytes.
-use Rattle.std.specs.Prelude.{◌≡◌, ℕ, ◌+◌, ◌≤◌, List, [], length, drop, None, Some, Ok}
+use Rattle.std.specs.Prelude.{◌≡◌, ℕ, ◌+◌, [], drop, None, Some}
 use Rattle.channel_frame.specs.declared.frames.Frame.{Frame}
 use Rattle.channel_frame.specs.declared.frames.FrameFault.{FrameFault}
-use Rattle.channel_frame.specs.declared.frames.Head.{Head}
 use Rattle.channel_frame.specs.declared.frames.Front.TheVariants.{Short, Bad, Whole}
-use Rattle.channel_frame.specs.StreamReading.{head_of, frame_len, front}
+use Rattle.channel_frame.specs.StreamReading.{front}
 use Rattle.channel_frame.specs.SessionBytes.{SessionBytes}
 use Rattle.session_mux.specs.declared.streams.Found.{Found}
 use Rattle.session_mux.specs.declared.streams.Found.TheVariants.{Nothing, Given, Faulty}
-
--- The bytes begin with a good head, and all the bytes that it announces are there.
-pub record IsAnnouncedAt (len : ℕ) (bytes : List ℕ) : Type 0 where
-  pub head : Head
-  pub is_head : head_of bytes ≡ Ok head
-  pub is_len : frame_len head ≡ len
-  pub enough : len ≤ length bytes
 
 -- The frame at the front of the bytes held is taken off.
 pub record TakesFrame (old new : SessionBytes) (f : Frame) : Type 0 where

@@ -1,17 +1,14 @@
-ghost use Rattle.std.specs.Prelude.{◌≡◌, ◌≢◌, ℕ, ◌+◌, ◌<◌, ◌≤◌, ◌^◌, [], IfOk, OnOk, OnErr, length, None};
-ghost use Rattle.channel_frame.specs.declared.frames.Front.TheVariants.{Bad, Whole};
+ghost use Rattle.std.specs.Prelude.{◌≡◌, ℕ, ◌+◌, ◌<◌, ◌≤◌, ◌^◌, [], IfOk, OnOk, OnErr, length, None};
+ghost use Rattle.channel_frame.specs.declared.frames.Front.TheVariants.{Whole};
 ghost use Rattle.channel_frame.specs.StreamReading.{front};
 ghost use Rattle.channel_frame.specs.SessionBytes.{no_bytes, with_more, settled};
 ghost use Rattle.session_mux.specs.Completion.{bytes_events, bytes_len};
-ghost use Rattle.session_mux.specs.StreamSteps.{IsAnnouncedAt, StreamGives};
+ghost use Rattle.session_mux.specs.StreamSteps.{StreamGives};
 
 use crate::buffers::Buffer;
-use channel_frame::{Frame, FrameFault, Front, read_frame, read_head};
+use channel_frame::{Frame, FrameFault, Front, front_of};
 use std::alloc::{AllocError, Global};
 use std::marker::Model;
-
-/// How many bytes the head of a frame has.
-const HEAD: usize = 20;
 
 /// The bytes of one session that were not given as frames yet.
 ///
@@ -39,43 +36,6 @@ pub enum Found {
     Given(Frame),
     /// A fault, and its place. Nothing is held from then on.
     Faulty(FrameFault, u64),
-}
-
-fn bad_front(fault: FrameFault) -> Result<Front, AllocError>
-    ensures { IfOk result (λ f. (fault ≢ FrameFault.NoMemory) × (f ≡ Bad fault)) }
-{
-    match fault {
-        FrameFault::NoMemory => Err(AllocError),
-        _ => Ok(Front::Bad(fault)),
-    }
-}
-
-fn whole_front(alloc: Global, bytes: &[u8], len: usize) -> Result<Front, AllocError>
-    requires { IsAnnouncedAt len bytes.now }
-    ensures { IfOk result (λ f. f ≡ front bytes.now) }
-{
-    let (whole, _) = bytes.split_at(len);
-    match read_frame(alloc, whole) {
-        Ok(frame) => Ok(Front::Whole(frame, len as u64)),
-        Err(fault) => bad_front(fault),
-    }
-}
-
-fn front_of(alloc: Global, bytes: &[u8]) -> Result<Front, AllocError>
-    ensures { IfOk result (λ f. f ≡ front bytes.now) }
-{
-    let Some(first) = bytes.first_chunk::<20>() else {
-        return Ok(Front::Short);
-    };
-    let head = match read_head(first) {
-        Ok(head) => head,
-        Err(fault) => return Ok(Front::Bad(fault)),
-    };
-    let len = HEAD + head.headers_len as usize + head.body_len as usize;
-    if bytes.len() < len {
-        return Ok(Front::Short);
-    }
-    whole_front(alloc, bytes, len)
 }
 
 impl Stream {

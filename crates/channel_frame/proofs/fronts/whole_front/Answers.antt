@@ -1,7 +1,7 @@
 use Rattle.std.proofs.Common.{◌∙◌}
 use Rattle.std.proofs.lemmas.Result.{IfOk-weaker}
-use Rattle.session_mux.proofs.FrontParts.{whole_from_part, bad_from_part}
-use Rattle.session_mux.proofs.streams.whole_front.Goals as goal
+use Rattle.channel_frame.proofs.FrontParts.{whole_from_part, bad_from_part}
+use Rattle.channel_frame.proofs.fronts.whole_front.Goals as goal
 
 pub returns-in-Ok : goal.returns-in-Ok
 returns-in-Ok c =
