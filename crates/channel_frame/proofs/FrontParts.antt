@@ -1,5 +1,7 @@
 -- What stands at the front of some bytes stands at the front of a part of them that is long enough.
-use Rattle.std.proofs.Common.{◌≡◌, ℕ, ◌≤◌, ◌++◌, List, length, take, drop, sym, ap, ◌∙◌, take-append-drop}
+use Rattle.std.proofs.Common.{◌≡◌, ℕ, ◌≤◌, ◌++◌, List, length, take, drop, Ok, Err, sym, ap, ◌∙◌, take-append-drop}
+use Rattle.std.specs.Result.{OnErr}
+use Rattle.std.specs.declared.result.Result.{Result}
 use Rattle.std.proofs.lemmas.List.{length-take-le}
 use Rattle.channel_frame.specs.declared.frames.Frame.{Frame}
 use Rattle.channel_frame.specs.declared.frames.FrameFault.{FrameFault}
@@ -23,3 +25,8 @@ whole_from_part bytes part n f is enough e =
 -- A fault of the first n bytes is the fault at the front.
 pub bad_from_part : (bytes part : List ℕ) (n : ℕ) (e : FrameFault) → part ≡ take n bytes → front part ≡ Bad e → Bad e ≡ front bytes
 bad_from_part bytes part n e is h = front_from_part bytes part n (Bad e) is h (λ s. cc)
+
+-- What holds anyway holds where there is an error.
+pub at_error : {T E : Type 0} (r : Result T E) (P : Type 0) → P → OnErr r P
+at_error (Ok x) P p = tt
+at_error (Err e) P p = p

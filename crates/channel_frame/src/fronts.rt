@@ -1,7 +1,7 @@
-ghost use Rattle.std.specs.Prelude.{◌≡◌, ◌≢◌, IfOk};
+ghost use Rattle.std.specs.Prelude.{◌≡◌, ◌≢◌, IfOk, OnErr};
 ghost use Rattle.channel_frame.specs.declared.frames.Front.TheVariants.{Bad};
 ghost use Rattle.channel_frame.specs.StreamReading.{front};
-ghost use Rattle.channel_frame.specs.AnnouncedFrames.{IsAnnouncedAt};
+ghost use Rattle.channel_frame.specs.AnnouncedFrames.{IsAnnouncedAt, IsAnnouncedFront};
 
 use crate::decoding::{read_frame, read_head};
 use crate::frames::{FrameFault, Front};
@@ -21,7 +21,8 @@ fn bad_front(fault: FrameFault) -> Result<Front, AllocError>
 
 fn whole_front(alloc: Global, bytes: &[u8], len: usize) -> Result<Front, AllocError>
     requires { IsAnnouncedAt len bytes.now }
-    ensures { IfOk result (λ f. f ≡ front bytes.now) }
+    ensures front { IfOk result (λ f. f ≡ front bytes.now) }
+    ensures memory { OnErr result (IsAnnouncedFront bytes.now) }
 {
     let (whole, _) = bytes.split_at(len);
     match read_frame(alloc, whole) {
@@ -32,9 +33,10 @@ fn whole_front(alloc: Global, bytes: &[u8], len: usize) -> Result<Front, AllocEr
 
 /// What stands at the front of some bytes: an unfinished frame, a fault, or a whole frame with how many bytes it takes.
 ///
-/// Memory is wanted for a whole frame alone (docs/FORMATS.md, "Channel frame").
+/// Memory is wanted only where all the bytes are there that a good head announces (docs/FORMATS.md, "Channel frame").
 pub fn front_of(alloc: Global, bytes: &[u8]) -> Result<Front, AllocError>
-    ensures { IfOk result (λ f. f ≡ front bytes.now) }
+    ensures front { IfOk result (λ f. f ≡ front bytes.now) }
+    ensures memory { OnErr result (IsAnnouncedFront bytes.now) }
 {
     let Some(first) = bytes.first_chunk::<20>() else {
         return Ok(Front::Short);
