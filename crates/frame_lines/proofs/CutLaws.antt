@@ -59,17 +59,19 @@ last_stays (b ∷ c ∷ line) is =
 pub word_alone : (line : List ℕ) → Lacks 32 line → (first_word line ≡ line) × (behind_word line ≡ [])
 word_alone [] lacks = (refl, refl)
 word_alone (b ∷ line) lacks =
-    let later = word_alone line lacks.1 in
-    (ap (λ (t : Bool). cond t [] (b ∷ first_word line)) lacks.0 ∙ ap (λ (w : List ℕ). b ∷ w) later.0,
-    ap (λ (t : Bool). cond t line (behind_word line)) lacks.0 ∙ later.1)
+    let later = word_alone line lacks.1 in (
+      ap (λ (t : Bool). cond t [] (b ∷ first_word line)) lacks.0 ∙ ap (λ (w : List ℕ). b ∷ w) later.0,
+      ap (λ (t : Bool). cond t line (behind_word line)) lacks.0 ∙ later.1,
+    )
 
 pub word_cut : (word behind : List ℕ) → Lacks 32 word → (first_word (word ++ 32 ∷ behind) ≡ word) × (behind_word (word ++ 32 ∷ behind) ≡ behind)
 word_cut [] behind lacks = (refl, refl)
 word_cut (b ∷ word) behind lacks =
     let rest : List ℕ = word ++ 32 ∷ behind in
-    let later = word_cut word behind lacks.1 in
-    (ap (λ (t : Bool). cond t [] (b ∷ first_word rest)) lacks.0 ∙ ap (λ (w : List ℕ). b ∷ w) later.0,
-    ap (λ (t : Bool). cond t rest (behind_word rest)) lacks.0 ∙ later.1)
+    let later = word_cut word behind lacks.1 in (
+      ap (λ (t : Bool). cond t [] (b ∷ first_word rest)) lacks.0 ∙ ap (λ (w : List ℕ). b ∷ w) later.0,
+      ap (λ (t : Bool). cond t rest (behind_word rest)) lacks.0 ∙ later.1,
+    )
 
 -- ---- lines
 

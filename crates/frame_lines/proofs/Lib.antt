@@ -1,3 +1,6 @@
 pub mod CutLaws
 pub mod NumberLaws
 pub mod TurnLaws
+pub mod FrontParts
+pub mod TellLaws
+pub mod DecodeLaws

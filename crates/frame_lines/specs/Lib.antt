@@ -5,3 +5,6 @@ pub mod LineReading
 pub mod TextReading
 pub mod LineCuts
 pub mod LineTurns
+pub mod FrameLines
+pub mod TextTelling
+pub mod FrameTurns

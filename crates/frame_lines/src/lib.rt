@@ -2,12 +2,18 @@
 #![tactic(auto)]
 
 mod cutting;
+mod decoding;
 mod encoding;
+mod fronts;
 mod lines;
 mod reading;
+mod telling;
+mod told;
 mod types;
 mod words;
 
+pub use decoding::{Decoded, decode};
 pub use encoding::{Encoded, encode};
 pub use lines::{Line, LineCause, LineFault};
 pub use reading::{passes, read_line};
+pub use told::{DecodeCause, DecodeFault, TellCause};
