@@ -8,3 +8,4 @@ pub mod LineTurns
 pub mod FrameLines
 pub mod TextTelling
 pub mod FrameTurns
+pub mod FaultTexts

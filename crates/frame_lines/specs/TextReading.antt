@@ -2,7 +2,9 @@
 use Rattle.std.specs.Prelude.{ℕ, ◌+◌, ◌%◌, ◌^◌, if◌then◌else◌, List, [], ◌∷◌, unwrap_or, None, Some, Ok, Err}
 use Rattle.std.specs.declared.option.Option.{Option}
 use Rattle.std.specs.declared.result.Result.{Result}
+use Rattle.std.specs.List.{flat_map}
 use Rattle.channel_frame.specs.declared.frames.Frame.{Frame}
+use Rattle.channel_frame.specs.FrameSpelling.{spelling}
 use Rattle.frame_lines.specs.declared.lines.Line.{Line}
 use Rattle.frame_lines.specs.declared.lines.LineCause.{LineCause}
 use Rattle.frame_lines.specs.declared.lines.LineFault.{LineFault}
@@ -31,6 +33,10 @@ frames_from (line ∷ lines) next =
 -- The frames that a text says. The first sequence number is 1.
 abbrev pub frames_said : List ℕ → List Frame
 frames_said text = frames_from (lines_of text) 1
+
+-- The bytes of the frames that a text says, joined.
+abbrev pub bytes_said : List ℕ → List ℕ
+bytes_said text = flat_map spelling (frames_said text)
 
 -- The fault of a line with its number, or that of the lines behind it.
 abbrev pub or_fault : ℕ → Result Line LineCause → Option LineFault → Option LineFault

@@ -1,7 +1,6 @@
 ghost use Rattle.std.specs.Prelude.{◌≡◌, ◌++◌, ◌≤◌, OnOk, IfOk, length};
-ghost use Rattle.std.specs.List.{flat_map};
 ghost use Rattle.channel_frame.specs.FrameSpelling.{spelling};
-ghost use Rattle.frame_lines.specs.TextReading.{frame_of, next_after, frames_said, fault_said};
+ghost use Rattle.frame_lines.specs.TextReading.{frame_of, next_after, bytes_said, fault_said};
 ghost use Rattle.frame_lines.specs.LineTurns.{TakesLine};
 
 use crate::cutting::cut_line;
@@ -55,7 +54,7 @@ fn take_line(
 
 /// The frames that a text says, a frame for each line that does not pass, up to the first line that says none.
 pub fn encode(alloc: Global, text: &[u8]) -> Result<Encoded, AllocError>
-    ensures frames { IfOk result (λ e. e.bytes ≡ flat_map spelling (frames_said text.now)) }
+    ensures bytes { IfOk result (λ e. e.bytes ≡ bytes_said text.now) }
     ensures fault { IfOk result (λ e. e.fault ≡ fault_said text.now) }
 {
     let mut out = Vec::new(alloc);

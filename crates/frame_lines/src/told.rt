@@ -1,20 +1,20 @@
+ghost use Rattle.std.specs.Prelude.{◌≡◌, IfOk};
+ghost use Rattle.std.specs.String.{string_bytes};
+ghost use Rattle.frame_lines.specs.FaultTexts.{tell_words, fault_word, frame_text};
+
 use channel_frame::FrameFault;
-use thiserror::Error;
+use std::alloc::{AllocError, Global};
 
 /// Why no line tells a frame.
-#[derive(Clone, Copy, Debug, PartialEq, Eq, Error)]
+#[derive(Clone, Copy, Debug, PartialEq, Eq)]
 pub enum TellCause {
     /// The frame has headers, and is no reply with exactly its two.
-    #[error("headers that no line tells")]
     Headers,
     /// The body has a newline.
-    #[error("newline in the body")]
     Newline,
     /// The body ends in a carriage return.
-    #[error("carriage return at the end of the body")]
     Return,
     /// The body is no text in UTF-8.
-    #[error("body is no text")]
     NotText,
 }
 
@@ -34,4 +34,46 @@ pub enum DecodeCause {
 pub struct DecodeFault {
     pub frame: u64,
     pub cause: DecodeCause,
+}
+
+fn tell_words(cause: TellCause) -> &'static str
+    ensures { result.now ≡ tell_words cause }
+{
+    match cause {
+        TellCause::Headers => "headers that no line tells",
+        TellCause::Newline => "newline in the body",
+        TellCause::Return => "carriage return at the end of the body",
+        TellCause::NotText => "body that is no text",
+    }
+}
+
+fn fault_word(fault: FrameFault) -> &'static str
+    ensures { result.now ≡ fault_word fault }
+{
+    match fault {
+        FrameFault::BadMarker => "BadMarker",
+        FrameFault::TooLong => "TooLong",
+        FrameFault::BadHeaders => "BadHeaders",
+        FrameFault::NoMemory => "",
+    }
+}
+
+impl DecodeFault {
+    /// The fault in words: the frame, and why the telling ended there.
+    pub fn text(&self, alloc: Global) -> Result<String, AllocError>
+        ensures { IfOk result (λ text. string_bytes text ≡ frame_text self.now) }
+    {
+        let frame = self.frame;
+        match self.cause {
+            DecodeCause::Untold(cause) => {
+                let words = tell_words(cause);
+                format!(in alloc; "frame {frame}: {words}")
+            }
+            DecodeCause::Bad(fault, at) => {
+                let word = fault_word(fault);
+                format!(in alloc; "frame {frame}: {word} at {at}")
+            }
+            DecodeCause::Unfinished(at) => format!(in alloc; "frame {frame}: unfinished at {at}"),
+        }
+    }
 }
