@@ -4,3 +4,5 @@ pub mod TurnLaws
 pub mod FrontParts
 pub mod TellLaws
 pub mod DecodeLaws
+pub mod TypeLaws
+pub mod WordLaws

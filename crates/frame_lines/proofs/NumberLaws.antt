@@ -24,7 +24,7 @@ and_right : (a b : Bool) → (a && b) ≡ true → b ≡ true
 and_right true b is = is
 and_right false b is = cc
 
-number_plain : (word : List ℕ) → are_digits word ≡ true → is_plain word ≡ true
+pub number_plain : (word : List ℕ) → are_digits word ≡ true → is_plain word ≡ true
     → number_in word ≡ cond (ltb (digits_value 10 word) (2 ^ 32)) (Some (digits_value 10 word)) None
 number_plain word digits plain =
     let v : ℕ = digits_value 10 word in

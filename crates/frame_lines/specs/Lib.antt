@@ -9,3 +9,5 @@ pub mod FrameLines
 pub mod TextTelling
 pub mod FrameTurns
 pub mod FaultTexts
+pub mod WorkedLines
+pub mod FullLines

@@ -11,9 +11,13 @@ mod telling;
 mod told;
 mod types;
 mod words;
+mod worked;
 
 pub use decoding::{Decoded, decode};
 pub use encoding::{Encoded, encode};
 pub use lines::{Line, LineCause, LineFault};
 pub use reading::{passes, read_line};
 pub use told::{DecodeCause, DecodeFault, TellCause};
+pub use worked::{
+    worked_cuts, worked_frames, worked_lines, worked_tellings, worked_text, worked_types,
+};
