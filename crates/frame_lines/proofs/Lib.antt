@@ -6,3 +6,5 @@ pub mod TellLaws
 pub mod DecodeLaws
 pub mod TypeLaws
 pub mod WordLaws
+pub mod RoundLaws
+pub mod FullLaws

@@ -46,13 +46,13 @@ said_short line l e = said_short_at (are_digits (first_word line)) line l e
 -- ---- a turn
 
 -- a line that does not pass is what it says, and then those behind it
-frames_at : (line : List ℕ) (lines : List (List ℕ)) (next : ℕ) (said : Result Line LineCause) → passes line ≡ false → said_by line ≡ said
+pub frames_at : (line : List ℕ) (lines : List (List ℕ)) (next : ℕ) (said : Result Line LineCause) → passes line ≡ false → said_by line ≡ said
     → frames_from (line ∷ lines) next ≡ and_then_frames next said (frames_from lines)
 frames_at line lines next said passes_not is =
     ap (λ (t : Bool). cond t (frames_from lines next) (and_then_frames next (said_by line) (frames_from lines))) passes_not
     ∙ ap (λ (s : Result Line LineCause). and_then_frames next s (frames_from lines)) is
 
-fault_at : (line : List ℕ) (lines : List (List ℕ)) (number : ℕ) (said : Result Line LineCause) → passes line ≡ false → said_by line ≡ said
+pub fault_at : (line : List ℕ) (lines : List (List ℕ)) (number : ℕ) (said : Result Line LineCause) → passes line ≡ false → said_by line ≡ said
     → fault_from (line ∷ lines) number ≡ or_fault number said (fault_from lines (number + 1))
 fault_at line lines number said passes_not is =
     ap (λ (t : Bool). cond t (fault_from lines (number + 1)) (or_fault number (said_by line) (fault_from lines (number + 1)))) passes_not
