@@ -158,6 +158,7 @@ lines_back text told =
     let frames : List Frame = frames_said text in
     let all : AllByRecursion IsSaid frames = frames_fit (lines_of text) 1 (omega arith) in
     let bytes : List ℕ = flat_map spelling frames in
-    let reading = has_one_reading bytes frames [] tt (reads_alone frames (all_frames frames all)) in
-    (ap lines_for reading.0 ∙ lines_in_full frames all told,
-    ap (λ (fs : List Frame). untold_from fs (fault_behind bytes) 1) reading.0 ∙ none_untold frames (fault_behind bytes) 1 all told (λ n. nothing_behind bytes n reading.1))
+    let reading = has_one_reading bytes frames [] tt (reads_alone frames (all_frames frames all)) in (
+      ap lines_for reading.0 ∙ lines_in_full frames all told,
+      ap (λ (fs : List Frame). untold_from fs (fault_behind bytes) 1) reading.0 ∙ none_untold frames (fault_behind bytes) 1 all told (λ n. nothing_behind bytes n reading.1),
+    )

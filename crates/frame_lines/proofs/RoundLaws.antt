@@ -167,7 +167,7 @@ body_at content sequence body None line is told = refl
 body_at content sequence body (Some why) line is told =
     let f : Frame = record { content = content; sequence = sequence; headers = []; body = body } in
     let none : line_for f ≡ Err why = ap (λ (w : Option (List ℕ)). line_with w (body_cause body) body) (plain_words content sequence body)
-        ∙ ap (λ (c : Option TellCause). line_with (Some (frame_words f)) c body) is in
+    ∙ ap (λ (c : Option TellCause). line_with (Some (frame_words f)) c body) is in
     cc
 
 body_told : (f : Frame) (line : List ℕ) → f.headers ≡ [] → line_for f ≡ Ok line → HasToldBody f

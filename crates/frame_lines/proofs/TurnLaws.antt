@@ -1,8 +1,9 @@
 -- What a line says, and a turn of the reading of a text.
-use Rattle.std.proofs.Common.{◌≡◌, ℕ, ◌+◌, ◌≤◌, Bool, true, false, cond, ltb, List, [], ◌∷◌, ◌++◌, length, None, Some, Ok, Err, refl, sym, ap, ◌∙◌, append_assoc}
+use Rattle.std.proofs.Common.{◌≡◌, ℕ, ◌+◌, ◌≤◌, Bool, true, false, cond, ltb, List, [], ◌∷◌, ◌++◌, length, None, Some, Ok, Err, inl, inr, refl, sym, ap, ◌∙◌, append_assoc}
 use Rattle.std.specs.declared.option.Option.{Option}
 use Rattle.std.specs.declared.result.Result.{Result}
-use Rattle.std.specs.List.{flat_map}
+use Rattle.std.specs.List.{flat_map, AllByRecursion}
+use Rattle.std.specs.Result.{IsOk}
 use Rattle.std.proofs.lemmas.Bool.{ltb-false}
 use Rattle.channel_frame.specs.declared.frames.Frame.{Frame}
 use Rattle.channel_frame.specs.FrameSpelling.{spelling}
@@ -14,6 +15,7 @@ use Rattle.frame_lines.specs.LineWords.{first_word, behind_word, are_digits, num
 use Rattle.frame_lines.specs.TypeNames.{number_named}
 use Rattle.frame_lines.specs.TextLines.{passes}
 use Rattle.frame_lines.specs.LineReading.{type_in, with_type, with_sequence, said_by}
+use Rattle.frame_lines.specs.FullLines.{IsLine}
 use Rattle.frame_lines.specs.LineTurns.{GoesOn}
 use Rattle.frame_lines.specs.TextReading.{frame_of, next_after, and_then_frames, frames_from, or_fault, fault_from}
 
@@ -68,3 +70,35 @@ says next line before now said then passes_not is put after = record {
       ∙ ap (λ (fs : List Frame). before ++ flat_map spelling fs) (sym (frames_at line lines next (Ok said) passes_not is));
   fault = λ lines number. sym (fault_at line lines number (Ok said) passes_not is);
 }
+
+-- ---- texts without a fault
+
+line_from : (said : Result Line LineCause) (number : ℕ) (later : Option LineFault) → or_fault number said later ≡ None → IsOk said × (later ≡ None)
+line_from (Err cause) number later none = cc
+line_from (Ok l) number later none = (refl, none)
+
+fault_none : (said : Result Line LineCause) (number : ℕ) (later : Option LineFault) → IsOk said → later ≡ None → or_fault number said later ≡ None
+fault_none (Err cause) number later ok none = cc
+fault_none (Ok l) number later ok none = none
+
+each_at : (t : Bool) (line : List ℕ) (lines : List (List ℕ)) (number : ℕ) → passes line ≡ t → ((n : ℕ) → fault_from lines n ≡ None → AllByRecursion IsLine lines)
+    → cond {A = Option LineFault} t (fault_from lines (number + 1)) (or_fault number (said_by line) (fault_from lines (number + 1))) ≡ None
+    → IsLine line × AllByRecursion IsLine lines
+each_at true line lines number is later none = (inl is, later (number + 1) none)
+each_at false line lines number is later none =
+    let here = line_from (said_by line) number (fault_from lines (number + 1)) none in
+    (inr here.0, later (number + 1) here.1)
+
+pub each_line : (lines : List (List ℕ)) (number : ℕ) → fault_from lines number ≡ None → AllByRecursion IsLine lines
+each_line [] number none = tt
+each_line (line ∷ lines) number none = each_at (passes line) line lines number refl (λ n. each_line lines n) none
+
+none_at : (t : Bool) (line : List ℕ) (number : ℕ) (later : Option LineFault) → passes line ≡ t → IsLine line → later ≡ None
+    → cond {A = Option LineFault} t later (or_fault number (said_by line) later) ≡ None
+none_at true line number later is ok none = none
+none_at false line number later is ok none =
+    fault_none (said_by line) number later (elim ok [ inl pass ↦ (let e : passes line ≡ true = pass in absurd cc) | inr said ↦ said ]) none
+
+pub no_fault : (lines : List (List ℕ)) (number : ℕ) → AllByRecursion IsLine lines → fault_from lines number ≡ None
+no_fault [] number all = refl
+no_fault (line ∷ lines) number all = none_at (passes line) line number (fault_from lines (number + 1)) refl all.0 (no_fault lines (number + 1) all.1)

@@ -71,12 +71,12 @@ are_digits_from (b ∷ word) lt is =
 
 decimal_plain : (n : ℕ) → n < 2 ^ 32 → is_plain (decimal n) ≡ true
 decimal_plain n fits = elim (cases_lt n 10) [
-    | inl low ↦ ap is_plain (decimal_digit n low)
-    | inr high ↦
-        let above = first_decimal n (omega arith) (omega arith) in
-        or_right (eqb (length (decimal n)) 1) (not (eqb (get_or (decimal n) 0 0) 48))
-        (elim (eqb_tells (get_or (decimal n) 0 0) 48) [ inl same ↦ (let e : get_or (decimal n) 0 0 ≡ 48 = same.1 in absurd (omega arith)) | inr apart ↦ ap not apart.0 ])
-  ]
+  | inl low ↦ ap is_plain (decimal_digit n low)
+  | inr high ↦
+      let above = first_decimal n (omega arith) (omega arith) in
+      or_right (eqb (length (decimal n)) 1) (not (eqb (get_or (decimal n) 0 0) 48))
+      (elim (eqb_tells (get_or (decimal n) 0 0) 48) [ inl same ↦ (let e : get_or (decimal n) 0 0 ≡ 48 = same.1 in absurd (omega arith)) | inr apart ↦ ap not apart.0 ])
+]
 
 pub number_word : (n : ℕ) → n < 2 ^ 32 → IsNumberWord n (decimal n)
 number_word n fits =
@@ -88,9 +88,9 @@ number_word n fits =
       digits = digits;
       are = are;
       reads =
-        number_plain (decimal n) are (decimal_plain n fits)
-        ∙ ap (λ (v : ℕ). cond {A = Option ℕ} (ltb v (2 ^ 32)) (Some v) None) numeral.1
-        ∙ ap (λ (t : Bool). cond {A = Option ℕ} t (Some n) None) (lt-ltb n (2 ^ 32) fits);
+          number_plain (decimal n) are (decimal_plain n fits)
+          ∙ ap (λ (v : ℕ). cond {A = Option ℕ} (ltb v (2 ^ 32)) (Some v) None) numeral.1
+          ∙ ap (λ (t : Bool). cond {A = Option ℕ} t (Some n) None) (lt-ltb n (2 ^ 32) fits);
       plain = digits_are_plain (decimal n) digits;
     }
 

@@ -5,6 +5,7 @@ mod cutting;
 mod decoding;
 mod encoding;
 mod fronts;
+mod laws;
 mod lines;
 mod reading;
 mod telling;
@@ -15,6 +16,9 @@ mod worked;
 
 pub use decoding::{Decoded, decode};
 pub use encoding::{Encoded, encode};
+pub use laws::{
+    faultless_where_each_line_says, what_is_said_is_told_in_full, what_is_told_is_said_again,
+};
 pub use lines::{Line, LineCause, LineFault};
 pub use reading::{passes, read_line};
 pub use told::{DecodeCause, DecodeFault, TellCause};
