@@ -5,3 +5,4 @@ pub mod Answers
 pub mod Notes
 pub mod Headline
 pub mod Steps
+pub mod SaidAll

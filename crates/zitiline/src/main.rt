@@ -3,10 +3,12 @@
 
 mod answers;
 mod intake;
+mod laws;
 mod notes;
 mod running;
 mod status;
 mod words;
+mod worked;
 
 ghost use Rattle.std.specs.Prelude.{◌≡◌, ◌≢◌, None, IfOk, IfErr, map};
 ghost use Rattle.std.specs.Process.{exit_status};
