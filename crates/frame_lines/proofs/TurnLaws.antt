@@ -16,7 +16,7 @@ use Rattle.frame_lines.specs.TypeNames.{number_named}
 use Rattle.frame_lines.specs.TextLines.{passes}
 use Rattle.frame_lines.specs.LineReading.{type_in, with_type, with_sequence, said_by}
 use Rattle.frame_lines.specs.FullLines.{IsLine}
-use Rattle.frame_lines.specs.LineTurns.{GoesOn}
+use Rattle.frame_lines.specs.LineTurns.{GoesOn, EndsAt}
 use Rattle.frame_lines.specs.TextReading.{frame_of, next_after, and_then_frames, frames_from, or_fault, fault_from}
 
 -- ---- a body keeps its limit
@@ -69,6 +69,13 @@ says next line before now said then passes_not is put after = record {
       ∙ ap (λ (n : ℕ). before ++ (spelling (frame_of next said) ++ flat_map spelling (frames_from lines n))) after
       ∙ ap (λ (fs : List Frame). before ++ flat_map spelling fs) (sym (frames_at line lines next (Ok said) passes_not is));
   fault = λ lines number. sym (fault_at line lines number (Ok said) passes_not is);
+}
+
+pub ends : (next : ℕ) (line before now : List ℕ) (cause : LineCause) → passes line ≡ false → said_by line ≡ Err cause → now ≡ before → EndsAt next line before now cause
+ends next line before now cause passes_not is same = record {
+  stays = same;
+  frames = λ lines. frames_at line lines next (Err cause) passes_not is;
+  fault = λ lines number. fault_at line lines number (Err cause) passes_not is;
 }
 
 -- ---- texts without a fault
