@@ -1,7 +1,7 @@
 -- Cuts at a byte, and what they make of words and lines.
-use Rattle.std.proofs.Common.{◌≡◌, ℕ, zero, suc, ◌+◌, ◌<◌, Bool, true, false, List, [], ◌∷◌, ◌++◌, length, get_or, take, drop, refl, sym, ap, ◌∙◌, arith, ◌-◌, eqb, cond, ◌&&◌}
+use Rattle.std.proofs.Common.{◌≡◌, ℕ, zero, suc, ◌<◌, Bool, true, false, List, [], ◌∷◌, ◌++◌, length, get_or, take, drop, refl, sym, ap, ◌∙◌, arith, ◌-◌, eqb, cond, ◌&&◌}
 use Rattle.std.proofs.lemmas.List.{take_all, drop_all}
-use Rattle.frame_lines.specs.LineCuts.{Lacks, CutsAt, without_return}
+use Rattle.frame_lines.specs.LineCuts.{Lacks, without_return}
 use Rattle.frame_lines.specs.LineWords.{first_word, behind_word}
 use Rattle.frame_lines.specs.TextLines.{lines_of, with_byte, is_newline_next}
 

@@ -1,17 +1,15 @@
 -- How the turns of the telling of frames make up the text.
 use Rattle.std.proofs.Common.{◌≡◌, ℕ, ◌+◌, ◌-◌, ◌++◌, List, [], ◌∷◌, length, drop, None, Some, Ok, Err, refl, sym, ap, ◌∙◌, append_assoc, append-nil}
-use Rattle.std.specs.declared.option.Option.{Option}
 use Rattle.std.specs.declared.result.Result.{Result}
 use Rattle.std.specs.Option.{option_map}
 use Rattle.channel_frame.specs.declared.frames.Frame.{Frame}
 use Rattle.channel_frame.specs.declared.frames.FrameFault.{FrameFault}
 use Rattle.channel_frame.specs.declared.frames.Front.{Front}
 use Rattle.channel_frame.specs.declared.frames.Front.TheVariants.{Short, Bad, Whole}
-use Rattle.channel_frame.specs.StreamReading.{front, fault_in, fault_of, frames_of, rest_of}
+use Rattle.channel_frame.specs.StreamReading.{front, fault_in, frames_of, rest_of}
 use Rattle.channel_frame.proofs.ReadingLaws.{frames_step, rest_step, reading_stops_short, reading_stops_bad}
 use Rattle.frame_lines.specs.declared.told.TellCause.{TellCause}
 use Rattle.frame_lines.specs.declared.told.DecodeCause.TheVariants as cause
-use Rattle.frame_lines.specs.declared.told.DecodeFault.{DecodeFault}
 use Rattle.frame_lines.specs.FrameLines.{line_for}
 use Rattle.frame_lines.specs.FrameTurns.{PutsLine}
 use Rattle.frame_lines.specs.TextTelling.{and_then_lines, lines_for, or_untold, untold_from, tail_fault, fault_behind, text_told, fault_told}

@@ -1,5 +1,5 @@
 -- What a text says is told in full.
-use Rattle.std.proofs.Common.{◌≡◌, ℕ, zero, suc, ◌+◌, ◌-◌, ◌<◌, ◌≤◌, ◌%◌, ◌^◌, ◌&&◌, Bool, true, false, cond, eqb, ltb, List, [], ◌∷◌, ◌++◌, length, unwrap_or, None, Some, Ok, Err, refl, sym, ap, ◌∙◌, append_assoc, append-nil, arith}
+use Rattle.std.proofs.Common.{◌≡◌, ℕ, ◌+◌, ◌-◌, ◌<◌, ◌≤◌, ◌^◌, ◌&&◌, Bool, true, false, cond, ltb, List, [], ◌∷◌, ◌++◌, length, unwrap_or, None, Some, Ok, Err, refl, sym, ap, ◌∙◌, append_assoc, append-nil, arith}
 use Rattle.std.specs.declared.option.Option.{Option}
 use Rattle.std.specs.declared.result.Result.{Result}
 use Rattle.std.specs.Option.{option_map}
@@ -7,13 +7,12 @@ use Rattle.std.specs.List.{flat_map, AllByRecursion}
 use Rattle.std.specs.Str.Parse.{digits_value}
 use Rattle.std.proofs.lemmas.Bool.{ltb-true, ltb-false}
 use Rattle.channel_frame.specs.declared.frames.Frame.{Frame}
-use Rattle.channel_frame.specs.declared.frames.Front.{Front}
 use Rattle.channel_frame.specs.FrameSpelling.{IsFrame, spelling}
-use Rattle.channel_frame.specs.StreamReading.{front, fault_in, frames_of, rest_of, fault_of, Reads}
+use Rattle.channel_frame.specs.StreamReading.{front, fault_in, rest_of, Reads}
 use Rattle.channel_frame.proofs.ReadingLaws.{tail_from, has_one_reading}
 use Rattle.frame_lines.specs.declared.lines.Line.{Line}
 use Rattle.frame_lines.specs.declared.lines.LineCause.{LineCause}
-use Rattle.frame_lines.specs.declared.lines.LineCause.TheVariants.{BadSequence, UnknownType, TooLong}
+use Rattle.frame_lines.specs.declared.lines.LineCause.TheVariants.{TooLong}
 use Rattle.frame_lines.specs.declared.told.TellCause.{TellCause}
 use Rattle.frame_lines.specs.declared.told.DecodeFault.{DecodeFault}
 use Rattle.frame_lines.specs.TypeNames.{number_named}
@@ -21,7 +20,7 @@ use Rattle.frame_lines.specs.LineWords.{first_word, behind_word, are_digits, is_
 use Rattle.frame_lines.specs.TextLines.{passes, lines_of}
 use Rattle.frame_lines.specs.LineReading.{type_or, type_in, with_type, with_sequence, said_by}
 use Rattle.frame_lines.specs.TextReading.{frame_of, next_after, and_then_frames, frames_from, frames_said, bytes_said}
-use Rattle.frame_lines.specs.FrameLines.{frame_words, body_words, line_for}
+use Rattle.frame_lines.specs.FrameLines.{frame_words, body_words}
 use Rattle.frame_lines.specs.TextTelling.{and_then_lines, lines_for, or_untold, untold_from, tail_fault, fault_behind, text_told, fault_told}
 use Rattle.frame_lines.specs.FullLines.{full_line, HasToldBody}
 use Rattle.frame_lines.proofs.TypeLaws.{and_right, named_fits}

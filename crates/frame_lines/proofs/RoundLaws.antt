@@ -1,5 +1,5 @@
 -- What was told reads as it was, and what was read is told in full.
-use Rattle.std.proofs.Common.{◌≡◌, ℕ, zero, suc, ◌+◌, ◌-◌, ◌<◌, ◌≤◌, ◌%◌, ◌^◌, ◌||◌, Bool, true, false, cond, eqb, ltb, get_or, List, [], ◌∷◌, ◌++◌, length, codes, decimal, unwrap_or, None, Some, Ok, Err, refl, sym, ap, ◌∙◌, append_assoc, append-nil, arith}
+use Rattle.std.proofs.Common.{◌≡◌, ℕ, ◌+◌, ◌-◌, ◌||◌, Bool, true, false, cond, eqb, get_or, List, [], ◌∷◌, ◌++◌, length, codes, decimal, None, Some, Ok, Err, refl, sym, ap, ◌∙◌, append_assoc, append-nil}
 use Rattle.std.specs.declared.option.Option.{Option}
 use Rattle.std.specs.declared.result.Result.{Result}
 use Rattle.std.specs.List.{flat_map, list_any, AllByRecursion}
@@ -8,24 +8,22 @@ use Rattle.channel_frame.specs.declared.frames.Frame.{Frame}
 use Rattle.channel_frame.specs.declared.frames.FrameFault.{FrameFault}
 use Rattle.channel_frame.specs.declared.frames.Header.{Header}
 use Rattle.channel_frame.specs.FrameSpelling.{IsFrame, spelling}
-use Rattle.channel_frame.specs.StreamReading.{AreBytes, frames_of, rest_of, fault_of, Reads}
-use Rattle.channel_frame.proofs.ReadingLaws.{tail_from, has_reading, has_one_reading}
+use Rattle.channel_frame.specs.StreamReading.{AreBytes, frames_of, rest_of, fault_of}
+use Rattle.channel_frame.proofs.ReadingLaws.{has_reading}
 use Rattle.frame_lines.specs.declared.lines.Line.{Line}
-use Rattle.frame_lines.specs.declared.lines.LineCause.{LineCause}
-use Rattle.frame_lines.specs.declared.lines.LineFault.{LineFault}
 use Rattle.frame_lines.specs.declared.told.TellCause.{TellCause}
-use Rattle.frame_lines.specs.declared.told.TellCause.TheVariants.{Headers, Newline, Return, NotText}
+use Rattle.frame_lines.specs.declared.told.TellCause.TheVariants.{Newline, Return, NotText}
 use Rattle.frame_lines.specs.declared.told.DecodeFault.{DecodeFault}
 use Rattle.frame_lines.specs.TypeNames.{name_numbered}
 use Rattle.frame_lines.specs.TextLines.{passes, lines_of}
-use Rattle.frame_lines.specs.LineCuts.{Lacks, without_return}
+use Rattle.frame_lines.specs.LineCuts.{Lacks}
 use Rattle.frame_lines.specs.LineReading.{said_by}
-use Rattle.frame_lines.specs.TextReading.{frame_of, next_after, and_then_frames, frames_from, frames_said, bytes_said, or_fault, fault_from, fault_said}
-use Rattle.frame_lines.specs.FrameLines.{reply_in, reply_of, words_from, words_for, name_or, frame_words, body_words, body_cause, line_with, line_for}
+use Rattle.frame_lines.specs.TextReading.{frame_of, next_after, frames_from, bytes_said, fault_from, fault_said}
+use Rattle.frame_lines.specs.FrameLines.{words_from, words_for, name_or, frame_words, body_words, body_cause, line_with, line_for}
 use Rattle.frame_lines.specs.TextTelling.{and_then_lines, lines_for, or_untold, untold_from, tail_fault, fault_behind, text_told, fault_told}
-use Rattle.frame_lines.specs.FullLines.{full_line, HasToldBody, HasNoHeaders}
+use Rattle.frame_lines.specs.FullLines.{HasToldBody, HasNoHeaders}
 use Rattle.frame_lines.proofs.TurnLaws.{frames_at, fault_at}
-use Rattle.frame_lines.proofs.WordLaws.{IsTold, IsPlainLine, IsNumberWord, IsTypeWord, number_word, type_word, full_says, digit_passes_not, line_alone_in, lacks_both}
+use Rattle.frame_lines.proofs.WordLaws.{IsTold, IsPlainLine, number_word, type_word, full_says, digit_passes_not, line_alone_in, lacks_both}
 
 -- ---- the line of a frame without headers
 

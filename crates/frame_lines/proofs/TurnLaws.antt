@@ -9,7 +9,7 @@ use Rattle.channel_frame.specs.declared.frames.Frame.{Frame}
 use Rattle.channel_frame.specs.FrameSpelling.{spelling}
 use Rattle.frame_lines.specs.declared.lines.Line.{Line}
 use Rattle.frame_lines.specs.declared.lines.LineCause.{LineCause}
-use Rattle.frame_lines.specs.declared.lines.LineCause.TheVariants.{BadSequence, UnknownType, TooLong}
+use Rattle.frame_lines.specs.declared.lines.LineCause.TheVariants.{TooLong}
 use Rattle.frame_lines.specs.declared.lines.LineFault.{LineFault}
 use Rattle.frame_lines.specs.LineWords.{first_word, behind_word, are_digits, number_in}
 use Rattle.frame_lines.specs.TypeNames.{number_named}

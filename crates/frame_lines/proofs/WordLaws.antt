@@ -1,16 +1,15 @@
 -- A line in its full form: its words, and what they say.
-use Rattle.std.proofs.Common.{◌≡◌, ℕ, zero, suc, ◌+◌, ◌-◌, ◌<◌, ◌≤◌, ◌^◌, ◌&&◌, ◌||◌, Bool, true, false, not, cond, eqb, ltb, leb, List, [], ◌∷◌, ◌++◌, length, get_or, None, Some, Ok, Err, inl, inr, refl, sym, ap, ◌∙◌, append_assoc, append-nil, decimal, arith}
+use Rattle.std.proofs.Common.{◌≡◌, ℕ, ◌-◌, ◌<◌, ◌≤◌, ◌^◌, ◌&&◌, ◌||◌, Bool, true, false, not, cond, eqb, ltb, leb, List, [], ◌∷◌, ◌++◌, length, get_or, None, Some, Ok, Err, inl, inr, refl, sym, ap, ◌∙◌, append-nil, decimal, arith}
 use Rattle.std.specs.declared.option.Option.{Option}
 use Rattle.std.specs.declared.result.Result.{Result}
 use Rattle.std.specs.Char.{is_ascii_digit}
 use Rattle.std.specs.List.{list_all}
-use Rattle.std.specs.Str.Parse.{digits_value}
 use Rattle.std.proofs.lemmas.Bool.{cases_lt, lt-ltb, le-ltb, leb-true}
 use Rattle.std.proofs.lemmas.Bool.Decides.{eqb_tells}
 use Rattle.std.proofs.lemmas.Fmt.{decimal_is_IsNumeral, decimal_digit, first_decimal}
 use Rattle.frame_lines.specs.declared.lines.Line.{Line}
 use Rattle.frame_lines.specs.declared.lines.LineCause.{LineCause}
-use Rattle.frame_lines.specs.declared.lines.LineCause.TheVariants.{BadSequence, UnknownType, TooLong}
+use Rattle.frame_lines.specs.declared.lines.LineCause.TheVariants.{TooLong}
 use Rattle.frame_lines.specs.LineWords.{first_word, behind_word, are_digits, is_plain, number_in}
 use Rattle.frame_lines.specs.TypeNames.{number_named, name_numbered}
 use Rattle.frame_lines.specs.TextLines.{passes, lines_of}

@@ -4,7 +4,6 @@ use Rattle.std.specs.declared.option.Option.{Option}
 use Rattle.ziti_outside.specs.Told.{Took}
 use Rattle.zitiline.specs.declared.answers.Answer.{Answer}
 use Rattle.zitiline.specs.declared.status.Status.{Status}
-use Rattle.zitiline.specs.declared.status.Status.TheVariants.{Done, BadInput}
 use Rattle.zitiline.specs.Answers.{status_for}
 use Rattle.zitiline.specs.Steps.{note_in, SaysAnswer}
 

@@ -1,5 +1,5 @@
 -- The notes of a run, a line each (docs/FORMATS.md, "Lines for people").
-use Rattle.std.specs.Prelude.{◌≡◌, ℕ, List, [], ◌++◌, codes, None, Some}
+use Rattle.std.specs.Prelude.{ℕ, List, [], ◌++◌, codes, None, Some}
 use Rattle.std.specs.declared.option.Option.{Option}
 use Rattle.ziti_outside.specs.Causes.{Rose}
 use Rattle.ziti_outside.specs.Told.{Took, TookFront}

@@ -1,5 +1,4 @@
-use Rattle.std.proofs.Common.{ap, ◌∙◌, sym, take, arith}
-use Rattle.frame_lines.specs.LineCuts.{Lacks}
+use Rattle.std.proofs.Common.{arith}
 use Rattle.frame_lines.proofs.CutLaws.{lacks_at, lacks_all, cut_here}
 use Rattle.frame_lines.proofs.cutting.cut_at.Goals as goal
 

@@ -1,4 +1,4 @@
-use Rattle.std.proofs.Common.{List, ℕ, length, ap, sym, ◌∙◌, ◌∷◌}
+use Rattle.std.proofs.Common.{List, ℕ, ap, sym, ◌∙◌, ◌∷◌}
 use Rattle.frame_lines.specs.TextLines.{lines_of}
 use Rattle.frame_lines.proofs.CutLaws.{line_cut, line_whole}
 use Rattle.frame_lines.proofs.cutting.cut_line.Goals as goal

@@ -1,4 +1,4 @@
-use Rattle.std.proofs.Common.{arith, ◌≡◌, ◌-◌, eqb, get_or, length, false, refl, sym, ◌∙◌, rules, tests}
+use Rattle.std.proofs.Common.{arith, ◌≡◌, ◌-◌, eqb, get_or, length, false, sym, ◌∙◌, rules, tests}
 use Rattle.frame_lines.proofs.CutLaws.{last_returns, last_stays, empty_stays}
 use Rattle.frame_lines.proofs.cutting.without_return.Goals.{else-len-gt0-via-then-len-gt0+else-line-len-eq13, else-len-gt0-via-else-len-gt0}
 use Rattle.frame_lines.proofs.cutting.without_return.Goals as goal

@@ -1,9 +1,8 @@
-use Rattle.std.proofs.Common.{◌≡◌, ◌-◌, length, refl, Ok, Err, sym, ap, ◌∙◌, arith}
-use Rattle.channel_frame.specs.declared.frames.Front.TheVariants.{Short, Bad, Whole}
+use Rattle.std.proofs.Common.{◌≡◌, ◌-◌, length, refl, sym, ap, ◌∙◌, arith}
+use Rattle.channel_frame.specs.declared.frames.Front.TheVariants.{Whole}
 use Rattle.channel_frame.specs.StreamReading.{front}
-use Rattle.frame_lines.specs.FrameTurns.{PutsLine}
 use Rattle.frame_lines.proofs.FrontParts.{whole_is_long, whole_fits}
-use Rattle.frame_lines.proofs.DecodeLaws.{told_more, told_put, told_untold, told_bad}
+use Rattle.frame_lines.proofs.DecodeLaws.{told_put, told_untold, told_bad}
 use Rattle.frame_lines.proofs.decoding.decode.Goals as goal
 
 pub returns-in-Err-clause-text : goal.returns-in-Err-clause-text

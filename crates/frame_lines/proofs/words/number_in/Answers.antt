@@ -1,4 +1,4 @@
-use Rattle.std.proofs.Common.{◌≡◌, ◌<◌, length, true, sym, ap, ◌∙◌, arith}
+use Rattle.std.proofs.Common.{◌≡◌, true, sym, ◌∙◌}
 use Rattle.frame_lines.specs.LineWords.{are_digits, is_plain}
 use Rattle.frame_lines.proofs.NumberLaws.{parsed, digits_are_text, digits_nonempty}
 use Rattle.frame_lines.proofs.words.number_in.Goals as goal

@@ -1,4 +1,4 @@
-use Rattle.std.proofs.Common.{◌-◌, ◌^◌, ◌≡◌, length, vec_len}
+use Rattle.std.proofs.Common.{◌-◌, ◌^◌, ◌≡◌, vec_len}
 use Rattle.ziti_outside.specs.Told.{Gave}
 use Rattle.zitiline.proofs.intake.take_all.Given as goal
 
