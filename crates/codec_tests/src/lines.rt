@@ -19,7 +19,10 @@ fn a_text_is_encoded(rt: HostRuntime) -> Result<(), Fail> {
     assert_eq!(rt; encoded.fault, None);
     let decoded = decode(rt.alloc(), encoded.bytes.as_slice())?;
     assert_eq!(rt; decoded.fault, None);
-    assert_eq!(rt; decoded.text.as_slice(), b"7 CreateIdentity {\"name\":\"ann\"}\n8 Hello\n".as_slice());
+    assert_eq!(rt;
+        decoded.text.as_slice(),
+        b"7 CreateIdentity {\"name\":\"ann\"}\n8 Hello\n".as_slice()
+    );
     Ok(())
 }
 

@@ -8,3 +8,4 @@ pub mod TypeLaws
 pub mod WordLaws
 pub mod RoundLaws
 pub mod FullLaws
+pub mod ReplyLaws

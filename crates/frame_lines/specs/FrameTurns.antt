@@ -1,4 +1,4 @@
--- What one frame does to the lines that were put down.
+-- What one frame does to the lines that were put down. Only private contracts cite these.
 use Rattle.std.specs.Prelude.{◌≡◌, ℕ, ◌≤◌, List, [], ◌∷◌, ◌++◌, length, Ok, Err}
 use Rattle.std.specs.declared.result.Result.{Result}
 use Rattle.channel_frame.specs.declared.frames.Frame.{Frame}

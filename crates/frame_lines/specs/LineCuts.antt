@@ -1,4 +1,4 @@
--- Cuts of a text and of a line (docs/FORMATS.md, "Lines for people").
+-- Cuts of a text and of a line. Only private contracts cite these (docs/FORMATS.md, "Lines for people").
 use Rattle.std.specs.Prelude.{◌≡◌, ℕ, false, ◌==◌, if◌then◌else◌, List, [], ◌∷◌, ◌++◌}
 use Rattle.std.specs.List.{AllByRecursion}
 

@@ -1,4 +1,4 @@
--- What one line of a text does to the frames that were put down.
+-- What one line of a text does to the frames that were put down. Only private contracts cite these.
 use Rattle.std.specs.Prelude.{◌≡◌, ℕ, ◌+◌, List, [], ◌∷◌, ◌++◌, Some, Ok, Err}
 use Rattle.std.specs.declared.result.Result.{Result}
 use Rattle.std.specs.List.{flat_map}

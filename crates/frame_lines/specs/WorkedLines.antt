@@ -25,10 +25,11 @@ four_frames =
 abbrev pub four_lines : List ℕ
 four_lines = codes "7 CreateIdentity {\"name\":\"ann\"}\n8 Hello\n4294967295 ShowCounts {}\n0 Hello x y\n"
 
--- A reply that refuses, and one with a header more.
+-- A reply that refuses.
 abbrev pub refusal_frame : Frame
 refusal_frame = record reply_frame { headers = record { key = 1; value = 7 ∷ 0 ∷ 0 ∷ 0 ∷ [] } ∷ record { key = 2; value = 0 ∷ [] } ∷ []; body = [] }
 
+-- A reply with a header more than its two.
 abbrev pub longer_reply : Frame
 longer_reply = record reply_frame { headers = reply_frame.headers ++ record { key = 3; value = [] } ∷ [] }
 

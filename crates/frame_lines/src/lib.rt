@@ -17,7 +17,8 @@ mod worked;
 pub use decoding::{Decoded, decode};
 pub use encoding::{Encoded, encode};
 pub use laws::{
-    faultless_where_each_line_says, what_is_said_is_told_in_full, what_is_told_is_said_again,
+    faultless_where_each_line_says, replies_are_told_by_their_requests,
+    what_is_said_is_told_in_full, what_is_told_is_said_again,
 };
 pub use lines::{Line, LineCause, LineFault};
 pub use reading::{passes, read_line};

@@ -121,7 +121,7 @@ fn push_body(out: &mut Vec<u8>, body: &[u8]) -> Result<(), AllocError>
     out.extend_from_slice(body)
 }
 
-/// Puts the line of a frame down with its newline, or tells why no line tells the frame. The line takes no newline into its words.
+/// Puts the line of a frame down with its newline, or answers why no line tells the frame.
 pub(crate) fn put_line(
     alloc: Global,
     out: &mut Vec<u8>,
