@@ -1,4 +1,4 @@
-//! Tests of what is read and written: frames, roles, the fields of bodies, commands, replies, rows and batches.
+//! Tests of what is read and written: frames, lines, roles, the fields of bodies, commands, replies, rows and batches.
 #![tactic(auto)]
 
 #[cfg(test)]
@@ -7,6 +7,8 @@ mod commands;
 mod fields;
 #[cfg(test)]
 mod frames;
+#[cfg(test)]
+mod lines;
 #[cfg(test)]
 mod replies;
 #[cfg(test)]

@@ -1,0 +1,11 @@
+pub mod CutLaws
+pub mod NumberLaws
+pub mod TurnLaws
+pub mod FrontParts
+pub mod TellLaws
+pub mod DecodeLaws
+pub mod TypeLaws
+pub mod WordLaws
+pub mod RoundLaws
+pub mod FullLaws
+pub mod ReplyLaws

@@ -1,0 +1,13 @@
+pub mod TypeNames
+pub mod TextLines
+pub mod LineWords
+pub mod LineReading
+pub mod TextReading
+pub mod LineCuts
+pub mod LineTurns
+pub mod FrameLines
+pub mod TextTelling
+pub mod FrameTurns
+pub mod FaultTexts
+pub mod WorkedLines
+pub mod FullLines

@@ -1,0 +1,38 @@
+-- Texts and lines of the worked examples (docs/FORMATS.md, "Lines for people").
+use Rattle.std.specs.Prelude.{ℕ, List, [], ◌∷◌, ◌++◌, codes}
+use Rattle.channel_frame.specs.declared.frames.Frame.{Frame}
+use Rattle.channel_frame.specs.WorkedFrames.{ann_frame, reply_frame}
+
+-- A line that asks for an identity.
+abbrev pub ann_line : List ℕ
+ann_line = codes "7 CreateIdentity {\"name\":\"ann\"}"
+
+-- A text of nine lines: a remark, a line with a sequence number of its own, an empty one, one that ends in a carriage return, one of
+-- spaces and a remark, two that count on, and one whose name is none of a content type.
+abbrev pub nine_lines : List ℕ
+nine_lines = codes "# ann\n7 CreateIdentity {\"name\":\"ann\"}\n\nHello\r\n  # more\n4294967295 1502 {}\nHello x y\nHelo\nHello\n"
+
+-- The four frames that it says before its fault.
+abbrev pub four_frames : List Frame
+four_frames =
+    ann_frame
+    ∷ record { content = 0; sequence = 8; headers = []; body = [] }
+    ∷ record { content = 1502; sequence = 4294967295; headers = []; body = codes "{}" }
+    ∷ record { content = 0; sequence = 0; headers = []; body = codes "x y" }
+    ∷ []
+
+-- The lines that tell these four frames in full.
+abbrev pub four_lines : List ℕ
+four_lines = codes "7 CreateIdentity {\"name\":\"ann\"}\n8 Hello\n4294967295 ShowCounts {}\n0 Hello x y\n"
+
+-- A reply that refuses.
+abbrev pub refusal_frame : Frame
+refusal_frame = record reply_frame { headers = record { key = 1; value = 7 ∷ 0 ∷ 0 ∷ 0 ∷ [] } ∷ record { key = 2; value = 0 ∷ [] } ∷ []; body = [] }
+
+-- A reply with a header more than its two.
+abbrev pub longer_reply : Frame
+longer_reply = record reply_frame { headers = reply_frame.headers ++ record { key = 3; value = [] } ∷ [] }
+
+-- The frame of ann with another body.
+abbrev pub ann_with : List ℕ → Frame
+ann_with body = record ann_frame { body = body }

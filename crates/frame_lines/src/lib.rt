@@ -1,0 +1,28 @@
+//! Frames as lines of text that people can write and read (docs/FORMATS.md, "Lines for people").
+#![tactic(auto)]
+
+mod cutting;
+mod decoding;
+mod encoding;
+mod fronts;
+mod laws;
+mod lines;
+mod reading;
+mod telling;
+mod told;
+mod types;
+mod words;
+mod worked;
+
+pub use decoding::{Decoded, decode};
+pub use encoding::{Encoded, encode};
+pub use laws::{
+    faultless_where_each_line_says, replies_are_told_by_their_requests,
+    what_is_said_is_told_in_full, what_is_told_is_said_again,
+};
+pub use lines::{Line, LineCause, LineFault};
+pub use reading::{passes, read_line};
+pub use told::{DecodeCause, DecodeFault, TellCause};
+pub use worked::{
+    worked_cuts, worked_frames, worked_lines, worked_tellings, worked_text, worked_types,
+};

@@ -1,0 +1,142 @@
+ghost use Rattle.std.specs.Prelude.{◌≡◌, ◌==◌, ◌++◌, ◌-◌, IfOk, OnOk, length, slice_index};
+ghost use Rattle.std.specs.List.{list_any};
+ghost use Rattle.std.specs.Option.{option_map};
+ghost use Rattle.std.specs.String.{string_bytes};
+ghost use Rattle.frame_lines.specs.FrameLines.{is_request, is_success, reply_in, reply_of, reply_words, frame_words, words_for, body_words, body_cause};
+ghost use Rattle.frame_lines.specs.FrameTurns.{PutsLine};
+
+use crate::told::TellCause;
+use crate::types::name_numbered;
+use channel_frame::{Frame, Header};
+use std::alloc::{AllocError, Global};
+use std::str;
+
+fn is_request(header: &Header) -> bool
+    ensures { result ≡ is_request header.now }
+{
+    header.key == 1 && header.value.len() == 4
+}
+
+fn is_success(header: &Header) -> bool
+    ensures { result ≡ is_success header.now }
+{
+    let value = header.value.as_slice();
+    header.key == 2 && value.len() == 1 && value[0] < 2
+}
+
+// The number and the flag of a reply's two headers.
+fn reply_in(headers: &[Header]) -> Option<(u32, bool)>
+    ensures { result ≡ reply_in headers.now }
+{
+    match headers {
+        [request, success] if is_request(request) && is_success(success) => {
+            let number = request.value.as_slice();
+            let flag = success.value.as_slice();
+            let request = u32::from_le_bytes([number[0], number[1], number[2], number[3]]);
+            Some((request, flag[0] == 1))
+        }
+        _ => None,
+    }
+}
+
+fn reply_of(frame: &Frame) -> Option<(u32, bool)>
+    ensures { result ≡ reply_of frame.now }
+{
+    if frame.content == 2 {
+        reply_in(frame.headers.as_slice())
+    } else {
+        None
+    }
+}
+
+fn reply_words(alloc: Global, request: u32, success: bool) -> Result<String, AllocError>
+    ensures { IfOk result (λ words. string_bytes words ≡ reply_words (request, success)) }
+{
+    if success {
+        format!(in alloc; "{request} ok")
+    } else {
+        format!(in alloc; "{request} refused")
+    }
+}
+
+fn frame_words(alloc: Global, frame: &Frame) -> Result<String, AllocError>
+    ensures { IfOk result (λ words. string_bytes words ≡ frame_words frame.now) }
+{
+    let sequence = frame.sequence;
+    let content = frame.content;
+    match name_numbered(content) {
+        Some(name) => format!(in alloc; "{sequence} {name}"),
+        None => format!(in alloc; "{sequence} {content}"),
+    }
+}
+
+// What the line of a frame begins with, if a line can tell its headers.
+fn words_for(alloc: Global, frame: &Frame) -> Result<Option<String>, AllocError>
+    ensures { IfOk result (λ words. option_map string_bytes words ≡ words_for frame.now) }
+{
+    if let Some((request, success)) = reply_of(frame) {
+        return Ok(Some(reply_words(alloc, request, success)?));
+    }
+    if !frame.headers.is_empty() {
+        return Ok(None);
+    }
+    Ok(Some(frame_words(alloc, frame)?))
+}
+
+fn has_newline(body: &[u8]) -> bool
+    ensures { result ≡ list_any (λ b. b == 10) body.now }
+{
+    body.iter().any(|b| *b == b'\n')
+}
+
+fn ends_in_return(body: &[u8]) -> bool
+    ensures { result ≡ (slice_index body.now (length body.now - 1) == 13) }
+{
+    let len = body.len();
+    len > 0 && body[len - 1] == b'\r'
+}
+
+fn body_cause(body: &[u8]) -> Option<TellCause>
+    ensures { result ≡ body_cause body.now }
+{
+    if has_newline(body) {
+        return Some(TellCause::Newline);
+    }
+    if ends_in_return(body) {
+        return Some(TellCause::Return);
+    }
+    match str::from_utf8(body) {
+        Ok(_) => None,
+        Err(_) => Some(TellCause::NotText),
+    }
+}
+
+fn push_body(out: &mut Vec<u8>, body: &[u8]) -> Result<(), AllocError>
+    ensures { OnOk result (out.new.items ≡ out.old.items ++ body_words body.now) }
+{
+    if body.is_empty() {
+        return Ok(());
+    }
+    out.push(b' ')?;
+    out.extend_from_slice(body)
+}
+
+/// Puts the line of a frame down with its newline, or answers why no line tells the frame.
+pub(crate) fn put_line(
+    alloc: Global,
+    out: &mut Vec<u8>,
+    frame: &Frame,
+) -> Result<Result<(), TellCause>, AllocError>
+    ensures { IfOk result (λ put. PutsLine frame.now out.old.items out.new.items put) }
+{
+    let Some(words) = words_for(alloc, frame)? else {
+        return Ok(Err(TellCause::Headers));
+    };
+    if let Some(cause) = body_cause(frame.body.as_slice()) {
+        return Ok(Err(cause));
+    }
+    out.extend_from_slice(words.as_bytes())?;
+    push_body(out, frame.body.as_slice())?;
+    out.push(b'\n')?;
+    Ok(Ok(()))
+}

@@ -1,0 +1,55 @@
+-- What a run over a told input says.
+use Rattle.std.proofs.Common.{◌≡◌, ℕ, List, [], ◌++◌, None, Some, refl, sym, ap, ◌∙◌, subst, append-nil}
+use Rattle.std.specs.declared.option.Option.{Option}
+use Rattle.std.specs.Io.KnownBytes.{IsAtEnd}
+use Rattle.ziti_outside.specs.Told.{Gave, Took}
+use Rattle.ziti_outside.specs.Causes.{Rose}
+use Rattle.zitiline.specs.declared.words.Form.{Form}
+use Rattle.zitiline.specs.declared.status.Status.TheVariants.{Done, BadInput}
+use Rattle.zitiline.specs.Answers.{said_of, fault_of, status_for}
+use Rattle.zitiline.specs.Notes.{note_of, fault_note}
+use Rattle.zitiline.specs.Headline.{Answers}
+use Rattle.zitiline.specs.SaidAll.{HasFault}
+
+-- what a told source gave to its end
+given : (input taken : List ℕ) (left : Option (List ℕ)) → Gave (Some input) left taken → IsAtEnd left → (left ≡ Some []) × (taken ≡ input)
+given input taken None gave end = absurd gave
+given input taken (Some rest) gave end = (ap Some end, sym (gave ∙ ap (λ (l : List ℕ). taken ++ l) end ∙ append-nil taken))
+
+-- what a told desk took
+taken_by : (before said : List ℕ) (after : Option (List ℕ)) → Took (Some before) after said → after ≡ Some (before ++ said)
+taken_by before said None took = absurd took
+taken_by before said (Some now) took = ap Some took
+
+no_text : (fault : Option (List ℕ)) → status_for fault ≡ Done → fault ≡ None
+no_text None is = refl
+no_text (Some text) is = cc
+
+pub done_read : (form : Form) (input before : List ℕ) (left after a b : Option (List ℕ)) (x y : ℕ) → Answers form (Some input) left (Some before) after a b x y Done → left ≡ Some []
+done_read form input before left after a b x y s = (given input s.input left s.gave s.says.0).0
+
+pub done_said : (form : Form) (input before : List ℕ) (left after a b : Option (List ℕ)) (x y : ℕ) → Answers form (Some input) left (Some before) after a b x y Done → after ≡ Some (before ++ said_of form input)
+done_said form input before left after a b x y s =
+    taken_by before (said_of form s.input) after s.says.1 ∙ ap (λ (l : List ℕ). Some (before ++ said_of form l)) (given input s.input left s.gave s.says.0).1
+
+pub done_faultless : (form : Form) (input before : List ℕ) (left after a b : Option (List ℕ)) (x y : ℕ) → Answers form (Some input) left (Some before) after a b x y Done → fault_of form input ≡ None
+done_faultless form input before left after a b x y s =
+    ap (fault_of form) (sym (given input s.input left s.gave s.says.0).1) ∙ no_text (fault_of form s.input) s.says.2
+
+pub bad_read : (form : Form) (input before : List ℕ) (left after a b : Option (List ℕ)) (x y : ℕ) → Answers form (Some input) left (Some before) after a b x y BadInput → left ≡ Some []
+bad_read form input before left after a b x y s = (given input s.input left s.gave s.says.0).0
+
+pub bad_said : (form : Form) (input before : List ℕ) (left after a b : Option (List ℕ)) (x y : ℕ) → Answers form (Some input) left (Some before) after a b x y BadInput → after ≡ Some (before ++ said_of form input)
+bad_said form input before left after a b x y s =
+    taken_by before (said_of form s.input) after s.says.1 ∙ ap (λ (l : List ℕ). Some (before ++ said_of form l)) (given input s.input left s.gave s.says.0).1
+
+fault_at : (form : Form) (input : List ℕ) (fault : Option (List ℕ)) (a b : Option (List ℕ)) → fault_of form input ≡ fault → status_for fault ≡ BadInput → Took a b (fault_note fault)
+    → HasFault form input (λ text. Took a b (note_of text))
+fault_at form input None a b is bad took = cc
+fault_at form input (Some text) a b is bad took = record { text = text; is = is; holds = took }
+
+pub bad_noted : (form : Form) (input before : List ℕ) (left after a b : Option (List ℕ)) (x y : ℕ) → Answers form (Some input) left (Some before) after a b x y BadInput → (Rose x y → ⊥)
+    → HasFault form input (λ text. Took a b (note_of text))
+bad_noted form input before left after a b x y s calm =
+    subst (λ (l : List ℕ). HasFault form l (λ text. Took a b (note_of text))) (given input s.input left s.gave s.says.0).1
+    (fault_at form s.input (fault_of form s.input) a b refl s.says.2 (s.notes.whole calm))

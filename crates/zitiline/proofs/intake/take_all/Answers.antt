@@ -1,0 +1,23 @@
+use Rattle.std.proofs.Common.{ℕ, ◌++◌, take, subst, arith}
+use Rattle.std.proofs.lemmas.Result.{err_from_is_err_and}
+use Rattle.ziti_outside.specs.Causes.{Rose}
+use Rattle.ziti_outside.proofs.Moves.{Gave-then}
+use Rattle.zitiline.proofs.intake.take_all.Goals as goal
+
+pub returns-in_err-extend_from_slice-in-Ok-clause-cut : goal.returns-in_err-extend_from_slice-in-Ok-clause-cut
+returns-in_err-extend_from_slice-in-Ok-clause-cut g c =
+    let p = err_from_is_err_and c.from_residual-in_err-extend_from_slice-in-Ok.result c.from_residual-in_err-extend_from_slice-in-Ok.ensures.1 in
+    let piece = take c.in-Ok.count c.take.new.buf in
+    rw p.1 (record {
+      bytes = c.takes.bytes.items ++ piece;
+      gave = Gave-then _ _ _ c.takes.bytes.items piece c.takes.invariant.gave c.in-Ok.ensures.bytes.bytes;
+    })
+
+pub returns-in-Err-clause-faults : goal.returns-in-Err-clause-faults
+returns-in-Err-clause-faults g c =
+    let cause = c.in-Err.ensures.cause in
+    let calm = c.takes.invariant.calm in
+    record {
+      counted = record { later = omega (arith, cause.later, calm); once = omega (arith, cause.once, calm) };
+      fault = subst (λ (n : ℕ). Rose n (g.S.Source.faults c.take.new.self)) calm cause.failed;
+    }

@@ -1,0 +1,8 @@
+use Rattle.std.proofs.Common.{sym, ap}
+use Rattle.std.specs.Option.{option_map}
+use Rattle.std.specs.String.{string_bytes}
+use Rattle.zitiline.specs.Answers.{status_for}
+use Rattle.zitiline.proofs.running.end_by.Goals as goal
+
+pub returns-in-Some-clause-status : goal.returns-in-Some-clause-status
+returns-in-Some-clause-status g c = ap (λ note. status_for (option_map string_bytes note)) (sym c.in-Some.is)

@@ -1,0 +1,18 @@
+use Rattle.std.proofs.Common.{refl}
+use Rattle.std.specs.Fmt.{digits}
+use Rattle.std.specs.Str.{is_utf8, chars}
+use Rattle.zitiline.proofs.worked.worked_answers.Goals as goal
+
+pub returns : goal.returns
+unfolding digits is_utf8 chars lib.Utf8.encode
+returns c = record {
+  encoded = refl;
+  ends = refl;
+  before_the_fault = refl;
+  faulty = refl;
+  line_noted = refl;
+  decoded = refl;
+  cut = refl;
+  cut_noted = refl;
+  fault_noted = refl;
+}

@@ -1,0 +1,30 @@
+-- What is said of an input, and what fault it has (docs/FORMATS.md, "Lines for people").
+use Rattle.std.specs.Prelude.{ℕ, List, None, Some}
+use Rattle.std.specs.declared.option.Option.{Option}
+use Rattle.std.specs.Option.{option_map}
+use Rattle.frame_lines.specs.TextReading.{bytes_said, fault_said}
+use Rattle.frame_lines.specs.TextTelling.{text_told, fault_told}
+use Rattle.frame_lines.specs.FaultTexts.{line_text, frame_text}
+use Rattle.zitiline.specs.declared.words.Form.{Form}
+use Rattle.zitiline.specs.declared.words.Form.TheVariants.{Encode, Decode}
+use Rattle.zitiline.specs.declared.status.Status.{Status}
+use Rattle.zitiline.specs.declared.status.Status.TheVariants.{Done, BadInput}
+
+-- What is said: the frames of the lines, or the lines of the frames, up to the first fault.
+abbrev pub said_of : Form → List ℕ → List ℕ
+said_of Encode input = bytes_said input
+said_of Decode input = text_told input
+
+-- The fault in words, if the input has one.
+abbrev pub fault_of : Form → List ℕ → Option (List ℕ)
+fault_of Encode input = option_map line_text (fault_said input)
+fault_of Decode input = option_map frame_text (fault_told input)
+
+-- The status that a fault decides.
+abbrev pub status_for : Option (List ℕ) → Status
+status_for None = Done
+status_for (Some text) = BadInput
+
+-- The status that the input decides.
+abbrev pub status_of : Form → List ℕ → Status
+status_of form input = status_for (fault_of form input)

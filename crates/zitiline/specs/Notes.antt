@@ -1,0 +1,30 @@
+-- The notes of a run, a line each (docs/FORMATS.md, "Lines for people").
+use Rattle.std.specs.Prelude.{ℕ, List, [], ◌++◌, codes, None, Some}
+use Rattle.std.specs.declared.option.Option.{Option}
+use Rattle.ziti_outside.specs.Causes.{Rose}
+use Rattle.ziti_outside.specs.Told.{Took, TookFront}
+use Rattle.zitiline.specs.declared.status.Status.{Status}
+use Rattle.zitiline.specs.declared.status.Status.TheVariants.{Done, Usage, BadInput, ReadFault, WriteFault, NoMemory}
+
+-- A note: what it tells behind the program's name, and a newline.
+abbrev pub note_of : List ℕ → List ℕ
+note_of told = codes "zitiline: " ++ (told ++ codes "\n")
+
+-- The note of a fault, if there is one.
+abbrev pub fault_note : Option (List ℕ) → List ℕ
+fault_note None = []
+fault_note (Some text) = note_of text
+
+-- The notes of a run that ended so, whose input has this fault or none.
+abbrev pub notes_of : Option (List ℕ) → Status → List ℕ
+notes_of fault Done = []
+notes_of fault Usage = note_of (codes "usage: zitiline encode | decode")
+notes_of fault BadInput = fault_note fault
+notes_of fault ReadFault = note_of (codes "read fault")
+notes_of fault WriteFault = note_of (codes "write fault")
+notes_of fault NoMemory = note_of (codes "no memory")
+
+-- These lines were noted: all of them where the count of failed notes did not rise, else a front of them.
+pub record NotesLines (lines : List ℕ) (noted_before noted_now : Option (List ℕ)) (faults_before faults_now : ℕ) : Type 0 where
+  pub part : TookFront noted_before noted_now lines
+  pub whole : (Rose faults_before faults_now → ⊥) → Took noted_before noted_now lines

@@ -1,0 +1,63 @@
+-- What the parts of a run do, up to the headline. Only private contracts cite these.
+use Rattle.std.specs.Prelude.{◌≡◌, ℕ, List, [], None, Some}
+use Rattle.std.specs.declared.option.Option.{Option}
+use Rattle.std.specs.Option.{option_map}
+use Rattle.std.specs.String.{string_bytes}
+use Rattle.ziti_outside.specs.Told.{Took, TookFront}
+use Rattle.ziti_outside.specs.Causes.{Rose}
+use Rattle.ziti_outside.specs.Images.{Image}
+use Rattle.zitiline.specs.declared.words.Form.{Form}
+use Rattle.zitiline.specs.declared.answers.Answer.{Answer}
+use Rattle.zitiline.specs.declared.status.Status.{Status}
+use Rattle.zitiline.specs.declared.status.Status.TheVariants.{Done, Usage, BadInput, ReadFault, WriteFault, NoMemory}
+use Rattle.zitiline.specs.Answers.{said_of, fault_of, status_for, status_of}
+use Rattle.zitiline.specs.Notes.{fault_note, notes_of}
+
+-- The bytes of a note that may be missing.
+abbrev pub note_bytes : Option (List ℕ) → List ℕ
+note_bytes None = []
+note_bytes (Some note) = note
+
+-- The bytes of an answer's note, if it has one.
+abbrev pub note_in : Answer → Option (List ℕ)
+note_in a = option_map string_bytes a.note
+
+-- What is said of an input, the note of its fault, and the status that it decides.
+pub record IsAnswer (form : Form) (input : List ℕ) (a : Answer) : Type 0 where
+  pub said : a.said ≡ said_of form input
+  pub note : note_bytes (note_in a) ≡ fault_note (fault_of form input)
+  pub status : status_for (note_in a) ≡ status_of form input
+
+-- What saying an answer did at a status.
+abbrev pub SaysAnswer : Status → Answer → Option (List ℕ) → Option (List ℕ) → Type 0
+SaysAnswer Done a before now = Took before now a.said × (status_for (note_in a) ≡ Done)
+SaysAnswer Usage a before now = ⊥
+SaysAnswer BadInput a before now = Took before now a.said × (status_for (note_in a) ≡ BadInput)
+SaysAnswer ReadFault a before now = ⊥
+SaysAnswer WriteFault a before now = TookFront before now a.said
+SaysAnswer NoMemory a before now = ⊥
+
+-- What answering a whole input said at a status.
+abbrev pub SaysInput : Status → Form → List ℕ → Option (List ℕ) → Option (List ℕ) → Type 0
+SaysInput Done form input before now = Took before now (said_of form input) × (status_of form input ≡ Done)
+SaysInput Usage form input before now = ⊥
+SaysInput BadInput form input before now = Took before now (said_of form input) × (status_of form input ≡ BadInput)
+SaysInput ReadFault form input before now = ⊥
+SaysInput WriteFault form input before now = TookFront before now (said_of form input)
+SaysInput NoMemory form input before now = now ≡ before
+
+-- The notes of an answer that was said, at a status.
+abbrev pub answer_notes : Answer → Status → List ℕ
+answer_notes a BadInput = note_bytes (note_in a)
+answer_notes a status = notes_of None status
+
+-- A write fault came only where the count of failed says rose, and it stays where none came.
+pub record IsWriteCaused (before now : ℕ) (status : Status) : Type 0 where
+  pub calm : (status ≡ WriteFault → ⊥) → now ≡ before
+  pub rose : status ≡ WriteFault → Rose before now
+
+-- The folder was left alone.
+pub record LeavesFolder {D : Type 0} (reads : D → Image) (may_leave : D → Image → Type 0) (disk_faults : D → ℕ) (old new : D) : Type 0 where
+  pub parts : reads new ≡ reads old
+  pub found : (image : Image) → may_leave new image → may_leave old image
+  pub failed_calls : disk_faults new ≡ disk_faults old

@@ -1,0 +1,78 @@
+//! The program zitiline: lines of text to frames and frames to lines, over standard input, output and error.
+#![tactic(auto)]
+
+mod answers;
+mod intake;
+mod laws;
+mod notes;
+mod running;
+mod status;
+mod words;
+mod worked;
+
+ghost use Rattle.std.specs.Prelude.{◌≡◌, ◌≢◌, None, IfOk, IfErr, map};
+ghost use Rattle.std.specs.Process.{exit_status};
+ghost use Rattle.std.specs.IoError.{error_kind};
+ghost use Rattle.std.specs.String.{string_bytes};
+ghost use Rattle.zitiline.specs.Words.{form_of};
+ghost use Rattle.zitiline.specs.Headline.{Runs};
+ghost use Rattle.zitiline.specs.Statuses.{number_of};
+
+use crate::running::run;
+use crate::status::Status;
+use std::alloc::Global;
+use std::io::ErrorKind;
+use std::process::ExitCode;
+use std::{env, io};
+use ziti_desk::{FileDesk, FileSource, Paths, Writes};
+use ziti_outside::{Desk, Source};
+
+// The words behind the program's name, as the system gives them.
+fn stored_words(rt: &HostRuntime) -> io::Result<Vec<String>> {
+    let words = env::args(rt)?.skip(1).collect(rt.alloc())?;
+    Ok(words)
+}
+
+// Runs on the words that were stored. Words that are not text are words of no table. Where memory was wanting for the words,
+// nothing is done.
+fn run_stored<S: Source, D: Desk>(
+    alloc: Global,
+    stored: io::Result<Vec<String>>,
+    source: &mut S,
+    desk: &mut D,
+) -> Status
+    ensures stored { IfOk stored (λ words. Runs S.left S.faults D.said D.noted D.say_faults D.note_faults D.reads D.may_leave D.disk_faults
+        (form_of (map string_bytes words.items)) source.old source.new desk.old desk.new result) }
+    ensures no_text { IfErr stored (λ error. error_kind error ≢ ErrorKind.OutOfMemory
+        → Runs S.left S.faults D.said D.noted D.say_faults D.note_faults D.reads D.may_leave D.disk_faults
+        None source.old source.new desk.old desk.new result) }
+    ensures no_memory { IfErr stored (λ error. error_kind error ≡ ErrorKind.OutOfMemory
+        → (result ≡ Status.NoMemory) × (source.new ≡ source.old) × (desk.new ≡ desk.old)) }
+{
+    match stored {
+        Ok(words) => run(alloc, words.as_slice(), source, desk),
+        Err(error) => {
+            if error.kind() == ErrorKind::OutOfMemory {
+                Status::NoMemory
+            } else {
+                run(alloc, &[], source, desk)
+            }
+        }
+    }
+}
+
+// How the program ends at a status.
+fn exit_code(status: Status) -> ExitCode
+    ensures { exit_status result ≡ number_of status }
+{
+    ExitCode::from(status.number())
+}
+
+fn main(rt: HostRuntime) -> ExitCode {
+    let errors = rt.stderr();
+    let said = Writes::new(io::writer(&rt));
+    let notes = Writes::new(io::writer(&errors));
+    let mut source = FileSource::new(rt.reader());
+    let mut desk = FileDesk::new(&rt, Paths::WORKING_FOLDER, said, notes);
+    exit_code(run_stored(rt.alloc(), stored_words(&rt), &mut source, &mut desk))
+}

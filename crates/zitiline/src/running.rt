@@ -1,0 +1,96 @@
+ghost use Rattle.std.specs.Prelude.{◌≡◌, None, Some, map};
+ghost use Rattle.std.specs.Option.{option_map};
+ghost use Rattle.std.specs.String.{string_bytes};
+ghost use Rattle.ziti_outside.specs.Untouched.{OnlyNotes};
+ghost use Rattle.zitiline.specs.Words.{form_of};
+ghost use Rattle.zitiline.specs.Answers.{fault_of, status_for};
+ghost use Rattle.zitiline.specs.Notes.{notes_of, NotesLines};
+ghost use Rattle.zitiline.specs.Steps.{note_bytes, answer_notes, SaysAnswer, SaysInput, IsWriteCaused, LeavesFolder};
+ghost use Rattle.zitiline.specs.Headline.{Runs};
+
+use crate::answers::{Answer, answer_to};
+use crate::intake::{Cut, take_all};
+use crate::notes::{note_lines, status_note};
+use crate::status::Status;
+use crate::words::{Form, form_of};
+use std::alloc::Global;
+use ziti_outside::{Desk, Failed, Source};
+
+// Notes a status that no input decides, and answers it.
+fn end_with<D: Desk>(status: Status, desk: &mut D) -> Status
+    ensures status { result ≡ status }
+    ensures noted { NotesLines (notes_of None status) (D.noted desk.old) (D.noted desk.new) (D.note_faults desk.old) (D.note_faults desk.new) }
+    ensures others { OnlyNotes D.said D.say_faults D.reads D.may_leave D.disk_faults desk.old desk.new }
+{
+    note_lines(status_note(status), desk);
+    status
+}
+
+// Notes the fault of an input, if there is one, and answers the status that it decides.
+fn end_by<D: Desk>(note: &Option<String>, desk: &mut D) -> Status
+    ensures status { result ≡ status_for (option_map string_bytes note.now) }
+    ensures noted { NotesLines (note_bytes (option_map string_bytes note.now)) (D.noted desk.old) (D.noted desk.new) (D.note_faults desk.old) (D.note_faults desk.new) }
+    ensures others { OnlyNotes D.said D.say_faults D.reads D.may_leave D.disk_faults desk.old desk.new }
+{
+    match note {
+        Some(line) => {
+            note_lines(line.as_bytes(), desk);
+            Status::BadInput
+        }
+        None => {
+            note_lines(b"", desk);
+            Status::Done
+        }
+    }
+}
+
+fn say_answer<D: Desk>(answer: &Answer, desk: &mut D) -> Status
+    ensures says { SaysAnswer result answer.now (D.said desk.old) (D.said desk.new) }
+    ensures noted { NotesLines (answer_notes answer.now result) (D.noted desk.old) (D.noted desk.new) (D.note_faults desk.old) (D.note_faults desk.new) }
+    ensures cause { IsWriteCaused (D.say_faults desk.old) (D.say_faults desk.new) result }
+    ensures folder { LeavesFolder D.reads D.may_leave D.disk_faults desk.old desk.new }
+{
+    match desk.say(answer.said.as_slice()) {
+        Ok(()) => end_by(&answer.note, desk),
+        Err(Failed) => end_with(Status::WriteFault, desk),
+    }
+}
+
+fn answer_input<D: Desk>(alloc: Global, form: Form, input: &[u8], desk: &mut D) -> Status
+    ensures says { SaysInput result form input.now (D.said desk.old) (D.said desk.new) }
+    ensures noted { NotesLines (notes_of (fault_of form input.now) result) (D.noted desk.old) (D.noted desk.new) (D.note_faults desk.old) (D.note_faults desk.new) }
+    ensures cause { IsWriteCaused (D.say_faults desk.old) (D.say_faults desk.new) result }
+    ensures folder { LeavesFolder D.reads D.may_leave D.disk_faults desk.old desk.new }
+{
+    match answer_to(alloc, form, input) {
+        Ok(answer) => say_answer(&answer, desk),
+        Err(_) => end_with(Status::NoMemory, desk),
+    }
+}
+
+fn run_form<S: Source, D: Desk>(alloc: Global, form: Form, source: &mut S, desk: &mut D) -> Status
+    ensures runs { Runs S.left S.faults D.said D.noted D.say_faults D.note_faults D.reads D.may_leave D.disk_faults
+        (Some form) source.old source.new desk.old desk.new result }
+{
+    match take_all(alloc, source) {
+        Ok(input) => answer_input(alloc, form, input.as_slice(), desk),
+        Err(Cut::Fault) => end_with(Status::ReadFault, desk),
+        Err(Cut::NoMemory) => end_with(Status::NoMemory, desk),
+    }
+}
+
+/// Runs the program on the words behind its name: takes the input to its end, says what is to be said of it, and notes its fault.
+pub fn run<S: Source, D: Desk>(
+    alloc: Global,
+    words: &[String],
+    source: &mut S,
+    desk: &mut D,
+) -> Status
+    ensures runs { Runs S.left S.faults D.said D.noted D.say_faults D.note_faults D.reads D.may_leave D.disk_faults
+        (form_of (map string_bytes words.now)) source.old source.new desk.old desk.new result }
+{
+    match form_of(words) {
+        Some(form) => run_form(alloc, form, source, desk),
+        None => end_with(Status::Usage, desk),
+    }
+}
