@@ -1,7 +1,6 @@
 pub mod RouteFits
 pub mod CarriedFits
 pub mod ReadCommandLaws
-pub mod FrontParts
 pub mod ControllerLaws
 pub mod TurnLaws
 pub mod StopLaws

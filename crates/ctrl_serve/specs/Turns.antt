@@ -17,13 +17,6 @@ use Rattle.ctrl_serve.specs.FrameAnswer.{frame_answer, each_reply, replies}
 use Rattle.ctrl_serve.specs.Ending.{tail_of}
 use Rattle.ctrl_serve.specs.SaidReplies.{TookWhole, TookCut}
 
--- The bytes begin with a good head, and all the bytes that it announces are there.
-pub record IsAnnouncedAt (len : ℕ) (bytes : List ℕ) : Type 0 where
-  pub head : Head
-  pub is_head : head_of bytes ≡ Ok head
-  pub is_len : frame_len head ≡ len
-  pub enough : len ≤ length bytes
-
 -- The bytes of the reply to a frame.
 abbrev pub reply_to_frame : ℕ → ℕ → Frame → Machine → List ℕ
 reply_to_frame slot n f m = spelling (reply_frame n f.sequence (frame_answer slot Admin f m).0)

@@ -1,8 +1,6 @@
 ghost use Rattle.std.specs.Prelude.{◌≡◌, ◌⊎◌, ◌≢◌, true, IsTrue, IsSome, IfOk, IfErr, IsErrOf, None, OnOk, length};
 ghost use Rattle.ziti_outside.specs.Told.{Took};
-ghost use Rattle.channel_frame.specs.declared.frames.Front.TheVariants.{Bad};
 ghost use Rattle.channel_frame.specs.FrameSpelling.{spelling};
-ghost use Rattle.channel_frame.specs.StreamReading.{front};
 ghost use Rattle.ctrl_model.specs.declared.kinds.Who.TheVariants.{Admin};
 ghost use Rattle.ctrl_keep.specs.OpenedStates.{OpensToState};
 ghost use Rattle.reply_codec.specs.ReplyFrame.{reply_frame};
@@ -14,19 +12,16 @@ ghost use Rattle.ctrl_serve.specs.FrameAnswer.{frame_answer, last_machine, refus
 ghost use Rattle.ziti_outside.specs.Causes.{HasCause};
 ghost use Rattle.ziti_outside.specs.Moments.{Elapses, Leaves, Remembers};
 ghost use Rattle.ziti_outside.specs.Untouched.{OnlyDisk, OnlySays};
-ghost use Rattle.ctrl_serve.specs.Turns.{IsAnnouncedAt, TakesTurn, CutsTurn, IsServed, reply_to_frame, unkept, unsaid};
+ghost use Rattle.ctrl_serve.specs.Turns.{TakesTurn, CutsTurn, IsServed, reply_to_frame, unkept, unsaid};
 
 use crate::controller::Controller;
 use crate::tails::Tail;
-use channel_frame::{Frame, FrameFault, Front, encode, read_frame, read_head};
+use channel_frame::{Frame, Front, encode, front_of};
 use command_codec::{CodecFault, read};
 use ctrl_model::{Bytes, Refusal, Reply};
 use reply_codec::write;
 use std::alloc::{AllocError, Global};
 use ziti_outside::{Desk, Failed};
-
-/// How many bytes the head of a frame has.
-const HEAD: usize = 20;
 
 /// Why serving was cut short.
 #[derive(Clone, Copy)]
@@ -87,43 +82,6 @@ fn answer_frame<D: Desk>(
         Ok(command) => controller.carry_out(desk, &command),
         Err(fault) => Ok(Reply::Refused(refusal_of(fault)?)),
     }
-}
-
-fn bad_front(fault: FrameFault) -> Result<Front, AllocError>
-    ensures { IfOk result (λ f. (fault ≢ FrameFault.NoMemory) × (f ≡ Bad fault)) }
-{
-    match fault {
-        FrameFault::NoMemory => Err(AllocError),
-        _ => Ok(Front::Bad(fault)),
-    }
-}
-
-fn whole_front(alloc: Global, bytes: &[u8], len: usize) -> Result<Front, AllocError>
-    requires { IsAnnouncedAt len bytes.now }
-    ensures { IfOk result (λ f. f ≡ front bytes.now) }
-{
-    let (whole, _) = bytes.split_at(len);
-    match read_frame(alloc, whole) {
-        Ok(frame) => Ok(Front::Whole(frame, len as u64)),
-        Err(fault) => bad_front(fault),
-    }
-}
-
-fn front_of(alloc: Global, bytes: &[u8]) -> Result<Front, AllocError>
-    ensures { IfOk result (λ f. f ≡ front bytes.now) }
-{
-    let Some(first) = bytes.first_chunk::<20>() else {
-        return Ok(Front::Short);
-    };
-    let head = match read_head(first) {
-        Ok(head) => head,
-        Err(fault) => return Ok(Front::Bad(fault)),
-    };
-    let len = HEAD + head.headers_len as usize + head.body_len as usize;
-    if bytes.len() < len {
-        return Ok(Front::Short);
-    }
-    whole_front(alloc, bytes, len)
 }
 
 /// The bytes of a reply, with its sequence number and that of the request that it answers.

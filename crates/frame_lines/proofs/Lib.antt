@@ -1,7 +1,7 @@
 pub mod CutLaws
 pub mod NumberLaws
 pub mod TurnLaws
-pub mod FrontParts
+pub mod FrontLengths
 pub mod TellLaws
 pub mod DecodeLaws
 pub mod TypeLaws

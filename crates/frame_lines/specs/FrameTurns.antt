@@ -1,9 +1,7 @@
 -- What one frame does to the lines that were put down. Only private contracts cite these.
-use Rattle.std.specs.Prelude.{◌≡◌, ℕ, ◌≤◌, List, [], ◌∷◌, ◌++◌, length, Ok, Err}
+use Rattle.std.specs.Prelude.{◌≡◌, ℕ, List, [], ◌∷◌, ◌++◌, Ok, Err}
 use Rattle.std.specs.declared.result.Result.{Result}
 use Rattle.channel_frame.specs.declared.frames.Frame.{Frame}
-use Rattle.channel_frame.specs.declared.frames.Head.{Head}
-use Rattle.channel_frame.specs.StreamReading.{head_of, frame_len}
 use Rattle.frame_lines.specs.declared.told.TellCause.{TellCause}
 use Rattle.frame_lines.specs.FrameLines.{line_for}
 
@@ -11,10 +9,3 @@ use Rattle.frame_lines.specs.FrameLines.{line_for}
 abbrev pub PutsLine : Frame → List ℕ → List ℕ → Result (Unit {0}) TellCause → Type 0
 PutsLine f before now (Ok _) = (line : List ℕ) × (line_for f ≡ Ok line) × (now ≡ before ++ (line ++ 10 ∷ []))
 PutsLine f before now (Err cause) = (line_for f ≡ Err cause) × (now ≡ before)
-
--- The bytes begin with a good head, and all the bytes that it announces are there.
-pub record IsAnnouncedAt (len : ℕ) (bytes : List ℕ) : Type 0 where
-  pub head : Head
-  pub is_head : head_of bytes ≡ Ok head
-  pub is_len : frame_len head ≡ len
-  pub enough : len ≤ length bytes

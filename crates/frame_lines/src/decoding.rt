@@ -1,10 +1,9 @@
 ghost use Rattle.std.specs.Prelude.{◌≡◌, IfOk};
 ghost use Rattle.frame_lines.specs.TextTelling.{tail_fault, text_told, fault_told};
 
-use crate::fronts::front_of;
 use crate::telling::put_line;
 use crate::told::{DecodeCause, DecodeFault};
-use channel_frame::Front;
+use channel_frame::{Front, front_of};
 use ctrl_model::Bytes;
 use std::alloc::{AllocError, Global};
 

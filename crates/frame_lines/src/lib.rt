@@ -4,7 +4,6 @@
 mod cutting;
 mod decoding;
 mod encoding;
-mod fronts;
 mod laws;
 mod lines;
 mod reading;
