@@ -12,13 +12,17 @@ const ROOM: Room = Room {
 };
 
 /// A desk with a folder of these parts that fails at these calls, counted from 0.
-pub fn desk_of(alloc: Global, images: Images, failing: &[u32]) -> Result<MemDesk, AllocError> {
+pub(crate) fn desk_of(
+    alloc: Global,
+    images: Images,
+    failing: &[u32],
+) -> Result<MemDesk, AllocError> {
     let failing = Vec::from_slice(alloc, failing)?;
     MemDesk::new(alloc, images, ROOM, failing)
 }
 
 /// The parts of a folder in memory: the first slot, the second one, and the mark.
-pub fn images_of(alloc: Global, parts: [&[u8]; 3]) -> Result<Images, AllocError> {
+pub(crate) fn images_of(alloc: Global, parts: [&[u8]; 3]) -> Result<Images, AllocError> {
     let mut images = Images::empty(alloc);
     images.zero.extend_from_slice(parts[0])?;
     images.one.extend_from_slice(parts[1])?;
@@ -27,17 +31,17 @@ pub fn images_of(alloc: Global, parts: [&[u8]; 3]) -> Result<Images, AllocError>
 }
 
 /// A desk with a folder of these parts, which does not fail.
-pub fn folder_desk(alloc: Global, parts: [&[u8]; 3]) -> Result<MemDesk, AllocError> {
+pub(crate) fn folder_desk(alloc: Global, parts: [&[u8]; 3]) -> Result<MemDesk, AllocError> {
     desk_of(alloc, images_of(alloc, parts)?, &[])
 }
 
 /// A desk with an empty folder, which does not fail.
-pub fn empty_desk(alloc: Global) -> Result<MemDesk, AllocError> {
+pub(crate) fn empty_desk(alloc: Global) -> Result<MemDesk, AllocError> {
     desk_of(alloc, Images::empty(alloc), &[])
 }
 
 /// The source of these bytes in pieces of 4,096, which fails at these calls, counted from 0.
-pub fn failing_source(
+pub(crate) fn failing_source(
     alloc: Global,
     bytes: &[u8],
     failing: &[u32],
@@ -51,6 +55,6 @@ pub fn failing_source(
 }
 
 /// The source of these bytes in such pieces, which does not fail.
-pub fn steady_source(alloc: Global, bytes: &[u8]) -> Result<MemSource, AllocError> {
+pub(crate) fn steady_source(alloc: Global, bytes: &[u8]) -> Result<MemSource, AllocError> {
     failing_source(alloc, bytes, &[])
 }

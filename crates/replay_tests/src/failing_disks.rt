@@ -1,14 +1,13 @@
 //! Runs on a folder with each call of the desk failing in turn: what is said and noted, and to what the folder then opens.
 
 use crate::desks::{desk_of, images_of};
-use crate::folders::{ANN_KEPT, BOB_KEPT, folder_of, has_slot, replay, slot_of};
+use crate::folders::{ANN_KEPT, BOB_KEPT, folder_of, has_slot, parts_of, replay, slot_of};
 use crate::frames::{ANN_MADE, BOB_MADE, Row, replies, reply_frame, requests};
 use ctrl_serve::Status;
 use std::alloc::{AllocError, Global};
 use std::process::Abort;
 use std::test::Fail;
 use ziti_desk::{Images, MemDesk};
-use ziti_outside::Part;
 
 /// The records that are kept in turn.
 const KEPT: [&[u8]; 2] = [ANN_KEPT, BOB_KEPT];
@@ -81,14 +80,7 @@ fn kept(rt: &impl Abort, alloc: Global, images: Images) -> Result<usize, Fail> {
 
 // The folder of a desk as it reads.
 fn as_read(alloc: Global, desk: &MemDesk) -> Result<Images, AllocError> {
-    images_of(
-        alloc,
-        [
-            desk.part(Part::Zero),
-            desk.part(Part::One),
-            desk.part(Part::Mark),
-        ],
-    )
+    images_of(alloc, parts_of(desk))
 }
 
 // The folder of a desk as a stop leaves it behind all calls.
@@ -131,7 +123,7 @@ fn has_record(rt: &impl Abort, alloc: Global, desk: &MemDesk, known: usize) -> R
 // Makes a trial in which one call fails, counted from 0 over all of them.
 fn fails_at(rt: &impl Abort, alloc: Global, trial: &Trial, call: u32) -> Result<Status, Fail> {
     let (first, rows) = *trial;
-    let folder = folder_of(alloc, KEPT.get(..first).unwrap_or(&[]))?;
+    let folder = folder_of(alloc, KEPT.get(..first).unwrap_or(&KEPT))?;
     let mut desk = desk_of(alloc, folder, &[call])?;
     let input = requests(alloc, rows)?;
     let status = replay(alloc, input.as_slice(), 4_096, &mut desk)?;

@@ -8,29 +8,29 @@ use ziti_desk::{Images, MemDesk, MemSource};
 use ziti_outside::Part;
 
 /// The header of a slot.
-pub const HEADER: &[u8] = b"ZCTL\x01\0\0\0";
+pub(crate) const HEADER: &[u8] = b"ZCTL\x01\0\0\0";
 
 /// The record of the identity ann behind its open gate: the next number of identities, and the identity.
-pub const ANN_KEPT: &[u8] =
+pub(crate) const ANN_KEPT: &[u8] =
     b"\x01\x1c\0\0\0\x01\x02\x01\x01\x04\0\0\0\x02\0\0\0\x01\x05\x03\0\0\0\x01\x05\0\0\0\x03ann\0";
 
 /// Of a second identity, bob.
-pub const BOB_KEPT: &[u8] =
+pub(crate) const BOB_KEPT: &[u8] =
     b"\x01\x1c\0\0\0\x01\x02\x01\x01\x04\0\0\0\x03\0\0\0\x01\x05\x03\0\0\0\x02\x05\0\0\0\x03bob\0";
 
 /// Of the service web.
-pub const WEB_KEPT: &[u8] =
+pub(crate) const WEB_KEPT: &[u8] =
     b"\x01\x1c\0\0\0\x01\x02\x01\x02\x04\0\0\0\x02\0\0\0\x01\x05\x04\0\0\0\x01\x05\0\0\0\x03web\0";
 
 /// Of the policy p, by which all may dial all, and of the count of the one pair that it grants behind ann and web.
-pub const GRANT_KEPT: &[u8] =
+pub(crate) const GRANT_KEPT: &[u8] =
     b"\x01\x34\0\0\0\x01\x02\x01\x05\x04\0\0\0\x02\0\0\0\x01\x05\x07\0\0\0\x01\x0a\0\0\0\x01p\x01\x01\x01\0\0\x01\0\0\x01\x09\x0c\0\0\0\x01\0\0\0\x01\x04\0\0\0\x01\0\0\0";
 
 /// The mark of a folder whose first slot stands.
-pub const FIRST: &[u8] = b"\0";
+pub(crate) const FIRST: &[u8] = b"\0";
 
 /// A slot of these records.
-pub fn slot_of(alloc: Global, records: &[&[u8]]) -> Result<Vec<u8>, AllocError> {
+pub(crate) fn slot_of(alloc: Global, records: &[&[u8]]) -> Result<Vec<u8>, AllocError> {
     let mut slot = Vec::from_slice(alloc, HEADER)?;
     for record in records {
         slot.extend_from_slice(record)?;
@@ -40,7 +40,7 @@ pub fn slot_of(alloc: Global, records: &[&[u8]]) -> Result<Vec<u8>, AllocError> 
 }
 
 /// A folder whose first slot has these records and stands, or, with none, an empty one.
-pub fn folder_of(alloc: Global, records: &[&[u8]]) -> Result<Images, AllocError> {
+pub(crate) fn folder_of(alloc: Global, records: &[&[u8]]) -> Result<Images, AllocError> {
     if records.is_empty() {
         return Ok(Images::empty(alloc));
     }
@@ -49,7 +49,7 @@ pub fn folder_of(alloc: Global, records: &[&[u8]]) -> Result<Images, AllocError>
 }
 
 /// Runs a word on a source and a desk. So many bytes of the input are used, and a slot may have so many.
-pub fn run_word(
+pub(crate) fn run_word(
     alloc: Global,
     word: &str,
     input: u64,
@@ -68,7 +68,7 @@ pub fn run_word(
 }
 
 /// Replays an input on the desk's folder, whose slot may have so many bytes.
-pub fn replay(
+pub(crate) fn replay(
     alloc: Global,
     input: &[u8],
     slot: u64,
@@ -78,20 +78,27 @@ pub fn replay(
     run_word(alloc, "replay", 1_048_576, slot, &mut source, desk)
 }
 
-/// The parts of the folder have these bytes: the first slot, the second one, and the mark.
-pub fn has_parts(rt: &impl Abort, desk: &MemDesk, parts: [&[u8]; 3]) {
-    assert_eq!(rt; desk.part(Part::Zero), parts[0]);
-    assert_eq!(rt; desk.part(Part::One), parts[1]);
-    assert_eq!(rt; desk.part(Part::Mark), parts[2]);
+/// The parts of the folder as they read: the first slot, the second one, and the mark.
+pub(crate) fn parts_of(desk: &MemDesk) -> [&[u8]; 3] {
+    [
+        desk.part(Part::Zero),
+        desk.part(Part::One),
+        desk.part(Part::Mark),
+    ]
+}
+
+/// The parts of the folder read so.
+pub(crate) fn has_parts(rt: &impl Abort, desk: &MemDesk, parts: [&[u8]; 3]) {
+    assert_eq!(rt; parts_of(desk), parts);
 }
 
 /// The first slot has these bytes and stands, and the second one has none.
-pub fn has_slot(rt: &impl Abort, desk: &MemDesk, slot: &[u8]) {
+pub(crate) fn has_slot(rt: &impl Abort, desk: &MemDesk, slot: &[u8]) {
     has_parts(rt, desk, [slot, b"", FIRST]);
 }
 
 /// So was said, and so noted, in all runs on the desk.
-pub fn has_told(rt: &impl Abort, desk: &MemDesk, said: &[u8], noted: &str) {
+pub(crate) fn has_told(rt: &impl Abort, desk: &MemDesk, said: &[u8], noted: &str) {
     assert_eq!(rt; desk.said(), said);
     assert_eq!(rt; desk.noted(), noted.as_bytes());
 }

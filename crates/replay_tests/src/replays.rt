@@ -1,9 +1,9 @@
 //! Runs on a folder over memory: what they say, what they keep, and how they end.
 
-use crate::desks::{desk_of, empty_desk, failing_source};
+use crate::desks::{desk_of, empty_desk, failing_source, folder_desk};
 use crate::folders::{
-    ANN_KEPT, BOB_KEPT, GRANT_KEPT, WEB_KEPT, folder_of, has_slot, has_told, replay, run_word,
-    slot_of,
+    ANN_KEPT, BOB_KEPT, GRANT_KEPT, WEB_KEPT, folder_of, has_slot, has_told, parts_of, replay,
+    run_word, slot_of,
 };
 use crate::frames::{ANN, ANN_MADE, BOB_MADE, DONE, MADE, Row, replies, requests};
 use ctrl_serve::Status;
@@ -111,7 +111,7 @@ const ENDINGS: [Ending; 5] = [
 ];
 
 /// Runs requests on the desk's folder, which are answered so.
-pub fn answers(
+pub(crate) fn answers(
     rt: &impl Abort,
     alloc: Global,
     desk: &mut MemDesk,
@@ -156,6 +156,22 @@ fn keeps_what_has_room(rt: HostRuntime) -> Result<(), Fail> {
         check_keeping(&rt, rt.alloc(), keeping)?;
     }
     Ok(())
+}
+
+// Runs a request on the folder that a desk has, by another desk.
+fn run_behind(rt: &impl Abort, alloc: Global, desk: &MemDesk, row: Row) -> Result<MemDesk, Fail> {
+    let mut next = folder_desk(alloc, parts_of(desk))?;
+    answers(rt, alloc, &mut next, 75, &[row])?;
+    Ok(next)
+}
+
+#[test]
+fn goes_on_from_run_to_run(rt: HostRuntime) -> Result<(), Fail> {
+    let mut desk = empty_desk(rt.alloc())?;
+    for row in [ANN_MADE, BOB_MADE, ANN_EXISTS] {
+        desk = run_behind(&rt, rt.alloc(), &desk, row)?;
+    }
+    keeps(&rt, rt.alloc(), &mut desk, &[ANN_KEPT, BOB_KEPT])
 }
 
 // Runs ann's frame and what then comes on an empty folder.
