@@ -1,6 +1,6 @@
 //! Folders with a byte changed, cut off or made up: where they are damaged, and to what the others open.
 
-use crate::desks::{empty_desk, folder_desk, steady_source};
+use crate::desks::{desk_of, source_of};
 use crate::folders::{
     ANN_KEPT, BOB_KEPT, FIRST, GRANT_KEPT, WEB_KEPT, has_parts, has_slot, has_told, replay,
     run_word, slot_of,
@@ -125,51 +125,25 @@ fn changed(
     Ok(slot)
 }
 
-// Where the slot is damaged, by its letter.
-fn place_of(letter: u8) -> Option<&'static str> {
+// What is noted of the slot, by its letter.
+fn note_of(letter: u8) -> &'static str {
     match letter {
-        b'0' => Some("0 at 0"),
-        b'1' => Some("0 at 8"),
-        b'2' => Some("0 at 41"),
-        b'3' => Some("0 at 74"),
-        b'4' => Some("0 at 131"),
-        _ => None,
+        b'0' => "zitictl: damaged: file 0 at 0\n",
+        b'1' => "zitictl: damaged: file 0 at 8\n",
+        b'2' => "zitictl: damaged: file 0 at 41\n",
+        b'3' => "zitictl: damaged: file 0 at 74\n",
+        b'4' => "zitictl: damaged: file 0 at 131\n",
+        _ => "",
     }
 }
 
-// The run was that of a folder which is damaged at the place of a file.
-fn tells_damage(
-    rt: &impl Abort,
-    alloc: Global,
-    desk: &MemDesk,
-    status: Status,
-    place: &str,
-) -> Result<(), Fail> {
-    let line = format!(in alloc; "zitictl: damaged: file {place}\n")?;
-    assert_eq!(rt; status, Status::Damaged);
-    has_told(rt, desk, b"", line.as_str());
-    Ok(())
-}
-
-// The run was that of a folder which opens, and nothing was asked.
-fn is_quiet(rt: &impl Abort, desk: &MemDesk, status: Status) {
-    assert_eq!(rt; status, Status::Done);
-    has_told(rt, desk, b"", "");
-}
-
-// A folder whose first slot has these bytes is damaged at the place, or opens, and reads as before.
-fn check_slot(
-    rt: &impl Abort,
-    alloc: Global,
-    slot: &[u8],
-    place: Option<&str>,
-) -> Result<(), Fail> {
-    let mut desk = folder_desk(alloc, [slot, b"", FIRST])?;
+// A folder whose first slot has these bytes is damaged where that is noted, or opens, and reads as before. Nothing is said.
+fn check_slot(rt: &impl Abort, alloc: Global, slot: &[u8], noted: &str) -> Result<(), Fail> {
+    let mut desk = desk_of(alloc, [slot, b"", FIRST], &[])?;
     let status = replay(alloc, b"", 4_096, &mut desk)?;
-    match place {
-        Some(place) => tells_damage(rt, alloc, &desk, status, place)?,
-        None => is_quiet(rt, &desk, status),
-    }
+    assert_eq!(rt; status == Status::Done, noted.is_empty());
+    assert_eq!(rt; status == Status::Damaged, !noted.is_empty());
+    has_told(rt, &desk, b"", noted);
     has_slot(rt, &desk, slot);
     Ok(())
 }
@@ -186,7 +160,7 @@ fn check_stretch(
     let mut place = first;
     for letter in letters {
         let slot = changed(alloc, slot, place, change)?;
-        check_slot(rt, alloc, slot.as_slice(), place_of(*letter))?;
+        check_slot(rt, alloc, slot.as_slice(), note_of(*letter))?;
         place = place.saturating_add(1);
     }
     Ok(place)
@@ -195,10 +169,10 @@ fn check_stretch(
 #[test]
 fn finds_each_changed_byte(rt: HostRuntime) -> Result<(), Fail> {
     let slot = whole_slot(rt.alloc())?;
-    for (change, stretches) in CHANGES {
+    for (change, stretches) in &CHANGES {
         let mut place = 0usize;
         for letters in stretches {
-            place = check_stretch(&rt, rt.alloc(), slot.as_slice(), place, change, letters)?;
+            place = check_stretch(&rt, rt.alloc(), slot.as_slice(), place, *change, letters)?;
         }
         assert_eq!(rt; place, slot.len());
     }
@@ -209,14 +183,14 @@ fn finds_each_changed_byte(rt: HostRuntime) -> Result<(), Fail> {
 fn check_opened(rt: &impl Abort, alloc: Global, place: usize, row: Row) -> Result<(), Fail> {
     let whole = whole_slot(alloc)?;
     let slot = changed(alloc, whole.as_slice(), place, Change::Rises)?;
-    let mut desk = folder_desk(alloc, [slot.as_slice(), b"", FIRST])?;
+    let mut desk = desk_of(alloc, [slot.as_slice(), b"", FIRST], &[])?;
     answers(rt, alloc, &mut desk, 4_096, &[row])
 }
 
 #[test]
 fn opens_to_what_other_bytes_say(rt: HostRuntime) -> Result<(), Fail> {
-    for (place, row) in OPENED {
-        check_opened(&rt, rt.alloc(), place, row)?;
+    for (place, row) in &OPENED {
+        check_opened(&rt, rt.alloc(), *place, *row)?;
     }
     Ok(())
 }
@@ -237,55 +211,67 @@ fn passes_over_what_stands_behind_a_closed_gate(rt: HostRuntime) -> Result<(), F
     Ok(())
 }
 
-// Where a slot is damaged of which so many bytes are left: at the gate that is gone, or whose record is cut.
-fn place_of_cut(left: usize) -> Option<&'static str> {
-    match left {
-        0..8 => Some("0 at 0"),
-        8..41 => Some("0 at 8"),
-        41..74 => Some("0 at 41"),
-        74..131 => Some("0 at 74"),
-        131 => Some("0 at 131"),
-        _ => None,
-    }
-}
+/// The letters of a slot of which so many bytes are left, from none to all: at its start, at a gate that is gone, or whose record is
+/// cut, or at the closed gate, which is gone.
+const CUTS: [(usize, u8); 6] = [
+    (8, b'0'),
+    (41, b'1'),
+    (74, b'2'),
+    (131, b'3'),
+    (132, b'4'),
+    (133, b'.'),
+];
 
 #[test]
 fn finds_each_cut(rt: HostRuntime) -> Result<(), Fail> {
     let slot = whole_slot(rt.alloc())?;
-    for left in 0usize..133 {
-        let front = slot.as_slice().get(..left).unwrap_or(slot.as_slice());
-        check_slot(&rt, rt.alloc(), front, place_of_cut(left))?;
+    let mut first = 0usize;
+    for (behind, letter) in CUTS {
+        for left in first..behind {
+            let front = slot.as_slice().get(..left).unwrap_or(b"");
+            check_slot(&rt, rt.alloc(), front, note_of(letter))?;
+        }
+        first = behind;
     }
     Ok(())
 }
 
 // The source still gives all of ann's frame.
 fn is_untaken(rt: &impl Abort, alloc: Global, source: &mut MemSource) -> Result<(), Fail> {
-    let mut desk = empty_desk(alloc)?;
+    let mut desk = desk_of(alloc, [b"", b"", b""], &[])?;
     let status = run_word(alloc, "dry", 64, 64, source, &mut desk)?;
     assert_eq!(rt; status, Status::Done);
     has_told(rt, &desk, MADE, "");
     Ok(())
 }
 
-// A folder is so damaged: nothing is taken of the input and nothing said, and it reads as before.
-fn refuses(rt: &impl Abort, alloc: Global, parts: [&[u8]; 3], place: &str) -> Result<(), Fail> {
-    let mut desk = folder_desk(alloc, parts)?;
-    let mut source = steady_source(alloc, ANN)?;
+// A folder is damaged, which is so noted: nothing is taken of the input and nothing said, and it reads as before.
+fn refuses(rt: &impl Abort, alloc: Global, parts: [&[u8]; 3], noted: &str) -> Result<(), Fail> {
+    let mut desk = desk_of(alloc, parts, &[])?;
+    let mut source = source_of(alloc, [ANN, b""], &[])?;
     let status = run_word(alloc, "replay", 64, 4_096, &mut source, &mut desk)?;
-    tells_damage(rt, alloc, &desk, status, place)?;
+    assert_eq!(rt; status, Status::Damaged);
+    has_told(rt, &desk, b"", noted);
     has_parts(rt, &desk, parts);
     is_untaken(rt, alloc, &mut source)
 }
+
+/// What is noted of a slot whose rows are those of no valid state, if it is the second one.
+const SECOND: &str = "zitictl: damaged: file 1 at 131\n";
 
 #[test]
 fn tells_a_wrong_count_in_either_slot(rt: HostRuntime) -> Result<(), Fail> {
     let whole = whole_slot(rt.alloc())?;
     let slot = changed(rt.alloc(), whole.as_slice(), 127, Change::Rises)?;
     let (whole, slot) = (whole.as_slice(), slot.as_slice());
-    refuses(&rt, rt.alloc(), [slot, whole, FIRST], "0 at 131")?;
-    refuses(&rt, rt.alloc(), [whole, slot, b"\0\0"], "1 at 131")?;
-    refuses(&rt, rt.alloc(), [slot, whole, b"\x01\x02\x03"], "0 at 131")
+    refuses(&rt, rt.alloc(), [slot, whole, FIRST], note_of(b'4'))?;
+    refuses(&rt, rt.alloc(), [whole, slot, b"\0\0"], SECOND)?;
+    refuses(
+        &rt,
+        rt.alloc(),
+        [slot, whole, b"\x01\x02\x03"],
+        note_of(b'4'),
+    )
 }
 
 /// The first 20 bytes of ann's slot.
@@ -300,10 +286,15 @@ const BOB_GOES: &[u8] = b"\x01\x07\0\0\0\x02\x05\x03\0\0\0\x02";
 #[test]
 fn tells_slots_that_were_made_up(rt: HostRuntime) -> Result<(), Fail> {
     let slot = slot_of(rt.alloc(), &[ANN_KEPT, BOB_GOES])?;
-    refuses(&rt, rt.alloc(), [b"", b"", FIRST], "0 at 0")?;
-    refuses(&rt, rt.alloc(), [CUT, b"", FIRST], "0 at 8")?;
-    refuses(&rt, rt.alloc(), [LONGEST, b"", FIRST], "0 at 8")?;
-    refuses(&rt, rt.alloc(), [slot.as_slice(), b"", FIRST], "0 at 41")
+    refuses(&rt, rt.alloc(), [b"", b"", FIRST], note_of(b'0'))?;
+    refuses(&rt, rt.alloc(), [CUT, b"", FIRST], note_of(b'1'))?;
+    refuses(&rt, rt.alloc(), [LONGEST, b"", FIRST], note_of(b'1'))?;
+    refuses(
+        &rt,
+        rt.alloc(),
+        [slot.as_slice(), b"", FIRST],
+        note_of(b'2'),
+    )
 }
 
 // Behind a request that is answered so, a folder of these parts has those.
@@ -314,7 +305,7 @@ fn goes_on(
     row: Row,
     after: [&[u8]; 3],
 ) -> Result<(), Fail> {
-    let mut desk = folder_desk(alloc, before)?;
+    let mut desk = desk_of(alloc, before, &[])?;
     answers(rt, alloc, &mut desk, 75, &[row])?;
     has_parts(rt, &desk, after);
     Ok(())

@@ -1,13 +1,13 @@
 //! Runs on a folder with each call of the desk failing in turn: what is said and noted, and to what the folder then opens.
 
-use crate::desks::{desk_of, images_of};
-use crate::folders::{ANN_KEPT, BOB_KEPT, folder_of, has_slot, parts_of, replay, slot_of};
+use crate::desks::desk_of;
+use crate::folders::{ANN_KEPT, BOB_KEPT, desk_with, has_slot, parts_of, replay, slot_of};
 use crate::frames::{ANN_MADE, BOB_MADE, Row, replies, reply_frame, requests};
 use ctrl_serve::Status;
 use std::alloc::{AllocError, Global};
 use std::process::Abort;
 use std::test::Fail;
-use ziti_desk::{Images, MemDesk};
+use ziti_desk::MemDesk;
 
 /// The records that are kept in turn.
 const KEPT: [&[u8]; 2] = [ANN_KEPT, BOB_KEPT];
@@ -69,24 +69,24 @@ fn counted(rt: &impl Abort, alloc: Global, said: &[u8]) -> Result<usize, Fail> {
     Ok(0)
 }
 
-// How many identities a folder keeps, by a steady desk.
-fn kept(rt: &impl Abort, alloc: Global, images: Images) -> Result<usize, Fail> {
-    let mut desk = desk_of(alloc, images, &[])?;
+// How many identities a folder of these parts keeps, by a steady desk.
+fn kept(rt: &impl Abort, alloc: Global, parts: [&[u8]; 3]) -> Result<usize, Fail> {
+    let mut desk = desk_of(alloc, parts, &[])?;
     let input = requests(alloc, &[(1502, "{}", "")])?;
     let status = replay(alloc, input.as_slice(), 4_096, &mut desk)?;
     assert_eq!(rt; status, Status::Done);
     counted(rt, alloc, desk.said())
 }
 
-// The folder of a desk as it reads.
-fn as_read(alloc: Global, desk: &MemDesk) -> Result<Images, AllocError> {
-    images_of(alloc, parts_of(desk))
-}
-
-// The folder of a desk as a stop leaves it behind all calls.
-fn as_stopped(alloc: Global, desk: &MemDesk, choice: u64) -> Result<Images, AllocError> {
+// How many identities the folder of a desk keeps that a stop leaves behind all calls.
+fn left(rt: &impl Abort, alloc: Global, desk: &MemDesk, choice: u64) -> Result<usize, Fail> {
     let (images, _) = desk.stopped(alloc, desk.moments(), choice)?;
-    Ok(images)
+    let (zero, one, mark) = (
+        images.zero.as_slice(),
+        images.one.as_slice(),
+        images.mark.as_slice(),
+    );
+    kept(rt, alloc, [zero, one, mark])
 }
 
 // As it reads and as a stop leaves it, the folder keeps what it may. Answers how many replies were said.
@@ -100,10 +100,10 @@ fn leaves(
     let (first, rows) = *trial;
     let answered = answered(rt, alloc, rows, desk.said())?;
     let known = first.saturating_add(answered);
-    let read = kept(rt, alloc, as_read(alloc, desk)?)?;
+    let read = kept(rt, alloc, parts_of(desk))?;
     assert!(rt; may_keep(status, known, read), "{status:?} {known} {read}");
     for choice in 0u64..8 {
-        let left = kept(rt, alloc, as_stopped(alloc, desk, choice)?)?;
+        let left = left(rt, alloc, desk, choice)?;
         assert!(rt;
             may_keep(status, known, left),
             "{status:?} {known} {left} {choice}"
@@ -123,8 +123,7 @@ fn has_record(rt: &impl Abort, alloc: Global, desk: &MemDesk, known: usize) -> R
 // Makes a trial in which one call fails, counted from 0 over all of them.
 fn fails_at(rt: &impl Abort, alloc: Global, trial: &Trial, call: u32) -> Result<Status, Fail> {
     let (first, rows) = *trial;
-    let folder = folder_of(alloc, KEPT.get(..first).unwrap_or(&KEPT))?;
-    let mut desk = desk_of(alloc, folder, &[call])?;
+    let mut desk = desk_with(alloc, KEPT.get(..first).unwrap_or(&KEPT), &[call])?;
     let input = requests(alloc, rows)?;
     let status = replay(alloc, input.as_slice(), 4_096, &mut desk)?;
     assert_eq!(rt; desk.noted(), note_at(status).as_bytes());

@@ -1,10 +1,10 @@
 //! Folders as bytes, and runs on them.
 
-use crate::desks::{images_of, steady_source};
+use crate::desks::{desk_of, source_of};
 use ctrl_serve::{Bounds, Status, run_within};
 use std::alloc::{AllocError, Global};
 use std::process::Abort;
-use ziti_desk::{Images, MemDesk, MemSource};
+use ziti_desk::{MemDesk, MemSource};
 use ziti_outside::Part;
 
 /// The header of a slot.
@@ -39,13 +39,15 @@ pub(crate) fn slot_of(alloc: Global, records: &[&[u8]]) -> Result<Vec<u8>, Alloc
     Ok(slot)
 }
 
-/// A folder whose first slot has these records and stands, or, with none, an empty one.
-pub(crate) fn folder_of(alloc: Global, records: &[&[u8]]) -> Result<Images, AllocError> {
-    if records.is_empty() {
-        return Ok(Images::empty(alloc));
-    }
+/// A desk whose first slot has these records, and which fails at these calls, counted from 0. With no records the mark is empty.
+pub(crate) fn desk_with(
+    alloc: Global,
+    records: &[&[u8]],
+    failing: &[u32],
+) -> Result<MemDesk, AllocError> {
+    let mark = if records.is_empty() { b"" } else { FIRST };
     let slot = slot_of(alloc, records)?;
-    images_of(alloc, [slot.as_slice(), b"", FIRST])
+    desk_of(alloc, [slot.as_slice(), b"", mark], failing)
 }
 
 /// Runs a word on a source and a desk. So many bytes of the input are used, and a slot may have so many.
@@ -74,7 +76,7 @@ pub(crate) fn replay(
     slot: u64,
     desk: &mut MemDesk,
 ) -> Result<Status, AllocError> {
-    let mut source = steady_source(alloc, input)?;
+    let mut source = source_of(alloc, [input, b""], &[])?;
     run_word(alloc, "replay", 1_048_576, slot, &mut source, desk)
 }
 

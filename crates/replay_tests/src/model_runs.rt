@@ -1,6 +1,6 @@
 //! A realistic network: 300 identities, 40 services, 12 routers with 30 links, 25 policies, 40 terminators and 200 circuits.
 
-use crate::desks::{empty_desk, steady_source};
+use crate::desks::{desk_of, source_of};
 use crate::folders::{replay, run_word};
 use crate::frames::{push_request, reply_frame, requests};
 use ctrl_serve::Status;
@@ -176,9 +176,12 @@ const REPLIES: [(u32, &str); 3] = [
     (659, COUNTS),
 ];
 
-/// The bytes and their digest by FNV-1a of the slot that keeps the model, as a program of its own laid it out from the layout of rows
-/// and the rules of routes alone: 659 records, and behind them 17,176 rows, of which 16,520 are grants.
-const SLOT: (usize, u64) = (341_595, 0x6abf_80aa_3724_1ebd);
+/// How many bytes the slot has that keeps the model.
+const SLOT_SIZE: usize = 341_595;
+
+/// Their digest by FNV-1a. Both were found by a program of its own, which laid the slot out from the layout of rows and the rules of
+/// routes alone: 659 records, and behind them 17,176 rows, of which 16,520 are grants.
+const SLOT_DIGEST: u64 = 0x6abf_80aa_3724_1ebd;
 
 // Whether the frame stands somewhere in the bytes.
 fn holds(bytes: &[u8], frame: &[u8]) -> bool {
@@ -204,20 +207,21 @@ fn ends_with(rt: &impl Abort, alloc: Global, said: &[u8], sequence: u32) -> Resu
 
 #[test]
 fn answers_a_realistic_network(rt: HostRuntime) -> Result<(), Fail> {
-    let mut source = steady_source(rt.alloc(), &model(rt.alloc())?)?;
-    let mut desk = empty_desk(rt.alloc())?;
+    let input = model(rt.alloc())?;
+    let mut source = source_of(rt.alloc(), [input.as_slice(), b""], &[])?;
+    let mut desk = desk_of(rt.alloc(), [b"", b"", b""], &[])?;
     let status = run_word(rt.alloc(), "dry", 1_048_576, 64, &mut source, &mut desk)?;
     assert_eq!(rt; status, Status::Done);
     has_replies(&rt, rt.alloc(), desk.said())
 }
 
-// The size of bytes, and their digest.
-fn digest(bytes: &[u8]) -> (usize, u64) {
+// The digest of bytes.
+fn digest(bytes: &[u8]) -> u64 {
     let mut state = 0xcbf2_9ce4_8422_2325u64;
     for byte in bytes {
         state = (state ^ u64::from(*byte)).wrapping_mul(0x0100_0000_01b3);
     }
-    (bytes.len(), state)
+    state
 }
 
 // Runs an input on the desk's folder, which then keeps the model.
@@ -229,7 +233,9 @@ fn keeps_model(
 ) -> Result<(), Fail> {
     let status = replay(alloc, input, 1_048_576, desk)?;
     assert_eq!(rt; status, Status::Done);
-    assert_eq!(rt; digest(desk.part(Part::Zero)), SLOT);
+    let slot = desk.part(Part::Zero);
+    assert_eq!(rt; slot.len(), SLOT_SIZE);
+    assert_eq!(rt; digest(slot), SLOT_DIGEST);
     assert_eq!(rt; desk.part(Part::Mark), b"\0".as_slice());
     Ok(())
 }
@@ -248,7 +254,7 @@ fn shows_model(rt: &impl Abort, alloc: Global, desk: &mut MemDesk) -> Result<(),
 #[test]
 fn keeps_a_realistic_network(rt: HostRuntime) -> Result<(), Fail> {
     let alloc = rt.alloc();
-    let mut desk = empty_desk(alloc)?;
+    let mut desk = desk_of(alloc, [b"", b"", b""], &[])?;
     let input = model(alloc)?;
     keeps_model(&rt, alloc, &mut desk, input.as_slice())?;
     has_replies(&rt, alloc, desk.said())?;

@@ -1,9 +1,9 @@
 //! Runs on a folder over memory: what they say, what they keep, and how they end.
 
-use crate::desks::{desk_of, empty_desk, failing_source, folder_desk};
+use crate::desks::{desk_of, source_of};
 use crate::folders::{
-    ANN_KEPT, BOB_KEPT, GRANT_KEPT, WEB_KEPT, folder_of, has_slot, has_told, parts_of, replay,
-    run_word, slot_of,
+    ANN_KEPT, BOB_KEPT, GRANT_KEPT, WEB_KEPT, desk_with, has_slot, has_told, replay, run_word,
+    slot_of,
 };
 use crate::frames::{ANN, ANN_MADE, BOB_MADE, DONE, MADE, Row, replies, requests};
 use ctrl_serve::Status;
@@ -126,26 +126,21 @@ pub(crate) fn answers(
     Ok(())
 }
 
-/// Nothing at all is asked of the desk's folder. Nothing is said, and it has its bytes as before.
-fn rests(rt: &impl Abort, alloc: Global, desk: &mut MemDesk, slot: &[u8]) -> Result<(), Fail> {
+// The folder keeps these records, and keeps them where nothing at all is asked of it, at which nothing is said.
+fn keeps(rt: &impl Abort, alloc: Global, desk: &mut MemDesk, kept: &[&[u8]]) -> Result<(), Fail> {
+    let slot = slot_of(alloc, kept)?;
+    has_slot(rt, desk, slot.as_slice());
     let said = desk.said().len();
     let status = replay(alloc, b"", 64, desk)?;
     assert_eq!(rt; status, Status::Done);
     assert_eq!(rt; desk.said().len(), said);
-    has_slot(rt, desk, slot);
-    Ok(())
-}
-
-/// The folder keeps these records, and keeps them while nothing is asked of it.
-fn keeps(rt: &impl Abort, alloc: Global, desk: &mut MemDesk, kept: &[&[u8]]) -> Result<(), Fail> {
-    let slot = slot_of(alloc, kept)?;
     has_slot(rt, desk, slot.as_slice());
-    rests(rt, alloc, desk, slot.as_slice())
+    Ok(())
 }
 
 fn check_keeping(rt: &impl Abort, alloc: Global, keeping: &Keeping) -> Result<(), Fail> {
     let (before, most, rows, after) = *keeping;
-    let mut desk = desk_of(alloc, folder_of(alloc, before)?, &[])?;
+    let mut desk = desk_with(alloc, before, &[])?;
     answers(rt, alloc, &mut desk, most, rows)?;
     keeps(rt, alloc, &mut desk, after)
 }
@@ -158,28 +153,10 @@ fn keeps_what_has_room(rt: HostRuntime) -> Result<(), Fail> {
     Ok(())
 }
 
-// Runs a request on the folder that a desk has, by another desk.
-fn run_behind(rt: &impl Abort, alloc: Global, desk: &MemDesk, row: Row) -> Result<MemDesk, Fail> {
-    let mut next = folder_desk(alloc, parts_of(desk))?;
-    answers(rt, alloc, &mut next, 75, &[row])?;
-    Ok(next)
-}
-
-#[test]
-fn goes_on_from_run_to_run(rt: HostRuntime) -> Result<(), Fail> {
-    let mut desk = empty_desk(rt.alloc())?;
-    for row in [ANN_MADE, BOB_MADE, ANN_EXISTS] {
-        desk = run_behind(&rt, rt.alloc(), &desk, row)?;
-    }
-    keeps(&rt, rt.alloc(), &mut desk, &[ANN_KEPT, BOB_KEPT])
-}
-
 // Runs ann's frame and what then comes on an empty folder.
 fn ends(rt: &impl Abort, alloc: Global, desk: &mut MemDesk, ending: &Ending) -> Result<(), Fail> {
     let (next, most, failing, status, noted) = *ending;
-    let mut input = Vec::from_slice(alloc, ANN)?;
-    input.extend_from_slice(next)?;
-    let mut source = failing_source(alloc, input.as_slice(), failing)?;
+    let mut source = source_of(alloc, [ANN, next], failing)?;
     let found = run_word(alloc, "replay", most, 64, &mut source, desk)?;
     assert_eq!(rt; found, status);
     has_told(rt, desk, MADE, noted);
@@ -187,7 +164,7 @@ fn ends(rt: &impl Abort, alloc: Global, desk: &mut MemDesk, ending: &Ending) -> 
 }
 
 fn check_ending(rt: &impl Abort, alloc: Global, ending: &Ending) -> Result<(), Fail> {
-    let mut desk = empty_desk(alloc)?;
+    let mut desk = desk_of(alloc, [b"", b"", b""], &[])?;
     ends(rt, alloc, &mut desk, ending)?;
     keeps(rt, alloc, &mut desk, &[ANN_KEPT])
 }
