@@ -223,12 +223,7 @@ fn push_head(
     push_number(bytes, u32::try_from(body.len()).unwrap_or(u32::MAX))
 }
 
-/// Puts the frame of a request behind the others.
-pub(crate) fn push_request(
-    bytes: &mut Vec<u8>,
-    content: u32,
-    body: &str,
-) -> Result<(), AllocError> {
+fn push_request(bytes: &mut Vec<u8>, content: u32, body: &str) -> Result<(), AllocError> {
     push_head(bytes, content, REQUEST, 0, body)?;
     bytes.extend_from_slice(body.as_bytes())
 }
@@ -248,13 +243,6 @@ fn push_reply(bytes: &mut Vec<u8>, sequence: u32, body: &str) -> Result<(), Allo
     bytes.extend_from_slice(b"\x02\0\0\0\x01\0\0\0")?;
     bytes.push(u8::from(!body.starts_with("{\"code\"")))?;
     bytes.extend_from_slice(body.as_bytes())
-}
-
-/// The frame of a reply, laid out by hand.
-pub(crate) fn reply_frame(alloc: Global, sequence: u32, body: &str) -> Result<Vec<u8>, AllocError> {
-    let mut bytes = Vec::new(alloc);
-    push_reply(&mut bytes, sequence, body)?;
-    Ok(bytes)
 }
 
 /// The replies as they are wanted, laid out by hand: with the request's number, and whether it is no refusal.

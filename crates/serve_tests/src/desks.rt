@@ -1,4 +1,4 @@
-//! Sources and desks over memory for runs without a folder and on one.
+//! Sources and desks over memory for runs without a folder.
 
 use std::alloc::{AllocError, Global};
 use ziti_desk::{Images, MemDesk, MemSource, Room};
@@ -15,18 +15,6 @@ const ROOM: Room = Room {
 pub fn failing_desk(alloc: Global, failing: &[u32]) -> Result<MemDesk, AllocError> {
     let failing = Vec::from_slice(alloc, failing)?;
     MemDesk::new(alloc, Images::empty(alloc), ROOM, failing)
-}
-
-/// A desk that does not fail, with a folder whose first slot and mark have these bytes.
-pub fn folder_desk(alloc: Global, slot: &[u8], mark: &[u8]) -> Result<MemDesk, AllocError> {
-    let mut images = Images::empty(alloc);
-    images.zero.extend_from_slice(slot)?;
-    images.mark.extend_from_slice(mark)?;
-    let room = Room {
-        file_bytes: 4_096,
-        ..ROOM
-    };
-    MemDesk::new(alloc, images, room, Vec::new(alloc))
 }
 
 /// A desk that does not fail.

@@ -10,8 +10,4 @@ mod command_rows;
 #[cfg(test)]
 mod desks;
 #[cfg(test)]
-mod model_rows;
-#[cfg(test)]
-mod replays;
-#[cfg(test)]
 mod runs;

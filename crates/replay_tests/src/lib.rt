@@ -1,0 +1,18 @@
+//! Tests of runs on a folder: what is kept from run to run, where folders are damaged, what failing calls leave, and a realistic
+//! network.
+#![tactic(auto)]
+
+#[cfg(test)]
+mod damaged_folders;
+#[cfg(test)]
+mod desks;
+#[cfg(test)]
+mod failing_disks;
+#[cfg(test)]
+mod folders;
+#[cfg(test)]
+mod frames;
+#[cfg(test)]
+mod model_runs;
+#[cfg(test)]
+mod replays;
