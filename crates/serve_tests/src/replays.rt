@@ -10,11 +10,11 @@ use ziti_desk::MemDesk;
 use ziti_outside::Part;
 
 /// The first slot behind ann's frame: its header, the record of two rows behind an open gate, and a closed gate.
-const SLOT: &[u8] = b"\x5a\x43\x54\x4c\x01\0\0\0\x01\x1c\0\0\0\x01\x02\x01\x01\x04\0\0\0\x02\0\0\0\x01\x05\x03\0\0\0\x01\x05\0\0\0\x03ann\0\0";
+const SLOT: &[u8] =
+    b"\x5a\x43\x54\x4c\x01\0\0\0\x01\x1c\0\0\0\x01\x02\x01\x01\x04\0\0\0\x02\0\0\0\x01\x05\x03\0\0\0\x01\x05\0\0\0\x03ann\0\0";
 
 /// A frame that creates bob: content type 1000, sequence 8, no headers.
-const BOB: &[u8] =
-    b"\x03\x06\x09\x0c\xe8\x03\0\0\x08\0\0\0\0\0\0\0\x0e\0\0\0{\"name\":\"bob\"}";
+const BOB: &[u8] = b"\x03\x06\x09\x0c\xe8\x03\0\0\x08\0\0\0\0\0\0\0\x0e\0\0\0{\"name\":\"bob\"}";
 
 /// Its reply as the first one: the journal has no room.
 const FULL: &[u8] =
