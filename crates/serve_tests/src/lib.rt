@@ -10,6 +10,8 @@ mod command_rows;
 #[cfg(test)]
 mod desks;
 #[cfg(test)]
+mod loads;
+#[cfg(test)]
 mod model_rows;
 #[cfg(test)]
 mod replays;
