@@ -79,12 +79,12 @@ was_read most bytes taken (Some rest) gave stop whole =
     record { none_left = ap Some stop; few = omega (arith, few, ap length same); used = take_all most taken few ∙ sym same }
 
 -- A desk that told what it had taken tells what it took.
-told_took : (before said : List ℕ) (after : Option (List ℕ)) → Took (Some before) after said → after ≡ Some (before ++ said)
+pub told_took : (before said : List ℕ) (after : Option (List ℕ)) → Took (Some before) after said → after ≡ Some (before ++ said)
 told_took before said None took = absurd took
 told_took before said (Some bytes) took = ap Some took
 
 -- Nothing is the only front of nothing.
-nothing_is_front : (a b : Option (List ℕ)) (part : List ℕ) → IsFront part [] → Took a b part → Took a b []
+pub nothing_is_front : (a b : Option (List ℕ)) (part : List ℕ) → IsFront part [] → Took a b part → Took a b []
 nothing_is_front a b [] front took = took
 nothing_is_front a b (x ∷ part) front took = absurd (let e = front.1 in cc)
 

@@ -1,3 +1,4 @@
+pub mod NumberWords
 pub mod RouteFits
 pub mod CarriedFits
 pub mod ReadCommandLaws
@@ -10,5 +11,6 @@ pub mod NoteLaws
 pub mod EndingLaws
 pub mod RunLaws
 pub mod IntakeLaws
+pub mod LoadRuns
 pub mod OpenedMachines
 pub mod ReplayLaws

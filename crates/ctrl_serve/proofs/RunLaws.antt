@@ -1,7 +1,8 @@
 -- How what the parts of a run promise makes up what the run promises.
-use Rattle.std.specs.Prelude.{Bool}
+use Rattle.std.specs.Prelude.{Bool, true}
 use Rattle.std.proofs.Common.{◌≡◌, ℕ, ◌⊎◌, inl, inr, List, length, take, None, Some, refl, ap, ◌∙◌, subst, arith}
 use Rattle.std.proofs.Math.Dec.{ltb}
+use Rattle.std.proofs.lemmas.Bool.{false≢true}
 use Rattle.std.specs.declared.option.Option.{Option}
 use Rattle.std.specs.Io.KnownBytes.{IsAtEnd}
 use Rattle.ziti_outside.specs.Images.{Image}
@@ -10,15 +11,17 @@ use Rattle.ziti_outside.specs.Untouched.{OnlySays, OnlyNotes}
 use Rattle.ctrl_model.specs.State.{start}
 use Rattle.ctrl_keep.specs.KeptMachine.{Machine}
 use Rattle.ctrl_serve.specs.declared.command_line.Form.{Form}
-use Rattle.ctrl_serve.specs.declared.command_line.Form.TheVariants.{Dry, Replay}
+use Rattle.ctrl_serve.specs.declared.command_line.Form.TheVariants.{Dry, Load, Replay}
 use Rattle.ctrl_serve.specs.declared.status.Status.{Status}
 use Rattle.ctrl_serve.specs.declared.status.Status.TheVariants.{Done, Usage, BadInput, Truncated, ReadFault, WriteFault, DiskFault, Damaged, NoMemory, InputTooLong, FolderFull}
+use Rattle.ctrl_serve.specs.CommandLine.{reads_input}
 use Rattle.ctrl_serve.specs.Ending.{tail_of}
 use Rattle.ctrl_serve.specs.Failures.{RisesOnce}
 use Rattle.ctrl_serve.specs.FrameAnswer.{alone}
-use Rattle.ctrl_serve.specs.Headline.{NotesLines, OnlySaysAndNotes, Serves, IsComplete, StaysClosed, Refuses, Replays, Runs}
+use Rattle.ctrl_serve.specs.Headline.{NotesLines, OnlySaysAndNotes, SaysOneLine, Serves, IsComplete, IsSaid, StaysClosed, Refuses, Replays, Runs}
+use Rattle.ctrl_serve.specs.Loads.{counts_line, state_of_load}
 use Rattle.ctrl_serve.specs.Notes.{usage_note}
-use Rattle.ctrl_serve.specs.Runs.{CountsFaults}
+use Rattle.ctrl_serve.specs.Runs.{CountsFaults, IsWriteCaused}
 use Rattle.ctrl_serve.proofs.EndingLaws.{done_tail, at_end}
 use Rattle.ctrl_serve.proofs.FailureLaws.{takes_none}
 
@@ -98,8 +101,12 @@ dry_runs {S} {D} {left} {faults} {said} {noted} {say_faults} {note_faults} tells
   dry = λ _. serves;
   dry_says_and_notes_alone = λ _. others;
   complete = λ _ read say. serves_completely status _ _ most _ _ _ _ _ _ _ _ serves (λ r. read (counts.read_fault r)) (λ w. say (counts.write.rose w)) calm;
-  read_to_the_end = λ done. serves_to_end status _ _ most _ _ _ _ _ _ _ _ serves done;
+  read_to_the_end = λ asked e reads done. serves_to_end status _ _ most _ _ _ _ _ _ _ _ serves done;
   replay = λ e. cc;
+  load = λ number e. cc;
+  load_takes_nothing = λ number e. cc;
+  load_says_and_notes_alone = λ number e. cc;
+  load_complete = λ number e. cc;
 }
 
 -- Where a folder was not opened the run ends with none of these.
@@ -155,8 +162,12 @@ replay_runs {S} {D} {left} {faults} {said} {noted} {say_faults} {note_faults} {r
       dry = λ e. cc;
       dry_says_and_notes_alone = λ e. cc;
       complete = λ e. cc;
-      read_to_the_end = at.1;
+      read_to_the_end = λ asked e reads. at.1;
       replay = λ _. replays;
+      load = λ number e. cc;
+      load_takes_nothing = λ number e. cc;
+      load_says_and_notes_alone = λ number e. cc;
+      load_complete = λ number e. cc;
     }
 
 -- A run that only wrote the usage note, where the words are no line of the table.
@@ -183,6 +194,85 @@ usage_runs tells slot most form source desk desk_now is others note counted = re
   dry = λ e. cc;
   dry_says_and_notes_alone = λ e. cc;
   complete = λ e. cc;
-  read_to_the_end = λ e. cc;
+  read_to_the_end = λ asked e reads done. cc;
   replay = λ e. cc;
+  load = λ number e. cc;
+  load_takes_nothing = λ number e. refl;
+  load_says_and_notes_alone = λ number e. cc;
+  load_complete = λ number e. cc;
 }
+
+-- ---- a run of a generated load
+
+-- It ends with none of these.
+line_statuses : (status : Status) (line : List ℕ) (a b c d : Option (List ℕ)) (x y : ℕ) → SaysOneLine line a b c d x y status
+    → (status ≡ Usage → ⊥) × (status ≡ ReadFault → ⊥) × (status ≡ DiskFault → ⊥)
+line_statuses Done line a b c d x y s = (λ e. cc, λ e. cc, λ e. cc)
+line_statuses Usage line a b c d x y s = absurd s.says
+line_statuses BadInput line a b c d x y s = absurd s.says
+line_statuses Truncated line a b c d x y s = absurd s.says
+line_statuses ReadFault line a b c d x y s = absurd s.says
+line_statuses WriteFault line a b c d x y s = (λ e. cc, λ e. cc, λ e. cc)
+line_statuses DiskFault line a b c d x y s = absurd s.says
+line_statuses Damaged line a b c d x y s = absurd s.says
+line_statuses NoMemory line a b c d x y s = (λ e. cc, λ e. cc, λ e. cc)
+line_statuses InputTooLong line a b c d x y s = absurd s.says
+line_statuses FolderFull line a b c d x y s = absurd s.says
+
+-- Where no say failed the line was said, unless memory was wanting.
+line_said : (status : Status) (line : List ℕ) (a b c d : Option (List ℕ)) (x y : ℕ) → SaysOneLine line a b c d x y status → (status ≡ WriteFault → ⊥) → IsSaid line a b status
+line_said Done line a b c d x y s write = inr (refl, subst (λ (l : List ℕ). Took a b l) s.says s.took)
+line_said Usage line a b c d x y s write = absurd s.says
+line_said BadInput line a b c d x y s write = absurd s.says
+line_said Truncated line a b c d x y s write = absurd s.says
+line_said ReadFault line a b c d x y s write = absurd s.says
+line_said WriteFault line a b c d x y s write = absurd (write refl)
+line_said DiskFault line a b c d x y s write = absurd s.says
+line_said Damaged line a b c d x y s write = absurd s.says
+line_said NoMemory line a b c d x y s write = inl refl
+line_said InputTooLong line a b c d x y s write = absurd s.says
+line_said FolderFull line a b c d x y s write = absurd s.says
+
+-- A load is no word that reads input, and is the load of one number.
+load_reads_nothing : (form : Option Form) (number : ℕ) (asked : Form) → form ≡ Some (Load number) → form ≡ Some asked → reads_input asked ≡ true → ⊥
+load_reads_nothing form number Dry is e reads = cc
+load_reads_nothing form number Replay is e reads = cc
+load_reads_nothing form number (Load other) is e reads = false≢true reads
+
+one_load : (form : Option Form) (m n : ℕ) → form ≡ Some (Load m) → form ≡ Some (Load n) → m ≡ n
+one_load form m n is e = cc
+
+pub load_runs : {S D : Type 0} {left : S → Option (List ℕ)} {faults : S → ℕ} {said noted : D → Option (List ℕ)} {say_faults note_faults : D → ℕ} {reads : D → Image} {may_leave : D → Image → Type 0} {disk_faults : D → ℕ}
+    (tells : Bool) (slot most : ℕ) (form : Option Form) (number : ℕ) (source : S) (desk desk_now : D) (status : Status) → form ≡ Some (Load number)
+    → SaysOneLine (counts_line (state_of_load number)) (said desk) (said desk_now) (noted desk) (noted desk_now) (note_faults desk) (note_faults desk_now) status
+    → IsWriteCaused (say_faults desk) (say_faults desk_now) status → RisesOnce (note_faults desk) (note_faults desk_now) → OnlySaysAndNotes reads may_leave disk_faults desk desk_now
+    → Runs left faults said noted say_faults note_faults reads may_leave disk_faults tells slot most form source source desk desk_now status
+load_runs {said = said} {noted = noted} {note_faults = note_faults} tells slot most form number source desk desk_now status is says write counted others =
+    let not = line_statuses status _ _ _ _ _ _ _ says in
+    let same : (other : ℕ) → form ≡ Some (Load other) → number ≡ other = λ other e. one_load form number other is e in
+    record {
+      usage = (λ u. absurd (not.0 u), λ n. cc);
+      usage_takes_nothing = λ n. cc;
+      usage_notes_alone = λ n. cc;
+      usage_note = λ n. cc;
+      read_fault = λ r. absurd (not.1 r);
+      write_fault = write.rose;
+      failed_take = λ _. refl;
+      failed_say = write.calm;
+      read_faults_once = record { later = omega arith; once = omega arith };
+      say_faults_once = write.counted;
+      disk_fault = λ d. absurd (not.2 d);
+      failed_disk = λ _. others.failed_calls;
+      disk_faults_once = record { later = omega (arith, others.failed_calls); once = omega (arith, others.failed_calls) };
+      note_faults_once = counted;
+      takes_until_failure = takes_none source;
+      dry = λ e. cc;
+      dry_says_and_notes_alone = λ e. cc;
+      complete = λ e. cc;
+      read_to_the_end = λ asked e reads. absurd (load_reads_nothing form number asked is e reads);
+      replay = λ e. cc;
+      load = λ other e. subst (λ (n : ℕ). SaysOneLine (counts_line (state_of_load n)) (said desk) (said desk_now) (noted desk) (noted desk_now) (note_faults desk) (note_faults desk_now) status) (same other e) says;
+      load_takes_nothing = λ other e. refl;
+      load_says_and_notes_alone = λ other e. others;
+      load_complete = λ other e calm. subst (λ (n : ℕ). IsSaid (counts_line (state_of_load n)) (said desk) (said desk_now) status) (same other e) (line_said status _ _ _ _ _ _ _ says (λ w. calm (write.rose w)));
+    }

@@ -1,18 +1,41 @@
 -- The words of the command line, and what they run (docs/FORMATS.md, "Words").
-use Rattle.std.specs.Prelude.{ℕ, List, [], ◌∷◌, codes, map, if◌then◌else◌, None, Some}
+use Rattle.std.specs.Prelude.{ℕ, ◌^◌, ◌&&◌, ◌||◌, ◌==◌, nat_lt, Bool, true, false, List, [], ◌∷◌, codes, decimal, map, if◌then◌else◌, None, Some}
 use Rattle.std.specs.declared.option.Option.{Option}
+use Rattle.std.specs.Option.{option_map}
 use Rattle.std.specs.Str.{bytes_eq}
+use Rattle.std.specs.Str.Parse.{digits_value}
 use Rattle.std.specs.String.{string_bytes}
 use Rattle.std.specs.declared.string.String.{String}
 use Rattle.ctrl_serve.specs.declared.command_line.Form.{Form}
-use Rattle.ctrl_serve.specs.declared.command_line.Form.TheVariants.{Dry, Replay}
+use Rattle.ctrl_serve.specs.declared.command_line.Form.TheVariants.{Dry, Load, Replay}
 
 -- The bytes of each word.
 abbrev pub texts : {A : Type 0} → List (String A) → List (List ℕ)
 texts words = map string_bytes words
 
+-- A word is the decimal text of a number below 2^32.
+abbrev pub is_text_of : List ℕ → ℕ → Bool
+is_text_of word number = bytes_eq word (decimal number) && nat_lt number (2 ^ 32)
+
+-- The number whose decimal text a word is, if it is below 2^32: no sign stands before its digits, and no zero before another digit.
+abbrev pub number_of_word : List ℕ → Option ℕ
+number_of_word word = if is_text_of word (digits_value 10 word) then Some (digits_value 10 word) else None
+
+-- A text begins with a plus, or with a zero before another byte. Private contracts alone cite it.
+abbrev pub is_padded : List ℕ → Bool
+is_padded [] = false
+is_padded (first ∷ []) = first == 43
+is_padded (first ∷ second ∷ rest) = first == 43 || first == 48
+
 -- What the words run, if they are a line of the table of words.
 abbrev pub form_of : List (List ℕ) → Option Form
 form_of [] = None
 form_of (word ∷ []) = if bytes_eq word (codes "dry") then Some Dry else if bytes_eq word (codes "replay") then Some Replay else None
-form_of (word ∷ next ∷ words) = None
+form_of (word ∷ next ∷ []) = if bytes_eq word (codes "load") then option_map Load (number_of_word next) else None
+form_of (word ∷ next ∷ another ∷ words) = None
+
+-- Whether what is asked for reads the input.
+abbrev pub reads_input : Form → Bool
+reads_input Dry = true
+reads_input Replay = true
+reads_input (Load number) = false

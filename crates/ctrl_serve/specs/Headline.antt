@@ -1,4 +1,4 @@
--- What a run promises, so far for the words `dry` and `replay` (docs/PROMISES.md, "The headline").
+-- What a run promises, so far for the words `dry`, `replay` and `load N` (docs/PROMISES.md, "The headline").
 use Rattle.std.specs.Prelude.{◌≡◌, ◌↔◌, ℕ, ◌+◌, ◌<◌, ◌≤◌, ◌^◌, ◌⊎◌, nat_lt, Bool, true, false, IsTrue, None, Some, is_some, List, [], length, take}
 use Rattle.std.specs.declared.option.Option.{Option}
 use Rattle.std.specs.Io.KnownBytes.{IsAtEnd}
@@ -15,12 +15,14 @@ use Rattle.ctrl_keep.specs.KeptMachine.{Machine}
 use Rattle.ctrl_serve.specs.OpenedFolders.{Keeps, OpensTo}
 use Rattle.ctrl_serve.specs.declared.bounds.Bounds.{Bounds}
 use Rattle.ctrl_serve.specs.declared.command_line.Form.{Form}
-use Rattle.ctrl_serve.specs.declared.command_line.Form.TheVariants.{Dry, Replay}
+use Rattle.ctrl_serve.specs.declared.command_line.Form.TheVariants.{Dry, Load, Replay}
 use Rattle.ctrl_serve.specs.declared.status.Status.{Status}
 use Rattle.ctrl_serve.specs.declared.status.Status.TheVariants.{Done, Usage, ReadFault, WriteFault, DiskFault, Damaged, NoMemory}
+use Rattle.ctrl_serve.specs.CommandLine.{reads_input}
 use Rattle.ctrl_serve.specs.Failures.{RisesOnce, TakesUntilFailure}
 use Rattle.ctrl_serve.specs.FrameAnswer.{each_reply, replies, last_machine, alone}
 use Rattle.ctrl_serve.specs.Ending.{tail_of, ending, is_cut, is_kept, Says}
+use Rattle.ctrl_serve.specs.Loads.{counts_line, state_of_load, SaysLine}
 use Rattle.ctrl_serve.specs.Notes.{usage_note, damaged_note, status_lines, notes_of}
 
 -- The bounds that a run takes.
@@ -101,6 +103,18 @@ pub record Replays (slot most : ℕ) (left_before left_now said_before said_now 
   pub keeps : is_kept status ≡ true → IsTrue tells → Keeps reads_now (last_machine slot machine (take most serves.taken))
   pub found : is_kept status ≡ true → IsTrue tells → (image : Image) → may_leave_now image → OpensToState image (last_machine slot machine (take most serves.taken)).state
 
+-- A run that says one line, at its end: the line was said, but a front of it where it was not taken, and nothing where memory was
+-- wanting. What was noted are the lines of the status.
+pub record SaysOneLine (line : List ℕ) (said_before said_now noted_before noted_now : Option (List ℕ)) (note_faults_before note_faults_now : ℕ) (status : Status) : Type 0 where
+  pub said : List ℕ
+  pub took : Took said_before said_now said
+  pub says : SaysLine status said line
+  pub notes : NotesLines (status_lines [] status) noted_before noted_now note_faults_before note_faults_now
+
+-- Such a run is done with its line said, unless memory was wanting.
+abbrev pub IsSaid : List ℕ → Option (List ℕ) → Option (List ℕ) → Status → Type 0
+IsSaid line said_before said_now status = (status ≡ NoMemory) ⊎ ((status ≡ Done) × Took said_before said_now line)
+
 -- A run that was asked for a line of the table of words, or for none of its lines.
 --
 -- Usage comes exactly where the words are no line. Then nothing is taken, the usage note is written, and the desk is left alone
@@ -110,10 +124,13 @@ pub record Replays (slot most : ℕ) (left_before left_now said_before said_now 
 -- say ends the run with WriteFault, and a failed call on the disk with DiskFault. No count falls, or rises by more than one.
 --
 -- Under `dry` the replies are the controller's, the status is the one that the input decides, and the notes tell both; the folder
--- stays. Done comes once the input was read to its end.
+-- stays. Where the words read input, Done comes once it was read to its end.
 --
 -- Under `replay` the folder is opened first. Where it opens to a machine, the replies are that machine's, and at the end the folder keeps
 -- the machine behind all frames; where it opens to none, nothing is taken and said, and the folder stays.
+--
+-- Under `load N` nothing is taken, and the folder stays. What is said is the counts line of the state behind the generated frames of
+-- the number.
 pub record Runs {S D : Type 0} (left : S → Option (List ℕ)) (faults : S → ℕ) (said noted : D → Option (List ℕ)) (say_faults note_faults : D → ℕ) (reads : D → Image) (may_leave : D → Image → Type 0) (disk_faults : D → ℕ) (tells : Bool) (slot most : ℕ) (form : Option Form) (source source_now : S) (desk desk_now : D) (status : Status) : Type 0 where
   pub usage : (status ≡ Usage) ↔ (form ≡ None)
   pub usage_takes_nothing : form ≡ None → source_now ≡ source
@@ -134,7 +151,11 @@ pub record Runs {S D : Type 0} (left : S → Option (List ℕ)) (faults : S → 
   pub dry_says_and_notes_alone : form ≡ Some Dry → OnlySaysAndNotes reads may_leave disk_faults desk desk_now
   pub complete : form ≡ Some Dry → (Rose (faults source) (faults source_now) → ⊥) → (Rose (say_faults desk) (say_faults desk_now) → ⊥)
       → IsComplete 0 (alone start) most (left source) (left source_now) (said desk) (said desk_now) status
-  pub read_to_the_end : status ≡ Done → IsAtEnd (left source_now)
+  pub read_to_the_end : (asked : Form) → form ≡ Some asked → reads_input asked ≡ true → status ≡ Done → IsAtEnd (left source_now)
   pub replay : form ≡ Some Replay
       → Refuses said noted note_faults tells reads source source_now desk desk_now status
       ⊎ Replays slot most (left source) (left source_now) (said desk) (said desk_now) (noted desk) (noted desk_now) (note_faults desk) (note_faults desk_now) tells (reads desk) (reads desk_now) (may_leave desk_now) status
+  pub load : (number : ℕ) → form ≡ Some (Load number) → SaysOneLine (counts_line (state_of_load number)) (said desk) (said desk_now) (noted desk) (noted desk_now) (note_faults desk) (note_faults desk_now) status
+  pub load_takes_nothing : (number : ℕ) → form ≡ Some (Load number) → source_now ≡ source
+  pub load_says_and_notes_alone : (number : ℕ) → form ≡ Some (Load number) → OnlySaysAndNotes reads may_leave disk_faults desk desk_now
+  pub load_complete : (number : ℕ) → form ≡ Some (Load number) → (Rose (say_faults desk) (say_faults desk_now) → ⊥) → IsSaid (counts_line (state_of_load number)) (said desk) (said desk_now) status

@@ -8,6 +8,7 @@ pub mod WorkedAnswers
 pub mod Ending
 pub mod OpenedFolders
 pub mod Notes
+pub mod Loads
 pub mod Headline
 pub mod Controllers
 pub mod ControllerViews

@@ -1,5 +1,5 @@
 ghost use Rattle.std.specs.Prelude.{◌≡◌};
-ghost use Rattle.ctrl_serve.specs.CommandLine.{form_of, texts};
+ghost use Rattle.ctrl_serve.specs.CommandLine.{form_of, is_padded, number_of_word, texts};
 
 /// What a line of words runs.
 #[derive(Clone, Copy, Debug, PartialEq, Eq)]
@@ -8,15 +8,40 @@ pub enum Form {
     Dry,
     /// Plain input, on the folder.
     Replay,
+    /// The generated load of this number, without a folder.
+    Load(u32),
 }
 
-/// What the words run, if they are a line of the table of words: so far `dry` and `replay`.
+// Whether a text begins with a plus, or with a zero before another byte.
+fn is_padded(text: &[u8]) -> bool
+    ensures { result ≡ is_padded text.now }
+{
+    matches!(text, [b'+', ..] | [b'0', _, ..])
+}
+
+// The number whose decimal text the word is, if it is below 2^32.
+fn number_of_word(word: &str) -> Option<u32>
+    ensures { result ≡ number_of_word word.now }
+{
+    if is_padded(word.as_bytes()) {
+        return None;
+    }
+    word.parse::<u32>().ok()
+}
+
+/// What the words run, if they are a line of the table of words: so far `dry`, `replay` and `load N`.
 pub fn form_of(words: &[String]) -> Option<Form>
     ensures { result ≡ form_of (texts words.now) }
 {
     match words {
         [word] if word.as_bytes() == b"dry".as_slice() => Some(Form::Dry),
         [word] if word.as_bytes() == b"replay".as_slice() => Some(Form::Replay),
+        [word, number] if word.as_bytes() == b"load".as_slice() => {
+            match number_of_word(number.as_str()) {
+                Some(number) => Some(Form::Load(number)),
+                None => None,
+            }
+        }
         _ => None,
     }
 }

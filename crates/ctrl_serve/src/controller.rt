@@ -29,8 +29,8 @@ pub enum Controller {
     Kept(Kept),
 }
 
-// Carries a command out without a folder.
-fn carry_alone(core: &mut Core, command: &Command) -> Result<Reply, AllocError>
+/// Carries a command out as an administrator's, without a folder.
+pub(crate) fn carry_alone(core: &mut Core, command: &Command) -> Result<Reply, AllocError>
     requires live { core.old.live ≡ true }
     requires spelled { is_spelled command.now ≡ true }
     requires carried { is_carried command.now ≡ true }

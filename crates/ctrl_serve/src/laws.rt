@@ -1,4 +1,4 @@
-ghost use Rattle.std.specs.Prelude.{◌≡◌, ℕ, ◌≢◌, ◌≤◌, List, [], ◌++◌, codes, decimal, length, None, Some};
+ghost use Rattle.std.specs.Prelude.{◌≡◌, ℕ, ◌≢◌, ◌<◌, ◌≤◌, ◌^◌, List, [], ◌++◌, codes, decimal, length, None, Some};
 ghost use Rattle.std.specs.declared.option.Option.{Option};
 ghost use Rattle.channel_frame.specs.declared.frames.Frame.{Frame};
 ghost use Rattle.channel_frame.specs.StreamReading.{Reads, fault_of, rest_of};
@@ -10,7 +10,8 @@ ghost use Rattle.ziti_outside.specs.Causes.{Rose};
 ghost use Rattle.ctrl_serve.specs.FrameAnswer.{answers, replies};
 ghost use Rattle.ctrl_serve.specs.SaidReplies.{joined, AreWhole, AreCut};
 ghost use Rattle.ctrl_serve.specs.Notes.{session_note};
-ghost use Rattle.ctrl_serve.specs.Headline.{Serves};
+ghost use Rattle.ctrl_serve.specs.Headline.{SaysOneLine, Serves};
+ghost use Rattle.ctrl_serve.specs.CommandLine.{number_of_word};
 
 /// What `Done` says of a told input, in plain words: it was read to its end and is no longer than the bound, it leaves no
 /// tail, and exactly the machine's replies were said. Where it is the spellings of some frames, these are the replies to
@@ -47,4 +48,20 @@ pub fn truncated_says_all()
 pub fn cut_runs_say_fronts()
     ensures whole { (said : List ℕ) (all : List (List ℕ)) → AreWhole said all → IsFront said (joined all) }
     ensures cut { (said : List ℕ) (all : List (List ℕ)) → AreCut said all → IsFront said (joined all) }
+{}
+
+/// What `Done` says of a run that says one line to a told desk, as of a generated load: exactly the line was said, and nothing was
+/// noted.
+pub fn done_says_the_line()
+    ensures said { (line before : List ℕ) (after noted_before noted_after : Option (List ℕ)) (faults faults_now : ℕ)
+        → SaysOneLine line (Some before) after noted_before noted_after faults faults_now Done → after ≡ Some (before ++ line) }
+    ensures noted { (line before : List ℕ) (after noted_before noted_after : Option (List ℕ)) (faults faults_now : ℕ)
+        → SaysOneLine line (Some before) after noted_before noted_after faults faults_now Done → Took noted_before noted_after [] }
+{}
+
+/// The words that have a number are the decimal texts of the numbers below 2^32, each of its own.
+pub fn numbers_have_one_word()
+    ensures text { (word : List ℕ) (number : ℕ) → number_of_word word ≡ Some number → word ≡ decimal number }
+    ensures below { (word : List ℕ) (number : ℕ) → number_of_word word ≡ Some number → number < 2 ^ 32 }
+    ensures number { (number : ℕ) → number < 2 ^ 32 → number_of_word (decimal number) ≡ Some number }
 {}

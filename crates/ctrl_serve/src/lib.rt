@@ -6,6 +6,7 @@ mod command_line;
 mod controller;
 mod intake;
 mod laws;
+mod loads;
 mod notes;
 mod serving;
 mod status;
@@ -15,11 +16,14 @@ mod worked;
 
 pub use bounds::Bounds;
 pub use command_line::Form;
-pub use laws::{cut_runs_say_fronts, done_says_all, truncated_says_all};
+pub use laws::{
+    cut_runs_say_fronts, done_says_all, done_says_the_line, numbers_have_one_word,
+    truncated_says_all,
+};
 pub use status::Status;
 pub use tails::Tail;
 pub use top::{run, run_within};
 pub use worked::{
-    worked_answers, worked_circuits, worked_endings, worked_networks, worked_notes,
-    worked_policies, worked_runs, worked_words,
+    worked_answers, worked_circuits, worked_counts, worked_endings, worked_networks, worked_notes,
+    worked_numbers, worked_policies, worked_runs, worked_words,
 };

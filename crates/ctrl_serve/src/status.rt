@@ -4,7 +4,7 @@ ghost use Rattle.ctrl_serve.specs.Statuses.{number_of};
 /// How a run ended (docs/FORMATS.md, "Statuses").
 #[derive(Clone, Copy, Debug, PartialEq, Eq)]
 pub enum Status {
-    /// The input was read to its end and every frame answered.
+    /// All was done: an input was read to its end and every frame answered.
     Done,
     /// The words are not in the table of words.
     Usage,
@@ -14,7 +14,7 @@ pub enum Status {
     Truncated,
     /// The source failed.
     ReadFault,
-    /// The desk failed to take a reply.
+    /// The desk failed to take a reply or a line.
     WriteFault,
     /// The folder's disk failed.
     DiskFault,

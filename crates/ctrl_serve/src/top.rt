@@ -11,6 +11,7 @@ use crate::bounds::Bounds;
 use crate::command_line::{Form, form_of};
 use crate::controller::Controller;
 use crate::intake::{Intake, take_all};
+use crate::loads::run_load;
 use crate::notes::{note_lines, status_line, tell_cut, tell_damage, tell_ending};
 use crate::serving::{Cut, serve_frames};
 use crate::status::Status;
@@ -127,9 +128,11 @@ fn run_replay<S: Source, D: Desk>(
 
 /// Runs the controller on the words after the program's name, within bounds.
 ///
-/// So far the lines of words are `dry` and `replay`: the whole input is taken, up to `bounds.input` bytes, its whole frames are answered
-/// in order, and their replies are said; under `replay` the folder is opened before, and keeps each change before its reply is said. Want of memory may end the run early, with the status `NoMemory`; it is the one
-/// answer without a cause in the contract. docs/PROMISES.md tells what each part of the clause promises.
+/// So far the lines of words are `dry`, `replay` and `load N`. Under the first two the whole input is taken, up to `bounds.input` bytes,
+/// its whole frames are answered in order, and their replies are said; under `replay` the folder is opened before, and keeps each change
+/// before its reply is said. `load N` takes nothing: the generated frames of the number are answered without a folder, and the counts
+/// line is said. Want of memory may end the run early, with the status `NoMemory`; it is the one answer without a cause in the contract.
+/// docs/PROMISES.md tells what each part of the clause promises.
 pub fn run_within<S: Source, D: Desk>(
     alloc: Global,
     words: &Vec<String>,
@@ -144,6 +147,7 @@ pub fn run_within<S: Source, D: Desk>(
     match form_of(words.as_slice()) {
         Some(Form::Dry) => run_dry(alloc, bounds.input, source, desk),
         Some(Form::Replay) => run_replay(alloc, bounds, source, desk),
+        Some(Form::Load(number)) => run_load(alloc, number, desk),
         None => {
             note_lines(status_line(Status::Usage), desk);
             Status::Usage

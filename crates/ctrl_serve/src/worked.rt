@@ -7,11 +7,12 @@ ghost use Rattle.ctrl_model.specs.declared.refusals.Reason.TheVariants as reason
 ghost use Rattle.ctrl_model.specs.declared.refusals.Refusal.TheVariants as refusal;
 ghost use Rattle.ctrl_model.specs.declared.replies.Reply.TheVariants as reply;
 ghost use Rattle.ctrl_model.specs.State.{start};
-ghost use Rattle.ctrl_serve.specs.CommandLine.{form_of};
-ghost use Rattle.ctrl_serve.specs.declared.command_line.Form.TheVariants.{Dry, Replay};
+ghost use Rattle.ctrl_serve.specs.CommandLine.{form_of, number_of_word};
+ghost use Rattle.ctrl_serve.specs.declared.command_line.Form.TheVariants.{Dry, Load, Replay};
 ghost use Rattle.ctrl_serve.specs.Notes.{damaged_note, notes_of, session_note, usage_note};
 ghost use Rattle.ctrl_serve.specs.FrameAnswer.{alone, replies};
-ghost use Rattle.ctrl_serve.specs.WorkedAnswers.{reply_at_start, reply_behind, ann_may_dial, all_may_dial, first_goes, ann_comes_again, two_routers, router_goes, line, ann_asks, middle_closes};
+ghost use Rattle.ctrl_serve.specs.Loads.{counts_line};
+ghost use Rattle.ctrl_serve.specs.WorkedAnswers.{reply_at_start, reply_behind, state_behind, ann_may_dial, all_may_dial, first_goes, ann_comes_again, two_routers, router_goes, line, ann_asks, middle_closes};
 ghost use Rattle.reply_codec.specs.ReplyFrame.{reply_frame};
 ghost use Rattle.ziti_outside.specs.declared.desk.Part.TheVariants.{Zero};
 ghost use Rattle.ctrl_serve.specs.Ending.{ending, tail_of};
@@ -24,6 +25,30 @@ pub fn worked_words()
     ensures none { form_of [] ≡ None }
     ensures other { form_of (codes "Dry" ∷ []) ≡ None }
     ensures more { form_of (codes "dry" ∷ codes "dry" ∷ []) ≡ None }
+    ensures load { form_of (codes "load" ∷ codes "7" ∷ []) ≡ Some (Load 7) }
+    ensures bare { form_of (codes "load" ∷ []) ≡ None }
+    ensures padded { form_of (codes "load" ∷ codes "01" ∷ []) ≡ None }
+    ensures twice { form_of (codes "load" ∷ codes "7" ∷ codes "7" ∷ []) ≡ None }
+{}
+
+/// Words as numbers: decimal, below 2^32, without a sign and without a zero before another digit.
+pub fn worked_numbers()
+    ensures zero { number_of_word (codes "0") ≡ Some 0 }
+    ensures seven { number_of_word (codes "7") ≡ Some 7 }
+    ensures greatest { number_of_word (codes "4294967295") ≡ Some 4_294_967_295 }
+    ensures greater { number_of_word (codes "4294967296") ≡ None }
+    ensures padded { number_of_word (codes "01") ≡ None }
+    ensures signed { number_of_word (codes "+7") ≡ None }
+    ensures letter { number_of_word (codes "x") ≡ None }
+    ensures empty { number_of_word [] ≡ None }
+{}
+
+/// The counts lines of the start, and of the state behind an identity, a service and a policy by which the one may dial the other.
+pub fn worked_counts()
+    ensures start { counts_line start
+        ≡ codes "{\"circuits\":0,\"grants\":0,\"identities\":0,\"links\":0,\"policies\":0,\"routers\":0,\"services\":0,\"terminators\":0}\n" }
+    ensures dial { counts_line (state_behind ann_may_dial start)
+        ≡ codes "{\"circuits\":0,\"grants\":1,\"identities\":1,\"links\":0,\"policies\":1,\"routers\":0,\"services\":1,\"terminators\":0}\n" }
 {}
 
 /// Answers to single frames at the start.

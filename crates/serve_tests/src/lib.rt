@@ -10,4 +10,6 @@ mod command_rows;
 #[cfg(test)]
 mod desks;
 #[cfg(test)]
+mod loads;
+#[cfg(test)]
 mod runs;

@@ -328,7 +328,7 @@ fn answers_the_longest_body(rt: HostRuntime) -> Result<(), Fail> {
 }
 
 /// Runs these words at ann's frame, and checks that the usage note is written and nothing else done.
-fn check_usage(rt: &impl Abort, alloc: Global, words: &Vec<String>) -> Result<(), Fail> {
+pub(crate) fn check_usage(rt: &impl Abort, alloc: Global, words: &Vec<String>) -> Result<(), Fail> {
     let mut source = steady_source(alloc, ANN)?;
     let mut desk = steady_desk(alloc)?;
     let status = run(alloc, words, &mut source, &mut desk);

@@ -2,7 +2,7 @@ use Rattle.std.proofs.Common.{List, ℕ, Some, sym, ap, subst, ◌∙◌}
 use Rattle.ctrl_serve.specs.declared.command_line.Form.{Form}
 use Rattle.ctrl_serve.specs.CommandLine.{form_of, texts}
 use Rattle.ctrl_serve.specs.Headline.{NotesLines}
-use Rattle.ctrl_serve.proofs.RunLaws.{dry_runs, replay_runs, usage_runs}
+use Rattle.ctrl_serve.proofs.RunLaws.{dry_runs, load_runs, replay_runs, usage_runs}
 use Rattle.ctrl_serve.proofs.top.run_within.Goals as goal
 
 pub returns-in-Some-Dry : goal.returns-in-Some-Dry
@@ -21,3 +21,9 @@ pub returns-in-None : goal.returns-in-None
 returns-in-None g c =
     let e = c.note_lines.ensures in
     record { runs = usage_runs g.D.Desk.tells c.args.bounds.slot c.args.bounds.input _ _ _ _ (ap (λ ws. form_of (texts ws)) (sym c.as_slice.ensures.value) ∙ sym c.form_of.ensures ∙ c.in-None.is) e.others (subst (λ (l : List ℕ). NotesLines l (g.D.Desk.noted c.args.desk.now) (g.D.Desk.noted c.note_lines.new.desk) (g.D.Desk.note_faults c.args.desk.now) (g.D.Desk.note_faults c.note_lines.new.desk)) c.status_line.ensures e.noted) e.counted }
+
+pub returns-in-Some-Load : goal.returns-in-Some-Load
+returns-in-Some-Load g c =
+    let e = c.run_load.ensures in
+    let form = ap (λ ws. form_of (texts ws)) (sym c.as_slice.ensures.value) ∙ sym c.form_of.ensures ∙ c.in-Some-Load.is ∙ ap (λ (f : Form). Some f) c.in-Some-Load.field-0-is in
+    record { runs = load_runs g.D.Desk.tells c.args.bounds.slot c.args.bounds.input _ c.in-Some-Load.number _ _ _ _ form e.says e.write_cause e.counted e.others }

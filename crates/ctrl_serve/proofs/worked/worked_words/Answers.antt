@@ -1,0 +1,11 @@
+use Rattle.std.proofs.Common.{refl}
+use Rattle.std.specs.Fmt.{digits}
+use Rattle.ctrl_serve.proofs.worked.worked_words.Goals as goal
+
+pub returns-clause-load : goal.returns-clause-load
+unfolding digits
+returns-clause-load c = refl
+
+pub returns-clause-padded : goal.returns-clause-padded
+unfolding digits
+returns-clause-padded c = refl

@@ -1,0 +1,130 @@
+ghost use Rattle.std.specs.Prelude.{◌≡◌, ◌++◌, true, IfOk, OnOk, codes};
+ghost use Rattle.ctrl_model.specs.declared.kinds.Who.TheVariants.{Admin};
+ghost use Rattle.ctrl_model.specs.State.{start};
+ghost use Rattle.reply_codec.specs.ReplyBody.{reply_body};
+ghost use Rattle.reply_codec.specs.ReplyLimits.{keeps_limits};
+ghost use Rattle.ctrl_serve.specs.Failures.{RisesOnce};
+ghost use Rattle.ctrl_serve.specs.FrameAnswer.{alone, frame_answer, machine_behind};
+ghost use Rattle.ctrl_serve.specs.Headline.{OnlySaysAndNotes, SaysOneLine};
+ghost use Rattle.ctrl_serve.specs.Loads.{counts_line, state_of_load};
+ghost use Rattle.ctrl_serve.specs.Runs.{IsWriteCaused};
+
+use crate::controller::carry_alone;
+use crate::notes::tell_cut;
+use crate::serving::Cut;
+use crate::status::Status;
+use channel_frame::Frame;
+use command_codec::{CodecFault, read};
+use ctrl_core::Core;
+use ctrl_model::{Command, Reply};
+use load_gen::make;
+use reply_codec::write;
+use std::alloc::{AllocError, Global};
+use ziti_outside::{Desk, Failed};
+
+// Answers a frame without a folder, and says no reply. A frame that spells no command is refused, and changes nothing.
+fn answer_unsaid(alloc: Global, core: &mut Core, frame: &Frame) -> Result<(), AllocError>
+    requires { core.old.live ≡ true }
+    ensures { OnOk result (core.new ≡ record { state = (frame_answer 0 Admin frame.now (alone core.old.state)).1.state; live = true }) }
+{
+    match read(alloc, frame.content, frame.body.as_slice()) {
+        Ok(command) => {
+            carry_alone(core, &command)?;
+            Ok(())
+        }
+        Err(CodecFault::NoMemory) => Err(AllocError),
+        Err(_) => Ok(()),
+    }
+}
+
+// Answers the frames in order, and says no reply.
+fn answer_all(alloc: Global, core: &mut Core, frames: &[Frame]) -> Result<(), AllocError>
+    requires { core.old.live ≡ true }
+    ensures { OnOk result (core.new ≡ record { state = (machine_behind 0 Admin (alone core.old.state) frames.now).state; live = true }) }
+{
+    'frames: for frame in frames {
+        answer_unsaid(alloc, core, frame)?;
+    }
+    Ok(())
+}
+
+// A text with a newline behind it.
+fn line_of(alloc: Global, text: &[u8]) -> Result<Vec<u8>, AllocError>
+    ensures { IfOk result (λ line. line.items ≡ text.now ++ codes "\n") }
+{
+    let mut line = Vec::from_slice(alloc, text)?;
+    line.push(b'\n')?;
+    Ok(line)
+}
+
+// The body of a reply as a line.
+fn body_line(alloc: Global, reply: &Reply) -> Result<Vec<u8>, AllocError>
+    requires { keeps_limits reply.now ≡ true }
+    ensures { IfOk result (λ line. line.items ≡ reply_body reply.now ++ codes "\n") }
+{
+    let frame = write(alloc, reply, 0, 0)?;
+    line_of(alloc, frame.body.as_slice())
+}
+
+// The counts line of the state of a core.
+fn counts_line(alloc: Global, core: &mut Core) -> Result<Vec<u8>, AllocError>
+    requires { core.old.live ≡ true }
+    ensures { IfOk result (λ line. line.items ≡ counts_line core.old.state) }
+{
+    let reply = carry_alone(core, &Command::ShowCounts)?;
+    body_line(alloc, &reply)
+}
+
+// The counts line behind some frames that a core answers.
+fn line_behind(alloc: Global, core: &mut Core, frames: &[Frame]) -> Result<Vec<u8>, AllocError>
+    requires { core.old.live ≡ true }
+    ensures { IfOk result (λ line. line.items ≡ counts_line (machine_behind 0 Admin (alone core.old.state) frames.now).state) }
+{
+    answer_all(alloc, core, frames)?;
+    counts_line(alloc, core)
+}
+
+// The counts line behind some frames that are answered from the start.
+fn line_from_start(alloc: Global, frames: &[Frame]) -> Result<Vec<u8>, AllocError>
+    ensures { IfOk result (λ line. line.items ≡ counts_line (machine_behind 0 Admin (alone start) frames.now).state) }
+{
+    let mut core = Core::empty(alloc)?;
+    let line = line_behind(alloc, &mut core, frames);
+    drop(core);
+    line
+}
+
+// The counts line of the state behind the load of a number.
+fn line_of_load(alloc: Global, number: u32) -> Result<Vec<u8>, AllocError>
+    ensures { IfOk result (λ line. line.items ≡ counts_line (state_of_load number)) }
+{
+    let frames = make(alloc, number)?;
+    line_from_start(alloc, frames.as_slice())
+}
+
+// Says a line as the last that is done, and answers how the run ended.
+fn say_line<D: Desk>(line: &[u8], desk: &mut D) -> Status
+    ensures says { SaysOneLine line.now (D.said desk.old) (D.said desk.new) (D.noted desk.old) (D.noted desk.new) (D.note_faults desk.old) (D.note_faults desk.new) result }
+    ensures write_cause { IsWriteCaused (D.say_faults desk.old) (D.say_faults desk.new) result }
+    ensures counted { RisesOnce (D.note_faults desk.old) (D.note_faults desk.new) }
+    ensures others { OnlySaysAndNotes D.reads D.may_leave D.disk_faults desk.old desk.new }
+{
+    match desk.say(line) {
+        Ok(()) => Status::Done,
+        Err(Failed) => tell_cut(Cut::Unsaid, desk),
+    }
+}
+
+/// Answers the frames of the load of a number from the start, without a folder and without saying a reply, and then says the counts
+/// line of the state behind them, in one call.
+pub fn run_load<D: Desk>(alloc: Global, number: u32, desk: &mut D) -> Status
+    ensures says { SaysOneLine (counts_line (state_of_load number)) (D.said desk.old) (D.said desk.new) (D.noted desk.old) (D.noted desk.new) (D.note_faults desk.old) (D.note_faults desk.new) result }
+    ensures write_cause { IsWriteCaused (D.say_faults desk.old) (D.say_faults desk.new) result }
+    ensures counted { RisesOnce (D.note_faults desk.old) (D.note_faults desk.new) }
+    ensures others { OnlySaysAndNotes D.reads D.may_leave D.disk_faults desk.old desk.new }
+{
+    match line_of_load(alloc, number) {
+        Ok(line) => say_line(line.as_slice(), desk),
+        Err(_) => tell_cut(Cut::NoMemory, desk),
+    }
+}
