@@ -39,15 +39,17 @@ pub(crate) fn slot_of(alloc: Global, records: &[&[u8]]) -> Result<Vec<u8>, Alloc
     Ok(slot)
 }
 
-/// A desk whose first slot has these records, and which fails at these calls, counted from 0. With no records the mark is empty.
+/// A desk whose first slot has these records and stands, or, with none, whose folder is empty. It fails at these calls, counted from 0.
 pub(crate) fn desk_with(
     alloc: Global,
     records: &[&[u8]],
     failing: &[u32],
 ) -> Result<MemDesk, AllocError> {
-    let mark = if records.is_empty() { b"" } else { FIRST };
+    if records.is_empty() {
+        return desk_of(alloc, [b"", b"", b""], failing);
+    }
     let slot = slot_of(alloc, records)?;
-    desk_of(alloc, [slot.as_slice(), b"", mark], failing)
+    desk_of(alloc, [slot.as_slice(), b"", FIRST], failing)
 }
 
 /// Runs a word on a source and a desk. So many bytes of the input are used, and a slot may have so many.
