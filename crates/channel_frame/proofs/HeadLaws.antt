@@ -72,16 +72,21 @@ pub record HeadTakes (h : Head) (bytes : List ℕ) : Type 0 where
   pub is_head : IsHead h
   pub text : head_spelling h ≡ take 20 bytes
 
+-- twenty bytes with the marker spell their numbers
+pub numbers_take : (bytes : List ℕ) → AreBytes bytes → 20 ≤ length bytes → starts_with_marker bytes ≡ true → head_spelling (head_at bytes) ≡ take 20 bytes
+numbers_take bytes fits le marked =
+    let first = marker_takes bytes (omega arith) marked in
+    let text = five_joined marker (number (number_at 4 bytes)) (number (number_at 8 bytes)) (number (number_at 12 bytes)) (number (number_at 16 bytes)) _ _ _ _ _
+    first (number_takes_at 4 bytes fits (omega arith)) (number_takes_at 8 bytes fits (omega arith)) (number_takes_at 12 bytes fits (omega arith)) (number_takes_at 16 bytes fits (omega arith)) in
+    text ∙ sym (five_parts bytes)
+
 pub head_takes : (bytes : List ℕ) (h : Head) → AreBytes bytes → 20 ≤ length bytes → head_of bytes ≡ Ok h → HeadTakes h bytes
 head_takes bytes h fits le e =
     let p = head_past (starts_with_marker bytes) (ltb 65536 (number_at 12 bytes) || ltb 1048576 (number_at 16 bytes)) (head_at bytes) h e in
     let short = or_parts (ltb 65536 (number_at 12 bytes)) (ltb 1048576 (number_at 16 bytes)) p.1 in
-    let first = marker_takes bytes (omega arith) p.0 in
-    let text = five_joined marker (number (number_at 4 bytes)) (number (number_at 8 bytes)) (number (number_at 12 bytes)) (number (number_at 16 bytes)) _ _ _ _ _
-    first (number_takes_at 4 bytes fits (omega arith)) (number_takes_at 8 bytes fits (omega arith)) (number_takes_at 12 bytes fits (omega arith)) (number_takes_at 16 bytes fits (omega arith)) in
     subst (λ (x : Head). HeadTakes x bytes) p.2 (record {
       is_head = record { content = number_fits 4 bytes fits; sequence = number_fits 8 bytes fits; headers_len = ltb-false _ _ short.0; body_len = ltb-false _ _ short.1 };
-      text = text ∙ sym (five_parts bytes);
+      text = numbers_take bytes fits le p.0;
     })
 
 -- lists with the same first 20 bytes have the same head

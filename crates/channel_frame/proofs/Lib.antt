@@ -6,3 +6,5 @@ pub mod FrontLaws
 pub mod ReadingLaws
 pub mod SessionLaws
 mod FrontParts
+pub mod AnnouncedLaws
+mod KindLaws

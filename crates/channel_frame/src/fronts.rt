@@ -1,7 +1,7 @@
-ghost use Rattle.std.specs.Prelude.{◌≡◌, ◌≢◌, IfOk, OnErr};
+ghost use Rattle.std.specs.Prelude.{◌≡◌, ◌≢◌, Some, IfOk, OnErr};
 ghost use Rattle.channel_frame.specs.declared.frames.Front.TheVariants.{Bad};
 ghost use Rattle.channel_frame.specs.StreamReading.{front};
-ghost use Rattle.channel_frame.specs.AnnouncedFrames.{IsAnnouncedAt, IsAnnouncedFront};
+ghost use Rattle.channel_frame.specs.AnnouncedFrames.{announced, IsAnnouncedAt, IsAnnouncedFront};
 
 use crate::decoding::{read_frame, read_head};
 use crate::frames::{FrameFault, Front};
@@ -31,6 +31,36 @@ fn whole_front(alloc: Global, bytes: &[u8], len: usize) -> Result<Front, AllocEr
     }
 }
 
+/// How many bytes the frame at the front of some bytes has, as its head announces.
+///
+/// None is known where fewer bytes than a head are there. `BadMarker` and `TooLong` come exactly where the head has them, as
+/// `read_head` says.
+pub fn announced_len(bytes: &[u8]) -> Result<Option<usize>, FrameFault>
+    ensures { result ≡ announced bytes.now }
+{
+    let Some(first) = bytes.first_chunk::<20>() else {
+        return Ok(None);
+    };
+    match read_head(first) {
+        Ok(head) => Ok(Some(HEAD + head.headers_len as usize + head.body_len as usize)),
+        Err(fault) => Err(fault),
+    }
+}
+
+/// What stands at the front of some bytes whose head announces so many, so that the head is not asked again.
+///
+/// Memory is wanted only where all the bytes are there.
+pub fn front_within(alloc: Global, bytes: &[u8], len: usize) -> Result<Front, AllocError>
+    requires { announced bytes.now ≡ Ok (Some len) }
+    ensures front { IfOk result (λ f. f ≡ front bytes.now) }
+    ensures memory { OnErr result (IsAnnouncedFront bytes.now) }
+{
+    if bytes.len() < len {
+        return Ok(Front::Short);
+    }
+    whole_front(alloc, bytes, len)
+}
+
 /// What stands at the front of some bytes: an unfinished frame, a fault, or a whole frame with how many bytes it takes.
 ///
 /// Memory is wanted only where all the bytes are there that a good head announces (docs/FORMATS.md, "Channel frame").
@@ -38,16 +68,9 @@ pub fn front_of(alloc: Global, bytes: &[u8]) -> Result<Front, AllocError>
     ensures front { IfOk result (λ f. f ≡ front bytes.now) }
     ensures memory { OnErr result (IsAnnouncedFront bytes.now) }
 {
-    let Some(first) = bytes.first_chunk::<20>() else {
-        return Ok(Front::Short);
-    };
-    let head = match read_head(first) {
-        Ok(head) => head,
-        Err(fault) => return Ok(Front::Bad(fault)),
-    };
-    let len = HEAD + head.headers_len as usize + head.body_len as usize;
-    if bytes.len() < len {
-        return Ok(Front::Short);
+    match announced_len(bytes) {
+        Ok(None) => Ok(Front::Short),
+        Ok(Some(len)) => front_within(alloc, bytes, len),
+        Err(fault) => Ok(Front::Bad(fault)),
     }
-    whole_front(alloc, bytes, len)
 }

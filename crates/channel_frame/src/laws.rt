@@ -1,10 +1,11 @@
 ghost use Rattle.std.specs.Prelude.{◌≡◌, ◌↔◌, ℕ, ◌≤◌, List, [], ◌++◌, length, take};
 ghost use Rattle.channel_frame.specs.declared.frames.Frame.{Frame};
 ghost use Rattle.channel_frame.specs.declared.frames.FrameFault.{FrameFault};
-ghost use Rattle.channel_frame.specs.declared.frames.FrameFault.TheVariants.{NoMemory};
+ghost use Rattle.channel_frame.specs.declared.frames.FrameFault.TheVariants.{BadHeaders, BadMarker, NoMemory, TooLong};
 ghost use Rattle.channel_frame.specs.declared.frames.Front.TheVariants.{Short, Bad, Whole};
 ghost use Rattle.channel_frame.specs.FrameSpelling.{IsFrame, spelling};
 ghost use Rattle.channel_frame.specs.StreamReading.{AreBytes, Reads, IsTail, front, frames_of, rest_of};
+ghost use Rattle.channel_frame.specs.TailKinds.{IsUnfinished, IsUnmarked, IsTooLong, HasBadHeaders};
 
 /// No spelling of a frame begins another, so a frame's bytes are told apart from what follows them.
 pub fn one_spelling()
@@ -20,6 +21,15 @@ pub fn what_stands()
     ensures stays { (bytes more : List ℕ) → (front bytes ≡ Short → ⊥) → front (bytes ++ more) ≡ front bytes }
     ensures tail { (bytes : List ℕ) → AreBytes bytes → (IsTail bytes ↔ ((f : Frame) (n : ℕ) → front bytes ≡ Whole f n → ⊥)) }
     ensures faults { (bytes : List ℕ) → front bytes ≡ Bad NoMemory → ⊥ }
+{}
+
+/// A tail is of one of four kinds, told by what is spelled at its front: it is unfinished, or it has no marker, a head of which a
+/// length is too long, or a good head whose headers part spells no headers.
+pub fn kinds_of_tails()
+    ensures unfinished { (bytes : List ℕ) → AreBytes bytes → ((front bytes ≡ Short) ↔ IsUnfinished bytes) }
+    ensures unmarked { (bytes : List ℕ) → AreBytes bytes → ((front bytes ≡ Bad BadMarker) ↔ IsUnmarked bytes) }
+    ensures too_long { (bytes : List ℕ) → AreBytes bytes → ((front bytes ≡ Bad TooLong) ↔ IsTooLong bytes) }
+    ensures bad_headers { (bytes : List ℕ) → AreBytes bytes → ((front bytes ≡ Bad BadHeaders) ↔ HasBadHeaders bytes) }
 {}
 
 /// Every list of bytes has exactly one reading as frames and a tail.

@@ -11,6 +11,8 @@ mod worked;
 pub use decoding::{read_frame, read_head};
 pub use encoding::encode;
 pub use frames::{Frame, FrameFault, Frames, Front, Head, Header, Headers};
-pub use fronts::front_of;
-pub use laws::{one_reading, one_spelling, what_stands};
-pub use worked::{worked_faults, worked_readings, worked_spellings, worked_unfinished};
+pub use fronts::{announced_len, front_of, front_within};
+pub use laws::{kinds_of_tails, one_reading, one_spelling, what_stands};
+pub use worked::{
+    worked_faults, worked_kinds, worked_readings, worked_spellings, worked_unfinished,
+};

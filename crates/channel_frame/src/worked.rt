@@ -2,6 +2,7 @@ ghost use Rattle.std.specs.Prelude.{◌≡◌, [], ◌∷◌, ◌++◌, length, 
 ghost use Rattle.channel_frame.specs.declared.frames.FrameFault.TheVariants.{BadMarker, TooLong, BadHeaders};
 ghost use Rattle.channel_frame.specs.FrameSpelling.{spelling};
 ghost use Rattle.channel_frame.specs.StreamReading.{frames_of, rest_of, fault_of};
+ghost use Rattle.channel_frame.specs.TailKinds.{IsUnfinished, IsUnmarked, IsTooLong, HasBadHeaders};
 ghost use Rattle.channel_frame.specs.WorkedFrames.{ann_frame, ann_bytes, reply_frame, reply_bytes, cut_bytes, unmarked_bytes, longest_body, longer_body, negative_body, longest_headers, longer_headers, short_header};
 
 /// A frame and its reply, spelled.
@@ -45,4 +46,17 @@ pub fn worked_unfinished()
     ensures headers_fault { fault_of longest_headers ≡ None }
     ensures few { frames_of (take 19 unmarked_bytes) ≡ [] }
     ensures few_fault { fault_of (take 19 unmarked_bytes) ≡ None }
+{}
+
+/// Each kind of tail by what is spelled there, at the limits too.
+pub fn worked_kinds()
+    ensures cut { IsUnfinished cut_bytes }
+    ensures announced { IsUnfinished longest_body }
+    ensures marker { IsUnmarked unmarked_bytes }
+    ensures body { IsTooLong longer_body }
+    ensures unsigned_body { IsTooLong negative_body }
+    ensures headers { IsTooLong longer_headers }
+    ensures cut_header { HasBadHeaders short_header }
+    ensures at_the_limit { IsTooLong longest_body → ⊥ }
+    ensures whole { HasBadHeaders ann_bytes → ⊥ }
 {}
