@@ -12,3 +12,5 @@ mod TerminatorLaws
 mod ClaimLaws
 mod CircuitLaws
 mod SpelledLaws
+mod FirstCauseLaws
+mod CauseTables

@@ -16,3 +16,4 @@ pub mod BodyMeaning
 pub mod ContentTypes
 pub mod ReadCommands
 pub mod SpelledBodies
+pub mod FirstCauses

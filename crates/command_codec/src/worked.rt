@@ -13,6 +13,7 @@ ghost use Rattle.command_codec.specs.NameLists.{as_attributes};
 ghost use Rattle.command_codec.specs.RoleLists.{as_side};
 ghost use Rattle.command_codec.specs.RouteClaims.{as_numbers, as_reach};
 ghost use Rattle.command_codec.specs.BodyMeaning.{meaning};
+ghost use Rattle.command_codec.specs.FirstCauses.{IsFirstCause};
 
 /// Bodies that spell a command of each kind.
 pub fn worked_bodies()
@@ -177,4 +178,15 @@ pub fn worked_sides()
     ensures named_all { as_side (array (items_of (string (codes "@all") ∷ string (codes "#b") ∷ string (codes "@all") ∷ []))) ≡ Some (record { all = false; ids = codes "all" ∷ []; attributes = codes "b" ∷ [] }) }
     ensures no_role { as_side (array (items_of (string (codes "#a") ∷ string (codes "a") ∷ []))) ≡ None }
     ensures nothing { as_side null ≡ None }
+{}
+
+/// The first of several causes: a name that is absent comes before attributes of another kind, and these before another key.
+pub fn worked_first_causes()
+    ensures missing { IsFirstCause 1000 (codes "{\"x\":1,\"attributes\":7}") (BadBody field.Name reason.Missing) }
+    ensures wrong { IsFirstCause 1000 (codes "{\"x\":1,\"attributes\":7,\"name\":\"ann\"}") (BadBody field.Attributes reason.WrongKind) }
+    ensures another { IsFirstCause 1000 (codes "{\"x\":1,\"name\":\"ann\"}") (BadBody field.Nothing reason.Unknown) }
+    ensures no_object { IsFirstCause 1503 (codes "[1]") (BadBody field.Nothing reason.NotObject) }
+    ensures no_type { IsFirstCause 1510 (codes "{}") UnsupportedType }
+    ensures none { IsFirstCause 1000 (codes "{\"name\":\"ann\"}") (BadBody field.Attributes reason.Missing) → ⊥ }
+    ensures of_hello { IsFirstCause 0 (codes "abc") (BadBody field.Nothing reason.NotObject) → ⊥ }
 {}
