@@ -1,22 +1,25 @@
 -- The events of one session's bytes, and what more bytes do to them.
-use Rattle.std.proofs.Common.{◌≡◌, ℕ, ◌+◌, ◌≤◌, List, [], ◌∷◌, ◌++◌, length, drop, map, false, Option, None, Some, refl, sym, ap, subst, ◌∙◌, inl, inr, append_assoc, arith}
+use Rattle.std.proofs.Common.{◌≡◌, ℕ, ◌+◌, ◌≤◌, List, [], ◌∷◌, ◌++◌, length, drop, map, true, false, Option, None, Some, refl, sym, ap, subst, ◌∙◌, inl, inr, append_assoc, arith}
 use Rattle.std.specs.Prelude.{is_some}
 use Rattle.std.proofs.lemmas.List.{append-nil, length-drop, map-append}
 use Rattle.channel_frame.specs.declared.frames.Frame.{Frame}
 use Rattle.channel_frame.specs.declared.frames.FrameFault.{FrameFault}
 use Rattle.channel_frame.specs.declared.frames.Front.{Front}
+use Rattle.channel_frame.specs.declared.frames.Head.{Head}
+use Rattle.channel_frame.specs.declared.frames.Header.{Header}
+use Rattle.channel_frame.specs.AnnouncedFrames.{IsAnnouncedFront}
 use Rattle.channel_frame.specs.declared.frames.Front.TheVariants.{Short, Bad, Whole}
-use Rattle.channel_frame.specs.StreamReading.{front}
-use Rattle.channel_frame.specs.SessionBytes.{SessionBytes, with_more, frames_held, left_unless, settled, fault_held}
-use Rattle.channel_frame.proofs.FrontLaws.{whole_within}
+use Rattle.channel_frame.specs.StreamReading.{front, with_headers, frame_len, headers_of, headers_part}
+use Rattle.channel_frame.specs.SessionBytes.{SessionBytes, with_more, held_with, frames_held, left_unless, settled, fault_held}
+use Rattle.channel_frame.proofs.FrontLaws.{whole_within, front_behind}
 use Rattle.channel_frame.proofs.SessionLaws.{goes_on, fault_on, FaultOn, more_twice, no_more, IsQuiet, quiet_short, met_nothing, settled_quiet, quiet_fault, gives_frame, tells_fault, short_few}
 use Rattle.session_mux.specs.declared.events.Event.{Event}
 use Rattle.session_mux.specs.declared.events.Event.TheVariants as event
 use Rattle.session_mux.specs.declared.sessions.Session.{Session}
 use Rattle.session_mux.specs.declared.sessions.Session.TheVariants as session
-use Rattle.session_mux.specs.Completion.{ended, bytes_events, session_events, settled_session, with_data, fault_number, stage_of, rest_len}
-use Rattle.session_mux.specs.StreamSteps.{TakesFrame, MeetsFault}
-use Rattle.session_mux.specs.SessionSteps.{StreamEvent}
+use Rattle.session_mux.specs.Completion.{ended, bytes_events, bytes_len, len_unless, session_events, settled_session, with_data, fault_met, stage_of, rest_len}
+use Rattle.frame_stream.specs.StreamSteps.{fault_number, TakesFrame, MeetsFault, HoldsUnfinished, TellsFault}
+use Rattle.session_mux.specs.SessionSteps.{StreamEvent, TakesBytes, HasAnnounced}
 
 -- ---- one step
 
@@ -59,6 +62,27 @@ nothing_at s old (Some d) e short = events_met s old d e
 
 pub no_event : (s : ℕ) (old new : SessionBytes) → (new ≡ old) × (old.fault ≡ None → front old.held ≡ Short) → StreamEvent s old new None
 no_event s old new h = (nothing_at s old old.fault refl h.1, h.0)
+
+-- a session that met its fault before gives none
+pub met_event : (s : ℕ) (old new : SessionBytes) → is_some old.fault ≡ true → new ≡ old → StreamEvent s old new None
+met_event s old new some same =
+    no_event s old new (
+      same,
+      λ none.
+          let no : is_some old.fault ≡ false = ap is_some none in
+          absurd cc,
+    )
+
+-- nor does an unfinished frame
+pub unfinished_event : (s : ℕ) (old new : SessionBytes) → HoldsUnfinished old new → StreamEvent s old new None
+unfinished_event s old new h = no_event s old new (h.same, λ none. h.short)
+
+-- a fault that is told to a session that met none before is its event
+pub told_event : (s : ℕ) (old new : SessionBytes) (n at : ℕ) → is_some old.fault ≡ false → TellsFault old new n at → StreamEvent s old new (Some (event.Ended s n at))
+told_event s old new n at unmet (e, fault, is, inl m) = subst (λ (k : ℕ). StreamEvent s old new (Some (event.Ended s k at))) (sym is) (fault_event s old new e at m)
+told_event s old new n at unmet (e, fault, is, inr m) =
+    let some : is_some old.fault ≡ true = ap is_some m.some in
+    absurd cc
 
 -- ---- more bytes of a session
 
@@ -158,11 +182,60 @@ few_left s b None e quiet =
     omega (arith, left.1, ap (λ (x : SessionBytes). length x.held) left.0)
 few_left s b (Some d) e quiet = omega (arith, left_of_met b d e)
 
+-- ---- how many bytes are held
+
+pub rest_is : (b : SessionBytes) (o : Option FrameFault) (n : ℕ) → b.fault ≡ o → n ≡ length b.held → (is_some b.fault ≡ true → n ≡ 0) → n ≡ bytes_len b
+rest_is b None n e held met = held ∙ sym (ap (λ (o : Option FrameFault). len_unless o b.held) e)
+rest_is b (Some d) n e held met = met (ap is_some e) ∙ sym (ap (λ (o : Option FrameFault). len_unless o b.held) e)
+
+pub rest_left : (s : ℕ) (b : SessionBytes) (o : Option FrameFault) (n : ℕ) → b.fault ≡ o → n ≡ length b.held → (is_some b.fault ≡ true → n ≡ 0) → bytes_events s b ≡ []
+    → (n ≡ length (settled b).held) × (n ≤ 1114131)
+rest_left s b None n e held met quiet =
+    let left = left_of_quiet s b e quiet in
+    (held ∙ sym (ap (λ (x : SessionBytes). length x.held) left.0), omega (arith, held, left.1))
+rest_left s b (Some d) n e held met quiet =
+    let none : n ≡ 0 = met (ap is_some e) in
+    (none ∙ sym (left_of_met b d e), omega (arith, none))
+
 pub few_of_quiet : (s : ℕ) (x : Session) → session_events s x ≡ [] → rest_len x ≤ 1114131
 few_of_quiet s session.Unopened quiet = omega arith
 few_of_quiet s (session.Open who b) quiet = few_left s b b.fault refl quiet
 few_of_quiet s session.Closed quiet = omega arith
 
-pub no_fault : (o : Option FrameFault) → is_some o ≡ false → o ≡ None
-no_fault None e = refl
-no_fault (Some d) e = absurd cc
+-- ---- memory is wanted for an event alone
+
+headers_stand : (h : Head) (bytes : List ℕ) (o : Option (List Header)) → with_headers h bytes o ≡ Short → ⊥
+headers_stand h bytes None e = cc
+headers_stand h bytes (Some hs) e = cc
+
+announced_stands : (bytes : List ℕ) → IsAnnouncedFront bytes → front bytes ≡ Short → ⊥
+announced_stands bytes (len, is) short =
+    let long : 20 ≤ length bytes = omega (arith, is.is_len, is.enough) in
+    let enough : frame_len is.head ≤ length bytes = omega (arith, is.is_len, is.enough) in
+    headers_stand is.head bytes (headers_of (headers_part is.head bytes)) (sym (front_behind bytes is.head long is.is_head enough) ∙ short)
+
+pub announced_event : (s : ℕ) (x : Session) → HasAnnounced x → session_events s x ≡ [] → ⊥
+announced_event s session.Unopened has quiet = has
+announced_event s (session.Open who b) has quiet = announced_stands b.held has.front (short_at s b (front b.held) has.none refl quiet)
+announced_event s session.Closed has quiet = has
+
+pub announced_unmet : (x : Session) → HasAnnounced x → fault_met x ≡ None
+announced_unmet session.Unopened has = refl
+announced_unmet (session.Open who b) has = has.none
+announced_unmet session.Closed has = refl
+
+-- ---- bytes that come meet no fault
+
+pub takes_unmet : (x : Session) → TakesBytes x → fault_met x ≡ None
+takes_unmet session.Unopened takes = refl
+takes_unmet (session.Open who b) takes = takes
+takes_unmet session.Closed takes = refl
+
+pub held_fault : (g : ℕ) (h : List ℕ) (o : Option FrameFault) (more : List ℕ) → (held_with o g h more).fault ≡ o
+held_fault g h None more = refl
+held_fault g h (Some e) more = refl
+
+pub data_fault : (x : Session) (more : List ℕ) → fault_met (with_data x more) ≡ fault_met x
+data_fault session.Unopened more = refl
+data_fault (session.Open who b) more = held_fault b.given b.held b.fault more
+data_fault session.Closed more = refl

@@ -1,6 +1,6 @@
 -- Going on from one standing to the next keeps the events and the end.
 use Rattle.std.proofs.Common.{◌≡◌, ℕ, zero, suc, ◌+◌, ◌-◌, ◌<◌, ◌≤◌, List, [], ◌∷◌, ◌++◌, length, drop, map, set, get_or, refl, sym, ap, ◌∙◌, append_assoc, arith}
-use Rattle.std.proofs.lemmas.List.{append-nil, drop-append-le, length-append, length-drop, drop_at, map-set, get_or-set_same}
+use Rattle.std.proofs.lemmas.List.{append-nil, drop-append-le, length-append, length-drop, drop_at, map-set, get_or-set_same, set-get_or}
 use Rattle.std.proofs.Math.Seq.{map-set_same}
 use Rattle.std.proofs.Math.ListN.{get_or-map}
 use Rattle.ctrl_model.specs.declared.kinds.Who.{Who}
@@ -23,7 +23,7 @@ use Rattle.session_mux.proofs.RecordLaws.{record_stays, record_step, record_stop
 abbrev pub AreAlike : List Session → List Session → Type 0
 AreAlike xs ys = map settled_session xs ≡ map settled_session ys
 
-alike_at : (xs ys : List Session) → AreAlike xs ys → (s : ℕ) → settled_session (session_at xs s) ≡ settled_session (session_at ys s)
+pub alike_at : (xs ys : List Session) → AreAlike xs ys → (s : ℕ) → settled_session (session_at xs s) ≡ settled_session (session_at ys s)
 alike_at xs ys alike s =
     sym (get_or-map settled_session xs s session.Unopened) ∙ ap (λ (zs : List Session). get_or zs s session.Unopened) alike ∙ get_or-map settled_session ys s session.Unopened
 
@@ -257,6 +257,17 @@ trace_ends input before xs front quiet =
           ∙ ap (λ (t : List ℕ). is_bad_in Trace (record_front (map stage_of xs) t)) stop.1
           ∙ ap (is_bad_in Trace) front;
     }
+
+-- All that came was moved: where no input is left in plain input, and where the front of a trace is unfinished.
+pub plain_moved : (xs : List Session) → map settled_session (sessions_along xs (Data 0 [] ∷ [])) ≡ map settled_session xs
+plain_moved xs =
+    ap (λ (x : Session). map settled_session (set xs 0 x)) (data_none (session_at xs 0)) ∙ ap (map settled_session) (set-get_or xs 0 session.Unopened)
+
+pub trace_moved : (input : List ℕ) (xs : List Session) → record_front (map stage_of xs) input ≡ Unfinished
+    → map settled_session (sessions_along xs (records_of (map stage_of xs) input)) ≡ map settled_session xs
+trace_moved input xs front =
+    let stop = record_stop (map stage_of xs) input (λ a n e. cc) in
+    ap (λ (arrivals : List Arrival). map settled_session (sessions_along xs arrivals)) stop.0
 
 pub trace_bad : (input : List ℕ) (before : ℕ) (xs : List Session) → record_front (map stage_of xs) input ≡ Bad → events_held 0 xs ≡ []
     → IsBadAt (record { form = Trace; input = input; before = before; sessions = xs }) before

@@ -5,3 +5,4 @@ pub mod GoingLaws
 pub mod StepLaws
 pub mod CompletionLaws
 pub mod RecordReadings
+pub mod FaultLaws

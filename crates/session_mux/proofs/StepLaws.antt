@@ -1,22 +1,23 @@
 -- Each step of the mux, said of the fields as they stand before and after it.
-use Rattle.std.proofs.Common.{◌≡◌, ℕ, ◌+◌, ◌<◌, ◌≤◌, List, [], ◌∷◌, ◌++◌, length, drop, map, Option, None, Some, Result, Ok, Err, refl, sym, ap, subst, ◌∙◌, arith}
-use Rattle.std.proofs.lemmas.List.{append-nil}
+use Rattle.std.proofs.Common.{◌≡◌, ℕ, zero, suc, ◌+◌, ◌<◌, ◌≤◌, List, [], ◌∷◌, ◌++◌, length, drop, map, set, replicate, Option, None, Some, Result, Ok, Err, refl, sym, ap, subst, ◌∙◌, arith}
+use Rattle.std.proofs.lemmas.List.{append-nil, get_or-set_same}
 use Rattle.session_mux.specs.declared.events.Event.{Event}
 use Rattle.session_mux.specs.declared.sessions.Session.{Session}
+use Rattle.session_mux.specs.declared.sessions.Session.TheVariants as session
 use Rattle.session_mux.specs.declared.sessions.Form.{Form}
 use Rattle.session_mux.specs.declared.sessions.Form.TheVariants.{Plain, Trace}
 use Rattle.session_mux.specs.Arrivals.{Arrival, Data, Unfinished, Bad, Whole, record_front}
-use Rattle.session_mux.specs.Completion.{Standing, tail_in, fed, events_of, end_of, begins_bad, session_at, stage_of, sessions_after, events_by, events_held, GoesTo, IsBadAt, IsUnfinished}
-use Rattle.session_mux.specs.SessionSteps.{SessionsGive}
+use Rattle.session_mux.specs.Completion.{Standing, arrivals_in, tail_in, fed, events_of, end_of, begins_bad, session_at, stage_of, with_data, settled_session, fault_met, sessions_after, events_by, events_held, GoesTo, IsBadAt, IsUnfinished}
+use Rattle.session_mux.specs.SessionSteps.{SessionsGive, TakesBytes, HasAnnounced, SomeHasAnnounced, IsAlone}
 use Rattle.session_mux.specs.declared.muxing.Step.TheVariants.{Ended}
-use Rattle.session_mux.specs.MuxSteps.{HeldGives, StepGives, HoldsFew, GivesNone, GivesFault}
+use Rattle.session_mux.specs.MuxSteps.{HeldGives, StepGives, HasMoved, HoldsFew, GivesNone, GivesFault, MayWantMemory}
 use Rattle.session_mux.specs.declared.events.MuxFault.{MuxFault}
 use Rattle.session_mux.specs.declared.events.MuxFault.TheVariants.{BadRecord, NoMemory}
 use Rattle.std.specs.Prelude.{IfOk, IfErr, MatchOption, ◌-◌}
-use Rattle.session_mux.proofs.RecordLaws.{tail_within}
-use Rattle.session_mux.proofs.EventLaws.{few_of_quiet}
-use Rattle.session_mux.proofs.TableLaws.{held_quiet, from_zero}
-use Rattle.session_mux.proofs.GoingLaws.{goes_then, held_goes, trace_goes, plain_goes, plain_ends, trace_ends, trace_bad}
+use Rattle.session_mux.proofs.RecordLaws.{tail_within, record_step}
+use Rattle.session_mux.proofs.EventLaws.{few_of_quiet, announced_event, announced_unmet, takes_unmet, data_fault}
+use Rattle.session_mux.proofs.TableLaws.{AtMost, held_quiet, from_zero, unopened_at, set_other}
+use Rattle.session_mux.proofs.GoingLaws.{alike_at, goes_then, held_goes, trace_goes, plain_goes, plain_ends, plain_moved, trace_ends, trace_moved, trace_bad}
 
 pub same_standing : (f f' : Form) (t t' : List ℕ) (b b' : ℕ) (xs ys : List Session) → f ≡ f' → t ≡ t' → b ≡ b' → xs ≡ ys
     → ◌≡◌ {A = Standing} (record { form = f; input = t; before = b; sessions = xs }) (record { form = f'; input = t'; before = b'; sessions = ys })
@@ -84,9 +85,20 @@ plain_unfinished st form none quiet =
     in
     subst IsUnfinished is (plain_ends st.before st.sessions quiet)
 
+-- all that came was moved to its session
+pub trace_has_moved : (st : Standing) → st.form ≡ Trace → record_front (map stage_of st.sessions) st.input ≡ Unfinished → HasMoved st
+trace_has_moved st form front = subst HasMoved (formed st Trace form) (trace_moved st.input st.sessions front)
+
+pub plain_has_moved : (st : Standing) → st.form ≡ Plain → length st.input ≡ 0 → HasMoved st
+plain_has_moved st form none =
+    let is : ◌≡◌ {A = Standing} (record { form = Plain; input = []; before = st.before; sessions = st.sessions }) st =
+    same_standing Plain st.form [] st.input st.before st.before st.sessions st.sessions (sym form) (sym (no_input st.input none)) refl refl
+    in
+    subst HasMoved is (plain_moved st.sessions)
+
 -- ---- several steps
 
-no_more_input : (st : Standing) → fed st [] ≡ st
+pub no_more_input : (st : Standing) → fed st [] ≡ st
 no_more_input st = same_standing st.form st.form (st.input ++ []) st.input st.before st.before st.sessions st.sessions refl (append-nil st.input) refl refl
 
 -- what comes first is what a later standing has first
@@ -123,7 +135,8 @@ ends_here a b c d p held ended =
       unfinished = unfinished_before a c at_c ended.1;
       few =
           subst HoldsFew (sym same)
-          (record { record_few = omega (arith, ended.2, ap (λ (x : Standing). length x.input) held.0); frames_few = held.2 });
+          (record { record_few = omega (arith, ended.3, ap (λ (x : Standing). length x.input) held.0); frames_few = held.2 });
+      moved = subst HasMoved (sym ended.0) ended.2;
     }
 
 -- ---- no byte of the input is lost
@@ -150,3 +163,92 @@ taken_from old new (Ok None) some fault = same_taken old new [] some.goes
 taken_from old new (Ok (Some e)) some fault = same_taken old new (e ∷ []) some
 taken_from old new (Err (BadRecord at)) some fault = same_taken old new [] fault.0
 taken_from old new (Err NoMemory) some fault = same_taken old new [] fault
+
+-- ---- what memory is wanted for
+
+-- what is of the form of a trace is not plain
+pub not_plain : {A : Type 0} (form : Form) → form ≡ Trace → form ≡ Plain → A
+not_plain form trace plain = absurd (let no : Trace ≡ Plain = sym trace ∙ plain in cc)
+
+trace_record : (form : Form) (input : List ℕ) (xs : List Session) (a : Arrival) (n : ℕ) → form ≡ Trace → record_front (map stage_of xs) input ≡ Whole a n → 0 < n → arrivals_in form xs input ≡ [] → ⊥
+trace_record Plain input xs a n is front some none = not_plain Plain is refl
+trace_record Trace input xs a n is front some none =
+    let read = (record_step (map stage_of xs) input a n front some).0 in
+    cc
+
+-- a whole record of a trace is held
+pub trace_wants : (st : Standing) (a : Arrival) (n : ℕ) → st.form ≡ Trace → record_front (map stage_of st.sessions) st.input ≡ Whole a n → 0 < n → n ≤ length st.input → MayWantMemory st
+trace_wants st a n form front some le =
+    record {
+      some = λ none quiet. absurd (omega (arith, ap length none, some, le));
+      whole = λ none quiet. trace_record st.form st.input st.sessions a n form front some none;
+      plain = λ is. not_plain st.form form is;
+    }
+
+plain_record : (form : Form) (input : List ℕ) (xs : List Session) → form ≡ Plain → arrivals_in form xs input ≡ [] → ⊥
+plain_record Plain input xs is none = cc
+plain_record Trace input xs is none = not_plain Trace refl is
+
+-- bytes of plain input are held, and session 0 takes them
+pub plain_wants : (st : Standing) → st.form ≡ Plain → (length st.input ≡ 0 → ⊥) → TakesBytes (session_at st.sessions 0) → MayWantMemory st
+plain_wants st form more takes =
+    record {
+      some = λ none quiet. more (ap length none);
+      whole = λ none quiet. plain_record st.form st.input st.sessions form none;
+      plain = λ is. takes_unmet (session_at st.sessions 0) takes;
+    }
+
+alone_unmet : (xs : List Session) (s : ℕ) → IsAlone xs → HasAnnounced (session_at xs s) → fault_met (session_at xs 0) ≡ None
+alone_unmet xs zero alone has = announced_unmet (session_at xs 0) has
+alone_unmet xs (suc s) alone has = absurd (subst HasAnnounced (alone (suc s) (λ e. cc)) has)
+
+-- a session holds an event
+pub held_wants : (st : Standing) → (st.form ≡ Plain → IsAlone st.sessions) → SomeHasAnnounced st.sessions → MayWantMemory st
+held_wants st alone (s, has) =
+    let event : events_held 0 st.sessions ≡ [] → ⊥ =
+    λ quiet. announced_event s (session_at st.sessions s) has (sym (from_zero s (session_at st.sessions s)) ∙ held_quiet 0 st.sessions quiet s)
+    in
+    record {
+      some = λ none quiet. event quiet;
+      whole = λ none quiet. event quiet;
+      plain = λ is. alone_unmet st.sessions s (alone is) has;
+    }
+
+-- memory that is wanted once plain input was moved was wanted before
+pub plain_moved_wants : (v st : Standing) (f : Form) (input : List ℕ) (before : ℕ) (sessions : List Session) → v ≡ st → 0 < length v.sessions → (length v.input ≡ 0 → ⊥)
+    → sessions ≡ sessions_after (Data 0 v.input) v.sessions → f ≡ Plain → v.form ≡ Plain → MayWantMemory (record { form = f; input = input; before = before; sessions = sessions }) → MayWantMemory st
+plain_moved_wants v st f input before sessions e within more after form form_v wants =
+    let x : Session = session_at v.sessions 0 in
+    let same : fault_met (session_at sessions 0) ≡ fault_met x =
+    ap (λ (xs : List Session). fault_met (session_at xs 0)) after
+    ∙ ap fault_met (get_or-set_same v.sessions 0 (with_data x v.input) session.Unopened within)
+    ∙ data_fault x v.input
+    in
+    subst MayWantMemory e
+    (record {
+      some = λ none quiet. more (ap length none);
+      whole = λ none quiet. plain_record v.form v.input v.sessions form_v none;
+      plain = λ is. sym same ∙ wants.plain form;
+    })
+
+-- ---- plain input opens no session but session 0
+
+pub alone_unopened : (n : ℕ) → IsAlone (replicate n session.Unopened)
+alone_unopened n s other = unopened_at n s
+
+pub alone_set : (x : Session) (xs : List Session) → IsAlone xs → IsAlone (set xs 0 x)
+alone_set x xs alone s other = set_other xs 0 s x other ∙ alone s other
+
+settled_unopened : (x : Session) → settled_session x ≡ session.Unopened → x ≡ session.Unopened
+settled_unopened session.Unopened e = refl
+settled_unopened (session.Open who b) e = absurd cc
+settled_unopened session.Closed e = absurd cc
+
+pub alone_given : (xs ys : List Session) (o : Option Event) → SessionsGive xs ys o → IsAlone xs → IsAlone ys
+alone_given xs ys None gives alone = subst IsAlone (sym gives.1) alone
+alone_given xs ys (Some e) gives alone =
+    λ s other. settled_unopened (session_at ys s) (sym (alike_at xs ys gives.1 s) ∙ ap settled_session (alone s other))
+
+pub at_most_given : (xs ys : List Session) (o : Option Event) (most : ℕ) → SessionsGive xs ys o → AtMost xs most → AtMost ys most
+at_most_given xs ys None most gives all = subst (λ (zs : List Session). AtMost zs most) (sym gives.1) all
+at_most_given xs ys (Some e) most gives all = λ s. omega (arith, gives.2 s, all s)

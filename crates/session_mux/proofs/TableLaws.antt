@@ -18,7 +18,7 @@ IsQuietFrom k sessions = (s : ℕ) → session_events (k + s) (session_at sessio
 pub none_before : {A : Type 0} (x y z : List A) → x ≡ [] → y ≡ z → x ++ y ≡ z
 none_before x y z p q = cc
 
-none_each : {A : Type 0} (x y : List A) → x ++ y ≡ [] → (x ≡ []) × (y ≡ [])
+pub none_each : {A : Type 0} (x y : List A) → x ++ y ≡ [] → (x ≡ []) × (y ≡ [])
 none_each [] y e = (refl, e)
 none_each (a ∷ x) y e = absurd cc
 

@@ -6,8 +6,8 @@ use Rattle.ctrl_model.specs.declared.kinds.Who.{Who}
 use Rattle.ctrl_model.specs.declared.kinds.Who.TheVariants.{Admin}
 use Rattle.channel_frame.specs.declared.frames.Frame.{Frame}
 use Rattle.channel_frame.specs.declared.frames.FrameFault.{FrameFault}
-use Rattle.channel_frame.specs.declared.frames.FrameFault.TheVariants.{BadMarker, TooLong, BadHeaders, NoMemory}
 use Rattle.channel_frame.specs.SessionBytes.{SessionBytes, no_bytes, with_more, frames_held, settled, fault_held}
+use Rattle.frame_stream.specs.StreamSteps.{fault_number}
 use Rattle.session_mux.specs.declared.sessions.Session.{Session}
 use Rattle.session_mux.specs.declared.sessions.Session.TheVariants as session
 use Rattle.session_mux.specs.declared.sessions.Form.{Form}
@@ -65,13 +65,6 @@ settled_session session.Unopened = session.Unopened
 settled_session (session.Open who bytes) = session.Open who (settled bytes)
 settled_session session.Closed = session.Closed
 
--- The number by which a fault is told. A reading never has the last.
-abbrev pub fault_number : FrameFault → ℕ
-fault_number BadMarker = 1
-fault_number TooLong = 2
-fault_number BadHeaders = 3
-fault_number NoMemory = 0
-
 -- The event of a fault and its place.
 abbrev pub ended : ℕ → Option (FrameFault × ℕ) → List Event
 ended s None = []
@@ -107,6 +100,19 @@ abbrev pub held_len : Session → ℕ
 held_len session.Unopened = 0
 held_len (session.Open who bytes) = bytes_len bytes
 held_len session.Closed = 0
+
+-- The fault that a session has met, where it is open and has met one.
+abbrev pub fault_met : Session → Option FrameFault
+fault_met session.Unopened = None
+fault_met (session.Open who bytes) = bytes.fault
+fault_met session.Closed = None
+
+-- Whether an event is a session's fault.
+abbrev pub is_fault : Event → Bool
+is_fault (event.Opened s who) = false
+is_fault (event.Arrived s frame) = false
+is_fault (event.Ended s fault at) = true
+is_fault (event.Closed s rest) = false
 
 -- ---- what the records do
 

@@ -1,6 +1,5 @@
 pub mod Arrivals
 pub mod Completion
-pub mod StreamSteps
 pub mod SessionSteps
 pub mod RecordSteps
 pub mod MuxSteps

@@ -5,6 +5,7 @@ use Rattle.channel_frame.specs.SessionBytes.{SessionBytes, settled}
 use Rattle.session_mux.specs.declared.sessions.Session.{Session}
 use Rattle.session_mux.specs.declared.sessions.Session.TheVariants as session
 use Rattle.session_mux.specs.declared.events.Event.{Event}
+use Rattle.frame_stream.specs.StreamSteps.{HoldsAnnounced}
 use Rattle.session_mux.specs.Completion.{bytes_events, session_events, settled_session, session_at, events_held}
 
 -- How many bytes of a session came.
@@ -35,3 +36,23 @@ SessionsGive old new (Some e) =
 -- No session but this one has an event that was not given yet.
 abbrev pub IsQuietBut : ℕ → List Session → Type 0
 IsQuietBut ready sessions = (s : ℕ) → (s ≡ ready → ⊥) → session_events s (session_at sessions s) ≡ []
+
+-- An open session that has met no fault: its bytes are taken.
+abbrev pub TakesBytes : Session → Type 0
+TakesBytes session.Unopened = ⊥
+TakesBytes (session.Open who bytes) = bytes.fault ≡ None
+TakesBytes session.Closed = ⊥
+
+-- An open session at whose front stand all the bytes that a good head announces.
+abbrev pub HasAnnounced : Session → Type 0
+HasAnnounced session.Unopened = ⊥
+HasAnnounced (session.Open who bytes) = HoldsAnnounced bytes
+HasAnnounced session.Closed = ⊥
+
+-- One of the sessions has.
+abbrev pub SomeHasAnnounced : List Session → Type 0
+SomeHasAnnounced sessions = (s : ℕ) × HasAnnounced (session_at sessions s)
+
+-- No session but session 0 was opened, as in plain input.
+abbrev pub IsAlone : List Session → Type 0
+IsAlone sessions = (s : ℕ) → (s ≡ 0 → ⊥) → session_at sessions s ≡ session.Unopened

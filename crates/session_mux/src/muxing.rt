@@ -1,17 +1,17 @@
-ghost use Rattle.std.specs.Prelude.{◌≡◌, ℕ, ◌+◌, ◌<◌, ◌≤◌, ◌^◌, true, Some, [], ◌∷◌, map, take, drop, length, IfOk, IfErr, OnOk, OnErr, MatchOption, MatchResult};
+ghost use Rattle.std.specs.Prelude.{◌≡◌, ℕ, ◌+◌, ◌<◌, ◌≤◌, ◌^◌, true, Some, [], ◌∷◌, map, take, drop, length, IfOk, IfErr, OnOk, OnErr, IsErrOf, MatchOption, MatchResult};
 ghost use Rattle.ctrl_model.specs.declared.kinds.Who.{Who};
 ghost use Rattle.session_mux.specs.declared.sessions.Form.TheVariants.{Plain, Trace};
 ghost use Rattle.session_mux.specs.Arrivals.{record_front, tail_of, role_at, Whole, Open, Data, Close};
 ghost use Rattle.session_mux.specs.Completion.{start_of, fed, events_of, events_held, tail_left, session_at, stage_of, held_len, rest_len, GoesTo};
 ghost use Rattle.session_mux.specs.RecordSteps.{says_role, Passes};
-ghost use Rattle.session_mux.specs.MuxSteps.{StepGives, HeldGives, GivesNone, GivesFault};
+ghost use Rattle.session_mux.specs.MuxSteps.{StepGives, HeldGives, GivesNone, GivesFault, MayWantMemory};
 
-use crate::buffers::Buffer;
 use crate::events::{Event, MuxFault};
 use crate::records::{Look, peek};
 use crate::sessions::{Form, NUMBERS, Stage, is_opened, is_unopened};
 use crate::tables::SessionTable;
 use ctrl_model::{Name, NameFault, Who};
+use frame_stream::Buffer;
 use std::alloc::{AllocError, Global};
 use std::marker::Model;
 
@@ -28,15 +28,16 @@ pub struct Mux {
 }
 
 impl Model for Mux {
-    ghost use Rattle.std.specs.Prelude.{ℕ, ◌+◌, ◌<◌, ◌≤◌, ◌^◌, length};
+    ghost use Rattle.std.specs.Prelude.{◌≡◌, ℕ, ◌+◌, ◌<◌, ◌≤◌, ◌^◌, length};
     ghost use Rattle.session_mux.specs.Completion.{Standing, session_at};
-    ghost use Rattle.session_mux.specs.SessionSteps.{taken};
+    ghost use Rattle.session_mux.specs.declared.sessions.Form.TheVariants.{Plain};
+    ghost use Rattle.session_mux.specs.SessionSteps.{taken, IsAlone};
 
     ghost Value = { Standing };
 
     ghost view = { λ m. record { form = m.form; input = m.input; before = m.before; sessions = m.sessions } };
 
-    ghost invariant = { λ m. (m.before + length m.input < 2 ^ 63) × ((s : ℕ) → taken (session_at m.sessions s) ≤ m.before) };
+    ghost invariant = { λ m. (m.before + length m.input < 2 ^ 63) × ((s : ℕ) → taken (session_at m.sessions s) ≤ m.before) × (m.form ≡ Plain → IsAlone m.sessions) };
 }
 
 /// What one step did where no session holds an event.
@@ -155,8 +156,9 @@ impl Mux {
     fn held_event(&mut self) -> Result<Option<Event>, AllocError>
         ensures ok { IfOk result (λ event. HeldGives self.old self.new event) }
         ensures err { OnErr result (self.new ≡ self.old) }
+        ensures memory { OnErr result (MayWantMemory self.old) }
     {
-        let event = self.sessions.next_event(self.alloc)?;
+        let event = self.sessions.next_event()?;
         Ok(event)
     }
 
@@ -166,6 +168,7 @@ impl Mux {
         requires quiet { events_held 0 self.old.sessions ≡ [] }
         ensures ok { IfOk result (λ step. StepGives self.old self.new step) }
         ensures err { OnErr result (self.new ≡ self.old) }
+        ensures memory { OnErr result (MayWantMemory self.old) }
     {
         if self.input.len() == 0 {
             return Ok(Step::Ended);
@@ -184,6 +187,7 @@ impl Mux {
         requires long { 4 + len ≤ length self.old.input }
         ensures ok { IfOk result (λ step. StepGives self.old self.new step) }
         ensures err { OnErr result (self.new ≡ self.old) }
+        ensures memory { OnErr result (MayWantMemory self.old) }
     {
         let size = 4 + len as usize;
         let (_, after) = self.input.as_slice().split_at(4);
@@ -203,6 +207,7 @@ impl Mux {
         requires long { 4 + len ≤ length self.old.input }
         ensures ok { IfOk result (λ step. StepGives self.old self.new step) }
         ensures err { OnErr result (self.new ≡ self.old) }
+        ensures memory { OnErr result (MayWantMemory self.old) }
     {
         let size = 4 + len as usize;
         let (_, after) = self.input.as_slice().split_at(4);
@@ -236,6 +241,7 @@ impl Mux {
         requires quiet { events_held 0 self.old.sessions ≡ [] }
         ensures ok { IfOk result (λ step. StepGives self.old self.new step) }
         ensures err { OnErr result (self.new ≡ self.old) }
+        ensures memory { OnErr result (MayWantMemory self.old) }
     {
         match peek(self.input.as_slice()) {
             Look::Unfinished => Ok(Step::Ended),
@@ -268,6 +274,7 @@ impl Mux {
         requires quiet { events_held 0 self.old.sessions ≡ [] }
         ensures ok { IfOk result (λ step. StepGives self.old self.new step) }
         ensures err { OnErr result (self.new ≡ self.old) }
+        ensures memory { OnErr result (MayWantMemory self.old) }
     {
         match self.form {
             Form::Plain => self.step_plain(),
@@ -306,6 +313,7 @@ impl Mux {
     fn first_event(&mut self) -> Result<Option<Event>, MuxFault>
         ensures some { IfOk result (λ event. MatchOption event (GivesNone self.old self.new) (λ e. GoesTo self.old self.new (e ∷ []))) }
         ensures fault { IfErr result (λ e. GivesFault self.old self.new e) }
+        ensures memory { IsErrOf result MuxFault.NoMemory → MayWantMemory self.old }
     {
         'moves: loop {
             if let Some(event) = self.held_event()? {
@@ -328,6 +336,8 @@ impl Mux {
     pub fn next(&mut self) -> Result<Option<Event>, MuxFault>
         ensures some { IfOk result (λ event. MatchOption event (GivesNone self.old self.new) (λ e. GoesTo self.old self.new (e ∷ []))) }
         ensures fault { IfErr result (λ e. GivesFault self.old self.new e) }
+        // No memory is wanted where nothing is left but an unfinished or a bad record, nor for plain input whose fault was given.
+        ensures memory { IsErrOf result MuxFault.NoMemory → MayWantMemory self.old }
         // As many bytes of the input have come as before.
         ensures taken { self.new.before + length self.new.input ≡ self.old.before + length self.old.input }
     {

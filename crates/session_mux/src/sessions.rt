@@ -1,17 +1,17 @@
 ghost use Rattle.std.specs.Prelude.{◌≡◌, ℕ, ◌+◌, ◌<◌, ◌≤◌, ◌^◌, [], set, map, IfOk, OnOk, OnErr, length};
 ghost use Rattle.ctrl_model.specs.declared.kinds.Who.TheVariants.{Admin};
-ghost use Rattle.channel_frame.specs.SessionBytes.{no_bytes};
+ghost use Rattle.channel_frame.specs.SessionBytes.{no_bytes, settled};
 ghost use Rattle.session_mux.specs.declared.sessions.Session.TheVariants.{Open, Closed};
 ghost use Rattle.session_mux.specs.Arrivals.{stage_at};
-ghost use Rattle.session_mux.specs.Completion.{stage_of, held_len, rest_len, session_events, with_data, fault_number as number_of};
+ghost use Rattle.session_mux.specs.Completion.{stage_of, bytes_len, bytes_events, held_len, rest_len, session_events, with_data};
 ghost use Rattle.session_mux.specs.RecordSteps.{is_unopened as stage_is_unopened, is_opened as stage_is_opened};
-ghost use Rattle.session_mux.specs.SessionSteps.{taken, GivesEvent, StreamEvent};
+ghost use Rattle.frame_stream.specs.StreamSteps.{HoldsAnnounced, most_frame};
+ghost use Rattle.session_mux.specs.SessionSteps.{taken, GivesEvent, StreamEvent, TakesBytes, HasAnnounced};
 
 use crate::events::Event;
-use crate::streams::{Found, Stream};
-use channel_frame::FrameFault;
 use ctrl_model::Who;
-use std::alloc::{AllocError, Global};
+use frame_stream::{Decoder, StreamFault};
+use std::alloc::AllocError;
 use std::marker::Model;
 
 /// How many session numbers there are.
@@ -40,7 +40,7 @@ pub enum Session {
     /// It was not opened.
     Unopened,
     /// It is open: who has it, and its bytes.
-    Open { who: Who, bytes: Stream },
+    Open { who: Who, bytes: Decoder },
     /// It was closed. Its number is not opened again.
     Closed,
 }
@@ -59,31 +59,28 @@ pub fn is_opened(stage: Stage) -> bool
     matches!(stage, Stage::Opened)
 }
 
-fn fault_number(fault: FrameFault) -> u8
-    ensures { result ≡ number_of fault }
+// The first event of a session's bytes. A fault is told once.
+fn next_of(session: u8, bytes: &mut Decoder) -> Result<Option<Event>, AllocError>
+    ensures ok { IfOk result (λ event. StreamEvent session bytes.old bytes.new event) }
+    ensures err { OnErr result (bytes.new ≡ bytes.old) }
+    ensures memory { OnErr result (HoldsAnnounced bytes.old) }
 {
-    match fault {
-        FrameFault::BadMarker => 1,
-        FrameFault::TooLong => 2,
-        FrameFault::BadHeaders => 3,
-        FrameFault::NoMemory => 0,
+    if bytes.is_at_fault() {
+        return Ok(None);
+    }
+    match bytes.next() {
+        Ok(None) => Ok(None),
+        Ok(Some(frame)) => Ok(Some(Event::Arrived { session, frame })),
+        Err(StreamFault::Bad { fault, at }) => Ok(Some(Event::Ended { session, fault, at })),
+        Err(StreamFault::NoMemory) => Err(AllocError),
     }
 }
 
-fn next_of(alloc: Global, session: u8, bytes: &mut Stream) -> Result<Option<Event>, AllocError>
-    requires room { bytes.old.given + length bytes.old.held < 2 ^ 63 }
-    ensures ok { IfOk result (λ event. StreamEvent session bytes.old bytes.new event) }
-    ensures err { OnErr result (bytes.new ≡ bytes.old) }
+fn rest_of(bytes: &Decoder) -> usize
+    ensures len { result ≡ bytes_len bytes.now }
+    ensures rest { (s : ℕ) → bytes_events s bytes.now ≡ [] → (result ≡ length (settled bytes.now).held) × (result ≤ most_frame) }
 {
-    match bytes.next(alloc)? {
-        Found::Nothing => Ok(None),
-        Found::Given(frame) => Ok(Some(Event::Arrived { session, frame })),
-        Found::Faulty(fault, at) => Ok(Some(Event::Ended {
-            session,
-            fault: fault_number(fault),
-            at,
-        })),
-    }
+    bytes.rest()
 }
 
 impl Session {
@@ -101,18 +98,20 @@ impl Session {
     /// How many bytes it holds. Where it holds no event, they are those of an unfinished frame.
     pub fn len(&self) -> usize
         ensures len { result ≡ held_len self.now }
-        ensures rest { (s : ℕ) → session_events s self.now ≡ [] → (result ≡ rest_len self.now) × (result ≤ 1114131) }
+        ensures rest { (s : ℕ) → session_events s self.now ≡ [] → (result ≡ rest_len self.now) × (result ≤ most_frame) }
     {
         match self {
-            Session::Open { bytes, .. } => bytes.len(),
+            Session::Open { bytes, .. } => rest_of(bytes),
             _ => 0,
         }
     }
 
     /// Bytes of it come; only an open one takes them.
     pub fn feed(&mut self, piece: &[u8]) -> Result<(), AllocError>
+        requires room { taken self.old + length piece.now < 2 ^ 63 }
         ensures ok { OnOk result (self.new ≡ with_data self.old piece.now) }
         ensures err { OnErr result (self.new ≡ self.old) }
+        ensures memory { OnErr result (TakesBytes self.old) }
     {
         match self {
             Session::Open { bytes, .. } => bytes.feed(piece),
@@ -121,13 +120,13 @@ impl Session {
     }
 
     /// The first event of what it holds.
-    pub fn next_event(&mut self, alloc: Global, session: u8) -> Result<Option<Event>, AllocError>
-        requires room { taken self.old < 2 ^ 63 }
+    pub fn next_event(&mut self, session: u8) -> Result<Option<Event>, AllocError>
         ensures ok { IfOk result (λ event. GivesEvent session self.old self.new event) }
         ensures err { OnErr result (self.new ≡ self.old) }
+        ensures memory { OnErr result (HasAnnounced self.old) }
     {
         match self {
-            Session::Open { bytes, .. } => next_of(alloc, session, bytes),
+            Session::Open { bytes, .. } => next_of(session, bytes),
             _ => Ok(None),
         }
     }

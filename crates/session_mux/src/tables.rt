@@ -1,15 +1,16 @@
 ghost use Rattle.std.specs.Prelude.{◌≡◌, ℕ, ◌+◌, ◌<◌, ◌≤◌, ◌^◌, [], set, map, replicate, IfOk, OnOk, OnErr, length};
 ghost use Rattle.channel_frame.specs.SessionBytes.{no_bytes};
+ghost use Rattle.frame_stream.specs.StreamSteps.{most_frame};
 ghost use Rattle.session_mux.specs.declared.sessions.Session.TheVariants.{Open, Closed};
 ghost use Rattle.session_mux.specs.Arrivals.{stage_at};
 ghost use Rattle.session_mux.specs.Completion.{session_at, unopened, stage_of, held_len, rest_len, with_data, events_held};
 ghost use Rattle.session_mux.specs.RecordSteps.{is_unopened as stage_is_unopened, is_opened as stage_is_opened};
-ghost use Rattle.session_mux.specs.SessionSteps.{taken, SessionsGive};
+ghost use Rattle.session_mux.specs.SessionSteps.{taken, SessionsGive, TakesBytes, SomeHasAnnounced};
 
 use crate::events::Event;
 use crate::sessions::{NUMBERS, Session, Stage, is_opened, is_unopened};
-use crate::streams::Stream;
 use ctrl_model::Who;
+use frame_stream::Decoder;
 use std::alloc::{AllocError, Global};
 use std::marker::Model;
 
@@ -87,7 +88,7 @@ impl SessionTable {
     /// How many bytes a session holds. Where no session holds an event, they are those of an unfinished frame.
     pub fn len(&self, session: u8) -> usize
         ensures len { result ≡ held_len (session_at self.now session) }
-        ensures rest { events_held 0 self.now ≡ [] → (result ≡ rest_len (session_at self.now session)) × (result ≤ 1114131) }
+        ensures rest { events_held 0 self.now ≡ [] → (result ≡ rest_len (session_at self.now session)) × (result ≤ most_frame) }
     {
         self.all[session as usize].len()
     }
@@ -100,7 +101,7 @@ impl SessionTable {
     {
         self.all[session as usize] = Session::Open {
             who,
-            bytes: Stream::new(alloc),
+            bytes: Decoder::new(alloc),
         };
     }
 
@@ -116,8 +117,10 @@ impl SessionTable {
     /// Bytes of a session come.
     pub fn feed(&mut self, session: u8, piece: &[u8]) -> Result<(), AllocError>
         requires quiet { events_held 0 self.old ≡ [] }
+        requires room { taken (session_at self.old session) + length piece.now < 2 ^ 63 }
         ensures ok { OnOk result (self.new ≡ set self.old session (with_data (session_at self.old session) piece.now)) }
         ensures err { OnErr result (self.new ≡ self.old) }
+        ensures memory { OnErr result (TakesBytes (session_at self.old session)) }
         ensures numbers { length self.old ≡ 256 }
     {
         self.all[session as usize].feed(piece)?;
@@ -126,13 +129,13 @@ impl SessionTable {
     }
 
     /// The first event of what the sessions hold.
-    pub fn next_event(&mut self, alloc: Global) -> Result<Option<Event>, AllocError>
-        requires room { (s : ℕ) → taken (session_at self.old s) < 2 ^ 63 }
+    pub fn next_event(&mut self) -> Result<Option<Event>, AllocError>
         ensures ok { IfOk result (λ event. SessionsGive self.old self.new event) }
         ensures err { OnErr result (self.new ≡ self.old) }
+        ensures memory { OnErr result (SomeHasAnnounced self.old) }
     {
         let session = self.ready;
-        let event = self.all[session as usize].next_event(alloc, session)?;
+        let event = self.all[session as usize].next_event(session)?;
         Ok(event)
     }
 }

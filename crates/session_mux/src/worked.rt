@@ -1,9 +1,12 @@
-ghost use Rattle.std.specs.Prelude.{◌≡◌, [], ◌∷◌, ◌++◌, length, take, drop, true, false};
+ghost use Rattle.std.specs.Prelude.{◌≡◌, [], ◌∷◌, ◌++◌, length, take, drop, true, false, None, Some};
+ghost use Rattle.std.specs.List.{list_any};
 ghost use Rattle.ctrl_model.specs.declared.kinds.Who.TheVariants.{Admin, Router, Identity};
-ghost use Rattle.channel_frame.specs.WorkedFrames.{ann_frame, ann_bytes};
+ghost use Rattle.channel_frame.specs.declared.frames.FrameFault.TheVariants.{BadMarker};
+ghost use Rattle.channel_frame.specs.WorkedFrames.{ann_frame, ann_bytes, unmarked_bytes};
 ghost use Rattle.session_mux.specs.declared.sessions.Form.TheVariants.{Plain, Trace};
 ghost use Rattle.session_mux.specs.declared.events.Event.TheVariants.{Opened, Arrived, Ended, Closed};
-ghost use Rattle.session_mux.specs.Completion.{Standing, start_of, fed, events_of, end_of, begins_bad, completed};
+ghost use Rattle.session_mux.specs.Completion.{Standing, start_of, fed, events_of, end_of, begins_bad, session_at, fault_met, is_fault, completed};
+ghost use Rattle.session_mux.specs.MuxSteps.{MayWantMemory};
 ghost use Rattle.session_mux.specs.WorkedTraces.{one_session, two_sessions, kind_five, cut_data, open_twice, open_again, named_admin, third_role, nameless, data_unopened, close_unopened, one_faulty, closed_within};
 
 /// One session that sends a frame and is closed.
@@ -56,4 +59,22 @@ pub fn worked_fault()
     ensures events { events_of (fed (start_of Trace) one_faulty)
         ≡ Opened 0 Admin ∷ Opened 1 (Identity (97 ∷ 110 ∷ 110 ∷ [])) ∷ Ended 0 1 0 ∷ Arrived 1 ann_frame ∷ Closed 0 0 ∷ [] }
     ensures good { begins_bad (end_of (fed (start_of Trace) one_faulty)) ≡ false }
+{}
+
+/// The fault of plain input that a session has met, and the event by which it was given.
+pub fn worked_met()
+    ensures met { fault_met (session_at (end_of (fed (start_of Plain) (ann_bytes ++ unmarked_bytes))).sessions 0) ≡ Some BadMarker }
+    ensures unmet { fault_met (session_at (end_of (fed (start_of Plain) ann_bytes)).sessions 0) ≡ None }
+    ensures given { list_any is_fault (events_of (fed (start_of Plain) (ann_bytes ++ unmarked_bytes))) ≡ true }
+    ensures none_given { list_any is_fault (events_of (fed (start_of Plain) ann_bytes)) ≡ false }
+{}
+
+/// Memory may be wanted for a frame, and for a record before a bad one; not where nothing came, not for the bad record, and not for a
+/// frame behind the fault of plain input.
+pub fn worked_memory()
+    ensures frame { MayWantMemory (fed (start_of Plain) ann_bytes) }
+    ensures nothing { MayWantMemory (start_of Plain) → ⊥ }
+    ensures before_bad { MayWantMemory (fed (start_of Trace) data_unopened) }
+    ensures at_bad { MayWantMemory (fed (end_of (fed (start_of Trace) data_unopened)) ann_bytes) → ⊥ }
+    ensures behind { MayWantMemory (fed (end_of (fed (start_of Plain) (ann_bytes ++ unmarked_bytes))) ann_bytes) → ⊥ }
 {}

@@ -120,7 +120,9 @@ fn a_bad_record_is_told_again(rt: HostRuntime) -> Result<(), Fail> {
 }
 
 // A frame comes whole, and the next bytes are none.
-fn takes_a_frame(rt: &impl Abort, mux: &mut Mux) -> Result<(), MuxFault> {
+fn takes_a_frame(rt: &impl Abort, mux: &mut Mux) -> Result<(), MuxFault>
+    ensures { mux.new.before + length mux.new.input ≡ mux.old.before + length mux.old.input }
+{
     tells(rt, mux, (2, 0, 1000))?;
     tells(rt, mux, (3, 0, 1))?;
     tells(rt, mux, (0, 0, 0))
@@ -134,6 +136,8 @@ fn takes_plain_input(rt: &impl Abort, mux: &mut Mux) -> Result<(), Fail>
     mux.feed(frame)?;
     mux.feed(&[3, 6, 9, 13, 0, 0, 0, 0, 0, 0, 0, 0, 0, 0, 0, 0, 0, 0, 0, 0])?;
     takes_a_frame(rt, mux)?;
+    mux.feed(frame)?;
+    tells(rt, mux, (0, 0, 0))?;
     assert_eq!(rt; mux.session_rest(0), 0);
     Ok(())
 }

@@ -8,6 +8,9 @@ use Rattle.session_mux.proofs.muxing.Mux.first_event.Goals as goal
 
 pub returns-in-Ended-clause-some : goal.returns-in-Ended-clause-some
 returns-in-Ended-clause-some c =
-    ends_here c.args.self.now c.moves.self c.held_event.new.self c.step.new.self c.moves.invariant
+    ends_here c.args.self.now c.moves.self c.held_event.new.self c.step.new.self c.moves.invariant.goes
     (subst (λ (o : Option Event). HeldGives c.moves.self c.held_event.new.self o) c.in_default.is c.in_ok-event.ensures.ok)
     (subst (λ (s : Step). StepGives c.held_event.new.self c.step.new.self s) c.in-Ended.is c.in_ok-step.ensures.ok)
+
+pub returns-in-Stuck-clause-memory : goal.returns-in-Stuck-clause-memory
+returns-in-Stuck-clause-memory c = λ wanting. absurd cc

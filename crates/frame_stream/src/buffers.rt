@@ -63,11 +63,12 @@ impl Buffer {
         self.items = Vec::new(alloc);
     }
 
-    // The room of the bytes that are gone is used again.
+    // The room of the bytes that are gone is used again, once they are as many as those that are there: so each byte that is moved
+    // stands for one that went.
     fn compact(&mut self)
         ensures { self.new ≡ self.old }
     {
-        if self.start > 0 {
+        if self.start > 0 && self.start >= self.items.len() - self.start {
             self.items.drain(..self.start);
             self.start = 0;
         }

@@ -1,0 +1,3 @@
+pub mod StreamSteps
+pub mod Calls
+pub mod WorkedPieces
