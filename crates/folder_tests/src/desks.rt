@@ -20,6 +20,11 @@ pub const BATCH_OF_ANN: [u8; 28] = [
     1, 2, 1, 1, 4, 0, 0, 0, 2, 0, 0, 0, 1, 5, 3, 0, 0, 0, 1, 5, 0, 0, 0, 3, 97, 110, 110, 0,
 ];
 
+/// A batch behind it, which creates a second identity with the name bob.
+pub const BATCH_OF_BOB: [u8; 28] = [
+    1, 2, 1, 1, 4, 0, 0, 0, 3, 0, 0, 0, 1, 5, 3, 0, 0, 0, 2, 5, 0, 0, 0, 3, 98, 111, 98, 0,
+];
+
 /// The header of a slot.
 pub const HEADER_OF_SLOT: [u8; 8] = [0x5A, 0x43, 0x54, 0x4C, 1, 0, 0, 0];
 
@@ -32,10 +37,28 @@ pub fn empty_desk(alloc: Global) -> Result<MemDesk, AllocError>
 
 /// A desk with a folder whose first slot has these bytes and stands.
 pub fn desk_of(alloc: Global, slot: &[u8]) -> Result<MemDesk, AllocError> {
+    desk_with(alloc, slot, &[], &[0], &[])
+}
+
+/// A desk with a folder of these parts, which fails at these calls.
+pub fn of_parts(alloc: Global, images: Images, failing: &[u32]) -> Result<MemDesk, AllocError> {
+    let failing = Vec::from_slice(alloc, failing)?;
+    MemDesk::new(alloc, images, ROOM, failing)
+}
+
+/// A desk whose parts have these bytes, which fails at these calls.
+pub fn desk_with(
+    alloc: Global,
+    zero: &[u8],
+    one: &[u8],
+    mark: &[u8],
+    failing: &[u32],
+) -> Result<MemDesk, AllocError> {
     let mut images = Images::empty(alloc);
-    images.zero.extend_from_slice(slot)?;
-    images.mark.push(0)?;
-    MemDesk::new(alloc, images, ROOM, Vec::new(alloc))
+    images.zero.extend_from_slice(zero)?;
+    images.one.extend_from_slice(one)?;
+    images.mark.extend_from_slice(mark)?;
+    of_parts(alloc, images, failing)
 }
 
 /// Adds a record behind an open gate.

@@ -4,6 +4,8 @@
 #[cfg(test)]
 mod checks;
 #[cfg(test)]
+mod compactions;
+#[cfg(test)]
 mod damage;
 #[cfg(test)]
 mod desks;

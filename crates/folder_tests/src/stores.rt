@@ -4,7 +4,7 @@ ghost use Rattle.row_store.specs.WorkedStores.{rows_of_ann};
 ghost use Rattle.folder_tests.specs.ReadyStores.{IsReady};
 
 use crate::checks::{are_bytes, is_fault};
-use crate::desks::{BATCH_OF_ANN, empty_desk};
+use crate::desks::{BATCH_OF_ANN, BATCH_OF_BOB, empty_desk};
 use row_codec::{RowFault, read_batch};
 use row_store::{Store, StoreBounds, StoreFault, worked_rows};
 use std::alloc::Global;
@@ -12,11 +12,6 @@ use std::process::Abort;
 use std::test::Fail;
 use ziti_desk::MemDesk;
 use ziti_outside::{Desk, Part};
-
-/// A batch behind the first, which creates a second identity with the name bob.
-const BATCH_OF_BOB: [u8; 28] = [
-    1, 2, 1, 1, 4, 0, 0, 0, 3, 0, 0, 0, 1, 5, 3, 0, 0, 0, 2, 5, 0, 0, 0, 3, 98, 111, 98, 0,
-];
 
 /// The first slot with the first batch in it.
 const SLOT_OF_ANN: [u8; 42] = [

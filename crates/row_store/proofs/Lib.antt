@@ -4,3 +4,5 @@ pub mod SlotReadings
 pub mod OpeningLaws
 pub mod CommitLaws
 mod WorkedLaws
+mod MoveLaws
+mod CompactLaws

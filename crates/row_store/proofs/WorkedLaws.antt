@@ -1,17 +1,18 @@
 -- The rows of the first identity and the slots that hold them, worked by hand.
-use Rattle.std.proofs.Common.{◌≡◌, ℕ, ◌+◌, ◌^◌, ◌<◌, List, [], ◌∷◌, ◌++◌, length, take, drop, inl, inr, refl, sym, ap, ◌∙◌, arith}
+use Rattle.std.proofs.Common.{◌≡◌, ℕ, ◌+◌, ◌^◌, ◌<◌, List, [], ◌∷◌, ◌++◌, length, take, drop, replicate, inl, inr, refl, sym, ap, ◌∙◌, arith}
 use Rattle.std.specs.Int.{w32, to_le_bytes, from_le_bytes}
 use Rattle.std.proofs.lemmas.List.{drop_at}
 use Rattle.std.proofs.lemmas.Nat.{from_le_bytes-to_le_bytes_4}
 use Rattle.ziti_outside.specs.declared.desk.Part.TheVariants.{Zero}
 use Rattle.journal_core.specs.Slots.{IsDamaged, record_of}
-use Rattle.journal_core.specs.WorkedSlots.{batch_of_ann, slot_of_ann}
+use Rattle.journal_core.specs.WorkedSlots.{batch_of_ann, empty_slot, slot_of_ann}
 use Rattle.row_codec.specs.declared.changes.Op.{Op}
 use Rattle.row_codec.specs.declared.changes.Op.TheVariants.{Delete}
 use Rattle.row_codec.specs.Batches.{Spells}
 use Rattle.row_store.specs.BatchRows.{Leads, Give}
 use Rattle.row_store.specs.OpenedRows.{OpensTo, IsDamagedAt}
-use Rattle.row_store.specs.WorkedStores.{rows_of_ann, ops_of_ann, folder_of, deletes_absent, slot_with_deletion}
+use Rattle.row_store.specs.CompactedStores.{IsCompacted}
+use Rattle.row_store.specs.WorkedStores.{rows_of_ann, ops_of_ann, folder_of, deletes_absent, slot_with_deletion, store_of_ann, store_of_none, second_alone, old_second}
 use Rattle.row_store.proofs.BatchLaws.{Leads-of, leads_nowhere}
 use Rattle.row_store.proofs.SlotReadings.{read_past, record_within}
 
@@ -95,3 +96,32 @@ deletion_damaged = record {
     });
   });
 }
+
+-- ---- compacted
+
+pub ann_compacted : IsCompacted (store_of_ann 64 2) (folder_of slot_of_ann) (second_alone slot_of_ann)
+ann_compacted = record {
+  other = refl;
+  mark = refl;
+  cut = refl;
+  stands = record { gate = 0; more = []; split = refl; closed = λ e. absurd (omega (arith, e)); short = (omega arith, tt) };
+}
+
+pub old_compacted : IsCompacted (store_of_ann 64 2) (old_second (replicate 44 7)) (second_alone (slot_of_ann ++ 7 ∷ 7 ∷ []))
+old_compacted = record {
+  other = refl;
+  mark = refl;
+  cut = refl;
+  stands = record { gate = 0; more = 7 ∷ 7 ∷ []; split = refl; closed = λ e. absurd (omega (arith, e)); short = (omega arith, tt) };
+}
+
+pub none_compacted : IsCompacted store_of_none (folder_of empty_slot) (second_alone empty_slot)
+none_compacted = record {
+  other = refl;
+  mark = refl;
+  cut = refl;
+  stands = record { gate = 0; more = []; split = refl; closed = λ e. absurd (omega (arith, e)); short = tt };
+}
+
+pub second_opens : OpensTo (second_alone slot_of_ann) rows_of_ann
+second_opens = record { batches = batch_of_ann ∷ []; stands = ann_compacted.stands; give = ann_gives }

@@ -1,10 +1,11 @@
 -- The rows that batches give, one after another (docs/FORMATS.md, "Batches").
 use Rattle.std.specs.Prelude.{◌≡◌, ℕ, ◌==◌, Bool, false, List, [], ◌∷◌, map, filter}
 use Rattle.std.specs.declared.vec.Vec.{Vec}
+use Rattle.std.specs.List.{AllByRecursion}
 use Rattle.row_codec.specs.declared.changes.Op.{Op}
 use Rattle.row_codec.specs.declared.changes.Op.TheVariants.{Put}
 use Rattle.row_codec.specs.RowDifference.{with_batch, IsTrueDifference}
-use Rattle.row_codec.specs.Batches.{bytes_cmp, entries_of, Spells}
+use Rattle.row_codec.specs.Batches.{bytes_cmp, entries_of, IsSpelledOp, Spells}
 
 -- Rows: values under their keys, both as bytes.
 abbrev pub ByteRows : Type 0
@@ -42,6 +43,10 @@ is_of_table table (byte ∷ key) = byte == table
 -- Rows as puts, in the order of their keys.
 abbrev pub puts : ByteRows → List Op
 puts rows = map (λ x. Put x.0 x.1) rows
+
+-- Rows that can be put: no key has more than 255 bytes, and each value's length fits four bytes.
+abbrev pub ArePuttable : ByteRows → Type 0
+ArePuttable rows = AllByRecursion (λ x. IsSpelledOp (Put x.0 x.1)) rows
 
 -- The rows of a table, as puts in the order of their keys.
 abbrev pub puts_of : ℕ → ByteRows → List Op

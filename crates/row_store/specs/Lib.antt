@@ -4,4 +4,6 @@ pub mod OpenedRows
 pub mod StoredRows
 pub mod SlotReading
 pub mod Faults
+pub mod CompactedStores
+pub mod MovedSlots
 pub mod WorkedStores

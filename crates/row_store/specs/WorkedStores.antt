@@ -1,11 +1,12 @@
 -- Rows, folders and damaged slots whose bytes were worked by hand.
-use Rattle.std.specs.Prelude.{ℕ, List, [], ◌∷◌, ◌++◌, take}
+use Rattle.std.specs.Prelude.{ℕ, true, false, List, [], ◌∷◌, ◌++◌, take}
 use Rattle.ziti_outside.specs.declared.desk.Part.TheVariants.{Zero, One, Mark}
 use Rattle.ziti_outside.specs.Images.{Image}
 use Rattle.journal_core.specs.WorkedSlots.{slot_of_ann}
 use Rattle.row_codec.specs.declared.changes.Op.{Op}
 use Rattle.row_codec.specs.declared.changes.Op.TheVariants.{Put}
 use Rattle.row_store.specs.BatchRows.{ByteRows}
+use Rattle.row_store.specs.StoredRows.{Stored}
 
 -- The keys of the rows of the first identity: the next number of identities, and identity 1.
 abbrev pub key_of_next : List ℕ
@@ -44,3 +45,31 @@ deletes_absent = 2 ∷ 5 ∷ 3 ∷ 0 ∷ 0 ∷ 0 ∷ 2 ∷ []
 -- The slot of the first identity with that batch behind it.
 abbrev pub slot_with_deletion : List ℕ
 slot_with_deletion = take 41 slot_of_ann ++ 1 ∷ 7 ∷ 0 ∷ 0 ∷ 0 ∷ (deletes_absent ++ 0 ∷ [])
+
+-- The store of the folder of the first identity, with these bounds of a slot and of the mark.
+abbrev pub store_of_ann : (slot mark : ℕ) → Stored
+store_of_ann slot mark = record {
+  rows = rows_of_ann;
+  part = Zero;
+  end = 41;
+  mark = 1;
+  bounds = record { slot = slot; mark = mark };
+  opened = true;
+  spent = false;
+}
+
+-- The store of a folder that was created.
+abbrev pub store_of_none : Stored
+store_of_none = record { rows = []; part = Zero; end = 8; mark = 1; bounds = record { slot = 64; mark = 2 }; opened = true; spent = false }
+
+-- A folder whose second slot has these bytes and stands alone.
+abbrev pub second_alone : List ℕ → Image
+second_alone bytes Zero = []
+second_alone bytes One = bytes
+second_alone bytes Mark = 0 ∷ 0 ∷ []
+
+-- The folder of the first identity with old bytes in the second slot.
+abbrev pub old_second : List ℕ → Image
+old_second bytes Zero = slot_of_ann
+old_second bytes One = bytes
+old_second bytes Mark = 0 ∷ []

@@ -10,7 +10,7 @@ ghost use Rattle.slot_files.specs.FolderImage.{StandsAsBefore};
 ghost use Rattle.slot_files.specs.OpenedSlots.{IsNamed, IsOpened, Opens, Finds};
 ghost use Rattle.row_codec.specs.RowDifference.{Rises};
 ghost use Rattle.row_codec.specs.Batches.{bytes_cmp};
-ghost use Rattle.row_store.specs.BatchRows.{rows_in};
+ghost use Rattle.row_store.specs.BatchRows.{ArePuttable, rows_in};
 ghost use Rattle.row_store.specs.SlotReading.{IsReadWhole, SlotFails};
 ghost use Rattle.row_store.specs.Faults.{disk_failure, OpenFails};
 
@@ -68,6 +68,7 @@ pub(crate) fn load<D: Desk>(
     requires { IsTrue D.tells → IsFront header (D.reads desk.old part) }
     ensures whole { IfOk result (λ read. IsTrue D.tells → IsReadWhole (D.reads desk.old part) read.1 (rows_in read.0.entries)) }
     ensures rises { IfOk result (λ read. Rises bytes_cmp (rows_in read.0.entries)) }
+    ensures puttable { IfOk result (λ read. ArePuttable (rows_in read.0.entries)) }
     ensures fault { IfErr result (λ fault. SlotFails D.tells part (D.reads desk.old part) fault) }
     ensures cause { HasCause (D.disk_faults desk.old) (D.disk_faults desk.new) (disk_failure result) }
     ensures reads { OnlyReads D.reads D.said D.noted D.say_faults D.note_faults D.moment D.since D.may_leave desk.old desk.new }

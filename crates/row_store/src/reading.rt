@@ -1,11 +1,11 @@
-ghost use Rattle.std.specs.Prelude.{◌≡◌, ◌+◌, ◌-◌, ◌^◌, ◌≤◌, min, [], IsTrue, IfOk, IfErr, IfSome};
+ghost use Rattle.std.specs.Prelude.{◌≡◌, ◌+◌, ◌-◌, ◌^◌, ◌≤◌, min, [], IsTrue, OnOk, IfOk, IfErr, IfSome};
 ghost use Rattle.ziti_outside.specs.Told.{IsFront};
 ghost use Rattle.ziti_outside.specs.Causes.{HasCause};
 ghost use Rattle.ziti_outside.specs.Untouched.{OnlyReads};
 ghost use Rattle.journal_core.specs.Slots.{GateGives, header};
 ghost use Rattle.row_codec.specs.RowDifference.{Rises};
 ghost use Rattle.row_codec.specs.Batches.{bytes_cmp, IsBatch};
-ghost use Rattle.row_store.specs.BatchRows.{rows_in};
+ghost use Rattle.row_store.specs.BatchRows.{ArePuttable, rows_in};
 ghost use Rattle.row_store.specs.SlotReading.{RecordFails, Makes, Adds, StepsTo, StepFails, IsReadWhole, SlotFails};
 ghost use Rattle.row_store.specs.Faults.{disk_failure};
 
@@ -81,6 +81,7 @@ fn step<D: Desk>(
     ensures further { IfOk result (λ next. IfSome next (λ place. min (at + 1) (2 ^ 64 - 1) ≤ place)) }
     ensures fault { IfErr result (λ fault. StepFails D.tells part at (D.reads desk.old part) (rows_in rows.old.entries) fault) }
     ensures rises { Rises bytes_cmp (rows_in rows.new.entries) }
+    ensures puttable { OnOk result (ArePuttable (rows_in rows.old.entries) → ArePuttable (rows_in rows.new.entries)) }
     ensures cause { HasCause (D.disk_faults desk.old) (D.disk_faults desk.new) (disk_failure result) }
     ensures reads { OnlyReads D.reads D.said D.noted D.say_faults D.note_faults D.moment D.since D.may_leave desk.old desk.new }
 {
@@ -108,6 +109,7 @@ pub(crate) fn read_slot<D: Desk>(
     ensures whole { IfOk result (λ end. IsTrue D.tells → IsReadWhole (D.reads desk.old part) end (rows_in rows.new.entries)) }
     ensures fault { IfErr result (λ fault. SlotFails D.tells part (D.reads desk.old part) fault) }
     ensures rises { Rises bytes_cmp (rows_in rows.new.entries) }
+    ensures puttable { OnOk result (ArePuttable (rows_in rows.new.entries)) }
     ensures cause { HasCause (D.disk_faults desk.old) (D.disk_faults desk.new) (disk_failure result) }
     ensures reads { OnlyReads D.reads D.said D.noted D.say_faults D.note_faults D.moment D.since D.may_leave desk.old desk.new }
 {

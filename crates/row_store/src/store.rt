@@ -13,17 +13,21 @@ ghost use Rattle.row_store.specs.BatchRows.{rows_after, puts, puts_of};
 ghost use Rattle.row_store.specs.OpenedRows.{OpensTo};
 ghost use Rattle.row_store.specs.StoredRows.{IsStoreOf, ReadsAs, with_ops, without_rows};
 ghost use Rattle.row_store.specs.Faults.{disk_failure, OpenFails, MayCommit, CommitFails};
+ghost use Rattle.row_store.specs.CompactedStores.{compacted_of, IsCompacted, MayCompact, CompactFails};
 
 use crate::bounds::StoreBounds;
 use crate::changing::Rows;
 use crate::committing::{keep, pack};
+use crate::compacting::{compacted_slot, find_room};
 use crate::faults::StoreFault;
+use crate::moving::move_to;
 use crate::opening::{load, look, settle};
 use crate::scanning::{puts, puts_of};
 use crate::sizing::has_room;
 use ctrl_model::Bytes;
 use journal_core::HEADER;
 use row_codec::Batch;
+use slot_files::Standing;
 use std::alloc::{AllocError, Global};
 use std::marker::Model;
 use ziti_outside::{Desk, Part};
@@ -48,17 +52,19 @@ pub struct Store {
 }
 
 impl Model for Store {
-    ghost use Rattle.std.specs.Prelude.{◌≤◌, ◌^◌};
+    ghost use Rattle.std.specs.Prelude.{◌≡◌, ◌≤◌, ◌^◌, true, false};
+    ghost use Rattle.slot_files.specs.OpenedSlots.{IsNamed};
     ghost use Rattle.row_codec.specs.RowDifference.{Rises};
     ghost use Rattle.row_codec.specs.Batches.{bytes_cmp};
-    ghost use Rattle.row_store.specs.BatchRows.{rows_in};
+    ghost use Rattle.row_store.specs.BatchRows.{ArePuttable, rows_in};
     ghost use Rattle.row_store.specs.StoredRows.{Stored};
 
     ghost Value = { Stored };
 
     ghost view = { λ s. record { rows = rows_in s.rows.entries; part = s.part; end = s.end; mark = s.mark; bounds = s.bounds; opened = s.opened; spent = s.spent } };
 
-    ghost invariant = { λ s. Rises bytes_cmp (rows_in s.rows.entries) × (s.bounds.slot ≤ 2 ^ 30) };
+    ghost invariant = { λ s. Rises bytes_cmp (rows_in s.rows.entries) × (s.bounds.slot ≤ 2 ^ 30)
+        × (s.spent ≡ false → ArePuttable (rows_in s.rows.entries)) × (s.opened ≡ true → IsNamed (record { part = s.part; mark = s.mark })) };
 }
 
 impl Store {
@@ -230,6 +236,48 @@ impl Store {
             batch.as_slice(),
         )?;
         self.spent = false;
+        Ok(())
+    }
+
+    /// Compacts the store: its rows stand in the other slot, as one batch that puts them all, or as none where there are no rows; and
+    /// the slot that stood is cut to nothing.
+    ///
+    /// Whatever comes of it, a stop at any moment of the call leaves a folder that opens to the same rows. Spent comes exactly where
+    /// the store is spent. Full comes exactly where it is not and the other slot would pass its bound, which the exact size decides;
+    /// MarkFull comes exactly where the store is not spent, that slot keeps its bound, and the mark has as many bytes as it may have.
+    /// Nothing was done on any of the three, and none takes memory. Want of memory comes before the first call on the disk and
+    /// leaves all as it was. A fault of the disk leaves the rows and spends the store, also where only the slot that stood was not
+    /// cut. `Damaged` never comes.
+    pub fn compact<D: Desk>(&mut self, desk: &mut D) -> Result<(), StoreFault>
+        requires opened { self.old.opened ≡ true }
+        requires stands { self.old.spent ≡ false → IsTrue D.tells → ReadsAs self.old (D.reads desk.old) (D.may_leave desk.old) }
+
+        ensures compacted { OnOk result (MayCompact self.old × (self.new ≡ compacted_of self.old)) }
+        ensures folder { OnOk result (IsTrue D.tells → IsCompacted self.old (D.reads desk.old) (D.reads desk.new)) }
+        ensures fault { IfErr result (λ fault. CompactFails self.old self.new desk.old desk.new fault) }
+        ensures stands { self.new.spent ≡ false → IsTrue D.tells → ReadsAs self.new (D.reads desk.new) (D.may_leave desk.new) }
+        ensures cause { HasCause (D.disk_faults desk.old) (D.disk_faults desk.new) (disk_failure result) }
+        ensures others { OnlyDisk D.said D.noted D.say_faults D.note_faults desk.old desk.new }
+        ensures quiet { Leaves D.moment D.since D.may_leave D.said desk.old desk.new (λ image. ⊤) }
+        ensures stops { self.old.spent ≡ false → IsTrue D.tells → Leaves D.moment D.since D.may_leave D.said desk.old desk.new
+            (λ image. OpensTo image self.old.rows) }
+        ensures remembers { Remembers (D.moment desk.old) (D.since desk.old) (D.since desk.new) }
+    {
+        if self.spent {
+            return Err(StoreFault::Spent);
+        }
+        find_room(&self.rows, self.mark, self.bounds)?;
+        let slot = compacted_slot(self.alloc, &self.rows)?;
+        let standing = Standing {
+            part: self.part,
+            mark: self.mark,
+        };
+        let moved = move_to(desk, standing, self.bounds.mark, slot.as_slice());
+        self.spent = moved.is_err();
+        let now = moved?;
+        self.part = now.part;
+        self.mark = now.mark;
+        self.end = slot.len() as u64 - 1;
         Ok(())
     }
 }

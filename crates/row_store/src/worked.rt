@@ -1,13 +1,15 @@
-ghost use Rattle.std.specs.Prelude.{◌≡◌, [], ◌∷◌, codes, take, true};
+ghost use Rattle.std.specs.Prelude.{◌≡◌, [], ◌∷◌, ◌++◌, ℕ, replicate, codes, take, true};
 ghost use Rattle.ctrl_model.specs.WorkedStates.{after, line, ann_to_web};
 ghost use Rattle.ctrl_model.specs.declared.commands.Command.TheVariants.{UpdateRouter, DeleteRouter, DeleteLink, DeleteTerminator};
-ghost use Rattle.ziti_outside.specs.declared.desk.Part.TheVariants.{Zero};
-ghost use Rattle.journal_core.specs.WorkedSlots.{batch_of_ann, slot_of_ann};
+ghost use Rattle.ziti_outside.specs.declared.desk.Part.TheVariants.{Zero, One};
+ghost use Rattle.journal_core.specs.WorkedSlots.{batch_of_ann, empty_slot, slot_of_ann};
 ghost use Rattle.slot_files.specs.WorkedFolders.{no_files, slot_without_mark};
 ghost use Rattle.row_codec.specs.Batches.{batch_between, batch_bytes, Spells};
 ghost use Rattle.row_store.specs.BatchRows.{Leads, Give, rows_after, puts_of};
 ghost use Rattle.row_store.specs.OpenedRows.{OpensTo, IsDamagedAt};
-ghost use Rattle.row_store.specs.WorkedStores.{rows_of_ann, ops_of_ann, key_of_ann, value_of_ann, folder_of, deletes_absent, slot_with_deletion};
+ghost use Rattle.row_store.specs.WorkedStores.{rows_of_ann, ops_of_ann, key_of_ann, value_of_ann, folder_of, deletes_absent, slot_with_deletion, store_of_ann, store_of_none, second_alone, old_second};
+ghost use Rattle.row_store.specs.CompactedStores.{compacted, compacted_size, compacted_of, IsCompacted, HasRoom, CompactFails};
+ghost use Rattle.row_store.specs.declared.faults.StoreFault.TheVariants.{Full, MarkFull};
 ghost use Rattle.row_codec.specs.declared.changes.Op.TheVariants.{Put};
 
 /// The rows that the first batch gives, worked by hand.
@@ -34,6 +36,23 @@ pub fn worked_damage()
     ensures no_gate { IsDamagedAt (folder_of (take 41 slot_of_ann)) Zero 41 }
     ensures no_header { IsDamagedAt (folder_of []) Zero 0 }
     ensures deletes_absent { IsDamagedAt (folder_of slot_with_deletion) Zero 41 }
+{}
+
+/// Stores compacted, worked by hand: the first identity takes 42 bytes of the second slot, behind which older bytes stay; no rows take
+/// 9; and with a bound of 41, or a mark that has as many bytes as it may have, there is no room. Of two causes the slot's is told.
+pub fn worked_compactions()
+    ensures batch { compacted rows_of_ann ≡ batch_of_ann ∷ [] }
+    ensures size { compacted_size rows_of_ann ≡ 42 }
+    ensures store { compacted_of (store_of_ann 64 2) ≡ record (store_of_ann 64 2) { part = One; mark = 2 } }
+    ensures of_ann { IsCompacted (store_of_ann 64 2) (folder_of slot_of_ann) (second_alone slot_of_ann) }
+    ensures over_old_bytes { IsCompacted (store_of_ann 64 2) (old_second (replicate 44 7)) (second_alone (slot_of_ann ++ 7 ∷ 7 ∷ [])) }
+    ensures of_none { IsCompacted store_of_none (folder_of empty_slot) (second_alone empty_slot) }
+    ensures opens { OpensTo (second_alone slot_of_ann) rows_of_ann }
+    ensures just_fits { HasRoom (store_of_ann 42 2) }
+    ensures full { CompactFails {D = ℕ} (store_of_ann 41 1) (store_of_ann 41 1) 0 0 Full }
+    ensures not_full { CompactFails {D = ℕ} (store_of_ann 42 1) (store_of_ann 42 1) 0 0 Full → ⊥ }
+    ensures mark_full { CompactFails {D = ℕ} (store_of_ann 42 1) (store_of_ann 42 1) 0 0 MarkFull }
+    ensures full_comes_first { CompactFails {D = ℕ} (store_of_ann 41 1) (store_of_ann 41 1) 0 0 MarkFull → ⊥ }
 {}
 
 /// The batches of commands of other families, worked by hand, on a line of three routers with a circuit over both its links: router 2

@@ -13,9 +13,13 @@ returns-in-None-clause-whole g c = λ told.
     let here = subst (λ (i : Image). StepsTo (i c.args.part) c.records.at (rows_in c.records.rows.entries) (rows_in c.step.new.rows.entries) None) c.records.invariant.only.parts made in
     read_end _ c.records.at _ _ (c.records.invariant.read told) here.0 here.1
 
+pub returns-in-None-clause-puttable : goal.returns-in-None-clause-puttable
+returns-in-None-clause-puttable g c = c.in_ok-step.ensures.puttable c.records.invariant.puttable
+
 pub records-preserved : goal.records-preserved
 records-preserved g c = record {
   rises = c.step.ensures.rises;
+  puttable = c.in_ok-step.ensures.puttable c.records.invariant.puttable;
   read = λ told.
       let made = subst (λ (o : Option ℕ). StepsTo (g.D.Desk.reads c.records.desk c.args.part) c.records.at (rows_in c.records.rows.entries) (rows_in c.step.new.rows.entries) o)
       c.in-Some.is (c.in_ok-step.ensures.made told) in

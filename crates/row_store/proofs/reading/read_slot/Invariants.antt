@@ -2,14 +2,15 @@ use Rattle.std.proofs.Common.{◌≡◌, ◌-◌, IsTrue, length}
 use Rattle.ziti_outside.specs.Untouched.{OnlyReads}
 use Rattle.row_codec.specs.RowDifference.{Rises}
 use Rattle.row_codec.specs.Batches.{bytes_cmp}
-use Rattle.row_store.specs.BatchRows.{rows_in}
+use Rattle.row_store.specs.BatchRows.{ArePuttable, rows_in}
 use Rattle.row_store.specs.OpenedRows.{IsReadTo}
 use Rattle.row_store.proofs.reading.read_slot.Given as goal
 
--- the bytes are read up to this place, and the desk was read alone, without a fault
+-- the bytes are read up to this place into rows that can be put, and the desk was read alone, without a fault
 abbrev pub invariant-records : goal.invariant-records
 invariant-records g l = record {
   rises : Rises bytes_cmp (rows_in l.rows.entries);
+  puttable : ArePuttable (rows_in l.rows.entries);
   read : IsTrue g.D.Desk.tells → IsReadTo (g.D.Desk.reads l.fn.desk l.part) l.at (rows_in l.rows.entries);
   calm : g.D.Desk.disk_faults l.desk ≡ g.D.Desk.disk_faults l.fn.desk;
   end : IsTrue g.D.Desk.tells → l.end ≡ length (g.D.Desk.reads l.fn.desk l.part);

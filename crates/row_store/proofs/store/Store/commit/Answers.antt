@@ -4,8 +4,9 @@ use Rattle.ziti_outside.proofs.MomentLaws.{Leaves-weaker}
 use Rattle.journal_core.specs.Slots.{IsPayload}
 use Rattle.row_codec.specs.declared.changes.Op.{Op}
 use Rattle.row_codec.specs.Batches.{batch_bytes}
-use Rattle.row_store.specs.BatchRows.{rows_after}
+use Rattle.row_store.specs.BatchRows.{ArePuttable, rows_after}
 use Rattle.row_store.specs.StoredRows.{Stored}
+use Rattle.row_store.proofs.CompactLaws.{puttable_after}
 use Rattle.row_store.proofs.CommitLaws.{seen_gate, seen_stops, seen_stands, seen_behind, short_batch, kept_none, err_inside}
 use Rattle.row_store.proofs.store.Store.commit.Goals as goal
 
@@ -46,3 +47,12 @@ returns-in_err-self-inside-clause-behind g c = λ none fresh spent told.
     seen_behind _ _ _ _ _ _ c.args.batch.now _ c.self.view_is (c.requires.stands fresh told) c.requires.batch (c.requires.changes fresh) c.in_ok-packed.ensures short
     (c.in_err-self-inside.ensures.added (kept_none ℕ _ (sym p.2 ∙ wanting)) told) c.keep.ensures.elsewhere
     (c.in_err-self-inside.ensures.stable (kept_none ℕ _ (sym p.2 ∙ wanting))) (c.keep.ensures.stops told).found
+
+pub invariant_of-self-2 : goal.invariant_of-self-2
+invariant_of-self-2 g c = (
+  c.keep.ensures.rises,
+  c.self.invariant.1,
+  λ unspent. subst ArePuttable (sym (c.in_ok-self-inside.ensures.rows ∙ ap (rows_after _) c.as_slice-2.ensures))
+      (puttable_after _ c.args.batch.now (c.self.invariant.2 c.if-self.false) c.requires.batch.fits),
+  c.self.invariant.3,
+)
