@@ -12,3 +12,5 @@ pub mod PartLaws
 pub mod ReachLaws
 pub mod GrantLaws
 pub mod BestClaimLaws
+pub mod PresentLaws
+pub mod CircuitPlanLaws

@@ -6,3 +6,6 @@ pub mod Searched
 pub mod Parts
 pub mod Reached
 pub mod BestClaims
+pub mod CircuitParts
+pub mod CircuitPlans
+pub mod PlannedCircuits

@@ -1,9 +1,13 @@
-//! What a circuit request is answered: the least route, or the first rule that fails; the explanation of a route; and whether a
-//! claimed route is justified.
+//! What a circuit request is answered: the least route, or the first rule that fails; the explanation of a route; whether a
+//! claimed route is justified; and the commands on circuits, planned.
 #![tactic(auto)]
 
 mod beating;
 mod choosing;
+mod circuit_asking;
+mod circuit_names;
+mod circuit_parts;
+mod circuit_planning;
 mod costs;
 mod deciding;
 mod explaining;
@@ -18,6 +22,8 @@ mod values;
 mod verifying;
 mod views;
 
+pub use circuit_parts::Parts;
+pub use circuit_planning::plan_circuit_command;
 pub use deciding::decide;
 pub use explaining::explain;
 pub use verifying::verify;

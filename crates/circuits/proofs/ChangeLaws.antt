@@ -1,22 +1,16 @@
--- Laws of circuits as they will be: their numbers, the circuit at a number, and which of them go.
-use Rattle.std.proofs.Common.{◌≡◌, ℕ, ◌==◌, true, not, List, [], Option, None, Some, refl, sym, ◌∙◌, ap}
-use Rattle.std.specs.List.{filter}
-use Rattle.std.specs.Option.{option_map_or}
+-- Laws of circuits as they will be: their numbers, and the circuit at a number.
+use Rattle.std.proofs.Common.{◌≡◌, ℕ, ◌==◌, not, List, [], Option, None, Some, refl, sym, ◌∙◌, ap}
 use Rattle.ctrl_model.specs.Numbered.{at, numbers, Between}
-use Rattle.ctrl_model.specs.State.{Circuit}
 use Rattle.ctrl_model.proofs.NumberedLaws.{at-without, Between-with_last, Between-without}
 use Rattle.record_tables.specs.AfterChange.{changed_by}
 use Rattle.record_tables.specs.Turns.{turned}
-use Rattle.record_tables.proofs.GoneLaws.{filter_among, gone_none}
-use Rattle.record_tables.proofs.NumberLoops.{at_among}
+use Rattle.record_tables.proofs.GoneLaws.{gone_none}
 use Rattle.record_tables.proofs.TurnLaws.{numbers-filter, numbers-with_last, at-new}
 use Rattle.circuits.specs.declared.changes.CircuitChange.{CircuitChange}
 use Rattle.circuits.specs.declared.changes.CircuitChange.TheVariants as change
-use Rattle.circuits.specs.declared.staying.Present.{Present}
 use Rattle.circuits.specs.ChangedCircuits.{turn_of, circuit_after}
 use Rattle.circuits.specs.CircuitChanges.{after_circuit_change, circuits_after}
 use Rattle.circuits.specs.CircuitTables.{CircuitTables, KeepsCircuits}
-use Rattle.circuits.specs.PresentRecords.{stays_beside, stays_at}
 
 pub at-after : (c : CircuitChange) (k : CircuitTables) (n : ℕ) → KeepsCircuits k
     → circuit_after c k.circuits.next n (at k.circuits.rows n) ≡ at (after_circuit_change c k).circuits.rows n
@@ -34,14 +28,6 @@ pub ordered-changed : (o : Option CircuitChange) (k : CircuitTables) → KeepsCi
 ordered-changed None k keeps = keeps.ordered
 ordered-changed (Some (change.Add circuit)) k keeps = Between-with_last k.circuits.next k.circuits.rows 1 circuit keeps.first keeps.ordered
 ordered-changed (Some (change.Remove m)) k keeps = Between-without k.circuits.next k.circuits.rows 1 m.0 keeps.ordered
-
--- the numbers whose circuit does not stay are those of the circuits that do not
-pub going_are : (p : Present) (rows : List (ℕ × Circuit)) (high : ℕ) → Between 1 high rows
-    → filter (λ n. not (stays_at p rows n)) (numbers rows) ≡ numbers (filter (λ row. not (stays_beside p row.1)) rows)
-going_are p rows high b =
-    sym (numbers-filter (λ n. not (stays_at p rows n)) rows)
-    ∙ ap numbers (filter_among (λ (row : ℕ × Circuit). not (stays_at p rows row.0)) (λ row. not (stays_beside p row.1)) rows (λ x m.
-    ap (λ o. not (option_map_or (stays_beside p) o true)) (at_among high rows 1 x.0 x.1 b m)))
 
 -- where none are gone, the circuits are as the change makes them
 pub none_gone : (o : Option CircuitChange) (gone : List ℕ) (k : CircuitTables) → gone ≡ [] → circuits_after o gone k ≡ changed_by after_circuit_change o k

@@ -1,4 +1,2 @@
 pub mod CircuitLaws
 pub mod ChangeLaws
-pub mod WalkedLinks
-pub mod RowLaws

@@ -1,16 +1,10 @@
--- What a command on circuits changes, in the circuits themselves and in a state, and which circuits stay (docs/PROMISES.md,
--- "Commands on circuits").
-use Rattle.std.specs.Prelude.{◌≡◌, ℕ, Bool, true, false, not, List, map, filter}
+-- What a command on circuits changes, in the circuits themselves and in a state (docs/PROMISES.md, "Commands on circuits").
+use Rattle.std.specs.Prelude.{◌≡◌, ℕ, true, false, List}
 use Rattle.std.specs.declared.option.Option.{Option}
-use Rattle.ctrl_model.specs.Networks.{seen}
-use Rattle.ctrl_model.specs.Numbered.{is_present, numbers}
+use Rattle.ctrl_model.specs.Numbered.{is_present}
 use Rattle.ctrl_model.specs.State.{State, Circuit}
 use Rattle.circuits.specs.CircuitTables.{CircuitTables, is_full, with_circuit, without_circuit}
-use Rattle.circuits.specs.PresentRecords.{network, stays}
-use Rattle.entity_store.specs.EntityTables.{Tables}
-use Rattle.fabric_graph.specs.FabricTables.{FabricSeen}
 use Rattle.record_tables.specs.AfterChange.{changed_by, without_numbers}
-use Rattle.terminators.specs.TermTables.{TermTables}
 use Rattle.circuits.specs.declared.changes.CircuitChange.{CircuitChange}
 use Rattle.circuits.specs.declared.changes.CircuitChange.TheVariants as change
 
@@ -35,11 +29,3 @@ circuits_after change gone k = without_circuits gone (changed_by after_circuit_c
 abbrev pub CanChangeCircuits : CircuitChange → CircuitTables → Type 0
 CanChangeCircuits (change.Add circuit) k = is_full k ≡ false
 CanChangeCircuits (change.Remove n) k = is_present k.circuits.rows n.0 ≡ true
-
--- A circuit stays beside these entities, links and terminators.
-abbrev pub stays_with : Tables → FabricSeen → TermTables → ℕ × Circuit → Bool
-stays_with t f e row = stays (network e f (map seen t.routers.rows)) (numbers t.identities.rows) (numbers t.services.rows) row.1
-
--- The numbers of the circuits that do not stay, ascending.
-abbrev pub gone : Tables → FabricSeen → TermTables → CircuitTables → List ℕ
-gone t f e k = numbers (filter (λ row. not (stays_with t f e row)) k.circuits.rows)

@@ -1,13 +1,11 @@
-ghost use Rattle.std.specs.Prelude.{◌≡◌, not, filter, IfOk, OnOk};
+ghost use Rattle.std.specs.Prelude.{◌≡◌, IfOk, OnOk};
 ghost use Rattle.std.specs.Option.{option_map};
 ghost use Rattle.ctrl_model.specs.Numbered.{at, numbers, Between};
 ghost use Rattle.circuits.specs.ChangedCircuits.{turn_of, circuit_after};
 ghost use Rattle.circuits.specs.CircuitChanges.{after_circuit_change, circuits_after};
-ghost use Rattle.circuits.specs.PresentRecords.{network, stays, stays_at};
 
 use crate::changes::CircuitChange;
 use crate::grants::Circuit;
-use crate::staying::{Present, stays};
 use crate::store::Circuits;
 use ctrl_model::{CircuitNo, Numbers};
 use record_tables::{Turn, is_among, left_of, turned};
@@ -72,39 +70,6 @@ fn changed_circuit<'a>(
     circuit_after(change, next, no, circuits.seen(no))
 }
 
-// Whether the circuit that will have a number stays, if one will have it.
-fn will_stay(
-    alloc: Global,
-    circuits: &CircuitsAfter,
-    present: &Present,
-    no: CircuitNo,
-) -> Result<bool, AllocError>
-    ensures { IfOk result (λ b. b ≡ stays_at present.now circuits.now.circuits.rows no.0) }
-{
-    match circuits.get(no) {
-        Some(circuit) => stays(alloc, present, circuit),
-        None => Ok(true),
-    }
-}
-
-// Those of some numbers whose circuit does not stay.
-fn going(
-    alloc: Global,
-    circuits: &CircuitsAfter,
-    present: &Present,
-    numbers: &[u32],
-) -> Result<Vec<u32>, AllocError>
-    ensures { IfOk result (λ v. v.items ≡ filter (λ n. not (stays_at present.now circuits.now.circuits.rows n)) numbers.now) }
-{
-    let mut going = Vec::new(alloc);
-    'circuits: for number in numbers {
-        if !will_stay(alloc, circuits, present, CircuitNo(*number))? {
-            going.push(*number)?;
-        }
-    }
-    Ok(going)
-}
-
 impl<'a> CircuitsAfter<'a> {
     /// The circuits after a change, if there is one, and without those of some numbers.
     pub fn new(
@@ -142,14 +107,5 @@ impl<'a> CircuitsAfter<'a> {
             Some(change) => changed_circuit(self.circuits, change, no),
             None => self.circuits.seen(no),
         }
-    }
-
-    /// The numbers of the circuits that do not stay, ascending (`Circuits::settle`). It removes none.
-    pub fn settle(&self, alloc: Global, present: &Present) -> Result<Numbers, AllocError>
-        ensures { IfOk result (λ ns. ns ≡ numbers (filter (λ row. not (stays (network present.now.terminators.now present.now.fabric.now present.now.routers.now) present.now.identities.now present.now.services.now row.1)) self.now.circuits.rows)) }
-    {
-        let numbers = self.numbers(alloc)?;
-        let going = going(alloc, self, present, numbers.as_slice())?;
-        Ok(Numbers::of(going))
     }
 }

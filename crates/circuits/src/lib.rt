@@ -1,4 +1,4 @@
-//! The store of granted circuits, what commands change in it, and which circuits stay.
+//! The store of granted circuits, and what commands change in it.
 #![tactic(auto)]
 
 mod after;
@@ -6,11 +6,6 @@ mod applying;
 mod changes;
 mod counting;
 mod grants;
-mod laws;
-mod paths;
-mod rows;
-mod settling;
-mod staying;
 mod store;
 mod worked;
 
@@ -19,9 +14,5 @@ pub use applying::apply_circuit_change;
 pub use changes::CircuitChange;
 pub use counting::count_circuits;
 pub use grants::Circuit;
-pub use laws::{as_a_state_settles, gone_from_a_state};
-pub use rows::circuit_changes;
-pub use settling::circuits_that_go;
-pub use staying::Present;
 pub use store::{CircuitFault, Circuits};
-pub use worked::{circuits_as_they_will_be, circuits_by_number, circuits_on_a_line};
+pub use worked::{circuits_as_they_will_be, circuits_by_number};

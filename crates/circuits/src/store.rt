@@ -1,14 +1,11 @@
-ghost use Rattle.std.specs.Prelude.{◌≡◌, ◌≤◌, true, false, not, length, filter, IfOk, OnErr};
+ghost use Rattle.std.specs.Prelude.{◌≡◌, ◌≤◌, true, false, length, IfOk, OnErr};
 ghost use Rattle.std.specs.Option.{ok_or, option_map};
 ghost use Rattle.std.specs.Result.{result_map_both};
 ghost use Rattle.ctrl_model.specs.Numbered.{at, is_present, numbers};
 ghost use Rattle.circuits.specs.CircuitChanges.{without_circuits};
 ghost use Rattle.circuits.specs.CircuitTables.{no_circuits, is_full, with_circuit, without_circuit, with_next, KeepsCircuits};
-ghost use Rattle.circuits.specs.PresentRecords.{network, stays};
 
-use crate::after::CircuitsAfter;
 use crate::grants::Circuit;
-use crate::staying::Present;
 use ctrl_model::{CircuitNo, Numbers};
 use record_tables::NumberedTable;
 use std::alloc::{AllocError, Global};
@@ -131,16 +128,5 @@ impl Circuits {
         ensures { self.new ≡ with_next next self.old }
     {
         self.granted.skip(next);
-    }
-
-    /// The numbers of the circuits that do not stay, ascending. A circuit stays whose identity, service and terminator are
-    /// present and whose links are a path from its ingress to the terminator's router (docs/RULES.md, "Settling"). It removes
-    /// none.
-    pub fn settle(&self, alloc: Global, present: &Present) -> Result<Numbers, AllocError>
-        ensures { IfOk result (λ ns. ns ≡ numbers (filter (λ row. not (stays (network present.now.terminators.now present.now.fabric.now present.now.routers.now) present.now.identities.now present.now.services.now row.1)) self.now.circuits.rows)) }
-    {
-        let none = Numbers::of(Vec::new(alloc));
-        let unchanged = CircuitsAfter::new(self, None, &none);
-        unchanged.settle(alloc, present)
     }
 }

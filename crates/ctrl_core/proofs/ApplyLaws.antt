@@ -17,20 +17,17 @@ use Rattle.ctrl_model.specs.ValidState.{ValidState}
 use Rattle.model_laws.proofs.NewRecords.{new_record}
 use Rattle.entity_store.specs.EntityTables.{Tables, new_router, with_entity, with_attributes, with_router, without_entity}
 use Rattle.entity_store.specs.AttributeUses.{times, held_times}
-use Rattle.entity_store.specs.HeldUses.{policy_attributes}
 use Rattle.entity_store.specs.declared.changes.EntityChange.{EntityChange}
 use Rattle.entity_store.specs.declared.changes.EntityChange.TheVariants as change
 use Rattle.entity_commands.specs.EntityChanges.{CanEnter, is_plain_kind, with_plain, with_described, with_described_router, without_named, entered, after_entity_change}
 use Rattle.entity_commands.proofs.ApplyLaws.{marked}
 use Rattle.policy_store.specs.PolicyTables.{PolicyTables, forgetting}
-use Rattle.policy_store.specs.PolicyChanges.{with_tables}
-use Rattle.ctrl_core.specs.declared.stores.Stores.{Stores}
-use Rattle.ctrl_core.specs.AppliedChanges.{Carries, ForgetsEntity, forgetting_by}
-use Rattle.ctrl_core.specs.KeptState.{HoldsPolicies, state_of}
-
--- the attributes of all policies of some tables
-abbrev pub attributes_of : PolicyTables → List (List ℕ)
-attributes_of p = policy_attributes (with_tables p start)
+use Rattle.core_stores.specs.declared.stores.Stores.{Stores}
+use Rattle.core_stores.proofs.PolicyApplyLaws.{attributes_of}
+use Rattle.core_stores.specs.CarriedStates.{Carries}
+use Rattle.core_stores.specs.ForgottenEntities.{ForgetsEntity, forgetting_by}
+use Rattle.core_stores.specs.StoredState.{HoldsPolicies}
+use Rattle.core_stores.specs.StoredState.{state_of}
 
 -- ---- the stores stand for the state after the change
 

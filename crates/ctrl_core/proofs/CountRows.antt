@@ -10,11 +10,12 @@ use Rattle.grant_denorm.specs.PairCounts.{count_of}
 use Rattle.grant_rows.specs.declared.moves.GrantMoves.{GrantMoves}
 use Rattle.grant_rows.specs.CountChanges as rows
 use Rattle.policy_store.specs.declared.steps.GrantSteps.{GrantSteps}
-use Rattle.policy_store.specs.GrantChanges.{steps_of}
-use Rattle.ctrl_core.specs.declared.stores.Stores.{Stores}
-use Rattle.ctrl_core.specs.AppliedChanges.{HaveRoom}
-use Rattle.ctrl_core.specs.Changes.{LeadAllCounts}
-use Rattle.ctrl_core.specs.KeptState.{Keeps, counts_of, state_of}
+use Rattle.policy_store.specs.StepsOfRelations.{steps_of}
+use Rattle.core_stores.specs.declared.stores.Stores.{Stores}
+use Rattle.core_stores.specs.TakenSteps.{HaveRoom}
+use Rattle.core_stores.specs.LeadingSteps.{LeadAllCounts}
+use Rattle.ctrl_core.specs.KeptState.{Keeps}
+use Rattle.core_stores.specs.StoredState.{counts_of, state_of}
 
 module _ (m : GrantMoves) (steps : GrantSteps) (dial : m.dial.steps.now ≡ steps.dial.items) (bind : m.bind.steps.now ≡ steps.bind.items)
     (identity_router : m.identity_router.steps.now ≡ steps.identity_router.items) (service_router : m.service_router.steps.now ≡ steps.service_router.items) where

@@ -1,4 +1,4 @@
--- The steps of a change of entities or of policies lead to the counts of the state after it.
+-- The steps of a change of entities lead to the counts of the state after it.
 use Rattle.std.proofs.Common.{◌≡◌, ℕ, Bool, true, not, List, None, Some, refl, sym, ◌∙◌, ap, subst}
 use Rattle.std.proofs.lemmas.Bool.{false≢true}
 use Rattle.ctrl_model.specs.declared.kinds.Kind.{Kind}
@@ -15,17 +15,16 @@ use Rattle.entity_store.specs.TableRules.{is_there}
 use Rattle.entity_commands.specs.EntityChanges.{is_plain_kind, with_plain, with_described, with_described_router, with_marked, without_named}
 use Rattle.entity_commands.proofs.EntityPlans.{named_as, there_from_number}
 use Rattle.policy_store.specs.declared.steps.GrantSteps.{GrantSteps}
-use Rattle.policy_store.specs.GrantChanges.{granting_state, HasNoSteps, StepsOfPolicy}
-use Rattle.policy_store.specs.PolicyTables.{no_policies, policies, number_of}
-use Rattle.policy_store.specs.PolicyChanges.{with_policy, with_replaced, without_policy}
-use Rattle.ctrl_core.specs.declared.stores.Stores.{Stores}
-use Rattle.ctrl_core.specs.KeptState.{Keeps, state_of}
-use Rattle.ctrl_core.specs.Changes.{LeadAllCounts}
-use Rattle.ctrl_core.specs.PlannedCommands.{Coming, Going, IsDescribed}
+use Rattle.core_stores.specs.GrantChanges.{granting_state, StepsOfPolicy}
+use Rattle.policy_store.specs.StepsOfRelations.{HasNoSteps}
+use Rattle.core_stores.specs.declared.stores.Stores.{Stores}
+use Rattle.ctrl_core.specs.KeptState.{Keeps}
+use Rattle.core_stores.specs.StoredState.{state_of}
+use Rattle.core_stores.specs.LeadingSteps.{LeadAllCounts}
+use Rattle.core_stores.specs.EntitySteps.{Coming, Going, IsDescribed}
 use Rattle.ctrl_core.proofs.EntityCounts.{added_leads, added_router_leads, described_leads, described_router_leads, marked_leads, removed_leads}
 use Rattle.ctrl_core.proofs.PlanLaws.{settled_lead}
-use Rattle.ctrl_core.proofs.PolicyCounts.{next_in, kind_ordered, created_leads, replaced_leads, removed_leads as removed_policy_leads}
-use Rattle.ctrl_core.proofs.StepsInState.{entity_steps_in_state, policy_steps_in_state}
+use Rattle.core_stores.proofs.StepsInState.{entity_steps_in_state}
 
 -- steps to the counts after a change are steps to those of the settled state
 pub settled_leads : (s t : State) (steps : GrantSteps) → LeadAllCounts s t steps → LeadAllCounts s (settle t) steps
@@ -82,24 +81,3 @@ plain_is_entity _ plain = absurd (false≢true plain)
 pub named_is_there : (k : Kind) (n : ℕ) (name : List ℕ) (st : Stores) → is_entity_kind k ≡ true → named k (state_of st) name ≡ Some n → is_there k n st.entities ≡ true
 named_is_there k n name st is_kind found =
     there_from_number k name st.entities n (sym (named_as k name (record { entities = st.entities; rest = state_of st }) is_kind) ∙ found)
-
--- ---- policies
-
-pub policy_comes : (k : Kind) (p : Policy) (st : Stores) (steps : GrantSteps) → is_policy_kind k ≡ true → Keeps st
-    → StepsOfPolicy k None (Some p) (granting_state st.entities no_policies) steps → LeadAllCounts (state_of st) (with_policy k p (state_of st)) steps
-policy_comes k p st steps is keeps stepped = created_leads k p (state_of st) steps is keeps.valid (policy_steps_in_state k None (Some p) st steps stepped)
-
-pub policy_replaced : (k : Kind) (n : ℕ) (p : Policy) (st : Stores) (steps : GrantSteps) → is_policy_kind k ≡ true → number_of k p.name st.policies ≡ Some n → Keeps st
-    → StepsOfPolicy k (at (policies k st.policies) n) (Some p) (granting_state st.entities no_policies) steps → LeadAllCounts (state_of st) (with_replaced k n p (state_of st)) steps
-policy_replaced k n p st steps is named keeps stepped =
-    by (found-named (λ (q : Policy). q.name) (policies k st.policies) n p.name (next_in k (state_of st)) 1 (kind_ordered k (state_of st) keeps.valid) named)
-  where
-    by : (old : Policy) × (at (policies k st.policies) n ≡ Some old) × (old.name ≡ p.name) → LeadAllCounts (state_of st) (with_replaced k n p (state_of st)) steps
-    by f = replaced_leads k n f.0 p (state_of st) steps is keeps.valid f.1 (ap (λ name. record p { name = name }) f.2)
-        (policy_steps_in_state k (Some f.0) (Some p) st steps (subst (λ o. StepsOfPolicy k o (Some p) (granting_state st.entities no_policies) steps) f.1 stepped))
-
-pub policy_goes : (k : Kind) (n : ℕ) (st : Stores) (steps : GrantSteps) → is_policy_kind k ≡ true → is_present (policies k st.policies) n ≡ true → Keeps st
-    → StepsOfPolicy k (at (policies k st.policies) n) None (granting_state st.entities no_policies) steps → LeadAllCounts (state_of st) (without_policy k n (state_of st)) steps
-policy_goes k n st steps is there keeps stepped = by_is_some (at (policies k st.policies) n) there (λ old stands.
-    removed_policy_leads k n old (state_of st) steps is keeps.valid stands
-    (policy_steps_in_state k (Some old) None st steps (subst (λ o. StepsOfPolicy k o None (granting_state st.entities no_policies) steps) stands stepped)))

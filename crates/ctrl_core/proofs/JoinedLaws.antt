@@ -20,12 +20,10 @@ use Rattle.ctrl_model.specs.Tables.{Record, table}
 use Rattle.ctrl_model.specs.ValidState.{ValidState}
 use Rattle.ctrl_model.proofs.NumberedLaws.{Between-more, at-with_last, at-past}
 use Rattle.model_laws.proofs.KindLaws.{with_table-holds}
-use Rattle.entity_store.specs.EntityTables as entity_tables
 use Rattle.entity_store.proofs.AfterLaws.{edit_at-with_last}
 use Rattle.entity_commands.specs.EntityChanges.{with_plain, with_marked}
 use Rattle.policy_store.specs.PolicyChanges.{with_policy}
-use Rattle.policy_store.specs.PolicyTables as policy_tables
-use Rattle.policy_store.specs.GrantChanges.{HasNoSteps}
+use Rattle.policy_store.specs.StepsOfRelations.{HasNoSteps}
 use Rattle.policy_store.specs.declared.steps.GrantSteps.{GrantSteps}
 use Rattle.fabric_graph.specs.declared.changes.LinkChange.{LinkChange}
 use Rattle.fabric_graph.specs.FabricChanges.{after_link_change}
@@ -39,30 +37,19 @@ use Rattle.grant_denorm.specs.PairCounts.{count_of}
 use Rattle.state_building.specs.JoinedRecords.{skipped, joined}
 use Rattle.state_building.proofs.JoinedStates.{IsFlawless, IsFlawless-from, flawless-valid, joined-valid}
 use Rattle.state_building.proofs.SkippedStates.{renumbered, skipped-valid}
-use Rattle.ctrl_core.specs.declared.changes.Change.{Change}
-use Rattle.ctrl_core.specs.declared.changes.Change.TheVariants as change
-use Rattle.ctrl_core.specs.declared.stores.Grants.{Grants}
-use Rattle.ctrl_core.specs.declared.stores.Stores.{Stores}
-use Rattle.ctrl_core.specs.AppliedChanges.{Carries}
-use Rattle.ctrl_core.specs.Changes.{LeadAllCounts, after_change}
+use Rattle.core_stores.specs.declared.changes.Change.{Change}
+use Rattle.core_stores.specs.declared.changes.Change.TheVariants as change
+use Rattle.core_stores.specs.declared.stores.Grants.{Grants}
+use Rattle.core_stores.specs.declared.stores.Stores.{Stores}
+use Rattle.core_stores.specs.CarriedStates.{Carries}
+use Rattle.core_stores.specs.LeadingSteps.{LeadAllCounts}
+use Rattle.ctrl_core.specs.Changes.{after_change}
 use Rattle.ctrl_core.specs.JoinedRows.{MayJoin, MayJoinPlain, MayJoinPolicy}
-use Rattle.ctrl_core.specs.KeptState.{Keeps, counts_of, state_of}
+use Rattle.ctrl_core.specs.KeptState.{Keeps}
+use Rattle.core_stores.specs.StoredState.{counts_of, state_of}
 use Rattle.ctrl_core.proofs.PlanLaws.{no_steps_lead}
 
 -- ---- a raised next number
-
--- the next number of a store is that of the state
-pub entities_later : (next : ℕ) (st : Stores) (k : Kind) → (k ≡ kind.Identity) ⊎ ((k ≡ kind.Service) ⊎ (k ≡ kind.Router)) → (table k (state_of st)).next ≤ next
-    → entity_tables.next_of k st.entities ≤ next
-entities_later next st k (inl e) = subst (λ j. (table j (state_of st)).next ≤ next → entity_tables.next_of j st.entities ≤ next) (sym e) (λ later. later)
-entities_later next st k (inr (inl e)) = subst (λ j. (table j (state_of st)).next ≤ next → entity_tables.next_of j st.entities ≤ next) (sym e) (λ later. later)
-entities_later next st k (inr (inr e)) = subst (λ j. (table j (state_of st)).next ≤ next → entity_tables.next_of j st.entities ≤ next) (sym e) (λ later. later)
-
-pub policies_later : (next : ℕ) (st : Stores) (k : Kind) → (k ≡ kind.ServicePolicy) ⊎ ((k ≡ kind.EdgeRouterPolicy) ⊎ (k ≡ kind.ServiceEdgeRouterPolicy)) → (table k (state_of st)).next ≤ next
-    → policy_tables.next_of k st.policies ≤ next
-policies_later next st k (inl e) = subst (λ j. (table j (state_of st)).next ≤ next → policy_tables.next_of j st.policies ≤ next) (sym e) (λ later. later)
-policies_later next st k (inr (inl e)) = subst (λ j. (table j (state_of st)).next ≤ next → policy_tables.next_of j st.policies ≤ next) (sym e) (λ later. later)
-policies_later next st k (inr (inr e)) = subst (λ j. (table j (state_of st)).next ≤ next → policy_tables.next_of j st.policies ≤ next) (sym e) (λ later. later)
 
 -- the count of a pair looks at the rows of entities and policies alone
 same_count : (s t : State) → ((k : Kind) → (table k s).rows ≡ (table k t).rows) → (r : Relation) (a b : ℕ) → count r s a b ≡ count r t a b

@@ -1,16 +1,10 @@
 pub mod PlanLaws
 pub mod EntityCounts
 pub mod ApplyLaws
-pub mod PolicyApplyLaws
 pub mod StepLaws
-pub mod OrderedSides
 pub mod ShowLaws
 pub mod ShownPlans
-pub mod PolicyCounts
-pub mod StepsInState
 pub mod NetworkPlans
-pub mod PresentLaws
-pub mod CircuitPlanLaws
 pub mod CountedChanges
 pub mod FoundPlans
 pub mod StateParts

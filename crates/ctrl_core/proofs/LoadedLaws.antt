@@ -38,10 +38,12 @@ use Rattle.state_building.specs.BuiltStates.{AreFlawless, HaveCounts, built, cou
 use Rattle.state_building.proofs.BuiltRows.{start-valid, start-below, built-below}
 use Rattle.state_building.proofs.SkippedStates.{renumbered}
 use Rattle.terminators.specs.TermTables.{no_terminators}
-use Rattle.ctrl_core.specs.declared.stores.Stores.{Stores}
-use Rattle.ctrl_core.specs.AppliedChanges.{Carries}
+use Rattle.core_stores.specs.declared.stores.Stores.{Stores}
+use Rattle.core_stores.specs.CarriedStates.{Carries}
 use Rattle.ctrl_core.specs.JoinedRows.{KeepState}
-use Rattle.ctrl_core.specs.KeptState.{HoldsPolicies, Keeps, counts_of, state_of}
+use Rattle.core_stores.specs.StoredState.{HoldsPolicies}
+use Rattle.ctrl_core.specs.KeptState.{Keeps}
+use Rattle.core_stores.specs.StoredState.{counts_of, state_of}
 use Rattle.ctrl_core.specs.LoadedRows.{IsFirstFlaw}
 use Rattle.ctrl_core.specs.TakenRows.{Takes}
 

@@ -15,7 +15,7 @@ use Rattle.grant_moves.specs.CountMoves.{LeadCounts}
 use Rattle.fabric_graph.specs.declared.changes.LinkChange.{LinkChange}
 use Rattle.link_commands.specs.LinkChanges as linked
 use Rattle.policy_store.specs.declared.steps.GrantSteps.{GrantSteps}
-use Rattle.policy_store.specs.GrantChanges.{HasNoSteps, steps_of}
+use Rattle.policy_store.specs.StepsOfRelations.{HasNoSteps, steps_of}
 use Rattle.circuits.specs.declared.changes.CircuitChange.{CircuitChange}
 use Rattle.circuits.specs.CircuitChanges.{without_circuits}
 use Rattle.circuits.specs.CircuitTables.{CircuitTables}
@@ -23,33 +23,27 @@ use Rattle.fabric_graph.specs.FabricTables.{FabricSeen}
 use Rattle.terminators.specs.TermTables.{TermTables}
 use Rattle.terminators.specs.declared.changes.TermChange.{TermChange}
 use Rattle.terminator_commands.specs.TermChanges as offered
-use Rattle.ctrl_core.specs.declared.changes.Change.{Change}
-use Rattle.ctrl_core.specs.declared.changes.Change.TheVariants as change
-use Rattle.ctrl_core.specs.declared.changes.Draft.{Draft}
-use Rattle.ctrl_core.specs.declared.stores.Stores.{Stores}
-use Rattle.ctrl_core.specs.AppliedChanges.{Carries}
-use Rattle.ctrl_core.specs.CircuitPlans.{CanRoute, routed}
-use Rattle.ctrl_core.specs.KeptState.{HoldsPolicies, state_of}
-use Rattle.ctrl_core.specs.Changes.{CanChange, LeadAllCounts, after_change}
+use Rattle.core_stores.specs.declared.changes.Change.{Change}
+use Rattle.core_stores.specs.declared.changes.Change.TheVariants as change
+use Rattle.core_stores.specs.declared.changes.Draft.{Draft}
+use Rattle.core_stores.specs.declared.stores.Stores.{Stores}
+use Rattle.core_stores.specs.CarriedStates.{Carries}
+use Rattle.circuit_rules.specs.CircuitPlans.{CanRoute, routed}
+use Rattle.core_stores.specs.StoredState.{HoldsPolicies}
+use Rattle.core_stores.specs.StoredState.{state_of}
+use Rattle.ctrl_core.specs.Changes.{CanChange, after_change}
+use Rattle.core_stores.specs.LeadingSteps.{LeadAllCounts}
 use Rattle.ctrl_core.specs.ChangedStores.{CanSettle}
-use Rattle.ctrl_core.specs.SettledNumbers.{AreSettled, without_settled}
-use Rattle.ctrl_core.specs.declared.plans.Settled.{Settled}
+use Rattle.core_stores.specs.SettledNumbers.{AreSettled, without_settled}
+use Rattle.core_stores.specs.declared.settled.Settled.{Settled}
 use Rattle.ctrl_core.proofs.StateParts.{without_is_settled}
 use Rattle.fabric_graph.specs.FabricChanges.{without_links}
 use Rattle.terminators.specs.TermChanges.{without_terms}
-use Rattle.ctrl_core.specs.PlannedCommands.{Plans, IsShown, IsUncounted}
+use Rattle.ctrl_core.specs.PlannedCommands.{Plans}
+use Rattle.core_stores.specs.Drafts.{IsShown, IsUncounted}
 use Rattle.ctrl_core.proofs.PlanLaws.{no_steps_lead, settled_lead}
 
 -- ---- settling
-
--- what is taken out of each store is taken out of the state
-pub taken_out : (st : Stores) (g : Settled) (f : FabricSeen) (k : TermTables) (r : CircuitTables) → f ≡ without_links g.links st.fabric → k ≡ without_terms g.terminators st.terminators
-    → r ≡ without_circuits g.circuits st.circuits → HoldsPolicies st → Carries st (record st { fabric = f; terminators = k; circuits = r }) (without_settled g (state_of st))
-taken_out st g f k r links_are terms_are circuits_are held = record {
-  next = λ i. state_of (record st { fabric = links_are i; terminators = terms_are i; circuits = circuits_are i });
-  held = held;
-  counts = refl;
-}
 
 -- a change that is made, and what settles taken out
 pub carries_then : (c : Change) (st mid new : Stores) (g : Settled) → CanSettle st c → AreSettled (after_change c (state_of st)) g → Carries st mid (after_change c (state_of st))

@@ -36,13 +36,13 @@ use Rattle.terminators.specs.declared.changes.TermChange.{TermChange}
 use Rattle.terminators.specs.declared.changes.TermChange.TheVariants as term
 use Rattle.terminators.specs.TermChanges.{after_term_change}
 use Rattle.terminators.specs.TermTables.{TermTables}
-use Rattle.ctrl_core.specs.declared.changes.Change.{Change}
-use Rattle.ctrl_core.specs.declared.changes.Change.TheVariants as change
-use Rattle.ctrl_core.specs.declared.stores.Stores.{Stores}
-use Rattle.ctrl_core.specs.AppliedChanges.{forgetting_by}
-use Rattle.ctrl_core.specs.ChangeParts.{entity_part, policy_part, link_part, term_part, circuit_part, adds, adds_entity, adds_policy, adds_link, adds_term, adds_circuit}
+use Rattle.core_stores.specs.declared.changes.Change.{Change}
+use Rattle.core_stores.specs.declared.changes.Change.TheVariants as change
+use Rattle.core_stores.specs.declared.stores.Stores.{Stores}
+use Rattle.core_stores.specs.ForgottenEntities.{forgetting_by}
+use Rattle.core_stores.specs.ChangeParts.{entity_part, policy_part, link_part, term_part, circuit_part, adds, adds_entity, adds_policy, adds_link, adds_term, adds_circuit}
 use Rattle.ctrl_core.specs.ChangedStores.{CanSettle, next_change_in, next_state}
-use Rattle.ctrl_core.specs.KeptState.{state_of}
+use Rattle.core_stores.specs.StoredState.{state_of}
 use Rattle.ctrl_core.proofs.StateParts.{parts_after, state_then, policies_then}
 
 none_more : (n : ℕ) → n ≡ n + 0

@@ -21,20 +21,22 @@ use Rattle.grant_moves.specs.CountMoves.{LeadCounts}
 use Rattle.grant_moves.proofs.LeadingCounts.{unchanged_leads}
 use Rattle.entity_commands.specs.EntityPlans.{is_entity_command}
 use Rattle.link_commands.specs.LinkPlans.{is_link_command}
-use Rattle.policy_store.specs.PolicyPlans.{is_policy_command}
+use Rattle.core_stores.specs.PolicyPlans.{is_policy_command}
 use Rattle.terminator_commands.specs.TermPlans.{is_terminator_command}
 use Rattle.ctrl_core.specs.CarriedCommands.{is_carried, is_grant_command}
-use Rattle.ctrl_core.specs.CircuitPlans.{is_circuit_command}
-use Rattle.ctrl_core.specs.declared.changes.Change.{Change}
+use Rattle.circuit_rules.specs.CircuitPlans.{is_circuit_command}
+use Rattle.core_stores.specs.declared.changes.Change.{Change}
 use Rattle.policy_store.specs.declared.steps.GrantSteps.{GrantSteps}
-use Rattle.ctrl_core.specs.declared.changes.Draft.{Draft}
+use Rattle.core_stores.specs.declared.changes.Draft.{Draft}
 use Rattle.ctrl_core.specs.Changes.{CanChange, IsStill, LeadsFrom, NamesSettled, after_change}
 use Rattle.ctrl_core.specs.CompletedPlans.{CanComplete, Completes}
-use Rattle.ctrl_core.specs.KeptState.{Keeps, state_of}
+use Rattle.ctrl_core.specs.KeptState.{Keeps}
+use Rattle.core_stores.specs.StoredState.{state_of}
 use Rattle.ctrl_core.specs.declared.plans.Planned.{Planned}
-use Rattle.ctrl_core.specs.declared.stores.Stores.{Stores}
-use Rattle.policy_store.specs.GrantChanges.{HasNoSteps, steps_of}
-use Rattle.ctrl_core.specs.PlannedCommands.{Plans, IsShown}
+use Rattle.core_stores.specs.declared.stores.Stores.{Stores}
+use Rattle.policy_store.specs.StepsOfRelations.{HasNoSteps, steps_of}
+use Rattle.ctrl_core.specs.PlannedCommands.{Plans}
+use Rattle.core_stores.specs.Drafts.{IsShown}
 
 -- no steps lead from the counts of a state to themselves
 pub no_steps_lead : (s : State) (steps : GrantSteps) → HasNoSteps steps → (r : Relation) → LeadCounts (count r s) (count r s) (steps_of r steps)

@@ -1,4 +1,4 @@
--- The flaws of a policy in the state of the stores of a core, and whether a circuit would stay in it.
+-- The flaws of a policy in the state of the stores of a core.
 use Rattle.std.proofs.Common.{◌≡◌, ℕ, ◌+◌, ◌<◌, ◌≤◌, ◌==◌, Bool, true, false, not, ◌&&◌, ◌||◌, nat_lt, nat_le, List, [], ◌∷◌, length, filter, Option, None, Some, Result, Ok, Err, is_some, cond, refl, sym, ◌∙◌, ap, arith}
 use Rattle.std.proofs.Math.Bool.{not-not}
 use Rattle.std.proofs.lemmas.Bool.{false≢true}
@@ -8,35 +8,22 @@ use Rattle.std.specs.Result.{is_ok, result_map_both}
 use Rattle.ctrl_model.specs.declared.kinds.Kind.{Kind}
 use Rattle.ctrl_model.specs.declared.kinds.Kind.TheVariants as kind
 use Rattle.ctrl_model.specs.Limits.{limit}
-use Rattle.ctrl_model.specs.Numbered.{numbers}
 use Rattle.ctrl_model.specs.Rules.{attributes_full, attributes_in_use}
-use Rattle.ctrl_model.specs.Settling.{stays_in}
-use Rattle.ctrl_model.specs.State.{State, Policy, Circuit}
+use Rattle.ctrl_model.specs.State.{State, Policy}
 use Rattle.ctrl_model.specs.Tables.{is_policy_kind, left_kind, right_kind}
 use Rattle.ctrl_model.specs.ValidState.{are_found}
-use Rattle.record_tables.specs.AfterChange.{changed_by}
-use Rattle.record_tables.proofs.GoneLaws.{gone_none}
 use Rattle.entity_store.specs.AttributeUses.{times, has_attribute_room}
-use Rattle.entity_store.specs.EntityTables.{Tables, number_of}
-use Rattle.entity_store.specs.EntityChanges.{after_entity_change}
+use Rattle.entity_store.specs.EntityTables.{number_of}
 use Rattle.entity_store.proofs.InUseLaws.{room_in_state}
 use Rattle.policy_store.specs.PolicyTables.{policies, next_of}
 use Rattle.policy_store.specs.PolicyTables as tables
-use Rattle.policy_store.proofs.PolicyUses.{names_of, policy_added}
-use Rattle.fabric_graph.specs.FabricChanges.{fabric_after}
-use Rattle.fabric_graph.specs.FabricTables.{FabricSeen}
-use Rattle.terminators.specs.TermChanges.{terms_after}
-use Rattle.terminators.specs.TermTables.{TermTables}
-use Rattle.circuits.specs.declared.changes.CircuitChange.{CircuitChange}
-use Rattle.circuits.specs.CircuitChanges.{after_circuit_change, gone}
-use Rattle.circuits.specs.CircuitTables.{CircuitTables}
+use Rattle.core_stores.proofs.PolicyUses.{names_of, policy_added}
 use Rattle.state_building.specs.declared.flaws.Flaw.TheVariants.{NoRecord, OutOfOrder, NameTaken, Hanging, TooMany}
 use Rattle.state_building.specs.JoinedRecords.{skipped, joined, is_sound_policy, flaw_if, unsupported}
-use Rattle.ctrl_core.specs.declared.changes.Change.{Change}
-use Rattle.ctrl_core.specs.declared.changes.Change.TheVariants as change
-use Rattle.ctrl_core.specs.declared.stores.Stores.{Stores}
-use Rattle.ctrl_core.specs.ChangeParts.{entity_part, link_part, term_part, circuit_part}
-use Rattle.ctrl_core.specs.KeptState.{HoldsPolicies, Keeps, state_of}
+use Rattle.core_stores.specs.declared.stores.Stores.{Stores}
+use Rattle.core_stores.specs.StoredState.{HoldsPolicies}
+use Rattle.ctrl_core.specs.KeptState.{Keeps}
+use Rattle.core_stores.specs.StoredState.{state_of}
 use Rattle.ctrl_core.specs.LoadedRows.{policy_flaw_of}
 
 -- ---- policies
@@ -90,22 +77,3 @@ told_policy kind.ServiceEdgeRouterPolicy number end order sound taken there many
     let all = many_is ∙ ap (λ b. nat_le 256 (length st.policies.service_edge_router_policies.rows) || b) full in
     λ i. flaw_if (order_is i) OutOfOrder (flaw_if (not (sound_is i)) NoRecord (flaw_if (taken_is i) NameTaken (flaw_if (not (there_is i)) Hanging (flaw_if (all i) TooMany None))))
 told_policy _ number end order sound taken there many p st is keeps order_is sound_is taken_is there_is many_is = absurd (false≢true is)
-
--- ---- circuits
-
--- the circuits that go beside what the stores have are those that do not stay in their state
-pub gone_in_state : (c : CircuitChange) (a : Change) (st : Stores) (k g : CircuitTables) (t : Tables) (f : FabricSeen) (e : TermTables) (none ns : List ℕ) → a ≡ change.Circuit c → none ≡ []
-    → t ≡ changed_by after_entity_change (entity_part a) st.entities → f ≡ fabric_after (link_part a) none st.fabric → e ≡ terms_after (term_part a) none st.terminators
-    → g ≡ changed_by after_circuit_change (circuit_part a) k → ns ≡ gone t f e g
-    → ns ≡ numbers (filter (λ row. not (stays_in (state_of st) row)) (after_circuit_change c k).circuits.rows)
-gone_in_state c a st k g t f e none ns is empty t_is f_is e_is g_is ns_is =
-    let same_fabric = f_is ∙ (λ i. fabric_after (link_part (is i)) (empty i) st.fabric) ∙ ap (λ ls. record st.fabric { links = ls }) (sym (gone_none st.fabric.links)) in
-    let same_terms = e_is ∙ (λ i. terms_after (term_part (is i)) (empty i) st.terminators) ∙ ap (λ ts. record st.terminators { terminators = ts }) (sym (gone_none st.terminators.terminators)) in
-    let same_entities = t_is ∙ ap (λ q. changed_by after_entity_change (entity_part q) st.entities) is in
-    let same_circuits = g_is ∙ ap (λ q. changed_by after_circuit_change (circuit_part q) k) is in
-    ns_is ∙ (λ i. gone (same_entities i) (same_fabric i) (same_terms i) (same_circuits i))
-
--- a circuit alone stays where none is gone
-pub alone_stays : (stays : Bool) (row : ℕ × Circuit) → (length (numbers (cond (not stays) (row ∷ []) [])) == 0) ≡ stays
-alone_stays true row = refl
-alone_stays false row = refl

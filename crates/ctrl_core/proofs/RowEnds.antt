@@ -16,7 +16,7 @@ use Rattle.row_laws.proofs.Covers.{Covers-append, Covers-same_records}
 use Rattle.row_laws.proofs.WrittenRecords.{record_at_fits}
 use Rattle.circuits.specs.declared.changes.CircuitChange.{CircuitChange}
 use Rattle.circuits.specs.CircuitChanges.{circuits_after}
-use Rattle.circuits.specs.CircuitRows as circuit_rows
+use Rattle.circuit_settling.specs.CircuitRows as circuit_rows
 use Rattle.entity_store.specs.declared.changes.EntityChange.{EntityChange}
 use Rattle.entity_store.specs.EntityChanges.{after_entity_change}
 use Rattle.entity_store.specs.declared.changes.EntityChange.TheVariants as entity
@@ -30,19 +30,19 @@ use Rattle.fabric_graph.specs.FabricChanges.{after_link_change, fabric_after}
 use Rattle.link_commands.specs.LinkRows as link_rows
 use Rattle.policy_store.specs.declared.changes.PolicyChange.{PolicyChange}
 use Rattle.policy_store.specs.PolicyChanges.{CanChangePolicies, after_policy_change, tables_of}
-use Rattle.policy_store.specs.PolicyRows.{AreValid}
+use Rattle.policy_rows.specs.PolicyRows.{AreValid}
 use Rattle.policy_store.specs.PolicyTables.{PolicyTables, forgetting}
 use Rattle.terminators.specs.declared.changes.TermChange.{TermChange}
 use Rattle.terminators.specs.TermChanges.{terms_after}
 use Rattle.terminator_commands.specs.TermRows as term_rows
-use Rattle.ctrl_core.specs.declared.changes.Change.{Change}
-use Rattle.ctrl_core.specs.declared.changes.Change.TheVariants as change
-use Rattle.ctrl_core.specs.declared.plans.Settled.{Settled}
-use Rattle.ctrl_core.specs.declared.stores.Stores.{Stores}
-use Rattle.ctrl_core.specs.ChangeParts.{entity_part, policy_part, link_part, term_part, circuit_part, forgotten_name, least_after}
+use Rattle.core_stores.specs.declared.changes.Change.{Change}
+use Rattle.core_stores.specs.declared.changes.Change.TheVariants as change
+use Rattle.core_stores.specs.declared.settled.Settled.{Settled}
+use Rattle.core_stores.specs.declared.stores.Stores.{Stores}
+use Rattle.core_stores.specs.ChangeParts.{entity_part, policy_part, link_part, term_part, circuit_part, forgotten_name, least_after}
 use Rattle.ctrl_core.specs.ChangedStores.{CanSettle, KnowsSettled, next_state}
-use Rattle.ctrl_core.specs.KeptState.{state_of}
-use Rattle.ctrl_core.specs.SettledNumbers.{without_settled, links_failing, terminators_failing, circuits_failing}
+use Rattle.core_stores.specs.StoredState.{state_of}
+use Rattle.core_stores.specs.SettledNumbers.{without_settled, links_failing, terminators_failing, circuits_failing}
 use Rattle.ctrl_core.proofs.StateParts.{parts_after, state_then, policies_then, links_then, terms_then, circuits_then, links_ordered, terms_ordered, circuits_ordered, without_is_settled}
 
 -- ---- the tables of the next state

@@ -8,9 +8,10 @@ use Rattle.ctrl_model.specs.ValidState.{ValidState}
 use Rattle.grant_denorm.specs.PairCounts.{AreCounts}
 use Rattle.grant_moves.specs.EntitySides.{left_rows, right_rows}
 use Rattle.grant_moves.proofs.GrantedPairs.{pairs_are_granted, granted_at_most}
-use Rattle.ctrl_core.specs.declared.stores.Stores.{Stores}
-use Rattle.ctrl_core.specs.KeptState.{Keeps, state_of, counts_of}
-use Rattle.ctrl_core.proofs.OrderedSides.{left_high, right_high, left_ordered, right_ordered, left_few, right_few}
+use Rattle.core_stores.specs.declared.stores.Stores.{Stores}
+use Rattle.ctrl_core.specs.KeptState.{Keeps}
+use Rattle.core_stores.specs.StoredState.{state_of, counts_of}
+use Rattle.core_stores.proofs.OrderedSides.{left_high, right_high, left_ordered, right_ordered, left_few, right_few}
 
 -- the pairs that have a count are those that the relation grants
 pub pairs_of : (r : Relation) (st : Stores) → Keeps st → AreCounts (counts_of r st.grants) → length (counts_of r st.grants) ≡ granted_pairs r (state_of st)

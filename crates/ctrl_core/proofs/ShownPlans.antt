@@ -15,10 +15,12 @@ use Rattle.ctrl_model.specs.Rules.{shown, unknown_if_absent}
 use Rattle.ctrl_model.specs.ShowCommands.{tally_of, tallies, grants_of, services_of, show_grants, list_services}
 use Rattle.entity_store.specs.EntityTables.{entities}
 use Rattle.grant_denorm.specs.PairCounts.{count_of}
-use Rattle.ctrl_core.specs.declared.changes.Draft.{Draft}
-use Rattle.ctrl_core.specs.declared.stores.Stores.{Stores}
-use Rattle.ctrl_core.specs.KeptState.{Keeps, state_of}
-use Rattle.ctrl_core.specs.PlannedCommands.{Plans, IsShown}
+use Rattle.core_stores.specs.declared.changes.Draft.{Draft}
+use Rattle.core_stores.specs.declared.stores.Stores.{Stores}
+use Rattle.ctrl_core.specs.KeptState.{Keeps}
+use Rattle.core_stores.specs.StoredState.{state_of}
+use Rattle.ctrl_core.specs.PlannedCommands.{Plans}
+use Rattle.core_stores.specs.Drafts.{IsShown}
 use Rattle.ctrl_core.proofs.PlanLaws.{plans_reply}
 
 -- ---- what an identity is granted

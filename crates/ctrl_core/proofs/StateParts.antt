@@ -9,7 +9,8 @@ use Rattle.record_tables.specs.AfterChange.{changed_by, without_numbers}
 use Rattle.record_tables.proofs.GoneLaws.{gone_none, kept}
 use Rattle.circuits.specs.declared.changes.CircuitChange.{CircuitChange}
 use Rattle.circuits.specs.declared.changes.CircuitChange.TheVariants as circuit
-use Rattle.circuits.specs.CircuitChanges.{after_circuit_change, gone}
+use Rattle.circuit_settling.specs.PresentRecords.{gone}
+use Rattle.circuits.specs.CircuitChanges.{after_circuit_change}
 use Rattle.circuits.specs.CircuitTables.{CircuitTables}
 use Rattle.entity_store.specs.EntityChanges.{after_entity_change}
 use Rattle.entity_store.specs.EntityTables.{Tables}
@@ -25,16 +26,16 @@ use Rattle.terminators.specs.declared.changes.TermChange.TheVariants as term
 use Rattle.terminators.specs.TermChanges.{after_term_change, terms_after}
 use Rattle.terminators.specs.TermTables.{TermTables}
 use Rattle.terminator_commands.specs.TermChanges as offered
-use Rattle.ctrl_core.specs.declared.changes.Change.{Change}
-use Rattle.ctrl_core.specs.declared.changes.Change.TheVariants as change
-use Rattle.ctrl_core.specs.declared.plans.Settled.{Settled}
-use Rattle.ctrl_core.specs.declared.stores.Stores.{Stores}
-use Rattle.ctrl_core.specs.AppliedChanges.{forgetting_by}
-use Rattle.ctrl_core.specs.ChangeParts.{entity_part, link_part, term_part, circuit_part}
+use Rattle.core_stores.specs.declared.changes.Change.{Change}
+use Rattle.core_stores.specs.declared.changes.Change.TheVariants as change
+use Rattle.core_stores.specs.declared.settled.Settled.{Settled}
+use Rattle.core_stores.specs.declared.stores.Stores.{Stores}
+use Rattle.core_stores.specs.ForgottenEntities.{forgetting_by}
+use Rattle.core_stores.specs.ChangeParts.{entity_part, link_part, term_part, circuit_part}
 use Rattle.ctrl_core.specs.ChangedStores.{CanSettle}
 use Rattle.ctrl_core.specs.Changes.{after_change}
-use Rattle.ctrl_core.specs.KeptState.{state_of}
-use Rattle.ctrl_core.specs.SettledNumbers.{AreSettled, links_failing, terminators_failing, circuits_failing, without_settled}
+use Rattle.core_stores.specs.StoredState.{state_of}
+use Rattle.core_stores.specs.SettledNumbers.{AreSettled, links_failing, terminators_failing, circuits_failing, without_settled}
 use Rattle.ctrl_core.proofs.ApplyLaws.{carried_entity}
 
 -- the state of some tables

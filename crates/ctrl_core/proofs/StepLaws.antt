@@ -10,20 +10,15 @@ use Rattle.grant_denorm.specs.PairCounts.{count_of}
 use Rattle.grant_moves.proofs.CountBounds.{has_count_room}
 use Rattle.policy_store.specs.declared.steps.GrantSteps.{GrantSteps}
 use Rattle.ctrl_core.specs.declared.plans.Planned.{Planned}
-use Rattle.ctrl_core.specs.declared.stores.Grants.{Grants}
-use Rattle.ctrl_core.specs.declared.stores.Stores.{Stores}
-use Rattle.ctrl_core.specs.AppliedChanges.{Carries, HaveRoom, Taken}
-use Rattle.ctrl_core.specs.Changes.{CanLead, LeadAllCounts, led}
-use Rattle.policy_store.specs.GrantChanges.{steps_of}
-use Rattle.ctrl_core.specs.KeptState.{Keeps, counts_of, state_of}
-
-pub taken_by_relation : (old new : Grants) (steps : GrantSteps) → Taken old.dial new.dial steps.dial.items → Taken old.bind new.bind steps.bind.items
-    → Taken old.identity_router new.identity_router steps.identity_router.items → Taken old.service_router new.service_router steps.service_router.items
-    → (r : Relation) → Taken (counts_of r old) (counts_of r new) (steps_of r steps)
-taken_by_relation old new steps dial bind identity_router service_router Dial = dial
-taken_by_relation old new steps dial bind identity_router service_router Bind = bind
-taken_by_relation old new steps dial bind identity_router service_router IdentityRouter = identity_router
-taken_by_relation old new steps dial bind identity_router service_router ServiceRouter = service_router
+use Rattle.core_stores.specs.declared.stores.Grants.{Grants}
+use Rattle.core_stores.specs.declared.stores.Stores.{Stores}
+use Rattle.core_stores.specs.CarriedStates.{Carries}
+use Rattle.core_stores.specs.TakenSteps.{HaveRoom, Taken}
+use Rattle.ctrl_core.specs.Changes.{CanLead, led}
+use Rattle.core_stores.specs.LeadingSteps.{LeadAllCounts}
+use Rattle.policy_store.specs.StepsOfRelations.{steps_of}
+use Rattle.ctrl_core.specs.KeptState.{Keeps}
+use Rattle.core_stores.specs.StoredState.{counts_of, state_of}
 
 -- a valid state has at most 512 policies of a kind
 policies_few : (r : Relation) (s : State) → ValidState s → length (policies_for r s) ≤ 512

@@ -23,9 +23,11 @@ use Rattle.state_building.specs.declared.flaws.Flaw.{Flaw}
 use Rattle.state_building.specs.declared.flaws.Flaw.TheVariants.{NoRecord, WrongCount}
 use Rattle.state_building.specs.JoinedRecords.{flaw_if, flaw_of, is_sound}
 use Rattle.state_building.proofs.ComingRows.{row-valid}
-use Rattle.ctrl_core.specs.declared.stores.Stores.{Stores}
+use Rattle.core_stores.specs.declared.stores.Stores.{Stores}
 use Rattle.ctrl_core.specs.JoinedRows.{KeepState, MayJoinPlain, MayJoinPolicy}
-use Rattle.ctrl_core.specs.KeptState.{HoldsPolicies, Keeps, counts_of, state_of}
+use Rattle.core_stores.specs.StoredState.{HoldsPolicies}
+use Rattle.ctrl_core.specs.KeptState.{Keeps}
+use Rattle.core_stores.specs.StoredState.{counts_of, state_of}
 use Rattle.ctrl_core.specs.LoadedRows.{policy_flaw_of}
 use Rattle.ctrl_core.specs.TakenRows.{Takes, plain_flaw_of}
 

@@ -6,12 +6,13 @@ use Rattle.ctrl_model.specs.Tables.{table}
 use Rattle.ctrl_model.specs.ValidState.{ValidState}
 use Rattle.row_codec.specs.declared.changes.Change as row
 use Rattle.row_spelling.specs.RecordChanges.{next_change_of}
-use Rattle.ctrl_core.specs.declared.changes.Change.{Change}
-use Rattle.ctrl_core.specs.declared.plans.Settled.{Settled}
-use Rattle.ctrl_core.specs.declared.stores.Stores.{Stores}
+use Rattle.core_stores.specs.declared.changes.Change.{Change}
+use Rattle.core_stores.specs.declared.settled.Settled.{Settled}
+use Rattle.core_stores.specs.declared.stores.Stores.{Stores}
 use Rattle.ctrl_core.specs.Changes.{CanChange, after_change}
-use Rattle.ctrl_core.specs.KeptState.{HoldsPolicies, state_of}
-use Rattle.ctrl_core.specs.SettledNumbers.{AreSettled}
+use Rattle.core_stores.specs.StoredState.{HoldsPolicies}
+use Rattle.core_stores.specs.StoredState.{state_of}
+use Rattle.core_stores.specs.SettledNumbers.{AreSettled}
 
 -- The state after a change of some stores, settled.
 abbrev pub next_state : Stores → Change → State

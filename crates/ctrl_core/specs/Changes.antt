@@ -2,24 +2,22 @@
 -- (docs/PROMISES.md, "The core").
 use Rattle.std.specs.Prelude.{◌≡◌, [], None, Some}
 use Rattle.std.specs.declared.option.Option.{Option}
-use Rattle.ctrl_model.specs.declared.kinds.Relation.{Relation}
 use Rattle.ctrl_model.specs.State.{State}
-use Rattle.ctrl_model.specs.Grants.{count}
 use Rattle.ctrl_model.specs.ValidState.{ValidState}
 use Rattle.model_laws.specs.Plans.{CanLeadBy, led_by}
-use Rattle.grant_moves.specs.CountMoves.{LeadCounts}
 use Rattle.entity_commands.specs.EntityChanges.{CanEnter, entered}
 use Rattle.policy_store.specs.declared.steps.GrantSteps.{GrantSteps}
-use Rattle.policy_store.specs.GrantChanges.{HasNoSteps, steps_of}
+use Rattle.policy_store.specs.StepsOfRelations.{HasNoSteps}
 use Rattle.policy_store.specs.PolicyChanges.{CanRule, ruled}
 use Rattle.link_commands.specs.LinkChanges.{CanLink, linked}
 use Rattle.terminator_commands.specs.TermChanges.{CanOffer, offered}
-use Rattle.ctrl_core.specs.CircuitPlans.{CanRoute, routed}
-use Rattle.ctrl_core.specs.declared.changes.Change.{Change}
-use Rattle.ctrl_core.specs.declared.changes.Change.TheVariants as change
+use Rattle.circuit_rules.specs.CircuitPlans.{CanRoute, routed}
+use Rattle.core_stores.specs.declared.changes.Change.{Change}
+use Rattle.core_stores.specs.declared.changes.Change.TheVariants as change
+use Rattle.core_stores.specs.LeadingSteps.{LeadAllCounts}
 use Rattle.ctrl_core.specs.declared.plans.Planned.{Planned}
-use Rattle.ctrl_core.specs.declared.plans.Settled.{Settled}
-use Rattle.ctrl_core.specs.SettledNumbers.{AreSettled}
+use Rattle.core_stores.specs.declared.settled.Settled.{Settled}
+use Rattle.core_stores.specs.SettledNumbers.{AreSettled}
 
 -- The state after a change, not yet settled.
 abbrev pub after_change : Change → State → State
@@ -45,10 +43,6 @@ led p s = led_by after_change p.change s
 pub record IsStill (change : Option Change) (steps : GrantSteps) : Type 0 where
   pub change_is : change ≡ None
   pub no_steps : HasNoSteps steps
-
--- Steps that lead the grant counts of one state to those of another.
-abbrev pub LeadAllCounts : State → State → GrantSteps → Type 0
-LeadAllCounts s t steps = (r : Relation) → LeadCounts (count r s) (count r t) (steps_of r steps)
 
 -- What settles after a change is named: the numbers of what is taken out of the state after it. Where nothing changes there are none.
 abbrev pub NamesSettled : Option Change → State → Settled → Type 0

@@ -6,15 +6,17 @@ use Rattle.ctrl_model.specs.ValidState.{ValidState}
 use Rattle.model_laws.specs.Plans.{CanLeadBy, led_by}
 use Rattle.row_codec.specs.declared.changes.Op.{Op}
 use Rattle.row_codec.specs.Batches.{batch_between}
-use Rattle.ctrl_core.specs.declared.changes.Change.{Change}
-use Rattle.ctrl_core.specs.declared.changes.Draft.{Draft}
+use Rattle.core_stores.specs.declared.changes.Change.{Change}
+use Rattle.core_stores.specs.declared.changes.Draft.{Draft}
 use Rattle.ctrl_core.specs.declared.plans.Planned.{Planned}
-use Rattle.ctrl_core.specs.declared.plans.Settled.{Settled}
-use Rattle.ctrl_core.specs.declared.stores.Stores.{Stores}
+use Rattle.core_stores.specs.declared.settled.Settled.{Settled}
+use Rattle.core_stores.specs.declared.stores.Stores.{Stores}
 use Rattle.ctrl_core.specs.ChangedStores.{next_state}
-use Rattle.ctrl_core.specs.Changes.{CanChange, LeadAllCounts, NamesSettled, after_change}
-use Rattle.ctrl_core.specs.KeptState.{Keeps, state_of}
-use Rattle.ctrl_core.specs.SettledNumbers.{AreSettled}
+use Rattle.ctrl_core.specs.Changes.{CanChange, NamesSettled, after_change}
+use Rattle.core_stores.specs.LeadingSteps.{LeadAllCounts}
+use Rattle.ctrl_core.specs.KeptState.{Keeps}
+use Rattle.core_stores.specs.StoredState.{state_of}
+use Rattle.core_stores.specs.SettledNumbers.{AreSettled}
 
 -- A draft that can be carried out in the state of some stores, and leads to a valid state by its change and its steps.
 pub record CanComplete (st : Stores) (d : Draft) : Type 0 where

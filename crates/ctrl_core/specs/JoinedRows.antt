@@ -7,8 +7,9 @@ use Rattle.ctrl_model.specs.Limits.{last_next}
 use Rattle.ctrl_model.specs.State.{State, Policy}
 use Rattle.ctrl_model.specs.Tables.{Record}
 use Rattle.state_building.specs.JoinedRecords.{flaw_of, joined}
-use Rattle.ctrl_core.specs.declared.stores.Stores.{Stores}
-use Rattle.ctrl_core.specs.KeptState.{Keeps, state_of}
+use Rattle.core_stores.specs.declared.stores.Stores.{Stores}
+use Rattle.ctrl_core.specs.KeptState.{Keeps}
+use Rattle.core_stores.specs.StoredState.{state_of}
 
 -- A record of a kind may join a state under its number: it has no flaw, whatever the next number of its kind will be.
 pub record MayJoin (k : Kind) (n : ℕ) (r : Record k) (s : State) : Type 0 where

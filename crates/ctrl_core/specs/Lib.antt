@@ -1,15 +1,9 @@
 pub mod CarriedCommands
 pub mod KeptState
-pub mod SettledNumbers
-pub mod ChangeParts
 pub mod Changes
 pub mod PlannedCommands
 pub mod ChangedStores
 pub mod CompletedPlans
-pub mod AppliedChanges
-pub mod CircuitParts
-pub mod CircuitPlans
-pub mod PlannedCircuits
 pub mod WorkedChanges
 pub mod JoinedRows
 pub mod LoadedRows

@@ -6,7 +6,7 @@ use Rattle.ctrl_model.specs.declared.kinds.Kind.TheVariants as kind
 use Rattle.ctrl_model.specs.State.{State}
 use Rattle.state_building.specs.declared.flaws.Flaw.{Flaw}
 use Rattle.state_building.specs.JoinedRecords.{flaw_of}
-use Rattle.ctrl_core.specs.declared.stores.Stores.{Stores}
+use Rattle.core_stores.specs.declared.stores.Stores.{Stores}
 use Rattle.ctrl_core.specs.JoinedRows.{KeepState}
 
 -- The flaw is told that there is, and where there is none the stores keep the state after the row.

@@ -1,5 +1,4 @@
-ghost use Rattle.std.specs.Prelude.{◌≡◌, true, false, IfOk, MatchOption, option_map};
-ghost use Rattle.ctrl_core.specs.declared.changes.Change.TheVariants.{Link, Terminator, Circuit};
+ghost use Rattle.std.specs.Prelude.{◌≡◌, true, false, IfOk, MatchOption};
 ghost use Rattle.ctrl_model.specs.CommandForm.{is_spelled};
 ghost use Rattle.ctrl_model.specs.Controller.{carry};
 ghost use Rattle.ctrl_model.specs.State.{State};
@@ -9,27 +8,28 @@ ghost use Rattle.entity_commands.specs.EntityChanges.{CanEnter};
 ghost use Rattle.entity_commands.specs.EntityPlans.{is_entity_command, PlansEntities};
 ghost use Rattle.link_commands.specs.LinkPlans.{is_link_command};
 ghost use Rattle.policy_store.specs.PolicyChanges.{CanRule};
-ghost use Rattle.policy_store.specs.PolicyPlans.{is_policy_command, PlansPolicies};
+ghost use Rattle.core_stores.specs.PolicyPlans.{is_policy_command, PlansPolicies};
 ghost use Rattle.terminator_commands.specs.TermPlans.{is_terminator_command};
 ghost use Rattle.ctrl_core.specs.CarriedCommands.{is_carried, is_grant_command};
-ghost use Rattle.ctrl_core.specs.CircuitPlans.{is_circuit_command};
-ghost use Rattle.ctrl_core.specs.KeptState.{Keeps, state_of};
+ghost use Rattle.circuit_rules.specs.CircuitPlans.{is_circuit_command};
+ghost use Rattle.ctrl_core.specs.KeptState.{Keeps};
+ghost use Rattle.core_stores.specs.StoredState.{state_of};
 ghost use Rattle.ctrl_core.specs.PlannedCommands.{Plans};
 
-use crate::changes::{Change, Draft};
-use crate::circuit_parts::Parts;
-use crate::circuit_planning::plan_circuit_command;
-use crate::counting::{entity_change_steps, policy_change_steps};
+use crate::counting::entity_change_steps;
 use crate::showing::{plan_list_services, plan_show_counts, plan_show_grants};
-use crate::stores::Stores;
-use circuits::CircuitChange;
+use circuit_rules::{Parts, plan_circuit_command};
+use core_stores::{
+    Change, Draft, Stores, circuit_change, link_change, plan_policy_command, policy_change_steps,
+    term_change,
+};
 use ctrl_model::{Command, Reply};
 use entity_commands::{EntityChange, plan_entity_command};
-use link_commands::{LinkChange, plan_link_command};
+use link_commands::plan_link_command;
 use model_laws::Plan;
-use policy_store::{PolicyChange, plan_policy_command};
+use policy_store::PolicyChange;
 use std::alloc::{AllocError, Global};
-use terminator_commands::{TermChange, plan_terminator_command};
+use terminator_commands::plan_terminator_command;
 
 // The plan of a change of the entities, if there is one, with its steps.
 fn counted_entities(
@@ -106,16 +106,6 @@ fn plan_policies(
     }
 }
 
-// The change of links that a plan has, as one of the core.
-fn link_change(change: Option<LinkChange>) -> Option<Change>
-    ensures { result ≡ option_map Link change }
-{
-    match change {
-        Some(change) => Some(Change::Link(change)),
-        None => None,
-    }
-}
-
 // Plans the answer to a command on links or on the least router cost. None is a command on something else.
 fn plan_links(
     alloc: Global,
@@ -133,16 +123,6 @@ fn plan_links(
             Ok(Some(Draft::uncounted(alloc, reply, change)))
         }
         None => Ok(None),
-    }
-}
-
-// The change of terminators that a plan has, as one of the core.
-fn term_change(change: Option<TermChange>) -> Option<Change>
-    ensures { result ≡ option_map Terminator change }
-{
-    match change {
-        Some(change) => Some(Change::Terminator(change)),
-        None => None,
     }
 }
 
@@ -164,16 +144,6 @@ fn plan_terminators(
             Ok(Some(Draft::uncounted(alloc, reply, change)))
         }
         None => Ok(None),
-    }
-}
-
-// The change of circuits that a plan has, as one of the core.
-fn circuit_change(change: Option<CircuitChange>) -> Option<Change>
-    ensures { result ≡ option_map Circuit change }
-{
-    match change {
-        Some(change) => Some(Change::Circuit(change)),
-        None => None,
     }
 }
 

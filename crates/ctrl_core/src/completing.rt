@@ -1,14 +1,14 @@
 ghost use Rattle.std.specs.Prelude.{IfOk};
-ghost use Rattle.ctrl_core.specs.Changes.{LeadAllCounts};
+ghost use Rattle.core_stores.specs.LeadingSteps.{LeadAllCounts};
 ghost use Rattle.ctrl_core.specs.ChangedStores.{CanSettle, next_state};
-ghost use Rattle.ctrl_core.specs.KeptState.{Keeps, state_of};
+ghost use Rattle.ctrl_core.specs.KeptState.{Keeps};
+ghost use Rattle.core_stores.specs.StoredState.{state_of};
 ghost use Rattle.ctrl_core.specs.CompletedPlans.{Completes, CanComplete, SettlesAs};
 
-use crate::changes::{Change, Draft};
-use crate::plans::{Planned, Settled};
+use crate::plans::Planned;
 use crate::row_changes::batch_for;
 use crate::settling::settled_by;
-use crate::stores::Stores;
+use core_stores::{Change, Draft, Settled, Stores};
 use policy_store::GrantSteps;
 use row_codec::Batch;
 use std::alloc::{AllocError, Global};

@@ -14,12 +14,12 @@ ghost use Rattle.row_loading.specs.RefusedRows.{RefusesRows};
 ghost use Rattle.ctrl_core.specs.CarriedCommands.{is_carried};
 ghost use Rattle.ctrl_core.specs.Changes.{CanLead, IsStill, LeadsFrom, led};
 
-use crate::applying::{apply_steps, carry_out};
+use crate::applying::carry_out;
 use crate::commands::plan_command;
 use crate::completing::completed;
 use crate::loading::load;
 use crate::plans::Planned;
-use crate::stores::Stores;
+use core_stores::{Stores, apply_steps};
 use ctrl_model::{Command, Relation, Reply};
 use grant_denorm::Counted;
 use row_codec::Batch;
@@ -38,7 +38,8 @@ pub struct Core {
 
 impl Model for Core {
     ghost use Rattle.std.specs.Prelude.{◌≡◌, true};
-    ghost use Rattle.ctrl_core.specs.KeptState.{Cored, Keeps, state_of};
+    ghost use Rattle.ctrl_core.specs.KeptState.{Cored, Keeps};
+    ghost use Rattle.core_stores.specs.StoredState.{state_of};
 
     ghost Value = { Cored };
 

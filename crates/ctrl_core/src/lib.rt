@@ -2,12 +2,6 @@
 #![tactic(auto)]
 
 mod applying;
-mod change_parts;
-mod changes;
-mod circuit_asking;
-mod circuit_names;
-mod circuit_parts;
-mod circuit_planning;
 mod commands;
 mod completing;
 mod core_state;
@@ -19,7 +13,6 @@ mod row_flaws;
 mod row_joining;
 mod settling;
 mod showing;
-mod stores;
 mod taking;
 mod worked;
 

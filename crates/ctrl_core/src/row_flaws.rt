@@ -1,23 +1,19 @@
-ghost use Rattle.std.specs.Prelude.{◌≡◌, not, true, [], filter, IfOk};
-ghost use Rattle.circuits.specs.declared.changes.CircuitChange.{CircuitChange};
-ghost use Rattle.ctrl_core.specs.declared.changes.Change.TheVariants as changes;
-ghost use Rattle.circuits.specs.CircuitChanges.{after_circuit_change};
-ghost use Rattle.ctrl_model.specs.Numbered.{numbers};
-ghost use Rattle.ctrl_model.specs.Tables.{left_kind, right_kind};
+ghost use Rattle.std.specs.Prelude.{◌≡◌, true, IfOk};
+ghost use Rattle.ctrl_model.specs.Settling.{stays_in};
 ghost use Rattle.ctrl_model.specs.ValidState as valid;
 ghost use Rattle.ctrl_model.specs.declared.kinds.Kind.TheVariants as kind;
 ghost use Rattle.entity_store.specs.EntityTables.{is_entity_kind, number_of};
 ghost use Rattle.policy_store.specs.PolicyTables.{is_policy_kind};
-ghost use Rattle.ctrl_model.specs.Settling.{stays_in};
 ghost use Rattle.state_building.specs.JoinedRecords.{flaw_of, is_sound_policy};
-ghost use Rattle.ctrl_core.specs.KeptState.{Keeps, state_of};
+ghost use Rattle.ctrl_core.specs.KeptState.{Keeps};
+ghost use Rattle.core_stores.specs.StoredState.{state_of};
 ghost use Rattle.ctrl_core.specs.LoadedRows.{policy_flaw_of};
 
-use crate::changes::Change;
-use crate::stores::Stores;
-use circuits::{Circuit, CircuitChange, Circuits, circuits_that_go};
+use circuit_settling::would_stay;
+use circuits::Circuit;
+use core_stores::{Stores, left_kind, right_kind};
 use ctrl_model::{Kind, Names, Numbers, Side};
-use entity_store::{Entities, EntitiesAfter};
+use entity_store::Entities;
 use fabric_graph::FabricAfter;
 use policy_store::{Policy, policy_names};
 use record_flaws::{Coming, Findings};
@@ -36,20 +32,6 @@ fn are_found(entities: &Entities, kind: Kind, side: &Side) -> bool
         .all(|name| entities.find(kind, name).is_ok())
 }
 
-// The kind of entity on the left of a kind of policy, and that on its right.
-fn side_kinds(kind: Kind) -> (Kind, Kind)
-    requires { is_policy_kind kind ≡ true }
-    ensures left { result.0 ≡ left_kind kind }
-    ensures right { result.1 ≡ right_kind kind }
-    ensures entities { (is_entity_kind result.0 ≡ true) × (is_entity_kind result.1 ≡ true) }
-{
-    match kind {
-        Kind::ServicePolicy => (Kind::Identity, Kind::Service),
-        Kind::EdgeRouterPolicy => (Kind::Identity, Kind::Router),
-        _ => (Kind::Service, Kind::Router),
-    }
-}
-
 /// Why a policy of a kind cannot join, if it cannot.
 pub fn policy_flaw(
     alloc: Global,
@@ -63,7 +45,8 @@ pub fn policy_flaw(
     requires sound { coming.sound ≡ is_sound_policy kind policy.now }
     ensures { IfOk result (λ f. f ≡ policy_flaw_of coming.end kind coming.number policy.now (state_of stores.now)) }
 {
-    let (left, right) = side_kinds(kind);
+    let left = left_kind(kind);
+    let right = right_kind(kind);
     let none = Names::of(Vec::new(alloc));
     let names = policy_names(alloc, policy)?;
     let entities = &stores.entities;
@@ -78,54 +61,15 @@ pub fn policy_flaw(
     Ok(found.flaw(kind))
 }
 
-// The numbers of the circuits that would go after a change of them, beside the entities, links and terminators that are there; of those
-// none is gone.
-fn gone_beside(
-    alloc: Global,
-    stores: &Stores,
-    circuits: &Circuits,
-    change: &Change,
-    none: &Numbers,
-) -> Result<Numbers, AllocError>
-    requires none { none.now ≡ [] }
-    ensures { (c : CircuitChange) → change.now ≡ changes.Circuit c
-        → IfOk result (λ ns. ns ≡ numbers (filter (λ row. not (stays_in (state_of stores.now) row)) (after_circuit_change c circuits.now).circuits.rows)) }
-{
-    let entities = EntitiesAfter::new(&stores.entities, change.of_entities());
-    let fabric = FabricAfter::new(&stores.fabric, change.of_links(), none);
-    let terminators = TerminatorsAfter::new(&stores.terminators, change.of_terminators(), none);
-    circuits_that_go(
-        alloc,
-        circuits,
-        change.of_circuits(),
-        &entities,
-        &fabric,
-        &terminators,
-    )
-}
-
-// An equal circuit.
-fn copy_circuit(circuit: &Circuit) -> Result<Circuit, AllocError>
-    ensures { IfOk result (λ c. c ≡ circuit.now) }
-{
-    Ok(Circuit {
-        identity: circuit.identity,
-        service: circuit.service,
-        terminator: circuit.terminator,
-        ingress: circuit.ingress,
-        links: circuit.links.copy()?,
-    })
-}
-
-// Whether a circuit would stay: of this one alone none goes.
-fn would_stay(alloc: Global, stores: &Stores, circuit: &Circuit) -> Result<bool, AllocError>
+// Whether a circuit would stay beside what the stores have.
+fn stays_here(alloc: Global, stores: &Stores, circuit: &Circuit) -> Result<bool, AllocError>
     ensures { IfOk result (λ b. b ≡ stays_in (state_of stores.now) (0, circuit.now)) }
 {
-    let change = Change::Circuit(CircuitChange::Add(copy_circuit(circuit)?));
-    let alone = Circuits::new(alloc)?;
-    let none = Numbers::of(Vec::new(alloc));
-    let gone = gone_beside(alloc, stores, &alone, &change, &none)?;
-    Ok(gone.as_slice().is_empty())
+    let links = Numbers::of(Vec::new(alloc));
+    let terms = Numbers::of(Vec::new(alloc));
+    let fabric = FabricAfter::new(&stores.fabric, None, &links);
+    let terminators = TerminatorsAfter::new(&stores.terminators, None, &terms);
+    would_stay(alloc, &stores.entities, &fabric, &terminators, circuit)
 }
 
 /// Why a circuit cannot join, if it cannot.
@@ -139,7 +83,7 @@ pub fn circuit_flaw(
     requires sound { coming.sound ≡ true }
     ensures { IfOk result (λ f. f ≡ flaw_of (λ k. coming.end) kind.Circuit coming.number circuit.now (state_of stores.now)) }
 {
-    let supported = would_stay(alloc, stores, circuit)?;
+    let supported = stays_here(alloc, stores, circuit)?;
     let found = Findings {
         out_of_order: coming.is_out_of_order(stores.circuits.next()),
         sound: coming.sound,

@@ -5,40 +5,24 @@ ghost use Rattle.ctrl_model.specs.Tables.{table};
 ghost use Rattle.ctrl_model.specs.ValidState.{ValidState};
 ghost use Rattle.ctrl_model.specs.declared.kinds.Kind.TheVariants as kind;
 ghost use Rattle.state_building.specs.JoinedRecords.{skipped, joined};
-ghost use Rattle.ctrl_core.specs.AppliedChanges.{Carries};
-ghost use Rattle.ctrl_core.specs.Changes.{CanChange, LeadAllCounts, after_change};
+ghost use Rattle.core_stores.specs.CarriedStates.{Carries};
+ghost use Rattle.ctrl_core.specs.Changes.{CanChange, after_change};
+ghost use Rattle.core_stores.specs.LeadingSteps.{LeadAllCounts};
 ghost use Rattle.ctrl_core.specs.JoinedRows.{KeepState, MayJoin, MayJoinPlain, MayJoinPolicy, with_joined_plain, with_joined_policy};
-ghost use Rattle.ctrl_core.specs.KeptState.{HoldsPolicies, Keeps, state_of};
+ghost use Rattle.core_stores.specs.StoredState.{HoldsPolicies};
+ghost use Rattle.ctrl_core.specs.KeptState.{Keeps};
+ghost use Rattle.core_stores.specs.StoredState.{state_of};
 
-use crate::applying::{apply_change, apply_steps};
-use crate::changes::Change;
-use crate::counting::{entity_change_steps, policy_change_steps};
-use crate::stores::Stores;
+use crate::applying::apply_change;
+use crate::counting::entity_change_steps;
 use circuits::{Circuit, CircuitChange};
+use core_stores::{Change, Stores, apply_steps, policy_change_steps, skip};
 use ctrl_model::{Kind, Name, Names};
 use entity_commands::EntityChange;
 use fabric_graph::{LinkChange, LinkRow};
 use policy_store::{GrantSteps, Policy, PolicyChange};
 use std::alloc::{AllocError, Global};
 use terminators::{Term, TermChange};
-
-/// Raises the next number of a kind. Attributes have none.
-pub fn skip(stores: &mut Stores, kind: Kind, next: u32)
-    requires later { (table kind (state_of stores.old)).next ≤ next }
-    requires held { HoldsPolicies stores.old }
-    ensures { Carries stores.old stores.new (skipped kind next (state_of stores.old)) }
-{
-    match kind {
-        Kind::Identity | Kind::Service | Kind::Router => stores.entities.skip(kind, next),
-        Kind::ServicePolicy | Kind::EdgeRouterPolicy | Kind::ServiceEdgeRouterPolicy => {
-            stores.policies.skip(kind, next)
-        }
-        Kind::Link => stores.fabric.skip(next),
-        Kind::Terminator => stores.terminators.skip(next),
-        Kind::Circuit => stores.circuits.skip(next),
-        Kind::Attribute => {}
-    }
-}
 
 // The steps of the counts where a change is made. Links, terminators and circuits move none.
 fn change_steps(alloc: Global, stores: &Stores, change: &Change) -> Result<GrantSteps, AllocError>
@@ -178,29 +162,6 @@ pub fn join_circuit(
     )
 }
 
-// Sets the cost and the marks of a router.
-fn mark(
-    alloc: Global,
-    stores: &mut Stores,
-    number: u32,
-    cost: u32,
-    through: bool,
-    connected: bool,
-) -> Result<(), AllocError>
-    requires kept { Keeps stores.old }
-    requires can { CanChange (Change.Entity (EntityChange.Mark number cost through connected)) (state_of stores.old) }
-    requires valid { ValidState (after_change (Change.Entity (EntityChange.Mark number cost through connected)) (state_of stores.old)) }
-    ensures { OnOk result (KeepState stores.new (after_change (Change.Entity (EntityChange.Mark number cost through connected)) (state_of stores.old))) }
-{
-    let change = EntityChange::Mark {
-        number,
-        cost,
-        through,
-        connected,
-    };
-    make(alloc, stores, Change::Entity(change))
-}
-
 /// Adds a router under its number: it is made, and then marked.
 pub fn join_router(
     alloc: Global,
@@ -223,5 +184,11 @@ pub fn join_router(
         through,
     };
     make_at(alloc, stores, Kind::Router, number, Change::Entity(change))?;
-    mark(alloc, stores, number, cost, through, connected)
+    let mark = EntityChange::Mark {
+        number,
+        cost,
+        through,
+        connected,
+    };
+    make(alloc, stores, Change::Entity(mark))
 }

@@ -1,14 +1,11 @@
 ghost use Rattle.std.specs.Prelude.{◌≡◌, IfOk};
-ghost use Rattle.ctrl_core.specs.AppliedChanges.{Carries};
 ghost use Rattle.ctrl_core.specs.ChangedStores.{CanSettle};
 ghost use Rattle.ctrl_core.specs.Changes.{after_change};
-ghost use Rattle.ctrl_core.specs.KeptState.{HoldsPolicies, state_of};
-ghost use Rattle.ctrl_core.specs.SettledNumbers.{AreSettled, links_failing, terminators_failing, circuits_failing, without_settled};
+ghost use Rattle.core_stores.specs.StoredState.{state_of};
+ghost use Rattle.core_stores.specs.SettledNumbers.{AreSettled, links_failing, terminators_failing, circuits_failing, without_settled};
 
-use crate::changes::Change;
-use crate::plans::Settled;
-use crate::stores::Stores;
-use circuits::circuits_that_go;
+use circuit_settling::circuits_that_go;
+use core_stores::{Change, Settled, Stores};
 use ctrl_model::Numbers;
 use entity_store::EntitiesAfter;
 use fabric_graph::FabricAfter;
@@ -83,14 +80,4 @@ pub fn settled_by(alloc: Global, stores: &Stores, change: &Change) -> Result<Set
         terminators,
         circuits,
     })
-}
-
-/// Takes out what settles.
-pub fn take_out(stores: &mut Stores, settled: &Settled)
-    requires { HoldsPolicies stores.old }
-    ensures { Carries stores.old stores.new (without_settled settled.now (state_of stores.old)) }
-{
-    stores.fabric.remove_each(&settled.links);
-    stores.terminators.remove_each(&settled.terminators);
-    stores.circuits.remove_each(&settled.circuits);
 }

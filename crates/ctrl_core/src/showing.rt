@@ -2,12 +2,13 @@ ghost use Rattle.std.specs.Prelude.{◌≡◌, IfOk};
 ghost use Rattle.ctrl_model.specs.declared.refusals.Refusal.TheVariants.{Unknown};
 ghost use Rattle.ctrl_model.specs.declared.replies.Reply.TheVariants.{Refused};
 ghost use Rattle.ctrl_model.specs.ShowCommands.{show_grants, list_services, show_counts, grants_in_all};
-ghost use Rattle.ctrl_core.specs.KeptState.{Keeps, state_of};
-ghost use Rattle.ctrl_core.specs.PlannedCommands.{IsShown, Plans};
+ghost use Rattle.ctrl_core.specs.KeptState.{Keeps};
+ghost use Rattle.core_stores.specs.StoredState.{state_of};
+ghost use Rattle.core_stores.specs.Drafts.{IsShown};
+ghost use Rattle.ctrl_core.specs.PlannedCommands.{Plans};
 
-use crate::changes::Draft;
-use crate::stores::Stores;
 use circuits::count_circuits;
+use core_stores::{Draft, Stores};
 use ctrl_model::{Field, Kind, Name, Names, Refusal, Reply, Tallies};
 use policy_store::count_all_policies;
 use shown_records::{count_entities, count_links, count_terminators, names_of, tallies};

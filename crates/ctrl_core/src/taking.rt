@@ -10,7 +10,8 @@ ghost use Rattle.state_building.specs.declared.flaws.Flaw.TheVariants.{NoRecord,
 ghost use Rattle.state_building.specs.JoinedRecords.{flaw_if, flaw_of, is_sound, is_sound_policy, joined};
 ghost use Rattle.state_building.specs.BuiltStates.{flaw_in, next_in, with_row};
 ghost use Rattle.ctrl_core.specs.JoinedRows.{with_joined_plain, with_joined_policy};
-ghost use Rattle.ctrl_core.specs.KeptState.{Keeps, state_of};
+ghost use Rattle.ctrl_core.specs.KeptState.{Keeps};
+ghost use Rattle.core_stores.specs.StoredState.{state_of};
 ghost use Rattle.ctrl_core.specs.LoadedRows.{policy_flaw_of};
 ghost use Rattle.ctrl_core.specs.TakenRows.{Takes, plain_flaw_of};
 
@@ -18,12 +19,15 @@ use crate::row_flaws::{circuit_flaw, policy_flaw};
 use crate::row_joining::{
     join_circuit, join_link, join_plain, join_policy, join_router, join_term,
 };
-use crate::stores::Stores;
 use circuits::Circuit;
-use ctrl_model::{Kind, Name, Names, Relation, Semantic, Side};
+use core_stores::Stores;
+use ctrl_model::{Kind, Name, Names, Relation};
 use fabric_graph::LinkRow;
-use policy_store::{Policy, copy_side};
-use record_flaws::{Coming, is_sound_row, link_flaw, plain_flaw, router_flaw, term_flaw};
+use policy_store::Policy;
+use record_flaws::{
+    Coming, circuit_in, is_sound_row, link_flaw, link_in, plain_flaw, policy_in, router_flaw,
+    term_flaw, term_in,
+};
 use row_codec::Row;
 use row_loading::next_in;
 use state_building::Flaw;
@@ -220,28 +224,6 @@ fn judge_count(stores: &Stores, relation: Relation, a: u32, b: u32, told: u32) -
     None
 }
 
-// The policy of a row's fields.
-fn policy(
-    name: &Name,
-    relation: Relation,
-    semantic: Semantic,
-    left: &Side,
-    right: &Side,
-) -> Result<Policy, AllocError>
-    ensures { IfOk result (λ p. p ≡ record { name = name.now; relation = relation; semantic = semantic; left = left.now; right = right.now }) }
-{
-    let name = name.copy()?;
-    let left = copy_side(left)?;
-    let right = copy_side(right)?;
-    Ok(Policy {
-        name,
-        relation,
-        semantic,
-        left,
-        right,
-    })
-}
-
 /// Takes the row that comes next among some: a record joins, the setting is set, and a count is compared. A row with a flaw changes
 /// nothing.
 pub fn take_row(
@@ -287,103 +269,45 @@ pub fn take_row(
                 alloc, stores, coming, name, attributes, *cost, *through, *connected,
             )
         }
-        Row::Link {
-            no,
-            name,
-            a,
-            b,
-            cost,
-            latency_a,
-            latency_b,
-            up,
-        } => {
+        Row::Link { no, .. } => {
             let coming = coming(rows, Kind::Link, no.0, sound);
-            let link = LinkRow {
-                name: name.copy()?,
-                a: *a,
-                b: *b,
-                cost: *cost,
-                latency_a: *latency_a,
-                latency_b: *latency_b,
-                up: *up,
+            let Some(link) = link_in(row)? else {
+                unreachable!()
             };
             take_link(alloc, stores, coming, link)
         }
-        Row::ServicePolicy {
-            no,
-            name,
-            relation,
-            semantic,
-            identities,
-            services,
-        } => {
+        Row::ServicePolicy { no, .. } => {
             let coming = coming(rows, Kind::ServicePolicy, no.0, sound);
-            let policy = policy(name, *relation, *semantic, identities, services)?;
+            let Some(policy) = policy_in(row)? else {
+                unreachable!()
+            };
             take_policy(alloc, stores, Kind::ServicePolicy, coming, policy)
         }
-        Row::EdgeRouterPolicy {
-            no,
-            name,
-            semantic,
-            identities,
-            routers,
-        } => {
+        Row::EdgeRouterPolicy { no, .. } => {
             let coming = coming(rows, Kind::EdgeRouterPolicy, no.0, sound);
-            let policy = policy(
-                name,
-                Relation::IdentityRouter,
-                *semantic,
-                identities,
-                routers,
-            )?;
+            let Some(policy) = policy_in(row)? else {
+                unreachable!()
+            };
             take_policy(alloc, stores, Kind::EdgeRouterPolicy, coming, policy)
         }
-        Row::ServiceEdgeRouterPolicy {
-            no,
-            name,
-            semantic,
-            services,
-            routers,
-        } => {
+        Row::ServiceEdgeRouterPolicy { no, .. } => {
             let coming = coming(rows, Kind::ServiceEdgeRouterPolicy, no.0, sound);
-            let policy = policy(name, Relation::ServiceRouter, *semantic, services, routers)?;
+            let Some(policy) = policy_in(row)? else {
+                unreachable!()
+            };
             take_policy(alloc, stores, Kind::ServiceEdgeRouterPolicy, coming, policy)
         }
-        Row::Terminator {
-            no,
-            service,
-            router,
-            host,
-            instance,
-            cost,
-            precedence,
-        } => {
+        Row::Terminator { no, .. } => {
             let coming = coming(rows, Kind::Terminator, no.0, sound);
-            let term = Term {
-                service: *service,
-                router: *router,
-                instance: instance.copy()?,
-                host: *host,
-                cost: *cost,
-                precedence: *precedence,
+            let Some(term) = term_in(row)? else {
+                unreachable!()
             };
             take_term(alloc, stores, coming, term)
         }
-        Row::Circuit {
-            no,
-            identity,
-            service,
-            terminator,
-            ingress,
-            links,
-        } => {
+        Row::Circuit { no, .. } => {
             let coming = coming(rows, Kind::Circuit, no.0, sound);
-            let circuit = Circuit {
-                identity: *identity,
-                service: *service,
-                terminator: *terminator,
-                ingress: *ingress,
-                links: links.copy()?,
+            let Some(circuit) = circuit_in(row)? else {
+                unreachable!()
             };
             take_circuit(alloc, stores, coming, circuit)
         }

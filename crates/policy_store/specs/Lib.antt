@@ -2,9 +2,5 @@ pub mod PolicyTables
 pub mod PolicyRules
 pub mod Stores
 pub mod WorkedPolicies
-pub mod GrantKinds
-pub mod GrantChanges
+pub mod StepsOfRelations
 pub mod PolicyChanges
-pub mod PolicyPlans
-pub mod PlannedPolicies
-pub mod PolicyRows

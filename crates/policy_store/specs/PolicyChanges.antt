@@ -1,9 +1,7 @@
 -- What a command on policies changes, in the policies themselves and in a state (docs/PROMISES.md, "Commands on policies").
 use Rattle.std.specs.Prelude.{◌≡◌, true, ℕ, List, Some}
 use Rattle.ctrl_model.specs.declared.kinds.Kind.{Kind}
-use Rattle.ctrl_model.specs.State.{State, Policy, start}
-use Rattle.entity_store.specs.EntityTables.{Tables}
-use Rattle.entity_store.specs.HeldUses.{with_entities, HoldsPolicies}
+use Rattle.ctrl_model.specs.State.{State, Policy}
 use Rattle.policy_store.specs.PolicyTables.{PolicyTables, is_policy_kind, policies, number_of}
 use Rattle.policy_store.specs.PolicyTables as tables
 use Rattle.policy_store.specs.PolicyRules.{is_there}
@@ -25,15 +23,6 @@ with_tables p s = record s {
   edge_router_policies = p.edge_router_policies;
   service_edge_router_policies = p.service_edge_router_policies;
 }
-
--- A state with these entities and these policies in place of its own. Commands on policies are judged by these alone, so what is said
--- of all such states is said of the one whose parts they are.
-abbrev pub over : Tables → PolicyTables → State → State
-over t p s = with_entities t (with_tables p s)
-
--- The uses that are held beside those of entities are those of these policies.
-abbrev pub HoldsUses : Tables → PolicyTables → Type 0
-HoldsUses t p = HoldsPolicies t (with_tables p start)
 
 -- The policies of a kind in a state.
 abbrev pub policies_in : Kind → State → List (ℕ × Policy)

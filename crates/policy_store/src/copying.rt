@@ -1,7 +1,7 @@
 ghost use Rattle.std.specs.Prelude.{◌≡◌, IfOk};
 
 use crate::records::Policy;
-use ctrl_model::Side;
+use ctrl_model::{Name, Relation, Semantic, Side};
 use std::alloc::AllocError;
 
 /// An equal side.
@@ -14,6 +14,28 @@ pub fn copy_side(side: &Side) -> Result<Side, AllocError>
         all: side.all,
         ids,
         attributes,
+    })
+}
+
+/// The policy of some parts.
+pub fn policy_of(
+    name: &Name,
+    relation: Relation,
+    semantic: Semantic,
+    left: &Side,
+    right: &Side,
+) -> Result<Policy, AllocError>
+    ensures { IfOk result (λ p. p ≡ record { name = name.now; relation = relation; semantic = semantic; left = left.now; right = right.now }) }
+{
+    let name = name.copy()?;
+    let left = copy_side(left)?;
+    let right = copy_side(right)?;
+    Ok(Policy {
+        name,
+        relation,
+        semantic,
+        left,
+        right,
     })
 }
 

@@ -1,15 +1,13 @@
-ghost use Rattle.std.specs.Prelude.{◌≡◌, ◌≤◌, ◌&&◌, not, cond, true, position, is_none, min, length, MatchOption, IfOk, OnOk, OnErr};
+ghost use Rattle.std.specs.Prelude.{◌≡◌, ◌≤◌, ◌&&◌, cond, true, length, MatchOption, IfOk, OnErr};
 ghost use Rattle.std.specs.Option.{option_map};
 ghost use Rattle.std.specs.Result.{result_map_both};
 ghost use Rattle.ctrl_model.specs.Numbered.{at, numbers, no_rows};
-ghost use Rattle.entity_store.specs.EntityTables.{is_entity_kind};
-ghost use Rattle.entity_store.specs.EntityTables as entity_tables;
-ghost use Rattle.policy_store.specs.PolicyTables.{no_policies, is_policy_kind, policies_of, policies, next_of, number_of, without_policy, with_next, forgetting, left_kind, right_kind};
-ghost use Rattle.policy_store.specs.PolicyRules.{most_of, has_kind_room, absent_place, absent_name, has_fitting_name, may_put, found, is_there, can_put, put_in, put_number, KeepsNumbers};
+ghost use Rattle.ctrl_model.specs.Tables.{is_entity_kind};
+ghost use Rattle.policy_store.specs.PolicyTables.{no_policies, is_policy_kind, policies_of, policies, next_of, number_of, without_policy, with_next, forgetting};
+ghost use Rattle.policy_store.specs.PolicyRules.{most_of, has_kind_room, found, is_there, can_put, put_in, put_number, KeepsNumbers};
 
 use crate::records::{Hand, Policy, forget_in, put_in};
 use ctrl_model::{Kind, Name, Numbers, PolicyNo};
-use entity_store::Entities;
 use record_tables::NamedTable;
 use std::alloc::{AllocError, Global};
 use std::marker::Model;
@@ -64,80 +62,9 @@ fn most_of(kind: Kind) -> usize
     }
 }
 
-// The kind of entity that the left sides of a kind of policy name.
-fn left_kind(kind: Kind) -> Kind
-    requires { is_policy_kind kind ≡ true }
-    ensures kind { result ≡ left_kind kind }
-    ensures entity { is_entity_kind result ≡ true }
-{
-    match kind {
-        Kind::ServiceEdgeRouterPolicy => Kind::Service,
-        _ => Kind::Identity,
-    }
-}
-
-// The kind of entity that the right sides of a kind of policy name.
-fn right_kind(kind: Kind) -> Kind
-    requires { is_policy_kind kind ≡ true }
-    ensures kind { result ≡ right_kind kind }
-    ensures entity { is_entity_kind result ≡ true }
-{
-    match kind {
-        Kind::ServicePolicy => Kind::Service,
-        _ => Kind::Router,
-    }
-}
-
-// Whether no entity of a kind has a name.
-fn is_absent(kind: Kind, name: &Name, known: &Entities) -> bool
-    requires { is_entity_kind kind ≡ true }
-    ensures { result ≡ is_none (entity_tables.number_of kind name.now known.now) }
-{
-    known.find(kind, name).is_err()
-}
-
-// The place of the first name that no entity of a kind has.
-fn first_absent(kind: Kind, names: &[Name], known: &Entities) -> Option<usize>
-    requires { is_entity_kind kind ≡ true }
-    ensures { result ≡ position (λ n. is_none (entity_tables.number_of kind n known.now)) names.now }
-{
-    names.iter().position(|name| is_absent(kind, name, known))
-}
-
-// A place as it is told: at most 4,294,967,295.
-fn told_place(place: usize) -> u32
-    ensures { result ≡ min place 4294967295 }
-{
-    u32::try_from(place).unwrap_or(u32::MAX)
-}
-
-// The place of the first name that no entity of a kind has, as it is told.
-fn absent_place(kind: Kind, names: &[Name], known: &Entities) -> Option<u32>
-    requires { is_entity_kind kind ≡ true }
-    ensures { result ≡ absent_place kind names.now known.now }
-{
-    Some(told_place(first_absent(kind, names, known)?))
-}
-
-// The fault of the first `@` name of a policy that no entity has, on the left side before the right one.
-fn absent_name(kind: Kind, policy: &Policy, known: &Entities) -> Option<PolicyFault>
-    requires { is_policy_kind kind ≡ true }
-    ensures { result ≡ absent_name kind policy.now known.now }
-{
-    let left = absent_place(left_kind(kind), policy.left.ids.as_slice(), known);
-    if let Some(place) = left {
-        return Some(PolicyFault::UnknownRef {
-            right: false,
-            place,
-        });
-    }
-    let place = absent_place(right_kind(kind), policy.right.ids.as_slice(), known)?;
-    Some(PolicyFault::UnknownRef { right: true, place })
-}
-
 impl Policies {
     /// The table of a kind. None where it is no kind of policy.
-    pub(crate) fn table(&self, kind: Kind) -> Option<&NamedTable<Policy>>
+    pub fn table(&self, kind: Kind) -> Option<&NamedTable<Policy>>
         ensures table { MatchOption result (policies_of kind self.now ≡ no_rows) (λ t. t.now ≡ policies_of kind self.now) }
         ensures few { length (policies kind self.now) ≤ most_of kind }
     {
@@ -149,16 +76,17 @@ impl Policies {
         }
     }
 
-    // The number of the policy that has the name, and that the kind keeps its numbers.
-    fn number_of(&self, kind: Kind, name: &Name) -> Option<u32>
+    /// The number of the policy that has the name, if one has it.
+    pub fn number_of(&self, kind: Kind, name: &Name) -> Option<u32>
         ensures found { result ≡ number_of kind name.now self.now }
+        // The numbers ascend from 1 below the next one, and the kind keeps its limit.
         ensures numbers { KeepsNumbers kind self.now }
     {
         self.table(kind)?.find(name.bytes())
     }
 
-    // Whether one more policy of a kind can be put.
-    fn has_room(&self, kind: Kind) -> bool
+    /// Whether one more policy of a kind can be put.
+    pub fn has_room(&self, kind: Kind) -> bool
         ensures { result ≡ has_kind_room kind self.now }
     {
         self.count(kind) < most_of(kind) && self.next(kind) < u32::MAX
@@ -173,38 +101,6 @@ impl Policies {
             edge_router_policies: NamedTable::new(alloc),
             service_edge_router_policies: NamedTable::new(alloc),
         })
-    }
-
-    /// Whether a policy may be put: `Exists` comes exactly where it is fresh and its name is taken, `Unknown` exactly where it is
-    /// not fresh and nothing has its name; else `UnknownRef` tells the first `@` name that no entity has, on the left side before
-    /// the right one; and else `Full` comes exactly where it is fresh and its kind has reached its limit or its numbers have run
-    /// out (docs/RULES.md, "Commands on policies").
-    pub fn may_put(
-        &self,
-        kind: Kind,
-        policy: &Policy,
-        fresh: bool,
-        known: &Entities,
-    ) -> Result<(), PolicyFault>
-        requires { is_policy_kind kind ≡ true }
-        ensures fault { result ≡ may_put kind policy.now fresh self.now known.now }
-        // A policy that may be put can be put.
-        ensures can { OnOk result (can_put kind policy.now.name fresh self.now ≡ true) }
-    {
-        let taken = self.number_of(kind, &policy.name).is_some();
-        if fresh && taken {
-            return Err(PolicyFault::Exists);
-        }
-        if !fresh && !taken {
-            return Err(PolicyFault::Unknown);
-        }
-        if let Some(fault) = absent_name(kind, policy, known) {
-            return Err(fault);
-        }
-        if fresh && !self.has_room(kind) {
-            return Err(PolicyFault::Full(kind));
-        }
-        Ok(())
     }
 
     /// Puts a policy and answers its number: a fresh one under the next number, another in place of the one that has its name,

@@ -1,4 +1,4 @@
-ghost use Rattle.policy_store.specs.GrantChanges.{HasNoSteps};
+ghost use Rattle.policy_store.specs.StepsOfRelations.{HasNoSteps};
 
 use grant_denorm::Delta;
 use std::alloc::Global;

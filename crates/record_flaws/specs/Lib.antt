@@ -2,3 +2,4 @@ pub mod SoundRows
 pub mod StoresOfStates
 pub mod FoundFlaws
 pub mod WorkedFlaws
+pub mod SaidRecords

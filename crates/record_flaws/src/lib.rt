@@ -4,6 +4,7 @@
 mod coming;
 mod entities;
 mod links;
+mod said_records;
 mod soundness;
 mod terms;
 mod worked;
@@ -11,6 +12,7 @@ mod worked;
 pub use coming::{Coming, Findings};
 pub use entities::{plain_flaw, router_flaw};
 pub use links::link_flaw;
+pub use said_records::{circuit_in, link_in, policy_in, term_in};
 pub use soundness::is_sound_row;
 pub use terms::term_flaw;
 pub use worked::worked_flaws;

@@ -1,6 +1,6 @@
 ghost use Rattle.fabric_graph.specs.Routers.{AreRouters};
 
-use crate::lines::{asked, granted, line, offered, router};
+use crate::lines::{asked, closed, granted, line, offered, router};
 use circuit_rules::{Ask, DecideFault, Route, View, decide};
 use ctrl_model::{Denial, RouterNo, TermNo};
 use fabric_graph::Fabric;
@@ -26,14 +26,21 @@ fn is_granted(rt: &impl Abort, alloc: Global, view: &View, ask: &Ask) -> Result<
     Ok(())
 }
 
-fn is_refused(rt: &impl Abort, alloc: Global, view: &View, ask: &Ask) -> Result<(), Fail>
+fn is_refused(
+    rt: &impl Abort,
+    alloc: Global,
+    view: &View,
+    ask: &Ask,
+    denial: Denial,
+) -> Result<(), Fail>
     requires { AreRouters view.now.routers.now }
 {
     let refused = decide(alloc, view, ask).err();
-    assert_eq!(rt; refused, Some(DecideFault::Denied(Denial::CircuitsFull)));
+    assert_eq!(rt; refused, Some(DecideFault::Denied(denial)));
     Ok(())
 }
 
+// Circuits may be full where there is a path, and beside the want of a path, which is told first.
 fn seen(
     rt: &impl Abort,
     alloc: Global,
@@ -57,7 +64,12 @@ fn seen(
         circuits_full: true,
         ..view
     };
-    is_refused(rt, alloc, &full, ask)
+    is_refused(rt, alloc, &full, ask, Denial::CircuitsFull)?;
+    let cut = View {
+        routers: &[router(1, 0), closed(2), router(3, 0)],
+        ..full
+    };
+    is_refused(rt, alloc, &cut, ask, Denial::NoPath)
 }
 
 // Each function owns one value, and lends it to the next.

@@ -1,6 +1,6 @@
 //! A network of three routers in a row, with the records by which a request is granted over it.
 
-ghost use Rattle.std.specs.Prelude.{◌≡◌, true};
+ghost use Rattle.std.specs.Prelude.{◌≡◌, false, true};
 
 use circuit_rules::{Ask, Wanted};
 use ctrl_model::{IdentityNo, Instance, LinkNo, Name, Precedence, RouterNo, RouterSeen, ServiceNo};
@@ -17,6 +17,18 @@ pub(crate) fn router(number: u32, cost: u32) -> RouterSeen
         no: RouterNo(number),
         cost,
         through: true,
+        connected: true,
+    }
+}
+
+/// A router that no path may pass through.
+pub(crate) fn closed(number: u32) -> RouterSeen
+    ensures { result ≡ record { no = record { 0 = number }; cost = 0; through = false; connected = true } }
+{
+    RouterSeen {
+        no: RouterNo(number),
+        cost: 0,
+        through: false,
         connected: true,
     }
 }

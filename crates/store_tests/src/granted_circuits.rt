@@ -1,7 +1,8 @@
 ghost use Rattle.std.specs.Prelude.{◌≡◌, true, IfOk};
 ghost use Rattle.ctrl_model.specs.CommandForm.{is_link_cost, is_latency};
 
-use circuits::{Circuit, CircuitFault, Circuits, Present};
+use circuit_settling::{Present, settle};
+use circuits::{Circuit, CircuitFault, Circuits, CircuitsAfter};
 use ctrl_model::{
     CircuitNo, IdentityNo, Instance, LinkNo, Name, Numbers, Precedence, RouterNo, RouterSeen,
     ServiceNo, TermNo,
@@ -109,7 +110,9 @@ fn settles(
     present: &Present,
     gone: &[u32],
 ) -> Result<(), Fail> {
-    assert_eq!(rt; circuits.settle(alloc, present)?.as_slice(), gone);
+    let none = Numbers::of(Vec::new(alloc));
+    let unchanged = CircuitsAfter::new(circuits, None, &none);
+    assert_eq!(rt; settle(alloc, &unchanged, present)?.as_slice(), gone);
     Ok(())
 }
 

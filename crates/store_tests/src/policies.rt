@@ -1,7 +1,8 @@
 use crate::making::{names, two};
+use core_stores::{may_put, members};
 use ctrl_model::{Kind, Name, Names, PolicyNo, Relation, Semantic, Side};
 use entity_store::Entities;
-use policy_store::{Policies, Policy, members};
+use policy_store::{Policies, Policy};
 use std::alloc::Global;
 use std::process::Abort;
 use std::test::Fail;
@@ -40,7 +41,7 @@ fn put(
     fresh: bool,
     known: &Entities,
 ) -> Result<PolicyNo, Fail> {
-    store.may_put(Kind::ServicePolicy, &policy, fresh, known)?;
+    may_put(store, Kind::ServicePolicy, &policy, fresh, known)?;
     Ok(store.put(Kind::ServicePolicy, policy, fresh)?)
 }
 

@@ -1,5 +1,5 @@
 use Rattle.entity_commands.proofs.ApplyLaws.{can_apply}
-use Rattle.ctrl_core.specs.KeptState.{state_of}
+use Rattle.core_stores.specs.StoredState.{state_of}
 use Rattle.ctrl_core.proofs.ApplyLaws.{carried_entity, forgets_entity}
 use Rattle.ctrl_core.proofs.applying.apply_entity.Goals as goal
 

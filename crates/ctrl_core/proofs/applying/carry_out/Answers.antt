@@ -1,10 +1,10 @@
 use Rattle.std.proofs.Common.{Option, sym, subst}
 use Rattle.ctrl_model.specs.ValidState.{ValidState}
 use Rattle.model_laws.specs.Plans.{CanLeadBy, led_by}
-use Rattle.ctrl_core.specs.declared.changes.Change.{Change}
-use Rattle.ctrl_core.specs.AppliedChanges.{Carries}
+use Rattle.core_stores.specs.declared.changes.Change.{Change}
+use Rattle.core_stores.specs.CarriedStates.{Carries}
 use Rattle.ctrl_core.specs.Changes.{CanChange, NamesSettled, after_change}
-use Rattle.ctrl_core.specs.KeptState.{state_of}
+use Rattle.core_stores.specs.StoredState.{state_of}
 use Rattle.ctrl_core.proofs.NetworkPlans.{carries_then}
 use Rattle.ctrl_core.proofs.applying.carry_out.Goals as goal
 

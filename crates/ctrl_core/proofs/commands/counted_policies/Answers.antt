@@ -2,8 +2,8 @@ use Rattle.std.proofs.Common.{Option, subst, refl}
 use Rattle.model_laws.specs.Plans.{CanLeadBy}
 use Rattle.policy_store.specs.declared.changes.PolicyChange.{PolicyChange}
 use Rattle.policy_store.specs.PolicyChanges.{CanRule, ruled}
-use Rattle.ctrl_core.specs.declared.changes.Change.TheVariants as change
-use Rattle.ctrl_core.specs.KeptState.{state_of}
+use Rattle.core_stores.specs.declared.changes.Change.TheVariants as change
+use Rattle.core_stores.specs.StoredState.{state_of}
 use Rattle.ctrl_core.proofs.NetworkPlans.{shown_planned, changed_planned}
 use Rattle.ctrl_core.proofs.commands.counted_policies.Goals as goal
 

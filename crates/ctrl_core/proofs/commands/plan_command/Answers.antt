@@ -1,6 +1,6 @@
 use Rattle.std.proofs.Common.{sym, subst}
 use Rattle.ctrl_model.specs.declared.replies.Reply.TheVariants.{Empty}
-use Rattle.ctrl_core.specs.KeptState.{state_of}
+use Rattle.core_stores.specs.StoredState.{state_of}
 use Rattle.ctrl_core.specs.PlannedCommands.{Plans}
 use Rattle.ctrl_core.proofs.FoundPlans.{no_plan}
 use Rattle.ctrl_core.proofs.PlanLaws.{plans_reply, only_greeting}

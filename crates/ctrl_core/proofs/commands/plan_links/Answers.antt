@@ -1,8 +1,8 @@
 use Rattle.std.proofs.Common.{Option, subst}
 use Rattle.ctrl_model.specs.Controller.{carry}
-use Rattle.ctrl_core.specs.declared.changes.Change.{Change}
-use Rattle.ctrl_core.specs.KeptState.{state_of}
-use Rattle.ctrl_core.specs.PlannedCommands.{IsUncounted}
+use Rattle.core_stores.specs.declared.changes.Change.{Change}
+use Rattle.core_stores.specs.StoredState.{state_of}
+use Rattle.core_stores.specs.Drafts.{IsUncounted}
 use Rattle.ctrl_core.proofs.FoundPlans.{found_plan}
 use Rattle.ctrl_core.proofs.NetworkPlans.{links_planned}
 use Rattle.ctrl_core.proofs.commands.plan_links.Goals as goal

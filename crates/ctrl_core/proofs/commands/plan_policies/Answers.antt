@@ -1,5 +1,5 @@
 use Rattle.ctrl_model.specs.Controller.{carry}
-use Rattle.ctrl_core.specs.KeptState.{state_of}
+use Rattle.core_stores.specs.StoredState.{state_of}
 use Rattle.ctrl_core.proofs.FoundPlans.{found_plan}
 use Rattle.ctrl_core.proofs.commands.plan_policies.Goals as goal
 

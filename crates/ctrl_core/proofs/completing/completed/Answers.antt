@@ -2,9 +2,10 @@ use Rattle.std.proofs.Common.{Option, sym, ◌∙◌, ap, subst}
 use Rattle.model_laws.specs.Plans.{led_by}
 use Rattle.row_codec.specs.Batches.{batch_between}
 use Rattle.row_laws.proofs.StateBatches.{batch_between-same}
-use Rattle.ctrl_core.specs.declared.changes.Change.{Change}
-use Rattle.ctrl_core.specs.Changes.{LeadAllCounts, NamesSettled, after_change}
-use Rattle.ctrl_core.specs.KeptState.{state_of}
+use Rattle.core_stores.specs.declared.changes.Change.{Change}
+use Rattle.core_stores.specs.LeadingSteps.{LeadAllCounts}
+use Rattle.ctrl_core.specs.Changes.{NamesSettled, after_change}
+use Rattle.core_stores.specs.StoredState.{state_of}
 use Rattle.ctrl_core.proofs.completing.completed.Goals as goal
 
 pub returns-in_default : goal.returns-in_default

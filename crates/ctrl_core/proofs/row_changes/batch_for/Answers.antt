@@ -5,7 +5,7 @@ use Rattle.row_codec.specs.CoveredTables.{Covers}
 use Rattle.row_laws.proofs.Covers.{Covers-append, Covers-batch}
 use Rattle.row_laws.proofs.WrittenRows.{IsNumbered-valid}
 use Rattle.ctrl_core.specs.ChangedStores.{next_state}
-use Rattle.ctrl_core.specs.KeptState.{state_of}
+use Rattle.core_stores.specs.StoredState.{state_of}
 use Rattle.ctrl_core.proofs.row_changes.batch_for.Goals as goal
 
 pub returns : goal.returns

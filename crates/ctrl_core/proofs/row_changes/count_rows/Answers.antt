@@ -1,7 +1,7 @@
 use Rattle.std.proofs.Common.{refl}
 use Rattle.std.proofs.lemmas.Result.{IfOk-weaker}
 use Rattle.ctrl_core.specs.ChangedStores.{next_state}
-use Rattle.ctrl_core.specs.KeptState.{state_of}
+use Rattle.core_stores.specs.StoredState.{state_of}
 use Rattle.ctrl_core.proofs.CountRows.{least_each, most_each, moves_each, counts_each, same_steps, same_counts}
 use Rattle.ctrl_core.proofs.StepLaws.{steps_fit}
 use Rattle.ctrl_core.proofs.row_changes.count_rows.Goals as goal

@@ -1,6 +1,6 @@
 use Rattle.std.proofs.lemmas.Result.{IfOk-weaker}
 use Rattle.ctrl_core.specs.ChangedStores.{next_state}
-use Rattle.ctrl_core.specs.KeptState.{state_of}
+use Rattle.core_stores.specs.StoredState.{state_of}
 use Rattle.ctrl_core.proofs.RowEnds.{entities_now, entities_end, entities_fit, entities_fit_now, entities_can}
 use Rattle.ctrl_core.proofs.row_changes.entity_rows.Goals as goal
 

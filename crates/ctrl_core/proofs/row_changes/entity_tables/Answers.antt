@@ -2,7 +2,7 @@ use Rattle.std.proofs.Common.{sym, subst, arith}
 use Rattle.row_codec.specs.CoveredTables.{Covers}
 use Rattle.row_laws.proofs.Covers.{Covers-append}
 use Rattle.ctrl_core.specs.ChangedStores.{next_state}
-use Rattle.ctrl_core.specs.KeptState.{state_of}
+use Rattle.core_stores.specs.StoredState.{state_of}
 use Rattle.ctrl_core.proofs.row_changes.entity_tables.Goals as goal
 
 pub returns : goal.returns

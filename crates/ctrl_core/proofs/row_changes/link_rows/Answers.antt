@@ -1,7 +1,7 @@
 use Rattle.std.proofs.Common.{refl}
 use Rattle.std.proofs.lemmas.Result.{IfOk-weaker}
 use Rattle.ctrl_core.specs.ChangedStores.{next_state}
-use Rattle.ctrl_core.specs.KeptState.{state_of}
+use Rattle.core_stores.specs.StoredState.{state_of}
 use Rattle.ctrl_core.proofs.RowEnds.{links_climb, links_end, links_fit, links_fit_now}
 use Rattle.ctrl_core.proofs.row_changes.link_rows.Goals as goal
 

@@ -2,7 +2,7 @@ use Rattle.std.proofs.Common.{sym, subst}
 use Rattle.std.proofs.lemmas.Result.{IfOk-weaker}
 use Rattle.row_codec.specs.CoveredTables.{Covers}
 use Rattle.ctrl_core.specs.ChangedStores.{next_state}
-use Rattle.ctrl_core.specs.KeptState.{state_of}
+use Rattle.core_stores.specs.StoredState.{state_of}
 use Rattle.ctrl_core.proofs.NextNumbers.{next_covered}
 use Rattle.ctrl_core.proofs.row_changes.next_changes.Goals as goal
 

@@ -1,6 +1,6 @@
 use Rattle.std.proofs.Common.{◌≡◌, map, take}
 use Rattle.ctrl_core.specs.ChangedStores.{next_change_in, next_state}
-use Rattle.ctrl_core.specs.KeptState.{state_of}
+use Rattle.core_stores.specs.StoredState.{state_of}
 use Rattle.ctrl_core.proofs.row_changes.next_changes_of.Given as goal
 
 -- the changes of the kinds that were passed

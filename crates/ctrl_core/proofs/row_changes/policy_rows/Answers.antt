@@ -1,9 +1,9 @@
 use Rattle.std.proofs.Common.{sym, ◌∙◌, ap, subst}
 use Rattle.std.specs.Option.{option_map}
 use Rattle.row_codec.specs.CoveredTables.{Covers}
-use Rattle.ctrl_core.specs.ChangeParts.{forgotten_name}
+use Rattle.core_stores.specs.ChangeParts.{forgotten_name}
 use Rattle.ctrl_core.specs.ChangedStores.{next_state}
-use Rattle.ctrl_core.specs.KeptState.{state_of}
+use Rattle.core_stores.specs.StoredState.{state_of}
 use Rattle.ctrl_core.proofs.RowEnds.{policies_end, kept_then, policies_same}
 use Rattle.ctrl_core.proofs.row_changes.policy_rows.Goals as goal
 

@@ -4,7 +4,7 @@ use Rattle.row_laws.specs.ChangedKeys.{setting_change}
 use Rattle.row_laws.proofs.Covers.{Covers-append}
 use Rattle.row_laws.proofs.TouchedKeys.{Covers-setting}
 use Rattle.ctrl_core.specs.ChangedStores.{next_state}
-use Rattle.ctrl_core.specs.KeptState.{state_of}
+use Rattle.core_stores.specs.StoredState.{state_of}
 use Rattle.ctrl_core.proofs.row_changes.push_setting.Goals as goal
 
 pub returns : goal.returns

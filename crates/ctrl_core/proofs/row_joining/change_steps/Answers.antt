@@ -1,4 +1,4 @@
-use Rattle.ctrl_core.specs.KeptState.{state_of}
+use Rattle.core_stores.specs.StoredState.{state_of}
 use Rattle.ctrl_core.proofs.JoinedLaws.{network_leads}
 use Rattle.ctrl_core.proofs.row_joining.change_steps.Goals as goal
 

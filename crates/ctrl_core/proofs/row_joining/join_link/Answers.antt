@@ -1,5 +1,5 @@
 use Rattle.ctrl_model.specs.declared.kinds.Kind.TheVariants as kind
-use Rattle.ctrl_core.specs.KeptState.{state_of}
+use Rattle.core_stores.specs.StoredState.{state_of}
 use Rattle.ctrl_core.proofs.JoinedLaws.{joins_valid}
 use Rattle.ctrl_core.proofs.row_joining.join_link.Goals as goal
 

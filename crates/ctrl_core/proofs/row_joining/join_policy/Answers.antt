@@ -1,4 +1,4 @@
-use Rattle.ctrl_core.specs.KeptState.{state_of}
+use Rattle.core_stores.specs.StoredState.{state_of}
 use Rattle.ctrl_core.proofs.JoinedLaws.{policy_above, policy_valid}
 use Rattle.ctrl_core.proofs.row_joining.join_policy.Goals as goal
 

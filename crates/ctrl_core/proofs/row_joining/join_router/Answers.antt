@@ -5,20 +5,20 @@ use Rattle.ctrl_model.specs.State.{State}
 use Rattle.ctrl_model.specs.ValidState.{ValidState}
 use Rattle.entity_commands.specs.EntityChanges.{with_marked}
 use Rattle.ctrl_core.specs.JoinedRows.{KeepState}
-use Rattle.ctrl_core.specs.KeptState.{state_of}
+use Rattle.core_stores.specs.StoredState.{state_of}
 use Rattle.ctrl_core.proofs.JoinedLaws.{joins_valid, made_valid, router_there, router_marked}
 use Rattle.ctrl_core.proofs.row_joining.join_router.Goals as goal
 
 pub make_at-requires-clause-valid : goal.make_at-requires-clause-valid
 make_at-requires-clause-valid c = made_valid c.args.number (record { name = c.args.name; attributes = c.args.attributes; cost = c.args.cost; through = c.args.through; connected = c.args.connected }) (state_of c.args.stores.now) c.requires.kept.valid c.requires.may
 
-pub mark-requires-clause-can : goal.mark-requires-clause-can
-mark-requires-clause-can c =
+pub make-requires-clause-can : goal.make-requires-clause-can
+make-requires-clause-can c =
     ap (λ (t : State). is_present t.routers.rows c.args.number) c.in_ok-make_at.ensures.state_is
     ∙ router_there c.args.number (record { name = c.args.name; attributes = c.args.attributes; cost = c.args.cost; through = c.args.through; connected = c.args.connected }) (state_of c.args.stores.now) c.requires.kept.valid c.requires.may
 
-pub mark-requires-clause-valid : goal.mark-requires-clause-valid
-mark-requires-clause-valid c =
+pub make-requires-clause-valid : goal.make-requires-clause-valid
+make-requires-clause-valid c =
     let s = state_of c.args.stores.now in
     subst ValidState
     (sym (ap (with_marked c.args.number c.args.cost c.args.through c.args.connected) c.in_ok-make_at.ensures.state_is ∙ router_marked c.args.number (record { name = c.args.name; attributes = c.args.attributes; cost = c.args.cost; through = c.args.through; connected = c.args.connected }) s c.requires.kept.valid c.requires.may))
@@ -27,6 +27,6 @@ mark-requires-clause-valid c =
 pub returns : goal.returns
 returns c =
     let s = state_of c.args.stores.now in
-    subst (λ t. OnOk c.mark.result (KeepState c.mark.new.stores t))
+    subst (λ t. OnOk c.make.result (KeepState c.make.new.stores t))
     (ap (with_marked c.args.number c.args.cost c.args.through c.args.connected) c.in_ok-make_at.ensures.state_is ∙ router_marked c.args.number (record { name = c.args.name; attributes = c.args.attributes; cost = c.args.cost; through = c.args.through; connected = c.args.connected }) s c.requires.kept.valid c.requires.may)
-    c.mark.ensures
+    c.make.ensures

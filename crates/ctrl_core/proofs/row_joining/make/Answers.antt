@@ -1,5 +1,5 @@
 use Rattle.ctrl_core.specs.Changes.{after_change}
-use Rattle.ctrl_core.specs.KeptState.{state_of}
+use Rattle.core_stores.specs.StoredState.{state_of}
 use Rattle.ctrl_core.proofs.StepLaws.{room_for_steps, keeps_with_steps}
 use Rattle.ctrl_core.proofs.row_joining.make.Goals as goal
 

@@ -1,7 +1,7 @@
 use Rattle.std.proofs.Common.{◌∙◌}
 use Rattle.ctrl_model.specs.State.{entity_named}
 use Rattle.entity_store.specs.declared.entities.EntityFault.TheVariants.{Unknown}
-use Rattle.ctrl_core.specs.KeptState.{state_of}
+use Rattle.core_stores.specs.StoredState.{state_of}
 use Rattle.entity_store.proofs.LookUps.{some_from_ok, none_from_err}
 use Rattle.ctrl_core.proofs.ShownPlans.{grants_unknown, grants_planned}
 use Rattle.ctrl_core.proofs.showing.plan_show_grants.Goals as goal

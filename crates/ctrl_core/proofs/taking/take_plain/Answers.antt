@@ -1,5 +1,5 @@
 use Rattle.std.proofs.Common.{Some, refl, sym, ◌∙◌, arith}
-use Rattle.ctrl_core.specs.KeptState.{state_of}
+use Rattle.core_stores.specs.StoredState.{state_of}
 use Rattle.ctrl_core.proofs.TakenLaws.{takes_flaw, takes_none, plain_told, may_join_plain}
 use Rattle.ctrl_core.proofs.taking.take_plain.Goals as goal
 

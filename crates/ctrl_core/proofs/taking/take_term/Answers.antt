@@ -1,6 +1,6 @@
 use Rattle.std.proofs.Common.{refl, sym, ◌∙◌, ap, arith}
 use Rattle.ctrl_model.specs.State.{Terminator}
-use Rattle.ctrl_core.specs.KeptState.{state_of}
+use Rattle.core_stores.specs.StoredState.{state_of}
 use Rattle.ctrl_core.proofs.TakenLaws.{takes_flaw, takes_none, none_told, entities_of}
 use Rattle.ctrl_core.proofs.taking.take_term.Goals as goal
 

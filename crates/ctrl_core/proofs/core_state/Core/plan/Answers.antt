@@ -5,7 +5,7 @@ use Rattle.ctrl_model.specs.State.{State}
 use Rattle.model_laws.specs.Plans.{tells_change}
 use Rattle.row_codec.specs.Batches.{batch_between}
 use Rattle.ctrl_core.specs.Changes.{LeadsFrom}
-use Rattle.ctrl_core.specs.KeptState.{state_of}
+use Rattle.core_stores.specs.StoredState.{state_of}
 use Rattle.ctrl_core.proofs.PlanLaws.{can_complete, leads_from, still_is}
 use Rattle.ctrl_core.proofs.core_state.Core.plan.Goals as goal
 

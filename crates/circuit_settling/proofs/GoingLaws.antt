@@ -1,0 +1,19 @@
+-- Laws of the circuits that go: they are those at the numbers that do not stay.
+use Rattle.std.proofs.Common.{◌≡◌, ℕ, true, not, List, sym, ◌∙◌, ap}
+use Rattle.std.specs.List.{filter}
+use Rattle.std.specs.Option.{option_map_or}
+use Rattle.ctrl_model.specs.Numbered.{at, numbers, Between}
+use Rattle.ctrl_model.specs.State.{Circuit}
+use Rattle.record_tables.proofs.GoneLaws.{filter_among}
+use Rattle.record_tables.proofs.NumberLoops.{at_among}
+use Rattle.record_tables.proofs.TurnLaws.{numbers-filter}
+use Rattle.circuit_settling.specs.declared.staying.Present.{Present}
+use Rattle.circuit_settling.specs.PresentRecords.{stays_beside, stays_at}
+
+-- the numbers whose circuit does not stay are those of the circuits that do not
+pub going_are : (p : Present) (rows : List (ℕ × Circuit)) (high : ℕ) → Between 1 high rows
+    → filter (λ n. not (stays_at p rows n)) (numbers rows) ≡ numbers (filter (λ row. not (stays_beside p row.1)) rows)
+going_are p rows high b =
+    sym (numbers-filter (λ n. not (stays_at p rows n)) rows)
+    ∙ ap numbers (filter_among (λ (row : ℕ × Circuit). not (stays_at p rows row.0)) (λ row. not (stays_beside p row.1)) rows (λ x m.
+    ap (λ o. not (option_map_or (stays_beside p) o true)) (at_among high rows 1 x.0 x.1 b m)))

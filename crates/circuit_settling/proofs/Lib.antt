@@ -1,0 +1,3 @@
+pub mod GoingLaws
+pub mod WalkedLinks
+pub mod RowLaws

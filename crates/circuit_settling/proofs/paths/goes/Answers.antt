@@ -1,0 +1,18 @@
+use Rattle.std.proofs.Common.{◌≡◌, false, sym, ◌∙◌, ap, get_or, drop, ◌+◌}
+use Rattle.ctrl_model.specs.Networks.{hops}
+use Rattle.ctrl_model.specs.Walks.{is_among, goes}
+use Rattle.circuit_settling.specs.PresentRecords.{network_in}
+use Rattle.circuit_settling.proofs.WalkedLinks.{leads, goes-first, goes-on}
+use Rattle.circuit_settling.proofs.paths.goes.Goals as goal
+
+pub links-preserved : goal.links-preserved
+links-preserved c =
+    let hop = hops (network_in c.args.present.now) c.args.target.0 in
+    let seen = c.links.visited.items in
+    let link = get_or c.args.links.now c.links.link-index 0 in
+    let rest = drop (c.links.link-index + 1) c.args.links.now in
+    let new : is_among c.in-Some.hop.to.0 seen ≡ false = ap (is_among c.in-Some.hop.to.0) (sym c.as_slice.ensures.value) ∙ sym c.is_among.ensures ∙ c.if-is_among.false in
+    ap (λ visited. goes hop c.args.target.0 visited c.in-Some.hop.to.0 rest) c.in_ok-push.ensures.items
+    ∙ sym (goes-on hop c.args.target.0 seen rest c.links.at.0 link c.in-Some.hop.to.0 (ap leads c.in-Some.ensures) new)
+    ∙ sym (goes-first hop c.args.target.0 c.args.links.now seen c.links.link-index c.links.at.0 c.links-test.true)
+    ∙ c.links.invariant

@@ -1,0 +1,3 @@
+pub mod PresentRecords
+pub mod CircuitRows
+pub mod WorkedLines

@@ -1,0 +1,52 @@
+-- What is present, as settling circuits asks, and which circuits stay beside it (docs/RULES.md, "Settling").
+use Rattle.std.specs.Prelude.{ℕ, Bool, true, false, not, List, map, filter}
+use Rattle.std.specs.Option.{option_map_or}
+use Rattle.ctrl_model.specs.declared.kinds.RouterSeen.{RouterSeen}
+use Rattle.ctrl_model.specs.Networks.{Network, seen}
+use Rattle.ctrl_model.specs.Numbered.{at, numbers}
+use Rattle.ctrl_model.specs.Settling.{circuit_stays}
+use Rattle.ctrl_model.specs.State.{Circuit}
+use Rattle.circuits.specs.CircuitTables.{CircuitTables}
+use Rattle.entity_store.specs.EntityTables.{Tables}
+use Rattle.fabric_graph.specs.FabricTables.{FabricSeen}
+use Rattle.terminators.specs.TermTables.{TermTables}
+use Rattle.circuit_settling.specs.declared.staying.Present.{Present}
+
+-- The network of terminators, of links with the least router cost, and of routers. Nothing else of a network matters to whether
+-- a circuit stays: it has no grants.
+abbrev pub network : TermTables → FabricSeen → List RouterSeen → Network
+network t f routers = record {
+  routers = routers;
+  links = f.links.rows;
+  least = f.least;
+  terminators = t.terminators.rows;
+  dial = λ _ _. 0;
+  bind = λ _ _. 0;
+  identity_router = λ _ _. 0;
+  service_router = λ _ _. 0;
+  full = false;
+}
+
+-- Whether a circuit stays in a network, beside the present identities and services, whatever its own number.
+abbrev pub stays : Network → List ℕ → List ℕ → Circuit → Bool
+stays w identities services c = circuit_stays w identities services (0, c)
+
+-- The network of what is present.
+abbrev pub network_in : Present → Network
+network_in p = network p.terminators.now p.fabric.now p.routers.now
+
+-- Whether a circuit stays beside what is present.
+abbrev pub stays_beside : Present → Circuit → Bool
+stays_beside p c = stays (network_in p) p.identities.now p.services.now c
+
+-- Whether the circuit at a number stays beside what is present, if one is there.
+abbrev pub stays_at : Present → List (ℕ × Circuit) → ℕ → Bool
+stays_at p rows n = option_map_or (stays_beside p) (at rows n) true
+
+-- A circuit stays beside these entities, links and terminators.
+abbrev pub stays_with : Tables → FabricSeen → TermTables → ℕ × Circuit → Bool
+stays_with t f e row = stays (network e f (map seen t.routers.rows)) (numbers t.identities.rows) (numbers t.services.rows) row.1
+
+-- The numbers of the circuits that do not stay, ascending.
+abbrev pub gone : Tables → FabricSeen → TermTables → CircuitTables → List ℕ
+gone t f e k = numbers (filter (λ row. not (stays_with t f e row)) k.circuits.rows)

@@ -1,0 +1,33 @@
+ghost use Rattle.std.specs.Prelude.{◌≡◌, IfOk};
+ghost use Rattle.circuit_settling.specs.PresentRecords.{stays_with};
+
+use crate::staying::{Present, stays};
+use circuits::Circuit;
+use ctrl_model::Kind;
+use entity_store::Entities;
+use fabric_graph::FabricAfter;
+use std::alloc::{AllocError, Global};
+use terminators::TerminatorsAfter;
+
+/// Whether a circuit would stay beside some entities, links and terminators (docs/RULES.md, "Settling").
+pub fn would_stay(
+    alloc: Global,
+    entities: &Entities,
+    fabric: &FabricAfter,
+    terminators: &TerminatorsAfter,
+    circuit: &Circuit,
+) -> Result<bool, AllocError>
+    ensures { IfOk result (λ b. b ≡ stays_with entities.now fabric.now terminators.now (0, circuit.now)) }
+{
+    let identities = entities.numbers(alloc, Kind::Identity)?;
+    let services = entities.numbers(alloc, Kind::Service)?;
+    let routers = entities.routers(alloc)?;
+    let present = Present {
+        identities: &identities,
+        services: &services,
+        terminators,
+        routers: routers.as_slice(),
+        fabric,
+    };
+    stays(alloc, &present, circuit)
+}

@@ -1,9 +1,0 @@
-use Rattle.std.proofs.Common.{◌≡◌, ◌++◌, not, drop}
-use Rattle.std.specs.List.{filter}
-use Rattle.circuits.specs.PresentRecords.{stays_at}
-use Rattle.circuits.proofs.after.going.Given as goal
-
-abbrev pub invariant-circuits : goal.invariant-circuits
-invariant-circuits l =
-    l.going.items ++ filter (λ n. not (stays_at l.present l.circuits.circuits.rows n)) (drop l.number-index l.numbers)
-    ≡ filter (λ n. not (stays_at l.present l.circuits.circuits.rows n)) l.numbers
