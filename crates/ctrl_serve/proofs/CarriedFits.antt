@@ -2,7 +2,7 @@
 use Rattle.ctrl_model.specs.declared.kinds.Kind.{Kind}
 use Rattle.ctrl_model.specs.declared.kinds.Kind.TheVariants as kind
 use Rattle.ctrl_model.specs.declared.refusals.Field.{Field}
-use Rattle.std.proofs.Common.{◌≡◌, ℕ, ◌≤◌, true, false, cond, nat_lt, Bool, List, [], ◌∷◌, Option, None, Some, unwrap_or, nat_le, length, map, filter, refl, arith}
+use Rattle.std.proofs.Common.{◌≡◌, ℕ, ◌≤◌, true, false, cond, nat_lt, Bool, List, [], ◌∷◌, Option, None, Some, unwrap_or, nat_le, length, map, filter, refl, sym, ap, arith}
 use Rattle.std.proofs.lemmas.Bool.{false≢true, le-leb, and_from}
 use Rattle.std.proofs.lemmas.List.{length-map}
 use Rattle.ctrl_model.proofs.NumberedLaws.{length-filter-le}
@@ -13,8 +13,9 @@ use Rattle.ctrl_model.specs.declared.kinds.Relation.TheVariants.{Dial, Bind, Ide
 use Rattle.ctrl_model.specs.declared.refusals.Field.TheVariants.{Identity, Name, Link}
 use Rattle.ctrl_model.specs.declared.replies.Reply.{Reply}
 use Rattle.ctrl_model.specs.declared.replies.Reply.TheVariants.{Done, Made, Refused}
-use Rattle.ctrl_model.specs.declared.refusals.Refusal.TheVariants.{JournalFull}
-use Rattle.ctrl_model.specs.declared.kinds.Who.TheVariants.{Admin}
+use Rattle.ctrl_model.specs.declared.refusals.Refusal.TheVariants.{JournalFull, NotPermitted}
+use Rattle.ctrl_model.specs.declared.kinds.Who.{Who}
+use Rattle.ctrl_model.specs.Permitted.{is_permitted}
 use Rattle.row_codec.specs.declared.changes.Op.{Op}
 use Rattle.row_codec.specs.Batches.{batch_between}
 use Rattle.ctrl_keep.specs.KeptMachine.{Place, Machine, slot_with, behind, kept, answered, step}
@@ -150,6 +151,19 @@ answered_fits : (most : ℕ) (a : Reply × State) (s : State) (place : Option Pl
 answered_fits most a s None fits = fits
 answered_fits most a s (Some place) fits = kept_fits most a.0 s (batch_between s a.1) a.1 place fits
 
+-- Nor does it matter who sends a command.
+sent_fits : (may : Bool) (a : Reply × State) (s : State) → keeps_limits a.0 ≡ true → keeps_limits (cond {A = Reply × State} may a (Refused NotPermitted, s)).0 ≡ true
+sent_fits true a s fits = fits
+sent_fits false a s fits = refl
+
 -- The reply of a machine to each of these commands fits.
-pub step_fits : (most : ℕ) (c : Command) (m : Machine) → ValidState m.state → is_carried c ≡ true → keeps_limits (step most Admin c m).0 ≡ true
-step_fits most c m valid carried = answered_fits most (answer Admin c m.state) m.state m.place (carried_fits c m.state valid carried)
+pub step_fits : (most : ℕ) (who : Who) (c : Command) (m : Machine) → ValidState m.state → is_carried c ≡ true → keeps_limits (step most who c m).0 ≡ true
+step_fits most who c m valid carried =
+    answered_fits most (answer who c m.state) m.state m.place (sent_fits (is_permitted who c) (carry c m.state) m.state (carried_fits c m.state valid carried))
+
+-- A command that its sender may not send is refused, and one that it may send is carried out.
+pub answer_refused : (who : Who) (c : Command) (s : State) → is_permitted who c ≡ false → ◌≡◌ {A = Reply × State} (Refused NotPermitted, s) (answer who c s)
+answer_refused who c s e = ap (λ (may : Bool). cond {A = Reply × State} may (carry c s) (Refused NotPermitted, s)) (sym e)
+
+pub answer_carried : (who : Who) (c : Command) (s : State) → is_permitted who c ≡ true → carry c s ≡ answer who c s
+answer_carried who c s e = ap (λ (may : Bool). cond {A = Reply × State} may (carry c s) (Refused NotPermitted, s)) (sym e)

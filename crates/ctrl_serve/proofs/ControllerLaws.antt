@@ -6,7 +6,7 @@ use Rattle.ziti_outside.specs.Images.{Image}
 use Rattle.ziti_outside.specs.Moments.{Leaves}
 use Rattle.ctrl_core.specs.CarriedCommands.{is_carried}
 use Rattle.ctrl_model.specs.declared.commands.Command.{Command}
-use Rattle.ctrl_model.specs.declared.kinds.Who.TheVariants.{Admin}
+use Rattle.ctrl_model.specs.declared.kinds.Who.{Who}
 use Rattle.ctrl_model.specs.declared.replies.Reply.{Reply}
 use Rattle.ctrl_keep.specs.KeptController.{Controlled, machine_of}
 use Rattle.ctrl_keep.specs.KeptMachine.{Machine, step}
@@ -14,8 +14,11 @@ use Rattle.ctrl_keep.specs.OpenedStates.{OpensToState}
 use Rattle.reply_codec.specs.ReplyLimits.{keeps_limits}
 use Rattle.ctrl_serve.specs.declared.controller.Controller.{Controller}
 use Rattle.ctrl_serve.specs.declared.controller.Controller.TheVariants.{Kept}
-use Rattle.ctrl_serve.specs.Controllers.{Serving, IsReady, GoesOn, LeavesNotes}
+use Rattle.ctrl_serve.specs.Controllers.{Serving, IsReady, GoesOn}
+use Rattle.run_notes.specs.NotedLines.{LeavesNotes}
 use Rattle.ctrl_serve.specs.ControllerViews.{serving_of}
+use Rattle.ctrl_serve.specs.Headline.{OnlySaysAndNotes}
+use Rattle.ziti_outside.specs.Untouched.{OnlyNotes}
 use Rattle.ctrl_serve.proofs.CarriedFits.{step_fits}
 
 -- What a kept controller that can answer has: it is not spent.
@@ -27,20 +30,20 @@ pub kept_able : (x : Controller) (k : Controlled) → x ≡ Kept k → (serving_
 kept_able x k is able = kept_unspent k.spent (subst (λ (y : Controller). (serving_of y).able ≡ true) is able)
 
 -- Its reply keeps the limits.
-pub kept_limits : (x : Controller) (k : Controlled) (tells : Bool) (reads : Image) (images : Image → Type 0) (reply : Reply) (next : Machine) (c : Command) → x ≡ Kept k
-    → IsReady tells (serving_of x).kept reads images → is_carried c ≡ true → (reply, next) ≡ step k.stored.bounds.slot Admin c (machine_of k) → keeps_limits reply ≡ true
-kept_limits x k tells reads images reply next c is ready carried e =
+pub kept_limits : (x : Controller) (k : Controlled) (tells : Bool) (reads : Image) (images : Image → Type 0) (reply : Reply) (next : Machine) (who : Who) (c : Command) → x ≡ Kept k
+    → IsReady tells (serving_of x).kept reads images → is_carried c ≡ true → (reply, next) ≡ step k.stored.bounds.slot who c (machine_of k) → keeps_limits reply ≡ true
+kept_limits x k tells reads images reply next who c is ready carried e =
     let held = subst (λ (y : Controller). IsReady tells (serving_of y).kept reads images) is ready in
-    ap (λ (p : Reply × Machine). keeps_limits p.0) e ∙ step_fits k.stored.bounds.slot c (machine_of k) held.0.valid carried
+    ap (λ (p : Reply × Machine). keeps_limits p.0) e ∙ step_fits k.stored.bounds.slot who c (machine_of k) held.0.valid carried
 
 -- And a stop within its answer leaves what the machine of the controller says.
 pub kept_stops : {D : Type 0} {moment : D → ℕ} {since : D → ℕ → Image → List ℕ → Type 0} {may_leave : D → Image → Type 0} {said : D → Option (List ℕ)} {old new : D}
-    (x : Controller) (k : Controlled) (c : Command) → x ≡ Kept k
-    → Leaves moment since may_leave said old new (λ image. OpensToState image k.state ⊎ OpensToState image (step k.stored.bounds.slot Admin c (machine_of k)).1.state)
-    → Leaves moment since may_leave said old new (λ image. OpensToState image (serving_of x).machine.state ⊎ OpensToState image (step (serving_of x).slot Admin c (serving_of x).machine).1.state)
-kept_stops {moment = moment} {since = since} {may_leave = may_leave} {said = said} {old = old} {new = new} x k c is stops =
+    (x : Controller) (k : Controlled) (who : Who) (c : Command) → x ≡ Kept k
+    → Leaves moment since may_leave said old new (λ image. OpensToState image k.state ⊎ OpensToState image (step k.stored.bounds.slot who c (machine_of k)).1.state)
+    → Leaves moment since may_leave said old new (λ image. OpensToState image (serving_of x).machine.state ⊎ OpensToState image (step (serving_of x).slot who c (serving_of x).machine).1.state)
+kept_stops {moment = moment} {since = since} {may_leave = may_leave} {said = said} {old = old} {new = new} x k who c is stops =
     subst
-    (λ (y : Controller). Leaves moment since may_leave said old new (λ image. OpensToState image (serving_of y).machine.state ⊎ OpensToState image (step (serving_of y).slot Admin c (serving_of y).machine).1.state))
+    (λ (y : Controller). Leaves moment since may_leave said old new (λ image. OpensToState image (serving_of y).machine.state ⊎ OpensToState image (step (serving_of y).slot who c (serving_of y).machine).1.state))
     (sym is) stops
 
 -- A controller that goes on twice goes on.
@@ -56,3 +59,24 @@ still_alone old (Some k) kind none = absurd (false≢true (sym (kind ∙ ap is_s
 pub LeavesNotes-then : {D : Type 0} {noted : D → Option (List ℕ)} {note_faults : D → ℕ} {old mid new : D}
     → LeavesNotes noted note_faults old mid → LeavesNotes noted note_faults mid new → LeavesNotes noted note_faults old new
 LeavesNotes-then first second = record { notes = second.notes ∙ first.notes; failed_notes = second.failed_notes ∙ first.failed_notes }
+
+-- Replies and notes that came twice.
+pub OnlySaysAndNotes-then : {D : Type 0} {reads : D → Image} {may_leave : D → Image → Type 0} {disk_faults : D → ℕ} {old mid new : D}
+    → OnlySaysAndNotes reads may_leave disk_faults old mid → OnlySaysAndNotes reads may_leave disk_faults mid new → OnlySaysAndNotes reads may_leave disk_faults old new
+OnlySaysAndNotes-then first second = record {
+  parts = second.parts ∙ first.parts;
+  found = λ image left. first.found image (second.found image left);
+  failed_calls = second.failed_calls ∙ first.failed_calls;
+}
+
+pub OnlySaysAndNotes-none : {D : Type 0} {reads : D → Image} {may_leave : D → Image → Type 0} {disk_faults : D → ℕ} (desk : D) → OnlySaysAndNotes reads may_leave disk_faults desk desk
+OnlySaysAndNotes-none desk = record { parts = refl; found = λ image left. left; failed_calls = refl }
+
+-- And notes behind them.
+pub notes_behind : {D : Type 0} {said : D → Option (List ℕ)} {say_faults : D → ℕ} {reads : D → Image} {may_leave : D → Image → Type 0} {disk_faults : D → ℕ} {old mid new : D}
+    → OnlySaysAndNotes reads may_leave disk_faults old mid → OnlyNotes said say_faults reads may_leave disk_faults mid new → OnlySaysAndNotes reads may_leave disk_faults old new
+notes_behind first notes = record {
+  parts = notes.parts ∙ first.parts;
+  found = λ image left. first.found image (notes.found image left);
+  failed_calls = notes.failed_calls ∙ first.failed_calls;
+}

@@ -1,6 +1,7 @@
 -- What a status that the input decides says of a told input.
-use Rattle.std.specs.Prelude.{Bool, true, false}
+use Rattle.std.specs.Prelude.{Bool, true, false, cond, ◌||◌, nat_lt}
 use Rattle.std.proofs.Common.{◌≡◌, ℕ, zero, suc, ◌<◌, ◌≤◌, ◌⊎◌, inl, inr, List, [], ◌∷◌, ◌++◌, codes, decimal, length, take, None, Some, refl, sym, ap, ◌∙◌, subst, append-nil, arith}
+use Rattle.std.specs.List.{list_any, flat_map, range_with_len}
 use Rattle.std.proofs.Math.Dec.{ltb}
 use Rattle.std.proofs.lemmas.Bool.{lt-ltb, cases_lt, false≢true}
 use Rattle.std.proofs.lemmas.List.{take_all}
@@ -8,51 +9,43 @@ use Rattle.std.specs.declared.option.Option.{Option}
 use Rattle.std.specs.Io.KnownBytes.{IsAtEnd}
 use Rattle.ziti_outside.specs.Causes.{Rose}
 use Rattle.ziti_outside.specs.Told.{Gave, Took, IsFront}
-use Rattle.channel_frame.specs.declared.frames.FrameFault.{FrameFault}
 use Rattle.channel_frame.specs.StreamReading.{fault_of, rest_of}
-use Rattle.ctrl_serve.specs.declared.status.Status.TheVariants.{Done, Truncated}
-use Rattle.ctrl_serve.specs.declared.tails.Tail.{Tail}
-use Rattle.ctrl_serve.specs.declared.tails.Tail.TheVariants.{Empty, Unfinished, Faulty}
-use Rattle.ctrl_serve.specs.Ending.{tail_from, tail_of, ending_at}
 use Rattle.ctrl_keep.specs.KeptMachine.{Machine}
-use Rattle.ctrl_serve.specs.FrameAnswer.{replies}
+use Rattle.session_mux.specs.declared.events.Event.{Event}
+use Rattle.session_mux.specs.declared.events.Event.TheVariants as event
+use Rattle.session_mux.specs.declared.sessions.Form.{Form}
+use Rattle.session_mux.specs.declared.sessions.Form.TheVariants.{Plain}
+use Rattle.session_mux.specs.Completion.{Standing, begins_bad}
+use Rattle.run_notes.specs.declared.status.Status.TheVariants.{Done, Truncated}
+use Rattle.run_notes.specs.Endings.{ending_at}
+use Rattle.ctrl_serve.specs.SaidReplies.{SaysAll, joined}
+use Rattle.ctrl_serve.specs.FrameAnswer.{replies, replies_to}
 use Rattle.ctrl_serve.specs.Headline.{Serves}
-use Rattle.ctrl_serve.specs.Notes.{session_note, notes_of}
+use Rattle.run_notes.specs.Inputs.{events_in, end_in, is_fault, is_bad_input, closed_rests, rest_at, has_rest}
+use Rattle.run_notes.specs.Notes.{session_note, session_rest_lines, trace_note, fault_lines, bad_lines, rest_lines, notes_of}
+use Rattle.run_notes.proofs.NoteLaws.{some_rest}
+use Rattle.run_notes.proofs.PlainInputs.{plain_good, plain_rest, plain_no_rest}
+use Rattle.run_notes.proofs.RestLaws.{none_any, no_lines}
 
--- ---- the tail that a status decides
+-- ---- the input that a status decides
 
--- Done comes at an empty tail of no longer an input.
-pub done_tail : (t : Tail) (more : Bool) → Done ≡ ending_at t more → (t ≡ Empty) × (more ≡ false)
-done_tail Empty false e = (refl, refl)
-done_tail Empty true e = absurd cc
-done_tail (Unfinished left) false e = absurd cc
-done_tail (Unfinished left) true e = absurd cc
-done_tail (Faulty fault at) more e = absurd cc
-
--- A tail of so many bytes.
-record IsRest (t : Tail) (more : Bool) : Type 0 where
-  pub left : ℕ
-  pub is : t ≡ Unfinished left
+-- Done comes where there is no fault, no rest and no longer input; Truncated where there is a rest.
+pub record Decided (bad rest more wanted : Bool) : Type 0 where
+  pub good : bad ≡ false
+  pub rests : rest ≡ wanted
   pub whole : more ≡ false
 
--- Truncated comes at the rest of a frame of no longer an input.
-truncated_tail : (t : Tail) (more : Bool) → Truncated ≡ ending_at t more → IsRest t more
-truncated_tail Empty false e = absurd cc
-truncated_tail Empty true e = absurd cc
-truncated_tail (Unfinished left) false e = record { left = left; is = refl; whole = refl }
-truncated_tail (Unfinished left) true e = absurd cc
-truncated_tail (Faulty fault at) more e = absurd cc
+pub done_is : (bad rest more : Bool) → Done ≡ ending_at bad rest more → Decided bad rest more false
+done_is true rest more e = absurd cc
+done_is false rest true e = absurd cc
+done_is false true false e = absurd cc
+done_is false false false e = record { good = refl; rests = refl; whole = refl }
 
--- What these tails say of the reading.
-tail_empty : (o : Option (FrameFault × ℕ)) (n : ℕ) → tail_from o n ≡ Empty → n ≡ 0
-tail_empty None zero e = refl
-tail_empty None (suc n) e = absurd cc
-tail_empty (Some fault) n e = absurd cc
-
-tail_unfinished : (o : Option (FrameFault × ℕ)) (n left : ℕ) → tail_from o n ≡ Unfinished left → (o ≡ None) × (n ≡ left) × (n ≡ 0 → ⊥)
-tail_unfinished None zero left e = absurd cc
-tail_unfinished None (suc n) left e = (refl, cc, λ z. omega (arith, z))
-tail_unfinished (Some fault) n left e = absurd cc
+truncated_at : (bad rest more : Bool) → Truncated ≡ ending_at bad rest more → Decided bad rest more true
+truncated_at true rest more e = absurd cc
+truncated_at false rest true e = absurd cc
+truncated_at false true false e = record { good = refl; rests = refl; whole = refl }
+truncated_at false false false e = absurd cc
 
 -- ---- a told input that was read to its end
 
@@ -88,72 +81,158 @@ pub nothing_is_front : (a b : Option (List ℕ)) (part : List ℕ) → IsFront p
 nothing_is_front a b [] front took = took
 nothing_is_front a b (x ∷ part) front took = absurd (let e = front.1 in cc)
 
+-- ---- all events were answered
+
+all_events : (form : Form) (used : List ℕ) (answered unanswered : List Event) → answered ++ unanswered ≡ events_in form used → unanswered ≡ [] → answered ≡ events_in form used
+all_events form used answered unanswered split none = sym (append-nil answered) ∙ ap (λ (es : List Event). answered ++ es) (sym none) ∙ split
+
+pub all_replies : (form : Form) (slot : ℕ) (m : Machine) (used said : List ℕ) (answered unanswered : List Event) → answered ++ unanswered ≡ events_in form used → unanswered ≡ []
+    → SaysAll form slot m said answered → said ≡ replies form slot m used
+all_replies form slot m used said answered unanswered split none says =
+    says ∙ ap (λ (es : List Event). joined (replies_to form slot m es)) (all_events form used answered unanswered split none)
+
+-- ---- no line
+
+or_left : (p q : Bool) → (p || q) ≡ false → p ≡ false
+or_left true q e = e
+or_left false q e = refl
+
+or_right : (p q : Bool) → (p || q) ≡ false → q ≡ false
+or_right true q e = absurd cc
+or_right false q e = e
+
+pub no_fault_lines : (es : List Event) → list_any is_fault es ≡ false → fault_lines es ≡ []
+no_fault_lines [] none = refl
+no_fault_lines (event.Opened s who ∷ es) none = no_fault_lines es none
+no_fault_lines (event.Arrived s frame ∷ es) none = no_fault_lines es none
+no_fault_lines (event.Ended s fault at ∷ es) none = absurd (let e : true ≡ false = none in cc)
+no_fault_lines (event.Closed s rest ∷ es) none = no_fault_lines es none
+
+no_bad_lines : (st : Standing) → begins_bad st ≡ false → bad_lines st ≡ []
+no_bad_lines st good = ap (λ (b : Bool). cond b (trace_note (codes "BadRecord at " ++ decimal st.before)) []) good
+
+-- What is noted where an input without faults was answered: the lines of its rests, or none.
+good_lines : (form : Form) (used : List ℕ) (answered : List Event) (more : List ℕ) → answered ≡ events_in form used → is_bad_input form used ≡ false
+    → fault_lines answered ++ (bad_lines (end_in form used) ++ more) ≡ more
+good_lines form used answered more all good =
+    let none : list_any is_fault answered ≡ false = ap (list_any is_fault) all ∙ or_left (list_any is_fault (events_in form used)) (begins_bad (end_in form used)) good in
+    ap (λ (l : List ℕ). l ++ (bad_lines (end_in form used) ++ more)) (no_fault_lines answered none)
+    ∙ ap (λ (l : List ℕ). l ++ more) (no_bad_lines (end_in form used) (or_right (list_any is_fault (events_in form used)) (begins_bad (end_in form used)) good))
+
 -- ---- Done
 
-done_reads : (slot : ℕ) (m : Machine) (most : ℕ) (bytes : List ℕ) (left b c d e : Option (List ℕ)) (x y : ℕ) (s : Serves slot m most (Some bytes) left b c d e x y Done)
-    → WasRead most bytes s.taken left × (tail_of (take most s.taken) ≡ Empty)
-done_reads slot m most bytes left b c d e x y s =
-    let tail = done_tail (tail_of (take most s.taken)) (ltb most (length s.taken)) (s.ends refl) in
-    (was_read most bytes s.taken left s.gave (at_end most left s.taken tail.1 (s.read_on refl)) tail.1, tail.0)
+record DoneReads (form : Form) (most : ℕ) (bytes taken : List ℕ) (left : Option (List ℕ)) : Type 0 where
+  pub read : WasRead most bytes taken left
+  pub good : is_bad_input form bytes ≡ false
+  pub rests : has_rest form bytes ≡ false
 
-pub done_read : (slot : ℕ) (m : Machine) (most : ℕ) (bytes : List ℕ) (left b c d e : Option (List ℕ)) (x y : ℕ) → Serves slot m most (Some bytes) left b c d e x y Done → (left ≡ Some []) × (length bytes ≤ most)
-done_read slot m most bytes left b c d e x y s = let r = (done_reads slot m most bytes left b c d e x y s).0 in (r.none_left, r.few)
+done_reads : (form : Form) (slot : ℕ) (m : Machine) (most : ℕ) (bytes : List ℕ) (left b c d e : Option (List ℕ)) (x y : ℕ) (s : Serves form slot m most (Some bytes) left b c d e x y Done)
+    → DoneReads form most bytes s.taken left
+done_reads form slot m most bytes left b c d e x y s =
+    let first : List ℕ = take most s.taken in
+    let is = done_is (is_bad_input form first) (has_rest form first) (ltb most (length s.taken)) (s.ends refl) in
+    let read = was_read most bytes s.taken left s.gave (at_end most left s.taken is.whole (s.read_on refl)) is.whole in
+    record { read = read; good = ap (is_bad_input form) (sym read.used) ∙ is.good; rests = ap (has_rest form) (sym read.used) ∙ is.rests }
+
+pub done_read : (form : Form) (slot : ℕ) (m : Machine) (most : ℕ) (bytes : List ℕ) (left b c d e : Option (List ℕ)) (x y : ℕ) → Serves form slot m most (Some bytes) left b c d e x y Done
+    → (left ≡ Some []) × (length bytes ≤ most)
+done_read form slot m most bytes left b c d e x y s = let r = (done_reads form slot m most bytes left b c d e x y s).read in (r.none_left, r.few)
 
 no_bytes : (xs : List ℕ) → length xs ≡ 0 → xs ≡ []
 no_bytes [] e = refl
 no_bytes (x ∷ xs) e = absurd (omega (arith, e))
 
-pub done_whole : (slot : ℕ) (m : Machine) (most : ℕ) (bytes : List ℕ) (left b c d e : Option (List ℕ)) (x y : ℕ) → Serves slot m most (Some bytes) left b c d e x y Done → rest_of bytes ≡ []
+none_above : (n : ℕ) → nat_lt 0 n ≡ false → n ≡ 0
+none_above zero e = refl
+none_above (suc n) e = absurd (false≢true (sym e ∙ lt-ltb 0 (suc n) (omega arith)))
+
+-- Without a rest of any session there is none of session 0.
+plain_whole : (bytes : List ℕ) → is_bad_input Plain bytes ≡ false → has_rest Plain bytes ≡ false → rest_of bytes ≡ []
+plain_whole bytes good rests =
+    let left : ℕ → Bool = λ (s : ℕ). nat_lt 0 (rest_at (end_in Plain bytes) (closed_rests Plain bytes) s) in
+    let none : left 0 ≡ false = or_left (left 0) (list_any left (range_with_len 1 255)) (or_left (list_any left (range_with_len 0 256)) (nat_lt 0 (length (end_in Plain bytes).input)) rests) in
+    no_bytes (rest_of bytes) (none_above (length (rest_of bytes)) (ap (nat_lt 0) (sym (plain_rest bytes (plain_good bytes good))) ∙ none))
+
+pub done_whole : (slot : ℕ) (m : Machine) (most : ℕ) (bytes : List ℕ) (left b c d e : Option (List ℕ)) (x y : ℕ) → Serves Plain slot m most (Some bytes) left b c d e x y Done → rest_of bytes ≡ []
 done_whole slot m most bytes left b c d e x y s =
-    let r = done_reads slot m most bytes left b c d e x y s in
-    no_bytes (rest_of bytes) (tail_empty (fault_of bytes) (length (rest_of bytes)) (ap tail_of (sym r.0.used) ∙ r.1))
+    let r = done_reads Plain slot m most bytes left b c d e x y s in
+    plain_whole bytes r.good r.rests
 
-pub done_said : (slot : ℕ) (m : Machine) (most : ℕ) (bytes before : List ℕ) (left after d e : Option (List ℕ)) (x y : ℕ) → Serves slot m most (Some bytes) left (Some before) after d e x y Done
-    → after ≡ Some (before ++ replies slot m bytes)
-done_said slot m most bytes before left after d e x y s =
-    let r = (done_reads slot m most bytes left (Some before) after d e x y s).0 in
-    told_took before s.said after s.took ∙ ap (λ (l : List ℕ). Some (before ++ l)) (s.says ∙ ap (replies slot m) r.used)
+pub done_said : (form : Form) (slot : ℕ) (m : Machine) (most : ℕ) (bytes before : List ℕ) (left after d e : Option (List ℕ)) (x y : ℕ) → Serves form slot m most (Some bytes) left (Some before) after d e x y Done
+    → after ≡ Some (before ++ replies form slot m bytes)
+done_said form slot m most bytes before left after d e x y s =
+    let r = (done_reads form slot m most bytes left (Some before) after d e x y s).read in
+    let all = all_replies form slot m (take most s.taken) s.said s.answered s.unanswered s.split (s.all refl) s.says in
+    told_took before s.said after s.took ∙ ap (λ (l : List ℕ). Some (before ++ l)) (all ∙ ap (replies form slot m) r.used)
 
-pub done_noted : (slot : ℕ) (m : Machine) (most : ℕ) (bytes : List ℕ) (left b c d e : Option (List ℕ)) (x y : ℕ) → Serves slot m most (Some bytes) left b c d e x y Done → Took d e []
-done_noted slot m most bytes left b c d e x y s =
-    let r = done_reads slot m most bytes left b c d e x y s in
-    nothing_is_front d e s.notes.part.0 (subst (λ (t : Tail). IsFront s.notes.part.0 (notes_of t Done)) r.1 s.notes.part.1) s.notes.part.2
+pub done_noted : (form : Form) (slot : ℕ) (m : Machine) (most : ℕ) (bytes : List ℕ) (left b c d e : Option (List ℕ)) (x y : ℕ) → Serves form slot m most (Some bytes) left b c d e x y Done → Took d e []
+done_noted form slot m most bytes left b c d e x y s =
+    let r = done_reads form slot m most bytes left b c d e x y s in
+    let first : List ℕ = take most s.taken in
+    let none : notes_of form s.answered first Done ≡ [] =
+    good_lines form first s.answered [] (all_events form first s.answered s.unanswered s.split (s.all refl)) (ap (is_bad_input form) r.read.used ∙ r.good) in
+    nothing_is_front d e s.notes.part.0 (subst (λ (l : List ℕ). IsFront s.notes.part.0 l) none s.notes.part.1) s.notes.part.2
 
 -- ---- Truncated
 
-truncated_reads : (slot : ℕ) (m : Machine) (most : ℕ) (bytes : List ℕ) (left b c d e : Option (List ℕ)) (x y : ℕ) (s : Serves slot m most (Some bytes) left b c d e x y Truncated)
-    → WasRead most bytes s.taken left × IsRest (tail_of (take most s.taken)) (ltb most (length s.taken))
-truncated_reads slot m most bytes left b c d e x y s =
-    let rest = truncated_tail (tail_of (take most s.taken)) (ltb most (length s.taken)) (s.ends refl) in
-    (was_read most bytes s.taken left s.gave (at_end most left s.taken rest.whole (s.read_on refl)) rest.whole, rest)
+record TruncatedReads (form : Form) (most : ℕ) (bytes taken : List ℕ) (left : Option (List ℕ)) : Type 0 where
+  pub read : WasRead most bytes taken left
+  pub good : is_bad_input form bytes ≡ false
+  pub rests : has_rest form bytes ≡ true
 
-pub truncated_read : (slot : ℕ) (m : Machine) (most : ℕ) (bytes : List ℕ) (left b c d e : Option (List ℕ)) (x y : ℕ) → Serves slot m most (Some bytes) left b c d e x y Truncated
+truncated_reads : (form : Form) (slot : ℕ) (m : Machine) (most : ℕ) (bytes : List ℕ) (left b c d e : Option (List ℕ)) (x y : ℕ) (s : Serves form slot m most (Some bytes) left b c d e x y Truncated)
+    → TruncatedReads form most bytes s.taken left
+truncated_reads form slot m most bytes left b c d e x y s =
+    let first : List ℕ = take most s.taken in
+    let is = truncated_at (is_bad_input form first) (has_rest form first) (ltb most (length s.taken)) (s.ends refl) in
+    let read = was_read most bytes s.taken left s.gave (at_end most left s.taken is.whole (s.read_on refl)) is.whole in
+    record { read = read; good = ap (is_bad_input form) (sym read.used) ∙ is.good; rests = ap (has_rest form) (sym read.used) ∙ is.rests }
+
+pub truncated_read : (form : Form) (slot : ℕ) (m : Machine) (most : ℕ) (bytes : List ℕ) (left b c d e : Option (List ℕ)) (x y : ℕ) → Serves form slot m most (Some bytes) left b c d e x y Truncated
     → (left ≡ Some []) × (length bytes ≤ most)
-truncated_read slot m most bytes left b c d e x y s = let r = (truncated_reads slot m most bytes left b c d e x y s).0 in (r.none_left, r.few)
+truncated_read form slot m most bytes left b c d e x y s = let r = (truncated_reads form slot m most bytes left b c d e x y s).read in (r.none_left, r.few)
 
--- What the reading of a cut input says.
-truncated_is : (slot : ℕ) (m : Machine) (most : ℕ) (bytes : List ℕ) (left b c d e : Option (List ℕ)) (x y : ℕ) (s : Serves slot m most (Some bytes) left b c d e x y Truncated)
-    → (fault_of bytes ≡ None) × (length (rest_of bytes) ≡ (truncated_reads slot m most bytes left b c d e x y s).1.left) × (length (rest_of bytes) ≡ 0 → ⊥)
-truncated_is slot m most bytes left b c d e x y s =
-    let r = truncated_reads slot m most bytes left b c d e x y s in
-    tail_unfinished (fault_of bytes) (length (rest_of bytes)) r.1.left (ap tail_of (sym r.0.used) ∙ r.1.is)
+-- The rest of each session but session 0 is none, and there is none of session 0 where the bytes have none.
+no_rest_at : (bytes : List ℕ) → is_bad_input Plain bytes ≡ false → rest_of bytes ≡ [] → (s : ℕ) → nat_lt 0 (rest_at (end_in Plain bytes) (closed_rests Plain bytes) s) ≡ false
+no_rest_at bytes good none zero = ap (nat_lt 0) (plain_rest bytes (plain_good bytes good) ∙ ap length none)
+no_rest_at bytes good none (suc s) = ap (nat_lt 0) (plain_no_rest bytes (suc s) (λ e. omega (arith, e)))
 
-pub truncated_rest : (slot : ℕ) (m : Machine) (most : ℕ) (bytes : List ℕ) (left b c d e : Option (List ℕ)) (x y : ℕ) → Serves slot m most (Some bytes) left b c d e x y Truncated
+plain_some : (bytes : List ℕ) → is_bad_input Plain bytes ≡ false → has_rest Plain bytes ≡ true → rest_of bytes ≡ [] → ⊥
+plain_some bytes good rests none =
+    let left : ℕ → Bool = λ (s : ℕ). nat_lt 0 (rest_at (end_in Plain bytes) (closed_rests Plain bytes) s) in
+    let no : has_rest Plain bytes ≡ false = ap (λ (p : Bool). p || false) (none_any left 0 256 (λ s le. no_rest_at bytes good none s)) in
+    false≢true (sym no ∙ rests)
+
+pub truncated_rest : (slot : ℕ) (m : Machine) (most : ℕ) (bytes : List ℕ) (left b c d e : Option (List ℕ)) (x y : ℕ) → Serves Plain slot m most (Some bytes) left b c d e x y Truncated
     → (fault_of bytes ≡ None) × (rest_of bytes ≡ [] → ⊥)
 truncated_rest slot m most bytes left b c d e x y s =
-    let is = truncated_is slot m most bytes left b c d e x y s in
-    (is.0, λ none. is.2 (ap length none))
+    let r = truncated_reads Plain slot m most bytes left b c d e x y s in
+    (plain_good bytes r.good, plain_some bytes r.good r.rests)
 
-pub truncated_said : (slot : ℕ) (m : Machine) (most : ℕ) (bytes before : List ℕ) (left after d e : Option (List ℕ)) (x y : ℕ) → Serves slot m most (Some bytes) left (Some before) after d e x y Truncated
-    → after ≡ Some (before ++ replies slot m bytes)
-truncated_said slot m most bytes before left after d e x y s =
-    let r = (truncated_reads slot m most bytes left (Some before) after d e x y s).0 in
-    told_took before s.said after s.took ∙ ap (λ (l : List ℕ). Some (before ++ l)) (s.says ∙ ap (replies slot m) r.used)
+pub truncated_said : (form : Form) (slot : ℕ) (m : Machine) (most : ℕ) (bytes before : List ℕ) (left after d e : Option (List ℕ)) (x y : ℕ) → Serves form slot m most (Some bytes) left (Some before) after d e x y Truncated
+    → after ≡ Some (before ++ replies form slot m bytes)
+truncated_said form slot m most bytes before left after d e x y s =
+    let r = (truncated_reads form slot m most bytes left (Some before) after d e x y s).read in
+    let all = all_replies form slot m (take most s.taken) s.said s.answered s.unanswered s.split (s.all refl) s.says in
+    told_took before s.said after s.took ∙ ap (λ (l : List ℕ). Some (before ++ l)) (all ∙ ap (replies form slot m) r.used)
 
-pub truncated_noted : (slot : ℕ) (m : Machine) (most : ℕ) (bytes : List ℕ) (left b c d e : Option (List ℕ)) (x y : ℕ) → Serves slot m most (Some bytes) left b c d e x y Truncated → (Rose x y → ⊥)
+-- Plain input has one line of rests.
+plain_lines : (bytes : List ℕ) → fault_of bytes ≡ None → (rest_of bytes ≡ [] → ⊥)
+    → rest_lines (end_in Plain bytes) (closed_rests Plain bytes) ≡ session_note 0 (decimal (length (rest_of bytes)) ++ codes " bytes left")
+plain_lines bytes none some =
+    let line : ℕ → List ℕ = λ (s : ℕ). session_rest_lines s (rest_at (end_in Plain bytes) (closed_rests Plain bytes) s) in
+    append-nil (line 0 ++ flat_map line (range_with_len 1 255))
+    ∙ ap (λ (l : List ℕ). line 0 ++ l) (no_lines line 1 255 (λ s le. ap (session_rest_lines s) (plain_no_rest bytes s (λ e. omega (arith, le, e)))))
+    ∙ append-nil (line 0)
+    ∙ ap (session_rest_lines 0) (plain_rest bytes none)
+    ∙ some_rest 0 (length (rest_of bytes)) (λ e. some (no_bytes (rest_of bytes) e))
+
+pub truncated_noted : (slot : ℕ) (m : Machine) (most : ℕ) (bytes : List ℕ) (left b c d e : Option (List ℕ)) (x y : ℕ) → Serves Plain slot m most (Some bytes) left b c d e x y Truncated → (Rose x y → ⊥)
     → Took d e (session_note 0 (decimal (length (rest_of bytes)) ++ codes " bytes left"))
 truncated_noted slot m most bytes left b c d e x y s calm =
-    let r = truncated_reads slot m most bytes left b c d e x y s in
-    let is = truncated_is slot m most bytes left b c d e x y s in
-    let told : Took d e (notes_of (Unfinished r.1.left) Truncated) = subst (λ (t : Tail). Took d e (notes_of t Truncated)) r.1.is (s.notes.whole calm) in
-    subst (λ (n : ℕ). Took d e (session_note 0 (decimal n ++ codes " bytes left"))) (sym is.1) told
+    let r = truncated_reads Plain slot m most bytes left b c d e x y s in
+    let is = truncated_rest slot m most bytes left b c d e x y s in
+    let first : List ℕ = take most s.taken in
+    let lines : notes_of Plain s.answered first Truncated ≡ rest_lines (end_in Plain first) (closed_rests Plain first) =
+    good_lines Plain first s.answered (rest_lines (end_in Plain first) (closed_rests Plain first)) (all_events Plain first s.answered s.unanswered s.split (s.all refl)) (ap (is_bad_input Plain) r.read.used ∙ r.good) in
+    subst (λ (l : List ℕ). Took d e l) (lines ∙ ap (λ (u : List ℕ). rest_lines (end_in Plain u) (closed_rests Plain u)) r.read.used ∙ plain_lines bytes is.0 is.1) (s.notes.whole calm)

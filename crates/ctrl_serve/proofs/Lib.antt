@@ -3,12 +3,15 @@ pub mod RouteFits
 pub mod CarriedFits
 pub mod ReadCommandLaws
 pub mod ControllerLaws
+pub mod KnownLaws
 pub mod TurnLaws
+pub mod UsedLaws
 pub mod StopLaws
 pub mod FailureLaws
 pub mod SaidLaws
-pub mod NoteLaws
+pub mod PlainLaws
 pub mod EndingLaws
+pub mod CutLaws
 pub mod RunLaws
 pub mod IntakeLaws
 pub mod LoadRuns

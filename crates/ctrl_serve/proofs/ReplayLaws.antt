@@ -17,37 +17,37 @@ use Rattle.ctrl_keep.specs.KeptController.{Controlled, HoldsRows, machine_of}
 use Rattle.ctrl_serve.specs.declared.controller.Controller.{Controller}
 use Rattle.ctrl_serve.specs.declared.controller.Controller.TheVariants.{Kept}
 use Rattle.ctrl_serve.specs.declared.intake.Intake.{Intake}
-use Rattle.ctrl_serve.specs.declared.serving.Cut.{Cut}
-use Rattle.ctrl_serve.specs.declared.serving.Cut.TheVariants as cut
-use Rattle.ctrl_serve.specs.declared.status.Status.{Status}
-use Rattle.ctrl_serve.specs.declared.status.Status.TheVariants.{ReadFault, WriteFault, DiskFault, Damaged, NoMemory}
+use Rattle.run_notes.specs.declared.ends.Cut.{Cut}
+use Rattle.run_notes.specs.declared.ends.Cut.TheVariants as cut
+use Rattle.run_notes.specs.declared.status.Status.{Status}
+use Rattle.run_notes.specs.declared.status.Status.TheVariants.{ReadFault, WriteFault, DiskFault, Damaged, NoMemory}
 use Rattle.ctrl_serve.specs.Controllers.{Serving, IsReady, GoesOn}
 use Rattle.ctrl_serve.specs.ControllerViews.{serving_of}
 use Rattle.ctrl_serve.specs.OpenedFolders.{Keeps}
 use Rattle.ctrl_serve.specs.FrameAnswer.{alone, last_machine}
-use Rattle.ctrl_serve.specs.Ending.{tail_of, is_cut, is_kept}
-use Rattle.ctrl_serve.specs.Failures.{RisesOnce, TakesUntilFailure}
+use Rattle.session_mux.specs.declared.sessions.Form.{Form}
+use Rattle.session_mux.specs.declared.sessions.Form.TheVariants.{Plain}
+use Rattle.run_notes.specs.Endings.{is_cut, is_kept, status_of_cut}
+use Rattle.run_notes.specs.NotedLines.{RisesOnce, NotesLines, TellsDamage}
+use Rattle.ctrl_serve.specs.Failures.{TakesUntilFailure}
 use Rattle.ctrl_serve.specs.Intakes.{IsIntake, IsCutIntake, HasFault}
-use Rattle.ctrl_serve.specs.Headline.{NotesLines, Serves, StaysClosed, Refuses, Replays}
-use Rattle.ctrl_serve.specs.Notes.{status_lines}
-use Rattle.ctrl_serve.specs.Runs.{status_of_cut, EndsAs, IsWriteCaused, IsDiskCaused, TellsDamage, SaysIntake, KeepsUsed, RunsOn, CountsFaults}
+use Rattle.ctrl_serve.specs.Headline.{Serves, StaysClosed, Refuses, Replays}
+use Rattle.run_notes.specs.Notes.{status_lines}
+use Rattle.ctrl_serve.specs.Runs.{EndsAs, IsWriteCaused, IsDiskCaused, SaysIntake, KeepsUsed, RunsOn, CountsFaults}
 use Rattle.ctrl_serve.proofs.FailureLaws.{takes_none}
 use Rattle.ctrl_serve.proofs.IntakeLaws.{write_calm, disk_calm, intake_serves, cut_intake_serves, read_fault_rose, no_failed_take}
 use Rattle.ctrl_serve.proofs.OpenedMachines.{ready_keeps, opens_by}
 
 -- ---- what the folder keeps behind the frames
 
--- Where all frames were answered, it keeps the machine behind them, and the notes leave it.
-pub served_keeps : {D : Type 0} {said : D → Option (List ℕ)} {say_faults : D → ℕ} {reads : D → Image} {may_leave : D → Image → Type 0} {disk_faults : D → ℕ}
-    (c : Serving) (new : Controller) (used first : List ℕ) (tells : Bool) (mid now : D) (status : Status)
-    → used ≡ first → (serving_of new).machine ≡ last_machine c.slot c.machine used → GoesOn c (serving_of new) → IsReady tells (serving_of new).kept (reads mid) (may_leave mid)
-    → OnlyNotes said say_faults reads may_leave disk_faults mid now → KeepsUsed c first tells (reads now) (may_leave now) status
-served_keeps {reads = reads} {may_leave = may_leave} c new used first tells mid now status is last on ready notes = λ has kept told.
-    let end : (serving_of new).machine ≡ last_machine c.slot c.machine first = last ∙ ap (last_machine c.slot c.machine) is in
-    let there = ready_keeps new tells (reads mid) (may_leave mid) (on.kind ∙ has) ready told in (
-      subst (λ (i : Image). Keeps i (last_machine c.slot c.machine first)) (sym notes.parts) (subst (λ (m : Machine). Keeps (reads mid) m) end there.0),
-      λ image left. subst (λ (m : Machine). OpensToState image m.state) end (there.1 image (notes.found image left)),
-    )
+-- Where all events were answered, it keeps the machine behind the frames.
+pub served_keeps : (form : Form) (c : Serving) (new : Controller) (used first : List ℕ) (tells : Bool) (now : Image) (images : Image → Type 0) (status : Status)
+    → used ≡ first → (serving_of new).machine ≡ last_machine form c.slot c.machine used → GoesOn c (serving_of new) → IsReady tells (serving_of new).kept now images
+    → KeepsUsed form c first tells now images status
+served_keeps form c new used first tells now images status is last on ready = λ has kept told.
+    let end : (serving_of new).machine ≡ last_machine form c.slot c.machine first = last ∙ ap (last_machine form c.slot c.machine) is in
+    let there = ready_keeps new tells now images (on.kind ∙ has) ready told in
+    (subst (λ (m : Machine). Keeps now m) end there.0, λ image left. subst (λ (m : Machine). OpensToState image m.state) end (there.1 image left))
 
 -- Nothing is promised of it where the answering was cut short.
 not_kept : (by : Cut) → is_kept (status_of_cut by) ≡ true → ⊥
@@ -55,8 +55,8 @@ not_kept cut.NoMemory e = cc
 not_kept cut.Disk e = cc
 not_kept cut.Unsaid e = cc
 
-pub cut_keeps : (c : Serving) (first : List ℕ) (tells : Bool) (now : Image) (images : Image → Type 0) (by : Cut) (result : Status) → result ≡ status_of_cut by → KeepsUsed c first tells now images result
-cut_keeps c first tells now images by result is = λ has kept told. absurd (not_kept by (sym (ap is_kept is) ∙ kept))
+pub cut_keeps : (form : Form) (c : Serving) (first : List ℕ) (tells : Bool) (now : Image) (images : Image → Type 0) (by : Cut) (result : Status) → result ≡ status_of_cut by → KeepsUsed form c first tells now images result
+cut_keeps form c first tells now images by result is = λ has kept told. absurd (not_kept by (sym (ap is_kept is) ∙ kept))
 
 -- A run that was cut short ends with a disk fault only where the disk failed.
 pub cut_undisked : (by : Cut) (result : Status) → result ≡ status_of_cut by → (by ≡ cut.Disk → ⊥) → result ≡ DiskFault → ⊥
@@ -67,13 +67,13 @@ cut_undisked cut.Unsaid result is other w = cc
 -- ---- the counts of faults
 
 -- Where the frames of what was taken were answered.
-pub intake_counts : {S D : Type 0} {left : S → Option (List ℕ)} {faults : S → ℕ} {say_faults note_faults disk_faults : D → ℕ} (i : Intake) (used : List ℕ) (source source_now : S) (desk desk_now : D) (status : Status)
-    → EndsAs status (tail_of used) i.end → HasFault i.end (faults source) (faults source_now) → RisesOnce (faults source) (faults source_now) → TakesUntilFailure left faults source source_now
+pub intake_counts : {S D : Type 0} {left : S → Option (List ℕ)} {faults : S → ℕ} {say_faults note_faults disk_faults : D → ℕ} (i : Intake) (bad rest : Bool) (source source_now : S) (desk desk_now : D) (status : Status)
+    → EndsAs status bad rest i.end → HasFault i.end (faults source) (faults source_now) → RisesOnce (faults source) (faults source_now) → TakesUntilFailure left faults source source_now
     → IsWriteCaused (say_faults desk) (say_faults desk_now) status → IsDiskCaused (disk_faults desk) (disk_faults desk_now) status → RisesOnce (note_faults desk) (note_faults desk_now)
     → CountsFaults left faults say_faults note_faults disk_faults source source_now desk desk_now status
-intake_counts i used source source_now desk desk_now status ends fault once until write disk noted = record {
-  read_fault = read_fault_rose i.end (tail_of used) status _ _ ends fault;
-  failed_take = no_failed_take i.end (tail_of used) status _ _ ends fault;
+intake_counts i bad rest source source_now desk desk_now status ends fault once until write disk noted = record {
+  read_fault = read_fault_rose i.end bad rest status _ _ ends fault;
+  failed_take = no_failed_take i.end bad rest status _ _ ends fault;
   write = write;
   disk = disk;
   read_faults_once = once;
@@ -128,42 +128,42 @@ opened_counts {say_faults = say_faults} {note_faults = note_faults} {disk_faults
 -- ---- the run from a controller on
 
 -- Over what was taken.
-pub intake_runs : (c : Serving) (most : ℕ) (i : Intake) (l m a b d e : Option (List ℕ)) (x y : ℕ) (tells : Bool) (now : Image) (images : Image → Type 0) (status : Status)
-    → IsIntake most l m i → SaysIntake c.slot c.machine most i a b d e x y status → KeepsUsed c (take most i.bytes.items) tells now images status
-    → RunsOn c most l m a b d e x y tells now images status
-intake_runs c most i l m a b d e x y tells now images status taken says keeps = record {
-  serves = intake_serves c.slot c.machine most i l m a b d e x y status taken says;
+pub intake_runs : (form : Form) (c : Serving) (most : ℕ) (i : Intake) (l m a b d e : Option (List ℕ)) (x y : ℕ) (tells : Bool) (now : Image) (images : Image → Type 0) (status : Status)
+    → IsIntake most l m i → SaysIntake form c.slot c.machine most i a b d e x y status → KeepsUsed form c (take most i.bytes.items) tells now images status
+    → RunsOn form c most l m a b d e x y tells now images status
+intake_runs form c most i l m a b d e x y tells now images status taken says keeps = record {
+  serves = intake_serves form c.slot c.machine most i l m a b d e x y status taken says;
   keeps = keeps;
 }
 
 -- And where memory was wanting while it was taken.
-pub cut_runs : (c : Serving) (most : ℕ) (l m a b d e : Option (List ℕ)) (x y : ℕ) (tells : Bool) (now : Image) (images : Image → Type 0) (status : Status)
-    → IsCutIntake most l m → status ≡ NoMemory → b ≡ a → NotesLines (status_lines [] status) d e x y → RunsOn c most l m a b d e x y tells now images status
-cut_runs c most l m a b d e x y tells now images status taken is still noted =
-    let s = cut_intake_serves c.slot c.machine most l m a b d e x y status taken is still noted in
-    record { serves = s; keeps = cut_keeps c (take most s.taken) tells now images cut.NoMemory status is }
+pub cut_runs : (form : Form) (c : Serving) (most : ℕ) (l m a b d e : Option (List ℕ)) (x y : ℕ) (tells : Bool) (now : Image) (images : Image → Type 0) (status : Status)
+    → IsCutIntake most l m → status ≡ NoMemory → b ≡ a → NotesLines (status_lines [] status) d e x y → RunsOn form c most l m a b d e x y tells now images status
+cut_runs form c most l m a b d e x y tells now images status taken is still noted =
+    let s = cut_intake_serves form c.slot c.machine most l m a b d e x y status taken is still noted in
+    record { serves = s; keeps = cut_keeps form c (take most s.taken) tells now images cut.NoMemory status is }
 
 -- A run without a folder begins at the start.
 pub started_serves : (core : Cored) (most : ℕ) (l m a b d e : Option (List ℕ)) (x y : ℕ) (status : Status) → core ≡ record { state = start; live = true }
-    → Serves 0 (alone core.state) most l m a b d e x y status → Serves 0 (alone start) most l m a b d e x y status
+    → Serves Plain 0 (alone core.state) most l m a b d e x y status → Serves Plain 0 (alone start) most l m a b d e x y status
 started_serves core most l m a b d e x y status is s =
-    subst (λ (k : Cored). Serves 0 (alone k.state) most l m a b d e x y status) is s
+    subst (λ (k : Cored). Serves Plain 0 (alone k.state) most l m a b d e x y status) is s
 
 -- Where there was no memory for it, nothing was taken and said.
-pub none_serves : (slot : ℕ) (machine : Machine) (most : ℕ) (l a b d e : Option (List ℕ)) (x y : ℕ) (status : Status) → status ≡ NoMemory → b ≡ a
-    → NotesLines (status_lines [] status) d e x y → Serves slot machine most l l a b d e x y status
-none_serves slot machine most l a b d e x y status is still noted =
-    cut_intake_serves slot machine most l l a b d e x y status (record { bytes = []; gave = Gave-none l; few = omega arith }) is still noted
+pub none_serves : (form : Form) (slot : ℕ) (machine : Machine) (most : ℕ) (l a b d e : Option (List ℕ)) (x y : ℕ) (status : Status) → status ≡ NoMemory → b ≡ a
+    → NotesLines (status_lines [] status) d e x y → Serves form slot machine most l l a b d e x y status
+none_serves form slot machine most l a b d e x y status is still noted =
+    cut_intake_serves form slot machine most l l a b d e x y status (record { bytes = []; gave = Gave-none l; few = omega arith }) is still noted
 
 -- ---- the run on the folder
 
 -- From what was opened.
-opened_replays : (slot most : ℕ) (k : Controlled) (l m a b c d : Option (List ℕ)) (x y : ℕ) (tells : Bool) (before mid now : Image) (images later : Image → Type 0) (status : Status)
+opened_replays : (form : Form) (slot most : ℕ) (k : Controlled) (l m a b c d : Option (List ℕ)) (x y : ℕ) (tells : Bool) (before mid now : Image) (images later : Image → Type 0) (status : Status)
     → (IsTrue tells → OpensToState before k.state) → (IsTrue tells → ReadsAs k.stored mid images) → HoldsRows k → k.stored.bounds.slot ≡ slot
-    → (IsTrue tells → Opens (length (before Mark)) before mid) → RunsOn (serving_of (Kept k)) most l m a b c d x y tells now later status
-    → Replays slot most l m a b c d x y tells before now later status
-opened_replays slot most k l m a b c d x y tells before mid now images later status opens stands holds same made runs =
-    subst (λ (n : ℕ). Replays n most l m a b c d x y tells before now later status) same (record {
+    → (IsTrue tells → Opens (length (before Mark)) before mid) → RunsOn form (serving_of (Kept k)) most l m a b c d x y tells now later status
+    → Replays form slot most l m a b c d x y tells before now later status
+opened_replays form slot most k l m a b c d x y tells before mid now images later status opens stands holds same made runs =
+    subst (λ (n : ℕ). Replays form n most l m a b c d x y tells before now later status) same (record {
       machine = machine_of k;
       valid = holds.valid;
       placed = refl;
@@ -175,14 +175,14 @@ opened_replays slot most k l m a b c d x y tells before mid now images later sta
 
 -- Opening the folder said and noted nothing.
 pub replays_on : {D : Type 0} {said noted : D → Option (List ℕ)} {say_faults note_faults : D → ℕ} (reads : D → Image) (may_leave : D → Image → Type 0)
-    (slot most : ℕ) (k : Controlled) (l m : Option (List ℕ)) (tells : Bool) (desk mid now : D) (status : Status)
+    (form : Form) (slot most : ℕ) (k : Controlled) (l m : Option (List ℕ)) (tells : Bool) (desk mid now : D) (status : Status)
     → (IsTrue tells → OpensToState (reads desk) k.state) → (IsTrue tells → ReadsAs k.stored (reads mid) (may_leave mid)) → HoldsRows k → k.stored.bounds.slot ≡ slot
     → (IsTrue tells → Opens (length (reads desk Mark)) (reads desk) (reads mid)) → OnlyDisk said noted say_faults note_faults desk mid
-    → RunsOn (serving_of (Kept k)) most l m (said mid) (said now) (noted mid) (noted now) (note_faults mid) (note_faults now) tells (reads now) (may_leave now) status
-    → Replays slot most l m (said desk) (said now) (noted desk) (noted now) (note_faults desk) (note_faults now) tells (reads desk) (reads now) (may_leave now) status
-replays_on {D} {said} {noted} {say_faults} {note_faults} reads may_leave slot most k l m tells desk mid now status opens stands holds same made calls runs =
+    → RunsOn form (serving_of (Kept k)) most l m (said mid) (said now) (noted mid) (noted now) (note_faults mid) (note_faults now) tells (reads now) (may_leave now) status
+    → Replays form slot most l m (said desk) (said now) (noted desk) (noted now) (note_faults desk) (note_faults now) tells (reads desk) (reads now) (may_leave now) status
+replays_on {D} {said} {noted} {say_faults} {note_faults} reads may_leave form slot most k l m tells desk mid now status opens stands holds same made calls runs =
     rw (sym calls.replies) (rw (sym calls.notes) (rw (sym calls.failed_notes)
-    (opened_replays slot most k l m (said mid) (said now) (noted mid) (noted now) (note_faults mid) (note_faults now) tells (reads desk) (reads mid) (reads now) (may_leave mid) (may_leave now) status opens stands holds same made runs)))
+    (opened_replays form slot most k l m (said mid) (said now) (noted mid) (noted now) (note_faults mid) (note_faults now) tells (reads desk) (reads mid) (reads now) (may_leave mid) (may_leave now) status opens stands holds same made runs)))
 
 -- From what was not opened, and that was told.
 pub refuses : {S D : Type 0} {said noted : D → Option (List ℕ)} {say_faults note_faults : D → ℕ} {reads : D → Image} {may_leave : D → Image → Type 0} {disk_faults : D → ℕ}

@@ -1,6 +1,6 @@
 -- How what the parts of a run promise makes up what the run promises.
-use Rattle.std.specs.Prelude.{Bool, true}
-use Rattle.std.proofs.Common.{◌≡◌, ℕ, ◌⊎◌, inl, inr, List, length, take, None, Some, refl, ap, ◌∙◌, subst, arith}
+use Rattle.std.specs.Prelude.{true, Bool}
+use Rattle.std.proofs.Common.{◌≡◌, ℕ, ◌⊎◌, inl, inr, List, length, take, None, Some, refl, sym, ap, ◌∙◌, subst, arith}
 use Rattle.std.proofs.Math.Dec.{ltb}
 use Rattle.std.proofs.lemmas.Bool.{false≢true}
 use Rattle.std.specs.declared.option.Option.{Option}
@@ -10,19 +10,23 @@ use Rattle.ziti_outside.specs.Told.{Took}
 use Rattle.ziti_outside.specs.Untouched.{OnlySays, OnlyNotes}
 use Rattle.ctrl_model.specs.State.{start}
 use Rattle.ctrl_keep.specs.KeptMachine.{Machine}
-use Rattle.ctrl_serve.specs.declared.command_line.Form.{Form}
+use Rattle.ctrl_serve.specs.declared.command_line.Form as command
+use Rattle.session_mux.specs.declared.sessions.Form.{Form}
+use Rattle.session_mux.specs.declared.sessions.Form.TheVariants.{Plain}
 use Rattle.ctrl_serve.specs.declared.command_line.Form.TheVariants.{Dry, Load, Replay}
-use Rattle.ctrl_serve.specs.declared.status.Status.{Status}
-use Rattle.ctrl_serve.specs.declared.status.Status.TheVariants.{Done, Usage, BadInput, Truncated, ReadFault, WriteFault, DiskFault, Damaged, NoMemory, InputTooLong, FolderFull}
+use Rattle.run_notes.specs.declared.status.Status.{Status}
+use Rattle.run_notes.specs.declared.status.Status.TheVariants.{Done, Usage, BadInput, Truncated, ReadFault, WriteFault, DiskFault, Damaged, NoMemory, InputTooLong, FolderFull}
 use Rattle.ctrl_serve.specs.CommandLine.{reads_input}
-use Rattle.ctrl_serve.specs.Ending.{tail_of}
-use Rattle.ctrl_serve.specs.Failures.{RisesOnce}
-use Rattle.ctrl_serve.specs.FrameAnswer.{alone}
-use Rattle.ctrl_serve.specs.Headline.{NotesLines, OnlySaysAndNotes, SaysOneLine, Serves, IsComplete, IsSaid, StaysClosed, Refuses, Replays, Runs}
+use Rattle.run_notes.specs.Endings.{is_kept}
+use Rattle.ctrl_serve.specs.SaidReplies.{SaysAll}
+use Rattle.run_notes.specs.Inputs.{is_bad_input, has_rest}
+use Rattle.run_notes.specs.NotedLines.{RisesOnce, NotesLines}
+use Rattle.ctrl_serve.specs.FrameAnswer.{alone, replies}
+use Rattle.ctrl_serve.specs.Headline.{OnlySaysAndNotes, SaysOneLine, Serves, IsComplete, IsSaid, StaysClosed, Refuses, Replays, Runs}
 use Rattle.ctrl_serve.specs.Loads.{counts_line, state_of_load}
-use Rattle.ctrl_serve.specs.Notes.{usage_note}
+use Rattle.run_notes.specs.Notes.{usage_note}
 use Rattle.ctrl_serve.specs.Runs.{CountsFaults, IsWriteCaused}
-use Rattle.ctrl_serve.proofs.EndingLaws.{done_tail, at_end}
+use Rattle.ctrl_serve.proofs.EndingLaws.{done_is, at_end, all_replies}
 use Rattle.ctrl_serve.proofs.FailureLaws.{takes_none}
 
 -- The folder is left alone where replies were said, and then notes were written.
@@ -41,49 +45,66 @@ notes_alone notes = record { parts = notes.parts; found = notes.found; failed_ca
 
 -- ---- a run that serves its input
 
+-- Where all events were answered all replies were said.
+all_said : (form : Form) (status : Status) (slot : ℕ) (m : Machine) (most : ℕ) (a b c d e f : Option (List ℕ)) (x y : ℕ) (s : Serves form slot m most a b c d e f x y status)
+    → is_kept status ≡ true → SaysAll form slot m s.said s.answered → Took c d (replies form slot m (take most s.taken))
+all_said form status slot m most a b c d e f x y s kept says =
+    subst (λ (l : List ℕ). Took c d l) (all_replies form slot m (take most s.taken) s.said s.answered s.unanswered s.split (s.all kept) says) s.took
+
 -- Where no call failed it is complete, unless memory was wanting.
-serves_completely : (status : Status) (slot : ℕ) (m : Machine) (most : ℕ) (a b c d e f : Option (List ℕ)) (x y : ℕ)
-    → Serves slot m most a b c d e f x y status → (status ≡ ReadFault → ⊥) → (status ≡ WriteFault → ⊥) → (status ≡ DiskFault → ⊥) → IsComplete slot m most a b c d status
-serves_completely Done slot m most a b c d e f x y s read write disk = inr (record { taken = s.taken; gave = s.gave; ends = s.ends refl; said = subst (λ (l : List ℕ). Took c d l) s.says s.took; read_on = s.read_on refl })
-serves_completely Usage slot m most a b c d e f x y s read write disk = absurd s.says
-serves_completely BadInput slot m most a b c d e f x y s read write disk = inr (record { taken = s.taken; gave = s.gave; ends = s.ends refl; said = subst (λ (l : List ℕ). Took c d l) s.says s.took; read_on = s.read_on refl })
-serves_completely Truncated slot m most a b c d e f x y s read write disk = inr (record { taken = s.taken; gave = s.gave; ends = s.ends refl; said = subst (λ (l : List ℕ). Took c d l) s.says s.took; read_on = s.read_on refl })
-serves_completely ReadFault slot m most a b c d e f x y s read write disk = absurd (read refl)
-serves_completely WriteFault slot m most a b c d e f x y s read write disk = absurd (write refl)
-serves_completely DiskFault slot m most a b c d e f x y s read write disk = absurd (disk refl)
-serves_completely Damaged slot m most a b c d e f x y s read write disk = absurd s.says
-serves_completely NoMemory slot m most a b c d e f x y s read write disk = inl refl
-serves_completely InputTooLong slot m most a b c d e f x y s read write disk = inr (record { taken = s.taken; gave = s.gave; ends = s.ends refl; said = subst (λ (l : List ℕ). Took c d l) s.says s.took; read_on = s.read_on refl })
-serves_completely FolderFull slot m most a b c d e f x y s read write disk = absurd s.says
+serves_completely : (form : Form) (status : Status) (slot : ℕ) (m : Machine) (most : ℕ) (a b c d e f : Option (List ℕ)) (x y : ℕ)
+    → Serves form slot m most a b c d e f x y status → (status ≡ ReadFault → ⊥) → (status ≡ WriteFault → ⊥) → (status ≡ DiskFault → ⊥) → IsComplete form slot m most a b c d status
+serves_completely form Done slot m most a b c d e f x y s read write disk = inr (record { taken = s.taken; gave = s.gave; ends = s.ends refl; said = all_said form Done slot m most a b c d e f x y s refl s.says; read_on = s.read_on refl })
+serves_completely form Usage slot m most a b c d e f x y s read write disk = absurd s.says
+serves_completely form BadInput slot m most a b c d e f x y s read write disk = inr (record { taken = s.taken; gave = s.gave; ends = s.ends refl; said = all_said form BadInput slot m most a b c d e f x y s refl s.says; read_on = s.read_on refl })
+serves_completely form Truncated slot m most a b c d e f x y s read write disk = inr (record { taken = s.taken; gave = s.gave; ends = s.ends refl; said = all_said form Truncated slot m most a b c d e f x y s refl s.says; read_on = s.read_on refl })
+serves_completely form ReadFault slot m most a b c d e f x y s read write disk = absurd (read refl)
+serves_completely form WriteFault slot m most a b c d e f x y s read write disk = absurd (write refl)
+serves_completely form DiskFault slot m most a b c d e f x y s read write disk = absurd (disk refl)
+serves_completely form Damaged slot m most a b c d e f x y s read write disk = absurd s.says
+serves_completely form NoMemory slot m most a b c d e f x y s read write disk = inl refl
+serves_completely form InputTooLong slot m most a b c d e f x y s read write disk = inr (record { taken = s.taken; gave = s.gave; ends = s.ends refl; said = all_said form InputTooLong slot m most a b c d e f x y s refl s.says; read_on = s.read_on refl })
+serves_completely form FolderFull slot m most a b c d e f x y s read write disk = absurd s.says
 
 -- It does not end with Usage.
-serves_no_usage : (status : Status) (slot : ℕ) (m : Machine) (most : ℕ) (a b c d e f : Option (List ℕ)) (x y : ℕ) → Serves slot m most a b c d e f x y status → status ≡ Usage → ⊥
-serves_no_usage status slot m most a b c d e f x y s is = (subst (λ (u : Status). Serves slot m most a b c d e f x y u) is s).says
+serves_no_usage : (form : Form) (status : Status) (slot : ℕ) (m : Machine) (most : ℕ) (a b c d e f : Option (List ℕ)) (x y : ℕ) → Serves form slot m most a b c d e f x y status → status ≡ Usage → ⊥
+serves_no_usage form status slot m most a b c d e f x y s is = (subst (λ (u : Status). Serves form slot m most a b c d e f x y u) is s).says
 
 -- Where it is done it read its input to the end.
-done_at_end : (slot : ℕ) (m : Machine) (most : ℕ) (a b c d e f : Option (List ℕ)) (x y : ℕ) → Serves slot m most a b c d e f x y Done → IsAtEnd b
-done_at_end slot m most a b c d e f x y s =
-    let tail = done_tail (tail_of (take most s.taken)) (ltb most (length s.taken)) (s.ends refl) in
-    at_end most b s.taken tail.1 (s.read_on refl)
+done_at_end : (form : Form) (slot : ℕ) (m : Machine) (most : ℕ) (a b c d e f : Option (List ℕ)) (x y : ℕ) → Serves form slot m most a b c d e f x y Done → IsAtEnd b
+done_at_end form slot m most a b c d e f x y s =
+    let first : List ℕ = take most s.taken in
+    let is = done_is (is_bad_input form first) (has_rest form first) (ltb most (length s.taken)) (s.ends refl) in
+    at_end most b s.taken is.whole (s.read_on refl)
 
-serves_to_end : (status : Status) (slot : ℕ) (m : Machine) (most : ℕ) (a b c d e f : Option (List ℕ)) (x y : ℕ) → Serves slot m most a b c d e f x y status → status ≡ Done → IsAtEnd b
-serves_to_end status slot m most a b c d e f x y s is = done_at_end slot m most a b c d e f x y (subst (λ (u : Status). Serves slot m most a b c d e f x y u) is s)
+serves_to_end : (form : Form) (status : Status) (slot : ℕ) (m : Machine) (most : ℕ) (a b c d e f : Option (List ℕ)) (x y : ℕ) → Serves form slot m most a b c d e f x y status → status ≡ Done → IsAtEnd b
+serves_to_end form status slot m most a b c d e f x y s is = done_at_end form slot m most a b c d e f x y (subst (λ (u : Status). Serves form slot m most a b c d e f x y u) is s)
 
 -- ---- a run as it was asked for
 
 -- What is asked for is a line of the table.
-pub asks_for : (form : Option Form) (asked is : Form) → form ≡ Some asked → asked ≡ is → form ≡ Some is
+pub asks_for : (form : Option command.Form) (asked is : command.Form) → form ≡ Some asked → asked ≡ is → form ≡ Some is
 asks_for form asked is e same = e ∙ ap Some same
+
+-- An input is asked for in one form.
+abbrev asked_form : Form → Option command.Form → Form
+asked_form of None = of
+asked_form of (Some Dry) = of
+asked_form of (Some (Replay form)) = form
+asked_form of (Some (Load number)) = of
+
+same_form : (of other : Form) → ◌≡◌ {A = Option command.Form} (Some (Replay of)) (Some (Replay other)) → of ≡ other
+same_form of other e = ap (asked_form of) e
 
 -- A run without a folder.
 pub dry_runs : {S D : Type 0} {left : S → Option (List ℕ)} {faults : S → ℕ} {said noted : D → Option (List ℕ)} {say_faults note_faults : D → ℕ} {reads : D → Image} {may_leave : D → Image → Type 0} {disk_faults : D → ℕ}
-    (tells : Bool) (slot most : ℕ) (form : Option Form) (source source_now : S) (desk desk_now : D) (status : Status) → form ≡ Some Dry
-    → Serves 0 (alone start) most (left source) (left source_now) (said desk) (said desk_now) (noted desk) (noted desk_now) (note_faults desk) (note_faults desk_now) status
+    (tells : Bool) (slot most : ℕ) (form : Option command.Form) (source source_now : S) (desk desk_now : D) (status : Status) → form ≡ Some Dry
+    → Serves Plain 0 (alone start) most (left source) (left source_now) (said desk) (said desk_now) (noted desk) (noted desk_now) (note_faults desk) (note_faults desk_now) status
     → CountsFaults left faults say_faults note_faults disk_faults source source_now desk desk_now status
     → (status ≡ DiskFault → ⊥) → OnlySaysAndNotes reads may_leave disk_faults desk desk_now
     → Runs left faults said noted say_faults note_faults reads may_leave disk_faults tells slot most form source source_now desk desk_now status
 dry_runs {S} {D} {left} {faults} {said} {noted} {say_faults} {note_faults} tells slot most form source source_now desk desk_now status is serves counts calm others = record {
-  usage = (λ u. absurd (serves_no_usage status _ _ most _ _ _ _ _ _ _ _ serves u), λ n. cc);
+  usage = (λ u. absurd (serves_no_usage Plain status _ _ most _ _ _ _ _ _ _ _ serves u), λ n. cc);
   usage_takes_nothing = λ n. cc;
   usage_notes_alone = λ n. cc;
   usage_note = λ n. cc;
@@ -100,9 +121,9 @@ dry_runs {S} {D} {left} {faults} {said} {noted} {say_faults} {note_faults} tells
   takes_until_failure = counts.takes_until_failure;
   dry = λ _. serves;
   dry_says_and_notes_alone = λ _. others;
-  complete = λ _ read say. serves_completely status _ _ most _ _ _ _ _ _ _ _ serves (λ r. read (counts.read_fault r)) (λ w. say (counts.write.rose w)) calm;
-  read_to_the_end = λ asked e reads done. serves_to_end status _ _ most _ _ _ _ _ _ _ _ serves done;
-  replay = λ e. cc;
+  complete = λ _ read say. serves_completely Plain status _ _ most _ _ _ _ _ _ _ _ serves (λ r. read (counts.read_fault r)) (λ w. say (counts.write.rose w)) calm;
+  read_to_the_end = λ asked e reads done. serves_to_end Plain status _ _ most _ _ _ _ _ _ _ _ serves done;
+  replay = λ of e. cc;
   load = λ number e. cc;
   load_takes_nothing = λ number e. cc;
   load_says_and_notes_alone = λ number e. cc;
@@ -126,23 +147,23 @@ closed_status tells before now c d x y FolderFull why = absurd why
 
 -- A run on the folder, which was not opened or from which the run went on.
 replays_status : {S D : Type 0} {said noted : D → Option (List ℕ)} {note_faults : D → ℕ} {reads : D → Image} (left : S → Option (List ℕ)) (may_leave : D → Image → Type 0)
-    (tells : Bool) (slot most : ℕ) (source source_now : S) (desk desk_now : D) (status : Status)
+    (of : Form) (tells : Bool) (slot most : ℕ) (source source_now : S) (desk desk_now : D) (status : Status)
     → Refuses said noted note_faults tells reads source source_now desk desk_now status
-    ⊎ Replays slot most (left source) (left source_now) (said desk) (said desk_now) (noted desk) (noted desk_now) (note_faults desk) (note_faults desk_now) tells (reads desk) (reads desk_now) (may_leave desk_now) status
+    ⊎ Replays of slot most (left source) (left source_now) (said desk) (said desk_now) (noted desk) (noted desk_now) (note_faults desk) (note_faults desk_now) tells (reads desk) (reads desk_now) (may_leave desk_now) status
     → (status ≡ Usage → ⊥) × (status ≡ Done → IsAtEnd (left source_now))
-replays_status left may_leave tells slot most source source_now desk desk_now status (inl closed) =
+replays_status left may_leave of tells slot most source source_now desk desk_now status (inl closed) =
     let none = closed_status tells _ _ _ _ _ _ status closed.why in (none.0, λ done. absurd (none.1 done))
-replays_status left may_leave tells slot most source source_now desk desk_now status (inr on) =
-    (serves_no_usage status slot on.machine most _ _ _ _ _ _ _ _ on.serves, serves_to_end status slot on.machine most _ _ _ _ _ _ _ _ on.serves)
+replays_status left may_leave of tells slot most source source_now desk desk_now status (inr on) =
+    (serves_no_usage of status slot on.machine most _ _ _ _ _ _ _ _ on.serves, serves_to_end of status slot on.machine most _ _ _ _ _ _ _ _ on.serves)
 
 pub replay_runs : {S D : Type 0} {left : S → Option (List ℕ)} {faults : S → ℕ} {said noted : D → Option (List ℕ)} {say_faults note_faults : D → ℕ} {reads : D → Image} {may_leave : D → Image → Type 0} {disk_faults : D → ℕ}
-    (tells : Bool) (slot most : ℕ) (form : Option Form) (source source_now : S) (desk desk_now : D) (status : Status) → form ≡ Some Replay
+    (of : Form) (tells : Bool) (slot most : ℕ) (form : Option command.Form) (source source_now : S) (desk desk_now : D) (status : Status) → form ≡ Some (Replay of)
     → Refuses said noted note_faults tells reads source source_now desk desk_now status
-    ⊎ Replays slot most (left source) (left source_now) (said desk) (said desk_now) (noted desk) (noted desk_now) (note_faults desk) (note_faults desk_now) tells (reads desk) (reads desk_now) (may_leave desk_now) status
+    ⊎ Replays of slot most (left source) (left source_now) (said desk) (said desk_now) (noted desk) (noted desk_now) (note_faults desk) (note_faults desk_now) tells (reads desk) (reads desk_now) (may_leave desk_now) status
     → CountsFaults left faults say_faults note_faults disk_faults source source_now desk desk_now status
     → Runs left faults said noted say_faults note_faults reads may_leave disk_faults tells slot most form source source_now desk desk_now status
-replay_runs {S} {D} {left} {faults} {said} {noted} {say_faults} {note_faults} {reads} {may_leave} tells slot most form source source_now desk desk_now status is replays counts =
-    let at : (status ≡ Usage → ⊥) × (status ≡ Done → IsAtEnd (left source_now)) = replays_status {said = said} {noted = noted} {note_faults = note_faults} {reads = reads} left may_leave tells slot most source source_now desk desk_now status replays in
+replay_runs {S} {D} {left} {faults} {said} {noted} {say_faults} {note_faults} {reads} {may_leave} of tells slot most form source source_now desk desk_now status is replays counts =
+    let at : (status ≡ Usage → ⊥) × (status ≡ Done → IsAtEnd (left source_now)) = replays_status {said = said} {noted = noted} {note_faults = note_faults} {reads = reads} left may_leave of tells slot most source source_now desk desk_now status replays in
     record {
       usage = (λ u. absurd (at.0 u), λ n. cc);
       usage_takes_nothing = λ n. cc;
@@ -163,7 +184,9 @@ replay_runs {S} {D} {left} {faults} {said} {noted} {say_faults} {note_faults} {r
       dry_says_and_notes_alone = λ e. cc;
       complete = λ e. cc;
       read_to_the_end = λ asked e reads. at.1;
-      replay = λ _. replays;
+      replay = λ other asked. subst (λ (o : Form). Refuses said noted note_faults tells reads source source_now desk desk_now status
+          ⊎ Replays o slot most (left source) (left source_now) (said desk) (said desk_now) (noted desk) (noted desk_now) (note_faults desk) (note_faults desk_now) tells (reads desk) (reads desk_now) (may_leave desk_now) status)
+          (same_form of other (sym is ∙ asked)) replays;
       load = λ number e. cc;
       load_takes_nothing = λ number e. cc;
       load_says_and_notes_alone = λ number e. cc;
@@ -172,7 +195,7 @@ replay_runs {S} {D} {left} {faults} {said} {noted} {say_faults} {note_faults} {r
 
 -- A run that only wrote the usage note, where the words are no line of the table.
 pub usage_runs : {S D : Type 0} {left : S → Option (List ℕ)} {faults : S → ℕ} {said noted : D → Option (List ℕ)} {say_faults note_faults : D → ℕ} {reads : D → Image} {may_leave : D → Image → Type 0} {disk_faults : D → ℕ}
-    (tells : Bool) (slot most : ℕ) (form : Option Form) (source : S) (desk desk_now : D) → form ≡ None → OnlyNotes said say_faults reads may_leave disk_faults desk desk_now
+    (tells : Bool) (slot most : ℕ) (form : Option command.Form) (source : S) (desk desk_now : D) → form ≡ None → OnlyNotes said say_faults reads may_leave disk_faults desk desk_now
     → NotesLines usage_note (noted desk) (noted desk_now) (note_faults desk) (note_faults desk_now) → RisesOnce (note_faults desk) (note_faults desk_now)
     → Runs left faults said noted say_faults note_faults reads may_leave disk_faults tells slot most form source source desk desk_now Usage
 usage_runs tells slot most form source desk desk_now is others note counted = record {
@@ -195,7 +218,7 @@ usage_runs tells slot most form source desk desk_now is others note counted = re
   dry_says_and_notes_alone = λ e. cc;
   complete = λ e. cc;
   read_to_the_end = λ asked e reads done. cc;
-  replay = λ e. cc;
+  replay = λ of e. cc;
   load = λ number e. cc;
   load_takes_nothing = λ number e. refl;
   load_says_and_notes_alone = λ number e. cc;
@@ -234,16 +257,16 @@ line_said InputTooLong line a b c d x y s write = absurd s.says
 line_said FolderFull line a b c d x y s write = absurd s.says
 
 -- A load is no word that reads input, and is the load of one number.
-load_reads_nothing : (form : Option Form) (number : ℕ) (asked : Form) → form ≡ Some (Load number) → form ≡ Some asked → reads_input asked ≡ true → ⊥
+load_reads_nothing : (form : Option command.Form) (number : ℕ) (asked : command.Form) → form ≡ Some (Load number) → form ≡ Some asked → reads_input asked ≡ true → ⊥
 load_reads_nothing form number Dry is e reads = cc
-load_reads_nothing form number Replay is e reads = cc
+load_reads_nothing form number (Replay of) is e reads = cc
 load_reads_nothing form number (Load other) is e reads = false≢true reads
 
-one_load : (form : Option Form) (m n : ℕ) → form ≡ Some (Load m) → form ≡ Some (Load n) → m ≡ n
+one_load : (form : Option command.Form) (m n : ℕ) → form ≡ Some (Load m) → form ≡ Some (Load n) → m ≡ n
 one_load form m n is e = cc
 
 pub load_runs : {S D : Type 0} {left : S → Option (List ℕ)} {faults : S → ℕ} {said noted : D → Option (List ℕ)} {say_faults note_faults : D → ℕ} {reads : D → Image} {may_leave : D → Image → Type 0} {disk_faults : D → ℕ}
-    (tells : Bool) (slot most : ℕ) (form : Option Form) (number : ℕ) (source : S) (desk desk_now : D) (status : Status) → form ≡ Some (Load number)
+    (tells : Bool) (slot most : ℕ) (form : Option command.Form) (number : ℕ) (source : S) (desk desk_now : D) (status : Status) → form ≡ Some (Load number)
     → SaysOneLine (counts_line (state_of_load number)) (said desk) (said desk_now) (noted desk) (noted desk_now) (note_faults desk) (note_faults desk_now) status
     → IsWriteCaused (say_faults desk) (say_faults desk_now) status → RisesOnce (note_faults desk) (note_faults desk_now) → OnlySaysAndNotes reads may_leave disk_faults desk desk_now
     → Runs left faults said noted say_faults note_faults reads may_leave disk_faults tells slot most form source source desk desk_now status
@@ -270,7 +293,7 @@ load_runs {said = said} {noted = noted} {note_faults = note_faults} tells slot m
       dry_says_and_notes_alone = λ e. cc;
       complete = λ e. cc;
       read_to_the_end = λ asked e reads. absurd (load_reads_nothing form number asked is e reads);
-      replay = λ e. cc;
+      replay = λ of e. cc;
       load = λ other e. subst (λ (n : ℕ). SaysOneLine (counts_line (state_of_load n)) (said desk) (said desk_now) (noted desk) (noted desk_now) (note_faults desk) (note_faults desk_now) status) (same other e) says;
       load_takes_nothing = λ other e. refl;
       load_says_and_notes_alone = λ other e. others;

@@ -1,166 +1,244 @@
--- How the turns of the serving loop make up the run.
-use Rattle.std.proofs.Common.{◌≡◌, ℕ, ◌+◌, ◌-◌, ◌≤◌, ◌%◌, ◌^◌, ◌++◌, List, [], ◌∷◌, length, drop, None, refl, sym, ap, ◌∙◌, subst, append_assoc, append-nil, arith}
+-- How the turns of the serving loop make up what comes of the events of an input.
+use Rattle.std.specs.Prelude.{Bool}
+use Rattle.std.proofs.Common.{◌≡◌, inl, inr, ℕ, ◌<◌, ◌++◌, List, [], ◌∷◌, length, None, Some, refl, sym, ap, ◌∙◌, subst, append-nil, arith}
 use Rattle.std.specs.declared.option.Option.{Option}
-use Rattle.std.specs.Option.{option_map}
 use Rattle.std.proofs.lemmas.Grind.{flat_map-append}
-use Rattle.std.specs.declared.result.Result.TheVariants.{Err}
 use Rattle.ziti_outside.specs.Told.{Took, TookFront}
 use Rattle.ziti_outside.proofs.Moves.{Took-none, Took-then}
 use Rattle.channel_frame.specs.declared.frames.Frame.{Frame}
-use Rattle.channel_frame.specs.declared.frames.FrameFault.{FrameFault}
-use Rattle.channel_frame.specs.declared.frames.Front.{Front}
-use Rattle.channel_frame.specs.declared.frames.Front.TheVariants.{Short, Bad, Whole}
-use Rattle.channel_frame.specs.FrameSpelling.{spelling}
-use Rattle.channel_frame.specs.StreamReading.{front, fault_in, frames_of, rest_of}
-use Rattle.channel_frame.proofs.FrontLaws.{front_stands}
-use Rattle.channel_frame.proofs.ReadingLaws.{HasNone, frames_step, rest_step, reading_stops}
-use Rattle.ctrl_model.specs.declared.kinds.Who.TheVariants.{Admin}
+use Rattle.ctrl_model.specs.declared.kinds.Who.{Who}
 use Rattle.ctrl_model.specs.declared.replies.Reply.{Reply}
 use Rattle.ctrl_keep.specs.KeptMachine.{Machine}
-use Rattle.reply_codec.specs.ReplyFrame.{reply_frame}
-use Rattle.ctrl_serve.specs.declared.tails.Tail.TheVariants.{Faulty}
-use Rattle.ctrl_serve.specs.Ending.{tail_from, tail_of}
-use Rattle.ctrl_serve.specs.FrameAnswer.{frame_answer, spoken, machine_behind, each_reply, replies, last_machine}
-use Rattle.ctrl_serve.specs.SaidReplies.{joined, TookWhole, TookCut}
-use Rattle.ctrl_serve.specs.declared.serving.Cut.{Cut}
-use Rattle.ctrl_serve.specs.declared.serving.Cut.TheVariants.{NoMemory, Disk, Unsaid}
-use Rattle.ctrl_serve.specs.Turns.{TakesTurn, CutsTurn, IsServed, reply_to_frame}
+use Rattle.session_mux.specs.declared.events.Event.{Event}
+use Rattle.session_mux.specs.declared.events.Event.TheVariants.{Arrived}
+use Rattle.session_mux.specs.declared.sessions.Form.{Form}
+use Rattle.session_mux.specs.Completion.{Standing, events_of, end_of, events_held, events_along, arrivals_of, begins_bad, GoesTo, IsBadAt}
+use Rattle.session_mux.specs.MuxSteps.{GivesNone, MayWantMemory}
+use Rattle.session_mux.proofs.GoingLaws.{goes_then}
+use Rattle.session_mux.proofs.StepLaws.{no_more_input}
+use Rattle.ctrl_serve.specs.declared.serving.Address.{Address}
+use Rattle.run_notes.specs.declared.ends.Cut.{Cut}
+use Rattle.run_notes.specs.declared.ends.Cut.TheVariants.{NoMemory, Disk, Unsaid}
+use Rattle.ctrl_serve.specs.FrameAnswer.{frame_answer, reply_text}
+use Rattle.run_notes.specs.KnownSessions.{count_at, counted, Known, sender_at, known_after, known_along}
+use Rattle.ctrl_serve.specs.KnownReplies.{machine_after, machine_along, reply_by, replies_by, replies_along}
+use Rattle.run_notes.specs.Notes.{event_lines, fault_lines}
+use Rattle.run_notes.specs.NotesSoFar.{NotesMore}
+use Rattle.ctrl_serve.specs.SaidReplies.{joined}
+use Rattle.ctrl_serve.specs.Turns.{TakesTurn, CutsTurn, TakesEvent, CutsEvent, CutsNext, Answers, IsCutShort, reply_to_frame}
+use Rattle.run_notes.specs.Endings.{IsAllGiven, IsStuckAt, ComesToEnd}
+use Rattle.run_notes.proofs.KnownLaws.{known_then}
+use Rattle.ctrl_serve.proofs.KnownLaws.{machine_then, replies_then}
+use Rattle.run_notes.proofs.NoteLaws.{more_none, more_then}
+
+-- ---- a frame
 
 -- A turn whose reply was taken.
-pub turn_taken : (slot n : ℕ) (f : Frame) (before now : Machine) (reply : Reply) (bytes : List ℕ) (a mid b : Option (List ℕ))
-    → (reply, now) ≡ frame_answer slot Admin f before → bytes ≡ spelling (reply_frame n f.sequence reply) → mid ≡ a → Took mid b bytes → TakesTurn slot n f before now a b
-turn_taken slot n f before now reply bytes a mid b e h quiet took = record {
+pub turn_taken : (slot : ℕ) (at : Address) (who : Who) (f : Frame) (before now : Machine) (reply : Reply) (bytes : List ℕ) (a mid b : Option (List ℕ))
+    → (reply, now) ≡ frame_answer slot who f before → bytes ≡ reply_text at.form at.session at.sequence f.sequence reply → mid ≡ a → Took mid b bytes → TakesTurn slot at who f before now a b
+turn_taken slot at who f before now reply bytes a mid b e h quiet took = record {
   next = ap (λ (p : Reply × Machine). p.1) e;
-  said = subst (λ (x : Option (List ℕ)). Took x b (reply_to_frame slot n f before)) quiet
-      (subst (λ (x : List ℕ). Took mid b x) (h ∙ ap (λ (p : Reply × Machine). spelling (reply_frame n f.sequence p.0)) e) took);
+  said = subst (λ (x : Option (List ℕ)). Took x b (reply_to_frame slot at who f before)) quiet
+      (subst (λ (x : List ℕ). Took mid b x) (h ∙ ap (λ (p : Reply × Machine). reply_text at.form at.session at.sequence f.sequence p.0) e) took);
 }
 
 -- A turn of which a front of the reply was taken.
-pub turn_cut : (slot n : ℕ) (f : Frame) (before now : Machine) (reply : Reply) (bytes : List ℕ) (a mid b : Option (List ℕ))
-    → (reply, now) ≡ frame_answer slot Admin f before → bytes ≡ spelling (reply_frame n f.sequence reply) → mid ≡ a → TookFront mid b bytes
-    → TookFront a b (reply_to_frame slot n f before)
-turn_cut slot n f before now reply bytes a mid b e h quiet took =
-    subst (λ (x : Option (List ℕ)). TookFront x b (reply_to_frame slot n f before)) quiet
-    (subst (λ (x : List ℕ). TookFront mid b x) (h ∙ ap (λ (p : Reply × Machine). spelling (reply_frame n f.sequence p.0)) e) took)
+pub turn_cut : (slot : ℕ) (at : Address) (who : Who) (f : Frame) (before now : Machine) (reply : Reply) (bytes : List ℕ) (a mid b : Option (List ℕ))
+    → (reply, now) ≡ frame_answer slot who f before → bytes ≡ reply_text at.form at.session at.sequence f.sequence reply → mid ≡ a → TookFront mid b bytes
+    → TookFront a b (reply_to_frame slot at who f before)
+turn_cut slot at who f before now reply bytes a mid b e h quiet took =
+    subst (λ (x : Option (List ℕ)). TookFront x b (reply_to_frame slot at who f before)) quiet
+    (subst (λ (x : List ℕ). TookFront mid b x) (h ∙ ap (λ (p : Reply × Machine). reply_text at.form at.session at.sequence f.sequence p.0) e) took)
 
 -- A turn that was cut short before its reply was said.
-pub turn_unsaid : (cut : Cut) (slot n : ℕ) (f : Frame) (before : Machine) (a b : Option (List ℕ)) → (cut ≡ Unsaid → ⊥) → b ≡ a → CutsTurn cut slot n f before a b
-turn_unsaid NoMemory slot n f before a b said quiet = quiet
-turn_unsaid Disk slot n f before a b said quiet = quiet
-turn_unsaid Unsaid slot n f before a b said quiet = absurd (said refl)
+pub turn_unsaid : (cut : Cut) (slot : ℕ) (at : Address) (who : Who) (f : Frame) (before : Machine) (a b : Option (List ℕ)) → (cut ≡ Unsaid → ⊥) → b ≡ a → CutsTurn cut slot at who f before a b
+turn_unsaid NoMemory slot at who f before a b said quiet = quiet
+turn_unsaid Disk slot at who f before a b said quiet = quiet
+turn_unsaid Unsaid slot at who f before a b said quiet = absurd (said refl)
 
--- So far: the replies that were said, and those that the rest of the bytes still gives, are all replies to the bytes.
-pub record Told (slot n : ℕ) (m : Machine) (rest : List ℕ) (first : Machine) (bytes : List ℕ) (a b : Option (List ℕ)) : Type 0 where
-  pub done : List (List ℕ)
-  pub took : Took a b (joined done)
-  pub same : done ++ spoken slot Admin n m (frames_of rest) ≡ each_reply slot first bytes
-  pub tail : rest_of rest ≡ rest_of bytes
-  pub last : machine_behind slot Admin m (frames_of rest) ≡ last_machine slot first bytes
+-- ---- an event
 
--- A whole frame has a byte at least.
-pub whole_is_long : (bytes : List ℕ) (f : Frame) (n : ℕ) → front bytes ≡ Whole f n → 1 ≤ n
-whole_is_long bytes f n e = let stands = front_stands bytes f n e in omega (arith, stands.len)
+-- One reply, joined.
+one_joined : (reply : List ℕ) → joined (reply ∷ []) ≡ reply
+one_joined reply = append-nil reply
 
--- And it stands within the bytes.
-pub whole_fits : (bytes : List ℕ) (f : Frame) (n : ℕ) → front bytes ≡ Whole f n → n ≤ length bytes
-whole_fits bytes f n e = let stands = front_stands bytes f n e in let there = stands.there in let len = stands.len in omega (arith, there, len)
+-- The address of the next reply of a session.
+abbrev pub address_at : Form → ℕ → Known → Address
+address_at form s k = record { form = form; session = s; sequence = count_at k.replied s }
 
--- Nothing was said at the start.
-pub told_start : (slot : ℕ) (m : Machine) (bytes : List ℕ) (a : Option (List ℕ)) → Told slot 0 m bytes m bytes a a
-told_start slot m bytes a = record { done = []; took = Took-none a; same = refl; tail = refl; last = refl }
-
--- The replies to the rest begin with the next one.
-next_reply : (slot n k : ℕ) (f : Frame) (m first : Machine) (rest bytes : List ℕ) (done : List (List ℕ)) → front rest ≡ Whole f k
-    → done ++ spoken slot Admin n m (frames_of rest) ≡ each_reply slot first bytes
-    → done ++ reply_to_frame slot n f m ∷ spoken slot Admin ((n + 1) % 2 ^ 32) (frame_answer slot Admin f m).1 (frames_of (drop k rest)) ≡ each_reply slot first bytes
-next_reply slot n k f m first rest bytes done e same = ap (λ (fs : List Frame). done ++ spoken slot Admin n m fs) (sym (frames_step rest f k e)) ∙ same
-
--- One more turn, within the same slot.
-pub told_more : (slot here n k : ℕ) (f : Frame) (m next first : Machine) (rest bytes : List ℕ) (a b c : Option (List ℕ))
-    → here ≡ slot → front rest ≡ Whole f k → Told slot n m rest first bytes a b → TakesTurn here n f m next b c → Told slot ((n + 1) % 2 ^ 32) next (drop k rest) first bytes a c
-told_more slot here n k f m next first rest bytes a b c within e told took =
-    let turn = subst (λ (x : ℕ). TakesTurn x n f m next b c) within took in
-    let reply = reply_to_frame slot n f m in
-    let one : joined (told.done ++ reply ∷ []) ≡ joined told.done ++ reply =
-    flat_map-append (λ (x : List ℕ). x) told.done (reply ∷ []) ∙ ap (λ (l : List ℕ). joined told.done ++ l) (append-nil reply) in
+-- The turn of a frame that arrived, with its reply counted.
+pub arrived_taken : (form : Form) (slot s n : ℕ) (f : Frame) (k next : Known) (m m' : Machine) (who : Who) (a b : Option (List ℕ)) → n ≡ count_at k.replied s → who ≡ sender_at k s
+    → next ≡ record k { replied = counted k.replied s } → TakesTurn slot (record { form = form; session = s; sequence = n }) who f m m' a b → TakesEvent form slot (Arrived s f) k next m m' a b
+arrived_taken form slot s n f k next m m' who a b count sender known took =
+    let turn = subst (λ (w : Who). TakesTurn slot (address_at form s k) w f m m' a b) sender
+    (subst (λ (i : ℕ). TakesTurn slot (record { form = form; session = s; sequence = i }) who f m m' a b) count took) in
     record {
-      done = told.done ++ reply ∷ [];
-      took = subst (λ (l : List ℕ). Took a c l) (sym one) (Took-then a b c (joined told.done) reply told.took turn.said);
-      same =
-          append_assoc told.done (reply ∷ []) _
-          ∙ ap (λ (u : Machine). told.done ++ reply ∷ spoken slot Admin ((n + 1) % 2 ^ 32) u (frames_of (drop k rest))) turn.next
-          ∙ next_reply slot n k f m first rest bytes told.done e told.same;
-      tail = sym (rest_step rest f k e) ∙ told.tail;
-      last =
-          ap (λ (u : Machine). machine_behind slot Admin u (frames_of (drop k rest))) turn.next
-          ∙ ap (λ (fs : List Frame). machine_behind slot Admin m fs) (sym (frames_step rest f k e))
-          ∙ told.last;
+      known_is = known;
+      next = turn.next;
+      said = subst (λ (l : List ℕ). Took a b l) (sym (one_joined (reply_by form slot s f k m))) turn.said;
     }
 
--- What were said so far are whole replies.
-pub told_whole : (slot n : ℕ) (m first : Machine) (rest bytes : List ℕ) (a b : Option (List ℕ)) → Told slot n m rest first bytes a b → TookWhole a b (each_reply slot first bytes)
-told_whole slot n m first rest bytes a b told = (joined told.done, record { done = told.done; rest = _; split = told.same; same = refl }, told.took)
+arrived_unsaid : (cut : Cut) (form : Form) (slot s : ℕ) (f : Frame) (k : Known) (m : Machine) (a b : Option (List ℕ))
+    → CutsTurn cut slot (address_at form s k) (sender_at k s) f m a b → CutsEvent cut form slot (Arrived s f) k m a b
+arrived_unsaid NoMemory form slot s f k m a b cuts = cuts
+arrived_unsaid Disk form slot s f k m a b cuts = (s, f, refl, cuts)
+arrived_unsaid Unsaid form slot s f k m a b cuts = (s, f, refl, cuts)
 
--- With a front of the next reply they are a cut run.
-pub told_cut : (slot n k : ℕ) (f : Frame) (m first : Machine) (rest bytes : List ℕ) (a b c : Option (List ℕ))
-    → front rest ≡ Whole f k → Told slot n m rest first bytes a b → TookFront b c (reply_to_frame slot n f m) → TookCut a c (each_reply slot first bytes)
-told_cut slot n k f m first rest bytes a b c e told cut = (
-  joined told.done ++ cut.0,
-  record {
-    done = told.done;
-    next = reply_to_frame slot n f m;
-    rest = _;
-    split = next_reply slot n k f m first rest bytes told.done e told.same;
-    front = cut.0;
-    is_front = cut.1;
-    same = refl;
-  },
-  Took-then a b c (joined told.done) cut.0 told.took cut.2,
-)
+pub arrived_cut : (cut : Cut) (form : Form) (slot s n : ℕ) (f : Frame) (k : Known) (m : Machine) (who : Who) (a b : Option (List ℕ)) → n ≡ count_at k.replied s → who ≡ sender_at k s
+    → CutsTurn cut slot (record { form = form; session = s; sequence = n }) who f m a b → CutsEvent cut form slot (Arrived s f) k m a b
+arrived_cut cut form slot s n f k m who a b count sender cuts =
+    arrived_unsaid cut form slot s f k m a b
+    (subst (λ (w : Who). CutsTurn cut slot (address_at form s k) w f m a b) sender
+    (subst (λ (i : ℕ). CutsTurn cut slot (record { form = form; session = s; sequence = i }) who f m a b) count cuts))
 
--- Where no frame stands at the front of the rest, all replies were said, the rest is the tail, and the machine is the last one.
-pub told_all : (slot n : ℕ) (m first : Machine) (rest bytes : List ℕ) (a b : Option (List ℕ)) → HasNone rest → Told slot n m rest first bytes a b
-    → Took a b (replies slot first bytes) × (rest ≡ rest_of bytes) × (m ≡ last_machine slot first bytes)
-told_all slot n m first rest bytes a b none told =
-    let stops = reading_stops rest none in
-    let all : told.done ≡ each_reply slot first bytes =
-    sym (append-nil told.done) ∙ ap (λ (fs : List Frame). told.done ++ spoken slot Admin n m fs) (sym stops.0) ∙ told.same in (
-      subst (λ (x : List (List ℕ)). Took a b (joined x)) all told.took,
-      sym stops.1 ∙ told.tail,
-      ap (λ (fs : List Frame). machine_behind slot Admin m fs) (sym stops.0) ∙ told.last,
-    )
+-- An event without a reply.
+pub quiet_taken : (form : Form) (slot : ℕ) (e : Event) (k next : Known) (m m' : Machine) (a b : Option (List ℕ)) → replies_by form slot e k m ≡ [] → next ≡ known_after e k
+    → m' ≡ machine_after slot e k m → b ≡ a → TakesEvent form slot e k next m m' a b
+quiet_taken form slot e k next m m' a b none known same still = record {
+  known_is = known;
+  next = same;
+  said = subst (λ (l : List ℕ). Took a b l) (sym (ap joined none)) (subst (λ (x : Option (List ℕ)). Took a x []) (sym still) (Took-none a));
+}
 
--- The tail of some bytes, by what stands at the front of their rest.
-tail_at : (rest bytes : List ℕ) (x : Front) → front rest ≡ x → rest ≡ rest_of bytes
-    → tail_from (option_map (λ (d : FrameFault). (d, length bytes - length rest)) (fault_in x)) (length rest) ≡ tail_of bytes
-tail_at rest bytes x e same =
-    ap (λ (y : Front). tail_from (option_map (λ (d : FrameFault). (d, length bytes - length rest)) (fault_in y)) (length rest)) (sym e)
-    ∙ ap (λ (r : List ℕ). tail_from (option_map (λ (d : FrameFault). (d, length bytes - length r)) (fault_in (front r))) (length r)) same
+-- ---- the loop
 
--- Where the rest begins a frame and does not end it, all replies were said, and the tail is what is left.
-pub told_short : (slot n : ℕ) (m first : Machine) (rest bytes : List ℕ) (a b : Option (List ℕ)) → front rest ≡ Short → Told slot n m rest first bytes a b
-    → Took a b (replies slot first bytes) × (tail_from None (length rest) ≡ tail_of bytes) × (m ≡ last_machine slot first bytes)
-told_short slot n m first rest bytes a b e told =
-    let all = told_all slot n m first rest bytes a b (λ f k w. let whole : Short ≡ Whole f k = sym e ∙ w in cc) told in
-    (all.0, tail_at rest bytes Short e all.1, all.2)
+-- Going nowhere gives nothing.
+goes_nowhere : (st : Standing) → GoesTo st st []
+goes_nowhere st = record { events = λ more. refl; ends = λ more. refl }
 
--- Where the rest begins no frame, all replies were said, and the tail is the fault there.
-pub told_bad : (slot n : ℕ) (m first : Machine) (rest bytes : List ℕ) (a b : Option (List ℕ)) (d : FrameFault) → front rest ≡ Bad d → Told slot n m rest first bytes a b
-    → Took a b (replies slot first bytes) × (Faulty d (length bytes - length rest) ≡ tail_of bytes) × (m ≡ last_machine slot first bytes)
-told_bad slot n m first rest bytes a b d e told =
-    let all = told_all slot n m first rest bytes a b (λ f k w. let whole : Bad d ≡ Whole f k = sym e ∙ w in cc) told in
-    (all.0, tail_at rest bytes (Bad d) e all.1, all.2)
+-- Nothing was answered at the start.
+pub answers_start : (form : Form) (slot : ℕ) (k : Known) (m : Machine) (st : Standing) (a : Option (List ℕ)) (f : Bool) (n : Option (List ℕ)) (x : ℕ)
+    → Answers form slot k k m m st st a a f f n n x x
+answers_start form slot k m st a f n x = record {
+  answered = [];
+  goes = goes_nowhere st;
+  known_is = refl;
+  machine_is = refl;
+  said = Took-none a;
+  noted_is = more_none f n x;
+}
 
--- Where a turn was cut short, what was said are whole replies, and after a failed say a front of the next one beside them.
-cut_served : (cut : Cut) (slot n k : ℕ) (f : Frame) (m first : Machine) (rest bytes : List ℕ) (a b c : Option (List ℕ))
-    → front rest ≡ Whole f k → Told slot n m rest first bytes a b → CutsTurn cut slot n f m b c → IsServed slot first (Err cut) bytes a c
-cut_served NoMemory slot n k f m first rest bytes a b c e told same =
-    subst (λ (x : Option (List ℕ)). TookWhole a x (each_reply slot first bytes)) (sym same) (told_whole slot n m first rest bytes a b told)
-cut_served Disk slot n k f m first rest bytes a b c e told same =
-    subst (λ (x : Option (List ℕ)). TookWhole a x (each_reply slot first bytes)) (sym same) (told_whole slot n m first rest bytes a b told)
-cut_served Unsaid slot n k f m first rest bytes a b c e told cut = told_cut slot n k f m first rest bytes a b c e told cut
+-- The replies behind one event more.
+one_more_replies : (form : Form) (slot : ℕ) (es : List Event) (e : Event) (k : Known) (m : Machine)
+    → joined (replies_along form slot (es ++ e ∷ []) k m)
+    ≡ joined (replies_along form slot es k m) ++ joined (replies_by form slot e (known_along es k) (machine_along slot es k m))
+one_more_replies form slot es e k m =
+    let last : List (List ℕ) = replies_by form slot e (known_along es k) (machine_along slot es k m) in
+    ap joined (replies_then form slot es (e ∷ []) k m)
+    ∙ flat_map-append (λ (x : List ℕ). x) (replies_along form slot es k m) (last ++ [])
+    ∙ ap (λ (rs : List (List ℕ)). joined (replies_along form slot es k m) ++ joined rs) (append-nil last)
 
-pub cut_told : (cut : Cut) (slot here n k : ℕ) (f : Frame) (m first : Machine) (rest bytes : List ℕ) (a b c : Option (List ℕ))
-    → here ≡ slot → front rest ≡ Whole f k → Told slot n m rest first bytes a b → CutsTurn cut here n f m b c → IsServed slot first (Err cut) bytes a c
-cut_told cut slot here n k f m first rest bytes a b c within e told short =
-    cut_served cut slot n k f m first rest bytes a b c e told (subst (λ (x : ℕ). CutsTurn cut x n f m b c) within short)
+-- The lines of one event more.
+one_more_lines : (es : List Event) (e : Event) → fault_lines es ++ event_lines e ≡ fault_lines (es ++ e ∷ [])
+one_more_lines es e = ap (λ (l : List ℕ). fault_lines es ++ l) (sym (append-nil (event_lines e))) ∙ sym (flat_map-append event_lines es (e ∷ []))
+
+-- One more event, within the same slot.
+pub answers_more : (form : Form) (slot here : ℕ) (e : Event) (k k1 k2 : Known) (m m1 m2 : Machine) (st st1 st2 : Standing) (a b c : Option (List ℕ)) (f g h : Bool) (n n1 n2 : Option (List ℕ)) (x x1 x2 : ℕ)
+    → here ≡ slot → Answers form slot k k1 m m1 st st1 a b f g n n1 x x1 → GoesTo st1 st2 (e ∷ []) → TakesEvent form here e k1 k2 m1 m2 b c
+    → NotesMore g h (event_lines e) n1 n2 x1 x2 → Answers form slot k k2 m m2 st st2 a c f h n n2 x x2
+answers_more form slot here e k k1 k2 m m1 m2 st st1 st2 a b c f g h n n1 n2 x x1 x2 within told goes took noted =
+    let turn = subst (λ (y : ℕ). TakesEvent form y e k1 k2 m1 m2 b c) within took in
+    let es : List Event = told.answered in
+    let said : Took b c (joined (replies_by form slot e (known_along es k) (machine_along slot es k m))) =
+    subst (λ (y : Known). Took b c (joined (replies_by form slot e y (machine_along slot es k m)))) told.known_is
+    (subst (λ (y : Machine). Took b c (joined (replies_by form slot e k1 y))) told.machine_is turn.said) in
+    record {
+      answered = es ++ e ∷ [];
+      goes = goes_then st st1 st2 es (e ∷ []) told.goes goes;
+      known_is = turn.known_is ∙ ap (known_after e) told.known_is ∙ sym (known_then es (e ∷ []) k);
+      machine_is =
+          turn.next ∙ ap (λ (y : Known). machine_after slot e y m1) told.known_is
+          ∙ ap (machine_after slot e (known_along es k)) told.machine_is ∙ sym (machine_then slot es (e ∷ []) k m);
+      said =
+          subst (λ (l : List ℕ). Took a c l) (sym (one_more_replies form slot es e k m))
+          (Took-then a b c (joined (replies_along form slot es k m)) _ told.said said);
+      noted_is = subst (λ (l : List ℕ). NotesMore f h l n n2 x x2) (one_more_lines es e) (more_then f g h (fault_lines es) (event_lines e) n n1 n2 x x1 x2 told.noted_is noted);
+    }
+
+-- The standing went on, and gave no event.
+pub answers_still : (form : Form) (slot : ℕ) (k k1 : Known) (m m1 : Machine) (st st1 st2 : Standing) (a b : Option (List ℕ)) (f g : Bool) (n n1 : Option (List ℕ)) (x x1 : ℕ)
+    → Answers form slot k k1 m m1 st st1 a b f g n n1 x x1 → GoesTo st1 st2 [] → Answers form slot k k1 m m1 st st2 a b f g n n1 x x1
+answers_still form slot k k1 m m1 st st1 st2 a b f g n n1 x x1 told goes = record {
+  answered = told.answered;
+  goes = subst (λ (es : List Event). GoesTo st st2 es) (append-nil told.answered) (goes_then st st1 st2 told.answered [] told.goes goes);
+  known_is = told.known_is;
+  machine_is = told.machine_is;
+  said = told.said;
+  noted_is = told.noted_is;
+}
+
+-- ---- where the loop ends
+
+-- An event less is left.
+pub fewer_events : (old new : Standing) (e : Event) → GoesTo old new (e ∷ []) → length (events_of new) < length (events_of old)
+fewer_events old new e goes =
+    let same : events_of old ≡ e ∷ events_of new = ap events_of (sym (no_more_input old)) ∙ goes.events [] ∙ ap (λ (st : Standing). e ∷ events_of st) (no_more_input new) in
+    omega (arith, ap length same)
+
+-- What comes of both.
+same_events : (old new : Standing) → GoesTo old new [] → events_of new ≡ events_of old
+same_events old new goes = sym (ap events_of (sym (no_more_input old)) ∙ goes.events [] ∙ ap events_of (no_more_input new))
+
+pub same_end : (old new : Standing) (es : List Event) → GoesTo old new es → end_of new ≡ end_of old
+same_end old new es goes = sym (ap end_of (sym (no_more_input old)) ∙ goes.ends [] ∙ ap end_of (no_more_input new))
+
+none_first : (x y : List Event) → x ++ y ≡ [] → x ≡ []
+none_first [] y e = refl
+none_first (a ∷ x) y e = absurd cc
+
+pub all_given : (old new : Standing) → GivesNone old new → IsAllGiven new
+all_given old new gives =
+    let none : events_of new ≡ [] = same_events old new gives.goes ∙ gives.unfinished.none in
+    record {
+      none = none;
+      good = ap begins_bad (same_end old new [] gives.goes) ∙ gives.unfinished.good;
+      quiet = none_first (events_held 0 new.sessions) (events_along new.sessions (arrivals_of new)) none;
+      moved = gives.moved;
+    }
+
+pub stuck_at : (old new : Standing) (at : ℕ) → GoesTo old new [] → IsBadAt old at → IsStuckAt new at
+stuck_at old new at goes is = record {
+  none = same_events old new goes ∙ ap events_of (sym (no_more_input old)) ∙ is.none [];
+  bad = ap begins_bad (same_end old new [] goes) ∙ ap (λ (st : Standing). begins_bad (end_of st)) (sym (no_more_input old)) ∙ is.bad [];
+  place = ap (λ (st : Standing). st.before) (same_end old new [] goes) ∙ ap (λ (st : Standing). (end_of st).before) (sym (no_more_input old)) ∙ is.place [];
+}
+
+-- ---- where it was cut short
+
+-- The next event was.
+next_cut : (cut : Cut) (form : Form) (slot : ℕ) (e : Event) (k : Known) (m : Machine) (st later : Standing) (a b : Option (List ℕ)) → GoesTo st later (e ∷ []) → CutsEvent cut form slot e k m a b
+    → CutsNext cut form slot k m st a b
+next_cut NoMemory form slot e k m st later a b goes cuts = (cuts, inl (e, later, goes))
+next_cut Disk form slot e k m st later a b goes cuts =
+    (cuts.0, cuts.1, later, subst (λ (x : Event). GoesTo st later (x ∷ [])) cuts.2 goes, cuts.3)
+next_cut Unsaid form slot e k m st later a b goes cuts =
+    (cuts.0, cuts.1, later, subst (λ (x : Event). GoesTo st later (x ∷ [])) cuts.2 goes, cuts.3)
+
+pub cut_answers : (cut : Cut) (form : Form) (slot here : ℕ) (e : Event) (k k1 : Known) (m m1 : Machine) (st st1 later : Standing) (a b c : Option (List ℕ)) (f g h : Bool) (n n1 n2 : Option (List ℕ)) (x x1 x2 : ℕ)
+    → here ≡ slot → Answers form slot k k1 m m1 st st1 a b f g n n1 x x1 → GoesTo st1 later (e ∷ []) → CutsEvent cut form here e k1 m1 b c → h ≡ g → n2 ≡ n1 → x2 ≡ x1
+    → IsCutShort cut form slot k m st a c f h n n2 x x2
+cut_answers cut form slot here e k k1 m m1 st st1 later a b c f g h n n1 n2 x x1 x2 within told goes cuts p q r = rw (p, q, r) (record {
+  known_mid = k1;
+  machine_mid = m1;
+  st_mid = st1;
+  said_mid = b;
+  first = told;
+  cuts = next_cut cut form slot e k1 m1 st1 later b c goes (subst (λ (y : ℕ). CutsEvent cut form y e k1 m1 b c) within cuts);
+})
+
+-- For want of memory, before an event was found.
+pub starved_answers : (form : Form) (slot : ℕ) (k k1 : Known) (m m1 : Machine) (st st1 : Standing) (a b : Option (List ℕ)) (f g : Bool) (n n1 : Option (List ℕ)) (x x1 : ℕ)
+    → Answers form slot k k1 m m1 st st1 a b f g n n1 x x1 → MayWantMemory st1 → IsCutShort NoMemory form slot k m st a b f g n n1 x x1
+starved_answers form slot k k1 m m1 st st1 a b f g n n1 x x1 told may = record {
+  known_mid = k1;
+  machine_mid = m1;
+  st_mid = st1;
+  said_mid = b;
+  first = told;
+  cuts = (refl, inr may);
+}
+
+-- However the events came to their end, none is left.
+pub none_left : (st : Standing) (bad : Option ℕ) → ComesToEnd st bad → events_of st ≡ []
+none_left st None end = end.none
+none_left st (Some at) end = end.none

@@ -8,6 +8,7 @@ use Rattle.std.specs.String.{string_bytes}
 use Rattle.std.specs.declared.string.String.{String}
 use Rattle.ctrl_serve.specs.declared.command_line.Form.{Form}
 use Rattle.ctrl_serve.specs.declared.command_line.Form.TheVariants.{Dry, Load, Replay}
+use Rattle.session_mux.specs.declared.sessions.Form.TheVariants.{Plain, Trace}
 
 -- The bytes of each word.
 abbrev pub texts : {A : Type 0} → List (String A) → List (List ℕ)
@@ -30,12 +31,14 @@ is_padded (first ∷ second ∷ rest) = first == 43 || first == 48
 -- What the words run, if they are a line of the table of words.
 abbrev pub form_of : List (List ℕ) → Option Form
 form_of [] = None
-form_of (word ∷ []) = if bytes_eq word (codes "dry") then Some Dry else if bytes_eq word (codes "replay") then Some Replay else None
-form_of (word ∷ next ∷ []) = if bytes_eq word (codes "load") then option_map Load (number_of_word next) else None
-form_of (word ∷ next ∷ another ∷ words) = None
+form_of (word ∷ []) = if bytes_eq word (codes "dry") then Some Dry else if bytes_eq word (codes "replay") then Some (Replay Plain) else None
+form_of (word ∷ next ∷ []) =
+    if bytes_eq word (codes "load") then option_map Load (number_of_word next)
+    else if bytes_eq word (codes "replay") && bytes_eq next (codes "--sessions") then Some (Replay Trace) else None
+form_of (word ∷ next ∷ third ∷ words) = None
 
 -- Whether what is asked for reads the input.
 abbrev pub reads_input : Form → Bool
 reads_input Dry = true
-reads_input Replay = true
+reads_input (Replay form) = true
 reads_input (Load number) = false

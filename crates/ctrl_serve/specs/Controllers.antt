@@ -35,8 +35,3 @@ pub record Turn (before next : State) (reply : List ℕ) (said : Option (List �
   pub is_front : IsFront front reply
   pub replies : Took said (Some taken) front
   pub found : OpensToState image next ⊎ ((front ≡ []) × OpensToState image before)
-
--- The notes are as they were, and no fault of theirs was counted.
-pub record LeavesNotes {D : Type 0} (noted : D → Option (List ℕ)) (note_faults : D → ℕ) (old new : D) : Type 0 where
-  pub notes : noted new ≡ noted old
-  pub failed_notes : note_faults new ≡ note_faults old

@@ -1,13 +1,8 @@
 -- What failed calls on the outside are to a run (docs/PROMISES.md, "The headline").
-use Rattle.std.specs.Prelude.{◌≡◌, ℕ, ◌+◌, ◌≤◌, List}
+use Rattle.std.specs.Prelude.{◌≡◌, ℕ, List}
 use Rattle.std.specs.declared.option.Option.{Option}
 use Rattle.std.specs.Io.KnownBytes.{Keeps}
 use Rattle.ziti_outside.specs.Told.{Gave}
-
--- A count of faults did not fall, and rose by one at most.
-pub record RisesOnce (before now : ℕ) : Type 0 where
-  pub later : before ≤ now
-  pub once : now ≤ before + 1
 
 -- A failed take is the last: all that the source gave it had given when no take had failed.
 pub record TakesUntilFailure {S : Type 0} (left : S → Option (List ℕ)) (faults : S → ℕ) (old new : S) : Type 0 where

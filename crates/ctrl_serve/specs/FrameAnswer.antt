@@ -1,14 +1,12 @@
--- The answer to a frame, and a run of the controller along frames, with a folder or without (docs/RULES.md, "The controller", "The
--- controller with a folder").
-use Rattle.std.specs.Prelude.{ℕ, ◌+◌, ◌%◌, ◌^◌, List, [], ◌∷◌, None, Ok, Err}
+-- The answer to a frame, and a run of the controller along the frames of one session or of many, with a folder or without
+-- (docs/RULES.md, "The controller", "The controller with a folder"; docs/FORMATS.md, "Traces and tagged replies").
+use Rattle.std.specs.Prelude.{ℕ, ◌+◌, ◌%◌, ◌^◌, List, [], ◌∷◌, ◌++◌, None, Ok, Err}
 use Rattle.std.specs.declared.result.Result.{Result}
 use Rattle.std.specs.List.{flat_map}
 use Rattle.channel_frame.specs.declared.frames.Frame.{Frame}
 use Rattle.channel_frame.specs.FrameSpelling.{spelling}
-use Rattle.channel_frame.specs.StreamReading.{frames_of}
 use Rattle.ctrl_model.specs.declared.commands.Command.{Command}
 use Rattle.ctrl_model.specs.declared.kinds.Who.{Who}
-use Rattle.ctrl_model.specs.declared.kinds.Who.TheVariants.{Admin}
 use Rattle.ctrl_model.specs.declared.refusals.Refusal.{Refusal}
 use Rattle.ctrl_model.specs.declared.refusals.Refusal.TheVariants.{UnsupportedType, BadBody}
 use Rattle.ctrl_model.specs.declared.replies.Reply.{Reply}
@@ -16,6 +14,12 @@ use Rattle.ctrl_model.specs.declared.replies.Reply.TheVariants.{Refused}
 use Rattle.ctrl_model.specs.State.{State}
 use Rattle.ctrl_keep.specs.KeptMachine.{Machine, step}
 use Rattle.reply_codec.specs.ReplyFrame.{reply_frame}
+use Rattle.session_mux.specs.declared.events.Event.{Event}
+use Rattle.session_mux.specs.declared.sessions.Form.{Form}
+use Rattle.session_mux.specs.declared.sessions.Form.TheVariants.{Plain, Trace}
+use Rattle.session_mux.specs.Completion.{completed}
+use Rattle.run_notes.specs.Inputs.{frames_in, no_counts}
+use Rattle.run_notes.specs.KnownSessions.{count_at, counted}
 use Rattle.command_codec.specs.declared.reading.CodecFault.{CodecFault}
 use Rattle.command_codec.specs.declared.reading.CodecFault.TheVariants as cause
 use Rattle.command_codec.specs.BodyMeaning.{meaning}
@@ -36,32 +40,62 @@ answer_to slot who m (Err e) = (Refused (refusal_for e), m)
 abbrev pub frame_answer : ℕ → Who → Frame → Machine → Reply × Machine
 frame_answer slot who f m = answer_to slot who m (meaning f.content f.body)
 
--- The bytes of the replies to some frames, one list a reply, from a sequence number and a machine on.
-abbrev pub spoken : ℕ → Who → ℕ → Machine → List Frame → List (List ℕ)
-spoken slot who n m [] = []
-spoken slot who n m (f ∷ fs) =
-    spelling (reply_frame n f.sequence (frame_answer slot who f m).0) ∷ spoken slot who ((n + 1) % 2 ^ 32) (frame_answer slot who f m).1 fs
+-- ---- one session alone
+
+-- The bytes of the replies to some frames of one sender, one list a reply, from a sequence number and a machine on.
+abbrev pub spoken_alone : ℕ → Who → ℕ → Machine → List Frame → List (List ℕ)
+spoken_alone slot who n m [] = []
+spoken_alone slot who n m (f ∷ fs) =
+    spelling (reply_frame n f.sequence (frame_answer slot who f m).0) ∷ spoken_alone slot who ((n + 1) % 2 ^ 32) (frame_answer slot who f m).1 fs
 
 -- These bytes joined.
 abbrev pub answers : ℕ → Who → ℕ → Machine → List Frame → List ℕ
-answers slot who n m fs = flat_map (λ bytes. bytes) (spoken slot who n m fs)
+answers slot who n m fs = flat_map (λ bytes. bytes) (spoken_alone slot who n m fs)
+
+-- The machine behind some frames of one sender.
+abbrev pub machine_behind_alone : ℕ → Who → Machine → List Frame → Machine
+machine_behind_alone slot who m [] = m
+machine_behind_alone slot who m (f ∷ fs) = machine_behind_alone slot who (frame_answer slot who f m).1 fs
+
+-- ---- many sessions
+
+-- What stands before the frame of a reply: in a trace a byte 4 and the session, in plain input nothing.
+abbrev pub tag : Form → ℕ → List ℕ
+tag Plain s = []
+tag Trace s = 4 ∷ s ∷ []
+
+-- The bytes of a reply to a session: the tag, and the frame with a sequence number and that of the request.
+abbrev pub reply_text : Form → (session sequence request : ℕ) → Reply → List ℕ
+reply_text form session sequence request reply = tag form session ++ spelling (reply_frame sequence request reply)
+
+-- The bytes of the replies to some frames, each with its session and who sent it: one list a reply, from counts of replies and a
+-- machine on. Each session counts its own replies.
+abbrev pub spoken : Form → ℕ → List ℕ → Machine → List (ℕ × (Who × Frame)) → List (List ℕ)
+spoken form slot counts m [] = []
+spoken form slot counts m (x ∷ xs) =
+    reply_text form x.0 (count_at counts x.0) x.1.1.sequence (frame_answer slot x.1.0 x.1.1 m).0
+    ∷ spoken form slot (counted counts x.0) (frame_answer slot x.1.0 x.1.1 m).1 xs
 
 -- The machine behind some frames.
-abbrev pub machine_behind : ℕ → Who → Machine → List Frame → Machine
-machine_behind slot who m [] = m
-machine_behind slot who m (f ∷ fs) = machine_behind slot who (frame_answer slot who f m).1 fs
+abbrev pub machine_behind : ℕ → Machine → List (ℕ × (Who × Frame)) → Machine
+machine_behind slot m [] = m
+machine_behind slot m (x ∷ xs) = machine_behind slot (frame_answer slot x.1.0 x.1.1 m).1 xs
 
--- Each reply to an input: those of a machine's run along its frames.
-abbrev pub each_reply : ℕ → Machine → List ℕ → List (List ℕ)
-each_reply slot m used = spoken slot Admin 0 m (frames_of used)
+-- Each reply to the first events of an input: those of a machine's run along the frames that arrive by them.
+abbrev pub replies_to : Form → ℕ → Machine → List Event → List (List ℕ)
+replies_to form slot m events = spoken form slot no_counts m (frames_in form events)
+
+-- Each reply to an input, in the order in which its frames are completed.
+abbrev pub each_reply : Form → ℕ → Machine → List ℕ → List (List ℕ)
+each_reply form slot m used = spoken form slot no_counts m (completed form used)
 
 -- The bytes of all replies to an input.
-abbrev pub replies : ℕ → Machine → List ℕ → List ℕ
-replies slot m used = answers slot Admin 0 m (frames_of used)
+abbrev pub replies : Form → ℕ → Machine → List ℕ → List ℕ
+replies form slot m used = flat_map (λ bytes. bytes) (each_reply form slot m used)
 
 -- The machine behind all frames of an input.
-abbrev pub last_machine : ℕ → Machine → List ℕ → Machine
-last_machine slot m used = machine_behind slot Admin m (frames_of used)
+abbrev pub last_machine : Form → ℕ → Machine → List ℕ → Machine
+last_machine form slot m used = machine_behind slot m (completed form used)
 
 -- A machine without a folder.
 abbrev pub alone : State → Machine

@@ -1,8 +1,8 @@
--- What a run promises, so far for the words `dry`, `replay` and `load N` (docs/PROMISES.md, "The headline").
-use Rattle.std.specs.Prelude.{◌≡◌, ◌↔◌, ℕ, ◌+◌, ◌<◌, ◌≤◌, ◌^◌, ◌⊎◌, nat_lt, Bool, true, false, IsTrue, None, Some, is_some, List, [], length, take}
+-- What a run promises, so far for the words `dry`, `replay`, `replay --sessions` and `load N` (docs/PROMISES.md, "The headline").
+use Rattle.std.specs.Prelude.{◌≡◌, ◌↔◌, ℕ, ◌+◌, ◌<◌, ◌≤◌, ◌^◌, ◌⊎◌, nat_lt, Bool, true, false, IsTrue, None, Some, is_some, List, [], ◌++◌, length, take}
 use Rattle.std.specs.declared.option.Option.{Option}
 use Rattle.std.specs.Io.KnownBytes.{IsAtEnd}
-use Rattle.ziti_outside.specs.Told.{Gave, Took, TookFront}
+use Rattle.ziti_outside.specs.Told.{Gave, Took}
 use Rattle.ziti_outside.specs.Causes.{Rose}
 use Rattle.ziti_outside.specs.Images.{Image}
 use Rattle.ziti_outside.specs.Untouched.{OnlyNotes}
@@ -14,16 +14,22 @@ use Rattle.ctrl_keep.specs.OpenedStates.{IsStateless, OpensToState}
 use Rattle.ctrl_keep.specs.KeptMachine.{Machine}
 use Rattle.ctrl_serve.specs.OpenedFolders.{Keeps, OpensTo}
 use Rattle.ctrl_serve.specs.declared.bounds.Bounds.{Bounds}
-use Rattle.ctrl_serve.specs.declared.command_line.Form.{Form}
+use Rattle.session_mux.specs.declared.events.Event.{Event}
+use Rattle.session_mux.specs.declared.sessions.Form.{Form}
+use Rattle.session_mux.specs.declared.sessions.Form.TheVariants.{Plain}
+use Rattle.ctrl_serve.specs.declared.command_line.Form as command
 use Rattle.ctrl_serve.specs.declared.command_line.Form.TheVariants.{Dry, Load, Replay}
-use Rattle.ctrl_serve.specs.declared.status.Status.{Status}
-use Rattle.ctrl_serve.specs.declared.status.Status.TheVariants.{Done, Usage, ReadFault, WriteFault, DiskFault, Damaged, NoMemory}
+use Rattle.run_notes.specs.declared.status.Status.{Status}
+use Rattle.run_notes.specs.declared.status.Status.TheVariants.{Done, Usage, ReadFault, WriteFault, DiskFault, Damaged, NoMemory}
 use Rattle.ctrl_serve.specs.CommandLine.{reads_input}
-use Rattle.ctrl_serve.specs.Failures.{RisesOnce, TakesUntilFailure}
-use Rattle.ctrl_serve.specs.FrameAnswer.{each_reply, replies, last_machine, alone}
-use Rattle.ctrl_serve.specs.Ending.{tail_of, ending, is_cut, is_kept, Says}
+use Rattle.run_notes.specs.NotedLines.{RisesOnce, NotesLines}
+use Rattle.ctrl_serve.specs.Failures.{TakesUntilFailure}
+use Rattle.ctrl_serve.specs.FrameAnswer.{replies, last_machine, alone}
+use Rattle.run_notes.specs.Inputs.{events_in}
+use Rattle.run_notes.specs.Endings.{ending, is_cut, is_kept}
+use Rattle.ctrl_serve.specs.SaidReplies.{Says}
 use Rattle.ctrl_serve.specs.Loads.{counts_line, state_of_load, SaysLine}
-use Rattle.ctrl_serve.specs.Notes.{usage_note, damaged_note, status_lines, notes_of}
+use Rattle.run_notes.specs.Notes.{usage_note, damaged_note, status_lines, notes_of}
 
 -- The bounds that a run takes.
 pub record AreBounds (b : Bounds) : Type 0 where
@@ -33,11 +39,6 @@ pub record AreBounds (b : Bounds) : Type 0 where
   pub mark_low : 1 ≤ b.mark
   pub mark_high : b.mark ≤ 2 ^ 20
 
--- These lines were noted: all of them where the count of failed notes did not rise, else a front of them.
-pub record NotesLines (lines : List ℕ) (noted_before noted_now : Option (List ℕ)) (faults_before faults_now : ℕ) : Type 0 where
-  pub part : TookFront noted_before noted_now lines
-  pub whole : (Rose faults_before faults_now → ⊥) → Took noted_before noted_now lines
-
 -- Replies were said and notes were written, and nothing else was done on a desk: the folder is as it was, and no fault of its calls
 -- was counted. A stop leaves no image that it did not leave before.
 pub record OnlySaysAndNotes {D : Type 0} (reads : D → Image) (may_leave : D → Image → Type 0) (disk_faults : D → ℕ) (old new : D) : Type 0 where
@@ -45,34 +46,40 @@ pub record OnlySaysAndNotes {D : Type 0} (reads : D → Image) (may_leave : D �
   pub found : (image : Image) → may_leave new image → may_leave old image
   pub failed_calls : disk_faults new ≡ disk_faults old
 
--- A run over plain input from a machine on, whose slot may have so many bytes. Of what the source gave, the first `most` bytes are
--- used. What was said are the replies of the machine's run along their frames: all of them, but the first ones where memory was wanting
--- or the disk failed, and a front of the next one beside those where a say failed. A run that was not cut short ends as the bytes decide, and only once nothing is left or more
--- than `most` bytes were given. What was noted are the fault of the used bytes, where it was found, and the lines of the status.
-pub record Serves (slot : ℕ) (machine : Machine) (most : ℕ) (left_before left_now said_before said_now noted_before noted_now : Option (List ℕ)) (note_faults_before note_faults_now : ℕ) (status : Status) : Type 0 where
+-- A run over an input of a form from a machine on, whose slot may have so many bytes. Of what the source gave, the first `most` bytes
+-- are used. Of their events the run answered the first ones, and all of them unless memory was wanting, the disk failed or a say. What was
+-- said are the replies of the machine's run along the frames that arrived by the answered events, each whole, and where a say failed a front of
+-- the next one beside them. A run that was not cut short ends as the bytes decide, and only once nothing is left or more than `most` bytes were
+-- given. What was noted are the faults among the answered events, in the order in which the bytes decide them, and then how the run ended.
+-- A call on the disk fails only while a frame is answered, and memory is not wanting once the fault of plain input was noted.
+pub record Serves (form : Form) (slot : ℕ) (machine : Machine) (most : ℕ) (left_before left_now said_before said_now noted_before noted_now : Option (List ℕ)) (note_faults_before note_faults_now : ℕ) (status : Status) : Type 0 where
   pub taken : List ℕ
   pub gave : Gave left_before left_now taken
   pub few : length taken ≤ most + 65536
+  pub answered : List Event
+  pub unanswered : List Event
+  pub split : answered ++ unanswered ≡ events_in form (take most taken)
+  pub all : is_kept status ≡ true → unanswered ≡ []
   pub said : List ℕ
   pub took : Took said_before said_now said
-  pub says : Says status said (each_reply slot machine (take most taken))
-  pub ends : is_cut status ≡ false → status ≡ ending (take most taken) (nat_lt most (length taken))
+  pub says : Says form slot machine status said answered unanswered
+  pub ends : is_cut status ≡ false → status ≡ ending form (take most taken) (nat_lt most (length taken))
   pub read_on : is_cut status ≡ false → IsAtEnd left_now ⊎ (most < length taken)
-  pub notes : NotesLines (notes_of (tail_of (take most taken)) status) noted_before noted_now note_faults_before note_faults_now
+  pub notes : NotesLines (notes_of form answered (take most taken) status) noted_before noted_now note_faults_before note_faults_now
 
 -- A complete run: it ended as the used bytes decide, all replies to their whole frames were said, and nothing is left or more
 -- than `most` bytes were given.
-pub record Completes (slot : ℕ) (machine : Machine) (most : ℕ) (left_before left_now said_before said_now : Option (List ℕ)) (status : Status) : Type 0 where
+pub record Completes (form : Form) (slot : ℕ) (machine : Machine) (most : ℕ) (left_before left_now said_before said_now : Option (List ℕ)) (status : Status) : Type 0 where
   pub taken : List ℕ
   pub gave : Gave left_before left_now taken
-  pub ends : status ≡ ending (take most taken) (nat_lt most (length taken))
-  pub said : Took said_before said_now (replies slot machine (take most taken))
+  pub ends : status ≡ ending form (take most taken) (nat_lt most (length taken))
+  pub said : Took said_before said_now (replies form slot machine (take most taken))
   pub read_on : IsAtEnd left_now ⊎ (most < length taken)
 
 -- A run without faults is complete, unless memory was wanting.
-abbrev pub IsComplete : ℕ → Machine → ℕ → Option (List ℕ) → Option (List ℕ) → Option (List ℕ) → Option (List ℕ) → Status → Type 0
-IsComplete slot machine most left_before left_now said_before said_now status =
-    (status ≡ NoMemory) ⊎ Completes slot machine most left_before left_now said_before said_now status
+abbrev pub IsComplete : Form → ℕ → Machine → ℕ → Option (List ℕ) → Option (List ℕ) → Option (List ℕ) → Option (List ℕ) → Status → Type 0
+IsComplete form slot machine most left_before left_now said_before said_now status =
+    (status ≡ NoMemory) ⊎ Completes form slot machine most left_before left_now said_before said_now status
 
 -- Why the folder was not opened, at a status, and what was noted: a call on the disk failed; it opens to no state, and then it reads as
 -- before and the place of the damage is told; or memory was wanting. The other statuses never come.
@@ -91,17 +98,17 @@ pub record Refuses {S D : Type 0} (said noted : D → Option (List ℕ)) (note_f
   pub stays : IsTrue tells → 0 < length (reads desk Mark) → reads desk_now ≡ reads desk
   pub why : StaysClosed tells (reads desk) (reads desk_now) (noted desk) (noted desk_now) (note_faults desk) (note_faults desk_now) status
 
--- A run over plain input on the folder: the folder opens to a machine in a valid state and with a place, from which the run goes on.
+-- A run over an input of a form on the folder: the folder opens to a machine in a valid state and with a place, from which the run goes on.
 -- Where it ended with all kept, the folder keeps the machine behind all frames of the used bytes: exactly the rows of its state, and its
 -- place; and what a stop may leave then opens to that state.
-pub record Replays (slot most : ℕ) (left_before left_now said_before said_now noted_before noted_now : Option (List ℕ)) (note_faults_before note_faults_now : ℕ) (tells : Bool) (reads_before reads_now : Image) (may_leave_now : Image → Type 0) (status : Status) : Type 0 where
+pub record Replays (form : Form) (slot most : ℕ) (left_before left_now said_before said_now noted_before noted_now : Option (List ℕ)) (note_faults_before note_faults_now : ℕ) (tells : Bool) (reads_before reads_now : Image) (may_leave_now : Image → Type 0) (status : Status) : Type 0 where
   pub machine : Machine
   pub valid : ValidState machine.state
   pub placed : is_some machine.place ≡ true
   pub opens : IsTrue tells → OpensTo reads_before machine
-  pub serves : Serves slot machine most left_before left_now said_before said_now noted_before noted_now note_faults_before note_faults_now status
-  pub keeps : is_kept status ≡ true → IsTrue tells → Keeps reads_now (last_machine slot machine (take most serves.taken))
-  pub found : is_kept status ≡ true → IsTrue tells → (image : Image) → may_leave_now image → OpensToState image (last_machine slot machine (take most serves.taken)).state
+  pub serves : Serves form slot machine most left_before left_now said_before said_now noted_before noted_now note_faults_before note_faults_now status
+  pub keeps : is_kept status ≡ true → IsTrue tells → Keeps reads_now (last_machine form slot machine (take most serves.taken))
+  pub found : is_kept status ≡ true → IsTrue tells → (image : Image) → may_leave_now image → OpensToState image (last_machine form slot machine (take most serves.taken)).state
 
 -- A run that says one line, at its end: the line was said, but a front of it where it was not taken, and nothing where memory was
 -- wanting. What was noted are the lines of the status.
@@ -126,12 +133,12 @@ IsSaid line said_before said_now status = (status ≡ NoMemory) ⊎ ((status ≡
 -- Under `dry` the replies are the controller's, the status is the one that the input decides, and the notes tell both; the folder
 -- stays. Where the words read input, Done comes once it was read to its end.
 --
--- Under `replay` the folder is opened first. Where it opens to a machine, the replies are that machine's, and at the end the folder keeps
+-- Under `replay`, and under `replay --sessions` for a trace, the folder is opened first. Where it opens to a machine, the replies are that machine's, and at the end the folder keeps
 -- the machine behind all frames; where it opens to none, nothing is taken and said, and the folder stays.
 --
 -- Under `load N` nothing is taken, and the folder stays. What is said is the counts line of the state behind the generated frames of
 -- the number.
-pub record Runs {S D : Type 0} (left : S → Option (List ℕ)) (faults : S → ℕ) (said noted : D → Option (List ℕ)) (say_faults note_faults : D → ℕ) (reads : D → Image) (may_leave : D → Image → Type 0) (disk_faults : D → ℕ) (tells : Bool) (slot most : ℕ) (form : Option Form) (source source_now : S) (desk desk_now : D) (status : Status) : Type 0 where
+pub record Runs {S D : Type 0} (left : S → Option (List ℕ)) (faults : S → ℕ) (said noted : D → Option (List ℕ)) (say_faults note_faults : D → ℕ) (reads : D → Image) (may_leave : D → Image → Type 0) (disk_faults : D → ℕ) (tells : Bool) (slot most : ℕ) (form : Option command.Form) (source source_now : S) (desk desk_now : D) (status : Status) : Type 0 where
   pub usage : (status ≡ Usage) ↔ (form ≡ None)
   pub usage_takes_nothing : form ≡ None → source_now ≡ source
   pub usage_notes_alone : form ≡ None → OnlyNotes said say_faults reads may_leave disk_faults desk desk_now
@@ -147,14 +154,14 @@ pub record Runs {S D : Type 0} (left : S → Option (List ℕ)) (faults : S → 
   pub disk_faults_once : RisesOnce (disk_faults desk) (disk_faults desk_now)
   pub note_faults_once : RisesOnce (note_faults desk) (note_faults desk_now)
   pub takes_until_failure : TakesUntilFailure left faults source source_now
-  pub dry : form ≡ Some Dry → Serves 0 (alone start) most (left source) (left source_now) (said desk) (said desk_now) (noted desk) (noted desk_now) (note_faults desk) (note_faults desk_now) status
+  pub dry : form ≡ Some Dry → Serves Plain 0 (alone start) most (left source) (left source_now) (said desk) (said desk_now) (noted desk) (noted desk_now) (note_faults desk) (note_faults desk_now) status
   pub dry_says_and_notes_alone : form ≡ Some Dry → OnlySaysAndNotes reads may_leave disk_faults desk desk_now
   pub complete : form ≡ Some Dry → (Rose (faults source) (faults source_now) → ⊥) → (Rose (say_faults desk) (say_faults desk_now) → ⊥)
-      → IsComplete 0 (alone start) most (left source) (left source_now) (said desk) (said desk_now) status
-  pub read_to_the_end : (asked : Form) → form ≡ Some asked → reads_input asked ≡ true → status ≡ Done → IsAtEnd (left source_now)
-  pub replay : form ≡ Some Replay
+      → IsComplete Plain 0 (alone start) most (left source) (left source_now) (said desk) (said desk_now) status
+  pub read_to_the_end : (asked : command.Form) → form ≡ Some asked → reads_input asked ≡ true → status ≡ Done → IsAtEnd (left source_now)
+  pub replay : (of : Form) → form ≡ Some (Replay of)
       → Refuses said noted note_faults tells reads source source_now desk desk_now status
-      ⊎ Replays slot most (left source) (left source_now) (said desk) (said desk_now) (noted desk) (noted desk_now) (note_faults desk) (note_faults desk_now) tells (reads desk) (reads desk_now) (may_leave desk_now) status
+      ⊎ Replays of slot most (left source) (left source_now) (said desk) (said desk_now) (noted desk) (noted desk_now) (note_faults desk) (note_faults desk_now) tells (reads desk) (reads desk_now) (may_leave desk_now) status
   pub load : (number : ℕ) → form ≡ Some (Load number) → SaysOneLine (counts_line (state_of_load number)) (said desk) (said desk_now) (noted desk) (noted desk_now) (note_faults desk) (note_faults desk_now) status
   pub load_takes_nothing : (number : ℕ) → form ≡ Some (Load number) → source_now ≡ source
   pub load_says_and_notes_alone : (number : ℕ) → form ≡ Some (Load number) → OnlySaysAndNotes reads may_leave disk_faults desk desk_now

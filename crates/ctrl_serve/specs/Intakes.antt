@@ -4,8 +4,8 @@ use Rattle.std.specs.declared.option.Option.{Option}
 use Rattle.std.specs.Io.KnownBytes.{IsAtEnd}
 use Rattle.ziti_outside.specs.Told.{Gave}
 use Rattle.ziti_outside.specs.Causes.{Rose}
-use Rattle.ctrl_serve.specs.declared.intake.End.{End}
-use Rattle.ctrl_serve.specs.declared.intake.End.TheVariants.{Whole, More, Fault}
+use Rattle.run_notes.specs.declared.ends.End.{End}
+use Rattle.run_notes.specs.declared.ends.End.TheVariants.{Whole, More, Fault}
 use Rattle.ctrl_serve.specs.declared.intake.Intake.{Intake}
 
 -- How much was taken where it ended so: at the end of the input and after a fault no more than is used, else more.

@@ -6,9 +6,9 @@ use Rattle.ctrl_model.specs.State.{State, start}
 use Rattle.ctrl_model.specs.ShowCommands.{counts_of}
 use Rattle.reply_codec.specs.ReplyBody.{reply_body}
 use Rattle.load_gen.specs.LoadFrames.{load_frames}
-use Rattle.ctrl_serve.specs.declared.status.Status.{Status}
-use Rattle.ctrl_serve.specs.declared.status.Status.TheVariants.{Done, WriteFault, NoMemory}
-use Rattle.ctrl_serve.specs.FrameAnswer.{alone, machine_behind}
+use Rattle.run_notes.specs.declared.status.Status.{Status}
+use Rattle.run_notes.specs.declared.status.Status.TheVariants.{Done, WriteFault, NoMemory}
+use Rattle.ctrl_serve.specs.FrameAnswer.{alone, machine_behind_alone}
 
 -- The counts line of a state: the body of the reply to ShowCounts, and a newline.
 abbrev pub counts_line : State → List ℕ
@@ -16,7 +16,7 @@ counts_line s = reply_body (counts_of s) ++ codes "\n"
 
 -- The state behind the load of a number: its frames are answered from the start, without a folder.
 abbrev pub state_of_load : ℕ → State
-state_of_load number = (machine_behind 0 Admin (alone start) (load_frames number)).state
+state_of_load number = (machine_behind_alone 0 Admin (alone start) (load_frames number)).state
 
 -- What a run that says one line, at its end, has said at a status: the line; a front of it where it was not taken; and nothing where
 -- memory was wanting. The other statuses never come.

@@ -6,8 +6,8 @@ ghost use Rattle.ctrl_serve.specs.CommandLine.{form_of, is_padded, number_of_wor
 pub enum Form {
     /// Plain input, without a folder.
     Dry,
-    /// Plain input, on the folder.
-    Replay,
+    /// An input, on the folder: plain input, or a trace of many sessions.
+    Replay(session_mux::Form),
     /// The generated load of this number, without a folder.
     Load(u32),
 }
@@ -29,18 +29,25 @@ fn number_of_word(word: &str) -> Option<u32>
     word.parse::<u32>().ok()
 }
 
-/// What the words run, if they are a line of the table of words: so far `dry`, `replay` and `load N`.
+/// What the words run, if they are a line of the table of words: so far `dry`, `replay`, `replay --sessions` and `load N`.
 pub fn form_of(words: &[String]) -> Option<Form>
     ensures { result ≡ form_of (texts words.now) }
 {
     match words {
         [word] if word.as_bytes() == b"dry".as_slice() => Some(Form::Dry),
-        [word] if word.as_bytes() == b"replay".as_slice() => Some(Form::Replay),
+        [word] if word.as_bytes() == b"replay".as_slice() => {
+            Some(Form::Replay(session_mux::Form::Plain))
+        }
         [word, number] if word.as_bytes() == b"load".as_slice() => {
             match number_of_word(number.as_str()) {
                 Some(number) => Some(Form::Load(number)),
                 None => None,
             }
+        }
+        [word, next]
+            if word.as_bytes() == b"replay".as_slice()
+                && next.as_bytes() == b"--sessions".as_slice() => {
+            Some(Form::Replay(session_mux::Form::Trace))
         }
         _ => None,
     }

@@ -3,8 +3,7 @@ ghost use Rattle.ctrl_core.specs.CarriedCommands.{is_carried};
 ghost use Rattle.ctrl_keep.specs.KeptMachine.{step};
 ghost use Rattle.ctrl_keep.specs.OpenedStates.{OpensToState};
 ghost use Rattle.ctrl_model.specs.CommandForm.{is_spelled};
-ghost use Rattle.ctrl_model.specs.Controller.{answer};
-ghost use Rattle.ctrl_model.specs.declared.kinds.Who.TheVariants.{Admin};
+ghost use Rattle.ctrl_model.specs.Controller.{answer, carry};
 ghost use Rattle.ctrl_serve.specs.ControllerViews.{serving_of};
 ghost use Rattle.ctrl_serve.specs.Controllers.{GoesOn, IsReady};
 ghost use Rattle.ctrl_serve.specs.Turns.{unkept};
@@ -13,10 +12,11 @@ ghost use Rattle.ziti_outside.specs.Causes.{HasCause};
 ghost use Rattle.ziti_outside.specs.Moments.{Leaves, Remembers};
 ghost use Rattle.ziti_outside.specs.Untouched.{OnlyDisk};
 
-use crate::serving::Cut;
+use access_rules::permitted;
 use ctrl_core::Core;
 use ctrl_keep::{KeepFault, Kept};
-use ctrl_model::{Command, Reply, Who};
+use ctrl_model::{Command, Refusal, Reply, Who};
+use run_notes::Cut;
 use std::alloc::AllocError;
 use ziti_outside::Desk;
 
@@ -29,17 +29,37 @@ pub enum Controller {
     Kept(Kept),
 }
 
-/// Carries a command out as an administrator's, without a folder.
-pub(crate) fn carry_alone(core: &mut Core, command: &Command) -> Result<Reply, AllocError>
+// Carries a command out without a folder.
+fn carry_permitted(core: &mut Core, command: &Command) -> Result<Reply, AllocError>
     requires live { core.old.live ≡ true }
     requires spelled { is_spelled command.now ≡ true }
     requires carried { is_carried command.now ≡ true }
-    ensures ok { IfOk result (λ r. (r, core.new.state) ≡ answer Admin command.now core.old.state) }
+    ensures ok { IfOk result (λ r. (r, core.new.state) ≡ carry command.now core.old.state) }
     ensures live { OnOk result (core.new.live ≡ true) }
     ensures limits { IfOk result (λ r. keeps_limits r ≡ true) }
 {
     let planned = core.plan(command)?;
     core.apply(planned)
+}
+
+/// Carries a command of a sender out without a folder, unless the sender may not send it.
+pub(crate) fn carry_alone(
+    core: &mut Core,
+    who: &Who,
+    command: &Command,
+) -> Result<Reply, AllocError>
+    requires live { core.old.live ≡ true }
+    requires spelled { is_spelled command.now ≡ true }
+    requires carried { is_carried command.now ≡ true }
+    ensures ok { IfOk result (λ r. (r, core.new.state) ≡ answer who.now command.now core.old.state) }
+    ensures live { OnOk result (core.new.live ≡ true) }
+    ensures limits { IfOk result (λ r. keeps_limits r ≡ true) }
+{
+    if permitted(who, command) {
+        carry_permitted(core, command)
+    } else {
+        Ok(Reply::Refused(Refusal::NotPermitted))
+    }
 }
 
 // What cut a command short that a kept controller did not answer. It was not spent, and no folder was opened.
@@ -53,13 +73,19 @@ fn cut_of(fault: KeepFault) -> Cut
 }
 
 impl Controller {
-    /// Carries a command out as an administrator's. With a folder its change is kept there before the reply is given.
-    pub fn carry_out<D: Desk>(&mut self, desk: &mut D, command: &Command) -> Result<Reply, Cut>
+    /// Carries a command of a sender out, unless the sender may not send it. With a folder its change is kept there before the reply is
+    /// given.
+    pub fn carry_out<D: Desk>(
+        &mut self,
+        desk: &mut D,
+        who: &Who,
+        command: &Command,
+    ) -> Result<Reply, Cut>
         requires able { (serving_of self.old).able ≡ true }
         requires ready { IsReady D.tells (serving_of self.old).kept (D.reads desk.old) (D.may_leave desk.old) }
         requires spelled { is_spelled command.now ≡ true }
         requires carried { is_carried command.now ≡ true }
-        ensures ok { IfOk result (λ r. (r, (serving_of self.new).machine) ≡ step (serving_of self.old).slot Admin command.now (serving_of self.old).machine) }
+        ensures ok { IfOk result (λ r. (r, (serving_of self.new).machine) ≡ step (serving_of self.old).slot who.now command.now (serving_of self.old).machine) }
         ensures on { OnOk result (GoesOn (serving_of self.old) (serving_of self.new)) }
         ensures ready { (serving_of self.new).able ≡ true → IsReady D.tells (serving_of self.new).kept (D.reads desk.new) (D.may_leave desk.new) }
         ensures limits { IfOk result (λ r. keeps_limits r ≡ true) }
@@ -69,12 +95,12 @@ impl Controller {
         ensures alone { (serving_of self.old).kept ≡ None → desk.new ≡ desk.old }
         ensures others { OnlyDisk D.said D.noted D.say_faults D.note_faults desk.old desk.new }
         ensures stops { IsSome (serving_of self.old).kept → IsTrue D.tells → Leaves D.moment D.since D.may_leave D.said desk.old desk.new
-            (λ image. OpensToState image (serving_of self.old).machine.state ⊎ OpensToState image (step (serving_of self.old).slot Admin command.now (serving_of self.old).machine).1.state) }
+            (λ image. OpensToState image (serving_of self.old).machine.state ⊎ OpensToState image (step (serving_of self.old).slot who.now command.now (serving_of self.old).machine).1.state) }
         ensures remembers { Remembers (D.moment desk.old) (D.since desk.old) (D.since desk.new) }
     {
         match self {
-            Controller::Alone(core) => Ok(carry_alone(core, command)?),
-            Controller::Kept(kept) => match kept.submit(desk, &Who::Admin, command) {
+            Controller::Alone(core) => Ok(carry_alone(core, who, command)?),
+            Controller::Kept(kept) => match kept.submit(desk, who, command) {
                 Ok(reply) => Ok(reply),
                 Err(fault) => Err(cut_of(fault)),
             },

@@ -1,23 +1,14 @@
 ghost use Rattle.std.specs.Prelude.{◌≡◌, ◌≤◌, ◌^◌, IfOk, OnErr, length};
 ghost use Rattle.ctrl_serve.specs.Intakes.{IsIntake, IsCutIntake, HasFault};
-ghost use Rattle.ctrl_serve.specs.Failures.{RisesOnce, TakesUntilFailure};
+ghost use Rattle.run_notes.specs.NotedLines.{RisesOnce};
+ghost use Rattle.ctrl_serve.specs.Failures.{TakesUntilFailure};
 
+use run_notes::End;
 use std::alloc::{AllocError, Global};
 use ziti_outside::{Failed, Source};
 
 /// How many bytes are taken at a time.
 const PIECE: usize = 65_536;
-
-/// How the taking of the input ended.
-#[derive(Clone, Copy)]
-pub enum End {
-    /// Nothing is left.
-    Whole,
-    /// More bytes were given than are used.
-    More,
-    /// The source failed.
-    Fault,
-}
 
 /// What was taken of the input, and how it ended.
 #[derive(Drop)]

@@ -7,23 +7,19 @@ mod controller;
 mod intake;
 mod laws;
 mod loads;
-mod notes;
 mod serving;
-mod status;
-mod tails;
 mod top;
 mod worked;
 
 pub use bounds::Bounds;
 pub use command_line::Form;
 pub use laws::{
-    cut_runs_say_fronts, done_says_all, done_says_the_line, numbers_have_one_word,
-    truncated_says_all,
+    cut_plain_runs_note_one_line, cut_runs_say_fronts, done_says_all, done_says_the_line,
+    numbers_have_one_word, plain_input_is_one_session, truncated_says_all,
 };
-pub use status::Status;
-pub use tails::Tail;
+pub use run_notes::Status;
 pub use top::{run, run_within};
 pub use worked::{
-    worked_answers, worked_circuits, worked_counts, worked_endings, worked_networks, worked_notes,
-    worked_numbers, worked_policies, worked_runs, worked_words,
+    worked_answers, worked_circuits, worked_counts, worked_networks, worked_numbers,
+    worked_policies, worked_runs, worked_sessions, worked_words,
 };

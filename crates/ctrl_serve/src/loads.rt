@@ -3,22 +3,20 @@ ghost use Rattle.ctrl_model.specs.declared.kinds.Who.TheVariants.{Admin};
 ghost use Rattle.ctrl_model.specs.State.{start};
 ghost use Rattle.reply_codec.specs.ReplyBody.{reply_body};
 ghost use Rattle.reply_codec.specs.ReplyLimits.{keeps_limits};
-ghost use Rattle.ctrl_serve.specs.Failures.{RisesOnce};
-ghost use Rattle.ctrl_serve.specs.FrameAnswer.{alone, frame_answer, machine_behind};
+ghost use Rattle.run_notes.specs.NotedLines.{RisesOnce};
+ghost use Rattle.ctrl_serve.specs.FrameAnswer.{alone, frame_answer, machine_behind_alone};
 ghost use Rattle.ctrl_serve.specs.Headline.{OnlySaysAndNotes, SaysOneLine};
 ghost use Rattle.ctrl_serve.specs.Loads.{counts_line, state_of_load};
 ghost use Rattle.ctrl_serve.specs.Runs.{IsWriteCaused};
 
 use crate::controller::carry_alone;
-use crate::notes::tell_cut;
-use crate::serving::Cut;
-use crate::status::Status;
 use channel_frame::Frame;
 use command_codec::{CodecFault, read};
 use ctrl_core::Core;
-use ctrl_model::{Command, Reply};
+use ctrl_model::{Command, Reply, Who};
 use load_gen::make;
 use reply_codec::write;
+use run_notes::{Cut, Status, tell_cut};
 use std::alloc::{AllocError, Global};
 use ziti_outside::{Desk, Failed};
 
@@ -29,7 +27,7 @@ fn answer_unsaid(alloc: Global, core: &mut Core, frame: &Frame) -> Result<(), Al
 {
     match read(alloc, frame.content, frame.body.as_slice()) {
         Ok(command) => {
-            carry_alone(core, &command)?;
+            carry_alone(core, &Who::Admin, &command)?;
             Ok(())
         }
         Err(CodecFault::NoMemory) => Err(AllocError),
@@ -40,7 +38,7 @@ fn answer_unsaid(alloc: Global, core: &mut Core, frame: &Frame) -> Result<(), Al
 // Answers the frames in order, and says no reply.
 fn answer_all(alloc: Global, core: &mut Core, frames: &[Frame]) -> Result<(), AllocError>
     requires { core.old.live ≡ true }
-    ensures { OnOk result (core.new ≡ record { state = (machine_behind 0 Admin (alone core.old.state) frames.now).state; live = true }) }
+    ensures { OnOk result (core.new ≡ record { state = (machine_behind_alone 0 Admin (alone core.old.state) frames.now).state; live = true }) }
 {
     'frames: for frame in frames {
         answer_unsaid(alloc, core, frame)?;
@@ -71,14 +69,14 @@ fn counts_line(alloc: Global, core: &mut Core) -> Result<Vec<u8>, AllocError>
     requires { core.old.live ≡ true }
     ensures { IfOk result (λ line. line.items ≡ counts_line core.old.state) }
 {
-    let reply = carry_alone(core, &Command::ShowCounts)?;
+    let reply = carry_alone(core, &Who::Admin, &Command::ShowCounts)?;
     body_line(alloc, &reply)
 }
 
 // The counts line behind some frames that a core answers.
 fn line_behind(alloc: Global, core: &mut Core, frames: &[Frame]) -> Result<Vec<u8>, AllocError>
     requires { core.old.live ≡ true }
-    ensures { IfOk result (λ line. line.items ≡ counts_line (machine_behind 0 Admin (alone core.old.state) frames.now).state) }
+    ensures { IfOk result (λ line. line.items ≡ counts_line (machine_behind_alone 0 Admin (alone core.old.state) frames.now).state) }
 {
     answer_all(alloc, core, frames)?;
     counts_line(alloc, core)
@@ -86,7 +84,7 @@ fn line_behind(alloc: Global, core: &mut Core, frames: &[Frame]) -> Result<Vec<u
 
 // The counts line behind some frames that are answered from the start.
 fn line_from_start(alloc: Global, frames: &[Frame]) -> Result<Vec<u8>, AllocError>
-    ensures { IfOk result (λ line. line.items ≡ counts_line (machine_behind 0 Admin (alone start) frames.now).state) }
+    ensures { IfOk result (λ line. line.items ≡ counts_line (machine_behind_alone 0 Admin (alone start) frames.now).state) }
 {
     let mut core = Core::empty(alloc)?;
     let line = line_behind(alloc, &mut core, frames);

@@ -1,48 +1,39 @@
-ghost use Rattle.std.specs.Prelude.{◌≡◌, ◌⊎◌, ◌≢◌, true, IsTrue, IsSome, IfOk, IfErr, IsErrOf, None, OnOk, length};
-ghost use Rattle.ziti_outside.specs.Told.{Took};
-ghost use Rattle.channel_frame.specs.FrameSpelling.{spelling};
-ghost use Rattle.ctrl_model.specs.declared.kinds.Who.TheVariants.{Admin};
+ghost use Rattle.std.specs.Prelude.{◌≡◌, ◌⊎◌, ◌≢◌, true, IsTrue, IsSome, IfOk, IfErr, IsErrOf, None, OnOk, OnErr};
+ghost use Rattle.channel_frame.specs.declared.frames.Frame.{Frame};
 ghost use Rattle.ctrl_keep.specs.OpenedStates.{OpensToState};
-ghost use Rattle.reply_codec.specs.ReplyFrame.{reply_frame};
 ghost use Rattle.reply_codec.specs.ReplyLimits.{keeps_limits};
-ghost use Rattle.ctrl_serve.specs.Ending.{tail_from};
+ghost use Rattle.session_mux.specs.declared.events.Event.TheVariants.{Arrived};
 ghost use Rattle.ctrl_serve.specs.ControllerViews.{serving_of};
-ghost use Rattle.ctrl_serve.specs.Controllers.{GoesOn, IsReady, LeavesNotes, Turn};
-ghost use Rattle.ctrl_serve.specs.FrameAnswer.{frame_answer, last_machine, refusal_for};
+ghost use Rattle.ctrl_serve.specs.Controllers.{GoesOn, IsReady, Turn};
+ghost use Rattle.run_notes.specs.NotedLines.{LeavesNotes};
+ghost use Rattle.ctrl_serve.specs.FrameAnswer.{frame_answer, refusal_for, reply_text, tag};
+ghost use Rattle.ctrl_serve.specs.Headline.{OnlySaysAndNotes};
+ghost use Rattle.run_notes.specs.KnownSessions.{known_after, sender_at};
+ghost use Rattle.ctrl_serve.specs.KnownReplies.{machine_after};
+ghost use Rattle.run_notes.specs.Notes.{event_lines, fault_word as word_of_fault, session_note};
+ghost use Rattle.run_notes.specs.NotesSoFar.{NotesMore};
+ghost use Rattle.ctrl_serve.specs.Turns.{Answers, CutsEvent, CutsTurn, IsCutShort, TakesEvent, TakesTurn, reply_to_frame, unkept, unsaid};
+ghost use Rattle.run_notes.specs.Endings.{ComesToEnd};
 ghost use Rattle.ziti_outside.specs.Causes.{HasCause};
 ghost use Rattle.ziti_outside.specs.Moments.{Elapses, Leaves, Remembers};
 ghost use Rattle.ziti_outside.specs.Untouched.{OnlyDisk, OnlySays};
-ghost use Rattle.ctrl_serve.specs.Turns.{TakesTurn, CutsTurn, IsServed, reply_to_frame, unkept, unsaid};
 
 use crate::controller::Controller;
-use crate::tails::Tail;
-use channel_frame::{Frame, Front, encode, front_of};
+use channel_frame::{Frame, encode};
 use command_codec::{CodecFault, read};
-use ctrl_model::{Bytes, Refusal, Reply};
+use ctrl_model::{Refusal, Reply, Who};
 use reply_codec::write;
+use run_notes::{Cut, Notes, Sessions, note_fault};
+use session_mux::{Event, Form, Mux, MuxFault};
 use std::alloc::{AllocError, Global};
 use ziti_outside::{Desk, Failed};
 
-/// Why serving was cut short.
+/// To which session a reply goes, in an input of which form, and with which sequence number.
 #[derive(Clone, Copy)]
-pub enum Cut {
-    /// There is no memory.
-    NoMemory,
-    /// A call on the disk failed.
-    Disk,
-    /// The desk failed to take a reply.
-    Unsaid,
-}
-
-impl From<AllocError> for Cut {
-    ghost use Rattle.std.specs.Prelude.{◌≡◌};
-    ghost use Rattle.ctrl_serve.specs.declared.serving.Cut.TheVariants.{NoMemory};
-
-    ghost from_gives = { λ _ e. e ≡ NoMemory };
-
-    fn from(_error: AllocError) -> Cut {
-        Cut::NoMemory
-    }
+pub struct Address {
+    pub form: Form,
+    pub session: u8,
+    pub sequence: u32,
 }
 
 fn refusal_of(fault: CodecFault) -> Result<Refusal, AllocError>
@@ -55,16 +46,17 @@ fn refusal_of(fault: CodecFault) -> Result<Refusal, AllocError>
     }
 }
 
-// Answers a frame: the command that it spells is carried out, and what spells none is refused.
+// Answers a frame of a sender: the command that it spells is carried out, and what spells none is refused.
 fn answer_frame<D: Desk>(
     alloc: Global,
     desk: &mut D,
     controller: &mut Controller,
+    who: &Who,
     frame: &Frame,
 ) -> Result<Reply, Cut>
     requires able { (serving_of controller.old).able ≡ true }
     requires ready { IsReady D.tells (serving_of controller.old).kept (D.reads desk.old) (D.may_leave desk.old) }
-    ensures ok { IfOk result (λ r. (r, (serving_of controller.new).machine) ≡ frame_answer (serving_of controller.old).slot Admin frame.now (serving_of controller.old).machine) }
+    ensures ok { IfOk result (λ r. (r, (serving_of controller.new).machine) ≡ frame_answer (serving_of controller.old).slot who.now frame.now (serving_of controller.old).machine) }
     ensures on { OnOk result (GoesOn (serving_of controller.old) (serving_of controller.new)) }
     ensures ready { OnOk result (IsReady D.tells (serving_of controller.new).kept (D.reads desk.new) (D.may_leave desk.new)) }
     ensures limits { IfOk result (λ r. keeps_limits r ≡ true) }
@@ -75,44 +67,58 @@ fn answer_frame<D: Desk>(
     ensures others { OnlyDisk D.said D.noted D.say_faults D.note_faults desk.old desk.new }
     ensures stops { IsSome (serving_of controller.old).kept → IsTrue D.tells → Leaves D.moment D.since D.may_leave D.said desk.old desk.new
         (λ image. OpensToState image (serving_of controller.old).machine.state
-        ⊎ OpensToState image (frame_answer (serving_of controller.old).slot Admin frame.now (serving_of controller.old).machine).1.state) }
+        ⊎ OpensToState image (frame_answer (serving_of controller.old).slot who.now frame.now (serving_of controller.old).machine).1.state) }
     ensures remembers { Remembers (D.moment desk.old) (D.since desk.old) (D.since desk.new) }
 {
     match read(alloc, frame.content, frame.body.as_slice()) {
-        Ok(command) => controller.carry_out(desk, &command),
+        Ok(command) => controller.carry_out(desk, who, &command),
         Err(fault) => Ok(Reply::Refused(refusal_of(fault)?)),
     }
 }
 
-/// The bytes of a reply, with its sequence number and that of the request that it answers.
-fn reply_bytes(
-    alloc: Global,
-    sequence: u32,
-    request: u32,
-    reply: &Reply,
-) -> Result<Bytes, AllocError>
-    requires { keeps_limits reply.now ≡ true }
-    ensures { IfOk result (λ b. b ≡ spelling (reply_frame sequence request reply.now)) }
+// What stands before the frame of a reply.
+fn tag_of(alloc: Global, address: Address) -> Result<Vec<u8>, AllocError>
+    ensures { IfOk result (λ v. v.items ≡ tag address.form address.session) }
 {
-    let frame = write(alloc, reply, sequence, request)?;
-    encode(alloc, &frame)
+    match address.form {
+        Form::Plain => Ok(Vec::new(alloc)),
+        Form::Trace => Vec::from_slice(alloc, &[4, address.session]),
+    }
 }
 
-/// Answers one frame and says the reply. With a folder, a stop at any moment of the turn leaves the state after the frame, or, where no
-/// byte of the reply was taken, that before it.
+// The bytes of a reply, with the sequence number of the request that it answers.
+fn reply_bytes(
+    alloc: Global,
+    address: Address,
+    request: u32,
+    reply: &Reply,
+) -> Result<Vec<u8>, AllocError>
+    requires { keeps_limits reply.now ≡ true }
+    ensures { IfOk result (λ v. v.items ≡ reply_text address.form address.session address.sequence request reply.now) }
+{
+    let frame = write(alloc, reply, address.sequence, request)?;
+    let spelled = encode(alloc, &frame)?;
+    let mut bytes = tag_of(alloc, address)?;
+    bytes.extend_from_slice(spelled.as_slice())?;
+    Ok(bytes)
+}
+
+/// Answers one frame of a sender and says the reply. With a folder, a stop at any moment of the turn leaves the state after the frame, or,
+/// where no byte of the reply was taken, that before it.
 fn serve_frame<D: Desk>(
     alloc: Global,
     desk: &mut D,
     controller: &mut Controller,
-    sequence: u32,
+    address: Address,
+    who: &Who,
     frame: &Frame,
 ) -> Result<(), Cut>
     requires able { (serving_of controller.old).able ≡ true }
     requires ready { IsReady D.tells (serving_of controller.old).kept (D.reads desk.old) (D.may_leave desk.old) }
-    ensures ok { OnOk result (TakesTurn (serving_of controller.old).slot sequence frame.now (serving_of controller.old).machine (serving_of controller.new).machine (D.said desk.old) (D.said desk.new)) }
+    ensures ok { OnOk result (TakesTurn (serving_of controller.old).slot address who.now frame.now (serving_of controller.old).machine (serving_of controller.new).machine (D.said desk.old) (D.said desk.new)) }
     ensures on { OnOk result (GoesOn (serving_of controller.old) (serving_of controller.new)) }
     ensures ready { OnOk result (IsReady D.tells (serving_of controller.new).kept (D.reads desk.new) (D.may_leave desk.new)) }
-    ensures cut { IfErr result (λ c. CutsTurn c (serving_of controller.old).slot sequence frame.now (serving_of controller.old).machine (D.said desk.old) (D.said desk.new)) }
+    ensures cut { IfErr result (λ c. CutsTurn c (serving_of controller.old).slot address who.now frame.now (serving_of controller.old).machine (D.said desk.old) (D.said desk.new)) }
     ensures say_cause { HasCause (D.say_faults desk.old) (D.say_faults desk.new) (unsaid result) }
     ensures disk_cause { HasCause (D.disk_faults desk.old) (D.disk_faults desk.new) (unkept result) }
     ensures notes { LeavesNotes D.noted D.note_faults desk.old desk.new }
@@ -120,60 +126,131 @@ fn serve_frame<D: Desk>(
     ensures alone { (serving_of controller.old).kept ≡ None → OnlySays D.noted D.note_faults D.reads D.may_leave D.disk_faults desk.old desk.new }
     ensures stops { IsSome (serving_of controller.old).kept → IsTrue D.tells → Elapses (D.moment desk.old) (D.moment desk.new) (D.since desk.old) (D.since desk.new)
         (Turn (serving_of controller.old).machine.state
-        (frame_answer (serving_of controller.old).slot Admin frame.now (serving_of controller.old).machine).1.state
-        (reply_to_frame (serving_of controller.old).slot sequence frame.now (serving_of controller.old).machine) (D.said desk.old)) }
+        (frame_answer (serving_of controller.old).slot who.now frame.now (serving_of controller.old).machine).1.state
+        (reply_to_frame (serving_of controller.old).slot address who.now frame.now (serving_of controller.old).machine) (D.said desk.old)) }
 {
-    let reply = answer_frame(alloc, desk, controller, frame)?;
-    let bytes = reply_bytes(alloc, sequence, frame.sequence, &reply)?;
+    let reply = answer_frame(alloc, desk, controller, who, frame)?;
+    let bytes = reply_bytes(alloc, address, frame.sequence, &reply)?;
     match desk.say(bytes.as_slice()) {
         Ok(()) => Ok(()),
         Err(Failed) => Err(Cut::Unsaid),
     }
 }
 
-// The tail of some bytes that begin a frame and do not end it.
-fn unfinished(rest: &[u8]) -> Tail
-    ensures { result ≡ tail_from None (length rest.now) }
-{
-    match rest.len() {
-        0 => Tail::Empty,
-        left => Tail::Unfinished(left as u64),
-    }
-}
-
-/// Answers the whole frames of the bytes in order and says their replies. Answers the tail that is left behind them.
-pub fn serve_frames<D: Desk>(
+// Answers the frame that arrived of a session, and counts the reply.
+fn serve_arrived<D: Desk>(
     alloc: Global,
     desk: &mut D,
     controller: &mut Controller,
-    bytes: &[u8],
-) -> Result<Tail, Cut>
+    form: Form,
+    sessions: &mut Sessions,
+    session: u8,
+    frame: &Frame,
+) -> Result<(), Cut>
     requires able { (serving_of controller.old).able ≡ true }
     requires ready { IsReady D.tells (serving_of controller.old).kept (D.reads desk.old) (D.may_leave desk.old) }
-    ensures said { IsServed (serving_of controller.old).slot (serving_of controller.old).machine result bytes.now (D.said desk.old) (D.said desk.new) }
-    ensures last { OnOk result ((serving_of controller.new).machine ≡ last_machine (serving_of controller.old).slot (serving_of controller.old).machine bytes.now) }
+    ensures ok { OnOk result (TakesEvent form (serving_of controller.old).slot (Arrived session frame.now) sessions.old sessions.new (serving_of controller.old).machine (serving_of controller.new).machine (D.said desk.old) (D.said desk.new)) }
     ensures on { OnOk result (GoesOn (serving_of controller.old) (serving_of controller.new)) }
     ensures ready { OnOk result (IsReady D.tells (serving_of controller.new).kept (D.reads desk.new) (D.may_leave desk.new)) }
+    ensures cut { IfErr result (λ c. CutsEvent c form (serving_of controller.old).slot (Arrived session frame.now) sessions.old (serving_of controller.old).machine (D.said desk.old) (D.said desk.new)) }
     ensures say_cause { HasCause (D.say_faults desk.old) (D.say_faults desk.new) (unsaid result) }
     ensures disk_cause { HasCause (D.disk_faults desk.old) (D.disk_faults desk.new) (unkept result) }
     ensures notes { LeavesNotes D.noted D.note_faults desk.old desk.new }
     ensures undisked { (serving_of controller.old).kept ≡ None → IsErrOf result Cut.Disk → ⊥ }
     ensures alone { (serving_of controller.old).kept ≡ None → OnlySays D.noted D.note_faults D.reads D.may_leave D.disk_faults desk.old desk.new }
 {
-    let mut sequence = 0u32;
-    let mut rest = bytes;
-    'frames: loop {
-        match front_of(alloc, rest)? {
-            Front::Whole(frame, len) => {
-                serve_frame(alloc, desk, controller, sequence, &frame)?;
-                sequence = sequence.wrapping_add(1);
-                let (_, after) = rest.split_at(len as usize);
-                rest = after;
+    let address = Address {
+        form,
+        session,
+        sequence: sessions.replied(session),
+    };
+    serve_frame(
+        alloc,
+        desk,
+        controller,
+        address,
+        sessions.sender(session),
+        frame,
+    )?;
+    sessions.reply(session);
+    Ok(())
+}
+
+// Answers one event: a frame that arrived gets its reply, and a fault is noted.
+fn serve_event<D: Desk>(
+    alloc: Global,
+    desk: &mut D,
+    controller: &mut Controller,
+    form: Form,
+    sessions: &mut Sessions,
+    notes: &mut Notes,
+    event: Event,
+) -> Result<(), Cut>
+    requires able { (serving_of controller.old).able ≡ true }
+    requires ready { IsReady D.tells (serving_of controller.old).kept (D.reads desk.old) (D.may_leave desk.old) }
+    ensures ok { OnOk result (TakesEvent form (serving_of controller.old).slot event sessions.old sessions.new (serving_of controller.old).machine (serving_of controller.new).machine (D.said desk.old) (D.said desk.new)) }
+    ensures on { OnOk result (GoesOn (serving_of controller.old) (serving_of controller.new)) }
+    ensures ready { OnOk result (IsReady D.tells (serving_of controller.new).kept (D.reads desk.new) (D.may_leave desk.new)) }
+    ensures cut { IfErr result (λ c. CutsEvent c form (serving_of controller.old).slot event sessions.old (serving_of controller.old).machine (D.said desk.old) (D.said desk.new)) }
+    ensures say_cause { HasCause (D.say_faults desk.old) (D.say_faults desk.new) (unsaid result) }
+    ensures disk_cause { HasCause (D.disk_faults desk.old) (D.disk_faults desk.new) (unkept result) }
+    ensures noted { OnOk result (NotesMore notes.old.failed notes.new.failed (event_lines event) (D.noted desk.old) (D.noted desk.new) (D.note_faults desk.old) (D.note_faults desk.new)) }
+    ensures unnoted { OnErr result ((notes.new ≡ notes.old) × LeavesNotes D.noted D.note_faults desk.old desk.new) }
+    ensures undisked { (serving_of controller.old).kept ≡ None → IsErrOf result Cut.Disk → ⊥ }
+    ensures alone { (serving_of controller.old).kept ≡ None → OnlySaysAndNotes D.reads D.may_leave D.disk_faults desk.old desk.new }
+{
+    match event {
+        Event::Opened { session, who } => {
+            sessions.open(session, who);
+            Ok(())
+        }
+        Event::Arrived { session, frame } => serve_arrived(
+            alloc, desk, controller, form, sessions, session, &frame,
+        ),
+        Event::Ended { session, fault, at } => {
+            note_fault(alloc, session, fault, at, notes, desk)?;
+            sessions.end();
+            Ok(())
+        }
+        Event::Closed { session, rest } => {
+            sessions.close(session, rest);
+            Ok(())
+        }
+    }
+}
+
+/// Answers the events of an input in order. Answers the place of the bad record that comes behind them, if one does.
+pub fn serve_events<D: Desk>(
+    alloc: Global,
+    desk: &mut D,
+    controller: &mut Controller,
+    form: Form,
+    mux: &mut Mux,
+    sessions: &mut Sessions,
+    notes: &mut Notes,
+) -> Result<Option<u64>, Cut>
+    requires able { (serving_of controller.old).able ≡ true }
+    requires ready { IsReady D.tells (serving_of controller.old).kept (D.reads desk.old) (D.may_leave desk.old) }
+    ensures ok { OnOk result (Answers form (serving_of controller.old).slot sessions.old sessions.new (serving_of controller.old).machine (serving_of controller.new).machine mux.old mux.new (D.said desk.old) (D.said desk.new)
+        notes.old.failed notes.new.failed (D.noted desk.old) (D.noted desk.new) (D.note_faults desk.old) (D.note_faults desk.new)) }
+    ensures end { IfOk result (λ bad. ComesToEnd mux.new bad) }
+    ensures on { OnOk result (GoesOn (serving_of controller.old) (serving_of controller.new)) }
+    ensures ready { OnOk result (IsReady D.tells (serving_of controller.new).kept (D.reads desk.new) (D.may_leave desk.new)) }
+    ensures cut { IfErr result (λ c. IsCutShort c form (serving_of controller.old).slot sessions.old (serving_of controller.old).machine mux.old (D.said desk.old) (D.said desk.new)
+        notes.old.failed notes.new.failed (D.noted desk.old) (D.noted desk.new) (D.note_faults desk.old) (D.note_faults desk.new)) }
+    ensures say_cause { HasCause (D.say_faults desk.old) (D.say_faults desk.new) (unsaid result) }
+    ensures disk_cause { HasCause (D.disk_faults desk.old) (D.disk_faults desk.new) (unkept result) }
+    ensures undisked { (serving_of controller.old).kept ≡ None → IsErrOf result Cut.Disk → ⊥ }
+    ensures alone { (serving_of controller.old).kept ≡ None → OnlySaysAndNotes D.reads D.may_leave D.disk_faults desk.old desk.new }
+{
+    'events: loop {
+        match mux.next() {
+            Ok(Some(event)) => {
+                serve_event(alloc, desk, controller, form, sessions, notes, event)?;
             }
-            Front::Short => return Ok(unfinished(rest)),
-            Front::Bad(fault) => {
-                return Ok(Tail::Faulty(fault, (bytes.len() - rest.len()) as u64));
-            }
+            Ok(None) => return Ok(None),
+            Err(MuxFault::BadRecord { at }) => return Ok(Some(at)),
+            Err(MuxFault::NoMemory) => return Err(Cut::NoMemory),
         }
     }
 }

@@ -1,6 +1,6 @@
-ghost use Rattle.std.specs.Prelude.{◌≡◌, [], ◌∷◌, ◌++◌, codes, true, false, None, Some};
+ghost use Rattle.std.specs.Prelude.{◌≡◌, [], ◌∷◌, ◌++◌, codes, None, Some};
 ghost use Rattle.channel_frame.specs.FrameSpelling.{spelling};
-ghost use Rattle.channel_frame.specs.WorkedFrames.{ann_bytes, reply_bytes, cut_bytes, unmarked_bytes, longer_body, short_header};
+ghost use Rattle.channel_frame.specs.WorkedFrames.{ann_bytes, reply_bytes, cut_bytes};
 ghost use Rattle.ctrl_model.specs.declared.refusals.Denial.TheVariants as denial;
 ghost use Rattle.ctrl_model.specs.declared.refusals.Field.TheVariants as field;
 ghost use Rattle.ctrl_model.specs.declared.refusals.Reason.TheVariants as reason;
@@ -9,19 +9,20 @@ ghost use Rattle.ctrl_model.specs.declared.replies.Reply.TheVariants as reply;
 ghost use Rattle.ctrl_model.specs.State.{start};
 ghost use Rattle.ctrl_serve.specs.CommandLine.{form_of, number_of_word};
 ghost use Rattle.ctrl_serve.specs.declared.command_line.Form.TheVariants.{Dry, Load, Replay};
-ghost use Rattle.ctrl_serve.specs.Notes.{damaged_note, notes_of, session_note, usage_note};
+ghost use Rattle.session_mux.specs.declared.sessions.Form.TheVariants.{Plain, Trace};
+ghost use Rattle.session_mux.specs.WorkedTraces.{one_session, two_sessions, kind_five, one_faulty};
 ghost use Rattle.ctrl_serve.specs.FrameAnswer.{alone, replies};
 ghost use Rattle.ctrl_serve.specs.Loads.{counts_line};
 ghost use Rattle.ctrl_serve.specs.WorkedAnswers.{reply_at_start, reply_behind, state_behind, ann_may_dial, all_may_dial, first_goes, ann_comes_again, two_routers, router_goes, line, ann_asks, middle_closes};
 ghost use Rattle.reply_codec.specs.ReplyFrame.{reply_frame};
-ghost use Rattle.ziti_outside.specs.declared.desk.Part.TheVariants.{Zero};
-ghost use Rattle.ctrl_serve.specs.Ending.{ending, tail_of};
-ghost use Rattle.ctrl_serve.specs.declared.status.Status.TheVariants as status;
 
 /// Words of the command line.
 pub fn worked_words()
     ensures dry { form_of (codes "dry" ∷ []) ≡ Some Dry }
-    ensures replay { form_of (codes "replay" ∷ []) ≡ Some Replay }
+    ensures replay { form_of (codes "replay" ∷ []) ≡ Some (Replay Plain) }
+    ensures sessions { form_of (codes "replay" ∷ codes "--sessions" ∷ []) ≡ Some (Replay Trace) }
+    ensures dry_sessions { form_of (codes "dry" ∷ codes "--sessions" ∷ []) ≡ None }
+    ensures sessions_first { form_of (codes "--sessions" ∷ codes "replay" ∷ []) ≡ None }
     ensures none { form_of [] ≡ None }
     ensures other { form_of (codes "Dry" ∷ []) ≡ None }
     ensures more { form_of (codes "dry" ∷ codes "dry" ∷ []) ≡ None }
@@ -102,40 +103,17 @@ pub fn worked_circuits()
 
 /// The replies to one frame that creates ann, to the same frame twice, and to a frame before a cut one.
 pub fn worked_runs()
-    ensures once { replies 0 (alone start) ann_bytes ≡ reply_bytes }
-    ensures twice { replies 0 (alone start) (ann_bytes ++ ann_bytes) ≡ reply_bytes ++ spelling (reply_frame 1 7 (reply.Refused refusal.Exists)) }
-    ensures nothing { replies 0 (alone start) [] ≡ [] }
-    ensures before_a_tail { replies 0 (alone start) (ann_bytes ++ cut_bytes) ≡ reply_bytes }
+    ensures once { replies Plain 0 (alone start) ann_bytes ≡ reply_bytes }
+    ensures twice { replies Plain 0 (alone start) (ann_bytes ++ ann_bytes) ≡ reply_bytes ++ spelling (reply_frame 1 7 (reply.Refused refusal.Exists)) }
+    ensures nothing { replies Plain 0 (alone start) [] ≡ [] }
+    ensures before_a_tail { replies Plain 0 (alone start) (ann_bytes ++ cut_bytes) ≡ reply_bytes }
 {}
 
-/// How whole, cut and faulty inputs end, as long as they may be and longer: a fault comes before a longer input, and this before the
-/// rest of a frame.
-pub fn worked_endings()
-    ensures empty { ending [] false ≡ status.Done }
-    ensures whole { ending ann_bytes false ≡ status.Done }
-    ensures longer { ending ann_bytes true ≡ status.InputTooLong }
-    ensures cut { ending cut_bytes false ≡ status.Truncated }
-    ensures cut_second { ending (ann_bytes ++ cut_bytes) false ≡ status.Truncated }
-    ensures cut_and_longer { ending cut_bytes true ≡ status.InputTooLong }
-    ensures faulty { ending (ann_bytes ++ unmarked_bytes) false ≡ status.BadInput }
-    ensures faulty_and_longer { ending (ann_bytes ++ unmarked_bytes) true ≡ status.BadInput }
-{}
-
-/// The notes of such inputs. A read fault is noted behind the fault of the input; a write fault, a disk
-/// fault and want of memory are noted alone. A damaged folder is told by the slot and the place.
-pub fn worked_notes()
-    ensures done { notes_of (tail_of ann_bytes) status.Done ≡ [] }
-    ensures cut { notes_of (tail_of cut_bytes) status.Truncated ≡ codes "zitictl: session 0: 19 bytes left\n" }
-    ensures marker { notes_of (tail_of (ann_bytes ++ unmarked_bytes)) status.BadInput ≡ codes "zitictl: session 0: BadMarker at 34\n" }
-    ensures body { notes_of (tail_of longer_body) status.BadInput ≡ codes "zitictl: session 0: TooLong at 0\n" }
-    ensures headers { notes_of (tail_of short_header) status.BadInput ≡ codes "zitictl: session 0: BadHeaders at 0\n" }
-    ensures longer { notes_of (tail_of cut_bytes) status.InputTooLong ≡ codes "zitictl: input too long\n" }
-    ensures unread { notes_of (tail_of cut_bytes) status.ReadFault ≡ codes "zitictl: read fault\n" }
-    ensures unread_behind { notes_of (tail_of (ann_bytes ++ unmarked_bytes)) status.ReadFault ≡ codes "zitictl: session 0: BadMarker at 34\nzitictl: read fault\n" }
-    ensures unsaid { notes_of (tail_of (ann_bytes ++ unmarked_bytes)) status.WriteFault ≡ codes "zitictl: write fault\n" }
-    ensures no_memory { notes_of (tail_of (ann_bytes ++ unmarked_bytes)) status.NoMemory ≡ codes "zitictl: no memory\n" }
-    ensures disk { notes_of (tail_of (ann_bytes ++ unmarked_bytes)) status.DiskFault ≡ codes "zitictl: disk fault\n" }
-    ensures damaged { damaged_note Zero 8 ≡ codes "zitictl: damaged: file 0 at 8\n" }
-    ensures usage { usage_note ≡ codes "zitictl: usage: zitictl dry | replay [--sessions] | audit | compact | load N\n" }
-    ensures another_session { session_note 12 (codes "3 bytes left") ≡ codes "zitictl: session 12: 3 bytes left\n" }
+/// The replies to traces: each follows a byte 4 and its session, each session counts its own, and they come in the order of the last bytes of
+/// the frames. Session 1 is the identity ann's, who may not create an identity; its frame stands between the parts of session 0's.
+pub fn worked_sessions()
+    ensures one { replies Trace 0 (alone start) one_session ≡ 4 ∷ 0 ∷ reply_bytes }
+    ensures two { replies Trace 0 (alone start) two_sessions ≡ (4 ∷ 1 ∷ spelling (reply_frame 0 7 (reply.Refused refusal.NotPermitted))) ++ (4 ∷ 0 ∷ reply_bytes) }
+    ensures other_goes_on { replies Trace 0 (alone start) one_faulty ≡ 4 ∷ 1 ∷ spelling (reply_frame 0 7 (reply.Refused refusal.NotPermitted)) }
+    ensures before_a_bad_record { replies Trace 0 (alone start) kind_five ≡ [] }
 {}

@@ -151,39 +151,63 @@ const PRECEDENCES: [Row; 9] = [
     ),
 ];
 
-/// Of two ways of one cost the one with the lesser links is taken.
-const SQUARE: [Row; 8] = [
-    (1302, r#"{"no":1}"#, DONE),
-    (1204, r#"{"link":"l2"}"#, DONE),
+/// Four routers in a square, and two ways of one cost between two of them: the one whose links come first is taken.
+const SQUARE: [Row; 19] = [
+    (1000, r#"{"name":"ann"}"#, r#"{"no":1}"#),
+    (1010, r#"{"name":"web"}"#, r#"{"no":1}"#),
+    (1020, r#"{"name":"r1"}"#, r#"{"no":1}"#),
+    (1020, r#"{"name":"r2"}"#, r#"{"no":2}"#),
+    (1020, r#"{"name":"r3"}"#, r#"{"no":3}"#),
     (1020, r#"{"name":"r4"}"#, r#"{"no":4}"#),
+    (1023, r#"{"name":"r1"}"#, DONE),
+    (1023, r#"{"name":"r2"}"#, DONE),
+    (1023, r#"{"name":"r3"}"#, DONE),
     (1023, r#"{"name":"r4"}"#, DONE),
     (
         1200,
-        r#"{"name":"l3","a":"r1","b":"r3","cost":11}"#,
+        r#"{"name":"l1","a":"r1","b":"r2","cost":11}"#,
+        r#"{"no":1}"#,
+    ),
+    (
+        1200,
+        r#"{"name":"l2","a":"r1","b":"r3","cost":11}"#,
+        r#"{"no":2}"#,
+    ),
+    (
+        1200,
+        r#"{"name":"l3","a":"r3","b":"r4","cost":11}"#,
         r#"{"no":3}"#,
     ),
     (
         1200,
-        r#"{"name":"l4","a":"r3","b":"r4","cost":11}"#,
+        r#"{"name":"l4","a":"r2","b":"r4","cost":11}"#,
         r#"{"no":4}"#,
     ),
     (
-        1200,
-        r#"{"name":"l5","a":"r2","b":"r4","cost":11}"#,
-        r#"{"no":5}"#,
+        1100,
+        r#"{"name":"d","type":"Dial","semantic":"AnyOf","identity_roles":["@ann"],"service_roles":["@web"]}"#,
+        r#"{"no":1}"#,
     ),
-    (1300, r#"{"service":"web","router":"r4"}"#, r#"{"no":2}"#),
+    (
+        1110,
+        r#"{"name":"e","semantic":"AnyOf","identity_roles":["@ann"],"router_roles":["@r1"]}"#,
+        r#"{"no":1}"#,
+    ),
+    (
+        1120,
+        r##"{"name":"s","semantic":"AnyOf","service_roles":["#all"],"router_roles":["#all"]}"##,
+        r#"{"no":1}"#,
+    ),
+    (1300, r#"{"service":"web","router":"r4"}"#, r#"{"no":1}"#),
+    (
+        1400,
+        ASK,
+        r#"{"circuit":1,"ingress":"r1","links":[1,4],"terminator":1,"total":42}"#,
+    ),
 ];
 
-/// What is then granted.
-const LESSER: [Row; 1] = [(
-    1400,
-    ASK,
-    r#"{"circuit":1,"ingress":"r1","links":[1,5],"terminator":2,"total":42}"#,
-)];
-
 /// Each rule of a request fails once, with a later one that fails beside it.
-const DENIALS: [Row; 20] = [
+const DENIALS: [Row; 23] = [
     (
         1400,
         r#"{"identity":"q","service":"q"}"#,
@@ -221,6 +245,9 @@ const DENIALS: [Row; 20] = [
     ),
     (1400, ASK, r#"{"code":35,"name":"SharedRoutersOffline"}"#),
     (1023, r#"{"name":"r1"}"#, DONE),
+    (1024, r#"{"name":"r1"}"#, DONE),
+    (1400, ASK, r#"{"code":35,"name":"SharedRoutersOffline"}"#),
+    (1023, r#"{"name":"r1"}"#, DONE),
     (1020, r#"{"name":"r2"}"#, r#"{"no":2}"#),
     (1300, r#"{"service":"web","router":"r2"}"#, r#"{"no":1}"#),
     (
@@ -234,8 +261,8 @@ const DENIALS: [Row; 20] = [
     (1402, ASK, NO_PATH),
 ];
 
-/// A host serves while it has Bind.
-const HOSTED: [Row; 8] = [
+/// A host serves while it has Bind, and again once it has it again.
+const HOSTED: [Row; 10] = [
     (1302, r#"{"no":1}"#, DONE),
     (1000, r#"{"name":"h"}"#, r#"{"no":2}"#),
     (
@@ -260,6 +287,16 @@ const HOSTED: [Row; 8] = [
     ),
     (1102, r#"{"name":"b"}"#, DONE),
     (1400, ASK, r#"{"code":37,"name":"NoAdmissibleTerminator"}"#),
+    (
+        1100,
+        r#"{"name":"b","type":"Bind","semantic":"AnyOf","identity_roles":["@h"],"service_roles":["@web"]}"#,
+        r#"{"no":3}"#,
+    ),
+    (
+        1400,
+        ASK,
+        r#"{"circuit":2,"ingress":"r1","links":[],"terminator":2,"total":0}"#,
+    ),
 ];
 
 fn check_behind(rt: &impl Abort, alloc: Global, first: &[Row], then: &[Row]) -> Result<(), Fail> {
@@ -278,8 +315,7 @@ fn grants_the_least_route(rt: HostRuntime) -> Result<(), Fail> {
     check_behind(&rt, rt.alloc(), &LINE, &CLAIMS)?;
     check_behind(&rt, rt.alloc(), &LINE, &PATHS)?;
     check_behind(&rt, rt.alloc(), &LINE, &PRECEDENCES)?;
-    let square = joined(rt.alloc(), &LINE, &SQUARE)?;
-    check_behind(&rt, rt.alloc(), square.as_slice(), &LESSER)
+    check_table(&rt, rt.alloc(), &SQUARE)
 }
 
 #[test]

@@ -132,6 +132,106 @@ const NAMES: [Row; 7] = [
     (1500, r#"{"identity":"ann"}"#, NONE),
 ];
 
+/// What updates change: attributes of both sides of a policy, the routers that a policy joins to an identity, and those that one joins
+/// to services; and what goes with a policy and with a service.
+const CHANGES: [Row; 22] = [
+    (1000, r#"{"name":"ann"}"#, r#"{"no":1}"#),
+    (1010, r#"{"name":"web"}"#, r#"{"no":1}"#),
+    (1020, r#"{"name":"r1"}"#, r#"{"no":1}"#),
+    (
+        1100,
+        r##"{"name":"p","type":"Dial","semantic":"AnyOf","identity_roles":["#staff"],"service_roles":["#mail"]}"##,
+        r#"{"no":1}"#,
+    ),
+    (1001, r#"{"name":"ann","attributes":["staff"]}"#, DONE),
+    (1500, r#"{"identity":"ann"}"#, NONE),
+    (1011, r#"{"name":"web","attributes":["mail"]}"#, DONE),
+    (1500, r#"{"identity":"ann"}"#, ONCE),
+    (
+        1110,
+        r##"{"name":"e","semantic":"AnyOf","identity_roles":["@ann"],"router_roles":["#edge"]}"##,
+        r#"{"no":1}"#,
+    ),
+    (1500, r#"{"identity":"ann"}"#, ONCE),
+    (
+        1111,
+        r#"{"name":"e","semantic":"AnyOf","identity_roles":["@ann"],"router_roles":["@r1"]}"#,
+        DONE,
+    ),
+    (
+        1500,
+        r#"{"identity":"ann"}"#,
+        r#"{"bind":[],"dial":[["web",1]],"routers":[["r1",1]]}"#,
+    ),
+    (1112, r#"{"name":"e"}"#, DONE),
+    (1500, r#"{"identity":"ann"}"#, ONCE),
+    (
+        1120,
+        r##"{"name":"s","semantic":"AnyOf","service_roles":["#all"],"router_roles":["#all"]}"##,
+        r#"{"no":1}"#,
+    ),
+    (
+        1502,
+        "{}",
+        r#"{"circuits":0,"grants":2,"identities":1,"links":0,"policies":2,"routers":1,"services":1,"terminators":0}"#,
+    ),
+    (
+        1121,
+        r##"{"name":"s","semantic":"AllOf","service_roles":[],"router_roles":["#all"]}"##,
+        DONE,
+    ),
+    (
+        1502,
+        "{}",
+        r#"{"circuits":0,"grants":1,"identities":1,"links":0,"policies":2,"routers":1,"services":1,"terminators":0}"#,
+    ),
+    (1122, r#"{"name":"s"}"#, DONE),
+    (
+        1502,
+        "{}",
+        r#"{"circuits":0,"grants":1,"identities":1,"links":0,"policies":1,"routers":1,"services":1,"terminators":0}"#,
+    ),
+    (1012, r#"{"name":"web"}"#, DONE),
+    (1500, r#"{"identity":"ann"}"#, NONE),
+];
+
+/// Bodies that make no identity, and why; one that has as many attributes as may be sent, and one that has one more.
+const BODIES: [Row; 6] = [
+    (
+        1000,
+        "{}",
+        r#"{"code":11,"field":"name","name":"BadBody","reason":"Missing"}"#,
+    ),
+    (
+        1000,
+        r#"{"name":"a b"}"#,
+        r#"{"code":11,"field":"name","name":"BadBody","reason":"WrongKind"}"#,
+    ),
+    (
+        1000,
+        r#"{"name":"a","x":1}"#,
+        r#"{"code":11,"field":"","name":"BadBody","reason":"Unknown"}"#,
+    ),
+    (
+        1000,
+        "[1]",
+        r#"{"code":11,"field":"","name":"BadBody","reason":"NotObject"}"#,
+    ),
+    (
+        1000,
+        r#"{"name":"a","attributes":["a1","a2","a3","a4","a5","a6","a7","a8","a9","a10","a11","a12","a13","a14","a15","a16","a17","a18","a19","a20","a21","a22","a23","a24","a25","a26","a27","a28","a29","a30","a31","a32","a33","a34","a35","a36","a37","a38","a39","a40","a41","a42","a43","a44","a45","a46","a47","a48","a49","a50","a51","a52","a53","a54","a55","a56","a57","a58","a59","a60","a61","a62","a63","a64"]}"#,
+        r#"{"no":1}"#,
+    ),
+    (
+        1000,
+        r#"{"name":"b","attributes":["a1","a2","a3","a4","a5","a6","a7","a8","a9","a10","a11","a12","a13","a14","a15","a16","a17","a18","a19","a20","a21","a22","a23","a24","a25","a26","a27","a28","a29","a30","a31","a32","a33","a34","a35","a36","a37","a38","a39","a40","a41","a42","a43","a44","a45","a46","a47","a48","a49","a50","a51","a52","a53","a54","a55","a56","a57","a58","a59","a60","a61","a62","a63","a64","a65"]}"#,
+        r#"{"code":11,"field":"attributes","name":"BadBody","reason":"WrongKind"}"#,
+    ),
+];
+
+/// How many identities there may be.
+const MOST_IDENTITIES: u32 = 2_048;
+
 /// Links and terminators: what is refused, what is reported, and what goes with a router and with a host.
 const NETWORK: [Row; 25] = [
     (1000, r#"{"name":"h"}"#, r#"{"no":1}"#),
@@ -256,29 +356,71 @@ fn replies(alloc: Global, rows: &[Row]) -> Result<Vec<u8>, AllocError> {
     Ok(bytes)
 }
 
-/// Runs the frames of some rows from the start, and compares what is said with their replies.
-pub(crate) fn check_table(rt: &impl Abort, alloc: Global, rows: &[Row]) -> Result<(), Fail> {
+/// Runs some frames from the start, and compares what is said with the replies that are wanted.
+fn check_frames(rt: &impl Abort, alloc: Global, frames: &[u8], wanted: &[u8]) -> Result<(), Fail> {
     let bounds = Bounds {
-        input: 65_536,
+        input: 131_072,
         slot: 64,
         mark: 1,
     };
     let mut words = Vec::new(alloc);
     words.push(String::from_str(alloc, "dry")?)?;
-    let mut source = steady_source(alloc, &requests(alloc, rows)?)?;
+    let mut source = steady_source(alloc, frames)?;
     let mut desk = steady_desk(alloc)?;
     let status = run_within(alloc, &words, bounds, &mut source, &mut desk);
-    let wanted = replies(alloc, rows)?;
     assert_eq!(rt; status, Status::Done);
-    assert_eq!(rt; desk.said(), wanted.as_slice());
+    assert_eq!(rt; desk.said(), wanted);
     Ok(())
+}
+
+/// Runs the frames of some rows from the start, and compares what is said with their replies.
+pub(crate) fn check_table(rt: &impl Abort, alloc: Global, rows: &[Row]) -> Result<(), Fail> {
+    let frames = requests(alloc, rows)?;
+    let wanted = replies(alloc, rows)?;
+    check_frames(rt, alloc, &frames, &wanted)
+}
+
+/// Frames that make as many identities as there may be, and one more.
+fn crowd(alloc: Global) -> Result<Vec<u8>, AllocError> {
+    let mut bytes = Vec::new(alloc);
+    for number in 1..=MOST_IDENTITIES {
+        let body = format!(in alloc; "{{\"name\":\"i{number}\"}}")?;
+        push_request(&mut bytes, 1000, body.as_str())?;
+    }
+    push_request(&mut bytes, 1000, r#"{"name":"late"}"#)?;
+    Ok(bytes)
+}
+
+/// Their replies, laid out by hand: a number each, and a refusal.
+fn numbered(alloc: Global) -> Result<Vec<u8>, AllocError> {
+    let mut bytes = Vec::new(alloc);
+    for sequence in 0..MOST_IDENTITIES {
+        let number = sequence.wrapping_add(1);
+        let body = format!(in alloc; "{{\"no\":{number}}}")?;
+        push_reply(&mut bytes, sequence, body.as_str())?;
+    }
+    push_reply(
+        &mut bytes,
+        MOST_IDENTITIES,
+        r#"{"code":24,"kind":"identity","name":"Full"}"#,
+    )?;
+    Ok(bytes)
 }
 
 #[test]
 fn answers_commands_on_policies(rt: HostRuntime) -> Result<(), Fail> {
     check_table(&rt, rt.alloc(), &ROLES)?;
     check_table(&rt, rt.alloc(), &COUNTS)?;
+    check_table(&rt, rt.alloc(), &CHANGES)?;
     check_table(&rt, rt.alloc(), &NAMES)
+}
+
+#[test]
+fn makes_identities_up_to_the_limits(rt: HostRuntime) -> Result<(), Fail> {
+    check_table(&rt, rt.alloc(), &BODIES)?;
+    let frames = crowd(rt.alloc())?;
+    let wanted = numbered(rt.alloc())?;
+    check_frames(&rt, rt.alloc(), &frames, &wanted)
 }
 
 #[test]

@@ -3,12 +3,12 @@
 use std::alloc::{AllocError, Global};
 use ziti_desk::{Images, MemDesk, MemSource, Room};
 
-/// Room for some hundred replies.
+/// Room for some thousand replies.
 const ROOM: Room = Room {
     file_bytes: 0,
     said_bytes: 262_144,
     noted_bytes: 4_096,
-    log_bytes: 65_536,
+    log_bytes: 262_144,
 };
 
 /// A desk that fails at these calls, counted from 0.

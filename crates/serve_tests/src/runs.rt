@@ -36,6 +36,13 @@ const HELLO: &[u8] =
 const GREETED: &[u8] =
     b"\x03\x06\x09\x0c\x02\0\0\0\0\0\0\0\x15\0\0\0\0\0\0\0\x01\0\0\0\x04\0\0\0\x09\0\0\0\x02\0\0\0\x01\0\0\0\x01";
 
+/// The same Hello of sequence 0, and its reply.
+const OPENING: &[u8] =
+    b"\x03\x06\x09\x0c\0\0\0\0\0\0\0\0\x0a\0\0\0\x03\0\0\0\0\0\0\0\x02\0\0\0idabc";
+
+const OPENED: &[u8] =
+    b"\x03\x06\x09\x0c\x02\0\0\0\0\0\0\0\x15\0\0\0\0\0\0\0\x01\0\0\0\x04\0\0\0\0\0\0\0\x02\0\0\0\x01\0\0\0\x01";
+
 /// A frame that deletes ann, and its reply as the second one.
 const DELETED: &[u8] =
     b"\x03\x06\x09\x0c\xea\x03\0\0\x08\0\0\0\0\0\0\0\x0e\0\0\0{\"name\":\"ann\"}";
@@ -155,7 +162,7 @@ fn outcome(alloc: Global, row: &Row) -> Result<(MemDesk, Status), AllocError> {
     Ok((desk, status))
 }
 
-fn whole_inputs() -> [Row; 8] {
+fn whole_inputs() -> [Row; 9] {
     let done = Status::Done;
     [
         Row::of("nothing at all", [NONE, NONE], [NONE, NONE], done),
@@ -169,6 +176,7 @@ fn whole_inputs() -> [Row; 8] {
             done,
         ),
         Row::of("a greeting", [HELLO, ANN], [GREETED, MADE_SECOND], done),
+        Row::of("of sequence 0", [OPENING, NONE], [OPENED, NONE], done),
         Row::of("ann goes", [ANN, DELETED], [MADE, DONE_SECOND], done),
         Row::of("a bad body", [NAMELESS, ANN], [BAD_BODY, MADE_SECOND], done),
     ]

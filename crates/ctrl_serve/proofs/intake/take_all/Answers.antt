@@ -24,3 +24,11 @@ returns-in_err-extend_from_slice-in-Ok-clause-cut g c =
       gave = Gave-then _ _ _ c.takes.bytes.items piece c.takes.invariant.gave c.in-Ok.ensures.bytes.bytes;
       few = omega (arith, length-append c.takes.bytes.items piece, length-take-le c.in-Ok.count c.take.new.buf c.in-Ok.ensures.bytes.within, c.in-Ok.ensures.bytes.within, c.in_ok-room.ensures, c.takes.auto.piece, c.take.auto.buf, c.as_mut_slice-piece.ensures.value);
     })
+
+pub returns-in-Err-clause-until_failure : goal.returns-in-Err-clause-until_failure
+returns-in-Err-clause-until_failure g c =
+    record { until = c.takes.source; taken = c.takes.bytes.items; gave = c.takes.invariant.gave; calm = c.takes.invariant.calm; nothing_more = c.in-Err.ensures.bytes.bytes }
+
+pub returns-clause-taken : goal.returns-clause-taken
+returns-clause-taken g c =
+    record { gave = c.takes.invariant.gave; few = c.takes.invariant.few; ends = omega (arith, c.takes-test.false, c.len.ensures, c.takes.bytes.ok) }

@@ -1,24 +1,29 @@
-use Rattle.std.proofs.Common.{◌++◌, List, [], Some, ap, ◌∙◌}
+use Rattle.std.proofs.Common.{◌++◌, ℕ, List, [], Some, ap, ◌∙◌}
 use Rattle.channel_frame.proofs.ReadingLaws.{has_one_reading}
 use Rattle.channel_frame.specs.declared.frames.Frame.{Frame}
 use Rattle.ctrl_model.specs.declared.kinds.Who.TheVariants.{Admin}
 use Rattle.ctrl_serve.specs.FrameAnswer.{answers}
+use Rattle.ctrl_serve.specs.SaidReplies.{joined}
+use Rattle.session_mux.specs.declared.sessions.Form.TheVariants.{Plain}
+use Rattle.ctrl_serve.proofs.PlainLaws.{plain_replies}
 use Rattle.ctrl_serve.proofs.EndingLaws.{done_read, done_whole, done_said, done_noted}
 use Rattle.ctrl_serve.proofs.laws.done_says_all.Goals as goal
 
 pub returns-clause-read : goal.returns-clause-read
-returns-clause-read c slot m most bytes before left after noted_before noted_after x y s = done_read slot m most bytes left _ _ _ _ x y s
+returns-clause-read c slot m most bytes before left after noted_before noted_after x y s = done_read Plain slot m most bytes left _ _ _ _ x y s
 
 pub returns-clause-whole : goal.returns-clause-whole
 returns-clause-whole c slot m most bytes before left after noted_before noted_after x y s = done_whole slot m most bytes left _ _ _ _ x y s
 
 pub returns-clause-said : goal.returns-clause-said
-returns-clause-said c slot m most bytes before left after noted_before noted_after x y s = done_said slot m most bytes before left after _ _ x y s
+returns-clause-said c slot m most bytes before left after noted_before noted_after x y s = done_said Plain slot m most bytes before left after _ _ x y s
 
 pub returns-clause-frames : goal.returns-clause-frames
 returns-clause-frames c slot m most bytes before left after noted_before noted_after x y frames s reads =
     let one = has_one_reading bytes frames [] tt reads in
-    done_said slot m most bytes before left after _ _ x y s ∙ ap (λ (fs : List Frame). Some (before ++ answers slot Admin 0 m fs)) one.0
+    done_said Plain slot m most bytes before left after _ _ x y s
+    ∙ ap (λ (rs : List (List ℕ)). Some (before ++ joined rs)) (plain_replies slot m bytes)
+    ∙ ap (λ (fs : List Frame). Some (before ++ answers slot Admin 0 m fs)) one.0
 
 pub returns-clause-noted : goal.returns-clause-noted
-returns-clause-noted c slot m most bytes before left after noted_before noted_after x y s = done_noted slot m most bytes left _ _ _ _ x y s
+returns-clause-noted c slot m most bytes before left after noted_before noted_after x y s = done_noted Plain slot m most bytes left _ _ _ _ x y s

@@ -1,14 +1,15 @@
+use Rattle.session_mux.specs.declared.sessions.Form.TheVariants.{Plain}
 use Rattle.ctrl_serve.proofs.EndingLaws.{truncated_read, truncated_rest, truncated_said, truncated_noted}
 use Rattle.ctrl_serve.proofs.laws.truncated_says_all.Goals as goal
 
 pub returns-clause-read : goal.returns-clause-read
-returns-clause-read c slot m most bytes before left after noted_before noted_after x y s = truncated_read slot m most bytes left _ _ _ _ x y s
+returns-clause-read c slot m most bytes before left after noted_before noted_after x y s = truncated_read Plain slot m most bytes left _ _ _ _ x y s
 
 pub returns-clause-rest : goal.returns-clause-rest
 returns-clause-rest c slot m most bytes before left after noted_before noted_after x y s = truncated_rest slot m most bytes left _ _ _ _ x y s
 
 pub returns-clause-said : goal.returns-clause-said
-returns-clause-said c slot m most bytes before left after noted_before noted_after x y s = truncated_said slot m most bytes before left after _ _ x y s
+returns-clause-said c slot m most bytes before left after noted_before noted_after x y s = truncated_said Plain slot m most bytes before left after _ _ x y s
 
 pub returns-clause-noted : goal.returns-clause-noted
 returns-clause-noted c slot m most bytes before left after noted_before noted_after x y s calm = truncated_noted slot m most bytes left _ _ _ _ x y s calm

@@ -1,4 +1,5 @@
-use Rattle.ctrl_serve.proofs.StopLaws.{refused_stops, carried_stops}
+use Rattle.ctrl_serve.specs.ControllerViews.{serving_of}
+use Rattle.ctrl_serve.proofs.StopLaws.{refused_stops, carried_so, carried_stops}
 use Rattle.ctrl_serve.proofs.serving.answer_frame.Goals as goal
 
 pub returns-in_err-refusal_of-in-Err-clause-stops : goal.returns-in_err-refusal_of-in-Err-clause-stops
@@ -11,4 +12,10 @@ returns-in_ok-refusal_of-in-Err-clause-stops g c = λ some told.
 
 pub returns-in-Ok-clause-stops : goal.returns-in-Ok-clause-stops
 returns-in-Ok-clause-stops g c = λ some told.
-    carried_stops _ c.args.frame.now c.as_slice.result.now _ c.in-Ok.command c.as_slice.ensures c.in-Ok.ensures.command (c.carry_out.ensures.stops some told)
+    carried_stops _ c.args.who.now c.args.frame.now c.as_slice.result.now _ c.in-Ok.command c.as_slice.ensures c.in-Ok.ensures.command (c.carry_out.ensures.stops some told)
+
+pub returns-in-Ok-clause-ok : goal.returns-in-Ok-clause-ok
+returns-in-Ok-clause-ok g c =
+    let old = serving_of c.args.controller.now in
+    carried_so c.carry_out.result old.slot c.args.who.now c.args.frame.now c.as_slice.result.now old.machine (serving_of c.carry_out.new.self).machine c.in-Ok.command c.as_slice.ensures c.in-Ok.ensures.command
+    c.carry_out.ensures.ok

@@ -1,4 +1,5 @@
 use Rattle.std.proofs.Common.{refl, arith}
+use Rattle.session_mux.specs.declared.sessions.Form.TheVariants.{Plain}
 use Rattle.ctrl_serve.proofs.FailureLaws.{takes_none}
 use Rattle.ctrl_serve.proofs.ReplayLaws.{started_serves, none_serves, cut_counts}
 use Rattle.ctrl_serve.proofs.RunLaws.{notes_alone}
@@ -9,7 +10,7 @@ returns-in-Ok-clause-serves g c = started_serves c.in-Ok.core c.args.most _ _ _ 
 
 pub returns-in-Err-clause-serves : goal.returns-in-Err-clause-serves
 returns-in-Err-clause-serves g c =
-    none_serves _ _ c.args.most _ _ _ _ _ _ _ c.tell_cut.result c.tell_cut.ensures.status c.tell_cut.ensures.others.replies c.tell_cut.ensures.told
+    none_serves Plain _ _ c.args.most _ _ _ _ _ _ _ c.tell_cut.result c.tell_cut.ensures.status c.tell_cut.ensures.others.replies c.tell_cut.ensures.told
 
 pub returns-in-Ok-clause-undisked : goal.returns-in-Ok-clause-undisked
 returns-in-Ok-clause-undisked g c = c.run_on-status.ensures.undisked refl

@@ -4,7 +4,7 @@ use Rattle.ziti_outside.specs.Causes.{HasCause}
 use Rattle.ctrl_keep.specs.declared.faults.KeepFault.{KeepFault}
 use Rattle.ctrl_keep.specs.Faults.{disk_failure, OpenFails}
 use Rattle.ctrl_keep.specs.KeptController.{Controlled}
-use Rattle.ctrl_serve.specs.declared.status.Status.{Status}
+use Rattle.run_notes.specs.declared.status.Status.{Status}
 use Rattle.ctrl_serve.specs.Runs.{IsDiskCaused}
 use Rattle.ctrl_serve.proofs.OpenedMachines.{stateless_marked}
 use Rattle.ctrl_serve.proofs.IntakeLaws.{disk_fault, disk_calm}
@@ -14,7 +14,7 @@ use Rattle.ctrl_serve.proofs.top.run_replay.Goals as goal
 pub returns-in-Ok-clause-replays : goal.returns-in-Ok-clause-replays
 returns-in-Ok-clause-replays g c =
     let e = c.in-Ok.ensures in
-    inr (replays_on g.D.Desk.reads g.D.Desk.may_leave c.args.bounds.slot c.args.bounds.input c.in-Ok.kept _ _ g.D.Desk.tells c.args.desk.now c.open.new.desk c.run_on-status.new.desk c.run_on-status.result
+    inr (replays_on g.D.Desk.reads g.D.Desk.may_leave c.args.form c.args.bounds.slot c.args.bounds.input c.in-Ok.kept _ _ g.D.Desk.tells c.args.desk.now c.open.new.desk c.run_on-status.new.desk c.run_on-status.result
     e.opens e.stands e.holds (ap (λ (b : StoreBounds). b.slot) e.opened.0) e.created c.open.ensures.others c.run_on-status.ensures.runs)
 
 pub returns-in-Ok-clause-counts : goal.returns-in-Ok-clause-counts

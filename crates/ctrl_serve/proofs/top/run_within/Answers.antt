@@ -1,7 +1,7 @@
 use Rattle.std.proofs.Common.{List, ℕ, Some, sym, ap, subst, ◌∙◌}
 use Rattle.ctrl_serve.specs.declared.command_line.Form.{Form}
 use Rattle.ctrl_serve.specs.CommandLine.{form_of, texts}
-use Rattle.ctrl_serve.specs.Headline.{NotesLines}
+use Rattle.run_notes.specs.NotedLines.{NotesLines}
 use Rattle.ctrl_serve.proofs.RunLaws.{dry_runs, load_runs, replay_runs, usage_runs}
 use Rattle.ctrl_serve.proofs.top.run_within.Goals as goal
 
@@ -15,7 +15,7 @@ pub returns-in-Some-Replay : goal.returns-in-Some-Replay
 returns-in-Some-Replay g c =
     let e = c.run_replay.ensures in
     let form = ap (λ ws. form_of (texts ws)) (sym c.as_slice.ensures.value) ∙ sym c.form_of.ensures ∙ c.in-Some-Replay.is ∙ ap (λ (f : Form). Some f) c.in-Some-Replay.field-0-is in
-    record { runs = replay_runs g.D.Desk.tells c.args.bounds.slot c.args.bounds.input _ _ _ _ _ _ form e.replays e.counts }
+    record { runs = replay_runs c.in-Some-Replay.form g.D.Desk.tells c.args.bounds.slot c.args.bounds.input _ _ _ _ _ _ form e.replays e.counts }
 
 pub returns-in-None : goal.returns-in-None
 returns-in-None g c =

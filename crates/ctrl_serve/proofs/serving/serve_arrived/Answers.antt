@@ -1,0 +1,12 @@
+use Rattle.std.proofs.lemmas.Result.{err_from_is_err_and}
+use Rattle.ctrl_serve.proofs.TurnLaws.{arrived_taken, arrived_cut}
+use Rattle.ctrl_serve.proofs.serving.serve_arrived.Goals as goal
+
+pub returns-in_err-serve_frame-clause-cut : goal.returns-in_err-serve_frame-clause-cut
+returns-in_err-serve_frame-clause-cut g c =
+    let p = err_from_is_err_and c.from_residual.result c.from_residual.ensures.1 in
+    rw p.1 (rw p.2 (arrived_cut _ c.args.form _ c.args.session c.replied.result c.args.frame.now c.args.sessions.now _ c.sender.result.now _ _ c.replied.ensures c.sender.ensures c.in_err-serve_frame.ensures.cut))
+
+pub returns-clause-ok : goal.returns-clause-ok
+returns-clause-ok g c =
+    arrived_taken c.args.form _ c.args.session c.replied.result c.args.frame.now c.args.sessions.now c.reply.new.self _ _ c.sender.result.now _ _ c.replied.ensures c.sender.ensures c.reply.ensures c.in_ok-serve_frame.ensures.ok

@@ -1,0 +1,105 @@
+use Rattle.std.specs.Prelude.{MatchOption}
+use Rattle.std.proofs.Common.{ℕ, ◌∷◌, [], Err, refl, ap, sym, subst, ◌∙◌}
+use Rattle.std.proofs.lemmas.Result.{err_from_is_err_and}
+use Rattle.std.specs.declared.option.Option.{Option}
+use Rattle.session_mux.specs.declared.events.Event.{Event}
+use Rattle.session_mux.specs.declared.events.MuxFault.{MuxFault}
+use Rattle.session_mux.specs.Completion.{GoesTo}
+use Rattle.session_mux.specs.MuxSteps.{GivesNone, GivesFault}
+use Rattle.run_notes.specs.declared.notes.Notes.{Notes}
+use Rattle.ctrl_serve.specs.ControllerViews.{serving_of}
+use Rattle.run_notes.specs.Endings.{IsStuckAt}
+use Rattle.ctrl_serve.proofs.ControllerLaws.{GoesOn-then, still_alone, OnlySaysAndNotes-none, OnlySaysAndNotes-then}
+use Rattle.ctrl_serve.proofs.TurnLaws.{answers_start, answers_more, fewer_events, all_given, stuck_at, cut_answers, starved_answers}
+use Rattle.ctrl_serve.proofs.serving.serve_events.Goals as goal
+
+pub events-init : goal.events-init
+events-init g c =
+    let k = serving_of c.args.controller.now in
+    let desk = c.args.desk.now in
+    record {
+      on = record { able = c.requires.able; slot = refl; kind = refl };
+      ready = c.requires.ready;
+      answers = answers_start c.args.form k.slot c.args.sessions.now k.machine c.args.mux.now (g.D.Desk.said desk) c.args.notes.now.failed (g.D.Desk.noted desk) (g.D.Desk.note_faults desk);
+      calm = refl;
+      calm_disk = refl;
+      alone = λ none. OnlySaysAndNotes-none desk;
+    }
+
+pub events-smaller : goal.events-smaller
+events-smaller g c =
+    let old = c.events.mux in
+    let new = c.next.new.self in
+    let goes : GoesTo old new (c.in-Ok-Some.event ∷ []) =
+    subst (λ (o : Option Event). MatchOption o (GivesNone old new) (λ e. GoesTo old new (e ∷ []))) c.in-Ok-Some.field-0-is c.in-Ok-Some.ensures.some in
+    fewer_events old new c.in-Ok-Some.event goes
+
+pub events-preserved : goal.events-preserved
+events-preserved g c =
+    let old = c.events.mux in
+    let new = c.next.new.self in
+    let goes : GoesTo old new (c.in-Ok-Some.event ∷ []) =
+    subst (λ (o : Option Event). MatchOption o (GivesNone old new) (λ e. GoesTo old new (e ∷ []))) c.in-Ok-Some.field-0-is c.in-Ok-Some.ensures.some in
+    let held = c.events.invariant in
+    let turn = c.in_ok-serve_event-in-Ok-Some.ensures in
+    let first = serving_of c.args.controller.now in
+    let mid = serving_of c.events.controller in
+    let last = serving_of c.serve_event.new.controller in
+    let said = g.D.Desk.said in
+    let noted = g.D.Desk.noted in
+    let faults = g.D.Desk.note_faults in
+    record {
+      on = GoesOn-then held.on turn.on;
+      ready = turn.ready;
+      answers = answers_more c.args.form first.slot mid.slot c.in-Ok-Some.event c.args.sessions.now c.events.sessions c.serve_event.new.sessions first.machine mid.machine last.machine
+          c.args.mux.now old new (said c.args.desk.now) (said c.events.desk) (said c.serve_event.new.desk) c.args.notes.now.failed c.events.notes.failed c.serve_event.new.notes.failed
+          (noted c.args.desk.now) (noted c.events.desk) (noted c.serve_event.new.desk) (faults c.args.desk.now) (faults c.events.desk) (faults c.serve_event.new.desk)
+          held.on.slot held.answers goes turn.ok turn.noted;
+      calm = turn.say_cause.calm ∙ held.calm;
+      calm_disk = turn.disk_cause.calm ∙ held.calm_disk;
+      alone = λ none. OnlySaysAndNotes-then (held.alone none) (c.serve_event.ensures.alone (still_alone _ _ held.on.kind none));
+    }
+
+pub returns-in_err-serve_event-in-Ok-Some-clause-cut : goal.returns-in_err-serve_event-in-Ok-Some-clause-cut
+returns-in_err-serve_event-in-Ok-Some-clause-cut g c =
+    let old = c.events.mux in
+    let new = c.next.new.self in
+    let goes : GoesTo old new (c.in-Ok-Some.event ∷ []) =
+    subst (λ (o : Option Event). MatchOption o (GivesNone old new) (λ e. GoesTo old new (e ∷ []))) c.in-Ok-Some.field-0-is c.in-Ok-Some.ensures.some in
+    let p = err_from_is_err_and c.from_residual.result c.from_residual.ensures.1 in
+    let held = c.events.invariant in
+    let left = c.in_err-serve_event-in-Ok-Some.ensures.unnoted in
+    let first = serving_of c.args.controller.now in
+    let mid = serving_of c.events.controller in
+    let said = g.D.Desk.said in
+    let noted = g.D.Desk.noted in
+    let faults = g.D.Desk.note_faults in
+    rw p.1 (rw p.2 (cut_answers _ c.args.form first.slot mid.slot c.in-Ok-Some.event c.args.sessions.now c.events.sessions first.machine mid.machine
+    c.args.mux.now old new (said c.args.desk.now) (said c.events.desk) (said c.serve_event.new.desk) c.args.notes.now.failed c.events.notes.failed c.serve_event.new.notes.failed
+    (noted c.args.desk.now) (noted c.events.desk) (noted c.serve_event.new.desk) (faults c.args.desk.now) (faults c.events.desk) (faults c.serve_event.new.desk)
+    held.on.slot held.answers goes c.in_err-serve_event-in-Ok-Some.ensures.cut (ap (λ (x : Notes). x.failed) left.0) left.1.notes left.1.failed_notes))
+
+pub returns-in-Ok-None-clause-end : goal.returns-in-Ok-None-clause-end
+returns-in-Ok-None-clause-end g c =
+    let old = c.events.mux in
+    let new = c.next.new.self in
+    all_given old new (subst (λ (o : Option Event). MatchOption o (GivesNone old new) (λ e. GoesTo old new (e ∷ []))) c.in-Ok-None.field-0-is c.in-Ok-None.ensures.some)
+
+pub returns-in-Err-BadRecord-clause-end : goal.returns-in-Err-BadRecord-clause-end
+returns-in-Err-BadRecord-clause-end g c =
+    let old = c.events.mux in
+    let new = c.next.new.self in
+    let stuck = subst (λ (e : MuxFault). GivesFault old new e) c.in-Err-BadRecord.field-0-is c.in-Err-BadRecord.ensures.fault in
+    subst (λ (n : ℕ). IsStuckAt new n) (sym c.in-Err-BadRecord.at-is) (stuck_at old new c.in-Err-BadRecord.at stuck.0 stuck.1)
+
+pub returns-in-Err-NoMemory-clause-cut : goal.returns-in-Err-NoMemory-clause-cut
+returns-in-Err-NoMemory-clause-cut g c =
+    let held = c.events.invariant in
+    let first = serving_of c.args.controller.now in
+    let mid = serving_of c.events.controller in
+    let said = g.D.Desk.said in
+    let noted = g.D.Desk.noted in
+    let faults = g.D.Desk.note_faults in
+    starved_answers c.args.form first.slot c.args.sessions.now c.events.sessions first.machine mid.machine c.args.mux.now c.events.mux (said c.args.desk.now) (said c.events.desk)
+    c.args.notes.now.failed c.events.notes.failed (noted c.args.desk.now) (noted c.events.desk) (faults c.args.desk.now) (faults c.events.desk)
+    held.answers (c.next.ensures.memory (c.in-Err-NoMemory.is ∙ ap Err c.in-Err-NoMemory.field-0-is))

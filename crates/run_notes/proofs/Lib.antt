@@ -1,0 +1,4 @@
+pub mod KnownLaws
+pub mod NoteLaws
+pub mod PlainInputs
+pub mod RestLaws

@@ -1,0 +1,194 @@
+-- What was noted, line after line.
+use Rattle.std.specs.Prelude.{⊤, not, cond, IfOk}
+use Rattle.std.proofs.Common.{◌≡◌, ℕ, zero, suc, Bool, true, false, List, [], ◌++◌, get_or, Ok, Err, inl, codes, decimal, refl, sym, ap, ◌∙◌, subst, append_assoc, append-nil, arith}
+use Rattle.std.proofs.Math.ListN.{get_or-map}
+use Rattle.session_mux.specs.declared.sessions.Session.{Session}
+use Rattle.session_mux.specs.declared.sessions.Session.TheVariants.{Unopened}
+use Rattle.session_mux.specs.Completion.{Standing, session_at, settled_session, end_of, rest_len}
+use Rattle.session_mux.specs.MuxSteps.{HasMoved}
+use Rattle.session_mux.proofs.EventLaws.{rest_settled}
+use Rattle.run_notes.specs.Inputs.{held_or_closed, rest_at}
+use Rattle.std.specs.declared.option.Option.{Option}
+use Rattle.std.specs.declared.result.Result.{Result}
+use Rattle.ziti_outside.specs.declared.failed.Failed.{Failed}
+use Rattle.ziti_outside.specs.Causes.{HasCause, Rose}
+use Rattle.ziti_outside.specs.Told.{Hands}
+use Rattle.ziti_outside.proofs.Moves.{Took-none, Took-then, IsFront-none, IsFront-all, IsFront-then, IsFront-longer}
+use Rattle.run_notes.specs.declared.status.Status.{Status}
+use Rattle.run_notes.specs.declared.status.Status.TheVariants.{Done, Usage, BadInput, Truncated, ReadFault, WriteFault, DiskFault, Damaged, NoMemory, InputTooLong, FolderFull}
+use Rattle.run_notes.specs.declared.ends.End.{End}
+use Rattle.run_notes.specs.declared.ends.End.TheVariants.{Whole, More, Fault}
+use Rattle.ziti_outside.specs.Images.{Image}
+use Rattle.ziti_outside.specs.Untouched.{OnlyNotes}
+use Rattle.std.specs.declared.alloc.AllocError.{AllocError}
+use Rattle.run_notes.specs.Endings.{IsStuckAt, status_at}
+use Rattle.run_notes.specs.NotedLines.{RisesOnce, NotesLines, TellsDamage, IsNoteCaused}
+use Rattle.run_notes.specs.Notes.{note_of, damaged_note, bad_lines, ending_lines, status_lines, session_note, session_rest_lines, trace_note, trace_rest_lines}
+use Rattle.run_notes.specs.NotesSoFar.{IsNoted, NotesMore}
+use Rattle.ziti_outside.specs.declared.desk.Part.{Part}
+
+-- A note writes its lines whole, or fails.
+pub notes_lines : (r : Result ⊤ Failed) (lines : List ℕ) (a b : Option (List ℕ)) (x y : ℕ) → Hands a b r lines → HasCause x y r → NotesLines lines a b x y
+notes_lines (Ok u) lines a b x y taken cause = record { part = (lines, IsFront-all lines, taken); whole = λ _. taken }
+notes_lines (Err e) lines a b x y taken cause = record { part = taken; whole = λ calm. absurd (calm cause.failed) }
+
+-- Nothing was noted where there was nothing to note.
+pub notes_none : (a : Option (List ℕ)) (x : ℕ) → NotesLines [] a a x x
+notes_none a x = record { part = ([], IsFront-none [], Took-none a); whole = λ _. Took-none a }
+
+-- ---- what a run noted so far
+
+-- Nothing at first.
+pub noted_none : (a : Option (List ℕ)) (x : ℕ) → IsNoted false [] a a x x
+noted_none a x = (Took-none a, refl)
+
+-- What was noted so far, as lines.
+pub noted_lines : (failed : Bool) (lines : List ℕ) (a b : Option (List ℕ)) (x y : ℕ) → IsNoted failed lines a b x y → NotesLines lines a b x y × RisesOnce x y
+noted_lines false lines a b x y noted = (
+  record { part = (lines, IsFront-all lines, noted.0); whole = λ _. noted.0 },
+  record { later = omega (arith, noted.1); once = omega (arith, noted.1) },
+)
+noted_lines true lines a b x y noted = (record { part = noted.0; whole = λ calm. absurd (calm noted.1) }, noted.2)
+
+-- Lines behind lines.
+pub more_then : (f g h : Bool) (first last : List ℕ) (a b c : Option (List ℕ)) (x y z : ℕ) → NotesMore f g first a b x y → NotesMore g h last b c y z → NotesMore f h (first ++ last) a c x z
+more_then f g h first last a b c x y z p q = λ before o n noted.
+    subst (λ (l : List ℕ). IsNoted h l o c n z) (append_assoc before first last) (q (before ++ first) o n (p before o n noted))
+
+-- No lines leave what was noted.
+pub more_none : (f : Bool) (a : Option (List ℕ)) (x : ℕ) → NotesMore f f [] a a x x
+more_none f a x = λ before o n noted. subst (λ (l : List ℕ). IsNoted f l o a n x) (sym (append-nil before)) noted
+
+-- Where the desk and what is known of it were left, too.
+pub more_left : (f g : Bool) (a b : Option (List ℕ)) (x y : ℕ) → g ≡ f → b ≡ a → y ≡ x → NotesMore f g [] a b x y
+more_left f g a b x y p q r = rw (p, q, r) (more_none f a x)
+
+-- Once a note failed, no lines are noted.
+pub more_failed : (lines : List ℕ) (a : Option (List ℕ)) (x : ℕ) → NotesMore true true lines a a x x
+more_failed lines a x = λ before o n noted.
+    ((noted.0.0, IsFront-longer noted.0.0 before lines (before ++ lines) noted.0.1 refl, noted.0.2), noted.1, noted.2)
+
+-- Where none failed, the lines are noted, or this note fails.
+pub more_noted : (failed : Bool) (told : Bool) (lines : List ℕ) (a b : Option (List ℕ)) (x y : ℕ) → failed ≡ not told → NotesLines lines a b x y → IsNoteCaused lines a b x y told → RisesOnce x y
+    → NotesMore false failed lines a b x y
+more_noted failed true lines a b x y is noted caused once =
+    subst (λ (f : Bool). NotesMore false f lines a b x y) (sym is) (λ before o n so. (Took-then o a b before lines so.0 caused.0, caused.1 ∙ so.1))
+more_noted failed false lines a b x y is noted caused once =
+    subst (λ (f : Bool). NotesMore false f lines a b x y) (sym is)
+    (λ before o n so. (
+      (before ++ noted.part.0, IsFront-then before noted.part.0 lines (before ++ lines) noted.part.1 refl, Took-then o a b before noted.part.0 so.0 noted.part.2),
+      subst (λ (k : ℕ). Rose k y) so.1 caused,
+      subst (λ (k : ℕ). RisesOnce k y) so.1 once,
+    ))
+
+-- The parts of a session's note, in a row.
+pub fault_text : (session word at : List ℕ)
+    → codes "zitictl: session " ++ (session ++ (codes ": " ++ (word ++ (codes " at " ++ (at ++ codes "\n"))))) ≡ note_of (codes "session " ++ (session ++ (codes ": " ++ (word ++ (codes " at " ++ at)))))
+fault_text session word at =
+    ap (λ (l : List ℕ). codes "zitictl: session " ++ l)
+    (ap (λ (l : List ℕ). session ++ (codes ": " ++ l)) (sym (append_assoc word (codes " at " ++ at) (codes "\n")))
+    ∙ sym (append_assoc session (codes ": " ++ (word ++ (codes " at " ++ at))) (codes "\n")))
+
+pub rest_text : (session left : List ℕ)
+    → codes "zitictl: session " ++ (session ++ (codes ": " ++ (left ++ codes " bytes left\n"))) ≡ note_of (codes "session " ++ (session ++ (codes ": " ++ (left ++ codes " bytes left"))))
+rest_text session left =
+    ap (λ (l : List ℕ). codes "zitictl: session " ++ l)
+    (ap (λ (l : List ℕ). session ++ (codes ": " ++ l)) (sym (append_assoc left (codes " bytes left") (codes "\n")))
+    ∙ sym (append_assoc session (codes ": " ++ (left ++ codes " bytes left")) (codes "\n")))
+
+-- Those of a trace's notes.
+pub bad_text : (at : List ℕ) → codes "zitictl: trace: BadRecord at " ++ (at ++ codes "\n") ≡ note_of (codes "trace: " ++ (codes "BadRecord at " ++ at))
+bad_text at = refl
+
+pub trace_text : (left : List ℕ) → codes "zitictl: trace: " ++ (left ++ codes " bytes left\n") ≡ note_of (codes "trace: " ++ (left ++ codes " bytes left"))
+trace_text left = ap (λ (l : List ℕ). codes "zitictl: trace: " ++ l) (sym (append_assoc left (codes " bytes left") (codes "\n")))
+
+-- And those of a damaged folder's note.
+pub damage_text : (file at : List ℕ)
+    → codes "zitictl: damaged: file " ++ (file ++ (codes " at " ++ (at ++ codes "\n"))) ≡ note_of (codes "damaged: file " ++ (file ++ (codes " at " ++ at)))
+damage_text file at =
+    ap (λ (l : List ℕ). codes "zitictl: damaged: file " ++ l) (sym (append_assoc file (codes " at " ++ at) (codes "\n")))
+
+-- A damaged folder's line was noted, or a front of it.
+pub damage_told : (part : Part) (at : ℕ) (lines : List ℕ) (a b : Option (List ℕ)) (x y : ℕ) → lines ≡ damaged_note part at → NotesLines lines a b x y → RisesOnce x y → TellsDamage part at Damaged a b x y
+damage_told part at lines a b x y is noted counted = record {
+  same = inl refl;
+  damaged = λ _. subst (λ (l : List ℕ). NotesLines l a b x y) is noted;
+  memory = λ e. cc;
+  counted = counted;
+}
+
+-- ---- what is left
+
+-- The lines of a rest that is not empty.
+pub some_rest : (s n : ℕ) → (n ≡ 0 → ⊥) → session_rest_lines s n ≡ session_note s (decimal n ++ codes " bytes left")
+some_rest s zero some = absurd (some refl)
+some_rest s (suc n) some = refl
+
+pub some_trace_rest : (n : ℕ) → (n ≡ 0 → ⊥) → trace_rest_lines n ≡ trace_note (decimal n ++ codes " bytes left")
+some_trace_rest zero some = absurd (some refl)
+some_trace_rest (suc n) some = refl
+
+-- Where all was moved, a session holds what is left of it at the end.
+rest_moved : (st : Standing) (s : ℕ) → HasMoved st → rest_len (session_at (end_of st).sessions s) ≡ rest_len (session_at st.sessions s)
+rest_moved st s moved =
+    ap (λ (xs : List Session). rest_len (session_at xs s)) moved
+    ∙ ap rest_len (get_or-map settled_session st.sessions s Unopened)
+    ∙ rest_settled (session_at st.sessions s)
+
+pub rest_held : (st : Standing) (closed : List ℕ) (s held : ℕ) → HasMoved st → held ≡ rest_len (session_at st.sessions s)
+    → held_or_closed held (get_or closed s 0) ≡ rest_at (end_of st) closed s
+rest_held st closed s held moved e = ap (λ (n : ℕ). held_or_closed n (get_or closed s 0)) (e ∙ sym (rest_moved st s moved))
+
+pub some_held : (n closed : ℕ) → (n ≡ 0 → ⊥) → n ≡ held_or_closed n closed
+some_held zero closed some = absurd (some refl)
+some_held (suc n) closed some = refl
+
+-- ---- how a run ended
+
+-- Only notes were written, twice.
+pub OnlyNotes-then : {D : Type 0} {said : D → Option (List ℕ)} {say_faults : D → ℕ} {reads : D → Image} {may_leave : D → Image → Type 0} {disk_faults : D → ℕ} {old mid new : D}
+    → OnlyNotes said say_faults reads may_leave disk_faults old mid → OnlyNotes said say_faults reads may_leave disk_faults mid new → OnlyNotes said say_faults reads may_leave disk_faults old new
+OnlyNotes-then first second = record {
+  replies = second.replies ∙ first.replies;
+  failed_says = second.failed_says ∙ first.failed_says;
+  parts = second.parts ∙ first.parts;
+  found = λ image left. first.found image (second.found image left);
+  failed_calls = second.failed_calls ∙ first.failed_calls;
+}
+
+-- The lines of a status are those of the rests where it is told by them, and else its own.
+pub told_lines : (status : Status) (rests lines : List ℕ) → (status ≡ Truncated → lines ≡ rests) → ((status ≡ Truncated → ⊥) → lines ≡ []) → lines ++ status_lines [] status ≡ status_lines rests status
+told_lines Done rests lines some none = ap (λ (l : List ℕ). l ++ status_lines [] Done) (none (λ e. cc))
+told_lines Usage rests lines some none = ap (λ (l : List ℕ). l ++ status_lines [] Usage) (none (λ e. cc))
+told_lines BadInput rests lines some none = ap (λ (l : List ℕ). l ++ status_lines [] BadInput) (none (λ e. cc))
+told_lines Truncated rests lines some none = append-nil lines ∙ some refl
+told_lines ReadFault rests lines some none = ap (λ (l : List ℕ). l ++ status_lines [] ReadFault) (none (λ e. cc))
+told_lines WriteFault rests lines some none = ap (λ (l : List ℕ). l ++ status_lines [] WriteFault) (none (λ e. cc))
+told_lines DiskFault rests lines some none = ap (λ (l : List ℕ). l ++ status_lines [] DiskFault) (none (λ e. cc))
+told_lines Damaged rests lines some none = ap (λ (l : List ℕ). l ++ status_lines [] Damaged) (none (λ e. cc))
+told_lines NoMemory rests lines some none = ap (λ (l : List ℕ). l ++ status_lines [] NoMemory) (none (λ e. cc))
+told_lines InputTooLong rests lines some none = ap (λ (l : List ℕ). l ++ status_lines [] InputTooLong) (none (λ e. cc))
+told_lines FolderFull rests lines some none = ap (λ (l : List ℕ). l ++ status_lines [] FolderFull) (none (λ e. cc))
+
+-- The lines of a bad record.
+abbrev pub bad_line_at : ℕ → List ℕ
+bad_line_at at = trace_note (codes "BadRecord at " ++ decimal at)
+
+stuck_line : (st : Standing) (at : ℕ) → IsStuckAt st at → bad_lines (end_of st) ≡ bad_line_at at
+stuck_line st at stuck =
+    ap (λ (b : Bool). cond b (bad_line_at (end_of st).before) []) stuck.bad ∙ ap bad_line_at stuck.place
+
+stuck_lines : (st : Standing) (at : ℕ) (closed : List ℕ) (end : End) → IsStuckAt st at
+    → bad_line_at at ++ status_lines [] (status_at true false end) ≡ ending_lines (end_of st) closed (status_at true false end)
+stuck_lines st at closed Whole stuck = ap (λ (l : List ℕ). l ++ []) (sym (stuck_line st at stuck))
+stuck_lines st at closed More stuck = ap (λ (l : List ℕ). l ++ []) (sym (stuck_line st at stuck))
+stuck_lines st at closed Fault stuck = ap (λ (l : List ℕ). l ++ status_lines [] ReadFault) (sym (stuck_line st at stuck))
+
+pub stuck_told : (r : Result Status AllocError) (st : Standing) (at : ℕ) (closed : List ℕ) (end : End) (f g : Bool) (a b : Option (List ℕ)) (x y : ℕ) → IsStuckAt st at
+    → IfOk r (λ s. s ≡ status_at true false end) → IfOk r (λ s. NotesMore f g (bad_line_at at ++ status_lines [] s) a b x y) → IfOk r (λ s. NotesMore f g (ending_lines (end_of st) closed s) a b x y)
+stuck_told (Ok s) st at closed end f g a b x y stuck is noted =
+    subst (λ (u : Status). NotesMore f g (ending_lines (end_of st) closed u) a b x y) (sym is)
+    (subst (λ (l : List ℕ). NotesMore f g l a b x y) (stuck_lines st at closed end stuck)
+    (subst (λ (u : Status). NotesMore f g (bad_line_at at ++ status_lines [] u) a b x y) is noted))
+stuck_told (Err e) st at closed end f g a b x y stuck is noted = tt

@@ -1,0 +1,34 @@
+use std::alloc::AllocError;
+
+/// How the taking of the input ended.
+#[derive(Clone, Copy)]
+pub enum End {
+    /// Nothing is left.
+    Whole,
+    /// More bytes were given than are used.
+    More,
+    /// The source failed.
+    Fault,
+}
+
+/// Why serving was cut short.
+#[derive(Clone, Copy)]
+pub enum Cut {
+    /// There is no memory.
+    NoMemory,
+    /// A call on the disk failed.
+    Disk,
+    /// The desk failed to take a reply.
+    Unsaid,
+}
+
+impl From<AllocError> for Cut {
+    ghost use Rattle.std.specs.Prelude.{◌≡◌};
+    ghost use Rattle.run_notes.specs.declared.ends.Cut.TheVariants.{NoMemory};
+
+    ghost from_gives = { λ _ e. e ≡ NoMemory };
+
+    fn from(_error: AllocError) -> Cut {
+        Cut::NoMemory
+    }
+}

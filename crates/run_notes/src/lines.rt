@@ -1,0 +1,89 @@
+ghost use Rattle.std.specs.Prelude.{◌≡◌, ◌++◌, [], IfOk, codes, decimal};
+ghost use Rattle.std.specs.String.{string_bytes};
+ghost use Rattle.run_notes.specs.Notes.{damaged_note, fault_word as word_of_fault, file_number, session_note, session_rest_lines, status_lines, trace_note, trace_rest_lines};
+
+use crate::status::Status;
+use std::alloc::{AllocError, Global};
+use ziti_outside::Part;
+
+/// The line of a status that is told by no session, with its newline, or nothing.
+pub fn status_line(status: Status) -> &'static [u8]
+    ensures { result.now ≡ status_lines [] status }
+{
+    match status {
+        Status::Usage => {
+            b"zitictl: usage: zitictl dry | replay [--sessions] | audit | compact | load N\n"
+        }
+        Status::ReadFault => b"zitictl: read fault\n",
+        Status::WriteFault => b"zitictl: write fault\n",
+        Status::DiskFault => b"zitictl: disk fault\n",
+        Status::NoMemory => b"zitictl: no memory\n",
+        Status::InputTooLong => b"zitictl: input too long\n",
+        _ => b"",
+    }
+}
+
+/// The word of a fault, by its number.
+pub fn fault_word(fault: u8) -> &'static str
+    ensures { result.now ≡ word_of_fault fault }
+{
+    match fault {
+        1 => "BadMarker",
+        2 => "TooLong",
+        3 => "BadHeaders",
+        _ => "",
+    }
+}
+
+/// The line of the fault that ended the reading of a session at a place.
+pub fn fault_line(alloc: Global, session: u8, word: &str, at: u64) -> Result<String, AllocError>
+    ensures { IfOk result (λ line. string_bytes line ≡ session_note session (word.now ++ (codes " at " ++ decimal at))) }
+{
+    format!(in alloc; "zitictl: session {session}: {word} at {at}\n")
+}
+
+/// The line of a bad record.
+pub fn bad_line(alloc: Global, at: u64) -> Result<String, AllocError>
+    ensures { IfOk result (λ line. string_bytes line ≡ trace_note (codes "BadRecord at " ++ decimal at)) }
+{
+    format!(in alloc; "zitictl: trace: BadRecord at {at}\n")
+}
+
+/// The line of what is left of a session's last frame, or nothing.
+pub fn session_rest_line(alloc: Global, session: u8, left: u64) -> Result<String, AllocError>
+    ensures { IfOk result (λ line. string_bytes line ≡ session_rest_lines session left) }
+{
+    if left == 0 {
+        return Ok(String::new(alloc));
+    }
+    format!(in alloc; "zitictl: session {session}: {left} bytes left\n")
+}
+
+/// The line of what is left of a trace's last record, or nothing.
+pub fn trace_rest_line(alloc: Global, left: usize) -> Result<String, AllocError>
+    ensures { IfOk result (λ line. string_bytes line ≡ trace_rest_lines left) }
+{
+    if left == 0 {
+        return Ok(String::new(alloc));
+    }
+    format!(in alloc; "zitictl: trace: {left} bytes left\n")
+}
+
+// The number by which a note names a part of the folder.
+fn file_number(part: Part) -> u8
+    ensures { result ≡ file_number part }
+{
+    match part {
+        Part::Zero => 0,
+        Part::One => 1,
+        Part::Mark => 2,
+    }
+}
+
+/// The line of a folder that opens to no state.
+pub fn damaged_line(alloc: Global, part: Part, at: u64) -> Result<String, AllocError>
+    ensures { IfOk result (λ line. string_bytes line ≡ damaged_note part at) }
+{
+    let file = file_number(part);
+    format!(in alloc; "zitictl: damaged: file {file} at {at}\n")
+}
