@@ -1,4 +1,4 @@
-//! Tests of what is read and written: frames, lines, roles, the fields of bodies, commands, replies, rows and batches.
+//! Tests of what is read and written: frames, lines, traces, roles, the fields of bodies, commands, replies, rows and batches.
 #![tactic(auto)]
 
 #[cfg(test)]
@@ -15,3 +15,5 @@ mod replies;
 mod roles;
 #[cfg(test)]
 mod rows;
+#[cfg(test)]
+mod traces;

@@ -97,13 +97,13 @@ sequence_of : (o : Option ℕ) (next : ℕ) → next < 2 ^ 32 → SequenceFits o
 sequence_of None next low fits = low
 sequence_of (Some n) next low fits = fits
 
-frame_fits : (next : ℕ) (l : Line) → next < 2 ^ 32 → LineFits l → IsSaid (frame_of next l)
+pub frame_fits : (next : ℕ) (l : Line) → next < 2 ^ 32 → LineFits l → IsSaid (frame_of next l)
 frame_fits next l low fits = record {
   frame = record { content = fits.content; sequence = sequence_of l.sequence next low fits.sequence; keys = tt; headers_len = omega arith; body_len = fits.body };
   headers = refl;
 }
 
-next_fits : (n : ℕ) → next_after n < 2 ^ 32
+pub next_fits : (n : ℕ) → next_after n < 2 ^ 32
 next_fits n = omega arith
 
 frames_fit_at : (next : ℕ) (line : List ℕ) (said : Result Line LineCause) (rest : ℕ → List Frame) → next < 2 ^ 32 → said_by line ≡ said
@@ -148,7 +148,7 @@ nothing_behind : (bytes : List ℕ) (number : ℕ) → rest_of bytes ≡ [] → 
 nothing_behind bytes number none =
     ap (λ (r : List ℕ). tail_fault (option_map (λ e. (e, length bytes - length r)) (fault_in (front r))) r (length bytes - length r) number) none
 
-reads_alone : (frames : List Frame) → AllByRecursion IsFrame frames → Reads (flat_map spelling frames) frames []
+pub reads_alone : (frames : List Frame) → AllByRecursion IsFrame frames → Reads (flat_map spelling frames) frames []
 reads_alone frames each = record { text = sym (append-nil (flat_map spelling frames)); each = each; tail = tail_from [] (λ f n e. cc) }
 
 pub lines_back : (text : List ℕ) → AllByRecursion HasToldBody (frames_said text)

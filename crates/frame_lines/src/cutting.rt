@@ -29,7 +29,7 @@ fn without_return(line: &[u8]) -> &[u8]
 }
 
 /// The first line of a text that is not empty, and the text behind it.
-pub(crate) fn cut_line(text: &[u8]) -> (&[u8], &[u8])
+pub fn cut_line(text: &[u8]) -> (&[u8], &[u8])
     requires { 0 < length text.now }
     ensures lines { lines_of text.now ≡ result.0.now ∷ lines_of result.1.now }
     ensures shorter { length result.1.now < length text.now }
@@ -41,7 +41,7 @@ pub(crate) fn cut_line(text: &[u8]) -> (&[u8], &[u8])
 }
 
 /// The first word of a line, and what stands behind it and one space.
-pub(crate) fn cut_word(line: &[u8]) -> (&[u8], &[u8])
+pub fn cut_word(line: &[u8]) -> (&[u8], &[u8])
     ensures word { result.0.now ≡ first_word line.now }
     ensures behind { result.1.now ≡ behind_word line.now }
 {

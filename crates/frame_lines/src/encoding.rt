@@ -17,8 +17,8 @@ pub struct Encoded {
     pub fault: Option<LineFault>,
 }
 
-// Puts the frame of a line down, where this sequence number comes next. Answers the one that comes then.
-fn put_frame(alloc: Global, out: &mut Vec<u8>, next: u32, line: Line) -> Result<u32, AllocError>
+/// Puts the frame of a line down, where this sequence number comes next. Answers the one that comes then.
+pub fn put_frame(alloc: Global, out: &mut Vec<u8>, next: u32, line: Line) -> Result<u32, AllocError>
     requires { length line.body ≤ 1048576 }
     ensures bytes { OnOk result (out.new.items ≡ out.old.items ++ spelling (frame_of next line)) }
     ensures next { IfOk result (λ n. n ≡ next_after (frame_of next line).sequence) }

@@ -32,7 +32,8 @@ pub struct LineFault {
     pub cause: LineCause,
 }
 
-fn line_words(cause: LineCause) -> &'static str
+/// Why a line says no frame, in words.
+pub fn line_words(cause: LineCause) -> &'static str
     ensures { result.now ≡ line_words cause }
 {
     match cause {

@@ -122,7 +122,7 @@ fn push_body(out: &mut Vec<u8>, body: &[u8]) -> Result<(), AllocError>
 }
 
 /// Puts the line of a frame down with its newline, or answers why no line tells the frame.
-pub(crate) fn put_line(
+pub fn put_line(
     alloc: Global,
     out: &mut Vec<u8>,
     frame: &Frame,

@@ -25,7 +25,7 @@ fn is_plain(word: &[u8]) -> bool
 }
 
 /// The number that a word writes, if it writes one.
-pub(crate) fn number_in(word: &[u8]) -> Option<u32>
+pub fn number_in(word: &[u8]) -> Option<u32>
     ensures { result ≡ number_in word.now }
 {
     if !are_digits(word) || !is_plain(word) {

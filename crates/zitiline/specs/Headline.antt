@@ -28,7 +28,7 @@ pub record Answers (form : Form) (left_before left_now said_before said_now note
   pub says : Says status form input left_now said_before said_now
   pub notes : NotesLines (notes_of (fault_of form input) status) noted_before noted_now faults_before faults_now
 
--- A run that was asked for one of the two words alone, or for something else.
+-- A run that was asked for one of the four words alone, or for something else.
 --
 -- Usage comes exactly where it was asked for something else: then nothing is taken and nothing is said, and the usage line is noted.
 -- A fault comes exactly where its count rose in this run. The folder is left alone.

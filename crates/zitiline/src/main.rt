@@ -1,4 +1,4 @@
-//! The program zitiline: lines of text to frames and frames to lines, over standard input, output and error.
+//! The program zitiline: lines of text to frames and traces, frames and tagged replies to lines, over standard input, output and error.
 #![tactic(auto)]
 
 mod answers;

@@ -6,9 +6,9 @@ ghost use Rattle.zitiline.specs.Statuses.{number_of};
 pub enum Status {
     /// The input was read to its end, and all of it said.
     Done,
-    /// The words are neither `encode` nor `decode`.
+    /// The words are none of the four.
     Usage,
-    /// A line says no frame, or no line tells a frame.
+    /// A line is at fault, or no line tells a frame.
     BadInput,
     /// The source failed.
     ReadFault,

@@ -9,15 +9,21 @@ pub enum Form {
     Encode,
     /// Frames to lines.
     Decode,
+    /// Lines of sessions to a trace.
+    Trace,
+    /// Tagged replies to lines.
+    Replies,
 }
 
-/// What the words ask for, if they are `encode` or `decode` alone.
+/// What the words ask for, if they are one of the four alone.
 pub fn form_of(words: &[String]) -> Option<Form>
     ensures { result ≡ form_of (map string_bytes words.now) }
 {
     match words {
         [word] if word.as_bytes() == b"encode".as_slice() => Some(Form::Encode),
         [word] if word.as_bytes() == b"decode".as_slice() => Some(Form::Decode),
+        [word] if word.as_bytes() == b"trace".as_slice() => Some(Form::Trace),
+        [word] if word.as_bytes() == b"replies".as_slice() => Some(Form::Replies),
         _ => None,
     }
 }

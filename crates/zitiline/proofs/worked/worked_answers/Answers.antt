@@ -14,5 +14,9 @@ returns c = record {
   decoded = refl;
   cut = refl;
   cut_noted = refl;
+  traced = refl;
+  trace_noted = refl;
+  told = refl;
+  told_noted = refl;
   fault_noted = refl;
 }

@@ -1,0 +1,119 @@
+-- Tagged replies read from bytes, and the lines that tell them (docs/FORMATS.md, "Traces and tagged replies", "Lines of traces").
+use Rattle.std.specs.Prelude.{ℕ, zero, suc, ◌+◌, ◌-◌, ◌==◌, if◌then◌else◌, List, [], ◌∷◌, ◌++◌, length, codes, decimal, None, Some, Ok, Err}
+use Rattle.std.specs.declared.option.Option.{Option}
+use Rattle.std.specs.declared.result.Result.{Result}
+use Rattle.channel_frame.specs.declared.frames.Frame.{Frame}
+use Rattle.channel_frame.specs.declared.frames.Front.{Front}
+use Rattle.channel_frame.specs.declared.frames.Front.TheVariants as front
+use Rattle.channel_frame.specs.FrameSpelling.{spelling}
+use Rattle.channel_frame.specs.StreamReading.{front}
+use Rattle.frame_lines.specs.declared.told.TellCause.{TellCause}
+use Rattle.frame_lines.specs.declared.told.DecodeCause.TheVariants.{Untold, Bad, Unfinished}
+use Rattle.frame_lines.specs.FrameLines.{line_for}
+use Rattle.frame_lines.specs.TextTelling.{and_then_lines}
+use Rattle.trace_lines.specs.declared.fronts.ReplyFront.{ReplyFront}
+use Rattle.trace_lines.specs.declared.fronts.ReplyFront.TheVariants as reply
+use Rattle.trace_lines.specs.declared.replies.ReplyFault.{ReplyFault}
+use Rattle.trace_lines.specs.declared.replies.ReplyFault.TheVariants.{InFrame, NoTag}
+
+-- The bytes of a reply with its session: a byte 4, the session, and the frame.
+abbrev pub tagged : ℕ × Frame → List ℕ
+tagged r = 4 ∷ r.0 ∷ spelling r.1
+
+-- What stands behind a byte 4 and a session.
+abbrev pub behind_tag : ℕ → Front → ReplyFront
+behind_tag s front.Short = reply.Unfinished
+behind_tag s (front.Bad e) = reply.Faulty e
+behind_tag s (front.Whole f n) = reply.Whole s f (2 + n)
+
+-- What stands at the front of some bytes. Another first byte than 4 is no tag as soon as it is there.
+abbrev pub reply_front : List ℕ → ReplyFront
+reply_front [] = reply.Unfinished
+reply_front (b ∷ []) = if b == 4 then reply.Unfinished else reply.Untagged
+reply_front (b ∷ s ∷ bytes) = if b == 4 then behind_tag s (front bytes) else reply.Untagged
+
+-- A whole reply, and what is read behind it.
+abbrev pub and_then_replies : ReplyFront → (ℕ → List (ℕ × Frame)) → List (ℕ × Frame)
+and_then_replies reply.Unfinished rest = []
+and_then_replies reply.Untagged rest = []
+and_then_replies (reply.Faulty e) rest = []
+and_then_replies (reply.Whole s f n) rest = (s, f) ∷ rest (n - 1)
+
+-- The replies of some bytes with their sessions, once so many bytes of them are passed over.
+abbrev pub replies_past : List ℕ → ℕ → List (ℕ × Frame)
+replies_past [] n = []
+replies_past (b ∷ bytes) (suc n) = replies_past bytes n
+replies_past (b ∷ bytes) zero = and_then_replies (reply_front (b ∷ bytes)) (replies_past bytes)
+
+-- The replies that some bytes are read as.
+abbrev pub replies_of : List ℕ → List (ℕ × Frame)
+replies_of bytes = replies_past bytes 0
+
+-- The tail from a place on where no reply stands, or what comes behind the reply there.
+abbrev pub and_then_rest : List ℕ → ReplyFront → (ℕ → List ℕ) → List ℕ
+and_then_rest bytes reply.Unfinished rest = bytes
+and_then_rest bytes reply.Untagged rest = bytes
+and_then_rest bytes (reply.Faulty e) rest = bytes
+and_then_rest bytes (reply.Whole s f n) rest = rest (n - 1)
+
+-- The tail of some bytes, once so many bytes of them are passed over.
+abbrev pub rest_past : List ℕ → ℕ → List ℕ
+rest_past [] n = []
+rest_past (b ∷ bytes) (suc n) = rest_past bytes n
+rest_past (b ∷ bytes) zero = and_then_rest (b ∷ bytes) (reply_front (b ∷ bytes)) (rest_past bytes)
+
+-- The tail that is left of some bytes behind their replies.
+abbrev pub rest_behind : List ℕ → List ℕ
+rest_behind bytes = rest_past bytes 0
+
+-- ---- the lines
+
+-- A line with its session in front.
+abbrev pub with_session : ℕ → Result (List ℕ) TellCause → Result (List ℕ) TellCause
+with_session s (Err cause) = Err cause
+with_session s (Ok line) = Ok (decimal s ++ (codes " " ++ line))
+
+-- The line that tells a reply, or why none does: its session, and the line of its frame.
+abbrev pub reply_line : ℕ × Frame → Result (List ℕ) TellCause
+reply_line r = with_session r.0 (line_for r.1)
+
+-- The lines of some replies in order, each with its newline, up to one that no line tells.
+abbrev pub lines_telling : List (ℕ × Frame) → List ℕ
+lines_telling [] = []
+lines_telling (r ∷ rs) = and_then_lines (reply_line r) (lines_telling rs)
+
+-- The text that tells the replies of some bytes.
+abbrev pub replies_told : List ℕ → List ℕ
+replies_told bytes = lines_telling (replies_of bytes)
+
+-- ---- the fault
+
+-- The fault of a reply that no line tells, with its number, or that of what stands behind it.
+abbrev pub or_untold : ℕ → Result (List ℕ) TellCause → Option ReplyFault → Option ReplyFault
+or_untold number (Err cause) later = Some (InFrame (record { frame = number; cause = Untold cause }))
+or_untold number (Ok line) later = later
+
+-- The first of some replies that no line tells, where they are counted from this number; else the fault behind them all.
+abbrev pub untold_from : List (ℕ × Frame) → (ℕ → Option ReplyFault) → ℕ → Option ReplyFault
+untold_from [] behind number = behind number
+untold_from (r ∷ rs) behind number = or_untold number (reply_line r) (untold_from rs behind (number + 1))
+
+-- The fault of what stands at a place, which would be that of a reply of this number.
+abbrev pub front_fault : ℕ → ℕ → ReplyFront → Option ReplyFault
+front_fault number at reply.Unfinished = Some (InFrame (record { frame = number; cause = Unfinished at }))
+front_fault number at reply.Untagged = Some (NoTag number at)
+front_fault number at (reply.Faulty e) = Some (InFrame (record { frame = number; cause = Bad e at }))
+front_fault number at (reply.Whole s f n) = None
+
+-- The fault of a tail at a place; an empty one has none.
+abbrev pub tail_fault : List ℕ → ℕ → ℕ → Option ReplyFault
+tail_fault [] at number = None
+tail_fault (b ∷ rest) at number = front_fault number at (reply_front (b ∷ rest))
+
+-- The fault behind the replies of some bytes. Its place is that of the reply's first byte.
+abbrev pub fault_behind : List ℕ → ℕ → Option ReplyFault
+fault_behind bytes number = tail_fault (rest_behind bytes) (length bytes - length (rest_behind bytes)) number
+
+-- The fault that ends the text early, if there is one. Replies are counted from 1.
+abbrev pub replies_fault : List ℕ → Option ReplyFault
+replies_fault bytes = untold_from (replies_of bytes) (fault_behind bytes) 1
