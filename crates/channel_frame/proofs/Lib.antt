@@ -8,3 +8,4 @@ pub mod SessionLaws
 mod FrontParts
 pub mod AnnouncedLaws
 mod KindLaws
+mod LookupLaws

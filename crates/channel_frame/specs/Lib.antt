@@ -4,3 +4,4 @@ pub mod SessionBytes
 pub mod WorkedFrames
 pub mod TailKinds
 pub mod AnnouncedFrames
+pub mod HeaderValues

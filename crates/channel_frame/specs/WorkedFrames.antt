@@ -1,6 +1,7 @@
 -- Frames and bytes of the worked examples (docs/FORMATS.md, "Channel frame").
 use Rattle.std.specs.Prelude.{ℕ, List, [], ◌∷◌, ◌++◌, take, codes}
 use Rattle.channel_frame.specs.declared.frames.Frame.{Frame}
+use Rattle.channel_frame.specs.declared.frames.Header.{Header}
 
 -- A frame that asks for an identity: content type 1000, sequence number 7, no headers, and a text as its body.
 abbrev pub ann_frame : Frame
@@ -69,3 +70,7 @@ longer_headers = head_bytes (1 ∷ 0 ∷ 1 ∷ 0 ∷ []) no_bytes
 -- A frame whose headers part, of 9 bytes, has a header that announces two bytes where one is left.
 abbrev pub short_header : List ℕ
 short_header = head_bytes (9 ∷ 0 ∷ 0 ∷ 0 ∷ []) no_bytes ++ (5 ∷ 0 ∷ 0 ∷ 0 ∷ 2 ∷ 0 ∷ 0 ∷ 0 ∷ 120 ∷ [])
+
+-- Headers of which two have the key 5, the first with the byte 2 and the last with the byte 3; that of the key 6 is empty.
+abbrev pub repeated_headers : List Header
+repeated_headers = record { key = 5; value = 2 ∷ [] } ∷ record { key = 6; value = [] } ∷ record { key = 5; value = 3 ∷ [] } ∷ []

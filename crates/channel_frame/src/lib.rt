@@ -6,6 +6,7 @@ mod encoding;
 mod frames;
 mod fronts;
 mod laws;
+mod lookups;
 mod worked;
 
 pub use decoding::{read_frame, read_head};
@@ -13,6 +14,8 @@ pub use encoding::encode;
 pub use frames::{Frame, FrameFault, Frames, Front, Head, Header, Headers};
 pub use fronts::{announced_len, front_of, front_within};
 pub use laws::{kinds_of_tails, one_reading, one_spelling, what_stands};
+pub use lookups::last_of;
 pub use worked::{
-    worked_faults, worked_kinds, worked_readings, worked_spellings, worked_unfinished,
+    worked_faults, worked_kinds, worked_lookups, worked_readings, worked_spellings,
+    worked_unfinished,
 };

@@ -1,9 +1,10 @@
 ghost use Rattle.std.specs.Prelude.{◌≡◌, [], ◌∷◌, ◌++◌, length, take, None, Some};
 ghost use Rattle.channel_frame.specs.declared.frames.FrameFault.TheVariants.{BadMarker, TooLong, BadHeaders};
 ghost use Rattle.channel_frame.specs.FrameSpelling.{spelling};
+ghost use Rattle.channel_frame.specs.HeaderValues.{last_value, IsWithout};
 ghost use Rattle.channel_frame.specs.StreamReading.{frames_of, rest_of, fault_of};
 ghost use Rattle.channel_frame.specs.TailKinds.{IsUnfinished, IsUnmarked, IsTooLong, HasBadHeaders};
-ghost use Rattle.channel_frame.specs.WorkedFrames.{ann_frame, ann_bytes, reply_frame, reply_bytes, cut_bytes, unmarked_bytes, longest_body, longer_body, negative_body, longest_headers, longer_headers, short_header};
+ghost use Rattle.channel_frame.specs.WorkedFrames.{ann_frame, ann_bytes, reply_frame, reply_bytes, cut_bytes, unmarked_bytes, longest_body, longer_body, negative_body, longest_headers, longer_headers, short_header, repeated_headers};
 
 /// A frame and its reply, spelled.
 pub fn worked_spellings()
@@ -59,4 +60,14 @@ pub fn worked_kinds()
     ensures cut_header { HasBadHeaders short_header }
     ensures at_the_limit { IsTooLong longest_body → ⊥ }
     ensures whole { HasBadHeaders ann_bytes → ⊥ }
+{}
+
+/// What is found under a key: of two values the last, an empty value, and none where no header has the key.
+pub fn worked_lookups()
+    ensures last { last_value 5 repeated_headers ≡ Some (3 ∷ []) }
+    ensures empty { last_value 6 repeated_headers ≡ Some [] }
+    ensures absent { last_value 7 repeated_headers ≡ None }
+    ensures without { IsWithout 7 repeated_headers }
+    ensures with { IsWithout 6 repeated_headers → ⊥ }
+    ensures nothing { last_value 5 [] ≡ None }
 {}

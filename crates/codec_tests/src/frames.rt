@@ -1,7 +1,7 @@
 ghost use Rattle.std.specs.Prelude.{IfSome};
 ghost use Rattle.channel_frame.specs.FrameSpelling.{KeepsLimits};
 
-use channel_frame::{Frame, encode, read_frame, read_head};
+use channel_frame::{Frame, encode, last_of, read_frame, read_head};
 use std::alloc::Global;
 use std::test::Fail;
 
@@ -13,6 +13,12 @@ const FRAME: [u8; 34] = [
 const REPLY: [u8; 49] = [
     3, 6, 9, 12, 2, 0, 0, 0, 0, 0, 0, 0, 21, 0, 0, 0, 8, 0, 0, 0, 1, 0, 0, 0, 4, 0, 0, 0, 7, 0, 0,
     0, 2, 0, 0, 0, 1, 0, 0, 0, 1, 123, 34, 110, 111, 34, 58, 49, 125,
+];
+
+// Three headers: of the key 5 with the byte 2, of the key 6 without a byte, and of the key 5 again with the byte 3.
+const REPEATED: [u8; 46] = [
+    3, 6, 9, 12, 2, 0, 0, 0, 0, 0, 0, 0, 26, 0, 0, 0, 0, 0, 0, 0, 5, 0, 0, 0, 1, 0, 0, 0, 2, 6, 0,
+    0, 0, 0, 0, 0, 0, 5, 0, 0, 0, 1, 0, 0, 0, 3,
 ];
 
 // The frame that the bytes are, where they have the length that their head announces.
@@ -43,5 +49,16 @@ fn a_frame_is_spelled(rt: HostRuntime) -> Result<(), Fail> {
     assert_eq!(rt; reply.headers.len(), 2);
     let again = encode(rt.alloc(), &reply)?;
     assert_eq!(rt; again.as_slice(), REPLY.as_slice());
+    Ok(())
+}
+
+#[test]
+fn the_last_header_with_a_key_is_found(rt: HostRuntime) -> Result<(), Fail> {
+    let frame = frame_of(rt.alloc(), &REPEATED).ok_or("the bytes are a frame")?;
+    let last = last_of(&frame, 5).ok_or("there are two")?;
+    assert_eq!(rt; last.as_slice(), [3u8].as_slice());
+    let empty = last_of(&frame, 6).ok_or("there is one")?;
+    assert_eq!(rt; empty.len(), 0);
+    assert!(rt; last_of(&frame, 7).is_none());
     Ok(())
 }
