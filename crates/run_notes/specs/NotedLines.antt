@@ -2,6 +2,8 @@
 use Rattle.std.specs.Prelude.{◌≡◌, ◌⊎◌, ℕ, ◌+◌, ◌≤◌, Bool, true, false, List, []}
 use Rattle.std.specs.declared.option.Option.{Option}
 use Rattle.ziti_outside.specs.Causes.{Rose}
+use Rattle.ziti_outside.specs.Images.{Image}
+use Rattle.ziti_outside.specs.Moments.{Elapses}
 use Rattle.ziti_outside.specs.Told.{Took, TookFront}
 use Rattle.ziti_outside.specs.declared.desk.Part.{Part}
 use Rattle.run_notes.specs.declared.status.Status.{Status}
@@ -22,6 +24,10 @@ pub record NotesLines (lines : List ℕ) (noted_before noted_now : Option (List 
 pub record LeavesNotes {D : Type 0} (noted : D → Option (List ℕ)) (note_faults : D → ℕ) (old new : D) : Type 0 where
   pub notes : noted new ≡ noted old
   pub failed_notes : note_faults new ≡ note_faults old
+
+-- Time went on, and a stop at a moment between leaves no image and no reply bytes that one might not have left before.
+abbrev pub FindsNoMore : {D : Type 0} → (D → ℕ) → (D → ℕ → Image → List ℕ → Type 0) → (old new : D) → Type 0
+FindsNoMore moment since old new = Elapses (moment old) (moment new) (since old) (since new) (λ image taken. ⊥)
 
 -- The lines were noted whole where no note failed, and the count of failed notes rose where one did.
 abbrev pub IsNoteCaused : List ℕ → Option (List ℕ) → Option (List ℕ) → ℕ → ℕ → Bool → Type 0

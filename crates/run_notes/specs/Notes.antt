@@ -7,6 +7,8 @@ use Rattle.session_mux.specs.declared.events.Event.{Event}
 use Rattle.session_mux.specs.declared.events.Event.TheVariants as event
 use Rattle.session_mux.specs.declared.sessions.Form.{Form}
 use Rattle.session_mux.specs.Completion.{Standing, begins_bad}
+use Rattle.run_notes.specs.declared.ends.Full.{Full}
+use Rattle.run_notes.specs.declared.ends.Full.TheVariants as full
 use Rattle.run_notes.specs.declared.status.Status.{Status}
 use Rattle.run_notes.specs.declared.status.Status.TheVariants.{Done, Usage, BadInput, Truncated, ReadFault, WriteFault, DiskFault, Damaged, NoMemory, InputTooLong, FolderFull}
 use Rattle.run_notes.specs.Inputs.{end_in, closed_rests, rest_at, all_sessions}
@@ -71,7 +73,13 @@ file_number Mark = 2
 abbrev pub damaged_note : Part → ℕ → List ℕ
 damaged_note part at = note_of (codes "damaged: file " ++ (decimal (file_number part) ++ (codes " at " ++ decimal at)))
 
--- The lines of a status, given those of what is left of the sessions. That of a damaged folder tells its place besides.
+-- The note of a folder without room for a compaction: whether the journal is full, or the mark.
+abbrev pub full_note : Full → List ℕ
+full_note full.Journal = note_of (codes "journal full")
+full_note full.Mark = note_of (codes "mark full")
+
+-- The lines of a status, given those of what is left of the sessions. That of a damaged folder tells its place besides, and that of a
+-- full one what is full.
 abbrev pub status_lines : List ℕ → Status → List ℕ
 status_lines rests Done = []
 status_lines rests Usage = usage_note

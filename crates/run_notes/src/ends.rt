@@ -22,6 +22,15 @@ pub enum Cut {
     Unsaid,
 }
 
+/// What of the folder has no room for a compaction.
+#[derive(Clone, Copy)]
+pub enum Full {
+    /// The other slot: the rows would pass its bound.
+    Journal,
+    /// The mark: it is at its bound.
+    Mark,
+}
+
 impl From<AllocError> for Cut {
     ghost use Rattle.std.specs.Prelude.{◌≡◌};
     ghost use Rattle.run_notes.specs.declared.ends.Cut.TheVariants.{NoMemory};

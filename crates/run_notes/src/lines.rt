@@ -1,7 +1,8 @@
 ghost use Rattle.std.specs.Prelude.{◌≡◌, ◌++◌, [], IfOk, codes, decimal};
 ghost use Rattle.std.specs.String.{string_bytes};
-ghost use Rattle.run_notes.specs.Notes.{damaged_note, fault_word as word_of_fault, file_number, session_note, session_rest_lines, status_lines, trace_note, trace_rest_lines};
+ghost use Rattle.run_notes.specs.Notes.{damaged_note, fault_word as word_of_fault, file_number, full_note, session_note, session_rest_lines, status_lines, trace_note, trace_rest_lines};
 
+use crate::ends::Full;
 use crate::status::Status;
 use std::alloc::{AllocError, Global};
 use ziti_outside::Part;
@@ -86,4 +87,14 @@ pub fn damaged_line(alloc: Global, part: Part, at: u64) -> Result<String, AllocE
 {
     let file = file_number(part);
     format!(in alloc; "zitictl: damaged: file {file} at {at}\n")
+}
+
+/// The line of a folder without room for a compaction.
+pub fn full_line(full: Full) -> &'static [u8]
+    ensures { result.now ≡ full_note full }
+{
+    match full {
+        Full::Journal => b"zitictl: journal full\n",
+        Full::Mark => b"zitictl: mark full\n",
+    }
 }

@@ -1,6 +1,6 @@
 ghost use Rattle.std.specs.Prelude.{◌≡◌, ◌++◌, false, OnOk, OnErr, codes, decimal};
 ghost use Rattle.ziti_outside.specs.Untouched.{OnlyNotes};
-ghost use Rattle.run_notes.specs.NotedLines.{IsNoteCaused, LeavesNotes, NotesLines, RisesOnce};
+ghost use Rattle.run_notes.specs.NotedLines.{FindsNoMore, IsNoteCaused, LeavesNotes, NotesLines, RisesOnce};
 ghost use Rattle.run_notes.specs.Notes.{fault_word as word_of_fault, session_note};
 ghost use Rattle.run_notes.specs.NotesSoFar.{NotesMore};
 
@@ -20,6 +20,7 @@ pub fn note_lines<D: Desk>(lines: &[u8], desk: &mut D) -> bool
     ensures cause { IsNoteCaused lines.now (D.noted desk.old) (D.noted desk.new) (D.note_faults desk.old) (D.note_faults desk.new) result }
     ensures counted { RisesOnce (D.note_faults desk.old) (D.note_faults desk.new) }
     ensures others { OnlyNotes D.said D.say_faults D.reads D.may_leave D.disk_faults desk.old desk.new }
+    ensures stops { FindsNoMore D.moment D.since desk.old desk.new }
 {
     lines.is_empty() || desk.note(lines).is_ok()
 }
@@ -36,6 +37,7 @@ impl Notes {
     pub fn write<D: Desk>(&mut self, lines: &[u8], desk: &mut D)
         ensures noted { NotesMore self.old.failed self.new.failed lines.now (D.noted desk.old) (D.noted desk.new) (D.note_faults desk.old) (D.note_faults desk.new) }
         ensures others { OnlyNotes D.said D.say_faults D.reads D.may_leave D.disk_faults desk.old desk.new }
+        ensures stops { FindsNoMore D.moment D.since desk.old desk.new }
     {
         if !self.failed {
             self.failed = !note_lines(lines, desk);
@@ -55,6 +57,7 @@ pub fn note_fault<D: Desk>(
     ensures noted { OnOk result (NotesMore notes.old.failed notes.new.failed (session_note session (word_of_fault fault ++ (codes " at " ++ decimal at))) (D.noted desk.old) (D.noted desk.new) (D.note_faults desk.old) (D.note_faults desk.new)) }
     ensures unnoted { OnErr result ((notes.new ≡ notes.old) × LeavesNotes D.noted D.note_faults desk.old desk.new) }
     ensures others { OnlyNotes D.said D.say_faults D.reads D.may_leave D.disk_faults desk.old desk.new }
+    ensures stops { FindsNoMore D.moment D.since desk.old desk.new }
 {
     let line = fault_line(alloc, session, fault_word(fault), at)?;
     notes.write(line.as_bytes(), desk);

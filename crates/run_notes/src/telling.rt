@@ -6,12 +6,14 @@ ghost use Rattle.session_mux.specs.MuxSteps.{HasMoved};
 ghost use Rattle.ziti_outside.specs.Untouched.{OnlyNotes};
 ghost use Rattle.run_notes.specs.Endings.{ComesToEnd, IsAllGiven, status_at, status_of_cut};
 ghost use Rattle.run_notes.specs.Inputs.{leaves_some, rest_at};
-ghost use Rattle.run_notes.specs.NotedLines.{LeavesNotes, NotesLines, RisesOnce, TellsDamage};
-ghost use Rattle.run_notes.specs.Notes.{ending_lines, rest_lines, session_rest_lines, status_lines, trace_note};
+ghost use Rattle.run_notes.specs.NotedLines.{FindsNoMore, LeavesNotes, NotesLines, RisesOnce, TellsDamage};
+ghost use Rattle.run_notes.specs.Notes.{ending_lines, full_note, rest_lines, session_rest_lines, status_lines, trace_note};
 ghost use Rattle.run_notes.specs.NotesSoFar.{NotesMore};
 
-use crate::ends::{Cut, End};
-use crate::lines::{bad_line, damaged_line, session_rest_line, status_line, trace_rest_line};
+use crate::ends::{Cut, End, Full};
+use crate::lines::{
+    bad_line, damaged_line, full_line, session_rest_line, status_line, trace_rest_line,
+};
 use crate::notes::{Notes, note_lines};
 use crate::sessions::Sessions;
 use crate::status::Status;
@@ -126,6 +128,7 @@ fn tell_bad_record<D: Desk>(
     ensures noted { IfOk result (λ s. NotesMore notes.old.failed notes.new.failed (trace_note (codes "BadRecord at " ++ decimal at) ++ status_lines [] s) (D.noted desk.old) (D.noted desk.new) (D.note_faults desk.old) (D.note_faults desk.new)) }
     ensures unnoted { OnErr result ((notes.new ≡ notes.old) × LeavesNotes D.noted D.note_faults desk.old desk.new) }
     ensures others { OnlyNotes D.said D.say_faults D.reads D.may_leave D.disk_faults desk.old desk.new }
+    ensures stops { FindsNoMore D.moment D.since desk.old desk.new }
 {
     let status = status_of(true, false, end);
     let line = bad_line(alloc, at)?;
@@ -149,6 +152,7 @@ fn tell_rests<D: Desk>(
     ensures unnoted { OnErr result ((notes.new ≡ notes.old) × LeavesNotes D.noted D.note_faults desk.old desk.new) }
     ensures memory { OnErr result (status_at sessions.now.faulty (leaves_some (end_of mux.now) sessions.now.closed) end ≡ Status.Truncated) }
     ensures others { OnlyNotes D.said D.say_faults D.reads D.may_leave D.disk_faults desk.old desk.new }
+    ensures stops { FindsNoMore D.moment D.since desk.old desk.new }
 {
     let status = status_of(sessions.faulty(), has_rest(mux, sessions), end);
     let lines = rests_of(alloc, mux, sessions, status)?;
@@ -174,6 +178,7 @@ pub fn tell_ending<D: Desk>(
     ensures unnoted { OnErr result ((notes.new ≡ notes.old) × LeavesNotes D.noted D.note_faults desk.old desk.new) }
     ensures memory { OnErr result ((begins_bad (end_of mux.now) ≡ true) ⊎ (status_at sessions.now.faulty (leaves_some (end_of mux.now) sessions.now.closed) end ≡ Status.Truncated)) }
     ensures others { OnlyNotes D.said D.say_faults D.reads D.may_leave D.disk_faults desk.old desk.new }
+    ensures stops { FindsNoMore D.moment D.since desk.old desk.new }
 {
     match bad {
         Some(at) => tell_bad_record(alloc, at, end, notes, desk),
@@ -197,6 +202,7 @@ pub fn tell_cut_behind<D: Desk>(cut: Cut, notes: &mut Notes, desk: &mut D) -> St
     ensures status { result ≡ status_of_cut cut }
     ensures noted { NotesMore notes.old.failed notes.new.failed (status_lines [] result) (D.noted desk.old) (D.noted desk.new) (D.note_faults desk.old) (D.note_faults desk.new) }
     ensures others { OnlyNotes D.said D.say_faults D.reads D.may_leave D.disk_faults desk.old desk.new }
+    ensures stops { FindsNoMore D.moment D.since desk.old desk.new }
 {
     let status = status_by(cut);
     notes.write(status_line(status), desk);
@@ -209,6 +215,7 @@ pub fn tell_cut<D: Desk>(cut: Cut, desk: &mut D) -> Status
     ensures told { NotesLines (status_lines [] result) (D.noted desk.old) (D.noted desk.new) (D.note_faults desk.old) (D.note_faults desk.new) }
     ensures counted { RisesOnce (D.note_faults desk.old) (D.note_faults desk.new) }
     ensures others { OnlyNotes D.said D.say_faults D.reads D.may_leave D.disk_faults desk.old desk.new }
+    ensures stops { FindsNoMore D.moment D.since desk.old desk.new }
 {
     let status = status_by(cut);
     note_lines(status_line(status), desk);
@@ -219,6 +226,7 @@ pub fn tell_cut<D: Desk>(cut: Cut, desk: &mut D) -> Status
 pub fn tell_damage<D: Desk>(alloc: Global, part: Part, at: u64, desk: &mut D) -> Status
     ensures told { TellsDamage part at result (D.noted desk.old) (D.noted desk.new) (D.note_faults desk.old) (D.note_faults desk.new) }
     ensures others { OnlyNotes D.said D.say_faults D.reads D.may_leave D.disk_faults desk.old desk.new }
+    ensures stops { FindsNoMore D.moment D.since desk.old desk.new }
 {
     match damaged_line(alloc, part, at) {
         Ok(line) => {
@@ -227,4 +235,16 @@ pub fn tell_damage<D: Desk>(alloc: Global, part: Part, at: u64, desk: &mut D) ->
         }
         Err(_) => tell_cut(Cut::NoMemory, desk),
     }
+}
+
+/// Notes what of the folder has no room for a compaction, and answers that status.
+pub fn tell_full<D: Desk>(full: Full, desk: &mut D) -> Status
+    ensures status { result ≡ Status.FolderFull }
+    ensures told { NotesLines (full_note full) (D.noted desk.old) (D.noted desk.new) (D.note_faults desk.old) (D.note_faults desk.new) }
+    ensures counted { RisesOnce (D.note_faults desk.old) (D.note_faults desk.new) }
+    ensures others { OnlyNotes D.said D.say_faults D.reads D.may_leave D.disk_faults desk.old desk.new }
+    ensures stops { FindsNoMore D.moment D.since desk.old desk.new }
+{
+    note_lines(full_line(full), desk);
+    Status::FolderFull
 }

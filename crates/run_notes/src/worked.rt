@@ -3,10 +3,11 @@ ghost use Rattle.channel_frame.specs.WorkedFrames.{ann_bytes, cut_bytes, unmarke
 ghost use Rattle.session_mux.specs.declared.sessions.Form.TheVariants.{Plain, Trace};
 ghost use Rattle.session_mux.specs.WorkedTraces.{two_sessions, kind_five, cut_data, one_faulty, closed_within};
 ghost use Rattle.ziti_outside.specs.declared.desk.Part.TheVariants.{Zero};
+ghost use Rattle.run_notes.specs.declared.ends.Full.TheVariants as full;
 ghost use Rattle.run_notes.specs.declared.status.Status.TheVariants as status;
 ghost use Rattle.run_notes.specs.Endings.{ending};
 ghost use Rattle.run_notes.specs.Inputs.{events_in};
-ghost use Rattle.run_notes.specs.Notes.{damaged_note, notes_of, session_note, usage_note};
+ghost use Rattle.run_notes.specs.Notes.{damaged_note, full_note, notes_of, session_note, usage_note};
 ghost use Rattle.run_notes.specs.WorkedNotes.{plain_notes, trace_notes, two_and_faulty};
 
 /// How whole, cut and faulty inputs end, as long as they may be and longer: a fault comes before a longer input, and this before the
@@ -23,7 +24,7 @@ pub fn worked_endings()
 {}
 
 /// The notes of such inputs. A read fault is noted behind the fault of the input; a write fault, a disk
-/// fault and want of memory are noted alone. A damaged folder is told by the slot and the place.
+/// fault and want of memory are noted alone. A damaged folder is told by the slot and the place, and a full one by what is full.
 pub fn worked_notes()
     ensures done { plain_notes ann_bytes status.Done ≡ [] }
     ensures cut { plain_notes cut_bytes status.Truncated ≡ codes "zitictl: session 0: 19 bytes left\n" }
@@ -40,6 +41,8 @@ pub fn worked_notes()
     ensures disk { notes_of Plain [] (ann_bytes ++ unmarked_bytes) status.DiskFault ≡ codes "zitictl: disk fault\n" }
     ensures disk_second { notes_of Plain (take 1 (events_in Plain two_and_faulty)) two_and_faulty status.DiskFault ≡ codes "zitictl: disk fault\n" }
     ensures damaged { damaged_note Zero 8 ≡ codes "zitictl: damaged: file 0 at 8\n" }
+    ensures journal_full { full_note full.Journal ≡ codes "zitictl: journal full\n" }
+    ensures mark_full { full_note full.Mark ≡ codes "zitictl: mark full\n" }
     ensures usage { usage_note ≡ codes "zitictl: usage: zitictl dry | replay [--sessions] | audit | compact | load N\n" }
     ensures another_session { session_note 12 (codes "3 bytes left") ≡ codes "zitictl: session 12: 3 bytes left\n" }
 {}

@@ -1,5 +1,6 @@
 use Rattle.std.proofs.Common.{ℕ, List, [], subst, ◌∙◌}
 use Rattle.session_mux.specs.Completion.{end_of}
+use Rattle.ziti_outside.proofs.MomentLaws.{Elapses-then}
 use Rattle.run_notes.specs.Notes.{rest_lines, status_lines}
 use Rattle.run_notes.specs.NotesSoFar.{NotesMore}
 use Rattle.run_notes.proofs.NoteLaws.{more_then, told_lines, OnlyNotes-then}
@@ -21,3 +22,7 @@ returns-clause-noted g c =
 
 pub returns-clause-others : goal.returns-clause-others
 returns-clause-others g c = OnlyNotes-then c.write.ensures.others c.write-2.ensures.others
+
+pub returns-clause-stops : goal.returns-clause-stops
+returns-clause-stops g c =
+    Elapses-then (λ image taken. ⊥) c.write.ensures.stops c.write-2.ensures.stops (λ image taken none. none) (λ image taken none. none)
