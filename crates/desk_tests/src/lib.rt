@@ -4,6 +4,8 @@
 #[cfg(test)]
 mod checks;
 #[cfg(test)]
+mod choices;
+#[cfg(test)]
 mod folders;
 #[cfg(test)]
 mod stops;

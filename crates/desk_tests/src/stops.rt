@@ -29,18 +29,19 @@ pub(crate) fn desk(alloc: Global, failing: &[u32]) -> Result<MemDesk, AllocError
     MemDesk::new(alloc, images, ROOM, failing)
 }
 
-fn has_moments(rt: &impl Abort, desk: &MemDesk, wanted: u64) {
+/// So many calls were made that matter to a stop.
+pub(crate) fn has_moments(rt: &impl Abort, desk: &MemDesk, wanted: u64) {
     assert_eq!(rt; desk.moments(), wanted);
 }
 
 /// Compares bytes that a stop at a moment leaves, by a choice.
-fn are_left(rt: &impl Abort, stop: (u64, u64), found: &[u8], wanted: &[u8]) {
+pub(crate) fn are_left(rt: &impl Abort, stop: (u64, u64), found: &[u8], wanted: &[u8]) {
     let (moment, choice) = stop;
     assert_eq!(rt; found, wanted, "{moment} {choice}");
 }
 
 /// Compares what a stop leaves of the first slot, and the replies.
-fn leaves(
+pub(crate) fn leaves(
     rt: &impl Abort,
     alloc: Global,
     desk: &MemDesk,

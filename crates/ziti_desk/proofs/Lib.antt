@@ -2,3 +2,4 @@ pub mod MemLaws
 pub mod MemSteps
 pub mod PieceLaws
 pub mod StopLaws
+pub mod KeptLaws

@@ -25,15 +25,19 @@ events_first (Cut p len done) calls s w = refl
 events_first (Synced p) calls s w = refl
 
 -- The log from a call on.
-log_head : (seen calls : List Call) (index : ℕ) (d : Call) → seen ≡ calls → index < length calls → drop index calls ≡ get_or seen index d ∷ drop (index + 1) calls
-log_head seen calls index d same lt = rw same (drop_more calls index d lt)
+pub log_next : (seen calls : List Call) (index : ℕ) (d : Call) (s w : List ℕ) → seen ≡ calls → index < length calls
+    → events (drop index calls) s w ≡ event_of (get_or seen index d) s w ∷ events (drop (index + 1) calls) (said_past (get_or seen index d) s) (written_past (get_or seen index d) w)
+log_next seen calls index d s w same lt =
+    rw same (ap (λ (l : List Call). events l s w) (drop_more calls index d lt) ∙ events_first (get_or calls index d) (drop (index + 1) calls) s w)
 
--- A pair of one moment is a pair of the moments from that one on.
-pub at_since : (r : Image) (may : Image → Type 0) (s : List ℕ) (es : List Event) (t : ℕ) (c : Image) (w : List ℕ) → PairsAt r may s es t c w → Pairs r may s es t c w
-at_since r may s [] zero c w p = p
-at_since r may s [] (suc t) c w p = absurd p
-at_since r may s (e ∷ es) zero c w p = inl p
-at_since r may s (e ∷ es) (suc t) c w p = at_since (reads_by e r) (may_by e r may) (said_by e s) es t c w p
+-- A pair of one moment is a pair of the moments from an earlier one on.
+pub at_since : (r : Image) (may : Image → Type 0) (s : List ℕ) (es : List Event) (early t : ℕ) (c : Image) (w : List ℕ) → early ≤ t → PairsAt r may s es t c w → Pairs r may s es early c w
+at_since r may s [] early zero c w le p = p
+at_since r may s [] early (suc t) c w le p = absurd p
+at_since r may s (e ∷ es) zero zero c w le p = inl p
+at_since r may s (e ∷ es) zero (suc t) c w le p = inr (at_since (reads_by e r) (may_by e r may) (said_by e s) es zero t c w (omega arith) p)
+at_since r may s (e ∷ es) (suc early) zero c w le p = absurd (omega (arith, le))
+at_since r may s (e ∷ es) (suc early) (suc t) c w le p = at_since (reads_by e r) (may_by e r may) (said_by e s) es early t c w (omega (arith, le)) p
 
 -- The pairs of a moment, seen from that moment.
 pub at_behind : (r : Image) (may : Image → Type 0) (s : List ℕ) (done es : List Event) (c : Image) (w : List ℕ)
@@ -45,7 +49,8 @@ at_behind r may s (e ∷ done) es c w p = at_behind (reads_by e r) (may_by e r m
 pub record Mixes (may : Image → Type 0) : Type 0 where
   pub mixed : (p : Part) (c d : Image) → may c → may d → may (with_part p (d p) c)
 
-self_part : (p : Part) (a b m : List ℕ) → with_part p (at_parts a b m p) (at_parts a b m) ≡ at_parts a b m
+-- A part of its own bytes.
+pub self_part : (p : Part) (a b m : List ℕ) → with_part p (at_parts a b m p) (at_parts a b m) ≡ at_parts a b m
 self_part Zero a b m = refl
 self_part One a b m = refl
 self_part Mark a b m = refl
@@ -218,7 +223,7 @@ pub log_more : (first : Images) (seen calls : List Call) (index : ℕ) (d : Call
 log_more first seen calls index d es s w s_now w_now reads reads_now image image_now said said_now same lt same_said same_written old r k t =
     let call = get_or seen index d in
     let rest = events (drop (index + 1) calls) (said_past call s) (written_past call w) in
-    let head : events (drop index calls) s w ≡ event_of call s w ∷ rest = ap (λ (l : List Call). events l s w) (log_head seen calls index d same lt) ∙ events_first call (drop (index + 1) calls) s w in
+    let head = log_next seen calls index d s w same lt in
     rw (same_said, same_written)
     (reached_more first.zero.items first.one.items first.mark.items es rest index (event_of call s w) reads reads_now image image_now said said_now
     (subst (λ (l : List Event). Reached (image_of first) es l index reads image said) head old) r k t)
@@ -230,7 +235,7 @@ pub log_within : (first : Images) (seen calls : List Call) (index : ℕ) (d : Ca
 log_within first seen calls index d es s w reads image said taken same lt old within =
     let call = get_or seen index d in
     let rest = events (drop (index + 1) calls) (said_past call s) (written_past call w) in
-    let head : events (drop index calls) s w ≡ event_of call s w ∷ rest = ap (λ (l : List Call). events l s w) (log_head seen calls index d same (omega (arith, lt, ap length same))) ∙ events_first call (drop (index + 1) calls) s w in
+    let head = log_next seen calls index d s w same (omega (arith, lt, ap length same)) in
     stop_within (image_of first) es rest index (event_of call s w) reads image said taken (subst (λ (l : List Event). Reached (image_of first) es l index reads image said) head old) (within_alone call s w said taken within)
 
 -- A stop behind the last call of a log.

@@ -5,3 +5,4 @@ pub mod MemStops
 pub mod Pieces
 pub mod StopPoints
 pub mod DeskStops
+pub mod KeptSteps

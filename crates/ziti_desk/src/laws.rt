@@ -1,11 +1,12 @@
-ghost use Rattle.std.specs.Prelude.{◌≡◌, ℕ, Bool, true, false, List, [], ◌∷◌, ◌++◌, length, take};
+ghost use Rattle.std.specs.Prelude.{◌≡◌, ℕ, Bool, true, false, List, [], ◌∷◌, ◌++◌, length, take, All};
+ghost use Rattle.std.specs.List.{list_any};
 ghost use Rattle.ziti_outside.specs.declared.desk.Part.{Part};
 ghost use Rattle.ziti_outside.specs.declared.desk.Part.TheVariants.{Zero, One, Mark};
 ghost use Rattle.ziti_outside.specs.Images.{Image, Torn, CutShort, OnPart};
 ghost use Rattle.ziti_desk.specs.declared.mem_log.Call.TheVariants.{Wrote};
 ghost use Rattle.ziti_desk.specs.Pieces.{from_first, first, without, joined, is_listed, next_call};
-ghost use Rattle.ziti_desk.specs.StopPoints.{PairsAt, KeepsOf, event_of, said_past, written_past};
-ghost use Rattle.ziti_desk.specs.MemEvents.{Event, Saying, Writing, Cutting, Syncing, at_parts, reads_after, Leaving, Since};
+ghost use Rattle.ziti_desk.specs.StopPoints.{PairsAt, KeepsOf, event_of, said_past, written_past, syncs, as_done, synced_parts, whole_parts, KeepsNothing, KeepsAll, worked_calls};
+ghost use Rattle.ziti_desk.specs.MemEvents.{Event, Saying, Writing, Cutting, Syncing, at_parts, written_over, reads_after, Leaving, Since};
 
 /// What a stop finds of a desk over memory behind a write, a cut and a sync: each image that a stop within a write or a cut
 /// leaves of an earlier one is found until the part is synced, and then those alone that have in it what it reads.
@@ -19,6 +20,36 @@ pub fn pending_until_synced()
     ensures stays { (first : Image) (events : List Event) (part : Part) (image : Image)
         → Leaving first events image → image part ≡ reads_after first events part → Leaving first (events ++ Syncing part ∷ []) image }
     ensures at_first { (first image : Image) → Leaving first [] image → image ≡ first }
+{}
+
+/// What a stop finds of a part where nothing that is pending is kept, and where all of it is. Of nothing it is what the part read at
+/// its last sync, or at first; of all it is what the part reads, where no call failed, with each write and cut whole behind it.
+pub fn nothing_or_all_is_kept()
+    ensures synced { (first : Image) (before behind : List Event) (part : Part) → list_any (syncs part) behind ≡ false
+        → synced_parts first (before ++ (Syncing part ∷ behind)) part ≡ reads_after first before part }
+    ensures never_synced { (first : Image) (events : List Event) (part : Part) → list_any (syncs part) events ≡ false → synced_parts first events part ≡ first part }
+    ensures whole { (first : Image) (events : List Event) (part : Part) → All (λ event. as_done event ≡ event) events → whole_parts first events part ≡ reads_after first events part }
+    ensures written_whole { (first : Image) (events : List Event) (part : Part) (at : ℕ) (bytes : List ℕ) (done : Bool)
+        → whole_parts first (events ++ Writing part at bytes done ∷ []) part ≡ written_over at bytes (whole_parts first events part) }
+    ensures cut_whole { (first : Image) (events : List Event) (part : Part) (len : ℕ) (done : Bool)
+        → whole_parts first (events ++ Cutting part len done ∷ []) part ≡ take len (whole_parts first events part) }
+    ensures synced_whole { (first : Image) (events : List Event) (part : Part) → whole_parts first (events ++ Syncing part ∷ []) part ≡ reads_after first events part }
+{}
+
+/// What a stop finds, by its choice, of a desk whose first slot was `1 2 3`: `7 8` are written at its second place, `5 6` are said, the
+/// slot is synced, a write of `9` at its start fails, and `4` is said; worked by hand.
+pub fn worked_choices()
+    ensures nothing_at_first { KeepsNothing (at_parts (1 ∷ 2 ∷ 3 ∷ []) [] []) worked_calls 0 (at_parts (1 ∷ 2 ∷ 3 ∷ []) [] []) [] }
+    ensures nothing_of_a_write { KeepsNothing (at_parts (1 ∷ 2 ∷ 3 ∷ []) [] []) worked_calls 1 (at_parts (1 ∷ 2 ∷ 3 ∷ []) [] []) [] }
+    ensures all_of_it_and_of_a_say { KeepsAll (at_parts (1 ∷ 2 ∷ 3 ∷ []) [] []) worked_calls 1 (at_parts (1 ∷ 7 ∷ 8 ∷ []) [] []) (5 ∷ 6 ∷ []) }
+    ensures nothing_until_the_sync { KeepsNothing (at_parts (1 ∷ 2 ∷ 3 ∷ []) [] []) worked_calls 2 (at_parts (1 ∷ 2 ∷ 3 ∷ []) [] []) (5 ∷ 6 ∷ []) }
+    ensures synced { KeepsNothing (at_parts (1 ∷ 2 ∷ 3 ∷ []) [] []) worked_calls 3 (at_parts (1 ∷ 7 ∷ 8 ∷ []) [] []) (5 ∷ 6 ∷ []) }
+    ensures nothing_of_a_failed_write { KeepsNothing (at_parts (1 ∷ 2 ∷ 3 ∷ []) [] []) worked_calls 4 (at_parts (1 ∷ 7 ∷ 8 ∷ []) [] []) (5 ∷ 6 ∷ []) }
+    ensures all_of_a_failed_write { KeepsAll (at_parts (1 ∷ 2 ∷ 3 ∷ []) [] []) worked_calls 4 (at_parts (9 ∷ 7 ∷ 8 ∷ []) [] []) (5 ∷ 6 ∷ 4 ∷ []) }
+    ensures all_at_the_end { KeepsAll (at_parts (1 ∷ 2 ∷ 3 ∷ []) [] []) worked_calls 5 (at_parts (9 ∷ 7 ∷ 8 ∷ []) [] []) (5 ∷ 6 ∷ 4 ∷ []) }
+    ensures no_unsynced_write { KeepsNothing (at_parts (1 ∷ 2 ∷ 3 ∷ []) [] []) worked_calls 1 (at_parts (1 ∷ 7 ∷ 8 ∷ []) [] []) [] → ⊥ }
+    ensures no_write_lost { KeepsAll (at_parts (1 ∷ 2 ∷ 3 ∷ []) [] []) worked_calls 1 (at_parts (1 ∷ 2 ∷ 3 ∷ []) [] []) (5 ∷ 6 ∷ []) → ⊥ }
+    ensures no_say_more { KeepsNothing (at_parts (1 ∷ 2 ∷ 3 ∷ []) [] []) worked_calls 1 (at_parts (1 ∷ 2 ∷ 3 ∷ []) [] []) (5 ∷ 6 ∷ []) → ⊥ }
 {}
 
 /// Images that a stop leaves of a first slot `1 2 3`, worked by hand: `7 8` are written at its second place, pending or failed, and

@@ -18,7 +18,10 @@ mod stopping;
 
 pub use files::{FileDesk, FileSource};
 pub use folder::Paths;
-pub use laws::{pending_until_synced, worked_images, worked_moments, worked_pieces};
+pub use laws::{
+    nothing_or_all_is_kept, pending_until_synced, worked_choices, worked_images, worked_moments,
+    worked_pieces,
+};
 pub use mem_desk::{MemDesk, Room};
 pub use mem_parts::Images;
 pub use mem_source::MemSource;

@@ -109,14 +109,17 @@ impl MemDesk {
 }
 
 impl MemDesk {
-    ghost use Rattle.std.specs.Prelude.{◌≡◌, ◌≤◌, IfOk};
+    ghost use Rattle.std.specs.Prelude.{◌≡◌, ◌≤◌, ℕ, IfOk};
     ghost use Rattle.ziti_desk.specs.MemEvents.{image_of};
-    ghost use Rattle.ziti_desk.specs.DeskStops.{StopsAt};
+    ghost use Rattle.ziti_desk.specs.DeskStops.{StopsAt, KeepsNothingAt, KeepsAllAt};
 
     /// The parts and the replies that a stop at a moment leaves, behind so many of the calls that matter to it or within the next.
     ///
     /// The choice 0 keeps nothing that is pending, 1 keeps all of it, and any other draws the bytes and lengths that are kept from
     /// the generator of that number. Of a say at that moment a front of its bytes is kept likewise.
+    ///
+    /// Where nothing is kept, each part has what it read at its last sync before that moment, or at first. Where all is, it has
+    /// what it would read if none of its writes and cuts since then had failed, and a say at that moment was taken whole.
     pub fn stopped(
         &self,
         alloc: Global,
@@ -125,7 +128,9 @@ impl MemDesk {
     ) -> Result<(Images, Vec<u8>), AllocError>
         requires { moment ≤ ⟦<MemDesk as Desk>⟧.moment self.now }
         ensures found { IfOk result (λ stop. StopsAt self.now moment (image_of stop.0) stop.1.items) }
-        ensures since { IfOk result (λ stop. ⟦<MemDesk as Desk>⟧.since self.now moment (image_of stop.0) stop.1.items) }
+        ensures since { IfOk result (λ stop. (early : ℕ) → early ≤ moment → ⟦<MemDesk as Desk>⟧.since self.now early (image_of stop.0) stop.1.items) }
+        ensures nothing { choice ≡ 0 → IfOk result (λ stop. KeepsNothingAt self.now moment (image_of stop.0) stop.1.items) }
+        ensures all { choice ≡ 1 → IfOk result (λ stop. KeepsAllAt self.now moment (image_of stop.0) stop.1.items) }
     {
         let mut keeping = chosen(choice);
         let said = self.said.as_slice();

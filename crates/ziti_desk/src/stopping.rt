@@ -4,6 +4,7 @@ ghost use Rattle.std.specs.Prelude.{◌≡◌, ◌≤◌, ◌++◌, ℕ, List, [
 ghost use Rattle.ziti_outside.specs.Told.{IsFront};
 ghost use Rattle.ziti_desk.specs.MemEvents.{Event, Within, events, logged, said_by, reads_by, image_of};
 ghost use Rattle.ziti_desk.specs.StopPoints.{PairsAt, KeepsOf, Reached, event_of, said_past, written_past};
+ghost use Rattle.ziti_desk.specs.KeptSteps.{KeepsBy, StaysChosen, SaysChosen, KeepsChosen};
 
 use crate::mem_log::{Call, Log};
 use crate::mem_parts::Images;
@@ -21,7 +22,10 @@ pub enum Keeping {
 }
 
 /// What the number of a choice keeps: 0 nothing, 1 all, and another one draws from the generator of that number.
-pub fn chosen(choice: u64) -> Keeping {
+pub fn chosen(choice: u64) -> Keeping
+    ensures nothing { choice ≡ 0 → result ≡ Keeping.Nothing }
+    ensures all { choice ≡ 1 → result ≡ Keeping.All }
+{
     match choice {
         0 => Keeping::Nothing,
         1 => Keeping::All,
@@ -32,7 +36,10 @@ pub fn chosen(choice: u64) -> Keeping {
 impl Keeping {
     // How many are kept of so many.
     fn count(&mut self, most: usize) -> usize
-        ensures { result ≤ most }
+        ensures within { result ≤ most }
+        ensures nothing { self.old ≡ Keeping.Nothing → result ≡ 0 }
+        ensures all { self.old ≡ Keeping.All → result ≡ most }
+        ensures stays { StaysChosen self.old self.new }
     {
         match self {
             Keeping::Nothing => 0,
@@ -44,25 +51,13 @@ impl Keeping {
         }
     }
 
-    // The byte that is found where one was written.
-    fn byte(&mut self, written: u8) -> u8 {
-        match self {
-            Keeping::Drawn(generator) => {
-                let word = generator.next_word();
-                if word % 2 == 0 {
-                    written
-                } else {
-                    (word >> 24) as u8
-                }
-            }
-            _ => written,
-        }
-    }
-
     // The front of the bytes that is kept.
     fn front<'b>(&mut self, bytes: &'b [u8]) -> &'b [u8]
         ensures few { length result.now ≤ length bytes.now }
         ensures front { IsFront result.now bytes.now }
+        ensures nothing { self.old ≡ Keeping.Nothing → result.now ≡ [] }
+        ensures all { self.old ≡ Keeping.All → result.now ≡ bytes.now }
+        ensures stays { StaysChosen self.old self.new }
     {
         let (front, _) = bytes.split_at(self.count(bytes.len()));
         front
@@ -70,15 +65,38 @@ impl Keeping {
 
     // The bytes that are found of those of a write.
     fn text(&mut self, alloc: Global, bytes: &[u8]) -> Result<Vec<u8>, AllocError>
-        ensures { IfOk result (λ text. length text.items ≤ length bytes.now) }
+        ensures few { IfOk result (λ text. length text.items ≤ length bytes.now) }
+        ensures nothing { IfOk result (λ text. self.old ≡ Keeping.Nothing → text.items ≡ []) }
+        ensures all { IfOk result (λ text. self.old ≡ Keeping.All → text.items ≡ bytes.now) }
+        ensures stays { StaysChosen self.old self.new }
     {
         let front = self.front(bytes);
-        let mut text = Vec::with_capacity(alloc, front.len())?;
-        'bytes: for byte in front {
-            text.push(self.byte(*byte))?;
+        match self {
+            Keeping::Drawn(generator) => drawn(alloc, generator, front),
+            _ => Vec::from_slice(alloc, front),
         }
-        Ok(text)
     }
+}
+
+// The byte that is found where one was written.
+fn drawn_byte(generator: &mut Lcg64Xsh32, written: u8) -> u8 {
+    let word = generator.next_word();
+    if word % 2 == 0 {
+        written
+    } else {
+        (word >> 24) as u8
+    }
+}
+
+// The bytes that are found where these were written.
+fn drawn(alloc: Global, generator: &mut Lcg64Xsh32, written: &[u8]) -> Result<Vec<u8>, AllocError>
+    ensures { IfOk result (λ text. length text.items ≡ length written.now) }
+{
+    let mut text = Vec::with_capacity(alloc, written.len())?;
+    'bytes: for byte in written {
+        text.push(drawn_byte(generator, *byte))?;
+    }
+    Ok(text)
 }
 
 // The first bytes, and those behind them.
@@ -137,7 +155,9 @@ fn keep_on(
     call: &Call,
     written: &[u8],
 ) -> Result<(), AllocError>
-    ensures { OnOk result (KeepsOf (event_of call.now [] written.now) (image_of reads.now) (image_of image.old) (image_of image.new)) }
+    ensures kept { OnOk result (KeepsOf (event_of call.now [] written.now) (image_of reads.now) (image_of image.old) (image_of image.new)) }
+    ensures chosen { OnOk result (KeepsBy keeping.old (event_of call.now [] written.now) (image_of reads.now) (image_of image.old) (image_of image.new)) }
+    ensures stays { StaysChosen keeping.old keeping.new }
 {
     match *call {
         Call::Wrote {
@@ -177,7 +197,8 @@ fn say_within(
     call: &Call,
     said: &[u8],
 ) -> Result<(), AllocError>
-    ensures { OnOk result (Within (event_of call.now said.now []) taken.old.items taken.new.items) }
+    ensures within { OnOk result (Within (event_of call.now said.now []) taken.old.items taken.new.items) }
+    ensures chosen { OnOk result (SaysChosen keeping.old (event_of call.now said.now []) taken.old.items taken.new.items) }
 {
     match *call {
         Call::Said { count } => taken.extend_from_slice(keeping.front(parted(said, count).0)),
@@ -204,7 +225,9 @@ fn go_on(
 ) -> Result<(), AllocError>
     ensures reads { OnOk result (image_of stop.new.reads ≡ reads_by (event_of call.now said.now written.now) (image_of stop.old.reads)) }
     ensures image { OnOk result (KeepsOf (event_of call.now said.now written.now) (image_of stop.old.reads) (image_of stop.old.image) (image_of stop.new.image)) }
+    ensures chosen { OnOk result (KeepsBy keeping.old (event_of call.now said.now written.now) (image_of stop.old.reads) (image_of stop.old.image) (image_of stop.new.image)) }
     ensures taken { OnOk result (stop.new.taken.items ≡ said_by (event_of call.now said.now written.now) stop.old.taken.items) }
+    ensures stays { StaysChosen keeping.old keeping.new }
 {
     keep_on(alloc, keeping, &mut stop.image, &stop.reads, call, written)?;
     read_on(&mut stop.reads, call, written)?;
@@ -236,7 +259,8 @@ pub fn stop_at(
     moment: usize,
 ) -> Result<Stop, AllocError>
     requires { moment ≤ length log.now.calls.items }
-    ensures { IfOk result (λ stop. PairsAt (image_of first.now) (λ i. i ≡ image_of first.now) [] (logged log.now said.now) moment (image_of stop.image) stop.taken.items) }
+    ensures found { IfOk result (λ stop. PairsAt (image_of first.now) (λ i. i ≡ image_of first.now) [] (logged log.now said.now) moment (image_of stop.image) stop.taken.items) }
+    ensures chosen { IfOk result (λ stop. KeepsChosen keeping.old (image_of first.now) (logged log.now said.now) moment (image_of stop.image) stop.taken.items) }
 {
     let mut stop = Stop::new(alloc, first)?;
     let calls = log.calls.as_slice();

@@ -1,5 +1,5 @@
 use Rattle.std.proofs.Common.{◌≡◌, length}
-use Rattle.ziti_desk.proofs.stopping.Keeping.text.Given as goal
+use Rattle.ziti_desk.proofs.stopping.drawn.Given as goal
 
 -- a byte was found for each so far
 abbrev pub invariant-bytes : goal.invariant-bytes
