@@ -1,4 +1,5 @@
 pub mod GateLaws
 pub mod SlotLaws
+pub mod RoomLaws
 mod StopLaws
 mod ReadLaws

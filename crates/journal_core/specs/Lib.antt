@@ -2,3 +2,4 @@ pub mod Slots
 pub mod Heads
 pub mod Faults
 pub mod WorkedSlots
+pub mod Room

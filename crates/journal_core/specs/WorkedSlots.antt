@@ -1,5 +1,7 @@
 -- Slots whose bytes were worked by hand.
 use Rattle.std.specs.Prelude.{ℕ, List, [], ◌∷◌, replicate}
+use Rattle.ziti_outside.specs.declared.desk.Part.TheVariants.{Zero, One, Mark}
+use Rattle.ziti_outside.specs.Images.{Image}
 
 -- The batch that creates the first identity, with the name ann: its two rows, 28 bytes.
 abbrev pub batch_of_ann : List ℕ
@@ -20,3 +22,9 @@ slot_of_ann =
 -- Payloads of the lengths of the batches that create an identity, a service, and a policy that grants one the other.
 abbrev pub three_payloads : List (List ℕ)
 three_payloads = replicate 28 7 ∷ replicate 28 8 ∷ replicate 52 9 ∷ []
+
+-- A folder with these slots, of which the first stands.
+abbrev pub folder_of : (first second : List ℕ) → Image
+folder_of first second Zero = first
+folder_of first second One = second
+folder_of first second Mark = 0 ∷ []

@@ -5,6 +5,7 @@ ghost use Rattle.ziti_outside.specs.Moments.{Remembers, Leaves};
 ghost use Rattle.ziti_outside.specs.Untouched.{OnlyDisk};
 ghost use Rattle.journal_core.specs.Slots.{IsClosed, text_of, added, ShutOrAdded};
 ghost use Rattle.journal_core.specs.Faults.{disk_failure, AppendFails};
+ghost use Rattle.journal_core.specs.Room.{KeepsRoom, LeavesRoom};
 
 use crate::faults::JournalFault;
 use crate::packing::{OPEN, Packed};
@@ -22,6 +23,8 @@ pub fn put_down<D: Desk>(desk: &mut D, part: Part, at: u64, bytes: &[u8]) -> Res
     ensures others { OnlyDisk D.said D.noted D.say_faults D.note_faults desk.old desk.new }
     ensures stops { Leaves D.moment D.since D.may_leave D.said desk.old desk.new
         (After (OnPart part (Torn at (length bytes.now))) (D.may_leave desk.old)) }
+    ensures room { OnOk result (IsTrue D.tells → KeepsRoom (at + length bytes.now) (D.reads desk.old) (D.reads desk.new)) }
+    ensures images { LeavesRoom (at + length bytes.now) D.may_leave desk.old desk.new }
     ensures remembers { Remembers (D.moment desk.old) (D.since desk.old) (D.since desk.new) }
 {
     desk.write_at(part, at, bytes)?;
@@ -48,6 +51,8 @@ fn add_text<D: Desk>(desk: &mut D, part: Part, at: u64, text: &[u8]) -> Result<(
     ensures quiet { Leaves D.moment D.since D.may_leave D.said desk.old desk.new (λ image. ⊤) }
     ensures stops { IsTrue D.tells → Leaves D.moment D.since D.may_leave D.said desk.old desk.new
         (After (OnPart part (ShutOrAdded at text.now)) (D.may_leave desk.old)) }
+    ensures room { IsTrue D.tells → KeepsRoom (at + 1 + length text.now) (D.reads desk.old) (D.reads desk.new) }
+    ensures images { LeavesRoom (at + 1 + length text.now) D.may_leave desk.old desk.new }
     ensures remembers { Remembers (D.moment desk.old) (D.since desk.old) (D.since desk.new) }
 {
     put_down(desk, part, at + 1, text)?;
@@ -88,6 +93,10 @@ pub fn append<D: Desk>(
     ensures stops { IsTrue D.tells → Leaves D.moment D.since D.may_leave D.said desk.old desk.new
         (After (OnPart part (ShutOrAdded at (text_of packed.now))) (D.may_leave desk.old)) }
     ensures remembers { Remembers (D.moment desk.old) (D.since desk.old) (D.since desk.new) }
+
+    // Nor does it make a slot longer than the bound, neither as the desk reads nor in what a stop leaves.
+    ensures room { IsTrue D.tells → KeepsRoom most (D.reads desk.old) (D.reads desk.new) }
+    ensures images { LeavesRoom most D.may_leave desk.old desk.new }
 {
     let text = packed.text();
     if !fits(at, text.len(), most) {

@@ -1,8 +1,11 @@
-ghost use Rattle.std.specs.Prelude.{◌≡◌, ◌⊎◌, ℕ, ◌+◌, List, [], ◌∷◌, ◌++◌, length};
+ghost use Rattle.std.specs.Prelude.{◌≡◌, ◌⊎◌, ℕ, ◌+◌, ◌≤◌, List, [], ◌∷◌, ◌++◌, length};
 ghost use Rattle.std.specs.declared.option.Option.{Option};
-ghost use Rattle.ziti_outside.specs.Images.{Torn};
+ghost use Rattle.ziti_outside.specs.Images.{Image, Torn};
 ghost use Rattle.ziti_outside.specs.Told.{IsFront};
 ghost use Rattle.journal_core.specs.Slots.{Slot, SlotFront, IsClosed, IsRecord, IsDamaged, IsPayload, GateGives, Shut, ShutOrAdded, added, header, text_of, slot_end, slot_bytes};
+ghost use Rattle.journal_core.specs.Room.{empty_size, IsWithin, KeepsRoom, LeavesRoom};
+
+use ziti_outside::Desk;
 
 /// Bytes are a slot of at most one list of payloads, and at each place stands at most one thing: a closed gate, one record, or
 /// damage.
@@ -34,4 +37,17 @@ pub fn stands_through_stops()
     ensures gate { (payload : List ℕ) (payloads : List (List ℕ)) → slot_end (payloads ++ payload ∷ []) ≡ slot_end payloads + 5 + length payload }
     ensures bytes { (payload : List ℕ) (payloads : List (List ℕ)) → added (slot_end payloads) (text_of payload) (slot_bytes payloads)
         ≡ slot_bytes (payloads ++ payload ∷ []) }
+{}
+
+/// What calls that keep room within a bound do to slots that are within it: they stay within it, as the desk reads and in all that a
+/// stop may leave, over any number of calls one after another. A slot without a record is within the bound of an opening.
+pub fn room_is_kept<D: Desk>()
+    ensures empty { length (slot_bytes []) ≡ empty_size }
+    ensures within { (most : ℕ) (old new : Image) → IsWithin most old → KeepsRoom most old new → IsWithin most new }
+    ensures next { (most : ℕ) (old mid new : Image) → KeepsRoom most old mid → KeepsRoom most mid new → KeepsRoom most old new }
+    ensures wider { (less most : ℕ) (old new : Image) → less ≤ most → KeepsRoom less old new → KeepsRoom most old new }
+    ensures left_within { (most : ℕ) (old new : D) → ((image : Image) → D.may_leave old image → IsWithin most image) → LeavesRoom most D.may_leave old new
+        → (image : Image) → D.may_leave new image → IsWithin most image }
+    ensures left_next { (most : ℕ) (old mid new : D) → LeavesRoom most D.may_leave old mid → LeavesRoom most D.may_leave mid new → LeavesRoom most D.may_leave old new }
+    ensures left_wider { (less most : ℕ) (old new : D) → less ≤ most → LeavesRoom less D.may_leave old new → LeavesRoom most D.may_leave old new }
 {}

@@ -2,7 +2,8 @@ ghost use Rattle.std.specs.Prelude.{◌≡◌, ◌+◌, ◌<◌, [], ◌∷◌, 
 ghost use Rattle.journal_core.specs.declared.faults.JournalFault.TheVariants.{Full};
 ghost use Rattle.journal_core.specs.Slots.{Slot, IsClosed, IsRecord, IsDamaged, added, text_of, slot_end, slot_bytes};
 ghost use Rattle.journal_core.specs.Faults.{AppendFails};
-ghost use Rattle.journal_core.specs.WorkedSlots.{batch_of_ann, empty_slot, slot_of_ann, three_payloads};
+ghost use Rattle.journal_core.specs.Room.{empty_size, IsWithin, GrowsTo, KeepsRoom};
+ghost use Rattle.journal_core.specs.WorkedSlots.{batch_of_ann, empty_slot, slot_of_ann, three_payloads, folder_of};
 
 /// Slots worked by hand: the bytes after a first batch, the places of gates, and a slot that is full.
 pub fn worked_appends()
@@ -35,4 +36,21 @@ pub fn worked_slots()
     ensures torn_record { Slot (empty_slot ++ 28 ∷ 0 ∷ 0 ∷ 0 ∷ 1 ∷ 2 ∷ []) [] }
     ensures one_batch { Slot slot_of_ann (batch_of_ann ∷ []) }
     ensures old_bytes { Slot (slot_of_ann ++ 1 ∷ 5 ∷ []) (batch_of_ann ∷ []) }
+{}
+
+/// How long slots worked by hand may become. The first batch makes a slot of 9 bytes one of 42, which a bound of 42 lets it become and a
+/// bound of 41 does not. A slot that has more than its bound already may stay, and not grow.
+pub fn worked_room()
+    ensures empty { length empty_slot ≡ empty_size }
+    ensures grows { GrowsTo 42 empty_slot slot_of_ann }
+    ensures passes { GrowsTo 41 empty_slot slot_of_ann → ⊥ }
+    ensures stays { GrowsTo 9 slot_of_ann slot_of_ann }
+    ensures shrinks { GrowsTo 9 slot_of_ann empty_slot }
+    ensures passes_its_old_length { GrowsTo 9 slot_of_ann (slot_of_ann ++ 1 ∷ []) → ⊥ }
+    ensures within { IsWithin 42 (folder_of slot_of_ann empty_slot) }
+    ensures not_within { IsWithin 41 (folder_of slot_of_ann empty_slot) → ⊥ }
+    ensures first_grows { KeepsRoom 42 (folder_of empty_slot empty_slot) (folder_of slot_of_ann empty_slot) }
+    ensures first_passes { KeepsRoom 41 (folder_of empty_slot empty_slot) (folder_of slot_of_ann empty_slot) → ⊥ }
+    ensures second_passes { KeepsRoom 41 (folder_of empty_slot empty_slot) (folder_of empty_slot slot_of_ann) → ⊥ }
+    ensures second_stays { KeepsRoom 9 (folder_of empty_slot slot_of_ann) (folder_of [] slot_of_ann) }
 {}

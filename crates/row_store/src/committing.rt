@@ -4,6 +4,7 @@ ghost use Rattle.ziti_outside.specs.Images.{Else, OnPart, After, IsStable};
 ghost use Rattle.ziti_outside.specs.Moments.{Remembers, Leaves};
 ghost use Rattle.ziti_outside.specs.Untouched.{OnlyDisk};
 ghost use Rattle.journal_core.specs.Slots.{IsClosed, text_of, added, ShutOrAdded};
+ghost use Rattle.journal_core.specs.Room.{KeepsRoom, LeavesRoom};
 ghost use Rattle.row_codec.specs.RowDifference.{Rises};
 ghost use Rattle.row_codec.specs.Batches.{bytes_cmp, IsBatch, batch_bytes};
 ghost use Rattle.row_store.specs.BatchRows.{rows_in, rows_after};
@@ -49,6 +50,8 @@ fn append_within<D: Desk>(
     ensures stops { IsTrue D.tells → Leaves D.moment D.since D.may_leave D.said desk.old desk.new
         (After (OnPart part (ShutOrAdded end (text_of packed.now))) (D.may_leave desk.old)) }
     ensures remembers { Remembers (D.moment desk.old) (D.since desk.old) (D.since desk.new) }
+    ensures room { IsTrue D.tells → KeepsRoom most (D.reads desk.old) (D.reads desk.new) }
+    ensures images { LeavesRoom most D.may_leave desk.old desk.new }
 {
     match append(desk, part, end, packed, most) {
         Ok(next) => Ok(next),
@@ -88,6 +91,8 @@ pub(crate) fn keep<D: Desk>(
     ensures stops { IsTrue D.tells → Leaves D.moment D.since D.may_leave D.said desk.old desk.new
         (After (OnPart part (ShutOrAdded end (text_of packed.now))) (D.may_leave desk.old)) }
     ensures remembers { Remembers (D.moment desk.old) (D.since desk.old) (D.since desk.new) }
+    ensures room { IsTrue D.tells → KeepsRoom most (D.reads desk.old) (D.reads desk.new) }
+    ensures images { LeavesRoom most D.may_leave desk.old desk.new }
 {
     let place = append_within(desk, part, end, packed, most)?;
     change_all(alloc, rows, ops)?;

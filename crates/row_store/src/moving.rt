@@ -1,9 +1,10 @@
-ghost use Rattle.std.specs.Prelude.{◌≡◌, ℕ, ◌+◌, ◌<◌, ◌++◌, ◌∷◌, [], ⊤, IsTrue, OnOk, IfOk, IfErr};
+ghost use Rattle.std.specs.Prelude.{◌≡◌, ℕ, ◌+◌, ◌<◌, ◌++◌, ◌∷◌, [], ⊤, length, IsTrue, OnOk, IfOk, IfErr};
 ghost use Rattle.ziti_outside.specs.declared.desk.Part.TheVariants.{Mark};
 ghost use Rattle.ziti_outside.specs.Causes.{HasCause};
 ghost use Rattle.ziti_outside.specs.Images.{Else, After};
 ghost use Rattle.ziti_outside.specs.Moments.{Remembers, Leaves};
 ghost use Rattle.ziti_outside.specs.Untouched.{OnlyDisk};
+ghost use Rattle.journal_core.specs.Room.{KeepsRoom, LeavesRoom};
 ghost use Rattle.slot_files.specs.FolderImage.{slot_of};
 ghost use Rattle.slot_files.specs.OpenedSlots.{IsNamed, IsOpened};
 ghost use Rattle.slot_files.specs.SwitchedSlots.{other_slot, IsReady, IsSwitched, StandsByEither};
@@ -41,6 +42,8 @@ fn let_stand<D: Desk>(desk: &mut D, standing: Standing, most: u64) -> Result<Sta
     ensures stops { IsTrue D.tells → Leaves D.moment D.since D.may_leave D.said desk.old desk.new
         (After (StandsByEither standing.mark (D.reads desk.old)) (D.may_leave desk.old)) }
     ensures remembers { Remembers (D.moment desk.old) (D.since desk.old) (D.since desk.new) }
+    ensures slots { IsTrue D.tells → KeepsRoom 0 (D.reads desk.old) (D.reads desk.new) }
+    ensures images { LeavesRoom 0 D.may_leave desk.old desk.new }
 {
     match switch(desk, standing, most) {
         Ok(now) => Ok(now),
@@ -67,6 +70,8 @@ fn stand_alone<D: Desk>(desk: &mut D, standing: Standing, most: u64) -> Result<S
     ensures stops { IsTrue D.tells → Leaves D.moment D.since D.may_leave D.said desk.old desk.new
         (After (StandsByEither standing.mark (D.reads desk.old)) (D.may_leave desk.old)) }
     ensures remembers { Remembers (D.moment desk.old) (D.since desk.old) (D.since desk.new) }
+    ensures slots { OnOk result (IsTrue D.tells → KeepsRoom 0 (D.reads desk.old) (D.reads desk.new)) }
+    ensures images { LeavesRoom 0 D.may_leave desk.old desk.new }
 {
     let now = let_stand(desk, standing, most)?;
     desk.cut(standing.part, 0)?;
@@ -96,6 +101,8 @@ pub(crate) fn move_to<D: Desk>(
     ensures stops { IsTrue D.tells → Leaves D.moment D.since D.may_leave D.said desk.old desk.new
         (StandsByOne (D.reads desk.old standing.part) slot.now) }
     ensures remembers { Remembers (D.moment desk.old) (D.since desk.old) (D.since desk.new) }
+    ensures slots { OnOk result (IsTrue D.tells → KeepsRoom (length slot.now) (D.reads desk.old) (D.reads desk.new)) }
+    ensures images { LeavesRoom (length slot.now) D.may_leave desk.old desk.new }
 {
     put_down(desk, other_of(standing.part), 0, slot)?;
     stand_alone(desk, standing, most)

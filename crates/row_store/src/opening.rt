@@ -6,6 +6,7 @@ ghost use Rattle.ziti_outside.specs.Images.{After};
 ghost use Rattle.ziti_outside.specs.Moments.{Remembers, Leaves};
 ghost use Rattle.ziti_outside.specs.Untouched.{OnlyDisk, OnlyReads};
 ghost use Rattle.journal_core.specs.Slots.{header};
+ghost use Rattle.journal_core.specs.Room.{empty_size, KeepsRoom, LeavesRoom};
 ghost use Rattle.slot_files.specs.FolderImage.{StandsAsBefore};
 ghost use Rattle.slot_files.specs.OpenedSlots.{IsNamed, IsOpened, Opens, Finds};
 ghost use Rattle.row_codec.specs.RowDifference.{Rises};
@@ -34,6 +35,8 @@ pub(crate) fn settle<D: Desk>(desk: &mut D) -> Result<Standing, StoreFault>
     ensures quiet { Leaves D.moment D.since D.may_leave D.said desk.old desk.new (λ image. ⊤) }
     ensures stops { IsTrue D.tells → Leaves D.moment D.since D.may_leave D.said desk.old desk.new (After StandsAsBefore (D.may_leave desk.old)) }
     ensures remembers { Remembers (D.moment desk.old) (D.since desk.old) (D.since desk.new) }
+    ensures room { IsTrue D.tells → OnOk (disk_failure result) (KeepsRoom empty_size (D.reads desk.old) (D.reads desk.new)) }
+    ensures images { LeavesRoom empty_size D.may_leave desk.old desk.new }
 {
     match slot_files::open(desk) {
         Ok(standing) => Ok(standing),

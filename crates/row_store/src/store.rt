@@ -5,6 +5,7 @@ ghost use Rattle.ziti_outside.specs.Causes.{HasCause};
 ghost use Rattle.ziti_outside.specs.Images.{Image, After};
 ghost use Rattle.ziti_outside.specs.Moments.{Remembers, Leaves};
 ghost use Rattle.ziti_outside.specs.Untouched.{OnlyDisk, OnlyReads};
+ghost use Rattle.journal_core.specs.Room.{empty_size, KeepsRoom, LeavesRoom};
 ghost use Rattle.slot_files.specs.FolderImage.{StandsAsBefore};
 ghost use Rattle.slot_files.specs.OpenedSlots.{Opens};
 ghost use Rattle.row_codec.specs.RowDifference.{Rises, value_at, IsTrueDifference};
@@ -95,6 +96,11 @@ impl Store {
         ensures quiet { Leaves D.moment D.since D.may_leave D.said desk.old desk.new (λ image. ⊤) }
         ensures stops { IsTrue D.tells → Leaves D.moment D.since D.may_leave D.said desk.old desk.new (After StandsAsBefore (D.may_leave desk.old)) }
         ensures remembers { Remembers (D.moment desk.old) (D.since desk.old) (D.since desk.new) }
+
+        // No slot grows past the size of one without a record, neither in what a stop leaves nor, where no call on the disk failed, as
+        // the desk reads.
+        ensures room { IsTrue D.tells → OnOk (disk_failure result) (KeepsRoom empty_size (D.reads desk.old) (D.reads desk.new)) }
+        ensures images { LeavesRoom empty_size D.may_leave desk.old desk.new }
     {
         let standing = settle(desk)?;
         let (rows, end) = load(alloc, desk, standing.part)?;
@@ -216,6 +222,10 @@ impl Store {
         ensures stops { self.old.spent ≡ false → IsTrue D.tells → Leaves D.moment D.since D.may_leave D.said desk.old desk.new
             (λ image. OpensTo image self.old.rows ⊎ OpensTo image (rows_after self.old.rows batch.now)) }
         ensures remembers { Remembers (D.moment desk.old) (D.since desk.old) (D.since desk.new) }
+
+        // No slot grows past its bound, neither as the desk reads nor in what a stop leaves.
+        ensures room { IsTrue D.tells → KeepsRoom self.old.bounds.slot (D.reads desk.old) (D.reads desk.new) }
+        ensures images { LeavesRoom self.old.bounds.slot D.may_leave desk.old desk.new }
     {
         if self.spent {
             return Err(StoreFault::Spent);
@@ -262,6 +272,10 @@ impl Store {
         ensures stops { self.old.spent ≡ false → IsTrue D.tells → Leaves D.moment D.since D.may_leave D.said desk.old desk.new
             (λ image. OpensTo image self.old.rows) }
         ensures remembers { Remembers (D.moment desk.old) (D.since desk.old) (D.since desk.new) }
+
+        // No slot grows past its bound, neither in what a stop leaves nor, where no call on the disk failed, as the desk reads.
+        ensures room { IsTrue D.tells → OnOk (disk_failure result) (KeepsRoom self.old.bounds.slot (D.reads desk.old) (D.reads desk.new)) }
+        ensures images { LeavesRoom self.old.bounds.slot D.may_leave desk.old desk.new }
     {
         if self.spent {
             return Err(StoreFault::Spent);

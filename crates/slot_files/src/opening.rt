@@ -4,6 +4,7 @@ ghost use Rattle.ziti_outside.specs.Causes.{HasCause};
 ghost use Rattle.ziti_outside.specs.Images.{After, IsStable};
 ghost use Rattle.ziti_outside.specs.Moments.{Remembers, Leaves};
 ghost use Rattle.ziti_outside.specs.Untouched.{OnlyDisk};
+ghost use Rattle.journal_core.specs.Room.{empty_size, KeepsRoom, LeavesRoom};
 ghost use Rattle.slot_files.specs.FolderImage.{StandsAsBefore};
 ghost use Rattle.slot_files.specs.OpenedSlots.{IsNamed, IsOpened, IsCreated, Opens};
 ghost use Rattle.slot_files.specs.Faults.{disk_failure, FindFails};
@@ -26,6 +27,8 @@ fn create<D: Desk>(desk: &mut D) -> Result<Standing, Failed>
     ensures quiet { Leaves D.moment D.since D.may_leave D.said desk.old desk.new (λ image. ⊤) }
     ensures stops { IsTrue D.tells → Leaves D.moment D.since D.may_leave D.said desk.old desk.new (After StandsAsBefore (D.may_leave desk.old)) }
     ensures remembers { Remembers (D.moment desk.old) (D.since desk.old) (D.since desk.new) }
+    ensures room { OnOk result (IsTrue D.tells → KeepsRoom empty_size (D.reads desk.old) (D.reads desk.new)) }
+    ensures images { LeavesRoom empty_size D.may_leave desk.old desk.new }
 {
     put_down(desk, Part::Zero, 0, &empty_slot())?;
     put_down(desk, Part::Mark, 0, &[0])?;
@@ -55,6 +58,11 @@ pub fn open<D: Desk>(desk: &mut D) -> Result<Standing, SlotFault>
     ensures quiet { Leaves D.moment D.since D.may_leave D.said desk.old desk.new (λ image. ⊤) }
     ensures stops { IsTrue D.tells → Leaves D.moment D.since D.may_leave D.said desk.old desk.new (After StandsAsBefore (D.may_leave desk.old)) }
     ensures remembers { Remembers (D.moment desk.old) (D.since desk.old) (D.since desk.new) }
+
+    // No slot grows past the size of one without a record, neither in what a stop leaves nor, where no call on the disk failed, as
+    // the desk reads.
+    ensures room { IsTrue D.tells → OnOk (disk_failure result) (KeepsRoom empty_size (D.reads desk.old) (D.reads desk.new)) }
+    ensures images { LeavesRoom empty_size D.may_leave desk.old desk.new }
 {
     desk.sync(Part::Mark)?;
     match peek(desk)? {

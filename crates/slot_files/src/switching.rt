@@ -4,6 +4,7 @@ ghost use Rattle.ziti_outside.specs.Causes.{HasCause};
 ghost use Rattle.ziti_outside.specs.Images.{Else, After};
 ghost use Rattle.ziti_outside.specs.Moments.{Remembers, Leaves};
 ghost use Rattle.ziti_outside.specs.Untouched.{OnlyDisk};
+ghost use Rattle.journal_core.specs.Room.{KeepsRoom, LeavesRoom};
 ghost use Rattle.slot_files.specs.OpenedSlots.{IsNamed, IsOpened};
 ghost use Rattle.slot_files.specs.SwitchedSlots.{IsReady, IsSwitched, StandsByEither, SwitchFails};
 ghost use Rattle.slot_files.specs.Faults.{disk_failure};
@@ -32,6 +33,10 @@ pub fn switch<D: Desk>(desk: &mut D, standing: Standing, most: u64) -> Result<St
     ensures stops { IsTrue D.tells → Leaves D.moment D.since D.may_leave D.said desk.old desk.new
         (After (StandsByEither standing.mark (D.reads desk.old)) (D.may_leave desk.old)) }
     ensures remembers { Remembers (D.moment desk.old) (D.since desk.old) (D.since desk.new) }
+
+    // No slot grows, neither as the desk reads nor in what a stop leaves.
+    ensures slots { IsTrue D.tells → KeepsRoom 0 (D.reads desk.old) (D.reads desk.new) }
+    ensures images { LeavesRoom 0 D.may_leave desk.old desk.new }
 {
     if standing.mark >= most {
         return Err(SlotFault::MarkFull);

@@ -1,0 +1,26 @@
+-- How long the slots of a folder may become (docs/PROMISES.md, "One slot").
+use Rattle.std.specs.Prelude.{ℕ, ◌≤◌, max, List, length}
+use Rattle.ziti_outside.specs.declared.desk.Part.TheVariants.{Zero, One}
+use Rattle.ziti_outside.specs.Images.{Image, After}
+
+-- How many bytes a slot has without a record.
+abbrev pub empty_size : ℕ
+empty_size = 9
+
+-- Each slot has at most so many bytes.
+pub record IsWithin (most : ℕ) (image : Image) : Type 0 where
+  pub zero : length (image Zero) ≤ most
+  pub one : length (image One) ≤ most
+
+-- The new bytes are at most so many, or no more than the old ones.
+abbrev pub GrowsTo : (most : ℕ) → List ℕ → List ℕ → Type 0
+GrowsTo most old new = length new ≤ max (length old) most
+
+-- Neither slot has more than so many bytes now, unless it had more before; then it has no more than it had.
+pub record KeepsRoom (most : ℕ) (old new : Image) : Type 0 where
+  pub zero : GrowsTo most (old Zero) (new Zero)
+  pub one : GrowsTo most (old One) (new One)
+
+-- What a stop may leave now comes from what one might have left before, with slots that kept room.
+pub record LeavesRoom {D : Type 0} (most : ℕ) (may_leave : D → Image → Type 0) (old new : D) : Type 0 where
+  pub found : (image : Image) → may_leave new image → After (KeepsRoom most) (may_leave old) image
