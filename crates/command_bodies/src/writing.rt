@@ -5,7 +5,6 @@ ghost use Rattle.ctrl_model.specs.CommandForm.{is_spelled};
 ghost use Rattle.command_codec.specs.BodyMeaning.{meaning};
 ghost use Rattle.command_codec.specs.BodyObjects.{object_of_body};
 ghost use Rattle.command_codec.specs.ContentTypes.{content_of};
-ghost use Rattle.command_codec.specs.ReadCommands.{is_read};
 ghost use Rattle.command_bodies.specs.BodyTexts.{body_object, body_text};
 
 use crate::giving::put_fields;
@@ -32,12 +31,12 @@ fn object_bytes(alloc: Global, command: &Command) -> Result<Bytes, AllocError>
 }
 
 /// The body that is written for a command that some body spells: compact JSON with keys in ascending order and every field but a
-/// host or an ingress that is none; no bytes for Hello. It is the one body that is written, and it reads as the command, where the
-/// command is one of those that are read (docs/FORMATS.md, "Bodies").
+/// host or an ingress that is none; no bytes for Hello. It is the one body that is written, and it reads as the command
+/// (docs/FORMATS.md, "Bodies").
 pub fn write(alloc: Global, command: &Command) -> Result<Bytes, AllocError>
     requires { is_spelled command.now ≡ true }
     ensures body { IfOk result (λ b. b ≡ body_text command.now) }
-    ensures reads_back { IfOk result (λ b. is_read command.now ≡ true → meaning (content_of command.now) b ≡ Ok command.now) }
+    ensures reads_back { IfOk result (λ b. meaning (content_of command.now) b ≡ Ok command.now) }
 {
     if let Command::Hello = command {
         return Ok(Bytes::of(Vec::new(alloc)));

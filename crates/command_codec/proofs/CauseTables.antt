@@ -183,7 +183,7 @@ circuits_agree =
     & row (numbered_follows command.ShowCircuit) & tt
 
 shows_agree : Agree show_table show_rules
-shows_agree = row (named_follows field.Identity command.ShowGrants) & row (named_follows field.Identity command.ListServices) & row (plain_follows command.ShowCounts) & tt
+shows_agree = row (named_follows field.Identity command.ShowGrants) & row (named_follows field.Identity command.ListServices) & row (plain_follows command.ShowCounts) & row (plain_follows command.Compact) & tt
 
 last_agree : Agree (circuit_table ++ show_table) (route_rules ++ show_rules)
 last_agree = both_agree circuit_table show_table route_rules show_rules circuits_agree shows_agree

@@ -1,4 +1,4 @@
--- What the bodies of the commands that show grants, services and counts say, they spell.
+-- What the bodies of the commands that show grants, services and counts say, and that of Compact, they spell.
 use Rattle.std.proofs.Common.{◌≡◌, ℕ, true, List, [], Ok, refl, subst}
 use Rattle.std.specs.Prelude.{is_some}
 use Rattle.std.proofs.lemmas.Bool.{false≢true}
@@ -28,6 +28,7 @@ show_says content body c e =
     by_row content body c show_table ((λ at. named_says field.Identity command.ShowGrants P body c (λ name says form. (at, says, form)))
     ⊗ (λ at. named_says field.Identity command.ListServices P body c (λ name says form. (at, says, form)))
     ⊗ (λ at. plain_says command.ShowCounts P body c (λ says. (at, says, refl)))
+    ⊗ (λ at. plain_says command.Compact P body c (λ says. (at, says, refl)))
     ⊗ tt) e
 
 plain_means : (c : Command) (body : List ℕ) → SaysNothing body → said_by (plain c) (object_of_body body) ≡ Ok c
@@ -37,6 +38,7 @@ show_means : (body : List ℕ) (c : Command) → is_some (entry_at (content_of c
 show_means body (command.ShowGrants identity) there says = named_means field.Identity command.ShowGrants body identity says
 show_means body (command.ListServices identity) there says = named_means field.Identity command.ListServices body identity says
 show_means body command.ShowCounts there says = plain_means command.ShowCounts body says
+show_means body command.Compact there says = plain_means command.Compact body says
 show_means body _ there says = absurd (false≢true there)
 
 pub show_faithful : Faithful show_table

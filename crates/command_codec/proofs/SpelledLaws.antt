@@ -1,5 +1,5 @@
--- A body means a command exactly where it spells it, and what it means is read and keeps the form of its fields.
-use Rattle.std.proofs.Common.{◌≡◌, ℕ, ◌==◌, Bool, true, false, cond, ◌||◌, List, Option, Some, None, Result, Ok, Err, refl, sym, ap, ◌∙◌, subst, eqb-true}
+-- A body means a command exactly where it spells it, and what it means keeps the form of its fields.
+use Rattle.std.proofs.Common.{◌≡◌, ℕ, ◌==◌, Bool, true, false, cond, ◌||◌, List, Option, Some, None, Result, Ok, Err, refl, true≢false, sym, ap, ◌∙◌, subst, eqb-true}
 use Rattle.std.specs.Prelude.{IfOk, is_some}
 use Rattle.ctrl_model.specs.declared.commands.Command.{Command}
 use Rattle.ctrl_model.specs.declared.commands.Command.TheVariants as command
@@ -10,7 +10,6 @@ use Rattle.command_codec.specs.ReadResults.{Gives}
 use Rattle.command_codec.specs.BodyObjects.{Reader}
 use Rattle.command_codec.specs.BodyMeaning.{table, entry_at, meaning_under, meaning_in, meaning}
 use Rattle.command_codec.specs.ContentTypes.{content_of}
-use Rattle.command_codec.specs.ReadCommands.{is_read}
 use Rattle.command_codec.specs.SpelledBodies.{SaysFields, Spells}
 use Rattle.command_codec.proofs.TableLaws.{Faithful, ◌⊕◌}
 use Rattle.command_codec.proofs.EntityLaws.{entity_faithful}
@@ -28,50 +27,37 @@ pub record Means (content : ℕ) (body : List ℕ) (c : Command) : Type 0 where
   pub spelled : Spells content body c
   pub form : is_spelled c ≡ true
 
-in_table : (content : ℕ) (body : List ℕ) (c : Command) → meaning_in table content body ≡ Ok c → is_some (entry_at content table) ≡ true
-in_table content body c e = by (entry_at content table) e
-  where
-    by : (o : Option Reader) → meaning_under o body ≡ Ok c → is_some o ≡ true
-    by None e = absurd (cc)
-    by (Some r) e = refl
-
-read_type : (content n : ℕ) → content ≡ n → is_some (entry_at content table) ≡ true → ((n == 0) || is_some (entry_at n table)) ≡ true
-read_type content n same there = subst (λ k. ((k == 0) || is_some (entry_at k table)) ≡ true) same (by (content == 0))
-  where
-    by : (b : Bool) → (b || is_some (entry_at content table)) ≡ true
-    by true = refl
-    by false = there
+-- The content type of every command but Hello is in the table.
+in_table : (c : Command) → (content_of c == 0) ≡ false → is_some (entry_at (content_of c) table) ≡ true
+in_table command.Hello other = absurd (true≢false other)
+in_table c other = refl
 
 pub means : (content : ℕ) (body : List ℕ) (c : Command) → meaning content body ≡ Ok c → Means content body c
 means content body c e = by (content == 0) refl e
   where
     hello : content ≡ 0 → Means content body command.Hello
-    hello at = record { spelled = (at, refl, tt); form = refl }
+    hello at = record { spelled = (at, tt); form = refl }
 
     by : (b : Bool) → (content == 0) ≡ b → cond b (Ok command.Hello) (meaning_in table content body) ≡ Ok c → Means content body c
     by true is e = subst (λ d. Means content body d) (cc) (hello (eqb-true content 0 is))
     by false is e =
         let said = faithful.says content body c e in
-        record { spelled = (said.0, read_type content (content_of c) said.0 (in_table content body c e), said.1); form = said.2 }
+        record { spelled = (said.0, said.1); form = said.2 }
 
 -- What a body spells it means.
 pub meaning-Spells : (content : ℕ) (body : List ℕ) (c : Command) → Spells content body c → meaning content body ≡ Ok c
-meaning-Spells content body c (at, read, says) = ap (λ n. meaning n body) at ∙ by c read says
+meaning-Spells content body c (at, says) = ap (λ n. meaning n body) at ∙ by c says
   where
-    other : (d : Command) → (content_of d == 0) ≡ false → is_read d ≡ true → SaysFields body d → meaning (content_of d) body ≡ Ok d
-    other d is read says =
+    other : (d : Command) → (content_of d == 0) ≡ false → SaysFields body d → meaning (content_of d) body ≡ Ok d
+    other d is says =
         ap (λ b. cond b (Ok command.Hello) (meaning_in table (content_of d) body)) is
-        ∙ faithful.means body d (sym (ap (λ b. b || is_some (entry_at (content_of d) table)) is) ∙ read) says
+        ∙ faithful.means body d (in_table d is) says
 
-    by : (d : Command) → is_read d ≡ true → SaysFields body d → meaning (content_of d) body ≡ Ok d
-    by command.Hello read says = refl
-    by d read says = other d refl read says
+    by : (d : Command) → SaysFields body d → meaning (content_of d) body ≡ Ok d
+    by command.Hello says = refl
+    by d says = other d refl says
 
--- What is returned of a reading is read, and keeps the form of its fields.
+-- What is returned of a reading keeps the form of its fields.
 pub given_form : (content : ℕ) (body : List ℕ) (r : Result Command CodecFault) → Gives NoMemory (λ c. c) r (meaning content body) → IfOk r (λ c. is_spelled c ≡ true)
 given_form content body (Ok c) e = (means content body c e).form
 given_form content body (Err f) e = tt
-
-pub given_read : (content : ℕ) (body : List ℕ) (r : Result Command CodecFault) → Gives NoMemory (λ c. c) r (meaning content body) → IfOk r (λ c. is_read c ≡ true)
-given_read content body (Ok c) e = (means content body c e).spelled.1
-given_read content body (Err f) e = tt

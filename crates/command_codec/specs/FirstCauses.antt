@@ -177,12 +177,13 @@ route_rules =
     ∷ (1503, number_rules)
     ∷ []
 
--- Those of what is shown.
+-- Those of what is shown, and of Compact.
 abbrev pub show_rules : List (ℕ × List FieldRule)
 show_rules =
     (1500, name_rules field.Identity)
     ∷ (1501, name_rules field.Identity)
     ∷ (1502, [])
+    ∷ (1510, [])
     ∷ []
 
 -- The fields of each content type but that of Hello, which has none.

@@ -14,6 +14,5 @@ pub mod RouteClaims
 pub mod CircuitBodies
 pub mod BodyMeaning
 pub mod ContentTypes
-pub mod ReadCommands
 pub mod SpelledBodies
 pub mod FirstCauses

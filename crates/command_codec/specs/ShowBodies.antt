@@ -1,4 +1,4 @@
--- The bodies of the commands that show grants, services and counts (docs/FORMATS.md, "Commands").
+-- The bodies of the commands that show grants, services and counts, and of Compact (docs/FORMATS.md, "Commands").
 use Rattle.std.specs.Prelude.{ℕ, List, [], ◌∷◌, Ok}
 use Rattle.ctrl_model.specs.declared.commands.Command.{Command}
 use Rattle.ctrl_model.specs.declared.commands.Command.TheVariants as command
@@ -19,4 +19,5 @@ show_table =
     (1500, named field.Identity command.ShowGrants)
     ∷ (1501, named field.Identity command.ListServices)
     ∷ (1502, plain command.ShowCounts)
+    ∷ (1510, plain command.Compact)
     ∷ []

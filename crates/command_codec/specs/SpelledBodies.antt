@@ -27,7 +27,6 @@ use Rattle.command_codec.specs.TerminatorBodies.{terminator_fields}
 use Rattle.command_codec.specs.RouteClaims.{as_numbers, as_potentials}
 use Rattle.command_codec.specs.CircuitBodies.{circuit_fields, route_fields, as_total}
 use Rattle.command_codec.specs.ContentTypes.{content_of}
-use Rattle.command_codec.specs.ReadCommands.{is_read}
 
 -- The body is an object that has no keys but the words of these fields, and of which this holds.
 pub record Says (body : List ℕ) (fields : List Field) (Holds : Data → Type 0) : Type 0 where
@@ -133,7 +132,7 @@ SaysClaimedRoute body identity service ingress instance chosen links potentials 
     × Tells as_potentials field.Potentials potentials o × Tells (as_numbers 256) field.Routers routers o × Tells as_no field.Terminator terminator o
     × Tells as_total field.Total total o)
 
--- A body gives the fields of a command. Any body gives those of Hello; no body those of Compact yet.
+-- A body gives the fields of a command. Any body gives those of Hello.
 abbrev pub SaysFields : List ℕ → Command → Type 0
 SaysFields body command.Hello = ⊤
 SaysFields body (command.CreateIdentity name attributes) = SaysMade body name attributes
@@ -174,8 +173,8 @@ SaysFields body (command.ShowGrants identity) = SaysName body field.Identity ide
 SaysFields body (command.ListServices identity) = SaysName body field.Identity identity
 SaysFields body command.ShowCounts = Says body [] (λ o. ⊤)
 SaysFields body (command.ShowCircuit n) = SaysNo body n
-SaysFields body command.Compact = ⊥
+SaysFields body command.Compact = Says body [] (λ o. ⊤)
 
--- A body spells a command under a content type: the type is the command's and is read, and the body gives the command's fields.
+-- A body spells a command under a content type: the type is the command's, and the body gives the command's fields.
 abbrev pub Spells : ℕ → List ℕ → Command → Type 0
-Spells content body c = (content ≡ content_of c) × (is_read c ≡ true) × SaysFields body c
+Spells content body c = (content ≡ content_of c) × SaysFields body c

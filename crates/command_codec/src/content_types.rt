@@ -75,3 +75,5 @@ pub(crate) const LIST_SERVICES: u32 = 1501;
 pub(crate) const SHOW_COUNTS: u32 = 1502;
 
 pub(crate) const SHOW_CIRCUIT: u32 = 1503;
+
+pub(crate) const COMPACT: u32 = 1510;

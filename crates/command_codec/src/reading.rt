@@ -1,14 +1,13 @@
 ghost use Rattle.std.specs.Prelude.{◌≡◌, ◌≢◌, ◌↔◌, IfOk, IfErr, IsOk, IsErrOf, true, Ok, Err};
-ghost use Rattle.command_codec.specs.ReadCommands.{is_read};
 ghost use Rattle.ctrl_model.specs.CommandForm.{is_spelled};
 ghost use Rattle.command_codec.specs.BodyMeaning.{meaning};
 ghost use Rattle.command_codec.specs.ReadResults.{Gives};
 
 use crate::circuit_bodies::circuit_command;
 use crate::content_types::{
-    CREATE_CIRCUIT, CREATE_IDENTITY, CREATE_LINK, CREATE_SERVICE_POLICY, CREATE_TERMINATOR,
-    DELETE_SERVICE_EDGE_ROUTER_POLICY, DELETE_TERMINATOR, DISCONNECT_ROUTER, HELLO,
-    SET_LEAST_ROUTER_COST, SHOW_CIRCUIT, SHOW_COUNTS, SHOW_GRANTS, VERIFY_ROUTE,
+    COMPACT, CREATE_CIRCUIT, CREATE_IDENTITY, CREATE_LINK, CREATE_SERVICE_POLICY,
+    CREATE_TERMINATOR, DELETE_SERVICE_EDGE_ROUTER_POLICY, DELETE_TERMINATOR, DISCONNECT_ROUTER,
+    HELLO, SET_LEAST_ROUTER_COST, SHOW_CIRCUIT, SHOW_COUNTS, SHOW_GRANTS, VERIFY_ROUTE,
 };
 use crate::entity_bodies::entity_command;
 use crate::link_bodies::link_command;
@@ -77,7 +76,7 @@ fn command_in(alloc: Global, content: u32, body: &[u8]) -> Result<Command, Codec
         CREATE_LINK..=SET_LEAST_ROUTER_COST => link_command(alloc, content, body),
         CREATE_TERMINATOR..=DELETE_TERMINATOR => terminator_command(alloc, content, body),
         CREATE_CIRCUIT..=VERIFY_ROUTE | SHOW_CIRCUIT => circuit_command(alloc, content, body),
-        SHOW_GRANTS..=SHOW_COUNTS => show_command(alloc, content, body),
+        SHOW_GRANTS..=SHOW_COUNTS | COMPACT => show_command(alloc, content, body),
         _ => Err(CodecFault::UnsupportedType),
     }
 }
@@ -85,17 +84,15 @@ fn command_in(alloc: Global, content: u32, body: &[u8]) -> Result<Command, Codec
 /// The command that a body spells under a content type.
 ///
 /// `UnsupportedType` comes exactly where no command has the type, and `BadBody` with the first cause exactly where the body
-/// spells no command of it; else only memory can be wanting. So far the types are those of all commands but
-/// Compact (docs/FORMATS.md, "Commands").
+/// spells no command of it; else only memory can be wanting (docs/FORMATS.md, "Commands").
 pub fn read(alloc: Global, content: u32, body: &[u8]) -> Result<Command, CodecFault>
     ensures command { IfOk result (λ c. meaning content body.now ≡ Ok c) }
     ensures fault { IfErr result (λ e. e ≢ CodecFault.NoMemory → meaning content body.now ≡ Err e) }
     // Memory cannot be wanting for Hello, nor where no command has the type.
     ensures hello { content ≡ 0 → IsOk result }
     ensures unsupported { IsErrOf result CodecFault.UnsupportedType ↔ (meaning content body.now ≡ Err CodecFault.UnsupportedType) }
-    // What is read keeps the kinds, the ranges and the lengths of its fields, and is one of the table so far.
+    // What is read keeps the kinds, the ranges and the lengths of its fields.
     ensures spelled { IfOk result (λ c. is_spelled c ≡ true) }
-    ensures in_table { IfOk result (λ c. is_read c ≡ true) }
 {
     command_in(alloc, content, body)
 }

@@ -6,7 +6,7 @@ ghost use Rattle.command_codec.specs.ShowBodies.{plain, show_table};
 ghost use Rattle.command_codec.specs.ReadResults.{Gives};
 
 use crate::bodies::value_in;
-use crate::content_types::{LIST_SERVICES, SHOW_COUNTS, SHOW_GRANTS};
+use crate::content_types::{COMPACT, LIST_SERVICES, SHOW_COUNTS, SHOW_GRANTS};
 use crate::entity_bodies::named;
 use crate::reading::CodecFault;
 use ctrl_model::{Command, Field};
@@ -23,7 +23,7 @@ fn plain(alloc: Global, body: &[u8]) -> Result<(), CodecFault>
     Ok(())
 }
 
-// The command that a body spells which shows grants, services or counts.
+// The command that a body spells which shows grants, services or counts, or is Compact.
 #[tactic(auto, using(crate::proofs::TableLaws::supported))]
 pub(crate) fn show_command(alloc: Global, content: u32, body: &[u8]) -> Result<Command, CodecFault>
     ensures given { Gives CodecFault.NoMemory (λ c. c) result (meaning_in show_table content body.now) }
@@ -37,6 +37,7 @@ pub(crate) fn show_command(alloc: Global, content: u32, body: &[u8]) -> Result<C
             named(alloc, body, Field::Identity).map(|identity| Command::ListServices { identity })
         }
         SHOW_COUNTS => plain(alloc, body).map(|()| Command::ShowCounts),
+        COMPACT => plain(alloc, body).map(|()| Command::Compact),
         _ => Err(CodecFault::UnsupportedType),
     }
 }

@@ -52,7 +52,7 @@ pub fn worked_policies()
     ensures deleted_for_services { meaning 1122 (codes "{\"name\":\"p\"}") ≡ Ok (command.DeleteServiceEdgeRouterPolicy (codes "p")) }
 {}
 
-/// Bodies of the commands that show grants, services and counts.
+/// Bodies of the commands that show grants, services and counts, and of Compact.
 pub fn worked_shows()
     ensures grants { meaning 1500 (codes "{\"identity\":\"ann\"}") ≡ Ok (command.ShowGrants (codes "ann")) }
     ensures services { meaning 1501 (codes "{\"identity\":\"ann\"}") ≡ Ok (command.ListServices (codes "ann")) }
@@ -60,6 +60,9 @@ pub fn worked_shows()
     ensures no_object { meaning 1502 [] ≡ Err (BadBody field.Nothing reason.NotObject) }
     ensures other_key { meaning 1502 (codes "{\"x\":1}") ≡ Err (BadBody field.Nothing reason.Unknown) }
     ensures name { meaning 1500 (codes "{\"name\":\"ann\"}") ≡ Err (BadBody field.Identity reason.Missing) }
+    ensures compacts { meaning 1510 (codes "{}") ≡ Ok command.Compact }
+    ensures compacts_no_object { meaning 1510 [] ≡ Err (BadBody field.Nothing reason.NotObject) }
+    ensures compacts_nothing { meaning 1510 (codes "{\"x\":1}") ≡ Err (BadBody field.Nothing reason.Unknown) }
 {}
 
 /// Bodies of the commands on links.
@@ -129,7 +132,7 @@ pub fn worked_claims()
 /// another key only behind them.
 pub fn worked_causes()
     ensures unsupported { meaning 999 (codes "{\"name\":\"ann\"}") ≡ Err UnsupportedType }
-    ensures compact { meaning 1510 (codes "{}") ≡ Err UnsupportedType }
+    ensures no_command { meaning 1511 (codes "{}") ≡ Err UnsupportedType }
     ensures reply { meaning 2 (codes "{\"name\":\"ann\"}") ≡ Err UnsupportedType }
     ensures no_text { meaning 1000 (codes "abc") ≡ Err (BadBody field.Nothing reason.NotObject) }
     ensures no_bytes { meaning 1000 [] ≡ Err (BadBody field.Nothing reason.NotObject) }
@@ -186,7 +189,7 @@ pub fn worked_first_causes()
     ensures wrong { IsFirstCause 1000 (codes "{\"x\":1,\"attributes\":7,\"name\":\"ann\"}") (BadBody field.Attributes reason.WrongKind) }
     ensures another { IsFirstCause 1000 (codes "{\"x\":1,\"name\":\"ann\"}") (BadBody field.Nothing reason.Unknown) }
     ensures no_object { IsFirstCause 1503 (codes "[1]") (BadBody field.Nothing reason.NotObject) }
-    ensures no_type { IsFirstCause 1510 (codes "{}") UnsupportedType }
+    ensures no_type { IsFirstCause 1511 (codes "{}") UnsupportedType }
     ensures none { IsFirstCause 1000 (codes "{\"name\":\"ann\"}") (BadBody field.Attributes reason.Missing) → ⊥ }
     ensures of_hello { IsFirstCause 0 (codes "abc") (BadBody field.Nothing reason.NotObject) → ⊥ }
 {}

@@ -1,13 +1,12 @@
 -- What a plan has to show: of a reply that changes nothing, of a refusal, and of a change that is carried out.
 use Rattle.std.proofs.Common.{◌≡◌, true, false, ◌||◌, List, Option, refl, sym, ◌∙◌, ap, subst}
-use Rattle.std.proofs.lemmas.Bool.{true≢false, false≢true}
+use Rattle.std.proofs.lemmas.Bool.{true≢false}
 use Rattle.ctrl_model.specs.declared.commands.Command.{Command}
 use Rattle.ctrl_model.specs.declared.commands.Command.TheVariants as command
 use Rattle.ctrl_model.specs.declared.kinds.Relation.{Relation}
 use Rattle.ctrl_model.specs.declared.kinds.Who.TheVariants.{Admin}
 use Rattle.ctrl_model.specs.declared.kinds.Relation.TheVariants.{Dial, Bind, IdentityRouter, ServiceRouter}
 use Rattle.ctrl_model.specs.declared.replies.Reply.{Reply}
-use Rattle.ctrl_model.specs.declared.replies.Reply.TheVariants.{Empty}
 use Rattle.ctrl_model.specs.State.{State}
 use Rattle.ctrl_model.specs.Grants.{count}
 use Rattle.ctrl_model.specs.CommandForm.{is_spelled}
@@ -23,7 +22,7 @@ use Rattle.entity_commands.specs.EntityPlans.{is_entity_command}
 use Rattle.link_commands.specs.LinkPlans.{is_link_command}
 use Rattle.core_stores.specs.PolicyPlans.{is_policy_command}
 use Rattle.terminator_commands.specs.TermPlans.{is_terminator_command}
-use Rattle.ctrl_core.specs.CarriedCommands.{is_carried, is_grant_command}
+use Rattle.ctrl_core.specs.OtherCommands.{is_grant_command, reply_alone}
 use Rattle.circuit_rules.specs.CircuitPlans.{is_circuit_command}
 use Rattle.core_stores.specs.declared.changes.Change.{Change}
 use Rattle.policy_store.specs.declared.steps.GrantSteps.{GrantSteps}
@@ -93,15 +92,14 @@ still_is st d p made still = record {
   no_steps = subst HasNoSteps (sym made.steps_are) still.no_steps;
 }
 
--- a command of no family that is carried out is a greeting
-pub only_greeting : (c : Command) (s : State) → is_carried c ≡ true → is_entity_command c ≡ false → is_policy_command c ≡ false → is_link_command c ≡ false
-    → is_terminator_command c ≡ false → is_circuit_command c ≡ false → is_grant_command c ≡ false → carry c s ≡ (Empty, s)
-only_greeting c s carried entity policy link terminator circuit grant =
-    by c carried (λ i. entity i || (policy i || (link i || (terminator i || (circuit i || grant i)))))
+-- a command of no family changes nothing
+pub alone_is : (c : Command) (s : State) (reply : Reply) → reply ≡ reply_alone c → is_entity_command c ≡ false → is_policy_command c ≡ false → is_link_command c ≡ false
+    → is_terminator_command c ≡ false → is_circuit_command c ≡ false → is_grant_command c ≡ false → carry c s ≡ (reply, s)
+alone_is c s reply is entity policy link terminator circuit grant =
+    by c (λ i. entity i || (policy i || (link i || (terminator i || (circuit i || grant i))))) ∙ ap (λ (r : Reply). (r, s)) (sym is)
   where
-    by : (c : Command) → is_carried c ≡ true
-        → (is_entity_command c || (is_policy_command c || (is_link_command c || (is_terminator_command c || (is_circuit_command c || is_grant_command c))))) ≡ false
-        → carry c s ≡ (Empty, s)
-    by command.Hello carried none = refl
-    by command.Compact carried none = absurd (false≢true carried)
-    by _ carried none = absurd (true≢false none)
+    by : (c : Command) → (is_entity_command c || (is_policy_command c || (is_link_command c || (is_terminator_command c || (is_circuit_command c || is_grant_command c))))) ≡ false
+        → carry c s ≡ (reply_alone c, s)
+    by command.Hello none = refl
+    by command.Compact none = refl
+    by _ none = absurd (true≢false none)

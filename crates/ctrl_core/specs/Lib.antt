@@ -1,4 +1,3 @@
-pub mod CarriedCommands
 pub mod KeptState
 pub mod Changes
 pub mod PlannedCommands
@@ -7,4 +6,5 @@ pub mod CompletedPlans
 pub mod WorkedChanges
 pub mod JoinedRows
 pub mod LoadedRows
+pub mod OtherCommands
 pub mod TakenRows

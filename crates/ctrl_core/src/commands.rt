@@ -10,7 +10,7 @@ ghost use Rattle.link_commands.specs.LinkPlans.{is_link_command};
 ghost use Rattle.policy_store.specs.PolicyChanges.{CanRule};
 ghost use Rattle.core_stores.specs.PolicyPlans.{is_policy_command, PlansPolicies};
 ghost use Rattle.terminator_commands.specs.TermPlans.{is_terminator_command};
-ghost use Rattle.ctrl_core.specs.CarriedCommands.{is_carried, is_grant_command};
+ghost use Rattle.ctrl_core.specs.OtherCommands.{is_grant_command, reply_alone};
 ghost use Rattle.circuit_rules.specs.CircuitPlans.{is_circuit_command};
 ghost use Rattle.ctrl_core.specs.KeptState.{Keeps};
 ghost use Rattle.core_stores.specs.StoredState.{state_of};
@@ -195,12 +195,21 @@ fn plan_grants(
     }
 }
 
-/// Plans the answer to a command that is carried out over the state of some stores: it is planned by the family that it belongs to,
-/// and what belongs to none is Hello.
+// The reply to a command that belongs to no family.
+fn reply_alone(command: &Command) -> Reply
+    ensures { result ≡ reply_alone command.now }
+{
+    match command {
+        Command::Compact => Reply::Done,
+        _ => Reply::Empty,
+    }
+}
+
+/// Plans the answer to a command over the state of some stores: it is planned by the family that it belongs to, and what belongs to
+/// none, Hello or Compact, changes nothing.
 pub fn plan_command(alloc: Global, stores: &Stores, command: &Command) -> Result<Draft, AllocError>
     requires kept { Keeps stores.now }
     requires spelled { is_spelled command.now ≡ true }
-    requires carried { is_carried command.now ≡ true }
     ensures { IfOk result (λ p. Plans p (carry command.now (state_of stores.now)) (state_of stores.now)) }
 {
     if let Some(planned) = plan_entities(alloc, stores, command)? {
@@ -221,5 +230,5 @@ pub fn plan_command(alloc: Global, stores: &Stores, command: &Command) -> Result
     if let Some(planned) = plan_grants(alloc, stores, command)? {
         return Ok(planned);
     }
-    Ok(Draft::shown(alloc, Reply::Empty))
+    Ok(Draft::shown(alloc, reply_alone(command)))
 }

@@ -11,7 +11,6 @@ ghost use Rattle.state_building.specs.declared.flaws.Flaw.{Flaw};
 ghost use Rattle.row_loading.specs.declared.faults.CoreFault.TheVariants.{NotAState};
 ghost use Rattle.row_loading.specs.LoadedRows.{AreOfNoState};
 ghost use Rattle.row_loading.specs.RefusedRows.{RefusesRows};
-ghost use Rattle.ctrl_core.specs.CarriedCommands.{is_carried};
 ghost use Rattle.ctrl_core.specs.Changes.{CanLead, IsStill, LeadsFrom, led};
 
 use crate::applying::carry_out;
@@ -90,14 +89,12 @@ impl Core {
         self.stores.grants.counted(relation)
     }
 
-    /// Plans the answer to a command that some body spells, as the controller gives it to who may send it. So far the commands are
-    /// all but Compact. A plan of a refusal, or of a reply that shows something, has no change and moves no count. Its batch is exactly
+    /// Plans the answer to a command that some body spells, as the controller gives it to who may send it. A plan of a refusal, or of a reply that shows something, has no change and moves no count. Its batch is exactly
     /// the difference between the rows of the state and those of the next one, so it is empty where they are equal. The state stays,
     /// and it is valid.
     pub fn plan(&self, command: &Command) -> Result<Planned, AllocError>
         requires live { self.now.live ≡ true }
         requires spelled { is_spelled command.now ≡ true }
-        requires carried { is_carried command.now ≡ true }
         ensures reply { IfOk result (λ p. p.reply ≡ (carry command.now self.now.state).0) }
         ensures leads { IfOk result (λ p. LeadsFrom p self.now.state (carry command.now self.now.state).1) }
         ensures still { IfOk result (λ p. tells_change p.reply ≡ false → IsStill p.change p.steps) }

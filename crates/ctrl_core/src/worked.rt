@@ -1,10 +1,11 @@
-ghost use Rattle.std.specs.Prelude.{◌≡◌, codes, true, false, [], ◌∷◌, None};
+ghost use Rattle.std.specs.Prelude.{◌≡◌, codes, [], ◌∷◌, None};
 ghost use Rattle.model_laws.specs.Plans.{led_by};
-ghost use Rattle.ctrl_model.specs.declared.commands.Command.TheVariants.{Hello, ConnectRouter, CreateLink, DeleteTerminator, DeleteCircuit, Compact};
+ghost use Rattle.ctrl_model.specs.declared.commands.Command.TheVariants.{Hello, Compact};
 ghost use Rattle.ctrl_model.specs.declared.kinds.Kind.TheVariants as kind;
+ghost use Rattle.ctrl_model.specs.declared.replies.Reply.TheVariants.{Empty, Done};
 ghost use Rattle.ctrl_model.specs.State.{start};
 ghost use Rattle.entity_store.specs.EntityTables.{no_entities};
-ghost use Rattle.ctrl_core.specs.CarriedCommands.{is_carried};
+ghost use Rattle.ctrl_core.specs.OtherCommands.{reply_alone};
 ghost use Rattle.ctrl_core.specs.Changes.{after_change};
 ghost use Rattle.core_stores.specs.StoredState.{state_of};
 ghost use Rattle.ctrl_model.specs.WorkedStates.{carrying};
@@ -18,15 +19,11 @@ ghost use Rattle.entity_store.specs.declared.changes.EntityChange.TheVariants.{A
 ghost use Rattle.fabric_graph.specs.declared.changes.LinkChange.TheVariants.{SetLeast};
 ghost use Rattle.policy_store.specs.declared.changes.PolicyChange.TheVariants as policy;
 
-/// Stores without records stand for the state at the start. Commands that are carried out so far, and one that is not.
+/// Stores without records stand for the state at the start. What is replied to the commands that touch no record.
 pub fn worked_starts()
     ensures state { state_of (record { entities = no_entities; policies = no_policies; fabric = no_links; terminators = no_terminators; circuits = no_circuits; grants = record { dial = []; bind = []; identity_router = []; service_router = [] } }) ≡ start }
-    ensures hello { is_carried Hello ≡ true }
-    ensures connect { is_carried (ConnectRouter (codes "r1")) ≡ true }
-    ensures link { is_carried (CreateLink (codes "l1") (codes "r1") (codes "r2") 1 0 0) ≡ true }
-    ensures terminator { is_carried (DeleteTerminator 1) ≡ true }
-    ensures circuit { is_carried (DeleteCircuit 1) ≡ true }
-    ensures compact { is_carried Compact ≡ false }
+    ensures hello { reply_alone Hello ≡ Empty }
+    ensures compact { reply_alone Compact ≡ Done }
 {}
 
 /// A change of each family, made in a small state: an entity comes, and a deleted one leaves the sides of policies.

@@ -2,7 +2,6 @@ ghost use Rattle.std.specs.Prelude.{◌≡◌, ◌<◌, ◌∷◌, [], IfOk, OnO
 ghost use Rattle.ctrl_model.specs.CommandForm.{is_spelled};
 ghost use Rattle.command_codec.specs.BodyMeaning.{meaning};
 ghost use Rattle.command_codec.specs.ContentTypes.{content_of};
-ghost use Rattle.command_codec.specs.ReadCommands.{is_read};
 ghost use Rattle.command_bodies.specs.BodyTexts.{body_text};
 ghost use Rattle.load_gen.specs.Draws.{draw};
 ghost use Rattle.load_gen.specs.LoadFrames.{frame_at};
@@ -26,8 +25,7 @@ pub(crate) fn draw(rng: &mut Lcg64Xsh32, k: u32) -> u32
 }
 
 fn frame(alloc: Global, place: u32, command: &Command) -> Result<Frame, AllocError>
-    requires spelled { is_spelled command.now ≡ true }
-    requires known { is_read command.now ≡ true }
+    requires { is_spelled command.now ≡ true }
     ensures frame { IfOk result (λ f. f ≡ frame_at place command.now) }
     ensures meant { OnOk result (meaning (content_of command.now) (body_text command.now) ≡ Ok command.now) }
 {
@@ -41,8 +39,7 @@ fn frame(alloc: Global, place: u32, command: &Command) -> Result<Frame, AllocErr
 }
 
 fn push_frame(alloc: Global, frames: &mut Vec<Frame>, command: &Command) -> Result<(), AllocError>
-    requires spelled { is_spelled command.now ≡ true }
-    requires known { is_read command.now ≡ true }
+    requires { is_spelled command.now ≡ true }
     ensures { OnOk result (Pushes frames.old.items frames.new.items (command.now ∷ [])) }
 {
     let Ok(place) = u32::try_from(frames.len()) else {
@@ -59,8 +56,7 @@ pub(crate) fn push(
     frames: &mut Vec<Frame>,
     command: Command,
 ) -> Result<(), AllocError>
-    requires spelled { is_spelled command ≡ true }
-    requires known { is_read command ≡ true }
+    requires { is_spelled command ≡ true }
     ensures { OnOk result (Pushes frames.old.items frames.new.items (command ∷ [])) }
 {
     push_frame(alloc, frames, &command)

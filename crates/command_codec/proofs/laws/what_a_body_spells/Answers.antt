@@ -6,6 +6,3 @@ returns-clause-spells c = λ content body d. (λ e. (means content body d e).spe
 
 pub returns-clause-spelled : goal.returns-clause-spelled
 returns-clause-spelled c = λ content body d e. (means content body d e).form
-
-pub returns-clause-in_table : goal.returns-clause-in_table
-returns-clause-in_table c = λ content body d e. (means content body d e).spelled.1

@@ -31,7 +31,7 @@ returns-clause-no_object c = (first_cause 1503 (codes "[1]") (BadBody field.Noth
 
 pub returns-clause-no_type : goal.returns-clause-no_type
 unfolding serde_json_on_literals is_utf8 chars
-returns-clause-no_type c = (first_cause 1510 (codes "{}") UnsupportedType).0 refl
+returns-clause-no_type c = (first_cause 1511 (codes "{}") UnsupportedType).0 refl
 
 pub returns-clause-none : goal.returns-clause-none
 unfolding serde_json_on_literals is_utf8 chars

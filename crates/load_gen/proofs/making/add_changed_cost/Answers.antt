@@ -5,8 +5,8 @@ use Rattle.load_gen.proofs.LoadLaws.{adds_pushed}
 use Rattle.load_gen.proofs.SpelledLoads.{name_form, link_cost_form, both_hold}
 use Rattle.load_gen.proofs.making.add_changed_cost.Goals as goal
 
-pub push-requires-clause-spelled : goal.push-requires-clause-spelled
-push-requires-clause-spelled c =
+pub push-requires : goal.push-requires
+push-requires c =
     rw c.in_ok-link.ensures (both_hold _ _ (name_form (codes "l") (1 + c.draw-l.result) refl (omega arith)) (link_cost_form c.draw-cost.result c.draw-cost.ensures.below))
 
 pub returns : goal.returns

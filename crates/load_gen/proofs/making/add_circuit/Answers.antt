@@ -5,8 +5,8 @@ use Rattle.load_gen.proofs.LoadLaws.{adds_pushed}
 use Rattle.load_gen.proofs.SpelledLoads.{name_form, both_hold}
 use Rattle.load_gen.proofs.making.add_circuit.Goals as goal
 
-pub push-requires-clause-spelled : goal.push-requires-clause-spelled
-push-requires-clause-spelled c =
+pub push-requires : goal.push-requires
+push-requires c =
     rw (c.in_ok-identity.ensures, c.in_ok-service.ensures, c.in_ok-instance.ensures) (both_hold _ _ (name_form (codes "u") (1 + c.draw-u.result) refl (omega arith)) (both_hold _ _ (name_form (codes "s") (1 + c.draw-s.result) refl (omega arith)) refl))
 
 pub returns : goal.returns

@@ -6,8 +6,8 @@ use Rattle.load_gen.proofs.LoadLaws.{adds_pushed}
 use Rattle.load_gen.proofs.SpelledLoads.{name_form}
 use Rattle.load_gen.proofs.making.add_connection.Goals as goal
 
-pub push-requires-clause-spelled : goal.push-requires-clause-spelled
-push-requires-clause-spelled c =
+pub push-requires : goal.push-requires
+push-requires c =
     ap is_name c.in_ok-name.ensures ∙ (name_form (codes "r") (1 + c.draw-r.result) refl (omega arith))
 
 pub returns : goal.returns

@@ -5,8 +5,8 @@ use Rattle.load_gen.proofs.LoadLaws.{adds_pushed}
 use Rattle.load_gen.proofs.SpelledLoads.{name_form, one_side, both_hold}
 use Rattle.load_gen.proofs.making.add_edge_router_policy.Goals as goal
 
-pub push-requires-clause-spelled : goal.push-requires-clause-spelled
-push-requires-clause-spelled c =
+pub push-requires : goal.push-requires
+push-requires c =
     rw (c.in_ok-name.ensures, c.with_attributes-identity_roles.ensures, c.with_attributes-router_roles.ensures, c.in_ok-left.ensures, c.in_ok-right.ensures) (both_hold _ _ (name_form (codes "e") (c.args.i) refl (omega arith)) (both_hold _ _ (one_side (numbered (codes "g") c.draw-g.result) (name_form (codes "g") (c.draw-g.result) refl (omega arith)) refl) (one_side (numbered (codes "e") c.draw-e.result) (name_form (codes "e") (c.draw-e.result) refl (omega arith)) refl)))
 
 pub returns : goal.returns

@@ -7,8 +7,8 @@ use Rattle.load_gen.proofs.LoadLaws.{adds_pushed}
 use Rattle.load_gen.proofs.SpelledLoads.{name_form, two_form, both_hold}
 use Rattle.load_gen.proofs.making.add_identity.Goals as goal
 
-pub push-requires-clause-spelled : goal.push-requires-clause-spelled
-push-requires-clause-spelled c =
+pub push-requires : goal.push-requires
+push-requires c =
     ap₂ (λ n names. is_name n && are_attributes names) c.in_ok-name.ensures c.in_ok-attributes.ensures ∙ both_hold _ _ (name_form (codes "u") (c.args.i) refl (omega arith)) (two_form c.draw-g.result c.draw-h.result (omega arith) (omega arith))
 
 pub returns : goal.returns

@@ -5,8 +5,8 @@ use Rattle.load_gen.proofs.LoadLaws.{adds_pushed}
 use Rattle.load_gen.proofs.SpelledLoads.{name_form, link_cost_form, both_hold}
 use Rattle.load_gen.proofs.making.add_link.Goals as goal
 
-pub push-requires-clause-spelled : goal.push-requires-clause-spelled
-push-requires-clause-spelled c =
+pub push-requires : goal.push-requires
+push-requires c =
     rw (c.in_ok-name.ensures, c.in_ok-a.ensures, c.in_ok-b.ensures) (both_hold _ _ (name_form (codes "l") (c.args.i) refl (omega arith)) (both_hold _ _ (name_form (codes "r") (1 + c.draw-first.result) refl (omega arith)) (both_hold _ _ (name_form (codes "r") (1 + c.draw-second.result) refl (omega arith)) (both_hold _ _ (link_cost_form c.draw-cost.result c.draw-cost.ensures.below) refl))))
 
 pub returns : goal.returns

@@ -5,8 +5,8 @@ use Rattle.load_gen.proofs.LoadLaws.{adds_pushed}
 use Rattle.load_gen.proofs.SpelledLoads.{name_form, one_side, both_hold}
 use Rattle.load_gen.proofs.making.add_service_edge_router_policy.Goals as goal
 
-pub push-requires-clause-spelled : goal.push-requires-clause-spelled
-push-requires-clause-spelled c =
+pub push-requires : goal.push-requires
+push-requires c =
     rw (c.in_ok-name.ensures, c.with_attributes-service_roles.ensures, c.everything-router_roles.ensures, c.in_ok-left.ensures) (both_hold _ _ (name_form (codes "f") (c.args.i) refl (omega arith)) (both_hold _ _ (one_side (numbered (codes "c") c.draw-c.result) (name_form (codes "c") (c.draw-c.result) refl (omega arith)) refl) refl))
 
 pub returns : goal.returns

@@ -5,8 +5,8 @@ use Rattle.load_gen.proofs.LoadLaws.{adds_pushed}
 use Rattle.load_gen.proofs.SpelledLoads.{name_form, one_side, two_side, relation_form, both_hold}
 use Rattle.load_gen.proofs.making.add_service_policy.Goals as goal
 
-pub push-requires-clause-spelled : goal.push-requires-clause-spelled
-push-requires-clause-spelled c =
+pub push-requires : goal.push-requires
+push-requires c =
     rw (c.in_ok-name.ensures, c.relation_of.ensures, c.with_attributes-identity_roles.ensures, c.with_attributes-service_roles.ensures, c.in_ok-left.ensures, c.in_ok-right.ensures) (both_hold _ _ (name_form (codes "d") (c.args.i) refl (omega arith)) (both_hold _ _ (relation_form c.draw-relation.result) (both_hold _ _ (two_side c.draw-g.result c.draw-h.result (omega arith) (omega arith)) (one_side (numbered (codes "c") c.draw-c.result) (name_form (codes "c") (c.draw-c.result) refl (omega arith)) refl))))
 
 pub returns : goal.returns

@@ -5,8 +5,8 @@ use Rattle.load_gen.proofs.LoadLaws.{adds_pushed}
 use Rattle.load_gen.proofs.SpelledLoads.{name_form, cost_form, both_hold}
 use Rattle.load_gen.proofs.making.add_terminator.Goals as goal
 
-pub push-requires-clause-spelled : goal.push-requires-clause-spelled
-push-requires-clause-spelled c =
+pub push-requires : goal.push-requires
+push-requires c =
     rw (c.in_ok-service.ensures, c.in_ok-router.ensures, c.in_ok-instance.ensures) (both_hold _ _ (name_form (codes "s") (1 + c.draw-s.result) refl (omega arith)) (both_hold _ _ (name_form (codes "r") (1 + c.draw-r.result) refl (omega arith)) (cost_form c.draw-cost.result c.draw-cost.ensures.below)))
 
 pub returns : goal.returns

@@ -1,7 +1,9 @@
--- Those commands that a core carries out so far (docs/RULES.md, "The controller").
+-- The commands that no family of records plans (docs/RULES.md, "The controller").
 use Rattle.std.specs.Prelude.{Bool, true, false}
 use Rattle.ctrl_model.specs.declared.commands.Command.{Command}
 use Rattle.ctrl_model.specs.declared.commands.Command.TheVariants as command
+use Rattle.ctrl_model.specs.declared.replies.Reply.{Reply}
+use Rattle.ctrl_model.specs.declared.replies.Reply.TheVariants.{Empty, Done}
 
 -- The commands that show grants and counts.
 abbrev pub is_grant_command : Command → Bool
@@ -10,7 +12,7 @@ is_grant_command (command.ListServices identity) = true
 is_grant_command command.ShowCounts = true
 is_grant_command _ = false
 
--- Whether a core carries a command out so far: all but Compact.
-abbrev pub is_carried : Command → Bool
-is_carried command.Compact = false
-is_carried _ = true
+-- The reply to a command that touches no record: Compact is done, and what else there is greets.
+abbrev pub reply_alone : Command → Reply
+reply_alone command.Compact = Done
+reply_alone _ = Empty
