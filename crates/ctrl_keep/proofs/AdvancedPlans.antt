@@ -25,7 +25,7 @@ use Rattle.ctrl_core.specs.KeptState.{Cored}
 use Rattle.ctrl_keep.specs.declared.faults.KeepFault.{KeepFault}
 use Rattle.ctrl_keep.specs.declared.faults.KeepFault.TheVariants.{Disk, Damaged, Spent, NoMemory}
 use Rattle.ctrl_keep.specs.OpenedStates.{OpensToState}
-use Rattle.ctrl_keep.specs.KeptMachine.{Machine, step}
+use Rattle.ctrl_keep.specs.KeptMachine.{Machine, is_compact, step}
 use Rattle.ctrl_keep.specs.KeptController.{Controlled, machine_with, machine_of, made_of, Keeps, IsPlanned}
 use Rattle.ctrl_keep.specs.Faults.{KeepFails, AdvanceFails, SubmitFails}
 use Rattle.ctrl_keep.proofs.KeptStates.{rows_lead, opens_next, opens_either}
@@ -74,6 +74,13 @@ pub made_full : (p : Planned) (core : Cored) (stored : Stored) → CanAdvance p 
     → made_of p core.state stored ≡ (Refused JournalFull, machine_with core.state stored)
 made_full p core stored can full = kept_without_room stored.bounds.slot p.reply core.state (led p core.state) p.batch stored can.changes full
 
+-- A plan that was kept and carried out is answered with its reply.
+pub step_next : (p : Planned) (core next : Cored) (stored later : Stored) (reply : Reply) → CanAdvance p core stored → size_with stored p.batch ≤ stored.bounds.slot → reply ≡ p.reply
+    → next ≡ record { state = led p core.state; live = true } → later ≡ with_ops stored p.batch → (reply, machine_with next.state later) ≡ made_of p core.state stored
+step_next p core next stored later reply can room said moved kept =
+    ap (λ (r : Reply). (r, machine_with next.state later)) said ∙ ap (λ (n : Cored). (p.reply, machine_with n.state later)) moved
+    ∙ ap (λ (l : Stored). (p.reply, machine_with (led p core.state) l)) kept ∙ sym (made_next p core stored can room)
+
 -- ---- what the folder opens to
 
 -- Whatever comes of the call, to the state before or to the one after.
@@ -116,6 +123,15 @@ fails_with_room ops old new desk later (Damaged part at) f = absurd f
 fails_with_room ops old new desk later Spent f = absurd f
 fails_with_room ops old new desk later NoMemory f = f.0
 
+-- Why a batch was not kept is why its plan was not carried out.
+pub advance_fails : {D : Type 0} (ops : List Op) (core : Cored) (old new : Stored) (spent : Bool) (desk later : D) (fault : KeepFault) → Keeps core old → spent ≡ new.spent
+    → KeepFails ops old new desk later fault → AdvanceFails core core old new spent desk later fault
+advance_fails ops core old new spent desk later Disk k e f = (e ∙ ap (λ (s : Stored). s.spent) f.1, refl)
+advance_fails ops core old new spent desk later (Damaged part at) k e f = absurd f
+advance_fails ops core old new spent desk later Spent k e f = absurd f
+advance_fails ops core old new spent desk later NoMemory k e (room, inl (same, quiet)) = inl (refl, same, e ∙ ap (λ (s : Stored). s.spent) same ∙ k.unspent, quiet)
+advance_fails ops core old new spent desk later NoMemory k e (room, inr done) = inr (e ∙ ap (λ (s : Stored). s.spent) done)
+
 -- ---- the whole controller
 
 -- What was planned in the state.
@@ -128,12 +144,12 @@ is_planned p core stored t keeps leads batch = record {
 
 -- The machine's step is what it makes of the plan.
 pub step_is : (who : Who) (c : Command) (old : Controlled) (core : Cored) (stored : Stored) (spent : Bool) (p : Planned)
-    → record { state = core.state; stored = stored; spent = spent } ≡ old → is_permitted who c ≡ true → p.reply ≡ (carry c core.state).0
+    → record { state = core.state; stored = stored; spent = spent } ≡ old → is_permitted who c ≡ true → is_compact c ≡ false → p.reply ≡ (carry c core.state).0
     → LeadsFrom p core.state (carry c core.state).1 → p.batch ≡ batch_between core.state (carry c core.state).1
-    → step old.stored.bounds.slot who c (machine_of old) ≡ made_of p core.state stored
-step_is who c old core stored spent p view may reply leads batch =
-    subst (λ (k : Controlled). step k.stored.bounds.slot who c (machine_of k) ≡ made_of p core.state stored) view
-    (step_planned who c core.state stored p may reply leads batch)
+    → step old.stored.bounds who c (machine_of old) ≡ made_of p core.state stored
+step_is who c old core stored spent p view may other reply leads batch =
+    subst (λ (k : Controlled). step k.stored.bounds who c (machine_of k) ≡ made_of p core.state stored) view
+    (step_planned who c core.state stored p may other reply leads batch)
 
 pub submit_fails : {D : Type 0} (old new : Controlled) (core coming : Cored) (stored later_stored : Stored) (before spent : Bool) (desk later : D) (fault : KeepFault)
     → record { state = core.state; stored = stored; spent = before } ≡ old → record { state = coming.state; stored = later_stored; spent = spent } ≡ new → before ≡ false

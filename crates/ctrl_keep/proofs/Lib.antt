@@ -4,3 +4,4 @@ pub mod OpenedFolders
 pub mod OneStates
 pub mod AdvancedPlans
 pub mod SubmittedCommands
+mod CompactedStates

@@ -1,5 +1,6 @@
 -- What a folder opens to, and why it opens to no state: from its rows, and from what was told of the calls below.
-use Rattle.std.proofs.Common.{◌≡◌, inr, ℕ, zero, suc, Bool, IsTrue, List, [], ◌∷◌, length, map, refl, sym, ap, ◌∙◌, subst}
+use Rattle.std.proofs.Common.{◌≡◌, inr, ℕ, zero, suc, Bool, IsTrue, IfOk, Ok, Err, List, [], ◌∷◌, length, map, refl, sym, ap, ◌∙◌, subst}
+use Rattle.std.specs.declared.result.Result.{Result}
 use Rattle.ziti_outside.specs.declared.desk.Part.{Part}
 use Rattle.ziti_outside.specs.declared.desk.Part.TheVariants.{Mark}
 use Rattle.ziti_outside.specs.Images.{Image}
@@ -21,10 +22,12 @@ use Rattle.row_loading.specs.LoadedRows.{AreOfNoState}
 use Rattle.row_store.specs.BatchRows.{ByteRows, Give, puts}
 use Rattle.row_store.specs.OpenedRows.{OpensTo}
 use Rattle.row_store.specs.StoredRows.{Stored, IsStoreOf}
+use Rattle.ctrl_core.specs.KeptState.{Cored}
 use Rattle.ctrl_keep.specs.declared.faults.KeepFault.{KeepFault}
 use Rattle.ctrl_keep.specs.declared.faults.KeepFault.TheVariants.{Disk, Damaged, Spent, NoMemory}
-use Rattle.ctrl_keep.specs.OpenedStates.{byte_rows_of, HasNoState}
+use Rattle.ctrl_keep.specs.OpenedStates.{byte_rows_of, OpensToState, HasNoState}
 use Rattle.ctrl_keep.specs.Faults.{OpenFails, LoadFails}
+use Rattle.ctrl_keep.proofs.KeptStates.{opens_state}
 
 -- ---- rows as puts
 
@@ -69,21 +72,25 @@ empty_opens image rows e p =
     let none : p.batches ≡ [] = subst (λ (m : ℕ). StandsBy m image p.batches) e p.stands in
     subst (λ (l : List (List ℕ)). Give l rows) none p.give
 
+-- A folder whose store has the rows of no state opens to none.
+pub store_without_state : (image : Image) (stored : Stored) (part : Part) (at : ℕ) → IsStoreOf image stored → part ≡ stored.part → at ≡ stored.end
+    → ((s : State) → ValidState s → stored.rows ≡ byte_rows_of s → ⊥) → HasNoState image part at
+store_without_state image stored part at here named place none = record {
+  named = named ∙ here.part ∙ ap slot_of (sym here.mark);
+  batches = here.batches;
+  stands = here.stands;
+  rows = stored.rows;
+  give = here.give;
+  place = place ∙ here.end;
+  none = none;
+}
+
 -- A folder that was opened, and whose rows are those of no state, opens to none.
 no_state_by : (mark : ℕ) (old new : Image) (stored : Stored) (part : Part) (at : ℕ) → length (old Mark) ≡ mark → Opens mark old new → OpensTo old stored.rows → IsStoreOf new stored
     → part ≡ stored.part → at ≡ stored.end → ((s : State) → ValidState s → stored.rows ≡ byte_rows_of s → ⊥) → HasNoState old part at
 no_state_by zero old new stored part at count opens p kept named place none = absurd (none start start_valid (empty_opens old stored.rows count p))
 no_state_by (suc turn) old new stored part at count opens p kept named place none =
-    let here : IsStoreOf old stored = subst (λ (i : Image). IsStoreOf i stored) opens kept in
-    record {
-      named = named ∙ here.part ∙ ap slot_of (sym here.mark);
-      batches = here.batches;
-      stands = here.stands;
-      rows = stored.rows;
-      give = here.give;
-      place = place ∙ here.end;
-      none = none;
-    }
+    store_without_state old stored part at (subst (λ (i : Image). IsStoreOf i stored) opens kept) named place none
 
 -- Why the rows gave no controller is why the folder was not opened.
 pub load_fails : (tells : Bool) (old new : Image) (stored : Stored) (fault : KeepFault) → (IsTrue tells → Opens (length (old Mark)) old new)
@@ -93,3 +100,20 @@ load_fails tells old new stored (Damaged part at) opens p kept f =
     λ told. inr (no_state_by (length (old Mark)) old new stored part at refl (opens told) (p told) (kept told) f.0 f.1 f.2)
 load_fails tells old new stored Spent opens p kept f = f
 load_fails tells old new stored NoMemory opens p kept f = tt
+
+-- ---- a folder that was only looked at
+
+-- What it opens to is the state whose rows its store has.
+pub peek_opens : (tells : Bool) (image : Image) (stored : Stored) (r : Result Cored KeepFault) → (IsTrue tells → IsStoreOf image stored) → IfOk r (λ core. ValidState core.state)
+    → IfOk r (λ core. stored.rows ≡ byte_rows_of core.state) → IfOk r (λ core. IsTrue tells → OpensToState image core.state)
+peek_opens tells image stored (Ok core) opens valid rows = λ told.
+    let here = opens told in
+    opens_state image core.state stored.rows valid rows (record { batches = here.batches; stands = here.stands; give = here.give })
+peek_opens tells image stored (Err fault) opens valid rows = tt
+
+-- Why its rows gave no controller is why it was not opened.
+pub peek_fails : (tells : Bool) (image : Image) (stored : Stored) (fault : KeepFault) → (IsTrue tells → IsStoreOf image stored) → LoadFails stored fault → OpenFails tells image fault
+peek_fails tells image stored Disk opens f = tt
+peek_fails tells image stored (Damaged part at) opens f = λ told. inr (store_without_state image stored part at (opens told) f.0 f.1 f.2)
+peek_fails tells image stored Spent opens f = f
+peek_fails tells image stored NoMemory opens f = tt

@@ -1,5 +1,5 @@
 -- What is so of the whole controller where a command is refused or is not answered, from what is so of its parts.
-use Rattle.std.proofs.Common.{◌≡◌, ◌⊎◌, inl, inr, Bool, false, Ok, Err, IfOk, sym, ◌∙◌, subst}
+use Rattle.std.proofs.Common.{◌≡◌, ◌⊎◌, inl, inr, Bool, true, false, Ok, Err, IfOk, true≢false, sym, ◌∙◌, subst}
 use Rattle.std.specs.declared.result.Result.{Result}
 use Rattle.ziti_outside.specs.Images.{Image}
 use Rattle.ctrl_model.specs.declared.commands.Command.{Command}
@@ -14,7 +14,7 @@ use Rattle.row_store.specs.StoredRows.{Stored, ReadsAs}
 use Rattle.ctrl_core.specs.KeptState.{Cored}
 use Rattle.ctrl_keep.specs.declared.faults.KeepFault.{KeepFault}
 use Rattle.ctrl_keep.specs.OpenedStates.{OpensToState}
-use Rattle.ctrl_keep.specs.KeptMachine.{Machine, step}
+use Rattle.ctrl_keep.specs.KeptMachine.{Machine, is_compact, step}
 use Rattle.ctrl_keep.specs.KeptController.{Controlled, machine_of, Keeps}
 use Rattle.ctrl_keep.proofs.KeptStates.{still_opens}
 use Rattle.ctrl_keep.proofs.MachineSteps.{step_refused}
@@ -28,10 +28,10 @@ still_state old core stored spent reads images view k r image m =
 
 -- A command that is not permitted is refused, and changes nothing.
 pub refused_is : (who : Who) (c : Command) (old : Controlled) (core : Cored) (stored : Stored) (spent : Bool) → record { state = core.state; stored = stored; spent = spent } ≡ old
-    → ValidState core.state → is_permitted who c ≡ false → (Refused NotPermitted, machine_of old) ≡ step old.stored.bounds.slot who c (machine_of old)
+    → ValidState core.state → is_permitted who c ≡ false → (Refused NotPermitted, machine_of old) ≡ step old.stored.bounds who c (machine_of old)
 refused_is who c old core stored spent view v e =
-    subst (λ (k : Controlled). (Refused NotPermitted, machine_of k) ≡ step k.stored.bounds.slot who c (machine_of k)) view
-    (sym (step_refused stored.bounds.slot who c core.state stored v e))
+    subst (λ (k : Controlled). (Refused NotPermitted, machine_of k) ≡ step k.stored.bounds who c (machine_of k)) view
+    (sym (step_refused stored.bounds who c core.state stored v e))
 
 -- What opens to one of two states.
 pub either_same : (image : Image) (s t : State) (a b : Reply × Machine) → s ≡ t → a ≡ b → OpensToState image s ⊎ OpensToState image a.1.state
@@ -43,3 +43,8 @@ either_same image s t a b e f (inr p) = inr (subst (λ (x : Reply × Machine). O
 pub steps_as : (r : Result Reply KeepFault) (m : Machine) (a b : Reply × Machine) → b ≡ a → IfOk r (λ reply. (reply, m) ≡ a) → IfOk r (λ reply. (reply, m) ≡ b)
 steps_as (Ok x) m a b e f = f ∙ sym e
 steps_as (Err x) m a b e f = tt
+
+-- What is so of the reply to Compact alone, of another command.
+pub never_compacts : (r : Result Reply KeepFault) (c : Command) (X : Reply → Type 0) → is_compact c ≡ false → IfOk r (λ reply. is_compact c ≡ true → X reply)
+never_compacts (Ok x) c X e = λ is. absurd (true≢false (sym is ∙ e))
+never_compacts (Err x) c X e = tt

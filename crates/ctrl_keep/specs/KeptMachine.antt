@@ -1,16 +1,22 @@
 -- The controller with a folder: a command is answered as the controller does, unless its change has no room in the journal
 -- (docs/RULES.md, "The controller with a folder"). Without a folder it is the controller alone.
-use Rattle.std.specs.Prelude.{ℕ, ◌+◌, cond, nat_lt, List, [], ◌∷◌, length, None, Some}
+use Rattle.std.specs.Prelude.{ℕ, ◌+◌, Bool, true, false, ◌&&◌, cond, nat_lt, List, [], ◌∷◌, length, None, Some}
 use Rattle.std.specs.declared.option.Option.{Option}
 use Rattle.ctrl_model.specs.declared.commands.Command.{Command}
+use Rattle.ctrl_model.specs.declared.commands.Command.TheVariants.{Compact}
 use Rattle.ctrl_model.specs.declared.kinds.Who.{Who}
-use Rattle.ctrl_model.specs.declared.refusals.Refusal.TheVariants.{JournalFull}
+use Rattle.ctrl_model.specs.declared.refusals.Refusal.TheVariants.{JournalFull, MarkFull}
 use Rattle.ctrl_model.specs.declared.replies.Reply.{Reply}
-use Rattle.ctrl_model.specs.declared.replies.Reply.TheVariants.{Refused}
+use Rattle.ctrl_model.specs.declared.replies.Reply.TheVariants.{Done, Refused}
 use Rattle.ctrl_model.specs.State.{State}
+use Rattle.ctrl_model.specs.Permitted.{is_permitted}
 use Rattle.ctrl_model.specs.Controller.{answer}
+use Rattle.journal_core.specs.Slots.{slot_end}
 use Rattle.row_codec.specs.declared.changes.Op.{Op}
 use Rattle.row_codec.specs.Batches.{batch_between, batch_bytes}
+use Rattle.row_store.specs.declared.bounds.StoreBounds.{StoreBounds}
+use Rattle.row_store.specs.CompactedStores.{compacted, compacted_size}
+use Rattle.ctrl_keep.specs.OpenedStates.{byte_rows_of}
 
 -- Where the journal goes on: the place of the closed gate of the slot that stands, and the length of the mark.
 pub record Place : Type 0 where
@@ -38,11 +44,29 @@ kept most reply s (op ∷ ops) next place =
     cond (nat_lt most (slot_with (op ∷ ops) place)) (Refused JournalFull, record { state = s; place = Some place })
     (reply, record { state = next; place = Some (behind (op ∷ ops) place) })
 
--- What becomes of an answer, with a folder or without.
-abbrev pub answered : ℕ → Reply × State → State → Option Place → Reply × Machine
-answered most a s None = (a.0, record { state = a.1; place = None })
-answered most a s (Some place) = kept most a.0 s (batch_between s a.1) a.1 place
+-- Whether a command is Compact.
+abbrev pub is_compact : Command → Bool
+is_compact Compact = true
+is_compact _ = false
+
+-- The place in a folder whose rows were compacted: behind the one batch of all rows, or at the first gate where there are none, with a
+-- mark of one byte more.
+abbrev pub compacted_place : State → Place → Place
+compacted_place s place = record { end = slot_end (compacted (byte_rows_of s)); mark = place.mark + 1 }
+
+-- What becomes of Compact in a folder: it is refused where the slot of the compacted rows would pass its bound, and else where the mark
+-- has as many bytes as it may have; else it is done. The state stays.
+abbrev pub compacted_at : StoreBounds → State → Place → Reply × Machine
+compacted_at bounds s place =
+    cond (nat_lt bounds.slot (compacted_size (byte_rows_of s))) (Refused JournalFull, record { state = s; place = Some place })
+    (cond (nat_lt place.mark bounds.mark) (Done, record { state = s; place = Some (compacted_place s place) })
+    (Refused MarkFull, record { state = s; place = Some place }))
+
+-- What becomes of an answer, with a folder or without. With a folder a Compact that was not refused compacts it.
+abbrev pub answered : StoreBounds → (compacts : Bool) → Reply × State → State → Option Place → Reply × Machine
+answered bounds compacts a s None = (a.0, record { state = a.1; place = None })
+answered bounds compacts a s (Some place) = cond compacts (compacted_at bounds s place) (kept bounds.slot a.0 s (batch_between s a.1) a.1 place)
 
 -- One step: who sends which command gets which reply, and how the machine goes on.
-abbrev pub step : ℕ → Who → Command → Machine → Reply × Machine
-step most who c m = answered most (answer who c m.state) m.state m.place
+abbrev pub step : StoreBounds → Who → Command → Machine → Reply × Machine
+step bounds who c m = answered bounds (is_compact c && is_permitted who c) (answer who c m.state) m.state m.place

@@ -3,3 +3,4 @@ pub mod KeptMachine
 pub mod KeptController
 pub mod Faults
 pub mod WorkedMachines
+pub mod CompactionReplies

@@ -3,6 +3,7 @@ ghost use Rattle.ziti_outside.specs.Causes.{HasCause};
 ghost use Rattle.ziti_outside.specs.Images.{Image};
 ghost use Rattle.ziti_outside.specs.Moments.{Remembers, Leaves};
 ghost use Rattle.ziti_outside.specs.Untouched.{OnlyDisk};
+ghost use Rattle.journal_core.specs.Room.{KeepsRoom, LeavesRoom};
 ghost use Rattle.row_codec.specs.RowDifference.{IsTrueDifference};
 ghost use Rattle.row_codec.specs.Batches.{bytes_cmp, entries_of, IsBatch};
 ghost use Rattle.row_store.specs.BatchRows.{rows_after};
@@ -38,6 +39,8 @@ fn keep<D: Desk>(store: &mut Store, desk: &mut D, batch: &Batch) -> Result<bool,
     ensures stops { IsTrue D.tells → Leaves D.moment D.since D.may_leave D.said desk.old desk.new
         (λ image. OpensTo image store.old.rows ⊎ OpensTo image (rows_after store.old.rows batch.now)) }
     ensures remembers { Remembers (D.moment desk.old) (D.since desk.old) (D.since desk.new) }
+    ensures room { IsTrue D.tells → KeepsRoom store.old.bounds.slot (D.reads desk.old) (D.reads desk.new) }
+    ensures images { LeavesRoom store.old.bounds.slot D.may_leave desk.old desk.new }
 {
     match store.commit(desk, batch) {
         Ok(()) => Ok(true),
@@ -75,6 +78,8 @@ pub(crate) fn advance<D: Desk>(
     ensures stops { IsTrue D.tells → Leaves D.moment D.since D.may_leave D.said desk.old desk.new
         (λ image. OpensToState image core.old.state ⊎ OpensToState image (made_of planned core.old.state store.old).1.state) }
     ensures remembers { Remembers (D.moment desk.old) (D.since desk.old) (D.since desk.new) }
+    ensures room { IsTrue D.tells → KeepsRoom store.old.bounds.slot (D.reads desk.old) (D.reads desk.new) }
+    ensures images { LeavesRoom store.old.bounds.slot D.may_leave desk.old desk.new }
 {
     if planned.batch.as_slice().is_empty() {
         return Ok(planned.reply);

@@ -1,24 +1,28 @@
-ghost use Rattle.std.specs.Prelude.{◌≡◌, ◌⊎◌, ◌≤◌, ◌<◌, ◌^◌, ⊤, true, false, length, IsTrue, OnOk, IfOk, IfErr, IsErrOf};
+ghost use Rattle.std.specs.Prelude.{◌≡◌, ◌⊎◌, ◌≤◌, ◌<◌, ◌^◌, ⊤, true, false, length, IsTrue, OnOk, OnErr, IfOk, IfErr, IsErrOf};
 ghost use Rattle.ziti_outside.specs.declared.desk.Part.TheVariants.{One, Mark};
 ghost use Rattle.ziti_outside.specs.Causes.{HasCause};
 ghost use Rattle.ziti_outside.specs.Images.{Image, After};
 ghost use Rattle.ziti_outside.specs.Moments.{Remembers, Leaves};
 ghost use Rattle.ziti_outside.specs.Untouched.{OnlyDisk};
+ghost use Rattle.journal_core.specs.Room.{empty_size, KeepsRoom, LeavesRoom};
 ghost use Rattle.slot_files.specs.FolderImage.{StandsAsBefore};
 ghost use Rattle.slot_files.specs.OpenedSlots.{Opens};
 ghost use Rattle.ctrl_model.specs.CommandForm.{is_spelled};
 ghost use Rattle.ctrl_model.specs.ValidState.{ValidState};
-ghost use Rattle.ctrl_core.specs.CarriedCommands.{is_carried};
 ghost use Rattle.row_store.specs.StoredRows.{ReadsAs};
 ghost use Rattle.ctrl_keep.specs.OpenedStates.{byte_rows_of, OpensToState};
-ghost use Rattle.ctrl_keep.specs.KeptMachine.{step};
+ghost use Rattle.ctrl_keep.specs.KeptMachine.{step, is_compact};
+ghost use Rattle.ctrl_model.specs.declared.replies.Reply.TheVariants.{Done};
+ghost use Rattle.row_store.specs.CompactedStores.{IsCompacted};
 ghost use Rattle.ctrl_keep.specs.KeptController.{HoldsRows, machine_of};
 ghost use Rattle.ctrl_keep.specs.Faults.{disk_failure, OpenFails, LoadFails, SubmitFails};
 
 use crate::advancing::advance;
+use crate::compacting::{compact, is_compact};
 use crate::faults::{KeepFault, fault_of};
+use crate::loading::core_of;
 use access_rules::permitted;
-use ctrl_core::{Core, CoreFault};
+use ctrl_core::Core;
 use ctrl_model::{Command, Refusal, Reply, Who};
 use row_store::{Store, StoreBounds};
 use std::alloc::Global;
@@ -72,6 +76,11 @@ impl Kept {
         ensures quiet { Leaves D.moment D.since D.may_leave D.said desk.old desk.new (λ image. ⊤) }
         ensures stops { IsTrue D.tells → Leaves D.moment D.since D.may_leave D.said desk.old desk.new (After StandsAsBefore (D.may_leave desk.old)) }
         ensures remembers { Remembers (D.moment desk.old) (D.since desk.old) (D.since desk.new) }
+
+        // No slot grows past the size of one without a record, neither in what a stop leaves nor, where no call on the disk failed, as
+        // the desk reads.
+        ensures room { IsTrue D.tells → OnOk (disk_failure result) (KeepsRoom empty_size (D.reads desk.old) (D.reads desk.new)) }
+        ensures images { LeavesRoom empty_size D.may_leave desk.old desk.new }
     {
         match Store::open(alloc, desk, bounds) {
             Ok(store) => Kept::load(alloc, store),
@@ -87,19 +96,12 @@ impl Kept {
         ensures rows { IfOk result (λ kept. store.rows ≡ byte_rows_of kept.state) }
         ensures fault { IfErr result (λ fault. LoadFails store fault) }
     {
-        let rows = store.all()?;
-        match Core::from_rows(alloc, &rows) {
-            Ok(core) => Ok(Kept {
-                core,
-                store,
-                spent: false,
-            }),
-            Err(CoreFault::NotAState { .. }) => {
-                let (part, at) = store.end();
-                Err(KeepFault::Damaged { part, at })
-            }
-            Err(CoreFault::NoMemory) => Err(KeepFault::NoMemory),
-        }
+        let core = core_of(alloc, &store)?;
+        Ok(Kept {
+            core,
+            store,
+            spent: false,
+        })
     }
 
     /// Answers a command that some body spells, whoever sends it, and keeps what it changes in the folder before it answers.
@@ -108,7 +110,9 @@ impl Kept {
     /// changes no row is answered at once. Whatever comes of the call, a stop at any moment of it leaves a folder that opens to the state
     /// before the command or to the one after it. `Spent` comes exactly where the controller is spent, and then nothing was done. A fault
     /// of the disk spends it, and so does want of memory behind the first call on the disk, where the folder opens to the state after
-    /// the command; want of memory before that leaves all as it was. `Damaged` never comes. So far the commands are all but Compact.
+    /// the command; want of memory before that leaves all as it was. `Damaged` never comes. Compact is done by the folder: its rows are
+    /// compacted, or it is refused as `JournalFull` or `MarkFull`, and the state stays. Where it is to be refused, neither a fault of
+    /// the disk nor want of memory comes instead.
     pub fn submit<D: Desk>(
         &mut self,
         desk: &mut D,
@@ -116,28 +120,39 @@ impl Kept {
         command: &Command,
     ) -> Result<Reply, KeepFault>
         requires spelled { is_spelled command.now ≡ true }
-        requires carried { is_carried command.now ≡ true }
         requires stands { self.old.spent ≡ false → IsTrue D.tells → ReadsAs self.old.stored (D.reads desk.old) (D.may_leave desk.old) }
 
-        ensures step { IfOk result (λ reply. (reply, machine_of self.new) ≡ step self.old.stored.bounds.slot who.now command.now (machine_of self.old)) }
+        ensures step { IfOk result (λ reply. (reply, machine_of self.new) ≡ step self.old.stored.bounds who.now command.now (machine_of self.old)) }
         ensures unspent { OnOk result ((self.old.spent ≡ false) × (self.new.spent ≡ false) × (self.new.stored.bounds ≡ self.old.stored.bounds)) }
         ensures holds { self.new.spent ≡ false → HoldsRows self.new }
+        ensures compacted { IfOk result (λ reply. is_compact command.now ≡ true → reply ≡ Done → IsTrue D.tells
+            → IsCompacted self.old.stored (D.reads desk.old) (D.reads desk.new)) }
         ensures fault { IfErr result (λ fault. SubmitFails self.old self.new desk.old desk.new fault) }
+        ensures fits { OnErr result (self.old.spent ≡ false → is_compact command.now ≡ true
+            → (step self.old.stored.bounds who.now command.now (machine_of self.old)).0 ≡ Done) }
         ensures stands { self.new.spent ≡ false → IsTrue D.tells → ReadsAs self.new.stored (D.reads desk.new) (D.may_leave desk.new) }
         ensures behind { IsErrOf result KeepFault.NoMemory → self.old.spent ≡ false → self.new.spent ≡ true → IsTrue D.tells → (image : Image)
-            → D.may_leave desk.new image → OpensToState image (step self.old.stored.bounds.slot who.now command.now (machine_of self.old)).1.state }
+            → D.may_leave desk.new image → OpensToState image (step self.old.stored.bounds who.now command.now (machine_of self.old)).1.state }
         ensures cause { HasCause (D.disk_faults desk.old) (D.disk_faults desk.new) (disk_failure result) }
         ensures others { OnlyDisk D.said D.noted D.say_faults D.note_faults desk.old desk.new }
         ensures quiet { Leaves D.moment D.since D.may_leave D.said desk.old desk.new (λ image. ⊤) }
         ensures stops { self.old.spent ≡ false → IsTrue D.tells → Leaves D.moment D.since D.may_leave D.said desk.old desk.new
-            (λ image. OpensToState image self.old.state ⊎ OpensToState image (step self.old.stored.bounds.slot who.now command.now (machine_of self.old)).1.state) }
+            (λ image. OpensToState image self.old.state ⊎ OpensToState image (step self.old.stored.bounds who.now command.now (machine_of self.old)).1.state) }
         ensures remembers { Remembers (D.moment desk.old) (D.since desk.old) (D.since desk.new) }
+
+        // No slot grows past its bound, neither in what a stop leaves nor, but for a Compact that failed on the disk, as the desk reads.
+        ensures room { IsTrue D.tells → OnOk (disk_failure result) (KeepsRoom self.old.stored.bounds.slot (D.reads desk.old) (D.reads desk.new)) }
+        ensures appended { is_compact command.now ≡ false → IsTrue D.tells → KeepsRoom self.old.stored.bounds.slot (D.reads desk.old) (D.reads desk.new) }
+        ensures images { LeavesRoom self.old.stored.bounds.slot D.may_leave desk.old desk.new }
     {
         if self.spent {
             return Err(KeepFault::Spent);
         }
         if !permitted(who, command) {
             return Ok(Reply::Refused(Refusal::NotPermitted));
+        }
+        if is_compact(command) {
+            return compact(&self.core, &mut self.store, &mut self.spent, desk);
         }
         let planned = self.core.plan(command)?;
         advance(

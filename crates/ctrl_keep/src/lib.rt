@@ -3,12 +3,15 @@
 #![tactic(auto)]
 
 mod advancing;
+mod compacting;
 mod faults;
 mod keeper;
 mod laws;
+mod loading;
 mod worked;
 
 pub use faults::KeepFault;
 pub use keeper::Kept;
 pub use laws::one_state;
-pub use worked::worked_machine;
+pub use loading::peek;
+pub use worked::{worked_compactions, worked_machine};

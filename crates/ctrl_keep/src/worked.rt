@@ -1,25 +1,37 @@
 ghost use Rattle.std.specs.Prelude.{◌≡◌, ℕ, [], ◌∷◌, codes, None};
 ghost use Rattle.ctrl_model.specs.declared.commands.Command.{Command};
-ghost use Rattle.ctrl_model.specs.declared.commands.Command.TheVariants.{ConnectRouter};
+ghost use Rattle.ctrl_model.specs.declared.commands.Command.TheVariants.{ConnectRouter, Compact};
 ghost use Rattle.ctrl_model.specs.declared.kinds.Who.{Who};
 ghost use Rattle.ctrl_model.specs.declared.kinds.Who.TheVariants.{Admin, Router};
-ghost use Rattle.ctrl_model.specs.declared.refusals.Refusal.TheVariants.{NotPermitted, JournalFull};
+ghost use Rattle.ctrl_model.specs.declared.refusals.Refusal.TheVariants.{NotPermitted, JournalFull, MarkFull};
 ghost use Rattle.ctrl_model.specs.declared.replies.Reply.TheVariants.{Done, Made, Refused};
 ghost use Rattle.ctrl_model.specs.State.{State, start};
 ghost use Rattle.ctrl_model.specs.Controller.{answer};
 ghost use Rattle.ctrl_model.specs.WorkedStates.{after, connected_router};
+ghost use Rattle.row_store.specs.declared.bounds.StoreBounds.{StoreBounds};
 ghost use Rattle.ctrl_keep.specs.KeptMachine.{step};
-ghost use Rattle.ctrl_keep.specs.WorkedMachines.{machine_at, creates_ann};
+ghost use Rattle.ctrl_keep.specs.WorkedMachines.{machine_at, marked, at_most, creates_ann};
 
 /// Steps of the machine, worked by hand. Without a folder it answers as the controller does. The batch that creates the first identity
 /// has 28 bytes: behind the header of 8, with the length of 4 and the gates at its ends, the slot has 42 with it, and the next batch
 /// begins at 41. A router that is connected already is connected again without a change.
 pub fn worked_machine()
-    ensures no_folder { (most : ℕ) (who : Who) (c : Command) (s : State) → step most who c (record { state = s; place = None })
+    ensures no_folder { (bounds : StoreBounds) (who : Who) (c : Command) (s : State) → step bounds who c (record { state = s; place = None })
         ≡ ((answer who c s).0, record { state = (answer who c s).1; place = None }) }
-    ensures not_permitted { step 42 (Router (codes "r1")) creates_ann (machine_at start 8) ≡ (Refused NotPermitted, machine_at start 8) }
-    ensures just_fits { step 42 Admin creates_ann (machine_at start 8) ≡ (Made 1, machine_at (after (creates_ann ∷ []) start) 41) }
-    ensures no_room { step 41 Admin creates_ann (machine_at start 8) ≡ (Refused JournalFull, machine_at start 8) }
-    ensures no_change { step 42 Admin (ConnectRouter (codes "r1")) (machine_at (after (connected_router (codes "r1")) start) 38)
+    ensures not_permitted { step (at_most 42) (Router (codes "r1")) creates_ann (machine_at start 8) ≡ (Refused NotPermitted, machine_at start 8) }
+    ensures just_fits { step (at_most 42) Admin creates_ann (machine_at start 8) ≡ (Made 1, machine_at (after (creates_ann ∷ []) start) 41) }
+    ensures no_room { step (at_most 41) Admin creates_ann (machine_at start 8) ≡ (Refused JournalFull, machine_at start 8) }
+    ensures no_change { step (at_most 42) Admin (ConnectRouter (codes "r1")) (machine_at (after (connected_router (codes "r1")) start) 38)
         ≡ (Done, machine_at (after (connected_router (codes "r1")) start) 38) }
+{}
+
+/// What Compact makes of machines, worked by hand. The rows of the first identity take 42 bytes of the second slot, and none take 9;
+/// the mark has one byte more. Of a full slot and a full mark the slot is told, and who may not send it is told that first.
+pub fn worked_compactions()
+    ensures done { step (at_most 42) Admin Compact (machine_at (after (creates_ann ∷ []) start) 41) ≡ (Done, marked (after (creates_ann ∷ []) start) 41 2) }
+    ensures no_rows { step (at_most 9) Admin Compact (machine_at start 8) ≡ (Done, marked start 8 2) }
+    ensures full { step (at_most 41) Admin Compact (machine_at (after (creates_ann ∷ []) start) 41) ≡ (Refused JournalFull, machine_at (after (creates_ann ∷ []) start) 41) }
+    ensures mark_full { step (at_most 42) Admin Compact (marked (after (creates_ann ∷ []) start) 41 2) ≡ (Refused MarkFull, marked (after (creates_ann ∷ []) start) 41 2) }
+    ensures full_comes_first { step (at_most 41) Admin Compact (marked (after (creates_ann ∷ []) start) 41 2) ≡ (Refused JournalFull, marked (after (creates_ann ∷ []) start) 41 2) }
+    ensures not_permitted { step (at_most 41) (Router (codes "r1")) Compact (machine_at start 8) ≡ (Refused NotPermitted, machine_at start 8) }
 {}

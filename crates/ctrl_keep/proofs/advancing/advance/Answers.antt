@@ -4,7 +4,7 @@ use Rattle.ziti_outside.proofs.MomentLaws.{Leaves-weaker}
 use Rattle.ctrl_core.specs.Changes.{led}
 use Rattle.ctrl_keep.specs.Faults.{KeptOrFull}
 use Rattle.ctrl_keep.proofs.KeptStates.{batch_form, batch_changes, still_opens}
-use Rattle.ctrl_keep.proofs.AdvancedPlans.{can_advance, step_still, advance_either, advance_next, keeps_next, fails_with_room, keeps_still, same_fault, behind_kept, quiet_stops, step_full}
+use Rattle.ctrl_keep.proofs.AdvancedPlans.{can_advance, step_still, step_next, advance_either, advance_next, keeps_next, fails_with_room, advance_fails, keeps_still, same_fault, behind_kept, quiet_stops, step_full}
 use Rattle.ctrl_keep.proofs.advancing.advance.Goals as goal
 
 pub keep-kept-requires-clause-batch : goal.keep-kept-requires-clause-batch
@@ -28,6 +28,11 @@ returns-in_err-reply-in-Ok-true-clause-stops g c = λ told.
     let kept = subst (λ (b : Bool). KeptOrFull c.args.planned.batch c.args.store.now c.keep-kept.new.store c.args.desk.now c.keep-kept.new.desk b) c.in-Ok-true.field-0-test c.in-Ok-true.ensures.kept in
     Leaves-weaker _ (c.keep-kept.ensures.stops told) (advance_either c.args.planned c.args.core.now c.args.store.now (can_advance c.args.planned c.args.core.now c.args.store.now c.as_slice.result.now c.is_empty.result c.requires.planned c.as_slice.ensures c.is_empty.ensures c.if-is_empty.false) kept.0)
 
+pub returns-in-Err-clause-fault : goal.returns-in-Err-clause-fault
+returns-in-Err-clause-fault g c =
+    advance_fails c.args.planned.batch c.args.core.now c.args.store.now c.keep-kept.new.store c.is_spent.result c.args.desk.now c.keep-kept.new.desk c.in-Err.fault c.requires.planned.keeps
+    c.is_spent.ensures c.in-Err.ensures.fault
+
 pub returns-in-Err-clause-keeps : goal.returns-in-Err-clause-keeps
 returns-in-Err-clause-keeps g c = λ fresh.
     keeps_still c.args.planned.batch c.args.core.now c.args.store.now c.keep-kept.new.store c.args.desk.now c.keep-kept.new.desk c.in-Err.fault c.requires.planned.keeps c.in-Err.ensures.fault
@@ -43,6 +48,13 @@ pub returns-in-Err-clause-stops : goal.returns-in-Err-clause-stops
 returns-in-Err-clause-stops g c = λ told.
     Leaves-weaker _ (c.keep-kept.ensures.stops told) (advance_either c.args.planned c.args.core.now c.args.store.now (can_advance c.args.planned c.args.core.now c.args.store.now c.as_slice.result.now c.is_empty.result c.requires.planned c.as_slice.ensures c.is_empty.ensures c.if-is_empty.false)
     (fails_with_room c.args.planned.batch c.args.store.now c.keep-kept.new.store c.args.desk.now c.keep-kept.new.desk c.in-Err.fault c.in-Err.ensures.fault))
+
+pub returns-in_ok-reply-in-Ok-true-clause-step : goal.returns-in_ok-reply-in-Ok-true-clause-step
+returns-in_ok-reply-in-Ok-true-clause-step g c =
+    let kept = subst (λ (b : Bool). KeptOrFull c.args.planned.batch c.args.store.now c.keep-kept.new.store c.args.desk.now c.keep-kept.new.desk b) c.in-Ok-true.field-0-test c.in-Ok-true.ensures.kept in
+    step_next c.args.planned c.args.core.now c.apply.new.self c.args.store.now c.keep-kept.new.store c.in_ok-reply-in-Ok-true.reply
+    (can_advance c.args.planned c.args.core.now c.args.store.now c.as_slice.result.now c.is_empty.result c.requires.planned c.as_slice.ensures c.is_empty.ensures c.if-is_empty.false) kept.0
+    c.in_ok-reply-in-Ok-true.ensures.reply c.in_ok-reply-in-Ok-true.ensures.next kept.1
 
 pub returns-in_ok-reply-in-Ok-true-clause-keeps : goal.returns-in_ok-reply-in-Ok-true-clause-keeps
 returns-in_ok-reply-in-Ok-true-clause-keeps g c = λ fresh.

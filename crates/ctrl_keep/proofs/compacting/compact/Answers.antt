@@ -1,0 +1,59 @@
+use Rattle.std.proofs.Common.{sym, ◌∙◌}
+use Rattle.std.specs.Prelude.{IsTrue}
+use Rattle.ziti_outside.proofs.MomentLaws.{Leaves-weaker}
+use Rattle.row_store.specs.CompactedStores.{IsCompacted}
+use Rattle.ctrl_keep.proofs.CompactedStates.{CameTo, came_step, came_unspent, came_done, came_keeps, came_fault, came_fits, came_memory, came_cause, opens_kept, came_room}
+use Rattle.ctrl_keep.proofs.compacting.compact.Goals as goal
+
+pub returns-clause-step : goal.returns-clause-step
+returns-clause-step g c =
+    let came : CameTo c.args.core.now c.args.store.now c.compact-compacted.new.self c.args.desk.now c.compact-compacted.new.desk c.compact-compacted.result =
+    record { keeps = c.requires.keeps; done = c.compact-compacted.ensures.compacted; fault = c.compact-compacted.ensures.fault } in
+    rw c.reply_of.ensures (came_step c.args.core.now c.args.store.now c.compact-compacted.new.self c.args.desk.now c.compact-compacted.new.desk c.compact-compacted.result came)
+
+pub returns-clause-unspent : goal.returns-clause-unspent
+returns-clause-unspent g c =
+    let came : CameTo c.args.core.now c.args.store.now c.compact-compacted.new.self c.args.desk.now c.compact-compacted.new.desk c.compact-compacted.result =
+    record { keeps = c.requires.keeps; done = c.compact-compacted.ensures.compacted; fault = c.compact-compacted.ensures.fault } in
+    rw c.reply_of.ensures (rw c.is_spent.ensures (came_unspent c.args.core.now c.args.store.now c.compact-compacted.new.self c.args.desk.now c.compact-compacted.new.desk c.compact-compacted.result came))
+
+pub returns-clause-folder : goal.returns-clause-folder
+returns-clause-folder g c =
+    rw c.reply_of.ensures (came_done (IsTrue g.D.Desk.tells → IsCompacted c.args.store.now (g.D.Desk.reads c.args.desk.now) (g.D.Desk.reads c.compact-compacted.new.desk))
+    c.compact-compacted.result c.compact-compacted.ensures.folder)
+
+pub returns-clause-keeps : goal.returns-clause-keeps
+returns-clause-keeps g c = λ fresh.
+    let came : CameTo c.args.core.now c.args.store.now c.compact-compacted.new.self c.args.desk.now c.compact-compacted.new.desk c.compact-compacted.result =
+    record { keeps = c.requires.keeps; done = c.compact-compacted.ensures.compacted; fault = c.compact-compacted.ensures.fault } in
+    came_keeps c.args.core.now c.args.store.now c.compact-compacted.new.self c.args.desk.now c.compact-compacted.new.desk c.compact-compacted.result came (sym c.is_spent.ensures ∙ fresh)
+
+pub returns-clause-fault : goal.returns-clause-fault
+returns-clause-fault g c =
+    let came : CameTo c.args.core.now c.args.store.now c.compact-compacted.new.self c.args.desk.now c.compact-compacted.new.desk c.compact-compacted.result =
+    record { keeps = c.requires.keeps; done = c.compact-compacted.ensures.compacted; fault = c.compact-compacted.ensures.fault } in
+    rw c.reply_of.ensures (rw c.is_spent.ensures (came_fault c.args.core.now c.args.store.now c.compact-compacted.new.self c.args.desk.now c.compact-compacted.new.desk c.compact-compacted.result came))
+
+pub returns-clause-fits : goal.returns-clause-fits
+returns-clause-fits g c =
+    let came : CameTo c.args.core.now c.args.store.now c.compact-compacted.new.self c.args.desk.now c.compact-compacted.new.desk c.compact-compacted.result =
+    record { keeps = c.requires.keeps; done = c.compact-compacted.ensures.compacted; fault = c.compact-compacted.ensures.fault } in
+    rw c.reply_of.ensures (came_fits c.args.core.now c.args.store.now c.compact-compacted.new.self c.args.desk.now c.compact-compacted.new.desk c.compact-compacted.result came)
+
+pub returns-clause-memory : goal.returns-clause-memory
+returns-clause-memory g c =
+    let came : CameTo c.args.core.now c.args.store.now c.compact-compacted.new.self c.args.desk.now c.compact-compacted.new.desk c.compact-compacted.result =
+    record { keeps = c.requires.keeps; done = c.compact-compacted.ensures.compacted; fault = c.compact-compacted.ensures.fault } in
+    rw c.reply_of.ensures (rw c.is_spent.ensures (came_memory c.args.core.now c.args.store.now c.compact-compacted.new.self c.args.desk.now c.compact-compacted.new.desk c.compact-compacted.result came))
+
+pub returns-clause-cause : goal.returns-clause-cause
+returns-clause-cause g c =
+    rw c.reply_of.ensures (came_cause _ _ c.compact-compacted.result c.compact-compacted.ensures.cause)
+
+pub returns-clause-stops : goal.returns-clause-stops
+returns-clause-stops g c = λ told.
+    Leaves-weaker _ (c.compact-compacted.ensures.stops c.requires.keeps.unspent told) (opens_kept c.args.core.now c.args.store.now c.requires.keeps)
+
+pub returns-clause-room : goal.returns-clause-room
+returns-clause-room g c = λ told.
+    rw c.reply_of.ensures (came_room _ c.compact-compacted.result (c.compact-compacted.ensures.room told))

@@ -1,0 +1,73 @@
+ghost use Rattle.std.specs.Prelude.{◌≡◌, ⊤, true, false, IsTrue, OnOk, OnErr, IfOk, IfErr, IsErrOf};
+ghost use Rattle.ziti_outside.specs.Causes.{HasCause};
+ghost use Rattle.ziti_outside.specs.Moments.{Remembers, Leaves};
+ghost use Rattle.ziti_outside.specs.Untouched.{OnlyDisk};
+ghost use Rattle.journal_core.specs.Room.{KeepsRoom, LeavesRoom};
+ghost use Rattle.row_store.specs.StoredRows.{ReadsAs};
+ghost use Rattle.row_store.specs.CompactedStores.{IsCompacted};
+ghost use Rattle.ctrl_keep.specs.OpenedStates.{OpensToState};
+ghost use Rattle.ctrl_keep.specs.KeptMachine.{is_compact, compacted_at};
+ghost use Rattle.ctrl_keep.specs.KeptController.{place_of, machine_with, Keeps};
+ghost use Rattle.ctrl_keep.specs.CompactionReplies.{compaction_reply};
+ghost use Rattle.ctrl_keep.specs.Faults.{disk_failure, AdvanceFails};
+ghost use Rattle.ctrl_model.specs.declared.replies.Reply.TheVariants.{Done};
+
+use crate::faults::KeepFault;
+use ctrl_core::Core;
+use ctrl_model::{Command, Refusal, Reply};
+use row_store::{Store, StoreFault};
+use ziti_outside::Desk;
+
+// Whether a command is Compact.
+pub(crate) fn is_compact(command: &Command) -> bool
+    ensures { result ≡ is_compact command.now }
+{
+    matches!(command, Command::Compact)
+}
+
+// The reply to Compact, or the fault, that comes of compacting a store.
+fn reply_of(compacted: Result<(), StoreFault>) -> Result<Reply, KeepFault>
+    ensures { result ≡ compaction_reply compacted }
+{
+    match compacted {
+        Ok(()) => Ok(Reply::Done),
+        Err(StoreFault::Full) => Ok(Reply::Refused(Refusal::JournalFull)),
+        Err(StoreFault::MarkFull) => Ok(Reply::Refused(Refusal::MarkFull)),
+        Err(StoreFault::Disk) => Err(KeepFault::Disk),
+        Err(StoreFault::NoMemory) => Err(KeepFault::NoMemory),
+        Err(StoreFault::Damaged { part, at }) => Err(KeepFault::Damaged { part, at }),
+        Err(StoreFault::Spent) => Err(KeepFault::Spent),
+    }
+}
+
+// Compacts the store that keeps the state of a core, or tells which of its bounds has no room. The state stays.
+pub(crate) fn compact<D: Desk>(
+    core: &Core,
+    store: &mut Store,
+    spent: &mut bool,
+    desk: &mut D,
+) -> Result<Reply, KeepFault>
+    requires keeps { Keeps core.now store.old }
+    requires unspent { spent.old ≡ false }
+    requires stands { IsTrue D.tells → ReadsAs store.old (D.reads desk.old) (D.may_leave desk.old) }
+
+    ensures step { IfOk result (λ reply. (reply, machine_with core.now.state store.new) ≡ compacted_at store.old.bounds core.now.state (place_of store.old)) }
+    ensures unspent { OnOk result ((spent.new ≡ false) × (store.new.bounds ≡ store.old.bounds)) }
+    ensures folder { IfOk result (λ reply. reply ≡ Done → IsTrue D.tells → IsCompacted store.old (D.reads desk.old) (D.reads desk.new)) }
+    ensures keeps { spent.new ≡ false → Keeps core.now store.new }
+    ensures fault { IfErr result (λ fault. AdvanceFails core.now core.now store.old store.new spent.new desk.old desk.new fault) }
+    ensures fits { OnErr result ((compacted_at store.old.bounds core.now.state (place_of store.old)).0 ≡ Done) }
+    ensures memory { IsErrOf result KeepFault.NoMemory → spent.new ≡ false }
+    ensures stands { spent.new ≡ false → IsTrue D.tells → ReadsAs store.new (D.reads desk.new) (D.may_leave desk.new) }
+    ensures cause { HasCause (D.disk_faults desk.old) (D.disk_faults desk.new) (disk_failure result) }
+    ensures others { OnlyDisk D.said D.noted D.say_faults D.note_faults desk.old desk.new }
+    ensures quiet { Leaves D.moment D.since D.may_leave D.said desk.old desk.new (λ image. ⊤) }
+    ensures stops { IsTrue D.tells → Leaves D.moment D.since D.may_leave D.said desk.old desk.new (λ image. OpensToState image core.now.state) }
+    ensures remembers { Remembers (D.moment desk.old) (D.since desk.old) (D.since desk.new) }
+    ensures room { IsTrue D.tells → OnOk (disk_failure result) (KeepsRoom store.old.bounds.slot (D.reads desk.old) (D.reads desk.new)) }
+    ensures images { LeavesRoom store.old.bounds.slot D.may_leave desk.old desk.new }
+{
+    let compacted = store.compact(desk);
+    *spent = store.is_spent();
+    reply_of(compacted)
+}
