@@ -1,9 +1,9 @@
--- What a core carries out so far is answered within the limits of a reply.
+-- Each command is answered within the limits of a reply.
 use Rattle.ctrl_model.specs.declared.kinds.Kind.{Kind}
 use Rattle.ctrl_model.specs.declared.kinds.Kind.TheVariants as kind
 use Rattle.ctrl_model.specs.declared.refusals.Field.{Field}
-use Rattle.std.proofs.Common.{◌≡◌, ℕ, ◌≤◌, true, false, cond, nat_lt, Bool, List, [], ◌∷◌, Option, None, Some, unwrap_or, nat_le, length, map, filter, refl, sym, ap, arith}
-use Rattle.std.proofs.lemmas.Bool.{false≢true, le-leb, and_from}
+use Rattle.std.proofs.Common.{◌≡◌, ℕ, ◌≤◌, true, false, ◌&&◌, cond, nat_lt, Bool, List, [], ◌∷◌, Option, None, Some, unwrap_or, nat_le, length, map, filter, refl, sym, ap, arith}
+use Rattle.std.proofs.lemmas.Bool.{le-leb, and_from}
 use Rattle.std.proofs.lemmas.List.{length-map}
 use Rattle.ctrl_model.proofs.NumberedLaws.{length-filter-le}
 use Rattle.ctrl_model.specs.declared.commands.Command.{Command}
@@ -13,12 +13,15 @@ use Rattle.ctrl_model.specs.declared.kinds.Relation.TheVariants.{Dial, Bind, Ide
 use Rattle.ctrl_model.specs.declared.refusals.Field.TheVariants.{Identity, Name, Link}
 use Rattle.ctrl_model.specs.declared.replies.Reply.{Reply}
 use Rattle.ctrl_model.specs.declared.replies.Reply.TheVariants.{Done, Made, Refused}
-use Rattle.ctrl_model.specs.declared.refusals.Refusal.TheVariants.{JournalFull, NotPermitted}
+use Rattle.ctrl_model.specs.declared.refusals.Refusal.TheVariants.{JournalFull, MarkFull, NotPermitted}
 use Rattle.ctrl_model.specs.declared.kinds.Who.{Who}
 use Rattle.ctrl_model.specs.Permitted.{is_permitted}
 use Rattle.row_codec.specs.declared.changes.Op.{Op}
 use Rattle.row_codec.specs.Batches.{batch_between}
-use Rattle.ctrl_keep.specs.KeptMachine.{Place, Machine, slot_with, behind, kept, answered, step}
+use Rattle.row_store.specs.declared.bounds.StoreBounds.{StoreBounds}
+use Rattle.ctrl_keep.specs.KeptMachine.{Place, Machine, slot_with, behind, kept, is_compact, compacted_place, compacted_at, answered, step}
+use Rattle.ctrl_keep.specs.OpenedStates.{byte_rows_of}
+use Rattle.row_store.specs.CompactedStores.{compacted_size}
 use Rattle.ctrl_model.specs.State.{State, Entity, as_entity, entity_named, link_named}
 use Rattle.ctrl_model.specs.Rules.{carried_out, shown, unknown_if_absent}
 use Rattle.ctrl_model.specs.Tables.{Record, table, named}
@@ -35,7 +38,6 @@ use Rattle.ctrl_model.specs.Numbered.{at}
 use Rattle.ctrl_model.specs.Controller.{policy, carry, answer}
 use Rattle.ctrl_serve.proofs.RouteFits.{create_fits, explain_fits, shown_fit}
 use Rattle.std.specs.Option.{option_map_or}
-use Rattle.ctrl_core.specs.CarriedCommands.{is_carried}
 use Rattle.reply_codec.specs.ReplyLimits.{keeps_limits}
 
 -- Where the reply of an effect fits, so does the answer of the command that has it.
@@ -76,67 +78,67 @@ updated_fits k name f absent s = carried_out_fits (refusal_of_update k name f ab
 deleted_fits : (k : Kind) (of : Field) (name : List ℕ) (s : State) → keeps_limits (delete k of name s).0 ≡ true
 deleted_fits k of name s = carried_out_fits (unknown_if_absent of (named k s name)) s Done (after_delete k name s) refl
 
--- The answer to each of these commands fits.
-pub carried_fits : (c : Command) (s : State) → ValidState s → is_carried c ≡ true → keeps_limits (carry c s).0 ≡ true
-carried_fits command.Hello s valid carried = refl
-carried_fits (command.CreateIdentity name attributes) s valid carried = made_fits kind.Identity (entity name attributes) s
-carried_fits (command.UpdateIdentity name attributes) s valid carried = updated_fits kind.Identity name (described attributes) None s
-carried_fits (command.DeleteIdentity name) s valid carried = deleted_fits kind.Identity Name name s
-carried_fits (command.CreateService name attributes) s valid carried = made_fits kind.Service (entity name attributes) s
-carried_fits (command.UpdateService name attributes) s valid carried = updated_fits kind.Service name (described attributes) None s
-carried_fits (command.DeleteService name) s valid carried = deleted_fits kind.Service Name name s
-carried_fits (command.CreateRouter name attributes cost no_traversal) s valid carried = made_fits kind.Router (new_router name attributes cost no_traversal) s
-carried_fits (command.UpdateRouter name attributes cost no_traversal) s valid carried = updated_fits kind.Router name (described_router attributes cost no_traversal) None s
-carried_fits (command.DeleteRouter name) s valid carried = deleted_fits kind.Router Name name s
-carried_fits (command.ConnectRouter name) s valid carried =
+-- The answer to each command fits.
+pub carried_fits : (c : Command) (s : State) → ValidState s → keeps_limits (carry c s).0 ≡ true
+carried_fits command.Hello s valid = refl
+carried_fits (command.CreateIdentity name attributes) s valid = made_fits kind.Identity (entity name attributes) s
+carried_fits (command.UpdateIdentity name attributes) s valid = updated_fits kind.Identity name (described attributes) None s
+carried_fits (command.DeleteIdentity name) s valid = deleted_fits kind.Identity Name name s
+carried_fits (command.CreateService name attributes) s valid = made_fits kind.Service (entity name attributes) s
+carried_fits (command.UpdateService name attributes) s valid = updated_fits kind.Service name (described attributes) None s
+carried_fits (command.DeleteService name) s valid = deleted_fits kind.Service Name name s
+carried_fits (command.CreateRouter name attributes cost no_traversal) s valid = made_fits kind.Router (new_router name attributes cost no_traversal) s
+carried_fits (command.UpdateRouter name attributes cost no_traversal) s valid = updated_fits kind.Router name (described_router attributes cost no_traversal) None s
+carried_fits (command.DeleteRouter name) s valid = deleted_fits kind.Router Name name s
+carried_fits (command.ConnectRouter name) s valid =
     carried_out_fits (unknown_if_absent Name (named kind.Router s name)) s Done (after_update kind.Router name (marked true) s) refl
-carried_fits (command.DisconnectRouter name) s valid carried =
+carried_fits (command.DisconnectRouter name) s valid =
     carried_out_fits (unknown_if_absent Name (named kind.Router s name)) s Done (after_update kind.Router name (marked false) s) refl
-carried_fits (command.CreateServicePolicy name relation semantic left right) s valid carried = made_fits kind.ServicePolicy (policy name relation semantic left right) s
-carried_fits (command.UpdateServicePolicy name relation semantic left right) s valid carried =
+carried_fits (command.CreateServicePolicy name relation semantic left right) s valid = made_fits kind.ServicePolicy (policy name relation semantic left right) s
+carried_fits (command.UpdateServicePolicy name relation semantic left right) s valid =
     updated_fits kind.ServicePolicy name (replaced_by (policy name relation semantic left right)) (absent_names kind.ServicePolicy (policy name relation semantic left right) s) s
-carried_fits (command.DeleteServicePolicy name) s valid carried = deleted_fits kind.ServicePolicy Name name s
-carried_fits (command.CreateEdgeRouterPolicy name semantic left right) s valid carried = made_fits kind.EdgeRouterPolicy (policy name IdentityRouter semantic left right) s
-carried_fits (command.UpdateEdgeRouterPolicy name semantic left right) s valid carried =
+carried_fits (command.DeleteServicePolicy name) s valid = deleted_fits kind.ServicePolicy Name name s
+carried_fits (command.CreateEdgeRouterPolicy name semantic left right) s valid = made_fits kind.EdgeRouterPolicy (policy name IdentityRouter semantic left right) s
+carried_fits (command.UpdateEdgeRouterPolicy name semantic left right) s valid =
     updated_fits kind.EdgeRouterPolicy name (replaced_by (policy name IdentityRouter semantic left right)) (absent_names kind.EdgeRouterPolicy (policy name IdentityRouter semantic left right) s) s
-carried_fits (command.DeleteEdgeRouterPolicy name) s valid carried = deleted_fits kind.EdgeRouterPolicy Name name s
-carried_fits (command.CreateServiceEdgeRouterPolicy name semantic left right) s valid carried = made_fits kind.ServiceEdgeRouterPolicy (policy name ServiceRouter semantic left right) s
-carried_fits (command.UpdateServiceEdgeRouterPolicy name semantic left right) s valid carried =
+carried_fits (command.DeleteEdgeRouterPolicy name) s valid = deleted_fits kind.EdgeRouterPolicy Name name s
+carried_fits (command.CreateServiceEdgeRouterPolicy name semantic left right) s valid = made_fits kind.ServiceEdgeRouterPolicy (policy name ServiceRouter semantic left right) s
+carried_fits (command.UpdateServiceEdgeRouterPolicy name semantic left right) s valid =
     updated_fits kind.ServiceEdgeRouterPolicy name (replaced_by (policy name ServiceRouter semantic left right)) (absent_names kind.ServiceEdgeRouterPolicy (policy name ServiceRouter semantic left right) s) s
-carried_fits (command.DeleteServiceEdgeRouterPolicy name) s valid carried = deleted_fits kind.ServiceEdgeRouterPolicy Name name s
-carried_fits (command.CreateLink name a b cost latency_a latency_b) s valid carried =
+carried_fits (command.DeleteServiceEdgeRouterPolicy name) s valid = deleted_fits kind.ServiceEdgeRouterPolicy Name name s
+carried_fits (command.CreateLink name a b cost latency_a latency_b) s valid =
     carried_out_fits (refusal_of_create_link name a b s) s (Made s.links.next) (after_create_link name a b cost latency_a latency_b s) refl
-carried_fits (command.SetLinkCost link cost) s valid carried =
+carried_fits (command.SetLinkCost link cost) s valid =
     carried_out_fits (unknown_if_absent Link (link_named s.links.rows link)) s Done (after_set_link_cost link cost s) refl
-carried_fits (command.ReportLatency link router latency) s valid carried =
+carried_fits (command.ReportLatency link router latency) s valid =
     carried_out_fits (refusal_of_report link router s) s Done (after_report_latency link router latency s) refl
-carried_fits (command.ReportState link router up) s valid carried =
+carried_fits (command.ReportState link router up) s valid =
     carried_out_fits (refusal_of_report link router s) s Done (after_report_state link up s) refl
-carried_fits (command.DeleteLink link) s valid carried =
+carried_fits (command.DeleteLink link) s valid =
     deleted_fits kind.Link Link link s
-carried_fits (command.SetLeastRouterCost cost) s valid carried = refl
-carried_fits (command.CreateTerminator service router instance host cost precedence) s valid carried =
+carried_fits (command.SetLeastRouterCost cost) s valid = refl
+carried_fits (command.CreateTerminator service router instance host cost precedence) s valid =
     carried_out_fits (refusal_of_create_terminator service router host s) s (Made s.terminators.next)
     (after_create_terminator service router instance host cost precedence s) refl
-carried_fits (command.UpdateTerminator n cost precedence) s valid carried =
+carried_fits (command.UpdateTerminator n cost precedence) s valid =
     carried_out_fits (no_such_terminator n s) s Done (after_update_terminator n cost precedence s) refl
-carried_fits (command.DeleteTerminator n) s valid carried =
+carried_fits (command.DeleteTerminator n) s valid =
     carried_out_fits (no_such_terminator n s) s Done (after_remove kind.Terminator n s) refl
-carried_fits (command.CreateCircuit identity service ingress instance) s valid carried = create_fits (ask_of identity service ingress instance s) s valid
-carried_fits (command.DeleteCircuit n) s valid carried =
+carried_fits (command.CreateCircuit identity service ingress instance) s valid = create_fits (ask_of identity service ingress instance s) s valid
+carried_fits (command.DeleteCircuit n) s valid =
     carried_out_fits (no_such_circuit n s) s Done (after_remove kind.Circuit n s) refl
-carried_fits (command.Explain identity service ingress instance) s valid carried = explain_fits (ask_of identity service ingress instance s) s valid
-carried_fits (command.VerifyRoute identity service ingress instance chosen links potentials routers terminator total) s valid carried = refl
-carried_fits (command.ShowCircuit n) s valid carried =
+carried_fits (command.Explain identity service ingress instance) s valid = explain_fits (ask_of identity service ingress instance s) s valid
+carried_fits (command.VerifyRoute identity service ingress instance chosen links potentials routers terminator total) s valid = refl
+carried_fits (command.ShowCircuit n) s valid =
     shown_fits (no_such_circuit n s) s (option_map_or (shown_circuit s) (at s.circuits.rows n) Done) (shown_fit n s valid)
-carried_fits (command.ShowGrants identity) s valid carried =
+carried_fits (command.ShowGrants identity) s valid =
     let i = unwrap_or (entity_named s.identities.rows identity) 0 in
     shown_fits (unknown_if_absent Identity (entity_named s.identities.rows identity)) s (grants_of i s) (grants_fit i s valid)
-carried_fits (command.ListServices identity) s valid carried =
+carried_fits (command.ListServices identity) s valid =
     let i = unwrap_or (entity_named s.identities.rows identity) 0 in
     shown_fits (unknown_if_absent Identity (entity_named s.identities.rows identity)) s (services_of i s) (services_fit i s valid)
-carried_fits command.ShowCounts s valid carried = refl
-carried_fits _ s valid carried = absurd (false≢true carried)
+carried_fits command.ShowCounts s valid = refl
+carried_fits command.Compact s valid = refl
 
 -- So does the answer that is kept in a journal, also where it has no room there.
 kept_fits : (most : ℕ) (reply : Reply) (s : State) (batch : List Op) (next : State) (place : Place) → keeps_limits reply ≡ true → keeps_limits (kept most reply s batch next place).0 ≡ true
@@ -147,19 +149,31 @@ kept_fits most reply s (op ∷ ops) next place fits = by (nat_lt most (slot_with
     by true = refl
     by false = fits
 
-answered_fits : (most : ℕ) (a : Reply × State) (s : State) (place : Option Place) → keeps_limits a.0 ≡ true → keeps_limits (answered most a s place).0 ≡ true
-answered_fits most a s None fits = fits
-answered_fits most a s (Some place) fits = kept_fits most a.0 s (batch_between s a.1) a.1 place fits
+-- What becomes of Compact in a folder fits.
+compacted_fits : (bounds : StoreBounds) (s : State) (place : Place) → keeps_limits (compacted_at bounds s place).0 ≡ true
+compacted_fits bounds s place = by (nat_lt bounds.slot (compacted_size (byte_rows_of s))) (nat_lt place.mark bounds.mark)
+  where
+    by : (full room : Bool) → keeps_limits (cond {A = Reply × Machine} full (Refused JournalFull, record { state = s; place = Some place })
+        (cond room (Done, record { state = s; place = Some (compacted_place s place) }) (Refused MarkFull, record { state = s; place = Some place }))).0 ≡ true
+    by true room = refl
+    by false true = refl
+    by false false = refl
+
+answered_fits : (bounds : StoreBounds) (compacts : Bool) (a : Reply × State) (s : State) (place : Option Place) → keeps_limits a.0 ≡ true → keeps_limits (answered bounds compacts a s place).0 ≡ true
+answered_fits bounds compacts a s None fits = fits
+answered_fits bounds true a s (Some place) fits = compacted_fits bounds s place
+answered_fits bounds false a s (Some place) fits = kept_fits bounds.slot a.0 s (batch_between s a.1) a.1 place fits
 
 -- Nor does it matter who sends a command.
 sent_fits : (may : Bool) (a : Reply × State) (s : State) → keeps_limits a.0 ≡ true → keeps_limits (cond {A = Reply × State} may a (Refused NotPermitted, s)).0 ≡ true
 sent_fits true a s fits = fits
 sent_fits false a s fits = refl
 
--- The reply of a machine to each of these commands fits.
-pub step_fits : (most : ℕ) (who : Who) (c : Command) (m : Machine) → ValidState m.state → is_carried c ≡ true → keeps_limits (step most who c m).0 ≡ true
-step_fits most who c m valid carried =
-    answered_fits most (answer who c m.state) m.state m.place (sent_fits (is_permitted who c) (carry c m.state) m.state (carried_fits c m.state valid carried))
+-- The reply of a machine to each command fits.
+pub step_fits : (bounds : StoreBounds) (who : Who) (c : Command) (m : Machine) → ValidState m.state → keeps_limits (step bounds who c m).0 ≡ true
+step_fits bounds who c m valid =
+    answered_fits bounds (is_compact c && is_permitted who c) (answer who c m.state) m.state m.place
+    (sent_fits (is_permitted who c) (carry c m.state) m.state (carried_fits c m.state valid))
 
 -- A command that its sender may not send is refused, and one that it may send is carried out.
 pub answer_refused : (who : Who) (c : Command) (s : State) → is_permitted who c ≡ false → ◌≡◌ {A = Reply × State} (Refused NotPermitted, s) (answer who c s)

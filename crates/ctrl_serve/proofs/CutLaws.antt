@@ -3,6 +3,7 @@ use Rattle.std.specs.Prelude.{false}
 use Rattle.std.proofs.Common.{◌≡◌, ℕ, List, [], ◌∷◌, ◌++◌, take, refl, sym, ap, ◌∙◌, subst}
 use Rattle.std.specs.List.{list_any}
 use Rattle.std.specs.declared.option.Option.{Option}
+use Rattle.row_store.specs.declared.bounds.StoreBounds.{StoreBounds}
 use Rattle.ctrl_keep.specs.KeptMachine.{Machine}
 use Rattle.session_mux.specs.declared.events.Event.{Event}
 use Rattle.session_mux.specs.declared.events.Event.TheVariants.{Arrived}
@@ -19,19 +20,19 @@ use Rattle.ctrl_serve.proofs.EndingLaws.{no_fault_lines}
 calm_before : (used : List ℕ) (es later unanswered : List Event) (e : Event) → es ++ unanswered ≡ events_in Plain used → unanswered ≡ e ∷ later → list_any is_fault es ≡ false
 calm_before used es later unanswered e split first = plain_calm used es later e (ap (λ (us : List Event). es ++ us) (sym first) ∙ split)
 
-pub unsaid_notes : (slot : ℕ) (m : Machine) (most : ℕ) (l r a b c d : Option (List ℕ)) (x y : ℕ) → Serves Plain slot m most l r a b c d x y WriteFault
+pub unsaid_notes : (bounds : StoreBounds) (m : Machine) (most : ℕ) (l r a b c d : Option (List ℕ)) (x y : ℕ) → Serves Plain bounds m most l r a b c d x y WriteFault
     → NotesLines (status_lines [] WriteFault) c d x y
-unsaid_notes slot m most l r a b c d x y s =
+unsaid_notes bounds m most l r a b c d x y s =
     let calm = calm_before (take most s.taken) s.answered s.says.later s.unanswered (Arrived s.says.session s.says.frame) s.split s.says.first in
     subst (λ (lines : List ℕ). NotesLines lines c d x y) (ap (λ (first : List ℕ). first ++ status_lines [] WriteFault) (no_fault_lines s.answered calm)) s.notes
 
-pub disk_notes : (slot : ℕ) (m : Machine) (most : ℕ) (l r a b c d : Option (List ℕ)) (x y : ℕ) → Serves Plain slot m most l r a b c d x y DiskFault
+pub disk_notes : (bounds : StoreBounds) (m : Machine) (most : ℕ) (l r a b c d : Option (List ℕ)) (x y : ℕ) → Serves Plain bounds m most l r a b c d x y DiskFault
     → NotesLines (status_lines [] DiskFault) c d x y
-disk_notes slot m most l r a b c d x y s =
+disk_notes bounds m most l r a b c d x y s =
     let calm = calm_before (take most s.taken) s.answered s.says.later s.unanswered (Arrived s.says.session s.says.frame) s.split s.says.first in
     subst (λ (lines : List ℕ). NotesLines lines c d x y) (ap (λ (first : List ℕ). first ++ status_lines [] DiskFault) (no_fault_lines s.answered calm)) s.notes
 
-pub memory_notes : (slot : ℕ) (m : Machine) (most : ℕ) (l r a b c d : Option (List ℕ)) (x y : ℕ) → Serves Plain slot m most l r a b c d x y NoMemory
+pub memory_notes : (bounds : StoreBounds) (m : Machine) (most : ℕ) (l r a b c d : Option (List ℕ)) (x y : ℕ) → Serves Plain bounds m most l r a b c d x y NoMemory
     → NotesLines (status_lines [] NoMemory) c d x y
-memory_notes slot m most l r a b c d x y s =
+memory_notes bounds m most l r a b c d x y s =
     subst (λ (lines : List ℕ). NotesLines lines c d x y) (ap (λ (first : List ℕ). first ++ status_lines [] NoMemory) (no_fault_lines s.answered (s.says.calm refl))) s.notes

@@ -10,6 +10,7 @@ use Rattle.std.specs.Io.KnownBytes.{IsAtEnd}
 use Rattle.ziti_outside.specs.Causes.{Rose}
 use Rattle.ziti_outside.specs.Told.{Gave, Took, IsFront}
 use Rattle.channel_frame.specs.StreamReading.{fault_of, rest_of}
+use Rattle.row_store.specs.declared.bounds.StoreBounds.{StoreBounds}
 use Rattle.ctrl_keep.specs.KeptMachine.{Machine}
 use Rattle.session_mux.specs.declared.events.Event.{Event}
 use Rattle.session_mux.specs.declared.events.Event.TheVariants as event
@@ -26,6 +27,7 @@ use Rattle.run_notes.specs.Notes.{session_note, session_rest_lines, trace_note, 
 use Rattle.run_notes.proofs.NoteLaws.{some_rest}
 use Rattle.run_notes.proofs.PlainInputs.{plain_good, plain_rest, plain_no_rest}
 use Rattle.run_notes.proofs.RestLaws.{none_any, no_lines}
+use Rattle.ctrl_serve.proofs.PieceLaws.{good_undecided, or_left, or_right}
 
 -- ---- the input that a status decides
 
@@ -86,20 +88,12 @@ nothing_is_front a b (x ∷ part) front took = absurd (let e = front.1 in cc)
 all_events : (form : Form) (used : List ℕ) (answered unanswered : List Event) → answered ++ unanswered ≡ events_in form used → unanswered ≡ [] → answered ≡ events_in form used
 all_events form used answered unanswered split none = sym (append-nil answered) ∙ ap (λ (es : List Event). answered ++ es) (sym none) ∙ split
 
-pub all_replies : (form : Form) (slot : ℕ) (m : Machine) (used said : List ℕ) (answered unanswered : List Event) → answered ++ unanswered ≡ events_in form used → unanswered ≡ []
-    → SaysAll form slot m said answered → said ≡ replies form slot m used
-all_replies form slot m used said answered unanswered split none says =
-    says ∙ ap (λ (es : List Event). joined (replies_to form slot m es)) (all_events form used answered unanswered split none)
+pub all_replies : (form : Form) (bounds : StoreBounds) (m : Machine) (used said : List ℕ) (answered unanswered : List Event) → answered ++ unanswered ≡ events_in form used → unanswered ≡ []
+    → SaysAll form bounds m said answered → said ≡ replies form bounds m used
+all_replies form bounds m used said answered unanswered split none says =
+    says ∙ ap (λ (es : List Event). joined (replies_to form bounds m es)) (all_events form used answered unanswered split none)
 
 -- ---- no line
-
-or_left : (p q : Bool) → (p || q) ≡ false → p ≡ false
-or_left true q e = e
-or_left false q e = refl
-
-or_right : (p q : Bool) → (p || q) ≡ false → q ≡ false
-or_right true q e = absurd cc
-or_right false q e = e
 
 pub no_fault_lines : (es : List Event) → list_any is_fault es ≡ false → fault_lines es ≡ []
 no_fault_lines [] none = refl
@@ -126,17 +120,17 @@ record DoneReads (form : Form) (most : ℕ) (bytes taken : List ℕ) (left : Opt
   pub good : is_bad_input form bytes ≡ false
   pub rests : has_rest form bytes ≡ false
 
-done_reads : (form : Form) (slot : ℕ) (m : Machine) (most : ℕ) (bytes : List ℕ) (left b c d e : Option (List ℕ)) (x y : ℕ) (s : Serves form slot m most (Some bytes) left b c d e x y Done)
+done_reads : (form : Form) (bounds : StoreBounds) (m : Machine) (most : ℕ) (bytes : List ℕ) (left b c d e : Option (List ℕ)) (x y : ℕ) (s : Serves form bounds m most (Some bytes) left b c d e x y Done)
     → DoneReads form most bytes s.taken left
-done_reads form slot m most bytes left b c d e x y s =
+done_reads form bounds m most bytes left b c d e x y s =
     let first : List ℕ = take most s.taken in
     let is = done_is (is_bad_input form first) (has_rest form first) (ltb most (length s.taken)) (s.ends refl) in
-    let read = was_read most bytes s.taken left s.gave (at_end most left s.taken is.whole (s.read_on refl)) is.whole in
+    let read = was_read most bytes s.taken left s.gave (at_end most left s.taken is.whole (s.read_on refl (good_undecided form first is.good))) is.whole in
     record { read = read; good = ap (is_bad_input form) (sym read.used) ∙ is.good; rests = ap (has_rest form) (sym read.used) ∙ is.rests }
 
-pub done_read : (form : Form) (slot : ℕ) (m : Machine) (most : ℕ) (bytes : List ℕ) (left b c d e : Option (List ℕ)) (x y : ℕ) → Serves form slot m most (Some bytes) left b c d e x y Done
+pub done_read : (form : Form) (bounds : StoreBounds) (m : Machine) (most : ℕ) (bytes : List ℕ) (left b c d e : Option (List ℕ)) (x y : ℕ) → Serves form bounds m most (Some bytes) left b c d e x y Done
     → (left ≡ Some []) × (length bytes ≤ most)
-done_read form slot m most bytes left b c d e x y s = let r = (done_reads form slot m most bytes left b c d e x y s).read in (r.none_left, r.few)
+done_read form bounds m most bytes left b c d e x y s = let r = (done_reads form bounds m most bytes left b c d e x y s).read in (r.none_left, r.few)
 
 no_bytes : (xs : List ℕ) → length xs ≡ 0 → xs ≡ []
 no_bytes [] e = refl
@@ -153,21 +147,21 @@ plain_whole bytes good rests =
     let none : left 0 ≡ false = or_left (left 0) (list_any left (range_with_len 1 255)) (or_left (list_any left (range_with_len 0 256)) (nat_lt 0 (length (end_in Plain bytes).input)) rests) in
     no_bytes (rest_of bytes) (none_above (length (rest_of bytes)) (ap (nat_lt 0) (sym (plain_rest bytes (plain_good bytes good))) ∙ none))
 
-pub done_whole : (slot : ℕ) (m : Machine) (most : ℕ) (bytes : List ℕ) (left b c d e : Option (List ℕ)) (x y : ℕ) → Serves Plain slot m most (Some bytes) left b c d e x y Done → rest_of bytes ≡ []
-done_whole slot m most bytes left b c d e x y s =
-    let r = done_reads Plain slot m most bytes left b c d e x y s in
+pub done_whole : (bounds : StoreBounds) (m : Machine) (most : ℕ) (bytes : List ℕ) (left b c d e : Option (List ℕ)) (x y : ℕ) → Serves Plain bounds m most (Some bytes) left b c d e x y Done → rest_of bytes ≡ []
+done_whole bounds m most bytes left b c d e x y s =
+    let r = done_reads Plain bounds m most bytes left b c d e x y s in
     plain_whole bytes r.good r.rests
 
-pub done_said : (form : Form) (slot : ℕ) (m : Machine) (most : ℕ) (bytes before : List ℕ) (left after d e : Option (List ℕ)) (x y : ℕ) → Serves form slot m most (Some bytes) left (Some before) after d e x y Done
-    → after ≡ Some (before ++ replies form slot m bytes)
-done_said form slot m most bytes before left after d e x y s =
-    let r = (done_reads form slot m most bytes left (Some before) after d e x y s).read in
-    let all = all_replies form slot m (take most s.taken) s.said s.answered s.unanswered s.split (s.all refl) s.says in
-    told_took before s.said after s.took ∙ ap (λ (l : List ℕ). Some (before ++ l)) (all ∙ ap (replies form slot m) r.used)
+pub done_said : (form : Form) (bounds : StoreBounds) (m : Machine) (most : ℕ) (bytes before : List ℕ) (left after d e : Option (List ℕ)) (x y : ℕ) → Serves form bounds m most (Some bytes) left (Some before) after d e x y Done
+    → after ≡ Some (before ++ replies form bounds m bytes)
+done_said form bounds m most bytes before left after d e x y s =
+    let r = (done_reads form bounds m most bytes left (Some before) after d e x y s).read in
+    let all = all_replies form bounds m (take most s.taken) s.said s.answered s.unanswered s.split (s.all refl) s.says in
+    told_took before s.said after s.took ∙ ap (λ (l : List ℕ). Some (before ++ l)) (all ∙ ap (replies form bounds m) r.used)
 
-pub done_noted : (form : Form) (slot : ℕ) (m : Machine) (most : ℕ) (bytes : List ℕ) (left b c d e : Option (List ℕ)) (x y : ℕ) → Serves form slot m most (Some bytes) left b c d e x y Done → Took d e []
-done_noted form slot m most bytes left b c d e x y s =
-    let r = done_reads form slot m most bytes left b c d e x y s in
+pub done_noted : (form : Form) (bounds : StoreBounds) (m : Machine) (most : ℕ) (bytes : List ℕ) (left b c d e : Option (List ℕ)) (x y : ℕ) → Serves form bounds m most (Some bytes) left b c d e x y Done → Took d e []
+done_noted form bounds m most bytes left b c d e x y s =
+    let r = done_reads form bounds m most bytes left b c d e x y s in
     let first : List ℕ = take most s.taken in
     let none : notes_of form s.answered first Done ≡ [] =
     good_lines form first s.answered [] (all_events form first s.answered s.unanswered s.split (s.all refl)) (ap (is_bad_input form) r.read.used ∙ r.good) in
@@ -180,17 +174,17 @@ record TruncatedReads (form : Form) (most : ℕ) (bytes taken : List ℕ) (left 
   pub good : is_bad_input form bytes ≡ false
   pub rests : has_rest form bytes ≡ true
 
-truncated_reads : (form : Form) (slot : ℕ) (m : Machine) (most : ℕ) (bytes : List ℕ) (left b c d e : Option (List ℕ)) (x y : ℕ) (s : Serves form slot m most (Some bytes) left b c d e x y Truncated)
+truncated_reads : (form : Form) (bounds : StoreBounds) (m : Machine) (most : ℕ) (bytes : List ℕ) (left b c d e : Option (List ℕ)) (x y : ℕ) (s : Serves form bounds m most (Some bytes) left b c d e x y Truncated)
     → TruncatedReads form most bytes s.taken left
-truncated_reads form slot m most bytes left b c d e x y s =
+truncated_reads form bounds m most bytes left b c d e x y s =
     let first : List ℕ = take most s.taken in
     let is = truncated_at (is_bad_input form first) (has_rest form first) (ltb most (length s.taken)) (s.ends refl) in
-    let read = was_read most bytes s.taken left s.gave (at_end most left s.taken is.whole (s.read_on refl)) is.whole in
+    let read = was_read most bytes s.taken left s.gave (at_end most left s.taken is.whole (s.read_on refl (good_undecided form first is.good))) is.whole in
     record { read = read; good = ap (is_bad_input form) (sym read.used) ∙ is.good; rests = ap (has_rest form) (sym read.used) ∙ is.rests }
 
-pub truncated_read : (form : Form) (slot : ℕ) (m : Machine) (most : ℕ) (bytes : List ℕ) (left b c d e : Option (List ℕ)) (x y : ℕ) → Serves form slot m most (Some bytes) left b c d e x y Truncated
+pub truncated_read : (form : Form) (bounds : StoreBounds) (m : Machine) (most : ℕ) (bytes : List ℕ) (left b c d e : Option (List ℕ)) (x y : ℕ) → Serves form bounds m most (Some bytes) left b c d e x y Truncated
     → (left ≡ Some []) × (length bytes ≤ most)
-truncated_read form slot m most bytes left b c d e x y s = let r = (truncated_reads form slot m most bytes left b c d e x y s).read in (r.none_left, r.few)
+truncated_read form bounds m most bytes left b c d e x y s = let r = (truncated_reads form bounds m most bytes left b c d e x y s).read in (r.none_left, r.few)
 
 -- The rest of each session but session 0 is none, and there is none of session 0 where the bytes have none.
 no_rest_at : (bytes : List ℕ) → is_bad_input Plain bytes ≡ false → rest_of bytes ≡ [] → (s : ℕ) → nat_lt 0 (rest_at (end_in Plain bytes) (closed_rests Plain bytes) s) ≡ false
@@ -203,18 +197,18 @@ plain_some bytes good rests none =
     let no : has_rest Plain bytes ≡ false = ap (λ (p : Bool). p || false) (none_any left 0 256 (λ s le. no_rest_at bytes good none s)) in
     false≢true (sym no ∙ rests)
 
-pub truncated_rest : (slot : ℕ) (m : Machine) (most : ℕ) (bytes : List ℕ) (left b c d e : Option (List ℕ)) (x y : ℕ) → Serves Plain slot m most (Some bytes) left b c d e x y Truncated
+pub truncated_rest : (bounds : StoreBounds) (m : Machine) (most : ℕ) (bytes : List ℕ) (left b c d e : Option (List ℕ)) (x y : ℕ) → Serves Plain bounds m most (Some bytes) left b c d e x y Truncated
     → (fault_of bytes ≡ None) × (rest_of bytes ≡ [] → ⊥)
-truncated_rest slot m most bytes left b c d e x y s =
-    let r = truncated_reads Plain slot m most bytes left b c d e x y s in
+truncated_rest bounds m most bytes left b c d e x y s =
+    let r = truncated_reads Plain bounds m most bytes left b c d e x y s in
     (plain_good bytes r.good, plain_some bytes r.good r.rests)
 
-pub truncated_said : (form : Form) (slot : ℕ) (m : Machine) (most : ℕ) (bytes before : List ℕ) (left after d e : Option (List ℕ)) (x y : ℕ) → Serves form slot m most (Some bytes) left (Some before) after d e x y Truncated
-    → after ≡ Some (before ++ replies form slot m bytes)
-truncated_said form slot m most bytes before left after d e x y s =
-    let r = (truncated_reads form slot m most bytes left (Some before) after d e x y s).read in
-    let all = all_replies form slot m (take most s.taken) s.said s.answered s.unanswered s.split (s.all refl) s.says in
-    told_took before s.said after s.took ∙ ap (λ (l : List ℕ). Some (before ++ l)) (all ∙ ap (replies form slot m) r.used)
+pub truncated_said : (form : Form) (bounds : StoreBounds) (m : Machine) (most : ℕ) (bytes before : List ℕ) (left after d e : Option (List ℕ)) (x y : ℕ) → Serves form bounds m most (Some bytes) left (Some before) after d e x y Truncated
+    → after ≡ Some (before ++ replies form bounds m bytes)
+truncated_said form bounds m most bytes before left after d e x y s =
+    let r = (truncated_reads form bounds m most bytes left (Some before) after d e x y s).read in
+    let all = all_replies form bounds m (take most s.taken) s.said s.answered s.unanswered s.split (s.all refl) s.says in
+    told_took before s.said after s.took ∙ ap (λ (l : List ℕ). Some (before ++ l)) (all ∙ ap (replies form bounds m) r.used)
 
 -- Plain input has one line of rests.
 plain_lines : (bytes : List ℕ) → fault_of bytes ≡ None → (rest_of bytes ≡ [] → ⊥)
@@ -227,11 +221,11 @@ plain_lines bytes none some =
     ∙ ap (session_rest_lines 0) (plain_rest bytes none)
     ∙ some_rest 0 (length (rest_of bytes)) (λ e. some (no_bytes (rest_of bytes) e))
 
-pub truncated_noted : (slot : ℕ) (m : Machine) (most : ℕ) (bytes : List ℕ) (left b c d e : Option (List ℕ)) (x y : ℕ) → Serves Plain slot m most (Some bytes) left b c d e x y Truncated → (Rose x y → ⊥)
+pub truncated_noted : (bounds : StoreBounds) (m : Machine) (most : ℕ) (bytes : List ℕ) (left b c d e : Option (List ℕ)) (x y : ℕ) → Serves Plain bounds m most (Some bytes) left b c d e x y Truncated → (Rose x y → ⊥)
     → Took d e (session_note 0 (decimal (length (rest_of bytes)) ++ codes " bytes left"))
-truncated_noted slot m most bytes left b c d e x y s calm =
-    let r = truncated_reads Plain slot m most bytes left b c d e x y s in
-    let is = truncated_rest slot m most bytes left b c d e x y s in
+truncated_noted bounds m most bytes left b c d e x y s calm =
+    let r = truncated_reads Plain bounds m most bytes left b c d e x y s in
+    let is = truncated_rest bounds m most bytes left b c d e x y s in
     let first : List ℕ = take most s.taken in
     let lines : notes_of Plain s.answered first Truncated ≡ rest_lines (end_in Plain first) (closed_rests Plain first) =
     good_lines Plain first s.answered (rest_lines (end_in Plain first) (closed_rests Plain first)) (all_events Plain first s.answered s.unanswered s.split (s.all refl)) (ap (is_bad_input Plain) r.read.used ∙ r.good) in

@@ -1,12 +1,14 @@
 pub mod NumberWords
 pub mod RouteFits
 pub mod CarriedFits
-pub mod ReadCommandLaws
 pub mod ControllerLaws
+pub mod RoomRuns
 pub mod KnownLaws
 pub mod TurnLaws
 pub mod UsedLaws
 pub mod StopLaws
+pub mod RunStopLaws
+pub mod PieceLaws
 pub mod FailureLaws
 pub mod SaidLaws
 pub mod PlainLaws
@@ -16,4 +18,8 @@ pub mod RunLaws
 pub mod IntakeLaws
 pub mod LoadRuns
 pub mod OpenedMachines
+pub mod ClosedFolders
 pub mod ReplayLaws
+pub mod FolderLaws
+pub mod AcknowledgedLaws
+pub mod CompleteRunLaws

@@ -20,13 +20,14 @@ use Rattle.row_laws.proofs.SameStates.{same_from_spelled}
 use Rattle.row_store.specs.BatchRows.{ByteRows, Give}
 use Rattle.row_store.specs.StoredRows.{ReadsAs}
 use Rattle.ctrl_keep.specs.OpenedStates.{OpensToState, HasNoState, IsStateless, byte_rows_of}
+use Rattle.ctrl_keep.proofs.OneStates.{one_state}
 use Rattle.ctrl_keep.specs.KeptMachine.{Machine, Place}
 use Rattle.ctrl_keep.specs.KeptController.{Controlled, HoldsRows, machine_of}
 use Rattle.ctrl_serve.specs.declared.controller.Controller.{Controller}
 use Rattle.ctrl_serve.specs.declared.controller.Controller.TheVariants.{Alone, Kept}
 use Rattle.ctrl_serve.specs.Controllers.{IsReady}
 use Rattle.ctrl_serve.specs.ControllerViews.{serving_of}
-use Rattle.ctrl_serve.specs.OpenedFolders.{Keeps, OpensBy}
+use Rattle.ctrl_serve.specs.OpenedFolders.{Keeps, OpensBy, OpensTo}
 
 -- ---- the state at the start
 
@@ -102,6 +103,15 @@ opens_by zero image reads images k is opens holds held made =
     ap₂ (machine_at k.state) end mark ∙ ap (λ (s : State). machine_at s (slot_end []) 1) (opens_to_start image k.state is opens)
 opens_by (suc turn) image reads images k is opens holds held same =
     subst (λ (i : Image). Keeps i (machine_of k)) same (kept_keeps k reads images holds held)
+
+-- The machine to which a folder opens has the state to which it opens.
+machine_state_by : (mark : ℕ) (image : Image) (s : State) (m : Machine) → length (image Mark) ≡ mark → OpensToState image s → OpensBy mark image m → m.state ≡ s
+machine_state_by zero image s m is opens same = ap (λ (x : Machine). x.state) same ∙ sym (opens_to_start image s is opens)
+machine_state_by (suc turn) image s m is opens keeps =
+    one_state image m.state s (record { valid = keeps.valid; rows = record { batches = keeps.batches; stands = keeps.stands; give = keeps.give } }) opens
+
+pub one_machine_state : (image : Image) (s : State) (m : Machine) → OpensToState image s → OpensTo image m → m.state ≡ s
+one_machine_state image s m opens to = machine_state_by (length (image Mark)) image s m refl opens to
 
 -- ---- a folder that opens to no state
 

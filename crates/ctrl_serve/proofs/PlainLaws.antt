@@ -8,6 +8,7 @@ use Rattle.channel_frame.specs.StreamReading.{frames_of}
 use Rattle.channel_frame.specs.SessionBytes.{fault_held}
 use Rattle.ctrl_model.specs.declared.kinds.Who.{Who}
 use Rattle.ctrl_model.specs.declared.kinds.Who.TheVariants.{Admin}
+use Rattle.row_store.specs.declared.bounds.StoreBounds.{StoreBounds}
 use Rattle.ctrl_keep.specs.KeptMachine.{Machine}
 use Rattle.reply_codec.specs.ReplyFrame.{reply_frame}
 use Rattle.session_mux.specs.declared.events.Event.{Event}
@@ -37,23 +38,23 @@ plain_frames used =
 
 -- ---- replies
 
-sent_spoken : (slot : ℕ) (counts : List ℕ) (n : ℕ) (m : Machine) (fs : List Frame) → 0 < length counts → count_at counts 0 ≡ n
-    → spoken Plain slot counts m (sent Admin fs) ≡ spoken_alone slot Admin n m fs
-sent_spoken slot counts n m [] some e = refl
-sent_spoken slot counts n m (f ∷ fs) some e =
+sent_spoken : (bounds : StoreBounds) (counts : List ℕ) (n : ℕ) (m : Machine) (fs : List Frame) → 0 < length counts → count_at counts 0 ≡ n
+    → spoken Plain bounds counts m (sent Admin fs) ≡ spoken_alone bounds Admin n m fs
+sent_spoken bounds counts n m [] some e = refl
+sent_spoken bounds counts n m (f ∷ fs) some e =
     let more : ℕ = (count_at counts 0 + 1) % 2 ^ 32 in
     let next : count_at (counted counts 0) 0 ≡ (n + 1) % 2 ^ 32 = get_or-set_same counts 0 more 0 some ∙ ap (λ (k : ℕ). (k + 1) % 2 ^ 32) e in
     let long : 0 < length (counted counts 0) = omega (arith, some, length-set counts 0 more) in
-    ap (λ (k : ℕ). spelling (reply_frame k f.sequence (frame_answer slot Admin f m).0) ∷ spoken Plain slot (counted counts 0) (frame_answer slot Admin f m).1 (sent Admin fs)) e
-    ∙ ap (λ (rs : List (List ℕ)). spelling (reply_frame n f.sequence (frame_answer slot Admin f m).0) ∷ rs)
-    (sent_spoken slot (counted counts 0) ((n + 1) % 2 ^ 32) (frame_answer slot Admin f m).1 fs long next)
+    ap (λ (k : ℕ). spelling (reply_frame k f.sequence (frame_answer bounds Admin f m).0) ∷ spoken Plain bounds (counted counts 0) (frame_answer bounds Admin f m).1 (sent Admin fs)) e
+    ∙ ap (λ (rs : List (List ℕ)). spelling (reply_frame n f.sequence (frame_answer bounds Admin f m).0) ∷ rs)
+    (sent_spoken bounds (counted counts 0) ((n + 1) % 2 ^ 32) (frame_answer bounds Admin f m).1 fs long next)
 
-pub plain_replies : (slot : ℕ) (m : Machine) (used : List ℕ) → each_reply Plain slot m used ≡ spoken_alone slot Admin 0 m (frames_of used)
-plain_replies slot m used = ap (spoken Plain slot no_counts m) (plain_frames used) ∙ sent_spoken slot no_counts 0 m (frames_of used) (omega arith) refl
+pub plain_replies : (bounds : StoreBounds) (m : Machine) (used : List ℕ) → each_reply Plain bounds m used ≡ spoken_alone bounds Admin 0 m (frames_of used)
+plain_replies bounds m used = ap (spoken Plain bounds no_counts m) (plain_frames used) ∙ sent_spoken bounds no_counts 0 m (frames_of used) (omega arith) refl
 
-sent_behind : (slot : ℕ) (m : Machine) (fs : List Frame) → machine_behind slot m (sent Admin fs) ≡ machine_behind_alone slot Admin m fs
-sent_behind slot m [] = refl
-sent_behind slot m (f ∷ fs) = sent_behind slot (frame_answer slot Admin f m).1 fs
+sent_behind : (bounds : StoreBounds) (m : Machine) (fs : List Frame) → machine_behind bounds m (sent Admin fs) ≡ machine_behind_alone bounds Admin m fs
+sent_behind bounds m [] = refl
+sent_behind bounds m (f ∷ fs) = sent_behind bounds (frame_answer bounds Admin f m).1 fs
 
-pub plain_last : (slot : ℕ) (m : Machine) (used : List ℕ) → last_machine Plain slot m used ≡ machine_behind_alone slot Admin m (frames_of used)
-plain_last slot m used = ap (machine_behind slot m) (plain_frames used) ∙ sent_behind slot m (frames_of used)
+pub plain_last : (bounds : StoreBounds) (m : Machine) (used : List ℕ) → last_machine Plain bounds m used ≡ machine_behind_alone bounds Admin m (frames_of used)
+plain_last bounds m used = ap (machine_behind bounds m) (plain_frames used) ∙ sent_behind bounds m (frames_of used)

@@ -1,51 +1,59 @@
 -- How the opening of the folder, the serving of the frames and the notes make up a run on the folder, with the counts of their faults.
-use Rattle.std.specs.Prelude.{true, Bool, IsTrue}
-use Rattle.std.proofs.Common.{◌≡◌, ℕ, ◌<◌, ◌⊎◌, inl, inr, List, [], length, take, refl, sym, ap, ◌∙◌, subst, arith}
+use Rattle.std.specs.Prelude.{true, false, Bool, IsTrue}
+use Rattle.std.proofs.Common.{◌≡◌, ℕ, ◌⊎◌, List, [], length, take, refl, sym, ap, ◌∙◌, subst, arith}
 use Rattle.std.specs.declared.option.Option.{Option}
-use Rattle.ziti_outside.specs.Images.{Image}
-use Rattle.ziti_outside.specs.declared.desk.Part.{Part}
+use Rattle.ziti_outside.specs.Images.{Image, After}
+use Rattle.ziti_outside.specs.Moments.{Elapses, Leaves, Now}
 use Rattle.ziti_outside.specs.declared.desk.Part.TheVariants.{Mark}
 use Rattle.ziti_outside.specs.Untouched.{OnlyDisk, OnlyNotes}
+use Rattle.slot_files.specs.FolderImage.{StandsAsBefore}
 use Rattle.slot_files.specs.OpenedSlots.{Opens}
 use Rattle.row_store.specs.StoredRows.{ReadsAs}
-use Rattle.ziti_outside.proofs.Moves.{Gave-none}
 use Rattle.ctrl_model.specs.State.{start}
 use Rattle.ctrl_core.specs.KeptState.{Cored}
-use Rattle.ctrl_keep.specs.OpenedStates.{OpensToState, IsStateless}
+use Rattle.ctrl_keep.specs.OpenedStates.{OpensToState}
+use Rattle.row_store.specs.declared.bounds.StoreBounds.{StoreBounds}
 use Rattle.ctrl_keep.specs.KeptMachine.{Machine}
 use Rattle.ctrl_keep.specs.KeptController.{Controlled, HoldsRows, machine_of}
 use Rattle.ctrl_serve.specs.declared.controller.Controller.{Controller}
 use Rattle.ctrl_serve.specs.declared.controller.Controller.TheVariants.{Kept}
-use Rattle.ctrl_serve.specs.declared.intake.Intake.{Intake}
 use Rattle.run_notes.specs.declared.ends.Cut.{Cut}
 use Rattle.run_notes.specs.declared.ends.Cut.TheVariants as cut
 use Rattle.run_notes.specs.declared.status.Status.{Status}
-use Rattle.run_notes.specs.declared.status.Status.TheVariants.{ReadFault, WriteFault, DiskFault, Damaged, NoMemory}
+use Rattle.run_notes.specs.declared.status.Status.TheVariants.{ReadFault, WriteFault, DiskFault, NoMemory}
 use Rattle.ctrl_serve.specs.Controllers.{Serving, IsReady, GoesOn}
 use Rattle.ctrl_serve.specs.ControllerViews.{serving_of}
 use Rattle.ctrl_serve.specs.OpenedFolders.{Keeps}
-use Rattle.ctrl_serve.specs.FrameAnswer.{alone, last_machine}
+use Rattle.ctrl_serve.specs.FrameAnswer.{no_bounds, alone, last_machine}
+use Rattle.session_mux.specs.declared.events.Event.{Event}
 use Rattle.session_mux.specs.declared.sessions.Form.{Form}
 use Rattle.session_mux.specs.declared.sessions.Form.TheVariants.{Plain}
+use Rattle.run_notes.specs.Inputs.{events_in}
 use Rattle.run_notes.specs.Endings.{is_cut, is_kept, status_of_cut}
-use Rattle.run_notes.specs.NotedLines.{RisesOnce, NotesLines, TellsDamage}
+use Rattle.run_notes.specs.NotedLines.{RisesOnce}
 use Rattle.ctrl_serve.specs.Failures.{TakesUntilFailure}
-use Rattle.ctrl_serve.specs.Intakes.{IsIntake, IsCutIntake, HasFault}
-use Rattle.ctrl_serve.specs.Headline.{Serves, StaysClosed, Refuses, Replays}
+use Rattle.ctrl_serve.specs.Pieces.{CutsInput, EndsInput, IsReadCaused}
+use Rattle.ctrl_serve.specs.Turns.{StopsAlong}
+use Rattle.ctrl_serve.specs.RunStops.{AllOpenTo, StopFinds}
+use Rattle.ctrl_serve.specs.Headline.{Serves, Replays}
 use Rattle.run_notes.specs.Notes.{status_lines}
-use Rattle.ctrl_serve.specs.Runs.{EndsAs, IsWriteCaused, IsDiskCaused, SaysIntake, KeepsUsed, RunsOn, CountsFaults}
+use Rattle.run_notes.specs.NotesSoFar.{NotesMore}
+use Rattle.run_notes.specs.KnownSessions.{known_in}
+use Rattle.ctrl_serve.specs.Runs.{IsWriteCaused, IsDiskCaused, KeepsUsed, RunsOn, CountsFaults}
 use Rattle.ctrl_serve.proofs.FailureLaws.{takes_none}
-use Rattle.ctrl_serve.proofs.IntakeLaws.{write_calm, disk_calm, intake_serves, cut_intake_serves, read_fault_rose, no_failed_take}
+use Rattle.ctrl_serve.proofs.IntakeLaws.{write_calm, disk_calm, input_serves, input_counted, cut_serves, cut_counted}
+use Rattle.ctrl_serve.proofs.UsedLaws.{at_start}
 use Rattle.ctrl_serve.proofs.OpenedMachines.{ready_keeps, opens_by}
+use Rattle.ctrl_serve.proofs.RunStopLaws.{opened_stops, later_stops}
 
 -- ---- what the folder keeps behind the frames
 
 -- Where all events were answered, it keeps the machine behind the frames.
 pub served_keeps : (form : Form) (c : Serving) (new : Controller) (used first : List ℕ) (tells : Bool) (now : Image) (images : Image → Type 0) (status : Status)
-    → used ≡ first → (serving_of new).machine ≡ last_machine form c.slot c.machine used → GoesOn c (serving_of new) → IsReady tells (serving_of new).kept now images
+    → used ≡ first → (serving_of new).machine ≡ last_machine form c.bounds c.machine used → GoesOn c (serving_of new) → IsReady tells (serving_of new).kept now images
     → KeepsUsed form c first tells now images status
 served_keeps form c new used first tells now images status is last on ready = λ has kept told.
-    let end : (serving_of new).machine ≡ last_machine form c.slot c.machine first = last ∙ ap (last_machine form c.slot c.machine) is in
+    let end : (serving_of new).machine ≡ last_machine form c.bounds c.machine first = last ∙ ap (last_machine form c.bounds c.machine) is in
     let there = ready_keeps new tells now images (on.kind ∙ has) ready told in
     (subst (λ (m : Machine). Keeps now m) end there.0, λ image left. subst (λ (m : Machine). OpensToState image m.state) end (there.1 image left))
 
@@ -66,20 +74,29 @@ cut_undisked cut.Unsaid result is other w = cc
 
 -- ---- the counts of faults
 
--- Where the frames of what was taken were answered.
-pub intake_counts : {S D : Type 0} {left : S → Option (List ℕ)} {faults : S → ℕ} {say_faults note_faults disk_faults : D → ℕ} (i : Intake) (bad rest : Bool) (source source_now : S) (desk desk_now : D) (status : Status)
-    → EndsAs status bad rest i.end → HasFault i.end (faults source) (faults source_now) → RisesOnce (faults source) (faults source_now) → TakesUntilFailure left faults source source_now
+-- Where all events of the input were answered.
+pub input_counts : {S D : Type 0} {left : S → Option (List ℕ)} {faults : S → ℕ} {say_faults note_faults disk_faults : D → ℕ} (source source_now : S) (desk desk_now : D) (status : Status)
+    → IsReadCaused (faults source) (faults source_now) status → RisesOnce (faults source) (faults source_now) → TakesUntilFailure left faults source source_now
     → IsWriteCaused (say_faults desk) (say_faults desk_now) status → IsDiskCaused (disk_faults desk) (disk_faults desk_now) status → RisesOnce (note_faults desk) (note_faults desk_now)
     → CountsFaults left faults say_faults note_faults disk_faults source source_now desk desk_now status
-intake_counts i bad rest source source_now desk desk_now status ends fault once until write disk noted = record {
-  read_fault = read_fault_rose i.end bad rest status _ _ ends fault;
-  failed_take = no_failed_take i.end bad rest status _ _ ends fault;
+input_counts source source_now desk desk_now status read once until write disk noted = record {
+  read_fault = read.rose;
+  failed_take = read.calm;
   write = write;
   disk = disk;
   read_faults_once = once;
   note_faults_once = noted;
   takes_until_failure = until;
 }
+
+-- A run that was cut short meets no read fault, and is cut short.
+cut_read : (by : Cut) (before now : ℕ) → IsReadCaused before now (status_of_cut by)
+cut_read cut.NoMemory before now = record { calm = λ e. absurd cc; rose = λ r. absurd cc }
+cut_read cut.Disk before now = record { calm = λ e. absurd cc; rose = λ r. absurd cc }
+cut_read cut.Unsaid before now = record { calm = λ e. absurd cc; rose = λ r. absurd cc }
+
+pub cut_is_read : (by : Cut) (before now : ℕ) (status : Status) → status ≡ status_of_cut by → IsReadCaused before now status
+cut_is_read by before now status is = subst (λ (u : Status). IsReadCaused before now u) (sym is) (cut_read by before now)
 
 -- Where memory was wanting, and that was told.
 pub cut_counts : {S D : Type 0} {left : S → Option (List ℕ)} {faults : S → ℕ} {said : D → Option (List ℕ)} {say_faults note_faults : D → ℕ} {reads : D → Image} {may_leave : D → Image → Type 0} {disk_faults : D → ℕ}
@@ -127,43 +144,75 @@ opened_counts {say_faults = say_faults} {note_faults = note_faults} {disk_faults
 
 -- ---- the run from a controller on
 
--- Over what was taken.
-pub intake_runs : (form : Form) (c : Serving) (most : ℕ) (i : Intake) (l m a b d e : Option (List ℕ)) (x y : ℕ) (tells : Bool) (now : Image) (images : Image → Type 0) (status : Status)
-    → IsIntake most l m i → SaysIntake form c.slot c.machine most i a b d e x y status → KeepsUsed form c (take most i.bytes.items) tells now images status
-    → RunsOn form c most l m a b d e x y tells now images status
-intake_runs form c most i l m a b d e x y tells now images status taken says keeps = record {
-  serves = intake_serves form c.slot c.machine most i l m a b d e x y status taken says;
-  keeps = keeps;
-}
+-- Where all events of the input were answered.
+pub input_runs : (form : Form) (c : Serving) (most : ℕ) (new : Controller) (l r a b d e : Option (List ℕ)) (f g : Bool) (x y : ℕ) (tells : Bool) (now : Image) (images : Image → Type 0) (elapses : (Image → List ℕ → Type 0) → Type 0) (status : Status)
+    → f ≡ false → EndsInput status form c most (serving_of new).machine l r a b f g d e x y tells elapses → GoesOn c (serving_of new) → IsReady tells (serving_of new).kept now images
+    → ((used : List ℕ) → elapses (StopsAlong form c.bounds (known_in form) c.machine (at_start form used) a) → elapses (StopFinds form c.bounds c.machine (events_in form used) a))
+    → RunsOn form c most l r a b d e x y tells now images elapses status
+input_runs form c most new l r a b d e f g x y tells now images elapses status calm answered on ready found =
+    let told = subst (λ (u : Bool). EndsInput status form c most (serving_of new).machine l r a b u g d e x y tells elapses) calm answered in
+    let used : List ℕ = take most told.takes.taken in
+    record {
+      serves = input_serves form c most (serving_of new).machine l r a b d e g x y tells elapses status told;
+      keeps = served_keeps form c new used used tells now images status refl told.last on ready;
+      stops = λ some tell. found used (told.takes.stops some tell);
+    }
 
--- And where memory was wanting while it was taken.
-pub cut_runs : (form : Form) (c : Serving) (most : ℕ) (l m a b d e : Option (List ℕ)) (x y : ℕ) (tells : Bool) (now : Image) (images : Image → Type 0) (status : Status)
-    → IsCutIntake most l m → status ≡ NoMemory → b ≡ a → NotesLines (status_lines [] status) d e x y → RunsOn form c most l m a b d e x y tells now images status
-cut_runs form c most l m a b d e x y tells now images status taken is still noted =
-    let s = cut_intake_serves form c.slot c.machine most l m a b d e x y status taken is still noted in
-    record { serves = s; keeps = cut_keeps form c (take most s.taken) tells now images cut.NoMemory status is }
+-- And where it was cut short, and that was told.
+cut_runs_by : (by : Cut) (form : Form) (c : Serving) (most : ℕ) (l r a b b2 d d1 d2 : Option (List ℕ)) (g h : Bool) (x y z : ℕ) (tells : Bool) (now : Image) (images : Image → Type 0) (before elapses : (Image → List ℕ → Type 0) → Type 0)
+    → CutsInput by form c most l r a b false g d d1 x y tells before → b2 ≡ b → NotesMore g h (status_lines [] (status_of_cut by)) d1 d2 y z
+    → ((used : List ℕ) → before (StopsAlong form c.bounds (known_in form) c.machine (at_start form used) a) → elapses (StopFinds form c.bounds c.machine (events_in form used) a))
+    → RunsOn form c most l r a b2 d d2 x z tells now images elapses (status_of_cut by)
+cut_runs_by by form c most l r a b b2 d d1 d2 g h x y z tells now images before elapses told still more found =
+    let used : List ℕ = take most told.takes.taken in
+    record {
+      serves = cut_serves by form c most l r a b b2 d d1 d2 g h x y z tells before told still more;
+      keeps = cut_keeps form c used tells now images by (status_of_cut by) refl;
+      stops = λ some tell. found used (told.takes.stops some tell);
+    }
+
+pub cut_runs : (by : Cut) (form : Form) (c : Serving) (most : ℕ) (l r a b b2 d d1 d2 : Option (List ℕ)) (f g h : Bool) (x y z : ℕ) (tells : Bool) (now : Image) (images : Image → Type 0) (before elapses : (Image → List ℕ → Type 0) → Type 0) (status : Status)
+    → status ≡ status_of_cut by → f ≡ false → CutsInput by form c most l r a b f g d d1 x y tells before → b2 ≡ b → NotesMore g h (status_lines [] status) d1 d2 y z
+    → ((used : List ℕ) → before (StopsAlong form c.bounds (known_in form) c.machine (at_start form used) a) → elapses (StopFinds form c.bounds c.machine (events_in form used) a))
+    → RunsOn form c most l r a b2 d d2 x z tells now images elapses status
+cut_runs by form c most l r a b b2 d d1 d2 f g h x y z tells now images before elapses status is calm cuts still more found =
+    let told = subst (λ (u : Bool). CutsInput by form c most l r a b u g d d1 x y tells before) calm cuts in
+    let behind = subst (λ (u : Status). NotesMore g h (status_lines [] u) d1 d2 y z) is more in
+    subst (λ (u : Status). RunsOn form c most l r a b2 d d2 x z tells now images elapses u) (sym is)
+    (cut_runs_by by form c most l r a b b2 d d1 d2 g h x y z tells now images before elapses told still behind found)
+
+-- The notes of such a run failed once at most.
+pub cut_run_counted : (by : Cut) (form : Form) (c : Serving) (most : ℕ) (l r a b d d1 d2 : Option (List ℕ)) (f g h : Bool) (x y z : ℕ) (tells : Bool) (before : (Image → List ℕ → Type 0) → Type 0) (status : Status)
+    → status ≡ status_of_cut by → f ≡ false → CutsInput by form c most l r a b f g d d1 x y tells before → NotesMore g h (status_lines [] status) d1 d2 y z → RisesOnce x z
+cut_run_counted by form c most l r a b d d1 d2 f g h x y z tells before status is calm cuts more =
+    let told = subst (λ (u : Bool). CutsInput by form c most l r a b u g d d1 x y tells before) calm cuts in
+    let behind = subst (λ (u : Status). NotesMore g h (status_lines [] u) d1 d2 y z) is more in
+    cut_counted by form c most l r a b d d1 d2 g h x y z tells before told behind
+
+pub input_run_counted : (form : Form) (c : Serving) (most : ℕ) (m : Machine) (l r a b d e : Option (List ℕ)) (f g : Bool) (x y : ℕ) (tells : Bool) (elapses : (Image → List ℕ → Type 0) → Type 0) (status : Status)
+    → f ≡ false → EndsInput status form c most m l r a b f g d e x y tells elapses → RisesOnce x y
+input_run_counted form c most m l r a b d e f g x y tells elapses status calm told =
+    input_counted form c most m l r a b d e g x y tells elapses status (subst (λ (u : Bool). EndsInput status form c most m l r a b u g d e x y tells elapses) calm told)
 
 -- A run without a folder begins at the start.
 pub started_serves : (core : Cored) (most : ℕ) (l m a b d e : Option (List ℕ)) (x y : ℕ) (status : Status) → core ≡ record { state = start; live = true }
-    → Serves Plain 0 (alone core.state) most l m a b d e x y status → Serves Plain 0 (alone start) most l m a b d e x y status
+    → Serves Plain no_bounds (alone core.state) most l m a b d e x y status → Serves Plain no_bounds (alone start) most l m a b d e x y status
 started_serves core most l m a b d e x y status is s =
-    subst (λ (k : Cored). Serves Plain 0 (alone k.state) most l m a b d e x y status) is s
-
--- Where there was no memory for it, nothing was taken and said.
-pub none_serves : (form : Form) (slot : ℕ) (machine : Machine) (most : ℕ) (l a b d e : Option (List ℕ)) (x y : ℕ) (status : Status) → status ≡ NoMemory → b ≡ a
-    → NotesLines (status_lines [] status) d e x y → Serves form slot machine most l l a b d e x y status
-none_serves form slot machine most l a b d e x y status is still noted =
-    cut_intake_serves form slot machine most l l a b d e x y status (record { bytes = []; gave = Gave-none l; few = omega arith }) is still noted
+    subst (λ (k : Cored). Serves Plain no_bounds (alone k.state) most l m a b d e x y status) is s
 
 -- ---- the run on the folder
 
--- From what was opened.
-opened_replays : (form : Form) (slot most : ℕ) (k : Controlled) (l m a b c d : Option (List ℕ)) (x y : ℕ) (tells : Bool) (before mid now : Image) (images later : Image → Type 0) (status : Status)
-    → (IsTrue tells → OpensToState before k.state) → (IsTrue tells → ReadsAs k.stored mid images) → HoldsRows k → k.stored.bounds.slot ≡ slot
-    → (IsTrue tells → Opens (length (before Mark)) before mid) → RunsOn form (serving_of (Kept k)) most l m a b c d x y tells now later status
-    → Replays form slot most l m a b c d x y tells before now later status
-opened_replays form slot most k l m a b c d x y tells before mid now images later status opens stands holds same made runs =
-    subst (λ (n : ℕ). Replays form n most l m a b c d x y tells before now later status) same (record {
+-- From what was opened, where this is what a stop finds.
+opened_replays : (form : Form) (bounds : StoreBounds) (most : ℕ) (k : Controlled) (l m a b c d : Option (List ℕ)) (x y : ℕ) (tells : Bool) (before mid now : Image) (first images later : Image → Type 0)
+    (behind elapses : (Image → List ℕ → Type 0) → Type 0) (status : Status)
+    → (IsTrue tells → OpensToState before k.state) → (IsTrue tells → ReadsAs k.stored mid images) → HoldsRows k → k.stored.bounds ≡ bounds
+    → (IsTrue tells → Opens (length (before Mark)) before mid) → RunsOn form (serving_of (Kept k)) most l m a b c d x y tells now later behind status
+    → ((events : List Event) → IsTrue tells → behind (StopFinds form k.stored.bounds (machine_of k) events a) → AllOpenTo first k.state → elapses (StopFinds form k.stored.bounds (machine_of k) events a))
+    → ((events : List Event) → IsTrue tells → behind (StopFinds form k.stored.bounds (machine_of k) events a)
+    → elapses (λ image taken. StopFinds form k.stored.bounds (machine_of k) events a image taken ⊎ Now (After StandsAsBefore first) a image taken))
+    → Replays form bounds most l m a b c d x y tells before now first later elapses status
+opened_replays form bounds most k l m a b c d x y tells before mid now first images later behind elapses status opens stands holds same made runs stops stops_later =
+    subst (λ (n : StoreBounds). Replays form n most l m a b c d x y tells before now first later elapses status) same (record {
       machine = machine_of k;
       valid = holds.valid;
       placed = refl;
@@ -171,61 +220,23 @@ opened_replays form slot most k l m a b c d x y tells before mid now images late
       serves = runs.serves;
       keeps = λ kept told. (runs.keeps refl kept told).0;
       found = λ kept told. (runs.keeps refl kept told).1;
+      stops = λ told all. stops (events_in form (take most runs.serves.taken)) told (runs.stops refl told) all;
+      stops_later = λ told. stops_later (events_in form (take most runs.serves.taken)) told (runs.stops refl told);
     })
 
 -- Opening the folder said and noted nothing.
-pub replays_on : {D : Type 0} {said noted : D → Option (List ℕ)} {say_faults note_faults : D → ℕ} (reads : D → Image) (may_leave : D → Image → Type 0)
-    (form : Form) (slot most : ℕ) (k : Controlled) (l m : Option (List ℕ)) (tells : Bool) (desk mid now : D) (status : Status)
-    → (IsTrue tells → OpensToState (reads desk) k.state) → (IsTrue tells → ReadsAs k.stored (reads mid) (may_leave mid)) → HoldsRows k → k.stored.bounds.slot ≡ slot
+pub replays_on : {D : Type 0} {said noted : D → Option (List ℕ)} {say_faults note_faults moment : D → ℕ} {since : D → ℕ → Image → List ℕ → Type 0} (reads : D → Image) (may_leave : D → Image → Type 0)
+    (form : Form) (bounds : StoreBounds) (most : ℕ) (k : Controlled) (l m : Option (List ℕ)) (tells : Bool) (desk mid now : D) (status : Status)
+    → (IsTrue tells → OpensToState (reads desk) k.state) → (IsTrue tells → ReadsAs k.stored (reads mid) (may_leave mid)) → HoldsRows k → k.stored.bounds ≡ bounds
     → (IsTrue tells → Opens (length (reads desk Mark)) (reads desk) (reads mid)) → OnlyDisk said noted say_faults note_faults desk mid
-    → RunsOn form (serving_of (Kept k)) most l m (said mid) (said now) (noted mid) (noted now) (note_faults mid) (note_faults now) tells (reads now) (may_leave now) status
-    → Replays form slot most l m (said desk) (said now) (noted desk) (noted now) (note_faults desk) (note_faults now) tells (reads desk) (reads now) (may_leave now) status
-replays_on {D} {said} {noted} {say_faults} {note_faults} reads may_leave form slot most k l m tells desk mid now status opens stands holds same made calls runs =
+    → (IsTrue tells → Leaves moment since may_leave said desk mid (After StandsAsBefore (may_leave desk)))
+    → RunsOn form (serving_of (Kept k)) most l m (said mid) (said now) (noted mid) (noted now) (note_faults mid) (note_faults now) tells (reads now) (may_leave now)
+    (Elapses (moment mid) (moment now) (since mid) (since now)) status
+    → Replays form bounds most l m (said desk) (said now) (noted desk) (noted now) (note_faults desk) (note_faults now) tells (reads desk) (reads now) (may_leave desk) (may_leave now)
+    (Elapses (moment desk) (moment now) (since desk) (since now)) status
+replays_on {D} {said} {noted} {say_faults} {note_faults} {moment} {since} reads may_leave form bounds most k l m tells desk mid now status opens stands holds same made calls opening runs =
     rw (sym calls.replies) (rw (sym calls.notes) (rw (sym calls.failed_notes)
-    (opened_replays form slot most k l m (said mid) (said now) (noted mid) (noted now) (note_faults mid) (note_faults now) tells (reads desk) (reads mid) (reads now) (may_leave mid) (may_leave now) status opens stands holds same made runs)))
-
--- From what was not opened, and that was told.
-pub refuses : {S D : Type 0} {said noted : D → Option (List ℕ)} {say_faults note_faults : D → ℕ} {reads : D → Image} {may_leave : D → Image → Type 0} {disk_faults : D → ℕ}
-    (tells : Bool) (source : S) (desk mid now : D) (status : Status) → OnlyDisk said noted say_faults note_faults desk mid → OnlyNotes said say_faults reads may_leave disk_faults mid now
-    → (IsTrue tells → 0 < length (reads desk Mark) → reads mid ≡ reads desk)
-    → StaysClosed tells (reads desk) (reads now) (noted mid) (noted now) (note_faults mid) (note_faults now) status
-    → Refuses said noted note_faults tells reads source source desk now status
-refuses {noted = noted} {note_faults = note_faults} {reads = reads} tells source desk mid now status calls notes kept why = record {
-  takes_nothing = refl;
-  says_nothing = notes.replies ∙ calls.replies;
-  stays = λ told some. notes.parts ∙ kept told some;
-  why = subst (λ (c : Option (List ℕ)). StaysClosed tells (reads desk) (reads now) c (noted now) (note_faults desk) (note_faults now) status) calls.notes
-      (subst (λ (x : ℕ). StaysClosed tells (reads desk) (reads now) (noted mid) (noted now) x (note_faults now) status) calls.failed_notes why);
-}
-
--- A failed call on the disk, and want of memory.
-pub closed_by_disk : (tells : Bool) (before now : Image) (c d : Option (List ℕ)) (x y : ℕ) (status : Status) → status ≡ DiskFault → NotesLines (status_lines [] status) c d x y
-    → StaysClosed tells before now c d x y status
-closed_by_disk tells before now c d x y status is noted =
-    subst (λ (u : Status). StaysClosed tells before now c d x y u) (sym is) (subst (λ (u : Status). NotesLines (status_lines [] u) c d x y) is noted)
-
-pub closed_by_memory : (tells : Bool) (before now : Image) (c d : Option (List ℕ)) (x y : ℕ) (status : Status) → status ≡ NoMemory → NotesLines (status_lines [] status) c d x y
-    → StaysClosed tells before now c d x y status
-closed_by_memory tells before now c d x y status is noted =
-    subst (λ (u : Status). StaysClosed tells before now c d x y u) (sym is) (subst (λ (u : Status). NotesLines (status_lines [] u) c d x y) is noted)
-
--- A damaged folder, which reads as before.
-closed_at : (tells : Bool) (before now : Image) (part : Part) (at : ℕ) (c d : Option (List ℕ)) (x y : ℕ) (status : Status) → (status ≡ Damaged) ⊎ (status ≡ NoMemory)
-    → (IsTrue tells → IsStateless before part at) → (IsTrue tells → now ≡ before) → TellsDamage part at status c d x y → StaysClosed tells before now c d x y status
-closed_at tells before now part at c d x y status (inl is) none still told =
-    subst (λ (u : Status). StaysClosed tells before now c d x y u) (sym is) (part, at, none, still, told.damaged is)
-closed_at tells before now part at c d x y status (inr is) none still told = subst (λ (u : Status). StaysClosed tells before now c d x y u) (sym is) (told.memory is)
-
-pub closed_by_damage : (tells : Bool) (before now : Image) (part : Part) (at : ℕ) (c d : Option (List ℕ)) (x y : ℕ) (status : Status)
-    → (IsTrue tells → IsStateless before part at) → (IsTrue tells → now ≡ before) → TellsDamage part at status c d x y → StaysClosed tells before now c d x y status
-closed_by_damage tells before now part at c d x y status none still told = closed_at tells before now part at c d x y status told.same none still told
-
--- A part and a place by which it was told are those that are theirs.
-pub told_at : {part part' : Part} {at at' : ℕ} (status : Status) (c d : Option (List ℕ)) (x y : ℕ) → part ≡ part' → at ≡ at' → TellsDamage part at status c d x y → TellsDamage part' at' status c d x y
-told_at {part} {part'} {at} {at'} status c d x y same_part same_at told =
-    subst (λ (p : Part). TellsDamage p at' status c d x y) same_part (subst (λ (n : ℕ). TellsDamage part n status c d x y) same_at told)
-
--- Neither status is another fault.
-pub damage_statuses : (status : Status) → (status ≡ Damaged) ⊎ (status ≡ NoMemory) → (status ≡ ReadFault → ⊥) × (status ≡ WriteFault → ⊥) × (status ≡ DiskFault → ⊥)
-damage_statuses status (inl is) = (λ e. cc, λ e. cc, λ e. cc)
-damage_statuses status (inr is) = (λ e. cc, λ e. cc, λ e. cc)
+    (opened_replays form bounds most k l m (said mid) (said now) (noted mid) (noted now) (note_faults mid) (note_faults now) tells (reads desk) (reads mid) (reads now) (may_leave desk) (may_leave mid) (may_leave now)
+    (Elapses (moment mid) (moment now) (since mid) (since now)) (Elapses (moment desk) (moment now) (since desk) (since now)) status opens stands holds same made runs
+    (λ events told serving all. rw calls.replies (opened_stops form k.stored.bounds (machine_of k) events (opening told) serving all))
+    (λ events told serving. rw calls.replies (later_stops form k.stored.bounds (machine_of k) events (opening told) serving)))))

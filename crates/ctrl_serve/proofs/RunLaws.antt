@@ -1,19 +1,22 @@
 -- How what the parts of a run promise makes up what the run promises.
-use Rattle.std.specs.Prelude.{true, Bool}
+use Rattle.std.specs.Prelude.{true, false, Bool, IsTrue}
 use Rattle.std.proofs.Common.{◌≡◌, ℕ, ◌⊎◌, inl, inr, List, length, take, None, Some, refl, sym, ap, ◌∙◌, subst, arith}
 use Rattle.std.proofs.Math.Dec.{ltb}
 use Rattle.std.proofs.lemmas.Bool.{false≢true}
 use Rattle.std.specs.declared.option.Option.{Option}
 use Rattle.std.specs.Io.KnownBytes.{IsAtEnd}
 use Rattle.ziti_outside.specs.Images.{Image}
+use Rattle.ziti_outside.specs.Moments.{Elapses}
 use Rattle.ziti_outside.specs.Told.{Took}
 use Rattle.ziti_outside.specs.Untouched.{OnlySays, OnlyNotes}
+use Rattle.journal_core.specs.Room.{LeavesRoom}
 use Rattle.ctrl_model.specs.State.{start}
+use Rattle.row_store.specs.declared.bounds.StoreBounds.{StoreBounds}
 use Rattle.ctrl_keep.specs.KeptMachine.{Machine}
 use Rattle.ctrl_serve.specs.declared.command_line.Form as command
 use Rattle.session_mux.specs.declared.sessions.Form.{Form}
 use Rattle.session_mux.specs.declared.sessions.Form.TheVariants.{Plain}
-use Rattle.ctrl_serve.specs.declared.command_line.Form.TheVariants.{Dry, Load, Replay}
+use Rattle.ctrl_serve.specs.declared.command_line.Form.TheVariants.{Dry, Replay, Audit, Compact, Load}
 use Rattle.run_notes.specs.declared.status.Status.{Status}
 use Rattle.run_notes.specs.declared.status.Status.TheVariants.{Done, Usage, BadInput, Truncated, ReadFault, WriteFault, DiskFault, Damaged, NoMemory, InputTooLong, FolderFull}
 use Rattle.ctrl_serve.specs.CommandLine.{reads_input}
@@ -21,13 +24,16 @@ use Rattle.run_notes.specs.Endings.{is_kept}
 use Rattle.ctrl_serve.specs.SaidReplies.{SaysAll}
 use Rattle.run_notes.specs.Inputs.{is_bad_input, has_rest}
 use Rattle.run_notes.specs.NotedLines.{RisesOnce, NotesLines}
-use Rattle.ctrl_serve.specs.FrameAnswer.{alone, replies}
-use Rattle.ctrl_serve.specs.Headline.{OnlySaysAndNotes, SaysOneLine, Serves, IsComplete, IsSaid, StaysClosed, Refuses, Replays, Runs}
-use Rattle.ctrl_serve.specs.Loads.{counts_line, state_of_load}
+use Rattle.ctrl_serve.specs.FrameAnswer.{no_bounds, alone, replies}
+use Rattle.ctrl_serve.specs.Headline.{OnlySaysAndNotes, Serves, IsComplete, IsLeftAlone, IsUnopened, StaysClosed, Refuses, Replays, Runs}
+use Rattle.ctrl_serve.specs.FolderWords.{Audits, Compacts, EndsCompaction}
+use Rattle.ctrl_serve.specs.Loads.{counts_line, state_of_load, SaysOneLine, IsSaid}
 use Rattle.run_notes.specs.Notes.{usage_note}
-use Rattle.ctrl_serve.specs.Runs.{CountsFaults, IsWriteCaused}
+use Rattle.ctrl_serve.specs.Runs.{CountsFaults, IsDiskCaused, IsWriteCaused}
 use Rattle.ctrl_serve.proofs.EndingLaws.{done_is, at_end, all_replies}
 use Rattle.ctrl_serve.proofs.FailureLaws.{takes_none}
+use Rattle.ctrl_serve.proofs.RoomRuns.{room_here, still_room}
+use Rattle.ctrl_serve.proofs.PieceLaws.{good_undecided}
 
 -- The folder is left alone where replies were said, and then notes were written.
 pub says_then_notes : {D : Type 0} {said noted : D → Option (List ℕ)} {say_faults note_faults : D → ℕ} {reads : D → Image} {may_leave : D → Image → Type 0} {disk_faults : D → ℕ} {old mid new : D}
@@ -46,39 +52,39 @@ notes_alone notes = record { parts = notes.parts; found = notes.found; failed_ca
 -- ---- a run that serves its input
 
 -- Where all events were answered all replies were said.
-all_said : (form : Form) (status : Status) (slot : ℕ) (m : Machine) (most : ℕ) (a b c d e f : Option (List ℕ)) (x y : ℕ) (s : Serves form slot m most a b c d e f x y status)
-    → is_kept status ≡ true → SaysAll form slot m s.said s.answered → Took c d (replies form slot m (take most s.taken))
-all_said form status slot m most a b c d e f x y s kept says =
-    subst (λ (l : List ℕ). Took c d l) (all_replies form slot m (take most s.taken) s.said s.answered s.unanswered s.split (s.all kept) says) s.took
+all_said : (form : Form) (status : Status) (bounds : StoreBounds) (m : Machine) (most : ℕ) (a b c d e f : Option (List ℕ)) (x y : ℕ) (s : Serves form bounds m most a b c d e f x y status)
+    → is_kept status ≡ true → SaysAll form bounds m s.said s.answered → Took c d (replies form bounds m (take most s.taken))
+all_said form status bounds m most a b c d e f x y s kept says =
+    subst (λ (l : List ℕ). Took c d l) (all_replies form bounds m (take most s.taken) s.said s.answered s.unanswered s.split (s.all kept) says) s.took
 
 -- Where no call failed it is complete, unless memory was wanting.
-serves_completely : (form : Form) (status : Status) (slot : ℕ) (m : Machine) (most : ℕ) (a b c d e f : Option (List ℕ)) (x y : ℕ)
-    → Serves form slot m most a b c d e f x y status → (status ≡ ReadFault → ⊥) → (status ≡ WriteFault → ⊥) → (status ≡ DiskFault → ⊥) → IsComplete form slot m most a b c d status
-serves_completely form Done slot m most a b c d e f x y s read write disk = inr (record { taken = s.taken; gave = s.gave; ends = s.ends refl; said = all_said form Done slot m most a b c d e f x y s refl s.says; read_on = s.read_on refl })
-serves_completely form Usage slot m most a b c d e f x y s read write disk = absurd s.says
-serves_completely form BadInput slot m most a b c d e f x y s read write disk = inr (record { taken = s.taken; gave = s.gave; ends = s.ends refl; said = all_said form BadInput slot m most a b c d e f x y s refl s.says; read_on = s.read_on refl })
-serves_completely form Truncated slot m most a b c d e f x y s read write disk = inr (record { taken = s.taken; gave = s.gave; ends = s.ends refl; said = all_said form Truncated slot m most a b c d e f x y s refl s.says; read_on = s.read_on refl })
-serves_completely form ReadFault slot m most a b c d e f x y s read write disk = absurd (read refl)
-serves_completely form WriteFault slot m most a b c d e f x y s read write disk = absurd (write refl)
-serves_completely form DiskFault slot m most a b c d e f x y s read write disk = absurd (disk refl)
-serves_completely form Damaged slot m most a b c d e f x y s read write disk = absurd s.says
-serves_completely form NoMemory slot m most a b c d e f x y s read write disk = inl refl
-serves_completely form InputTooLong slot m most a b c d e f x y s read write disk = inr (record { taken = s.taken; gave = s.gave; ends = s.ends refl; said = all_said form InputTooLong slot m most a b c d e f x y s refl s.says; read_on = s.read_on refl })
-serves_completely form FolderFull slot m most a b c d e f x y s read write disk = absurd s.says
+pub serves_completely : (form : Form) (status : Status) (bounds : StoreBounds) (m : Machine) (most : ℕ) (a b c d e f : Option (List ℕ)) (x y : ℕ)
+    → Serves form bounds m most a b c d e f x y status → (status ≡ ReadFault → ⊥) → (status ≡ WriteFault → ⊥) → (status ≡ DiskFault → ⊥) → IsComplete form bounds m most a b c d status
+serves_completely form Done bounds m most a b c d e f x y s read write disk = inr (record { taken = s.taken; gave = s.gave; ends = s.ends refl; said = all_said form Done bounds m most a b c d e f x y s refl s.says; read_on = s.read_on refl })
+serves_completely form Usage bounds m most a b c d e f x y s read write disk = absurd s.says
+serves_completely form BadInput bounds m most a b c d e f x y s read write disk = inr (record { taken = s.taken; gave = s.gave; ends = s.ends refl; said = all_said form BadInput bounds m most a b c d e f x y s refl s.says; read_on = s.read_on refl })
+serves_completely form Truncated bounds m most a b c d e f x y s read write disk = inr (record { taken = s.taken; gave = s.gave; ends = s.ends refl; said = all_said form Truncated bounds m most a b c d e f x y s refl s.says; read_on = s.read_on refl })
+serves_completely form ReadFault bounds m most a b c d e f x y s read write disk = absurd (read refl)
+serves_completely form WriteFault bounds m most a b c d e f x y s read write disk = absurd (write refl)
+serves_completely form DiskFault bounds m most a b c d e f x y s read write disk = absurd (disk refl)
+serves_completely form Damaged bounds m most a b c d e f x y s read write disk = absurd s.says
+serves_completely form NoMemory bounds m most a b c d e f x y s read write disk = inl refl
+serves_completely form InputTooLong bounds m most a b c d e f x y s read write disk = inr (record { taken = s.taken; gave = s.gave; ends = s.ends refl; said = all_said form InputTooLong bounds m most a b c d e f x y s refl s.says; read_on = s.read_on refl })
+serves_completely form FolderFull bounds m most a b c d e f x y s read write disk = absurd s.says
 
 -- It does not end with Usage.
-serves_no_usage : (form : Form) (status : Status) (slot : ℕ) (m : Machine) (most : ℕ) (a b c d e f : Option (List ℕ)) (x y : ℕ) → Serves form slot m most a b c d e f x y status → status ≡ Usage → ⊥
-serves_no_usage form status slot m most a b c d e f x y s is = (subst (λ (u : Status). Serves form slot m most a b c d e f x y u) is s).says
+serves_no_usage : (form : Form) (status : Status) (bounds : StoreBounds) (m : Machine) (most : ℕ) (a b c d e f : Option (List ℕ)) (x y : ℕ) → Serves form bounds m most a b c d e f x y status → status ≡ Usage → ⊥
+serves_no_usage form status bounds m most a b c d e f x y s is = (subst (λ (u : Status). Serves form bounds m most a b c d e f x y u) is s).says
 
 -- Where it is done it read its input to the end.
-done_at_end : (form : Form) (slot : ℕ) (m : Machine) (most : ℕ) (a b c d e f : Option (List ℕ)) (x y : ℕ) → Serves form slot m most a b c d e f x y Done → IsAtEnd b
-done_at_end form slot m most a b c d e f x y s =
+done_at_end : (form : Form) (bounds : StoreBounds) (m : Machine) (most : ℕ) (a b c d e f : Option (List ℕ)) (x y : ℕ) → Serves form bounds m most a b c d e f x y Done → IsAtEnd b
+done_at_end form bounds m most a b c d e f x y s =
     let first : List ℕ = take most s.taken in
     let is = done_is (is_bad_input form first) (has_rest form first) (ltb most (length s.taken)) (s.ends refl) in
-    at_end most b s.taken is.whole (s.read_on refl)
+    at_end most b s.taken is.whole (s.read_on refl (good_undecided form first is.good))
 
-serves_to_end : (form : Form) (status : Status) (slot : ℕ) (m : Machine) (most : ℕ) (a b c d e f : Option (List ℕ)) (x y : ℕ) → Serves form slot m most a b c d e f x y status → status ≡ Done → IsAtEnd b
-serves_to_end form status slot m most a b c d e f x y s is = done_at_end form slot m most a b c d e f x y (subst (λ (u : Status). Serves form slot m most a b c d e f x y u) is s)
+serves_to_end : (form : Form) (status : Status) (bounds : StoreBounds) (m : Machine) (most : ℕ) (a b c d e f : Option (List ℕ)) (x y : ℕ) → Serves form bounds m most a b c d e f x y status → status ≡ Done → IsAtEnd b
+serves_to_end form status bounds m most a b c d e f x y s is = done_at_end form bounds m most a b c d e f x y (subst (λ (u : Status). Serves form bounds m most a b c d e f x y u) is s)
 
 -- ---- a run as it was asked for
 
@@ -91,19 +97,27 @@ abbrev asked_form : Form → Option command.Form → Form
 asked_form of None = of
 asked_form of (Some Dry) = of
 asked_form of (Some (Replay form)) = form
+asked_form of (Some Audit) = of
+asked_form of (Some Compact) = of
 asked_form of (Some (Load number)) = of
 
 same_form : (of other : Form) → ◌≡◌ {A = Option command.Form} (Some (Replay of)) (Some (Replay other)) → of ≡ other
 same_form of other e = ap (asked_form of) e
 
+-- A word that reads no input is not another one that does.
+reads_nothing : (form : Option command.Form) (word asked : command.Form) → reads_input word ≡ false → form ≡ Some word → form ≡ Some asked → reads_input asked ≡ true → ⊥
+reads_nothing form word asked none is e reads =
+    let same : word ≡ asked = cc in
+    false≢true (sym none ∙ ap reads_input same ∙ reads)
+
 -- A run without a folder.
-pub dry_runs : {S D : Type 0} {left : S → Option (List ℕ)} {faults : S → ℕ} {said noted : D → Option (List ℕ)} {say_faults note_faults : D → ℕ} {reads : D → Image} {may_leave : D → Image → Type 0} {disk_faults : D → ℕ}
-    (tells : Bool) (slot most : ℕ) (form : Option command.Form) (source source_now : S) (desk desk_now : D) (status : Status) → form ≡ Some Dry
-    → Serves Plain 0 (alone start) most (left source) (left source_now) (said desk) (said desk_now) (noted desk) (noted desk_now) (note_faults desk) (note_faults desk_now) status
+pub dry_runs : {S D : Type 0} {left : S → Option (List ℕ)} {faults : S → ℕ} {said noted : D → Option (List ℕ)} {say_faults note_faults : D → ℕ} {reads : D → Image} {moment : D → ℕ} {since : D → ℕ → Image → List ℕ → Type 0} {may_leave : D → Image → Type 0} {disk_faults : D → ℕ}
+    (tells : Bool) (bounds : StoreBounds) (most : ℕ) (form : Option command.Form) (source source_now : S) (desk desk_now : D) (status : Status) → form ≡ Some Dry
+    → Serves Plain no_bounds (alone start) most (left source) (left source_now) (said desk) (said desk_now) (noted desk) (noted desk_now) (note_faults desk) (note_faults desk_now) status
     → CountsFaults left faults say_faults note_faults disk_faults source source_now desk desk_now status
     → (status ≡ DiskFault → ⊥) → OnlySaysAndNotes reads may_leave disk_faults desk desk_now
-    → Runs left faults said noted say_faults note_faults reads may_leave disk_faults tells slot most form source source_now desk desk_now status
-dry_runs {S} {D} {left} {faults} {said} {noted} {say_faults} {note_faults} tells slot most form source source_now desk desk_now status is serves counts calm others = record {
+    → Runs left faults said noted say_faults note_faults reads moment since may_leave disk_faults tells bounds most form source source_now desk desk_now status
+dry_runs {S} {D} {left} {faults} {said} {noted} {say_faults} {note_faults} {reads} tells bounds most form source source_now desk desk_now status is serves counts calm others = record {
   usage = (λ u. absurd (serves_no_usage Plain status _ _ most _ _ _ _ _ _ _ _ serves u), λ n. cc);
   usage_takes_nothing = λ n. cc;
   usage_notes_alone = λ n. cc;
@@ -128,42 +142,50 @@ dry_runs {S} {D} {left} {faults} {said} {noted} {say_faults} {note_faults} tells
   load_takes_nothing = λ number e. cc;
   load_says_and_notes_alone = λ number e. cc;
   load_complete = λ number e. cc;
+  audit = λ e. cc;
+  audit_takes_nothing = λ e. cc;
+  audit_changes_nothing = λ e. cc;
+  compact = λ e. cc;
+  compact_takes_nothing = λ e. cc;
+  compact_says_nothing = λ e. cc;
+  room = λ told start. still_room reads bounds.slot others.parts;
 }
 
 -- Where a folder was not opened the run ends with none of these.
 closed_status : (tells : Bool) (before now : Image) (c d : Option (List ℕ)) (x y : ℕ) (status : Status) → StaysClosed tells before now c d x y status
-    → (status ≡ Usage → ⊥) × (status ≡ Done → ⊥)
+    → (status ≡ Usage → ⊥) × (status ≡ Done → ⊥) × (status ≡ ReadFault → ⊥) × (status ≡ WriteFault → ⊥)
 closed_status tells before now c d x y Done why = absurd why
 closed_status tells before now c d x y Usage why = absurd why
 closed_status tells before now c d x y BadInput why = absurd why
 closed_status tells before now c d x y Truncated why = absurd why
 closed_status tells before now c d x y ReadFault why = absurd why
 closed_status tells before now c d x y WriteFault why = absurd why
-closed_status tells before now c d x y DiskFault why = (λ e. cc, λ e. cc)
-closed_status tells before now c d x y Damaged why = (λ e. cc, λ e. cc)
-closed_status tells before now c d x y NoMemory why = (λ e. cc, λ e. cc)
+closed_status tells before now c d x y DiskFault why = (λ e. cc, λ e. cc, λ e. cc, λ e. cc)
+closed_status tells before now c d x y Damaged why = (λ e. cc, λ e. cc, λ e. cc, λ e. cc)
+closed_status tells before now c d x y NoMemory why = (λ e. cc, λ e. cc, λ e. cc, λ e. cc)
 closed_status tells before now c d x y InputTooLong why = absurd why
 closed_status tells before now c d x y FolderFull why = absurd why
 
 -- A run on the folder, which was not opened or from which the run went on.
-replays_status : {S D : Type 0} {said noted : D → Option (List ℕ)} {note_faults : D → ℕ} {reads : D → Image} (left : S → Option (List ℕ)) (may_leave : D → Image → Type 0)
-    (of : Form) (tells : Bool) (slot most : ℕ) (source source_now : S) (desk desk_now : D) (status : Status)
-    → Refuses said noted note_faults tells reads source source_now desk desk_now status
-    ⊎ Replays of slot most (left source) (left source_now) (said desk) (said desk_now) (noted desk) (noted desk_now) (note_faults desk) (note_faults desk_now) tells (reads desk) (reads desk_now) (may_leave desk_now) status
+replays_status : {S D : Type 0} {said noted : D → Option (List ℕ)} {note_faults : D → ℕ} {reads : D → Image} (left : S → Option (List ℕ)) (moment : D → ℕ) (since : D → ℕ → Image → List ℕ → Type 0) (may_leave : D → Image → Type 0)
+    (of : Form) (tells : Bool) (bounds : StoreBounds) (most : ℕ) (source source_now : S) (desk desk_now : D) (status : Status)
+    → Refuses said noted note_faults tells reads moment since may_leave source source_now desk desk_now status
+    ⊎ Replays of bounds most (left source) (left source_now) (said desk) (said desk_now) (noted desk) (noted desk_now) (note_faults desk) (note_faults desk_now) tells (reads desk) (reads desk_now) (may_leave desk) (may_leave desk_now) (Elapses (moment desk) (moment desk_now) (since desk) (since desk_now)) status
     → (status ≡ Usage → ⊥) × (status ≡ Done → IsAtEnd (left source_now))
-replays_status left may_leave of tells slot most source source_now desk desk_now status (inl closed) =
-    let none = closed_status tells _ _ _ _ _ _ status closed.why in (none.0, λ done. absurd (none.1 done))
-replays_status left may_leave of tells slot most source source_now desk desk_now status (inr on) =
-    (serves_no_usage of status slot on.machine most _ _ _ _ _ _ _ _ on.serves, serves_to_end of status slot on.machine most _ _ _ _ _ _ _ _ on.serves)
+replays_status left moment since may_leave of tells bounds most source source_now desk desk_now status (inl closed) =
+    let none = closed_status tells _ _ _ _ _ _ status closed.unopened.why in (none.0, λ done. absurd (none.1 done))
+replays_status left moment since may_leave of tells bounds most source source_now desk desk_now status (inr on) =
+    (serves_no_usage of status bounds on.machine most _ _ _ _ _ _ _ _ on.serves, serves_to_end of status bounds on.machine most _ _ _ _ _ _ _ _ on.serves)
 
-pub replay_runs : {S D : Type 0} {left : S → Option (List ℕ)} {faults : S → ℕ} {said noted : D → Option (List ℕ)} {say_faults note_faults : D → ℕ} {reads : D → Image} {may_leave : D → Image → Type 0} {disk_faults : D → ℕ}
-    (of : Form) (tells : Bool) (slot most : ℕ) (form : Option command.Form) (source source_now : S) (desk desk_now : D) (status : Status) → form ≡ Some (Replay of)
-    → Refuses said noted note_faults tells reads source source_now desk desk_now status
-    ⊎ Replays of slot most (left source) (left source_now) (said desk) (said desk_now) (noted desk) (noted desk_now) (note_faults desk) (note_faults desk_now) tells (reads desk) (reads desk_now) (may_leave desk_now) status
+pub replay_runs : {S D : Type 0} {left : S → Option (List ℕ)} {faults : S → ℕ} {said noted : D → Option (List ℕ)} {say_faults note_faults : D → ℕ} {reads : D → Image} {moment : D → ℕ} {since : D → ℕ → Image → List ℕ → Type 0} {may_leave : D → Image → Type 0} {disk_faults : D → ℕ}
+    (of : Form) (tells : Bool) (bounds : StoreBounds) (most : ℕ) (form : Option command.Form) (source source_now : S) (desk desk_now : D) (status : Status) → form ≡ Some (Replay of)
+    → Refuses said noted note_faults tells reads moment since may_leave source source_now desk desk_now status
+    ⊎ Replays of bounds most (left source) (left source_now) (said desk) (said desk_now) (noted desk) (noted desk_now) (note_faults desk) (note_faults desk_now) tells (reads desk) (reads desk_now) (may_leave desk) (may_leave desk_now) (Elapses (moment desk) (moment desk_now) (since desk) (since desk_now)) status
     → CountsFaults left faults say_faults note_faults disk_faults source source_now desk desk_now status
-    → Runs left faults said noted say_faults note_faults reads may_leave disk_faults tells slot most form source source_now desk desk_now status
-replay_runs {S} {D} {left} {faults} {said} {noted} {say_faults} {note_faults} {reads} {may_leave} of tells slot most form source source_now desk desk_now status is replays counts =
-    let at : (status ≡ Usage → ⊥) × (status ≡ Done → IsAtEnd (left source_now)) = replays_status {said = said} {noted = noted} {note_faults = note_faults} {reads = reads} left may_leave of tells slot most source source_now desk desk_now status replays in
+    → LeavesRoom bounds.slot may_leave desk desk_now → (IsTrue tells → may_leave desk_now (reads desk_now))
+    → Runs left faults said noted say_faults note_faults reads moment since may_leave disk_faults tells bounds most form source source_now desk desk_now status
+replay_runs {S} {D} {left} {faults} {said} {noted} {say_faults} {note_faults} {reads} {moment} {since} {may_leave} of tells bounds most form source source_now desk desk_now status is replays counts left_room own =
+    let at : (status ≡ Usage → ⊥) × (status ≡ Done → IsAtEnd (left source_now)) = replays_status {said = said} {noted = noted} {note_faults = note_faults} {reads = reads} left moment since may_leave of tells bounds most source source_now desk desk_now status replays in
     record {
       usage = (λ u. absurd (at.0 u), λ n. cc);
       usage_takes_nothing = λ n. cc;
@@ -184,21 +206,28 @@ replay_runs {S} {D} {left} {faults} {said} {noted} {say_faults} {note_faults} {r
       dry_says_and_notes_alone = λ e. cc;
       complete = λ e. cc;
       read_to_the_end = λ asked e reads. at.1;
-      replay = λ other asked. subst (λ (o : Form). Refuses said noted note_faults tells reads source source_now desk desk_now status
-          ⊎ Replays o slot most (left source) (left source_now) (said desk) (said desk_now) (noted desk) (noted desk_now) (note_faults desk) (note_faults desk_now) tells (reads desk) (reads desk_now) (may_leave desk_now) status)
+      replay = λ other asked. subst (λ (o : Form). Refuses said noted note_faults tells reads moment since may_leave source source_now desk desk_now status
+          ⊎ Replays o bounds most (left source) (left source_now) (said desk) (said desk_now) (noted desk) (noted desk_now) (note_faults desk) (note_faults desk_now) tells (reads desk) (reads desk_now) (may_leave desk) (may_leave desk_now) (Elapses (moment desk) (moment desk_now) (since desk) (since desk_now)) status)
           (same_form of other (sym is ∙ asked)) replays;
       load = λ number e. cc;
       load_takes_nothing = λ number e. cc;
       load_says_and_notes_alone = λ number e. cc;
       load_complete = λ number e. cc;
+      audit = λ e. cc;
+      audit_takes_nothing = λ e. cc;
+      audit_changes_nothing = λ e. cc;
+      compact = λ e. cc;
+      compact_takes_nothing = λ e. cc;
+      compact_says_nothing = λ e. cc;
+      room = λ told start. room_here reads left_room (own told) start;
     }
 
 -- A run that only wrote the usage note, where the words are no line of the table.
-pub usage_runs : {S D : Type 0} {left : S → Option (List ℕ)} {faults : S → ℕ} {said noted : D → Option (List ℕ)} {say_faults note_faults : D → ℕ} {reads : D → Image} {may_leave : D → Image → Type 0} {disk_faults : D → ℕ}
-    (tells : Bool) (slot most : ℕ) (form : Option command.Form) (source : S) (desk desk_now : D) → form ≡ None → OnlyNotes said say_faults reads may_leave disk_faults desk desk_now
+pub usage_runs : {S D : Type 0} {left : S → Option (List ℕ)} {faults : S → ℕ} {said noted : D → Option (List ℕ)} {say_faults note_faults : D → ℕ} {reads : D → Image} {moment : D → ℕ} {since : D → ℕ → Image → List ℕ → Type 0} {may_leave : D → Image → Type 0} {disk_faults : D → ℕ}
+    (tells : Bool) (bounds : StoreBounds) (most : ℕ) (form : Option command.Form) (source : S) (desk desk_now : D) → form ≡ None → OnlyNotes said say_faults reads may_leave disk_faults desk desk_now
     → NotesLines usage_note (noted desk) (noted desk_now) (note_faults desk) (note_faults desk_now) → RisesOnce (note_faults desk) (note_faults desk_now)
-    → Runs left faults said noted say_faults note_faults reads may_leave disk_faults tells slot most form source source desk desk_now Usage
-usage_runs tells slot most form source desk desk_now is others note counted = record {
+    → Runs left faults said noted say_faults note_faults reads moment since may_leave disk_faults tells bounds most form source source desk desk_now Usage
+usage_runs {reads = reads} tells bounds most form source desk desk_now is others note counted = record {
   usage = (λ _. is, λ _. refl);
   usage_takes_nothing = λ _. refl;
   usage_notes_alone = λ _. others;
@@ -223,12 +252,19 @@ usage_runs tells slot most form source desk desk_now is others note counted = re
   load_takes_nothing = λ number e. refl;
   load_says_and_notes_alone = λ number e. cc;
   load_complete = λ number e. cc;
+  audit = λ e. cc;
+  audit_takes_nothing = λ e. cc;
+  audit_changes_nothing = λ e. cc;
+  compact = λ e. cc;
+  compact_takes_nothing = λ e. cc;
+  compact_says_nothing = λ e. cc;
+  room = λ told start. still_room reads bounds.slot others.parts;
 }
 
 -- ---- a run of a generated load
 
 -- It ends with none of these.
-line_statuses : (status : Status) (line : List ℕ) (a b c d : Option (List ℕ)) (x y : ℕ) → SaysOneLine line a b c d x y status
+pub line_statuses : (status : Status) (line : List ℕ) (a b c d : Option (List ℕ)) (x y : ℕ) → SaysOneLine line a b c d x y status
     → (status ≡ Usage → ⊥) × (status ≡ ReadFault → ⊥) × (status ≡ DiskFault → ⊥)
 line_statuses Done line a b c d x y s = (λ e. cc, λ e. cc, λ e. cc)
 line_statuses Usage line a b c d x y s = absurd s.says
@@ -243,7 +279,7 @@ line_statuses InputTooLong line a b c d x y s = absurd s.says
 line_statuses FolderFull line a b c d x y s = absurd s.says
 
 -- Where no say failed the line was said, unless memory was wanting.
-line_said : (status : Status) (line : List ℕ) (a b c d : Option (List ℕ)) (x y : ℕ) → SaysOneLine line a b c d x y status → (status ≡ WriteFault → ⊥) → IsSaid line a b status
+pub line_said : (status : Status) (line : List ℕ) (a b c d : Option (List ℕ)) (x y : ℕ) → SaysOneLine line a b c d x y status → (status ≡ WriteFault → ⊥) → IsSaid line a b status
 line_said Done line a b c d x y s write = inr (refl, subst (λ (l : List ℕ). Took a b l) s.says s.took)
 line_said Usage line a b c d x y s write = absurd s.says
 line_said BadInput line a b c d x y s write = absurd s.says
@@ -256,21 +292,16 @@ line_said NoMemory line a b c d x y s write = inl refl
 line_said InputTooLong line a b c d x y s write = absurd s.says
 line_said FolderFull line a b c d x y s write = absurd s.says
 
--- A load is no word that reads input, and is the load of one number.
-load_reads_nothing : (form : Option command.Form) (number : ℕ) (asked : command.Form) → form ≡ Some (Load number) → form ≡ Some asked → reads_input asked ≡ true → ⊥
-load_reads_nothing form number Dry is e reads = cc
-load_reads_nothing form number (Replay of) is e reads = cc
-load_reads_nothing form number (Load other) is e reads = false≢true reads
-
+-- A load is the load of one number.
 one_load : (form : Option command.Form) (m n : ℕ) → form ≡ Some (Load m) → form ≡ Some (Load n) → m ≡ n
 one_load form m n is e = cc
 
-pub load_runs : {S D : Type 0} {left : S → Option (List ℕ)} {faults : S → ℕ} {said noted : D → Option (List ℕ)} {say_faults note_faults : D → ℕ} {reads : D → Image} {may_leave : D → Image → Type 0} {disk_faults : D → ℕ}
-    (tells : Bool) (slot most : ℕ) (form : Option command.Form) (number : ℕ) (source : S) (desk desk_now : D) (status : Status) → form ≡ Some (Load number)
+pub load_runs : {S D : Type 0} {left : S → Option (List ℕ)} {faults : S → ℕ} {said noted : D → Option (List ℕ)} {say_faults note_faults : D → ℕ} {reads : D → Image} {moment : D → ℕ} {since : D → ℕ → Image → List ℕ → Type 0} {may_leave : D → Image → Type 0} {disk_faults : D → ℕ}
+    (tells : Bool) (bounds : StoreBounds) (most : ℕ) (form : Option command.Form) (number : ℕ) (source : S) (desk desk_now : D) (status : Status) → form ≡ Some (Load number)
     → SaysOneLine (counts_line (state_of_load number)) (said desk) (said desk_now) (noted desk) (noted desk_now) (note_faults desk) (note_faults desk_now) status
     → IsWriteCaused (say_faults desk) (say_faults desk_now) status → RisesOnce (note_faults desk) (note_faults desk_now) → OnlySaysAndNotes reads may_leave disk_faults desk desk_now
-    → Runs left faults said noted say_faults note_faults reads may_leave disk_faults tells slot most form source source desk desk_now status
-load_runs {said = said} {noted = noted} {note_faults = note_faults} tells slot most form number source desk desk_now status is says write counted others =
+    → Runs left faults said noted say_faults note_faults reads moment since may_leave disk_faults tells bounds most form source source desk desk_now status
+load_runs {said = said} {noted = noted} {note_faults = note_faults} {reads = reads} tells bounds most form number source desk desk_now status is says write counted others =
     let not = line_statuses status _ _ _ _ _ _ _ says in
     let same : (other : ℕ) → form ≡ Some (Load other) → number ≡ other = λ other e. one_load form number other is e in
     record {
@@ -292,10 +323,141 @@ load_runs {said = said} {noted = noted} {note_faults = note_faults} tells slot m
       dry = λ e. cc;
       dry_says_and_notes_alone = λ e. cc;
       complete = λ e. cc;
-      read_to_the_end = λ asked e reads. absurd (load_reads_nothing form number asked is e reads);
+      read_to_the_end = λ asked e reads. absurd (reads_nothing form (Load number) asked refl is e reads);
       replay = λ of e. cc;
       load = λ other e. subst (λ (n : ℕ). SaysOneLine (counts_line (state_of_load n)) (said desk) (said desk_now) (noted desk) (noted desk_now) (note_faults desk) (note_faults desk_now) status) (same other e) says;
       load_takes_nothing = λ other e. refl;
       load_says_and_notes_alone = λ other e. others;
       load_complete = λ other e calm. subst (λ (n : ℕ). IsSaid (counts_line (state_of_load n)) (said desk) (said desk_now) status) (same other e) (line_said status _ _ _ _ _ _ _ says (λ w. calm (write.rose w)));
+      audit = λ e. cc;
+      audit_takes_nothing = λ e. cc;
+      audit_changes_nothing = λ e. cc;
+      compact = λ e. cc;
+      compact_takes_nothing = λ e. cc;
+      compact_says_nothing = λ e. cc;
+      room = λ told start. still_room reads bounds.slot others.parts;
+    }
+
+-- ---- a look at a folder
+
+-- A run of `audit` ends with none of these.
+audit_statuses : {D : Type 0} {said noted : D → Option (List ℕ)} {note_faults : D → ℕ} {reads : D → Image} {moment : D → ℕ} {since : D → ℕ → Image → List ℕ → Type 0} {may_leave : D → Image → Type 0}
+    (tells : Bool) (desk desk_now : D) (status : Status) → IsUnopened said noted note_faults tells reads moment since may_leave desk desk_now status
+    ⊎ Audits (said desk) (said desk_now) (noted desk) (noted desk_now) (note_faults desk) (note_faults desk_now) tells (reads desk) status
+    → (status ≡ Usage → ⊥) × (status ≡ ReadFault → ⊥)
+audit_statuses tells desk desk_now status (inl closed) = let not = closed_status tells _ _ _ _ _ _ status closed.why in (not.0, not.2)
+audit_statuses tells desk desk_now status (inr on) = let not = line_statuses status _ _ _ _ _ _ _ on.says in (not.0, not.1)
+
+pub audit_runs : {S D : Type 0} {left : S → Option (List ℕ)} {faults : S → ℕ} {said noted : D → Option (List ℕ)} {say_faults note_faults : D → ℕ} {reads : D → Image} {moment : D → ℕ} {since : D → ℕ → Image → List ℕ → Type 0} {may_leave : D → Image → Type 0} {disk_faults : D → ℕ}
+    (tells : Bool) (bounds : StoreBounds) (most : ℕ) (form : Option command.Form) (source : S) (desk desk_now : D) (status : Status) → form ≡ Some Audit
+    → IsUnopened said noted note_faults tells reads moment since may_leave desk desk_now status
+    ⊎ Audits (said desk) (said desk_now) (noted desk) (noted desk_now) (note_faults desk) (note_faults desk_now) tells (reads desk) status
+    → IsLeftAlone reads moment since may_leave desk desk_now → IsWriteCaused (say_faults desk) (say_faults desk_now) status → IsDiskCaused (disk_faults desk) (disk_faults desk_now) status
+    → RisesOnce (note_faults desk) (note_faults desk_now)
+    → Runs left faults said noted say_faults note_faults reads moment since may_leave disk_faults tells bounds most form source source desk desk_now status
+audit_runs {said = said} {noted = noted} {note_faults = note_faults} {reads = reads} {moment = moment} {since = since} {may_leave = may_leave} tells bounds most form source desk desk_now status is audits alone write disk counted =
+    let not : (status ≡ Usage → ⊥) × (status ≡ ReadFault → ⊥) =
+    audit_statuses {said = said} {noted = noted} {note_faults = note_faults} {reads = reads} {moment = moment} {since = since} {may_leave = may_leave} tells desk desk_now status audits in
+    record {
+      usage = (λ u. absurd (not.0 u), λ n. cc);
+      usage_takes_nothing = λ n. cc;
+      usage_notes_alone = λ n. cc;
+      usage_note = λ n. cc;
+      read_fault = λ r. absurd (not.1 r);
+      write_fault = write.rose;
+      failed_take = λ _. refl;
+      failed_say = write.calm;
+      read_faults_once = record { later = omega arith; once = omega arith };
+      say_faults_once = write.counted;
+      disk_fault = disk.rose;
+      failed_disk = disk.calm;
+      disk_faults_once = disk.counted;
+      note_faults_once = counted;
+      takes_until_failure = takes_none source;
+      dry = λ e. cc;
+      dry_says_and_notes_alone = λ e. cc;
+      complete = λ e. cc;
+      read_to_the_end = λ asked e reads. absurd (reads_nothing form Audit asked refl is e reads);
+      replay = λ of e. cc;
+      load = λ number e. cc;
+      load_takes_nothing = λ number e. cc;
+      load_says_and_notes_alone = λ number e. cc;
+      load_complete = λ number e. cc;
+      audit = λ _. audits;
+      audit_takes_nothing = λ _. refl;
+      audit_changes_nothing = λ _. alone;
+      compact = λ e. cc;
+      compact_takes_nothing = λ e. cc;
+      compact_says_nothing = λ e. cc;
+      room = λ told start. still_room reads bounds.slot alone.parts;
+    }
+
+-- ---- the compaction of a folder
+
+-- It ends with none of these.
+ends_statuses : (status : Status) (bounds : StoreBounds) (m : Machine) (a b : Option (List ℕ)) (x y : ℕ) (tells : Bool) (now : Image) → EndsCompaction status bounds m a b x y tells now
+    → (status ≡ Usage → ⊥) × (status ≡ ReadFault → ⊥) × (status ≡ WriteFault → ⊥)
+ends_statuses Done bounds m a b x y tells now e = (λ u. cc, λ u. cc, λ u. cc)
+ends_statuses Usage bounds m a b x y tells now e = absurd e
+ends_statuses BadInput bounds m a b x y tells now e = absurd e
+ends_statuses Truncated bounds m a b x y tells now e = absurd e
+ends_statuses ReadFault bounds m a b x y tells now e = absurd e
+ends_statuses WriteFault bounds m a b x y tells now e = absurd e
+ends_statuses DiskFault bounds m a b x y tells now e = (λ u. cc, λ u. cc, λ u. cc)
+ends_statuses Damaged bounds m a b x y tells now e = absurd e
+ends_statuses NoMemory bounds m a b x y tells now e = (λ u. cc, λ u. cc, λ u. cc)
+ends_statuses InputTooLong bounds m a b x y tells now e = absurd e
+ends_statuses FolderFull bounds m a b x y tells now e = (λ u. cc, λ u. cc, λ u. cc)
+
+compact_statuses : {D : Type 0} {said noted : D → Option (List ℕ)} {note_faults : D → ℕ} {reads : D → Image} {moment : D → ℕ} {since : D → ℕ → Image → List ℕ → Type 0} {may_leave : D → Image → Type 0}
+    (tells : Bool) (bounds : StoreBounds) (desk desk_now : D) (status : Status) → IsUnopened said noted note_faults tells reads moment since may_leave desk desk_now status
+    ⊎ Compacts bounds (said desk) (noted desk) (noted desk_now) (note_faults desk) (note_faults desk_now) tells (reads desk) (reads desk_now) (may_leave desk) (may_leave desk_now)
+    (Elapses (moment desk) (moment desk_now) (since desk) (since desk_now)) status
+    → (status ≡ Usage → ⊥) × (status ≡ ReadFault → ⊥) × (status ≡ WriteFault → ⊥)
+compact_statuses tells bounds desk desk_now status (inl closed) = let not = closed_status tells _ _ _ _ _ _ status closed.why in (not.0, not.2, not.3)
+compact_statuses tells bounds desk desk_now status (inr on) = ends_statuses status bounds on.machine _ _ _ _ tells _ on.ends
+
+pub compact_runs : {S D : Type 0} {left : S → Option (List ℕ)} {faults : S → ℕ} {said noted : D → Option (List ℕ)} {say_faults note_faults : D → ℕ} {reads : D → Image} {moment : D → ℕ} {since : D → ℕ → Image → List ℕ → Type 0} {may_leave : D → Image → Type 0} {disk_faults : D → ℕ}
+    (tells : Bool) (bounds : StoreBounds) (most : ℕ) (form : Option command.Form) (source : S) (desk desk_now : D) (status : Status) → form ≡ Some Compact
+    → IsUnopened said noted note_faults tells reads moment since may_leave desk desk_now status
+    ⊎ Compacts bounds (said desk) (noted desk) (noted desk_now) (note_faults desk) (note_faults desk_now) tells (reads desk) (reads desk_now) (may_leave desk) (may_leave desk_now)
+    (Elapses (moment desk) (moment desk_now) (since desk) (since desk_now)) status
+    → said desk_now ≡ said desk → say_faults desk_now ≡ say_faults desk → IsDiskCaused (disk_faults desk) (disk_faults desk_now) status → RisesOnce (note_faults desk) (note_faults desk_now)
+    → LeavesRoom bounds.slot may_leave desk desk_now → (IsTrue tells → may_leave desk_now (reads desk_now))
+    → Runs left faults said noted say_faults note_faults reads moment since may_leave disk_faults tells bounds most form source source desk desk_now status
+compact_runs {said = said} {noted = noted} {note_faults = note_faults} {reads = reads} {moment = moment} {since = since} {may_leave = may_leave} tells bounds most form source desk desk_now status is compacts quiet says disk counted left_room own =
+    let not : (status ≡ Usage → ⊥) × (status ≡ ReadFault → ⊥) × (status ≡ WriteFault → ⊥) =
+    compact_statuses {said = said} {noted = noted} {note_faults = note_faults} {reads = reads} {moment = moment} {since = since} {may_leave = may_leave} tells bounds desk desk_now status compacts in
+    record {
+      usage = (λ u. absurd (not.0 u), λ n. cc);
+      usage_takes_nothing = λ n. cc;
+      usage_notes_alone = λ n. cc;
+      usage_note = λ n. cc;
+      read_fault = λ r. absurd (not.1 r);
+      write_fault = λ w. absurd (not.2 w);
+      failed_take = λ _. refl;
+      failed_say = λ _. says;
+      read_faults_once = record { later = omega arith; once = omega arith };
+      say_faults_once = record { later = omega (arith, says); once = omega (arith, says) };
+      disk_fault = disk.rose;
+      failed_disk = disk.calm;
+      disk_faults_once = disk.counted;
+      note_faults_once = counted;
+      takes_until_failure = takes_none source;
+      dry = λ e. cc;
+      dry_says_and_notes_alone = λ e. cc;
+      complete = λ e. cc;
+      read_to_the_end = λ asked e reads. absurd (reads_nothing form Compact asked refl is e reads);
+      replay = λ of e. cc;
+      load = λ number e. cc;
+      load_takes_nothing = λ number e. cc;
+      load_says_and_notes_alone = λ number e. cc;
+      load_complete = λ number e. cc;
+      audit = λ e. cc;
+      audit_takes_nothing = λ e. cc;
+      audit_changes_nothing = λ e. cc;
+      compact = λ _. compacts;
+      compact_takes_nothing = λ _. refl;
+      compact_says_nothing = λ _. quiet;
+      room = λ told start. room_here reads left_room (own told) start;
     }

@@ -3,6 +3,7 @@ use Rattle.std.proofs.Common.{◌≡◌, ℕ, ◌++◌, [], ◌∷◌, List, ref
 use Rattle.std.proofs.lemmas.Grind.{flat_map-append}
 use Rattle.ziti_outside.specs.Told.{IsFront}
 use Rattle.ziti_outside.proofs.Moves.{IsFront-then, IsFront-longer}
+use Rattle.row_store.specs.declared.bounds.StoreBounds.{StoreBounds}
 use Rattle.ctrl_keep.specs.KeptMachine.{Machine}
 use Rattle.session_mux.specs.declared.events.Event.{Event}
 use Rattle.session_mux.specs.declared.events.Event.TheVariants.{Arrived}
@@ -33,41 +34,41 @@ cut_is_front said all c =
 -- ---- the replies to the first events
 
 -- Those to the others come behind them.
-abbrev later_replies : Form → ℕ → Machine → (answered unanswered : List Event) → List (List ℕ)
-later_replies form slot m answered unanswered = replies_along form slot unanswered (known_along answered (known_in form)) (machine_along slot answered (known_in form) m)
+abbrev pub later_replies : Form → StoreBounds → Machine → (answered unanswered : List Event) → List (List ℕ)
+later_replies form bounds m answered unanswered = replies_along form bounds unanswered (known_along answered (known_in form)) (machine_along bounds answered (known_in form) m)
 
-replies_parted : (form : Form) (slot : ℕ) (m : Machine) (answered unanswered : List Event)
-    → replies_to form slot m answered ++ later_replies form slot m answered unanswered ≡ replies_to form slot m (answered ++ unanswered)
-replies_parted form slot m answered unanswered =
-    ap (λ (rs : List (List ℕ)). rs ++ later_replies form slot m answered unanswered) (sym (replies_from_start form slot answered m))
-    ∙ sym (replies_then form slot answered unanswered (known_in form) m)
-    ∙ replies_from_start form slot (answered ++ unanswered) m
+pub replies_parted : (form : Form) (bounds : StoreBounds) (m : Machine) (answered unanswered : List Event)
+    → replies_to form bounds m answered ++ later_replies form bounds m answered unanswered ≡ replies_to form bounds m (answered ++ unanswered)
+replies_parted form bounds m answered unanswered =
+    ap (λ (rs : List (List ℕ)). rs ++ later_replies form bounds m answered unanswered) (sym (replies_from_start form bounds answered m))
+    ∙ sym (replies_then form bounds answered unanswered (known_in form) m)
+    ∙ replies_from_start form bounds (answered ++ unanswered) m
 
 -- They are whole replies of all.
-pub all_are_whole : (form : Form) (slot : ℕ) (m : Machine) (used said : List ℕ) (answered unanswered : List Event) → answered ++ unanswered ≡ events_in form used
-    → SaysAll form slot m said answered → AreWhole said (each_reply form slot m used)
-all_are_whole form slot m used said answered unanswered split says = record {
-  done = replies_to form slot m answered;
-  rest = later_replies form slot m answered unanswered;
-  split = replies_parted form slot m answered unanswered ∙ ap (replies_to form slot m) split;
+pub all_are_whole : (form : Form) (bounds : StoreBounds) (m : Machine) (used said : List ℕ) (answered unanswered : List Event) → answered ++ unanswered ≡ events_in form used
+    → SaysAll form bounds m said answered → AreWhole said (each_reply form bounds m used)
+all_are_whole form bounds m used said answered unanswered split says = record {
+  done = replies_to form bounds m answered;
+  rest = later_replies form bounds m answered unanswered;
+  split = replies_parted form bounds m answered unanswered ∙ ap (replies_to form bounds m) split;
   same = says;
 }
 
 -- And where the next reply was cut, whole replies and a front of it.
-pub front_is_cut : (form : Form) (slot : ℕ) (m : Machine) (used said : List ℕ) (answered unanswered : List Event) → answered ++ unanswered ≡ events_in form used
-    → SaysFront form slot m said answered unanswered → AreCut said (each_reply form slot m used)
-front_is_cut form slot m used said answered unanswered split says =
+pub front_is_cut : (form : Form) (bounds : StoreBounds) (m : Machine) (used said : List ℕ) (answered unanswered : List Event) → answered ++ unanswered ≡ events_in form used
+    → SaysFront form bounds m said answered unanswered → AreCut said (each_reply form bounds m used)
+front_is_cut form bounds m used said answered unanswered split says =
     let one : List Event = answered ++ Arrived says.session says.frame ∷ [] in
-    let rest : List (List ℕ) = later_replies form slot m one says.later in
+    let rest : List (List ℕ) = later_replies form bounds m one says.later in
     record {
-      done = replies_to form slot m answered;
+      done = replies_to form bounds m answered;
       next = says.reply;
       rest = rest;
       split =
-          sym (append_assoc (replies_to form slot m answered) (says.reply ∷ []) rest)
+          sym (append_assoc (replies_to form bounds m answered) (says.reply ∷ []) rest)
           ∙ ap (λ (rs : List (List ℕ)). rs ++ rest) (sym says.is_reply)
-          ∙ replies_parted form slot m one says.later
-          ∙ ap (replies_to form slot m) (append_assoc answered (Arrived says.session says.frame ∷ []) says.later ∙ ap (λ (es : List Event). answered ++ es) (sym says.first) ∙ split);
+          ∙ replies_parted form bounds m one says.later
+          ∙ ap (replies_to form bounds m) (append_assoc answered (Arrived says.session says.frame ∷ []) says.later ∙ ap (λ (es : List Event). answered ++ es) (sym says.first) ∙ split);
       front = says.front;
       is_front = says.is_front;
       same = says.same;

@@ -19,6 +19,7 @@ use Rattle.command_codec.specs.BodyMeaning.{meaning}
 use Rattle.ctrl_model.specs.declared.commands.Command.{Command}
 use Rattle.ctrl_model.specs.declared.kinds.Who.{Who}
 use Rattle.ctrl_model.specs.declared.replies.Reply.{Reply}
+use Rattle.row_store.specs.declared.bounds.StoreBounds.{StoreBounds}
 use Rattle.ctrl_keep.specs.KeptMachine.{Machine, step}
 use Rattle.run_notes.specs.declared.ends.Cut.{Cut}
 use Rattle.ctrl_serve.specs.Controllers.{IsReady, Turn}
@@ -85,47 +86,47 @@ refused_stops {may_leave = may_leave} desk c next tells reads some ready told =
     (λ i p. inl (ready_opens c tells reads (may_leave desk) some ready told i p))
 
 -- The answer to a frame that spells a command is the machine's step on it.
-pub carried_answer : (slot : ℕ) (who : Who) (f : Frame) (body : List ℕ) (m : Machine) (c : Command) → body ≡ f.body → meaning f.content body ≡ Ok c → step slot who c m ≡ frame_answer slot who f m
-carried_answer slot who f body m c same e = sym (ap (λ (b : List ℕ). answer_to slot who m (meaning f.content b)) (sym same) ∙ ap (answer_to slot who m) e)
+pub carried_answer : (bounds : StoreBounds) (who : Who) (f : Frame) (body : List ℕ) (m : Machine) (c : Command) → body ≡ f.body → meaning f.content body ≡ Ok c → step bounds who c m ≡ frame_answer bounds who f m
+carried_answer bounds who f body m c same e = sym (ap (λ (b : List ℕ). answer_to bounds who m (meaning f.content b)) (sym same) ∙ ap (answer_to bounds who m) e)
 
-pub carried_so : (r : Result Reply Cut) (slot : ℕ) (who : Who) (f : Frame) (body : List ℕ) (m next : Machine) (c : Command) → body ≡ f.body → meaning f.content body ≡ Ok c
-    → IfOk r (λ x. (x, next) ≡ step slot who c m) → IfOk r (λ x. (x, next) ≡ frame_answer slot who f m)
-carried_so (Ok x) slot who f body m next c same e is = is ∙ carried_answer slot who f body m c same e
-carried_so (Err cut) slot who f body m next c same e is = tt
+pub carried_so : (r : Result Reply Cut) (bounds : StoreBounds) (who : Who) (f : Frame) (body : List ℕ) (m next : Machine) (c : Command) → body ≡ f.body → meaning f.content body ≡ Ok c
+    → IfOk r (λ x. (x, next) ≡ step bounds who c m) → IfOk r (λ x. (x, next) ≡ frame_answer bounds who f m)
+carried_so (Ok x) bounds who f body m next c same e is = is ∙ carried_answer bounds who f body m c same e
+carried_so (Err cut) bounds who f body m next c same e is = tt
 
 -- A stop within the carrying out of the command that a frame spells is one within the answering of the frame.
 pub carried_stops : {D : Type 0} {moment : D → ℕ} {since : D → ℕ → Image → List ℕ → Type 0} {may_leave : D → Image → Type 0} {said : D → Option (List ℕ)} {old new : D}
-    (slot : ℕ) (who : Who) (f : Frame) (body : List ℕ) (m : Machine) (c : Command) → body ≡ f.body → meaning f.content body ≡ Ok c
-    → Leaves moment since may_leave said old new (λ i. OpensToState i m.state ⊎ OpensToState i (step slot who c m).1.state)
-    → Leaves moment since may_leave said old new (λ i. OpensToState i m.state ⊎ OpensToState i (frame_answer slot who f m).1.state)
-carried_stops slot who f body m c same e stops =
-    Leaves-weaker (λ i. OpensToState i m.state ⊎ OpensToState i (frame_answer slot who f m).1.state) stops
-    (λ i p. subst (λ (a : Reply × Machine). OpensToState i m.state ⊎ OpensToState i a.1.state) (carried_answer slot who f body m c same e) p)
+    (bounds : StoreBounds) (who : Who) (f : Frame) (body : List ℕ) (m : Machine) (c : Command) → body ≡ f.body → meaning f.content body ≡ Ok c
+    → Leaves moment since may_leave said old new (λ i. OpensToState i m.state ⊎ OpensToState i (step bounds who c m).1.state)
+    → Leaves moment since may_leave said old new (λ i. OpensToState i m.state ⊎ OpensToState i (frame_answer bounds who f m).1.state)
+carried_stops bounds who f body m c same e stops =
+    Leaves-weaker (λ i. OpensToState i m.state ⊎ OpensToState i (frame_answer bounds who f m).1.state) stops
+    (λ i p. subst (λ (a : Reply × Machine). OpensToState i m.state ⊎ OpensToState i a.1.state) (carried_answer bounds who f body m c same e) p)
 
 -- Behind the answering of a frame every image opens to the state after it.
 pub answered_opens : (x y : Controller) (who : Who) (f : Frame) (reply : Reply) (tells : Bool) (reads : Image) (images : Image → Type 0)
-    → (reply, (serving_of y).machine) ≡ frame_answer (serving_of x).slot who f (serving_of x).machine
+    → (reply, (serving_of y).machine) ≡ frame_answer (serving_of x).bounds who f (serving_of x).machine
     → is_some (serving_of y).kept ≡ is_some (serving_of x).kept → IsSome (serving_of x).kept → IsReady tells (serving_of y).kept reads images → IsTrue tells
-    → (image : Image) → images image → OpensToState image (frame_answer (serving_of x).slot who f (serving_of x).machine).1.state
+    → (image : Image) → images image → OpensToState image (frame_answer (serving_of x).bounds who f (serving_of x).machine).1.state
 answered_opens x y who f reply tells reads images e kind some ready told image p =
     subst (λ (a : Reply × Machine). OpensToState image a.1.state) e (ready_opens y tells reads images (kind ∙ some) ready told image p)
 
 -- The bytes of the reply that was answered to a frame.
-pub answered_bytes : (slot : ℕ) (at : Address) (who : Who) (f : Frame) (m next : Machine) (reply : Reply) (bytes : List ℕ) → (reply, next) ≡ frame_answer slot who f m
-    → bytes ≡ reply_text at.form at.session at.sequence f.sequence reply → bytes ≡ reply_to_frame slot at who f m
-answered_bytes slot at who f m next reply bytes e h = h ∙ ap (λ (a : Reply × Machine). reply_text at.form at.session at.sequence f.sequence a.0) e
+pub answered_bytes : (bounds : StoreBounds) (at : Address) (who : Who) (f : Frame) (m next : Machine) (reply : Reply) (bytes : List ℕ) → (reply, next) ≡ frame_answer bounds who f m
+    → bytes ≡ reply_text at.form at.session at.sequence f.sequence reply → bytes ≡ reply_to_frame bounds at who f m
+answered_bytes bounds at who f m next reply bytes e h = h ∙ ap (λ (a : Reply × Machine). reply_text at.form at.session at.sequence f.sequence a.0) e
 
 -- A stop within a turn whose reply was said, all of it or a front.
 pub served_stops : {D : Type 0} {moment : D → ℕ} {since : D → ℕ → Image → List ℕ → Type 0} {may_leave : D → Image → Type 0} {said : D → Option (List ℕ)} {old mid new : D}
     (x y : Controller) (at : Address) (who : Who) (f : Frame) (reply : Reply) (bytes : List ℕ) (tells : Bool) (reads : Image)
-    → Leaves moment since may_leave said old mid (λ i. OpensToState i (serving_of x).machine.state ⊎ OpensToState i (frame_answer (serving_of x).slot who f (serving_of x).machine).1.state)
-    → (reply, (serving_of y).machine) ≡ frame_answer (serving_of x).slot who f (serving_of x).machine → bytes ≡ reply_text at.form at.session at.sequence f.sequence reply
+    → Leaves moment since may_leave said old mid (λ i. OpensToState i (serving_of x).machine.state ⊎ OpensToState i (frame_answer (serving_of x).bounds who f (serving_of x).machine).1.state)
+    → (reply, (serving_of y).machine) ≡ frame_answer (serving_of x).bounds who f (serving_of x).machine → bytes ≡ reply_text at.form at.session at.sequence f.sequence reply
     → is_some (serving_of y).kept ≡ is_some (serving_of x).kept → IsSome (serving_of x).kept → IsReady tells (serving_of y).kept reads (may_leave mid) → IsTrue tells
     → Elapses (moment mid) (moment new) (since mid) (since new) (Saying (may_leave mid) (said mid) bytes)
-    → Elapses (moment old) (moment new) (since old) (since new) (Turn (serving_of x).machine.state (frame_answer (serving_of x).slot who f (serving_of x).machine).1.state
-    (reply_to_frame (serving_of x).slot at who f (serving_of x).machine) (said old))
+    → Elapses (moment old) (moment new) (since old) (since new) (Turn (serving_of x).machine.state (frame_answer (serving_of x).bounds who f (serving_of x).machine).1.state
+    (reply_to_frame (serving_of x).bounds at who f (serving_of x).machine) (said old))
 served_stops {may_leave = may_leave} {mid = mid} x y at who f reply bytes tells reads answering e h kind some ready told saying =
-    turn_stops (serving_of x).machine.state (frame_answer (serving_of x).slot who f (serving_of x).machine).1.state
-    (reply_to_frame (serving_of x).slot at who f (serving_of x).machine) bytes answering
-    (answered_bytes (serving_of x).slot at who f (serving_of x).machine (serving_of y).machine reply bytes e h)
+    turn_stops (serving_of x).machine.state (frame_answer (serving_of x).bounds who f (serving_of x).machine).1.state
+    (reply_to_frame (serving_of x).bounds at who f (serving_of x).machine) bytes answering
+    (answered_bytes (serving_of x).bounds at who f (serving_of x).machine (serving_of y).machine reply bytes e h)
     (answered_opens x y who f reply tells reads (may_leave mid) e kind some ready told) saying

@@ -8,6 +8,7 @@ use Rattle.ziti_outside.proofs.Moves.{Took-none, Took-then}
 use Rattle.channel_frame.specs.declared.frames.Frame.{Frame}
 use Rattle.ctrl_model.specs.declared.kinds.Who.{Who}
 use Rattle.ctrl_model.specs.declared.replies.Reply.{Reply}
+use Rattle.row_store.specs.declared.bounds.StoreBounds.{StoreBounds}
 use Rattle.ctrl_keep.specs.KeptMachine.{Machine}
 use Rattle.session_mux.specs.declared.events.Event.{Event}
 use Rattle.session_mux.specs.declared.events.Event.TheVariants.{Arrived}
@@ -34,27 +35,27 @@ use Rattle.run_notes.proofs.NoteLaws.{more_none, more_then}
 -- ---- a frame
 
 -- A turn whose reply was taken.
-pub turn_taken : (slot : ℕ) (at : Address) (who : Who) (f : Frame) (before now : Machine) (reply : Reply) (bytes : List ℕ) (a mid b : Option (List ℕ))
-    → (reply, now) ≡ frame_answer slot who f before → bytes ≡ reply_text at.form at.session at.sequence f.sequence reply → mid ≡ a → Took mid b bytes → TakesTurn slot at who f before now a b
-turn_taken slot at who f before now reply bytes a mid b e h quiet took = record {
+pub turn_taken : (bounds : StoreBounds) (at : Address) (who : Who) (f : Frame) (before now : Machine) (reply : Reply) (bytes : List ℕ) (a mid b : Option (List ℕ))
+    → (reply, now) ≡ frame_answer bounds who f before → bytes ≡ reply_text at.form at.session at.sequence f.sequence reply → mid ≡ a → Took mid b bytes → TakesTurn bounds at who f before now a b
+turn_taken bounds at who f before now reply bytes a mid b e h quiet took = record {
   next = ap (λ (p : Reply × Machine). p.1) e;
-  said = subst (λ (x : Option (List ℕ)). Took x b (reply_to_frame slot at who f before)) quiet
+  said = subst (λ (x : Option (List ℕ)). Took x b (reply_to_frame bounds at who f before)) quiet
       (subst (λ (x : List ℕ). Took mid b x) (h ∙ ap (λ (p : Reply × Machine). reply_text at.form at.session at.sequence f.sequence p.0) e) took);
 }
 
 -- A turn of which a front of the reply was taken.
-pub turn_cut : (slot : ℕ) (at : Address) (who : Who) (f : Frame) (before now : Machine) (reply : Reply) (bytes : List ℕ) (a mid b : Option (List ℕ))
-    → (reply, now) ≡ frame_answer slot who f before → bytes ≡ reply_text at.form at.session at.sequence f.sequence reply → mid ≡ a → TookFront mid b bytes
-    → TookFront a b (reply_to_frame slot at who f before)
-turn_cut slot at who f before now reply bytes a mid b e h quiet took =
-    subst (λ (x : Option (List ℕ)). TookFront x b (reply_to_frame slot at who f before)) quiet
+pub turn_cut : (bounds : StoreBounds) (at : Address) (who : Who) (f : Frame) (before now : Machine) (reply : Reply) (bytes : List ℕ) (a mid b : Option (List ℕ))
+    → (reply, now) ≡ frame_answer bounds who f before → bytes ≡ reply_text at.form at.session at.sequence f.sequence reply → mid ≡ a → TookFront mid b bytes
+    → TookFront a b (reply_to_frame bounds at who f before)
+turn_cut bounds at who f before now reply bytes a mid b e h quiet took =
+    subst (λ (x : Option (List ℕ)). TookFront x b (reply_to_frame bounds at who f before)) quiet
     (subst (λ (x : List ℕ). TookFront mid b x) (h ∙ ap (λ (p : Reply × Machine). reply_text at.form at.session at.sequence f.sequence p.0) e) took)
 
 -- A turn that was cut short before its reply was said.
-pub turn_unsaid : (cut : Cut) (slot : ℕ) (at : Address) (who : Who) (f : Frame) (before : Machine) (a b : Option (List ℕ)) → (cut ≡ Unsaid → ⊥) → b ≡ a → CutsTurn cut slot at who f before a b
-turn_unsaid NoMemory slot at who f before a b said quiet = quiet
-turn_unsaid Disk slot at who f before a b said quiet = quiet
-turn_unsaid Unsaid slot at who f before a b said quiet = absurd (said refl)
+pub turn_unsaid : (cut : Cut) (bounds : StoreBounds) (at : Address) (who : Who) (f : Frame) (before : Machine) (a b : Option (List ℕ)) → (cut ≡ Unsaid → ⊥) → b ≡ a → CutsTurn cut bounds at who f before a b
+turn_unsaid NoMemory bounds at who f before a b said quiet = quiet
+turn_unsaid Disk bounds at who f before a b said quiet = quiet
+turn_unsaid Unsaid bounds at who f before a b said quiet = absurd (said refl)
 
 -- ---- an event
 
@@ -67,34 +68,34 @@ abbrev pub address_at : Form → ℕ → Known → Address
 address_at form s k = record { form = form; session = s; sequence = count_at k.replied s }
 
 -- The turn of a frame that arrived, with its reply counted.
-pub arrived_taken : (form : Form) (slot s n : ℕ) (f : Frame) (k next : Known) (m m' : Machine) (who : Who) (a b : Option (List ℕ)) → n ≡ count_at k.replied s → who ≡ sender_at k s
-    → next ≡ record k { replied = counted k.replied s } → TakesTurn slot (record { form = form; session = s; sequence = n }) who f m m' a b → TakesEvent form slot (Arrived s f) k next m m' a b
-arrived_taken form slot s n f k next m m' who a b count sender known took =
-    let turn = subst (λ (w : Who). TakesTurn slot (address_at form s k) w f m m' a b) sender
-    (subst (λ (i : ℕ). TakesTurn slot (record { form = form; session = s; sequence = i }) who f m m' a b) count took) in
+pub arrived_taken : (form : Form) (bounds : StoreBounds) (s n : ℕ) (f : Frame) (k next : Known) (m m' : Machine) (who : Who) (a b : Option (List ℕ)) → n ≡ count_at k.replied s → who ≡ sender_at k s
+    → next ≡ record k { replied = counted k.replied s } → TakesTurn bounds (record { form = form; session = s; sequence = n }) who f m m' a b → TakesEvent form bounds (Arrived s f) k next m m' a b
+arrived_taken form bounds s n f k next m m' who a b count sender known took =
+    let turn = subst (λ (w : Who). TakesTurn bounds (address_at form s k) w f m m' a b) sender
+    (subst (λ (i : ℕ). TakesTurn bounds (record { form = form; session = s; sequence = i }) who f m m' a b) count took) in
     record {
       known_is = known;
       next = turn.next;
-      said = subst (λ (l : List ℕ). Took a b l) (sym (one_joined (reply_by form slot s f k m))) turn.said;
+      said = subst (λ (l : List ℕ). Took a b l) (sym (one_joined (reply_by form bounds s f k m))) turn.said;
     }
 
-arrived_unsaid : (cut : Cut) (form : Form) (slot s : ℕ) (f : Frame) (k : Known) (m : Machine) (a b : Option (List ℕ))
-    → CutsTurn cut slot (address_at form s k) (sender_at k s) f m a b → CutsEvent cut form slot (Arrived s f) k m a b
-arrived_unsaid NoMemory form slot s f k m a b cuts = cuts
-arrived_unsaid Disk form slot s f k m a b cuts = (s, f, refl, cuts)
-arrived_unsaid Unsaid form slot s f k m a b cuts = (s, f, refl, cuts)
+arrived_unsaid : (cut : Cut) (form : Form) (bounds : StoreBounds) (s : ℕ) (f : Frame) (k : Known) (m : Machine) (a b : Option (List ℕ))
+    → CutsTurn cut bounds (address_at form s k) (sender_at k s) f m a b → CutsEvent cut form bounds (Arrived s f) k m a b
+arrived_unsaid NoMemory form bounds s f k m a b cuts = cuts
+arrived_unsaid Disk form bounds s f k m a b cuts = (s, f, refl, cuts)
+arrived_unsaid Unsaid form bounds s f k m a b cuts = (s, f, refl, cuts)
 
-pub arrived_cut : (cut : Cut) (form : Form) (slot s n : ℕ) (f : Frame) (k : Known) (m : Machine) (who : Who) (a b : Option (List ℕ)) → n ≡ count_at k.replied s → who ≡ sender_at k s
-    → CutsTurn cut slot (record { form = form; session = s; sequence = n }) who f m a b → CutsEvent cut form slot (Arrived s f) k m a b
-arrived_cut cut form slot s n f k m who a b count sender cuts =
-    arrived_unsaid cut form slot s f k m a b
-    (subst (λ (w : Who). CutsTurn cut slot (address_at form s k) w f m a b) sender
-    (subst (λ (i : ℕ). CutsTurn cut slot (record { form = form; session = s; sequence = i }) who f m a b) count cuts))
+pub arrived_cut : (cut : Cut) (form : Form) (bounds : StoreBounds) (s n : ℕ) (f : Frame) (k : Known) (m : Machine) (who : Who) (a b : Option (List ℕ)) → n ≡ count_at k.replied s → who ≡ sender_at k s
+    → CutsTurn cut bounds (record { form = form; session = s; sequence = n }) who f m a b → CutsEvent cut form bounds (Arrived s f) k m a b
+arrived_cut cut form bounds s n f k m who a b count sender cuts =
+    arrived_unsaid cut form bounds s f k m a b
+    (subst (λ (w : Who). CutsTurn cut bounds (address_at form s k) w f m a b) sender
+    (subst (λ (i : ℕ). CutsTurn cut bounds (record { form = form; session = s; sequence = i }) who f m a b) count cuts))
 
 -- An event without a reply.
-pub quiet_taken : (form : Form) (slot : ℕ) (e : Event) (k next : Known) (m m' : Machine) (a b : Option (List ℕ)) → replies_by form slot e k m ≡ [] → next ≡ known_after e k
-    → m' ≡ machine_after slot e k m → b ≡ a → TakesEvent form slot e k next m m' a b
-quiet_taken form slot e k next m m' a b none known same still = record {
+pub quiet_taken : (form : Form) (bounds : StoreBounds) (e : Event) (k next : Known) (m m' : Machine) (a b : Option (List ℕ)) → replies_by form bounds e k m ≡ [] → next ≡ known_after e k
+    → m' ≡ machine_after bounds e k m → b ≡ a → TakesEvent form bounds e k next m m' a b
+quiet_taken form bounds e k next m m' a b none known same still = record {
   known_is = known;
   next = same;
   said = subst (λ (l : List ℕ). Took a b l) (sym (ap joined none)) (subst (λ (x : Option (List ℕ)). Took a x []) (sym still) (Took-none a));
@@ -107,9 +108,9 @@ goes_nowhere : (st : Standing) → GoesTo st st []
 goes_nowhere st = record { events = λ more. refl; ends = λ more. refl }
 
 -- Nothing was answered at the start.
-pub answers_start : (form : Form) (slot : ℕ) (k : Known) (m : Machine) (st : Standing) (a : Option (List ℕ)) (f : Bool) (n : Option (List ℕ)) (x : ℕ)
-    → Answers form slot k k m m st st a a f f n n x x
-answers_start form slot k m st a f n x = record {
+pub answers_start : (form : Form) (bounds : StoreBounds) (k : Known) (m : Machine) (st : Standing) (a : Option (List ℕ)) (f : Bool) (n : Option (List ℕ)) (x : ℕ)
+    → Answers form bounds k k m m st st a a f f n n x x
+answers_start form bounds k m st a f n x = record {
   answered = [];
   goes = goes_nowhere st;
   known_is = refl;
@@ -119,46 +120,46 @@ answers_start form slot k m st a f n x = record {
 }
 
 -- The replies behind one event more.
-one_more_replies : (form : Form) (slot : ℕ) (es : List Event) (e : Event) (k : Known) (m : Machine)
-    → joined (replies_along form slot (es ++ e ∷ []) k m)
-    ≡ joined (replies_along form slot es k m) ++ joined (replies_by form slot e (known_along es k) (machine_along slot es k m))
-one_more_replies form slot es e k m =
-    let last : List (List ℕ) = replies_by form slot e (known_along es k) (machine_along slot es k m) in
-    ap joined (replies_then form slot es (e ∷ []) k m)
-    ∙ flat_map-append (λ (x : List ℕ). x) (replies_along form slot es k m) (last ++ [])
-    ∙ ap (λ (rs : List (List ℕ)). joined (replies_along form slot es k m) ++ joined rs) (append-nil last)
+one_more_replies : (form : Form) (bounds : StoreBounds) (es : List Event) (e : Event) (k : Known) (m : Machine)
+    → joined (replies_along form bounds (es ++ e ∷ []) k m)
+    ≡ joined (replies_along form bounds es k m) ++ joined (replies_by form bounds e (known_along es k) (machine_along bounds es k m))
+one_more_replies form bounds es e k m =
+    let last : List (List ℕ) = replies_by form bounds e (known_along es k) (machine_along bounds es k m) in
+    ap joined (replies_then form bounds es (e ∷ []) k m)
+    ∙ flat_map-append (λ (x : List ℕ). x) (replies_along form bounds es k m) (last ++ [])
+    ∙ ap (λ (rs : List (List ℕ)). joined (replies_along form bounds es k m) ++ joined rs) (append-nil last)
 
 -- The lines of one event more.
 one_more_lines : (es : List Event) (e : Event) → fault_lines es ++ event_lines e ≡ fault_lines (es ++ e ∷ [])
 one_more_lines es e = ap (λ (l : List ℕ). fault_lines es ++ l) (sym (append-nil (event_lines e))) ∙ sym (flat_map-append event_lines es (e ∷ []))
 
--- One more event, within the same slot.
-pub answers_more : (form : Form) (slot here : ℕ) (e : Event) (k k1 k2 : Known) (m m1 m2 : Machine) (st st1 st2 : Standing) (a b c : Option (List ℕ)) (f g h : Bool) (n n1 n2 : Option (List ℕ)) (x x1 x2 : ℕ)
-    → here ≡ slot → Answers form slot k k1 m m1 st st1 a b f g n n1 x x1 → GoesTo st1 st2 (e ∷ []) → TakesEvent form here e k1 k2 m1 m2 b c
-    → NotesMore g h (event_lines e) n1 n2 x1 x2 → Answers form slot k k2 m m2 st st2 a c f h n n2 x x2
-answers_more form slot here e k k1 k2 m m1 m2 st st1 st2 a b c f g h n n1 n2 x x1 x2 within told goes took noted =
-    let turn = subst (λ (y : ℕ). TakesEvent form y e k1 k2 m1 m2 b c) within took in
+-- One more event, within the same bounds.
+pub answers_more : (form : Form) (bounds here : StoreBounds) (e : Event) (k k1 k2 : Known) (m m1 m2 : Machine) (st st1 st2 : Standing) (a b c : Option (List ℕ)) (f g h : Bool) (n n1 n2 : Option (List ℕ)) (x x1 x2 : ℕ)
+    → here ≡ bounds → Answers form bounds k k1 m m1 st st1 a b f g n n1 x x1 → GoesTo st1 st2 (e ∷ []) → TakesEvent form here e k1 k2 m1 m2 b c
+    → NotesMore g h (event_lines e) n1 n2 x1 x2 → Answers form bounds k k2 m m2 st st2 a c f h n n2 x x2
+answers_more form bounds here e k k1 k2 m m1 m2 st st1 st2 a b c f g h n n1 n2 x x1 x2 within told goes took noted =
+    let turn = subst (λ (y : StoreBounds). TakesEvent form y e k1 k2 m1 m2 b c) within took in
     let es : List Event = told.answered in
-    let said : Took b c (joined (replies_by form slot e (known_along es k) (machine_along slot es k m))) =
-    subst (λ (y : Known). Took b c (joined (replies_by form slot e y (machine_along slot es k m)))) told.known_is
-    (subst (λ (y : Machine). Took b c (joined (replies_by form slot e k1 y))) told.machine_is turn.said) in
+    let said : Took b c (joined (replies_by form bounds e (known_along es k) (machine_along bounds es k m))) =
+    subst (λ (y : Known). Took b c (joined (replies_by form bounds e y (machine_along bounds es k m)))) told.known_is
+    (subst (λ (y : Machine). Took b c (joined (replies_by form bounds e k1 y))) told.machine_is turn.said) in
     record {
       answered = es ++ e ∷ [];
       goes = goes_then st st1 st2 es (e ∷ []) told.goes goes;
       known_is = turn.known_is ∙ ap (known_after e) told.known_is ∙ sym (known_then es (e ∷ []) k);
       machine_is =
-          turn.next ∙ ap (λ (y : Known). machine_after slot e y m1) told.known_is
-          ∙ ap (machine_after slot e (known_along es k)) told.machine_is ∙ sym (machine_then slot es (e ∷ []) k m);
+          turn.next ∙ ap (λ (y : Known). machine_after bounds e y m1) told.known_is
+          ∙ ap (machine_after bounds e (known_along es k)) told.machine_is ∙ sym (machine_then bounds es (e ∷ []) k m);
       said =
-          subst (λ (l : List ℕ). Took a c l) (sym (one_more_replies form slot es e k m))
-          (Took-then a b c (joined (replies_along form slot es k m)) _ told.said said);
+          subst (λ (l : List ℕ). Took a c l) (sym (one_more_replies form bounds es e k m))
+          (Took-then a b c (joined (replies_along form bounds es k m)) _ told.said said);
       noted_is = subst (λ (l : List ℕ). NotesMore f h l n n2 x x2) (one_more_lines es e) (more_then f g h (fault_lines es) (event_lines e) n n1 n2 x x1 x2 told.noted_is noted);
     }
 
 -- The standing went on, and gave no event.
-pub answers_still : (form : Form) (slot : ℕ) (k k1 : Known) (m m1 : Machine) (st st1 st2 : Standing) (a b : Option (List ℕ)) (f g : Bool) (n n1 : Option (List ℕ)) (x x1 : ℕ)
-    → Answers form slot k k1 m m1 st st1 a b f g n n1 x x1 → GoesTo st1 st2 [] → Answers form slot k k1 m m1 st st2 a b f g n n1 x x1
-answers_still form slot k k1 m m1 st st1 st2 a b f g n n1 x x1 told goes = record {
+pub answers_still : (form : Form) (bounds : StoreBounds) (k k1 : Known) (m m1 : Machine) (st st1 st2 : Standing) (a b : Option (List ℕ)) (f g : Bool) (n n1 : Option (List ℕ)) (x x1 : ℕ)
+    → Answers form bounds k k1 m m1 st st1 a b f g n n1 x x1 → GoesTo st1 st2 [] → Answers form bounds k k1 m m1 st st2 a b f g n n1 x x1
+answers_still form bounds k k1 m m1 st st1 st2 a b f g n n1 x x1 told goes = record {
   answered = told.answered;
   goes = subst (λ (es : List Event). GoesTo st st2 es) (append-nil told.answered) (goes_then st st1 st2 told.answered [] told.goes goes);
   known_is = told.known_is;
@@ -206,30 +207,30 @@ stuck_at old new at goes is = record {
 -- ---- where it was cut short
 
 -- The next event was.
-next_cut : (cut : Cut) (form : Form) (slot : ℕ) (e : Event) (k : Known) (m : Machine) (st later : Standing) (a b : Option (List ℕ)) → GoesTo st later (e ∷ []) → CutsEvent cut form slot e k m a b
-    → CutsNext cut form slot k m st a b
-next_cut NoMemory form slot e k m st later a b goes cuts = (cuts, inl (e, later, goes))
-next_cut Disk form slot e k m st later a b goes cuts =
+next_cut : (cut : Cut) (form : Form) (bounds : StoreBounds) (e : Event) (k : Known) (m : Machine) (st later : Standing) (a b : Option (List ℕ)) → GoesTo st later (e ∷ []) → CutsEvent cut form bounds e k m a b
+    → CutsNext cut form bounds k m st a b
+next_cut NoMemory form bounds e k m st later a b goes cuts = (cuts, inl (e, later, goes))
+next_cut Disk form bounds e k m st later a b goes cuts =
     (cuts.0, cuts.1, later, subst (λ (x : Event). GoesTo st later (x ∷ [])) cuts.2 goes, cuts.3)
-next_cut Unsaid form slot e k m st later a b goes cuts =
+next_cut Unsaid form bounds e k m st later a b goes cuts =
     (cuts.0, cuts.1, later, subst (λ (x : Event). GoesTo st later (x ∷ [])) cuts.2 goes, cuts.3)
 
-pub cut_answers : (cut : Cut) (form : Form) (slot here : ℕ) (e : Event) (k k1 : Known) (m m1 : Machine) (st st1 later : Standing) (a b c : Option (List ℕ)) (f g h : Bool) (n n1 n2 : Option (List ℕ)) (x x1 x2 : ℕ)
-    → here ≡ slot → Answers form slot k k1 m m1 st st1 a b f g n n1 x x1 → GoesTo st1 later (e ∷ []) → CutsEvent cut form here e k1 m1 b c → h ≡ g → n2 ≡ n1 → x2 ≡ x1
-    → IsCutShort cut form slot k m st a c f h n n2 x x2
-cut_answers cut form slot here e k k1 m m1 st st1 later a b c f g h n n1 n2 x x1 x2 within told goes cuts p q r = rw (p, q, r) (record {
+pub cut_answers : (cut : Cut) (form : Form) (bounds here : StoreBounds) (e : Event) (k k1 : Known) (m m1 : Machine) (st st1 later : Standing) (a b c : Option (List ℕ)) (f g h : Bool) (n n1 n2 : Option (List ℕ)) (x x1 x2 : ℕ)
+    → here ≡ bounds → Answers form bounds k k1 m m1 st st1 a b f g n n1 x x1 → GoesTo st1 later (e ∷ []) → CutsEvent cut form here e k1 m1 b c → h ≡ g → n2 ≡ n1 → x2 ≡ x1
+    → IsCutShort cut form bounds k m st a c f h n n2 x x2
+cut_answers cut form bounds here e k k1 m m1 st st1 later a b c f g h n n1 n2 x x1 x2 within told goes cuts p q r = rw (p, q, r) (record {
   known_mid = k1;
   machine_mid = m1;
   st_mid = st1;
   said_mid = b;
   first = told;
-  cuts = next_cut cut form slot e k1 m1 st1 later b c goes (subst (λ (y : ℕ). CutsEvent cut form y e k1 m1 b c) within cuts);
+  cuts = next_cut cut form bounds e k1 m1 st1 later b c goes (subst (λ (y : StoreBounds). CutsEvent cut form y e k1 m1 b c) within cuts);
 })
 
 -- For want of memory, before an event was found.
-pub starved_answers : (form : Form) (slot : ℕ) (k k1 : Known) (m m1 : Machine) (st st1 : Standing) (a b : Option (List ℕ)) (f g : Bool) (n n1 : Option (List ℕ)) (x x1 : ℕ)
-    → Answers form slot k k1 m m1 st st1 a b f g n n1 x x1 → MayWantMemory st1 → IsCutShort NoMemory form slot k m st a b f g n n1 x x1
-starved_answers form slot k k1 m m1 st st1 a b f g n n1 x x1 told may = record {
+pub starved_answers : (form : Form) (bounds : StoreBounds) (k k1 : Known) (m m1 : Machine) (st st1 : Standing) (a b : Option (List ℕ)) (f g : Bool) (n n1 : Option (List ℕ)) (x x1 : ℕ)
+    → Answers form bounds k k1 m m1 st st1 a b f g n n1 x x1 → MayWantMemory st1 → IsCutShort NoMemory form bounds k m st a b f g n n1 x x1
+starved_answers form bounds k k1 m m1 st st1 a b f g n n1 x x1 told may = record {
   known_mid = k1;
   machine_mid = m1;
   st_mid = st1;

@@ -7,6 +7,7 @@ use Rattle.std.specs.declared.option.Option.{Option}
 use Rattle.ziti_outside.specs.Told.{Took}
 use Rattle.ziti_outside.proofs.Moves.{Took-none, Took-then}
 use Rattle.channel_frame.specs.declared.frames.Frame.{Frame}
+use Rattle.row_store.specs.declared.bounds.StoreBounds.{StoreBounds}
 use Rattle.ctrl_keep.specs.KeptMachine.{Machine}
 use Rattle.session_mux.specs.declared.events.Event.{Event}
 use Rattle.session_mux.specs.declared.events.Event.TheVariants.{Arrived}
@@ -33,30 +34,30 @@ use Rattle.ctrl_serve.specs.Turns.{Answers, AnswersAll, AnswersSome, CutsNext, H
 use Rattle.run_notes.specs.Endings.{status_at}
 use Rattle.ctrl_serve.proofs.KnownLaws.{replies_then, replies_from_start, machine_from_start}
 use Rattle.run_notes.proofs.KnownLaws.{along_closed, along_faulty}
-use Rattle.run_notes.proofs.NoteLaws.{more_left, more_then}
+use Rattle.run_notes.proofs.NoteLaws.{more_none, more_then}
 
 -- The used bytes before any event.
 abbrev pub at_start : Form → List ℕ → Standing
 at_start form used = fed (start_of form) used
 
 -- The answered events and those that are left are all.
-split_so : (form : Form) (used : List ℕ) (st : Standing) (es : List Event) → GoesTo (at_start form used) st es → es ++ events_of st ≡ events_in form used
+pub split_so : (form : Form) (used : List ℕ) (st : Standing) (es : List Event) → GoesTo (at_start form used) st es → es ++ events_of st ≡ events_in form used
 split_so form used st es goes =
     sym (ap events_of (sym (no_more_input (at_start form used))) ∙ goes.events [] ∙ ap (λ (x : Standing). es ++ events_of x) (no_more_input st))
 
 -- Where none is left they are all.
-all_so : (form : Form) (used : List ℕ) (st : Standing) (es : List Event) → GoesTo (at_start form used) st es → events_of st ≡ [] → es ≡ events_in form used
+pub all_so : (form : Form) (used : List ℕ) (st : Standing) (es : List Event) → GoesTo (at_start form used) st es → events_of st ≡ [] → es ≡ events_in form used
 all_so form used st es goes none = sym (append-nil es) ∙ ap (λ (l : List Event). es ++ l) (sym none) ∙ split_so form used st es goes
 
-end_so : (form : Form) (used : List ℕ) (st : Standing) (es : List Event) → GoesTo (at_start form used) st es → end_of st ≡ end_in form used
+pub end_so : (form : Form) (used : List ℕ) (st : Standing) (es : List Event) → GoesTo (at_start form used) st es → end_of st ≡ end_in form used
 end_so form used st es goes = sym (ap end_of (sym (no_more_input (at_start form used))) ∙ goes.ends [] ∙ ap end_of (no_more_input st))
 
 -- ---- all of them
 
 -- The replies are all replies.
-all_said : (form : Form) (slot : ℕ) (m : Machine) (used : List ℕ) (es : List Event) → es ≡ events_in form used
-    → joined (replies_along form slot es (known_in form) m) ≡ joined (replies_to form slot m (events_in form used))
-all_said form slot m used es all = ap joined (replies_from_start form slot es m) ∙ ap (λ (l : List Event). joined (replies_to form slot m l)) all
+all_said : (form : Form) (bounds : StoreBounds) (m : Machine) (used : List ℕ) (es : List Event) → es ≡ events_in form used
+    → joined (replies_along form bounds es (known_in form) m) ≡ joined (replies_to form bounds m (events_in form used))
+all_said form bounds m used es all = ap joined (replies_from_start form bounds es m) ∙ ap (λ (l : List Event). joined (replies_to form bounds m l)) all
 
 -- The status is that of the input.
 all_ends : (form : Form) (used : List ℕ) (st : Standing) (k : Known) (es : List Event) (end : End) → k ≡ known_along es (known_in form) → es ≡ events_in form used → end_of st ≡ end_in form used
@@ -79,20 +80,18 @@ all_lines form used st k es status known all ends =
     ∙ ap (λ (l : List ℕ). fault_lines (events_in form used) ++ ending_lines (end_in form used) l status) closed
 
 -- The events of the input were answered, and its ending was told.
-pub used_answered : (form : Form) (slot : ℕ) (m m1 : Machine) (used : List ℕ) (end : End) (status : Status) (k0 k : Known) (st0 st : Standing) (a b c : Option (List ℕ)) (f g h : Bool) (n n1 n2 : Option (List ℕ)) (x x1 x2 : ℕ)
-    → k0 ≡ known_in form → st0 ≡ at_start form used → Answers form slot k0 k m m1 st0 st a b f g n n1 x x1 → events_of st ≡ [] → c ≡ b
+pub used_answered : (form : Form) (bounds : StoreBounds) (m m1 : Machine) (used : List ℕ) (end : End) (status : Status) (k : Known) (st : Standing) (a b c : Option (List ℕ)) (f g h : Bool) (n n1 n2 : Option (List ℕ)) (x x1 x2 : ℕ)
+    → Answers form bounds (known_in form) k m m1 (at_start form used) st a b f g n n1 x x1 → events_of st ≡ [] → c ≡ b
     → status ≡ status_at (k.faulty || begins_bad (end_of st)) (leaves_some (end_of st) k.closed) end → NotesMore g h (ending_lines (end_of st) k.closed status) n1 n2 x1 x2
-    → AnswersAll form slot m used end status a c f h n n2 x x2
-used_answered form slot m m1 used end status k0 k st0 st a b c f g h n n1 n2 x x1 x2 known start answers none still ended noted =
-    let from = subst (λ (y : Standing). Answers form slot k0 k m m1 y st a b f g n n1 x x1) start answers in
-    let told = subst (λ (y : Known). Answers form slot y k m m1 (at_start form used) st a b f g n n1 x x1) known from in
+    → AnswersAll form bounds m used end status a c f h n n2 x x2
+used_answered form bounds m m1 used end status k st a b c f g h n n1 n2 x x1 x2 told none still ended noted =
     let es : List Event = told.answered in
     let all : es ≡ events_in form used = all_so form used st es told.goes none in
     let ends : end_of st ≡ end_in form used = end_so form used st es told.goes in
     record {
       said =
-          subst (λ (y : Option (List ℕ)). Took a y (joined (replies_to form slot m (events_in form used)))) (sym still)
-          (subst (λ (l : List ℕ). Took a b l) (all_said form slot m used es all) told.said);
+          subst (λ (y : Option (List ℕ)). Took a y (joined (replies_to form bounds m (events_in form used)))) (sym still)
+          (subst (λ (l : List ℕ). Took a b l) (all_said form bounds m used es all) told.said);
       ends = ended ∙ all_ends form used st k es end told.known_is all ends;
       noted_is =
           subst (λ (l : List ℕ). NotesMore f h l n n2 x x2) (all_lines form used st k es status told.known_is all ends)
@@ -100,18 +99,16 @@ used_answered form slot m m1 used end status k0 k st0 st a b c f g h n n1 n2 x x
     }
 
 -- And the machine is the last one.
-pub used_last : (form : Form) (slot : ℕ) (m m1 : Machine) (used : List ℕ) (k0 k : Known) (st0 st : Standing) (a b : Option (List ℕ)) (f g : Bool) (n n1 : Option (List ℕ)) (x x1 : ℕ)
-    → k0 ≡ known_in form → st0 ≡ at_start form used → Answers form slot k0 k m m1 st0 st a b f g n n1 x x1 → events_of st ≡ [] → m1 ≡ last_machine form slot m used
-used_last form slot m m1 used k0 k st0 st a b f g n n1 x x1 known start answers none =
-    let from = subst (λ (y : Standing). Answers form slot k0 k m m1 y st a b f g n n1 x x1) start answers in
-    let told = subst (λ (y : Known). Answers form slot y k m m1 (at_start form used) st a b f g n n1 x x1) known from in
-    told.machine_is ∙ machine_from_start form slot told.answered m
-    ∙ ap (λ (l : List Event). machine_behind slot m (frames_in form l)) (all_so form used st told.answered told.goes none)
+pub used_last : (form : Form) (bounds : StoreBounds) (m m1 : Machine) (used : List ℕ) (k : Known) (st : Standing) (a b : Option (List ℕ)) (f g : Bool) (n n1 : Option (List ℕ)) (x x1 : ℕ)
+    → Answers form bounds (known_in form) k m m1 (at_start form used) st a b f g n n1 x x1 → events_of st ≡ [] → m1 ≡ last_machine form bounds m used
+used_last form bounds m m1 used k st a b f g n n1 x x1 told none =
+    told.machine_is ∙ machine_from_start form bounds told.answered m
+    ∙ ap (λ (l : List Event). machine_behind bounds m (frames_in form l)) (all_so form used st told.answered told.goes none)
 
 -- ---- the first of them
 
 -- The event that is next is the first of those that are left.
-next_first : (st later : Standing) (e : Event) → GoesTo st later (e ∷ []) → events_of st ≡ e ∷ events_of later
+pub next_first : (st later : Standing) (e : Event) → GoesTo st later (e ∷ []) → events_of st ≡ e ∷ events_of later
 next_first st later e goes = ap events_of (sym (no_more_input st)) ∙ goes.events [] ∙ ap (λ (y : Standing). e ∷ events_of y) (no_more_input later)
 
 -- Plain input has no fault among its first events where another event is next.
@@ -126,69 +123,68 @@ starved_calm : (used : List ℕ) (st : Standing) (es : List Event) → GoesTo (a
 starved_calm used st es goes (inl next) = false_from_ne_true (list_any is_fault es) (none_before used st es goes next)
 starved_calm used st es goes (inr may) = no_fault_given used st es goes (may.plain (ap (λ (x : Standing). x.form) (end_so Plain used st es goes)))
 
-so_calm : (form : Form) (used : List ℕ) (st : Standing) (es : List Event) → GoesTo (at_start form used) st es → HasNext st ⊎ MayWantMemory st → form ≡ Plain → list_any is_fault es ≡ false
+pub so_calm : (form : Form) (used : List ℕ) (st : Standing) (es : List Event) → GoesTo (at_start form used) st es → HasNext st ⊎ MayWantMemory st → form ≡ Plain → list_any is_fault es ≡ false
 so_calm form used st es goes why is = starved_calm used st es (subst (λ (f : Form). GoesTo (at_start f used) st es) is goes) why
 
 -- Nothing was answered.
-pub used_none : (form : Form) (slot : ℕ) (m : Machine) (used : List ℕ) (a b : Option (List ℕ)) (f g : Bool) (n n1 : Option (List ℕ)) (x x1 : ℕ) → b ≡ a → g ≡ f → n1 ≡ n → x1 ≡ x
-    → AnswersSome NoMemory form slot m used a b f g n n1 x x1
-used_none form slot m used a b f g n n1 x x1 still p q r = record {
+abbrev pub used_none : (form : Form) (bounds : StoreBounds) (m : Machine) (used : List ℕ) (a : Option (List ℕ)) (f : Bool) (n : Option (List ℕ)) (x : ℕ) → AnswersSome NoMemory form bounds m used a a f f n n x x
+used_none form bounds m used a f n x = record {
   answered = [];
   unanswered = events_in form used;
   split = refl;
   said = [];
-  took = subst (λ (y : Option (List ℕ)). Took a y []) (sym still) (Took-none a);
+  took = Took-none a;
   says = record { same = refl; calm = λ _. refl };
-  noted_is = more_left f g n n1 x x1 p q r;
+  noted_is = more_none f n x;
 }
 
 -- What was said of the next reply.
-record SaysSo (cut : Cut) (form : Form) (slot : ℕ) (m : Machine) (a c : Option (List ℕ)) (answered unanswered : List Event) : Type 0 where
+pub record SaysSo (cut : Cut) (form : Form) (bounds : StoreBounds) (m : Machine) (a c : Option (List ℕ)) (answered unanswered : List Event) : Type 0 where
   pub said : List ℕ
   pub took : Took a c said
-  pub says : SaysCut cut form slot m said answered unanswered
+  pub says : SaysCut cut form bounds m said answered unanswered
 
-says_whole : (form : Form) (slot : ℕ) (m : Machine) (es : List Event) (a b c : Option (List ℕ)) → c ≡ b → Took a b (joined (replies_along form slot es (known_in form) m))
-    → Took a c (joined (replies_to form slot m es))
-says_whole form slot m es a b c still took =
-    subst (λ (y : Option (List ℕ)). Took a y (joined (replies_to form slot m es))) (sym still)
-    (subst (λ (rs : List (List ℕ)). Took a b (joined rs)) (replies_from_start form slot es m) took)
+pub says_whole : (form : Form) (bounds : StoreBounds) (m : Machine) (es : List Event) (a b c : Option (List ℕ)) → c ≡ b → Took a b (joined (replies_along form bounds es (known_in form) m))
+    → Took a c (joined (replies_to form bounds m es))
+says_whole form bounds m es a b c still took =
+    subst (λ (y : Option (List ℕ)). Took a y (joined (replies_to form bounds m es))) (sym still)
+    (subst (λ (rs : List (List ℕ)). Took a b (joined rs)) (replies_from_start form bounds es m) took)
 
 -- The reply to the next event is the next one.
-next_reply : (form : Form) (slot : ℕ) (m m1 : Machine) (k : Known) (es : List Event) (s : ℕ) (f : Frame) → k ≡ known_along es (known_in form) → m1 ≡ machine_along slot es (known_in form) m
-    → replies_to form slot m (es ++ Arrived s f ∷ []) ≡ replies_to form slot m es ++ reply_by form slot s f k m1 ∷ []
-next_reply form slot m m1 k es s f known same =
-    sym (replies_from_start form slot (es ++ Arrived s f ∷ []) m)
-    ∙ replies_then form slot es (Arrived s f ∷ []) (known_in form) m
-    ∙ ap (λ (rs : List (List ℕ)). rs ++ reply_by form slot s f (known_along es (known_in form)) (machine_along slot es (known_in form) m) ∷ []) (replies_from_start form slot es m)
-    ∙ ap (λ (y : Known). replies_to form slot m es ++ reply_by form slot s f y (machine_along slot es (known_in form) m) ∷ []) (sym known)
-    ∙ ap (λ (y : Machine). replies_to form slot m es ++ reply_by form slot s f k y ∷ []) (sym same)
+pub next_reply : (form : Form) (bounds : StoreBounds) (m m1 : Machine) (k : Known) (es : List Event) (s : ℕ) (f : Frame) → k ≡ known_along es (known_in form) → m1 ≡ machine_along bounds es (known_in form) m
+    → replies_to form bounds m (es ++ Arrived s f ∷ []) ≡ replies_to form bounds m es ++ reply_by form bounds s f k m1 ∷ []
+next_reply form bounds m m1 k es s f known same =
+    sym (replies_from_start form bounds (es ++ Arrived s f ∷ []) m)
+    ∙ replies_then form bounds es (Arrived s f ∷ []) (known_in form) m
+    ∙ ap (λ (rs : List (List ℕ)). rs ++ reply_by form bounds s f (known_along es (known_in form)) (machine_along bounds es (known_in form) m) ∷ []) (replies_from_start form bounds es m)
+    ∙ ap (λ (y : Known). replies_to form bounds m es ++ reply_by form bounds s f y (machine_along bounds es (known_in form) m) ∷ []) (sym known)
+    ∙ ap (λ (y : Machine). replies_to form bounds m es ++ reply_by form bounds s f k y ∷ []) (sym same)
 
-says_so : (cut : Cut) (form : Form) (slot : ℕ) (m m1 : Machine) (used : List ℕ) (k : Known) (es : List Event) (st : Standing) (a b c : Option (List ℕ))
-    → GoesTo (at_start form used) st es → k ≡ known_along es (known_in form) → m1 ≡ machine_along slot es (known_in form) m → Took a b (joined (replies_along form slot es (known_in form) m))
-    → CutsNext cut form slot k m1 st b c → SaysSo cut form slot m a c es (events_of st)
-says_so NoMemory form slot m m1 used k es st a b c goes known same took cuts =
-    record { said = joined (replies_to form slot m es); took = says_whole form slot m es a b c cuts.0 took; says = record { same = refl; calm = so_calm form used st es goes cuts.1 } }
-says_so Disk form slot m m1 used k es st a b c goes known same took cuts =
+pub says_so : (cut : Cut) (form : Form) (bounds : StoreBounds) (m m1 : Machine) (used : List ℕ) (k : Known) (es : List Event) (st : Standing) (a b c : Option (List ℕ))
+    → GoesTo (at_start form used) st es → k ≡ known_along es (known_in form) → m1 ≡ machine_along bounds es (known_in form) m → Took a b (joined (replies_along form bounds es (known_in form) m))
+    → CutsNext cut form bounds k m1 st b c → SaysSo cut form bounds m a c es (events_of st)
+says_so NoMemory form bounds m m1 used k es st a b c goes known same took cuts =
+    record { said = joined (replies_to form bounds m es); took = says_whole form bounds m es a b c cuts.0 took; says = record { same = refl; calm = so_calm form used st es goes cuts.1 } }
+says_so Disk form bounds m m1 used k es st a b c goes known same took cuts =
     record {
-      said = joined (replies_to form slot m es);
-      took = says_whole form slot m es a b c cuts.4 took;
+      said = joined (replies_to form bounds m es);
+      took = says_whole form bounds m es a b c cuts.4 took;
       says = record { session = cuts.0; frame = cuts.1; later = events_of cuts.2; first = next_first st cuts.2 (Arrived cuts.0 cuts.1) cuts.3; same = refl };
     }
-says_so Unsaid form slot m m1 used k es st a b c goes known same took cuts =
+says_so Unsaid form bounds m m1 used k es st a b c goes known same took cuts =
     let s : ℕ = cuts.0 in
     let f : Frame = cuts.1 in
     let part = cuts.4 in
     record {
-      said = joined (replies_to form slot m es) ++ part.0;
-      took = Took-then a b c (joined (replies_to form slot m es)) part.0 (says_whole form slot m es a b b refl took) part.2;
+      said = joined (replies_to form bounds m es) ++ part.0;
+      took = Took-then a b c (joined (replies_to form bounds m es)) part.0 (says_whole form bounds m es a b b refl took) part.2;
       says = record {
         session = s;
         frame = f;
         later = events_of cuts.2;
         first = next_first st cuts.2 (Arrived s f) cuts.3;
-        reply = reply_by form slot s f k m1;
-        is_reply = next_reply form slot m m1 k es s f known same;
+        reply = reply_by form bounds s f k m1;
+        is_reply = next_reply form bounds m m1 k es s f known same;
         front = part.0;
         is_front = part.1;
         same = refl;
@@ -196,13 +192,11 @@ says_so Unsaid form slot m m1 used k es st a b c goes known same took cuts =
     }
 
 -- The next event was cut short.
-pub used_cut : (cut : Cut) (form : Form) (slot : ℕ) (m : Machine) (used : List ℕ) (k0 : Known) (st0 : Standing) (a c : Option (List ℕ)) (f g : Bool) (n n1 : Option (List ℕ)) (x x1 : ℕ)
-    → k0 ≡ known_in form → st0 ≡ at_start form used → IsCutShort cut form slot k0 m st0 a c f g n n1 x x1 → AnswersSome cut form slot m used a c f g n n1 x x1
-used_cut cut form slot m used k0 st0 a c f g n n1 x x1 known start short =
-    let from = subst (λ (y : Standing). IsCutShort cut form slot k0 m y a c f g n n1 x x1) start short in
-    let told = subst (λ (y : Known). IsCutShort cut form slot y m (at_start form used) a c f g n n1 x x1) known from in
+abbrev pub used_cut : (cut : Cut) (form : Form) (bounds : StoreBounds) (m : Machine) (used : List ℕ) (a c : Option (List ℕ)) (f g : Bool) (n n1 : Option (List ℕ)) (x x1 : ℕ)
+    → IsCutShort cut form bounds (known_in form) m (at_start form used) a c f g n n1 x x1 → AnswersSome cut form bounds m used a c f g n n1 x x1
+used_cut cut form bounds m used a c f g n n1 x x1 told =
     let es : List Event = told.first.answered in
-    let says = says_so cut form slot m told.machine_mid used told.known_mid es told.st_mid a told.said_mid c told.first.goes told.first.known_is told.first.machine_is told.first.said told.cuts in
+    let says = says_so cut form bounds m told.machine_mid used told.known_mid es told.st_mid a told.said_mid c told.first.goes told.first.known_is told.first.machine_is told.first.said told.cuts in
     record {
       answered = es;
       unanswered = events_of told.st_mid;
@@ -227,26 +221,21 @@ ending_calm used st k es end goes known (inl bad) = absurd (true≢false (sym ba
 ending_calm used st k es end goes known (inr truncated) =
     sym (ap (λ (x : Known). x.faulty) known ∙ along_faulty es (known_in Plain)) ∙ truncated_calm k.faulty (leaves_some (end_of st) k.closed) end truncated
 
-told_calm : (form : Form) (used : List ℕ) (st : Standing) (k : Known) (es : List Event) (end : End) → GoesTo (at_start form used) st es → k ≡ known_along es (known_in form)
+pub told_calm : (form : Form) (used : List ℕ) (st : Standing) (k : Known) (es : List Event) (end : End) → GoesTo (at_start form used) st es → k ≡ known_along es (known_in form)
     → (begins_bad (end_of st) ≡ true) ⊎ (status_at k.faulty (leaves_some (end_of st) k.closed) end ≡ Truncated) → form ≡ Plain → list_any is_fault es ≡ false
 told_calm form used st k es end goes known why is =
     ending_calm used st k es end (subst (λ (f : Form). GoesTo (at_start f used) st es) is goes) (subst (λ (f : Form). k ≡ known_along es (known_in f)) is known) why
 
--- For want of memory behind them, to tell how the run ended, where nothing more was said and noted.
-pub used_starved : (form : Form) (slot : ℕ) (m m1 : Machine) (used : List ℕ) (end : End) (k0 k : Known) (st0 st : Standing) (a b c : Option (List ℕ)) (f g h : Bool) (n n1 n2 : Option (List ℕ)) (x x1 x2 : ℕ)
-    → k0 ≡ known_in form → st0 ≡ at_start form used → Answers form slot k0 k m m1 st0 st a b f g n n1 x x1
-    → (begins_bad (end_of st) ≡ true) ⊎ (status_at k.faulty (leaves_some (end_of st) k.closed) end ≡ Truncated) → c ≡ b → h ≡ g → n2 ≡ n1 → x2 ≡ x1
-    → AnswersSome NoMemory form slot m used a c f h n n2 x x2
-used_starved form slot m m1 used end k0 k st0 st a b c f g h n n1 n2 x x1 x2 known start answers why still p q r =
-    let from = subst (λ (y : Standing). Answers form slot k0 k m m1 y st a b f g n n1 x x1) start answers in
-    let told = subst (λ (y : Known). Answers form slot y k m m1 (at_start form used) st a b f g n n1 x x1) known from in
-    let es : List Event = told.answered in
-    rw (p, q, r) (record {
-      answered = es;
-      unanswered = events_of st;
-      split = split_so form used st es told.goes;
-      said = joined (replies_to form slot m es);
-      took = says_whole form slot m es a b c still told.said;
-      says = record { same = refl; calm = told_calm form used st k es end told.goes told.known_is why };
-      noted_is = told.noted_is;
-    })
+-- For want of memory behind them, to tell how the run ended, where nothing more was said.
+abbrev pub used_starved : (form : Form) (bounds : StoreBounds) (m m1 : Machine) (used : List ℕ) (end : End) (k : Known) (st : Standing) (a b c : Option (List ℕ)) (f g : Bool) (n n1 : Option (List ℕ)) (x x1 : ℕ)
+    → Answers form bounds (known_in form) k m m1 (at_start form used) st a b f g n n1 x x1
+    → (begins_bad (end_of st) ≡ true) ⊎ (status_at k.faulty (leaves_some (end_of st) k.closed) end ≡ Truncated) → c ≡ b → AnswersSome NoMemory form bounds m used a c f g n n1 x x1
+used_starved form bounds m m1 used end k st a b c f g n n1 x x1 told why still = record {
+  answered = told.answered;
+  unanswered = events_of st;
+  split = split_so form used st told.answered told.goes;
+  said = joined (replies_to form bounds m told.answered);
+  took = says_whole form bounds m told.answered a b c still told.said;
+  says = record { same = refl; calm = told_calm form used st k told.answered end told.goes told.known_is why };
+  noted_is = told.noted_is;
+}

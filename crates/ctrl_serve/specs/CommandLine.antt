@@ -7,7 +7,7 @@ use Rattle.std.specs.Str.Parse.{digits_value}
 use Rattle.std.specs.String.{string_bytes}
 use Rattle.std.specs.declared.string.String.{String}
 use Rattle.ctrl_serve.specs.declared.command_line.Form.{Form}
-use Rattle.ctrl_serve.specs.declared.command_line.Form.TheVariants.{Dry, Load, Replay}
+use Rattle.ctrl_serve.specs.declared.command_line.Form.TheVariants.{Dry, Replay, Audit, Compact, Load}
 use Rattle.session_mux.specs.declared.sessions.Form.TheVariants.{Plain, Trace}
 
 -- The bytes of each word.
@@ -31,7 +31,11 @@ is_padded (first ∷ second ∷ rest) = first == 43 || first == 48
 -- What the words run, if they are a line of the table of words.
 abbrev pub form_of : List (List ℕ) → Option Form
 form_of [] = None
-form_of (word ∷ []) = if bytes_eq word (codes "dry") then Some Dry else if bytes_eq word (codes "replay") then Some (Replay Plain) else None
+form_of (word ∷ []) =
+    if bytes_eq word (codes "dry") then Some Dry
+    else if bytes_eq word (codes "replay") then Some (Replay Plain)
+    else if bytes_eq word (codes "audit") then Some Audit
+    else if bytes_eq word (codes "compact") then Some Compact else None
 form_of (word ∷ next ∷ []) =
     if bytes_eq word (codes "load") then option_map Load (number_of_word next)
     else if bytes_eq word (codes "replay") && bytes_eq next (codes "--sessions") then Some (Replay Trace) else None
@@ -41,4 +45,6 @@ form_of (word ∷ next ∷ third ∷ words) = None
 abbrev pub reads_input : Form → Bool
 reads_input Dry = true
 reads_input (Replay form) = true
+reads_input Audit = false
+reads_input Compact = false
 reads_input (Load number) = false

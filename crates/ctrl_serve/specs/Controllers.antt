@@ -4,16 +4,17 @@ use Rattle.std.specs.declared.option.Option.{Option}
 use Rattle.ziti_outside.specs.Images.{Image}
 use Rattle.ziti_outside.specs.Told.{Took, IsFront}
 use Rattle.ctrl_model.specs.State.{State}
+use Rattle.row_store.specs.declared.bounds.StoreBounds.{StoreBounds}
 use Rattle.row_store.specs.StoredRows.{ReadsAs}
 use Rattle.ctrl_keep.specs.OpenedStates.{OpensToState}
 use Rattle.ctrl_keep.specs.KeptMachine.{Machine}
 use Rattle.ctrl_keep.specs.KeptController.{Controlled, HoldsRows}
 
--- A machine, how many bytes its slot may have, the kept controller if it is one, and whether it can answer: it was not given up for
+-- A machine, the bounds of its folder, the kept controller if it is one, and whether it can answer: it was not given up for
 -- want of memory, and its folder has not failed.
 pub record Serving : Type 0 where
   pub machine : Machine
-  pub slot : ℕ
+  pub bounds : StoreBounds
   pub kept : Option Controlled
   pub able : Bool
 
@@ -22,10 +23,10 @@ abbrev pub IsReady : Bool → Option Controlled → Image → (Image → Type 0)
 IsReady tells None reads images = ⊤
 IsReady tells (Some k) reads images = HoldsRows k × (IsTrue tells → ReadsAs k.stored reads images)
 
--- It can answer on, within the same slot, with a folder exactly if it had one.
+-- It can answer on, within the same bounds, with a folder exactly if it had one.
 pub record GoesOn (old new : Serving) : Type 0 where
   pub able : new.able ≡ true
-  pub slot : new.slot ≡ old.slot
+  pub bounds : new.bounds ≡ old.bounds
   pub kind : is_some new.kept ≡ is_some old.kept
 
 -- What a stop within a turn finds: some front of the reply was taken, and the folder opens to the state after the frame, or, where none

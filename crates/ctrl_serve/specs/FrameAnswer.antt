@@ -12,6 +12,7 @@ use Rattle.ctrl_model.specs.declared.refusals.Refusal.TheVariants.{UnsupportedTy
 use Rattle.ctrl_model.specs.declared.replies.Reply.{Reply}
 use Rattle.ctrl_model.specs.declared.replies.Reply.TheVariants.{Refused}
 use Rattle.ctrl_model.specs.State.{State}
+use Rattle.row_store.specs.declared.bounds.StoreBounds.{StoreBounds}
 use Rattle.ctrl_keep.specs.KeptMachine.{Machine, step}
 use Rattle.reply_codec.specs.ReplyFrame.{reply_frame}
 use Rattle.session_mux.specs.declared.events.Event.{Event}
@@ -30,32 +31,32 @@ refusal_for cause.UnsupportedType = UnsupportedType
 refusal_for (cause.BadBody field reason) = BadBody field reason
 refusal_for cause.NoMemory = UnsupportedType
 
--- The answer to what a frame spells, where a slot of the journal may have so many bytes: the machine's step on a command, and else the
--- refusal, which leaves the machine.
-abbrev pub answer_to : ℕ → Who → Machine → Result Command CodecFault → Reply × Machine
-answer_to slot who m (Ok c) = step slot who c m
-answer_to slot who m (Err e) = (Refused (refusal_for e), m)
+-- The answer to what a frame spells, within the bounds of a folder: the machine's step on a command, and else the refusal, which leaves
+-- the machine.
+abbrev pub answer_to : StoreBounds → Who → Machine → Result Command CodecFault → Reply × Machine
+answer_to bounds who m (Ok c) = step bounds who c m
+answer_to bounds who m (Err e) = (Refused (refusal_for e), m)
 
 -- The answer of a machine to a frame: the reply, and how the machine goes on.
-abbrev pub frame_answer : ℕ → Who → Frame → Machine → Reply × Machine
-frame_answer slot who f m = answer_to slot who m (meaning f.content f.body)
+abbrev pub frame_answer : StoreBounds → Who → Frame → Machine → Reply × Machine
+frame_answer bounds who f m = answer_to bounds who m (meaning f.content f.body)
 
 -- ---- one session alone
 
 -- The bytes of the replies to some frames of one sender, one list a reply, from a sequence number and a machine on.
-abbrev pub spoken_alone : ℕ → Who → ℕ → Machine → List Frame → List (List ℕ)
-spoken_alone slot who n m [] = []
-spoken_alone slot who n m (f ∷ fs) =
-    spelling (reply_frame n f.sequence (frame_answer slot who f m).0) ∷ spoken_alone slot who ((n + 1) % 2 ^ 32) (frame_answer slot who f m).1 fs
+abbrev pub spoken_alone : StoreBounds → Who → ℕ → Machine → List Frame → List (List ℕ)
+spoken_alone bounds who n m [] = []
+spoken_alone bounds who n m (f ∷ fs) =
+    spelling (reply_frame n f.sequence (frame_answer bounds who f m).0) ∷ spoken_alone bounds who ((n + 1) % 2 ^ 32) (frame_answer bounds who f m).1 fs
 
 -- These bytes joined.
-abbrev pub answers : ℕ → Who → ℕ → Machine → List Frame → List ℕ
-answers slot who n m fs = flat_map (λ bytes. bytes) (spoken_alone slot who n m fs)
+abbrev pub answers : StoreBounds → Who → ℕ → Machine → List Frame → List ℕ
+answers bounds who n m fs = flat_map (λ bytes. bytes) (spoken_alone bounds who n m fs)
 
 -- The machine behind some frames of one sender.
-abbrev pub machine_behind_alone : ℕ → Who → Machine → List Frame → Machine
-machine_behind_alone slot who m [] = m
-machine_behind_alone slot who m (f ∷ fs) = machine_behind_alone slot who (frame_answer slot who f m).1 fs
+abbrev pub machine_behind_alone : StoreBounds → Who → Machine → List Frame → Machine
+machine_behind_alone bounds who m [] = m
+machine_behind_alone bounds who m (f ∷ fs) = machine_behind_alone bounds who (frame_answer bounds who f m).1 fs
 
 -- ---- many sessions
 
@@ -70,32 +71,36 @@ reply_text form session sequence request reply = tag form session ++ spelling (r
 
 -- The bytes of the replies to some frames, each with its session and who sent it: one list a reply, from counts of replies and a
 -- machine on. Each session counts its own replies.
-abbrev pub spoken : Form → ℕ → List ℕ → Machine → List (ℕ × (Who × Frame)) → List (List ℕ)
-spoken form slot counts m [] = []
-spoken form slot counts m (x ∷ xs) =
-    reply_text form x.0 (count_at counts x.0) x.1.1.sequence (frame_answer slot x.1.0 x.1.1 m).0
-    ∷ spoken form slot (counted counts x.0) (frame_answer slot x.1.0 x.1.1 m).1 xs
+abbrev pub spoken : Form → StoreBounds → List ℕ → Machine → List (ℕ × (Who × Frame)) → List (List ℕ)
+spoken form bounds counts m [] = []
+spoken form bounds counts m (x ∷ xs) =
+    reply_text form x.0 (count_at counts x.0) x.1.1.sequence (frame_answer bounds x.1.0 x.1.1 m).0
+    ∷ spoken form bounds (counted counts x.0) (frame_answer bounds x.1.0 x.1.1 m).1 xs
 
 -- The machine behind some frames.
-abbrev pub machine_behind : ℕ → Machine → List (ℕ × (Who × Frame)) → Machine
-machine_behind slot m [] = m
-machine_behind slot m (x ∷ xs) = machine_behind slot (frame_answer slot x.1.0 x.1.1 m).1 xs
+abbrev pub machine_behind : StoreBounds → Machine → List (ℕ × (Who × Frame)) → Machine
+machine_behind bounds m [] = m
+machine_behind bounds m (x ∷ xs) = machine_behind bounds (frame_answer bounds x.1.0 x.1.1 m).1 xs
 
 -- Each reply to the first events of an input: those of a machine's run along the frames that arrive by them.
-abbrev pub replies_to : Form → ℕ → Machine → List Event → List (List ℕ)
-replies_to form slot m events = spoken form slot no_counts m (frames_in form events)
+abbrev pub replies_to : Form → StoreBounds → Machine → List Event → List (List ℕ)
+replies_to form bounds m events = spoken form bounds no_counts m (frames_in form events)
 
 -- Each reply to an input, in the order in which its frames are completed.
-abbrev pub each_reply : Form → ℕ → Machine → List ℕ → List (List ℕ)
-each_reply form slot m used = spoken form slot no_counts m (completed form used)
+abbrev pub each_reply : Form → StoreBounds → Machine → List ℕ → List (List ℕ)
+each_reply form bounds m used = spoken form bounds no_counts m (completed form used)
 
 -- The bytes of all replies to an input.
-abbrev pub replies : Form → ℕ → Machine → List ℕ → List ℕ
-replies form slot m used = flat_map (λ bytes. bytes) (each_reply form slot m used)
+abbrev pub replies : Form → StoreBounds → Machine → List ℕ → List ℕ
+replies form bounds m used = flat_map (λ bytes. bytes) (each_reply form bounds m used)
 
 -- The machine behind all frames of an input.
-abbrev pub last_machine : Form → ℕ → Machine → List ℕ → Machine
-last_machine form slot m used = machine_behind slot m (completed form used)
+abbrev pub last_machine : Form → StoreBounds → Machine → List ℕ → Machine
+last_machine form bounds m used = machine_behind bounds m (completed form used)
+
+-- The bounds where there is no folder. Such a machine asks for none.
+abbrev pub no_bounds : StoreBounds
+no_bounds = record { slot = 0; mark = 0 }
 
 -- A machine without a folder.
 abbrev pub alone : State → Machine

@@ -4,6 +4,7 @@ use Rattle.std.specs.List.{flat_map, list_any}
 use Rattle.std.specs.declared.option.Option.{Option}
 use Rattle.ziti_outside.specs.Told.{Took, IsFront}
 use Rattle.channel_frame.specs.declared.frames.Frame.{Frame}
+use Rattle.row_store.specs.declared.bounds.StoreBounds.{StoreBounds}
 use Rattle.ctrl_keep.specs.KeptMachine.{Machine}
 use Rattle.session_mux.specs.declared.events.Event.{Event}
 use Rattle.session_mux.specs.declared.events.Event.TheVariants.{Arrived}
@@ -46,48 +47,48 @@ TookCut before now all = (said : List ℕ) × AreCut said all × Took before now
 -- ---- the replies to the events of an input
 
 -- What was said once these events were answered: their replies.
-abbrev pub SaysAll : Form → ℕ → Machine → (said : List ℕ) → (answered : List Event) → Type 0
-SaysAll form slot m said answered = said ≡ joined (replies_to form slot m answered)
+abbrev pub SaysAll : Form → StoreBounds → Machine → (said : List ℕ) → (answered : List Event) → Type 0
+SaysAll form bounds m said answered = said ≡ joined (replies_to form bounds m answered)
 
 -- What was said where the next reply was not taken whole: the replies to the answered events, and a front of the reply to the frame
 -- that arrives by the next event.
-pub record SaysFront (form : Form) (slot : ℕ) (m : Machine) (said : List ℕ) (answered unanswered : List Event) : Type 0 where
+pub record SaysFront (form : Form) (bounds : StoreBounds) (m : Machine) (said : List ℕ) (answered unanswered : List Event) : Type 0 where
   pub session : ℕ
   pub frame : Frame
   pub later : List Event
   pub first : unanswered ≡ Arrived session frame ∷ later
   pub reply : List ℕ
-  pub is_reply : replies_to form slot m (answered ++ Arrived session frame ∷ []) ≡ replies_to form slot m answered ++ reply ∷ []
+  pub is_reply : replies_to form bounds m (answered ++ Arrived session frame ∷ []) ≡ replies_to form bounds m answered ++ reply ∷ []
   pub front : List ℕ
   pub is_front : IsFront front reply
-  pub same : said ≡ joined (replies_to form slot m answered) ++ front
+  pub same : said ≡ joined (replies_to form bounds m answered) ++ front
 
 -- What was said where a call on the disk failed, as only one does that a frame asks for: the replies to the answered events, and the
 -- next event brings a frame.
-pub record SaysBefore (form : Form) (slot : ℕ) (m : Machine) (said : List ℕ) (answered unanswered : List Event) : Type 0 where
+pub record SaysBefore (form : Form) (bounds : StoreBounds) (m : Machine) (said : List ℕ) (answered unanswered : List Event) : Type 0 where
   pub session : ℕ
   pub frame : Frame
   pub later : List Event
   pub first : unanswered ≡ Arrived session frame ∷ later
-  pub same : SaysAll form slot m said answered
+  pub same : SaysAll form bounds m said answered
 
 -- What was said where memory was wanting: the replies to the answered events. Once the fault of plain input was told nothing is left
 -- to do, and no memory is wanted any more.
-pub record SaysStarved (form : Form) (slot : ℕ) (m : Machine) (said : List ℕ) (answered : List Event) : Type 0 where
-  pub same : SaysAll form slot m said answered
+pub record SaysStarved (form : Form) (bounds : StoreBounds) (m : Machine) (said : List ℕ) (answered : List Event) : Type 0 where
+  pub same : SaysAll form bounds m said answered
   pub calm : form ≡ Plain → list_any is_fault answered ≡ false
 
 -- What a run over an input has said at a status, where these events were answered and the others were not: the replies to the
 -- answered ones, each whole, and where a reply was not taken a front of the next one beside them. The other statuses never come.
-abbrev pub Says : Form → ℕ → Machine → Status → (said : List ℕ) → (answered unanswered : List Event) → Type 0
-Says form slot m Done said answered unanswered = SaysAll form slot m said answered
-Says form slot m Usage said answered unanswered = ⊥
-Says form slot m BadInput said answered unanswered = SaysAll form slot m said answered
-Says form slot m Truncated said answered unanswered = SaysAll form slot m said answered
-Says form slot m ReadFault said answered unanswered = SaysAll form slot m said answered
-Says form slot m WriteFault said answered unanswered = SaysFront form slot m said answered unanswered
-Says form slot m DiskFault said answered unanswered = SaysBefore form slot m said answered unanswered
-Says form slot m Damaged said answered unanswered = ⊥
-Says form slot m NoMemory said answered unanswered = SaysStarved form slot m said answered
-Says form slot m InputTooLong said answered unanswered = SaysAll form slot m said answered
-Says form slot m FolderFull said answered unanswered = ⊥
+abbrev pub Says : Form → StoreBounds → Machine → Status → (said : List ℕ) → (answered unanswered : List Event) → Type 0
+Says form bounds m Done said answered unanswered = SaysAll form bounds m said answered
+Says form bounds m Usage said answered unanswered = ⊥
+Says form bounds m BadInput said answered unanswered = SaysAll form bounds m said answered
+Says form bounds m Truncated said answered unanswered = SaysAll form bounds m said answered
+Says form bounds m ReadFault said answered unanswered = SaysAll form bounds m said answered
+Says form bounds m WriteFault said answered unanswered = SaysFront form bounds m said answered unanswered
+Says form bounds m DiskFault said answered unanswered = SaysBefore form bounds m said answered unanswered
+Says form bounds m Damaged said answered unanswered = ⊥
+Says form bounds m NoMemory said answered unanswered = SaysStarved form bounds m said answered
+Says form bounds m InputTooLong said answered unanswered = SaysAll form bounds m said answered
+Says form bounds m FolderFull said answered unanswered = ⊥

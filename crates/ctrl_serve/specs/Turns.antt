@@ -2,11 +2,14 @@
 use Rattle.std.specs.Prelude.{◌≡◌, ◌⊎◌, ℕ, Bool, ⊤, List, [], ◌∷◌, ◌++◌, Ok, Err}
 use Rattle.std.specs.declared.option.Option.{Option}
 use Rattle.std.specs.declared.result.Result.{Result}
+use Rattle.ziti_outside.specs.Images.{Image}
 use Rattle.ziti_outside.specs.Told.{Took, TookFront}
 use Rattle.channel_frame.specs.declared.frames.Frame.{Frame}
 use Rattle.ctrl_model.specs.declared.kinds.Who.{Who}
+use Rattle.row_store.specs.declared.bounds.StoreBounds.{StoreBounds}
 use Rattle.ctrl_keep.specs.KeptMachine.{Machine}
 use Rattle.session_mux.specs.declared.events.Event.{Event}
+use Rattle.session_mux.specs.declared.events.Event.TheVariants as event
 use Rattle.session_mux.specs.declared.events.Event.TheVariants.{Arrived}
 use Rattle.session_mux.specs.declared.sessions.Form.{Form}
 use Rattle.session_mux.specs.Completion.{Standing, GoesTo}
@@ -14,13 +17,14 @@ use Rattle.session_mux.specs.MuxSteps.{MayWantMemory}
 use Rattle.run_notes.specs.declared.ends.End.{End}
 use Rattle.run_notes.specs.declared.ends.Cut.{Cut}
 use Rattle.run_notes.specs.declared.ends.Cut.TheVariants.{NoMemory, Disk, Unsaid}
+use Rattle.ctrl_serve.specs.Controllers.{Turn}
 use Rattle.ctrl_serve.specs.declared.serving.Address.{Address}
 use Rattle.run_notes.specs.declared.status.Status.{Status}
 use Rattle.ctrl_serve.specs.FrameAnswer.{frame_answer, reply_text, replies_to}
 use Rattle.run_notes.specs.Inputs.{events_in, is_bad_input, has_rest}
 use Rattle.run_notes.specs.Endings.{status_at}
 use Rattle.ctrl_serve.specs.SaidReplies.{SaysFront, SaysBefore, SaysStarved, joined}
-use Rattle.run_notes.specs.KnownSessions.{Known, known_after, known_along}
+use Rattle.run_notes.specs.KnownSessions.{Known, sender_at, known_after, known_along}
 use Rattle.ctrl_serve.specs.KnownReplies.{machine_after, machine_along, reply_by, replies_by, replies_along}
 use Rattle.run_notes.specs.Notes.{fault_lines, notes_of}
 use Rattle.run_notes.specs.NotesSoFar.{NotesMore}
@@ -28,19 +32,19 @@ use Rattle.run_notes.specs.NotesSoFar.{NotesMore}
 -- ---- a frame
 
 -- The bytes of the reply to a frame of a sender, at an address.
-abbrev pub reply_to_frame : ℕ → Address → Who → Frame → Machine → List ℕ
-reply_to_frame slot a who f m = reply_text a.form a.session a.sequence f.sequence (frame_answer slot who f m).0
+abbrev pub reply_to_frame : StoreBounds → Address → Who → Frame → Machine → List ℕ
+reply_to_frame bounds a who f m = reply_text a.form a.session a.sequence f.sequence (frame_answer bounds who f m).0
 
 -- A whole turn: the machine goes on as it does, and the reply was taken.
-pub record TakesTurn (slot : ℕ) (a : Address) (who : Who) (f : Frame) (before now : Machine) (said_before said_now : Option (List ℕ)) : Type 0 where
-  pub next : now ≡ (frame_answer slot who f before).1
-  pub said : Took said_before said_now (reply_to_frame slot a who f before)
+pub record TakesTurn (bounds : StoreBounds) (a : Address) (who : Who) (f : Frame) (before now : Machine) (said_before said_now : Option (List ℕ)) : Type 0 where
+  pub next : now ≡ (frame_answer bounds who f before).1
+  pub said : Took said_before said_now (reply_to_frame bounds a who f before)
 
 -- A turn that was cut short: nothing was said for want of memory or where the disk failed, or a front of the reply.
-abbrev pub CutsTurn : Cut → (slot : ℕ) → Address → Who → Frame → Machine → Option (List ℕ) → Option (List ℕ) → Type 0
-CutsTurn NoMemory slot a who f before said_before said_now = said_now ≡ said_before
-CutsTurn Disk slot a who f before said_before said_now = said_now ≡ said_before
-CutsTurn Unsaid slot a who f before said_before said_now = TookFront said_before said_now (reply_to_frame slot a who f before)
+abbrev pub CutsTurn : Cut → (bounds : StoreBounds) → Address → Who → Frame → Machine → Option (List ℕ) → Option (List ℕ) → Type 0
+CutsTurn NoMemory bounds a who f before said_before said_now = said_now ≡ said_before
+CutsTurn Disk bounds a who f before said_before said_now = said_now ≡ said_before
+CutsTurn Unsaid bounds a who f before said_before said_now = TookFront said_before said_now (reply_to_frame bounds a who f before)
 
 -- The failure of a say, if that is what cut a turn short.
 abbrev pub unsaid : {T : Type 0} → Result T Cut → Result ⊤ Cut
@@ -59,30 +63,38 @@ unkept (Err Unsaid) = Ok tt
 -- ---- an event
 
 -- An answered event: what is known, the machine, the reply and the note are as the event says.
-pub record TakesEvent (form : Form) (slot : ℕ) (e : Event) (known known_now : Known) (before now : Machine) (said_before said_now : Option (List ℕ)) : Type 0 where
+pub record TakesEvent (form : Form) (bounds : StoreBounds) (e : Event) (known known_now : Known) (before now : Machine) (said_before said_now : Option (List ℕ)) : Type 0 where
   pub known_is : known_now ≡ known_after e known
-  pub next : now ≡ machine_after slot e known before
-  pub said : Took said_before said_now (joined (replies_by form slot e known before))
+  pub next : now ≡ machine_after bounds e known before
+  pub said : Took said_before said_now (joined (replies_by form bounds e known before))
 
 -- An event that was cut short: nothing was said for want of memory; or it brings a frame, and the disk failed before its reply, or a front of the
 -- reply was said.
-abbrev pub CutsEvent : Cut → Form → (slot : ℕ) → Event → Known → Machine → Option (List ℕ) → Option (List ℕ) → Type 0
-CutsEvent NoMemory form slot e known before said_before said_now = said_now ≡ said_before
-CutsEvent Disk form slot e known before said_before said_now = (s : ℕ) × (f : Frame) × (e ≡ Arrived s f) × (said_now ≡ said_before)
-CutsEvent Unsaid form slot e known before said_before said_now =
-    (s : ℕ) × (f : Frame) × (e ≡ Arrived s f) × TookFront said_before said_now (reply_by form slot s f known before)
+abbrev pub CutsEvent : Cut → Form → (bounds : StoreBounds) → Event → Known → Machine → Option (List ℕ) → Option (List ℕ) → Type 0
+CutsEvent NoMemory form bounds e known before said_before said_now = said_now ≡ said_before
+CutsEvent Disk form bounds e known before said_before said_now = (s : ℕ) × (f : Frame) × (e ≡ Arrived s f) × (said_now ≡ said_before)
+CutsEvent Unsaid form bounds e known before said_before said_now =
+    (s : ℕ) × (f : Frame) × (e ≡ Arrived s f) × TookFront said_before said_now (reply_by form bounds s f known before)
+
+-- What a stop within an event finds: one within the turn of a frame that arrived; no other event leaves more to find.
+abbrev pub StopsEvent : Form → StoreBounds → Event → Known → Machine → Option (List ℕ) → Image → List ℕ → Type 0
+StopsEvent form bounds (event.Opened s who) known before said image taken = ⊥
+StopsEvent form bounds (event.Arrived s f) known before said image taken =
+    Turn before.state (frame_answer bounds (sender_at known s) f before).1.state (reply_by form bounds s f known before) said image taken
+StopsEvent form bounds (event.Ended s fault at) known before said image taken = ⊥
+StopsEvent form bounds (event.Closed s rest) known before said image taken = ⊥
 
 -- ---- the loop
 
 -- So far: the answered events are the first ones, and what is known, the machine, the replies that were said and the faults that were noted
 -- are those behind them.
-pub record Answers (form : Form) (slot : ℕ) (known known_now : Known) (before now : Machine) (st st_now : Standing) (said_before said_now : Option (List ℕ))
+pub record Answers (form : Form) (bounds : StoreBounds) (known known_now : Known) (before now : Machine) (st st_now : Standing) (said_before said_now : Option (List ℕ))
     (failed failed_now : Bool) (noted noted_now : Option (List ℕ)) (faults faults_now : ℕ) : Type 0 where
   pub answered : List Event
   pub goes : GoesTo st st_now answered
   pub known_is : known_now ≡ known_along answered known
-  pub machine_is : now ≡ machine_along slot answered known before
-  pub said : Took said_before said_now (joined (replies_along form slot answered known before))
+  pub machine_is : now ≡ machine_along bounds answered known before
+  pub said : Took said_before said_now (joined (replies_along form bounds answered known before))
   pub noted_is : NotesMore failed failed_now (fault_lines answered) noted noted_now faults faults_now
 
 -- An event is next.
@@ -91,52 +103,65 @@ HasNext st = (e : Event) × (later : Standing) × GoesTo st later (e ∷ [])
 
 -- Where the events were cut short: nothing was said for want of memory, where an event is next or memory may be wanted for it; or a frame is next,
 -- and the disk failed before its reply, or a front of the reply was said.
-abbrev pub CutsNext : Cut → Form → (slot : ℕ) → Known → Machine → Standing → Option (List ℕ) → Option (List ℕ) → Type 0
-CutsNext NoMemory form slot known before st said_before said_now = (said_now ≡ said_before) × (HasNext st ⊎ MayWantMemory st)
-CutsNext Disk form slot known before st said_before said_now =
+abbrev pub CutsNext : Cut → Form → (bounds : StoreBounds) → Known → Machine → Standing → Option (List ℕ) → Option (List ℕ) → Type 0
+CutsNext NoMemory form bounds known before st said_before said_now = (said_now ≡ said_before) × (HasNext st ⊎ MayWantMemory st)
+CutsNext Disk form bounds known before st said_before said_now =
     (s : ℕ) × (f : Frame) × (later : Standing) × GoesTo st later (Arrived s f ∷ []) × (said_now ≡ said_before)
-CutsNext Unsaid form slot known before st said_before said_now =
-    (s : ℕ) × (f : Frame) × (later : Standing) × GoesTo st later (Arrived s f ∷ []) × TookFront said_before said_now (reply_by form slot s f known before)
+CutsNext Unsaid form bounds known before st said_before said_now =
+    (s : ℕ) × (f : Frame) × (later : Standing) × GoesTo st later (Arrived s f ∷ []) × TookFront said_before said_now (reply_by form bounds s f known before)
 
 -- The events were answered so far, and the next one was cut short.
-pub record IsCutShort (cut : Cut) (form : Form) (slot : ℕ) (known : Known) (before : Machine) (st : Standing) (said_before said_now : Option (List ℕ))
+pub record IsCutShort (cut : Cut) (form : Form) (bounds : StoreBounds) (known : Known) (before : Machine) (st : Standing) (said_before said_now : Option (List ℕ))
     (failed failed_now : Bool) (noted noted_now : Option (List ℕ)) (faults faults_now : ℕ) : Type 0 where
   pub known_mid : Known
   pub machine_mid : Machine
   pub st_mid : Standing
   pub said_mid : Option (List ℕ)
-  pub first : Answers form slot known known_mid before machine_mid st st_mid said_before said_mid failed failed_now noted noted_now faults faults_now
-  pub cuts : CutsNext cut form slot known_mid machine_mid st_mid said_mid said_now
+  pub first : Answers form bounds known known_mid before machine_mid st st_mid said_before said_mid failed failed_now noted noted_now faults faults_now
+  pub cuts : CutsNext cut form bounds known_mid machine_mid st_mid said_mid said_now
+
+-- What a stop within the loop finds: it fell within the turn of the frame that arrives behind some answered events.
+pub record StopsAlong (form : Form) (bounds : StoreBounds) (known : Known) (before : Machine) (st : Standing) (said : Option (List ℕ)) (image : Image) (taken : List ℕ) : Type 0 where
+  pub answered : List Event
+  pub mid : Standing
+  pub goes : GoesTo st mid answered
+  pub session : ℕ
+  pub frame : Frame
+  pub later : Standing
+  pub next : GoesTo mid later (Arrived session frame ∷ [])
+  pub said_mid : Option (List ℕ)
+  pub replies : Took said said_mid (joined (replies_along form bounds answered known before))
+  pub turn : StopsEvent form bounds (Arrived session frame) (known_along answered known) (machine_along bounds answered known before) said_mid image taken
 
 -- ---- the used bytes
 
 -- What was said where the answering was cut short.
-abbrev pub SaysCut : Cut → Form → ℕ → Machine → (said : List ℕ) → (answered unanswered : List Event) → Type 0
-SaysCut NoMemory form slot m said answered unanswered = SaysStarved form slot m said answered
-SaysCut Disk form slot m said answered unanswered = SaysBefore form slot m said answered unanswered
-SaysCut Unsaid form slot m said answered unanswered = SaysFront form slot m said answered unanswered
+abbrev pub SaysCut : Cut → Form → StoreBounds → Machine → (said : List ℕ) → (answered unanswered : List Event) → Type 0
+SaysCut NoMemory form bounds m said answered unanswered = SaysStarved form bounds m said answered
+SaysCut Disk form bounds m said answered unanswered = SaysBefore form bounds m said answered unanswered
+SaysCut Unsaid form bounds m said answered unanswered = SaysFront form bounds m said answered unanswered
 
 -- All events of the used bytes were answered, and the ending was told.
-pub record AnswersAll (form : Form) (slot : ℕ) (m : Machine) (used : List ℕ) (end : End) (status : Status) (said_before said_now : Option (List ℕ))
+pub record AnswersAll (form : Form) (bounds : StoreBounds) (m : Machine) (used : List ℕ) (end : End) (status : Status) (said_before said_now : Option (List ℕ))
     (failed failed_now : Bool) (noted noted_now : Option (List ℕ)) (faults faults_now : ℕ) : Type 0 where
-  pub said : Took said_before said_now (joined (replies_to form slot m (events_in form used)))
+  pub said : Took said_before said_now (joined (replies_to form bounds m (events_in form used)))
   pub ends : status ≡ status_at (is_bad_input form used) (has_rest form used) end
   pub noted_is : NotesMore failed failed_now (notes_of form (events_in form used) used status) noted noted_now faults faults_now
 
 -- Or the answering was cut short behind some of them.
-pub record AnswersSome (cut : Cut) (form : Form) (slot : ℕ) (m : Machine) (used : List ℕ) (said_before said_now : Option (List ℕ))
+pub record AnswersSome (cut : Cut) (form : Form) (bounds : StoreBounds) (m : Machine) (used : List ℕ) (said_before said_now : Option (List ℕ))
     (failed failed_now : Bool) (noted noted_now : Option (List ℕ)) (faults faults_now : ℕ) : Type 0 where
   pub answered : List Event
   pub unanswered : List Event
   pub split : answered ++ unanswered ≡ events_in form used
   pub said : List ℕ
   pub took : Took said_before said_now said
-  pub says : SaysCut cut form slot m said answered unanswered
+  pub says : SaysCut cut form bounds m said answered unanswered
   pub noted_is : NotesMore failed failed_now (fault_lines answered) noted noted_now faults faults_now
 
 -- What comes of the used bytes.
-abbrev pub AnswersUsed : Result Status Cut → Form → ℕ → Machine → List ℕ → End → Option (List ℕ) → Option (List ℕ) → (failed failed_now : Bool) → Option (List ℕ) → Option (List ℕ) → ℕ → ℕ → Type 0
-AnswersUsed (Ok status) form slot m used end said_before said_now failed failed_now noted noted_now faults faults_now =
-    AnswersAll form slot m used end status said_before said_now failed failed_now noted noted_now faults faults_now
-AnswersUsed (Err cut) form slot m used end said_before said_now failed failed_now noted noted_now faults faults_now =
-    AnswersSome cut form slot m used said_before said_now failed failed_now noted noted_now faults faults_now
+abbrev pub AnswersUsed : Result Status Cut → Form → StoreBounds → Machine → List ℕ → End → Option (List ℕ) → Option (List ℕ) → (failed failed_now : Bool) → Option (List ℕ) → Option (List ℕ) → ℕ → ℕ → Type 0
+AnswersUsed (Ok status) form bounds m used end said_before said_now failed failed_now noted noted_now faults faults_now =
+    AnswersAll form bounds m used end status said_before said_now failed failed_now noted noted_now faults faults_now
+AnswersUsed (Err cut) form bounds m used end said_before said_now failed failed_now noted noted_now faults faults_now =
+    AnswersSome cut form bounds m used said_before said_now failed failed_now noted noted_now faults faults_now

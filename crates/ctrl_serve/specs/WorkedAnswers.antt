@@ -4,20 +4,20 @@ use Rattle.channel_frame.specs.declared.frames.Frame.{Frame}
 use Rattle.ctrl_model.specs.declared.kinds.Who.TheVariants.{Admin}
 use Rattle.ctrl_model.specs.declared.replies.Reply.{Reply}
 use Rattle.ctrl_model.specs.State.{State, start}
-use Rattle.ctrl_serve.specs.FrameAnswer.{alone, frame_answer}
+use Rattle.ctrl_serve.specs.FrameAnswer.{no_bounds, alone, frame_answer}
 
 -- A frame of a content type and a body, without headers.
 abbrev pub frame_of : ℕ → List ℕ → Frame
 frame_of content body = record { content = content; sequence = 7; headers = []; body = body }
 
 -- The state behind some frames, each given by its content type and its body.
-abbrev pub state_behind : List (ℕ × List ℕ) → State → State
-state_behind [] s = s
-state_behind (x ∷ xs) s = state_behind xs (frame_answer 0 Admin (frame_of x.0 x.1) (alone s)).1.state
+abbrev pub state_after : List (ℕ × List ℕ) → State → State
+state_after [] s = s
+state_after (x ∷ xs) s = state_after xs (frame_answer no_bounds Admin (frame_of x.0 x.1) (alone s)).1.state
 
 -- The reply to one frame behind others, which come from the start.
 abbrev pub reply_behind : List (ℕ × List ℕ) → ℕ → List ℕ → Reply
-reply_behind frames content body = (frame_answer 0 Admin (frame_of content body) (alone (state_behind frames start))).0
+reply_behind frames content body = (frame_answer no_bounds Admin (frame_of content body) (alone (state_after frames start))).0
 
 -- The reply to one frame at the start.
 abbrev pub reply_at_start : ℕ → List ℕ → Reply

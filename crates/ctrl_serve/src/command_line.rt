@@ -8,6 +8,10 @@ pub enum Form {
     Dry,
     /// An input, on the folder: plain input, or a trace of many sessions.
     Replay(session_mux::Form),
+    /// A look at the folder, which is left alone.
+    Audit,
+    /// The compaction of the folder.
+    Compact,
     /// The generated load of this number, without a folder.
     Load(u32),
 }
@@ -29,7 +33,7 @@ fn number_of_word(word: &str) -> Option<u32>
     word.parse::<u32>().ok()
 }
 
-/// What the words run, if they are a line of the table of words: so far `dry`, `replay`, `replay --sessions` and `load N`.
+/// What the words run, if they are a line of the table of words: `dry`, `replay`, `replay --sessions`, `audit`, `compact` and `load N`.
 pub fn form_of(words: &[String]) -> Option<Form>
     ensures { result ≡ form_of (texts words.now) }
 {
@@ -38,6 +42,8 @@ pub fn form_of(words: &[String]) -> Option<Form>
         [word] if word.as_bytes() == b"replay".as_slice() => {
             Some(Form::Replay(session_mux::Form::Plain))
         }
+        [word] if word.as_bytes() == b"audit".as_slice() => Some(Form::Audit),
+        [word] if word.as_bytes() == b"compact".as_slice() => Some(Form::Compact),
         [word, number] if word.as_bytes() == b"load".as_slice() => {
             match number_of_word(number.as_str()) {
                 Some(number) => Some(Form::Load(number)),

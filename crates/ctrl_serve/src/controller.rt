@@ -1,9 +1,9 @@
 ghost use Rattle.std.specs.Prelude.{◌≡◌, ◌⊎◌, ◌≢◌, true, None, IsTrue, IsSome, OnOk, IfOk, IfErr, IsErrOf, Ok, Err};
-ghost use Rattle.ctrl_core.specs.CarriedCommands.{is_carried};
 ghost use Rattle.ctrl_keep.specs.KeptMachine.{step};
 ghost use Rattle.ctrl_keep.specs.OpenedStates.{OpensToState};
 ghost use Rattle.ctrl_model.specs.CommandForm.{is_spelled};
 ghost use Rattle.ctrl_model.specs.Controller.{answer, carry};
+ghost use Rattle.journal_core.specs.Room.{LeavesRoom};
 ghost use Rattle.ctrl_serve.specs.ControllerViews.{serving_of};
 ghost use Rattle.ctrl_serve.specs.Controllers.{GoesOn, IsReady};
 ghost use Rattle.ctrl_serve.specs.Turns.{unkept};
@@ -33,7 +33,6 @@ pub enum Controller {
 fn carry_permitted(core: &mut Core, command: &Command) -> Result<Reply, AllocError>
     requires live { core.old.live ≡ true }
     requires spelled { is_spelled command.now ≡ true }
-    requires carried { is_carried command.now ≡ true }
     ensures ok { IfOk result (λ r. (r, core.new.state) ≡ carry command.now core.old.state) }
     ensures live { OnOk result (core.new.live ≡ true) }
     ensures limits { IfOk result (λ r. keeps_limits r ≡ true) }
@@ -50,7 +49,6 @@ pub(crate) fn carry_alone(
 ) -> Result<Reply, AllocError>
     requires live { core.old.live ≡ true }
     requires spelled { is_spelled command.now ≡ true }
-    requires carried { is_carried command.now ≡ true }
     ensures ok { IfOk result (λ r. (r, core.new.state) ≡ answer who.now command.now core.old.state) }
     ensures live { OnOk result (core.new.live ≡ true) }
     ensures limits { IfOk result (λ r. keeps_limits r ≡ true) }
@@ -62,9 +60,10 @@ pub(crate) fn carry_alone(
     }
 }
 
-// What cut a command short that a kept controller did not answer. It was not spent, and no folder was opened.
-fn cut_of(fault: KeepFault) -> Cut
-    ensures { (fault ≡ KeepFault.Disk → result ≡ Cut.Disk) × (fault ≡ KeepFault.NoMemory → result ≡ Cut.NoMemory) }
+/// What cut a command short that a kept controller did not answer. It was not spent, and no folder was opened.
+pub(crate) fn cut_of(fault: KeepFault) -> Cut
+    ensures disk { fault ≡ KeepFault.Disk → result ≡ Cut.Disk }
+    ensures others { fault ≢ KeepFault.Disk → result ≡ Cut.NoMemory }
 {
     match fault {
         KeepFault::Disk => Cut::Disk,
@@ -84,8 +83,7 @@ impl Controller {
         requires able { (serving_of self.old).able ≡ true }
         requires ready { IsReady D.tells (serving_of self.old).kept (D.reads desk.old) (D.may_leave desk.old) }
         requires spelled { is_spelled command.now ≡ true }
-        requires carried { is_carried command.now ≡ true }
-        ensures ok { IfOk result (λ r. (r, (serving_of self.new).machine) ≡ step (serving_of self.old).slot who.now command.now (serving_of self.old).machine) }
+        ensures ok { IfOk result (λ r. (r, (serving_of self.new).machine) ≡ step (serving_of self.old).bounds who.now command.now (serving_of self.old).machine) }
         ensures on { OnOk result (GoesOn (serving_of self.old) (serving_of self.new)) }
         ensures ready { (serving_of self.new).able ≡ true → IsReady D.tells (serving_of self.new).kept (D.reads desk.new) (D.may_leave desk.new) }
         ensures limits { IfOk result (λ r. keeps_limits r ≡ true) }
@@ -95,7 +93,8 @@ impl Controller {
         ensures alone { (serving_of self.old).kept ≡ None → desk.new ≡ desk.old }
         ensures others { OnlyDisk D.said D.noted D.say_faults D.note_faults desk.old desk.new }
         ensures stops { IsSome (serving_of self.old).kept → IsTrue D.tells → Leaves D.moment D.since D.may_leave D.said desk.old desk.new
-            (λ image. OpensToState image (serving_of self.old).machine.state ⊎ OpensToState image (step (serving_of self.old).slot who.now command.now (serving_of self.old).machine).1.state) }
+            (λ image. OpensToState image (serving_of self.old).machine.state ⊎ OpensToState image (step (serving_of self.old).bounds who.now command.now (serving_of self.old).machine).1.state) }
+        ensures images { LeavesRoom (serving_of self.old).bounds.slot D.may_leave desk.old desk.new }
         ensures remembers { Remembers (D.moment desk.old) (D.since desk.old) (D.since desk.new) }
     {
         match self {

@@ -1,12 +1,14 @@
-//! The top call of the controller: it reads the words and the input, answers each whole frame and says the replies.
+//! The top call of the controller. By the words it reads the input, answers each whole frame and says the replies; or it looks at the
+//! folder, compacts it, or answers a generated load.
 #![tactic(auto)]
 
 mod bounds;
 mod command_line;
 mod controller;
-mod intake;
+mod folder;
 mod laws;
 mod loads;
+mod pieces;
 mod serving;
 mod top;
 mod worked;
@@ -14,12 +16,13 @@ mod worked;
 pub use bounds::Bounds;
 pub use command_line::Form;
 pub use laws::{
-    cut_plain_runs_note_one_line, cut_runs_say_fronts, done_says_all, done_says_the_line,
-    numbers_have_one_word, plain_input_is_one_session, truncated_says_all,
+    a_run_goes_on_from_a_stop, cut_plain_runs_note_one_line, cut_runs_say_fronts, done_says_all,
+    done_says_the_line, numbers_have_one_word, plain_input_is_one_session, runs_are_complete,
+    stops_keep_what_was_acknowledged, truncated_says_all,
 };
 pub use run_notes::Status;
 pub use top::{run, run_within};
 pub use worked::{
     worked_answers, worked_circuits, worked_counts, worked_networks, worked_numbers,
-    worked_policies, worked_runs, worked_sessions, worked_words,
+    worked_policies, worked_readings, worked_runs, worked_sessions, worked_stops, worked_words,
 };

@@ -1,13 +1,14 @@
-ghost use Rattle.std.specs.Prelude.{◌≡◌, ◌++◌, true, IfOk, OnOk, codes};
+ghost use Rattle.std.specs.Prelude.{◌≡◌, ◌++◌, ℕ, List, true, IfOk, OnOk, codes};
 ghost use Rattle.ctrl_model.specs.declared.kinds.Who.TheVariants.{Admin};
 ghost use Rattle.ctrl_model.specs.State.{start};
 ghost use Rattle.reply_codec.specs.ReplyBody.{reply_body};
 ghost use Rattle.reply_codec.specs.ReplyLimits.{keeps_limits};
 ghost use Rattle.run_notes.specs.NotedLines.{RisesOnce};
-ghost use Rattle.ctrl_serve.specs.FrameAnswer.{alone, frame_answer, machine_behind_alone};
-ghost use Rattle.ctrl_serve.specs.Headline.{OnlySaysAndNotes, SaysOneLine};
-ghost use Rattle.ctrl_serve.specs.Loads.{counts_line, state_of_load};
+ghost use Rattle.ctrl_serve.specs.FrameAnswer.{no_bounds, alone, frame_answer, machine_behind_alone};
+ghost use Rattle.ctrl_serve.specs.Headline.{OnlySaysAndNotes};
+ghost use Rattle.ctrl_serve.specs.Loads.{counts_line, state_of_load, SaysOneLine};
 ghost use Rattle.ctrl_serve.specs.Runs.{IsWriteCaused};
+ghost use Rattle.ziti_outside.specs.Moments.{Elapses};
 
 use crate::controller::carry_alone;
 use channel_frame::Frame;
@@ -23,7 +24,7 @@ use ziti_outside::{Desk, Failed};
 // Answers a frame without a folder, and says no reply. A frame that spells no command is refused, and changes nothing.
 fn answer_unsaid(alloc: Global, core: &mut Core, frame: &Frame) -> Result<(), AllocError>
     requires { core.old.live ≡ true }
-    ensures { OnOk result (core.new ≡ record { state = (frame_answer 0 Admin frame.now (alone core.old.state)).1.state; live = true }) }
+    ensures { OnOk result (core.new ≡ record { state = (frame_answer no_bounds Admin frame.now (alone core.old.state)).1.state; live = true }) }
 {
     match read(alloc, frame.content, frame.body.as_slice()) {
         Ok(command) => {
@@ -38,7 +39,7 @@ fn answer_unsaid(alloc: Global, core: &mut Core, frame: &Frame) -> Result<(), Al
 // Answers the frames in order, and says no reply.
 fn answer_all(alloc: Global, core: &mut Core, frames: &[Frame]) -> Result<(), AllocError>
     requires { core.old.live ≡ true }
-    ensures { OnOk result (core.new ≡ record { state = (machine_behind_alone 0 Admin (alone core.old.state) frames.now).state; live = true }) }
+    ensures { OnOk result (core.new ≡ record { state = (machine_behind_alone no_bounds Admin (alone core.old.state) frames.now).state; live = true }) }
 {
     'frames: for frame in frames {
         answer_unsaid(alloc, core, frame)?;
@@ -64,8 +65,8 @@ fn body_line(alloc: Global, reply: &Reply) -> Result<Vec<u8>, AllocError>
     line_of(alloc, frame.body.as_slice())
 }
 
-// The counts line of the state of a core.
-fn counts_line(alloc: Global, core: &mut Core) -> Result<Vec<u8>, AllocError>
+/// The counts line of the state of a core.
+pub(crate) fn counts_line(alloc: Global, core: &mut Core) -> Result<Vec<u8>, AllocError>
     requires { core.old.live ≡ true }
     ensures { IfOk result (λ line. line.items ≡ counts_line core.old.state) }
 {
@@ -76,7 +77,7 @@ fn counts_line(alloc: Global, core: &mut Core) -> Result<Vec<u8>, AllocError>
 // The counts line behind some frames that a core answers.
 fn line_behind(alloc: Global, core: &mut Core, frames: &[Frame]) -> Result<Vec<u8>, AllocError>
     requires { core.old.live ≡ true }
-    ensures { IfOk result (λ line. line.items ≡ counts_line (machine_behind_alone 0 Admin (alone core.old.state) frames.now).state) }
+    ensures { IfOk result (λ line. line.items ≡ counts_line (machine_behind_alone no_bounds Admin (alone core.old.state) frames.now).state) }
 {
     answer_all(alloc, core, frames)?;
     counts_line(alloc, core)
@@ -84,7 +85,7 @@ fn line_behind(alloc: Global, core: &mut Core, frames: &[Frame]) -> Result<Vec<u
 
 // The counts line behind some frames that are answered from the start.
 fn line_from_start(alloc: Global, frames: &[Frame]) -> Result<Vec<u8>, AllocError>
-    ensures { IfOk result (λ line. line.items ≡ counts_line (machine_behind_alone 0 Admin (alone start) frames.now).state) }
+    ensures { IfOk result (λ line. line.items ≡ counts_line (machine_behind_alone no_bounds Admin (alone start) frames.now).state) }
 {
     let mut core = Core::empty(alloc)?;
     let line = line_behind(alloc, &mut core, frames);
@@ -101,15 +102,31 @@ fn line_of_load(alloc: Global, number: u32) -> Result<Vec<u8>, AllocError>
 }
 
 // Says a line as the last that is done, and answers how the run ended.
-fn say_line<D: Desk>(line: &[u8], desk: &mut D) -> Status
+fn say_made<D: Desk>(line: &[u8], desk: &mut D) -> Status
     ensures says { SaysOneLine line.now (D.said desk.old) (D.said desk.new) (D.noted desk.old) (D.noted desk.new) (D.note_faults desk.old) (D.note_faults desk.new) result }
     ensures write_cause { IsWriteCaused (D.say_faults desk.old) (D.say_faults desk.new) result }
     ensures counted { RisesOnce (D.note_faults desk.old) (D.note_faults desk.new) }
     ensures others { OnlySaysAndNotes D.reads D.may_leave D.disk_faults desk.old desk.new }
+    ensures stops { Elapses (D.moment desk.old) (D.moment desk.new) (D.since desk.old) (D.since desk.new) (λ image taken. D.may_leave desk.old image) }
 {
     match desk.say(line) {
         Ok(()) => Status::Done,
         Err(Failed) => tell_cut(Cut::Unsaid, desk),
+    }
+}
+
+/// Says a line as the last that is done, unless there was no memory to make it, and answers how the run ended.
+pub(crate) fn say_line<D: Desk>(line: Result<Vec<u8>, AllocError>, desk: &mut D) -> Status
+    ensures says { (wanted : List ℕ) → IfOk line (λ v. v.items ≡ wanted)
+        → SaysOneLine wanted (D.said desk.old) (D.said desk.new) (D.noted desk.old) (D.noted desk.new) (D.note_faults desk.old) (D.note_faults desk.new) result }
+    ensures write_cause { IsWriteCaused (D.say_faults desk.old) (D.say_faults desk.new) result }
+    ensures counted { RisesOnce (D.note_faults desk.old) (D.note_faults desk.new) }
+    ensures others { OnlySaysAndNotes D.reads D.may_leave D.disk_faults desk.old desk.new }
+    ensures stops { Elapses (D.moment desk.old) (D.moment desk.new) (D.since desk.old) (D.since desk.new) (λ image taken. D.may_leave desk.old image) }
+{
+    match line {
+        Ok(line) => say_made(line.as_slice(), desk),
+        Err(_) => tell_cut(Cut::NoMemory, desk),
     }
 }
 
@@ -121,8 +138,5 @@ pub fn run_load<D: Desk>(alloc: Global, number: u32, desk: &mut D) -> Status
     ensures counted { RisesOnce (D.note_faults desk.old) (D.note_faults desk.new) }
     ensures others { OnlySaysAndNotes D.reads D.may_leave D.disk_faults desk.old desk.new }
 {
-    match line_of_load(alloc, number) {
-        Ok(line) => say_line(line.as_slice(), desk),
-        Err(_) => tell_cut(Cut::NoMemory, desk),
-    }
+    say_line(line_of_load(alloc, number), desk)
 }

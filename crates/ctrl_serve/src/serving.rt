@@ -1,6 +1,7 @@
 ghost use Rattle.std.specs.Prelude.{◌≡◌, ◌⊎◌, ◌≢◌, true, IsTrue, IsSome, IfOk, IfErr, IsErrOf, None, OnOk, OnErr};
 ghost use Rattle.channel_frame.specs.declared.frames.Frame.{Frame};
 ghost use Rattle.ctrl_keep.specs.OpenedStates.{OpensToState};
+ghost use Rattle.journal_core.specs.Room.{LeavesRoom};
 ghost use Rattle.reply_codec.specs.ReplyLimits.{keeps_limits};
 ghost use Rattle.session_mux.specs.declared.events.Event.TheVariants.{Arrived};
 ghost use Rattle.ctrl_serve.specs.ControllerViews.{serving_of};
@@ -12,7 +13,7 @@ ghost use Rattle.run_notes.specs.KnownSessions.{known_after, sender_at};
 ghost use Rattle.ctrl_serve.specs.KnownReplies.{machine_after};
 ghost use Rattle.run_notes.specs.Notes.{event_lines, fault_word as word_of_fault, session_note};
 ghost use Rattle.run_notes.specs.NotesSoFar.{NotesMore};
-ghost use Rattle.ctrl_serve.specs.Turns.{Answers, CutsEvent, CutsTurn, IsCutShort, TakesEvent, TakesTurn, reply_to_frame, unkept, unsaid};
+ghost use Rattle.ctrl_serve.specs.Turns.{Answers, CutsEvent, CutsTurn, IsCutShort, StopsAlong, StopsEvent, TakesEvent, TakesTurn, reply_to_frame, unkept, unsaid};
 ghost use Rattle.run_notes.specs.Endings.{ComesToEnd};
 ghost use Rattle.ziti_outside.specs.Causes.{HasCause};
 ghost use Rattle.ziti_outside.specs.Moments.{Elapses, Leaves, Remembers};
@@ -56,7 +57,7 @@ fn answer_frame<D: Desk>(
 ) -> Result<Reply, Cut>
     requires able { (serving_of controller.old).able ≡ true }
     requires ready { IsReady D.tells (serving_of controller.old).kept (D.reads desk.old) (D.may_leave desk.old) }
-    ensures ok { IfOk result (λ r. (r, (serving_of controller.new).machine) ≡ frame_answer (serving_of controller.old).slot who.now frame.now (serving_of controller.old).machine) }
+    ensures ok { IfOk result (λ r. (r, (serving_of controller.new).machine) ≡ frame_answer (serving_of controller.old).bounds who.now frame.now (serving_of controller.old).machine) }
     ensures on { OnOk result (GoesOn (serving_of controller.old) (serving_of controller.new)) }
     ensures ready { OnOk result (IsReady D.tells (serving_of controller.new).kept (D.reads desk.new) (D.may_leave desk.new)) }
     ensures limits { IfOk result (λ r. keeps_limits r ≡ true) }
@@ -64,10 +65,11 @@ fn answer_frame<D: Desk>(
     ensures cause { HasCause (D.disk_faults desk.old) (D.disk_faults desk.new) (unkept result) }
     ensures undisked { (serving_of controller.old).kept ≡ None → IsErrOf result Cut.Disk → ⊥ }
     ensures alone { (serving_of controller.old).kept ≡ None → desk.new ≡ desk.old }
+    ensures images { LeavesRoom (serving_of controller.old).bounds.slot D.may_leave desk.old desk.new }
     ensures others { OnlyDisk D.said D.noted D.say_faults D.note_faults desk.old desk.new }
     ensures stops { IsSome (serving_of controller.old).kept → IsTrue D.tells → Leaves D.moment D.since D.may_leave D.said desk.old desk.new
         (λ image. OpensToState image (serving_of controller.old).machine.state
-        ⊎ OpensToState image (frame_answer (serving_of controller.old).slot who.now frame.now (serving_of controller.old).machine).1.state) }
+        ⊎ OpensToState image (frame_answer (serving_of controller.old).bounds who.now frame.now (serving_of controller.old).machine).1.state) }
     ensures remembers { Remembers (D.moment desk.old) (D.since desk.old) (D.since desk.new) }
 {
     match read(alloc, frame.content, frame.body.as_slice()) {
@@ -115,19 +117,20 @@ fn serve_frame<D: Desk>(
 ) -> Result<(), Cut>
     requires able { (serving_of controller.old).able ≡ true }
     requires ready { IsReady D.tells (serving_of controller.old).kept (D.reads desk.old) (D.may_leave desk.old) }
-    ensures ok { OnOk result (TakesTurn (serving_of controller.old).slot address who.now frame.now (serving_of controller.old).machine (serving_of controller.new).machine (D.said desk.old) (D.said desk.new)) }
+    ensures ok { OnOk result (TakesTurn (serving_of controller.old).bounds address who.now frame.now (serving_of controller.old).machine (serving_of controller.new).machine (D.said desk.old) (D.said desk.new)) }
     ensures on { OnOk result (GoesOn (serving_of controller.old) (serving_of controller.new)) }
     ensures ready { OnOk result (IsReady D.tells (serving_of controller.new).kept (D.reads desk.new) (D.may_leave desk.new)) }
-    ensures cut { IfErr result (λ c. CutsTurn c (serving_of controller.old).slot address who.now frame.now (serving_of controller.old).machine (D.said desk.old) (D.said desk.new)) }
+    ensures cut { IfErr result (λ c. CutsTurn c (serving_of controller.old).bounds address who.now frame.now (serving_of controller.old).machine (D.said desk.old) (D.said desk.new)) }
     ensures say_cause { HasCause (D.say_faults desk.old) (D.say_faults desk.new) (unsaid result) }
     ensures disk_cause { HasCause (D.disk_faults desk.old) (D.disk_faults desk.new) (unkept result) }
     ensures notes { LeavesNotes D.noted D.note_faults desk.old desk.new }
     ensures undisked { (serving_of controller.old).kept ≡ None → IsErrOf result Cut.Disk → ⊥ }
     ensures alone { (serving_of controller.old).kept ≡ None → OnlySays D.noted D.note_faults D.reads D.may_leave D.disk_faults desk.old desk.new }
+    ensures images { LeavesRoom (serving_of controller.old).bounds.slot D.may_leave desk.old desk.new }
     ensures stops { IsSome (serving_of controller.old).kept → IsTrue D.tells → Elapses (D.moment desk.old) (D.moment desk.new) (D.since desk.old) (D.since desk.new)
         (Turn (serving_of controller.old).machine.state
-        (frame_answer (serving_of controller.old).slot who.now frame.now (serving_of controller.old).machine).1.state
-        (reply_to_frame (serving_of controller.old).slot address who.now frame.now (serving_of controller.old).machine) (D.said desk.old)) }
+        (frame_answer (serving_of controller.old).bounds who.now frame.now (serving_of controller.old).machine).1.state
+        (reply_to_frame (serving_of controller.old).bounds address who.now frame.now (serving_of controller.old).machine) (D.said desk.old)) }
 {
     let reply = answer_frame(alloc, desk, controller, who, frame)?;
     let bytes = reply_bytes(alloc, address, frame.sequence, &reply)?;
@@ -149,15 +152,18 @@ fn serve_arrived<D: Desk>(
 ) -> Result<(), Cut>
     requires able { (serving_of controller.old).able ≡ true }
     requires ready { IsReady D.tells (serving_of controller.old).kept (D.reads desk.old) (D.may_leave desk.old) }
-    ensures ok { OnOk result (TakesEvent form (serving_of controller.old).slot (Arrived session frame.now) sessions.old sessions.new (serving_of controller.old).machine (serving_of controller.new).machine (D.said desk.old) (D.said desk.new)) }
+    ensures ok { OnOk result (TakesEvent form (serving_of controller.old).bounds (Arrived session frame.now) sessions.old sessions.new (serving_of controller.old).machine (serving_of controller.new).machine (D.said desk.old) (D.said desk.new)) }
     ensures on { OnOk result (GoesOn (serving_of controller.old) (serving_of controller.new)) }
     ensures ready { OnOk result (IsReady D.tells (serving_of controller.new).kept (D.reads desk.new) (D.may_leave desk.new)) }
-    ensures cut { IfErr result (λ c. CutsEvent c form (serving_of controller.old).slot (Arrived session frame.now) sessions.old (serving_of controller.old).machine (D.said desk.old) (D.said desk.new)) }
+    ensures cut { IfErr result (λ c. CutsEvent c form (serving_of controller.old).bounds (Arrived session frame.now) sessions.old (serving_of controller.old).machine (D.said desk.old) (D.said desk.new)) }
     ensures say_cause { HasCause (D.say_faults desk.old) (D.say_faults desk.new) (unsaid result) }
     ensures disk_cause { HasCause (D.disk_faults desk.old) (D.disk_faults desk.new) (unkept result) }
     ensures notes { LeavesNotes D.noted D.note_faults desk.old desk.new }
     ensures undisked { (serving_of controller.old).kept ≡ None → IsErrOf result Cut.Disk → ⊥ }
     ensures alone { (serving_of controller.old).kept ≡ None → OnlySays D.noted D.note_faults D.reads D.may_leave D.disk_faults desk.old desk.new }
+    ensures images { LeavesRoom (serving_of controller.old).bounds.slot D.may_leave desk.old desk.new }
+    ensures stops { IsSome (serving_of controller.old).kept → IsTrue D.tells → Elapses (D.moment desk.old) (D.moment desk.new) (D.since desk.old) (D.since desk.new)
+        (StopsEvent form (serving_of controller.old).bounds (Arrived session frame.now) sessions.old (serving_of controller.old).machine (D.said desk.old)) }
 {
     let address = Address {
         form,
@@ -188,16 +194,19 @@ fn serve_event<D: Desk>(
 ) -> Result<(), Cut>
     requires able { (serving_of controller.old).able ≡ true }
     requires ready { IsReady D.tells (serving_of controller.old).kept (D.reads desk.old) (D.may_leave desk.old) }
-    ensures ok { OnOk result (TakesEvent form (serving_of controller.old).slot event sessions.old sessions.new (serving_of controller.old).machine (serving_of controller.new).machine (D.said desk.old) (D.said desk.new)) }
+    ensures ok { OnOk result (TakesEvent form (serving_of controller.old).bounds event sessions.old sessions.new (serving_of controller.old).machine (serving_of controller.new).machine (D.said desk.old) (D.said desk.new)) }
     ensures on { OnOk result (GoesOn (serving_of controller.old) (serving_of controller.new)) }
     ensures ready { OnOk result (IsReady D.tells (serving_of controller.new).kept (D.reads desk.new) (D.may_leave desk.new)) }
-    ensures cut { IfErr result (λ c. CutsEvent c form (serving_of controller.old).slot event sessions.old (serving_of controller.old).machine (D.said desk.old) (D.said desk.new)) }
+    ensures cut { IfErr result (λ c. CutsEvent c form (serving_of controller.old).bounds event sessions.old (serving_of controller.old).machine (D.said desk.old) (D.said desk.new)) }
     ensures say_cause { HasCause (D.say_faults desk.old) (D.say_faults desk.new) (unsaid result) }
     ensures disk_cause { HasCause (D.disk_faults desk.old) (D.disk_faults desk.new) (unkept result) }
     ensures noted { OnOk result (NotesMore notes.old.failed notes.new.failed (event_lines event) (D.noted desk.old) (D.noted desk.new) (D.note_faults desk.old) (D.note_faults desk.new)) }
     ensures unnoted { OnErr result ((notes.new ≡ notes.old) × LeavesNotes D.noted D.note_faults desk.old desk.new) }
     ensures undisked { (serving_of controller.old).kept ≡ None → IsErrOf result Cut.Disk → ⊥ }
     ensures alone { (serving_of controller.old).kept ≡ None → OnlySaysAndNotes D.reads D.may_leave D.disk_faults desk.old desk.new }
+    ensures images { LeavesRoom (serving_of controller.old).bounds.slot D.may_leave desk.old desk.new }
+    ensures stops { IsSome (serving_of controller.old).kept → IsTrue D.tells → Elapses (D.moment desk.old) (D.moment desk.new) (D.since desk.old) (D.since desk.new)
+        (StopsEvent form (serving_of controller.old).bounds event sessions.old (serving_of controller.old).machine (D.said desk.old)) }
 {
     match event {
         Event::Opened { session, who } => {
@@ -231,17 +240,20 @@ pub fn serve_events<D: Desk>(
 ) -> Result<Option<u64>, Cut>
     requires able { (serving_of controller.old).able ≡ true }
     requires ready { IsReady D.tells (serving_of controller.old).kept (D.reads desk.old) (D.may_leave desk.old) }
-    ensures ok { OnOk result (Answers form (serving_of controller.old).slot sessions.old sessions.new (serving_of controller.old).machine (serving_of controller.new).machine mux.old mux.new (D.said desk.old) (D.said desk.new)
+    ensures ok { OnOk result (Answers form (serving_of controller.old).bounds sessions.old sessions.new (serving_of controller.old).machine (serving_of controller.new).machine mux.old mux.new (D.said desk.old) (D.said desk.new)
         notes.old.failed notes.new.failed (D.noted desk.old) (D.noted desk.new) (D.note_faults desk.old) (D.note_faults desk.new)) }
     ensures end { IfOk result (λ bad. ComesToEnd mux.new bad) }
     ensures on { OnOk result (GoesOn (serving_of controller.old) (serving_of controller.new)) }
     ensures ready { OnOk result (IsReady D.tells (serving_of controller.new).kept (D.reads desk.new) (D.may_leave desk.new)) }
-    ensures cut { IfErr result (λ c. IsCutShort c form (serving_of controller.old).slot sessions.old (serving_of controller.old).machine mux.old (D.said desk.old) (D.said desk.new)
+    ensures cut { IfErr result (λ c. IsCutShort c form (serving_of controller.old).bounds sessions.old (serving_of controller.old).machine mux.old (D.said desk.old) (D.said desk.new)
         notes.old.failed notes.new.failed (D.noted desk.old) (D.noted desk.new) (D.note_faults desk.old) (D.note_faults desk.new)) }
     ensures say_cause { HasCause (D.say_faults desk.old) (D.say_faults desk.new) (unsaid result) }
     ensures disk_cause { HasCause (D.disk_faults desk.old) (D.disk_faults desk.new) (unkept result) }
     ensures undisked { (serving_of controller.old).kept ≡ None → IsErrOf result Cut.Disk → ⊥ }
     ensures alone { (serving_of controller.old).kept ≡ None → OnlySaysAndNotes D.reads D.may_leave D.disk_faults desk.old desk.new }
+    ensures images { LeavesRoom (serving_of controller.old).bounds.slot D.may_leave desk.old desk.new }
+    ensures stops { IsSome (serving_of controller.old).kept → IsTrue D.tells → Elapses (D.moment desk.old) (D.moment desk.new) (D.since desk.old) (D.since desk.new)
+        (StopsAlong form (serving_of controller.old).bounds sessions.old (serving_of controller.old).machine mux.old (D.said desk.old)) }
 {
     'events: loop {
         match mux.next() {

@@ -1,19 +1,26 @@
-ghost use Rattle.std.specs.Prelude.{◌≡◌, [], ◌∷◌, ◌++◌, codes, None, Some};
+ghost use Rattle.std.specs.Prelude.{◌≡◌, [], ◌∷◌, ◌++◌, true, false, codes, take, None, Some};
+ghost use Rattle.ziti_outside.specs.Images.{Image};
 ghost use Rattle.channel_frame.specs.FrameSpelling.{spelling};
-ghost use Rattle.channel_frame.specs.WorkedFrames.{ann_bytes, reply_bytes, cut_bytes};
+ghost use Rattle.channel_frame.specs.WorkedFrames.{ann_bytes, reply_bytes, cut_bytes, unmarked_bytes};
 ghost use Rattle.ctrl_model.specs.declared.refusals.Denial.TheVariants as denial;
 ghost use Rattle.ctrl_model.specs.declared.refusals.Field.TheVariants as field;
 ghost use Rattle.ctrl_model.specs.declared.refusals.Reason.TheVariants as reason;
 ghost use Rattle.ctrl_model.specs.declared.refusals.Refusal.TheVariants as refusal;
 ghost use Rattle.ctrl_model.specs.declared.replies.Reply.TheVariants as reply;
 ghost use Rattle.ctrl_model.specs.State.{start};
+ghost use Rattle.ctrl_keep.specs.OpenedStates.{OpensToState};
+ghost use Rattle.ctrl_keep.specs.WorkedMachines.{at_most, machine_at};
 ghost use Rattle.ctrl_serve.specs.CommandLine.{form_of, number_of_word};
-ghost use Rattle.ctrl_serve.specs.declared.command_line.Form.TheVariants.{Dry, Load, Replay};
+ghost use Rattle.ctrl_serve.specs.declared.command_line.Form.TheVariants.{Dry, Replay, Audit, Compact, Load};
 ghost use Rattle.session_mux.specs.declared.sessions.Form.TheVariants.{Plain, Trace};
 ghost use Rattle.session_mux.specs.WorkedTraces.{one_session, two_sessions, kind_five, one_faulty};
-ghost use Rattle.ctrl_serve.specs.FrameAnswer.{alone, replies};
+ghost use Rattle.ctrl_serve.specs.FrameAnswer.{no_bounds, alone, replies};
+ghost use Rattle.ctrl_serve.specs.Reading.{is_decided};
 ghost use Rattle.ctrl_serve.specs.Loads.{counts_line};
-ghost use Rattle.ctrl_serve.specs.WorkedAnswers.{reply_at_start, reply_behind, state_behind, ann_may_dial, all_may_dial, first_goes, ann_comes_again, two_routers, router_goes, line, ann_asks, middle_closes};
+ghost use Rattle.run_notes.specs.Inputs.{events_in};
+ghost use Rattle.ctrl_serve.specs.RunStops.{HoldsFirst, StopFinds};
+ghost use Rattle.ctrl_serve.specs.WorkedStops.{only_ann, ann_and_bob, bob_bytes, bob_reply_bytes, no_room_bytes};
+ghost use Rattle.ctrl_serve.specs.WorkedAnswers.{reply_at_start, reply_behind, state_after, ann_may_dial, all_may_dial, first_goes, ann_comes_again, two_routers, router_goes, line, ann_asks, middle_closes};
 ghost use Rattle.reply_codec.specs.ReplyFrame.{reply_frame};
 
 /// Words of the command line.
@@ -23,6 +30,10 @@ pub fn worked_words()
     ensures sessions { form_of (codes "replay" ∷ codes "--sessions" ∷ []) ≡ Some (Replay Trace) }
     ensures dry_sessions { form_of (codes "dry" ∷ codes "--sessions" ∷ []) ≡ None }
     ensures sessions_first { form_of (codes "--sessions" ∷ codes "replay" ∷ []) ≡ None }
+    ensures audit { form_of (codes "audit" ∷ []) ≡ Some Audit }
+    ensures compact { form_of (codes "compact" ∷ []) ≡ Some Compact }
+    ensures audit_sessions { form_of (codes "audit" ∷ codes "--sessions" ∷ []) ≡ None }
+    ensures compact_twice { form_of (codes "compact" ∷ codes "compact" ∷ []) ≡ None }
     ensures none { form_of [] ≡ None }
     ensures other { form_of (codes "Dry" ∷ []) ≡ None }
     ensures more { form_of (codes "dry" ∷ codes "dry" ∷ []) ≡ None }
@@ -48,7 +59,7 @@ pub fn worked_numbers()
 pub fn worked_counts()
     ensures start { counts_line start
         ≡ codes "{\"circuits\":0,\"grants\":0,\"identities\":0,\"links\":0,\"policies\":0,\"routers\":0,\"services\":0,\"terminators\":0}\n" }
-    ensures dial { counts_line (state_behind ann_may_dial start)
+    ensures dial { counts_line (state_after ann_may_dial start)
         ≡ codes "{\"circuits\":0,\"grants\":1,\"identities\":1,\"links\":0,\"policies\":1,\"routers\":0,\"services\":1,\"terminators\":0}\n" }
 {}
 
@@ -63,6 +74,8 @@ pub fn worked_answers()
     ensures two_keys { reply_at_start 1000 (codes "{\"name\":\"a\",\"x\":1}") ≡ reply.Refused (refusal.BadBody field.Nothing reason.Unknown) }
     ensures list { reply_at_start 1000 (codes "[1]") ≡ reply.Refused (refusal.BadBody field.Nothing reason.NotObject) }
     ensures unsupported { reply_at_start 2 [] ≡ reply.Refused refusal.UnsupportedType }
+    ensures compact { reply_at_start 1510 (codes "{}") ≡ reply.Done }
+    ensures compact_key { reply_at_start 1510 (codes "{\"x\":1}") ≡ reply.Refused (refusal.BadBody field.Nothing reason.Unknown) }
 {}
 
 /// Answers behind policies: their grants are counted, a policy by names means the entities that were present, and role lists are
@@ -103,17 +116,56 @@ pub fn worked_circuits()
 
 /// The replies to one frame that creates ann, to the same frame twice, and to a frame before a cut one.
 pub fn worked_runs()
-    ensures once { replies Plain 0 (alone start) ann_bytes ≡ reply_bytes }
-    ensures twice { replies Plain 0 (alone start) (ann_bytes ++ ann_bytes) ≡ reply_bytes ++ spelling (reply_frame 1 7 (reply.Refused refusal.Exists)) }
-    ensures nothing { replies Plain 0 (alone start) [] ≡ [] }
-    ensures before_a_tail { replies Plain 0 (alone start) (ann_bytes ++ cut_bytes) ≡ reply_bytes }
+    ensures once { replies Plain no_bounds (alone start) ann_bytes ≡ reply_bytes }
+    ensures twice { replies Plain no_bounds (alone start) (ann_bytes ++ ann_bytes) ≡ reply_bytes ++ spelling (reply_frame 1 7 (reply.Refused refusal.Exists)) }
+    ensures nothing { replies Plain no_bounds (alone start) [] ≡ [] }
+    ensures before_a_tail { replies Plain no_bounds (alone start) (ann_bytes ++ cut_bytes) ≡ reply_bytes }
 {}
 
 /// The replies to traces: each follows a byte 4 and its session, each session counts its own, and they come in the order of the last bytes of
 /// the frames. Session 1 is the identity ann's, who may not create an identity; its frame stands between the parts of session 0's.
 pub fn worked_sessions()
-    ensures one { replies Trace 0 (alone start) one_session ≡ 4 ∷ 0 ∷ reply_bytes }
-    ensures two { replies Trace 0 (alone start) two_sessions ≡ (4 ∷ 1 ∷ spelling (reply_frame 0 7 (reply.Refused refusal.NotPermitted))) ++ (4 ∷ 0 ∷ reply_bytes) }
-    ensures other_goes_on { replies Trace 0 (alone start) one_faulty ≡ 4 ∷ 1 ∷ spelling (reply_frame 0 7 (reply.Refused refusal.NotPermitted)) }
-    ensures before_a_bad_record { replies Trace 0 (alone start) kind_five ≡ [] }
+    ensures one { replies Trace no_bounds (alone start) one_session ≡ 4 ∷ 0 ∷ reply_bytes }
+    ensures two { replies Trace no_bounds (alone start) two_sessions ≡ (4 ∷ 1 ∷ spelling (reply_frame 0 7 (reply.Refused refusal.NotPermitted))) ++ (4 ∷ 0 ∷ reply_bytes) }
+    ensures other_goes_on { replies Trace no_bounds (alone start) one_faulty ≡ 4 ∷ 1 ∷ spelling (reply_frame 0 7 (reply.Refused refusal.NotPermitted)) }
+    ensures before_a_bad_record { replies Trace no_bounds (alone start) kind_five ≡ [] }
+{}
+
+/// What stops leave, worked by hand: of an input of no frames, and of one frame that creates ann in a new folder, whose slot has 42 bytes with
+/// it. A stop may find ann before a byte of the reply was taken, or the start; once the reply of 49 bytes was taken the start does not hold her. Where the
+/// slot may have 41 bytes the frame is refused and changes nothing.
+///
+/// A second frame creates bob. Once the reply to the first was taken a stop may find both, one frame ahead; with no byte of it taken it does
+/// not. And of the parts of a turn: the start is found between two frames, and once one byte of the reply was taken, ann is found and the start is not.
+pub fn worked_stops()
+    ensures no_frame { (image : Image) → OpensToState image start → HoldsFirst Plain (at_most 42) (machine_at start 8) [] 0 image [] }
+    ensures before { (image : Image) → OpensToState image start → HoldsFirst Plain (at_most 42) (machine_at start 8) ann_bytes 0 image [] }
+    ensures ahead { (image : Image) → OpensToState image only_ann → HoldsFirst Plain (at_most 42) (machine_at start 8) ann_bytes 0 image [] }
+    ensures acknowledged { (image : Image) → OpensToState image only_ann → HoldsFirst Plain (at_most 42) (machine_at start 8) ann_bytes 1 image reply_bytes }
+    ensures lost { (image : Image) → OpensToState image start → HoldsFirst Plain (at_most 42) (machine_at start 8) ann_bytes 1 image reply_bytes → ⊥ }
+    ensures refused { (image : Image) → OpensToState image start → HoldsFirst Plain (at_most 41) (machine_at start 8) ann_bytes 1 image no_room_bytes }
+    ensures refusal { replies Plain (at_most 41) (machine_at start 8) ann_bytes ≡ no_room_bytes }
+    ensures replied { replies Plain (at_most 200) (machine_at start 8) (ann_bytes ++ bob_bytes) ≡ reply_bytes ++ bob_reply_bytes }
+    ensures one_ahead { (image : Image) → OpensToState image ann_and_bob
+        → HoldsFirst Plain (at_most 200) (machine_at start 8) (ann_bytes ++ bob_bytes) 1 image reply_bytes }
+    ensures two_ahead { (image : Image) → OpensToState image ann_and_bob
+        → HoldsFirst Plain (at_most 200) (machine_at start 8) (ann_bytes ++ bob_bytes) 0 image [] → ⊥ }
+    ensures between { (image : Image) → OpensToState image start
+        → StopFinds Plain (at_most 42) (machine_at start 8) (events_in Plain ann_bytes) (Some []) image [] }
+    ensures torn_reply { (image : Image) → OpensToState image only_ann
+        → StopFinds Plain (at_most 42) (machine_at start 8) (events_in Plain ann_bytes) (Some []) image (take 1 reply_bytes) }
+    ensures torn_unkept { (image : Image) → OpensToState image start
+        → StopFinds Plain (at_most 42) (machine_at start 8) (events_in Plain ann_bytes) (Some []) image (take 1 reply_bytes) → ⊥ }
+{}
+
+/// Where inputs are decided: plain input at a head with a wrong marker, and not by a whole or a cut frame or half a head; a trace at a bad record,
+/// and not by the fault of a session.
+pub fn worked_readings()
+    ensures nothing { is_decided Plain [] ≡ false }
+    ensures whole { is_decided Plain ann_bytes ≡ false }
+    ensures cut { is_decided Plain cut_bytes ≡ false }
+    ensures marker { is_decided Plain (ann_bytes ++ unmarked_bytes) ≡ true }
+    ensures half_a_head { is_decided Plain (3 ∷ 6 ∷ 9 ∷ 13 ∷ []) ≡ false }
+    ensures session { is_decided Trace one_faulty ≡ false }
+    ensures record { is_decided Trace kind_five ≡ true }
 {}

@@ -3,6 +3,8 @@
 #![tactic(auto)]
 
 #[cfg(test)]
+mod compactions;
+#[cfg(test)]
 mod damaged_folders;
 #[cfg(test)]
 mod desks;

@@ -33,7 +33,8 @@ const GRANT: &str =
 
 /// Runs on a folder that keeps some records or, with none, is empty: how many bytes a slot may have, the requests with the bodies of
 /// their replies, and the records that are kept behind them. A slot has 9 bytes beside its records; of the first three kinds
-/// these have 33 bytes, 33 and 57, and those of the router 35 and 23.
+/// these have 33 bytes, 33 and 57, and those of the router 35 and 23. Compacted, ann, bob and web take 14 bytes and a batch of 72. The
+/// mark may have one byte.
 type Keeping = (
     &'static [&'static [u8]],
     u64,
@@ -41,7 +42,7 @@ type Keeping = (
     &'static [&'static [u8]],
 );
 
-const KEEPINGS: [Keeping; 7] = [
+const KEEPINGS: [Keeping; 9] = [
     (&[ANN_KEPT], 74, &[BOB_FULL, ANN_EXISTS], &[ANN_KEPT]),
     (&[ANN_KEPT], 75, &[BOB_MADE], &[ANN_KEPT, BOB_KEPT]),
     (
@@ -73,6 +74,18 @@ const KEEPINGS: [Keeping; 7] = [
             (1024, r#"{"name":"r1"}"#, FULL),
         ],
         &[ROUTER_KEPT, CONNECTED_KEPT],
+    ),
+    (
+        &[ANN_KEPT, BOB_KEPT, WEB_KEPT],
+        85,
+        &[(1510, "{}", FULL)],
+        &[ANN_KEPT, BOB_KEPT, WEB_KEPT],
+    ),
+    (
+        &[ANN_KEPT, BOB_KEPT, WEB_KEPT],
+        86,
+        &[(1510, "{}", r#"{"code":41,"name":"MarkFull"}"#)],
+        &[ANN_KEPT, BOB_KEPT, WEB_KEPT],
     ),
 ];
 

@@ -209,9 +209,21 @@ fn rests_and_bounds() -> [Row; 7] {
     ]
 }
 
-fn frame_faults() -> [Row; 7] {
+fn frame_faults() -> [Row; 9] {
     let bad = Status::BadInput;
     [
+        Row::of("no take behind", [ANN, UNMARKED], [MADE, NONE], bad)
+            .failing_takes(&[1])
+            .noting("zitictl: session 0: BadMarker at 34\n"),
+        Row::of(
+            "known in the seventh piece",
+            [UNMARKED, ANN],
+            [NONE, NONE],
+            bad,
+        )
+        .in_pieces(3)
+        .failing_takes(&[7])
+        .noting("zitictl: session 0: BadMarker at 0\n"),
         Row::of("a wrong marker", [ANN, UNMARKED], [MADE, NONE], bad).noting(
             "zitictl: session 0: BadMarker at 34\n",
         ),
@@ -236,7 +248,7 @@ fn frame_faults() -> [Row; 7] {
     ]
 }
 
-fn failing_calls() -> [Row; 6] {
+fn failing_calls() -> [Row; 5] {
     let read = Status::ReadFault;
     let write = Status::WriteFault;
     let unread = "zitictl: read fault\n";
@@ -251,9 +263,6 @@ fn failing_calls() -> [Row; 6] {
         Row::of("behind a cut frame", [ANN, CUT], [MADE, NONE], read)
             .failing_takes(&[1])
             .noting(unread),
-        Row::of("behind a fault", [ANN, UNMARKED], [MADE, NONE], read)
-            .failing_takes(&[1])
-            .noting("zitictl: session 0: BadMarker at 34\nzitictl: read fault\n"),
         Row::of("the first say", [ANN, UNMARKED], [NONE, NONE], write)
             .failing_calls(&[0])
             .noting(unsaid),
@@ -264,20 +273,16 @@ fn failing_calls() -> [Row; 6] {
 }
 
 // A failed note changes no status, and nothing is noted after it.
-fn failing_notes() -> [Row; 4] {
+fn failing_notes() -> [Row; 3] {
     let bad = Status::BadInput;
     let cut = Status::Truncated;
     let read = Status::ReadFault;
     [
         Row::of("of a fault", [ANN, UNMARKED], [MADE, NONE], bad).failing_calls(&[1]),
         Row::of("of a rest", [CUT, NONE], [NONE, NONE], cut).failing_calls(&[0]),
-        Row::of("of the first line", [UNMARKED, NONE], [NONE, NONE], read)
+        Row::of("of a failed take", [CUT, NONE], [NONE, NONE], read)
             .failing_takes(&[1])
             .failing_calls(&[0]),
-        Row::of("of the second line", [UNMARKED, NONE], [NONE, NONE], read)
-            .failing_takes(&[1])
-            .failing_calls(&[1])
-            .noting("zitictl: session 0: BadMarker at 0\n"),
     ]
 }
 
@@ -296,6 +301,22 @@ fn check_rows(rt: &impl Abort, alloc: Global, rows: &[Row]) -> Result<(), Fail> 
 #[test]
 fn answers_with_ample_memory(rt: HostRuntime) -> Result<(), Fail> {
     check_rows(&rt, rt.alloc(), &whole_inputs())
+}
+
+/// However the input is cut into pieces, the same bytes are said.
+fn check_in_pieces(rt: &impl Abort, alloc: Global, rows: &[Row], piece: usize) -> Result<(), Fail> {
+    for row in rows {
+        check_rows(rt, alloc, &[row.in_pieces(piece)])?;
+    }
+    Ok(())
+}
+
+#[test]
+fn answers_in_pieces(rt: HostRuntime) -> Result<(), Fail> {
+    for piece in [1, 7, 4_096] {
+        check_in_pieces(&rt, rt.alloc(), &whole_inputs(), piece)?;
+    }
+    Ok(())
 }
 
 #[test]

@@ -5,7 +5,7 @@ ghost use Rattle.std.specs.Prelude.{◌≡◌, ◌≢◌, None, IfOk, IfErr};
 ghost use Rattle.std.specs.Process.{exit_status};
 ghost use Rattle.std.specs.IoError.{error_kind};
 ghost use Rattle.ctrl_serve.specs.CommandLine.{form_of, texts};
-ghost use Rattle.ctrl_serve.specs.Headline.{Runs};
+ghost use Rattle.ctrl_serve.specs.Headline.{Runs, program_bounds};
 ghost use Rattle.ctrl_serve.specs.Statuses.{number_of};
 
 use ctrl_serve::{Status, run};
@@ -30,11 +30,11 @@ fn run_stored<S: Source, D: Desk>(
     source: &mut S,
     desk: &mut D,
 ) -> Status
-    ensures stored { IfOk stored (λ words. Runs S.left S.faults D.said D.noted D.say_faults D.note_faults D.reads D.may_leave D.disk_faults
-        D.tells 1073741824 4294967296 (form_of (texts words.items)) source.old source.new desk.old desk.new result) }
+    ensures stored { IfOk stored (λ words. Runs S.left S.faults D.said D.noted D.say_faults D.note_faults D.reads D.moment D.since D.may_leave D.disk_faults
+        D.tells program_bounds 4294967296 (form_of (texts words.items)) source.old source.new desk.old desk.new result) }
     ensures no_text { IfErr stored (λ error. error_kind error ≢ ErrorKind.OutOfMemory
-        → Runs S.left S.faults D.said D.noted D.say_faults D.note_faults D.reads D.may_leave D.disk_faults
-        D.tells 1073741824 4294967296 None source.old source.new desk.old desk.new result) }
+        → Runs S.left S.faults D.said D.noted D.say_faults D.note_faults D.reads D.moment D.since D.may_leave D.disk_faults
+        D.tells program_bounds 4294967296 None source.old source.new desk.old desk.new result) }
     ensures no_memory { IfErr stored (λ error. error_kind error ≡ ErrorKind.OutOfMemory
         → (result ≡ Status.NoMemory) × (source.new ≡ source.old) × (desk.new ≡ desk.old)) }
 {

@@ -2,7 +2,7 @@ use Rattle.std.proofs.Common.{◌≡◌, Result, Ok, Err, Option, sym, subst, ap
 use Rattle.std.specs.Result.{IfOk, IfErr}
 use Rattle.ctrl_serve.specs.declared.command_line.Form.{Form}
 use Rattle.ctrl_serve.specs.CommandLine.{form_of, texts}
-use Rattle.ctrl_serve.specs.Headline.{Runs}
+use Rattle.ctrl_serve.specs.Headline.{Runs, program_bounds}
 use Rattle.zitictl.proofs.run_stored.Goals as goal
 
 -- what holds of a result that is this one
@@ -21,6 +21,6 @@ returns-then-eq-clause-no_memory c d = of_err _ _ d.in-Err.error d.in-Err.is (λ
 pub returns-else-eq-clause-no_text : goal.returns-else-eq-clause-no_text
 returns-else-eq-clause-no_text c d =
     let RunsOf : Option Form → Type 0 = λ form. Runs {S = c.row.S.Denot} {D = c.row.D.Denot} c.S.Source.left c.S.Source.faults c.D.Desk.said c.D.Desk.noted
-    c.D.Desk.say_faults c.D.Desk.note_faults c.D.Desk.reads c.D.Desk.may_leave c.D.Desk.disk_faults c.D.Desk.tells 1073741824 4294967296 form
+    c.D.Desk.say_faults c.D.Desk.note_faults c.D.Desk.reads c.D.Desk.moment c.D.Desk.since c.D.Desk.may_leave c.D.Desk.disk_faults c.D.Desk.tells program_bounds 4294967296 form
     d.args.source.now d.run-else-eq.new.source d.args.desk.now d.run-else-eq.new.desk d.run-else-eq.result in
     of_err _ _ d.in-Err.error d.in-Err.is (λ other. subst RunsOf (ap (λ ws. form_of (texts ws)) d.new.ensures.items) d.run-else-eq.ensures.runs)

@@ -8,7 +8,7 @@ pub returns-clause-cut : goal.returns-clause-cut
 returns-clause-cut c said all cut = cut_is_front said all cut
 
 pub returns-clause-done : goal.returns-clause-done
-returns-clause-done c form slot m bytes said answered unanswered split says = all_are_whole form slot m bytes said answered unanswered split says
+returns-clause-done c form bounds m bytes said answered unanswered split says = all_are_whole form bounds m bytes said answered unanswered split says
 
 pub returns-clause-cut_off : goal.returns-clause-cut_off
-returns-clause-cut_off c form slot m bytes said answered unanswered split says = front_is_cut form slot m bytes said answered unanswered split says
+returns-clause-cut_off c form bounds m bytes said answered unanswered split says = front_is_cut form bounds m bytes said answered unanswered split says

@@ -1,4 +1,5 @@
 use Rattle.ctrl_serve.specs.ControllerViews.{serving_of}
+use Rattle.ctrl_serve.proofs.RoomRuns.{room_calm}
 use Rattle.ctrl_serve.proofs.StopLaws.{refused_stops, carried_so, carried_stops}
 use Rattle.ctrl_serve.proofs.serving.answer_frame.Goals as goal
 
@@ -17,5 +18,11 @@ returns-in-Ok-clause-stops g c = λ some told.
 pub returns-in-Ok-clause-ok : goal.returns-in-Ok-clause-ok
 returns-in-Ok-clause-ok g c =
     let old = serving_of c.args.controller.now in
-    carried_so c.carry_out.result old.slot c.args.who.now c.args.frame.now c.as_slice.result.now old.machine (serving_of c.carry_out.new.self).machine c.in-Ok.command c.as_slice.ensures c.in-Ok.ensures.command
+    carried_so c.carry_out.result old.bounds c.args.who.now c.args.frame.now c.as_slice.result.now old.machine (serving_of c.carry_out.new.self).machine c.in-Ok.command c.as_slice.ensures c.in-Ok.ensures.command
     c.carry_out.ensures.ok
+
+pub returns-in_err-refusal_of-in-Err-clause-images : goal.returns-in_err-refusal_of-in-Err-clause-images
+returns-in_err-refusal_of-in-Err-clause-images g c = room_calm _ c.args.desk.now
+
+pub returns-in_ok-refusal_of-in-Err-clause-images : goal.returns-in_ok-refusal_of-in-Err-clause-images
+returns-in_ok-refusal_of-in-Err-clause-images g c = room_calm _ c.args.desk.now

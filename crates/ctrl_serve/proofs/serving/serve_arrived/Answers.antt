@@ -1,4 +1,5 @@
 use Rattle.std.proofs.lemmas.Result.{err_from_is_err_and}
+use Rattle.ctrl_serve.proofs.RunStopLaws.{arrived_stops}
 use Rattle.ctrl_serve.proofs.TurnLaws.{arrived_taken, arrived_cut}
 use Rattle.ctrl_serve.proofs.serving.serve_arrived.Goals as goal
 
@@ -10,3 +11,11 @@ returns-in_err-serve_frame-clause-cut g c =
 pub returns-clause-ok : goal.returns-clause-ok
 returns-clause-ok g c =
     arrived_taken c.args.form _ c.args.session c.replied.result c.args.frame.now c.args.sessions.now c.reply.new.self _ _ c.sender.result.now _ _ c.replied.ensures c.sender.ensures c.reply.ensures c.in_ok-serve_frame.ensures.ok
+
+pub returns-clause-stops : goal.returns-clause-stops
+returns-clause-stops g c = λ some told.
+    arrived_stops c.args.form _ c.args.session c.replied.result c.args.frame.now c.args.sessions.now _ c.sender.result.now _ c.replied.ensures c.sender.ensures (c.serve_frame.ensures.stops some told)
+
+pub returns-in_err-serve_frame-clause-stops : goal.returns-in_err-serve_frame-clause-stops
+returns-in_err-serve_frame-clause-stops g c = λ some told.
+    arrived_stops c.args.form _ c.args.session c.replied.result c.args.frame.now c.args.sessions.now _ c.sender.result.now _ c.replied.ensures c.sender.ensures (c.serve_frame.ensures.stops some told)

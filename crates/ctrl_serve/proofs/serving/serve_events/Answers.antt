@@ -2,6 +2,7 @@ use Rattle.std.specs.Prelude.{MatchOption}
 use Rattle.std.proofs.Common.{ℕ, ◌∷◌, [], Err, refl, ap, sym, subst, ◌∙◌}
 use Rattle.std.proofs.lemmas.Result.{err_from_is_err_and}
 use Rattle.std.specs.declared.option.Option.{Option}
+use Rattle.ziti_outside.proofs.MomentLaws.{Elapses-none}
 use Rattle.session_mux.specs.declared.events.Event.{Event}
 use Rattle.session_mux.specs.declared.events.MuxFault.{MuxFault}
 use Rattle.session_mux.specs.Completion.{GoesTo}
@@ -10,6 +11,8 @@ use Rattle.run_notes.specs.declared.notes.Notes.{Notes}
 use Rattle.ctrl_serve.specs.ControllerViews.{serving_of}
 use Rattle.run_notes.specs.Endings.{IsStuckAt}
 use Rattle.ctrl_serve.proofs.ControllerLaws.{GoesOn-then, still_alone, OnlySaysAndNotes-none, OnlySaysAndNotes-then}
+use Rattle.ctrl_serve.proofs.RoomRuns.{room_calm, room_more}
+use Rattle.ctrl_serve.proofs.RunStopLaws.{stops_more}
 use Rattle.ctrl_serve.proofs.TurnLaws.{answers_start, answers_more, fewer_events, all_given, stuck_at, cut_answers, starved_answers}
 use Rattle.ctrl_serve.proofs.serving.serve_events.Goals as goal
 
@@ -18,12 +21,14 @@ events-init g c =
     let k = serving_of c.args.controller.now in
     let desk = c.args.desk.now in
     record {
-      on = record { able = c.requires.able; slot = refl; kind = refl };
+      on = record { able = c.requires.able; bounds = refl; kind = refl };
       ready = c.requires.ready;
-      answers = answers_start c.args.form k.slot c.args.sessions.now k.machine c.args.mux.now (g.D.Desk.said desk) c.args.notes.now.failed (g.D.Desk.noted desk) (g.D.Desk.note_faults desk);
+      answers = answers_start c.args.form k.bounds c.args.sessions.now k.machine c.args.mux.now (g.D.Desk.said desk) c.args.notes.now.failed (g.D.Desk.noted desk) (g.D.Desk.note_faults desk);
       calm = refl;
       calm_disk = refl;
       alone = λ none. OnlySaysAndNotes-none desk;
+      images = room_calm _ desk;
+      stops = λ some told. Elapses-none _ _ _;
     }
 
 pub events-smaller : goal.events-smaller
@@ -51,13 +56,18 @@ events-preserved g c =
     record {
       on = GoesOn-then held.on turn.on;
       ready = turn.ready;
-      answers = answers_more c.args.form first.slot mid.slot c.in-Ok-Some.event c.args.sessions.now c.events.sessions c.serve_event.new.sessions first.machine mid.machine last.machine
+      answers = answers_more c.args.form first.bounds mid.bounds c.in-Ok-Some.event c.args.sessions.now c.events.sessions c.serve_event.new.sessions first.machine mid.machine last.machine
           c.args.mux.now old new (said c.args.desk.now) (said c.events.desk) (said c.serve_event.new.desk) c.args.notes.now.failed c.events.notes.failed c.serve_event.new.notes.failed
           (noted c.args.desk.now) (noted c.events.desk) (noted c.serve_event.new.desk) (faults c.args.desk.now) (faults c.events.desk) (faults c.serve_event.new.desk)
-          held.on.slot held.answers goes turn.ok turn.noted;
+          held.on.bounds held.answers goes turn.ok turn.noted;
       calm = turn.say_cause.calm ∙ held.calm;
       calm_disk = turn.disk_cause.calm ∙ held.calm_disk;
       alone = λ none. OnlySaysAndNotes-then (held.alone none) (c.serve_event.ensures.alone (still_alone _ _ held.on.kind none));
+      images = room_more first.bounds mid.bounds held.on.bounds held.images c.serve_event.ensures.images;
+      stops = λ some told.
+          stops_more c.args.form first.bounds mid.bounds c.in-Ok-Some.event c.args.sessions.now c.events.sessions first.machine mid.machine
+          c.args.mux.now old new (said c.args.desk.now) (said c.events.desk) c.args.notes.now.failed c.events.notes.failed (noted c.args.desk.now) (noted c.events.desk) (faults c.args.desk.now) (faults c.events.desk)
+          held.on.bounds held.answers goes (held.stops some told) (c.serve_event.ensures.stops (held.on.kind ∙ some) told);
     }
 
 pub returns-in_err-serve_event-in-Ok-Some-clause-cut : goal.returns-in_err-serve_event-in-Ok-Some-clause-cut
@@ -74,10 +84,10 @@ returns-in_err-serve_event-in-Ok-Some-clause-cut g c =
     let said = g.D.Desk.said in
     let noted = g.D.Desk.noted in
     let faults = g.D.Desk.note_faults in
-    rw p.1 (rw p.2 (cut_answers _ c.args.form first.slot mid.slot c.in-Ok-Some.event c.args.sessions.now c.events.sessions first.machine mid.machine
+    rw p.1 (rw p.2 (cut_answers _ c.args.form first.bounds mid.bounds c.in-Ok-Some.event c.args.sessions.now c.events.sessions first.machine mid.machine
     c.args.mux.now old new (said c.args.desk.now) (said c.events.desk) (said c.serve_event.new.desk) c.args.notes.now.failed c.events.notes.failed c.serve_event.new.notes.failed
     (noted c.args.desk.now) (noted c.events.desk) (noted c.serve_event.new.desk) (faults c.args.desk.now) (faults c.events.desk) (faults c.serve_event.new.desk)
-    held.on.slot held.answers goes c.in_err-serve_event-in-Ok-Some.ensures.cut (ap (λ (x : Notes). x.failed) left.0) left.1.notes left.1.failed_notes))
+    held.on.bounds held.answers goes c.in_err-serve_event-in-Ok-Some.ensures.cut (ap (λ (x : Notes). x.failed) left.0) left.1.notes left.1.failed_notes))
 
 pub returns-in-Ok-None-clause-end : goal.returns-in-Ok-None-clause-end
 returns-in-Ok-None-clause-end g c =
@@ -100,6 +110,27 @@ returns-in-Err-NoMemory-clause-cut g c =
     let said = g.D.Desk.said in
     let noted = g.D.Desk.noted in
     let faults = g.D.Desk.note_faults in
-    starved_answers c.args.form first.slot c.args.sessions.now c.events.sessions first.machine mid.machine c.args.mux.now c.events.mux (said c.args.desk.now) (said c.events.desk)
+    starved_answers c.args.form first.bounds c.args.sessions.now c.events.sessions first.machine mid.machine c.args.mux.now c.events.mux (said c.args.desk.now) (said c.events.desk)
     c.args.notes.now.failed c.events.notes.failed (noted c.args.desk.now) (noted c.events.desk) (faults c.args.desk.now) (faults c.events.desk)
     held.answers (c.next.ensures.memory (c.in-Err-NoMemory.is ∙ ap Err c.in-Err-NoMemory.field-0-is))
+
+pub returns-in_err-serve_event-in-Ok-Some-clause-stops : goal.returns-in_err-serve_event-in-Ok-Some-clause-stops
+returns-in_err-serve_event-in-Ok-Some-clause-stops g c = λ some told.
+    let old = c.events.mux in
+    let new = c.next.new.self in
+    let goes : GoesTo old new (c.in-Ok-Some.event ∷ []) =
+    subst (λ (o : Option Event). MatchOption o (GivesNone old new) (λ e. GoesTo old new (e ∷ []))) c.in-Ok-Some.field-0-is c.in-Ok-Some.ensures.some in
+    let held = c.events.invariant in
+    let first = serving_of c.args.controller.now in
+    let mid = serving_of c.events.controller in
+    let said = g.D.Desk.said in
+    let noted = g.D.Desk.noted in
+    let faults = g.D.Desk.note_faults in
+    stops_more c.args.form first.bounds mid.bounds c.in-Ok-Some.event c.args.sessions.now c.events.sessions first.machine mid.machine
+    c.args.mux.now old new (said c.args.desk.now) (said c.events.desk) c.args.notes.now.failed c.events.notes.failed (noted c.args.desk.now) (noted c.events.desk) (faults c.args.desk.now) (faults c.events.desk)
+    held.on.bounds held.answers goes (held.stops some told) (c.serve_event.ensures.stops (held.on.kind ∙ some) told)
+
+pub returns-in_err-serve_event-in-Ok-Some-clause-images : goal.returns-in_err-serve_event-in-Ok-Some-clause-images
+returns-in_err-serve_event-in-Ok-Some-clause-images g c =
+    let held = c.events.invariant in
+    room_more (serving_of c.args.controller.now).bounds (serving_of c.events.controller).bounds held.on.bounds held.images c.serve_event.ensures.images

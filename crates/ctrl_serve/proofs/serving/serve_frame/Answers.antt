@@ -1,4 +1,5 @@
 use Rattle.std.proofs.Common.{◌∙◌}
+use Rattle.journal_core.proofs.RoomLaws.{left_none, left_then}
 use Rattle.ctrl_serve.specs.ControllerViews.{serving_of}
 use Rattle.ctrl_serve.proofs.StopLaws.{turn_stops_short, served_stops}
 use Rattle.ctrl_serve.proofs.TurnLaws.{turn_taken, turn_cut}
@@ -30,6 +31,12 @@ returns-clause-stops g c = λ some told.
 pub returns-clause-cut : goal.returns-clause-cut
 returns-clause-cut g c =
     let old = serving_of c.args.controller.now in
-    turn_cut old.slot c.args.address c.args.who.now c.args.frame.now old.machine (serving_of c.answer_frame.new.controller).machine c.in_ok-reply.reply c.as_slice.result.now
+    turn_cut old.bounds c.args.address c.args.who.now c.args.frame.now old.machine (serving_of c.answer_frame.new.controller).machine c.in_ok-reply.reply c.as_slice.result.now
     (g.D.Desk.said c.args.desk.now) (g.D.Desk.said c.answer_frame.new.desk) (g.D.Desk.said c.say.new.self)
     c.in_ok-reply.ensures.ok (c.as_slice.ensures.value ∙ c.in_ok-bytes.ensures) c.answer_frame.ensures.others.replies c.in-Err.ensures.taken
+
+pub returns-in-Ok-clause-images : goal.returns-in-Ok-clause-images
+returns-in-Ok-clause-images g c = left_then c.answer_frame.ensures.images (left_none _ c.say.ensures.others.found)
+
+pub returns-clause-images : goal.returns-clause-images
+returns-clause-images g c = left_then c.answer_frame.ensures.images (left_none _ c.say.ensures.others.found)

@@ -1,35 +1,55 @@
-use Rattle.std.proofs.Common.{take}
-use Rattle.run_notes.specs.Inputs.{is_bad_input, has_rest}
+use Rattle.std.proofs.Common.{Err, refl, ap, ◌∙◌}
+use Rattle.journal_core.proofs.RoomLaws.{left_none, left_then}
+use Rattle.run_notes.specs.KnownSessions.{known_in}
 use Rattle.ctrl_serve.specs.ControllerViews.{serving_of}
-use Rattle.ctrl_serve.proofs.ReplayLaws.{intake_runs, cut_runs, intake_counts, cut_counts}
-use Rattle.ctrl_serve.proofs.RunLaws.{notes_alone}
+use Rattle.ctrl_serve.proofs.ControllerLaws.{notes_behind}
+use Rattle.ctrl_serve.proofs.IntakeLaws.{all_no_fault, write_calm, disk_calm, cut_write, cut_disk}
+use Rattle.ctrl_serve.proofs.ReplayLaws.{cut_is_read, cut_run_counted, cut_runs, cut_undisked, input_counts, input_run_counted, input_runs}
+use Rattle.ctrl_serve.proofs.RunStopLaws.{no_more_behind, used_stops}
+use Rattle.ctrl_serve.proofs.UsedLaws.{at_start}
 use Rattle.ctrl_serve.proofs.top.run_on.Goals as goal
 
 pub returns-in-Ok-clause-runs : goal.returns-in-Ok-clause-runs
 returns-in-Ok-clause-runs g c =
-    intake_runs c.args.form (serving_of c.args.controller.now) c.args.most c.in-Ok.intake _ _ _ _ _ _ _ _ g.D.Desk.tells _ _ c.answer_intake.result c.in-Ok.ensures.taken c.answer_intake.ensures.says c.answer_intake.ensures.keeps
+    let k = serving_of c.args.controller.now in
+    let e = c.in-Ok.ensures in
+    input_runs c.args.form k c.args.most c.serve_input.new.controller _ _ (g.D.Desk.said c.args.desk.now) _ _ _ c.new-notes.result.failed c.serve_input.new.notes.failed _ _ g.D.Desk.tells _ _ _ c.in-Ok.status
+    c.new-notes.ensures e.answers e.on e.ready (λ used stops. used_stops c.args.form k.bounds k.machine used (known_in c.args.form) (at_start c.args.form used) (g.D.Desk.said c.args.desk.now) refl refl stops)
 
 pub returns-in-Ok-clause-counts : goal.returns-in-Ok-clause-counts
 returns-in-Ok-clause-counts g c =
-    let e = c.answer_intake.ensures in
-    intake_counts c.in-Ok.intake (is_bad_input c.args.form (take c.args.most c.in-Ok.intake.bytes.items)) (has_rest c.args.form (take c.args.most c.in-Ok.intake.bytes.items)) _ _ _ _ c.answer_intake.result e.says.ends c.in-Ok.ensures.faults c.take_all.ensures.counted c.take_all.ensures.until_failure e.write_cause e.disk_cause e.says.counted
+    let k = serving_of c.args.controller.now in
+    let e = c.in-Ok.ensures in
+    let not = all_no_fault c.args.form _ _ _ _ c.in-Ok.status _ _ _ _ _ _ _ _ e.answers.all in
+    input_counts _ _ _ _ c.in-Ok.status e.read c.serve_input.ensures.counted c.serve_input.ensures.until_failure (write_calm _ _ c.in-Ok.status e.say_cause.calm not.0) (disk_calm _ _ c.in-Ok.status e.disk_cause.calm not.1)
+    (input_run_counted c.args.form k c.args.most _ _ _ _ _ _ _ c.new-notes.result.failed c.serve_input.new.notes.failed _ _ g.D.Desk.tells _ c.in-Ok.status c.new-notes.ensures e.answers)
+
+pub returns-in-Ok-clause-undisked : goal.returns-in-Ok-clause-undisked
+returns-in-Ok-clause-undisked g c = λ alone. (all_no_fault c.args.form _ _ _ _ c.in-Ok.status _ _ _ _ _ _ _ _ c.in-Ok.ensures.answers.all).1
 
 pub returns-in-Err-clause-runs : goal.returns-in-Err-clause-runs
 returns-in-Err-clause-runs g c =
-    cut_runs c.args.form (serving_of c.args.controller.now) c.args.most _ _ _ _ _ _ _ _ g.D.Desk.tells _ _ c.tell_cut.result c.in-Err.ensures.cut c.tell_cut.ensures.status c.tell_cut.ensures.others.replies c.tell_cut.ensures.told
+    let k = serving_of c.args.controller.now in
+    let t = c.tell_cut_behind.ensures in
+    cut_runs c.in-Err.cut c.args.form k c.args.most _ _ (g.D.Desk.said c.args.desk.now) _ _ _ _ _ c.new-notes.result.failed c.serve_input.new.notes.failed c.tell_cut_behind.new.notes.failed _ _ _ g.D.Desk.tells _ _ _ _ c.tell_cut_behind.result
+    t.status c.new-notes.ensures c.in-Err.ensures.answers t.others.replies t.noted
+    (λ used stops. used_stops c.args.form k.bounds k.machine used (known_in c.args.form) (at_start c.args.form used) (g.D.Desk.said c.args.desk.now) refl refl (no_more_behind _ stops t.stops))
 
 pub returns-in-Err-clause-counts : goal.returns-in-Err-clause-counts
 returns-in-Err-clause-counts g c =
-    cut_counts _ _ _ _ c.tell_cut.result c.tell_cut.ensures.status c.take_all.ensures.counted c.take_all.ensures.until_failure c.tell_cut.ensures.others c.tell_cut.ensures.counted
-
-pub returns-in-Err-clause-alone : goal.returns-in-Err-clause-alone
-returns-in-Err-clause-alone g c = λ none. notes_alone c.tell_cut.ensures.others
-
-pub returns-in-Ok-clause-undisked : goal.returns-in-Ok-clause-undisked
-returns-in-Ok-clause-undisked g c = c.answer_intake.ensures.undisked
-
-pub returns-in-Ok-clause-alone : goal.returns-in-Ok-clause-alone
-returns-in-Ok-clause-alone g c = c.answer_intake.ensures.alone
+    let k = serving_of c.args.controller.now in
+    let t = c.tell_cut_behind.ensures in
+    input_counts _ _ _ _ c.tell_cut_behind.result (cut_is_read c.in-Err.cut _ _ c.tell_cut_behind.result t.status) c.serve_input.ensures.counted c.serve_input.ensures.until_failure
+    (cut_write c.in-Err.cut _ _ _ c.tell_cut_behind.result c.in-Err.ensures.say_cause t.others.failed_says t.status)
+    (cut_disk c.in-Err.cut _ _ _ c.tell_cut_behind.result c.in-Err.ensures.disk_cause t.others.failed_calls t.status)
+    (cut_run_counted c.in-Err.cut c.args.form k c.args.most _ _ _ _ _ _ _ c.new-notes.result.failed c.serve_input.new.notes.failed c.tell_cut_behind.new.notes.failed _ _ _ g.D.Desk.tells _ c.tell_cut_behind.result t.status c.new-notes.ensures c.in-Err.ensures.answers t.noted)
 
 pub returns-in-Err-clause-undisked : goal.returns-in-Err-clause-undisked
-returns-in-Err-clause-undisked g c = λ none e. let is = c.tell_cut.ensures.status in cc
+returns-in-Err-clause-undisked g c = λ none.
+    cut_undisked c.in-Err.cut c.tell_cut_behind.result c.tell_cut_behind.ensures.status (λ e. c.serve_input.ensures.undisked none (c.in-Err.is ∙ ap Err e))
+
+pub returns-in-Err-clause-alone : goal.returns-in-Err-clause-alone
+returns-in-Err-clause-alone g c = λ none. notes_behind (c.serve_input.ensures.alone none) c.tell_cut_behind.ensures.others
+
+pub returns-in-Err-clause-images : goal.returns-in-Err-clause-images
+returns-in-Err-clause-images g c = left_then c.serve_input.ensures.images (left_none _ c.tell_cut_behind.ensures.others.found)

@@ -39,3 +39,11 @@ returns-clause-list c = refl
 pub returns-clause-unsupported : goal.returns-clause-unsupported
 unfolding serde_json_on_literals is_utf8 chars digits
 returns-clause-unsupported c = refl
+
+pub returns-clause-compact : goal.returns-clause-compact
+unfolding serde_json_on_literals is_utf8 chars digits
+returns-clause-compact c = refl
+
+pub returns-clause-compact_key : goal.returns-clause-compact_key
+unfolding serde_json_on_literals is_utf8 chars digits
+returns-clause-compact_key c = refl

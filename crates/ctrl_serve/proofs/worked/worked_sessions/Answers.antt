@@ -11,13 +11,13 @@ use Rattle.ctrl_model.specs.State.{start}
 use Rattle.session_mux.specs.declared.sessions.Form.TheVariants.{Trace}
 use Rattle.session_mux.specs.Completion.{completed}
 use Rattle.session_mux.specs.WorkedTraces.{one_session, two_sessions, one_faulty}
-use Rattle.ctrl_serve.specs.FrameAnswer.{alone, spoken}
+use Rattle.ctrl_serve.specs.FrameAnswer.{no_bounds, alone, spoken}
 use Rattle.run_notes.specs.Inputs.{no_counts}
 use Rattle.ctrl_serve.proofs.worked.worked_sessions.Goals as goal
 
 -- The bytes of the replies to some frames of a trace.
 abbrev said_to : List (ℕ × (Who × Frame)) → List ℕ
-said_to frames = flat_map (λ bytes. bytes) (spoken Trace 0 no_counts (alone start) frames)
+said_to frames = flat_map (λ bytes. bytes) (spoken Trace no_bounds no_counts (alone start) frames)
 
 pub returns-clause-one : goal.returns-clause-one
 unfolding serde_json_on_literals is_utf8 chars digits

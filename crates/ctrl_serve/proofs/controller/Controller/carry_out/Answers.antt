@@ -1,9 +1,10 @@
 use Rattle.ctrl_serve.proofs.ControllerLaws.{kept_able, kept_limits, kept_stops}
+use Rattle.ctrl_serve.proofs.RoomRuns.{kept_room}
 use Rattle.ctrl_serve.proofs.controller.Controller.carry_out.Goals as goal
 
 pub returns-in-Ok-clause-limits : goal.returns-in-Ok-clause-limits
 returns-in-Ok-clause-limits g c =
-    kept_limits c.args.self.now c.in-Kept.kept _ _ _ c.in-Ok.reply _ c.args.who.now c.args.command.now c.in-Kept.is c.requires.ready c.requires.carried c.in-Ok.ensures.step
+    kept_limits c.args.self.now c.in-Kept.kept _ _ _ c.in-Ok.reply _ c.args.who.now c.args.command.now c.in-Kept.is c.requires.ready c.in-Ok.ensures.step
 
 pub returns-in-Ok-clause-stops : goal.returns-in-Ok-clause-stops
 returns-in-Ok-clause-stops g c = λ some told.
@@ -12,3 +13,9 @@ returns-in-Ok-clause-stops g c = λ some told.
 pub returns-in-Err-clause-stops : goal.returns-in-Err-clause-stops
 returns-in-Err-clause-stops g c = λ some told.
     kept_stops c.args.self.now c.in-Kept.kept c.args.who.now c.args.command.now c.in-Kept.is (c.submit.ensures.stops (kept_able c.args.self.now c.in-Kept.kept c.in-Kept.is c.requires.able) told)
+
+pub returns-in-Ok-clause-images : goal.returns-in-Ok-clause-images
+returns-in-Ok-clause-images g c = kept_room c.args.self.now c.in-Kept.kept c.in-Kept.is c.submit.ensures.images
+
+pub returns-in-Err-clause-images : goal.returns-in-Err-clause-images
+returns-in-Err-clause-images g c = kept_room c.args.self.now c.in-Kept.kept c.in-Kept.is c.submit.ensures.images

@@ -1,0 +1,45 @@
+use Rattle.std.proofs.Common.{ℕ, subst, ◌∙◌}
+use Rattle.journal_core.proofs.RoomLaws.{left_none, left_then}
+use Rattle.run_notes.specs.NotedLines.{RisesOnce}
+use Rattle.ctrl_serve.proofs.FolderLaws.{Submitted, compaction_disk, compaction_ends, compaction_stops, notes_leave}
+use Rattle.ctrl_serve.proofs.folder.compact_opened.Goals as goal
+
+pub returns-clause-ends : goal.returns-clause-ends
+returns-clause-ends g c =
+    let e = c.submit-compacted.ensures in
+    let t = c.tell_compaction.ensures in
+    let came : Submitted g.D.Desk.tells g.D.Desk.reads g.D.Desk.may_leave c.args.kept c.submit-compacted.new.self c.args.desk.now c.submit-compacted.new.desk c.submit-compacted.result = record {
+      fresh = c.requires.unspent;
+      holds = c.requires.holds;
+      stands = c.requires.stands;
+      step = e.step;
+      unspent = e.unspent;
+      held = e.holds;
+      made = e.compacted;
+      fault = e.fault;
+      fits = e.fits;
+      stood = e.stands;
+    } in
+    compaction_ends g.D.Desk.tells c.args.kept c.submit-compacted.new.self c.args.desk.now c.submit-compacted.new.desk (g.D.Desk.reads c.tell_compaction.new.desk) c.submit-compacted.result _ _ _ _ _ _ c.tell_compaction.result
+    came t.others.parts e.others.notes e.others.failed_notes t.told
+
+pub returns-clause-failed_says : goal.returns-clause-failed_says
+returns-clause-failed_says g c = c.tell_compaction.ensures.others.failed_says ∙ c.submit-compacted.ensures.others.failed_says
+
+pub returns-clause-disk_cause : goal.returns-clause-disk_cause
+returns-clause-disk_cause g c =
+    compaction_disk _ _ _ c.submit-compacted.result c.tell_compaction.result _ _ _ _ c.submit-compacted.ensures.cause c.tell_compaction.ensures.others.failed_calls c.tell_compaction.ensures.told
+
+pub returns-clause-counted : goal.returns-clause-counted
+returns-clause-counted g c =
+    subst (λ (n : ℕ). RisesOnce n (g.D.Desk.note_faults c.tell_compaction.new.desk)) c.submit-compacted.ensures.others.failed_notes c.tell_compaction.ensures.counted
+
+pub returns-clause-quiet : goal.returns-clause-quiet
+returns-clause-quiet g c = notes_leave c.submit-compacted.ensures.quiet c.tell_compaction.ensures.others c.tell_compaction.ensures.stops
+
+pub returns-clause-stops : goal.returns-clause-stops
+returns-clause-stops g c = λ yes.
+    notes_leave (compaction_stops c.args.kept (c.submit-compacted.ensures.stops c.requires.unspent yes)) c.tell_compaction.ensures.others c.tell_compaction.ensures.stops
+
+pub returns-clause-images : goal.returns-clause-images
+returns-clause-images g c = left_then c.submit-compacted.ensures.images (left_none _ c.tell_compaction.ensures.others.found)

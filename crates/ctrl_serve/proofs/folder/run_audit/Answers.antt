@@ -1,0 +1,54 @@
+use Rattle.std.proofs.Common.{ℕ, inl, inr, subst, ◌∙◌}
+use Rattle.ctrl_core.specs.KeptState.{Cored}
+use Rattle.run_notes.specs.NotedLines.{RisesOnce}
+use Rattle.ctrl_serve.specs.Runs.{IsWriteCaused}
+use Rattle.ctrl_serve.proofs.FolderLaws.{audit_alone, audited, noted_alone, unaudited}
+use Rattle.ctrl_serve.proofs.IntakeLaws.{disk_calm, write_calm}
+use Rattle.ctrl_serve.proofs.ClosedFolders.{closed_calm, closed_disk, never_spent}
+use Rattle.ctrl_serve.proofs.RunLaws.{line_statuses}
+use Rattle.ctrl_serve.proofs.folder.run_audit.Goals as goal
+
+pub returns-in-Ok-clause-audits : goal.returns-in-Ok-clause-audits
+returns-in-Ok-clause-audits g c =
+    inr (audited g.D.Desk.reads g.D.Desk.tells c.in-Ok.core.state c.args.desk.now c.peek.new.desk c.say_counts.new.desk c.say_counts.result c.peek.ensures.reads.others c.in-Ok.ensures.valid c.in-Ok.ensures.opens c.say_counts.ensures.says)
+
+pub returns-in-Ok-clause-alone : goal.returns-in-Ok-clause-alone
+returns-in-Ok-clause-alone g c = audit_alone c.args.desk.now c.peek.new.desk c.say_counts.new.desk c.peek.ensures.reads c.say_counts.ensures.others c.say_counts.ensures.stops
+
+pub returns-in-Ok-clause-write_cause : goal.returns-in-Ok-clause-write_cause
+returns-in-Ok-clause-write_cause g c =
+    subst (λ (n : ℕ). IsWriteCaused n (g.D.Desk.say_faults c.say_counts.new.desk) c.say_counts.result) c.peek.ensures.reads.others.failed_says c.say_counts.ensures.write_cause
+
+pub returns-in-Ok-clause-disk_cause : goal.returns-in-Ok-clause-disk_cause
+returns-in-Ok-clause-disk_cause g c =
+    let s = c.say_counts.ensures in
+    disk_calm _ _ c.say_counts.result (s.others.failed_calls ∙ c.in-Ok.ensures.cause.calm) (line_statuses c.say_counts.result _ _ _ _ _ _ _ s.says).2
+
+pub returns-in-Ok-clause-counted : goal.returns-in-Ok-clause-counted
+returns-in-Ok-clause-counted g c =
+    subst (λ (n : ℕ). RisesOnce n (g.D.Desk.note_faults c.say_counts.new.desk)) c.peek.ensures.reads.others.failed_notes c.say_counts.ensures.counted
+
+pub returns-in-Err-clause-audits : goal.returns-in-Err-clause-audits
+returns-in-Err-clause-audits g c =
+    let t = c.tell_closed.ensures in
+    inl (unaudited g.D.Desk.tells c.in-Err.fault c.args.desk.now c.peek.new.desk c.tell_closed.new.desk c.tell_closed.result c.peek.ensures.reads t.others t.stops c.in-Err.ensures.fault t.told)
+
+pub returns-in-Err-clause-alone : goal.returns-in-Err-clause-alone
+returns-in-Err-clause-alone g c = noted_alone c.args.desk.now c.peek.new.desk c.tell_closed.new.desk c.peek.ensures.reads c.tell_closed.ensures.others c.tell_closed.ensures.stops
+
+pub returns-in-Err-clause-write_cause : goal.returns-in-Err-clause-write_cause
+returns-in-Err-clause-write_cause g c =
+    let t = c.tell_closed.ensures in
+    write_calm _ _ c.tell_closed.result (t.others.failed_says ∙ c.peek.ensures.reads.others.failed_says) (closed_calm c.in-Err.fault c.tell_closed.result _ _ _ _ t.told).1
+
+pub returns-in-Err-clause-disk_cause : goal.returns-in-Err-clause-disk_cause
+returns-in-Err-clause-disk_cause g c =
+    let t = c.tell_closed.ensures in
+    closed_disk Cored _ _ _ c.in-Err.fault c.tell_closed.result _ _ _ _ c.in-Err.ensures.cause t.others.failed_calls t.told
+
+pub returns-in-Err-clause-counted : goal.returns-in-Err-clause-counted
+returns-in-Err-clause-counted g c =
+    subst (λ (n : ℕ). RisesOnce n (g.D.Desk.note_faults c.tell_closed.new.desk)) c.peek.ensures.reads.others.failed_notes c.tell_closed.ensures.counted
+
+pub tell_closed-requires : goal.tell_closed-requires
+tell_closed-requires g c = never_spent g.D.Desk.tells _ c.in-Err.fault c.in-Err.ensures.fault

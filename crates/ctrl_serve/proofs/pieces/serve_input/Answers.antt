@@ -1,0 +1,85 @@
+use Rattle.std.proofs.Common.{ap}
+use Rattle.std.proofs.lemmas.Result.{err_from_is_err_and}
+use Rattle.journal_core.proofs.RoomLaws.{left_none, left_then}
+use Rattle.run_notes.specs.declared.notes.Notes.{Notes}
+use Rattle.ctrl_serve.specs.ControllerViews.{serving_of}
+use Rattle.ctrl_serve.proofs.ControllerLaws.{notes_behind, ready_behind}
+use Rattle.ctrl_serve.proofs.FailureLaws.{takes_none}
+use Rattle.ctrl_serve.proofs.RoomRuns.{room_calm}
+use Rattle.ctrl_serve.proofs.PieceLaws.{input_ends, input_starved, pieces_none}
+use Rattle.ctrl_serve.proofs.IntakeLaws.{read_caused}
+use Rattle.ctrl_serve.proofs.pieces.serve_input.Goals as goal
+
+pub returns-clause-answers : goal.returns-clause-answers
+returns-clause-answers g c =
+    let k = serving_of c.args.controller.now in
+    let said = g.D.Desk.said in
+    let noted = g.D.Desk.noted in
+    let faults = g.D.Desk.note_faults in
+    input_ends c.in_ok-stop.stop.end c.args.form k c.args.most c.serve_pieces.new.sessions (serving_of c.serve_pieces.new.controller).machine c.serve_pieces.new.mux _ _ (said c.args.desk.now) (said c.serve_pieces.new.desk) (said c.tell_ending.new.desk)
+    c.args.notes.now.failed c.serve_pieces.new.notes.failed c.tell_ending.new.notes.failed (noted c.args.desk.now) (noted c.serve_pieces.new.desk) (noted c.tell_ending.new.desk)
+    (faults c.args.desk.now) (faults c.serve_pieces.new.desk) (faults c.tell_ending.new.desk) g.D.Desk.tells c.in_ok-stop.stop.bad _
+    c.in_ok-stop.ensures.ok c.in_ok-stop.ensures.end c.tell_ending.ensures.stops c.tell_ending.ensures.others.replies c.in_ok-tell_ending.ensures.status c.in_ok-tell_ending.ensures.noted
+
+pub returns-clause-read : goal.returns-clause-read
+returns-clause-read g c =
+    read_caused _ _ c.in_ok-stop.stop.end _ _ _ c.in_ok-tell_ending.ensures.status c.in_ok-stop.ensures.fault
+
+pub returns-in_err-mux-clause-answers : goal.returns-in_err-mux-clause-answers
+returns-in_err-mux-clause-answers g c =
+    let desk = c.args.desk.now in
+    let p = err_from_is_err_and c.from_residual.result c.from_residual.ensures.1 in
+    rw p.1 (rw p.2 (pieces_none c.args.form (serving_of c.args.controller.now) c.args.most (g.S.Source.left c.args.source.now) (g.D.Desk.said desk) c.args.notes.now.failed (g.D.Desk.noted desk) (g.D.Desk.note_faults desk) g.D.Desk.tells))
+
+pub returns-in_err-sessions-clause-answers : goal.returns-in_err-sessions-clause-answers
+returns-in_err-sessions-clause-answers g c =
+    let desk = c.args.desk.now in
+    let p = err_from_is_err_and c.from_residual-in_err-sessions.result c.from_residual-in_err-sessions.ensures.1 in
+    rw p.1 (rw p.2 (pieces_none c.args.form (serving_of c.args.controller.now) c.args.most (g.S.Source.left c.args.source.now) (g.D.Desk.said desk) c.args.notes.now.failed (g.D.Desk.noted desk) (g.D.Desk.note_faults desk) g.D.Desk.tells))
+
+pub returns-in_err-mux-clause-until_failure : goal.returns-in_err-mux-clause-until_failure
+returns-in_err-mux-clause-until_failure g c = takes_none _
+
+pub returns-in_err-sessions-clause-until_failure : goal.returns-in_err-sessions-clause-until_failure
+returns-in_err-sessions-clause-until_failure g c = takes_none _
+
+pub returns-in_err-stop-clause-answers : goal.returns-in_err-stop-clause-answers
+returns-in_err-stop-clause-answers g c =
+    let p = err_from_is_err_and c.from_residual-in_err-stop.result c.from_residual-in_err-stop.ensures.1 in
+    rw p.1 (rw p.2 c.in_err-stop.ensures.cut)
+
+pub returns-in_err-tell_ending-clause-answers : goal.returns-in_err-tell_ending-clause-answers
+returns-in_err-tell_ending-clause-answers g c =
+    let k = serving_of c.args.controller.now in
+    let said = g.D.Desk.said in
+    let noted = g.D.Desk.noted in
+    let faults = g.D.Desk.note_faults in
+    let left = c.in_err-tell_ending.ensures.unnoted in
+    let p = err_from_is_err_and c.from_residual-in_err-tell_ending.result c.from_residual-in_err-tell_ending.ensures.1 in
+    rw p.1 (rw p.2 (input_starved c.in_ok-stop.stop.end c.args.form k c.args.most c.serve_pieces.new.sessions (serving_of c.serve_pieces.new.controller).machine c.serve_pieces.new.mux _ _
+    (said c.args.desk.now) (said c.serve_pieces.new.desk) (said c.tell_ending.new.desk) c.args.notes.now.failed c.serve_pieces.new.notes.failed c.tell_ending.new.notes.failed
+    (noted c.args.desk.now) (noted c.serve_pieces.new.desk) (noted c.tell_ending.new.desk) (faults c.args.desk.now) (faults c.serve_pieces.new.desk) (faults c.tell_ending.new.desk) g.D.Desk.tells c.in_ok-stop.stop.bad
+    c.in_ok-stop.ensures.ok c.in_ok-stop.ensures.end c.tell_ending.ensures.stops c.in_err-tell_ending.ensures.memory c.tell_ending.ensures.others.replies (ap (λ (x : Notes). x.failed) left.0) left.1.notes left.1.failed_notes))
+
+pub returns-clause-alone : goal.returns-clause-alone
+returns-clause-alone g c = λ none. notes_behind (c.serve_pieces.ensures.alone none) c.tell_ending.ensures.others
+
+pub returns-in_err-tell_ending-clause-alone : goal.returns-in_err-tell_ending-clause-alone
+returns-in_err-tell_ending-clause-alone g c = λ none. notes_behind (c.serve_pieces.ensures.alone none) c.tell_ending.ensures.others
+
+pub returns-in_err-mux-clause-images : goal.returns-in_err-mux-clause-images
+returns-in_err-mux-clause-images g c = room_calm _ c.args.desk.now
+
+pub returns-in_err-sessions-clause-images : goal.returns-in_err-sessions-clause-images
+returns-in_err-sessions-clause-images g c = room_calm _ c.args.desk.now
+
+pub returns-clause-images : goal.returns-clause-images
+returns-clause-images g c = left_then c.serve_pieces.ensures.images (left_none _ c.tell_ending.ensures.others.found)
+
+pub returns-in_err-tell_ending-clause-images : goal.returns-in_err-tell_ending-clause-images
+returns-in_err-tell_ending-clause-images g c = left_then c.serve_pieces.ensures.images (left_none _ c.tell_ending.ensures.others.found)
+
+pub returns-clause-ready : goal.returns-clause-ready
+returns-clause-ready g c =
+    let others = c.tell_ending.ensures.others in
+    ready_behind (serving_of c.serve_pieces.new.controller).kept g.D.Desk.tells _ _ _ _ others.parts others.found c.in_ok-stop.ensures.ready

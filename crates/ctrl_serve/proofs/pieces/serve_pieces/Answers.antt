@@ -1,0 +1,224 @@
+use Rattle.std.proofs.Common.{◌∙◌, ◌+◌, ◌++◌, ◌≡◌, ◌≤◌, List, ℕ, [], length, take, ◌-◌, inr, refl, sym, ap, subst, append-nil, arith}
+use Rattle.std.proofs.lemmas.Result.{err_from_is_err_and}
+use Rattle.std.proofs.lemmas.List.{length-take, length-take-le}
+use Rattle.ziti_outside.specs.Told.{Gave}
+use Rattle.ziti_outside.proofs.Moves.{Gave-then, Gave-kept}
+use Rattle.session_mux.specs.Completion.{fed}
+use Rattle.run_notes.specs.declared.ends.End.TheVariants.{Whole, More, Fault}
+use Rattle.run_notes.specs.Endings.{IsAllGiven}
+use Rattle.ctrl_serve.specs.ControllerViews.{serving_of}
+use Rattle.ctrl_serve.proofs.ControllerLaws.{GoesOn-then, still_alone, OnlySaysAndNotes-none, OnlySaysAndNotes-then}
+use Rattle.ctrl_serve.proofs.FailureLaws.{takes_none, takes_so_far}
+use Rattle.ctrl_serve.proofs.RoomRuns.{room_calm, room_more}
+use Rattle.ctrl_serve.proofs.PieceLaws.{came_few, fed_cut, fed_decided, fed_more, fed_starved, more_given, pieces_end, pieces_fed, pieces_none, pieces_start, start_given}
+use Rattle.ctrl_serve.proofs.pieces.serve_pieces.Goals as goal
+
+pub pieces-init : goal.pieces-init
+pieces-init g c =
+    let k = serving_of c.args.controller.now in
+    let desk = c.args.desk.now in
+    record {
+      on = record { able = c.requires.able; bounds = refl; kind = refl };
+      ready = c.requires.ready;
+      answers = pieces_start c.args.form k c.args.most c.args.sessions.now c.args.mux.now (g.S.Source.left c.args.source.now) (g.D.Desk.said desk) c.args.notes.now.failed (g.D.Desk.noted desk) (g.D.Desk.note_faults desk) g.D.Desk.tells c.requires.known c.requires.start;
+      given = subst IsAllGiven (sym c.requires.start) (start_given c.args.form);
+      few = omega arith;
+      calm = refl;
+      calm_say = refl;
+      calm_disk = refl;
+      alone = λ none. OnlySaysAndNotes-none desk;
+      images = room_calm _ desk;
+    }
+
+pub pieces-preserved : goal.pieces-preserved
+pieces-preserved g c =
+    let held = c.pieces.invariant in
+    let first = serving_of c.args.controller.now in
+    let mid = serving_of c.pieces.controller in
+    let said = g.D.Desk.said in
+    let noted = g.D.Desk.noted in
+    let faults = g.D.Desk.note_faults in
+    let left = g.S.Source.left in
+    let last = serving_of c.serve_events.new.controller in
+    let e = c.in_ok-bad-in-Ok.ensures in
+    let piece : List ℕ = take c.in-Ok.count c.take.new.buf in
+    let long : length piece ≡ c.in-Ok.count = length-take-le c.in-Ok.count c.take.new.buf c.in-Ok.ensures.bytes.within in
+    let few : length piece ≤ 65536 = omega (arith, long, c.in-Ok.ensures.bytes.within, c.in_ok-room.ensures, c.pieces.auto.piece, c.take.auto.buf) in
+    let came = pieces_fed c.args.form first c.args.most c.pieces.sessions mid.machine c.pieces.mux c.feed.new.self (left c.args.source.now) (left c.pieces.source) (left c.take.new.self) (said c.args.desk.now) (said c.pieces.desk)
+    c.args.notes.now.failed c.pieces.notes.failed (noted c.args.desk.now) (noted c.pieces.desk) (faults c.args.desk.now) (faults c.pieces.desk) g.D.Desk.tells c.pieces.taken piece c.first_bytes.result.now
+    held.answers held.given.none (omega (arith, c.pieces-test.true)) c.in-Ok.ensures.bytes.bytes few c.first_bytes.ensures c.in_ok-feed-in-Ok.ensures.ok in
+    let now = fed_more c.args.form first mid.bounds c.args.most c.pieces.sessions c.serve_events.new.sessions mid.machine last.machine c.feed.new.self c.serve_events.new.mux (left c.args.source.now) (left c.take.new.self)
+    (said c.args.desk.now) (said c.pieces.desk) (said c.serve_events.new.desk) c.args.notes.now.failed c.pieces.notes.failed c.serve_events.new.notes.failed (noted c.args.desk.now) (noted c.pieces.desk) (noted c.serve_events.new.desk)
+    (faults c.args.desk.now) (faults c.pieces.desk) (faults c.serve_events.new.desk) g.D.Desk.tells c.in_ok-bad-in-Ok.bad _ _
+    came held.on.bounds e.ok (λ some told. c.serve_events.ensures.stops (held.on.kind ∙ some) told) e.end (sym c.is_decided.ensures ∙ c.if-is_decided.false) (ap (λ (n : ℕ). c.pieces.taken + n) long) in
+    record {
+      on = GoesOn-then held.on e.on;
+      ready = e.ready;
+      answers = now;
+      given = more_given c.args.form first c.args.most _ _ _ _ _ _ _ _ _ _ _ _ _ g.D.Desk.tells c.in_ok-bad-in-Ok.bad _ now e.end (sym c.is_decided.ensures ∙ c.if-is_decided.false);
+      few = omega (arith, c.pieces-test.true, few, long);
+      calm = c.in-Ok.ensures.cause.calm ∙ held.calm;
+      calm_say = e.say_cause.calm ∙ held.calm_say;
+      calm_disk = e.disk_cause.calm ∙ held.calm_disk;
+      alone = λ none. OnlySaysAndNotes-then (held.alone none) (c.serve_events.ensures.alone (still_alone _ _ held.on.kind none));
+      images = room_more first.bounds mid.bounds held.on.bounds held.images c.serve_events.ensures.images;
+    }
+
+pub feed-requires : goal.feed-requires
+feed-requires g c =
+    let held = c.pieces.invariant in
+    let first = serving_of c.args.controller.now in
+    let mid = serving_of c.pieces.controller in
+    let said = g.D.Desk.said in
+    let noted = g.D.Desk.noted in
+    let faults = g.D.Desk.note_faults in
+    let left = g.S.Source.left in
+    let piece : List ℕ = take c.in-Ok.count c.take.new.buf in
+    let long : length piece ≡ c.in-Ok.count = length-take-le c.in-Ok.count c.take.new.buf c.in-Ok.ensures.bytes.within in
+    let few : length piece ≤ 65536 = omega (arith, long, c.in-Ok.ensures.bytes.within, c.in_ok-room.ensures, c.pieces.auto.piece, c.take.auto.buf) in
+    let came = came_few c.args.form first c.args.most _ _ c.pieces.mux _ _ _ _ _ _ _ _ _ _ g.D.Desk.tells c.pieces.taken held.answers in
+    let part : length c.first_bytes.result.now ≤ length piece = omega (arith, ap length c.first_bytes.ensures, length-take (c.args.most - c.pieces.taken) piece) in
+    omega (arith, came, part, few, c.pieces-test.true, c.requires.most)
+
+pub returns-in_err-room-clause-cut : goal.returns-in_err-room-clause-cut
+returns-in_err-room-clause-cut g c =
+    let desk = c.args.desk.now in
+    let p = err_from_is_err_and c.from_residual.result c.from_residual.ensures.1 in
+    rw p.1 (rw p.2 (pieces_none c.args.form (serving_of c.args.controller.now) c.args.most (g.S.Source.left c.args.source.now) (g.D.Desk.said desk) c.args.notes.now.failed (g.D.Desk.noted desk) (g.D.Desk.note_faults desk) g.D.Desk.tells))
+
+pub returns-in_err-room-clause-until_failure : goal.returns-in_err-room-clause-until_failure
+returns-in_err-room-clause-until_failure g c = takes_none _
+
+pub returns-in-Err-clause-ok : goal.returns-in-Err-clause-ok
+returns-in-Err-clause-ok g c =
+    let held = c.pieces.invariant in
+    let taken : List ℕ = held.answers.takes.taken in
+    pieces_end Fault c.args.form (serving_of c.args.controller.now) c.args.most _ _ _ _ _ _ _ _ _ _ _ _ _ _ g.D.Desk.tells c.pieces.taken held.answers
+    (Gave-kept _ _ _ taken held.answers.takes.gave c.in-Err.ensures.bytes.bytes) (omega (arith, held.answers.counted, c.pieces-test.true))
+
+pub returns-in-Err-clause-until_failure : goal.returns-in-Err-clause-until_failure
+returns-in-Err-clause-until_failure g c =
+    let held = c.pieces.invariant in
+    record { until = c.pieces.source; taken = held.answers.takes.taken; gave = held.answers.takes.gave; calm = held.calm; nothing_more = c.in-Err.ensures.bytes.bytes }
+
+pub returns-in-Ok-eq0-clause-ok : goal.returns-in-Ok-eq0-clause-ok
+returns-in-Ok-eq0-clause-ok g c =
+    let held = c.pieces.invariant in
+    let left = g.S.Source.left in
+    let taken : List ℕ = held.answers.takes.taken in
+    let none : Gave (left c.pieces.source) (left c.take.new.self) [] = subst (λ (n : ℕ). Gave (left c.pieces.source) (left c.take.new.self) (take n c.take.new.buf)) c.in-Ok-eq0.field-0-test c.in-Ok-eq0.ensures.bytes.bytes in
+    pieces_end Whole c.args.form (serving_of c.args.controller.now) c.args.most _ _ _ _ _ _ _ _ _ _ _ _ _ _ g.D.Desk.tells c.pieces.taken held.answers
+    (subst (λ (bytes : List ℕ). Gave (left c.args.source.now) (left c.take.new.self) bytes) (append-nil taken) (Gave-then _ _ _ taken [] held.answers.takes.gave none))
+    (inr (omega (arith, held.answers.counted, c.pieces-test.true), c.in-Ok-eq0.ensures.bytes.end c.in-Ok-eq0.field-0-test))
+
+pub returns-in-Ok-eq0-clause-until_failure : goal.returns-in-Ok-eq0-clause-until_failure
+returns-in-Ok-eq0-clause-until_failure g c =
+    let held = c.pieces.invariant in
+    let piece : List ℕ = take c.in-Ok-eq0.field-0 c.take.new.buf in
+    takes_so_far _ _ (held.answers.takes.taken ++ piece) (Gave-then _ _ _ held.answers.takes.taken piece held.answers.takes.gave c.in-Ok-eq0.ensures.bytes.bytes) (c.in-Ok-eq0.ensures.cause.calm ∙ held.calm)
+
+pub returns-in_err-feed-in-Ok-clause-cut : goal.returns-in_err-feed-in-Ok-clause-cut
+returns-in_err-feed-in-Ok-clause-cut g c =
+    let held = c.pieces.invariant in
+    let first = serving_of c.args.controller.now in
+    let mid = serving_of c.pieces.controller in
+    let said = g.D.Desk.said in
+    let noted = g.D.Desk.noted in
+    let faults = g.D.Desk.note_faults in
+    let left = g.S.Source.left in
+    let piece : List ℕ = take c.in-Ok.count c.take.new.buf in
+    let long : length piece ≡ c.in-Ok.count = length-take-le c.in-Ok.count c.take.new.buf c.in-Ok.ensures.bytes.within in
+    let few : length piece ≤ 65536 = omega (arith, long, c.in-Ok.ensures.bytes.within, c.in_ok-room.ensures, c.pieces.auto.piece, c.take.auto.buf) in
+    let st = fed c.pieces.mux c.first_bytes.result.now in
+    let p = err_from_is_err_and c.from_residual-in_err-feed-in-Ok.result c.from_residual-in_err-feed-in-Ok.ensures.1 in
+    let came = pieces_fed c.args.form first c.args.most c.pieces.sessions mid.machine c.pieces.mux st (left c.args.source.now) (left c.pieces.source) (left c.take.new.self) (said c.args.desk.now) (said c.pieces.desk)
+    c.args.notes.now.failed c.pieces.notes.failed (noted c.args.desk.now) (noted c.pieces.desk) (faults c.args.desk.now) (faults c.pieces.desk) g.D.Desk.tells c.pieces.taken piece c.first_bytes.result.now
+    held.answers held.given.none (omega (arith, c.pieces-test.true)) c.in-Ok.ensures.bytes.bytes few c.first_bytes.ensures refl in
+    rw p.1 (rw p.2 (fed_starved c.args.form first c.args.most c.pieces.sessions mid.machine st (left c.args.source.now) (left c.take.new.self) (said c.args.desk.now) (said c.pieces.desk)
+    c.args.notes.now.failed c.pieces.notes.failed (noted c.args.desk.now) (noted c.pieces.desk) (faults c.args.desk.now) (faults c.pieces.desk) g.D.Desk.tells _ came))
+
+pub returns-in_err-feed-in-Ok-clause-until_failure : goal.returns-in_err-feed-in-Ok-clause-until_failure
+returns-in_err-feed-in-Ok-clause-until_failure g c =
+    let held = c.pieces.invariant in
+    let piece : List ℕ = take c.in-Ok.count c.take.new.buf in
+    takes_so_far _ _ (held.answers.takes.taken ++ piece) (Gave-then _ _ _ held.answers.takes.taken piece held.answers.takes.gave c.in-Ok.ensures.bytes.bytes) (c.in-Ok.ensures.cause.calm ∙ held.calm)
+
+pub returns-in_err-bad-in-Ok-clause-cut : goal.returns-in_err-bad-in-Ok-clause-cut
+returns-in_err-bad-in-Ok-clause-cut g c =
+    let held = c.pieces.invariant in
+    let first = serving_of c.args.controller.now in
+    let mid = serving_of c.pieces.controller in
+    let said = g.D.Desk.said in
+    let noted = g.D.Desk.noted in
+    let faults = g.D.Desk.note_faults in
+    let left = g.S.Source.left in
+    let piece : List ℕ = take c.in-Ok.count c.take.new.buf in
+    let long : length piece ≡ c.in-Ok.count = length-take-le c.in-Ok.count c.take.new.buf c.in-Ok.ensures.bytes.within in
+    let few : length piece ≤ 65536 = omega (arith, long, c.in-Ok.ensures.bytes.within, c.in_ok-room.ensures, c.pieces.auto.piece, c.take.auto.buf) in
+    let p = err_from_is_err_and c.from_residual-in_err-bad-in-Ok.result c.from_residual-in_err-bad-in-Ok.ensures.1 in
+    let came = pieces_fed c.args.form first c.args.most c.pieces.sessions mid.machine c.pieces.mux c.feed.new.self (left c.args.source.now) (left c.pieces.source) (left c.take.new.self) (said c.args.desk.now) (said c.pieces.desk)
+    c.args.notes.now.failed c.pieces.notes.failed (noted c.args.desk.now) (noted c.pieces.desk) (faults c.args.desk.now) (faults c.pieces.desk) g.D.Desk.tells c.pieces.taken piece c.first_bytes.result.now
+    held.answers held.given.none (omega (arith, c.pieces-test.true)) c.in-Ok.ensures.bytes.bytes few c.first_bytes.ensures c.in_ok-feed-in-Ok.ensures.ok in
+    rw p.1 (rw p.2 (fed_cut _ c.args.form first mid.bounds c.args.most c.pieces.sessions mid.machine c.feed.new.self (left c.args.source.now) (left c.take.new.self)
+    (said c.args.desk.now) (said c.pieces.desk) (said c.serve_events.new.desk) c.args.notes.now.failed c.pieces.notes.failed c.serve_events.new.notes.failed (noted c.args.desk.now) (noted c.pieces.desk) (noted c.serve_events.new.desk)
+    (faults c.args.desk.now) (faults c.pieces.desk) (faults c.serve_events.new.desk) g.D.Desk.tells _ came held.on.bounds c.in_err-bad-in-Ok.ensures.cut (λ some told. c.serve_events.ensures.stops (held.on.kind ∙ some) told)))
+
+pub returns-in_err-bad-in-Ok-clause-until_failure : goal.returns-in_err-bad-in-Ok-clause-until_failure
+returns-in_err-bad-in-Ok-clause-until_failure g c =
+    let held = c.pieces.invariant in
+    let piece : List ℕ = take c.in-Ok.count c.take.new.buf in
+    takes_so_far _ _ (held.answers.takes.taken ++ piece) (Gave-then _ _ _ held.answers.takes.taken piece held.answers.takes.gave c.in-Ok.ensures.bytes.bytes) (c.in-Ok.ensures.cause.calm ∙ held.calm)
+
+pub returns-then-is_decided-clause-ok : goal.returns-then-is_decided-clause-ok
+returns-then-is_decided-clause-ok g c =
+    let held = c.pieces.invariant in
+    let first = serving_of c.args.controller.now in
+    let mid = serving_of c.pieces.controller in
+    let said = g.D.Desk.said in
+    let noted = g.D.Desk.noted in
+    let faults = g.D.Desk.note_faults in
+    let left = g.S.Source.left in
+    let last = serving_of c.serve_events.new.controller in
+    let e = c.in_ok-bad-in-Ok.ensures in
+    let piece : List ℕ = take c.in-Ok.count c.take.new.buf in
+    let long : length piece ≡ c.in-Ok.count = length-take-le c.in-Ok.count c.take.new.buf c.in-Ok.ensures.bytes.within in
+    let few : length piece ≤ 65536 = omega (arith, long, c.in-Ok.ensures.bytes.within, c.in_ok-room.ensures, c.pieces.auto.piece, c.take.auto.buf) in
+    let came = pieces_fed c.args.form first c.args.most c.pieces.sessions mid.machine c.pieces.mux c.feed.new.self (left c.args.source.now) (left c.pieces.source) (left c.take.new.self) (said c.args.desk.now) (said c.pieces.desk)
+    c.args.notes.now.failed c.pieces.notes.failed (noted c.args.desk.now) (noted c.pieces.desk) (faults c.args.desk.now) (faults c.pieces.desk) g.D.Desk.tells c.pieces.taken piece c.first_bytes.result.now
+    held.answers held.given.none (omega (arith, c.pieces-test.true)) c.in-Ok.ensures.bytes.bytes few c.first_bytes.ensures c.in_ok-feed-in-Ok.ensures.ok in
+    fed_decided c.args.form first mid.bounds c.args.most c.pieces.sessions c.serve_events.new.sessions mid.machine last.machine c.feed.new.self c.serve_events.new.mux (left c.args.source.now) (left c.take.new.self)
+    (said c.args.desk.now) (said c.pieces.desk) (said c.serve_events.new.desk) c.args.notes.now.failed c.pieces.notes.failed c.serve_events.new.notes.failed (noted c.args.desk.now) (noted c.pieces.desk) (noted c.serve_events.new.desk)
+    (faults c.args.desk.now) (faults c.pieces.desk) (faults c.serve_events.new.desk) g.D.Desk.tells c.in_ok-bad-in-Ok.bad _
+    came held.on.bounds e.ok (λ some told. c.serve_events.ensures.stops (held.on.kind ∙ some) told) e.end (sym c.is_decided.ensures ∙ c.if-is_decided.true)
+
+pub returns-then-is_decided-clause-until_failure : goal.returns-then-is_decided-clause-until_failure
+returns-then-is_decided-clause-until_failure g c =
+    let held = c.pieces.invariant in
+    let piece : List ℕ = take c.in-Ok.count c.take.new.buf in
+    takes_so_far _ _ (held.answers.takes.taken ++ piece) (Gave-then _ _ _ held.answers.takes.taken piece held.answers.takes.gave c.in-Ok.ensures.bytes.bytes) (c.in-Ok.ensures.cause.calm ∙ held.calm)
+
+pub returns-then-is_decided-clause-alone : goal.returns-then-is_decided-clause-alone
+returns-then-is_decided-clause-alone g c = λ none.
+    let held = c.pieces.invariant in OnlySaysAndNotes-then (held.alone none) (c.serve_events.ensures.alone (still_alone _ _ held.on.kind none))
+
+pub returns-clause-ok : goal.returns-clause-ok
+returns-clause-ok g c =
+    let held = c.pieces.invariant in
+    pieces_end More c.args.form (serving_of c.args.controller.now) c.args.most _ _ _ _ _ _ _ _ _ _ _ _ _ _ g.D.Desk.tells c.pieces.taken held.answers held.answers.takes.gave
+    (omega (arith, held.answers.counted, c.pieces-test.false))
+
+pub returns-clause-until_failure : goal.returns-clause-until_failure
+returns-clause-until_failure g c = let held = c.pieces.invariant in takes_so_far _ _ held.answers.takes.taken held.answers.takes.gave held.calm
+
+pub returns-in_err-room-clause-images : goal.returns-in_err-room-clause-images
+returns-in_err-room-clause-images g c = room_calm _ c.args.desk.now
+
+pub returns-in_err-bad-in-Ok-clause-images : goal.returns-in_err-bad-in-Ok-clause-images
+returns-in_err-bad-in-Ok-clause-images g c =
+    let held = c.pieces.invariant in
+    room_more (serving_of c.args.controller.now).bounds (serving_of c.pieces.controller).bounds held.on.bounds held.images c.serve_events.ensures.images
+
+pub returns-then-is_decided-clause-images : goal.returns-then-is_decided-clause-images
+returns-then-is_decided-clause-images g c =
+    let held = c.pieces.invariant in
+    room_more (serving_of c.args.controller.now).bounds (serving_of c.pieces.controller).bounds held.on.bounds held.images c.serve_events.ensures.images

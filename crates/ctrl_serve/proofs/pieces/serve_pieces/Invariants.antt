@@ -1,0 +1,30 @@
+use Rattle.std.proofs.Common.{◌+◌, ◌-◌, ◌≡◌, ◌≤◌, None}
+use Rattle.journal_core.specs.Room.{LeavesRoom}
+use Rattle.run_notes.specs.Endings.{IsAllGiven}
+use Rattle.ziti_outside.specs.Moments.{Elapses}
+use Rattle.ctrl_serve.specs.Headline.{OnlySaysAndNotes}
+use Rattle.ctrl_serve.specs.Controllers.{GoesOn, IsReady}
+use Rattle.ctrl_serve.specs.ControllerViews.{serving_of}
+use Rattle.ctrl_serve.specs.Pieces.{AnswersPieces}
+use Rattle.ctrl_serve.proofs.pieces.serve_pieces.Given as goal
+
+-- what was taken since the call began is what the source gave, all its used events were answered, they do not decide the input, and
+-- no slot grew past its bound
+abbrev pub invariant-pieces : goal.invariant-pieces
+invariant-pieces g l = record {
+  on : GoesOn (serving_of l.fn.controller) (serving_of l.controller);
+  ready : IsReady g.D.Desk.tells (serving_of l.controller).kept (g.D.Desk.reads l.desk) (g.D.Desk.may_leave l.desk);
+  answers : AnswersPieces l.form (serving_of l.fn.controller) l.most l.sessions (serving_of l.controller).machine l.mux (g.S.Source.left l.fn.source) (g.S.Source.left l.source) (g.D.Desk.said l.fn.desk) (g.D.Desk.said l.desk)
+      l.fn.notes.failed l.notes.failed (g.D.Desk.noted l.fn.desk) (g.D.Desk.noted l.desk) (g.D.Desk.note_faults l.fn.desk) (g.D.Desk.note_faults l.desk) g.D.Desk.tells
+      (Elapses (g.D.Desk.moment l.fn.desk) (g.D.Desk.moment l.desk) (g.D.Desk.since l.fn.desk) (g.D.Desk.since l.desk)) l.taken;
+  given : IsAllGiven l.mux;
+  few : l.taken ≤ l.most + 65536;
+  calm : g.S.Source.faults l.source ≡ g.S.Source.faults l.fn.source;
+  calm_say : g.D.Desk.say_faults l.desk ≡ g.D.Desk.say_faults l.fn.desk;
+  calm_disk : g.D.Desk.disk_faults l.desk ≡ g.D.Desk.disk_faults l.fn.desk;
+  alone : (serving_of l.fn.controller).kept ≡ None → OnlySaysAndNotes g.D.Desk.reads g.D.Desk.may_leave g.D.Desk.disk_faults l.fn.desk l.desk;
+  images : LeavesRoom (serving_of l.fn.controller).bounds.slot g.D.Desk.may_leave l.fn.desk l.desk;
+}
+
+abbrev pub decreases-pieces : goal.decreases-pieces
+decreases-pieces g l = l.most + 1 - l.taken

@@ -1,0 +1,43 @@
+-- What is told of a folder that was not opened, and of a compaction. Only private contracts cite these.
+use Rattle.std.specs.Prelude.{◌≡◌, ℕ, List, [], None, Some, Ok, Err}
+use Rattle.std.specs.declared.option.Option.{Option}
+use Rattle.std.specs.declared.result.Result.{Result}
+use Rattle.ctrl_model.specs.declared.refusals.Refusal.TheVariants.{JournalFull, MarkFull}
+use Rattle.ctrl_model.specs.declared.replies.Reply.{Reply}
+use Rattle.ctrl_model.specs.declared.replies.Reply.TheVariants.{Refused}
+use Rattle.ctrl_keep.specs.declared.faults.KeepFault.{KeepFault}
+use Rattle.ctrl_keep.specs.declared.faults.KeepFault.TheVariants.{Disk, Damaged, Spent, NoMemory}
+use Rattle.run_notes.specs.declared.ends.Full.{Full}
+use Rattle.run_notes.specs.declared.ends.Full.TheVariants as full
+use Rattle.run_notes.specs.declared.status.Status.{Status}
+use Rattle.run_notes.specs.declared.status.Status.TheVariants as ending
+use Rattle.run_notes.specs.NotedLines.{NotesLines, TellsDamage}
+use Rattle.run_notes.specs.Notes.{full_note, status_lines}
+
+-- A run ended at one status, and these lines were noted.
+abbrev pub TellsEnd : (is : Status) → (lines : List ℕ) → (status : Status) → (noted_before noted_now : Option (List ℕ)) (note_faults_before note_faults_now : ℕ) → Type 0
+TellsEnd is lines status noted noted_now faults faults_now = (status ≡ is) × NotesLines lines noted noted_now faults faults_now
+
+-- What was told of a folder that was not opened, by the fault of its opening, which is never Spent.
+abbrev pub TellsClosed : KeepFault → (status : Status) → (noted_before noted_now : Option (List ℕ)) (note_faults_before note_faults_now : ℕ) → Type 0
+TellsClosed Disk status noted noted_now faults faults_now = TellsEnd ending.DiskFault (status_lines [] ending.DiskFault) status noted noted_now faults faults_now
+TellsClosed (Damaged part at) status noted noted_now faults faults_now = TellsDamage part at status noted noted_now faults faults_now
+TellsClosed Spent status noted noted_now faults faults_now = ⊥
+TellsClosed NoMemory status noted noted_now faults faults_now = TellsEnd ending.NoMemory (status_lines [] ending.NoMemory) status noted noted_now faults faults_now
+
+-- The part without room, if that is why a reply refuses.
+abbrev pub full_in : Reply → Option Full
+full_in (Refused JournalFull) = Some full.Journal
+full_in (Refused MarkFull) = Some full.Mark
+full_in _ = None
+
+-- What was told of a part without room: nothing where there is none.
+abbrev pub TellsRoom : Option Full → (status : Status) → (noted_before noted_now : Option (List ℕ)) (note_faults_before note_faults_now : ℕ) → Type 0
+TellsRoom None status noted noted_now faults faults_now = TellsEnd ending.Done [] status noted noted_now faults faults_now
+TellsRoom (Some part) status noted noted_now faults faults_now = TellsEnd ending.FolderFull (full_note part) status noted noted_now faults faults_now
+
+-- What was told of a compaction, by its reply or its fault, which is of the disk or want of memory.
+abbrev pub TellsCompaction : Result Reply KeepFault → (status : Status) → (noted_before noted_now : Option (List ℕ)) (note_faults_before note_faults_now : ℕ) → Type 0
+TellsCompaction (Ok reply) status noted noted_now faults faults_now = TellsRoom (full_in reply) status noted noted_now faults faults_now
+TellsCompaction (Err Disk) status noted noted_now faults faults_now = TellsEnd ending.DiskFault (status_lines [] ending.DiskFault) status noted noted_now faults faults_now
+TellsCompaction (Err fault) status noted noted_now faults faults_now = TellsEnd ending.NoMemory (status_lines [] ending.NoMemory) status noted noted_now faults faults_now

@@ -1,0 +1,86 @@
+-- What the words `audit` and `compact` do with a folder (docs/PROMISES.md, "The headline").
+use Rattle.std.specs.Prelude.{◌≡◌, ℕ, Bool, true, IsTrue, List, [], Some, is_some}
+use Rattle.std.specs.declared.option.Option.{Option}
+use Rattle.ziti_outside.specs.Images.{Image}
+use Rattle.ziti_outside.specs.Told.{AreTaken}
+use Rattle.ctrl_model.specs.declared.commands.Command.TheVariants.{Compact}
+use Rattle.ctrl_model.specs.declared.kinds.Who.TheVariants.{Admin}
+use Rattle.ctrl_model.specs.declared.refusals.Refusal.{Refusal}
+use Rattle.ctrl_model.specs.declared.refusals.Refusal.TheVariants.{JournalFull, MarkFull}
+use Rattle.ctrl_model.specs.declared.replies.Reply.{Reply}
+use Rattle.ctrl_model.specs.declared.replies.Reply.TheVariants.{Done, Refused}
+use Rattle.ctrl_model.specs.State.{State}
+use Rattle.ctrl_model.specs.ValidState.{ValidState}
+use Rattle.slot_files.specs.FolderImage.{slot_of, Stands}
+use Rattle.row_store.specs.declared.bounds.StoreBounds.{StoreBounds}
+use Rattle.row_store.specs.CompactedStores.{compacted}
+use Rattle.ctrl_keep.specs.OpenedStates.{byte_rows_of, OpensToState}
+use Rattle.ctrl_keep.specs.KeptMachine.{Machine, Place, step}
+use Rattle.run_notes.specs.declared.ends.Full.{Full}
+use Rattle.run_notes.specs.declared.ends.Full.TheVariants as full
+use Rattle.run_notes.specs.declared.status.Status.{Status}
+use Rattle.run_notes.specs.declared.status.Status.TheVariants as status
+use Rattle.run_notes.specs.Notes.{full_note, status_lines}
+use Rattle.run_notes.specs.NotedLines.{NotesLines}
+use Rattle.ctrl_serve.specs.Loads.{counts_line, SaysOneLine}
+use Rattle.ctrl_serve.specs.OpenedFolders.{Keeps, OpensTo}
+use Rattle.ctrl_serve.specs.RunStops.{AllOpenTo}
+
+-- ---- audit
+
+-- A run of `audit` on a folder that opens to a state, which is valid: it says the counts line of that state.
+pub record Audits (said_before said_now noted_before noted_now : Option (List ℕ)) (note_faults_before note_faults_now : ℕ) (tells : Bool) (reads : Image) (status : Status) : Type 0 where
+  pub state : State
+  pub valid : ValidState state
+  pub opens : IsTrue tells → OpensToState reads state
+  pub says : SaysOneLine (counts_line state) said_before said_now noted_before noted_now note_faults_before note_faults_now status
+
+-- ---- compact
+
+-- The machine's step on Compact, which an administrator asks for.
+abbrev pub compaction : StoreBounds → Machine → Reply × Machine
+compaction bounds m = step bounds Admin Compact m
+
+-- The refusal that tells which part has no room.
+abbrev pub refusal_of : Full → Refusal
+refusal_of full.Journal = JournalFull
+refusal_of full.Mark = MarkFull
+
+-- A folder was compacted: it keeps the machine behind the compaction, and so the same state, at its new place; it stands for the one
+-- batch of all rows, or for none where there are no rows; and the slot that stood is empty.
+pub record IsCompacted (bounds : StoreBounds) (m : Machine) (reads_now : Image) : Type 0 where
+  pub keeps : Keeps reads_now (compaction bounds m).1
+  pub stands : Stands reads_now (compacted (byte_rows_of m.state))
+  pub cut : (place : Place) → m.place ≡ Some place → reads_now (slot_of place.mark) ≡ []
+
+-- A compaction was refused for want of room: the machine's step says so, the note tells the part without room, and the folder keeps the
+-- machine as it was.
+pub record HasNoRoom (bounds : StoreBounds) (m : Machine) (noted_before noted_now : Option (List ℕ)) (note_faults_before note_faults_now : ℕ) (tells : Bool) (reads_now : Image) : Type 0 where
+  pub full : Full
+  pub refused : (compaction bounds m).0 ≡ Refused (refusal_of full)
+  pub notes : NotesLines (full_note full) noted_before noted_now note_faults_before note_faults_now
+  pub keeps : IsTrue tells → Keeps reads_now m
+
+-- How a run of `compact` on a folder ended, at a status. A failed call on the disk and want of memory come only where the compaction is not
+-- refused. The other statuses never come.
+abbrev pub EndsCompaction : Status → (bounds : StoreBounds) (m : Machine) (noted_before noted_now : Option (List ℕ)) (note_faults_before note_faults_now : ℕ) (tells : Bool) (reads_now : Image) → Type 0
+EndsCompaction status.Done bounds m noted noted_now faults faults_now tells reads_now =
+    ((compaction bounds m).0 ≡ Done) × NotesLines [] noted noted_now faults faults_now × (IsTrue tells → IsCompacted bounds m reads_now)
+EndsCompaction status.FolderFull bounds m noted noted_now faults faults_now tells reads_now = HasNoRoom bounds m noted noted_now faults faults_now tells reads_now
+EndsCompaction status.DiskFault bounds m noted noted_now faults faults_now tells reads_now =
+    ((compaction bounds m).0 ≡ Done) × NotesLines (status_lines [] status.DiskFault) noted noted_now faults faults_now
+EndsCompaction status.NoMemory bounds m noted noted_now faults faults_now tells reads_now =
+    ((compaction bounds m).0 ≡ Done) × NotesLines (status_lines [] status.NoMemory) noted noted_now faults faults_now
+EndsCompaction _ bounds m noted noted_now faults faults_now tells reads_now = ⊥
+
+-- A run of `compact` on a folder that opens to a machine, in a valid state and with a place. However it ends, each image that a stop may
+-- leave, at any moment and at the end, opens to the state that stood, and no reply byte is taken.
+pub record Compacts (bounds : StoreBounds) (said_before noted_before noted_now : Option (List ℕ)) (note_faults_before note_faults_now : ℕ) (tells : Bool) (reads_before reads_now : Image) (may_leave_before may_leave_now : Image → Type 0) (elapses : (Image → List ℕ → Type 0) → Type 0) (status : Status) : Type 0 where
+  pub machine : Machine
+  pub valid : ValidState machine.state
+  pub placed : is_some machine.place ≡ true
+  pub opens : IsTrue tells → OpensTo reads_before machine
+  pub ends : EndsCompaction status bounds machine noted_before noted_now note_faults_before note_faults_now tells reads_now
+  pub stops : IsTrue tells → AllOpenTo may_leave_before machine.state → elapses (λ image taken. OpensToState image machine.state)
+  pub found : IsTrue tells → AllOpenTo may_leave_now machine.state
+  pub unsaid : elapses (λ image taken. AreTaken said_before taken)

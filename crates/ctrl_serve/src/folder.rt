@@ -1,0 +1,146 @@
+ghost use Rattle.std.specs.Prelude.{◌≡◌, ◌⊎◌, ◌≢◌, ◌≤◌, ◌^◌, ⊤, true, false, IsTrue};
+ghost use Rattle.ziti_outside.specs.Moments.{Elapses, Leaves};
+ghost use Rattle.ziti_outside.specs.Untouched.{OnlyNotes};
+ghost use Rattle.journal_core.specs.Room.{empty_size, LeavesRoom};
+ghost use Rattle.row_store.specs.StoredRows.{ReadsAs};
+ghost use Rattle.ctrl_keep.specs.KeptController.{HoldsRows, machine_of};
+ghost use Rattle.ctrl_keep.specs.OpenedStates.{OpensToState};
+ghost use Rattle.run_notes.specs.NotedLines.{FindsNoMore, RisesOnce};
+ghost use Rattle.ctrl_serve.specs.FolderRuns.{TellsClosed, TellsCompaction, TellsRoom, full_in};
+ghost use Rattle.ctrl_serve.specs.FolderWords.{Audits, Compacts, EndsCompaction};
+ghost use Rattle.ctrl_serve.specs.Headline.{IsLeftAlone, IsUnopened, OnlySaysAndNotes};
+ghost use Rattle.ctrl_serve.specs.Loads.{counts_line as line_of_counts, SaysOneLine};
+ghost use Rattle.ctrl_serve.specs.Runs.{IsDiskCaused, IsWriteCaused};
+
+use crate::controller::cut_of;
+use crate::loads::{counts_line, say_line};
+use ctrl_core::Core;
+use ctrl_keep::{KeepFault, Kept, peek};
+use ctrl_model::{Command, Refusal, Reply, Who};
+use row_store::StoreBounds;
+use run_notes::{Cut, Full, Status, tell_cut, tell_damage, tell_full};
+use std::alloc::Global;
+use ziti_outside::Desk;
+
+/// Notes why the folder was not opened, and answers that status; for want of memory that one.
+pub(crate) fn tell_closed<D: Desk>(alloc: Global, fault: KeepFault, desk: &mut D) -> Status
+    requires { fault ≢ KeepFault.Spent }
+    ensures told { TellsClosed fault result (D.noted desk.old) (D.noted desk.new) (D.note_faults desk.old) (D.note_faults desk.new) }
+    ensures counted { RisesOnce (D.note_faults desk.old) (D.note_faults desk.new) }
+    ensures others { OnlyNotes D.said D.say_faults D.reads D.may_leave D.disk_faults desk.old desk.new }
+    ensures stops { FindsNoMore D.moment D.since desk.old desk.new }
+{
+    match fault {
+        KeepFault::Disk => tell_cut(Cut::Disk, desk),
+        KeepFault::Damaged { part, at } => tell_damage(alloc, part, at, desk),
+        KeepFault::NoMemory => tell_cut(Cut::NoMemory, desk),
+        KeepFault::Spent => unreachable!(),
+    }
+}
+
+// Says the counts line of a core. The core is dropped before the line is said.
+fn say_counts<D: Desk>(alloc: Global, core: Core, desk: &mut D) -> Status
+    requires live { core.live ≡ true }
+    ensures says { SaysOneLine (line_of_counts core.state) (D.said desk.old) (D.said desk.new) (D.noted desk.old) (D.noted desk.new) (D.note_faults desk.old) (D.note_faults desk.new) result }
+    ensures write_cause { IsWriteCaused (D.say_faults desk.old) (D.say_faults desk.new) result }
+    ensures counted { RisesOnce (D.note_faults desk.old) (D.note_faults desk.new) }
+    ensures others { OnlySaysAndNotes D.reads D.may_leave D.disk_faults desk.old desk.new }
+    ensures stops { Elapses (D.moment desk.old) (D.moment desk.new) (D.since desk.old) (D.since desk.new) (λ image taken. D.may_leave desk.old image) }
+{
+    let mut core = core;
+    let line = counts_line(alloc, &mut core);
+    drop(core);
+    say_line(line, desk)
+}
+
+/// Says the counts line of the state to which the folder opens, by reading it alone: it is left as it is. Where it opens to none, that
+/// is noted and nothing is said.
+pub fn run_audit<D: Desk>(alloc: Global, desk: &mut D) -> Status
+    ensures audits { IsUnopened D.said D.noted D.note_faults D.tells D.reads D.moment D.since D.may_leave desk.old desk.new result
+        ⊎ Audits (D.said desk.old) (D.said desk.new) (D.noted desk.old) (D.noted desk.new) (D.note_faults desk.old) (D.note_faults desk.new) D.tells (D.reads desk.old) result }
+    ensures alone { IsLeftAlone D.reads D.moment D.since D.may_leave desk.old desk.new }
+    ensures write_cause { IsWriteCaused (D.say_faults desk.old) (D.say_faults desk.new) result }
+    ensures disk_cause { IsDiskCaused (D.disk_faults desk.old) (D.disk_faults desk.new) result }
+    ensures counted { RisesOnce (D.note_faults desk.old) (D.note_faults desk.new) }
+{
+    match peek(alloc, desk) {
+        Ok(core) => say_counts(alloc, core, desk),
+        Err(fault) => tell_closed(alloc, fault, desk),
+    }
+}
+
+// Which part of the folder has no room, if that is why a reply refuses.
+fn full_of(reply: &Reply) -> Option<Full>
+    ensures { result ≡ full_in reply.now }
+{
+    match reply {
+        Reply::Refused(Refusal::JournalFull) => Some(Full::Journal),
+        Reply::Refused(Refusal::MarkFull) => Some(Full::Mark),
+        _ => None,
+    }
+}
+
+// Notes which part of the folder has no room, if one has none, and answers how the run ended.
+fn tell_room<D: Desk>(full: Option<Full>, desk: &mut D) -> Status
+    ensures told { TellsRoom full result (D.noted desk.old) (D.noted desk.new) (D.note_faults desk.old) (D.note_faults desk.new) }
+    ensures counted { RisesOnce (D.note_faults desk.old) (D.note_faults desk.new) }
+    ensures others { OnlyNotes D.said D.say_faults D.reads D.may_leave D.disk_faults desk.old desk.new }
+    ensures stops { FindsNoMore D.moment D.since desk.old desk.new }
+{
+    match full {
+        Some(full) => tell_full(full, desk),
+        None => Status::Done,
+    }
+}
+
+// Notes what came of a compaction, unless it was done, and answers how the run ended.
+fn tell_compaction<D: Desk>(compacted: Result<Reply, KeepFault>, desk: &mut D) -> Status
+    ensures told { TellsCompaction compacted result (D.noted desk.old) (D.noted desk.new) (D.note_faults desk.old) (D.note_faults desk.new) }
+    ensures counted { RisesOnce (D.note_faults desk.old) (D.note_faults desk.new) }
+    ensures others { OnlyNotes D.said D.say_faults D.reads D.may_leave D.disk_faults desk.old desk.new }
+    ensures stops { FindsNoMore D.moment D.since desk.old desk.new }
+{
+    match compacted {
+        Ok(reply) => tell_room(full_of(&reply), desk),
+        Err(fault) => tell_cut(cut_of(fault), desk),
+    }
+}
+
+// Compacts the folder of a kept controller, and notes what came of it. The controller is dropped before that: a function that owns one
+// and drops it at its end gets no verdict.
+fn compact_opened<D: Desk>(kept: Kept, desk: &mut D) -> Status
+    requires unspent { kept.spent ≡ false }
+    requires holds { HoldsRows kept }
+    requires stands { IsTrue D.tells → ReadsAs kept.stored (D.reads desk.old) (D.may_leave desk.old) }
+    ensures ends { EndsCompaction result kept.stored.bounds (machine_of kept) (D.noted desk.old) (D.noted desk.new) (D.note_faults desk.old) (D.note_faults desk.new) D.tells (D.reads desk.new) }
+    ensures failed_says { D.say_faults desk.new ≡ D.say_faults desk.old }
+    ensures disk_cause { IsDiskCaused (D.disk_faults desk.old) (D.disk_faults desk.new) result }
+    ensures counted { RisesOnce (D.note_faults desk.old) (D.note_faults desk.new) }
+    ensures quiet { Leaves D.moment D.since D.may_leave D.said desk.old desk.new (λ image. ⊤) }
+    ensures stops { IsTrue D.tells → Leaves D.moment D.since D.may_leave D.said desk.old desk.new (λ image. OpensToState image kept.state) }
+    ensures images { LeavesRoom kept.stored.bounds.slot D.may_leave desk.old desk.new }
+{
+    let mut kept = kept;
+    let compacted = kept.submit(desk, &Who::Admin, &Command::Compact);
+    drop(kept);
+    tell_compaction(compacted, desk)
+}
+
+/// Compacts the folder within its bounds, or notes which part of it has no room. Where it opens to no state, that is noted. Nothing is
+/// said. No slot grows past the bound, where that has room for a slot without a record.
+pub fn run_compact<D: Desk>(alloc: Global, bounds: StoreBounds, desk: &mut D) -> Status
+    requires { bounds.slot ≤ 2 ^ 30 }
+    ensures compacts { IsUnopened D.said D.noted D.note_faults D.tells D.reads D.moment D.since D.may_leave desk.old desk.new result
+        ⊎ Compacts bounds (D.said desk.old) (D.noted desk.old) (D.noted desk.new) (D.note_faults desk.old) (D.note_faults desk.new) D.tells (D.reads desk.old) (D.reads desk.new) (D.may_leave desk.old) (D.may_leave desk.new)
+        (Elapses (D.moment desk.old) (D.moment desk.new) (D.since desk.old) (D.since desk.new)) result }
+    ensures says_nothing { D.said desk.new ≡ D.said desk.old }
+    ensures failed_says { D.say_faults desk.new ≡ D.say_faults desk.old }
+    ensures disk_cause { IsDiskCaused (D.disk_faults desk.old) (D.disk_faults desk.new) result }
+    ensures counted { RisesOnce (D.note_faults desk.old) (D.note_faults desk.new) }
+    ensures images { empty_size ≤ bounds.slot → LeavesRoom bounds.slot D.may_leave desk.old desk.new }
+{
+    match Kept::open(alloc, desk, bounds) {
+        Ok(kept) => compact_opened(kept, desk),
+        Err(fault) => tell_closed(alloc, fault, desk),
+    }
+}

@@ -1,0 +1,176 @@
+ghost use Rattle.std.specs.Prelude.{◌≡◌, ◌≤◌, ◌^◌, true, IsTrue, IsSome, IfOk, IfErr, IsErrOf, None, OnOk, length, take};
+ghost use Rattle.journal_core.specs.Room.{LeavesRoom};
+ghost use Rattle.session_mux.specs.Completion.{start_of};
+ghost use Rattle.ziti_outside.specs.Causes.{HasCause};
+ghost use Rattle.ziti_outside.specs.Moments.{Elapses};
+ghost use Rattle.run_notes.specs.Endings.{ComesToEnd};
+ghost use Rattle.run_notes.specs.KnownSessions.{known_in};
+ghost use Rattle.run_notes.specs.NotedLines.{RisesOnce};
+ghost use Rattle.ctrl_serve.specs.ControllerViews.{serving_of};
+ghost use Rattle.ctrl_serve.specs.Controllers.{GoesOn, IsReady};
+ghost use Rattle.ctrl_serve.specs.Failures.{TakesUntilFailure};
+ghost use Rattle.ctrl_serve.specs.Headline.{OnlySaysAndNotes};
+ghost use Rattle.ctrl_serve.specs.Pieces.{decided_by, AnswersInput, CutsInput, EndsPieces, HasFault, IsReadCaused};
+ghost use Rattle.ctrl_serve.specs.Turns.{unkept, unsaid};
+
+use crate::controller::Controller;
+use crate::serving::serve_events;
+use run_notes::{Cut, End, Notes, Sessions, Status, tell_ending};
+use session_mux::{Form, Mux};
+use std::alloc::{AllocError, Global};
+use ziti_outside::{Desk, Failed, Source};
+
+/// How many bytes are taken at a time.
+const PIECE: usize = 65_536;
+
+/// How the taking of an input ended, and the place of the bad record that comes behind its events, if one does.
+#[derive(Clone, Copy)]
+pub struct Stop {
+    pub end: End,
+    pub bad: Option<u64>,
+}
+
+fn zeros(alloc: Global, count: usize) -> Result<Vec<u8>, AllocError>
+    ensures { IfOk result (λ v. length v.items ≡ count) }
+{
+    vec![in alloc; 0u8; count]
+}
+
+fn first_bytes(bytes: &[u8], most: u64) -> &[u8]
+    ensures { result.now ≡ take most bytes.now }
+{
+    if (bytes.len() as u64) <= most {
+        return bytes;
+    }
+    let (first, _) = bytes.split_at(most as usize);
+    first
+}
+
+// The sessions of an input of a form, before any byte of it.
+fn mux_of(alloc: Global, form: Form) -> Result<Mux, AllocError>
+    ensures { IfOk result (λ m. m ≡ start_of form) }
+{
+    match form {
+        Form::Plain => Mux::plain(alloc),
+        Form::Trace => Mux::traced(alloc),
+    }
+}
+
+// Whether the answered bytes decide the input, so that it is read no further.
+fn is_decided(form: Form, bad: Option<u64>, sessions: &Sessions) -> bool
+    ensures { result ≡ decided_by form bad sessions.now.faulty }
+{
+    match form {
+        Form::Plain => sessions.faulty(),
+        Form::Trace => bad.is_some(),
+    }
+}
+
+// Takes the input a piece at a time, and answers the events of each before it takes more. It ends where the input is decided, where nothing
+// is left, where more than `most` bytes were given, and where the source fails.
+fn serve_pieces<S: Source, D: Desk>(
+    alloc: Global,
+    most: u64,
+    form: Form,
+    controller: &mut Controller,
+    source: &mut S,
+    mux: &mut Mux,
+    sessions: &mut Sessions,
+    notes: &mut Notes,
+    desk: &mut D,
+) -> Result<Stop, Cut>
+    requires most { most ≤ 2 ^ 32 }
+    requires start { mux.old ≡ start_of form }
+    requires known { sessions.old ≡ known_in form }
+    requires able { (serving_of controller.old).able ≡ true }
+    requires ready { IsReady D.tells (serving_of controller.old).kept (D.reads desk.old) (D.may_leave desk.old) }
+    ensures ok { IfOk result (λ stop. EndsPieces form (serving_of controller.old) most sessions.new (serving_of controller.new).machine mux.new (S.left source.old) (S.left source.new) (D.said desk.old) (D.said desk.new)
+        notes.old.failed notes.new.failed (D.noted desk.old) (D.noted desk.new) (D.note_faults desk.old) (D.note_faults desk.new) D.tells (Elapses (D.moment desk.old) (D.moment desk.new) (D.since desk.old) (D.since desk.new)) stop.end) }
+    ensures end { IfOk result (λ stop. ComesToEnd mux.new stop.bad) }
+    ensures fault { IfOk result (λ stop. HasFault stop.end (S.faults source.old) (S.faults source.new)) }
+    ensures on { OnOk result (GoesOn (serving_of controller.old) (serving_of controller.new)) }
+    ensures ready { OnOk result (IsReady D.tells (serving_of controller.new).kept (D.reads desk.new) (D.may_leave desk.new)) }
+    ensures cut { IfErr result (λ c. CutsInput c form (serving_of controller.old) most (S.left source.old) (S.left source.new) (D.said desk.old) (D.said desk.new)
+        notes.old.failed notes.new.failed (D.noted desk.old) (D.noted desk.new) (D.note_faults desk.old) (D.note_faults desk.new) D.tells (Elapses (D.moment desk.old) (D.moment desk.new) (D.since desk.old) (D.since desk.new))) }
+    ensures counted { RisesOnce (S.faults source.old) (S.faults source.new) }
+    ensures until_failure { TakesUntilFailure S.left S.faults source.old source.new }
+    ensures say_cause { HasCause (D.say_faults desk.old) (D.say_faults desk.new) (unsaid result) }
+    ensures disk_cause { HasCause (D.disk_faults desk.old) (D.disk_faults desk.new) (unkept result) }
+    ensures undisked { (serving_of controller.old).kept ≡ None → IsErrOf result Cut.Disk → ⊥ }
+    ensures alone { (serving_of controller.old).kept ≡ None → OnlySaysAndNotes D.reads D.may_leave D.disk_faults desk.old desk.new }
+    ensures images { LeavesRoom (serving_of controller.old).bounds.slot D.may_leave desk.old desk.new }
+{
+    let mut room = zeros(alloc, PIECE)?;
+    let piece = room.as_mut_slice();
+    let mut taken: u64 = 0;
+    'pieces: while taken <= most {
+        match source.take(piece) {
+            Err(Failed) => return Ok(Stop {
+                end: End::Fault,
+                bad: None,
+            }),
+            Ok(0) => return Ok(Stop {
+                end: End::Whole,
+                bad: None,
+            }),
+            Ok(count) => {
+                mux.feed(first_bytes(&piece[..count], most - taken))?;
+                taken += count as u64;
+                let bad = serve_events(alloc, desk, controller, form, mux, sessions, notes)?;
+                if is_decided(form, bad, sessions) {
+                    return Ok(Stop {
+                        end: End::Whole,
+                        bad,
+                    });
+                }
+            }
+        }
+    }
+    Ok(Stop {
+        end: End::More,
+        bad: None,
+    })
+}
+
+/// Takes the input at most 65,536 bytes at a time, answers the events of its used bytes as they come, and notes how the run ended unless it was
+/// cut short. Of the input one piece is held, and of each live session at most one unfinished frame.
+pub fn serve_input<S: Source, D: Desk>(
+    alloc: Global,
+    most: u64,
+    form: Form,
+    controller: &mut Controller,
+    source: &mut S,
+    notes: &mut Notes,
+    desk: &mut D,
+) -> Result<Status, Cut>
+    requires most { most ≤ 2 ^ 32 }
+    requires able { (serving_of controller.old).able ≡ true }
+    requires ready { IsReady D.tells (serving_of controller.old).kept (D.reads desk.old) (D.may_leave desk.old) }
+    ensures answers { AnswersInput result form (serving_of controller.old) most (serving_of controller.new).machine (S.left source.old) (S.left source.new) (D.said desk.old) (D.said desk.new)
+        notes.old.failed notes.new.failed (D.noted desk.old) (D.noted desk.new) (D.note_faults desk.old) (D.note_faults desk.new) D.tells (Elapses (D.moment desk.old) (D.moment desk.new) (D.since desk.old) (D.since desk.new)) }
+    ensures read { IfOk result (λ status. IsReadCaused (S.faults source.old) (S.faults source.new) status) }
+    ensures on { OnOk result (GoesOn (serving_of controller.old) (serving_of controller.new)) }
+    ensures ready { OnOk result (IsReady D.tells (serving_of controller.new).kept (D.reads desk.new) (D.may_leave desk.new)) }
+    ensures counted { RisesOnce (S.faults source.old) (S.faults source.new) }
+    ensures until_failure { TakesUntilFailure S.left S.faults source.old source.new }
+    ensures say_cause { HasCause (D.say_faults desk.old) (D.say_faults desk.new) (unsaid result) }
+    ensures disk_cause { HasCause (D.disk_faults desk.old) (D.disk_faults desk.new) (unkept result) }
+    ensures undisked { (serving_of controller.old).kept ≡ None → IsErrOf result Cut.Disk → ⊥ }
+    ensures alone { (serving_of controller.old).kept ≡ None → OnlySaysAndNotes D.reads D.may_leave D.disk_faults desk.old desk.new }
+    ensures images { LeavesRoom (serving_of controller.old).bounds.slot D.may_leave desk.old desk.new }
+{
+    let mut mux = mux_of(alloc, form)?;
+    let mut sessions = Sessions::new(alloc)?;
+    let stop = serve_pieces(
+        alloc,
+        most,
+        form,
+        controller,
+        source,
+        &mut mux,
+        &mut sessions,
+        notes,
+        desk,
+    )?;
+    Ok(tell_ending(alloc, &mux, &sessions, stop.bad, stop.end, notes, desk)?)
+}
