@@ -1,0 +1,176 @@
+//! Runs that stop at each moment, by what the stop keeps of what is pending: what the folder then opens to, and how it goes on.
+
+use crate::desks::{EMPTY, desk_of};
+use crate::folders::{
+    AMPLE, ANN_FOLDER, ANN_SLOT, BOTH_SLOT, answers, compact, has_rows, identities_in, parts_of,
+    run_input,
+};
+use crate::frames::{ANN_EXISTS, ANN_MADE, BOB_MADE, Row, requests, whole_replies};
+use ctrl_serve::Status;
+use std::alloc::Global;
+use std::process::Abort;
+use std::test::Fail;
+use ziti_desk::{Images, MemDesk};
+
+/// The requests of a run on an empty folder, each of which makes an identity, and the slot that has their rows in one record.
+type Trial = (&'static [Row], &'static [u8]);
+
+const ANN_ALONE: Trial = (&[ANN_MADE], ANN_SLOT);
+
+const BOTH: Trial = (&[ANN_MADE, BOB_MADE], BOTH_SLOT);
+
+fn parts_in(images: &Images) -> [&[u8]; 3] {
+    [
+        images.zero.as_slice(),
+        images.one.as_slice(),
+        images.mark.as_slice(),
+    ]
+}
+
+// The folder that a stop leaves keeps as many identities as replies were taken whole, or one more. With the frames that were not
+// stored, which are answered as in the whole run, it has the rows of the whole run.
+fn goes_on(
+    rt: &impl Abort,
+    alloc: Global,
+    parts: [&[u8]; 3],
+    answered: usize,
+    trial: &Trial,
+) -> Result<(), Fail> {
+    let (rows, slot) = *trial;
+    let kept = identities_in(rt, alloc, parts)?;
+    assert!(rt;
+        kept == answered || kept == answered.saturating_add(1),
+        "{answered} {kept}"
+    );
+    let desk = answers(rt, alloc, parts, rows.get(kept..).unwrap_or(&[]))?;
+    has_rows(rt, alloc, parts_of(&desk), slot)
+}
+
+// What is said up to a stop is a front of what the whole run says.
+fn stops_at(
+    rt: &impl Abort,
+    alloc: Global,
+    desk: &MemDesk,
+    moment: u64,
+    choice: u64,
+    trial: &Trial,
+) -> Result<(), Fail> {
+    assert!(rt; moment <= desk.moments());
+    let (images, taken) = desk.stopped(alloc, moment, choice)?;
+    assert!(rt; desk.said().starts_with(taken.as_slice()));
+    let answered = whole_replies(rt, alloc, taken.as_slice())?;
+    goes_on(rt, alloc, parts_in(&images), answered, trial)
+}
+
+fn stops_by(
+    rt: &impl Abort,
+    alloc: Global,
+    desk: &MemDesk,
+    choice: u64,
+    trial: &Trial,
+) -> Result<(), Fail> {
+    for moment in 0u64..desk.moments().saturating_add(1) {
+        stops_at(rt, alloc, desk, moment, choice, trial)?;
+    }
+    Ok(())
+}
+
+// Makes a run and stops it at each moment: each record takes two writes and two syncs, and each reply one say.
+fn check_trial(rt: &impl Abort, alloc: Global, trial: &Trial, choice: u64) -> Result<(), Fail> {
+    let (rows, _) = *trial;
+    let mut desk = desk_of(alloc, EMPTY, &[])?;
+    let input = requests(alloc, rows)?;
+    let status = run_input(alloc, &["replay"], input.as_slice(), &mut desk)?;
+    assert_eq!(rt; status, Status::Done);
+    assert!(rt; desk.moments() >= rows.len().saturating_mul(5) as u64);
+    stops_by(rt, alloc, &desk, choice, trial)
+}
+
+#[test]
+fn keeps_ann_where_nothing_pending_is_kept(rt: HostRuntime) -> Result<(), Fail> {
+    check_trial(&rt, rt.alloc(), &ANN_ALONE, 0)
+}
+
+#[test]
+fn keeps_ann_where_all_pending_is_kept(rt: HostRuntime) -> Result<(), Fail> {
+    check_trial(&rt, rt.alloc(), &ANN_ALONE, 1)
+}
+
+#[test]
+fn keeps_ann_where_some_pending_is_kept(rt: HostRuntime) -> Result<(), Fail> {
+    check_trial(&rt, rt.alloc(), &ANN_ALONE, 2)
+}
+
+#[test]
+fn keeps_both_where_nothing_pending_is_kept(rt: HostRuntime) -> Result<(), Fail> {
+    check_trial(&rt, rt.alloc(), &BOTH, 0)
+}
+
+#[test]
+fn keeps_both_where_all_pending_is_kept(rt: HostRuntime) -> Result<(), Fail> {
+    check_trial(&rt, rt.alloc(), &BOTH, 1)
+}
+
+#[test]
+fn keeps_both_where_some_pending_is_kept(rt: HostRuntime) -> Result<(), Fail> {
+    check_trial(&rt, rt.alloc(), &BOTH, 2)
+}
+
+// The folder that a stop of a compaction leaves keeps ann, answers as before, and has ann's rows.
+fn still_keeps_ann(rt: &impl Abort, alloc: Global, parts: [&[u8]; 3]) -> Result<(), Fail> {
+    let kept = identities_in(rt, alloc, parts)?;
+    assert_eq!(rt; kept, 1);
+    has_rows(rt, alloc, parts, ANN_SLOT)?;
+    let desk = answers(rt, alloc, parts, &[ANN_EXISTS, BOB_MADE])?;
+    has_rows(rt, alloc, parts_of(&desk), BOTH_SLOT)
+}
+
+fn stops_compacting_at(
+    rt: &impl Abort,
+    alloc: Global,
+    desk: &MemDesk,
+    moment: u64,
+    choice: u64,
+) -> Result<(), Fail> {
+    assert!(rt; moment <= desk.moments());
+    let (images, taken) = desk.stopped(alloc, moment, choice)?;
+    assert!(rt; taken.is_empty());
+    still_keeps_ann(rt, alloc, parts_in(&images))
+}
+
+fn stops_compacting_by(
+    rt: &impl Abort,
+    alloc: Global,
+    desk: &MemDesk,
+    choice: u64,
+) -> Result<(), Fail> {
+    for moment in 0u64..desk.moments().saturating_add(1) {
+        stops_compacting_at(rt, alloc, desk, moment, choice)?;
+    }
+    Ok(())
+}
+
+// Compacts ann's folder and stops that at each moment: the other slot is written and synced, the mark too, and the slot that stood is
+// cut.
+fn check_compaction(rt: &impl Abort, alloc: Global, choice: u64) -> Result<(), Fail> {
+    let mut desk = desk_of(alloc, ANN_FOLDER, &[])?;
+    let status = compact(alloc, AMPLE, &mut desk)?;
+    assert_eq!(rt; status, Status::Done);
+    assert!(rt; desk.moments() >= 5);
+    stops_compacting_by(rt, alloc, &desk, choice)
+}
+
+#[test]
+fn compacts_where_nothing_pending_is_kept(rt: HostRuntime) -> Result<(), Fail> {
+    check_compaction(&rt, rt.alloc(), 0)
+}
+
+#[test]
+fn compacts_where_all_pending_is_kept(rt: HostRuntime) -> Result<(), Fail> {
+    check_compaction(&rt, rt.alloc(), 1)
+}
+
+#[test]
+fn compacts_where_some_pending_is_kept(rt: HostRuntime) -> Result<(), Fail> {
+    check_compaction(&rt, rt.alloc(), 2)
+}
