@@ -1,0 +1,74 @@
+"""Frames, traces and runs of the built program, for the trials of this folder (docs/TRIALS.md)."""
+
+import json
+import struct
+import subprocess
+
+MARKER = bytes.fromhex("0306090c")
+REPLY = 2
+CREATE_IDENTITY, DELETE_IDENTITY = 1000, 1002
+CREATE_SERVICE, DELETE_SERVICE = 1010, 1012
+CREATE_ROUTER, CONNECT_ROUTER = 1020, 1023
+CREATE_SERVICE_POLICY = 1100
+CREATE_EDGE_ROUTER_POLICY = 1110
+CREATE_SERVICE_EDGE_ROUTER_POLICY = 1120
+CREATE_TERMINATOR = 1300
+CREATE_CIRCUIT = 1400
+SHOW_COUNTS = 1502
+COMPACT = 1510
+
+STATUSES = {
+    "dry": {0, 2, 3, 4, 5, 8, 9},
+    "replay": {0, 2, 3, 4, 5, 6, 7, 8, 9},
+    "replay --sessions": {0, 2, 3, 4, 5, 6, 7, 8, 9},
+    "audit": {0, 5, 6, 7, 8},
+    "compact": {0, 6, 7, 8, 10},
+}
+
+
+def frame(content, body, sequence=0):
+    """The bytes of a request without headers; a body that is not bytes is written as compact JSON."""
+    if not isinstance(body, bytes):
+        body = json.dumps(body, separators=(",", ":"), sort_keys=True).encode()
+    return MARKER + struct.pack("<IIII", content, sequence, 0, len(body)) + body
+
+
+def whole_frames(data):
+    """The whole frames at the front of some bytes: content type and body of each."""
+    found, at = [], 0
+    while len(data) - at >= 20:
+        headers, body = struct.unpack_from("<II", data, at + 12)
+        end = at + 20 + headers + body
+        if end > len(data):
+            break
+        found.append((struct.unpack_from("<I", data, at + 4)[0], data[at + 20 + headers:end]))
+        at = end
+    return found
+
+
+def opened(session, role=0, name=""):
+    """A record that opens a session: of an administrator (0), a router (1) or an identity (2) by its name."""
+    return bytes([1, session, role, len(name)]) + name.encode()
+
+
+def data_record(session, data):
+    """A record that brings bytes of a session."""
+    return bytes([2, session]) + struct.pack("<H", len(data)) + data
+
+
+def closed(session):
+    """A record that closes a session."""
+    return bytes([3, session])
+
+
+def run(program, words, stdin, folder, seconds=60, limit=None):
+    """Runs the program to its end in a folder. Gives its status, standard output and standard error."""
+    done = subprocess.run([program] + words.split(), input=stdin, capture_output=True, cwd=folder, timeout=seconds, preexec_fn=limit)
+    return done.returncode, done.stdout, done.stderr
+
+
+def counts(program, folder):
+    """What `audit` says of a folder, which has to open."""
+    status, said, noted = run(program, "audit", b"", folder)
+    assert status == 0, (status, noted)
+    return json.loads(said)

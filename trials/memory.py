@@ -1,0 +1,90 @@
+#!/usr/bin/env python3
+"""Refuses memory to the built program at one allocation after the other, for runs under each of its words.
+
+usage: memory.py PROGRAM
+
+A library that is loaded before the system's (refuse.c, compiled here) refuses one allocation of a run, and no other. Such a run must end
+with status 8 or do what the whole run does. What it said must be a front of what the whole run says, and its folder must open.
+"""
+
+import os
+import shutil
+import subprocess
+import sys
+import tempfile
+
+import frames
+
+HERE = os.path.dirname(os.path.abspath(__file__))
+ANN = frames.frame(frames.CREATE_IDENTITY, {"name": "ann"}, 7)
+BOB = frames.frame(frames.CREATE_IDENTITY, {"name": "bob", "attributes": ["a", "b"]}, 8)
+WEB = frames.frame(frames.CREATE_SERVICE, {"name": "web", "attributes": ["w"]}, 9)
+POLICY = frames.frame(frames.CREATE_SERVICE_POLICY, {"name": "p", "type": "Dial", "semantic": "AnyOf", "identity_roles": ["#a"], "service_roles": ["#all"]}, 10)
+GONE = frames.frame(frames.DELETE_SERVICE, {"name": "web"}, 11)
+COUNTS = frames.frame(frames.SHOW_COUNTS, {}, 12)
+COMPACT = frames.frame(frames.COMPACT, {}, 13)
+TRACE = frames.opened(0) + frames.data_record(0, ANN) + frames.opened(1, 2, "ann") + frames.data_record(1, COUNTS) + frames.data_record(0, BOB) + frames.data_record(0, WEB[:30])
+
+# At most so many runs a row: where there are more allocations, every second one is refused, or every third, and so on.
+MOST = 1000
+
+# The words, the input, and whether there is a folder of one identity before.
+ROWS = [
+    ("dry", ANN + BOB + WEB + POLICY + COUNTS + GONE, False),
+    ("dry", ANN + b"\0" * 20, False),
+    ("dry", frames.frame(frames.CREATE_IDENTITY, b'{"name":', 1) + ANN[:20], False),
+    ("load 0", b"", False),
+    ("load 3", b"", False),
+    ("replay", ANN + BOB + WEB + POLICY + COUNTS + GONE, False),
+    ("replay", BOB + COMPACT + WEB, True),
+    ("replay --sessions", TRACE, False),
+    ("audit", b"", True),
+    ("audit", b"", False),
+    ("compact", b"", True),
+    ("compact", b"", False),
+    ("no such words", b"", False),
+]
+
+
+def refused_run(program, library, words, stdin, before, number):
+    """Runs with one allocation refused. Gives status, output, the number of allocations, and what `audit` says behind it."""
+    with tempfile.TemporaryDirectory() as top:
+        folder, count = os.path.join(top, "folder"), os.path.join(top, "count")
+        shutil.copytree(before, folder)
+        env = {"LD_PRELOAD": library, "REFUSE": str(number), "REFUSE_COUNT": count}
+        done = subprocess.run([program] + words.split(), input=stdin, capture_output=True, cwd=folder, env=env, timeout=60)
+        with open(count, encoding="ascii") as file:
+            made = int(file.read())
+        return done.returncode, done.stdout, made, frames.run(program, "audit", b"", folder)
+
+
+def trial(program, library, words, stdin, before):
+    """Refuses each allocation of one run in turn."""
+    status, said, made, behind = refused_run(program, library, words, stdin, before, 0)
+    starved = 0
+    step = -(-made // MOST)
+    for number in range(1, made + 1, step):
+        found, part, _, later = refused_run(program, library, words, stdin, before, number)
+        assert found in (8, status), (words, number, found)
+        assert said.startswith(part) and later[0] == 0, (words, number, part, later)
+        assert found == 8 or (part == said and later == behind), (words, number)
+        starved += found == 8
+    which = "each" if step == 1 else f"every {step}th"
+    runs = len(range(1, made + 1, step))
+    print(f"{words}, {len(stdin)} bytes: status {status}, {made} allocations, {which} refused: {starved} of {runs} runs with status 8, the others as the whole run", flush=True)
+    return runs
+
+
+def main():
+    program = os.path.abspath(sys.argv[1])
+    with tempfile.TemporaryDirectory() as top:
+        library, empty, ann = (os.path.join(top, name) for name in ("refuse.so", "empty", "ann"))
+        subprocess.run(["cc", "-shared", "-fPIC", "-O2", "-o", library, os.path.join(HERE, "refuse.c"), "-ldl"], check=True)
+        os.mkdir(empty)
+        os.mkdir(ann)
+        assert frames.run(program, "replay", ANN, ann)[0] == 0
+        runs = sum(trial(program, library, words, stdin, ann if has_folder else empty) for words, stdin, has_folder in ROWS)
+    print(f"{runs} runs with one allocation refused")
+
+
+main()

@@ -1,0 +1,65 @@
+#!/usr/bin/env python3
+"""Input in pieces: a session that sends one byte at a time, and the peak memory of a run over 1 GiB of frames.
+
+usage: pieces.py PROGRAM [MIB]
+
+One byte at a time, each reply must be there once the last byte of its frame was sent, and before one byte more is.
+"""
+
+import os
+import resource
+import select
+import subprocess
+import sys
+import tempfile
+
+import frames
+
+PATIENCE = 20
+
+
+def one_byte_at_a_time(program, words):
+    """Sends three frames byte by byte over a pipe, and takes each reply when its frame is whole."""
+    requests = [frames.frame(frames.CREATE_IDENTITY, {"name": "ann"}, 7), frames.frame(frames.CREATE_IDENTITY, {"name": "ann"}, 8), frames.frame(frames.SHOW_COUNTS, {}, 9)]
+    replies = []
+    with tempfile.TemporaryDirectory() as folder:
+        child = subprocess.Popen([program] + words.split(), stdin=subprocess.PIPE, stdout=subprocess.PIPE, cwd=folder, bufsize=0)
+        for request in requests:
+            for i in range(len(request)):
+                assert not select.select([child.stdout], [], [], 0)[0], "a reply before its frame was whole"
+                child.stdin.write(request[i:i + 1])
+            said = b""
+            while not frames.whole_frames(said):
+                assert select.select([child.stdout], [], [], PATIENCE)[0], "no reply to a whole frame"
+                said += os.read(child.stdout.fileno(), 65536)
+            replies += [body for _, body in frames.whole_frames(said)]
+        child.stdin.close()
+        assert child.wait() == 0
+    assert replies[0] == b'{"no":1}' and b'"code":20' in replies[1] and b'"identities":1' in replies[2], replies
+    print(f"{words}: {len(requests)} replies, each once its frame was whole and before a byte more was sent")
+
+
+def peak_memory(program, size):
+    """Runs so many MiB of frames of 1 MiB each through `dry`, and prints the peak of its resident memory."""
+    body = b"x" * (2**20 - 20)
+    child = subprocess.Popen([program, "dry"], stdin=subprocess.PIPE, stdout=subprocess.PIPE)
+    if os.fork() == 0:
+        child.stdout.close()
+        for i in range(size):
+            child.stdin.write(frames.frame(0, body, i))
+        child.stdin.close()
+        os._exit(0)
+    child.stdin.close()
+    said = child.stdout.read()
+    assert child.wait() == 0 and len(frames.whole_frames(said)) == size
+    peak = resource.getrusage(resource.RUSAGE_CHILDREN).ru_maxrss
+    print(f"dry: {size} frames, {size} MiB in all: a peak of {peak / 1024:.1f} MiB of resident memory")
+
+
+def main():
+    for words in ("dry", "replay"):
+        one_byte_at_a_time(sys.argv[1], words)
+    peak_memory(sys.argv[1], int(sys.argv[2]) if len(sys.argv) > 2 else 1024)
+
+
+main()
