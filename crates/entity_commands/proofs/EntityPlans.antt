@@ -1,22 +1,20 @@
 -- What planning for an entity has to show: that the refusals are the controller's, and that the change leads to the controller's next
 -- state.
-use Rattle.std.proofs.Common.{◌≡◌, ℕ, ◌+◌, ◌≤◌, ◌==◌, Bool, true, false, cond, not, ◌&&◌, nat_lt, bytes_eq, eq-eqb, List, [], ◌∷◌, ◌++◌, map, Option, None, Some, Ok, Err, refl, sym, ◌∙◌, ap, subst, arith, is_some, eqb-true}
+use Rattle.std.proofs.Common.{◌≡◌, ℕ, ◌+◌, ◌≤◌, ◌==◌, Bool, true, false, cond, not, ◌&&◌, nat_lt, bytes_eq, eq-eqb, List, [], ◌∷◌, ◌++◌, Option, None, Some, Ok, Err, refl, sym, ◌∙◌, ap, subst, arith, is_some}
 use Rattle.std.proofs.Math.Bool.{not-not}
 use Rattle.std.proofs.lemmas.Bool.{false≢true}
 use Rattle.std.proofs.lemmas.List.{length-map}
 use Rattle.std.proofs.lemmas.Option.{same_Some, none-some}
-use Rattle.std.specs.List.{find, flat_map}
+use Rattle.std.specs.List.{flat_map}
 use Rattle.std.specs.Option.{ok_or, option_map, option_map_or}
 use Rattle.ctrl_model.specs.RecordCommands.{after_create, after_update, refusal_of_create, refusal_of_update, delete}
 use Rattle.ctrl_model.specs.declared.kinds.Kind.{Kind}
 use Rattle.ctrl_model.specs.declared.kinds.Kind.TheVariants as kind
-use Rattle.ctrl_model.specs.declared.kinds.RouterSeen.{RouterSeen}
 use Rattle.ctrl_model.specs.declared.refusals.Field.TheVariants as field
 use Rattle.ctrl_model.specs.declared.refusals.Refusal.{Refusal}
 use Rattle.ctrl_model.specs.declared.refusals.Refusal.TheVariants.{Full, Unknown}
 use Rattle.ctrl_model.specs.declared.replies.Reply.TheVariants.{Done, Made}
 use Rattle.ctrl_model.specs.Numbered.{with_edit, at, is_present, edit_at, first_where}
-use Rattle.ctrl_model.specs.Networks.{seen}
 use Rattle.ctrl_model.specs.State.{State, Entity, Router, as_entity}
 use Rattle.ctrl_model.specs.Tables.{named, is_entity_kind}
 use Rattle.ctrl_model.specs.Rules.{or_then, refuse_if, unknown_if_absent, exists_if_present, at_number, attributes_in_use, attributes_full}
@@ -277,31 +275,13 @@ update_planned _ name attributes st n plain keeps found e = absurd (false≢true
 
 -- ---- routers
 
--- what a search among the routers that routes see finds
-find-seen : (rows : List (ℕ × Router)) (n : ℕ) → find (λ (q : RouterSeen). q.no.0 == n) (map seen rows) ≡ option_map (λ r. seen (n, r)) (at rows n)
-find-seen [] n = refl
-find-seen (x ∷ rows) n = by (x.0 == n) refl (find-seen rows n)
-  where
-    by : (b : Bool) → (x.0 == n) ≡ b → find (λ (q : RouterSeen). q.no.0 == n) (map seen rows) ≡ option_map (λ r. seen (n, r)) (at rows n)
-        → cond b (Some (seen x)) (find (λ (q : RouterSeen). q.no.0 == n) (map seen rows)) ≡ option_map (λ r. seen (n, r)) (cond b (Some x.1) (at rows n))
-    by true is e = ap (λ m. Some (seen (m, x.1))) (eqb-true x.0 n is)
-    by false is e = e
-
-by_seen : {P : Type 0} (rows : List (ℕ × Router)) (n : ℕ) (q : RouterSeen) → Some q ≡ find (λ (s : RouterSeen). s.no.0 == n) (map seen rows)
-    → ((r : Router) → at rows n ≡ Some r → q ≡ seen (n, r) → P) → P
-by_seen {P} rows n q e k = by (at rows n) refl (e ∙ find-seen rows n)
-  where
-    by : (o : Option Router) → at rows n ≡ o → Some q ≡ option_map (λ r. seen (n, r)) o → P
-    by None is s = absurd (none-some q (sym s))
-    by (Some r) is s = k r is (sym (same_Some (seen (n, r)) q (sym s)))
-
 -- a router that a name finds is found
-pub found_seen : (name : List ℕ) (t : Tables) (n : ℕ) → number_of kind.Router name t ≡ Some n → None ≡ find (λ (s : RouterSeen). s.no.0 == n) (map seen t.routers.rows) → ⊥
-found_seen name t n found e = by (at t.routers.rows n) (present-first_where (λ r. bytes_eq r.name name) t.routers.rows n found) (e ∙ find-seen t.routers.rows n)
+pub found_seen : (name : List ℕ) (t : Tables) (n : ℕ) → number_of kind.Router name t ≡ Some n → None ≡ at t.routers.rows n → ⊥
+found_seen name t n found e = by (at t.routers.rows n) (present-first_where (λ r. bytes_eq r.name name) t.routers.rows n found) e
   where
-    by : (o : Option Router) → is_some o ≡ true → None ≡ option_map (λ r. seen (n, r)) o → ⊥
+    by : (o : Option Router) → is_some o ≡ true → None ≡ o → ⊥
     by None h s = false≢true h
-    by (Some r) h s = none-some (seen (n, r)) s
+    by (Some r) h s = none-some r s
 
 -- a router that a name finds is there
 router_named_there : (name : List ℕ) (st : Around) (n : ℕ) → number_of kind.Router name st.entities ≡ Some n → is_present st.entities.routers.rows n ≡ true
@@ -319,19 +299,18 @@ pub update_router_refused : (name : List ℕ) (attributes : List (List ℕ)) (co
 update_router_refused name attributes cost no_traversal st n r keeps found e = by_there (at st.entities.routers.rows n) (router_named_there name st n found) (λ row stands.
     plans_refused _ r (state_of st) _ _ (sym (router_refusal name attributes cost no_traversal st n row keeps stands found) ∙ sym e))
 
-pub update_router_planned : (name : List ℕ) (attributes : List (List ℕ)) (cost : ℕ) (no_traversal : Bool) (st : Around) (n : ℕ) (q : RouterSeen) → Keeps st
+pub update_router_planned : (name : List ℕ) (attributes : List (List ℕ)) (cost : ℕ) (no_traversal : Bool) (st : Around) (n : ℕ) (r : Router) → Keeps st
     → number_of kind.Router name st.entities ≡ Some n → None ≡ refusal_of_describe kind.Router n attributes st.entities
-    → Some q ≡ find (λ (s : RouterSeen). s.no.0 == n) (map seen st.entities.routers.rows)
-    → PlansEntities (changed Done (change.DescribeRouter n attributes cost (not no_traversal) q.connected)) (update_router name attributes cost no_traversal (state_of st)) (state_of st)
-update_router_planned name attributes cost no_traversal st n q keeps found e sees = by_seen st.entities.routers.rows n q sees (λ r stands same.
-    let alike : edit_at st.entities.routers.rows n (λ row. record row { attributes = attributes; cost = cost; through = not no_traversal; connected = q.connected })
+    → Some r ≡ at st.entities.routers.rows n
+    → PlansEntities (changed Done (change.DescribeRouter n attributes cost (not no_traversal) r.connected)) (update_router name attributes cost no_traversal (state_of st)) (state_of st)
+update_router_planned name attributes cost no_traversal st n r keeps found e stands =
+    let alike : edit_at st.entities.routers.rows n (λ row. record row { attributes = attributes; cost = cost; through = not no_traversal; connected = r.connected })
     ≡ edit_at st.entities.routers.rows n (updated_as attributes cost (not no_traversal)) =
-    edit_at-same (λ row. record row { attributes = attributes; cost = cost; through = not no_traversal; connected = q.connected }) (updated_as attributes cost (not no_traversal))
-    st.entities.routers.next st.entities.routers.rows 1 n r (keeps.valid.kinds kind.Router).numbers.ordered stands
-    (ap (λ (s : RouterSeen). record r { attributes = attributes; cost = cost; through = not no_traversal; connected = s.connected }) same) in
-    plans_carried (change.DescribeRouter n attributes cost (not no_traversal) q.connected) _ (state_of st) _ _
-    (sym (router_refusal name attributes cost no_traversal st n r keeps stands found) ∙ sym e) refl (router_named_there name st n found)
-    (ap (λ rows. record (state_of st) { routers = record st.entities.routers { rows = rows } }) alike ∙ sym (router_effect name attributes cost no_traversal st n found)))
+    edit_at-same (λ row. record row { attributes = attributes; cost = cost; through = not no_traversal; connected = r.connected }) (updated_as attributes cost (not no_traversal))
+    st.entities.routers.next st.entities.routers.rows 1 n r (keeps.valid.kinds kind.Router).numbers.ordered (sym stands) refl in
+    plans_carried (change.DescribeRouter n attributes cost (not no_traversal) r.connected) _ (state_of st) _ _
+    (sym (router_refusal name attributes cost no_traversal st n r keeps (sym stands) found) ∙ sym e) refl (router_named_there name st n found)
+    (ap (λ rows. record (state_of st) { routers = record st.entities.routers { rows = rows } }) alike ∙ sym (router_effect name attributes cost no_traversal st n found))
 
 pub mark_unknown : (name : List ℕ) (connected : Bool) (st : Around) → number_of kind.Router name st.entities ≡ None
     → PlansEntities (refused (Unknown field.Name)) (mark_router name connected (state_of st)) (state_of st)
@@ -340,19 +319,18 @@ mark_unknown name connected st absent = plans_refused _ (Unknown field.Name) (st
 abbrev with_mark : ℕ → Bool → State → State
 with_mark n connected s = record s { routers = with_edit n (λ r. record r { connected = connected }) s.routers }
 
-pub mark_planned : (name : List ℕ) (connected : Bool) (st : Around) (n : ℕ) (q : RouterSeen) → Keeps st → number_of kind.Router name st.entities ≡ Some n
-    → Some q ≡ find (λ (s : RouterSeen). s.no.0 == n) (map seen st.entities.routers.rows)
-    → PlansEntities (changed Done (change.Mark n q.cost q.through connected)) (mark_router name connected (state_of st)) (state_of st)
-mark_planned name connected st n q keeps found sees = by_seen st.entities.routers.rows n q sees (λ r stands same.
-    let alike : edit_at st.entities.routers.rows n (λ row. record row { cost = q.cost; through = q.through; connected = connected })
+pub mark_planned : (name : List ℕ) (connected : Bool) (st : Around) (n : ℕ) (r : Router) → Keeps st → number_of kind.Router name st.entities ≡ Some n
+    → Some r ≡ at st.entities.routers.rows n
+    → PlansEntities (changed Done (change.Mark n r.cost r.through connected)) (mark_router name connected (state_of st)) (state_of st)
+mark_planned name connected st n r keeps found stands =
+    let alike : edit_at st.entities.routers.rows n (λ row. record row { cost = r.cost; through = r.through; connected = connected })
     ≡ edit_at st.entities.routers.rows n (λ row. record row { connected = connected }) =
-    edit_at-same (λ row. record row { cost = q.cost; through = q.through; connected = connected }) (λ row. record row { connected = connected })
-    st.entities.routers.next st.entities.routers.rows 1 n r (keeps.valid.kinds kind.Router).numbers.ordered stands
-    (ap (λ (s : RouterSeen). record r { cost = s.cost; through = s.through; connected = connected }) same) in
+    edit_at-same (λ row. record row { cost = r.cost; through = r.through; connected = connected }) (λ row. record row { connected = connected })
+    st.entities.routers.next st.entities.routers.rows 1 n r (keeps.valid.kinds kind.Router).numbers.ordered (sym stands) refl in
     let effect : after_update kind.Router name (marked connected) (state_of st) ≡ with_mark n connected (state_of st) = ap (λ o. at_number o (state_of st) (λ m. with_mark m connected (state_of st))) found in
-    plans_carried (change.Mark n q.cost q.through connected) _ (state_of st) _ _
+    plans_carried (change.Mark n r.cost r.through connected) _ (state_of st) _ _
     (ap (unknown_if_absent field.Name) found) refl (router_named_there name st n found)
-    (ap (λ rows. record (state_of st) { routers = record st.entities.routers { rows = rows } }) alike ∙ sym effect))
+    (ap (λ rows. record (state_of st) { routers = record st.entities.routers { rows = rows } }) alike ∙ sym effect)
 
 -- ---- a deletion
 

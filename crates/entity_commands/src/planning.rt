@@ -1,8 +1,7 @@
-ghost use Rattle.std.specs.Prelude.{◌≡◌, ◌==◌, true, false, IfOk, MatchOption, map, find};
+ghost use Rattle.std.specs.Prelude.{◌≡◌, true, false, IfOk, MatchOption};
 ghost use Rattle.ctrl_model.specs.Controller.{carry};
 ghost use Rattle.ctrl_model.specs.RecordCommands.{delete};
 ghost use Rattle.ctrl_model.specs.declared.refusals.Refusal.TheVariants.{Unknown};
-ghost use Rattle.ctrl_model.specs.Networks.{seen};
 ghost use Rattle.ctrl_model.specs.State.{State};
 ghost use Rattle.ctrl_model.specs.ValidState.{ValidState};
 ghost use Rattle.ctrl_model.specs.EntityCommands.{create_router, update_router, mark_router};
@@ -14,7 +13,7 @@ ghost use Rattle.entity_commands.specs.EntityChanges.{is_plain_kind};
 ghost use Rattle.entity_commands.specs.EntityPlans.{is_entity_command, PlansEntities};
 ghost use Rattle.entity_commands.specs.PlannedEntities.{Answers, answer_add, answer_update, refusal_of_add, refusal_of_describe};
 
-use ctrl_model::{Command, Field, Kind, Name, Names, Refusal, Reply, RouterSeen};
+use ctrl_model::{Command, Field, Kind, Name, Names, Refusal, Reply, RouterNo};
 use entity_store::{Entities, EntityChange, EntityFault};
 use model_laws::Plan;
 use std::alloc::{AllocError, Global};
@@ -152,32 +151,8 @@ fn plan_update(
     Ok(Plan::changed(Reply::Done, change))
 }
 
-fn router_among(routers: &[RouterSeen], number: u32) -> Option<RouterSeen>
-    ensures { result ≡ find (λ r. r.no.0 == number) routers.now }
-{
-    'routers: for router in routers {
-        if router.no.0 == number {
-            return Some(*router);
-        }
-    }
-    None
-}
-
-// The present router of a number, as routes see it.
-fn router_seen(
-    alloc: Global,
-    entities: &Entities,
-    number: u32,
-) -> Result<Option<RouterSeen>, AllocError>
-    ensures { IfOk result (λ r. r ≡ find (λ q. q.no.0 == number) (map seen entities.now.routers.rows)) }
-{
-    let routers = entities.routers(alloc)?;
-    Ok(router_among(routers.as_slice(), number))
-}
-
 // Plans other attributes, another cost and another mark of a router.
 fn plan_update_router(
-    alloc: Global,
     entities: &Entities,
     name: &Name,
     attributes: &Names,
@@ -192,7 +167,7 @@ fn plan_update_router(
     if let Some(refusal) = refusal_of_describe(entities, Kind::Router, number, attributes) {
         return Ok(Plan::refused(refusal));
     }
-    let Some(router) = router_seen(alloc, entities, number)? else {
+    let Some(router) = entities.router(RouterNo(number)) else {
         unreachable!()
     };
     let attributes = attributes.copy()?;
@@ -225,7 +200,6 @@ fn plan_delete(
 
 // Plans that a router is connected, or not.
 fn plan_mark(
-    alloc: Global,
     entities: &Entities,
     name: &Name,
     connected: bool,
@@ -235,7 +209,7 @@ fn plan_mark(
     let Ok(number) = entities.find(Kind::Router, name) else {
         return Ok(unknown_name());
     };
-    let Some(router) = router_seen(alloc, entities, number)? else {
+    let Some(router) = entities.router(RouterNo(number)) else {
         unreachable!()
     };
     let change = EntityChange::Mark {
@@ -299,10 +273,10 @@ pub fn plan_entity_command(
             attributes,
             cost,
             no_traversal,
-        } => Ok(Some(plan_update_router(alloc, entities, name, attributes, *cost, *no_traversal)?)),
+        } => Ok(Some(plan_update_router(entities, name, attributes, *cost, *no_traversal)?)),
         Command::DeleteRouter { name } => Ok(Some(plan_delete(entities, Kind::Router, name)?)),
-        Command::ConnectRouter { name } => Ok(Some(plan_mark(alloc, entities, name, true)?)),
-        Command::DisconnectRouter { name } => Ok(Some(plan_mark(alloc, entities, name, false)?)),
+        Command::ConnectRouter { name } => Ok(Some(plan_mark(entities, name, true)?)),
+        Command::DisconnectRouter { name } => Ok(Some(plan_mark(entities, name, false)?)),
         _ => Ok(None),
     }
 }

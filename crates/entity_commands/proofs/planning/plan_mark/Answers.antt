@@ -1,4 +1,4 @@
-use Rattle.std.proofs.Common.{sym, ◌∙◌}
+use Rattle.std.proofs.Common.{Some, ap, sym, ◌∙◌}
 use Rattle.ctrl_model.specs.declared.kinds.Kind.TheVariants as kind
 use Rattle.entity_commands.proofs.EntityPlans.{number_from_found, absent_from_found, found_seen, mark_unknown, mark_planned}
 use Rattle.entity_commands.proofs.planning.plan_mark.Goals as goal
@@ -12,10 +12,10 @@ returns-in_default c = λ s valid held.
 pub unreachable-requires : goal.unreachable-requires
 unreachable-requires c =
     found_seen c.args.name.now c.args.entities.now c.in-Ok.number
-    (number_from_found kind.Router c.args.name.now c.args.entities.now c.in-Ok.number (sym c.in-Ok.is ∙ c.find.ensures.found)) (sym c.in_default-2.is ∙ c.in_ok-router.ensures)
+    (number_from_found kind.Router c.args.name.now c.args.entities.now c.in-Ok.number (sym c.in-Ok.is ∙ c.find.ensures.found)) (sym c.in_default-router.is ∙ c.router.ensures)
 
 pub returns : goal.returns
 returns c = λ s valid held.
     rw (c.changed.ensures)
-    (mark_planned c.args.name.now c.args.connected (record { entities = c.args.entities.now; rest = s }) c.in-Ok.number c.in-Some.router (record { valid = valid; held = held })
-    (number_from_found kind.Router c.args.name.now c.args.entities.now c.in-Ok.number (sym c.in-Ok.is ∙ c.find.ensures.found)) (sym c.in-Some.is ∙ c.in_ok-router.ensures))
+    (mark_planned c.args.name.now c.args.connected (record { entities = c.args.entities.now; rest = s }) c.in-Ok.number _ (record { valid = valid; held = held })
+    (number_from_found kind.Router c.args.name.now c.args.entities.now c.in-Ok.number (sym c.in-Ok.is ∙ c.find.ensures.found)) (ap Some c.router-2.view_is ∙ sym c.in-Some.is ∙ c.router.ensures))

@@ -1,4 +1,4 @@
-use Rattle.std.proofs.Common.{sym, ◌∙◌}
+use Rattle.std.proofs.Common.{Some, ap, sym, ◌∙◌}
 use Rattle.ctrl_model.specs.declared.kinds.Kind.TheVariants as kind
 use Rattle.entity_commands.proofs.EntityPlans.{number_from_found, absent_from_found, there_from_number, found_seen, update_router_unknown, update_router_refused, update_router_planned}
 use Rattle.entity_commands.proofs.planning.plan_update_router.Goals as goal
@@ -24,12 +24,12 @@ returns-in-Some c = λ s valid held.
 pub unreachable-requires : goal.unreachable-requires
 unreachable-requires c =
     found_seen c.args.name.now c.args.entities.now c.in-Ok.number
-    (number_from_found kind.Router c.args.name.now c.args.entities.now c.in-Ok.number (sym c.in-Ok.is ∙ c.find.ensures.found)) (sym c.in_default-2.is ∙ c.in_ok-router.ensures)
+    (number_from_found kind.Router c.args.name.now c.args.entities.now c.in-Ok.number (sym c.in-Ok.is ∙ c.find.ensures.found)) (sym c.in_default-router.is ∙ c.router.ensures)
 
 pub returns : goal.returns
 returns c = λ s valid held.
     rw (c.changed.ensures, c.in_ok-attributes.ensures)
-    (update_router_planned c.args.name.now c.args.attributes.now c.args.cost c.args.no_traversal (record { entities = c.args.entities.now; rest = s }) c.in-Ok.number c.in-Some-2.router
+    (update_router_planned c.args.name.now c.args.attributes.now c.args.cost c.args.no_traversal (record { entities = c.args.entities.now; rest = s }) c.in-Ok.number _
     (record { valid = valid; held = held })
     (number_from_found kind.Router c.args.name.now c.args.entities.now c.in-Ok.number (sym c.in-Ok.is ∙ c.find.ensures.found))
-    (sym c.in_default-refusal_of_describe.is ∙ c.refusal_of_describe.ensures) (sym c.in-Some-2.is ∙ c.in_ok-router.ensures))
+    (sym c.in_default-refusal_of_describe.is ∙ c.refusal_of_describe.ensures) (ap Some c.router-2.view_is ∙ sym c.in-Some-router.is ∙ c.router.ensures))
