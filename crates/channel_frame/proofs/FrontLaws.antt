@@ -169,54 +169,45 @@ front_spelled f bytes is e =
 pub same_whole : (f g : Frame) (m n : ℕ) → Whole f m ≡ Whole g n → (f ≡ g) × (m ≡ n)
 same_whole f g m n e = (cc, cc)
 
--- ---- bytes that are announced, as the code reads them
+-- ---- bytes of which the head was read, as the code reads them
 
 same_Ok : (g h : Head) → ◌≡◌ {A = Result Head FrameFault} (Ok g) (Ok h) → g ≡ h
 same_Ok g h e = cc
 
-same_head : (bytes : List ℕ) (h : Head) (announced : IsAnnounced bytes) → head_of (take 20 bytes) ≡ Ok h → (head_of bytes ≡ Ok h) × (length bytes ≡ frame_len h)
-same_head bytes h announced e =
-    let same : head_of (take 20 bytes) ≡ head_of bytes = head_of-same (take 20 bytes) bytes (λ i lt. get_or-take 20 bytes i 0 lt) in
-    let is_head : head_of bytes ≡ Ok h = sym same ∙ e in
-    (is_head, announced.whole ∙ ap frame_len (same_Ok announced.head h (sym announced.is_head ∙ is_head)))
+-- a front of the bytes that has a head's length has their head
+pub head_of_front : (n : ℕ) (bytes part : List ℕ) → part ≡ take n bytes → 20 ≤ n → head_of part ≡ head_of bytes
+head_of_front n bytes part is long =
+    ap head_of is ∙ head_of-same (take n bytes) bytes (λ i lt. let within : i < n = omega arith in get_or-take n bytes i 0 within)
 
--- bytes of the length that their first 20 announce
-pub is_announced : (bytes first : List ℕ) (h : Head) → first ≡ take 20 bytes → Ok h ≡ head_of first → length bytes ≡ frame_len h → IsAnnounced bytes
-is_announced bytes first h cut e len =
-    let same : head_of (take 20 bytes) ≡ head_of bytes = head_of-same (take 20 bytes) bytes (λ i lt. get_or-take 20 bytes i 0 lt) in
-    record { head = h; is_head = sym same ∙ ap head_of (sym cut) ∙ sym e; whole = len }
+-- bytes that are announced have the length that the head announces which was read of them
+pub len_announced : (bytes : List ℕ) (h : Head) → IsAnnounced bytes → head_of bytes ≡ Ok h → length bytes ≡ frame_len h
+len_announced bytes h announced e = announced.whole ∙ ap frame_len (same_Ok announced.head h (sym announced.is_head ∙ e))
 
--- the pieces into which the code cuts the bytes of a frame
-pub record Cut (bytes front after part : List ℕ) (h : Head) : Type 0 where
-  pub first : front ≡ take 20 bytes
-  pub is_head : Ok h ≡ head_of front
+-- the pieces into which the code cuts the bytes of a frame of which it has the head
+pub record Cut (bytes after part : List ℕ) (h : Head) : Type 0 where
+  pub is_head : head_of bytes ≡ Ok h
+  pub whole : length bytes ≡ frame_len h
   pub behind : after ≡ drop 20 bytes
   pub row : part ≡ take h.headers_len after
 
-cut_head : (bytes first after part : List ℕ) (h : Head) → Cut bytes first after part h → head_of (take 20 bytes) ≡ Ok h
-cut_head bytes first after part h cut = ap head_of (sym cut.first) ∙ sym cut.is_head
+cut_part : (bytes after part : List ℕ) (h : Head) → Cut bytes after part h → headers_part h bytes ≡ part
+cut_part bytes after part h cut = ap (take h.headers_len) (sym cut.behind) ∙ sym cut.row
 
-cut_part : (bytes first after part : List ℕ) (h : Head) → Cut bytes first after part h → headers_part h bytes ≡ part
-cut_part bytes first after part h cut = ap (take h.headers_len) (sym cut.behind) ∙ sym cut.row
-
-pub reads_whole : (bytes first after part body : List ℕ) (h : Head) (hs : List Header) → IsAnnounced bytes → Cut bytes first after part h
-    → headers_of part ≡ Some hs → body ≡ drop h.headers_len after
+pub reads_whole : (bytes after part body : List ℕ) (h : Head) (hs : List Header) → Cut bytes after part h → headers_of part ≡ Some hs → body ≡ drop h.headers_len after
     → front bytes ≡ Whole (record { content = h.content; sequence = h.sequence; headers = hs; body = body }) (length bytes)
-reads_whole bytes first after part body h hs announced cut are body_is =
-    let same = same_head bytes h announced (cut_head bytes first after part h cut) in
-    let len : length bytes ≡ frame_len h = same.1 in
+reads_whole bytes after part body h hs cut are body_is =
+    let len : length bytes ≡ frame_len h = cut.whole in
     let last : drop (20 + h.headers_len) bytes ≡ body = sym (drop-drop h.headers_len 20 bytes) ∙ ap (drop h.headers_len) (sym cut.behind) ∙ sym body_is in
     let body_len : length body ≤ h.body_len = rw (← last) (omega (arith, length-drop (20 + h.headers_len) bytes)) in
     let all : take h.body_len (drop (20 + h.headers_len) bytes) ≡ body = ap (take h.body_len) last ∙ take_all h.body_len body body_len in
-    front_from bytes h hs (omega arith) same.0 (omega arith) (ap headers_of (cut_part bytes first after part h cut) ∙ are)
+    front_from bytes h hs (omega arith) cut.is_head (omega arith) (ap headers_of (cut_part bytes after part h cut) ∙ are)
     ∙ ap (λ (xs : List ℕ). Whole (record { content = h.content; sequence = h.sequence; headers = hs; body = xs }) (frame_len h)) all
     ∙ ap (λ (n : ℕ). Whole (record { content = h.content; sequence = h.sequence; headers = hs; body = body }) n) (sym len)
 
-pub reads_bad : (bytes first after part : List ℕ) (h : Head) → IsAnnounced bytes → Cut bytes first after part h → headers_of part ≡ None → front bytes ≡ Bad BadHeaders
-reads_bad bytes first after part h announced cut are =
-    let same = same_head bytes h announced (cut_head bytes first after part h cut) in
-    let len : length bytes ≡ frame_len h = same.1 in
-    front_bad_headers bytes h (omega arith) same.0 (omega arith) (ap headers_of (cut_part bytes first after part h cut) ∙ are)
+pub reads_bad : (bytes after part : List ℕ) (h : Head) → Cut bytes after part h → headers_of part ≡ None → front bytes ≡ Bad BadHeaders
+reads_bad bytes after part h cut are =
+    let len : length bytes ≡ frame_len h = cut.whole in
+    front_bad_headers bytes h (omega arith) cut.is_head (omega arith) (ap headers_of (cut_part bytes after part h cut) ∙ are)
 
 -- a frame that stands alone in some bytes is what they spell
 pub alone_spelled : (bytes : List ℕ) (f : Frame) → AreBytes bytes → front bytes ≡ Whole f (length bytes) → IsFrame f × (spelling f ≡ bytes)

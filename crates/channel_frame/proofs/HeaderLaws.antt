@@ -16,12 +16,16 @@ use Rattle.channel_frame.proofs.NumberLaws.{number_fits, number_takes, number_ta
 pub length-header_spelling : (h : Header) → length (header_spelling h) ≡ 8 + length h.value
 length-header_spelling h = omega arith
 
--- each value is shorter than the headers part
-pub value_fits : (hs : List Header) (i : ℕ) (h : Header) → h ≡ get_or hs i h → i < length hs → length (headers_spelling hs) ≤ 65536 → length h.value ≤ 65536
-value_fits hs i h is lt le =
+-- each header lies within the headers part, behind those before it
+pub header_within : (hs : List Header) (i : ℕ) (h : Header) → h ≡ get_or hs i h → i < length hs
+    → length (headers_spelling (take i hs)) + (8 + length h.value) ≤ length (headers_spelling hs)
+header_within hs i h is lt =
     let all : length (headers_spelling (take i hs)) + length (header_spelling (get_or hs i h)) ≤ length (headers_spelling hs) = length-flat_map-take header_spelling hs i h lt in
-    let one : length (header_spelling h) ≤ length (headers_spelling hs) = rw is (omega arith) in
+    let one : length (headers_spelling (take i hs)) + length (header_spelling h) ≤ length (headers_spelling hs) = rw is all in
     omega (arith, length-header_spelling h)
+
+pub value_fits : (hs : List Header) (i : ℕ) (h : Header) → h ≡ get_or hs i h → i < length hs → length (headers_spelling hs) ≤ 65536 → length h.value ≤ 65536
+value_fits hs i h is lt le = omega (arith, header_within hs i h is lt)
 
 -- ---- one header
 

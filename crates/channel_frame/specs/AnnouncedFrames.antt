@@ -1,19 +1,20 @@
--- A frame that a head announces at the front of some bytes (docs/FORMATS.md, "Channel frame").
+-- The head of the frame at the front of some bytes, and whether all is there that it announces (docs/FORMATS.md, "Channel frame").
 use Rattle.std.specs.Prelude.{◌≡◌, ℕ, ◌≤◌, nat_lt, if◌then◌else◌, List, length, None, Some, Ok, Err}
 use Rattle.std.specs.declared.option.Option.{Option}
 use Rattle.std.specs.declared.result.Result.{Result}
 use Rattle.channel_frame.specs.declared.frames.Head.{Head}
 use Rattle.channel_frame.specs.declared.frames.FrameFault.{FrameFault}
+use Rattle.channel_frame.specs.FrameSpelling.{head_len}
 use Rattle.channel_frame.specs.StreamReading.{head_of, frame_len}
 
--- The length that a head announces; a faulty head announces none.
-abbrev pub len_by : Result Head FrameFault → Result (Option ℕ) FrameFault
-len_by (Err e) = Err e
-len_by (Ok h) = Ok (Some (frame_len h))
+-- A head that is there, or its fault.
+abbrev pub there : Result Head FrameFault → Result (Option Head) FrameFault
+there (Err e) = Err e
+there (Ok h) = Ok (Some h)
 
--- How many bytes the frame at the front has, as its head announces; none is known where fewer bytes than a head are there.
-abbrev pub announced : List ℕ → Result (Option ℕ) FrameFault
-announced bytes = if nat_lt (length bytes) 20 then Ok None else len_by (head_of bytes)
+-- The head at the front; none is known where fewer bytes than a head are there.
+abbrev pub first_head : List ℕ → Result (Option Head) FrameFault
+first_head bytes = if nat_lt (length bytes) head_len then Ok None else there (head_of bytes)
 
 -- The bytes begin with a good head, and all the bytes that it announces are there.
 pub record IsAnnouncedAt (len : ℕ) (bytes : List ℕ) : Type 0 where

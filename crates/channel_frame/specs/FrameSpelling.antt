@@ -26,6 +26,10 @@ headers_spelling hs = flat_map header_spelling hs
 abbrev pub head_spelling : Head → List ℕ
 head_spelling h = marker ++ (number h.content ++ (number h.sequence ++ (number h.headers_len ++ number h.body_len)))
 
+-- How many bytes a head has.
+abbrev pub head_len : ℕ
+head_len = 20
+
 -- The head that a frame has.
 abbrev pub head_for : Frame → Head
 head_for f = record { content = f.content; sequence = f.sequence; headers_len = length (headers_spelling f.headers); body_len = length f.body }

@@ -13,7 +13,7 @@ use Rattle.channel_frame.specs.declared.frames.FrameFault.{FrameFault}
 use Rattle.channel_frame.specs.declared.frames.FrameFault.TheVariants.{BadMarker, TooLong, BadHeaders}
 use Rattle.channel_frame.specs.declared.frames.Front.{Front}
 use Rattle.channel_frame.specs.declared.frames.Front.TheVariants.{Short, Bad, Whole}
-use Rattle.channel_frame.specs.FrameSpelling.{IsFrame, spelling}
+use Rattle.channel_frame.specs.FrameSpelling.{IsFrame, head_len, spelling}
 
 -- The number that four bytes from a place on spell, the least first.
 abbrev pub number_at : ℕ → List ℕ → ℕ
@@ -36,7 +36,7 @@ head_of bytes =
 
 -- How many bytes a frame with this head has.
 abbrev pub frame_len : Head → ℕ
-frame_len h = 20 + h.headers_len + h.body_len
+frame_len h = head_len + h.headers_len + h.body_len
 
 -- The header at the front of some bytes, if a whole one stands there.
 abbrev pub header_at : List ℕ → Option Header
@@ -66,13 +66,13 @@ with_front front rest = option_map (λ hs. front ++ hs) rest
 
 -- The headers part of a frame with this head.
 abbrev pub headers_part : Head → List ℕ → List ℕ
-headers_part h bytes = take h.headers_len (drop 20 bytes)
+headers_part h bytes = take h.headers_len (drop head_len bytes)
 
 -- The frame of this head, where its headers part is a row of headers.
 abbrev pub with_headers : Head → List ℕ → Option (List Header) → Front
 with_headers h bytes None = Bad BadHeaders
 with_headers h bytes (Some hs) =
-    Whole (record { content = h.content; sequence = h.sequence; headers = hs; body = take h.body_len (drop (20 + h.headers_len) bytes) }) (frame_len h)
+    Whole (record { content = h.content; sequence = h.sequence; headers = hs; body = take h.body_len (drop (head_len + h.headers_len) bytes) }) (frame_len h)
 
 -- What stands behind a head: an unfinished frame where fewer bytes are there than it announces.
 abbrev pub with_head : List ℕ → Result Head FrameFault → Front
@@ -82,7 +82,7 @@ with_head bytes (Ok h) = if nat_lt (length bytes) (frame_len h) then Short else 
 -- What stands at the front of a session's bytes, tested in this order: fewer than 20 bytes are an unfinished frame; then the
 -- marker and the two lengths; then whether all the bytes are there; then the headers.
 abbrev pub front : List ℕ → Front
-front bytes = if nat_lt (length bytes) 20 then Short else with_head bytes (head_of bytes)
+front bytes = if nat_lt (length bytes) head_len then Short else with_head bytes (head_of bytes)
 
 -- The bytes begin with a good head and have exactly the length that it announces.
 pub record IsAnnounced (bytes : List ℕ) : Type 0 where

@@ -3,7 +3,7 @@ use Rattle.std.specs.Prelude.{◌≡◌, ℕ, ◌^◌, ◌<◌, ◌≤◌, ◌�
 use Rattle.std.specs.List.{AllByRecursion}
 use Rattle.channel_frame.specs.declared.frames.Head.{Head}
 use Rattle.channel_frame.specs.declared.frames.Header.{Header}
-use Rattle.channel_frame.specs.FrameSpelling.{marker, head_spelling, headers_spelling, IsHead, IsHeader}
+use Rattle.channel_frame.specs.FrameSpelling.{marker, head_len, head_spelling, headers_spelling, IsHead, IsHeader}
 use Rattle.channel_frame.specs.StreamReading.{frame_len}
 
 -- The bytes begin with the marker.
@@ -29,11 +29,11 @@ pub record IsCutBehindHead (bytes : List ℕ) : Type 0 where
 
 -- An unfinished frame: fewer bytes than a head has, or than a head within the limits announces.
 abbrev pub IsUnfinished : List ℕ → Type 0
-IsUnfinished bytes = (length bytes < 20) ⊎ IsCutBehindHead bytes
+IsUnfinished bytes = (length bytes < head_len) ⊎ IsCutBehindHead bytes
 
 -- As many bytes as a head has, which do not begin with the marker.
 pub record IsUnmarked (bytes : List ℕ) : Type 0 where
-  pub long : 20 ≤ length bytes
+  pub long : head_len ≤ length bytes
   pub other : IsMarked bytes → ⊥
 
 -- A head of which a length passes its limit.
@@ -48,4 +48,4 @@ pub record HasBadHeaders (bytes : List ℕ) : Type 0 where
   pub headed : IsHeaded bytes head
   pub is_head : IsHead head
   pub there : frame_len head ≤ length bytes
-  pub none : (hs : List Header) → AllByRecursion IsHeader hs → headers_spelling hs ≡ take head.headers_len (drop 20 bytes) → ⊥
+  pub none : (hs : List Header) → AllByRecursion IsHeader hs → headers_spelling hs ≡ take head.headers_len (drop head_len bytes) → ⊥

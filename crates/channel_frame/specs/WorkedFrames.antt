@@ -1,11 +1,16 @@
 -- Frames and bytes of the worked examples (docs/FORMATS.md, "Channel frame").
 use Rattle.std.specs.Prelude.{ℕ, List, [], ◌∷◌, ◌++◌, take, codes}
 use Rattle.channel_frame.specs.declared.frames.Frame.{Frame}
+use Rattle.channel_frame.specs.declared.frames.Head.{Head}
 use Rattle.channel_frame.specs.declared.frames.Header.{Header}
 
 -- A frame that asks for an identity: content type 1000, sequence number 7, no headers, and a text as its body.
 abbrev pub ann_frame : Frame
 ann_frame = record { content = 1000; sequence = 7; headers = []; body = codes "{\"name\":\"ann\"}" }
+
+-- Its head: no bytes of headers and 14 of body.
+abbrev pub ann_head : Head
+ann_head = record { content = 1000; sequence = 7; headers_len = 0; body_len = 14 }
 
 -- Its 34 bytes: the marker, the content type, the sequence number, the two lengths and the body.
 abbrev pub ann_bytes : List ℕ

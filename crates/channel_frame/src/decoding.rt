@@ -1,11 +1,11 @@
-ghost use Rattle.std.specs.Prelude.{◌≡◌, ◌≢◌, ◌↔◌, IfOk, IfErr, MatchResult, length};
+ghost use Rattle.std.specs.Prelude.{◌≡◌, ◌≢◌, ◌↔◌, IfOk, IfErr, MatchResult, Ok, length};
 ghost use Rattle.channel_frame.specs.declared.frames.Frame.{Frame};
 ghost use Rattle.channel_frame.specs.declared.frames.Head.{Head};
 ghost use Rattle.channel_frame.specs.declared.frames.Front.TheVariants.{Bad, Whole};
 ghost use Rattle.channel_frame.specs.FrameSpelling.{IsFrame, IsHead, spelling, head_spelling};
-ghost use Rattle.channel_frame.specs.StreamReading.{head_of, IsAnnounced, header_at, headers_of, front, starts_with_marker};
+ghost use Rattle.channel_frame.specs.StreamReading.{head_of, frame_len, IsAnnounced, header_at, headers_of, front, starts_with_marker};
 
-use crate::frames::{Frame, FrameFault, Head, Header, Headers, MARKER};
+use crate::frames::{Frame, FrameFault, HEAD, Head, Header, Headers, MARKER};
 use ctrl_model::Bytes;
 use std::alloc::Global;
 
@@ -77,6 +77,31 @@ fn headers_from(alloc: Global, part: &[u8]) -> Result<Option<Headers>, FrameFaul
     Ok(Some(Headers::of(items)))
 }
 
+/// The frame that the bytes spell, of which the head was read: so it is not decoded again.
+///
+/// `BadHeaders` comes exactly where the headers part is no row of headers that fills it; else only memory can be wanting.
+pub fn read_frame_with(alloc: Global, head: Head, bytes: &[u8]) -> Result<Frame, FrameFault>
+    requires head { head_of bytes.now ≡ Ok head }
+    requires all { length bytes.now ≡ frame_len head }
+    ensures spelled { IfOk result (λ f. IsFrame f × (spelling f ≡ bytes.now)) }
+    ensures read { (f : Frame) → IsFrame f → spelling f ≡ bytes.now → MatchResult result (λ g. g ≡ f) (λ e. e ≡ FrameFault.NoMemory) }
+    ensures whole { IfOk result (λ f. front bytes.now ≡ Whole f (length bytes.now)) }
+    ensures fault { IfErr result (λ e. e ≢ FrameFault.NoMemory → (e ≡ FrameFault.BadHeaders) × (front bytes.now ≡ Bad e)) }
+{
+    let (_, after) = bytes.split_at(HEAD);
+    let (part, body) = after.split_at(head.headers_len as usize);
+    let Some(headers) = headers_from(alloc, part)? else {
+        return Err(FrameFault::BadHeaders);
+    };
+    let body = Bytes::from_slice(alloc, body)?;
+    Ok(Frame {
+        content: head.content,
+        sequence: head.sequence,
+        headers,
+        body,
+    })
+}
+
 /// The frame that the bytes spell: a good head and exactly the bytes that it announces.
 ///
 /// `BadHeaders` comes exactly where the headers part is no row of headers that fills it; else only memory can be wanting.
@@ -89,19 +114,9 @@ pub fn read_frame(alloc: Global, bytes: &[u8]) -> Result<Frame, FrameFault>
     ensures whole { IfOk result (λ f. front bytes.now ≡ Whole f (length bytes.now)) }
     ensures fault { IfErr result (λ e. e ≢ FrameFault.NoMemory → (e ≡ FrameFault.BadHeaders) × (front bytes.now ≡ Bad e)) }
 {
-    let (head, after) = bytes.split_at(20);
-    let mut first = [0u8; 20];
-    first.copy_from_slice(head);
-    let head = read_head(&first)?;
-    let (part, body) = after.split_at(head.headers_len as usize);
-    let Some(headers) = headers_from(alloc, part)? else {
-        return Err(FrameFault::BadHeaders);
-    };
-    let body = Bytes::from_slice(alloc, body)?;
-    Ok(Frame {
-        content: head.content,
-        sequence: head.sequence,
-        headers,
-        body,
-    })
+    let (first, _) = bytes.split_at(HEAD);
+    let mut head = [0u8; HEAD];
+    head.copy_from_slice(first);
+    let head = read_head(&head)?;
+    read_frame_with(alloc, head, bytes)
 }

@@ -1,7 +1,7 @@
-ghost use Rattle.std.specs.Prelude.{◌≡◌, ◌↔◌, IfOk, IsTrue, length, []};
+ghost use Rattle.std.specs.Prelude.{◌≡◌, ◌↔◌, IsTrue, length, []};
 
 use ctrl_model::Bytes;
-use std::alloc::{AllocError, AllocFailed, Global};
+use std::alloc::{AllocError, AllocFailed};
 use std::marker::Model;
 use thiserror::Error;
 
@@ -12,60 +12,36 @@ pub struct Header {
     pub value: Bytes,
 }
 
-impl Header {
-    /// An equal header.
-    pub fn copy(&self) -> Result<Header, AllocError>
-        ensures { IfOk result (λ h. h ≡ self.now) }
-    {
-        let value = self.value.copy()?;
-        Ok(Header {
-            key: self.key,
-            value,
-        })
-    }
-}
-
-/// The headers of a frame, in order and with repeats. Contracts see the list.
+/// A list of values, in order and with repeats. Contracts see the list.
 #[derive(Debug, Drop)]
-pub struct Headers {
-    pub items: Vec<Header>,
+pub struct Items<T> {
+    pub items: Vec<T>,
 }
 
-impl Model for Headers {
+impl<T> Model for Items<T> {
     ghost use Rattle.std.specs.Prelude.{List};
-    ghost use Rattle.channel_frame.specs.declared.frames.Header.{Header};
 
-    ghost Value = { List Header };
+    ghost Value = { List T };
 
-    ghost view = { λ h. h.items.items };
+    ghost view = { λ l. l.items.items };
 }
 
-fn copy_headers(alloc: Global, headers: &[Header]) -> Result<Vec<Header>, AllocError>
-    ensures { IfOk result (λ v. v.items ≡ headers.now) }
-{
-    let mut copied = Vec::new(alloc);
-    for header in headers {
-        copied.push(header.copy()?)?;
-    }
-    Ok(copied)
-}
-
-impl Headers {
-    /// The headers of a vector.
-    pub fn of(items: Vec<Header>) -> Headers
+impl<T> Items<T> {
+    /// The values of a vector.
+    pub fn of(items: Vec<T>) -> Items<T>
         ensures { result ≡ items.items }
     {
-        Headers { items }
+        Items { items }
     }
 
-    /// The headers as a slice.
-    pub fn as_slice(&self) -> &[Header]
+    /// The values as a slice.
+    pub fn as_slice(&self) -> &[T]
         ensures { result.now ≡ self.now }
     {
         self.items.as_slice()
     }
 
-    /// How many headers there are.
+    /// How many values there are.
     pub fn len(&self) -> usize
         ensures { result ≡ length self.now }
     {
@@ -78,15 +54,10 @@ impl Headers {
     {
         self.items.is_empty()
     }
-
-    /// An equal list.
-    pub fn copy(&self) -> Result<Headers, AllocError>
-        ensures { IfOk result (λ h. h ≡ self.now) }
-    {
-        let items = copy_headers(*self.items.allocator(), self.items.as_slice())?;
-        Ok(Headers { items })
-    }
 }
+
+/// The headers of a frame.
+pub type Headers = Items<Header>;
 
 /// A channel frame: its content type, its sequence number, its headers and its body.
 #[derive(Debug, Drop)]
@@ -97,80 +68,14 @@ pub struct Frame {
     pub body: Bytes,
 }
 
-impl Frame {
-    /// An equal frame.
-    pub fn copy(&self) -> Result<Frame, AllocError>
-        ensures { IfOk result (λ f. f ≡ self.now) }
-    {
-        let headers = self.headers.copy()?;
-        let body = self.body.copy()?;
-        Ok(Frame {
-            content: self.content,
-            sequence: self.sequence,
-            headers,
-            body,
-        })
-    }
-}
-
-/// A list of frames. Contracts see the list.
-#[derive(Debug, Drop)]
-pub struct Frames {
-    pub items: Vec<Frame>,
-}
-
-impl Model for Frames {
-    ghost use Rattle.std.specs.Prelude.{List};
-    ghost use Rattle.channel_frame.specs.declared.frames.Frame.{Frame};
-
-    ghost Value = { List Frame };
-
-    ghost view = { λ f. f.items.items };
-}
-
-fn copy_frames(alloc: Global, frames: &[Frame]) -> Result<Vec<Frame>, AllocError>
-    ensures { IfOk result (λ v. v.items ≡ frames.now) }
-{
-    let mut copied = Vec::new(alloc);
-    for frame in frames {
-        copied.push(frame.copy()?)?;
-    }
-    Ok(copied)
-}
-
-impl Frames {
-    /// The frames of a vector.
-    pub fn of(items: Vec<Frame>) -> Frames
-        ensures { result ≡ items.items }
-    {
-        Frames { items }
-    }
-
-    /// The frames as a slice.
-    pub fn as_slice(&self) -> &[Frame]
-        ensures { result.now ≡ self.now }
-    {
-        self.items.as_slice()
-    }
-
-    /// How many frames there are.
-    pub fn len(&self) -> usize
-        ensures { result ≡ length self.now }
-    {
-        self.items.len()
-    }
-
-    /// An equal list.
-    pub fn copy(&self) -> Result<Frames, AllocError>
-        ensures { IfOk result (λ f. f ≡ self.now) }
-    {
-        let items = copy_frames(*self.items.allocator(), self.items.as_slice())?;
-        Ok(Frames { items })
-    }
-}
+/// A list of frames.
+pub type Frames = Items<Frame>;
 
 /// The marker with which each frame begins.
 pub(crate) const MARKER: [u8; 4] = [3, 6, 9, 12];
+
+/// How many bytes the head of a frame has.
+pub(crate) const HEAD: usize = 20;
 
 /// What the first 20 bytes of a frame say: its content type, its sequence number and the lengths of its two parts.
 #[derive(Clone, Copy, Debug, PartialEq, Eq)]

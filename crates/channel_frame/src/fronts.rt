@@ -1,14 +1,18 @@
-ghost use Rattle.std.specs.Prelude.{◌≡◌, ◌≢◌, Some, IfOk, OnErr};
+ghost use Rattle.std.specs.Prelude.{◌≡◌, ◌≢◌, ◌≤◌, Ok, Some, IfOk, OnErr, length};
 ghost use Rattle.channel_frame.specs.declared.frames.Front.TheVariants.{Bad};
-ghost use Rattle.channel_frame.specs.StreamReading.{front};
-ghost use Rattle.channel_frame.specs.AnnouncedFrames.{announced, IsAnnouncedAt, IsAnnouncedFront};
+ghost use Rattle.channel_frame.specs.StreamReading.{front, frame_len, head_of};
+ghost use Rattle.channel_frame.specs.AnnouncedFrames.{first_head, IsAnnouncedFront};
 
-use crate::decoding::{read_frame, read_head};
-use crate::frames::{FrameFault, Front};
+use crate::decoding::{read_frame_with, read_head};
+use crate::frames::{FrameFault, Front, HEAD, Head};
 use std::alloc::{AllocError, Global};
 
-/// How many bytes the head of a frame has.
-const HEAD: usize = 20;
+// How many bytes a frame with this head has.
+fn len_by(head: Head) -> usize
+    ensures { result ≡ frame_len head }
+{
+    HEAD + head.headers_len as usize + head.body_len as usize
+}
 
 fn bad_front(fault: FrameFault) -> Result<Front, AllocError>
     ensures { IfOk result (λ f. (fault ≢ FrameFault.NoMemory) × (f ≡ Bad fault)) }
@@ -19,46 +23,48 @@ fn bad_front(fault: FrameFault) -> Result<Front, AllocError>
     }
 }
 
-fn whole_front(alloc: Global, bytes: &[u8], len: usize) -> Result<Front, AllocError>
-    requires { IsAnnouncedAt len bytes.now }
-    ensures front { IfOk result (λ f. f ≡ front bytes.now) }
-    ensures memory { OnErr result (IsAnnouncedFront bytes.now) }
+// All the bytes are there that the head announces.
+fn whole_front(alloc: Global, head: Head, bytes: &[u8]) -> Result<Front, AllocError>
+    requires head { head_of bytes.now ≡ Ok head }
+    requires enough { frame_len head ≤ length bytes.now }
+    ensures { IfOk result (λ f. f ≡ front bytes.now) }
 {
+    let len = len_by(head);
     let (whole, _) = bytes.split_at(len);
-    match read_frame(alloc, whole) {
+    match read_frame_with(alloc, head, whole) {
         Ok(frame) => Ok(Front::Whole(frame, len as u64)),
         Err(fault) => bad_front(fault),
     }
 }
 
-/// How many bytes the frame at the front of some bytes has, as its head announces.
+/// The head of the frame at the front of some bytes.
 ///
 /// None is known where fewer bytes than a head are there. `BadMarker` and `TooLong` come exactly where the head has them, as
 /// `read_head` says.
-pub fn announced_len(bytes: &[u8]) -> Result<Option<usize>, FrameFault>
-    ensures { result ≡ announced bytes.now }
+pub fn head_at_front(bytes: &[u8]) -> Result<Option<Head>, FrameFault>
+    ensures { result ≡ first_head bytes.now }
 {
-    let Some(first) = bytes.first_chunk::<20>() else {
+    let Some(first) = bytes.first_chunk::<HEAD>() else {
         return Ok(None);
     };
     match read_head(first) {
-        Ok(head) => Ok(Some(HEAD + head.headers_len as usize + head.body_len as usize)),
+        Ok(head) => Ok(Some(head)),
         Err(fault) => Err(fault),
     }
 }
 
-/// What stands at the front of some bytes whose head announces so many, so that the head is not asked again.
+/// What stands at the front of some bytes of which the head was read, so that it is not decoded again.
 ///
-/// Memory is wanted only where all the bytes are there.
-pub fn front_within(alloc: Global, bytes: &[u8], len: usize) -> Result<Front, AllocError>
-    requires { announced bytes.now ≡ Ok (Some len) }
+/// Memory is wanted only where all the bytes are there that it announces.
+pub fn front_with(alloc: Global, head: Head, bytes: &[u8]) -> Result<Front, AllocError>
+    requires { first_head bytes.now ≡ Ok (Some head) }
     ensures front { IfOk result (λ f. f ≡ front bytes.now) }
     ensures memory { OnErr result (IsAnnouncedFront bytes.now) }
 {
-    if bytes.len() < len {
+    if bytes.len() < len_by(head) {
         return Ok(Front::Short);
     }
-    whole_front(alloc, bytes, len)
+    whole_front(alloc, head, bytes)
 }
 
 /// What stands at the front of some bytes: an unfinished frame, a fault, or a whole frame with how many bytes it takes.
@@ -68,9 +74,9 @@ pub fn front_of(alloc: Global, bytes: &[u8]) -> Result<Front, AllocError>
     ensures front { IfOk result (λ f. f ≡ front bytes.now) }
     ensures memory { OnErr result (IsAnnouncedFront bytes.now) }
 {
-    match announced_len(bytes) {
+    match head_at_front(bytes) {
         Ok(None) => Ok(Front::Short),
-        Ok(Some(len)) => front_within(alloc, bytes, len),
+        Ok(Some(head)) => front_with(alloc, head, bytes),
         Err(fault) => Ok(Front::Bad(fault)),
     }
 }

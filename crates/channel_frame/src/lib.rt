@@ -9,13 +9,13 @@ mod laws;
 mod lookups;
 mod worked;
 
-pub use decoding::{read_frame, read_head};
-pub use encoding::encode;
-pub use frames::{Frame, FrameFault, Frames, Front, Head, Header, Headers};
-pub use fronts::{announced_len, front_of, front_within};
+pub use decoding::{read_frame, read_frame_with, read_head};
+pub use encoding::{encode, encode_behind};
+pub use frames::{Frame, FrameFault, Frames, Front, Head, Header, Headers, Items};
+pub use fronts::{front_of, front_with, head_at_front};
 pub use laws::{kinds_of_tails, one_reading, one_spelling, what_stands};
 pub use lookups::last_of;
 pub use worked::{
-    worked_faults, worked_kinds, worked_lookups, worked_readings, worked_spellings,
+    worked_faults, worked_heads, worked_kinds, worked_lookups, worked_readings, worked_spellings,
     worked_unfinished,
 };

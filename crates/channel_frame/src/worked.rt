@@ -1,10 +1,11 @@
-ghost use Rattle.std.specs.Prelude.{◌≡◌, [], ◌∷◌, ◌++◌, length, take, None, Some};
+ghost use Rattle.std.specs.Prelude.{◌≡◌, [], ◌∷◌, ◌++◌, length, take, None, Some, Ok, Err};
 ghost use Rattle.channel_frame.specs.declared.frames.FrameFault.TheVariants.{BadMarker, TooLong, BadHeaders};
+ghost use Rattle.channel_frame.specs.AnnouncedFrames.{first_head};
 ghost use Rattle.channel_frame.specs.FrameSpelling.{spelling};
 ghost use Rattle.channel_frame.specs.HeaderValues.{last_value, IsWithout};
 ghost use Rattle.channel_frame.specs.StreamReading.{frames_of, rest_of, fault_of};
 ghost use Rattle.channel_frame.specs.TailKinds.{IsUnfinished, IsUnmarked, IsTooLong, HasBadHeaders};
-ghost use Rattle.channel_frame.specs.WorkedFrames.{ann_frame, ann_bytes, reply_frame, reply_bytes, cut_bytes, unmarked_bytes, longest_body, longer_body, negative_body, longest_headers, longer_headers, short_header, repeated_headers};
+ghost use Rattle.channel_frame.specs.WorkedFrames.{ann_frame, ann_head, ann_bytes, reply_frame, reply_bytes, cut_bytes, unmarked_bytes, longest_body, longer_body, negative_body, longest_headers, longer_headers, short_header, repeated_headers};
 
 /// A frame and its reply, spelled.
 pub fn worked_spellings()
@@ -60,6 +61,14 @@ pub fn worked_kinds()
     ensures cut_header { HasBadHeaders short_header }
     ensures at_the_limit { IsTooLong longest_body → ⊥ }
     ensures whole { HasBadHeaders ann_bytes → ⊥ }
+{}
+
+/// The head at the front: of a frame, of fewer bytes than a head has, and of bytes with a fault.
+pub fn worked_heads()
+    ensures there { first_head ann_bytes ≡ Ok (Some ann_head) }
+    ensures few { first_head cut_bytes ≡ Ok None }
+    ensures marker { first_head unmarked_bytes ≡ Err BadMarker }
+    ensures body { first_head longer_body ≡ Err TooLong }
 {}
 
 /// What is found under a key: of two values the last, an empty value, and none where no header has the key.

@@ -7,11 +7,11 @@ use Rattle.channel_frame.specs.declared.frames.FrameFault.{FrameFault}
 use Rattle.channel_frame.specs.declared.frames.FrameFault.TheVariants.{BadMarker, TooLong, NoMemory}
 use Rattle.channel_frame.specs.declared.frames.Front.TheVariants.{Short, Bad}
 use Rattle.channel_frame.specs.StreamReading.{starts_with_marker, head_of, headers_of, headers_part, with_headers, with_head, front}
-use Rattle.channel_frame.proofs.AnnouncedLaws.{announced_stays}
+use Rattle.channel_frame.proofs.AnnouncedLaws.{head_stays}
 use Rattle.channel_frame.proofs.FrontLaws.{front_short, front_headed}
 use Rattle.std.specs.Prelude.{◌^◌, OnOk, OnErr}
 use Rattle.std.proofs.lemmas.List.{length-append}
-use Rattle.frame_stream.specs.StreamSteps.{IsFault, HoldsNoneAfter, KnowsLen}
+use Rattle.frame_stream.specs.StreamSteps.{IsFault, HoldsNoneAfter, KnowsHead}
 
 -- ---- want of memory is no fault of the bytes
 
@@ -45,22 +45,22 @@ is_fault bytes e is none =
       | inr le ↦ behind_fault bytes (head_of bytes) (no_head_fault bytes) (sym (front_headed bytes (head_of bytes) le refl) ∙ want)
     ]
 
--- ---- a length that is known stays
+-- ---- a head that is known stays
 
-pub len_stays : (o : Option ℕ) (held more : List ℕ) → KnowsLen o held → KnowsLen o (held ++ more)
-len_stays None held more knows = tt
-len_stays (Some n) held more knows = announced_stays held more n knows
+pub known_stays : (o : Option Head) (held more : List ℕ) → KnowsHead o held → KnowsHead o (held ++ more)
+known_stays None held more knows = tt
+known_stays (Some h) held more knows = head_stays held more h knows
 
 -- a piece comes behind the bytes held, or no memory is there and they stay
-pub feed_keeps : {T E : Type 0} (r : Result T E) (given : ℕ) (held piece new : List ℕ) (o : Option FrameFault) (len : Option ℕ) → OnOk r (new ≡ held ++ piece) → OnErr r (new ≡ held)
-    → given + length held + length piece < 2 ^ 63 → o ≡ None → KnowsLen len held → (given + length new < 2 ^ 63) × HoldsNoneAfter o new × KnowsLen len new
-feed_keeps (Ok x) given held piece new o len ok err room none knows = (
+pub feed_keeps : {T E : Type 0} (r : Result T E) (given : ℕ) (held piece new : List ℕ) (o : Option FrameFault) (head : Option Head) → OnOk r (new ≡ held ++ piece) → OnErr r (new ≡ held)
+    → given + length held + length piece < 2 ^ 63 → o ≡ None → KnowsHead head held → (given + length new < 2 ^ 63) × HoldsNoneAfter o new × KnowsHead head new
+feed_keeps (Ok x) given held piece new o head ok err room none knows = (
   omega (arith, ap length ok, length-append held piece, room),
   subst (λ (p : Option FrameFault). HoldsNoneAfter p new) (sym none) tt,
-  subst (KnowsLen len) (sym ok) (len_stays len held piece knows),
+  subst (KnowsHead head) (sym ok) (known_stays head held piece knows),
 )
-feed_keeps (Err e) given held piece new o len ok err room none knows = (
+feed_keeps (Err e) given held piece new o head ok err room none knows = (
   omega (arith, ap length err, room),
   subst (λ (p : Option FrameFault). HoldsNoneAfter p new) (sym none) tt,
-  subst (KnowsLen len) (sym err) knows,
+  subst (KnowsHead head) (sym err) knows,
 )

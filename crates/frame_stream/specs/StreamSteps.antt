@@ -3,11 +3,12 @@ use Rattle.std.specs.Prelude.{◌≡◌, ℕ, ◌+◌, ◌≤◌, List, [], leng
 use Rattle.std.specs.declared.option.Option.{Option}
 use Rattle.std.specs.declared.result.Result.{Result}
 use Rattle.channel_frame.specs.declared.frames.Frame.{Frame}
+use Rattle.channel_frame.specs.declared.frames.Head.{Head}
 use Rattle.channel_frame.specs.declared.frames.FrameFault.{FrameFault}
 use Rattle.channel_frame.specs.declared.frames.FrameFault.TheVariants as frame_fault
 use Rattle.channel_frame.specs.declared.frames.Front.TheVariants as front_is
 use Rattle.channel_frame.specs.StreamReading.{front}
-use Rattle.channel_frame.specs.AnnouncedFrames.{announced, IsAnnouncedFront}
+use Rattle.channel_frame.specs.AnnouncedFrames.{first_head, IsAnnouncedFront}
 use Rattle.channel_frame.specs.SessionBytes.{SessionBytes}
 use Rattle.frame_stream.specs.declared.faults.StreamFault.{StreamFault}
 use Rattle.frame_stream.specs.declared.faults.StreamFault.TheVariants.{Bad, NoMemory}
@@ -86,7 +87,7 @@ abbrev pub HoldsNoneAfter : Option FrameFault → List ℕ → Type 0
 HoldsNoneAfter None held = ⊤
 HoldsNoneAfter (Some e) held = IsFault e × (held ≡ [])
 
--- A length that is known is the one that the head at the front announces.
-abbrev pub KnowsLen : Option ℕ → List ℕ → Type 0
-KnowsLen None held = ⊤
-KnowsLen (Some n) held = announced held ≡ Ok (Some n)
+-- A head that is known is the one at the front.
+abbrev pub KnowsHead : Option Head → List ℕ → Type 0
+KnowsHead None held = ⊤
+KnowsHead (Some h) held = first_head held ≡ Ok (Some h)

@@ -1,13 +1,13 @@
 ghost use Rattle.std.specs.Prelude.{◌≡◌, ◌+◌, ◌<◌, ◌≤◌, ◌^◌, Some, None, IfOk, OnOk, OnErr, is_some, true, length};
 ghost use Rattle.channel_frame.specs.StreamReading.{front};
 ghost use Rattle.channel_frame.specs.SessionBytes.{no_bytes, with_more};
-ghost use Rattle.channel_frame.specs.AnnouncedFrames.{announced, IsAnnouncedFront};
+ghost use Rattle.channel_frame.specs.AnnouncedFrames.{first_head as head_there, IsAnnouncedFront};
 ghost use Rattle.frame_stream.specs.declared.faults.StreamFault.TheVariants.{Bad};
 ghost use Rattle.frame_stream.specs.StreamSteps.{fault_number as number_of, IsFault, without_front, at_fault, NextGives};
 
 use crate::buffers::Buffer;
 use crate::faults::{StreamFault, fault_number};
-use channel_frame::{Frame, FrameFault, Front, announced_len, front_within};
+use channel_frame::{Frame, FrameFault, Front, Head, front_with, head_at_front};
 use std::alloc::{AllocError, Global};
 use std::marker::Model;
 
@@ -19,21 +19,21 @@ pub struct Decoder {
     alloc: Global,
     given: u64,
     held: Buffer,
-    // How many bytes the frame at the front has, once its head was read.
-    len: Option<usize>,
+    // The head of the frame at the front, once it was read.
+    head: Option<Head>,
     fault: Option<FrameFault>,
 }
 
 impl Model for Decoder {
     ghost use Rattle.std.specs.Prelude.{◌+◌, ◌<◌, ◌^◌, length};
     ghost use Rattle.channel_frame.specs.SessionBytes.{SessionBytes};
-    ghost use Rattle.frame_stream.specs.StreamSteps.{HoldsNoneAfter, KnowsLen};
+    ghost use Rattle.frame_stream.specs.StreamSteps.{HoldsNoneAfter, KnowsHead};
 
     ghost Value = { SessionBytes };
 
     ghost view = { λ d. record { given = d.given; held = d.held; fault = d.fault } };
 
-    ghost invariant = { λ d. (d.given + length d.held < 2 ^ 63) × HoldsNoneAfter d.fault d.held × KnowsLen d.len d.held };
+    ghost invariant = { λ d. (d.given + length d.held < 2 ^ 63) × HoldsNoneAfter d.fault d.held × KnowsHead d.head d.held };
 }
 
 impl Decoder {
@@ -45,7 +45,7 @@ impl Decoder {
             alloc,
             given: 0,
             held: Buffer::new(alloc),
-            len: None,
+            head: None,
             fault: None,
         }
     }
@@ -79,15 +79,15 @@ impl Decoder {
         self.fault.is_some()
     }
 
-    // How many bytes the frame at the front has. A head is asked for it once.
-    fn frame_len(&mut self) -> Result<Option<usize>, FrameFault>
-        ensures len { result ≡ announced self.old.held }
+    // The head of the frame at the front. It is decoded once.
+    fn first_head(&mut self) -> Result<Option<Head>, FrameFault>
+        ensures head { result ≡ head_there self.old.held }
         ensures same { self.new ≡ self.old }
     {
-        if self.len.is_none() {
-            self.len = announced_len(self.held.as_slice())?;
+        if self.head.is_none() {
+            self.head = head_at_front(self.held.as_slice())?;
         }
-        Ok(self.len)
+        Ok(self.head)
     }
 
     // What stands at the front of the bytes held.
@@ -96,9 +96,9 @@ impl Decoder {
         ensures memory { OnErr result (IsAnnouncedFront self.old.held) }
         ensures same { self.new ≡ self.old }
     {
-        match self.frame_len() {
+        match self.first_head() {
             Ok(None) => Ok(Front::Short),
-            Ok(Some(len)) => front_within(self.alloc, self.held.as_slice(), len),
+            Ok(Some(head)) => front_with(self.alloc, head, self.held.as_slice()),
             Err(fault) => Ok(Front::Bad(fault)),
         }
     }
@@ -111,7 +111,7 @@ impl Decoder {
     {
         self.held.skip(len as usize);
         self.given += len;
-        self.len = None;
+        self.head = None;
     }
 
     // The fault at the front is met. Nothing is held from then on.
@@ -120,7 +120,7 @@ impl Decoder {
         ensures { self.new ≡ at_fault self.old fault }
     {
         self.held.clear();
-        self.len = None;
+        self.head = None;
         self.fault = Some(fault);
     }
 

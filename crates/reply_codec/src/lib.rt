@@ -11,4 +11,4 @@ pub use worked::{
     worked_bodies, worked_denials, worked_explanations, worked_frame, worked_limits,
     worked_limits_of_explanations, worked_lists, worked_plain_refusals, worked_refusals,
 };
-pub use writing::write;
+pub use writing::{write, write_behind};

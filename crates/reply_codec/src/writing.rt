@@ -1,11 +1,11 @@
-ghost use Rattle.std.specs.Prelude.{◌≡◌, ◌∷◌, [], ◌≤◌, if◌then◌else◌, IfOk, true, length};
-ghost use Rattle.channel_frame.specs.FrameSpelling.{number, KeepsLimits};
+ghost use Rattle.std.specs.Prelude.{◌≡◌, ◌∷◌, [], ◌++◌, ◌≤◌, if◌then◌else◌, IfOk, OnOk, OnErr, true, length};
+ghost use Rattle.channel_frame.specs.FrameSpelling.{number, spelling, KeepsLimits};
 ghost use Rattle.reply_codec.specs.ReplyBody.{reply_body};
 ghost use Rattle.reply_codec.specs.ReplyFrame.{is_success, reply_frame};
 ghost use Rattle.reply_codec.specs.ReplyLimits.{keeps_limits};
 
 use crate::reply_bodies::reply_value;
-use channel_frame::{Frame, Header, Headers};
+use channel_frame::{Frame, Header, Headers, encode_behind};
 use ctrl_model::{Bytes, Reply};
 use std::alloc::{AllocError, Global};
 
@@ -26,8 +26,8 @@ fn body_bytes(alloc: Global, reply: &Reply) -> Result<Bytes, AllocError>
     match reply_value(alloc, reply)? {
         None => Ok(Bytes::of(Vec::new(alloc))),
         Some(value) => {
-            let text = value.to_string(alloc)?;
-            Bytes::from_slice(alloc, text.as_bytes())
+            let text = value.to_vec(alloc)?;
+            Ok(Bytes::of(text))
         }
     }
 }
@@ -78,4 +78,27 @@ pub fn write(
         headers,
         body,
     })
+}
+
+/// The frame of a reply comes, spelled, behind the bytes of a buffer.
+///
+/// It takes the replies that `write` takes. The text of the body is made once, and each byte of the frame is written once. Where memory is
+/// wanting, the buffer is empty.
+pub fn write_behind(
+    out: &mut Vec<u8>,
+    reply: &Reply,
+    sequence: u32,
+    reply_for: u32,
+) -> Result<(), AllocError>
+    requires { keeps_limits reply.now ≡ true }
+    ensures ok { OnOk result (out.new.items ≡ out.old.items ++ spelling (reply_frame sequence reply_for reply.now)) }
+    ensures err { OnErr result (out.new.items ≡ []) }
+{
+    match write(*out.allocator(), reply, sequence, reply_for) {
+        Ok(frame) => encode_behind(out, &frame),
+        Err(error) => {
+            out.clear();
+            Err(error)
+        }
+    }
 }

@@ -1,6 +1,7 @@
-ghost use Rattle.std.specs.Prelude.{◌≡◌};
+ghost use Rattle.std.specs.Prelude.{◌≡◌, ℕ, List, Some};
 ghost use Rattle.ctrl_model.specs.declared.kinds.Kind.TheVariants as kind;
 ghost use Rattle.row_codec.specs.RowKeys.RowTable.{Next, Setting, Counts};
+ghost use Rattle.row_codec.specs.FieldReading.{alone, front_number};
 ghost use Rattle.row_spelling.specs.RowReading.{Gives, record_read, count_read, table_read, table_seen, row_of};
 
 use crate::checking::{lone_count, lone_kind, lone_next, lone_number, lone_pair, lone_setting};
@@ -15,12 +16,9 @@ use ctrl_model::{
 use row_codec::{Row, RowFault, split_byte};
 use std::alloc::Global;
 
-fn identity_row(alloc: Global, rest: &[u8], value: &[u8]) -> Result<Row, RowFault>
-    ensures { Gives (λ r. r) result (record_read kind.Identity rest.now value.now) }
+fn identity_row(alloc: Global, no: u32, value: &[u8]) -> Result<Row, RowFault>
+    ensures { (rest : List ℕ) → alone front_number rest ≡ Some no → Gives (λ r. r) result (record_read kind.Identity rest value.now) }
 {
-    let Some(no) = lone_number(rest) else {
-        return Err(RowFault::BadRow);
-    };
     let (name, attributes) = read_entity(alloc, value)?;
     Ok(Row::Identity {
         no: IdentityNo(no),
@@ -29,12 +27,9 @@ fn identity_row(alloc: Global, rest: &[u8], value: &[u8]) -> Result<Row, RowFaul
     })
 }
 
-fn service_row(alloc: Global, rest: &[u8], value: &[u8]) -> Result<Row, RowFault>
-    ensures { Gives (λ r. r) result (record_read kind.Service rest.now value.now) }
+fn service_row(alloc: Global, no: u32, value: &[u8]) -> Result<Row, RowFault>
+    ensures { (rest : List ℕ) → alone front_number rest ≡ Some no → Gives (λ r. r) result (record_read kind.Service rest value.now) }
 {
-    let Some(no) = lone_number(rest) else {
-        return Err(RowFault::BadRow);
-    };
     let (name, attributes) = read_entity(alloc, value)?;
     Ok(Row::Service {
         no: ServiceNo(no),
@@ -43,12 +38,9 @@ fn service_row(alloc: Global, rest: &[u8], value: &[u8]) -> Result<Row, RowFault
     })
 }
 
-fn router_row(alloc: Global, rest: &[u8], value: &[u8]) -> Result<Row, RowFault>
-    ensures { Gives (λ r. r) result (record_read kind.Router rest.now value.now) }
+fn router_row(alloc: Global, no: u32, value: &[u8]) -> Result<Row, RowFault>
+    ensures { (rest : List ℕ) → alone front_number rest ≡ Some no → Gives (λ r. r) result (record_read kind.Router rest value.now) }
 {
-    let Some(no) = lone_number(rest) else {
-        return Err(RowFault::BadRow);
-    };
     let (name, (attributes, (cost, (through, connected)))) = read_router(alloc, value)?;
     Ok(Row::Router {
         no: RouterNo(no),
@@ -60,12 +52,9 @@ fn router_row(alloc: Global, rest: &[u8], value: &[u8]) -> Result<Row, RowFault>
     })
 }
 
-fn link_row(alloc: Global, rest: &[u8], value: &[u8]) -> Result<Row, RowFault>
-    ensures { Gives (λ r. r) result (record_read kind.Link rest.now value.now) }
+fn link_row(alloc: Global, no: u32, value: &[u8]) -> Result<Row, RowFault>
+    ensures { (rest : List ℕ) → alone front_number rest ≡ Some no → Gives (λ r. r) result (record_read kind.Link rest value.now) }
 {
-    let Some(no) = lone_number(rest) else {
-        return Err(RowFault::BadRow);
-    };
     let (name, (a, (b, (cost, (latency_a, (latency_b, up)))))) = read_link(alloc, value)?;
     Ok(Row::Link {
         no: LinkNo(no),
@@ -79,12 +68,9 @@ fn link_row(alloc: Global, rest: &[u8], value: &[u8]) -> Result<Row, RowFault>
     })
 }
 
-fn service_policy_row(alloc: Global, rest: &[u8], value: &[u8]) -> Result<Row, RowFault>
-    ensures { Gives (λ r. r) result (record_read kind.ServicePolicy rest.now value.now) }
+fn service_policy_row(alloc: Global, no: u32, value: &[u8]) -> Result<Row, RowFault>
+    ensures { (rest : List ℕ) → alone front_number rest ≡ Some no → Gives (λ r. r) result (record_read kind.ServicePolicy rest value.now) }
 {
-    let Some(no) = lone_number(rest) else {
-        return Err(RowFault::BadRow);
-    };
     let (name, (relation, (semantic, (identities, services)))) = read_service_policy(alloc, value)?;
     Ok(Row::ServicePolicy {
         no: PolicyNo(no),
@@ -96,12 +82,9 @@ fn service_policy_row(alloc: Global, rest: &[u8], value: &[u8]) -> Result<Row, R
     })
 }
 
-fn edge_router_policy_row(alloc: Global, rest: &[u8], value: &[u8]) -> Result<Row, RowFault>
-    ensures { Gives (λ r. r) result (record_read kind.EdgeRouterPolicy rest.now value.now) }
+fn edge_router_policy_row(alloc: Global, no: u32, value: &[u8]) -> Result<Row, RowFault>
+    ensures { (rest : List ℕ) → alone front_number rest ≡ Some no → Gives (λ r. r) result (record_read kind.EdgeRouterPolicy rest value.now) }
 {
-    let Some(no) = lone_number(rest) else {
-        return Err(RowFault::BadRow);
-    };
     let (name, (semantic, (identities, routers))) = read_router_policy(alloc, value)?;
     Ok(Row::EdgeRouterPolicy {
         no: PolicyNo(no),
@@ -112,12 +95,9 @@ fn edge_router_policy_row(alloc: Global, rest: &[u8], value: &[u8]) -> Result<Ro
     })
 }
 
-fn service_edge_router_policy_row(alloc: Global, rest: &[u8], value: &[u8]) -> Result<Row, RowFault>
-    ensures { Gives (λ r. r) result (record_read kind.ServiceEdgeRouterPolicy rest.now value.now) }
+fn service_edge_router_policy_row(alloc: Global, no: u32, value: &[u8]) -> Result<Row, RowFault>
+    ensures { (rest : List ℕ) → alone front_number rest ≡ Some no → Gives (λ r. r) result (record_read kind.ServiceEdgeRouterPolicy rest value.now) }
 {
-    let Some(no) = lone_number(rest) else {
-        return Err(RowFault::BadRow);
-    };
     let (name, (semantic, (services, routers))) = read_router_policy(alloc, value)?;
     Ok(Row::ServiceEdgeRouterPolicy {
         no: PolicyNo(no),
@@ -128,12 +108,9 @@ fn service_edge_router_policy_row(alloc: Global, rest: &[u8], value: &[u8]) -> R
     })
 }
 
-fn terminator_row(alloc: Global, rest: &[u8], value: &[u8]) -> Result<Row, RowFault>
-    ensures { Gives (λ r. r) result (record_read kind.Terminator rest.now value.now) }
+fn terminator_row(alloc: Global, no: u32, value: &[u8]) -> Result<Row, RowFault>
+    ensures { (rest : List ℕ) → alone front_number rest ≡ Some no → Gives (λ r. r) result (record_read kind.Terminator rest value.now) }
 {
-    let Some(no) = lone_number(rest) else {
-        return Err(RowFault::BadRow);
-    };
     let (service, (router, (host, (instance, (cost, precedence))))) = read_terminator(
         alloc, value,
     )?;
@@ -148,12 +125,9 @@ fn terminator_row(alloc: Global, rest: &[u8], value: &[u8]) -> Result<Row, RowFa
     })
 }
 
-fn circuit_row(alloc: Global, rest: &[u8], value: &[u8]) -> Result<Row, RowFault>
-    ensures { Gives (λ r. r) result (record_read kind.Circuit rest.now value.now) }
+fn circuit_row(alloc: Global, no: u32, value: &[u8]) -> Result<Row, RowFault>
+    ensures { (rest : List ℕ) → alone front_number rest ≡ Some no → Gives (λ r. r) result (record_read kind.Circuit rest value.now) }
 {
-    let Some(no) = lone_number(rest) else {
-        return Err(RowFault::BadRow);
-    };
     let (identity, (service, (terminator, (ingress, links)))) = read_circuit(alloc, value)?;
     Ok(Row::Circuit {
         no: CircuitNo(no),
@@ -168,16 +142,19 @@ fn circuit_row(alloc: Global, rest: &[u8], value: &[u8]) -> Result<Row, RowFault
 fn record_row(alloc: Global, kind: Kind, rest: &[u8], value: &[u8]) -> Result<Row, RowFault>
     ensures { Gives (λ r. r) result (record_read kind rest.now value.now) }
 {
+    let Some(no) = lone_number(rest) else {
+        return Err(RowFault::BadRow);
+    };
     match kind {
-        Kind::Identity => identity_row(alloc, rest, value),
-        Kind::Service => service_row(alloc, rest, value),
-        Kind::Router => router_row(alloc, rest, value),
-        Kind::Link => link_row(alloc, rest, value),
-        Kind::ServicePolicy => service_policy_row(alloc, rest, value),
-        Kind::EdgeRouterPolicy => edge_router_policy_row(alloc, rest, value),
-        Kind::ServiceEdgeRouterPolicy => service_edge_router_policy_row(alloc, rest, value),
-        Kind::Terminator => terminator_row(alloc, rest, value),
-        Kind::Circuit => circuit_row(alloc, rest, value),
+        Kind::Identity => identity_row(alloc, no, value),
+        Kind::Service => service_row(alloc, no, value),
+        Kind::Router => router_row(alloc, no, value),
+        Kind::Link => link_row(alloc, no, value),
+        Kind::ServicePolicy => service_policy_row(alloc, no, value),
+        Kind::EdgeRouterPolicy => edge_router_policy_row(alloc, no, value),
+        Kind::ServiceEdgeRouterPolicy => service_edge_router_policy_row(alloc, no, value),
+        Kind::Terminator => terminator_row(alloc, no, value),
+        Kind::Circuit => circuit_row(alloc, no, value),
         Kind::Attribute => Err(RowFault::BadRow),
     }
 }

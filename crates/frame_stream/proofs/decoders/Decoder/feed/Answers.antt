@@ -8,4 +8,4 @@ invariant_of-self c =
     let room : c.self.inside.given + length c.self.inside.held + length c.args.piece.now < 2 ^ 63 =
     omega (arith, c.requires.room, ap (λ (b : SessionBytes). b.given + length b.held) c.self.view_is)
     in
-    feed_keeps c.append.result c.self.inside.given c.self.inside.held c.args.piece.now c.append.new.self c.self.inside.fault c.self.inside.len c.append.ensures.ok c.append.ensures.err room c.in-None.is c.self.invariant.2
+    feed_keeps c.append.result c.self.inside.given c.self.inside.held c.args.piece.now c.append.new.self c.self.inside.fault c.self.inside.head c.append.ensures.ok c.append.ensures.err room c.in-None.is c.self.invariant.2

@@ -3,29 +3,29 @@ use Rattle.channel_frame.specs.declared.frames.FrameFault.TheVariants.{BadHeader
 use Rattle.channel_frame.specs.StreamReading.{headers_of}
 use Rattle.channel_frame.proofs.NumberLaws.{AreBytes-from}
 use Rattle.channel_frame.proofs.FrontLaws.{Cut, reads_whole, reads_bad, alone_spelled, alone_read, bad_unspelled}
-use Rattle.channel_frame.proofs.decoding.read_frame.Goals as goal
+use Rattle.channel_frame.proofs.decoding.read_frame_with.Goals as goal
 
 pub returns-in_default-clause-read : goal.returns-in_default-clause-read
 returns-in_default-clause-read c = λ f is spelled.
-    let cut : Cut c.args.bytes.now c.copy_from_slice.new.self c.split_at.result.1.now c.split_at-2.result.0.now c.in_ok-head.head = record {
-      first = c.copy_from_slice.ensures.after ∙ c.split_at.ensures.front;
-      is_head = c.in_ok-head.ensures.exact;
+    let cut : Cut c.args.bytes.now c.split_at.result.1.now c.split_at-2.result.0.now c.args.head = record {
+      is_head = c.requires.head;
+      whole = c.requires.all;
       behind = c.split_at.ensures.back;
       row = c.split_at-2.ensures.front;
     } in
     let none : headers_of c.split_at-2.result.0.now ≡ None = sym c.in_ok-headers.ensures.headers ∙ grind arith in
-    absurd (bad_unspelled c.args.bytes.now f BadHeaders (reads_bad c.args.bytes.now _ _ _ c.in_ok-head.head c.requires cut none) is spelled)
+    absurd (bad_unspelled c.args.bytes.now f BadHeaders (reads_bad c.args.bytes.now _ _ c.args.head cut none) is spelled)
 
 pub returns-clause-whole : goal.returns-clause-whole
 returns-clause-whole c =
-    let cut : Cut c.args.bytes.now c.copy_from_slice.new.self c.split_at.result.1.now c.split_at-2.result.0.now c.in_ok-head.head = record {
-      first = c.copy_from_slice.ensures.after ∙ c.split_at.ensures.front;
-      is_head = c.in_ok-head.ensures.exact;
+    let cut : Cut c.args.bytes.now c.split_at.result.1.now c.split_at-2.result.0.now c.args.head = record {
+      is_head = c.requires.head;
+      whole = c.requires.all;
       behind = c.split_at.ensures.back;
       row = c.split_at-2.ensures.front;
     } in
     let some : headers_of c.split_at-2.result.0.now ≡ Some c.in-Some.headers = sym c.in_ok-headers.ensures.headers ∙ c.in-Some.is in
-    reads_whole c.args.bytes.now c.copy_from_slice.new.self c.split_at.result.1.now c.split_at-2.result.0.now c.in_ok-body.body c.in_ok-head.head c.in-Some.headers c.requires cut some (c.in_ok-body.ensures ∙ c.split_at-2.ensures.back)
+    reads_whole c.args.bytes.now c.split_at.result.1.now c.split_at-2.result.0.now c.in_ok-body.body c.args.head c.in-Some.headers cut some (c.in_ok-body.ensures ∙ c.split_at-2.ensures.back)
 
 pub returns-clause-spelled : goal.returns-clause-spelled
 returns-clause-spelled c = alone_spelled c.args.bytes.now _ (AreBytes-from c.args.bytes.now (λ i. omega (arith, c.type_inv.bytes i))) (returns-clause-whole c)
