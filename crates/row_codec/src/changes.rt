@@ -1,7 +1,7 @@
-ghost use Rattle.std.specs.Prelude.{◌≡◌, ◌↔◌, IfOk, IsTrue, length, []};
+ghost use Rattle.std.specs.Prelude.{◌≡◌, ◌↔◌, IfOk, IsTrue, length, [], None, Some};
 
 use ctrl_model::Bytes;
-use std::alloc::AllocError;
+use std::alloc::{AllocError, Global};
 use std::marker::Model;
 
 /// One change of rows: a row put under its key, or the row at a key deleted.
@@ -46,6 +46,16 @@ impl Model for Batch {
     ghost view = { λ b. b.items.items };
 }
 
+fn copy_ops(alloc: Global, ops: &[Op]) -> Result<Vec<Op>, AllocError>
+    ensures { IfOk result (λ v. v.items ≡ ops.now) }
+{
+    let mut copied = Vec::new(alloc);
+    'ops: for op in ops {
+        copied.push(op.copy()?)?;
+    }
+    Ok(copied)
+}
+
 impl Batch {
     /// The changes of a vector.
     pub fn of(items: Vec<Op>) -> Batch
@@ -74,6 +84,14 @@ impl Batch {
     {
         self.items.is_empty()
     }
+
+    /// An equal batch.
+    pub fn copy(&self) -> Result<Batch, AllocError>
+        ensures { IfOk result (λ b. b ≡ self.now) }
+    {
+        let items = copy_ops(*self.items.allocator(), self.items.as_slice())?;
+        Ok(Batch { items })
+    }
 }
 
 /// The row at a key before and after a change, where there is one.
@@ -82,6 +100,27 @@ pub struct Change {
     pub key: Bytes,
     pub before: Option<Bytes>,
     pub after: Option<Bytes>,
+}
+
+fn copy_value(value: &Option<Bytes>) -> Result<Option<Bytes>, AllocError>
+    ensures { IfOk result (λ v. v ≡ value.now) }
+{
+    match value {
+        None => Ok(None),
+        Some(value) => Ok(Some(value.copy()?)),
+    }
+}
+
+impl Change {
+    /// An equal change.
+    pub fn copy(&self) -> Result<Change, AllocError>
+        ensures { IfOk result (λ c. c ≡ self.now) }
+    {
+        let key = self.key.copy()?;
+        let before = copy_value(&self.before)?;
+        let after = copy_value(&self.after)?;
+        Ok(Change { key, before, after })
+    }
 }
 
 /// Rows before and after a change, key by key. Contracts see the list.
@@ -97,6 +136,16 @@ impl Model for Changes {
     ghost Value = { List Change };
 
     ghost view = { λ c. c.items.items };
+}
+
+fn copy_changes(alloc: Global, changes: &[Change]) -> Result<Vec<Change>, AllocError>
+    ensures { IfOk result (λ v. v.items ≡ changes.now) }
+{
+    let mut copied = Vec::new(alloc);
+    'changes: for change in changes {
+        copied.push(change.copy()?)?;
+    }
+    Ok(copied)
 }
 
 impl Changes {
@@ -119,5 +168,13 @@ impl Changes {
         ensures { result ≡ length self.now }
     {
         self.items.len()
+    }
+
+    /// An equal list.
+    pub fn copy(&self) -> Result<Changes, AllocError>
+        ensures { IfOk result (λ c. c ≡ self.now) }
+    {
+        let items = copy_changes(*self.items.allocator(), self.items.as_slice())?;
+        Ok(Changes { items })
     }
 }
