@@ -1,15 +1,32 @@
-ghost use Rattle.std.specs.Prelude.{◌≡◌, ◌↔◌, IsTrue, length, []};
+ghost use Rattle.std.specs.Prelude.{◌≡◌, ◌↔◌, IfOk, IsTrue, length, []};
 
 use ctrl_model::Bytes;
-use std::alloc::{AllocError, AllocFailed};
+use std::alloc::{AllocError, AllocFailed, Global};
 use std::marker::Model;
 use thiserror::Error;
+
+/// Values of which an equal one can be made.
+pub trait Copies: Sized {
+    /// An equal value. An Err is want of memory.
+    fn copy(&self) -> Result<Self, AllocError>
+        ensures { IfOk result (λ c. c ≡ self.now) };
+}
 
 /// A header of a frame: a key and its bytes.
 #[derive(Debug, Drop)]
 pub struct Header {
     pub key: u32,
     pub value: Bytes,
+}
+
+impl Copies for Header {
+    fn copy(&self) -> Result<Header, AllocError> {
+        let value = self.value.copy()?;
+        Ok(Header {
+            key: self.key,
+            value,
+        })
+    }
 }
 
 /// A list of values, in order and with repeats. Contracts see the list.
@@ -56,6 +73,24 @@ impl<T> Items<T> {
     }
 }
 
+// Copies of some values.
+fn copy_each<T: Copies + Drop>(alloc: Global, values: &[T]) -> Result<Vec<T>, AllocError>
+    ensures { IfOk result (λ v. v.items ≡ values.now) }
+{
+    let mut copied = Vec::new(alloc);
+    'values: for value in values {
+        copied.push(value.copy()?)?;
+    }
+    Ok(copied)
+}
+
+impl<T: Copies + Drop> Copies for Items<T> {
+    fn copy(&self) -> Result<Items<T>, AllocError> {
+        let items = copy_each(*self.items.allocator(), self.items.as_slice())?;
+        Ok(Items { items })
+    }
+}
+
 /// The headers of a frame.
 pub type Headers = Items<Header>;
 
@@ -66,6 +101,19 @@ pub struct Frame {
     pub sequence: u32,
     pub headers: Headers,
     pub body: Bytes,
+}
+
+impl Copies for Frame {
+    fn copy(&self) -> Result<Frame, AllocError> {
+        let headers = self.headers.copy()?;
+        let body = self.body.copy()?;
+        Ok(Frame {
+            content: self.content,
+            sequence: self.sequence,
+            headers,
+            body,
+        })
+    }
 }
 
 /// A list of frames.
