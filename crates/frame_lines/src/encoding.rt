@@ -29,8 +29,7 @@ pub fn put_frame(alloc: Global, out: &mut Vec<u8>, next: u32, line: Line) -> Res
         headers: Headers::of(Vec::new(alloc)),
         body: line.body,
     };
-    let bytes = channel_frame::encode(alloc, &frame)?;
-    out.extend_from_slice(bytes.as_slice())?;
+    channel_frame::encode_behind(out, &frame)?;
     Ok(frame.sequence.wrapping_add(1))
 }
 
