@@ -1,4 +1,4 @@
-ghost use Rattle.std.specs.Prelude.{IfOk};
+ghost use Rattle.std.specs.Prelude.{◌≡◌, IfOk};
 ghost use Rattle.core_stores.specs.LeadingSteps.{LeadAllCounts};
 ghost use Rattle.ctrl_core.specs.ChangedStores.{CanSettle, next_state};
 ghost use Rattle.ctrl_core.specs.KeptState.{Keeps};
@@ -30,25 +30,27 @@ fn settled_rows(
     Ok((settled, batch))
 }
 
+// A draft with what settles and the batch, as a plan.
+fn with_settled(draft: Draft, settled: Settled, batch: Batch) -> Planned
+    ensures { result ≡ record { reply = draft.reply; batch = batch; change = draft.change; settled = settled; steps = draft.steps } }
+{
+    Planned {
+        reply: draft.reply,
+        batch,
+        change: draft.change,
+        settled,
+        steps: draft.steps,
+    }
+}
+
 /// The plan of a draft: with what settles after its change, and the batch of the rows that differ.
 pub fn completed(alloc: Global, stores: &Stores, draft: Draft) -> Result<Planned, AllocError>
     requires { CanComplete stores.now draft }
     ensures { IfOk result (Completes stores.now draft) }
 {
-    let Draft {
-        reply,
-        change,
-        steps,
-    } = draft;
-    let Some(change) = change else {
-        return Ok(Planned::still(alloc, reply, steps));
+    let Some(change) = &draft.change else {
+        return Ok(Planned::still(alloc, draft.reply, draft.steps));
     };
-    let (settled, batch) = settled_rows(alloc, stores, &change, &steps)?;
-    Ok(Planned {
-        reply,
-        batch,
-        change: Some(change),
-        settled,
-        steps,
-    })
+    let (settled, batch) = settled_rows(alloc, stores, change, &draft.steps)?;
+    Ok(with_settled(draft, settled, batch))
 }

@@ -32,8 +32,7 @@ fn take_rows(alloc: Global, stores: &mut Stores, rows: &[Row]) -> Result<(), Cor
     requires form { list_all is_row rows.now ≡ true }
     ensures taken { OnOk result (KeepState stores.new (built rows.now (state_of stores.old))) }
     ensures flawless { OnOk result (AreFlawless (next_in rows.now) rows.now (state_of stores.old)) }
-    ensures flawed { (place : ℕ) (flaw : Flaw) → IsErrOf result (NotAState place flaw)
-        → IsFirstFlaw (next_in rows.now) rows.now (state_of stores.old) place flaw }
+    ensures flawed { (place : ℕ) (flaw : Flaw) → IsErrOf result (NotAState place flaw) → IsFirstFlaw (next_in rows.now) rows.now (state_of stores.old) place flaw }
 {
     'rows: for (place, row) in rows.iter().enumerate() {
         if let Some(flaw) = take_row(alloc, stores, rows, row)? {
@@ -75,23 +74,36 @@ fn raise_nexts(stores: &mut Stores, rows: &[Row])
     }
 }
 
+// Loads rows into stores without records.
+fn load_into(alloc: Global, stores: &mut Stores, rows: &[Row]) -> Result<(), CoreFault>
+    requires kept { Keeps stores.old }
+    requires empty { state_of stores.old ≡ start }
+    requires loads { Loads (map put_of rows.now) rows.now }
+    ensures kept { OnOk result (KeepState stores.new (state_in rows.now)) }
+    ensures flawless { OnOk result (AreFlawless (next_in rows.now) rows.now start) }
+    ensures counts { OnOk result (HaveCounts rows.now (built rows.now start)) }
+    ensures refused { (place : ℕ) (flaw : Flaw) → IsErrOf result (NotAState place flaw) → AreFlawed (map put_of rows.now) place flaw ⊎ LackCounts (map put_of rows.now) place flaw }
+{
+    take_rows(alloc, stores, rows)?;
+    if lacks(stores, rows) {
+        return Err(CoreFault::NotAState {
+            place: rows.len() as u64,
+            flaw: Flaw::WrongCount,
+        });
+    }
+    raise_nexts(stores, rows);
+    Ok(())
+}
+
 /// The stores of the state that rows build, from empty ones on.
 pub fn load(alloc: Global, rows: &[Row]) -> Result<Stores, CoreFault>
     requires { Loads (map put_of rows.now) rows.now }
     ensures kept { IfOk result (λ st. KeepState st (state_in rows.now)) }
     ensures flawless { OnOk result (AreFlawless (next_in rows.now) rows.now start) }
     ensures counts { OnOk result (HaveCounts rows.now (built rows.now start)) }
-    ensures refused { (place : ℕ) (flaw : Flaw) → IsErrOf result (NotAState place flaw)
-        → AreFlawed (map put_of rows.now) place flaw ⊎ LackCounts (map put_of rows.now) place flaw }
+    ensures refused { (place : ℕ) (flaw : Flaw) → IsErrOf result (NotAState place flaw) → AreFlawed (map put_of rows.now) place flaw ⊎ LackCounts (map put_of rows.now) place flaw }
 {
     let mut stores = Stores::new(alloc)?;
-    take_rows(alloc, &mut stores, rows)?;
-    if lacks(&stores, rows) {
-        return Err(CoreFault::NotAState {
-            place: rows.len() as u64,
-            flaw: Flaw::WrongCount,
-        });
-    }
-    raise_nexts(&mut stores, rows);
+    load_into(alloc, &mut stores, rows)?;
     Ok(stores)
 }

@@ -1,7 +1,10 @@
 //! Comparisons of the tests: each is proved once, and a test that makes it is short.
 
+ghost use Rattle.std.specs.Prelude.{◌≡◌, IsTrue, length};
+
 use row_store::StoreFault;
 use std::process::Abort;
+use ziti_outside::{Desk, Failed, Part};
 
 /// Bytes are the wanted ones.
 pub fn are_bytes(rt: &impl Abort, found: &[u8], wanted: &[u8]) {
@@ -11,4 +14,21 @@ pub fn are_bytes(rt: &impl Abort, found: &[u8], wanted: &[u8]) {
 /// A fault is the wanted one, or there is none where none is wanted.
 pub fn is_fault(rt: &impl Abort, found: Option<StoreFault>, wanted: Option<StoreFault>) {
     assert_eq!(rt; found, wanted);
+}
+
+/// A call was made.
+pub fn is_done(rt: &impl Abort, answer: Result<(), Failed>) {
+    assert_eq!(rt; answer, Ok(()));
+}
+
+/// A call was refused.
+pub fn is_refused(rt: &impl Abort, answer: Result<(), Failed>) {
+    assert!(rt; answer.is_err());
+}
+
+/// A part has so many bytes.
+pub fn has_len<D: Desk>(rt: &impl Abort, desk: &mut D, part: Part, wanted: u64)
+    ensures { IsTrue D.tells → length (D.reads desk.new part) ≡ wanted }
+{
+    assert_eq!(rt; desk.len(part), Ok(wanted));
 }

@@ -1,4 +1,5 @@
-//! Tests of folders over memory: what a store keeps in them, and where hostile ones are damaged.
+//! Tests of the desks over real files and over memory, of stops of the latter, and of folders: what a store keeps in them, and where
+//! hostile ones are damaged.
 #![tactic(auto)]
 
 #[cfg(test)]
@@ -10,6 +11,10 @@ mod damage;
 #[cfg(test)]
 mod desks;
 #[cfg(test)]
+mod folders;
+#[cfg(test)]
 mod row_reading;
+#[cfg(test)]
+mod stops;
 #[cfg(test)]
 mod stores;
