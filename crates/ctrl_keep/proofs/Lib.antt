@@ -5,3 +5,4 @@ pub mod OneStates
 pub mod AdvancedPlans
 pub mod SubmittedCommands
 mod CompactedStates
+pub mod FollowedSteps

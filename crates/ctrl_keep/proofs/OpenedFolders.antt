@@ -25,6 +25,7 @@ use Rattle.row_store.specs.StoredRows.{Stored, IsStoreOf}
 use Rattle.ctrl_core.specs.KeptState.{Cored}
 use Rattle.ctrl_keep.specs.declared.faults.KeepFault.{KeepFault}
 use Rattle.ctrl_keep.specs.declared.faults.KeepFault.TheVariants.{Disk, Damaged, Spent, NoMemory}
+use Rattle.ctrl_keep.specs.KeptController.{Controlled}
 use Rattle.ctrl_keep.specs.OpenedStates.{byte_rows_of, OpensToState, HasNoState}
 use Rattle.ctrl_keep.specs.Faults.{OpenFails, LoadFails}
 use Rattle.ctrl_keep.proofs.KeptStates.{opens_state}
@@ -100,6 +101,12 @@ load_fails tells old new stored (Damaged part at) opens p kept f =
     λ told. inr (no_state_by (length (old Mark)) old new stored part at refl (opens told) (p told) (kept told) f.0 f.1 f.2)
 load_fails tells old new stored Spent opens p kept f = f
 load_fails tells old new stored NoMemory opens p kept f = tt
+
+-- What the folder opened to is the state whose rows its store has.
+pub load_opens : (tells : Bool) (image : Image) (rows : ByteRows) (r : Result Controlled KeepFault) → (IsTrue tells → OpensTo image rows) → IfOk r (λ kept. ValidState kept.state)
+    → IfOk r (λ kept. rows ≡ byte_rows_of kept.state) → IfOk r (λ kept. IsTrue tells → OpensToState image kept.state)
+load_opens tells image rows (Ok kept) opens valid same = λ told. opens_state image kept.state rows valid same (opens told)
+load_opens tells image rows (Err fault) opens valid same = tt
 
 -- ---- a folder that was only looked at
 

@@ -1,5 +1,6 @@
 pub mod OpenedStates
 pub mod KeptMachine
+pub mod KeptBatches
 pub mod KeptController
 pub mod Faults
 pub mod WorkedMachines

@@ -6,10 +6,12 @@ ghost use Rattle.ziti_outside.specs.Untouched.{OnlyDisk};
 ghost use Rattle.journal_core.specs.Room.{KeepsRoom, LeavesRoom};
 ghost use Rattle.row_codec.specs.RowDifference.{IsTrueDifference};
 ghost use Rattle.row_codec.specs.Batches.{bytes_cmp, entries_of, IsBatch};
+ghost use Rattle.row_store.specs.AddedBatches.{AddsBatch};
 ghost use Rattle.row_store.specs.BatchRows.{rows_after};
 ghost use Rattle.row_store.specs.OpenedRows.{OpensTo};
 ghost use Rattle.row_store.specs.StoredRows.{ReadsAs};
 ghost use Rattle.ctrl_keep.specs.OpenedStates.{OpensToState};
+ghost use Rattle.ctrl_keep.specs.KeptBatches.{Follows};
 ghost use Rattle.ctrl_keep.specs.KeptController.{machine_with, made_of, Keeps, IsPlanned};
 ghost use Rattle.ctrl_keep.specs.Faults.{disk_failure, KeptOrFull, KeepFails, AdvanceFails};
 
@@ -29,6 +31,7 @@ fn keep<D: Desk>(store: &mut Store, desk: &mut D, batch: &Batch) -> Result<bool,
     requires stands { IsTrue D.tells → ReadsAs store.old (D.reads desk.old) (D.may_leave desk.old) }
 
     ensures kept { IfOk result (λ kept. KeptOrFull batch.now store.old store.new desk.old desk.new kept) }
+    ensures added { IfOk result (λ kept. kept ≡ true → IsTrue D.tells → AddsBatch batch.now (D.reads desk.old) (D.reads desk.new)) }
     ensures fault { IfErr result (λ fault. KeepFails batch.now store.old store.new desk.old desk.new fault) }
     ensures stands { store.new.spent ≡ false → IsTrue D.tells → ReadsAs store.new (D.reads desk.new) (D.may_leave desk.new) }
     ensures behind { IsErrOf result KeepFault.NoMemory → store.new.spent ≡ true → IsTrue D.tells → (image : Image)
@@ -66,6 +69,8 @@ pub(crate) fn advance<D: Desk>(
     requires stands { IsTrue D.tells → ReadsAs store.old (D.reads desk.old) (D.may_leave desk.old) }
 
     ensures step { IfOk result (λ reply. (reply, machine_with core.new.state store.new) ≡ made_of planned core.old.state store.old) }
+    ensures still { OnOk result (machine_with core.new.state store.new ≡ machine_with core.old.state store.old → desk.new ≡ desk.old) }
+    ensures follows { OnOk result (IsTrue D.tells → Follows (machine_with core.old.state store.old) (machine_with core.new.state store.new) (D.reads desk.old) (D.reads desk.new)) }
     ensures unspent { OnOk result ((spent.new ≡ false) × (store.new.bounds ≡ store.old.bounds)) }
     ensures keeps { spent.new ≡ false → Keeps core.new store.new }
     ensures fault { IfErr result (λ fault. AdvanceFails core.old core.new store.old store.new spent.new desk.old desk.new fault) }

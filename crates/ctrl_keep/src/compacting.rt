@@ -7,6 +7,7 @@ ghost use Rattle.row_store.specs.StoredRows.{ReadsAs};
 ghost use Rattle.row_store.specs.CompactedStores.{IsCompacted};
 ghost use Rattle.ctrl_keep.specs.OpenedStates.{OpensToState};
 ghost use Rattle.ctrl_keep.specs.KeptMachine.{is_compact, compacted_at};
+ghost use Rattle.ctrl_keep.specs.KeptBatches.{Follows};
 ghost use Rattle.ctrl_keep.specs.KeptController.{place_of, machine_with, Keeps};
 ghost use Rattle.ctrl_keep.specs.CompactionReplies.{compaction_reply};
 ghost use Rattle.ctrl_keep.specs.Faults.{disk_failure, AdvanceFails};
@@ -52,6 +53,8 @@ pub(crate) fn compact<D: Desk>(
     requires stands { IsTrue D.tells → ReadsAs store.old (D.reads desk.old) (D.may_leave desk.old) }
 
     ensures step { IfOk result (λ reply. (reply, machine_with core.now.state store.new) ≡ compacted_at store.old.bounds core.now.state (place_of store.old)) }
+    ensures still { OnOk result (machine_with core.now.state store.new ≡ machine_with core.now.state store.old → desk.new ≡ desk.old) }
+    ensures follows { OnOk result (IsTrue D.tells → Follows (machine_with core.now.state store.old) (machine_with core.now.state store.new) (D.reads desk.old) (D.reads desk.new)) }
     ensures unspent { OnOk result ((spent.new ≡ false) × (store.new.bounds ≡ store.old.bounds)) }
     ensures folder { IfOk result (λ reply. reply ≡ Done → IsTrue D.tells → IsCompacted store.old (D.reads desk.old) (D.reads desk.new)) }
     ensures keeps { spent.new ≡ false → Keeps core.now store.new }

@@ -14,6 +14,7 @@ ghost use Rattle.ctrl_keep.specs.OpenedStates.{byte_rows_of, OpensToState};
 ghost use Rattle.ctrl_keep.specs.KeptMachine.{step, is_compact};
 ghost use Rattle.ctrl_model.specs.declared.replies.Reply.TheVariants.{Done};
 ghost use Rattle.row_store.specs.CompactedStores.{IsCompacted};
+ghost use Rattle.ctrl_keep.specs.KeptBatches.{Follows};
 ghost use Rattle.ctrl_keep.specs.KeptController.{HoldsRows, machine_of};
 ghost use Rattle.ctrl_keep.specs.Faults.{disk_failure, OpenFails, LoadFails, SubmitFails};
 
@@ -70,6 +71,10 @@ impl Kept {
         ensures kept { IsTrue D.tells → 0 < length (D.reads desk.old Mark) → D.reads desk.new ≡ D.reads desk.old }
         ensures second { D.reads desk.new One ≡ D.reads desk.old One }
 
+        // Nor does a stop leave anything else of such a folder: each image, at every moment of the call and after it, is one that a stop
+        // might have left before.
+        ensures unwritten { IsTrue D.tells → 0 < length (D.reads desk.old Mark) → Leaves D.moment D.since D.may_leave D.said desk.old desk.new (D.may_leave desk.old) }
+
         ensures fault { IfErr result (λ fault. OpenFails D.tells (D.reads desk.old) fault) }
         ensures cause { HasCause (D.disk_faults desk.old) (D.disk_faults desk.new) (disk_failure result) }
         ensures others { OnlyDisk D.said D.noted D.say_faults D.note_faults desk.old desk.new }
@@ -107,7 +112,8 @@ impl Kept {
     /// Answers a command that some body spells, whoever sends it, and keeps what it changes in the folder before it answers.
     ///
     /// The reply and what comes after are the machine's: a change without room in the journal is refused as `JournalFull`, and one that
-    /// changes no row is answered at once. Whatever comes of the call, a stop at any moment of it leaves a folder that opens to the state
+    /// changes no row is answered at once. A command that leaves the machine as it was leaves the desk, whole; any other adds the one batch
+    /// of its changes to what the folder stands for, or compacts it. Whatever comes of the call, a stop at any moment of it leaves a folder that opens to the state
     /// before the command or to the one after it. `Spent` comes exactly where the controller is spent, and then nothing was done. A fault
     /// of the disk spends it, and so does want of memory behind the first call on the disk, where the folder opens to the state after
     /// the command; want of memory before that leaves all as it was. `Damaged` never comes. Compact is done by the folder: its rows are
@@ -123,6 +129,11 @@ impl Kept {
         requires stands { self.old.spent ≡ false → IsTrue D.tells → ReadsAs self.old.stored (D.reads desk.old) (D.may_leave desk.old) }
 
         ensures step { IfOk result (λ reply. (reply, machine_of self.new) ≡ step self.old.stored.bounds who.now command.now (machine_of self.old)) }
+        // Where that leaves the machine, as it does where the command is refused, has no room, shows or changes nothing, it leaves the desk,
+        // whole. Any other command adds to the folder exactly the one batch of its changes, or compacts it.
+        ensures still { OnOk result (machine_of self.new ≡ machine_of self.old → desk.new ≡ desk.old) }
+        ensures follows { OnOk result (IsTrue D.tells → Follows (machine_of self.old) (machine_of self.new) (D.reads desk.old) (D.reads desk.new)) }
+
         ensures unspent { OnOk result ((self.old.spent ≡ false) × (self.new.spent ≡ false) × (self.new.stored.bounds ≡ self.old.stored.bounds)) }
         ensures holds { self.new.spent ≡ false → HoldsRows self.new }
         ensures compacted { IfOk result (λ reply. is_compact command.now ≡ true → reply ≡ Done → IsTrue D.tells

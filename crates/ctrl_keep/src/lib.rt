@@ -14,4 +14,4 @@ pub use faults::KeepFault;
 pub use keeper::Kept;
 pub use laws::one_state;
 pub use loading::peek;
-pub use worked::{worked_compactions, worked_machine};
+pub use worked::{worked_batches, worked_compactions, worked_machine};

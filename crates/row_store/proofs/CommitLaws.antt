@@ -7,7 +7,7 @@ use Rattle.ziti_outside.specs.Images.{Image, Else, OnPart, After, IsStable}
 use Rattle.journal_core.specs.Slots.{Slot, IsClosed, IsPayload, ShutOrAdded, added, text_of, slot_end}
 use Rattle.journal_core.proofs.SlotLaws.{slot_closed, slot_added, end-push}
 use Rattle.slot_files.specs.FolderImage.{slot_of, StandsBy, Stands}
-use Rattle.slot_files.proofs.StandLaws.{same_stands, append_stands}
+use Rattle.slot_files.proofs.StandLaws.{one_stands, same_stands, append_stands}
 use Rattle.row_codec.specs.declared.changes.Op.{Op}
 use Rattle.row_codec.specs.RowDifference.{IsTrueDifference}
 use Rattle.row_codec.specs.Batches.{bytes_cmp, entries_of, batch_bytes, IsBatch}
@@ -15,6 +15,7 @@ use Rattle.row_store.specs.declared.faults.StoreFault.{StoreFault}
 use Rattle.row_store.specs.declared.faults.StoreFault.TheVariants.{NoMemory}
 use Rattle.row_store.specs.Faults.{IsKept}
 use Rattle.row_store.specs.BatchRows.{ByteRows, Leads, Give, rows_after}
+use Rattle.row_store.specs.AddedBatches.{AddsBatch}
 use Rattle.row_store.specs.OpenedRows.{OpensTo}
 use Rattle.row_store.specs.StoredRows.{Stored, ReadsAs, with_ops}
 use Rattle.row_store.proofs.BatchLaws.{Leads-of, lead-push}
@@ -73,6 +74,17 @@ commit_stops stored reads images ops r batch d short image p =
       })
     ]
 
+-- The folder stands for one batch more after the append.
+append_longer : (stored : Stored) (reads new : Image) (images : Image → Type 0) (batch : List ℕ) (r : ReadsAs stored reads images) → IsPayload batch
+    → new stored.part ≡ added stored.end (text_of batch) (reads stored.part) → Else stored.part reads new → Stands new (r.kept.batches ++ batch ∷ [])
+append_longer stored reads new images batch r short e others =
+    let longer = r.kept.batches ++ batch ∷ [] in
+    let count : length (new Mark) ≡ stored.mark = ap length (others.same Mark (mark_apart stored.part stored.mark r.kept.part)) ∙ r.kept.mark in
+    let slot : Slot (new stored.part) longer = slot_added (reads stored.part) (new stored.part) batch r.kept.batches (own_slot stored reads images r) short
+    (e ∙ ap (λ (n : ℕ). added n (text_of batch) (reads stored.part)) r.kept.end) in
+    let by_part : Slot (new (slot_of stored.mark)) longer = subst (λ (q : Part). Slot (new q) longer) r.kept.part slot in
+    subst (λ (m : ℕ). StandsBy m new longer) (sym count) (by_slot stored.mark new longer r.some by_part)
+
 -- The folder reads as the store stands after the append.
 pub commit_stands : (stored next : Stored) (reads new : Image) (images later : Image → Type 0) (ops : List Op) → ReadsAs stored reads images → IsBatch ops
     → IsTrueDifference bytes_cmp stored.rows (entries_of ops) → IsPayload (batch_bytes ops)
@@ -84,10 +96,7 @@ commit_stands stored next reads new images later ops r batch d short rows part m
     let apart = mark_apart stored.part stored.mark r.kept.part in
     let same : new Mark ≡ reads Mark = others.same Mark apart in
     let longer = r.kept.batches ++ batch_bytes ops ∷ [] in
-    let slot : Slot (new stored.part) longer = slot_added (reads stored.part) (new stored.part) (batch_bytes ops) r.kept.batches (own_slot stored reads images r) short
-    (e ∙ ap (λ (n : ℕ). added n (text_of (batch_bytes ops)) (reads stored.part)) r.kept.end) in
     let count : length (new Mark) ≡ stored.mark = ap length same ∙ r.kept.mark in
-    let by_part : Slot (new (slot_of stored.mark)) longer = subst (λ (q : Part). Slot (new q) longer) r.kept.part slot in
     let place = r.kept.end in
     let push = end-push (batch_bytes ops) r.kept.batches in
     record {
@@ -96,7 +105,7 @@ commit_stands stored next reads new images later ops r batch d short rows part m
         mark = count ∙ sym mark;
         part = part ∙ r.kept.part ∙ ap slot_of (sym mark);
         batches = longer;
-        stands = subst (λ (m : ℕ). StandsBy m new longer) (sym count) (by_slot stored.mark new longer r.some by_part);
+        stands = append_longer stored reads new images (batch_bytes ops) r short e others;
         give = subst (λ (l : ByteRows). Give longer l) (sym rows)
             (lead-push [] r.kept.batches (batch_bytes ops) stored.rows (rows_after stored.rows ops) r.kept.give (own_lead stored ops batch d));
         end = omega arith;
@@ -134,6 +143,16 @@ seen_stands stored seen next reads new images later ops payload e r batch d f sh
     (end ∙ ap (λ (b : List ℕ). seen.end + 5 + length b) f)
     (added_is ∙ ap (λ (b : List ℕ). added seen.end (text_of b) (reads seen.part)) f) others stable
     (λ image p. subst (λ (b : List ℕ). After (OnPart seen.part (ShutOrAdded seen.end (text_of b))) images image) f (found image p))
+
+-- For whatever batches the folder stood, it stands behind the append for these and the one of the operations.
+pub seen_adds : (stored seen : Stored) (reads new : Image) (images : Image → Type 0) (ops : List Op) (payload : List ℕ) → seen ≡ stored → ReadsAs stored reads images
+    → payload ≡ batch_bytes ops → IsPayload (batch_bytes ops) → new seen.part ≡ added seen.end (text_of payload) (reads seen.part) → Else seen.part reads new → AddsBatch ops reads new
+seen_adds stored seen reads new images ops payload e r f short added_is others =
+    let own : ReadsAs seen reads images = subst (λ (s : Stored). ReadsAs s reads images) (sym e) r in
+    let longer = append_longer seen reads new images (batch_bytes ops) own short (added_is ∙ ap (λ (b : List ℕ). added seen.end (text_of b) (reads seen.part)) f) others in
+    record {
+      behind = λ batches s. subst (λ (l : List (List ℕ)). Stands new (l ++ batch_bytes ops ∷ [])) (one_stands reads own.kept.batches batches own.kept.stands s) longer;
+    }
 
 -- ---- what was kept, whatever came of the rows in memory
 

@@ -1,15 +1,18 @@
 -- The rows of the first identity and the slots that hold them, worked by hand.
-use Rattle.std.proofs.Common.{◌≡◌, ℕ, ◌+◌, ◌^◌, ◌<◌, List, [], ◌∷◌, ◌++◌, length, take, drop, replicate, inl, inr, refl, sym, ap, ◌∙◌, arith}
+use Rattle.std.proofs.Common.{◌≡◌, ℕ, ◌+◌, ◌^◌, ◌<◌, List, [], ◌∷◌, ◌++◌, length, take, drop, replicate, inl, inr, refl, sym, ap, ◌∙◌, subst, arith}
 use Rattle.std.specs.Int.{w32, to_le_bytes, from_le_bytes}
 use Rattle.std.proofs.lemmas.List.{drop_at}
 use Rattle.std.proofs.lemmas.Nat.{from_le_bytes-to_le_bytes_4}
 use Rattle.ziti_outside.specs.declared.desk.Part.TheVariants.{Zero}
 use Rattle.journal_core.specs.Slots.{IsDamaged, record_of}
 use Rattle.journal_core.specs.WorkedSlots.{batch_of_ann, empty_slot, slot_of_ann}
+use Rattle.slot_files.specs.FolderImage.{Stands}
+use Rattle.slot_files.proofs.StandLaws.{one_stands}
 use Rattle.row_codec.specs.declared.changes.Op.{Op}
 use Rattle.row_codec.specs.declared.changes.Op.TheVariants.{Delete}
 use Rattle.row_codec.specs.Batches.{Spells}
 use Rattle.row_store.specs.BatchRows.{Leads, Give}
+use Rattle.row_store.specs.AddedBatches.{AddsBatch}
 use Rattle.row_store.specs.OpenedRows.{OpensTo, IsDamagedAt}
 use Rattle.row_store.specs.CompactedStores.{IsCompacted}
 use Rattle.row_store.specs.WorkedStores.{rows_of_ann, ops_of_ann, folder_of, deletes_absent, slot_with_deletion, store_of_ann, store_of_none, second_alone, old_second}
@@ -28,12 +31,11 @@ ann_leads = Leads-of [] rows_of_ann batch_of_ann ops_of_ann ann_spells (record {
 pub ann_gives : Give (batch_of_ann ∷ []) rows_of_ann
 ann_gives = (rows_of_ann, ann_leads, refl)
 
+ann_stands : Stands (folder_of slot_of_ann) (batch_of_ann ∷ [])
+ann_stands = record { gate = 0; more = []; split = refl; closed = λ e. absurd (omega (arith, e)); short = (omega arith, tt) }
+
 pub ann_opens : OpensTo (folder_of slot_of_ann) rows_of_ann
-ann_opens = record {
-  batches = batch_of_ann ∷ [];
-  stands = record { gate = 0; more = []; split = refl; closed = λ e. absurd (omega (arith, e)); short = (omega arith, tt) };
-  give = ann_gives;
-}
+ann_opens = record { batches = batch_of_ann ∷ []; stands = ann_stands; give = ann_gives }
 
 -- An open gate with a length behind it that passes the end is damage.
 cut_record : (at n : ℕ) (bytes rest : List ℕ) → drop at bytes ≡ 1 ∷ (to_le_bytes w32 n ++ rest) → n < 2 ^ 32 → length bytes < at + 5 + n → IsDamaged at bytes
@@ -125,3 +127,22 @@ none_compacted = record {
 
 pub second_opens : OpensTo (second_alone slot_of_ann) rows_of_ann
 second_opens = record { batches = batch_of_ann ∷ []; stands = ann_compacted.stands; give = ann_gives }
+
+-- ---- a batch added
+
+-- A created folder stands for nothing.
+created_stands : Stands (folder_of empty_slot) []
+created_stands = record { gate = 0; more = []; split = refl; closed = λ e. absurd (omega (arith, e)); short = tt }
+
+pub ann_added : AddsBatch ops_of_ann (folder_of empty_slot) (folder_of slot_of_ann)
+ann_added = record {
+  behind = λ batches s. subst (λ (b : List (List ℕ)). Stands (folder_of slot_of_ann) (b ++ batch_of_ann ∷ []))
+      (one_stands (folder_of empty_slot) [] batches created_stands s) ann_stands;
+}
+
+pub none_added : AddsBatch ops_of_ann (folder_of empty_slot) (folder_of empty_slot) → ⊥
+none_added a = let e = one_stands (folder_of empty_slot) [] (batch_of_ann ∷ []) created_stands (a.behind [] created_stands) in cc
+
+pub again_added : AddsBatch ops_of_ann (folder_of slot_of_ann) (folder_of slot_of_ann) → ⊥
+again_added a =
+    let e = one_stands (folder_of slot_of_ann) (batch_of_ann ∷ []) (batch_of_ann ∷ batch_of_ann ∷ []) ann_stands (a.behind (batch_of_ann ∷ []) ann_stands) in cc

@@ -1,4 +1,5 @@
 pub mod BatchRows
+pub mod AddedBatches
 pub mod Changes
 pub mod OpenedRows
 pub mod StoredRows

@@ -20,4 +20,6 @@ pub use bounds::StoreBounds;
 pub use faults::StoreFault;
 pub use laws::{one_opening, own_store, reading_stands};
 pub use store::Store;
-pub use worked::{worked_commands, worked_compactions, worked_damage, worked_folders, worked_rows};
+pub use worked::{
+    worked_commands, worked_commits, worked_compactions, worked_damage, worked_folders, worked_rows,
+};

@@ -29,6 +29,7 @@ pub(crate) fn settle<D: Desk>(desk: &mut D) -> Result<Standing, StoreFault>
     ensures opens { OnOk result (IsTrue D.tells → Opens (length (D.reads desk.old Mark)) (D.reads desk.old) (D.reads desk.new)) }
     ensures kept { IsTrue D.tells → 0 < length (D.reads desk.old Mark) → D.reads desk.new ≡ D.reads desk.old }
     ensures second { D.reads desk.new One ≡ D.reads desk.old One }
+    ensures unwritten { IsTrue D.tells → 0 < length (D.reads desk.old Mark) → Leaves D.moment D.since D.may_leave D.said desk.old desk.new (D.may_leave desk.old) }
     ensures fault { IfErr result (λ fault. OpenFails D.tells (D.reads desk.old) fault) }
     ensures cause { HasCause (D.disk_faults desk.old) (D.disk_faults desk.new) (disk_failure result) }
     ensures others { OnlyDisk D.said D.noted D.say_faults D.note_faults desk.old desk.new }

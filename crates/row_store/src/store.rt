@@ -10,6 +10,7 @@ ghost use Rattle.slot_files.specs.FolderImage.{StandsAsBefore};
 ghost use Rattle.slot_files.specs.OpenedSlots.{Opens};
 ghost use Rattle.row_codec.specs.RowDifference.{Rises, value_at, IsTrueDifference};
 ghost use Rattle.row_codec.specs.Batches.{bytes_cmp, IsBatch, entries_of};
+ghost use Rattle.row_store.specs.AddedBatches.{AddsBatch};
 ghost use Rattle.row_store.specs.BatchRows.{rows_after, puts, puts_of};
 ghost use Rattle.row_store.specs.OpenedRows.{OpensTo};
 ghost use Rattle.row_store.specs.StoredRows.{IsStoreOf, ReadsAs, with_ops, without_rows};
@@ -89,6 +90,10 @@ impl Store {
         // A folder whose mark is not empty reads as before, whatever comes of the call; and the second slot always does.
         ensures kept { IsTrue D.tells → 0 < length (D.reads desk.old Mark) → D.reads desk.new ≡ D.reads desk.old }
         ensures second { D.reads desk.new One ≡ D.reads desk.old One }
+
+        // Nor does a stop leave anything else of such a folder: each image, at every moment of the call and after it, is one that a stop
+        // might have left before.
+        ensures unwritten { IsTrue D.tells → 0 < length (D.reads desk.old Mark) → Leaves D.moment D.since D.may_leave D.said desk.old desk.new (D.may_leave desk.old) }
 
         ensures fault { IfErr result (λ fault. OpenFails D.tells (D.reads desk.old) fault) }
         ensures cause { HasCause (D.disk_faults desk.old) (D.disk_faults desk.new) (disk_failure result) }
@@ -198,7 +203,8 @@ impl Store {
         self.spent
     }
 
-    /// Keeps a batch of changes: appends it to the slot that stands, and makes its changes in the rows.
+    /// Keeps a batch of changes: appends it to the slot that stands, and makes its changes in the rows. The folder stands for this one
+    /// batch more.
     ///
     /// Whatever comes of it, a stop at any moment of the call leaves a folder that opens to the rows before it or to those after it.
     /// Spent comes exactly where the store is spent, and Full exactly where it is not and the slot would pass its bound, before any
@@ -212,6 +218,7 @@ impl Store {
         requires stands { self.old.spent ≡ false → IsTrue D.tells → ReadsAs self.old (D.reads desk.old) (D.may_leave desk.old) }
 
         ensures kept { OnOk result (MayCommit self.old batch.now × (self.new ≡ with_ops self.old batch.now)) }
+        ensures added { OnOk result (IsTrue D.tells → AddsBatch batch.now (D.reads desk.old) (D.reads desk.new)) }
         ensures fault { IfErr result (λ fault. CommitFails batch.now self.old self.new desk.old desk.new fault) }
         ensures stands { self.new.spent ≡ false → IsTrue D.tells → ReadsAs self.new (D.reads desk.new) (D.may_leave desk.new) }
         ensures behind { IsErrOf result StoreFault.NoMemory → self.old.spent ≡ false → self.new.spent ≡ true → IsTrue D.tells → (image : Image)

@@ -5,6 +5,7 @@ ghost use Rattle.ziti_outside.specs.declared.desk.Part.TheVariants.{Zero, One};
 ghost use Rattle.journal_core.specs.WorkedSlots.{batch_of_ann, empty_slot, slot_of_ann};
 ghost use Rattle.slot_files.specs.WorkedFolders.{no_files, slot_without_mark};
 ghost use Rattle.row_codec.specs.Batches.{batch_between, batch_bytes, Spells};
+ghost use Rattle.row_store.specs.AddedBatches.{AddsBatch};
 ghost use Rattle.row_store.specs.BatchRows.{Leads, Give, rows_after, puts_of};
 ghost use Rattle.row_store.specs.OpenedRows.{OpensTo, IsDamagedAt};
 ghost use Rattle.row_store.specs.WorkedStores.{rows_of_ann, ops_of_ann, key_of_ann, value_of_ann, folder_of, deletes_absent, slot_with_deletion, store_of_ann, store_of_none, second_alone, old_second};
@@ -27,6 +28,13 @@ pub fn worked_folders()
     ensures no_files { OpensTo no_files [] }
     ensures without_mark { OpensTo slot_without_mark [] }
     ensures of_ann { OpensTo (folder_of slot_of_ann) rows_of_ann }
+{}
+
+/// What keeping a batch makes of a folder, worked by hand: behind no batches the first one stands alone, and once.
+pub fn worked_commits()
+    ensures added { AddsBatch ops_of_ann (folder_of empty_slot) (folder_of slot_of_ann) }
+    ensures not_added { AddsBatch ops_of_ann (folder_of empty_slot) (folder_of empty_slot) → ⊥ }
+    ensures added_again { AddsBatch ops_of_ann (folder_of slot_of_ann) (folder_of slot_of_ann) → ⊥ }
 {}
 
 /// Where folders are damaged, worked by hand: the record that a cut slot lacks, the gate that it lacks, a slot without a header,

@@ -42,7 +42,8 @@ fn create<D: Desk>(desk: &mut D) -> Result<Standing, Failed>
 /// the mark is empty.
 ///
 /// `Damaged` comes as `peek` has it, and then the folder reads as before. At every moment of the call, and after it, an image that
-/// a stop may leave stands for what an image of its start stood for. `MarkFull` never comes.
+/// a stop may leave stands for what an image of its start stood for, and where the mark is not empty it is one of them. `MarkFull`
+/// never comes.
 pub fn open<D: Desk>(desk: &mut D) -> Result<Standing, SlotFault>
     ensures named { IfOk result IsNamed }
     ensures opened { IfOk result (λ standing. IsTrue D.tells → IsOpened standing (D.reads desk.new) (D.may_leave desk.new)) }
@@ -51,6 +52,10 @@ pub fn open<D: Desk>(desk: &mut D) -> Result<Standing, SlotFault>
     // A folder whose mark is not empty reads as before, whatever comes of the call; and the second slot always does.
     ensures kept { IsTrue D.tells → 0 < length (D.reads desk.old Mark) → D.reads desk.new ≡ D.reads desk.old }
     ensures second { D.reads desk.new One ≡ D.reads desk.old One }
+
+    // Nor does a stop leave anything else of such a folder: each image, at every moment of the call and after it, is one that a stop
+    // might have left before.
+    ensures unwritten { IsTrue D.tells → 0 < length (D.reads desk.old Mark) → Leaves D.moment D.since D.may_leave D.said desk.old desk.new (D.may_leave desk.old) }
 
     ensures fault { IfErr result (λ fault. FindFails D.tells (D.reads desk.old) fault) }
     ensures cause { HasCause (D.disk_faults desk.old) (D.disk_faults desk.new) (disk_failure result) }

@@ -1,10 +1,14 @@
-use Rattle.std.proofs.Common.{inl, Bool, refl, sym, ◌∙◌, subst}
+use Rattle.std.proofs.Common.{◌≡◌, inl, Bool, refl, sym, ap, ◌∙◌, subst}
 use Rattle.ziti_outside.specs.Images.{Image}
 use Rattle.ziti_outside.proofs.MomentLaws.{Leaves-weaker}
+use Rattle.row_codec.specs.Batches.{batch_between}
 use Rattle.ctrl_core.specs.Changes.{led}
+use Rattle.ctrl_core.specs.KeptState.{Cored}
+use Rattle.ctrl_keep.specs.KeptController.{machine_with}
 use Rattle.ctrl_keep.specs.Faults.{KeptOrFull}
 use Rattle.ctrl_keep.proofs.KeptStates.{batch_form, batch_changes, still_opens}
 use Rattle.ctrl_keep.proofs.AdvancedPlans.{can_advance, step_still, step_next, advance_either, advance_next, keeps_next, fails_with_room, advance_fails, keeps_still, same_fault, behind_kept, quiet_stops, step_full}
+use Rattle.ctrl_keep.proofs.FollowedSteps.{follows_still, follows_kept, gate_moved}
 use Rattle.ctrl_keep.proofs.advancing.advance.Goals as goal
 
 pub keep-kept-requires-clause-batch : goal.keep-kept-requires-clause-batch
@@ -56,6 +60,18 @@ returns-in_ok-reply-in-Ok-true-clause-step g c =
     (can_advance c.args.planned c.args.core.now c.args.store.now c.as_slice.result.now c.is_empty.result c.requires.planned c.as_slice.ensures c.is_empty.ensures c.if-is_empty.false) kept.0
     c.in_ok-reply-in-Ok-true.ensures.reply c.in_ok-reply-in-Ok-true.ensures.next kept.1
 
+pub returns-in_ok-reply-in-Ok-true-clause-still : goal.returns-in_ok-reply-in-Ok-true-clause-still
+returns-in_ok-reply-in-Ok-true-clause-still g c = λ same.
+    let kept = subst (λ (b : Bool). KeptOrFull c.args.planned.batch c.args.store.now c.keep-kept.new.store c.args.desk.now c.keep-kept.new.desk b) c.in-Ok-true.field-0-test c.in-Ok-true.ensures.kept in
+    absurd (gate_moved c.args.core.now.state c.apply.new.self.state c.args.planned.batch c.args.store.now c.keep-kept.new.store kept.1 same)
+
+pub returns-in_ok-reply-in-Ok-true-clause-follows : goal.returns-in_ok-reply-in-Ok-true-clause-follows
+returns-in_ok-reply-in-Ok-true-clause-follows g c = λ told.
+    let kept = subst (λ (b : Bool). KeptOrFull c.args.planned.batch c.args.store.now c.keep-kept.new.store c.args.desk.now c.keep-kept.new.desk b) c.in-Ok-true.field-0-test c.in-Ok-true.ensures.kept in
+    let next : c.apply.new.self.state ≡ led c.args.planned c.args.core.now.state = ap (λ (n : Cored). n.state) c.in_ok-reply-in-Ok-true.ensures.next in
+    follows_kept c.args.core.now.state c.apply.new.self.state c.args.planned.batch c.args.store.now c.keep-kept.new.store _ _
+    ((can_advance c.args.planned c.args.core.now c.args.store.now c.as_slice.result.now c.is_empty.result c.requires.planned c.as_slice.ensures c.is_empty.ensures c.if-is_empty.false).batch ∙ ap (batch_between c.args.core.now.state) (sym next)) kept.1 (c.in-Ok-true.ensures.added c.in-Ok-true.field-0-test told)
+
 pub returns-in_ok-reply-in-Ok-true-clause-keeps : goal.returns-in_ok-reply-in-Ok-true-clause-keeps
 returns-in_ok-reply-in-Ok-true-clause-keeps g c = λ fresh.
     let kept = subst (λ (b : Bool). KeptOrFull c.args.planned.batch c.args.store.now c.keep-kept.new.store c.args.desk.now c.keep-kept.new.desk b) c.in-Ok-true.field-0-test c.in-Ok-true.ensures.kept in
@@ -85,3 +101,19 @@ pub returns-then-is_empty-clause-stops : goal.returns-then-is_empty-clause-stops
 returns-then-is_empty-clause-stops g c = λ told.
     quiet_stops c.args.desk.now c.args.desk.now _ refl
     (λ (image : Image) m. inl (still_opens c.args.core.now c.args.store.now (g.D.Desk.reads c.args.desk.now) (g.D.Desk.may_leave c.args.desk.now) c.requires.planned.keeps (c.requires.stands told) image m))
+
+pub returns-in-Ok-false-clause-still : goal.returns-in-Ok-false-clause-still
+returns-in-Ok-false-clause-still g c = λ same.
+    let full = subst (λ (b : Bool). KeptOrFull c.args.planned.batch c.args.store.now c.keep-kept.new.store c.args.desk.now c.keep-kept.new.desk b) c.in-Ok-false.field-0-test c.in-Ok-false.ensures.kept in
+    full.2
+
+pub returns-in-Ok-false-clause-follows : goal.returns-in-Ok-false-clause-follows
+returns-in-Ok-false-clause-follows g c = λ told.
+    let full = subst (λ (b : Bool). KeptOrFull c.args.planned.batch c.args.store.now c.keep-kept.new.store c.args.desk.now c.keep-kept.new.desk b) c.in-Ok-false.field-0-test c.in-Ok-false.ensures.kept in
+    follows_still _ _ _ _ (ap (machine_with c.args.core.now.state) full.1) (ap g.D.Desk.reads full.2)
+
+pub returns-then-is_empty-clause-follows : goal.returns-then-is_empty-clause-follows
+returns-then-is_empty-clause-follows g c = λ told. follows_still _ _ _ _ refl refl
+
+pub returns-then-is_empty-clause-still : goal.returns-then-is_empty-clause-still
+returns-then-is_empty-clause-still g c = λ _. refl

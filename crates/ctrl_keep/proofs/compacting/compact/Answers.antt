@@ -3,6 +3,7 @@ use Rattle.std.specs.Prelude.{IsTrue}
 use Rattle.ziti_outside.proofs.MomentLaws.{Leaves-weaker}
 use Rattle.row_store.specs.CompactedStores.{IsCompacted}
 use Rattle.ctrl_keep.proofs.CompactedStates.{CameTo, came_step, came_unspent, came_done, came_keeps, came_fault, came_fits, came_memory, came_cause, opens_kept, came_room}
+use Rattle.ctrl_keep.proofs.FollowedSteps.{came_still, came_follows}
 use Rattle.ctrl_keep.proofs.compacting.compact.Goals as goal
 
 pub returns-clause-step : goal.returns-clause-step
@@ -16,6 +17,19 @@ returns-clause-unspent g c =
     let came : CameTo c.args.core.now c.args.store.now c.compact-compacted.new.self c.args.desk.now c.compact-compacted.new.desk c.compact-compacted.result =
     record { keeps = c.requires.keeps; done = c.compact-compacted.ensures.compacted; fault = c.compact-compacted.ensures.fault } in
     rw c.reply_of.ensures (rw c.is_spent.ensures (came_unspent c.args.core.now c.args.store.now c.compact-compacted.new.self c.args.desk.now c.compact-compacted.new.desk c.compact-compacted.result came))
+
+pub returns-clause-still : goal.returns-clause-still
+returns-clause-still g c =
+    let came : CameTo c.args.core.now c.args.store.now c.compact-compacted.new.self c.args.desk.now c.compact-compacted.new.desk c.compact-compacted.result =
+    record { keeps = c.requires.keeps; done = c.compact-compacted.ensures.compacted; fault = c.compact-compacted.ensures.fault } in
+    rw c.reply_of.ensures (came_still c.args.core.now c.args.store.now c.compact-compacted.new.self c.args.desk.now c.compact-compacted.new.desk c.compact-compacted.result came)
+
+pub returns-clause-follows : goal.returns-clause-follows
+returns-clause-follows g c =
+    let came : CameTo c.args.core.now c.args.store.now c.compact-compacted.new.self c.args.desk.now c.compact-compacted.new.desk c.compact-compacted.result =
+    record { keeps = c.requires.keeps; done = c.compact-compacted.ensures.compacted; fault = c.compact-compacted.ensures.fault } in
+    rw c.reply_of.ensures (came_follows g.D.Desk.reads (IsTrue g.D.Desk.tells) c.args.core.now c.args.store.now c.compact-compacted.new.self c.args.desk.now c.compact-compacted.new.desk c.compact-compacted.result came
+    c.compact-compacted.ensures.folder)
 
 pub returns-clause-folder : goal.returns-clause-folder
 returns-clause-folder g c =

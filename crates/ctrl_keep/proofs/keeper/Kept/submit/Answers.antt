@@ -12,6 +12,7 @@ use Rattle.ctrl_keep.specs.KeptController.{Controlled, machine_with, machine_of,
 use Rattle.ctrl_keep.proofs.AdvancedPlans.{is_planned, step_is, submit_fails, quiet_stops}
 use Rattle.ctrl_keep.proofs.SubmittedCommands.{still_state, refused_is, either_same, steps_as, never_compacts}
 use Rattle.ctrl_keep.proofs.CompactedStates.{compact_is, still_before, never_spent, folder_of_all, fits_all, fits_none}
+use Rattle.ctrl_keep.proofs.FollowedSteps.{follows_still, still_of_all, follows_of_all}
 use Rattle.ctrl_keep.proofs.keeper.Kept.submit.Goals as goal
 
 pub returns-then-not-permitted-clause-step : goal.returns-then-not-permitted-clause-step
@@ -113,3 +114,29 @@ returns-then-is_compact-clause-fits g c =
 
 pub returns-clause-fits : goal.returns-clause-fits
 returns-clause-fits g c = fits_none c.advance.result c.args.command.now _ _ (sym c.is_compact.ensures ∙ c.if-is_compact.false)
+
+pub returns-then-not-permitted-clause-follows : goal.returns-then-not-permitted-clause-follows
+returns-then-not-permitted-clause-follows g c = λ told. follows_still _ _ _ _ refl refl
+
+pub returns-then-is_compact-clause-still : goal.returns-then-is_compact-clause-still
+returns-then-is_compact-clause-still g c =
+    still_of_all c.compact.result c.args.self.now c.self.inside.core c.self.inside.store c.self.inside.spent (machine_with c.self.inside.core.state c.compact.new.store) _
+    c.self.view_is c.compact.ensures.still
+
+pub returns-then-is_compact-clause-follows : goal.returns-then-is_compact-clause-follows
+returns-then-is_compact-clause-follows g c =
+    follows_of_all c.compact.result c.args.self.now c.self.inside.core c.self.inside.store c.self.inside.spent (machine_with c.self.inside.core.state c.compact.new.store)
+    (IsTrue g.D.Desk.tells) (g.D.Desk.reads c.args.desk.now) (g.D.Desk.reads c.compact.new.desk) c.self.view_is c.compact.ensures.follows
+
+pub returns-clause-still : goal.returns-clause-still
+returns-clause-still g c =
+    still_of_all c.advance.result c.args.self.now c.self.inside.core c.self.inside.store c.self.inside.spent (machine_with c.advance.new.core.state c.advance.new.store) _
+    c.self.view_is c.advance.ensures.still
+
+pub returns-clause-follows : goal.returns-clause-follows
+returns-clause-follows g c =
+    follows_of_all c.advance.result c.args.self.now c.self.inside.core c.self.inside.store c.self.inside.spent (machine_with c.advance.new.core.state c.advance.new.store)
+    (IsTrue g.D.Desk.tells) (g.D.Desk.reads c.args.desk.now) (g.D.Desk.reads c.advance.new.desk) c.self.view_is c.advance.ensures.follows
+
+pub returns-then-not-permitted-clause-still : goal.returns-then-not-permitted-clause-still
+returns-then-not-permitted-clause-still g c = λ _. refl

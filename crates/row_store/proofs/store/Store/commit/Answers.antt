@@ -7,7 +7,7 @@ use Rattle.row_codec.specs.Batches.{batch_bytes}
 use Rattle.row_store.specs.BatchRows.{ArePuttable, rows_after}
 use Rattle.row_store.specs.StoredRows.{Stored}
 use Rattle.row_store.proofs.CompactLaws.{puttable_after}
-use Rattle.row_store.proofs.CommitLaws.{seen_gate, seen_stops, seen_stands, seen_behind, short_batch, kept_none, err_inside}
+use Rattle.row_store.proofs.CommitLaws.{seen_gate, seen_stops, seen_stands, seen_adds, seen_behind, short_batch, kept_none, err_inside}
 use Rattle.row_store.proofs.store.Store.commit.Goals as goal
 
 pub keep-requires-clause-closed : goal.keep-requires-clause-closed
@@ -30,6 +30,14 @@ returns-clause-stands g c = λ unspent told.
     seen_stands _ _ _ _ _ _ _ c.args.batch.now _ c.self.view_is (c.requires.stands fresh told) c.requires.batch (c.requires.changes fresh) c.in_ok-packed.ensures short
     (c.in_ok-self-inside.ensures.rows ∙ ap (rows_after _) c.as_slice-2.ensures) refl refl c.in_ok-self-inside.ensures.next (c.in_ok-self-inside.ensures.added tt told)
     c.keep.ensures.elsewhere (c.in_ok-self-inside.ensures.stable tt) (c.keep.ensures.stops told).found
+
+pub returns-clause-added : goal.returns-clause-added
+returns-clause-added g c = λ told.
+    let fresh : c.args.self.now.spent ≡ false = sym (ap (λ (s : Stored). s.spent) c.self.view_is) ∙ c.if-self.false in
+    let room = subst (λ (ops : List Op). c.self.inside.end + 6 + length (batch_bytes ops) ≤ c.self.inside.bounds.slot) c.as_slice.ensures (c.has_room.ensures.0 c.if-not-has_room.false) in
+    let short : IsPayload (batch_bytes c.args.batch.now) = short_batch c.self.inside.end c.self.inside.bounds.slot (batch_bytes c.args.batch.now) room c.self.invariant.1 in
+    seen_adds _ _ _ _ _ c.args.batch.now _ c.self.view_is (c.requires.stands fresh told) c.in_ok-packed.ensures short
+    (c.in_ok-self-inside.ensures.added tt told) c.keep.ensures.elsewhere
 
 pub returns-clause-stops : goal.returns-clause-stops
 returns-clause-stops g c = λ fresh told.
