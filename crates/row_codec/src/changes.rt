@@ -31,31 +31,30 @@ impl Op {
     }
 }
 
-/// Changes of rows that are made together. Contracts see the list.
+/// A list of changes. Contracts see the list.
 #[derive(Debug, Drop)]
-pub struct Batch {
-    pub items: Vec<Op>,
+pub struct Items<T> {
+    pub items: Vec<T>,
 }
 
-impl Model for Batch {
+impl<T> Model for Items<T> {
     ghost use Rattle.std.specs.Prelude.{List};
-    ghost use Rattle.row_codec.specs.declared.changes.Op.{Op};
 
-    ghost Value = { List Op };
+    ghost Value = { List T };
 
-    ghost view = { λ b. b.items.items };
+    ghost view = { λ l. l.items.items };
 }
 
-impl Batch {
+impl<T> Items<T> {
     /// The changes of a vector.
-    pub fn of(items: Vec<Op>) -> Batch
+    pub fn of(items: Vec<T>) -> Items<T>
         ensures { result ≡ items.items }
     {
-        Batch { items }
+        Items { items }
     }
 
     /// The changes as a slice.
-    pub fn as_slice(&self) -> &[Op]
+    pub fn as_slice(&self) -> &[T]
         ensures { result.now ≡ self.now }
     {
         self.items.as_slice()
@@ -76,6 +75,9 @@ impl Batch {
     }
 }
 
+/// Changes of rows that are made together.
+pub type Batch = Items<Op>;
+
 /// The row at a key before and after a change, where there is one.
 #[derive(Debug, Drop)]
 pub struct Change {
@@ -84,40 +86,5 @@ pub struct Change {
     pub after: Option<Bytes>,
 }
 
-/// Rows before and after a change, key by key. Contracts see the list.
-#[derive(Debug, Drop)]
-pub struct Changes {
-    pub items: Vec<Change>,
-}
-
-impl Model for Changes {
-    ghost use Rattle.std.specs.Prelude.{List};
-    ghost use Rattle.row_codec.specs.declared.changes.Change.{Change};
-
-    ghost Value = { List Change };
-
-    ghost view = { λ c. c.items.items };
-}
-
-impl Changes {
-    /// The changes of a vector.
-    pub fn of(items: Vec<Change>) -> Changes
-        ensures { result ≡ items.items }
-    {
-        Changes { items }
-    }
-
-    /// The changes as a slice.
-    pub fn as_slice(&self) -> &[Change]
-        ensures { result.now ≡ self.now }
-    {
-        self.items.as_slice()
-    }
-
-    /// How many changes there are.
-    pub fn len(&self) -> usize
-        ensures { result ≡ length self.now }
-    {
-        self.items.len()
-    }
-}
+/// Rows before and after a change, key by key.
+pub type Changes = Items<Change>;

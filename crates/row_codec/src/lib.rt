@@ -13,7 +13,7 @@ mod writing;
 
 pub use batch_examples::{worked_batches, worked_changes, worked_no_batches};
 pub use batches::{batch_of, read_batch, write_batch};
-pub use changes::{Batch, Change, Changes, Op};
+pub use changes::{Batch, Change, Changes, Items, Op};
 pub use faults::RowFault;
 pub use fields::{split_byte, split_long, split_part, split_text};
 pub use laws::{batches_of_changes, one_batch};
