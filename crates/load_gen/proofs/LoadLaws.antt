@@ -4,9 +4,11 @@ use Rattle.rand_pcg.specs.Lcg.{Lcg}
 use Rattle.channel_frame.specs.declared.frames.Frame.{Frame}
 use Rattle.ctrl_model.specs.declared.commands.Command.{Command}
 use Rattle.load_gen.specs.Draws.{Drawn, draw, ◌>>=◌, both, those, for_each_to, generator_of}
-use Rattle.load_gen.specs.LoadCommands.{whole_load, load_commands}
+use Rattle.load_gen.specs.LoadCommands.{a_router, made_for, whole_load, load_commands}
+use Rattle.load_gen.specs.declared.groups.Group.{Group}
+use Rattle.load_gen.specs.declared.groups.Group.TheVariants.{Routers}
 use Rattle.load_gen.specs.LoadFrames.{frame_at, frames_from, load_frames, AreMeant}
-use Rattle.load_gen.specs.LoadSteps.{Pushes, Adds}
+use Rattle.load_gen.specs.LoadSteps.{Pushes, Adds, IsDrawn}
 
 pub length-frames_from : (place : ℕ) (cs : List Command) → length (frames_from place cs) ≡ length cs
 length-frames_from place [] = refl
@@ -74,14 +76,23 @@ adds_one_more make n f0 f1 f2 g0 g1 g2 a b =
     let whole : Adds f0 g0 f2 g2 (for_each_to (suc n) make) = adds_both f0 f1 f2 g0 g1 g2 (for_each_to n make) (make (suc n)) a next in
     subst (λ m. Adds f0 g0 f2 g2 (for_each_to m make)) same whole
 
--- What is added behind a draw.
-pub after_draw : (k : ℕ) (make : ℕ → Drawn (List Command)) (f0 f1 : List Frame) (g0 g1 g2 : Lcg) (x : ℕ) → x ≡ (draw k g0).0 → g1 ≡ (draw k g0).1 → Adds f0 g1 f1 g2 (make x)
-    → Adds f0 g0 f1 g2 (draw k >>= make)
-after_draw k make f0 f1 g0 g1 g2 x e h a = record {
-  frames = a.frames ∙ ap₂ (λ y g. f0 ++ frames_from (length f0) (make y g).0) e h;
-  generator = a.generator ∙ ap₂ (λ y g. (make y g).1) e h;
-  meant = subst AreMeant (ap₂ (λ y g. (make y g).0) e h) a.meant;
+-- What is drawn behind a draw.
+pub drawn_behind : (k : ℕ) (make : ℕ → Drawn (List Command)) (g0 g1 g2 : Lcg) (x : ℕ) (c : Command) → x ≡ (draw k g0).0 → g1 ≡ (draw k g0).1 → IsDrawn (make x) g1 g2 c
+    → IsDrawn (draw k >>= make) g0 g2 c
+drawn_behind k make g0 g1 g2 x c e h d = record {
+  drawn = d.drawn ∙ ap₂ (λ y g. (make y g).0) e h;
+  generator = d.generator ∙ ap₂ (λ y g. (make y g).1) e h;
+  spelled = d.spelled;
 }
+
+-- The command that was drawn was pushed.
+pub adds_drawn : (f0 f1 : List Frame) (g0 g1 : Lcg) (c : Command) (d : Drawn (List Command)) → Pushes f0 f1 (c ∷ []) → IsDrawn d g0 g1 c → Adds f0 g0 f1 g1 d
+adds_drawn f0 f1 g0 g1 c d p is = adds_pushed f0 f1 (c ∷ []) g0 g1 d p is.drawn is.generator
+
+-- The commands of a router were added.
+pub adds_routers : (f0 f1 : List Frame) (g0 g1 g2 : Lcg) (group : Group) (i : ℕ) → group ≡ Routers → g1 ≡ g0 → Adds f0 g1 f1 g2 (a_router i) → Adds f0 g0 f1 g2 (made_for group i)
+adds_routers f0 f1 g0 g1 g2 group i is same a =
+    subst (λ k. Adds f0 g0 f1 g2 (made_for k i)) (sym is) (subst (λ g. Adds f0 g f1 g2 (a_router i)) same a)
 
 -- From no frames and the generator of a number the whole load is added.
 pub the_load : (f0 f1 : List Frame) (g0 g1 : Lcg) (n : ℕ) → f0 ≡ [] → g0 ≡ generator_of n → Adds f0 g0 f1 g1 whole_load → (f1 ≡ load_frames n) × AreMeant (load_commands n)

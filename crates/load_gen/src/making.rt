@@ -1,9 +1,9 @@
-ghost use Rattle.std.specs.Prelude.{◌≡◌, ◌<◌, ◌==◌, ◌∷◌, [], codes, if◌then◌else◌, IfOk, OnOk};
+ghost use Rattle.std.specs.Prelude.{◌≡◌, ◌<◌, ◌==◌, ◌∷◌, [], codes, if◌then◌else◌, IfOk, OnOk, MatchOption};
 ghost use Rattle.ctrl_model.specs.declared.commands.Command.TheVariants as command;
 ghost use Rattle.load_gen.specs.Draws.{for_each_to};
 ghost use Rattle.load_gen.specs.LoadCommands.{numbered, an_identity, a_service, a_router, a_link, a_service_policy, an_edge_router_policy, a_service_edge_router_policy, a_terminator, a_request, request_of, a_circuit, a_changed_identity, a_changed_cost, a_disconnection, a_connection, made_for, whole_load, load_commands};
 ghost use Rattle.load_gen.specs.LoadFrames.{load_frames, AreMeant};
-ghost use Rattle.load_gen.specs.LoadSteps.{Adds, Pushes};
+ghost use Rattle.load_gen.specs.LoadSteps.{Adds, IsDrawn, Pushes};
 
 use crate::drawing::{draw, push};
 use crate::groups::Group;
@@ -16,33 +16,23 @@ use rand_core::SeedableRng;
 use rand_pcg::Lcg64Xsh32;
 use std::alloc::{AllocError, Global};
 
-fn add_identity(
-    alloc: Global,
-    rng: &mut Lcg64Xsh32,
-    frames: &mut Vec<Frame>,
-    i: u32,
-) -> Result<(), AllocError>
-    ensures { OnOk result (Adds frames.old.items rng.old frames.new.items rng.new (an_identity i)) }
+fn identity(alloc: Global, rng: &mut Lcg64Xsh32, i: u32) -> Result<Command, AllocError>
+    ensures { IfOk result (λ c. IsDrawn (an_identity i) rng.old rng.new c) }
 {
     let g = draw(rng, 8);
     let h = draw(rng, 8);
     let name = numbered(alloc, "u", i)?;
     let attributes = two_attributes(alloc, g, h)?;
-    push(alloc, frames, Command::CreateIdentity { name, attributes })
+    Ok(Command::CreateIdentity { name, attributes })
 }
 
-fn add_service(
-    alloc: Global,
-    rng: &mut Lcg64Xsh32,
-    frames: &mut Vec<Frame>,
-    i: u32,
-) -> Result<(), AllocError>
-    ensures { OnOk result (Adds frames.old.items rng.old frames.new.items rng.new (a_service i)) }
+fn service(alloc: Global, rng: &mut Lcg64Xsh32, i: u32) -> Result<Command, AllocError>
+    ensures { IfOk result (λ c. IsDrawn (a_service i) rng.old rng.new c) }
 {
     let c = draw(rng, 4);
     let name = numbered(alloc, "s", i)?;
     let attributes = one_attribute(alloc, "c", c)?;
-    push(alloc, frames, Command::CreateService { name, attributes })
+    Ok(Command::CreateService { name, attributes })
 }
 
 fn push_made_router(
@@ -93,13 +83,8 @@ fn add_router(
     push_connected_router(alloc, frames, i)
 }
 
-fn add_link(
-    alloc: Global,
-    rng: &mut Lcg64Xsh32,
-    frames: &mut Vec<Frame>,
-    i: u32,
-) -> Result<(), AllocError>
-    ensures { OnOk result (Adds frames.old.items rng.old frames.new.items rng.new (a_link i)) }
+fn link(alloc: Global, rng: &mut Lcg64Xsh32, i: u32) -> Result<Command, AllocError>
+    ensures { IfOk result (λ c. IsDrawn (a_link i) rng.old rng.new c) }
 {
     let first = draw(rng, 12);
     let second = draw(rng, 12);
@@ -107,18 +92,14 @@ fn add_link(
     let name = numbered(alloc, "l", i)?;
     let a = numbered(alloc, "r", 1 + first)?;
     let b = numbered(alloc, "r", 1 + second)?;
-    push(
-        alloc,
-        frames,
-        Command::CreateLink {
-            name,
-            a,
-            b,
-            cost: 1 + cost,
-            latency_a: 0,
-            latency_b: 0,
-        },
-    )
+    Ok(Command::CreateLink {
+        name,
+        a,
+        b,
+        cost: 1 + cost,
+        latency_a: 0,
+        latency_b: 0,
+    })
 }
 
 fn relation_of(drawn: u32) -> Relation
@@ -141,13 +122,8 @@ fn semantic_of(drawn: u32) -> Semantic
     }
 }
 
-fn add_service_policy(
-    alloc: Global,
-    rng: &mut Lcg64Xsh32,
-    frames: &mut Vec<Frame>,
-    i: u32,
-) -> Result<(), AllocError>
-    ensures { OnOk result (Adds frames.old.items rng.old frames.new.items rng.new (a_service_policy i)) }
+fn service_policy(alloc: Global, rng: &mut Lcg64Xsh32, i: u32) -> Result<Command, AllocError>
+    ensures { IfOk result (λ c. IsDrawn (a_service_policy i) rng.old rng.new c) }
 {
     let relation = draw(rng, 4);
     let semantic = draw(rng, 2);
@@ -159,26 +135,17 @@ fn add_service_policy(
     let right = one_attribute(alloc, "c", c)?;
     let identity_roles = with_attributes(alloc, left);
     let service_roles = with_attributes(alloc, right);
-    push(
-        alloc,
-        frames,
-        Command::CreateServicePolicy {
-            name,
-            relation: relation_of(relation),
-            semantic: semantic_of(semantic),
-            identity_roles,
-            service_roles,
-        },
-    )
+    Ok(Command::CreateServicePolicy {
+        name,
+        relation: relation_of(relation),
+        semantic: semantic_of(semantic),
+        identity_roles,
+        service_roles,
+    })
 }
 
-fn add_edge_router_policy(
-    alloc: Global,
-    rng: &mut Lcg64Xsh32,
-    frames: &mut Vec<Frame>,
-    i: u32,
-) -> Result<(), AllocError>
-    ensures { OnOk result (Adds frames.old.items rng.old frames.new.items rng.new (an_edge_router_policy i)) }
+fn edge_router_policy(alloc: Global, rng: &mut Lcg64Xsh32, i: u32) -> Result<Command, AllocError>
+    ensures { IfOk result (λ c. IsDrawn (an_edge_router_policy i) rng.old rng.new c) }
 {
     let g = draw(rng, 8);
     let e = draw(rng, 3);
@@ -187,49 +154,36 @@ fn add_edge_router_policy(
     let right = one_attribute(alloc, "e", e)?;
     let identity_roles = with_attributes(alloc, left);
     let router_roles = with_attributes(alloc, right);
-    push(
-        alloc,
-        frames,
-        Command::CreateEdgeRouterPolicy {
-            name,
-            semantic: Semantic::AnyOf,
-            identity_roles,
-            router_roles,
-        },
-    )
+    Ok(Command::CreateEdgeRouterPolicy {
+        name,
+        semantic: Semantic::AnyOf,
+        identity_roles,
+        router_roles,
+    })
 }
 
-fn add_service_edge_router_policy(
+fn service_edge_router_policy(
     alloc: Global,
     rng: &mut Lcg64Xsh32,
-    frames: &mut Vec<Frame>,
     i: u32,
-) -> Result<(), AllocError>
-    ensures { OnOk result (Adds frames.old.items rng.old frames.new.items rng.new (a_service_edge_router_policy i)) }
+) -> Result<Command, AllocError>
+    ensures { IfOk result (λ c. IsDrawn (a_service_edge_router_policy i) rng.old rng.new c) }
 {
     let c = draw(rng, 4);
     let name = numbered(alloc, "f", i)?;
     let left = one_attribute(alloc, "c", c)?;
     let service_roles = with_attributes(alloc, left);
     let router_roles = everything(alloc);
-    push(
-        alloc,
-        frames,
-        Command::CreateServiceEdgeRouterPolicy {
-            name,
-            semantic: Semantic::AnyOf,
-            service_roles,
-            router_roles,
-        },
-    )
+    Ok(Command::CreateServiceEdgeRouterPolicy {
+        name,
+        semantic: Semantic::AnyOf,
+        service_roles,
+        router_roles,
+    })
 }
 
-fn add_terminator(
-    alloc: Global,
-    rng: &mut Lcg64Xsh32,
-    frames: &mut Vec<Frame>,
-) -> Result<(), AllocError>
-    ensures { OnOk result (Adds frames.old.items rng.old frames.new.items rng.new a_terminator) }
+fn terminator(alloc: Global, rng: &mut Lcg64Xsh32) -> Result<Command, AllocError>
+    ensures { IfOk result (λ c. IsDrawn a_terminator rng.old rng.new c) }
 {
     let s = draw(rng, 40);
     let r = draw(rng, 12);
@@ -237,133 +191,114 @@ fn add_terminator(
     let service = numbered(alloc, "s", 1 + s)?;
     let router = numbered(alloc, "r", 1 + r)?;
     let instance = no_instance(alloc)?;
-    push(
-        alloc,
-        frames,
-        Command::CreateTerminator {
-            service,
-            router,
-            instance,
-            host: None,
-            cost,
-            precedence: Precedence::Normal,
-        },
-    )
+    Ok(Command::CreateTerminator {
+        service,
+        router,
+        instance,
+        host: None,
+        cost,
+        precedence: Precedence::Normal,
+    })
 }
 
-fn add_circuit(
-    alloc: Global,
-    rng: &mut Lcg64Xsh32,
-    frames: &mut Vec<Frame>,
-) -> Result<(), AllocError>
-    ensures { OnOk result (Adds frames.old.items rng.old frames.new.items rng.new a_circuit) }
+fn circuit(alloc: Global, rng: &mut Lcg64Xsh32) -> Result<Command, AllocError>
+    ensures { IfOk result (λ c. IsDrawn a_circuit rng.old rng.new c) }
 {
     let u = draw(rng, 200);
     let s = draw(rng, 40);
     let identity = numbered(alloc, "u", 1 + u)?;
     let service = numbered(alloc, "s", 1 + s)?;
     let instance = no_instance(alloc)?;
-    push(
-        alloc,
-        frames,
-        Command::CreateCircuit {
-            identity,
-            service,
-            ingress: None,
-            instance,
-        },
-    )
+    Ok(Command::CreateCircuit {
+        identity,
+        service,
+        ingress: None,
+        instance,
+    })
 }
 
-fn add_changed_identity(
-    alloc: Global,
-    rng: &mut Lcg64Xsh32,
-    frames: &mut Vec<Frame>,
-) -> Result<(), AllocError>
-    ensures { OnOk result (Adds frames.old.items rng.old frames.new.items rng.new a_changed_identity) }
+fn changed_identity(alloc: Global, rng: &mut Lcg64Xsh32) -> Result<Command, AllocError>
+    ensures { IfOk result (λ c. IsDrawn a_changed_identity rng.old rng.new c) }
 {
     let u = draw(rng, 200);
     let g = draw(rng, 8);
     let h = draw(rng, 8);
     let name = numbered(alloc, "u", 1 + u)?;
     let attributes = two_attributes(alloc, g, h)?;
-    push(alloc, frames, Command::UpdateIdentity { name, attributes })
+    Ok(Command::UpdateIdentity { name, attributes })
 }
 
-fn add_changed_cost(
-    alloc: Global,
-    rng: &mut Lcg64Xsh32,
-    frames: &mut Vec<Frame>,
-) -> Result<(), AllocError>
-    ensures { OnOk result (Adds frames.old.items rng.old frames.new.items rng.new a_changed_cost) }
+fn changed_cost(alloc: Global, rng: &mut Lcg64Xsh32) -> Result<Command, AllocError>
+    ensures { IfOk result (λ c. IsDrawn a_changed_cost rng.old rng.new c) }
 {
     let l = draw(rng, 30);
     let cost = draw(rng, 100);
     let link = numbered(alloc, "l", 1 + l)?;
-    push(
-        alloc,
-        frames,
-        Command::SetLinkCost {
-            link,
-            cost: 1 + cost,
-        },
-    )
+    Ok(Command::SetLinkCost {
+        link,
+        cost: 1 + cost,
+    })
 }
 
-fn add_disconnection(
-    alloc: Global,
-    rng: &mut Lcg64Xsh32,
-    frames: &mut Vec<Frame>,
-) -> Result<(), AllocError>
-    ensures { OnOk result (Adds frames.old.items rng.old frames.new.items rng.new a_disconnection) }
+fn disconnection(alloc: Global, rng: &mut Lcg64Xsh32) -> Result<Command, AllocError>
+    ensures { IfOk result (λ c. IsDrawn a_disconnection rng.old rng.new c) }
 {
     let r = draw(rng, 12);
     let name = numbered(alloc, "r", 1 + r)?;
-    push(alloc, frames, Command::DisconnectRouter { name })
+    Ok(Command::DisconnectRouter { name })
 }
 
-fn add_connection(
-    alloc: Global,
-    rng: &mut Lcg64Xsh32,
-    frames: &mut Vec<Frame>,
-) -> Result<(), AllocError>
-    ensures { OnOk result (Adds frames.old.items rng.old frames.new.items rng.new a_connection) }
+fn connection(alloc: Global, rng: &mut Lcg64Xsh32) -> Result<Command, AllocError>
+    ensures { IfOk result (λ c. IsDrawn a_connection rng.old rng.new c) }
 {
     let r = draw(rng, 12);
     let name = numbered(alloc, "r", 1 + r)?;
-    push(alloc, frames, Command::ConnectRouter { name })
+    Ok(Command::ConnectRouter { name })
 }
 
-fn add_request_of(
-    alloc: Global,
-    rng: &mut Lcg64Xsh32,
-    frames: &mut Vec<Frame>,
-    kind: u32,
-) -> Result<(), AllocError>
-    ensures { OnOk result (Adds frames.old.items rng.old frames.new.items rng.new (request_of kind)) }
+fn request_of(alloc: Global, rng: &mut Lcg64Xsh32, kind: u32) -> Result<Command, AllocError>
+    ensures { IfOk result (λ c. IsDrawn (request_of kind) rng.old rng.new c) }
 {
     if kind <= 5 {
-        add_circuit(alloc, rng, frames)
+        circuit(alloc, rng)
     } else if kind == 6 {
-        add_changed_identity(alloc, rng, frames)
+        changed_identity(alloc, rng)
     } else if kind == 7 {
-        add_changed_cost(alloc, rng, frames)
+        changed_cost(alloc, rng)
     } else if kind == 8 {
-        add_disconnection(alloc, rng, frames)
+        disconnection(alloc, rng)
     } else {
-        add_connection(alloc, rng, frames)
+        connection(alloc, rng)
     }
 }
 
-fn add_request(
-    alloc: Global,
-    rng: &mut Lcg64Xsh32,
-    frames: &mut Vec<Frame>,
-) -> Result<(), AllocError>
-    ensures { OnOk result (Adds frames.old.items rng.old frames.new.items rng.new a_request) }
+fn request(alloc: Global, rng: &mut Lcg64Xsh32) -> Result<Command, AllocError>
+    ensures { IfOk result (λ c. IsDrawn a_request rng.old rng.new c) }
 {
     let kind = draw(rng, 10);
-    add_request_of(alloc, rng, frames, kind)
+    request_of(alloc, rng, kind)
+}
+
+// The one command of a place in a group. None is drawn for a router, which has two.
+fn one_for(
+    alloc: Global,
+    rng: &mut Lcg64Xsh32,
+    group: Group,
+    i: u32,
+) -> Result<Option<Command>, AllocError>
+    ensures { IfOk result (λ o. MatchOption o ((group ≡ Group.Routers) × (rng.new ≡ rng.old)) (λ c. IsDrawn (made_for group i) rng.old rng.new c)) }
+{
+    match group {
+        Group::Identities => Ok(Some(identity(alloc, rng, i)?)),
+        Group::Services => Ok(Some(service(alloc, rng, i)?)),
+        Group::Routers => Ok(None),
+        Group::Links => Ok(Some(link(alloc, rng, i)?)),
+        Group::ServicePolicies => Ok(Some(service_policy(alloc, rng, i)?)),
+        Group::EdgeRouterPolicies => Ok(Some(edge_router_policy(alloc, rng, i)?)),
+        Group::ServiceEdgeRouterPolicies => Ok(Some(service_edge_router_policy(alloc, rng, i)?)),
+        Group::Terminators => Ok(Some(terminator(alloc, rng)?)),
+        Group::Requests => Ok(Some(request(alloc, rng)?)),
+    }
 }
 
 // What is made for a place in a group.
@@ -376,16 +311,9 @@ fn add_for(
 ) -> Result<(), AllocError>
     ensures { OnOk result (Adds frames.old.items rng.old frames.new.items rng.new (made_for group i)) }
 {
-    match group {
-        Group::Identities => add_identity(alloc, rng, frames, i),
-        Group::Services => add_service(alloc, rng, frames, i),
-        Group::Routers => add_router(alloc, rng, frames, i),
-        Group::Links => add_link(alloc, rng, frames, i),
-        Group::ServicePolicies => add_service_policy(alloc, rng, frames, i),
-        Group::EdgeRouterPolicies => add_edge_router_policy(alloc, rng, frames, i),
-        Group::ServiceEdgeRouterPolicies => add_service_edge_router_policy(alloc, rng, frames, i),
-        Group::Terminators => add_terminator(alloc, rng, frames),
-        Group::Requests => add_request(alloc, rng, frames),
+    match one_for(alloc, rng, group, i)? {
+        Some(command) => push(alloc, frames, command),
+        None => add_router(alloc, rng, frames, i),
     }
 }
 
