@@ -14,3 +14,4 @@ pub mod GrantLaws
 pub mod BestClaimLaws
 pub mod PresentLaws
 pub mod CircuitPlanLaws
+pub mod CheckLaws

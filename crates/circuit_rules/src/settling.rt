@@ -1,13 +1,25 @@
-ghost use Rattle.std.specs.Prelude.{◌≡◌};
+ghost use Rattle.std.specs.Prelude.{◌≡◌, map, IfOk, IsTrue};
 ghost use Rattle.std.specs.List.{list_all};
 ghost use Rattle.ctrl_model.specs.Networks.{hops};
-ghost use Rattle.ctrl_model.specs.Numbered.{numbers};
+ghost use Rattle.ctrl_model.specs.CommandForm.{is_cost};
+ghost use Rattle.ctrl_model.specs.Numbered.{numbers, Between};
 ghost use Rattle.ctrl_model.specs.Claims.{router_numbers, value_at, does_not_improve, is_settled};
+ghost use Rattle.fabric_graph.specs.Routers.{AreRouters, numbered};
+ghost use Rattle.circuit_rules.specs.Searched.{IsGraphOf};
 ghost use Rattle.circuit_rules.specs.Views.{network};
 
+use crate::places::place_in;
 use crate::values::value_at;
 use crate::views::View;
-use ctrl_model::{LinkNo, Reach, RouterNo};
+use ctrl_model::{LinkNo, Reach, RouterNo, RouterSeen};
+use path_certificate::{Graph, check};
+use std::alloc::{AllocError, Global};
+
+/// How many routers there may be.
+const MOST_ROUTERS: usize = 256;
+
+/// The greatest cost of a router.
+const MOST_COST: u32 = 65_535;
 
 // Whether the hop over a link does not improve the value of the router that it leaves.
 fn does_not_improve(
@@ -74,8 +86,8 @@ fn is_settled(view: &View, links: &[u32], entry: &Reach) -> bool
     none_improves(view, links, values, entry.router)
 }
 
-/// Whether each entry is settled.
-pub fn are_settled(view: &View, links: &[u32], entries: &[Reach]) -> bool
+// Whether each entry is settled, judged hop by hop.
+fn are_settled_by_hops(view: &View, links: &[u32], entries: &[Reach]) -> bool
     requires { links.now ≡ numbers view.now.fabric.now.links.rows }
     ensures { result ≡ list_all (is_settled (network view.now)) entries.now }
 {
@@ -85,4 +97,81 @@ pub fn are_settled(view: &View, links: &[u32], entries: &[Reach]) -> bool
         }
     }
     true
+}
+
+// Whether the check over the graph of the links certifies the entry.
+fn is_certified(view: &View, graph: &Graph, entry: &Reach) -> bool
+    requires routers { AreRouters view.now.routers.now }
+    requires graph { IsGraphOf (network view.now) graph.now }
+    ensures { result ≡ is_settled (network view.now) entry.now }
+{
+    let _places = graph.places();
+    let place = place_in(view.routers, entry.router);
+    if place >= view.routers.len() {
+        return false;
+    }
+    let place = place as u16;
+    check(graph, place, &entry.values, place, &[])
+}
+
+// Whether each entry is settled, judged by the check over the graph of the links.
+fn are_certified(view: &View, graph: &Graph, entries: &[Reach]) -> bool
+    requires routers { AreRouters view.now.routers.now }
+    requires graph { IsGraphOf (network view.now) graph.now }
+    ensures { result ≡ list_all (is_settled (network view.now)) entries.now }
+{
+    'entries: for entry in entries {
+        if !is_certified(view, graph, entry) {
+            return false;
+        }
+    }
+    true
+}
+
+// Whether the routers ascend by number.
+fn ascend(routers: &[RouterSeen]) -> bool
+    ensures { IsTrue result → Between 0 4294967296 (map numbered routers.now) }
+{
+    let mut least = 0;
+    'routers: for router in routers {
+        let number = u64::from(router.no.0);
+        if number < least {
+            return false;
+        }
+        least = number + 1;
+    }
+    true
+}
+
+// Whether the cost of each router is in its range.
+fn have_costs(routers: &[RouterSeen]) -> bool
+    ensures { result ≡ list_all (λ r. is_cost r.cost) routers.now }
+{
+    routers.iter().all(|router| router.cost <= MOST_COST)
+}
+
+// Whether the routers are such as have a graph.
+fn are_routers(routers: &[RouterSeen]) -> bool
+    ensures { IsTrue result → AreRouters routers.now }
+{
+    if routers.len() > MOST_ROUTERS {
+        return false;
+    }
+    if !have_costs(routers) {
+        return false;
+    }
+    ascend(routers)
+}
+
+/// Whether each entry is settled: judged by the check over the graph of the links, and hop by hop where the routers are none that
+/// have a graph, which no controller's are.
+pub fn are_settled(alloc: Global, view: &View, entries: &[Reach]) -> Result<bool, AllocError>
+    ensures { IfOk result (λ yes. yes ≡ list_all (is_settled (network view.now)) entries.now) }
+{
+    if are_routers(view.routers) {
+        let graph = view.fabric.graph_of(alloc, view.routers)?;
+        return Ok(are_certified(view, &graph, entries));
+    }
+    let links = view.fabric.numbers(alloc)?;
+    Ok(are_settled_by_hops(view, links.as_slice(), entries))
 }

@@ -1,7 +1,6 @@
 ghost use Rattle.std.specs.Prelude.{◌≡◌, ◌==◌, ◌&&◌, true, IfOk};
 ghost use Rattle.std.specs.List.{list_any};
 ghost use Rattle.ctrl_model.specs.Claims.{is_route, justified, justified_for};
-ghost use Rattle.ctrl_model.specs.Numbered.{numbers};
 ghost use Rattle.fabric_graph.specs.Routers.{AreRouters};
 ghost use Rattle.circuit_rules.specs.BestClaims.{IsBestClaim};
 ghost use Rattle.circuit_rules.specs.Views.{network, asked};
@@ -98,14 +97,13 @@ fn is_justified_by(
     ensures { IfOk result (λ yes. yes ≡ is_justified_by (network view.now) claim.now identity.0 service.0 ingresses.now offers.now offer) }
 {
     let place = place_of(offer.precedence);
-    let links = view.fabric.numbers(alloc)?;
     if !is_entitled(view, claim, identity, service, ingresses, offers) {
         return Ok(false);
     }
     if !is_complete(alloc, view, claim, place, offers)? {
         return Ok(false);
     }
-    if !are_settled(view, links.as_slice(), claim.potentials.as_slice()) {
+    if !are_settled(alloc, view, claim.potentials.as_slice())? {
         return Ok(false);
     }
     Ok(is_unbeaten(view, claim, place, ingresses, offers, offer))

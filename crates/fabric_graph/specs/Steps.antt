@@ -1,12 +1,14 @@
 -- The steps of a graph, made of links: each usable link is a step both ways, and the steps stand by the place that they leave.
 use Rattle.std.specs.Prelude.{ℕ, zero, suc, ◌+◌, ◌==◌, max, cond, List, [], ◌∷◌, ◌++◌, None, Some, option_and_then}
 use Rattle.std.specs.declared.option.Option.{Option}
-use Rattle.std.specs.List.{filter, flat_map}
+use Rattle.std.specs.List.{flat_map}
 use Rattle.std.specs.Option.{option_map, option_map_or}
 use Rattle.ctrl_model.specs.declared.kinds.RouterSeen.{RouterSeen}
 use Rattle.ctrl_model.specs.Networks.{link_cost}
 use Rattle.ctrl_model.specs.State.{Link}
 use Rattle.path_certificate.specs.declared.graph.Step.{Step}
+use Rattle.path_certificate.specs.declared.listing.StepEnd.TheVariants as step_end
+use Rattle.path_certificate.specs.StepLists.{standing}
 use Rattle.fabric_graph.specs.declared.steps.End.{End}
 
 -- The end of a link one place further on.
@@ -45,7 +47,7 @@ all_steps routers least links = flat_map (link_steps routers least) links
 
 -- Those of the steps that leave a place.
 abbrev pub leaving : ℕ → List Step → List Step
-leaving v steps = filter (λ s. s.from == v) steps
+leaving v steps = standing step_end.From v steps
 
 -- Those of the steps that leave the places below a number, in the order of the places.
 abbrev pub by_place : List Step → ℕ → List Step

@@ -5,11 +5,11 @@ ghost use Rattle.ctrl_model.specs.ValidState.{each_passes};
 ghost use Rattle.record_tables.specs.Entries.{KeepsOrder};
 ghost use Rattle.fabric_graph.specs.KeptLinks.{is_fit};
 ghost use Rattle.fabric_graph.specs.Routers.{AreRouters, IsRouterPlace, numbered};
-ghost use Rattle.fabric_graph.specs.Steps.{end_at, link_ends, step_between, link_steps, all_steps, leaving, by_place};
+ghost use Rattle.fabric_graph.specs.Steps.{end_at, link_ends, step_between, link_steps, all_steps, by_place};
 
 use crate::links::LinkRow;
 use ctrl_model::{RouterNo, RouterSeen};
-use path_certificate::Step;
+use path_certificate::{Step, StepEnd, StepLists};
 use record_tables::NamedTable;
 use std::alloc::{AllocError, Global};
 
@@ -127,25 +127,14 @@ pub fn all_steps(
     Ok(steps)
 }
 
-// Adds those of all steps that leave the place.
-fn push_leaving(steps: &mut Vec<Step>, all: &[Step], place: u16) -> Result<(), AllocError>
-    ensures { OnOk result (steps.new.items ≡ steps.old.items ++ leaving place all.now) }
-{
-    'steps: for step in all {
-        if step.from == place {
-            steps.push(*step)?;
-        }
-    }
-    Ok(())
-}
-
 /// The steps by the place that they leave.
 pub fn by_place(alloc: Global, all: &[Step], places: u16) -> Result<Vec<Step>, AllocError>
     ensures { IfOk result (λ v. v.items ≡ by_place all.now places) }
 {
-    let mut steps = Vec::new(alloc);
+    let lists = StepLists::by(alloc, all, places as usize, StepEnd::From)?;
+    let mut steps = Vec::with_capacity(alloc, all.len())?;
     'places: for place in 0..places {
-        push_leaving(&mut steps, all, place)?;
+        steps.extend_from_slice(lists.at(place))?;
     }
     Ok(steps)
 }

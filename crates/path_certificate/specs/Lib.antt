@@ -1,3 +1,4 @@
 pub mod Graphs
 pub mod Certified
 pub mod WorkedGraphs
+pub mod StepLists

@@ -3,11 +3,13 @@
 
 mod checking;
 mod graph;
+mod listing;
 mod worked;
 
 pub use checking::{check, improves, is_tight, reach};
 pub use graph::{Graph, Step};
+pub use listing::{StepEnd, StepLists};
 pub use worked::{
-    line_of_three, middle_not_through, row_for_a_line, shorter_way_beside, target_not_through,
-    two_ways_and_none,
+    line_of_three, middle_not_through, row_for_a_line, shorter_way_beside, steps_at_a_place,
+    target_not_through, two_ways_and_none,
 };

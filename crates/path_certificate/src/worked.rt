@@ -2,7 +2,9 @@ ghost use Rattle.std.specs.Prelude.{◌≡◌, ◌+◌, [], ◌∷◌, None, Som
 ghost use Rattle.ctrl_model.specs.Claims.{no_path};
 ghost use Rattle.path_certificate.specs.Graphs.{IsGraph, graph_hops, none_improves, is_ordered, IsPath, cost_of};
 ghost use Rattle.path_certificate.specs.Certified.{Certified};
+ghost use Rattle.path_certificate.specs.StepLists.{standing};
 ghost use Rattle.path_certificate.specs.WorkedGraphs.{row, blocked_row, triangle, square, single};
+ghost use Rattle.path_certificate.specs.declared.listing.StepEnd.TheVariants as step_end;
 ghost use Rattle.ctrl_model.specs.Mirrors.{Mirrors};
 ghost use Rattle.ctrl_model.specs.Networks.{network_of, hops};
 ghost use Rattle.ctrl_model.specs.Walks.{goes};
@@ -59,4 +61,12 @@ pub fn two_ways_and_none()
 pub fn row_for_a_line()
     ensures graph { IsGraph row.through row.steps }
     ensures same_hops { Mirrors 3 (λ v. v + 1) (graph_hops row 2) (hops (network_of line) 3) }
+{}
+
+/// The steps of the three places in a row that lead to a place, and those that leave it, in the order of the graph.
+pub fn steps_at_a_place()
+    ensures to_the_middle { standing step_end.To 1 row.steps ≡ record { from = 0; to = 1; link = 1; cost = 21 } ∷ record { from = 2; to = 1; link = 2; cost = 21 } ∷ [] }
+    ensures from_the_middle { standing step_end.From 1 row.steps ≡ record { from = 1; to = 0; link = 1; cost = 21 } ∷ record { from = 1; to = 2; link = 2; cost = 21 } ∷ [] }
+    ensures to_the_start { standing step_end.To 0 row.steps ≡ record { from = 1; to = 0; link = 1; cost = 21 } ∷ [] }
+    ensures elsewhere { standing step_end.From 3 row.steps ≡ [] }
 {}

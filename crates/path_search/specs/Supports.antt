@@ -1,7 +1,8 @@
 -- What the private functions of the search keep. No public contract cites it.
-use Rattle.std.specs.Prelude.{◌≡◌, ℕ, ◌+◌, ◌<◌, ◌≤◌, ◌==◌, ◌&&◌, ◌⊎◌, nat_lt, Bool, List, length, Some}
+use Rattle.std.specs.Prelude.{◌≡◌, true, sum, ℕ, ◌+◌, ◌<◌, ◌≤◌, ◌==◌, ◌&&◌, ◌⊎◌, nat_lt, Bool, List, length, Some}
 use Rattle.path_certificate.specs.declared.graph.Step.{Step}
 use Rattle.std.specs.List.{slice_set}
+use Rattle.ctrl_model.specs.Membership.{Among}
 use Rattle.ctrl_model.specs.Claims.{no_path, reach_over}
 use Rattle.path_certificate.specs.Graphs.{GraphSeen, counts, graph_hops, potential}
 
@@ -26,6 +27,27 @@ reached p s = reach_over s.cost (potential p s.to)
 -- The potentials after the start of a step was lowered to what it reaches.
 abbrev pub lowered : List ℕ → Step → List ℕ
 lowered p s = slice_set p s.from (reached p s)
+
+-- What relaxing the steps into a place makes of the potentials: none rises, that of the place is the same, and no counting step into
+-- the place improves one any more.
+pub record Relaxed (g : GraphSeen) (target v : ℕ) (before p : List ℕ) : Type 0 where
+  pub supported : Supported g target p
+  pub falls : (u : ℕ) → potential p u ≤ potential before u
+  pub stays : potential p v ≡ potential before v
+  pub total : sum p ≤ sum before
+  pub settled : (s : Step) → Among s g.steps → s.to ≡ v → counts g.through target s ≡ true → potential p s.from ≤ reached p s
+
+-- No potential is less than the fixed one.
+abbrev pub AllFixed : List ℕ → List ℕ → Type 0
+AllFixed p fixed = (v : ℕ) → v < length p → potential fixed v ≤ potential p v
+
+-- Potentials in a search, and those that are fixed: each place's is at most its fixed one, and no counting step improves one by the
+-- fixed potential of its end. A place whose steps were not yet relaxed has `no_path` for its fixed one.
+pub record Spread (g : GraphSeen) (target : ℕ) (p fixed : List ℕ) : Type 0 where
+  pub supported : Supported g target p
+  pub places : length fixed ≡ length g.through
+  pub above : (v : ℕ) → v < length g.through → potential p v ≤ potential fixed v
+  pub settled : (s : Step) → Among s g.steps → counts g.through target s ≡ true → potential p s.from ≤ reached fixed s
 
 -- The step leaves the place, counts, and falls from the place's potential, which is not `no_path`, by exactly its cost.
 abbrev pub falls_from : List Bool → ℕ → List ℕ → ℕ → Step → Bool

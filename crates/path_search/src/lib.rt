@@ -5,6 +5,6 @@ mod relaxing;
 mod walking;
 mod worked;
 
-pub use relaxing::least;
+pub use relaxing::{arrivals, least, least_over};
 pub use walking::walk;
 pub use worked::{bound_of_three, least_costs_of_a_row, lesser_links_first};

@@ -2,7 +2,7 @@ use Rattle.std.proofs.Common.{◌≡◌, drop}
 use Rattle.std.specs.List.{list_all}
 use Rattle.ctrl_model.specs.Claims.{is_settled}
 use Rattle.circuit_rules.specs.Views.{network}
-use Rattle.circuit_rules.proofs.settling.are_settled.Given as goal
+use Rattle.circuit_rules.proofs.settling.are_certified.Given as goal
 
 -- all are settled, if all that are left are
 abbrev pub invariant-entries : goal.invariant-entries
