@@ -1,4 +1,5 @@
--- Which names a change makes held or lets go. Only private functions and proofs of this crate cite this file.
+-- Which names a change makes held or lets go. Only private functions, proofs and a worked example of this crate cite this
+-- file.
 use Rattle.std.specs.Prelude.{ℕ, ◌==◌, ◌&&◌, not, Bool, List}
 use Rattle.ctrl_model.specs.Matches.{has_name}
 use Rattle.attr_pool.specs.Slots.{Slot}
