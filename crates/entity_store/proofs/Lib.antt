@@ -1,9 +1,10 @@
 pub mod EntityLaws
 pub mod UseLaws
-pub mod PartLaws
 pub mod EntityUses
 pub mod TimesLaws
+pub mod TableUses
 pub mod RoomLaws
+pub mod KeptLaws
 pub mod InUseLaws
 pub mod LookUps
 pub mod AfterLaws

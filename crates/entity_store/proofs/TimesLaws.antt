@@ -1,32 +1,12 @@
 -- Laws on how often names stand in lists of attributes.
-use Rattle.std.proofs.Common.{◌≡◌, ◌≢◌, ne_eqb, ℕ, ◌+◌, ◌<◌, ◌≤◌, ◌==◌, Bool, true, false, cond, not, inl, inr, List, [], ◌∷◌, ◌++◌, map, Some, refl, sym, ◌∙◌, ap, arith, eqb-true, bytes_eq}
+use Rattle.std.proofs.Common.{◌≡◌, ◌≢◌, ne_eqb, ℕ, ◌+◌, ◌<◌, ◌≤◌, ◌==◌, Bool, true, false, cond, not, List, [], ◌∷◌, ◌++◌, map, Some, refl, sym, ◌∙◌, ap, arith, eqb-true}
 use Rattle.std.proofs.lemmas.Bool.{cond-false, false≢true}
 use Rattle.std.proofs.lemmas.Grind.{flat_map-append}
 use Rattle.std.proofs.lemmas.Option.{same_Some, none-some}
 use Rattle.std.specs.List.{flat_map}
-use Rattle.ctrl_model.specs.Membership.{Among}
 use Rattle.ctrl_model.specs.Numbered.{at, with_last, edit_at, without, Between}
-use Rattle.ctrl_model.proofs.DistinctLaws.{same_name, same_bytes}
 use Rattle.entity_store.specs.AttributeUses.{times}
-use Rattle.entity_store.proofs.UseLaws.{times-cons, times-append}
-
--- what stands in a list stands there at least once, and the other way round
-pub times-from_among : (x : List ℕ) (xs : List (List ℕ)) → Among x xs → 0 < times x xs
-times-from_among x [] m = absurd m
-times-from_among x (y ∷ ys) (inl e) =
-    let once : times x (y ∷ ys) ≡ 1 + times x ys = times-cons x y ys ∙ ap (λ b. cond b 1 0 + times x ys) (same_bytes y x e) in omega (arith, once)
-times-from_among x (y ∷ ys) (inr m) =
-    let more = times-from_among x ys m in let parts = times-cons x y ys in omega (arith, more, parts)
-
-pub Among-from_times : (x : List ℕ) (xs : List (List ℕ)) → 0 < times x xs → Among x xs
-Among-from_times x [] h = absurd (omega arith)
-Among-from_times x (y ∷ ys) h = by (bytes_eq y x) refl (Among-from_times x ys)
-  where
-    by : (b : Bool) → bytes_eq y x ≡ b → (0 < times x ys → Among x ys) → Among x (y ∷ ys)
-    by true e k = inl (same_name y x e)
-    by false e k =
-        let parts : times x (y ∷ ys) ≡ 0 + times x ys = times-cons x y ys ∙ ap (λ b. cond b 1 0 + times x ys) e in
-        inr (k (omega (arith, h, parts)))
+use Rattle.attr_pool.proofs.UseLaws.{times-append}
 
 -- a change at a number below all leaves the records
 pub edit_at-below : {R : Type 0} (high : ℕ) (rows : List (ℕ × R)) (low n : ℕ) (g : R → R) → Between low high rows → n < low → edit_at rows n g ≡ rows

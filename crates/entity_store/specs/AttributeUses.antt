@@ -1,14 +1,11 @@
 -- The uses of attributes: one for each entry of an entity's attributes, and those that are held besides, as for policies
 -- (docs/RULES.md, "Limits").
-use Rattle.std.specs.Prelude.{◌≡◌, ℕ, ◌+◌, ◌≤◌, nat_lt, nat_le, Bool, cond, List, [], ◌∷◌, ◌++◌, map, filter, count_by}
+use Rattle.std.specs.Prelude.{◌≡◌, ℕ, ◌+◌, ◌≤◌, nat_lt, nat_le, Bool, cond, List, [], ◌∷◌, ◌++◌, map, filter}
 use Rattle.std.specs.List.{flat_map}
 use Rattle.std.specs.Set.{distinct_count}
 use Rattle.std.specs.Str.{bytes_eq}
+pub use Rattle.attr_pool.specs.Uses.{times}
 use Rattle.entity_store.specs.EntityTables.{Tables}
-
--- How often a name stands in a list.
-abbrev pub times : List ℕ → List (List ℕ) → ℕ
-times name names = count_by (λ n. bytes_eq n name) names
 
 -- The uses of a name that are held.
 abbrev pub held_times : List ℕ → List (List ℕ × ℕ) → ℕ

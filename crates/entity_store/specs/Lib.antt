@@ -1,7 +1,7 @@
 pub mod EntityTables
 pub mod AttributeUses
 pub mod TableRules
-pub mod Parts
+pub mod KeptTables
 pub mod WorkedTables
 pub mod HeldUses
 pub mod EntityChanges

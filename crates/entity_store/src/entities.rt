@@ -1,15 +1,15 @@
-ghost use Rattle.std.specs.Prelude.{◌≡◌, ◌+◌, ◌≤◌, List, ◌<◌, ℕ, ⊤, true, [], IfOk, OnOk, OnErr, length, map, option_map, Ok};
+ghost use Rattle.std.specs.Prelude.{◌≡◌, ◌≤◌, ⊤, true, [], IfOk, OnOk, OnErr, length, map, option_map, Ok};
 ghost use Rattle.ctrl_model.specs.CommandForm.{is_cost};
 ghost use Rattle.ctrl_model.specs.Networks.{seen};
 ghost use Rattle.ctrl_model.specs.Numbered.{at, numbers};
-ghost use Rattle.ctrl_model.specs.State.{as_entity};
-ghost use Rattle.entity_store.specs.EntityTables.{no_entities, is_entity_kind, entities, next_of, number_of, new_router, with_entity, with_attributes, with_router, without_entity, with_next};
-ghost use Rattle.entity_store.specs.AttributeUses.{has_attribute_room, times, uses, used_names, AreUsed, AreHeld, Holds, LetsGo};
+ghost use Rattle.entity_store.specs.EntityTables.{no_entities, is_entity_kind, entities, next_of, number_of, with_entity, with_attributes, with_router, without_entity, with_next};
+ghost use Rattle.entity_store.specs.AttributeUses.{has_attribute_room, AreUsed, AreHeld, Holds, LetsGo};
 ghost use Rattle.entity_store.specs.TableRules.{may_add, found, is_there, attributes_at, most_of, KeepsNumbers};
-ghost use Rattle.entity_store.specs.Parts.{all_of};
 
-use crate::names_in_use::{Parts, are_few, hold_names, let_names_go};
-use crate::records::{EntityView, KeptEntity, KeptRouter, RouterView};
+use crate::held_names::{hold_names, let_names_go};
+use crate::kind_tables::{KindTables, add_row, edit_row, mark_row, remove_row, seen, tell_order};
+use crate::records::{EntityView, KeptRouter, RouterView};
+use attr_pool::Pool;
 use ctrl_model::{Kind, Name, Names, Numbers, RouterNo, RouterSeen};
 use record_tables::NamedTable;
 use std::alloc::{AllocError, Global};
@@ -35,22 +35,20 @@ pub enum EntityFault {
 /// A kind that a call takes is Identity, Service or Router.
 #[derive(Drop)]
 pub struct Entities {
-    identities: NamedTable<KeptEntity>,
-    services: NamedTable<KeptEntity>,
-    routers: NamedTable<KeptRouter>,
+    tables: KindTables,
     held: Vec<Name>,
+    pool: Pool,
 }
 
 impl Model for Entities {
-    ghost use Rattle.std.specs.Prelude.{◌≤◌, length};
     ghost use Rattle.entity_store.specs.EntityTables.{Tables};
-    ghost use Rattle.entity_store.specs.Parts.{held_once};
+    ghost use Rattle.entity_store.specs.KeptTables.{held_once, tables_of, IsKept};
 
     ghost Value = { Tables };
 
-    ghost view = { λ e. record { identities = e.identities; services = e.services; routers = e.routers; held = held_once e.held.items } };
+    ghost view = { λ e. tables_of e.tables (held_once e.held.items) };
 
-    ghost invariant = { λ e. (length e.identities.rows ≤ 2048) × (length e.services.rows ≤ 512) × (length e.routers.rows ≤ 256) };
+    ghost invariant = { λ e. IsKept (tables_of e.tables (held_once e.held.items)) e.pool };
 }
 
 // How many entities of a kind there may be.
@@ -64,45 +62,6 @@ fn most_of(kind: Kind) -> usize
         Kind::Router => 256,
         _ => unreachable!(),
     }
-}
-
-// A new identity or service.
-fn new_entity(name: &Name, attributes: &Names) -> Result<KeptEntity, AllocError>
-    ensures { IfOk result (λ e. e ≡ record { name = name.now; attributes = attributes.now }) }
-{
-    Ok(KeptEntity {
-        name: name.copy()?,
-        attributes: attributes.copy()?,
-    })
-}
-
-// A new router.
-fn new_router(name: &Name, attributes: &Names) -> Result<KeptRouter, AllocError>
-    ensures { IfOk result (λ r. r ≡ new_router name.now attributes.now) }
-{
-    Ok(KeptRouter {
-        name: name.copy()?,
-        attributes: attributes.copy()?,
-        cost: 0,
-        through: true,
-        connected: false,
-    })
-}
-
-// The name and the attributes of an identity or a service.
-fn seen_entity(table: &NamedTable<KeptEntity>, no: u32) -> Option<(&Name, &Names)>
-    ensures { option_map (λ p. record { name = p.0.now; attributes = p.1.now }) result ≡ at table.now.rows no }
-{
-    let entity = table.get(no)?;
-    Some((&entity.name, &entity.attributes))
-}
-
-// The name and the attributes of a router.
-fn seen_router(table: &NamedTable<KeptRouter>, no: u32) -> Option<(&Name, &Names)>
-    ensures { option_map (λ p. record { name = p.0.now; attributes = p.1.now }) result ≡ option_map as_entity (at table.now.rows no) }
-{
-    let router = table.get(no)?;
-    Some((&router.name, &router.attributes))
 }
 
 // A router as routes see it.
@@ -129,29 +88,19 @@ fn routers_in(alloc: Global, table: &NamedTable<KeptRouter>) -> Result<Vec<Route
 }
 
 impl Entities {
-    // The names that are in use or would be.
-    fn parts<'a>(&'a self, fresh: &'a Names) -> Parts<'a>
-        ensures used { all_of result ≡ used_names self.now fresh.now }
-        ensures times { (q : List ℕ) → times q (all_of result) ≡ uses q self.now + times q fresh.now }
-    {
-        Parts {
-            identities: &self.identities,
-            services: &self.services,
-            routers: &self.routers,
-            held: self.held.as_slice(),
-            fresh: fresh.as_slice(),
-        }
-    }
-
     /// A store without entities.
     pub fn new(alloc: Global) -> Result<Entities, AllocError>
         ensures { IfOk result (λ e. e ≡ no_entities) }
     {
+        let pool = Pool::new(alloc)?;
         Ok(Entities {
-            identities: NamedTable::new(alloc),
-            services: NamedTable::new(alloc),
-            routers: NamedTable::new(alloc),
+            tables: KindTables {
+                identities: NamedTable::new(alloc),
+                services: NamedTable::new(alloc),
+                routers: NamedTable::new(alloc),
+            },
             held: Vec::new(alloc),
+            pool,
         })
     }
 
@@ -162,9 +111,9 @@ impl Entities {
         ensures numbers { KeepsNumbers kind self.now }
     {
         match kind {
-            Kind::Identity => self.identities.find(name.bytes()),
-            Kind::Service => self.services.find(name.bytes()),
-            Kind::Router => self.routers.find(name.bytes()),
+            Kind::Identity => self.tables.identities.find(name.bytes()),
+            Kind::Service => self.tables.services.find(name.bytes()),
+            Kind::Router => self.tables.routers.find(name.bytes()),
             _ => unreachable!(),
         }
     }
@@ -193,12 +142,12 @@ impl Entities {
         ensures ok { IfOk result (λ n. (n ≡ next_of kind self.old) × (self.new ≡ with_entity kind name.now attributes.now self.old)) }
         ensures err { OnErr result (self.new ≡ self.old) }
     {
-        match kind {
-            Kind::Identity => self.identities.add(new_entity(name, attributes)?),
-            Kind::Service => self.services.add(new_entity(name, attributes)?),
-            Kind::Router => self.routers.add(new_router(name, attributes)?),
-            _ => unreachable!(),
+        if !self.pool.can_count(attributes) {
+            return Err(AllocError);
         }
+        let number = add_row(&mut self.tables, kind, name, attributes)?;
+        self.pool.intern_all(attributes);
+        Ok(number)
     }
 
     /// The number of the entity that has the name. `Unknown` comes exactly where none has it.
@@ -219,19 +168,15 @@ impl Entities {
         ensures ok { OnOk result (self.new ≡ with_attributes kind no attributes.now self.old) }
         ensures err { OnErr result (self.new ≡ self.old) }
     {
-        let attributes = attributes.copy()?;
-        match kind {
-            Kind::Identity => self.identities.edit(no, move |entity| {
-                entity.attributes = attributes;
-            }),
-            Kind::Service => self.services.edit(no, move |entity| {
-                entity.attributes = attributes;
-            }),
-            Kind::Router => self.routers.edit(no, move |router| {
-                router.attributes = attributes;
-            }),
-            _ => unreachable!(),
+        if !self.pool.can_count(attributes) {
+            return Err(AllocError);
         }
+        let copied = attributes.copy()?;
+        tell_order(&self.tables);
+        let (_, had) = seen(&self.tables, kind, no).unwrap();
+        self.pool.release_all(had);
+        self.pool.intern_all(attributes);
+        edit_row(&mut self.tables, kind, no, copied);
         Ok(())
     }
 
@@ -241,11 +186,7 @@ impl Entities {
         requires cost { is_cost cost ≡ true }
         ensures { self.new ≡ with_router no.0 cost through connected self.old }
     {
-        self.routers.edit(no.0, |router| {
-            router.cost = cost;
-            router.through = through;
-            router.connected = connected;
-        });
+        mark_row(&mut self.tables, no.0, cost, through, connected);
     }
 
     /// Removes a present entity, and with it a use of each of its attributes.
@@ -254,19 +195,17 @@ impl Entities {
         requires there { is_there kind no self.old ≡ true }
         ensures { self.new ≡ without_entity kind no self.old }
     {
-        match kind {
-            Kind::Identity => self.identities.remove(no),
-            Kind::Service => self.services.remove(no),
-            Kind::Router => self.routers.remove(no),
-            _ => unreachable!(),
-        }
+        tell_order(&self.tables);
+        let (_, had) = seen(&self.tables, kind, no).unwrap();
+        self.pool.release_all(had);
+        remove_row(&mut self.tables, kind, no);
     }
 
     /// The routers as routes see them, by ascending number.
     pub fn routers(&self, alloc: Global) -> Result<Vec<RouterSeen>, AllocError>
         ensures { IfOk result (λ v. v.items ≡ map seen self.now.routers.rows) }
     {
-        routers_in(alloc, &self.routers)
+        routers_in(alloc, &self.tables.routers)
     }
 
     /// Whether at most 1,024 attributes are in use once a use of each entry of `gone` is taken away, and one of each entry of
@@ -275,7 +214,7 @@ impl Entities {
         requires { AreUsed self.now gone.now }
         ensures { result ≡ has_attribute_room self.now gone.now fresh.now }
     {
-        are_few(&self.parts(fresh), gone.as_slice())
+        self.pool.has_room(gone, fresh)
     }
 
     /// Holds a use of each name, beside those of entities.
@@ -284,7 +223,12 @@ impl Entities {
         ensures ok { OnOk result (Holds names.now self.old self.new) }
         ensures err { OnErr result (self.new ≡ self.old) }
     {
-        hold_names(&mut self.held, names)
+        if !self.pool.can_count(names) {
+            return Err(AllocError);
+        }
+        hold_names(&mut self.held, names)?;
+        self.pool.intern_all(names);
+        Ok(())
     }
 
     /// Lets a held use of each name go.
@@ -293,6 +237,7 @@ impl Entities {
         ensures { LetsGo names.now self.old self.new }
     {
         let_names_go(&mut self.held, names.as_slice());
+        self.pool.release_all(names);
     }
 
     /// The name and the attributes of an entity. None exactly where it is absent.
@@ -300,12 +245,7 @@ impl Entities {
         requires { is_entity_kind kind ≡ true }
         ensures { option_map (λ p. record { name = p.0.now; attributes = p.1.now }) result ≡ at (entities kind self.now) no }
     {
-        match kind {
-            Kind::Identity => seen_entity(&self.identities, no),
-            Kind::Service => seen_entity(&self.services, no),
-            Kind::Router => seen_router(&self.routers, no),
-            _ => unreachable!(),
-        }
+        seen(&self.tables, kind, no)
     }
 
     /// The entity of a number, lent. None exactly where it is absent.
@@ -323,7 +263,7 @@ impl Entities {
     pub fn router(&self, no: RouterNo) -> Option<RouterView<'_>>
         ensures { result ≡ at self.now.routers.rows no.0 }
     {
-        let router = self.routers.get(no.0)?;
+        let router = self.tables.routers.get(no.0)?;
         Some(RouterView {
             name: &router.name,
             attributes: &router.attributes,
@@ -341,9 +281,9 @@ impl Entities {
         ensures numbers { KeepsNumbers kind self.now }
     {
         match kind {
-            Kind::Identity => self.identities.numbers(alloc),
-            Kind::Service => self.services.numbers(alloc),
-            Kind::Router => self.routers.numbers(alloc),
+            Kind::Identity => self.tables.identities.numbers(alloc),
+            Kind::Service => self.tables.services.numbers(alloc),
+            Kind::Router => self.tables.routers.numbers(alloc),
             _ => unreachable!(),
         }
     }
@@ -355,9 +295,9 @@ impl Entities {
         ensures few { result ≤ most_of kind }
     {
         match kind {
-            Kind::Identity => self.identities.len(),
-            Kind::Service => self.services.len(),
-            Kind::Router => self.routers.len(),
+            Kind::Identity => self.tables.identities.len(),
+            Kind::Service => self.tables.services.len(),
+            Kind::Router => self.tables.routers.len(),
             _ => unreachable!(),
         }
     }
@@ -370,9 +310,9 @@ impl Entities {
         ensures numbers { KeepsNumbers kind self.now }
     {
         match kind {
-            Kind::Identity => self.identities.next(),
-            Kind::Service => self.services.next(),
-            Kind::Router => self.routers.next(),
+            Kind::Identity => self.tables.identities.next(),
+            Kind::Service => self.tables.services.next(),
+            Kind::Router => self.tables.routers.next(),
             _ => unreachable!(),
         }
     }
@@ -384,9 +324,9 @@ impl Entities {
         ensures { self.new ≡ with_next kind next self.old }
     {
         match kind {
-            Kind::Identity => self.identities.skip(next),
-            Kind::Service => self.services.skip(next),
-            Kind::Router => self.routers.skip(next),
+            Kind::Identity => self.tables.identities.skip(next),
+            Kind::Service => self.tables.services.skip(next),
+            Kind::Router => self.tables.routers.skip(next),
             _ => unreachable!(),
         }
     }

@@ -1,0 +1,4 @@
+pub mod BitRows
+pub mod SlotLemmas
+pub mod UseLaws
+pub mod RoomLaws

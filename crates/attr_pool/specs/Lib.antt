@@ -1,0 +1,4 @@
+pub mod Slots
+pub mod Uses
+pub mod Moving
+pub mod WorkedSlots

@@ -1,0 +1,14 @@
+//! The numbers of the attributes in use: a slot for each, and a row of bits for a list of them.
+#![tactic(auto)]
+
+mod names;
+mod pool;
+mod room;
+mod rows;
+mod slots;
+mod uses;
+mod worked;
+
+pub use pool::{Pool, PoolFault};
+pub use rows::{Row, WORDS};
+pub use worked::{worked_row, worked_slots, worked_uses};
