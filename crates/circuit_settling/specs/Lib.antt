@@ -1,3 +1,5 @@
 pub mod PresentRecords
 pub mod CircuitRows
 pub mod WorkedLines
+pub mod FallenRecords
+pub mod NamedRecords

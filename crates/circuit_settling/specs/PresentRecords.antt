@@ -1,12 +1,11 @@
 -- What is present, as settling circuits asks, and which circuits stay beside it (docs/RULES.md, "Settling").
-use Rattle.std.specs.Prelude.{ℕ, Bool, true, false, not, List, map, filter}
+use Rattle.std.specs.Prelude.{ℕ, Bool, true, false, List, map}
 use Rattle.std.specs.Option.{option_map_or}
 use Rattle.ctrl_model.specs.declared.kinds.RouterSeen.{RouterSeen}
 use Rattle.ctrl_model.specs.Networks.{Network, seen}
 use Rattle.ctrl_model.specs.Numbered.{at, numbers}
 use Rattle.ctrl_model.specs.Settling.{circuit_stays}
 use Rattle.ctrl_model.specs.State.{Circuit}
-use Rattle.circuits.specs.CircuitTables.{CircuitTables}
 use Rattle.entity_store.specs.EntityTables.{Tables}
 use Rattle.fabric_graph.specs.FabricTables.{FabricSeen}
 use Rattle.terminators.specs.TermTables.{TermTables}
@@ -46,7 +45,3 @@ stays_at p rows n = option_map_or (stays_beside p) (at rows n) true
 -- A circuit stays beside these entities, links and terminators.
 abbrev pub stays_with : Tables → FabricSeen → TermTables → ℕ × Circuit → Bool
 stays_with t f e row = stays (network e f (map seen t.routers.rows)) (numbers t.identities.rows) (numbers t.services.rows) row.1
-
--- The numbers of the circuits that do not stay, ascending.
-abbrev pub gone : Tables → FabricSeen → TermTables → CircuitTables → List ℕ
-gone t f e k = numbers (filter (λ row. not (stays_with t f e row)) k.circuits.rows)

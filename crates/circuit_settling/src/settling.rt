@@ -1,17 +1,11 @@
 ghost use Rattle.std.specs.Prelude.{◌≡◌, not, filter, IfOk};
-ghost use Rattle.std.specs.Option.{option_map};
 ghost use Rattle.ctrl_model.specs.Numbered.{numbers};
-ghost use Rattle.record_tables.specs.AfterChange.{changed_by};
-ghost use Rattle.circuits.specs.CircuitChanges.{after_circuit_change};
-ghost use Rattle.circuit_settling.specs.PresentRecords.{network, stays, stays_at, gone};
+ghost use Rattle.circuit_settling.specs.PresentRecords.{network, stays, stays_at};
 
 use crate::staying::{Present, stays};
-use circuits::{CircuitChange, Circuits, CircuitsAfter};
-use ctrl_model::{CircuitNo, Kind, Numbers};
-use entity_store::EntitiesAfter;
-use fabric_graph::FabricAfter;
+use circuits::CircuitsAfter;
+use ctrl_model::{CircuitNo, Numbers};
 use std::alloc::{AllocError, Global};
-use terminators::TerminatorsAfter;
 
 // Whether the circuit that will have a number stays, if one will have it.
 fn will_stay(
@@ -59,45 +53,4 @@ pub fn settle(
     let numbers = circuits.numbers(alloc)?;
     let going = going(alloc, circuits, present, numbers.as_slice())?;
     Ok(Numbers::of(going))
-}
-
-// The numbers of the circuits that do not stay.
-fn gone_from(
-    alloc: Global,
-    circuits: &CircuitsAfter,
-    entities: &EntitiesAfter,
-    fabric: &FabricAfter,
-    terminators: &TerminatorsAfter,
-) -> Result<Numbers, AllocError>
-    ensures { IfOk result (λ ns. ns ≡ gone entities.now fabric.now terminators.now circuits.now) }
-{
-    let identities = entities.numbers(alloc, Kind::Identity)?;
-    let services = entities.numbers(alloc, Kind::Service)?;
-    let routers = entities.routers(alloc)?;
-    let present = Present {
-        identities: &identities,
-        services: &services,
-        terminators,
-        routers: routers.as_slice(),
-        fabric,
-    };
-    settle(alloc, circuits, &present)
-}
-
-/// The numbers of the circuits that do not stay after a change, if there is one, ascending: of each the identity, the service or the
-/// terminator will be absent, or its links will be no path from its ingress to the terminator's router (docs/RULES.md, "Settling").
-/// It removes none.
-pub fn circuits_that_go(
-    alloc: Global,
-    circuits: &Circuits,
-    change: Option<&CircuitChange>,
-    entities: &EntitiesAfter,
-    fabric: &FabricAfter,
-    terminators: &TerminatorsAfter,
-) -> Result<Numbers, AllocError>
-    ensures { IfOk result (λ ns. ns ≡ gone entities.now fabric.now terminators.now (changed_by after_circuit_change (option_map (λ c. c.now) change.entry) circuits.now)) }
-{
-    let none = Numbers::of(Vec::new(alloc));
-    let after = CircuitsAfter::new(circuits, change, &none);
-    gone_from(alloc, &after, entities, fabric, terminators)
 }

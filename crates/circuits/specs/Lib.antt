@@ -1,4 +1,5 @@
 pub mod CircuitTables
+pub mod LostCircuits
 pub mod WorkedCircuits
 pub mod CircuitChanges
 pub mod ChangedCircuits

@@ -6,6 +6,7 @@ mod applying;
 mod changes;
 mod counting;
 mod grants;
+mod losses;
 mod store;
 mod worked;
 
@@ -14,5 +15,6 @@ pub use applying::apply_circuit_change;
 pub use changes::CircuitChange;
 pub use counting::count_circuits;
 pub use grants::Circuit;
+pub use losses::Loss;
 pub use store::{CircuitFault, Circuits};
 pub use worked::{circuits_as_they_will_be, circuits_by_number};

@@ -1,11 +1,13 @@
-ghost use Rattle.std.specs.Prelude.{◌≡◌, ◌≤◌, true, false, length, IfOk, OnErr};
+ghost use Rattle.std.specs.Prelude.{◌≡◌, ◌≤◌, true, false, length, filter, IfOk, OnErr};
 ghost use Rattle.std.specs.Option.{ok_or, option_map};
 ghost use Rattle.std.specs.Result.{result_map_both};
 ghost use Rattle.ctrl_model.specs.Numbered.{at, is_present, numbers};
 ghost use Rattle.circuits.specs.CircuitChanges.{without_circuits};
+ghost use Rattle.circuits.specs.LostCircuits.{is_lost};
 ghost use Rattle.circuits.specs.CircuitTables.{no_circuits, is_full, with_circuit, without_circuit, with_next, KeepsCircuits};
 
 use crate::grants::Circuit;
+use crate::losses::{Loss, lost_in};
 use ctrl_model::{CircuitNo, Numbers};
 use record_tables::NumberedTable;
 use std::alloc::{AllocError, Global};
@@ -94,6 +96,13 @@ impl Circuits {
         ensures { self.new ≡ without_circuits gone.now self.old }
     {
         self.granted.remove_each(gone);
+    }
+
+    /// The numbers of the circuits that cannot stand after a loss, ascending. It removes none.
+    pub fn lost(&self, alloc: Global, loss: &Loss) -> Result<Numbers, AllocError>
+        ensures { IfOk result (λ ns. ns ≡ numbers (filter (λ row. is_lost loss.now row.1) self.now.circuits.rows)) }
+    {
+        lost_in(alloc, &self.granted, loss)
     }
 
     /// The numbers of the present circuits, ascending.

@@ -1,4 +1,4 @@
-//! Tests of the commands on links and terminators: planned, made and settled.
+//! Tests of the commands on links and terminators: planned and made, and of what stands on their ends.
 #![tactic(auto)]
 
 #[cfg(test)]

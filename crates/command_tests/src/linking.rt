@@ -2,10 +2,10 @@ ghost use Rattle.std.specs.Prelude.{◌≡◌, true, IfOk};
 ghost use Rattle.ctrl_model.specs.CommandForm.{is_spelled};
 ghost use Rattle.ctrl_model.specs.NameForm.{is_name};
 
-use ctrl_model::{Command, Kind, LinkNo, Name, Names, Numbers, Reply, RouterNo};
-use entity_store::{Entities, EntitiesAfter};
-use fabric_graph::{Fabric, FabricAfter, LinkRow};
-use link_commands::{LinkChange, apply_link_change, links_that_go, plan_link_command};
+use ctrl_model::{Command, Kind, LinkNo, Name, Names, Reply, RouterNo};
+use entity_store::Entities;
+use fabric_graph::{Fabric, LinkRow};
+use link_commands::{LinkChange, apply_link_change, plan_link_command};
 use model_laws::Plan;
 use std::alloc::{AllocError, Global};
 use std::process::Abort;
@@ -108,31 +108,23 @@ fn plans_a_third(alloc: Global, known: &Entities, fabric: &Fabric) -> Result<boo
     Ok(plans_a_link(known, fabric, name, a, b)?)
 }
 
-// The links of which a router is absent.
-fn those_that_go(alloc: Global, known: &Entities, fabric: &Fabric) -> Result<Numbers, Fail> {
-    let none = Numbers::of(Vec::new(alloc));
-    let entities = EntitiesAfter::new(known, None);
-    let links = FabricAfter::new(fabric, None, &none);
-    Ok(links_that_go(alloc, &entities, &links)?)
-}
-
-// The link to an absent router goes, and the other one stays.
-fn settles(rt: &impl Abort, alloc: Global, known: &Entities) -> Result<(), Fail> {
+// The link to the third router is found at it, and the other one is not.
+fn ends(rt: &impl Abort, alloc: Global, known: &Entities) -> Result<(), Fail> {
     let mut fabric = Fabric::new(alloc)?;
     add(alloc, &mut fabric, b"l1", 1, 2)?;
     add(alloc, &mut fabric, b"l2", 2, 3)?;
     assert!(rt; plans_a_third(alloc, known, &fabric)?);
-    let gone = those_that_go(alloc, known, &fabric)?;
+    let gone = fabric.links_at(alloc, RouterNo(3))?;
     fabric.remove_each(&gone);
     assert_eq!(rt; fabric.numbers(alloc)?.as_slice(), [1].as_slice());
     Ok(())
 }
 
 #[test]
-fn plans_and_settles(rt: HostRuntime) -> Result<(), Fail> {
+fn plans_between_ends(rt: HostRuntime) -> Result<(), Fail> {
     let alloc = rt.alloc();
     let known = two_routers(&rt, alloc)?;
-    settles(&rt, alloc, &known)
+    ends(&rt, alloc, &known)
 }
 
 // A present link is set, and the least router cost.

@@ -4,19 +4,15 @@ ghost use Rattle.ctrl_model.specs.CommandForm.{is_spelled};
 ghost use Rattle.entity_store.specs.EntityTables.{is_entity_kind};
 ghost use Rattle.terminator_commands.specs.TermChanges.{CanChangeTerms};
 
-use ctrl_model::{
-    Command, Field, Instance, Kind, Name, Names, Numbers, Precedence, Refusal, Reply, TermNo,
-};
-use entity_store::{Entities, EntitiesAfter};
+use ctrl_model::{Command, Field, Instance, Kind, Name, Names, Precedence, Refusal, Reply, TermNo};
+use entity_store::Entities;
 use grant_denorm::Counted;
 use model_laws::Plan;
-use std::alloc::{AllocError, Global};
+use std::alloc::Global;
 use std::process::Abort;
 use std::test::Fail;
-use terminator_commands::{
-    TermChange, apply_term_change, plan_terminator_command, terminators_that_go,
-};
-use terminators::{Terminators, TerminatorsAfter};
+use terminator_commands::{TermChange, apply_term_change, plan_terminator_command};
+use terminators::Terminators;
 
 // Adds an entity as a caller has to.
 fn add(
@@ -74,21 +70,6 @@ fn can_change(store: &Terminators, bind: &Counted, change: &TermChange) -> bool
     }
 }
 
-// The numbers of the terminators that do not stay.
-fn going(alloc: Global, known: &Entities, store: &Terminators) -> Result<Numbers, AllocError> {
-    let none = Numbers::of(Vec::new(alloc));
-    let entities = EntitiesAfter::new(known, None);
-    let terminators = TerminatorsAfter::new(store, None, &none);
-    terminators_that_go(alloc, &entities, &terminators)
-}
-
-// Removes the terminators that do not stay.
-fn settle(alloc: Global, known: &Entities, store: &mut Terminators) -> Result<(), AllocError> {
-    let gone = going(alloc, known, store)?;
-    store.remove_each(&gone);
-    Ok(())
-}
-
 // Carries a command out as a caller has to.
 fn carry(
     rt: &impl Abort,
@@ -108,7 +89,6 @@ fn carry(
         assert!(rt; can_change(store, bind, &change));
         apply_term_change(store, change)?;
     }
-    settle(alloc, known, store)?;
     Ok(reply)
 }
 
@@ -155,11 +135,15 @@ fn hosts(
     carries(rt, alloc, known, store, &bind)
 }
 
-// Where nothing else is present, no terminator stays.
+// The terminator stands on its host, its service and its router.
 fn empties(rt: &impl Abort, alloc: Global, store: &mut Terminators) -> Result<(), Fail> {
-    let nothing = Entities::new(alloc)?;
-    assert_eq!(rt; store.numbers(alloc)?.as_slice(), [1].as_slice());
-    settle(alloc, &nothing, store)?;
+    assert_eq!(rt;
+        store.standing_on(alloc, Kind::Service, 1)?.as_slice(),
+        [1].as_slice()
+    );
+    assert!(rt; store.standing_on(alloc, Kind::Router, 2)?.is_empty());
+    let gone = store.standing_on(alloc, Kind::Identity, 1)?;
+    store.remove_each(&gone);
     assert!(rt; store.numbers(alloc)?.is_empty());
     Ok(())
 }

@@ -8,6 +8,7 @@ pub mod NetworkPlans
 pub mod CountedChanges
 pub mod FoundPlans
 pub mod StateParts
+pub mod SettledChanges
 pub mod NextNumbers
 pub mod RowEnds
 pub mod CountRows

@@ -1,31 +1,28 @@
 -- The state after a change, by its parts: what each store makes of the change, as it is looked at before it is made.
-use Rattle.std.proofs.Common.{◌≡◌, ℕ, ◌+◌, ◌≤◌, List, [], not, filter, Option, None, Some, refl, sym, ◌∙◌, ap, subst}
+use Rattle.std.proofs.Common.{◌≡◌, ℕ, ◌+◌, ◌≤◌, List, Option, None, Some, refl, sym, ◌∙◌, ap, subst}
 use Rattle.ctrl_model.specs.declared.kinds.Kind.TheVariants as kind
-use Rattle.ctrl_model.specs.Numbered.{numbers, Between, with_kept}
+use Rattle.ctrl_model.specs.Numbered.{Between, with_kept}
 use Rattle.ctrl_model.specs.Settling.{link_stays, terminator_stays, stays_in, settle, settle_links, settle_terminators}
 use Rattle.ctrl_model.specs.State.{State}
 use Rattle.ctrl_model.proofs.NumberedLaws.{Between-with_last, Between-edit_at, Between-without}
 use Rattle.record_tables.specs.AfterChange.{changed_by, without_numbers}
-use Rattle.record_tables.proofs.GoneLaws.{gone_none, kept}
+use Rattle.record_tables.proofs.GoneLaws.{kept}
 use Rattle.circuits.specs.declared.changes.CircuitChange.{CircuitChange}
 use Rattle.circuits.specs.declared.changes.CircuitChange.TheVariants as circuit
-use Rattle.circuit_settling.specs.PresentRecords.{gone}
 use Rattle.circuits.specs.CircuitChanges.{after_circuit_change}
 use Rattle.circuits.specs.CircuitTables.{CircuitTables}
 use Rattle.entity_store.specs.EntityChanges.{after_entity_change}
 use Rattle.entity_store.specs.EntityTables.{Tables}
 use Rattle.fabric_graph.specs.declared.changes.LinkChange.{LinkChange}
 use Rattle.fabric_graph.specs.declared.changes.LinkChange.TheVariants as link
-use Rattle.fabric_graph.specs.FabricChanges.{after_link_change, fabric_after}
+use Rattle.fabric_graph.specs.FabricChanges.{after_link_change}
 use Rattle.fabric_graph.specs.FabricTables.{FabricSeen}
-use Rattle.link_commands.specs.LinkChanges as linked
 use Rattle.policy_store.specs.PolicyChanges.{after_policy_change}
 use Rattle.policy_store.specs.PolicyTables.{PolicyTables}
 use Rattle.terminators.specs.declared.changes.TermChange.{TermChange}
 use Rattle.terminators.specs.declared.changes.TermChange.TheVariants as term
-use Rattle.terminators.specs.TermChanges.{after_term_change, terms_after}
+use Rattle.terminators.specs.TermChanges.{after_term_change}
 use Rattle.terminators.specs.TermTables.{TermTables}
-use Rattle.terminator_commands.specs.TermChanges as offered
 use Rattle.core_stores.specs.declared.changes.Change.{Change}
 use Rattle.core_stores.specs.declared.changes.Change.TheVariants as change
 use Rattle.core_stores.specs.declared.settled.Settled.{Settled}
@@ -115,21 +112,7 @@ terms_ordered c st can = let v = (can.before.kinds kind.Terminator).numbers in t
 pub circuits_ordered : (c : Change) (st : Stores) → CanSettle st c → IsNumbered (circuits_then c st).circuits.rows
 circuits_ordered c st can = let v = (can.before.kinds kind.Circuit).numbers in circuits_numbered (circuit_part c) st.circuits v.first v.ordered
 
--- ---- what settles, by what was looked at
-
-pub links_go : (c : Change) (st : Stores) → CanSettle st c → (t : Tables) (f : FabricSeen) (ns : List ℕ) → t ≡ entities_then c st → f ≡ fabric_after (link_part c) [] st.fabric
-    → ns ≡ numbers (filter (λ row. not (linked.stays t row)) f.links.rows) → ns ≡ links_failing (after_change c (state_of st))
-links_go c st can t f ns et ef e =
-    e
-    ∙ (λ i. numbers (filter (λ row. not (linked.stays (et i) row)) ((ef ∙ ap (λ ls. record (links_then c st) { links = ls }) (sym (gone_none (links_then c st).links))) i).links.rows))
-    ∙ ap links_failing (sym (parts_after c st can))
-
-pub terms_go : (c : Change) (st : Stores) → CanSettle st c → (t : Tables) (k : TermTables) (ns : List ℕ) → t ≡ entities_then c st → k ≡ terms_after (term_part c) [] st.terminators
-    → ns ≡ numbers (filter (λ row. not (offered.stays t row)) k.terminators.rows) → ns ≡ terminators_failing (after_change c (state_of st))
-terms_go c st can t k ns et ek e =
-    e
-    ∙ (λ i. numbers (filter (λ row. not (offered.stays (et i) row)) ((ek ∙ ap (λ ts. record (terms_then c st) { terminators = ts }) (sym (gone_none (terms_then c st).terminators))) i).terminators.rows))
-    ∙ ap terminators_failing (sym (parts_after c st can))
+-- ---- what is left
 
 -- the links and the terminators that are left are those of the state once both are settled
 links_left : (c : Change) (st : Stores) → CanSettle st c → with_kept (link_stays (state_then c st)) (links_then c st).links ≡ without_numbers (links_failing (state_then c st)) (links_then c st).links
@@ -142,19 +125,6 @@ terms_left c st can = let o = terms_ordered c st can in kept (terminator_stays (
 circuits_left : (c : Change) (st : Stores) → CanSettle st c
     → with_kept (stays_in (settle_terminators (settle_links (state_then c st)))) (circuits_then c st).circuits ≡ without_numbers (circuits_failing (state_then c st)) (circuits_then c st).circuits
 circuits_left c st can = let o = circuits_ordered c st can in kept (stays_in (settle_terminators (settle_links (state_then c st)))) (circuits_then c st).circuits o.high o.ordered
-
-pub circuits_go : (c : Change) (st : Stores) → CanSettle st c → (t : Tables) (f : FabricSeen) (k : TermTables) (g : CircuitTables) (links terms ns : List ℕ) → t ≡ entities_then c st
-    → links ≡ links_failing (after_change c (state_of st)) → terms ≡ terminators_failing (after_change c (state_of st))
-    → f ≡ fabric_after (link_part c) links st.fabric → k ≡ terms_after (term_part c) terms st.terminators → g ≡ circuits_then c st
-    → ns ≡ gone t f k g → ns ≡ circuits_failing (after_change c (state_of st))
-circuits_go c st can t f k g links terms ns et el ek ef em eg e =
-    let whole = parts_after c st can in
-    e
-    ∙ (λ i. gone (et i)
-    ((ef ∙ ap (λ ls. fabric_after (link_part c) ls st.fabric) (el ∙ ap links_failing whole) ∙ ap (λ ls. record (links_then c st) { links = ls }) (sym (links_left c st can))) i)
-    ((em ∙ ap (λ ls. terms_after (term_part c) ls st.terminators) (ek ∙ ap terminators_failing whole) ∙ ap (λ ts. record (terms_then c st) { terminators = ts }) (sym (terms_left c st can))) i)
-    (eg i))
-    ∙ ap circuits_failing (sym whole)
 
 -- a state without what settles is settled
 pub without_is_settled : (c : Change) (st : Stores) (g : Settled) → CanSettle st c → AreSettled (after_change c (state_of st)) g

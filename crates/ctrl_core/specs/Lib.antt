@@ -8,3 +8,4 @@ pub mod JoinedRows
 pub mod LoadedRows
 pub mod OtherCommands
 pub mod TakenRows
+pub mod SettledParts

@@ -9,17 +9,15 @@ ghost use Rattle.ctrl_core.specs.KeptState.{Keeps};
 ghost use Rattle.core_stores.specs.StoredState.{state_of};
 ghost use Rattle.ctrl_core.specs.LoadedRows.{policy_flaw_of};
 
-use circuit_settling::would_stay;
+use circuit_settling::{Standing, stays_here};
 use circuits::Circuit;
 use core_stores::{Stores, left_kind, right_kind};
-use ctrl_model::{Kind, Names, Numbers, Side};
+use ctrl_model::{Kind, Names, Side};
 use entity_store::Entities;
-use fabric_graph::FabricAfter;
 use policy_store::{Policy, policy_names};
 use record_flaws::{Coming, Findings};
 use state_building::{Flaw, limit};
 use std::alloc::{AllocError, Global};
-use terminators::TerminatorsAfter;
 
 // Whether each `@` name of a side is that of a present entity.
 fn are_found(entities: &Entities, kind: Kind, side: &Side) -> bool
@@ -62,14 +60,16 @@ pub fn policy_flaw(
 }
 
 // Whether a circuit would stay beside what the stores have.
-fn stays_here(alloc: Global, stores: &Stores, circuit: &Circuit) -> Result<bool, AllocError>
+fn would_stay(alloc: Global, stores: &Stores, circuit: &Circuit) -> Result<bool, AllocError>
     ensures { IfOk result (λ b. b ≡ stays_in (state_of stores.now) (0, circuit.now)) }
 {
-    let links = Numbers::of(Vec::new(alloc));
-    let terms = Numbers::of(Vec::new(alloc));
-    let fabric = FabricAfter::new(&stores.fabric, None, &links);
-    let terminators = TerminatorsAfter::new(&stores.terminators, None, &terms);
-    would_stay(alloc, &stores.entities, &fabric, &terminators, circuit)
+    let standing = Standing {
+        entities: &stores.entities,
+        fabric: &stores.fabric,
+        terminators: &stores.terminators,
+        circuits: &stores.circuits,
+    };
+    stays_here(alloc, &standing, circuit)
 }
 
 /// Why a circuit cannot join, if it cannot.
@@ -83,7 +83,7 @@ pub fn circuit_flaw(
     requires sound { coming.sound ≡ true }
     ensures { IfOk result (λ f. f ≡ flaw_of (λ k. coming.end) kind.Circuit coming.number circuit.now (state_of stores.now)) }
 {
-    let supported = stays_here(alloc, stores, circuit)?;
+    let supported = would_stay(alloc, stores, circuit)?;
     let found = Findings {
         out_of_order: coming.is_out_of_order(stores.circuits.next()),
         sound: coming.sound,

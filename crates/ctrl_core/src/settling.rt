@@ -1,70 +1,34 @@
-ghost use Rattle.std.specs.Prelude.{◌≡◌, IfOk};
+ghost use Rattle.std.specs.Prelude.{IfOk};
+ghost use Rattle.core_stores.specs.SettledNumbers.{AreSettled};
+ghost use Rattle.core_stores.specs.StoredState.{state_of};
 ghost use Rattle.ctrl_core.specs.ChangedStores.{CanSettle};
 ghost use Rattle.ctrl_core.specs.Changes.{after_change};
-ghost use Rattle.core_stores.specs.StoredState.{state_of};
-ghost use Rattle.core_stores.specs.SettledNumbers.{AreSettled, links_failing, terminators_failing, circuits_failing, without_settled};
+ghost use Rattle.ctrl_core.specs.SettledParts.{bare_state_of, NamesBy};
 
-use circuit_settling::circuits_that_go;
+use circuit_settling::{
+    Fallen, Standing, nothing, settled_by_circuit, settled_by_entity, settled_by_link,
+    settled_by_term,
+};
 use core_stores::{Change, Settled, Stores};
-use ctrl_model::Numbers;
-use entity_store::EntitiesAfter;
-use fabric_graph::FabricAfter;
-use link_commands::links_that_go;
 use std::alloc::{AllocError, Global};
-use terminator_commands::terminators_that_go;
-use terminators::TerminatorsAfter;
 
-// The numbers of the links that go after a change.
-fn links_gone(alloc: Global, stores: &Stores, change: &Change) -> Result<Numbers, AllocError>
-    requires { CanSettle stores.now change.now }
-    ensures { IfOk result (λ ns. ns ≡ links_failing (after_change change.now (state_of stores.now))) }
+// What settles after a change, found from what the change takes away.
+fn fallen_by(alloc: Global, stores: &Stores, change: &Change) -> Result<Fallen, AllocError>
+    ensures { IfOk result (NamesBy change.now (bare_state_of stores.now)) }
 {
-    let none = Numbers::of(Vec::new(alloc));
-    let entities = EntitiesAfter::new(&stores.entities, change.of_entities());
-    let fabric = FabricAfter::new(&stores.fabric, change.of_links(), &none);
-    links_that_go(alloc, &entities, &fabric)
-}
-
-// The numbers of the terminators that go after a change.
-fn terminators_gone(alloc: Global, stores: &Stores, change: &Change) -> Result<Numbers, AllocError>
-    requires { CanSettle stores.now change.now }
-    ensures { IfOk result (λ ns. ns ≡ terminators_failing (after_change change.now (state_of stores.now))) }
-{
-    let none = Numbers::of(Vec::new(alloc));
-    let entities = EntitiesAfter::new(&stores.entities, change.of_entities());
-    let terminators = TerminatorsAfter::new(&stores.terminators, change.of_terminators(), &none);
-    terminators_that_go(alloc, &entities, &terminators)
-}
-
-// The numbers of the circuits that go after a change, beside the links and terminators that are left.
-fn circuits_gone(
-    alloc: Global,
-    stores: &Stores,
-    change: &Change,
-    links: &Numbers,
-    terminators: &Numbers,
-) -> Result<Numbers, AllocError>
-    requires can { CanSettle stores.now change.now }
-    requires links { links.now ≡ links_failing (after_change change.now (state_of stores.now)) }
-    requires terminators { terminators.now ≡ terminators_failing (after_change change.now (state_of stores.now)) }
-    ensures { IfOk result (λ ns. ns ≡ circuits_failing (after_change change.now (state_of stores.now))) }
-{
-    let entities = EntitiesAfter::new(&stores.entities, change.of_entities());
-    let fabric = FabricAfter::new(&stores.fabric, change.of_links(), links);
-    let terminators = TerminatorsAfter::new(
-        &stores.terminators,
-        change.of_terminators(),
-        terminators,
-    );
-    let circuits = &stores.circuits;
-    circuits_that_go(
-        alloc,
-        circuits,
-        change.of_circuits(),
-        &entities,
-        &fabric,
-        &terminators,
-    )
+    let standing = Standing {
+        entities: &stores.entities,
+        fabric: &stores.fabric,
+        terminators: &stores.terminators,
+        circuits: &stores.circuits,
+    };
+    match change {
+        Change::Entity(change) => settled_by_entity(alloc, &standing, change),
+        Change::Policy(_) => Ok(nothing(alloc)),
+        Change::Link(change) => settled_by_link(alloc, &standing, change),
+        Change::Terminator(change) => settled_by_term(alloc, &standing, change),
+        Change::Circuit(change) => settled_by_circuit(alloc, &standing, change),
+    }
 }
 
 /// What settling takes out after a change, by its numbers. The stores stay.
@@ -72,12 +36,10 @@ pub fn settled_by(alloc: Global, stores: &Stores, change: &Change) -> Result<Set
     requires { CanSettle stores.now change.now }
     ensures { IfOk result (AreSettled (after_change change.now (state_of stores.now))) }
 {
-    let links = links_gone(alloc, stores, change)?;
-    let terminators = terminators_gone(alloc, stores, change)?;
-    let circuits = circuits_gone(alloc, stores, change, &links, &terminators)?;
+    let fallen = fallen_by(alloc, stores, change)?;
     Ok(Settled {
-        links,
-        terminators,
-        circuits,
+        links: fallen.links,
+        terminators: fallen.terminators,
+        circuits: fallen.circuits,
     })
 }

@@ -5,5 +5,6 @@ pub mod Hops
 pub mod FabricChanges
 pub mod ChangedLinks
 pub mod KeptLinks
+pub mod LinkEnds
 pub mod Steps
 pub mod WorkedFabrics

@@ -1,4 +1,4 @@
-ghost use Rattle.std.specs.Prelude.{◌≡◌, ◌+◌, ◌<◌, ◌≤◌, ℕ, true, length, map, IfOk, OnOk, OnErr, Ok};
+ghost use Rattle.std.specs.Prelude.{◌≡◌, ◌+◌, ◌<◌, ◌≤◌, ℕ, true, length, map, filter, IfOk, OnOk, OnErr, Ok};
 ghost use Rattle.std.specs.List.{list_all};
 ghost use Rattle.std.specs.Option.{option_map};
 ghost use Rattle.ctrl_model.specs.CommandForm.{is_link_cost, is_latency};
@@ -9,8 +9,10 @@ ghost use Rattle.path_certificate.specs.Graphs.{graph_hops};
 ghost use Rattle.fabric_graph.specs.FabricTables.{no_links, with_link, with_set, without_link, with_least, with_next};
 ghost use Rattle.fabric_graph.specs.FabricChanges.{without_links};
 ghost use Rattle.fabric_graph.specs.FabricRules.{may_add, found, is_there, KeepsLinks};
+ghost use Rattle.fabric_graph.specs.LinkEnds.{is_at};
 ghost use Rattle.fabric_graph.specs.Routers.{AreRouters, network, number_at, costs_at_most};
 
+use crate::ends::links_at;
 use crate::links::{LinkRow, LinkView};
 use crate::steps::{all_steps, by_place, flags};
 use ctrl_model::{LinkNo, Name, Numbers, RouterNo, RouterSeen};
@@ -179,6 +181,13 @@ impl Fabric {
         ensures numbers { KeepsLinks self.now }
     {
         self.links.numbers(alloc)
+    }
+
+    /// The numbers of the links that end at a router, ascending.
+    pub fn links_at(&self, alloc: Global, router: RouterNo) -> Result<Numbers, AllocError>
+        ensures { IfOk result (λ ns. ns ≡ numbers (filter (λ row. is_at router.0 row.1) self.now.links.rows)) }
+    {
+        links_at(alloc, &self.links, router)
     }
 
     /// How many links there are.

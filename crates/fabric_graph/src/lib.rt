@@ -3,6 +3,7 @@
 
 mod after;
 mod changes;
+mod ends;
 mod fabric;
 mod hopping;
 mod links;

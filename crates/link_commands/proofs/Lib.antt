@@ -1,4 +1,3 @@
 pub mod PlanLaws
 pub mod JoinLaws
-pub mod SettledLaws
 pub mod RowLaws

@@ -1,9 +1,7 @@
--- What a command on links changes, in the links themselves and in a state, and which links stay (docs/PROMISES.md, "Commands
--- on links").
-use Rattle.std.specs.Prelude.{◌≡◌, ℕ, Bool, true, Ok}
+-- What a command on links changes, in the links themselves and in a state (docs/PROMISES.md, "Commands on links").
+use Rattle.std.specs.Prelude.{◌≡◌, true, Ok}
 use Rattle.ctrl_model.specs.CommandForm.{is_link_cost, is_latency}
-use Rattle.ctrl_model.specs.Settling.{link_stays}
-use Rattle.ctrl_model.specs.State.{State, Link, start}
+use Rattle.ctrl_model.specs.State.{State}
 use Rattle.entity_store.specs.EntityTables.{Tables}
 use Rattle.fabric_graph.specs.FabricChanges.{after_link_change}
 use Rattle.fabric_graph.specs.FabricTables.{FabricSeen}
@@ -39,7 +37,3 @@ linked c s = with_fabric (after_link_change c (fabric_of s)) s
 -- What a change needs of a state.
 abbrev pub CanLink : LinkChange → State → Type 0
 CanLink c s = CanChangeLinks c (fabric_of s)
-
--- A link stays whose two routers are among these entities.
-abbrev pub stays : Tables → ℕ × Link → Bool
-stays t row = link_stays (record start { routers = t.routers }) row

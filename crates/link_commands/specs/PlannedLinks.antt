@@ -1,4 +1,4 @@
--- What the private functions of planning and of settling promise. Nothing public cites it.
+-- What the private functions of planning promise. Nothing public cites it.
 use Rattle.std.specs.Prelude.{◌≡◌, ℕ, Bool, true, cond, List, None, Some, Ok}
 use Rattle.std.specs.declared.option.Option.{Option}
 use Rattle.std.specs.Option.{option_map_or}
@@ -13,7 +13,7 @@ use Rattle.fabric_graph.specs.FabricTables.{FabricSeen}
 use Rattle.fabric_graph.specs.FabricRules.{may_add}
 use Rattle.fabric_graph.specs.declared.changes.LinkChange.{LinkChange}
 use Rattle.model_laws.specs.declared.plans.Plan.{Plan}
-use Rattle.link_commands.specs.LinkChanges.{over, stays}
+use Rattle.link_commands.specs.LinkChanges.{over}
 use Rattle.link_commands.specs.LinkPlans.{PlansLinks}
 
 -- A plan of an answer in every valid state with these routers and these links.
@@ -47,7 +47,3 @@ pub record Reports (link router : List ℕ) (t : Tables) (f : FabricSeen) (n : �
 -- The refusal of a report, in every state with these routers and these links.
 abbrev pub RefusesReport : List ℕ → List ℕ → Tables → FabricSeen → Refusal → Type 0
 RefusesReport link router t f r = (s : State) → refusal_of_report link router (over t f s) ≡ Some r
-
--- Whether the link at a number stays, if one is there.
-abbrev pub stays_at : Tables → List (ℕ × Link) → ℕ → Bool
-stays_at t rows n = option_map_or (λ l. stays t (n, l)) (at rows n) true

@@ -1,13 +1,11 @@
-//! The commands on links and on the least router cost: planned, made, and settled.
+//! The commands on links and on the least router cost: planned and made.
 #![tactic(auto)]
 
 mod applying;
 mod planning;
 mod rows;
-mod settling;
 
 pub use applying::apply_link_change;
 pub use fabric_graph::LinkChange;
 pub use planning::plan_link_command;
 pub use rows::link_changes;
-pub use settling::links_that_go;

@@ -1,3 +1,2 @@
-pub mod GoingLaws
 pub mod TermPlanLaws
 pub mod RowLaws

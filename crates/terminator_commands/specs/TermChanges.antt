@@ -1,12 +1,10 @@
--- What a command on terminators changes, in the terminators themselves and in a state, and which terminators stay
--- (docs/PROMISES.md, "Commands on terminators").
-use Rattle.std.specs.Prelude.{◌≡◌, ℕ, Bool, true}
+-- What a command on terminators changes, in the terminators themselves and in a state (docs/PROMISES.md, "Commands on
+-- terminators").
+use Rattle.std.specs.Prelude.{◌≡◌, true}
 use Rattle.ctrl_model.specs.CommandForm.{is_cost}
 use Rattle.ctrl_model.specs.Numbered.{is_present}
-use Rattle.ctrl_model.specs.Settling.{terminator_stays}
-use Rattle.ctrl_model.specs.State.{State, Terminator, start}
+use Rattle.ctrl_model.specs.State.{State}
 use Rattle.entity_store.specs.EntityTables.{Tables}
-use Rattle.entity_store.specs.HeldUses.{with_entities}
 pub use Rattle.terminators.specs.TermChanges.{after_term_change}
 use Rattle.terminators.specs.TermTables.{TermTables}
 use Rattle.terminators.specs.TermRules.{has_term_room}
@@ -40,7 +38,3 @@ offered c s = with_terms (after_term_change c (terms_of s)) s
 -- What a change needs of a state.
 abbrev pub CanOffer : TermChange → State → Type 0
 CanOffer c s = CanChangeTerms c (terms_of s)
-
--- A terminator stays whose service, router and host are among these entities.
-abbrev pub stays : Tables → ℕ × Terminator → Bool
-stays t row = terminator_stays (with_entities t start) row

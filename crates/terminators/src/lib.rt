@@ -4,6 +4,7 @@
 mod admitting;
 mod after;
 mod changes;
+mod naming;
 mod offers;
 mod routers;
 mod store;

@@ -4,13 +4,15 @@ ghost use Rattle.std.specs.Result.{result_map_both};
 ghost use Rattle.ctrl_model.specs.CommandForm.{is_cost};
 ghost use Rattle.ctrl_model.specs.Networks.{admissible};
 ghost use Rattle.ctrl_model.specs.Numbered.{at, is_present, numbers};
+ghost use Rattle.terminators.specs.NamedTerms.{stands_on};
 ghost use Rattle.terminators.specs.TermChanges.{without_terms};
 ghost use Rattle.terminators.specs.TermTables.{no_terminators, with_term, with_set, without_term, with_next, KeepsTerms};
 ghost use Rattle.terminators.specs.TermRules.{has_term_room, may_add, network, granted, is_admissible};
 
 use crate::admitting::{Grants, is_admissible};
+use crate::naming::standing_in;
 use crate::offers::{Term, TermView, is_not_bindable};
-use ctrl_model::{Instance, Numbers, Precedence, RouterSeen, ServiceNo, TermNo};
+use ctrl_model::{Instance, Kind, Numbers, Precedence, RouterSeen, ServiceNo, TermNo};
 use grant_denorm::Counted;
 use record_tables::NumberedTable;
 use std::alloc::{AllocError, Global};
@@ -155,6 +157,14 @@ impl Terminators {
         ensures keeps { KeepsTerms self.now }
     {
         self.terms.numbers(alloc)
+    }
+
+    /// The numbers of the terminators that stand on an entity of a kind and number, ascending: that have it as host, are of the
+    /// service, or are on the router.
+    pub fn standing_on(&self, alloc: Global, kind: Kind, number: u32) -> Result<Numbers, AllocError>
+        ensures { IfOk result (λ ns. ns ≡ numbers (filter (λ row. stands_on kind number row.1) self.now.terminators.rows)) }
+    {
+        standing_in(alloc, &self.terms, kind, number)
     }
 
     /// How many terminators there are.

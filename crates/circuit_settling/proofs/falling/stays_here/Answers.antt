@@ -1,0 +1,18 @@
+use Rattle.std.proofs.Common.{◌≡◌, [], None, ◌∙◌, sym, ap}
+use Rattle.std.proofs.lemmas.Result.{IfOk-weaker}
+use Rattle.record_tables.proofs.GoneLaws.{gone_none}
+use Rattle.fabric_graph.specs.FabricChanges.{fabric_after}
+use Rattle.terminators.specs.TermChanges.{terms_after}
+use Rattle.circuit_settling.specs.PresentRecords.{stays_with}
+use Rattle.circuit_settling.proofs.falling.stays_here.Goals as goal
+
+pub returns : goal.returns
+returns c =
+    let no_links : c.of-links.result ≡ [] = c.of-links.ensures ∙ c.new.ensures.items in
+    let no_terms : c.of-terms.result ≡ [] = c.of-terms.ensures ∙ c.new-2.ensures.items in
+    let t = c.args.standing.now.entities.now in
+    let f = c.args.standing.now.fabric.now in
+    let e = c.args.standing.now.terminators.now in
+    let links = c.new-fabric.ensures ∙ (λ i. fabric_after None (no_links i) f) ∙ ap (λ ls. record f { links = ls }) (sym (gone_none f.links)) in
+    let offers = c.new-terminators.ensures ∙ (λ i. terms_after None (no_terms i) e) ∙ ap (λ ts. record e { terminators = ts }) (sym (gone_none e.terminators)) in
+    IfOk-weaker c.would_stay.result _ _ (λ b is. is ∙ (λ i. stays_with t (links i) (offers i) (0, c.args.circuit.now))) c.would_stay.ensures
