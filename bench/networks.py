@@ -1,0 +1,131 @@
+"""Inputs for the measurements of docs/SPEED.md: lists of (content type, body) and their frames."""
+
+import json
+import struct
+
+MARKER = bytes.fromhex("0306090c")
+CREATE_IDENTITY, UPDATE_IDENTITY, DELETE_IDENTITY = 1000, 1001, 1002
+CREATE_SERVICE = 1010
+CREATE_ROUTER, CONNECT_ROUTER = 1020, 1023
+CREATE_SERVICE_POLICY, CREATE_EDGE_ROUTER_POLICY, CREATE_SERVICE_EDGE_ROUTER_POLICY = 1100, 1110, 1120
+CREATE_LINK, REPORT_LATENCY = 1200, 1202
+CREATE_TERMINATOR = 1300
+CREATE_CIRCUIT, EXPLAIN, VERIFY_ROUTE = 1400, 1402, 1403
+SHOW_COUNTS = 1502
+
+ROUTERS, LINKS = 256, 4096
+
+
+def frames(commands):
+    """The frames of some commands, one behind the other. The sequence counts from 0."""
+    parts = []
+    for sequence, (content, body) in enumerate(commands):
+        text = json.dumps(body, separators=(",", ":"), sort_keys=True).encode()
+        parts.append(MARKER + struct.pack("<IIII", content, sequence, 0, len(text)) + text)
+    return b"".join(parts)
+
+
+def replies(data):
+    """The bodies of reply frames."""
+    found, at = [], 0
+    while at < len(data):
+        headers, body = struct.unpack_from("<II", data, at + 12)
+        found.append(data[at + 20 + headers:at + 20 + headers + body])
+        at += 20 + headers + body
+    return found
+
+
+def named(content, name, **fields):
+    return content, {"name": name, **fields}
+
+
+def churn(rounds):
+    """1,000 identities with an attribute each, and then one more created and deleted, again and again."""
+    made = [named(CREATE_IDENTITY, f"u{i}", attributes=[f"a{i}"]) for i in range(1000)]
+    return made + [named(CREATE_IDENTITY, "guest", attributes=["a7", "guest"]), named(DELETE_IDENTITY, "guest")] * rounds
+
+
+def attributes(count):
+    """Identities of 64 attributes each, of 1,024 distinct ones."""
+    return [named(CREATE_IDENTITY, f"u{i}", attributes=[f"a{(i * 64 + k) % 1024}" for k in range(64)]) for i in range(count)]
+
+
+def updates():
+    """100 identities, 50 services, 500 policies that grant the same pairs, and 10,000 updates that change no grant."""
+    made = [named(CREATE_IDENTITY, f"u{i}", attributes=["a"]) for i in range(1, 101)]
+    made += [named(CREATE_SERVICE, f"s{i}", attributes=["b"]) for i in range(1, 51)]
+    roles = {"type": "Dial", "semantic": "AnyOf", "identity_roles": ["#a"], "service_roles": ["#b"]}
+    made += [named(CREATE_SERVICE_POLICY, f"p{i}", **roles) for i in range(1, 501)]
+    made += [named(UPDATE_IDENTITY, "u1", attributes=["a", "x"] if i % 2 == 0 else ["a"]) for i in range(10_000)]
+    return made + [(SHOW_COUNTS, {})]
+
+
+def all_to_all():
+    """2,048 identities and 512 services, and one policy of all and all: 1,048,576 pairs."""
+    made = [named(CREATE_IDENTITY, f"u{i}") for i in range(2048)] + [named(CREATE_SERVICE, f"s{i}") for i in range(512)]
+    roles = {"type": "Dial", "semantic": "AnyOf", "identity_roles": ["#all"], "service_roles": ["#all"]}
+    return made + [named(CREATE_SERVICE_POLICY, "p", **roles)]
+
+
+def granted():
+    """One identity and one service that all routers share, with what it takes to ask for circuits."""
+    everything = {"semantic": "AnyOf", "router_roles": ["#all"]}
+    return [
+        named(CREATE_IDENTITY, "ann"),
+        named(CREATE_SERVICE, "web"),
+        named(CREATE_SERVICE_POLICY, "d", type="Dial", semantic="AnyOf", identity_roles=["#all"], service_roles=["#all"]),
+        named(CREATE_EDGE_ROUTER_POLICY, "e", identity_roles=["#all"], **everything),
+        named(CREATE_SERVICE_EDGE_ROUTER_POLICY, "s", service_roles=["#all"], **everything),
+    ]
+
+
+def network(routers, pairs):
+    """Connected routers r0, r1 and so on, and a link l0, l1 and so on between each of the pairs, whose costs differ."""
+    made = [named(CREATE_ROUTER, f"r{i}", attributes=[f"zone{i % 4}"], cost=i % 7) for i in range(routers)]
+    made += [named(CONNECT_ROUTER, f"r{i}") for i in range(routers)]
+    return made + [named(CREATE_LINK, f"l{k}", a=f"r{a}", b=f"r{b}", cost=1 + k * 37 % 97) for k, (a, b) in enumerate(pairs)]
+
+
+def mesh():
+    """256 routers and 4,096 links: each router has one to the 16 behind it."""
+    pairs = [(i, (i + step) % ROUTERS) for step in range(1, LINKS // ROUTERS + 1) for i in range(ROUTERS)]
+    return network(ROUTERS, pairs) + granted()
+
+
+def terminator(router):
+    return CREATE_TERMINATOR, {"service": "web", "router": f"r{router}", "cost": 5}
+
+
+def request(ingress):
+    return {"identity": "ann", "service": "web", "ingress": f"r{ingress}"}
+
+
+def mesh_circuits(count):
+    """Circuits over the mesh, to four terminators."""
+    made = mesh() + [terminator(r) for r in (0, 64, 128, 192)]
+    return made + [(CREATE_CIRCUIT, request(i * 29 % ROUTERS)) for i in range(count)]
+
+
+def mesh_full():
+    """16,384 circuits over the mesh, and then 1,000 reports of a latency."""
+    reports = [(REPORT_LATENCY, {"link": "l7", "router": "r7", "latency": i % 1000}) for i in range(1000)]
+    return mesh_circuits(16_384) + reports
+
+
+def line_circuits():
+    """A line of 256 routers, 300 circuits over all of it, and then 100 reports of a latency."""
+    made = network(ROUTERS, [(i, i + 1) for i in range(ROUTERS - 1)]) + granted() + [terminator(ROUTERS - 1)]
+    made += [(CREATE_CIRCUIT, request(0)) for _ in range(300)]
+    return made + [(REPORT_LATENCY, {"link": "l7", "router": "r7", "latency": i}) for i in range(100)]
+
+
+def explained():
+    """An explanation over the mesh with terminators at 16 routers."""
+    return mesh() + [terminator(r) for r in range(0, ROUTERS, 16)] + [(EXPLAIN, {"identity": "ann", "service": "web"})]
+
+
+def claimed(explanation, count):
+    """The explanation claimed, as a client would send it back, some times."""
+    told = dict(explanation)
+    told["chosen"] = told.pop("ingress")
+    return explained() + [(VERIFY_ROUTE, {"identity": "ann", "service": "web", **told})] * count
