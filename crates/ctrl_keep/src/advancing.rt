@@ -92,8 +92,14 @@ pub(crate) fn advance<D: Desk>(
     let kept = keep(store, desk, &planned.batch);
     *spent = store.is_spent();
     match kept {
-        Err(fault) => Err(fault),
-        Ok(false) => Ok(Reply::Refused(Refusal::JournalFull)),
+        Err(fault) => {
+            drop(planned);
+            Err(fault)
+        }
+        Ok(false) => {
+            drop(planned);
+            Ok(Reply::Refused(Refusal::JournalFull))
+        }
         Ok(true) => {
             *spent = true;
             let reply = core.apply(planned)?;

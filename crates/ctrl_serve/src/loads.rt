@@ -28,7 +28,9 @@ fn answer_unsaid(alloc: Global, core: &mut Core, frame: &Frame) -> Result<(), Al
 {
     match read(alloc, frame.content, frame.body.as_slice()) {
         Ok(command) => {
-            carry_alone(core, &Who::Admin, &command)?;
+            let carried = carry_alone(core, &Who::Admin, &command);
+            drop(command);
+            drop(carried?);
             Ok(())
         }
         Err(CodecFault::NoMemory) => Err(AllocError),

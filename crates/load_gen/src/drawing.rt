@@ -59,5 +59,7 @@ pub(crate) fn push(
     requires { is_spelled command ≡ true }
     ensures { OnOk result (Pushes frames.old.items frames.new.items (command ∷ [])) }
 {
-    push_frame(alloc, frames, &command)
+    let pushed = push_frame(alloc, frames, &command);
+    drop(command);
+    pushed
 }
