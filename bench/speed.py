@@ -39,7 +39,7 @@ def claims(program):
 
 
 INPUTS = {
-    "churn": lambda program: networks.churn(100_000),
+    "churn": lambda program: networks.churn(10_000),
     "attributes": lambda program: networks.attributes(1000),
     "updates": lambda program: networks.updates(),
     "all_to_all": lambda program: networks.all_to_all(),
