@@ -87,15 +87,19 @@ closed_disk T before mid now keep.NoMemory status c d x y cause still told = dis
 pub unopened : {D : Type 0} {said noted : D → Option (List ℕ)} {say_faults note_faults : D → ℕ} {reads : D → Image} {moment : D → ℕ} {since : D → ℕ → Image → List ℕ → Type 0} {may_leave : D → Image → Type 0} {disk_faults : D → ℕ}
     (tells : Bool) (fault : KeepFault) (desk mid now : D) (status : Status) → OnlyDisk said noted say_faults note_faults desk mid → OnlyNotes said say_faults reads may_leave disk_faults mid now
     → FindsNoMore moment since mid now → OpenFails tells (reads desk) fault → (IsTrue tells → 0 < length (reads desk Mark) → reads mid ≡ reads desk)
-    → Leaves moment since may_leave said desk mid (λ image. ⊤) → (IsTrue tells → Leaves moment since may_leave said desk mid (After StandsAsBefore (may_leave desk)))
+    → (IsTrue tells → 0 < length (reads desk Mark) → Leaves moment since may_leave said desk mid (may_leave desk)) → Leaves moment since may_leave said desk mid (λ image. ⊤) → (IsTrue tells → Leaves moment since may_leave said desk mid (After StandsAsBefore (may_leave desk)))
     → TellsClosed fault status (noted mid) (noted now) (note_faults mid) (note_faults now)
     → IsUnopened said noted note_faults tells reads moment since may_leave desk now status
-unopened {said = said} {noted = noted} {note_faults = note_faults} {reads = reads} tells fault desk mid now status calls notes more fails kept quiet left told =
+unopened {said = said} {noted = noted} {note_faults = note_faults} {reads = reads} {may_leave = may_leave} tells fault desk mid now status calls notes more fails kept unwritten quiet left told =
     let still : IsTrue tells → 0 < length (reads desk Mark) → reads now ≡ reads desk = λ yes some. notes.parts ∙ kept yes some in
     let why = closed_by tells (reads desk) (reads now) fault (noted mid) (noted now) (note_faults mid) (note_faults now) status fails still told in
     record {
       says_nothing = notes.replies ∙ calls.replies;
-      stays = still;
+      alone = λ yes some. record {
+        parts = still yes some;
+        found = λ image p. (unwritten yes some).found image (notes.found image p);
+        stops = Elapses-then (λ image taken. may_leave desk image) (unwritten yes some).time more (λ i w p. p.found) (λ i w none. absurd none);
+      };
       why = subst (λ (o : Option (List ℕ)). StaysClosed tells (reads desk) (reads now) o (noted now) (note_faults desk) (note_faults now) status) calls.notes
           (subst (λ (n : ℕ). StaysClosed tells (reads desk) (reads now) (noted mid) (noted now) n (note_faults now) status) calls.failed_notes why);
       stops = λ yes. Elapses-then _ (left yes).time more (λ i w p. p) (λ i w none. absurd none);

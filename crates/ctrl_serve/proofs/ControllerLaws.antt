@@ -3,7 +3,7 @@ use Rattle.std.specs.Prelude.{not, is_some}
 use Rattle.std.proofs.Common.{◌≡◌, ◌⊎◌, ℕ, Bool, true, false, List, Option, None, Some, refl, sym, ap, ◌∙◌, subst}
 use Rattle.std.proofs.lemmas.Bool.{false≢true}
 use Rattle.ziti_outside.specs.Images.{Image}
-use Rattle.ziti_outside.specs.Moments.{Leaves}
+use Rattle.ziti_outside.specs.Moments.{Elapses, Leaves, Saying}
 use Rattle.ctrl_model.specs.declared.commands.Command.{Command}
 use Rattle.ctrl_model.specs.declared.kinds.Who.{Who}
 use Rattle.ctrl_model.specs.declared.replies.Reply.{Reply}
@@ -15,10 +15,11 @@ use Rattle.reply_codec.specs.ReplyLimits.{keeps_limits}
 use Rattle.ctrl_serve.specs.declared.controller.Controller.{Controller}
 use Rattle.ctrl_serve.specs.declared.controller.Controller.TheVariants.{Kept}
 use Rattle.ctrl_serve.specs.Controllers.{Serving, IsReady, GoesOn}
-use Rattle.run_notes.specs.NotedLines.{LeavesNotes}
+use Rattle.run_notes.specs.NotedLines.{FindsNoMore, LeavesNotes}
 use Rattle.ctrl_serve.specs.ControllerViews.{serving_of}
-use Rattle.ctrl_serve.specs.Headline.{OnlySaysAndNotes}
-use Rattle.ziti_outside.specs.Untouched.{OnlyNotes}
+use Rattle.ctrl_serve.specs.Headline.{IsLeftAlone, OnlySaysAndNotes}
+use Rattle.ziti_outside.specs.Untouched.{OnlyNotes, OnlySays}
+use Rattle.ziti_outside.proofs.MomentLaws.{Elapses-none, Elapses-then, Elapses-weaker}
 use Rattle.ctrl_serve.proofs.CarriedFits.{step_fits}
 
 -- What a kept controller that can answer has: it is not spent.
@@ -76,23 +77,67 @@ pub LeavesNotes-then : {D : Type 0} {noted : D → Option (List ℕ)} {note_faul
     → LeavesNotes noted note_faults old mid → LeavesNotes noted note_faults mid new → LeavesNotes noted note_faults old new
 LeavesNotes-then first second = record { notes = second.notes ∙ first.notes; failed_notes = second.failed_notes ∙ first.failed_notes }
 
--- Replies and notes that came twice.
-pub OnlySaysAndNotes-then : {D : Type 0} {reads : D → Image} {may_leave : D → Image → Type 0} {disk_faults : D → ℕ} {old mid new : D}
-    → OnlySaysAndNotes reads may_leave disk_faults old mid → OnlySaysAndNotes reads may_leave disk_faults mid new → OnlySaysAndNotes reads may_leave disk_faults old new
-OnlySaysAndNotes-then first second = record {
+-- A folder that was left alone twice was left alone.
+pub LeftAlone-then : {D : Type 0} {reads : D → Image} {moment : D → ℕ} {since : D → ℕ → Image → List ℕ → Type 0} {may_leave : D → Image → Type 0} {old mid new : D}
+    → IsLeftAlone reads moment since may_leave old mid → IsLeftAlone reads moment since may_leave mid new → IsLeftAlone reads moment since may_leave old new
+LeftAlone-then {may_leave = may_leave} {old = old} first second = record {
   parts = second.parts ∙ first.parts;
   found = λ image left. first.found image (second.found image left);
-  failed_calls = second.failed_calls ∙ first.failed_calls;
+  stops = Elapses-then (λ image taken. may_leave old image) first.stops second.stops (λ i w p. p) (λ i w p. first.found i p);
 }
 
-pub OnlySaysAndNotes-none : {D : Type 0} {reads : D → Image} {may_leave : D → Image → Type 0} {disk_faults : D → ℕ} (desk : D) → OnlySaysAndNotes reads may_leave disk_faults desk desk
-OnlySaysAndNotes-none desk = record { parts = refl; found = λ image left. left; failed_calls = refl }
+pub LeftAlone-none : {D : Type 0} {reads : D → Image} {moment : D → ℕ} {since : D → ℕ → Image → List ℕ → Type 0} {may_leave : D → Image → Type 0} (desk : D) → IsLeftAlone reads moment since may_leave desk desk
+LeftAlone-none desk = record { parts = refl; found = λ image left. left; stops = Elapses-none _ _ _ }
 
--- And notes behind them.
-pub notes_behind : {D : Type 0} {said : D → Option (List ℕ)} {say_faults : D → ℕ} {reads : D → Image} {may_leave : D → Image → Type 0} {disk_faults : D → ℕ} {old mid new : D}
-    → OnlySaysAndNotes reads may_leave disk_faults old mid → OnlyNotes said say_faults reads may_leave disk_faults mid new → OnlySaysAndNotes reads may_leave disk_faults old new
-notes_behind first notes = record {
-  parts = notes.parts ∙ first.parts;
-  found = λ image left. first.found image (notes.found image left);
-  failed_calls = notes.failed_calls ∙ first.failed_calls;
+-- Notes leave it alone.
+pub noted_alone : {D : Type 0} {said : D → Option (List ℕ)} {say_faults : D → ℕ} {reads : D → Image} {moment : D → ℕ} {since : D → ℕ → Image → List ℕ → Type 0} {may_leave : D → Image → Type 0} {disk_faults : D → ℕ} {old new : D}
+    → OnlyNotes said say_faults reads may_leave disk_faults old new → FindsNoMore moment since old new → IsLeftAlone reads moment since may_leave old new
+noted_alone {may_leave = may_leave} {old = old} notes more = record {
+  parts = notes.parts;
+  found = notes.found;
+  stops = Elapses-weaker (λ image taken. may_leave old image) more (λ i w none. absurd none);
 }
+
+-- And so does a say.
+said_alone : {D : Type 0} {noted : D → Option (List ℕ)} {note_faults : D → ℕ} {reads : D → Image} {moment : D → ℕ} {since : D → ℕ → Image → List ℕ → Type 0} {may_leave : D → Image → Type 0} {disk_faults : D → ℕ} {old new : D} (said : Option (List ℕ)) (bytes : List ℕ)
+    → OnlySays noted note_faults reads may_leave disk_faults old new → Elapses (moment old) (moment new) (since old) (since new) (Saying (may_leave old) said bytes) → IsLeftAlone reads moment since may_leave old new
+said_alone {may_leave = may_leave} {old = old} said bytes says stops = record {
+  parts = says.parts;
+  found = says.found;
+  stops = Elapses-weaker (λ image taken. may_leave old image) stops (λ i w p. p.found);
+}
+
+-- Replies and notes that came twice.
+pub OnlySaysAndNotes-then : {D : Type 0} {reads : D → Image} {moment : D → ℕ} {since : D → ℕ → Image → List ℕ → Type 0} {may_leave : D → Image → Type 0} {disk_faults : D → ℕ} {old mid new : D}
+    → OnlySaysAndNotes reads moment since may_leave disk_faults old mid → OnlySaysAndNotes reads moment since may_leave disk_faults mid new → OnlySaysAndNotes reads moment since may_leave disk_faults old new
+OnlySaysAndNotes-then first second = record { folder = LeftAlone-then first.folder second.folder; failed_calls = second.failed_calls ∙ first.failed_calls }
+
+pub OnlySaysAndNotes-none : {D : Type 0} {reads : D → Image} {moment : D → ℕ} {since : D → ℕ → Image → List ℕ → Type 0} {may_leave : D → Image → Type 0} {disk_faults : D → ℕ} (desk : D) → OnlySaysAndNotes reads moment since may_leave disk_faults desk desk
+OnlySaysAndNotes-none desk = record { folder = LeftAlone-none desk; failed_calls = refl }
+
+-- Replies alone, and notes alone.
+pub says_alone : {D : Type 0} {noted : D → Option (List ℕ)} {note_faults : D → ℕ} {reads : D → Image} {moment : D → ℕ} {since : D → ℕ → Image → List ℕ → Type 0} {may_leave : D → Image → Type 0} {disk_faults : D → ℕ} {old new : D} (said : Option (List ℕ)) (bytes : List ℕ)
+    → OnlySays noted note_faults reads may_leave disk_faults old new → Elapses (moment old) (moment new) (since old) (since new) (Saying (may_leave old) said bytes) → OnlySaysAndNotes reads moment since may_leave disk_faults old new
+says_alone said bytes says stops = record { folder = said_alone said bytes says stops; failed_calls = says.failed_calls }
+
+pub notes_alone : {D : Type 0} {said : D → Option (List ℕ)} {say_faults : D → ℕ} {reads : D → Image} {moment : D → ℕ} {since : D → ℕ → Image → List ℕ → Type 0} {may_leave : D → Image → Type 0} {disk_faults : D → ℕ} {old new : D}
+    → OnlyNotes said say_faults reads may_leave disk_faults old new → FindsNoMore moment since old new → OnlySaysAndNotes reads moment since may_leave disk_faults old new
+notes_alone notes more = record { folder = noted_alone notes more; failed_calls = notes.failed_calls }
+
+-- A say on a desk that was left as it was, and that desk.
+pub says_behind : {D : Type 0} {noted : D → Option (List ℕ)} {note_faults : D → ℕ} {reads : D → Image} {moment : D → ℕ} {since : D → ℕ → Image → List ℕ → Type 0} {may_leave : D → Image → Type 0} {disk_faults : D → ℕ} {old mid new : D} (said : Option (List ℕ)) (bytes : List ℕ)
+    → mid ≡ old → OnlySays noted note_faults reads may_leave disk_faults mid new → Elapses (moment mid) (moment new) (since mid) (since new) (Saying (may_leave mid) said bytes)
+    → OnlySaysAndNotes reads moment since may_leave disk_faults old new
+says_behind {reads = reads} {moment = moment} {since = since} {may_leave = may_leave} {disk_faults = disk_faults} {new = new} said bytes same says stops =
+    subst (λ desk. OnlySaysAndNotes reads moment since may_leave disk_faults desk new) same (says_alone said bytes says stops)
+
+pub desk_behind : {D : Type 0} {reads : D → Image} {moment : D → ℕ} {since : D → ℕ → Image → List ℕ → Type 0} {may_leave : D → Image → Type 0} {disk_faults : D → ℕ} {old new : D} → new ≡ old
+    → OnlySaysAndNotes reads moment since may_leave disk_faults old new
+desk_behind {reads = reads} {moment = moment} {since = since} {may_leave = may_leave} {disk_faults = disk_faults} {old = old} same =
+    subst (λ desk. OnlySaysAndNotes reads moment since may_leave disk_faults old desk) (sym same) (OnlySaysAndNotes-none old)
+
+-- Notes behind both.
+pub notes_behind : {D : Type 0} {said : D → Option (List ℕ)} {say_faults : D → ℕ} {reads : D → Image} {moment : D → ℕ} {since : D → ℕ → Image → List ℕ → Type 0} {may_leave : D → Image → Type 0} {disk_faults : D → ℕ} {old mid new : D}
+    → OnlySaysAndNotes reads moment since may_leave disk_faults old mid → OnlyNotes said say_faults reads may_leave disk_faults mid new → FindsNoMore moment since mid new
+    → OnlySaysAndNotes reads moment since may_leave disk_faults old new
+notes_behind first notes more = OnlySaysAndNotes-then first (notes_alone notes more)

@@ -10,7 +10,7 @@ use Rattle.ziti_outside.specs.Causes.{HasCause}
 use Rattle.ziti_outside.specs.Untouched.{OnlyDisk, OnlyNotes, OnlyReads}
 use Rattle.ziti_outside.specs.declared.desk.Part.{Part}
 use Rattle.ziti_outside.specs.declared.desk.Part.TheVariants.{Mark}
-use Rattle.ziti_outside.proofs.MomentLaws.{Elapses-then, Leaves-weaker}
+use Rattle.ziti_outside.proofs.MomentLaws.{Elapses-then, Elapses-weaker, Leaves-weaker}
 use Rattle.slot_files.specs.FolderImage.{Stands, StandsAsBefore, slot_of}
 use Rattle.slot_files.specs.OpenedSlots.{Opens}
 use Rattle.slot_files.proofs.StandLaws.{stands_same}
@@ -28,6 +28,7 @@ use Rattle.ctrl_keep.specs.declared.faults.KeepFault.{KeepFault}
 use Rattle.ctrl_keep.specs.declared.faults.KeepFault.TheVariants.{Disk, Damaged, Spent, NoMemory}
 use Rattle.ctrl_keep.specs.OpenedStates.{byte_rows_of, OpensToState}
 use Rattle.ctrl_keep.specs.KeptMachine.{Machine, Place, compacted_place, is_compact}
+use Rattle.ctrl_keep.specs.KeptBatches.{mark_at}
 use Rattle.ctrl_keep.specs.KeptController.{Controlled, HoldsRows, machine_of, place_of}
 use Rattle.ctrl_keep.specs.Faults.{disk_failure, OpenFails, SubmitFails}
 use Rattle.run_notes.specs.declared.ends.Full.{Full}
@@ -37,13 +38,14 @@ use Rattle.run_notes.specs.declared.status.Status.TheVariants as ending
 use Rattle.run_notes.specs.NotedLines.{FindsNoMore}
 use Rattle.ctrl_serve.specs.FolderRuns.{TellsClosed, TellsCompaction, TellsRoom, full_in}
 use Rattle.ctrl_serve.specs.FolderWords.{Audits, Compacts, EndsCompaction, IsCompacted, compaction, refusal_of}
-use Rattle.ctrl_serve.specs.Headline.{IsLeftAlone, IsUnopened, OnlySaysAndNotes}
+use Rattle.ctrl_serve.specs.Headline.{IsLeftAlone, IsUnopened}
 use Rattle.ctrl_serve.specs.Loads.{counts_line, SaysOneLine}
 use Rattle.ctrl_serve.specs.OpenedFolders.{Keeps}
 use Rattle.ctrl_serve.specs.RunStops.{AllOpenTo}
 use Rattle.ctrl_serve.specs.Runs.{IsDiskCaused}
 use Rattle.ctrl_serve.proofs.IntakeLaws.{disk_calm, disk_fault}
 use Rattle.ctrl_serve.proofs.OpenedMachines.{kept_keeps, opens_by}
+use Rattle.ctrl_serve.proofs.FollowedRuns.{kept_by, opened_by}
 use Rattle.ctrl_serve.proofs.ClosedFolders.{unopened}
 
 -- ---- notes behind the calls on a folder
@@ -76,27 +78,15 @@ pub unaudited : {D : Type 0} {said noted : D → Option (List ℕ)} {say_faults 
     → TellsClosed fault status (noted mid) (noted now) (note_faults mid) (note_faults now)
     → IsUnopened said noted note_faults tells reads moment since may_leave desk now status
 unaudited tells fault desk mid now status looks notes more fails told =
-    unopened tells fault desk mid now status looks.others notes more fails (λ yes some. looks.parts) (read_quietly looks.stops) (λ yes. read_stands looks.stops) told
+    unopened tells fault desk mid now status looks.others notes more fails (λ yes some. looks.parts) (λ yes some. looks.stops) (read_quietly looks.stops) (λ yes. read_stands looks.stops) told
 
--- It is left alone where notes were written behind the look.
-pub noted_alone : {D : Type 0} {said noted : D → Option (List ℕ)} {say_faults note_faults : D → ℕ} {reads : D → Image} {moment : D → ℕ} {since : D → ℕ → Image → List ℕ → Type 0} {may_leave : D → Image → Type 0} {disk_faults : D → ℕ}
-    (desk mid now : D) → OnlyReads reads said noted say_faults note_faults moment since may_leave desk mid → OnlyNotes said say_faults reads may_leave disk_faults mid now → FindsNoMore moment since mid now
-    → IsLeftAlone reads moment since may_leave desk now
-noted_alone {may_leave = may_leave} desk mid now looks notes more = record {
-  parts = notes.parts ∙ looks.parts;
-  found = λ image p. looks.stops.found image (notes.found image p);
-  stops = Elapses-then (λ image taken. may_leave desk image) looks.stops.time more (λ i w p. p.found) (λ i w none. absurd none);
-}
-
--- And where a line was said behind it.
-pub audit_alone : {D : Type 0} {said noted : D → Option (List ℕ)} {say_faults note_faults : D → ℕ} {reads : D → Image} {moment : D → ℕ} {since : D → ℕ → Image → List ℕ → Type 0} {may_leave : D → Image → Type 0} {disk_faults : D → ℕ}
-    (desk mid now : D) → OnlyReads reads said noted say_faults note_faults moment since may_leave desk mid → OnlySaysAndNotes reads may_leave disk_faults mid now
-    → Elapses (moment mid) (moment now) (since mid) (since now) (λ image taken. may_leave mid image)
-    → IsLeftAlone reads moment since may_leave desk now
-audit_alone {may_leave = may_leave} desk mid now looks says stops = record {
-  parts = says.parts ∙ looks.parts;
-  found = λ image p. looks.stops.found image (says.found image p);
-  stops = Elapses-then (λ image taken. may_leave desk image) looks.stops.time stops (λ i w p. p.found) (λ i w p. looks.stops.found i p);
+-- It was left alone.
+pub looked_alone : {D : Type 0} {said noted : D → Option (List ℕ)} {say_faults note_faults : D → ℕ} {reads : D → Image} {moment : D → ℕ} {since : D → ℕ → Image → List ℕ → Type 0} {may_leave : D → Image → Type 0} {desk mid : D}
+    → OnlyReads reads said noted say_faults note_faults moment since may_leave desk mid → IsLeftAlone reads moment since may_leave desk mid
+looked_alone {may_leave = may_leave} {desk = desk} looks = record {
+  parts = looks.parts;
+  found = looks.stops.found;
+  stops = Elapses-weaker (λ image taken. may_leave desk image) looks.stops.time (λ i w p. p.found);
 }
 
 -- The counts line was said of the state to which it opens.
@@ -148,11 +138,6 @@ full_of_refusal full.Journal = refl
 full_of_refusal full.Mark = refl
 
 -- ---- what came of a compaction
-
--- The length of the mark at a place.
-abbrev mark_at : Option Place → ℕ
-mark_at None = 0
-mark_at (Some place) = place.mark
 
 -- The folder of a controller that compacted it.
 folder_compacted : (k next : Controlled) (before reads : Image) (images left : Image → Type 0)
@@ -223,6 +208,27 @@ ends_submitted tells k next desk mid (Err Spent) c d x y status s told = absurd 
 ends_submitted {reads = reads} tells k next desk mid (Err NoMemory) c d x y status s told =
     subst (λ (u : Status). EndsCompaction u k.stored.bounds (machine_of k) c d x y tells (reads mid)) (sym told.0) (s.fits s.fresh refl, told.1)
 
+-- Where it has no room nothing was done.
+full_still : {D : Type 0} {reads : D → Image} {may_leave : D → Image → Type 0} (tells : Bool) (k next : Controlled) (desk mid : D) (r : Result Reply KeepFault) (c d : Option (List ℕ)) (x y : ℕ) (status : Status)
+    → Submitted tells reads may_leave k next desk mid r → OnOk r (machine_of next ≡ machine_of k → mid ≡ desk) → TellsCompaction r status c d x y → status ≡ ending.FolderFull → mid ≡ desk
+full_still tells k next desk mid (Ok reply) c d x y status s still told is =
+    elim (compaction_answers k) as (λ _. mid ≡ desk) [
+      | inl done ↦
+          let same : reply ≡ Done = ap (λ (a : Reply × Machine). a.0) s.step ∙ done in
+          let end : TellsRoom None status c d x y = subst (λ (o : Option Full). TellsRoom o status c d x y) (ap full_in same) told in
+          let was = end.0 in
+          absurd cc
+      | inr refused ↦ still (ap (λ (a : Reply × Machine). a.1) s.step ∙ refused.same)
+    ]
+full_still tells k next desk mid (Err Disk) c d x y status s still told is = let was = told.0 in absurd cc
+full_still tells k next desk mid (Err (Damaged part at)) c d x y status s still told is = absurd s.fault
+full_still tells k next desk mid (Err Spent) c d x y status s still told is = absurd (true≢false (sym s.fault.0 ∙ s.fresh))
+full_still tells k next desk mid (Err NoMemory) c d x y status s still told is = let was = told.0 in absurd cc
+
+pub full_reads : {D : Type 0} {reads : D → Image} {may_leave : D → Image → Type 0} (tells : Bool) (k next : Controlled) (desk mid : D) (now : Image) (r : Result Reply KeepFault) (c d : Option (List ℕ)) (x y : ℕ) (status : Status)
+    → Submitted tells reads may_leave k next desk mid r → OnOk r (machine_of next ≡ machine_of k → mid ≡ desk) → now ≡ reads mid → TellsCompaction r status c d x y → status ≡ ending.FolderFull → now ≡ reads desk
+full_reads {reads = reads} tells k next desk mid now r c d x y status s still same told is = same ∙ ap reads (full_still tells k next desk mid r c d x y status s still told is)
+
 -- And once that was noted.
 pub compaction_ends : {D : Type 0} {reads : D → Image} {may_leave : D → Image → Type 0} (tells : Bool) (k next : Controlled) (desk mid : D) (now : Image) (r : Result Reply KeepFault) (b c d : Option (List ℕ)) (x y z : ℕ) (status : Status)
     → Submitted tells reads may_leave k next desk mid r → now ≡ reads mid → c ≡ b → y ≡ x → TellsCompaction r status c d y z
@@ -273,16 +279,20 @@ pub compacted_opened : {D : Type 0} {said noted : D → Option (List ℕ)} {say_
     → (IsTrue tells → Opens (length (reads desk Mark)) (reads desk) (reads mid)) → OnlyDisk said noted say_faults note_faults desk mid
     → Leaves moment since may_leave said desk mid (λ image. ⊤) → (IsTrue tells → Leaves moment since may_leave said desk mid (After StandsAsBefore (may_leave desk)))
     → EndsCompaction status k.stored.bounds (machine_of k) (noted mid) (noted now) (note_faults mid) (note_faults now) tells (reads now)
-    → Leaves moment since may_leave said mid now (λ image. ⊤) → (IsTrue tells → Leaves moment since may_leave said mid now (λ image. OpensToState image k.state))
+    → (status ≡ ending.FolderFull → reads now ≡ reads mid) → Leaves moment since may_leave said mid now (λ image. ⊤) → (IsTrue tells → Leaves moment since may_leave said mid now (λ image. OpensToState image k.state))
     → Compacts bounds (said desk) (noted desk) (noted now) (note_faults desk) (note_faults now) tells (reads desk) (reads now) (may_leave desk) (may_leave now)
     (Elapses (moment desk) (moment now) (since desk) (since now)) status
-compacted_opened {D} {said} {noted} {say_faults} {note_faults} {moment} {since} reads may_leave bounds k tells desk mid now status opens stands holds same made calls quiet left ends later_quiet later = record {
+compacted_opened {D} {said} {noted} {say_faults} {note_faults} {moment} {since} reads may_leave bounds k tells desk mid now status opens stands holds same made calls quiet left ends full later_quiet later = record {
   machine = machine_of k;
   valid = holds.valid;
   placed = refl;
   opens = λ yes. opens_by (length (reads desk Mark)) (reads desk) (reads mid) (may_leave mid) k refl (opens yes) holds (stands yes) (made yes);
   ends = subst (λ (n : StoreBounds). EndsCompaction status n (machine_of k) (noted desk) (noted now) (note_faults desk) (note_faults now) tells (reads now)) same
       (rw (sym calls.notes) (rw (sym calls.failed_notes) ends));
+  refused_stands = λ yes is. record {
+    still = λ batches s. subst (λ (i : Image). Stands i batches) (sym (full is)) (opened_by (length (reads desk Mark)) (reads desk) (reads mid) batches refl (made yes) s);
+  };
+  refused_still = λ yes is some. full is ∙ kept_by (length (reads desk Mark)) (reads desk) (reads mid) some (made yes);
   stops = λ yes all. Elapses-then (λ image taken. OpensToState image k.state) (left yes).time (later yes).time
       (λ i w p. still_stands (may_leave desk) k.state all i p.found) (λ i w p. p.found);
   found = λ yes. (later yes).found;

@@ -4,6 +4,7 @@ pub mod CarriedFits
 pub mod ControllerLaws
 pub mod RoomRuns
 pub mod KnownLaws
+pub mod FollowedRuns
 pub mod TurnLaws
 pub mod UsedLaws
 pub mod StopLaws
@@ -23,3 +24,5 @@ pub mod ReplayLaws
 pub mod FolderLaws
 pub mod AcknowledgedLaws
 pub mod CompleteRunLaws
+pub mod DecidedInputs
+pub mod NearLaws

@@ -199,7 +199,7 @@ start_given Trace =
     record { none = is.none; good = is.good; quiet = quiet_start Trace; moved = trace_moved [] (start_of Trace).sessions refl }
 
 -- No byte of it was taken.
-no_bytes_used : (form : Form) (most : ℕ) → at_start form (take most []) ≡ start_of form
+pub no_bytes_used : (form : Form) (most : ℕ) → at_start form (take most []) ≡ start_of form
 no_bytes_used form most = ap (at_start form) (take_all most [] (omega arith)) ∙ no_more_input (start_of form)
 
 -- ---- where an input is decided
@@ -287,7 +287,7 @@ answers_from form bounds k k1 m m1 st st0 st1 st2 a b f g n n1 x x1 same same_no
   noted_is = told.noted_is;
 }
 
-undecided_start : (form : Form) (most : ℕ) → is_decided form (take most []) ≡ false
+pub undecided_start : (form : Form) (most : ℕ) → is_decided form (take most []) ≡ false
 undecided_start Plain most = ap (λ (st : Standing). list_any is_fault (events_of st)) (no_bytes_used Plain most) ∙ ap (list_any is_fault) (start_given Plain).none
 undecided_start Trace most = ap (λ (st : Standing). begins_bad (end_of st)) (no_bytes_used Trace most) ∙ (start_given Trace).good
 
@@ -303,13 +303,13 @@ near_none form most = record {
 }
 
 -- Before any of them, nothing was taken and answered.
-pub pieces_start : {i : ℕ} {past : ℕ → Image → List ℕ → Type 0} (form : Form) (c : Serving) (most : ℕ) (k : Known) (st : Standing) (l a : Option (List ℕ)) (f : Bool) (n : Option (List ℕ)) (x : ℕ) (tells : Bool)
+abbrev pub pieces_start : {i : ℕ} {past : ℕ → Image → List ℕ → Type 0} (form : Form) (c : Serving) (most : ℕ) (k : Known) (st : Standing) (l a : Option (List ℕ)) (f : Bool) (n : Option (List ℕ)) (x : ℕ) (tells : Bool)
     → k ≡ known_in form → st ≡ start_of form → AnswersPieces form c most k c.machine st l l a a f f n n x x tells (Elapses i i past past) 0
 pieces_start {i} {past} form c most k st l a f n x tells known start = record {
   takes = record { taken = []; gave = Gave-none l; few = omega arith; stops = λ some told. Elapses-none i past (StopsAlong form c.bounds (known_in form) c.machine (at_start form (take most [])) a) };
   counted = refl;
   answers = answers_from form c.bounds (known_in form) k c.machine c.machine st (at_start form (take most [])) st st a a f f n n x x (no_bytes_used form most ∙ sym start) refl
-      (subst (λ (y : Known). Answers form c.bounds y k c.machine c.machine st st a a f f n n x x) known (answers_start form c.bounds k c.machine st a f n x));
+      (answers_start form c.bounds (known_in form) k c.machine st a f n x known);
   undecided = undecided_start form most;
 }
 
@@ -323,7 +323,7 @@ pieces_none {i} {past} form c most l a f n x tells = record {
 }
 
 -- The used bytes with one piece more.
-two_used : (most count : ℕ) (taken piece part : List ℕ) → length taken ≡ count → count ≤ most → part ≡ take (most - count) piece → take most (taken ++ piece) ≡ take most taken ++ part
+pub two_used : (most count : ℕ) (taken piece part : List ℕ) → length taken ≡ count → count ≤ most → part ≡ take (most - count) piece → take most (taken ++ piece) ≡ take most taken ++ part
 two_used most count taken piece part counted le is =
     let whole : most ≡ length taken + (most - count) = omega (arith, counted, le) in
     let few : length taken ≤ most = omega (arith, counted, le) in
@@ -342,11 +342,11 @@ pub record FedPieces (form : Form) (c : Serving) (most : ℕ) (k : Known) (m : M
   pub calm : form ≡ Plain → list_any is_fault answers.answered ≡ false
 
 -- Plain input that is not decided has no fault.
-undecided_calm : (form : Form) (used : List ℕ) (es : List Event) → is_decided form used ≡ false → es ≡ events_in form used → form ≡ Plain → list_any is_fault es ≡ false
+pub undecided_calm : (form : Form) (used : List ℕ) (es : List Event) → is_decided form used ≡ false → es ≡ events_in form used → form ≡ Plain → list_any is_fault es ≡ false
 undecided_calm Plain used es going all is = ap (list_any is_fault) all ∙ going
 undecided_calm Trace used es going all is = absurd cc
 
-pub pieces_fed : {i j : ℕ} {past since : ℕ → Image → List ℕ → Type 0} (form : Form) (c : Serving) (most : ℕ) (k : Known) (m : Machine) (st st2 : Standing) (l r r2 a b : Option (List ℕ)) (f g : Bool) (n n1 : Option (List ℕ)) (x x1 : ℕ) (tells : Bool) (count : ℕ) (piece part : List ℕ)
+abbrev pub pieces_fed : {i j : ℕ} {past since : ℕ → Image → List ℕ → Type 0} (form : Form) (c : Serving) (most : ℕ) (k : Known) (m : Machine) (st st2 : Standing) (l r r2 a b : Option (List ℕ)) (f g : Bool) (n n1 : Option (List ℕ)) (x x1 : ℕ) (tells : Bool) (count : ℕ) (piece part : List ℕ)
     → AnswersPieces form c most k m st l r a b f g n n1 x x1 tells (Elapses i j past since) count → events_of st ≡ [] → count ≤ most → Gave r r2 piece → length piece ≤ 65536 → part ≡ take (most - count) piece → st2 ≡ fed st part
     → FedPieces form c most k m st2 l r2 a b f g n n1 x x1 tells (Elapses i j past since) (count + length piece)
 pieces_fed {i} {j} {past} {since} form c most k m st st2 l r r2 a b f g n n1 x x1 tells count piece part held none le gave few is now =
@@ -416,7 +416,7 @@ fed_cut by form c here most k m st l r a b d f g h n n1 n2 x x1 x2 tells size fe
     }
 
 -- All its events were answered: the input is not decided and goes on, or it is.
-pub fed_more : {i j o : ℕ} {past mid since : ℕ → Image → List ℕ → Type 0} (form : Form) (c : Serving) (here : StoreBounds) (most : ℕ) (k k1 : Known) (m m1 : Machine) (st st1 : Standing) (l r a b d : Option (List ℕ)) (f g h : Bool) (n n1 n2 : Option (List ℕ)) (x x1 x2 : ℕ) (tells : Bool) (bad : Option ℕ) (size count : ℕ)
+abbrev pub fed_more : {i j o : ℕ} {past mid since : ℕ → Image → List ℕ → Type 0} (form : Form) (c : Serving) (here : StoreBounds) (most : ℕ) (k k1 : Known) (m m1 : Machine) (st st1 : Standing) (l r a b d : Option (List ℕ)) (f g h : Bool) (n n1 n2 : Option (List ℕ)) (x x1 x2 : ℕ) (tells : Bool) (bad : Option ℕ) (size count : ℕ)
     → FedPieces form c most k m st l r a b f g n n1 x x1 tells (Elapses i j past mid) size → here ≡ c.bounds → Answers form here k k1 m m1 st st1 b d g h n1 n2 x1 x2
     → (IsSome c.kept → IsTrue tells → Elapses j o mid since (StopsAlong form here k m st b)) → ComesToEnd st1 bad → decided_by form bad k1.faulty ≡ false → size ≡ count
     → AnswersPieces form c most k1 m1 st1 l r a d f h n n2 x x2 tells (Elapses i o past since) count
@@ -431,7 +431,7 @@ fed_more form c here most k k1 m m1 st st1 l r a b d f g h n n1 n2 x x1 x2 tells
       undecided = sym (decided_so form used st1 k1 told.answered bad told.known_is all (end_so form used st1 told.answered told.goes) end) ∙ going;
     }
 
-pub fed_decided : {i j o : ℕ} {past mid since : ℕ → Image → List ℕ → Type 0} (form : Form) (c : Serving) (here : StoreBounds) (most : ℕ) (k k1 : Known) (m m1 : Machine) (st st1 : Standing) (l r a b d : Option (List ℕ)) (f g h : Bool) (n n1 n2 : Option (List ℕ)) (x x1 x2 : ℕ) (tells : Bool) (bad : Option ℕ) (size : ℕ)
+abbrev pub fed_decided : {i j o : ℕ} {past mid since : ℕ → Image → List ℕ → Type 0} (form : Form) (c : Serving) (here : StoreBounds) (most : ℕ) (k k1 : Known) (m m1 : Machine) (st st1 : Standing) (l r a b d : Option (List ℕ)) (f g h : Bool) (n n1 n2 : Option (List ℕ)) (x x1 x2 : ℕ) (tells : Bool) (bad : Option ℕ) (size : ℕ)
     → FedPieces form c most k m st l r a b f g n n1 x x1 tells (Elapses i j past mid) size → here ≡ c.bounds → Answers form here k k1 m m1 st st1 b d g h n1 n2 x1 x2
     → (IsSome c.kept → IsTrue tells → Elapses j o mid since (StopsAlong form here k m st b)) → ComesToEnd st1 bad → decided_by form bad k1.faulty ≡ true
     → EndsPieces form c most k1 m1 st1 l r a d f h n n2 x x2 tells (Elapses i o past since) Whole
@@ -464,7 +464,7 @@ came_few form c most k m st l r a b f g n n1 x x1 tells count held =
     omega (arith, all, few, held.counted)
 
 -- No more of it was taken.
-pub pieces_end : {elapses : (Image → List ℕ → Type 0) → Type 0} (end : End) (form : Form) (c : Serving) (most : ℕ) (k : Known) (m : Machine) (st : Standing) (l r r2 a b : Option (List ℕ)) (f g : Bool) (n n1 : Option (List ℕ)) (x x1 : ℕ) (tells : Bool) (count : ℕ)
+abbrev pub pieces_end : {elapses : (Image → List ℕ → Type 0) → Type 0} (end : End) (form : Form) (c : Serving) (most : ℕ) (k : Known) (m : Machine) (st : Standing) (l r r2 a b : Option (List ℕ)) (f g : Bool) (n n1 : Option (List ℕ)) (x x1 : ℕ) (tells : Bool) (count : ℕ)
     → (held : AnswersPieces form c most k m st l r a b f g n n1 x x1 tells elapses count) → Gave l r2 held.takes.taken → EndsSo end most r2 held.takes.taken (is_decided form (take most held.takes.taken))
     → EndsPieces form c most k m st l r2 a b f g n n1 x x1 tells elapses end
 pieces_end end form c most k m st l r r2 a b f g n n1 x x1 tells count held gave ends = record {
@@ -495,7 +495,7 @@ takes_still form c most l r a tells takes noted = record {
 }
 
 -- Where all events were answered, and the ending was told.
-pub input_ends : {i j o : ℕ} {past mid since : ℕ → Image → List ℕ → Type 0} (end : End) (form : Form) (c : Serving) (most : ℕ) (k : Known) (m : Machine) (st : Standing) (l r a b b2 : Option (List ℕ)) (f g h : Bool) (n n1 n2 : Option (List ℕ)) (x x1 x2 : ℕ) (tells : Bool) (bad : Option ℕ) (status : Status)
+abbrev pub input_ends : {i j o : ℕ} {past mid since : ℕ → Image → List ℕ → Type 0} (end : End) (form : Form) (c : Serving) (most : ℕ) (k : Known) (m : Machine) (st : Standing) (l r a b b2 : Option (List ℕ)) (f g h : Bool) (n n1 n2 : Option (List ℕ)) (x x1 x2 : ℕ) (tells : Bool) (bad : Option ℕ) (status : Status)
     → EndsPieces form c most k m st l r a b f g n n1 x x1 tells (Elapses i j past mid) end → ComesToEnd st bad → Elapses j o mid since (λ image taken. ⊥) → b2 ≡ b
     → status ≡ status_at (k.faulty || begins_bad (end_of st)) (leaves_some (end_of st) k.closed) end → NotesMore g h (ending_lines (end_of st) k.closed status) n1 n2 x1 x2
     → EndsInput status form c most m l r a b2 f h n n2 x x2 tells (Elapses i o past since)

@@ -1,5 +1,5 @@
 -- How the opening of the folder, the serving of the frames and the notes make up a run on the folder, with the counts of their faults.
-use Rattle.std.specs.Prelude.{true, false, Bool, IsTrue}
+use Rattle.std.specs.Prelude.{true, false, Bool, IsTrue, IsSome}
 use Rattle.std.proofs.Common.{◌≡◌, ℕ, ◌⊎◌, List, [], length, take, refl, sym, ap, ◌∙◌, subst, arith}
 use Rattle.std.specs.declared.option.Option.{Option}
 use Rattle.ziti_outside.specs.Images.{Image, After}
@@ -24,6 +24,7 @@ use Rattle.run_notes.specs.declared.status.Status.TheVariants.{ReadFault, WriteF
 use Rattle.ctrl_serve.specs.Controllers.{Serving, IsReady, GoesOn}
 use Rattle.ctrl_serve.specs.ControllerViews.{serving_of}
 use Rattle.ctrl_serve.specs.OpenedFolders.{Keeps}
+use Rattle.ctrl_serve.specs.FollowedFolders.{FollowsInput}
 use Rattle.ctrl_serve.specs.FrameAnswer.{no_bounds, alone, last_machine}
 use Rattle.session_mux.specs.declared.events.Event.{Event}
 use Rattle.session_mux.specs.declared.sessions.Form.{Form}
@@ -41,6 +42,7 @@ use Rattle.run_notes.specs.NotesSoFar.{NotesMore}
 use Rattle.run_notes.specs.KnownSessions.{known_in}
 use Rattle.ctrl_serve.specs.Runs.{IsWriteCaused, IsDiskCaused, KeepsUsed, RunsOn, CountsFaults}
 use Rattle.ctrl_serve.proofs.FailureLaws.{takes_none}
+use Rattle.ctrl_serve.proofs.FollowedRuns.{opened_stands_for, opened_still}
 use Rattle.ctrl_serve.proofs.IntakeLaws.{write_calm, disk_calm, input_serves, input_counted, cut_serves, cut_counted}
 use Rattle.ctrl_serve.proofs.UsedLaws.{at_start}
 use Rattle.ctrl_serve.proofs.OpenedMachines.{ready_keeps, opens_by}
@@ -145,41 +147,46 @@ opened_counts {say_faults = say_faults} {note_faults = note_faults} {disk_faults
 -- ---- the run from a controller on
 
 -- Where all events of the input were answered.
-pub input_runs : (form : Form) (c : Serving) (most : ℕ) (new : Controller) (l r a b d e : Option (List ℕ)) (f g : Bool) (x y : ℕ) (tells : Bool) (now : Image) (images : Image → Type 0) (elapses : (Image → List ℕ → Type 0) → Type 0) (status : Status)
-    → f ≡ false → EndsInput status form c most (serving_of new).machine l r a b f g d e x y tells elapses → GoesOn c (serving_of new) → IsReady tells (serving_of new).kept now images
+pub input_runs : (form : Form) (c : Serving) (most : ℕ) (new : Controller) (l r a b d e : Option (List ℕ)) (f g : Bool) (x y : ℕ) (tells : Bool) (before now : Image) (images : Image → Type 0) (elapses : (Image → List ℕ → Type 0) → Type 0) (status : Status)
+    → f ≡ false → (answered : EndsInput status form c most (serving_of new).machine l r a b f g d e x y tells elapses)
+    → (IsSome c.kept → IsTrue tells → FollowsInput form c.bounds c.machine before now (take most answered.takes.taken)) → GoesOn c (serving_of new) → IsReady tells (serving_of new).kept now images
     → ((used : List ℕ) → elapses (StopsAlong form c.bounds (known_in form) c.machine (at_start form used) a) → elapses (StopFinds form c.bounds c.machine (events_in form used) a))
-    → RunsOn form c most l r a b d e x y tells now images elapses status
-input_runs form c most new l r a b d e f g x y tells now images elapses status calm answered on ready found =
-    let told = subst (λ (u : Bool). EndsInput status form c most (serving_of new).machine l r a b u g d e x y tells elapses) calm answered in
+    → RunsOn form c most l r a b d e x y tells before now images elapses status
+input_runs form c most new l r a b d e f g x y tells before now images elapses status calm answered follows on ready found =
+    let both = subst (λ (u : Bool). (told : EndsInput status form c most (serving_of new).machine l r a b u g d e x y tells elapses) × (IsSome c.kept → IsTrue tells → FollowsInput form c.bounds c.machine before now (take most told.takes.taken)))
+    calm (answered, follows) in
+    let told = both.0 in
     let used : List ℕ = take most told.takes.taken in
     record {
       serves = input_serves form c most (serving_of new).machine l r a b d e g x y tells elapses status told;
       keeps = served_keeps form c new used used tells now images status refl told.last on ready;
+      follows = λ some kept tell. both.1 some tell;
       stops = λ some tell. found used (told.takes.stops some tell);
     }
 
 -- And where it was cut short, and that was told.
-cut_runs_by : (by : Cut) (form : Form) (c : Serving) (most : ℕ) (l r a b b2 d d1 d2 : Option (List ℕ)) (g h : Bool) (x y z : ℕ) (tells : Bool) (now : Image) (images : Image → Type 0) (before elapses : (Image → List ℕ → Type 0) → Type 0)
+cut_runs_by : (by : Cut) (form : Form) (c : Serving) (most : ℕ) (l r a b b2 d d1 d2 : Option (List ℕ)) (g h : Bool) (x y z : ℕ) (tells : Bool) (read now : Image) (images : Image → Type 0) (before elapses : (Image → List ℕ → Type 0) → Type 0)
     → CutsInput by form c most l r a b false g d d1 x y tells before → b2 ≡ b → NotesMore g h (status_lines [] (status_of_cut by)) d1 d2 y z
     → ((used : List ℕ) → before (StopsAlong form c.bounds (known_in form) c.machine (at_start form used) a) → elapses (StopFinds form c.bounds c.machine (events_in form used) a))
-    → RunsOn form c most l r a b2 d d2 x z tells now images elapses (status_of_cut by)
-cut_runs_by by form c most l r a b b2 d d1 d2 g h x y z tells now images before elapses told still more found =
+    → RunsOn form c most l r a b2 d d2 x z tells read now images elapses (status_of_cut by)
+cut_runs_by by form c most l r a b b2 d d1 d2 g h x y z tells read now images before elapses told still more found =
     let used : List ℕ = take most told.takes.taken in
     record {
       serves = cut_serves by form c most l r a b b2 d d1 d2 g h x y z tells before told still more;
       keeps = cut_keeps form c used tells now images by (status_of_cut by) refl;
+      follows = λ some kept tell. absurd (not_kept by kept);
       stops = λ some tell. found used (told.takes.stops some tell);
     }
 
-pub cut_runs : (by : Cut) (form : Form) (c : Serving) (most : ℕ) (l r a b b2 d d1 d2 : Option (List ℕ)) (f g h : Bool) (x y z : ℕ) (tells : Bool) (now : Image) (images : Image → Type 0) (before elapses : (Image → List ℕ → Type 0) → Type 0) (status : Status)
+pub cut_runs : (by : Cut) (form : Form) (c : Serving) (most : ℕ) (l r a b b2 d d1 d2 : Option (List ℕ)) (f g h : Bool) (x y z : ℕ) (tells : Bool) (read now : Image) (images : Image → Type 0) (before elapses : (Image → List ℕ → Type 0) → Type 0) (status : Status)
     → status ≡ status_of_cut by → f ≡ false → CutsInput by form c most l r a b f g d d1 x y tells before → b2 ≡ b → NotesMore g h (status_lines [] status) d1 d2 y z
     → ((used : List ℕ) → before (StopsAlong form c.bounds (known_in form) c.machine (at_start form used) a) → elapses (StopFinds form c.bounds c.machine (events_in form used) a))
-    → RunsOn form c most l r a b2 d d2 x z tells now images elapses status
-cut_runs by form c most l r a b b2 d d1 d2 f g h x y z tells now images before elapses status is calm cuts still more found =
+    → RunsOn form c most l r a b2 d d2 x z tells read now images elapses status
+cut_runs by form c most l r a b b2 d d1 d2 f g h x y z tells read now images before elapses status is calm cuts still more found =
     let told = subst (λ (u : Bool). CutsInput by form c most l r a b u g d d1 x y tells before) calm cuts in
     let behind = subst (λ (u : Status). NotesMore g h (status_lines [] u) d1 d2 y z) is more in
-    subst (λ (u : Status). RunsOn form c most l r a b2 d d2 x z tells now images elapses u) (sym is)
-    (cut_runs_by by form c most l r a b b2 d d1 d2 g h x y z tells now images before elapses told still behind found)
+    subst (λ (u : Status). RunsOn form c most l r a b2 d d2 x z tells read now images elapses u) (sym is)
+    (cut_runs_by by form c most l r a b b2 d d1 d2 g h x y z tells read now images before elapses told still behind found)
 
 -- The notes of such a run failed once at most.
 pub cut_run_counted : (by : Cut) (form : Form) (c : Serving) (most : ℕ) (l r a b d d1 d2 : Option (List ℕ)) (f g h : Bool) (x y z : ℕ) (tells : Bool) (before : (Image → List ℕ → Type 0) → Type 0) (status : Status)
@@ -206,7 +213,7 @@ started_serves core most l m a b d e x y status is s =
 opened_replays : (form : Form) (bounds : StoreBounds) (most : ℕ) (k : Controlled) (l m a b c d : Option (List ℕ)) (x y : ℕ) (tells : Bool) (before mid now : Image) (first images later : Image → Type 0)
     (behind elapses : (Image → List ℕ → Type 0) → Type 0) (status : Status)
     → (IsTrue tells → OpensToState before k.state) → (IsTrue tells → ReadsAs k.stored mid images) → HoldsRows k → k.stored.bounds ≡ bounds
-    → (IsTrue tells → Opens (length (before Mark)) before mid) → RunsOn form (serving_of (Kept k)) most l m a b c d x y tells now later behind status
+    → (IsTrue tells → Opens (length (before Mark)) before mid) → RunsOn form (serving_of (Kept k)) most l m a b c d x y tells mid now later behind status
     → ((events : List Event) → IsTrue tells → behind (StopFinds form k.stored.bounds (machine_of k) events a) → AllOpenTo first k.state → elapses (StopFinds form k.stored.bounds (machine_of k) events a))
     → ((events : List Event) → IsTrue tells → behind (StopFinds form k.stored.bounds (machine_of k) events a)
     → elapses (λ image taken. StopFinds form k.stored.bounds (machine_of k) events a image taken ⊎ Now (After StandsAsBefore first) a image taken))
@@ -220,6 +227,8 @@ opened_replays form bounds most k l m a b c d x y tells before mid now first ima
       serves = runs.serves;
       keeps = λ kept told. (runs.keeps refl kept told).0;
       found = λ kept told. (runs.keeps refl kept told).1;
+      stands = λ kept told batches. opened_stands_for form k.stored.bounds (machine_of k) before mid now (take most runs.serves.taken) batches (made told) (runs.follows refl kept told);
+      still = λ kept told. opened_still form k.stored.bounds (machine_of k) before mid now (take most runs.serves.taken) (made told) (runs.follows refl kept told);
       stops = λ told all. stops (events_in form (take most runs.serves.taken)) told (runs.stops refl told) all;
       stops_later = λ told. stops_later (events_in form (take most runs.serves.taken)) told (runs.stops refl told);
     })
@@ -230,7 +239,7 @@ pub replays_on : {D : Type 0} {said noted : D → Option (List ℕ)} {say_faults
     → (IsTrue tells → OpensToState (reads desk) k.state) → (IsTrue tells → ReadsAs k.stored (reads mid) (may_leave mid)) → HoldsRows k → k.stored.bounds ≡ bounds
     → (IsTrue tells → Opens (length (reads desk Mark)) (reads desk) (reads mid)) → OnlyDisk said noted say_faults note_faults desk mid
     → (IsTrue tells → Leaves moment since may_leave said desk mid (After StandsAsBefore (may_leave desk)))
-    → RunsOn form (serving_of (Kept k)) most l m (said mid) (said now) (noted mid) (noted now) (note_faults mid) (note_faults now) tells (reads now) (may_leave now)
+    → RunsOn form (serving_of (Kept k)) most l m (said mid) (said now) (noted mid) (noted now) (note_faults mid) (note_faults now) tells (reads mid) (reads now) (may_leave now)
     (Elapses (moment mid) (moment now) (since mid) (since now)) status
     → Replays form bounds most l m (said desk) (said now) (noted desk) (noted now) (note_faults desk) (note_faults now) tells (reads desk) (reads now) (may_leave desk) (may_leave now)
     (Elapses (moment desk) (moment now) (since desk) (since now)) status

@@ -8,7 +8,7 @@ use Rattle.std.specs.Io.KnownBytes.{IsAtEnd}
 use Rattle.ziti_outside.specs.Images.{Image}
 use Rattle.ziti_outside.specs.Moments.{Elapses}
 use Rattle.ziti_outside.specs.Told.{Took}
-use Rattle.ziti_outside.specs.Untouched.{OnlySays, OnlyNotes}
+use Rattle.ziti_outside.specs.Untouched.{OnlyNotes}
 use Rattle.journal_core.specs.Room.{LeavesRoom}
 use Rattle.ctrl_model.specs.State.{start}
 use Rattle.row_store.specs.declared.bounds.StoreBounds.{StoreBounds}
@@ -23,7 +23,7 @@ use Rattle.ctrl_serve.specs.CommandLine.{reads_input}
 use Rattle.run_notes.specs.Endings.{is_kept}
 use Rattle.ctrl_serve.specs.SaidReplies.{SaysAll}
 use Rattle.run_notes.specs.Inputs.{is_bad_input, has_rest}
-use Rattle.run_notes.specs.NotedLines.{RisesOnce, NotesLines}
+use Rattle.run_notes.specs.NotedLines.{FindsNoMore, RisesOnce, NotesLines}
 use Rattle.ctrl_serve.specs.FrameAnswer.{no_bounds, alone, replies}
 use Rattle.ctrl_serve.specs.Headline.{OnlySaysAndNotes, Serves, IsComplete, IsLeftAlone, IsUnopened, StaysClosed, Refuses, Replays, Runs}
 use Rattle.ctrl_serve.specs.FolderWords.{Audits, Compacts, EndsCompaction}
@@ -31,23 +31,10 @@ use Rattle.ctrl_serve.specs.Loads.{counts_line, state_of_load, SaysOneLine, IsSa
 use Rattle.run_notes.specs.Notes.{usage_note}
 use Rattle.ctrl_serve.specs.Runs.{CountsFaults, IsDiskCaused, IsWriteCaused}
 use Rattle.ctrl_serve.proofs.EndingLaws.{done_is, at_end, all_replies}
+use Rattle.ctrl_serve.proofs.ControllerLaws.{noted_alone}
 use Rattle.ctrl_serve.proofs.FailureLaws.{takes_none}
 use Rattle.ctrl_serve.proofs.RoomRuns.{room_here, still_room}
 use Rattle.ctrl_serve.proofs.PieceLaws.{good_undecided}
-
--- The folder is left alone where replies were said, and then notes were written.
-pub says_then_notes : {D : Type 0} {said noted : D → Option (List ℕ)} {say_faults note_faults : D → ℕ} {reads : D → Image} {may_leave : D → Image → Type 0} {disk_faults : D → ℕ} {old mid new : D}
-    → OnlySays noted note_faults reads may_leave disk_faults old mid → OnlyNotes said say_faults reads may_leave disk_faults mid new → OnlySaysAndNotes reads may_leave disk_faults old new
-says_then_notes says notes = record {
-  parts = notes.parts ∙ says.parts;
-  found = λ image left. says.found image (notes.found image left);
-  failed_calls = notes.failed_calls ∙ says.failed_calls;
-}
-
--- And where notes alone were written.
-pub notes_alone : {D : Type 0} {said : D → Option (List ℕ)} {say_faults : D → ℕ} {reads : D → Image} {may_leave : D → Image → Type 0} {disk_faults : D → ℕ} {old new : D}
-    → OnlyNotes said say_faults reads may_leave disk_faults old new → OnlySaysAndNotes reads may_leave disk_faults old new
-notes_alone notes = record { parts = notes.parts; found = notes.found; failed_calls = notes.failed_calls }
 
 -- ---- a run that serves its input
 
@@ -115,12 +102,13 @@ pub dry_runs : {S D : Type 0} {left : S → Option (List ℕ)} {faults : S → �
     (tells : Bool) (bounds : StoreBounds) (most : ℕ) (form : Option command.Form) (source source_now : S) (desk desk_now : D) (status : Status) → form ≡ Some Dry
     → Serves Plain no_bounds (alone start) most (left source) (left source_now) (said desk) (said desk_now) (noted desk) (noted desk_now) (note_faults desk) (note_faults desk_now) status
     → CountsFaults left faults say_faults note_faults disk_faults source source_now desk desk_now status
-    → (status ≡ DiskFault → ⊥) → OnlySaysAndNotes reads may_leave disk_faults desk desk_now
+    → (status ≡ DiskFault → ⊥) → OnlySaysAndNotes reads moment since may_leave disk_faults desk desk_now
     → Runs left faults said noted say_faults note_faults reads moment since may_leave disk_faults tells bounds most form source source_now desk desk_now status
 dry_runs {S} {D} {left} {faults} {said} {noted} {say_faults} {note_faults} {reads} tells bounds most form source source_now desk desk_now status is serves counts calm others = record {
   usage = (λ u. absurd (serves_no_usage Plain status _ _ most _ _ _ _ _ _ _ _ serves u), λ n. cc);
   usage_takes_nothing = λ n. cc;
   usage_notes_alone = λ n. cc;
+  usage_changes_nothing = λ n. cc;
   usage_note = λ n. cc;
   read_fault = counts.read_fault;
   write_fault = counts.write.rose;
@@ -148,7 +136,7 @@ dry_runs {S} {D} {left} {faults} {said} {noted} {say_faults} {note_faults} {read
   compact = λ e. cc;
   compact_takes_nothing = λ e. cc;
   compact_says_nothing = λ e. cc;
-  room = λ told start. still_room reads bounds.slot others.parts;
+  room = λ told start. still_room reads bounds.slot others.folder.parts;
 }
 
 -- Where a folder was not opened the run ends with none of these.
@@ -190,6 +178,7 @@ replay_runs {S} {D} {left} {faults} {said} {noted} {say_faults} {note_faults} {r
       usage = (λ u. absurd (at.0 u), λ n. cc);
       usage_takes_nothing = λ n. cc;
       usage_notes_alone = λ n. cc;
+      usage_changes_nothing = λ n. cc;
       usage_note = λ n. cc;
       read_fault = counts.read_fault;
       write_fault = counts.write.rose;
@@ -224,13 +213,14 @@ replay_runs {S} {D} {left} {faults} {said} {noted} {say_faults} {note_faults} {r
 
 -- A run that only wrote the usage note, where the words are no line of the table.
 pub usage_runs : {S D : Type 0} {left : S → Option (List ℕ)} {faults : S → ℕ} {said noted : D → Option (List ℕ)} {say_faults note_faults : D → ℕ} {reads : D → Image} {moment : D → ℕ} {since : D → ℕ → Image → List ℕ → Type 0} {may_leave : D → Image → Type 0} {disk_faults : D → ℕ}
-    (tells : Bool) (bounds : StoreBounds) (most : ℕ) (form : Option command.Form) (source : S) (desk desk_now : D) → form ≡ None → OnlyNotes said say_faults reads may_leave disk_faults desk desk_now
+    (tells : Bool) (bounds : StoreBounds) (most : ℕ) (form : Option command.Form) (source : S) (desk desk_now : D) → form ≡ None → OnlyNotes said say_faults reads may_leave disk_faults desk desk_now → FindsNoMore moment since desk desk_now
     → NotesLines usage_note (noted desk) (noted desk_now) (note_faults desk) (note_faults desk_now) → RisesOnce (note_faults desk) (note_faults desk_now)
     → Runs left faults said noted say_faults note_faults reads moment since may_leave disk_faults tells bounds most form source source desk desk_now Usage
-usage_runs {reads = reads} tells bounds most form source desk desk_now is others note counted = record {
+usage_runs {reads = reads} tells bounds most form source desk desk_now is others more note counted = record {
   usage = (λ _. is, λ _. refl);
   usage_takes_nothing = λ _. refl;
   usage_notes_alone = λ _. others;
+  usage_changes_nothing = λ _. noted_alone others more;
   usage_note = λ _. note;
   read_fault = λ e. cc;
   write_fault = λ e. cc;
@@ -299,7 +289,7 @@ one_load form m n is e = cc
 pub load_runs : {S D : Type 0} {left : S → Option (List ℕ)} {faults : S → ℕ} {said noted : D → Option (List ℕ)} {say_faults note_faults : D → ℕ} {reads : D → Image} {moment : D → ℕ} {since : D → ℕ → Image → List ℕ → Type 0} {may_leave : D → Image → Type 0} {disk_faults : D → ℕ}
     (tells : Bool) (bounds : StoreBounds) (most : ℕ) (form : Option command.Form) (number : ℕ) (source : S) (desk desk_now : D) (status : Status) → form ≡ Some (Load number)
     → SaysOneLine (counts_line (state_of_load number)) (said desk) (said desk_now) (noted desk) (noted desk_now) (note_faults desk) (note_faults desk_now) status
-    → IsWriteCaused (say_faults desk) (say_faults desk_now) status → RisesOnce (note_faults desk) (note_faults desk_now) → OnlySaysAndNotes reads may_leave disk_faults desk desk_now
+    → IsWriteCaused (say_faults desk) (say_faults desk_now) status → RisesOnce (note_faults desk) (note_faults desk_now) → OnlySaysAndNotes reads moment since may_leave disk_faults desk desk_now
     → Runs left faults said noted say_faults note_faults reads moment since may_leave disk_faults tells bounds most form source source desk desk_now status
 load_runs {said = said} {noted = noted} {note_faults = note_faults} {reads = reads} tells bounds most form number source desk desk_now status is says write counted others =
     let not = line_statuses status _ _ _ _ _ _ _ says in
@@ -308,6 +298,7 @@ load_runs {said = said} {noted = noted} {note_faults = note_faults} {reads = rea
       usage = (λ u. absurd (not.0 u), λ n. cc);
       usage_takes_nothing = λ n. cc;
       usage_notes_alone = λ n. cc;
+      usage_changes_nothing = λ n. cc;
       usage_note = λ n. cc;
       read_fault = λ r. absurd (not.1 r);
       write_fault = write.rose;
@@ -335,7 +326,7 @@ load_runs {said = said} {noted = noted} {note_faults = note_faults} {reads = rea
       compact = λ e. cc;
       compact_takes_nothing = λ e. cc;
       compact_says_nothing = λ e. cc;
-      room = λ told start. still_room reads bounds.slot others.parts;
+      room = λ told start. still_room reads bounds.slot others.folder.parts;
     }
 
 -- ---- a look at a folder
@@ -362,6 +353,7 @@ audit_runs {said = said} {noted = noted} {note_faults = note_faults} {reads = re
       usage = (λ u. absurd (not.0 u), λ n. cc);
       usage_takes_nothing = λ n. cc;
       usage_notes_alone = λ n. cc;
+      usage_changes_nothing = λ n. cc;
       usage_note = λ n. cc;
       read_fault = λ r. absurd (not.1 r);
       write_fault = write.rose;
@@ -432,6 +424,7 @@ compact_runs {said = said} {noted = noted} {note_faults = note_faults} {reads = 
       usage = (λ u. absurd (not.0 u), λ n. cc);
       usage_takes_nothing = λ n. cc;
       usage_notes_alone = λ n. cc;
+      usage_changes_nothing = λ n. cc;
       usage_note = λ n. cc;
       read_fault = λ r. absurd (not.1 r);
       write_fault = λ w. absurd (not.2 w);

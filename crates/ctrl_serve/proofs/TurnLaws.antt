@@ -104,23 +104,23 @@ quiet_taken form bounds e k next m m' a b none known same still = record {
 -- ---- the loop
 
 -- Going nowhere gives nothing.
-goes_nowhere : (st : Standing) → GoesTo st st []
+pub goes_nowhere : (st : Standing) → GoesTo st st []
 goes_nowhere st = record { events = λ more. refl; ends = λ more. refl }
 
 -- Nothing was answered at the start.
-pub answers_start : (form : Form) (bounds : StoreBounds) (k : Known) (m : Machine) (st : Standing) (a : Option (List ℕ)) (f : Bool) (n : Option (List ℕ)) (x : ℕ)
-    → Answers form bounds k k m m st st a a f f n n x x
-answers_start form bounds k m st a f n x = record {
+abbrev pub answers_start : (form : Form) (bounds : StoreBounds) (first k : Known) (m : Machine) (st : Standing) (a : Option (List ℕ)) (f : Bool) (n : Option (List ℕ)) (x : ℕ)
+    → k ≡ first → Answers form bounds first k m m st st a a f f n n x x
+answers_start form bounds first k m st a f n x known = record {
   answered = [];
   goes = goes_nowhere st;
-  known_is = refl;
+  known_is = known;
   machine_is = refl;
   said = Took-none a;
   noted_is = more_none f n x;
 }
 
 -- The replies behind one event more.
-one_more_replies : (form : Form) (bounds : StoreBounds) (es : List Event) (e : Event) (k : Known) (m : Machine)
+pub one_more_replies : (form : Form) (bounds : StoreBounds) (es : List Event) (e : Event) (k : Known) (m : Machine)
     → joined (replies_along form bounds (es ++ e ∷ []) k m)
     ≡ joined (replies_along form bounds es k m) ++ joined (replies_by form bounds e (known_along es k) (machine_along bounds es k m))
 one_more_replies form bounds es e k m =
@@ -130,11 +130,11 @@ one_more_replies form bounds es e k m =
     ∙ ap (λ (rs : List (List ℕ)). joined (replies_along form bounds es k m) ++ joined rs) (append-nil last)
 
 -- The lines of one event more.
-one_more_lines : (es : List Event) (e : Event) → fault_lines es ++ event_lines e ≡ fault_lines (es ++ e ∷ [])
+pub one_more_lines : (es : List Event) (e : Event) → fault_lines es ++ event_lines e ≡ fault_lines (es ++ e ∷ [])
 one_more_lines es e = ap (λ (l : List ℕ). fault_lines es ++ l) (sym (append-nil (event_lines e))) ∙ sym (flat_map-append event_lines es (e ∷ []))
 
 -- One more event, within the same bounds.
-pub answers_more : (form : Form) (bounds here : StoreBounds) (e : Event) (k k1 k2 : Known) (m m1 m2 : Machine) (st st1 st2 : Standing) (a b c : Option (List ℕ)) (f g h : Bool) (n n1 n2 : Option (List ℕ)) (x x1 x2 : ℕ)
+abbrev pub answers_more : (form : Form) (bounds here : StoreBounds) (e : Event) (k k1 k2 : Known) (m m1 m2 : Machine) (st st1 st2 : Standing) (a b c : Option (List ℕ)) (f g h : Bool) (n n1 n2 : Option (List ℕ)) (x x1 x2 : ℕ)
     → here ≡ bounds → Answers form bounds k k1 m m1 st st1 a b f g n n1 x x1 → GoesTo st1 st2 (e ∷ []) → TakesEvent form here e k1 k2 m1 m2 b c
     → NotesMore g h (event_lines e) n1 n2 x1 x2 → Answers form bounds k k2 m m2 st st2 a c f h n n2 x x2
 answers_more form bounds here e k k1 k2 m m1 m2 st st1 st2 a b c f g h n n1 n2 x x1 x2 within told goes took noted =
@@ -157,7 +157,7 @@ answers_more form bounds here e k k1 k2 m m1 m2 st st1 st2 a b c f g h n n1 n2 x
     }
 
 -- The standing went on, and gave no event.
-pub answers_still : (form : Form) (bounds : StoreBounds) (k k1 : Known) (m m1 : Machine) (st st1 st2 : Standing) (a b : Option (List ℕ)) (f g : Bool) (n n1 : Option (List ℕ)) (x x1 : ℕ)
+abbrev pub answers_still : (form : Form) (bounds : StoreBounds) (k k1 : Known) (m m1 : Machine) (st st1 st2 : Standing) (a b : Option (List ℕ)) (f g : Bool) (n n1 : Option (List ℕ)) (x x1 : ℕ)
     → Answers form bounds k k1 m m1 st st1 a b f g n n1 x x1 → GoesTo st1 st2 [] → Answers form bounds k k1 m m1 st st2 a b f g n n1 x x1
 answers_still form bounds k k1 m m1 st st1 st2 a b f g n n1 x x1 told goes = record {
   answered = told.answered;

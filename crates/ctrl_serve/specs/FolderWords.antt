@@ -1,6 +1,7 @@
 -- What the words `audit` and `compact` do with a folder (docs/PROMISES.md, "The headline").
-use Rattle.std.specs.Prelude.{◌≡◌, ℕ, Bool, true, IsTrue, List, [], Some, is_some}
+use Rattle.std.specs.Prelude.{◌≡◌, ℕ, ◌<◌, Bool, true, IsTrue, List, [], length, Some, is_some}
 use Rattle.std.specs.declared.option.Option.{Option}
+use Rattle.ziti_outside.specs.declared.desk.Part.TheVariants.{Mark}
 use Rattle.ziti_outside.specs.Images.{Image}
 use Rattle.ziti_outside.specs.Told.{AreTaken}
 use Rattle.ctrl_model.specs.declared.commands.Command.TheVariants.{Compact}
@@ -11,7 +12,7 @@ use Rattle.ctrl_model.specs.declared.replies.Reply.{Reply}
 use Rattle.ctrl_model.specs.declared.replies.Reply.TheVariants.{Done, Refused}
 use Rattle.ctrl_model.specs.State.{State}
 use Rattle.ctrl_model.specs.ValidState.{ValidState}
-use Rattle.slot_files.specs.FolderImage.{slot_of, Stands}
+use Rattle.slot_files.specs.FolderImage.{slot_of, Stands, StandsAsBefore}
 use Rattle.row_store.specs.declared.bounds.StoreBounds.{StoreBounds}
 use Rattle.row_store.specs.CompactedStores.{compacted}
 use Rattle.ctrl_keep.specs.OpenedStates.{byte_rows_of, OpensToState}
@@ -19,7 +20,7 @@ use Rattle.ctrl_keep.specs.KeptMachine.{Machine, Place, step}
 use Rattle.run_notes.specs.declared.ends.Full.{Full}
 use Rattle.run_notes.specs.declared.ends.Full.TheVariants as full
 use Rattle.run_notes.specs.declared.status.Status.{Status}
-use Rattle.run_notes.specs.declared.status.Status.TheVariants as status
+use Rattle.run_notes.specs.declared.status.Status.TheVariants as ending
 use Rattle.run_notes.specs.Notes.{full_note, status_lines}
 use Rattle.run_notes.specs.NotedLines.{NotesLines}
 use Rattle.ctrl_serve.specs.Loads.{counts_line, SaysOneLine}
@@ -64,23 +65,26 @@ pub record HasNoRoom (bounds : StoreBounds) (m : Machine) (noted_before noted_no
 -- How a run of `compact` on a folder ended, at a status. A failed call on the disk and want of memory come only where the compaction is not
 -- refused. The other statuses never come.
 abbrev pub EndsCompaction : Status → (bounds : StoreBounds) (m : Machine) (noted_before noted_now : Option (List ℕ)) (note_faults_before note_faults_now : ℕ) (tells : Bool) (reads_now : Image) → Type 0
-EndsCompaction status.Done bounds m noted noted_now faults faults_now tells reads_now =
+EndsCompaction ending.Done bounds m noted noted_now faults faults_now tells reads_now =
     ((compaction bounds m).0 ≡ Done) × NotesLines [] noted noted_now faults faults_now × (IsTrue tells → IsCompacted bounds m reads_now)
-EndsCompaction status.FolderFull bounds m noted noted_now faults faults_now tells reads_now = HasNoRoom bounds m noted noted_now faults faults_now tells reads_now
-EndsCompaction status.DiskFault bounds m noted noted_now faults faults_now tells reads_now =
-    ((compaction bounds m).0 ≡ Done) × NotesLines (status_lines [] status.DiskFault) noted noted_now faults faults_now
-EndsCompaction status.NoMemory bounds m noted noted_now faults faults_now tells reads_now =
-    ((compaction bounds m).0 ≡ Done) × NotesLines (status_lines [] status.NoMemory) noted noted_now faults faults_now
+EndsCompaction ending.FolderFull bounds m noted noted_now faults faults_now tells reads_now = HasNoRoom bounds m noted noted_now faults faults_now tells reads_now
+EndsCompaction ending.DiskFault bounds m noted noted_now faults faults_now tells reads_now =
+    ((compaction bounds m).0 ≡ Done) × NotesLines (status_lines [] ending.DiskFault) noted noted_now faults faults_now
+EndsCompaction ending.NoMemory bounds m noted noted_now faults faults_now tells reads_now =
+    ((compaction bounds m).0 ≡ Done) × NotesLines (status_lines [] ending.NoMemory) noted noted_now faults faults_now
 EndsCompaction _ bounds m noted noted_now faults faults_now tells reads_now = ⊥
 
 -- A run of `compact` on a folder that opens to a machine, in a valid state and with a place. However it ends, each image that a stop may
--- leave, at any moment and at the end, opens to the state that stood, and no reply byte is taken.
+-- leave, at any moment and at the end, opens to the state that stood, and no reply byte is taken. Where the compaction is refused for want of
+-- room the folder stands for what it stood for, and where its mark is not empty every part reads as before.
 pub record Compacts (bounds : StoreBounds) (said_before noted_before noted_now : Option (List ℕ)) (note_faults_before note_faults_now : ℕ) (tells : Bool) (reads_before reads_now : Image) (may_leave_before may_leave_now : Image → Type 0) (elapses : (Image → List ℕ → Type 0) → Type 0) (status : Status) : Type 0 where
   pub machine : Machine
   pub valid : ValidState machine.state
   pub placed : is_some machine.place ≡ true
   pub opens : IsTrue tells → OpensTo reads_before machine
   pub ends : EndsCompaction status bounds machine noted_before noted_now note_faults_before note_faults_now tells reads_now
+  pub refused_stands : IsTrue tells → status ≡ ending.FolderFull → StandsAsBefore reads_before reads_now
+  pub refused_still : IsTrue tells → status ≡ ending.FolderFull → 0 < length (reads_before Mark) → reads_now ≡ reads_before
   pub stops : IsTrue tells → AllOpenTo may_leave_before machine.state → elapses (λ image taken. OpensToState image machine.state)
   pub found : IsTrue tells → AllOpenTo may_leave_now machine.state
   pub unsaid : elapses (λ image taken. AreTaken said_before taken)

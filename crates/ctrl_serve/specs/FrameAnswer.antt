@@ -14,6 +14,7 @@ use Rattle.ctrl_model.specs.declared.replies.Reply.TheVariants.{Refused}
 use Rattle.ctrl_model.specs.State.{State}
 use Rattle.row_store.specs.declared.bounds.StoreBounds.{StoreBounds}
 use Rattle.ctrl_keep.specs.KeptMachine.{Machine, step}
+use Rattle.ctrl_keep.specs.KeptBatches.{batches_next}
 use Rattle.reply_codec.specs.ReplyFrame.{reply_frame}
 use Rattle.session_mux.specs.declared.events.Event.{Event}
 use Rattle.session_mux.specs.declared.sessions.Form.{Form}
@@ -82,6 +83,12 @@ abbrev pub machine_behind : StoreBounds → Machine → List (ℕ × (Who × Fra
 machine_behind bounds m [] = m
 machine_behind bounds m (x ∷ xs) = machine_behind bounds (frame_answer bounds x.1.0 x.1.1 m).1 xs
 
+-- For which batches a folder stands behind some frames, that stood for these before them: each step adds its own, or leaves them, or
+-- compacts them.
+abbrev pub batches_behind : StoreBounds → Machine → List (ℕ × (Who × Frame)) → List (List ℕ) → List (List ℕ)
+batches_behind bounds m [] batches = batches
+batches_behind bounds m (x ∷ xs) batches = batches_behind bounds (frame_answer bounds x.1.0 x.1.1 m).1 xs (batches_next m (frame_answer bounds x.1.0 x.1.1 m).1 batches)
+
 -- Each reply to the first events of an input: those of a machine's run along the frames that arrive by them.
 abbrev pub replies_to : Form → StoreBounds → Machine → List Event → List (List ℕ)
 replies_to form bounds m events = spoken form bounds no_counts m (frames_in form events)
@@ -97,6 +104,10 @@ replies form bounds m used = flat_map (λ bytes. bytes) (each_reply form bounds 
 -- The machine behind all frames of an input.
 abbrev pub last_machine : Form → StoreBounds → Machine → List ℕ → Machine
 last_machine form bounds m used = machine_behind bounds m (completed form used)
+
+-- For which batches a folder stands behind all frames of an input, that stood for these before them.
+abbrev pub last_batches : Form → StoreBounds → Machine → List ℕ → List (List ℕ) → List (List ℕ)
+last_batches form bounds m used batches = batches_behind bounds m (completed form used) batches
 
 -- The bounds where there is no folder. Such a machine asks for none.
 abbrev pub no_bounds : StoreBounds

@@ -12,7 +12,7 @@ use Rattle.ziti_outside.specs.declared.desk.Part.TheVariants.{Mark}
 use Rattle.journal_core.specs.Room.{KeepsRoom}
 use Rattle.ctrl_model.specs.State.{start}
 use Rattle.ctrl_model.specs.ValidState.{ValidState}
-use Rattle.slot_files.specs.FolderImage.{StandsAsBefore}
+use Rattle.slot_files.specs.FolderImage.{Stands, StandsAsBefore}
 use Rattle.ctrl_keep.specs.OpenedStates.{IsStateless, OpensToState}
 use Rattle.row_store.specs.declared.bounds.StoreBounds.{StoreBounds}
 use Rattle.ctrl_keep.specs.KeptMachine.{Machine}
@@ -29,7 +29,7 @@ use Rattle.ctrl_serve.specs.CommandLine.{reads_input}
 use Rattle.run_notes.specs.NotedLines.{RisesOnce, NotesLines}
 use Rattle.ctrl_serve.specs.Failures.{TakesUntilFailure}
 use Rattle.ctrl_serve.specs.Reading.{is_decided, StaysNear}
-use Rattle.ctrl_serve.specs.FrameAnswer.{replies, last_machine, no_bounds, alone}
+use Rattle.ctrl_serve.specs.FrameAnswer.{replies, last_machine, last_batches, no_bounds, alone}
 use Rattle.run_notes.specs.Inputs.{events_in}
 use Rattle.run_notes.specs.Endings.{ending, is_cut, is_kept}
 use Rattle.ctrl_serve.specs.SaidReplies.{Says}
@@ -54,11 +54,17 @@ folder_bounds b = record { slot = b.slot; mark = b.mark }
 abbrev pub program_bounds : StoreBounds
 program_bounds = record { slot = 2 ^ 30; mark = 2 ^ 20 }
 
--- Replies were said and notes were written, and nothing else was done on a desk: the folder is as it was, and no fault of its calls
--- was counted. A stop leaves no image that it did not leave before.
-pub record OnlySaysAndNotes {D : Type 0} (reads : D → Image) (may_leave : D → Image → Type 0) (disk_faults : D → ℕ) (old new : D) : Type 0 where
-  pub parts : reads new ≡ reads old
-  pub found : (image : Image) → may_leave new image → may_leave old image
+-- A folder was left alone: every part reads as before, and a stop leaves no image that it did not leave before, at any moment and at the
+-- end.
+pub record IsLeftAlone {D : Type 0} (reads : D → Image) (moment : D → ℕ) (since : D → ℕ → Image → List ℕ → Type 0) (may_leave : D → Image → Type 0) (desk desk_now : D) : Type 0 where
+  pub parts : reads desk_now ≡ reads desk
+  pub found : (image : Image) → may_leave desk_now image → may_leave desk image
+  pub stops : Elapses (moment desk) (moment desk_now) (since desk) (since desk_now) (λ image taken. may_leave desk image)
+
+-- Replies were said and notes were written, and nothing else was done on a desk: the folder was left alone, and no fault of its calls was
+-- counted.
+pub record OnlySaysAndNotes {D : Type 0} (reads : D → Image) (moment : D → ℕ) (since : D → ℕ → Image → List ℕ → Type 0) (may_leave : D → Image → Type 0) (disk_faults : D → ℕ) (old new : D) : Type 0 where
+  pub folder : IsLeftAlone reads moment since may_leave old new
   pub failed_calls : disk_faults new ≡ disk_faults old
 
 -- A run over an input of a form from a machine on, within the bounds of its folder. Of what the source gave, the first `most` bytes
@@ -107,18 +113,11 @@ StaysClosed tells reads_before reads_now noted_before noted_now faults faults_no
 StaysClosed tells reads_before reads_now noted_before noted_now faults faults_now NoMemory = NotesLines (status_lines [] NoMemory) noted_before noted_now faults faults_now
 StaysClosed tells reads_before reads_now noted_before noted_now faults faults_now _ = ⊥
 
--- A run that left its folder alone: every part reads as before, and a stop leaves no image that it did not leave before, at any moment
--- and at the end.
-pub record IsLeftAlone {D : Type 0} (reads : D → Image) (moment : D → ℕ) (since : D → ℕ → Image → List ℕ → Type 0) (may_leave : D → Image → Type 0) (desk desk_now : D) : Type 0 where
-  pub parts : reads desk_now ≡ reads desk
-  pub found : (image : Image) → may_leave desk_now image → may_leave desk image
-  pub stops : Elapses (moment desk) (moment desk_now) (since desk) (since desk_now) (λ image taken. may_leave desk image)
-
--- A folder that was not opened: nothing was said. A folder whose mark is not empty reads as before. Each image that a stop may leave, at
--- any moment and at the end, stands for what one of the start stood for, and no reply byte was taken at any moment.
+-- A folder that was not opened: nothing was said. A folder whose mark is not empty was left alone, whether it is damaged or not. Each image
+-- that a stop may leave, at any moment and at the end, stands for what one of the start stood for, and no reply byte was taken at any moment.
 pub record IsUnopened {D : Type 0} (said noted : D → Option (List ℕ)) (note_faults : D → ℕ) (tells : Bool) (reads : D → Image) (moment : D → ℕ) (since : D → ℕ → Image → List ℕ → Type 0) (may_leave : D → Image → Type 0) (desk desk_now : D) (status : Status) : Type 0 where
   pub says_nothing : said desk_now ≡ said desk
-  pub stays : IsTrue tells → 0 < length (reads desk Mark) → reads desk_now ≡ reads desk
+  pub alone : IsTrue tells → 0 < length (reads desk Mark) → IsLeftAlone reads moment since may_leave desk desk_now
   pub why : StaysClosed tells (reads desk) (reads desk_now) (noted desk) (noted desk_now) (note_faults desk) (note_faults desk_now) status
   pub stops : IsTrue tells → Elapses (moment desk) (moment desk_now) (since desk) (since desk_now) (Now (After StandsAsBefore (may_leave desk)) (said desk))
   pub stands : IsTrue tells → (image : Image) → may_leave desk_now image → After StandsAsBefore (may_leave desk) image
@@ -131,7 +130,9 @@ pub record Refuses {S D : Type 0} (said noted : D → Option (List ℕ)) (note_f
 
 -- A run over an input of a form on the folder: the folder opens to a machine in a valid state and with a place, from which the run goes on.
 -- Where it ended with all kept, the folder keeps the machine behind all frames of the used bytes: exactly the rows of its state, and its
--- place; and what a stop may leave then opens to that state.
+-- place; and what a stop may leave then opens to that state. For whatever batches it stood before the run, it stands for those that the run
+-- makes of them (`last_batches`); and where its mark was not empty and the machine behind all frames is the one at the opening, every part
+-- reads as before.
 --
 -- A stop at any moment of the run finds the replies to the first frames, and the folder open to the state behind them, as `StopFinds`
 -- says, where all that a stop might have left before the run opens to the machine's state. Whatever it might have left, it finds that or
@@ -144,6 +145,8 @@ pub record Replays (form : Form) (bounds : StoreBounds) (most : ℕ) (left_befor
   pub serves : Serves form bounds machine most left_before left_now said_before said_now noted_before noted_now note_faults_before note_faults_now status
   pub keeps : is_kept status ≡ true → IsTrue tells → Keeps reads_now (last_machine form bounds machine (take most serves.taken))
   pub found : is_kept status ≡ true → IsTrue tells → (image : Image) → may_leave_now image → OpensToState image (last_machine form bounds machine (take most serves.taken)).state
+  pub stands : is_kept status ≡ true → IsTrue tells → (batches : List (List ℕ)) → Stands reads_before batches → Stands reads_now (last_batches form bounds machine (take most serves.taken) batches)
+  pub still : is_kept status ≡ true → IsTrue tells → 0 < length (reads_before Mark) → last_machine form bounds machine (take most serves.taken) ≡ machine → reads_now ≡ reads_before
   pub stops : IsTrue tells → AllOpenTo may_leave_before machine.state → elapses (StopFinds form bounds machine (events_in form (take most serves.taken)) said_before)
   pub stops_later : IsTrue tells → elapses (λ image taken. StopFinds form bounds machine (events_in form (take most serves.taken)) said_before image taken
       ⊎ Now (After StandsAsBefore may_leave_before) said_before image taken)
@@ -151,7 +154,7 @@ pub record Replays (form : Form) (bounds : StoreBounds) (most : ℕ) (left_befor
 -- A run that was asked for a line of the table of words, or for none of its lines.
 --
 -- Usage comes exactly where the words are no line. Then nothing is taken, the usage note is written, and the desk is left alone
--- otherwise: nothing is said, and the folder stays.
+-- otherwise: nothing is said, and the folder stays, at every moment.
 --
 -- A fault comes only where its count rose in this run. A failed take cuts the run short, and nothing is taken after it. A failed
 -- say ends the run with WriteFault, and a failed call on the disk with DiskFault. No count falls, or rises by more than one.
@@ -177,6 +180,7 @@ pub record Runs {S D : Type 0} (left : S → Option (List ℕ)) (faults : S → 
   pub usage : (status ≡ Usage) ↔ (form ≡ None)
   pub usage_takes_nothing : form ≡ None → source_now ≡ source
   pub usage_notes_alone : form ≡ None → OnlyNotes said say_faults reads may_leave disk_faults desk desk_now
+  pub usage_changes_nothing : form ≡ None → IsLeftAlone reads moment since may_leave desk desk_now
   pub usage_note : form ≡ None → NotesLines usage_note (noted desk) (noted desk_now) (note_faults desk) (note_faults desk_now)
   pub read_fault : status ≡ ReadFault → Rose (faults source) (faults source_now)
   pub write_fault : status ≡ WriteFault → Rose (say_faults desk) (say_faults desk_now)
@@ -190,7 +194,7 @@ pub record Runs {S D : Type 0} (left : S → Option (List ℕ)) (faults : S → 
   pub note_faults_once : RisesOnce (note_faults desk) (note_faults desk_now)
   pub takes_until_failure : TakesUntilFailure left faults source source_now
   pub dry : form ≡ Some Dry → Serves Plain no_bounds (alone start) most (left source) (left source_now) (said desk) (said desk_now) (noted desk) (noted desk_now) (note_faults desk) (note_faults desk_now) status
-  pub dry_says_and_notes_alone : form ≡ Some Dry → OnlySaysAndNotes reads may_leave disk_faults desk desk_now
+  pub dry_says_and_notes_alone : form ≡ Some Dry → OnlySaysAndNotes reads moment since may_leave disk_faults desk desk_now
   pub complete : form ≡ Some Dry → (Rose (faults source) (faults source_now) → ⊥) → (Rose (say_faults desk) (say_faults desk_now) → ⊥)
       → IsComplete Plain no_bounds (alone start) most (left source) (left source_now) (said desk) (said desk_now) status
   pub read_to_the_end : (asked : command.Form) → form ≡ Some asked → reads_input asked ≡ true → status ≡ Done → IsAtEnd (left source_now)
@@ -200,7 +204,7 @@ pub record Runs {S D : Type 0} (left : S → Option (List ℕ)) (faults : S → 
       (Elapses (moment desk) (moment desk_now) (since desk) (since desk_now)) status
   pub load : (number : ℕ) → form ≡ Some (Load number) → SaysOneLine (counts_line (state_of_load number)) (said desk) (said desk_now) (noted desk) (noted desk_now) (note_faults desk) (note_faults desk_now) status
   pub load_takes_nothing : (number : ℕ) → form ≡ Some (Load number) → source_now ≡ source
-  pub load_says_and_notes_alone : (number : ℕ) → form ≡ Some (Load number) → OnlySaysAndNotes reads may_leave disk_faults desk desk_now
+  pub load_says_and_notes_alone : (number : ℕ) → form ≡ Some (Load number) → OnlySaysAndNotes reads moment since may_leave disk_faults desk desk_now
   pub load_complete : (number : ℕ) → form ≡ Some (Load number) → (Rose (say_faults desk) (say_faults desk_now) → ⊥) → IsSaid (counts_line (state_of_load number)) (said desk) (said desk_now) status
   pub audit : form ≡ Some Audit
       → IsUnopened said noted note_faults tells reads moment since may_leave desk desk_now status

@@ -3,6 +3,7 @@ use Rattle.std.specs.Prelude.{ℕ, List, [], ◌∷◌, ◌++◌}
 use Rattle.channel_frame.specs.declared.frames.Frame.{Frame}
 use Rattle.row_store.specs.declared.bounds.StoreBounds.{StoreBounds}
 use Rattle.ctrl_keep.specs.KeptMachine.{Machine}
+use Rattle.ctrl_keep.specs.KeptBatches.{batches_next}
 use Rattle.session_mux.specs.declared.events.Event.{Event}
 use Rattle.session_mux.specs.declared.events.Event.TheVariants as event
 use Rattle.session_mux.specs.declared.sessions.Form.{Form}
@@ -31,6 +32,11 @@ replies_by form bounds (event.Closed s rest) k m = []
 abbrev pub machine_along : StoreBounds → List Event → Known → Machine → Machine
 machine_along bounds [] k m = m
 machine_along bounds (e ∷ events) k m = machine_along bounds events (known_after e k) (machine_after bounds e k m)
+
+-- For which batches a folder stands once some events were answered, that stood for these before them.
+abbrev pub batches_along : StoreBounds → List Event → Known → Machine → List (List ℕ) → List (List ℕ)
+batches_along bounds [] k m batches = batches
+batches_along bounds (e ∷ events) k m batches = batches_along bounds events (known_after e k) (machine_after bounds e k m) (batches_next m (machine_after bounds e k m) batches)
 
 -- The replies to some events.
 abbrev pub replies_along : Form → StoreBounds → List Event → Known → Machine → List (List ℕ)

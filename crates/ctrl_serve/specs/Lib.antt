@@ -13,6 +13,7 @@ pub mod Headline
 pub mod Controllers
 pub mod ControllerViews
 pub mod KnownReplies
+pub mod FollowedFolders
 pub mod Turns
 pub mod Pieces
 pub mod Runs

@@ -86,10 +86,11 @@ pub record EndsInput (status : Status) (form : Form) (c : Serving) (most : ℕ) 
   pub ends : EndsSo end most left_now takes.taken (is_decided form (take most takes.taken))
   pub last : now ≡ last_machine form c.bounds c.machine (take most takes.taken)
 
--- What comes of the input.
+-- What comes of the input, and what is so of its used bytes where all their events were answered.
 abbrev pub AnswersInput : Result Status Cut → (form : Form) (c : Serving) (most : ℕ) (now : Machine) (left_before left_now said_before said_now : Option (List ℕ))
-    (failed failed_now : Bool) (noted noted_now : Option (List ℕ)) (faults faults_now : ℕ) (tells : Bool) (elapses : (Image → List ℕ → Type 0) → Type 0) → Type 0
-AnswersInput (Ok status) form c most now left_before left_now said_before said_now failed failed_now noted noted_now faults faults_now tells elapses =
-    EndsInput status form c most now left_before left_now said_before said_now failed failed_now noted noted_now faults faults_now tells elapses
-AnswersInput (Err cut) form c most now left_before left_now said_before said_now failed failed_now noted noted_now faults faults_now tells elapses =
+    (failed failed_now : Bool) (noted noted_now : Option (List ℕ)) (faults faults_now : ℕ) (tells : Bool) (elapses : (Image → List ℕ → Type 0) → Type 0) (follows : List ℕ → Type 0) → Type 0
+AnswersInput (Ok status) form c most now left_before left_now said_before said_now failed failed_now noted noted_now faults faults_now tells elapses follows =
+    (ends : EndsInput status form c most now left_before left_now said_before said_now failed failed_now noted noted_now faults faults_now tells elapses)
+    × follows (take most ends.takes.taken)
+AnswersInput (Err cut) form c most now left_before left_now said_before said_now failed failed_now noted noted_now faults faults_now tells elapses follows =
     CutsInput cut form c most left_before left_now said_before said_now failed failed_now noted noted_now faults faults_now tells elapses

@@ -11,6 +11,7 @@ use Rattle.session_mux.specs.declared.sessions.Form.{Form}
 use Rattle.ctrl_keep.specs.OpenedStates.{OpensToState}
 use Rattle.ctrl_serve.specs.Controllers.{Serving}
 use Rattle.ctrl_serve.specs.OpenedFolders.{Keeps}
+use Rattle.ctrl_serve.specs.FollowedFolders.{FollowsInput}
 use Rattle.ctrl_serve.specs.FrameAnswer.{last_machine}
 use Rattle.run_notes.specs.Inputs.{events_in}
 use Rattle.run_notes.specs.Endings.{is_cut, is_kept}
@@ -37,9 +38,10 @@ KeepsUsed form c used tells reads images status =
     → Keeps reads (last_machine form c.bounds c.machine used) × ((image : Image) → images image → OpensToState image (last_machine form c.bounds c.machine used).state)
 
 -- A run from a controller on.
-pub record RunsOn (form : Form) (c : Serving) (most : ℕ) (left_before left_now said_before said_now noted_before noted_now : Option (List ℕ)) (note_faults_before note_faults_now : ℕ) (tells : Bool) (reads_now : Image) (may_leave_now : Image → Type 0) (elapses : (Image → List ℕ → Type 0) → Type 0) (status : Status) : Type 0 where
+pub record RunsOn (form : Form) (c : Serving) (most : ℕ) (left_before left_now said_before said_now noted_before noted_now : Option (List ℕ)) (note_faults_before note_faults_now : ℕ) (tells : Bool) (reads_before reads_now : Image) (may_leave_now : Image → Type 0) (elapses : (Image → List ℕ → Type 0) → Type 0) (status : Status) : Type 0 where
   pub serves : Serves form c.bounds c.machine most left_before left_now said_before said_now noted_before noted_now note_faults_before note_faults_now status
   pub keeps : KeepsUsed form c (take most serves.taken) tells reads_now may_leave_now status
+  pub follows : IsSome c.kept → is_kept status ≡ true → IsTrue tells → FollowsInput form c.bounds c.machine reads_before reads_now (take most serves.taken)
   pub stops : IsSome c.kept → IsTrue tells → elapses (StopFinds form c.bounds c.machine (events_in form (take most serves.taken)) said_before)
 
 -- Each fault comes only where its count rose, no count falls or rises by more than one, and a failed take is the last.

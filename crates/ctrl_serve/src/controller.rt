@@ -1,4 +1,5 @@
 ghost use Rattle.std.specs.Prelude.{◌≡◌, ◌⊎◌, ◌≢◌, true, None, IsTrue, IsSome, OnOk, IfOk, IfErr, IsErrOf, Ok, Err};
+ghost use Rattle.ctrl_keep.specs.KeptBatches.{Follows};
 ghost use Rattle.ctrl_keep.specs.KeptMachine.{step};
 ghost use Rattle.ctrl_keep.specs.OpenedStates.{OpensToState};
 ghost use Rattle.ctrl_model.specs.CommandForm.{is_spelled};
@@ -85,6 +86,7 @@ impl Controller {
         requires spelled { is_spelled command.now ≡ true }
         ensures ok { IfOk result (λ r. (r, (serving_of self.new).machine) ≡ step (serving_of self.old).bounds who.now command.now (serving_of self.old).machine) }
         ensures on { OnOk result (GoesOn (serving_of self.old) (serving_of self.new)) }
+        ensures follows { OnOk result (IsSome (serving_of self.old).kept → IsTrue D.tells → Follows (serving_of self.old).machine (serving_of self.new).machine (D.reads desk.old) (D.reads desk.new)) }
         ensures ready { (serving_of self.new).able ≡ true → IsReady D.tells (serving_of self.new).kept (D.reads desk.new) (D.may_leave desk.new) }
         ensures limits { IfOk result (λ r. keeps_limits r ≡ true) }
         ensures cut { IfErr result (λ c. c ≢ Cut.Unsaid) }

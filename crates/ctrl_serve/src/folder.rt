@@ -44,8 +44,7 @@ fn say_counts<D: Desk>(alloc: Global, core: Core, desk: &mut D) -> Status
     ensures says { SaysOneLine (line_of_counts core.state) (D.said desk.old) (D.said desk.new) (D.noted desk.old) (D.noted desk.new) (D.note_faults desk.old) (D.note_faults desk.new) result }
     ensures write_cause { IsWriteCaused (D.say_faults desk.old) (D.say_faults desk.new) result }
     ensures counted { RisesOnce (D.note_faults desk.old) (D.note_faults desk.new) }
-    ensures others { OnlySaysAndNotes D.reads D.may_leave D.disk_faults desk.old desk.new }
-    ensures stops { Elapses (D.moment desk.old) (D.moment desk.new) (D.since desk.old) (D.since desk.new) (λ image taken. D.may_leave desk.old image) }
+    ensures others { OnlySaysAndNotes D.reads D.moment D.since D.may_leave D.disk_faults desk.old desk.new }
 {
     let mut core = core;
     let line = counts_line(alloc, &mut core);
@@ -113,6 +112,7 @@ fn compact_opened<D: Desk>(kept: Kept, desk: &mut D) -> Status
     requires holds { HoldsRows kept }
     requires stands { IsTrue D.tells → ReadsAs kept.stored (D.reads desk.old) (D.may_leave desk.old) }
     ensures ends { EndsCompaction result kept.stored.bounds (machine_of kept) (D.noted desk.old) (D.noted desk.new) (D.note_faults desk.old) (D.note_faults desk.new) D.tells (D.reads desk.new) }
+    ensures still { result ≡ Status.FolderFull → D.reads desk.new ≡ D.reads desk.old }
     ensures failed_says { D.say_faults desk.new ≡ D.say_faults desk.old }
     ensures disk_cause { IsDiskCaused (D.disk_faults desk.old) (D.disk_faults desk.new) result }
     ensures counted { RisesOnce (D.note_faults desk.old) (D.note_faults desk.new) }

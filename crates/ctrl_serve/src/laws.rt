@@ -1,4 +1,4 @@
-ghost use Rattle.std.specs.Prelude.{◌≡◌, ◌⊎◌, ℕ, ◌≢◌, ◌<◌, ◌≤◌, ◌^◌, IsTrue, List, [], ◌++◌, codes, decimal, length, take, None, Some};
+ghost use Rattle.std.specs.Prelude.{◌≡◌, ◌⊎◌, ℕ, ◌≢◌, ◌<◌, ◌≤◌, ◌^◌, Bool, true, IsTrue, List, [], ◌++◌, codes, decimal, length, take, None, Some};
 ghost use Rattle.std.specs.declared.option.Option.{Option};
 ghost use Rattle.channel_frame.specs.declared.frames.Frame.{Frame};
 ghost use Rattle.channel_frame.specs.StreamReading.{Reads, fault_of, frames_of, rest_of};
@@ -12,14 +12,16 @@ ghost use Rattle.session_mux.specs.declared.sessions.Form.{Form};
 ghost use Rattle.session_mux.specs.declared.sessions.Form.TheVariants.{Plain};
 ghost use Rattle.session_mux.specs.Completion.{completed};
 ghost use Rattle.run_notes.specs.declared.status.Status.{Status};
-ghost use Rattle.run_notes.specs.declared.status.Status.TheVariants.{Done, Truncated, WriteFault, DiskFault, NoMemory};
+ghost use Rattle.run_notes.specs.declared.status.Status.TheVariants.{Done, BadInput, Truncated, WriteFault, DiskFault, NoMemory};
 ghost use Rattle.ziti_outside.specs.Told.{IsFront, Took};
 ghost use Rattle.ziti_outside.specs.Causes.{Rose};
 ghost use Rattle.ziti_outside.specs.declared.desk.Part.{Part};
 ghost use Rattle.ziti_outside.specs.Images.{Image};
 ghost use Rattle.ctrl_serve.specs.SaidReplies.{SaysAll, SaysFront, joined, AreWhole, AreCut};
 ghost use Rattle.ctrl_serve.specs.FrameAnswer.{answers, each_reply, last_machine, machine_behind_alone, replies, spoken_alone};
+ghost use Rattle.run_notes.specs.Endings.{ending};
 ghost use Rattle.run_notes.specs.Inputs.{events_in};
+ghost use Rattle.ctrl_serve.specs.Reading.{is_decided, StaysNear};
 ghost use Rattle.run_notes.specs.Notes.{session_note, status_lines};
 ghost use Rattle.run_notes.specs.NotedLines.{NotesLines};
 ghost use Rattle.ctrl_serve.specs.Headline.{Serves, Runs};
@@ -36,6 +38,28 @@ use ziti_outside::{Desk, Source};
 pub fn plain_input_is_one_session()
     ensures replies { (bounds : StoreBounds) (machine : Machine) (bytes : List ℕ) → each_reply Plain bounds machine bytes ≡ spoken_alone bounds Admin 0 machine (frames_of bytes) }
     ensures last { (bounds : StoreBounds) (machine : Machine) (bytes : List ℕ) → last_machine Plain bounds machine bytes ≡ machine_behind_alone bounds Admin machine (frames_of bytes) }
+{}
+
+/// An input that is decided decides its events: with more bytes behind it it has the same events, and so the same replies and the same last
+/// machine, and it ends with `BadInput`, also where the source gave more than is used.
+pub fn a_decided_input_decides_its_events()
+    ensures events { (form : Form) (used more : List ℕ) → is_decided form used ≡ true → events_in form (used ++ more) ≡ events_in form used }
+    ensures decided { (form : Form) (used more : List ℕ) → is_decided form used ≡ true → is_decided form (used ++ more) ≡ true }
+    ensures replies { (form : Form) (bounds : StoreBounds) (machine : Machine) (used more : List ℕ) → is_decided form used ≡ true
+        → replies form bounds machine (used ++ more) ≡ replies form bounds machine used }
+    ensures last { (form : Form) (bounds : StoreBounds) (machine : Machine) (used more : List ℕ) → is_decided form used ≡ true
+        → last_machine form bounds machine (used ++ more) ≡ last_machine form bounds machine used }
+    ensures ending { (form : Form) (used more : List ℕ) (over : Bool) → is_decided form used ≡ true → ending form (used ++ more) over ≡ BadInput }
+{}
+
+/// At a failed say the bytes that were taken stay near whatever is taken as answered: of every split of the events by which what was said is the
+/// replies to the first ones and no more than a part of the next one, all that was taken but at most a piece did not decide the input, and
+/// brought none but those first events. So nothing hangs on which split a run names.
+pub fn nearness_hangs_on_what_was_said()
+    ensures near { (form : Form) (bounds : StoreBounds) (machine : Machine) (most : ℕ) (left left_after said said_after noted noted_after : Option (List ℕ)) (faults faults_now : ℕ)
+        → (serves : Serves form bounds machine most left left_after said said_after noted noted_after faults faults_now WriteFault) → (answered unanswered : List Event)
+        → answered ++ unanswered ≡ events_in form (take most serves.taken) → (says : SaysFront form bounds machine serves.said answered unanswered) → says.front ≢ says.reply
+        → StaysNear form most serves.taken answered }
 {}
 
 /// What `Done` says of a told plain input, in plain words: it was read to its end and is no longer than the bound, it leaves no

@@ -16,8 +16,9 @@ mod worked;
 pub use bounds::Bounds;
 pub use command_line::Form;
 pub use laws::{
-    a_run_goes_on_from_a_stop, cut_plain_runs_note_one_line, cut_runs_say_fronts, done_says_all,
-    done_says_the_line, numbers_have_one_word, plain_input_is_one_session, runs_are_complete,
+    a_decided_input_decides_its_events, a_run_goes_on_from_a_stop, cut_plain_runs_note_one_line,
+    cut_runs_say_fronts, done_says_all, done_says_the_line, nearness_hangs_on_what_was_said,
+    numbers_have_one_word, plain_input_is_one_session, runs_are_complete,
     stops_keep_what_was_acknowledged, truncated_says_all,
 };
 pub use run_notes::Status;

@@ -8,7 +8,6 @@ ghost use Rattle.ctrl_serve.specs.FrameAnswer.{no_bounds, alone, frame_answer, m
 ghost use Rattle.ctrl_serve.specs.Headline.{OnlySaysAndNotes};
 ghost use Rattle.ctrl_serve.specs.Loads.{counts_line, state_of_load, SaysOneLine};
 ghost use Rattle.ctrl_serve.specs.Runs.{IsWriteCaused};
-ghost use Rattle.ziti_outside.specs.Moments.{Elapses};
 
 use crate::controller::carry_alone;
 use channel_frame::Frame;
@@ -108,8 +107,7 @@ fn say_made<D: Desk>(line: &[u8], desk: &mut D) -> Status
     ensures says { SaysOneLine line.now (D.said desk.old) (D.said desk.new) (D.noted desk.old) (D.noted desk.new) (D.note_faults desk.old) (D.note_faults desk.new) result }
     ensures write_cause { IsWriteCaused (D.say_faults desk.old) (D.say_faults desk.new) result }
     ensures counted { RisesOnce (D.note_faults desk.old) (D.note_faults desk.new) }
-    ensures others { OnlySaysAndNotes D.reads D.may_leave D.disk_faults desk.old desk.new }
-    ensures stops { Elapses (D.moment desk.old) (D.moment desk.new) (D.since desk.old) (D.since desk.new) (λ image taken. D.may_leave desk.old image) }
+    ensures others { OnlySaysAndNotes D.reads D.moment D.since D.may_leave D.disk_faults desk.old desk.new }
 {
     match desk.say(line) {
         Ok(()) => Status::Done,
@@ -123,8 +121,7 @@ pub(crate) fn say_line<D: Desk>(line: Result<Vec<u8>, AllocError>, desk: &mut D)
         → SaysOneLine wanted (D.said desk.old) (D.said desk.new) (D.noted desk.old) (D.noted desk.new) (D.note_faults desk.old) (D.note_faults desk.new) result }
     ensures write_cause { IsWriteCaused (D.say_faults desk.old) (D.say_faults desk.new) result }
     ensures counted { RisesOnce (D.note_faults desk.old) (D.note_faults desk.new) }
-    ensures others { OnlySaysAndNotes D.reads D.may_leave D.disk_faults desk.old desk.new }
-    ensures stops { Elapses (D.moment desk.old) (D.moment desk.new) (D.since desk.old) (D.since desk.new) (λ image taken. D.may_leave desk.old image) }
+    ensures others { OnlySaysAndNotes D.reads D.moment D.since D.may_leave D.disk_faults desk.old desk.new }
 {
     match line {
         Ok(line) => say_made(line.as_slice(), desk),
@@ -138,7 +135,7 @@ pub fn run_load<D: Desk>(alloc: Global, number: u32, desk: &mut D) -> Status
     ensures says { SaysOneLine (counts_line (state_of_load number)) (D.said desk.old) (D.said desk.new) (D.noted desk.old) (D.noted desk.new) (D.note_faults desk.old) (D.note_faults desk.new) result }
     ensures write_cause { IsWriteCaused (D.say_faults desk.old) (D.say_faults desk.new) result }
     ensures counted { RisesOnce (D.note_faults desk.old) (D.note_faults desk.new) }
-    ensures others { OnlySaysAndNotes D.reads D.may_leave D.disk_faults desk.old desk.new }
+    ensures others { OnlySaysAndNotes D.reads D.moment D.since D.may_leave D.disk_faults desk.old desk.new }
 {
     say_line(line_of_load(alloc, number), desk)
 }

@@ -9,6 +9,7 @@ ghost use Rattle.run_notes.specs.NotedLines.{RisesOnce};
 ghost use Rattle.ctrl_serve.specs.ControllerViews.{serving_of};
 ghost use Rattle.ctrl_serve.specs.Controllers.{GoesOn, IsReady};
 ghost use Rattle.ctrl_serve.specs.Failures.{TakesUntilFailure};
+ghost use Rattle.ctrl_serve.specs.FollowedFolders.{FollowsEvents, FollowsInput};
 ghost use Rattle.ctrl_serve.specs.Headline.{OnlySaysAndNotes};
 ghost use Rattle.ctrl_serve.specs.Pieces.{decided_by, AnswersInput, CutsInput, EndsPieces, HasFault, IsReadCaused};
 ghost use Rattle.ctrl_serve.specs.Turns.{unkept, unsaid};
@@ -84,8 +85,9 @@ fn serve_pieces<S: Source, D: Desk>(
     requires known { sessions.old ≡ known_in form }
     requires able { (serving_of controller.old).able ≡ true }
     requires ready { IsReady D.tells (serving_of controller.old).kept (D.reads desk.old) (D.may_leave desk.old) }
-    ensures ok { IfOk result (λ stop. EndsPieces form (serving_of controller.old) most sessions.new (serving_of controller.new).machine mux.new (S.left source.old) (S.left source.new) (D.said desk.old) (D.said desk.new)
-        notes.old.failed notes.new.failed (D.noted desk.old) (D.noted desk.new) (D.note_faults desk.old) (D.note_faults desk.new) D.tells (Elapses (D.moment desk.old) (D.moment desk.new) (D.since desk.old) (D.since desk.new)) stop.end) }
+    ensures ok { IfOk result (λ stop. (ends : EndsPieces form (serving_of controller.old) most sessions.new (serving_of controller.new).machine mux.new (S.left source.old) (S.left source.new) (D.said desk.old) (D.said desk.new)
+        notes.old.failed notes.new.failed (D.noted desk.old) (D.noted desk.new) (D.note_faults desk.old) (D.note_faults desk.new) D.tells (Elapses (D.moment desk.old) (D.moment desk.new) (D.since desk.old) (D.since desk.new)) stop.end)
+        × (IsSome (serving_of controller.old).kept → IsTrue D.tells → FollowsEvents (serving_of controller.old).bounds ends.answers.answered (known_in form) (serving_of controller.old).machine (D.reads desk.old) (D.reads desk.new))) }
     ensures end { IfOk result (λ stop. ComesToEnd mux.new stop.bad) }
     ensures fault { IfOk result (λ stop. HasFault stop.end (S.faults source.old) (S.faults source.new)) }
     ensures on { OnOk result (GoesOn (serving_of controller.old) (serving_of controller.new)) }
@@ -97,7 +99,7 @@ fn serve_pieces<S: Source, D: Desk>(
     ensures say_cause { HasCause (D.say_faults desk.old) (D.say_faults desk.new) (unsaid result) }
     ensures disk_cause { HasCause (D.disk_faults desk.old) (D.disk_faults desk.new) (unkept result) }
     ensures undisked { (serving_of controller.old).kept ≡ None → IsErrOf result Cut.Disk → ⊥ }
-    ensures alone { (serving_of controller.old).kept ≡ None → OnlySaysAndNotes D.reads D.may_leave D.disk_faults desk.old desk.new }
+    ensures alone { (serving_of controller.old).kept ≡ None → OnlySaysAndNotes D.reads D.moment D.since D.may_leave D.disk_faults desk.old desk.new }
     ensures images { LeavesRoom (serving_of controller.old).bounds.slot D.may_leave desk.old desk.new }
 {
     let mut room = zeros(alloc, PIECE)?;
@@ -147,7 +149,8 @@ pub fn serve_input<S: Source, D: Desk>(
     requires able { (serving_of controller.old).able ≡ true }
     requires ready { IsReady D.tells (serving_of controller.old).kept (D.reads desk.old) (D.may_leave desk.old) }
     ensures answers { AnswersInput result form (serving_of controller.old) most (serving_of controller.new).machine (S.left source.old) (S.left source.new) (D.said desk.old) (D.said desk.new)
-        notes.old.failed notes.new.failed (D.noted desk.old) (D.noted desk.new) (D.note_faults desk.old) (D.note_faults desk.new) D.tells (Elapses (D.moment desk.old) (D.moment desk.new) (D.since desk.old) (D.since desk.new)) }
+        notes.old.failed notes.new.failed (D.noted desk.old) (D.noted desk.new) (D.note_faults desk.old) (D.note_faults desk.new) D.tells (Elapses (D.moment desk.old) (D.moment desk.new) (D.since desk.old) (D.since desk.new))
+        (λ used. IsSome (serving_of controller.old).kept → IsTrue D.tells → FollowsInput form (serving_of controller.old).bounds (serving_of controller.old).machine (D.reads desk.old) (D.reads desk.new) used) }
     ensures read { IfOk result (λ status. IsReadCaused (S.faults source.old) (S.faults source.new) status) }
     ensures on { OnOk result (GoesOn (serving_of controller.old) (serving_of controller.new)) }
     ensures ready { OnOk result (IsReady D.tells (serving_of controller.new).kept (D.reads desk.new) (D.may_leave desk.new)) }
@@ -156,7 +159,7 @@ pub fn serve_input<S: Source, D: Desk>(
     ensures say_cause { HasCause (D.say_faults desk.old) (D.say_faults desk.new) (unsaid result) }
     ensures disk_cause { HasCause (D.disk_faults desk.old) (D.disk_faults desk.new) (unkept result) }
     ensures undisked { (serving_of controller.old).kept ≡ None → IsErrOf result Cut.Disk → ⊥ }
-    ensures alone { (serving_of controller.old).kept ≡ None → OnlySaysAndNotes D.reads D.may_leave D.disk_faults desk.old desk.new }
+    ensures alone { (serving_of controller.old).kept ≡ None → OnlySaysAndNotes D.reads D.moment D.since D.may_leave D.disk_faults desk.old desk.new }
     ensures images { LeavesRoom (serving_of controller.old).bounds.slot D.may_leave desk.old desk.new }
 {
     let mut mux = mux_of(alloc, form)?;

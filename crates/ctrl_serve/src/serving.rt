@@ -1,5 +1,6 @@
 ghost use Rattle.std.specs.Prelude.{◌≡◌, ◌⊎◌, ◌≢◌, true, IsTrue, IsSome, IfOk, IfErr, IsErrOf, None, OnOk, OnErr};
 ghost use Rattle.channel_frame.specs.declared.frames.Frame.{Frame};
+ghost use Rattle.ctrl_keep.specs.KeptBatches.{Follows};
 ghost use Rattle.ctrl_keep.specs.OpenedStates.{OpensToState};
 ghost use Rattle.journal_core.specs.Room.{LeavesRoom};
 ghost use Rattle.reply_codec.specs.ReplyLimits.{keeps_limits};
@@ -7,6 +8,7 @@ ghost use Rattle.session_mux.specs.declared.events.Event.TheVariants.{Arrived};
 ghost use Rattle.ctrl_serve.specs.ControllerViews.{serving_of};
 ghost use Rattle.ctrl_serve.specs.Controllers.{GoesOn, IsReady, Turn};
 ghost use Rattle.run_notes.specs.NotedLines.{LeavesNotes};
+ghost use Rattle.ctrl_serve.specs.FollowedFolders.{FollowsEvents};
 ghost use Rattle.ctrl_serve.specs.FrameAnswer.{frame_answer, refusal_for, reply_text, tag};
 ghost use Rattle.ctrl_serve.specs.Headline.{OnlySaysAndNotes};
 ghost use Rattle.run_notes.specs.KnownSessions.{known_after, sender_at};
@@ -17,7 +19,7 @@ ghost use Rattle.ctrl_serve.specs.Turns.{Answers, CutsEvent, CutsTurn, IsCutShor
 ghost use Rattle.run_notes.specs.Endings.{ComesToEnd};
 ghost use Rattle.ziti_outside.specs.Causes.{HasCause};
 ghost use Rattle.ziti_outside.specs.Moments.{Elapses, Leaves, Remembers};
-ghost use Rattle.ziti_outside.specs.Untouched.{OnlyDisk, OnlySays};
+ghost use Rattle.ziti_outside.specs.Untouched.{OnlyDisk};
 
 use crate::controller::Controller;
 use channel_frame::{Frame, encode};
@@ -59,6 +61,7 @@ fn answer_frame<D: Desk>(
     requires ready { IsReady D.tells (serving_of controller.old).kept (D.reads desk.old) (D.may_leave desk.old) }
     ensures ok { IfOk result (λ r. (r, (serving_of controller.new).machine) ≡ frame_answer (serving_of controller.old).bounds who.now frame.now (serving_of controller.old).machine) }
     ensures on { OnOk result (GoesOn (serving_of controller.old) (serving_of controller.new)) }
+    ensures follows { OnOk result (IsSome (serving_of controller.old).kept → IsTrue D.tells → Follows (serving_of controller.old).machine (serving_of controller.new).machine (D.reads desk.old) (D.reads desk.new)) }
     ensures ready { OnOk result (IsReady D.tells (serving_of controller.new).kept (D.reads desk.new) (D.may_leave desk.new)) }
     ensures limits { IfOk result (λ r. keeps_limits r ≡ true) }
     ensures cut { IfErr result (λ c. c ≢ Cut.Unsaid) }
@@ -119,13 +122,14 @@ fn serve_frame<D: Desk>(
     requires ready { IsReady D.tells (serving_of controller.old).kept (D.reads desk.old) (D.may_leave desk.old) }
     ensures ok { OnOk result (TakesTurn (serving_of controller.old).bounds address who.now frame.now (serving_of controller.old).machine (serving_of controller.new).machine (D.said desk.old) (D.said desk.new)) }
     ensures on { OnOk result (GoesOn (serving_of controller.old) (serving_of controller.new)) }
+    ensures follows { OnOk result (IsSome (serving_of controller.old).kept → IsTrue D.tells → Follows (serving_of controller.old).machine (serving_of controller.new).machine (D.reads desk.old) (D.reads desk.new)) }
     ensures ready { OnOk result (IsReady D.tells (serving_of controller.new).kept (D.reads desk.new) (D.may_leave desk.new)) }
     ensures cut { IfErr result (λ c. CutsTurn c (serving_of controller.old).bounds address who.now frame.now (serving_of controller.old).machine (D.said desk.old) (D.said desk.new)) }
     ensures say_cause { HasCause (D.say_faults desk.old) (D.say_faults desk.new) (unsaid result) }
     ensures disk_cause { HasCause (D.disk_faults desk.old) (D.disk_faults desk.new) (unkept result) }
     ensures notes { LeavesNotes D.noted D.note_faults desk.old desk.new }
     ensures undisked { (serving_of controller.old).kept ≡ None → IsErrOf result Cut.Disk → ⊥ }
-    ensures alone { (serving_of controller.old).kept ≡ None → OnlySays D.noted D.note_faults D.reads D.may_leave D.disk_faults desk.old desk.new }
+    ensures alone { (serving_of controller.old).kept ≡ None → OnlySaysAndNotes D.reads D.moment D.since D.may_leave D.disk_faults desk.old desk.new }
     ensures images { LeavesRoom (serving_of controller.old).bounds.slot D.may_leave desk.old desk.new }
     ensures stops { IsSome (serving_of controller.old).kept → IsTrue D.tells → Elapses (D.moment desk.old) (D.moment desk.new) (D.since desk.old) (D.since desk.new)
         (Turn (serving_of controller.old).machine.state
@@ -154,13 +158,14 @@ fn serve_arrived<D: Desk>(
     requires ready { IsReady D.tells (serving_of controller.old).kept (D.reads desk.old) (D.may_leave desk.old) }
     ensures ok { OnOk result (TakesEvent form (serving_of controller.old).bounds (Arrived session frame.now) sessions.old sessions.new (serving_of controller.old).machine (serving_of controller.new).machine (D.said desk.old) (D.said desk.new)) }
     ensures on { OnOk result (GoesOn (serving_of controller.old) (serving_of controller.new)) }
+    ensures follows { OnOk result (IsSome (serving_of controller.old).kept → IsTrue D.tells → Follows (serving_of controller.old).machine (serving_of controller.new).machine (D.reads desk.old) (D.reads desk.new)) }
     ensures ready { OnOk result (IsReady D.tells (serving_of controller.new).kept (D.reads desk.new) (D.may_leave desk.new)) }
     ensures cut { IfErr result (λ c. CutsEvent c form (serving_of controller.old).bounds (Arrived session frame.now) sessions.old (serving_of controller.old).machine (D.said desk.old) (D.said desk.new)) }
     ensures say_cause { HasCause (D.say_faults desk.old) (D.say_faults desk.new) (unsaid result) }
     ensures disk_cause { HasCause (D.disk_faults desk.old) (D.disk_faults desk.new) (unkept result) }
     ensures notes { LeavesNotes D.noted D.note_faults desk.old desk.new }
     ensures undisked { (serving_of controller.old).kept ≡ None → IsErrOf result Cut.Disk → ⊥ }
-    ensures alone { (serving_of controller.old).kept ≡ None → OnlySays D.noted D.note_faults D.reads D.may_leave D.disk_faults desk.old desk.new }
+    ensures alone { (serving_of controller.old).kept ≡ None → OnlySaysAndNotes D.reads D.moment D.since D.may_leave D.disk_faults desk.old desk.new }
     ensures images { LeavesRoom (serving_of controller.old).bounds.slot D.may_leave desk.old desk.new }
     ensures stops { IsSome (serving_of controller.old).kept → IsTrue D.tells → Elapses (D.moment desk.old) (D.moment desk.new) (D.since desk.old) (D.since desk.new)
         (StopsEvent form (serving_of controller.old).bounds (Arrived session frame.now) sessions.old (serving_of controller.old).machine (D.said desk.old)) }
@@ -196,6 +201,7 @@ fn serve_event<D: Desk>(
     requires ready { IsReady D.tells (serving_of controller.old).kept (D.reads desk.old) (D.may_leave desk.old) }
     ensures ok { OnOk result (TakesEvent form (serving_of controller.old).bounds event sessions.old sessions.new (serving_of controller.old).machine (serving_of controller.new).machine (D.said desk.old) (D.said desk.new)) }
     ensures on { OnOk result (GoesOn (serving_of controller.old) (serving_of controller.new)) }
+    ensures follows { OnOk result (IsSome (serving_of controller.old).kept → IsTrue D.tells → Follows (serving_of controller.old).machine (serving_of controller.new).machine (D.reads desk.old) (D.reads desk.new)) }
     ensures ready { OnOk result (IsReady D.tells (serving_of controller.new).kept (D.reads desk.new) (D.may_leave desk.new)) }
     ensures cut { IfErr result (λ c. CutsEvent c form (serving_of controller.old).bounds event sessions.old (serving_of controller.old).machine (D.said desk.old) (D.said desk.new)) }
     ensures say_cause { HasCause (D.say_faults desk.old) (D.say_faults desk.new) (unsaid result) }
@@ -203,7 +209,7 @@ fn serve_event<D: Desk>(
     ensures noted { OnOk result (NotesMore notes.old.failed notes.new.failed (event_lines event) (D.noted desk.old) (D.noted desk.new) (D.note_faults desk.old) (D.note_faults desk.new)) }
     ensures unnoted { OnErr result ((notes.new ≡ notes.old) × LeavesNotes D.noted D.note_faults desk.old desk.new) }
     ensures undisked { (serving_of controller.old).kept ≡ None → IsErrOf result Cut.Disk → ⊥ }
-    ensures alone { (serving_of controller.old).kept ≡ None → OnlySaysAndNotes D.reads D.may_leave D.disk_faults desk.old desk.new }
+    ensures alone { (serving_of controller.old).kept ≡ None → OnlySaysAndNotes D.reads D.moment D.since D.may_leave D.disk_faults desk.old desk.new }
     ensures images { LeavesRoom (serving_of controller.old).bounds.slot D.may_leave desk.old desk.new }
     ensures stops { IsSome (serving_of controller.old).kept → IsTrue D.tells → Elapses (D.moment desk.old) (D.moment desk.new) (D.since desk.old) (D.since desk.new)
         (StopsEvent form (serving_of controller.old).bounds event sessions.old (serving_of controller.old).machine (D.said desk.old)) }
@@ -240,8 +246,9 @@ pub fn serve_events<D: Desk>(
 ) -> Result<Option<u64>, Cut>
     requires able { (serving_of controller.old).able ≡ true }
     requires ready { IsReady D.tells (serving_of controller.old).kept (D.reads desk.old) (D.may_leave desk.old) }
-    ensures ok { OnOk result (Answers form (serving_of controller.old).bounds sessions.old sessions.new (serving_of controller.old).machine (serving_of controller.new).machine mux.old mux.new (D.said desk.old) (D.said desk.new)
-        notes.old.failed notes.new.failed (D.noted desk.old) (D.noted desk.new) (D.note_faults desk.old) (D.note_faults desk.new)) }
+    ensures ok { OnOk result ((told : Answers form (serving_of controller.old).bounds sessions.old sessions.new (serving_of controller.old).machine (serving_of controller.new).machine mux.old mux.new (D.said desk.old) (D.said desk.new)
+        notes.old.failed notes.new.failed (D.noted desk.old) (D.noted desk.new) (D.note_faults desk.old) (D.note_faults desk.new))
+        × (IsSome (serving_of controller.old).kept → IsTrue D.tells → FollowsEvents (serving_of controller.old).bounds told.answered sessions.old (serving_of controller.old).machine (D.reads desk.old) (D.reads desk.new))) }
     ensures end { IfOk result (λ bad. ComesToEnd mux.new bad) }
     ensures on { OnOk result (GoesOn (serving_of controller.old) (serving_of controller.new)) }
     ensures ready { OnOk result (IsReady D.tells (serving_of controller.new).kept (D.reads desk.new) (D.may_leave desk.new)) }
@@ -250,7 +257,7 @@ pub fn serve_events<D: Desk>(
     ensures say_cause { HasCause (D.say_faults desk.old) (D.say_faults desk.new) (unsaid result) }
     ensures disk_cause { HasCause (D.disk_faults desk.old) (D.disk_faults desk.new) (unkept result) }
     ensures undisked { (serving_of controller.old).kept ≡ None → IsErrOf result Cut.Disk → ⊥ }
-    ensures alone { (serving_of controller.old).kept ≡ None → OnlySaysAndNotes D.reads D.may_leave D.disk_faults desk.old desk.new }
+    ensures alone { (serving_of controller.old).kept ≡ None → OnlySaysAndNotes D.reads D.moment D.since D.may_leave D.disk_faults desk.old desk.new }
     ensures images { LeavesRoom (serving_of controller.old).bounds.slot D.may_leave desk.old desk.new }
     ensures stops { IsSome (serving_of controller.old).kept → IsTrue D.tells → Elapses (D.moment desk.old) (D.moment desk.new) (D.since desk.old) (D.since desk.new)
         (StopsAlong form (serving_of controller.old).bounds sessions.old (serving_of controller.old).machine mux.old (D.said desk.old)) }

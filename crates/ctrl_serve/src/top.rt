@@ -35,11 +35,11 @@ fn run_on<S: Source, D: Desk>(
     requires most { most ≤ 2 ^ 32 }
     requires able { (serving_of controller.old).able ≡ true }
     requires ready { IsReady D.tells (serving_of controller.old).kept (D.reads desk.old) (D.may_leave desk.old) }
-    ensures runs { RunsOn form (serving_of controller.old) most (S.left source.old) (S.left source.new) (D.said desk.old) (D.said desk.new) (D.noted desk.old) (D.noted desk.new) (D.note_faults desk.old) (D.note_faults desk.new) D.tells (D.reads desk.new) (D.may_leave desk.new)
+    ensures runs { RunsOn form (serving_of controller.old) most (S.left source.old) (S.left source.new) (D.said desk.old) (D.said desk.new) (D.noted desk.old) (D.noted desk.new) (D.note_faults desk.old) (D.note_faults desk.new) D.tells (D.reads desk.old) (D.reads desk.new) (D.may_leave desk.new)
         (Elapses (D.moment desk.old) (D.moment desk.new) (D.since desk.old) (D.since desk.new)) result }
     ensures counts { CountsFaults S.left S.faults D.say_faults D.note_faults D.disk_faults source.old source.new desk.old desk.new result }
     ensures undisked { (serving_of controller.old).kept ≡ None → result ≢ Status.DiskFault }
-    ensures alone { (serving_of controller.old).kept ≡ None → OnlySaysAndNotes D.reads D.may_leave D.disk_faults desk.old desk.new }
+    ensures alone { (serving_of controller.old).kept ≡ None → OnlySaysAndNotes D.reads D.moment D.since D.may_leave D.disk_faults desk.old desk.new }
     ensures images { LeavesRoom (serving_of controller.old).bounds.slot D.may_leave desk.old desk.new }
 {
     let mut notes = Notes::new();
@@ -56,7 +56,7 @@ fn run_dry<S: Source, D: Desk>(alloc: Global, most: u64, source: &mut S, desk: &
     ensures serves { Serves Plain no_bounds (alone start) most (S.left source.old) (S.left source.new) (D.said desk.old) (D.said desk.new) (D.noted desk.old) (D.noted desk.new) (D.note_faults desk.old) (D.note_faults desk.new) result }
     ensures counts { CountsFaults S.left S.faults D.say_faults D.note_faults D.disk_faults source.old source.new desk.old desk.new result }
     ensures undisked { result ≢ Status.DiskFault }
-    ensures others { OnlySaysAndNotes D.reads D.may_leave D.disk_faults desk.old desk.new }
+    ensures others { OnlySaysAndNotes D.reads D.moment D.since D.may_leave D.disk_faults desk.old desk.new }
 {
     match Core::empty(alloc) {
         Ok(core) => {

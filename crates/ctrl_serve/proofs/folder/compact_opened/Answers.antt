@@ -1,7 +1,7 @@
 use Rattle.std.proofs.Common.{ℕ, subst, ◌∙◌}
 use Rattle.journal_core.proofs.RoomLaws.{left_none, left_then}
 use Rattle.run_notes.specs.NotedLines.{RisesOnce}
-use Rattle.ctrl_serve.proofs.FolderLaws.{Submitted, compaction_disk, compaction_ends, compaction_stops, notes_leave}
+use Rattle.ctrl_serve.proofs.FolderLaws.{Submitted, compaction_disk, compaction_ends, full_reads, compaction_stops, notes_leave}
 use Rattle.ctrl_serve.proofs.folder.compact_opened.Goals as goal
 
 pub returns-clause-ends : goal.returns-clause-ends
@@ -22,6 +22,25 @@ returns-clause-ends g c =
     } in
     compaction_ends g.D.Desk.tells c.args.kept c.submit-compacted.new.self c.args.desk.now c.submit-compacted.new.desk (g.D.Desk.reads c.tell_compaction.new.desk) c.submit-compacted.result _ _ _ _ _ _ c.tell_compaction.result
     came t.others.parts e.others.notes e.others.failed_notes t.told
+
+pub returns-clause-still : goal.returns-clause-still
+returns-clause-still g c =
+    let e = c.submit-compacted.ensures in
+    let t = c.tell_compaction.ensures in
+    let came : Submitted g.D.Desk.tells g.D.Desk.reads g.D.Desk.may_leave c.args.kept c.submit-compacted.new.self c.args.desk.now c.submit-compacted.new.desk c.submit-compacted.result = record {
+      fresh = c.requires.unspent;
+      holds = c.requires.holds;
+      stands = c.requires.stands;
+      step = e.step;
+      unspent = e.unspent;
+      held = e.holds;
+      made = e.compacted;
+      fault = e.fault;
+      fits = e.fits;
+      stood = e.stands;
+    } in
+    full_reads g.D.Desk.tells c.args.kept c.submit-compacted.new.self c.args.desk.now c.submit-compacted.new.desk (g.D.Desk.reads c.tell_compaction.new.desk) c.submit-compacted.result _ _ _ _ c.tell_compaction.result
+    came e.still t.others.parts t.told
 
 pub returns-clause-failed_says : goal.returns-clause-failed_says
 returns-clause-failed_says g c = c.tell_compaction.ensures.others.failed_says ∙ c.submit-compacted.ensures.others.failed_says

@@ -2,7 +2,8 @@ use Rattle.std.proofs.Common.{ℕ, inl, inr, subst, ◌∙◌}
 use Rattle.ctrl_core.specs.KeptState.{Cored}
 use Rattle.run_notes.specs.NotedLines.{RisesOnce}
 use Rattle.ctrl_serve.specs.Runs.{IsWriteCaused}
-use Rattle.ctrl_serve.proofs.FolderLaws.{audit_alone, audited, noted_alone, unaudited}
+use Rattle.ctrl_serve.proofs.FolderLaws.{audited, looked_alone, unaudited}
+use Rattle.ctrl_serve.proofs.ControllerLaws.{LeftAlone-then, noted_alone}
 use Rattle.ctrl_serve.proofs.IntakeLaws.{disk_calm, write_calm}
 use Rattle.ctrl_serve.proofs.ClosedFolders.{closed_calm, closed_disk, never_spent}
 use Rattle.ctrl_serve.proofs.RunLaws.{line_statuses}
@@ -13,7 +14,7 @@ returns-in-Ok-clause-audits g c =
     inr (audited g.D.Desk.reads g.D.Desk.tells c.in-Ok.core.state c.args.desk.now c.peek.new.desk c.say_counts.new.desk c.say_counts.result c.peek.ensures.reads.others c.in-Ok.ensures.valid c.in-Ok.ensures.opens c.say_counts.ensures.says)
 
 pub returns-in-Ok-clause-alone : goal.returns-in-Ok-clause-alone
-returns-in-Ok-clause-alone g c = audit_alone c.args.desk.now c.peek.new.desk c.say_counts.new.desk c.peek.ensures.reads c.say_counts.ensures.others c.say_counts.ensures.stops
+returns-in-Ok-clause-alone g c = LeftAlone-then (looked_alone c.peek.ensures.reads) c.say_counts.ensures.others.folder
 
 pub returns-in-Ok-clause-write_cause : goal.returns-in-Ok-clause-write_cause
 returns-in-Ok-clause-write_cause g c =
@@ -34,7 +35,7 @@ returns-in-Err-clause-audits g c =
     inl (unaudited g.D.Desk.tells c.in-Err.fault c.args.desk.now c.peek.new.desk c.tell_closed.new.desk c.tell_closed.result c.peek.ensures.reads t.others t.stops c.in-Err.ensures.fault t.told)
 
 pub returns-in-Err-clause-alone : goal.returns-in-Err-clause-alone
-returns-in-Err-clause-alone g c = noted_alone c.args.desk.now c.peek.new.desk c.tell_closed.new.desk c.peek.ensures.reads c.tell_closed.ensures.others c.tell_closed.ensures.stops
+returns-in-Err-clause-alone g c = LeftAlone-then (looked_alone c.peek.ensures.reads) (noted_alone c.tell_closed.ensures.others c.tell_closed.ensures.stops)
 
 pub returns-in-Err-clause-write_cause : goal.returns-in-Err-clause-write_cause
 returns-in-Err-clause-write_cause g c =

@@ -13,7 +13,7 @@ returns-in-Ok-clause-compacts g c =
     let o = c.open.ensures in
     let t = c.compact_opened.ensures in
     inr (compacted_opened g.D.Desk.reads g.D.Desk.may_leave c.args.bounds c.in-Ok.kept g.D.Desk.tells c.args.desk.now c.open.new.desk c.compact_opened.new.desk c.compact_opened.result
-    e.opens e.stands e.holds e.opened.0 e.created o.others o.quiet o.stops t.ends t.quiet t.stops)
+    e.opens e.stands e.holds e.opened.0 e.created o.others o.quiet o.stops t.ends t.still t.quiet t.stops)
 
 pub returns-in-Ok-clause-says_nothing : goal.returns-in-Ok-clause-says_nothing
 returns-in-Ok-clause-says_nothing g c = c.compact_opened.ensures.quiet.quiet ∙ c.open.ensures.others.replies
@@ -33,7 +33,7 @@ pub returns-in-Err-clause-compacts : goal.returns-in-Err-clause-compacts
 returns-in-Err-clause-compacts g c =
     let o = c.open.ensures in
     let t = c.tell_closed.ensures in
-    inl (unopened g.D.Desk.tells c.in-Err.fault c.args.desk.now c.open.new.desk c.tell_closed.new.desk c.tell_closed.result o.others t.others t.stops c.in-Err.ensures.fault o.kept o.quiet o.stops t.told)
+    inl (unopened g.D.Desk.tells c.in-Err.fault c.args.desk.now c.open.new.desk c.tell_closed.new.desk c.tell_closed.result o.others t.others t.stops c.in-Err.ensures.fault o.kept o.unwritten o.quiet o.stops t.told)
 
 pub returns-in-Err-clause-says_nothing : goal.returns-in-Err-clause-says_nothing
 returns-in-Err-clause-says_nothing g c = c.tell_closed.ensures.others.replies ∙ c.open.ensures.others.replies

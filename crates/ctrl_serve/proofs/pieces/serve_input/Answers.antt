@@ -1,10 +1,16 @@
-use Rattle.std.proofs.Common.{ap}
+use Rattle.std.proofs.Common.{List, ℕ, ap, sym, subst, take}
 use Rattle.std.proofs.lemmas.Result.{err_from_is_err_and}
 use Rattle.journal_core.proofs.RoomLaws.{left_none, left_then}
+use Rattle.ziti_outside.specs.Images.{Image}
 use Rattle.run_notes.specs.declared.notes.Notes.{Notes}
+use Rattle.run_notes.specs.KnownSessions.{known_in}
+use Rattle.ctrl_serve.specs.FollowedFolders.{FollowsEvents}
 use Rattle.ctrl_serve.specs.ControllerViews.{serving_of}
-use Rattle.ctrl_serve.proofs.ControllerLaws.{notes_behind, ready_behind}
+use Rattle.ctrl_serve.proofs.ControllerLaws.{OnlySaysAndNotes-none, notes_behind, ready_behind}
 use Rattle.ctrl_serve.proofs.FailureLaws.{takes_none}
+use Rattle.ctrl_serve.proofs.FollowedRuns.{follows_input}
+use Rattle.ctrl_serve.proofs.TurnLaws.{none_left}
+use Rattle.ctrl_serve.proofs.UsedLaws.{all_so}
 use Rattle.ctrl_serve.proofs.RoomRuns.{room_calm}
 use Rattle.ctrl_serve.proofs.PieceLaws.{input_ends, input_starved, pieces_none}
 use Rattle.ctrl_serve.proofs.IntakeLaws.{read_caused}
@@ -16,10 +22,16 @@ returns-clause-answers g c =
     let said = g.D.Desk.said in
     let noted = g.D.Desk.noted in
     let faults = g.D.Desk.note_faults in
-    input_ends c.in_ok-stop.stop.end c.args.form k c.args.most c.serve_pieces.new.sessions (serving_of c.serve_pieces.new.controller).machine c.serve_pieces.new.mux _ _ (said c.args.desk.now) (said c.serve_pieces.new.desk) (said c.tell_ending.new.desk)
-    c.args.notes.now.failed c.serve_pieces.new.notes.failed c.tell_ending.new.notes.failed (noted c.args.desk.now) (noted c.serve_pieces.new.desk) (noted c.tell_ending.new.desk)
-    (faults c.args.desk.now) (faults c.serve_pieces.new.desk) (faults c.tell_ending.new.desk) g.D.Desk.tells c.in_ok-stop.stop.bad _
-    c.in_ok-stop.ensures.ok c.in_ok-stop.ensures.end c.tell_ending.ensures.stops c.tell_ending.ensures.others.replies c.in_ok-tell_ending.ensures.status c.in_ok-tell_ending.ensures.noted
+    let ends = c.in_ok-stop.ensures.ok.0 in
+    let used : List ℕ = take c.args.most ends.takes.taken in
+    let all = all_so c.args.form used c.serve_pieces.new.mux ends.answers.answered ends.answers.goes (none_left c.serve_pieces.new.mux c.in_ok-stop.stop.bad c.in_ok-stop.ensures.end) in (
+      input_ends c.in_ok-stop.stop.end c.args.form k c.args.most c.serve_pieces.new.sessions (serving_of c.serve_pieces.new.controller).machine c.serve_pieces.new.mux _ _ (said c.args.desk.now) (said c.serve_pieces.new.desk) (said c.tell_ending.new.desk)
+          c.args.notes.now.failed c.serve_pieces.new.notes.failed c.tell_ending.new.notes.failed (noted c.args.desk.now) (noted c.serve_pieces.new.desk) (noted c.tell_ending.new.desk)
+          (faults c.args.desk.now) (faults c.serve_pieces.new.desk) (faults c.tell_ending.new.desk) g.D.Desk.tells c.in_ok-stop.stop.bad _
+          ends c.in_ok-stop.ensures.end c.tell_ending.ensures.stops c.tell_ending.ensures.others.replies c.in_ok-tell_ending.ensures.status c.in_ok-tell_ending.ensures.noted,
+      λ some told. follows_input c.args.form k.bounds used ends.answers.answered k.machine _ _ all
+          (subst (λ (i : Image). FollowsEvents k.bounds ends.answers.answered (known_in c.args.form) k.machine (g.D.Desk.reads c.args.desk.now) i) (sym c.tell_ending.ensures.others.parts) (c.in_ok-stop.ensures.ok.1 some told)),
+    )
 
 pub returns-clause-read : goal.returns-clause-read
 returns-clause-read g c =
@@ -59,13 +71,13 @@ returns-in_err-tell_ending-clause-answers g c =
     rw p.1 (rw p.2 (input_starved c.in_ok-stop.stop.end c.args.form k c.args.most c.serve_pieces.new.sessions (serving_of c.serve_pieces.new.controller).machine c.serve_pieces.new.mux _ _
     (said c.args.desk.now) (said c.serve_pieces.new.desk) (said c.tell_ending.new.desk) c.args.notes.now.failed c.serve_pieces.new.notes.failed c.tell_ending.new.notes.failed
     (noted c.args.desk.now) (noted c.serve_pieces.new.desk) (noted c.tell_ending.new.desk) (faults c.args.desk.now) (faults c.serve_pieces.new.desk) (faults c.tell_ending.new.desk) g.D.Desk.tells c.in_ok-stop.stop.bad
-    c.in_ok-stop.ensures.ok c.in_ok-stop.ensures.end c.tell_ending.ensures.stops c.in_err-tell_ending.ensures.memory c.tell_ending.ensures.others.replies (ap (λ (x : Notes). x.failed) left.0) left.1.notes left.1.failed_notes))
+    c.in_ok-stop.ensures.ok.0 c.in_ok-stop.ensures.end c.tell_ending.ensures.stops c.in_err-tell_ending.ensures.memory c.tell_ending.ensures.others.replies (ap (λ (x : Notes). x.failed) left.0) left.1.notes left.1.failed_notes))
 
 pub returns-clause-alone : goal.returns-clause-alone
-returns-clause-alone g c = λ none. notes_behind (c.serve_pieces.ensures.alone none) c.tell_ending.ensures.others
+returns-clause-alone g c = λ none. notes_behind (c.serve_pieces.ensures.alone none) c.tell_ending.ensures.others c.tell_ending.ensures.stops
 
 pub returns-in_err-tell_ending-clause-alone : goal.returns-in_err-tell_ending-clause-alone
-returns-in_err-tell_ending-clause-alone g c = λ none. notes_behind (c.serve_pieces.ensures.alone none) c.tell_ending.ensures.others
+returns-in_err-tell_ending-clause-alone g c = λ none. notes_behind (c.serve_pieces.ensures.alone none) c.tell_ending.ensures.others c.tell_ending.ensures.stops
 
 pub returns-in_err-mux-clause-images : goal.returns-in_err-mux-clause-images
 returns-in_err-mux-clause-images g c = room_calm _ c.args.desk.now
@@ -83,3 +95,9 @@ pub returns-clause-ready : goal.returns-clause-ready
 returns-clause-ready g c =
     let others = c.tell_ending.ensures.others in
     ready_behind (serving_of c.serve_pieces.new.controller).kept g.D.Desk.tells _ _ _ _ others.parts others.found c.in_ok-stop.ensures.ready
+
+pub returns-in_err-mux-clause-alone : goal.returns-in_err-mux-clause-alone
+returns-in_err-mux-clause-alone g c = λ none. OnlySaysAndNotes-none c.args.desk.now
+
+pub returns-in_err-sessions-clause-alone : goal.returns-in_err-sessions-clause-alone
+returns-in_err-sessions-clause-alone g c = λ none. OnlySaysAndNotes-none c.args.desk.now

@@ -9,6 +9,8 @@ use Rattle.run_notes.specs.Endings.{IsAllGiven}
 use Rattle.ctrl_serve.specs.ControllerViews.{serving_of}
 use Rattle.ctrl_serve.proofs.ControllerLaws.{GoesOn-then, still_alone, OnlySaysAndNotes-none, OnlySaysAndNotes-then}
 use Rattle.ctrl_serve.proofs.FailureLaws.{takes_none, takes_so_far}
+use Rattle.run_notes.specs.KnownSessions.{known_in}
+use Rattle.ctrl_serve.proofs.FollowedRuns.{follows_start, follows_then}
 use Rattle.ctrl_serve.proofs.RoomRuns.{room_calm, room_more}
 use Rattle.ctrl_serve.proofs.PieceLaws.{came_few, fed_cut, fed_decided, fed_more, fed_starved, more_given, pieces_end, pieces_fed, pieces_none, pieces_start, start_given}
 use Rattle.ctrl_serve.proofs.pieces.serve_pieces.Goals as goal
@@ -21,6 +23,7 @@ pieces-init g c =
       on = record { able = c.requires.able; bounds = refl; kind = refl };
       ready = c.requires.ready;
       answers = pieces_start c.args.form k c.args.most c.args.sessions.now c.args.mux.now (g.S.Source.left c.args.source.now) (g.D.Desk.said desk) c.args.notes.now.failed (g.D.Desk.noted desk) (g.D.Desk.note_faults desk) g.D.Desk.tells c.requires.known c.requires.start;
+      follows = λ some told. follows_start k.bounds (known_in c.args.form) k.machine (g.D.Desk.reads desk);
       given = subst IsAllGiven (sym c.requires.start) (start_given c.args.form);
       few = omega arith;
       calm = refl;
@@ -50,11 +53,15 @@ pieces-preserved g c =
     let now = fed_more c.args.form first mid.bounds c.args.most c.pieces.sessions c.serve_events.new.sessions mid.machine last.machine c.feed.new.self c.serve_events.new.mux (left c.args.source.now) (left c.take.new.self)
     (said c.args.desk.now) (said c.pieces.desk) (said c.serve_events.new.desk) c.args.notes.now.failed c.pieces.notes.failed c.serve_events.new.notes.failed (noted c.args.desk.now) (noted c.pieces.desk) (noted c.serve_events.new.desk)
     (faults c.args.desk.now) (faults c.pieces.desk) (faults c.serve_events.new.desk) g.D.Desk.tells c.in_ok-bad-in-Ok.bad _ _
-    came held.on.bounds e.ok (λ some told. c.serve_events.ensures.stops (held.on.kind ∙ some) told) e.end (sym c.is_decided.ensures ∙ c.if-is_decided.false) (ap (λ (n : ℕ). c.pieces.taken + n) long) in
+    came held.on.bounds e.ok.0 (λ some told. c.serve_events.ensures.stops (held.on.kind ∙ some) told) e.end (sym c.is_decided.ensures ∙ c.if-is_decided.false) (ap (λ (n : ℕ). c.pieces.taken + n) long) in
     record {
       on = GoesOn-then held.on e.on;
       ready = e.ready;
       answers = now;
+      follows = λ some told.
+          follows_then first.bounds mid.bounds held.answers.answers.answered e.ok.0.answered (known_in c.args.form) c.pieces.sessions first.machine mid.machine
+          (g.D.Desk.reads c.args.desk.now) (g.D.Desk.reads c.pieces.desk) (g.D.Desk.reads c.serve_events.new.desk)
+          held.on.bounds held.answers.answers.known_is held.answers.answers.machine_is (held.follows some told) (e.ok.1 (held.on.kind ∙ some) told);
       given = more_given c.args.form first c.args.most _ _ _ _ _ _ _ _ _ _ _ _ _ g.D.Desk.tells c.in_ok-bad-in-Ok.bad _ now e.end (sym c.is_decided.ensures ∙ c.if-is_decided.false);
       few = omega (arith, c.pieces-test.true, few, long);
       calm = c.in-Ok.ensures.cause.calm ∙ held.calm;
@@ -92,9 +99,11 @@ returns-in_err-room-clause-until_failure g c = takes_none _
 pub returns-in-Err-clause-ok : goal.returns-in-Err-clause-ok
 returns-in-Err-clause-ok g c =
     let held = c.pieces.invariant in
-    let taken : List ℕ = held.answers.takes.taken in
-    pieces_end Fault c.args.form (serving_of c.args.controller.now) c.args.most _ _ _ _ _ _ _ _ _ _ _ _ _ _ g.D.Desk.tells c.pieces.taken held.answers
-    (Gave-kept _ _ _ taken held.answers.takes.gave c.in-Err.ensures.bytes.bytes) (omega (arith, held.answers.counted, c.pieces-test.true))
+    let taken : List ℕ = held.answers.takes.taken in (
+      pieces_end Fault c.args.form (serving_of c.args.controller.now) c.args.most _ _ _ _ _ _ _ _ _ _ _ _ _ _ g.D.Desk.tells c.pieces.taken held.answers
+          (Gave-kept _ _ _ taken held.answers.takes.gave c.in-Err.ensures.bytes.bytes) (omega (arith, held.answers.counted, c.pieces-test.true)),
+      held.follows,
+    )
 
 pub returns-in-Err-clause-until_failure : goal.returns-in-Err-clause-until_failure
 returns-in-Err-clause-until_failure g c =
@@ -106,10 +115,12 @@ returns-in-Ok-eq0-clause-ok g c =
     let held = c.pieces.invariant in
     let left = g.S.Source.left in
     let taken : List ℕ = held.answers.takes.taken in
-    let none : Gave (left c.pieces.source) (left c.take.new.self) [] = subst (λ (n : ℕ). Gave (left c.pieces.source) (left c.take.new.self) (take n c.take.new.buf)) c.in-Ok-eq0.field-0-test c.in-Ok-eq0.ensures.bytes.bytes in
-    pieces_end Whole c.args.form (serving_of c.args.controller.now) c.args.most _ _ _ _ _ _ _ _ _ _ _ _ _ _ g.D.Desk.tells c.pieces.taken held.answers
-    (subst (λ (bytes : List ℕ). Gave (left c.args.source.now) (left c.take.new.self) bytes) (append-nil taken) (Gave-then _ _ _ taken [] held.answers.takes.gave none))
-    (inr (omega (arith, held.answers.counted, c.pieces-test.true), c.in-Ok-eq0.ensures.bytes.end c.in-Ok-eq0.field-0-test))
+    let none : Gave (left c.pieces.source) (left c.take.new.self) [] = subst (λ (n : ℕ). Gave (left c.pieces.source) (left c.take.new.self) (take n c.take.new.buf)) c.in-Ok-eq0.field-0-test c.in-Ok-eq0.ensures.bytes.bytes in (
+      pieces_end Whole c.args.form (serving_of c.args.controller.now) c.args.most _ _ _ _ _ _ _ _ _ _ _ _ _ _ g.D.Desk.tells c.pieces.taken held.answers
+          (subst (λ (bytes : List ℕ). Gave (left c.args.source.now) (left c.take.new.self) bytes) (append-nil taken) (Gave-then _ _ _ taken [] held.answers.takes.gave none))
+          (inr (omega (arith, held.answers.counted, c.pieces-test.true), c.in-Ok-eq0.ensures.bytes.end c.in-Ok-eq0.field-0-test)),
+      held.follows,
+    )
 
 pub returns-in-Ok-eq0-clause-until_failure : goal.returns-in-Ok-eq0-clause-until_failure
 returns-in-Ok-eq0-clause-until_failure g c =
@@ -185,11 +196,16 @@ returns-then-is_decided-clause-ok g c =
     let few : length piece ≤ 65536 = omega (arith, long, c.in-Ok.ensures.bytes.within, c.in_ok-room.ensures, c.pieces.auto.piece, c.take.auto.buf) in
     let came = pieces_fed c.args.form first c.args.most c.pieces.sessions mid.machine c.pieces.mux c.feed.new.self (left c.args.source.now) (left c.pieces.source) (left c.take.new.self) (said c.args.desk.now) (said c.pieces.desk)
     c.args.notes.now.failed c.pieces.notes.failed (noted c.args.desk.now) (noted c.pieces.desk) (faults c.args.desk.now) (faults c.pieces.desk) g.D.Desk.tells c.pieces.taken piece c.first_bytes.result.now
-    held.answers held.given.none (omega (arith, c.pieces-test.true)) c.in-Ok.ensures.bytes.bytes few c.first_bytes.ensures c.in_ok-feed-in-Ok.ensures.ok in
-    fed_decided c.args.form first mid.bounds c.args.most c.pieces.sessions c.serve_events.new.sessions mid.machine last.machine c.feed.new.self c.serve_events.new.mux (left c.args.source.now) (left c.take.new.self)
-    (said c.args.desk.now) (said c.pieces.desk) (said c.serve_events.new.desk) c.args.notes.now.failed c.pieces.notes.failed c.serve_events.new.notes.failed (noted c.args.desk.now) (noted c.pieces.desk) (noted c.serve_events.new.desk)
-    (faults c.args.desk.now) (faults c.pieces.desk) (faults c.serve_events.new.desk) g.D.Desk.tells c.in_ok-bad-in-Ok.bad _
-    came held.on.bounds e.ok (λ some told. c.serve_events.ensures.stops (held.on.kind ∙ some) told) e.end (sym c.is_decided.ensures ∙ c.if-is_decided.true)
+    held.answers held.given.none (omega (arith, c.pieces-test.true)) c.in-Ok.ensures.bytes.bytes few c.first_bytes.ensures c.in_ok-feed-in-Ok.ensures.ok in (
+      fed_decided c.args.form first mid.bounds c.args.most c.pieces.sessions c.serve_events.new.sessions mid.machine last.machine c.feed.new.self c.serve_events.new.mux (left c.args.source.now) (left c.take.new.self)
+          (said c.args.desk.now) (said c.pieces.desk) (said c.serve_events.new.desk) c.args.notes.now.failed c.pieces.notes.failed c.serve_events.new.notes.failed (noted c.args.desk.now) (noted c.pieces.desk) (noted c.serve_events.new.desk)
+          (faults c.args.desk.now) (faults c.pieces.desk) (faults c.serve_events.new.desk) g.D.Desk.tells c.in_ok-bad-in-Ok.bad _
+          came held.on.bounds e.ok.0 (λ some told. c.serve_events.ensures.stops (held.on.kind ∙ some) told) e.end (sym c.is_decided.ensures ∙ c.if-is_decided.true),
+      λ some told.
+          follows_then first.bounds mid.bounds held.answers.answers.answered e.ok.0.answered (known_in c.args.form) c.pieces.sessions first.machine mid.machine
+          (g.D.Desk.reads c.args.desk.now) (g.D.Desk.reads c.pieces.desk) (g.D.Desk.reads c.serve_events.new.desk)
+          held.on.bounds held.answers.answers.known_is held.answers.answers.machine_is (held.follows some told) (e.ok.1 (held.on.kind ∙ some) told),
+    )
 
 pub returns-then-is_decided-clause-until_failure : goal.returns-then-is_decided-clause-until_failure
 returns-then-is_decided-clause-until_failure g c =
@@ -203,9 +219,11 @@ returns-then-is_decided-clause-alone g c = λ none.
 
 pub returns-clause-ok : goal.returns-clause-ok
 returns-clause-ok g c =
-    let held = c.pieces.invariant in
-    pieces_end More c.args.form (serving_of c.args.controller.now) c.args.most _ _ _ _ _ _ _ _ _ _ _ _ _ _ g.D.Desk.tells c.pieces.taken held.answers held.answers.takes.gave
-    (omega (arith, held.answers.counted, c.pieces-test.false))
+    let held = c.pieces.invariant in (
+      pieces_end More c.args.form (serving_of c.args.controller.now) c.args.most _ _ _ _ _ _ _ _ _ _ _ _ _ _ g.D.Desk.tells c.pieces.taken held.answers held.answers.takes.gave
+          (omega (arith, held.answers.counted, c.pieces-test.false)),
+      held.follows,
+    )
 
 pub returns-clause-until_failure : goal.returns-clause-until_failure
 returns-clause-until_failure g c = let held = c.pieces.invariant in takes_so_far _ _ held.answers.takes.taken held.answers.takes.gave held.calm
@@ -222,3 +240,10 @@ pub returns-then-is_decided-clause-images : goal.returns-then-is_decided-clause-
 returns-then-is_decided-clause-images g c =
     let held = c.pieces.invariant in
     room_more (serving_of c.args.controller.now).bounds (serving_of c.pieces.controller).bounds held.on.bounds held.images c.serve_events.ensures.images
+
+pub returns-in_err-room-clause-alone : goal.returns-in_err-room-clause-alone
+returns-in_err-room-clause-alone g c = λ none. OnlySaysAndNotes-none c.args.desk.now
+
+pub returns-in_err-bad-in-Ok-clause-alone : goal.returns-in_err-bad-in-Ok-clause-alone
+returns-in_err-bad-in-Ok-clause-alone g c = λ none.
+    let held = c.pieces.invariant in OnlySaysAndNotes-then (held.alone none) (c.serve_events.ensures.alone (still_alone _ _ held.on.kind none))

@@ -1,15 +1,17 @@
-use Rattle.std.proofs.Common.{◌+◌, ◌-◌, ◌≡◌, ◌≤◌, None}
+use Rattle.std.proofs.Common.{◌+◌, ◌-◌, ◌≡◌, ◌≤◌, None, IsTrue, IsSome}
 use Rattle.journal_core.specs.Room.{LeavesRoom}
 use Rattle.run_notes.specs.Endings.{IsAllGiven}
 use Rattle.ziti_outside.specs.Moments.{Elapses}
 use Rattle.ctrl_serve.specs.Headline.{OnlySaysAndNotes}
 use Rattle.ctrl_serve.specs.Controllers.{GoesOn, IsReady}
 use Rattle.ctrl_serve.specs.ControllerViews.{serving_of}
+use Rattle.run_notes.specs.KnownSessions.{known_in}
+use Rattle.ctrl_serve.specs.FollowedFolders.{FollowsEvents}
 use Rattle.ctrl_serve.specs.Pieces.{AnswersPieces}
 use Rattle.ctrl_serve.proofs.pieces.serve_pieces.Given as goal
 
--- what was taken since the call began is what the source gave, all its used events were answered, they do not decide the input, and
--- no slot grew past its bound
+-- what was taken since the call began is what the source gave, all its used events were answered, a folder follows the machine along them,
+-- they do not decide the input, and no slot grew past its bound
 abbrev pub invariant-pieces : goal.invariant-pieces
 invariant-pieces g l = record {
   on : GoesOn (serving_of l.fn.controller) (serving_of l.controller);
@@ -17,12 +19,14 @@ invariant-pieces g l = record {
   answers : AnswersPieces l.form (serving_of l.fn.controller) l.most l.sessions (serving_of l.controller).machine l.mux (g.S.Source.left l.fn.source) (g.S.Source.left l.source) (g.D.Desk.said l.fn.desk) (g.D.Desk.said l.desk)
       l.fn.notes.failed l.notes.failed (g.D.Desk.noted l.fn.desk) (g.D.Desk.noted l.desk) (g.D.Desk.note_faults l.fn.desk) (g.D.Desk.note_faults l.desk) g.D.Desk.tells
       (Elapses (g.D.Desk.moment l.fn.desk) (g.D.Desk.moment l.desk) (g.D.Desk.since l.fn.desk) (g.D.Desk.since l.desk)) l.taken;
+  follows : IsSome (serving_of l.fn.controller).kept → IsTrue g.D.Desk.tells
+      → FollowsEvents (serving_of l.fn.controller).bounds answers.answers.answered (known_in l.form) (serving_of l.fn.controller).machine (g.D.Desk.reads l.fn.desk) (g.D.Desk.reads l.desk);
   given : IsAllGiven l.mux;
   few : l.taken ≤ l.most + 65536;
   calm : g.S.Source.faults l.source ≡ g.S.Source.faults l.fn.source;
   calm_say : g.D.Desk.say_faults l.desk ≡ g.D.Desk.say_faults l.fn.desk;
   calm_disk : g.D.Desk.disk_faults l.desk ≡ g.D.Desk.disk_faults l.fn.desk;
-  alone : (serving_of l.fn.controller).kept ≡ None → OnlySaysAndNotes g.D.Desk.reads g.D.Desk.may_leave g.D.Desk.disk_faults l.fn.desk l.desk;
+  alone : (serving_of l.fn.controller).kept ≡ None → OnlySaysAndNotes g.D.Desk.reads g.D.Desk.moment g.D.Desk.since g.D.Desk.may_leave g.D.Desk.disk_faults l.fn.desk l.desk;
   images : LeavesRoom (serving_of l.fn.controller).bounds.slot g.D.Desk.may_leave l.fn.desk l.desk;
 }
 

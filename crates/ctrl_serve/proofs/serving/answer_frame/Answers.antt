@@ -1,3 +1,5 @@
+use Rattle.std.proofs.Common.{refl}
+use Rattle.ctrl_keep.proofs.FollowedSteps.{follows_still}
 use Rattle.ctrl_serve.specs.ControllerViews.{serving_of}
 use Rattle.ctrl_serve.proofs.RoomRuns.{room_calm}
 use Rattle.ctrl_serve.proofs.StopLaws.{refused_stops, carried_so, carried_stops}
@@ -26,3 +28,9 @@ returns-in_err-refusal_of-in-Err-clause-images g c = room_calm _ c.args.desk.now
 
 pub returns-in_ok-refusal_of-in-Err-clause-images : goal.returns-in_ok-refusal_of-in-Err-clause-images
 returns-in_ok-refusal_of-in-Err-clause-images g c = room_calm _ c.args.desk.now
+
+pub returns-in_ok-refusal_of-in-Err-clause-follows : goal.returns-in_ok-refusal_of-in-Err-clause-follows
+returns-in_ok-refusal_of-in-Err-clause-follows g c = λ some told. follows_still _ _ _ _ refl refl
+
+pub returns-in-Ok-clause-follows : goal.returns-in-Ok-clause-follows
+returns-in-Ok-clause-follows g c = c.carry_out.ensures.follows

@@ -19,3 +19,12 @@ returns-clause-stops g c = λ some told.
 pub returns-in_err-serve_frame-clause-stops : goal.returns-in_err-serve_frame-clause-stops
 returns-in_err-serve_frame-clause-stops g c = λ some told.
     arrived_stops c.args.form _ c.args.session c.replied.result c.args.frame.now c.args.sessions.now _ c.sender.result.now _ c.replied.ensures c.sender.ensures (c.serve_frame.ensures.stops some told)
+
+pub returns-clause-follows : goal.returns-clause-follows
+returns-clause-follows g c = c.in_ok-serve_frame.ensures.follows
+
+pub returns-clause-alone : goal.returns-clause-alone
+returns-clause-alone g c = c.serve_frame.ensures.alone
+
+pub returns-in_err-serve_frame-clause-alone : goal.returns-in_err-serve_frame-clause-alone
+returns-in_err-serve_frame-clause-alone g c = c.serve_frame.ensures.alone

@@ -11,9 +11,10 @@ use Rattle.run_notes.specs.declared.notes.Notes.{Notes}
 use Rattle.ctrl_serve.specs.ControllerViews.{serving_of}
 use Rattle.run_notes.specs.Endings.{IsStuckAt}
 use Rattle.ctrl_serve.proofs.ControllerLaws.{GoesOn-then, still_alone, OnlySaysAndNotes-none, OnlySaysAndNotes-then}
+use Rattle.ctrl_serve.proofs.FollowedRuns.{follows_start, follows_more}
 use Rattle.ctrl_serve.proofs.RoomRuns.{room_calm, room_more}
 use Rattle.ctrl_serve.proofs.RunStopLaws.{stops_more}
-use Rattle.ctrl_serve.proofs.TurnLaws.{answers_start, answers_more, fewer_events, all_given, stuck_at, cut_answers, starved_answers}
+use Rattle.ctrl_serve.proofs.TurnLaws.{answers_start, answers_more, answers_still, fewer_events, all_given, stuck_at, cut_answers, starved_answers}
 use Rattle.ctrl_serve.proofs.serving.serve_events.Goals as goal
 
 pub events-init : goal.events-init
@@ -23,7 +24,8 @@ events-init g c =
     record {
       on = record { able = c.requires.able; bounds = refl; kind = refl };
       ready = c.requires.ready;
-      answers = answers_start c.args.form k.bounds c.args.sessions.now k.machine c.args.mux.now (g.D.Desk.said desk) c.args.notes.now.failed (g.D.Desk.noted desk) (g.D.Desk.note_faults desk);
+      answers = answers_start c.args.form k.bounds c.args.sessions.now c.args.sessions.now k.machine c.args.mux.now (g.D.Desk.said desk) c.args.notes.now.failed (g.D.Desk.noted desk) (g.D.Desk.note_faults desk) refl;
+      follows = λ some told. follows_start k.bounds c.args.sessions.now k.machine (g.D.Desk.reads desk);
       calm = refl;
       calm_disk = refl;
       alone = λ none. OnlySaysAndNotes-none desk;
@@ -60,6 +62,10 @@ events-preserved g c =
           c.args.mux.now old new (said c.args.desk.now) (said c.events.desk) (said c.serve_event.new.desk) c.args.notes.now.failed c.events.notes.failed c.serve_event.new.notes.failed
           (noted c.args.desk.now) (noted c.events.desk) (noted c.serve_event.new.desk) (faults c.args.desk.now) (faults c.events.desk) (faults c.serve_event.new.desk)
           held.on.bounds held.answers goes turn.ok turn.noted;
+      follows = λ some told.
+          follows_more first.bounds mid.bounds held.answers.answered c.in-Ok-Some.event c.args.sessions.now c.events.sessions first.machine mid.machine last.machine
+          (g.D.Desk.reads c.args.desk.now) (g.D.Desk.reads c.events.desk) (g.D.Desk.reads c.serve_event.new.desk)
+          held.on.bounds held.answers.known_is held.answers.machine_is (held.follows some told) turn.ok.next (turn.follows (held.on.kind ∙ some) told);
       calm = turn.say_cause.calm ∙ held.calm;
       calm_disk = turn.disk_cause.calm ∙ held.calm_disk;
       alone = λ none. OnlySaysAndNotes-then (held.alone none) (c.serve_event.ensures.alone (still_alone _ _ held.on.kind none));
@@ -134,3 +140,41 @@ pub returns-in_err-serve_event-in-Ok-Some-clause-images : goal.returns-in_err-se
 returns-in_err-serve_event-in-Ok-Some-clause-images g c =
     let held = c.events.invariant in
     room_more (serving_of c.args.controller.now).bounds (serving_of c.events.controller).bounds held.on.bounds held.images c.serve_event.ensures.images
+
+pub returns-in-Ok-None-clause-ok : goal.returns-in-Ok-None-clause-ok
+returns-in-Ok-None-clause-ok g c =
+    let old = c.events.mux in
+    let new = c.next.new.self in
+    let gives = subst (λ (o : Option Event). MatchOption o (GivesNone old new) (λ e. GoesTo old new (e ∷ []))) c.in-Ok-None.field-0-is c.in-Ok-None.ensures.some in
+    let goes : GoesTo old new [] = gives.goes in
+    let held = c.events.invariant in
+    let first = serving_of c.args.controller.now in
+    let mid = serving_of c.events.controller in
+    let said = g.D.Desk.said in
+    let noted = g.D.Desk.noted in
+    let faults = g.D.Desk.note_faults in (
+      answers_still c.args.form first.bounds c.args.sessions.now c.events.sessions first.machine mid.machine c.args.mux.now c.events.mux c.next.new.self (said c.args.desk.now) (said c.events.desk)
+          c.args.notes.now.failed c.events.notes.failed (noted c.args.desk.now) (noted c.events.desk) (faults c.args.desk.now) (faults c.events.desk) held.answers goes,
+      held.follows,
+    )
+
+pub returns-in-Err-BadRecord-clause-ok : goal.returns-in-Err-BadRecord-clause-ok
+returns-in-Err-BadRecord-clause-ok g c =
+    let old = c.events.mux in
+    let new = c.next.new.self in
+    let stuck = subst (λ (e : MuxFault). GivesFault old new e) c.in-Err-BadRecord.field-0-is c.in-Err-BadRecord.ensures.fault in
+    let goes : GoesTo old new [] = stuck.0 in
+    let held = c.events.invariant in
+    let first = serving_of c.args.controller.now in
+    let mid = serving_of c.events.controller in
+    let said = g.D.Desk.said in
+    let noted = g.D.Desk.noted in
+    let faults = g.D.Desk.note_faults in (
+      answers_still c.args.form first.bounds c.args.sessions.now c.events.sessions first.machine mid.machine c.args.mux.now c.events.mux c.next.new.self (said c.args.desk.now) (said c.events.desk)
+          c.args.notes.now.failed c.events.notes.failed (noted c.args.desk.now) (noted c.events.desk) (faults c.args.desk.now) (faults c.events.desk) held.answers goes,
+      held.follows,
+    )
+
+pub returns-in_err-serve_event-in-Ok-Some-clause-alone : goal.returns-in_err-serve_event-in-Ok-Some-clause-alone
+returns-in_err-serve_event-in-Ok-Some-clause-alone g c = λ none.
+    let held = c.events.invariant in OnlySaysAndNotes-then (held.alone none) (c.serve_event.ensures.alone (still_alone _ _ held.on.kind none))

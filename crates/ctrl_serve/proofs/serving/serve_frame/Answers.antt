@@ -1,6 +1,8 @@
 use Rattle.std.proofs.Common.{◌∙◌}
 use Rattle.journal_core.proofs.RoomLaws.{left_none, left_then}
 use Rattle.ctrl_serve.specs.ControllerViews.{serving_of}
+use Rattle.ctrl_serve.proofs.ControllerLaws.{desk_behind, says_behind}
+use Rattle.ctrl_serve.proofs.FollowedRuns.{follows_behind}
 use Rattle.ctrl_serve.proofs.StopLaws.{turn_stops_short, served_stops}
 use Rattle.ctrl_serve.proofs.TurnLaws.{turn_taken, turn_cut}
 use Rattle.ctrl_serve.proofs.serving.serve_frame.Goals as goal
@@ -40,3 +42,18 @@ returns-in-Ok-clause-images g c = left_then c.answer_frame.ensures.images (left_
 
 pub returns-clause-images : goal.returns-clause-images
 returns-clause-images g c = left_then c.answer_frame.ensures.images (left_none _ c.say.ensures.others.found)
+
+pub returns-in-Ok-clause-follows : goal.returns-in-Ok-clause-follows
+returns-in-Ok-clause-follows g c = λ some told. follows_behind _ _ _ _ _ (c.in_ok-reply.ensures.follows some told) c.say.ensures.others.parts
+
+pub returns-in_err-reply-clause-alone : goal.returns-in_err-reply-clause-alone
+returns-in_err-reply-clause-alone g c = λ none. desk_behind (c.answer_frame.ensures.alone none)
+
+pub returns-in_err-bytes-clause-alone : goal.returns-in_err-bytes-clause-alone
+returns-in_err-bytes-clause-alone g c = λ none. desk_behind (c.answer_frame.ensures.alone none)
+
+pub returns-in-Ok-clause-alone : goal.returns-in-Ok-clause-alone
+returns-in-Ok-clause-alone g c = λ none. says_behind _ _ (c.answer_frame.ensures.alone none) c.say.ensures.others c.say.ensures.stops
+
+pub returns-clause-alone : goal.returns-clause-alone
+returns-clause-alone g c = λ none. says_behind _ _ (c.answer_frame.ensures.alone none) c.say.ensures.others c.say.ensures.stops

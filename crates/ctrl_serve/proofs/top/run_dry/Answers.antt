@@ -1,9 +1,9 @@
 use Rattle.std.proofs.Common.{refl, arith}
 use Rattle.session_mux.specs.declared.sessions.Form.TheVariants.{Plain}
+use Rattle.ctrl_serve.proofs.ControllerLaws.{notes_alone}
 use Rattle.ctrl_serve.proofs.FailureLaws.{takes_none}
 use Rattle.ctrl_serve.proofs.IntakeLaws.{none_serves}
 use Rattle.ctrl_serve.proofs.ReplayLaws.{started_serves, cut_counts}
-use Rattle.ctrl_serve.proofs.RunLaws.{notes_alone}
 use Rattle.ctrl_serve.proofs.top.run_dry.Goals as goal
 
 pub returns-in-Ok-clause-serves : goal.returns-in-Ok-clause-serves
@@ -24,7 +24,7 @@ returns-in-Err-clause-counts g c =
     cut_counts c.args.source.now _ _ _ c.tell_cut.result c.tell_cut.ensures.status (record { later = omega arith; once = omega arith }) (takes_none c.args.source.now) c.tell_cut.ensures.others c.tell_cut.ensures.counted
 
 pub returns-in-Err-clause-others : goal.returns-in-Err-clause-others
-returns-in-Err-clause-others g c = notes_alone c.tell_cut.ensures.others
+returns-in-Err-clause-others g c = notes_alone c.tell_cut.ensures.others c.tell_cut.ensures.stops
 
 pub returns-in-Ok-clause-counts : goal.returns-in-Ok-clause-counts
 returns-in-Ok-clause-counts g c = c.run_on-status.ensures.counts

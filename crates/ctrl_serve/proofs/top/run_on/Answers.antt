@@ -13,25 +13,25 @@ pub returns-in-Ok-clause-runs : goal.returns-in-Ok-clause-runs
 returns-in-Ok-clause-runs g c =
     let k = serving_of c.args.controller.now in
     let e = c.in-Ok.ensures in
-    input_runs c.args.form k c.args.most c.serve_input.new.controller _ _ (g.D.Desk.said c.args.desk.now) _ _ _ c.new-notes.result.failed c.serve_input.new.notes.failed _ _ g.D.Desk.tells _ _ _ c.in-Ok.status
-    c.new-notes.ensures e.answers e.on e.ready (λ used stops. used_stops c.args.form k.bounds k.machine used (known_in c.args.form) (at_start c.args.form used) (g.D.Desk.said c.args.desk.now) refl refl stops)
+    input_runs c.args.form k c.args.most c.serve_input.new.controller _ _ (g.D.Desk.said c.args.desk.now) _ _ _ c.new-notes.result.failed c.serve_input.new.notes.failed _ _ g.D.Desk.tells _ _ _ _ c.in-Ok.status
+    c.new-notes.ensures e.answers.0 e.answers.1 e.on e.ready (λ used stops. used_stops c.args.form k.bounds k.machine used (known_in c.args.form) (at_start c.args.form used) (g.D.Desk.said c.args.desk.now) refl refl stops)
 
 pub returns-in-Ok-clause-counts : goal.returns-in-Ok-clause-counts
 returns-in-Ok-clause-counts g c =
     let k = serving_of c.args.controller.now in
     let e = c.in-Ok.ensures in
-    let not = all_no_fault c.args.form _ _ _ _ c.in-Ok.status _ _ _ _ _ _ _ _ e.answers.all in
+    let not = all_no_fault c.args.form _ _ _ _ c.in-Ok.status _ _ _ _ _ _ _ _ e.answers.0.all in
     input_counts _ _ _ _ c.in-Ok.status e.read c.serve_input.ensures.counted c.serve_input.ensures.until_failure (write_calm _ _ c.in-Ok.status e.say_cause.calm not.0) (disk_calm _ _ c.in-Ok.status e.disk_cause.calm not.1)
-    (input_run_counted c.args.form k c.args.most _ _ _ _ _ _ _ c.new-notes.result.failed c.serve_input.new.notes.failed _ _ g.D.Desk.tells _ c.in-Ok.status c.new-notes.ensures e.answers)
+    (input_run_counted c.args.form k c.args.most _ _ _ _ _ _ _ c.new-notes.result.failed c.serve_input.new.notes.failed _ _ g.D.Desk.tells _ c.in-Ok.status c.new-notes.ensures e.answers.0)
 
 pub returns-in-Ok-clause-undisked : goal.returns-in-Ok-clause-undisked
-returns-in-Ok-clause-undisked g c = λ alone. (all_no_fault c.args.form _ _ _ _ c.in-Ok.status _ _ _ _ _ _ _ _ c.in-Ok.ensures.answers.all).1
+returns-in-Ok-clause-undisked g c = λ alone. (all_no_fault c.args.form _ _ _ _ c.in-Ok.status _ _ _ _ _ _ _ _ c.in-Ok.ensures.answers.0.all).1
 
 pub returns-in-Err-clause-runs : goal.returns-in-Err-clause-runs
 returns-in-Err-clause-runs g c =
     let k = serving_of c.args.controller.now in
     let t = c.tell_cut_behind.ensures in
-    cut_runs c.in-Err.cut c.args.form k c.args.most _ _ (g.D.Desk.said c.args.desk.now) _ _ _ _ _ c.new-notes.result.failed c.serve_input.new.notes.failed c.tell_cut_behind.new.notes.failed _ _ _ g.D.Desk.tells _ _ _ _ c.tell_cut_behind.result
+    cut_runs c.in-Err.cut c.args.form k c.args.most _ _ (g.D.Desk.said c.args.desk.now) _ _ _ _ _ c.new-notes.result.failed c.serve_input.new.notes.failed c.tell_cut_behind.new.notes.failed _ _ _ g.D.Desk.tells _ _ _ _ _ c.tell_cut_behind.result
     t.status c.new-notes.ensures c.in-Err.ensures.answers t.others.replies t.noted
     (λ used stops. used_stops c.args.form k.bounds k.machine used (known_in c.args.form) (at_start c.args.form used) (g.D.Desk.said c.args.desk.now) refl refl (no_more_behind _ stops t.stops))
 
@@ -49,7 +49,7 @@ returns-in-Err-clause-undisked g c = λ none.
     cut_undisked c.in-Err.cut c.tell_cut_behind.result c.tell_cut_behind.ensures.status (λ e. c.serve_input.ensures.undisked none (c.in-Err.is ∙ ap Err e))
 
 pub returns-in-Err-clause-alone : goal.returns-in-Err-clause-alone
-returns-in-Err-clause-alone g c = λ none. notes_behind (c.serve_input.ensures.alone none) c.tell_cut_behind.ensures.others
+returns-in-Err-clause-alone g c = λ none. notes_behind (c.serve_input.ensures.alone none) c.tell_cut_behind.ensures.others c.tell_cut_behind.ensures.stops
 
 pub returns-in-Err-clause-images : goal.returns-in-Err-clause-images
 returns-in-Err-clause-images g c = left_then c.serve_input.ensures.images (left_none _ c.tell_cut_behind.ensures.others.found)

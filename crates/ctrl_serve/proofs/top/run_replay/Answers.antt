@@ -22,7 +22,7 @@ returns-in-Err-clause-replays g c =
     let t = c.tell_closed.ensures in
     inl (record {
       takes_nothing = refl;
-      unopened = unopened g.D.Desk.tells c.in-Err.fault c.args.desk.now c.open.new.desk c.tell_closed.new.desk c.tell_closed.result o.others t.others t.stops c.in-Err.ensures.fault o.kept o.quiet o.stops t.told;
+      unopened = unopened g.D.Desk.tells c.in-Err.fault c.args.desk.now c.open.new.desk c.tell_closed.new.desk c.tell_closed.result o.others t.others t.stops c.in-Err.ensures.fault o.kept o.unwritten o.quiet o.stops t.told;
     })
 
 pub returns-in-Err-clause-counts : goal.returns-in-Err-clause-counts

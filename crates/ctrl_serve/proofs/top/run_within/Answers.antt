@@ -23,7 +23,7 @@ returns-in-Some-Replay g c =
 pub returns-in-None : goal.returns-in-None
 returns-in-None g c =
     let e = c.note_lines.ensures in
-    record { runs = usage_runs g.D.Desk.tells (folder_bounds c.args.bounds) c.args.bounds.input _ _ _ _ (ap (λ ws. form_of (texts ws)) (sym c.as_slice.ensures.value) ∙ sym c.form_of.ensures ∙ c.in-None.is) e.others (subst (λ (l : List ℕ). NotesLines l (g.D.Desk.noted c.args.desk.now) (g.D.Desk.noted c.note_lines.new.desk) (g.D.Desk.note_faults c.args.desk.now) (g.D.Desk.note_faults c.note_lines.new.desk)) c.status_line.ensures e.noted) e.counted }
+    record { runs = usage_runs g.D.Desk.tells (folder_bounds c.args.bounds) c.args.bounds.input _ _ _ _ (ap (λ ws. form_of (texts ws)) (sym c.as_slice.ensures.value) ∙ sym c.form_of.ensures ∙ c.in-None.is) e.others e.stops (subst (λ (l : List ℕ). NotesLines l (g.D.Desk.noted c.args.desk.now) (g.D.Desk.noted c.note_lines.new.desk) (g.D.Desk.note_faults c.args.desk.now) (g.D.Desk.note_faults c.note_lines.new.desk)) c.status_line.ensures e.noted) e.counted }
 
 pub returns-in-Some-Load : goal.returns-in-Some-Load
 returns-in-Some-Load g c =

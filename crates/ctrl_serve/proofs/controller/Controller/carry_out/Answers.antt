@@ -1,4 +1,5 @@
 use Rattle.ctrl_serve.proofs.ControllerLaws.{kept_able, kept_limits, kept_stops}
+use Rattle.ctrl_serve.proofs.FollowedRuns.{kept_follows}
 use Rattle.ctrl_serve.proofs.RoomRuns.{kept_room}
 use Rattle.ctrl_serve.proofs.controller.Controller.carry_out.Goals as goal
 
@@ -19,3 +20,6 @@ returns-in-Ok-clause-images g c = kept_room c.args.self.now c.in-Kept.kept c.in-
 
 pub returns-in-Err-clause-images : goal.returns-in-Err-clause-images
 returns-in-Err-clause-images g c = kept_room c.args.self.now c.in-Kept.kept c.in-Kept.is c.submit.ensures.images
+
+pub returns-in-Ok-clause-follows : goal.returns-in-Ok-clause-follows
+returns-in-Ok-clause-follows g c = λ some told. kept_follows c.args.self.now c.in-Kept.kept _ _ _ c.in-Kept.is (c.in-Ok.ensures.follows told)

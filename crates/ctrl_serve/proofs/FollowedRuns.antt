@@ -1,0 +1,153 @@
+-- How a folder follows the machine of a run, from one frame to all frames of an input.
+use Rattle.std.proofs.Common.{◌≡◌, ◌⊎◌, inl, inr, ℕ, zero, suc, ◌<◌, List, [], ◌∷◌, ◌++◌, length, refl, sym, ap, ◌∙◌, subst, arith}
+use Rattle.ziti_outside.specs.Images.{Image}
+use Rattle.ziti_outside.specs.declared.desk.Part.TheVariants.{Zero, Mark}
+use Rattle.journal_core.specs.Slots.{Slot, slot_bytes}
+use Rattle.slot_files.specs.FolderImage.{Stands, StandsBy}
+use Rattle.slot_files.specs.OpenedSlots.{IsCreated, Opens}
+use Rattle.slot_files.proofs.StandLaws.{created_slot}
+use Rattle.row_store.specs.declared.bounds.StoreBounds.{StoreBounds}
+use Rattle.ctrl_keep.specs.KeptMachine.{Machine}
+use Rattle.ctrl_keep.specs.KeptBatches.{mark_at, end_at, batches_next, GoesOnBehind, Follows}
+use Rattle.ctrl_keep.specs.KeptController.{Controlled, machine_of}
+use Rattle.ctrl_keep.proofs.FollowedSteps.{batches_still}
+use Rattle.session_mux.specs.declared.events.Event.{Event}
+use Rattle.session_mux.specs.declared.events.Event.TheVariants as event
+use Rattle.session_mux.specs.declared.sessions.Form.{Form}
+use Rattle.session_mux.specs.Completion.{frames_by}
+use Rattle.run_notes.specs.Inputs.{events_in, frames_in}
+use Rattle.run_notes.specs.KnownSessions.{Known, known_in, known_after, known_along}
+use Rattle.ctrl_serve.specs.declared.controller.Controller.{Controller}
+use Rattle.ctrl_serve.specs.declared.controller.Controller.TheVariants.{Kept}
+use Rattle.ctrl_serve.specs.ControllerViews.{serving_of}
+use Rattle.ctrl_serve.specs.FrameAnswer.{machine_behind, batches_behind, last_machine, last_batches}
+use Rattle.ctrl_serve.specs.KnownReplies.{machine_after, machine_along, batches_along}
+use Rattle.ctrl_serve.specs.FollowedFolders.{FollowsEvents, FollowsInput}
+use Rattle.ctrl_serve.proofs.KnownLaws.{machine_then, machine_from_start}
+
+-- ---- a frame
+
+-- The folder of a kept controller follows its machine.
+pub kept_follows : (x : Controller) (k : Controlled) (m : Machine) (before now : Image) → x ≡ Kept k → Follows (machine_of k) m before now → Follows (serving_of x).machine m before now
+kept_follows x k m before now is follows = subst (λ (c : Controller). Follows (serving_of c).machine m before now) (sym is) follows
+
+-- What leaves the parts leaves that.
+pub follows_behind : (m next : Machine) (before mid now : Image) → Follows m next before mid → now ≡ mid → Follows m next before now
+follows_behind m next before mid now follows same = subst (λ (i : Image). Follows m next before i) (sym same) follows
+
+-- ---- one stretch behind another
+
+behind_then : (a b c : Machine) → GoesOnBehind a b → GoesOnBehind b c → GoesOnBehind a c
+behind_then a b c (inl x) (inl y) = inl (omega (arith, x, y))
+behind_then a b c (inl x) (inr (y, z)) = inl (omega (arith, x, y))
+behind_then a b c (inr (x, z)) (inl y) = inl (omega (arith, x, y))
+behind_then a b c (inr (x, z)) (inr (y, w)) = inr (y ∙ x, omega (arith, z, w))
+
+not_behind : (a b : Machine) → GoesOnBehind a b → b ≡ a → ⊥
+not_behind a b (inl x) same = absurd (omega (arith, x, ap (λ (m : Machine). mark_at m.place) same))
+not_behind a b (inr (x, y)) same = absurd (omega (arith, y, ap (λ (m : Machine). end_at m.place) same))
+
+on_then : (a b c : Machine) → (b ≡ a) ⊎ GoesOnBehind a b → (c ≡ b) ⊎ GoesOnBehind b c → (c ≡ a) ⊎ GoesOnBehind a c
+on_then a b c (inl same) later = subst (λ (m : Machine). (c ≡ m) ⊎ GoesOnBehind m c) same later
+on_then a b c (inr more) (inl same) = inr (subst (λ (m : Machine). GoesOnBehind a m) (sym same) more)
+on_then a b c (inr more) (inr later) = inr (behind_then a b c more later)
+
+-- A machine that came back never went.
+came_back : (a b c : Machine) → (b ≡ a) ⊎ GoesOnBehind a b → (c ≡ b) ⊎ GoesOnBehind b c → c ≡ a → (b ≡ a) × (c ≡ b)
+came_back a b c (inl first) later back = (first, back ∙ sym first)
+came_back a b c (inr more) (inl same) back = absurd (not_behind a b more (sym same ∙ back))
+came_back a b c (inr more) (inr later) back = absurd (not_behind a c (behind_then a b c more later) back)
+
+-- ---- along events
+
+pub batches_then : (bounds : StoreBounds) (es later : List Event) (k : Known) (m : Machine) (batches : List (List ℕ))
+    → batches_along bounds (es ++ later) k m batches ≡ batches_along bounds later (known_along es k) (machine_along bounds es k m) (batches_along bounds es k m batches)
+batches_then bounds [] later k m batches = refl
+batches_then bounds (e ∷ es) later k m batches = batches_then bounds es later (known_after e k) (machine_after bounds e k m) (batches_next m (machine_after bounds e k m) batches)
+
+-- Before any event.
+pub follows_start : (bounds : StoreBounds) (k : Known) (m : Machine) (i : Image) → FollowsEvents bounds [] k m i i
+follows_start bounds k m i = record { on = inl refl; still = λ _. refl; stands = λ batches s. s }
+
+-- Along one.
+follows_one : (bounds : StoreBounds) (e : Event) (k : Known) (m next : Machine) (before now : Image) → next ≡ machine_after bounds e k m → Follows m next before now
+    → FollowsEvents bounds (e ∷ []) k m before now
+follows_one bounds e k m next before now is follows =
+    let step = subst (λ (x : Machine). Follows m x before now) is follows in
+    record { on = step.on; still = step.still; stands = step.stands }
+
+-- Along some, and then others, by what is known and the machine behind the first ones.
+pub follows_then : (bounds here : StoreBounds) (es later : List Event) (k k1 : Known) (m m1 : Machine) (before mid now : Image) → here ≡ bounds → k1 ≡ known_along es k → m1 ≡ machine_along bounds es k m
+    → FollowsEvents bounds es k m before mid → FollowsEvents here later k1 m1 mid now → FollowsEvents bounds (es ++ later) k m before now
+follows_then bounds here es later k k1 m m1 before mid now within known same first second =
+    let at : FollowsEvents bounds later (known_along es k) (machine_along bounds es k m) mid now =
+    subst (λ (y : Machine). FollowsEvents bounds later (known_along es k) y mid now) same
+    (subst (λ (y : Known). FollowsEvents bounds later y m1 mid now) known
+    (subst (λ (y : StoreBounds). FollowsEvents y later k1 m1 mid now) within second)) in
+    let last = machine_then bounds es later k m in
+    record {
+      on = subst (λ (y : Machine). (y ≡ m) ⊎ GoesOnBehind m y) (sym last) (on_then m (machine_along bounds es k m) _ first.on at.on);
+      still = λ back.
+          let both = came_back m (machine_along bounds es k m) _ first.on at.on (sym last ∙ back) in
+          at.still both.1 ∙ first.still both.0;
+      stands = λ batches s.
+          subst (Stands now) (sym (batches_then bounds es later k m batches)) (at.stands (batches_along bounds es k m batches) (first.stands batches s));
+    }
+
+-- One event more.
+pub follows_more : (bounds here : StoreBounds) (es : List Event) (e : Event) (k k1 : Known) (m m1 next : Machine) (before mid now : Image) → here ≡ bounds → k1 ≡ known_along es k → m1 ≡ machine_along bounds es k m
+    → FollowsEvents bounds es k m before mid → next ≡ machine_after here e k1 m1 → Follows m1 next mid now → FollowsEvents bounds (es ++ e ∷ []) k m before now
+follows_more bounds here es e k k1 m m1 next before mid now within known same first is step =
+    follows_then bounds here es (e ∷ []) k k1 m m1 before mid now within known same first (follows_one here e k1 m1 next mid now is step)
+
+-- ---- along an input
+
+along_batches : (bounds : StoreBounds) (es : List Event) (k : Known) (m : Machine) (batches : List (List ℕ))
+    → batches_along bounds es k m batches ≡ batches_behind bounds m (frames_by es k.senders) batches
+along_batches bounds [] k m batches = refl
+along_batches bounds (event.Opened s who ∷ es) k m batches =
+    ap (batches_along bounds es (known_after (event.Opened s who) k) m) (batches_still m batches) ∙ along_batches bounds es (known_after (event.Opened s who) k) m batches
+along_batches bounds (event.Arrived s frame ∷ es) k m batches =
+    along_batches bounds es (known_after (event.Arrived s frame) k) (machine_after bounds (event.Arrived s frame) k m) (batches_next m (machine_after bounds (event.Arrived s frame) k m) batches)
+along_batches bounds (event.Ended s fault at ∷ es) k m batches =
+    ap (batches_along bounds es (known_after (event.Ended s fault at) k) m) (batches_still m batches) ∙ along_batches bounds es (known_after (event.Ended s fault at) k) m batches
+along_batches bounds (event.Closed s rest ∷ es) k m batches =
+    ap (batches_along bounds es (known_after (event.Closed s rest) k) m) (batches_still m batches) ∙ along_batches bounds es (known_after (event.Closed s rest) k) m batches
+
+-- Along all its events it follows it along all its frames.
+pub follows_input : (form : Form) (bounds : StoreBounds) (used : List ℕ) (es : List Event) (m : Machine) (before now : Image) → es ≡ events_in form used
+    → FollowsEvents bounds es (known_in form) m before now → FollowsInput form bounds m before now used
+follows_input form bounds used es m before now all follows =
+    let last : machine_along bounds es (known_in form) m ≡ last_machine form bounds m used =
+    machine_from_start form bounds es m ∙ ap (λ (l : List Event). machine_behind bounds m (frames_in form l)) all in
+    record {
+      still = λ back. follows.still (last ∙ back);
+      stands = λ batches s.
+          subst (Stands now) (along_batches bounds es (known_in form) m batches ∙ ap (λ (l : List Event). batches_behind bounds m (frames_in form l) batches) all) (follows.stands batches s);
+    }
+
+-- ---- the folder was opened before
+
+-- Where it was created it stands for no batches, as it did.
+created_stands : (old new : Image) (batches : List (List ℕ)) → StandsBy 0 old batches → IsCreated old new → Stands new batches
+created_stands old new batches none made =
+    let slot : Slot (new Zero) [] = created_slot (old Zero) (new Zero) (slot_bytes []) refl made.first in
+    subst (λ (m : List ℕ). StandsBy (length m) new batches) (sym made.mark) (subst (λ (b : List (List ℕ)). Slot (new Zero) b) (sym none) slot)
+
+pub opened_by : (mark : ℕ) (old new : Image) (batches : List (List ℕ)) → length (old Mark) ≡ mark → Opens mark old new → Stands old batches → Stands new batches
+opened_by zero old new batches is made s = created_stands old new batches (subst (λ (n : ℕ). StandsBy n old batches) is s) made
+opened_by (suc turn) old new batches is made s = subst (λ (i : Image). Stands i batches) (sym made) s
+
+pub kept_by : (mark : ℕ) (old new : Image) → 0 < mark → Opens mark old new → new ≡ old
+kept_by zero old new some made = absurd (omega (arith, some))
+kept_by (suc turn) old new some made = made
+
+-- For whatever it stood, it stands behind a run for the last batches of these.
+pub opened_stands_for : (form : Form) (bounds : StoreBounds) (m : Machine) (before mid now : Image) (used : List ℕ) (batches : List (List ℕ)) → Opens (length (before Mark)) before mid
+    → FollowsInput form bounds m mid now used → Stands before batches → Stands now (last_batches form bounds m used batches)
+opened_stands_for form bounds m before mid now used batches made follows s = follows.stands batches (opened_by (length (before Mark)) before mid batches refl made s)
+
+-- Where the machine is as it was at the opening, it reads as before.
+pub opened_still : (form : Form) (bounds : StoreBounds) (m : Machine) (before mid now : Image) (used : List ℕ) → Opens (length (before Mark)) before mid
+    → FollowsInput form bounds m mid now used → 0 < length (before Mark) → last_machine form bounds m used ≡ m → now ≡ before
+opened_still form bounds m before mid now used made follows some back = follows.still back ∙ kept_by (length (before Mark)) before mid some made

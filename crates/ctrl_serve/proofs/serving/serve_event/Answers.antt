@@ -1,0 +1,31 @@
+use Rattle.std.proofs.Common.{refl}
+use Rattle.ctrl_keep.proofs.FollowedSteps.{follows_still}
+use Rattle.ctrl_serve.proofs.ControllerLaws.{OnlySaysAndNotes-none, notes_alone}
+use Rattle.ctrl_serve.proofs.serving.serve_event.Goals as goal
+
+pub returns-in-Opened-clause-alone : goal.returns-in-Opened-clause-alone
+returns-in-Opened-clause-alone g c = λ none. OnlySaysAndNotes-none c.args.desk.now
+
+pub returns-in-Opened-clause-follows : goal.returns-in-Opened-clause-follows
+returns-in-Opened-clause-follows g c = λ some told. follows_still _ _ _ _ refl refl
+
+pub returns-in-Closed-clause-alone : goal.returns-in-Closed-clause-alone
+returns-in-Closed-clause-alone g c = λ none. OnlySaysAndNotes-none c.args.desk.now
+
+pub returns-in-Closed-clause-follows : goal.returns-in-Closed-clause-follows
+returns-in-Closed-clause-follows g c = λ some told. follows_still _ _ _ _ refl refl
+
+pub returns-in_err-note_fault-in-Ended-clause-alone : goal.returns-in_err-note_fault-in-Ended-clause-alone
+returns-in_err-note_fault-in-Ended-clause-alone g c = λ none. notes_alone c.note_fault.ensures.others c.note_fault.ensures.stops
+
+pub returns-in_ok-note_fault-in-Ended-clause-alone : goal.returns-in_ok-note_fault-in-Ended-clause-alone
+returns-in_ok-note_fault-in-Ended-clause-alone g c = λ none. notes_alone c.note_fault.ensures.others c.note_fault.ensures.stops
+
+pub returns-in_ok-note_fault-in-Ended-clause-follows : goal.returns-in_ok-note_fault-in-Ended-clause-follows
+returns-in_ok-note_fault-in-Ended-clause-follows g c = λ some told. follows_still _ _ _ _ refl c.note_fault.ensures.others.parts
+
+pub returns-in-Arrived-clause-alone : goal.returns-in-Arrived-clause-alone
+returns-in-Arrived-clause-alone g c = c.serve_arrived.ensures.alone
+
+pub returns-in-Arrived-clause-follows : goal.returns-in-Arrived-clause-follows
+returns-in-Arrived-clause-follows g c = c.serve_arrived.ensures.follows

@@ -1,0 +1,24 @@
+-- How a folder follows the machine of a run: along events, and along an input. Only private contracts cite these.
+use Rattle.std.specs.Prelude.{◌≡◌, ◌⊎◌, ℕ, List}
+use Rattle.ziti_outside.specs.Images.{Image}
+use Rattle.slot_files.specs.FolderImage.{Stands}
+use Rattle.row_store.specs.declared.bounds.StoreBounds.{StoreBounds}
+use Rattle.ctrl_keep.specs.KeptMachine.{Machine}
+use Rattle.ctrl_keep.specs.KeptBatches.{GoesOnBehind}
+use Rattle.session_mux.specs.declared.events.Event.{Event}
+use Rattle.session_mux.specs.declared.sessions.Form.{Form}
+use Rattle.run_notes.specs.KnownSessions.{Known}
+use Rattle.ctrl_serve.specs.FrameAnswer.{last_machine, last_batches}
+use Rattle.ctrl_serve.specs.KnownReplies.{machine_along, batches_along}
+
+-- Along some events: the machine is as it was, and then every part reads as before, or its journal goes on behind; and for whatever batches the
+-- folder stood, it stands for those behind the events.
+pub record FollowsEvents (bounds : StoreBounds) (events : List Event) (known : Known) (m : Machine) (before now : Image) : Type 0 where
+  pub on : (machine_along bounds events known m ≡ m) ⊎ GoesOnBehind m (machine_along bounds events known m)
+  pub still : machine_along bounds events known m ≡ m → now ≡ before
+  pub stands : (batches : List (List ℕ)) → Stands before batches → Stands now (batches_along bounds events known m batches)
+
+-- Along all frames of an input.
+pub record FollowsInput (form : Form) (bounds : StoreBounds) (m : Machine) (before now : Image) (used : List ℕ) : Type 0 where
+  pub still : last_machine form bounds m used ≡ m → now ≡ before
+  pub stands : (batches : List (List ℕ)) → Stands before batches → Stands now (last_batches form bounds m used batches)
