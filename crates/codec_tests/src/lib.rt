@@ -1,4 +1,5 @@
-//! Tests of what is read and written: frames, lines, traces, roles, the fields of bodies, commands, replies, rows and batches.
+//! Tests of what is read and written: frames, also in pieces and of many sessions, lines, traces, roles, the fields of bodies, commands,
+//! replies, rows and batches.
 #![tactic(auto)]
 
 #[cfg(test)]
@@ -10,10 +11,14 @@ mod frames;
 #[cfg(test)]
 mod lines;
 #[cfg(test)]
+mod pieces;
+#[cfg(test)]
 mod replies;
 #[cfg(test)]
 mod roles;
 #[cfg(test)]
 mod rows;
+#[cfg(test)]
+mod sessions;
 #[cfg(test)]
 mod traces;

@@ -163,7 +163,9 @@ fn writes(rt: &impl Abort, alloc: Global, reply: &Reply, body: &str) -> Result<(
 fn check_body(rt: &impl Abort, alloc: Global, reply: Reply, body: &str) -> Result<(), AllocError>
     requires { keeps_limits reply ≡ true }
 {
-    writes(rt, alloc, &reply, body)
+    let written = writes(rt, alloc, &reply, body);
+    drop(reply);
+    written
 }
 
 #[test]

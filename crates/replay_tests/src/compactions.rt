@@ -1,9 +1,9 @@
 //! Compact in runs on a folder over memory: where the rows stand then, and how the folder goes on.
 
 use crate::desks::source_of;
-use crate::folders::{ANN_KEPT, BOB_KEPT, desk_with, has_parts, has_told, slot_of};
-use crate::frames::{ANN_MADE, BOB_MADE, DONE, Row, replies, requests};
+use crate::folders::{desk_with, has_parts, has_told};
 use ctrl_serve::{Bounds, Status, run_within};
+use sample_runs::{ANN_KEPT, ANN_MADE, BOB_KEPT, BOB_MADE, DONE, Row, replies, requests, slot_of};
 use std::alloc::Global;
 use std::process::Abort;
 use std::test::Fail;

@@ -1,13 +1,12 @@
 //! Folders with a byte changed, cut off or made up: where they are damaged, and to what the others open.
 
 use crate::desks::{desk_of, source_of};
-use crate::folders::{
-    ANN_KEPT, BOB_KEPT, FIRST, GRANT_KEPT, WEB_KEPT, has_parts, has_slot, has_told, replay,
-    run_word, slot_of,
-};
-use crate::frames::{ANN, ANN_MADE, BOB_MADE, DONE, MADE, Row};
+use crate::folders::{GRANT_KEPT, has_parts, has_slot, has_told, replay, run_word};
 use crate::replays::answers;
 use ctrl_serve::Status;
+use sample_runs::{
+    ANN, ANN_KEPT, ANN_MADE, BOB_KEPT, BOB_MADE, DONE, FIRST, MADE, Row, WEB_KEPT, slot_of,
+};
 use std::alloc::{AllocError, Global};
 use std::process::Abort;
 use std::test::Fail;

@@ -1,7 +1,7 @@
 //! Sources, and desks with a folder, over memory.
 
 use std::alloc::{AllocError, Global};
-use ziti_desk::{Images, MemDesk, MemSource, Room};
+use ziti_desk::{MemDesk, MemSource, Room};
 
 /// Room for some hundred replies, for the folder of a realistic network, and for the log of its run.
 const ROOM: Room = Room {
@@ -11,23 +11,13 @@ const ROOM: Room = Room {
     log_bytes: 1_048_576,
 };
 
-/// A folder whose parts have these bytes: the first slot, the second one, and the mark.
-fn images_of(alloc: Global, parts: [&[u8]; 3]) -> Result<Images, AllocError> {
-    let mut images = Images::empty(alloc);
-    images.zero.extend_from_slice(parts[0])?;
-    images.one.extend_from_slice(parts[1])?;
-    images.mark.extend_from_slice(parts[2])?;
-    Ok(images)
-}
-
 /// A desk whose folder has these parts, and which fails at these calls, counted from 0.
 pub(crate) fn desk_of(
     alloc: Global,
     parts: [&[u8]; 3],
     failing: &[u32],
 ) -> Result<MemDesk, AllocError> {
-    let failing = Vec::from_slice(alloc, failing)?;
-    MemDesk::new(alloc, images_of(alloc, parts)?, ROOM, failing)
+    sample_runs::desk_of(alloc, ROOM, parts, failing)
 }
 
 /// The source of these bytes in two pieces, which fails at these calls, counted from 0.

@@ -1,9 +1,11 @@
 //! Runs on a folder with each call of the desk failing in turn: what is said and noted, and to what the folder then opens.
 
 use crate::desks::desk_of;
-use crate::folders::{ANN_KEPT, BOB_KEPT, desk_with, has_slot, parts_of, replay, slot_of};
-use crate::frames::{ANN_MADE, BOB_MADE, Row, replies, reply_frame, requests};
+use crate::folders::{desk_with, has_slot, replay};
 use ctrl_serve::Status;
+use sample_runs::{
+    ANN_KEPT, ANN_MADE, BOB_KEPT, BOB_MADE, Row, parts_of, replies, reply_frame, requests, slot_of,
+};
 use std::alloc::{AllocError, Global};
 use std::process::Abort;
 use std::test::Fail;

@@ -2,42 +2,14 @@
 
 use crate::desks::{desk_of, source_of};
 use ctrl_serve::{Bounds, Status, run_within};
+use sample_runs::{FIRST, parts_of, slot_of};
 use std::alloc::{AllocError, Global};
 use std::process::Abort;
 use ziti_desk::{MemDesk, MemSource};
-use ziti_outside::Part;
 
-/// The header of a slot.
-pub(crate) const HEADER: &[u8] = b"ZCTL\x01\0\0\0";
-
-/// The record of the identity ann behind its open gate: the next number of identities, and the identity.
-pub(crate) const ANN_KEPT: &[u8] =
-    b"\x01\x1c\0\0\0\x01\x02\x01\x01\x04\0\0\0\x02\0\0\0\x01\x05\x03\0\0\0\x01\x05\0\0\0\x03ann\0";
-
-/// Of a second identity, bob.
-pub(crate) const BOB_KEPT: &[u8] =
-    b"\x01\x1c\0\0\0\x01\x02\x01\x01\x04\0\0\0\x03\0\0\0\x01\x05\x03\0\0\0\x02\x05\0\0\0\x03bob\0";
-
-/// Of the service web.
-pub(crate) const WEB_KEPT: &[u8] =
-    b"\x01\x1c\0\0\0\x01\x02\x01\x02\x04\0\0\0\x02\0\0\0\x01\x05\x04\0\0\0\x01\x05\0\0\0\x03web\0";
-
-/// Of the policy p, by which all may dial all, and of the count of the one pair that it grants behind ann and web.
+/// The record of the policy p, by which all may dial all, and of the count of the one pair that it grants behind ann and web.
 pub(crate) const GRANT_KEPT: &[u8] =
     b"\x01\x34\0\0\0\x01\x02\x01\x05\x04\0\0\0\x02\0\0\0\x01\x05\x07\0\0\0\x01\x0a\0\0\0\x01p\x01\x01\x01\0\0\x01\0\0\x01\x09\x0c\0\0\0\x01\0\0\0\x01\x04\0\0\0\x01\0\0\0";
-
-/// The mark of a folder whose first slot stands.
-pub(crate) const FIRST: &[u8] = b"\0";
-
-/// A slot of these records.
-pub(crate) fn slot_of(alloc: Global, records: &[&[u8]]) -> Result<Vec<u8>, AllocError> {
-    let mut slot = Vec::from_slice(alloc, HEADER)?;
-    for record in records {
-        slot.extend_from_slice(record)?;
-    }
-    slot.push(0)?;
-    Ok(slot)
-}
 
 /// A desk whose first slot has these records and stands, or, with none, whose folder is empty. It fails at these calls, counted from 0.
 pub(crate) fn desk_with(
@@ -80,15 +52,6 @@ pub(crate) fn replay(
 ) -> Result<Status, AllocError> {
     let mut source = source_of(alloc, [input, b""], &[])?;
     run_word(alloc, "replay", 1_048_576, slot, &mut source, desk)
-}
-
-/// The parts of the folder as they read: the first slot, the second one, and the mark.
-pub(crate) fn parts_of(desk: &MemDesk) -> [&[u8]; 3] {
-    [
-        desk.part(Part::Zero),
-        desk.part(Part::One),
-        desk.part(Part::Mark),
-    ]
 }
 
 /// The parts of the folder read so.

@@ -13,8 +13,6 @@ mod failing_disks;
 #[cfg(test)]
 mod folders;
 #[cfg(test)]
-mod frames;
-#[cfg(test)]
 mod model_runs;
 #[cfg(test)]
 mod replays;

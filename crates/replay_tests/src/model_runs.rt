@@ -2,8 +2,8 @@
 
 use crate::desks::{desk_of, source_of};
 use crate::folders::{replay, run_word};
-use crate::frames::{push_request, reply_frame, requests};
 use ctrl_serve::Status;
+use sample_runs::{push_request, reply_frame, requests};
 use std::alloc::{AllocError, Global};
 use std::process::Abort;
 use std::test::Fail;

@@ -1,12 +1,12 @@
 //! Runs on a folder over memory: what they say, what they keep, and how they end.
 
 use crate::desks::{desk_of, source_of};
-use crate::folders::{
-    ANN_KEPT, BOB_KEPT, GRANT_KEPT, WEB_KEPT, desk_with, has_slot, has_told, replay, run_word,
+use crate::folders::{GRANT_KEPT, desk_with, has_slot, has_told, replay, run_word};
+use ctrl_serve::Status;
+use sample_runs::{
+    ANN, ANN_KEPT, ANN_MADE, BOB_KEPT, BOB_MADE, DONE, MADE, Row, WEB_KEPT, replies, requests,
     slot_of,
 };
-use crate::frames::{ANN, ANN_MADE, BOB_MADE, DONE, MADE, Row, replies, requests};
-use ctrl_serve::Status;
 use std::alloc::Global;
 use std::process::Abort;
 use std::test::Fail;

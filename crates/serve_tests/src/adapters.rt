@@ -1,7 +1,8 @@
 //! Runs over the adapters: full, partial and failing readers and writers.
 
-use crate::runs::{ANN, EXISTS, MADE};
+use crate::runs::EXISTS;
 use ctrl_serve::{Status, run};
+use sample_runs::{ANN, MADE};
 use std::alloc::{AllocError, Global};
 use std::io::{self, ErrorKind, Read, Write};
 use std::process::Abort;

@@ -1,6 +1,7 @@
 //! Rows of circuit requests, of explanations and of claims. The rows of a table are one run, which may stand behind others.
 
-use crate::command_rows::{DONE, Row, UNKNOWN_NUMBER, check_table};
+use crate::command_rows::{UNKNOWN_NUMBER, check_table};
+use sample_runs::{DONE, Row};
 use std::alloc::{AllocError, Global};
 use std::process::Abort;
 use std::test::Fail;

@@ -2,18 +2,10 @@
 
 use crate::desks::{steady_desk, steady_source};
 use ctrl_serve::{Bounds, Status, run_within};
+use sample_runs::{DONE, Row, push_reply, push_request, replies, requests};
 use std::alloc::{AllocError, Global};
 use std::process::Abort;
 use std::test::Fail;
-
-/// A content type, the body of the frame, and the body of its reply.
-pub type Row = (u32, &'static str, &'static str);
-
-/// The sequence number of each request.
-const REQUEST: u32 = 7;
-
-/// The reply to a change that makes nothing.
-pub const DONE: &str = "{}";
 
 /// The refusal of a number that nothing has.
 pub const UNKNOWN_NUMBER: &str = r#"{"code":21,"field":"no","name":"Unknown"}"#;
@@ -304,57 +296,6 @@ const NETWORK: [Row; 25] = [
     (1002, r#"{"name":"h"}"#, DONE),
     (1302, r#"{"no":2}"#, UNKNOWN_NUMBER),
 ];
-
-fn push_number(bytes: &mut Vec<u8>, number: u32) -> Result<(), AllocError> {
-    bytes.extend_from_slice(&number.to_le_bytes())
-}
-
-fn push_head(
-    bytes: &mut Vec<u8>,
-    content: u32,
-    sequence: u32,
-    headers_len: u32,
-    body: &str,
-) -> Result<(), AllocError> {
-    bytes.extend_from_slice(b"\x03\x06\x09\x0c")?;
-    push_number(bytes, content)?;
-    push_number(bytes, sequence)?;
-    push_number(bytes, headers_len)?;
-    push_number(bytes, u32::try_from(body.len()).unwrap_or(u32::MAX))
-}
-
-fn push_request(bytes: &mut Vec<u8>, content: u32, body: &str) -> Result<(), AllocError> {
-    push_head(bytes, content, REQUEST, 0, body)?;
-    bytes.extend_from_slice(body.as_bytes())
-}
-
-fn requests(alloc: Global, rows: &[Row]) -> Result<Vec<u8>, AllocError> {
-    let mut bytes = Vec::new(alloc);
-    for (content, body, _) in rows {
-        push_request(&mut bytes, *content, body)?;
-    }
-    Ok(bytes)
-}
-
-fn push_reply(bytes: &mut Vec<u8>, sequence: u32, body: &str) -> Result<(), AllocError> {
-    push_head(bytes, 2, sequence, 21, body)?;
-    bytes.extend_from_slice(b"\x01\0\0\0\x04\0\0\0")?;
-    push_number(bytes, REQUEST)?;
-    bytes.extend_from_slice(b"\x02\0\0\0\x01\0\0\0")?;
-    bytes.push(u8::from(!body.starts_with("{\"code\"")))?;
-    bytes.extend_from_slice(body.as_bytes())
-}
-
-/// The replies as they are wanted, laid out by hand: with the request's number, and whether it is no refusal.
-fn replies(alloc: Global, rows: &[Row]) -> Result<Vec<u8>, AllocError> {
-    let mut bytes = Vec::new(alloc);
-    let mut sequence = 0u32;
-    for (_, _, body) in rows {
-        push_reply(&mut bytes, sequence, body)?;
-        sequence = sequence.wrapping_add(1);
-    }
-    Ok(bytes)
-}
 
 /// Runs some frames from the start, and compares what is said with the replies that are wanted.
 fn check_frames(rt: &impl Abort, alloc: Global, frames: &[u8], wanted: &[u8]) -> Result<(), Fail> {

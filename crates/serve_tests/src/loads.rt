@@ -1,8 +1,9 @@
 //! Runs of generated loads over memory: the line that they say, and the words that ask for none.
 
 use crate::desks::{failing_desk, steady_desk, steady_source};
-use crate::runs::{ANN, check_usage};
+use crate::runs::check_usage;
 use ctrl_serve::{Status, run};
+use sample_runs::ANN;
 use std::alloc::{AllocError, Global};
 use std::process::Abort;
 use std::test::Fail;

@@ -1,19 +1,12 @@
-use crate::desks::{failing_desk, failing_source, steady_desk, steady_source};
+use crate::desks::{failing_desk, steady_desk, steady_source};
 use ctrl_serve::{Bounds, Status, run, run_within};
+use sample_runs::{ANN, MADE, source_of};
 use std::alloc::{AllocError, Global};
 use std::process::Abort;
 use std::test::Fail;
 use ziti_desk::MemDesk;
 
-/// A frame that creates ann: content type 1000, sequence 7, no headers.
-pub(crate) const ANN: &[u8] =
-    b"\x03\x06\x09\x0c\xe8\x03\0\0\x07\0\0\0\0\0\0\0\x0e\0\0\0{\"name\":\"ann\"}";
-
-/// Its reply as the first one: content type 2, reply for 7, success, the number 1.
-pub(crate) const MADE: &[u8] =
-    b"\x03\x06\x09\x0c\x02\0\0\0\0\0\0\0\x15\0\0\0\x08\0\0\0\x01\0\0\0\x04\0\0\0\x07\0\0\0\x02\0\0\0\x01\0\0\0\x01{\"no\":1}";
-
-/// Its reply as the second one, after itself: the name exists.
+/// The reply to a second frame that creates ann: the name exists.
 pub(crate) const EXISTS: &[u8] =
     b"\x03\x06\x09\x0c\x02\0\0\0\x01\0\0\0\x15\0\0\0\x1b\0\0\0\x01\0\0\0\x04\0\0\0\x07\0\0\0\x02\0\0\0\x01\0\0\0\0{\"code\":20,\"name\":\"Exists\"}";
 
@@ -150,7 +143,7 @@ fn words(alloc: Global, word: &str) -> Result<Vec<String>, AllocError> {
 
 fn outcome(alloc: Global, row: &Row) -> Result<(MemDesk, Status), AllocError> {
     let input = joined(alloc, row.input)?;
-    let mut source = failing_source(alloc, &input, row.piece, row.failing_takes)?;
+    let mut source = source_of(alloc, &input, row.piece, row.failing_takes)?;
     let mut desk = failing_desk(alloc, row.failing_calls)?;
     let bounds = Bounds {
         input: row.most.min(1_000),

@@ -1,24 +1,17 @@
 //! Runs in which each call of the source or the desk fails in turn: how they end, what is said and noted, and to what the folder then
 //! opens.
 
-use crate::desks::{EMPTY, desk_of, source_of};
+use crate::desks::{EMPTY, desk_of};
 use crate::folders::{
-    AMPLE, ANN_FOLDER, ANN_SLOT, BARE_SLOT, FIRST, SECOND, has_parts, has_rows, has_told,
-    identities_in, parts_of, run_words,
+    AMPLE, ANN_ALONE, ANN_FOLDER, ANN_SLOT, BARE_SLOT, NOTHING, SECOND, has_parts, has_rows,
+    has_told, identities_in, parts_in, run_words,
 };
-use crate::frames::{ANN, MADE};
 use ctrl_serve::Status;
+use sample_runs::{ANN, FIRST, MADE, parts_of, source_of};
 use std::alloc::{AllocError, Global};
 use std::process::Abort;
 use std::test::Fail;
-use ziti_desk::{Images, MemDesk};
-
-/// The lines of folders that keep nothing, and ann alone.
-const NOTHING: &[u8] =
-    b"{\"circuits\":0,\"grants\":0,\"identities\":0,\"links\":0,\"policies\":0,\"routers\":0,\"services\":0,\"terminators\":0}\n";
-
-const ANN_ALONE: &[u8] =
-    b"{\"circuits\":0,\"grants\":0,\"identities\":1,\"links\":0,\"policies\":0,\"routers\":0,\"services\":0,\"terminators\":0}\n";
+use ziti_desk::MemDesk;
 
 /// A trace in which session 0, of an administrator, sends ann's frame, and its tagged reply.
 const TRACE: &[u8] =
@@ -122,14 +115,6 @@ fn is_kept(
     let kept = identities_in(rt, alloc, parts)?;
     assert!(rt; may_keep(trial, status, kept), "{status:?} {kept}");
     Ok(())
-}
-
-fn parts_in(images: &Images) -> [&[u8]; 3] {
-    [
-        images.zero.as_slice(),
-        images.one.as_slice(),
-        images.mark.as_slice(),
-    ]
 }
 
 // So does the one that a stop leaves behind all calls.

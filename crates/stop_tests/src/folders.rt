@@ -1,16 +1,12 @@
 //! Folders as bytes, and runs on them.
 
-use crate::desks::{desk_of, source_of};
-use crate::frames::{Row, replies, requests};
+use crate::desks::desk_of;
 use ctrl_serve::{Bounds, Status, run_within};
+use sample_runs::{FIRST, Row, parts_of, replies, requests, source_of};
 use std::alloc::{AllocError, Global};
 use std::process::Abort;
 use std::test::Fail;
-use ziti_desk::{MemDesk, MemSource};
-use ziti_outside::Part;
-
-/// The header of a slot.
-pub(crate) const HEADER: &[u8] = b"ZCTL\x01\0\0\0";
+use ziti_desk::{Images, MemDesk, MemSource};
 
 /// Ann's slot: the header, her record, and a closed gate.
 pub(crate) const ANN_SLOT: &[u8] =
@@ -23,16 +19,29 @@ pub(crate) const BOTH_SLOT: &[u8] =
 /// A slot without a record.
 pub(crate) const BARE_SLOT: &[u8] = b"ZCTL\x01\0\0\0\0";
 
-/// The marks of folders whose first slot stands, and whose second one does.
-pub(crate) const FIRST: &[u8] = b"\0";
-
+/// The marks of folders whose second slot stands, and whose first one does again.
 pub(crate) const SECOND: &[u8] = b"\0\0";
+
+pub(crate) const THIRD: &[u8] = b"\0\0\0";
 
 /// The folder that keeps ann alone.
 pub(crate) const ANN_FOLDER: [&[u8]; 3] = [ANN_SLOT, b"", FIRST];
 
 /// How many bytes a slot and the mark may have, where neither bound is met.
 pub(crate) const AMPLE: (u64, u64) = (2_048, 8);
+
+/// The lines of folders that keep nothing, and ann alone.
+pub(crate) const NOTHING: &[u8] =
+    b"{\"circuits\":0,\"grants\":0,\"identities\":0,\"links\":0,\"policies\":0,\"routers\":0,\"services\":0,\"terminators\":0}\n";
+
+pub(crate) const ANN_ALONE: &[u8] =
+    b"{\"circuits\":0,\"grants\":0,\"identities\":1,\"links\":0,\"policies\":0,\"routers\":0,\"services\":0,\"terminators\":0}\n";
+
+/// How a run ends: its status, what is said, and what is noted.
+pub(crate) type Ended<'b> = (Status, &'b [u8], &'b str);
+
+/// The end of a run at which nothing is said or noted.
+pub(crate) const SILENT: Ended<'static> = (Status::Done, b"", "");
 
 /// Runs words on a source and a desk. A slot may have so many bytes, and the mark so many.
 pub(crate) fn run_words(
@@ -54,38 +63,29 @@ pub(crate) fn run_words(
     Ok(run_within(alloc, &line, bounds, source, desk))
 }
 
-/// Runs words on an input and a desk, whose folder has ample room.
+/// Runs words on an input and a desk. A slot may have so many bytes, and the mark so many.
 pub(crate) fn run_input(
     alloc: Global,
     words: &[&str],
     input: &[u8],
+    most: (u64, u64),
     desk: &mut MemDesk,
 ) -> Result<Status, AllocError> {
     let mut source = source_of(alloc, input, 65_536, &[])?;
-    run_words(alloc, words, AMPLE, &mut source, desk)
+    run_words(alloc, words, most, &mut source, desk)
 }
 
 /// Looks at the desk's folder.
 pub(crate) fn audit(alloc: Global, desk: &mut MemDesk) -> Result<Status, AllocError> {
-    run_input(alloc, &["audit"], b"", desk)
+    run_input(alloc, &["audit"], b"", AMPLE, desk)
 }
 
-/// Compacts the desk's folder, of which a slot may have so many bytes, and the mark so many.
-pub(crate) fn compact(
-    alloc: Global,
-    most: (u64, u64),
-    desk: &mut MemDesk,
-) -> Result<Status, AllocError> {
-    let mut source = source_of(alloc, b"", 1, &[])?;
-    run_words(alloc, &["compact"], most, &mut source, desk)
-}
-
-/// The parts of the folder as they read: the first slot, the second one, and the mark.
-pub(crate) fn parts_of(desk: &MemDesk) -> [&[u8]; 3] {
+/// The parts of a folder that a stop leaves.
+pub(crate) fn parts_in(images: &Images) -> [&[u8]; 3] {
     [
-        desk.part(Part::Zero),
-        desk.part(Part::One),
-        desk.part(Part::Mark),
+        images.zero.as_slice(),
+        images.one.as_slice(),
+        images.mark.as_slice(),
     ]
 }
 
@@ -100,6 +100,30 @@ pub(crate) fn has_told(rt: &impl Abort, desk: &MemDesk, said: &[u8], noted: &str
     assert_eq!(rt; desk.noted(), noted.as_bytes());
 }
 
+// A run ended so.
+fn has_ended(rt: &impl Abort, desk: &MemDesk, status: Status, ended: Ended<'_>) {
+    let (wanted, said, noted) = ended;
+    assert_eq!(rt; status, wanted);
+    has_told(rt, desk, said, noted);
+}
+
+/// Runs words on an input and a folder of these parts, of which a slot may have so many bytes, and the mark so many. It ends so.
+/// Answers the desk.
+pub(crate) fn ran(
+    rt: &impl Abort,
+    alloc: Global,
+    words: &[&str],
+    input: &[u8],
+    parts: [&[u8]; 3],
+    most: (u64, u64),
+    ended: Ended<'_>,
+) -> Result<MemDesk, Fail> {
+    let mut desk = desk_of(alloc, parts, &[])?;
+    let status = run_input(alloc, words, input, most, &mut desk)?;
+    has_ended(rt, &desk, status, ended);
+    Ok(desk)
+}
+
 /// Replays requests on a folder of these parts, which are answered so. Answers the desk.
 pub(crate) fn answers(
     rt: &impl Abort,
@@ -107,13 +131,18 @@ pub(crate) fn answers(
     parts: [&[u8]; 3],
     rows: &[Row],
 ) -> Result<MemDesk, Fail> {
-    let mut desk = desk_of(alloc, parts, &[])?;
     let input = requests(alloc, rows)?;
-    let status = run_input(alloc, &["replay"], input.as_slice(), &mut desk)?;
-    assert_eq!(rt; status, Status::Done);
     let said = replies(alloc, rows)?;
-    has_told(rt, &desk, said.as_slice(), "");
-    Ok(desk)
+    let ended = (Status::Done, said.as_slice(), "");
+    ran(
+        rt,
+        alloc,
+        &["replay"],
+        input.as_slice(),
+        parts,
+        AMPLE,
+        ended,
+    )
 }
 
 /// The line of a folder that keeps so many identities and nothing else.
@@ -164,9 +193,7 @@ pub(crate) fn has_rows(
     parts: [&[u8]; 3],
     slot: &[u8],
 ) -> Result<(), Fail> {
-    let mut desk = desk_of(alloc, parts, &[])?;
-    let status = compact(alloc, AMPLE, &mut desk)?;
-    assert_eq!(rt; status, Status::Done);
+    let desk = ran(rt, alloc, &["compact"], b"", parts, AMPLE, SILENT)?;
     let found = standing(parts_of(&desk));
     assert_eq!(rt; found.get(..slot.len()), Some(slot));
     Ok(())

@@ -1,83 +1,13 @@
-//! Frames of requests and replies, laid out by hand, and the replies that are read of what was said.
+//! The replies that are read of what was said.
 
 use channel_frame::{Frame, Front, front_of, last_of};
-use std::alloc::{AllocError, Global};
+use sample_runs::{REQUEST, Row};
+use std::alloc::Global;
 use std::process::Abort;
 use std::test::Fail;
 
-/// A content type, the body of the frame, and the body of its reply.
-pub(crate) type Row = (u32, &'static str, &'static str);
-
-/// The sequence number of each request.
-const REQUEST: u32 = 7;
-
-/// A frame that creates ann: content type 1000, sequence 7, no headers.
-pub(crate) const ANN: &[u8] =
-    b"\x03\x06\x09\x0c\xe8\x03\0\0\x07\0\0\0\0\0\0\0\x0e\0\0\0{\"name\":\"ann\"}";
-
-/// Its reply as the first one: content type 2, reply for 7, success, the number 1.
-pub(crate) const MADE: &[u8] =
-    b"\x03\x06\x09\x0c\x02\0\0\0\0\0\0\0\x15\0\0\0\x08\0\0\0\x01\0\0\0\x04\0\0\0\x07\0\0\0\x02\0\0\0\x01\0\0\0\x01{\"no\":1}";
-
-/// The same as a row, and that of bob, who is the second identity.
-pub(crate) const ANN_MADE: Row = (1000, r#"{"name":"ann"}"#, r#"{"no":1}"#);
-
-pub(crate) const BOB_MADE: Row = (1000, r#"{"name":"bob"}"#, r#"{"no":2}"#);
-
-/// Of ann once more.
+/// A second request to create ann.
 pub(crate) const ANN_EXISTS: Row = (1000, r#"{"name":"ann"}"#, r#"{"code":20,"name":"Exists"}"#);
-
-fn push_number(bytes: &mut Vec<u8>, number: u32) -> Result<(), AllocError> {
-    bytes.extend_from_slice(&number.to_le_bytes())
-}
-
-fn push_head(
-    bytes: &mut Vec<u8>,
-    content: u32,
-    sequence: u32,
-    headers_len: u32,
-    body: &str,
-) -> Result<(), AllocError> {
-    bytes.extend_from_slice(b"\x03\x06\x09\x0c")?;
-    push_number(bytes, content)?;
-    push_number(bytes, sequence)?;
-    push_number(bytes, headers_len)?;
-    push_number(bytes, u32::try_from(body.len()).unwrap_or(u32::MAX))
-}
-
-fn push_request(bytes: &mut Vec<u8>, content: u32, body: &str) -> Result<(), AllocError> {
-    push_head(bytes, content, REQUEST, 0, body)?;
-    bytes.extend_from_slice(body.as_bytes())
-}
-
-/// The frames of requests.
-pub(crate) fn requests(alloc: Global, rows: &[Row]) -> Result<Vec<u8>, AllocError> {
-    let mut bytes = Vec::new(alloc);
-    for (content, body, _) in rows {
-        push_request(&mut bytes, *content, body)?;
-    }
-    Ok(bytes)
-}
-
-fn push_reply(bytes: &mut Vec<u8>, sequence: u32, body: &str) -> Result<(), AllocError> {
-    push_head(bytes, 2, sequence, 21, body)?;
-    bytes.extend_from_slice(b"\x01\0\0\0\x04\0\0\0")?;
-    push_number(bytes, REQUEST)?;
-    bytes.extend_from_slice(b"\x02\0\0\0\x01\0\0\0")?;
-    bytes.push(u8::from(!body.starts_with("{\"code\"")))?;
-    bytes.extend_from_slice(body.as_bytes())
-}
-
-/// The frames of their replies in a run of its own: with the request's number, and whether it is no refusal.
-pub(crate) fn replies(alloc: Global, rows: &[Row]) -> Result<Vec<u8>, AllocError> {
-    let mut bytes = Vec::new(alloc);
-    let mut sequence = 0u32;
-    for (_, _, body) in rows {
-        push_reply(&mut bytes, sequence, body)?;
-        sequence = sequence.wrapping_add(1);
-    }
-    Ok(bytes)
-}
 
 // A frame is the reply to a request, and no refusal, by its headers.
 fn is_success(rt: &impl Abort, frame: &Frame) {

@@ -1,6 +1,10 @@
-//! Tests of runs that stop or fail at each call: what is said and noted by then, and to what the folder opens.
+//! Tests of whole runs on a folder: the words that look at it and compact it, hostile input and folders, and stops and failing calls.
 #![tactic(auto)]
 
+#[cfg(test)]
+mod audits;
+#[cfg(test)]
+mod compactions;
 #[cfg(test)]
 mod desks;
 #[cfg(test)]
@@ -9,6 +13,8 @@ mod failing_calls;
 mod folders;
 #[cfg(test)]
 mod frames;
+#[cfg(test)]
+mod hostile;
 #[cfg(test)]
 mod stops;
 #[cfg(test)]

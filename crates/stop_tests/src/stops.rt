@@ -1,16 +1,15 @@
 //! Runs that stop at each moment, by what the stop keeps of what is pending: what the folder then opens to, and how it goes on.
 
-use crate::desks::{EMPTY, desk_of};
+use crate::desks::EMPTY;
 use crate::folders::{
-    AMPLE, ANN_FOLDER, ANN_SLOT, BOTH_SLOT, answers, compact, has_rows, identities_in, parts_of,
-    run_input,
+    AMPLE, ANN_FOLDER, ANN_SLOT, BOTH_SLOT, SILENT, answers, has_rows, identities_in, parts_in, ran,
 };
-use crate::frames::{ANN_EXISTS, ANN_MADE, BOB_MADE, Row, requests, whole_replies};
-use ctrl_serve::Status;
+use crate::frames::{ANN_EXISTS, whole_replies};
+use sample_runs::{ANN_MADE, BOB_MADE, Row, parts_of};
 use std::alloc::Global;
 use std::process::Abort;
 use std::test::Fail;
-use ziti_desk::{Images, MemDesk};
+use ziti_desk::MemDesk;
 
 /// The requests of a run on an empty folder, each of which makes an identity, and the slot that has their rows in one record.
 type Trial = (&'static [Row], &'static [u8]);
@@ -18,14 +17,6 @@ type Trial = (&'static [Row], &'static [u8]);
 const ANN_ALONE: Trial = (&[ANN_MADE], ANN_SLOT);
 
 const BOTH: Trial = (&[ANN_MADE, BOB_MADE], BOTH_SLOT);
-
-fn parts_in(images: &Images) -> [&[u8]; 3] {
-    [
-        images.zero.as_slice(),
-        images.one.as_slice(),
-        images.mark.as_slice(),
-    ]
-}
 
 // The folder that a stop leaves keeps as many identities as replies were taken whole, or one more. With the frames that were not
 // stored, which are answered as in the whole run, it has the rows of the whole run.
@@ -78,10 +69,7 @@ fn stops_by(
 // Makes a run and stops it at each moment: each record takes two writes and two syncs, and each reply one say.
 fn check_trial(rt: &impl Abort, alloc: Global, trial: &Trial, choice: u64) -> Result<(), Fail> {
     let (rows, _) = *trial;
-    let mut desk = desk_of(alloc, EMPTY, &[])?;
-    let input = requests(alloc, rows)?;
-    let status = run_input(alloc, &["replay"], input.as_slice(), &mut desk)?;
-    assert_eq!(rt; status, Status::Done);
+    let desk = answers(rt, alloc, EMPTY, rows)?;
     assert!(rt; desk.moments() >= rows.len().saturating_mul(5) as u64);
     stops_by(rt, alloc, &desk, choice, trial)
 }
@@ -153,9 +141,7 @@ fn stops_compacting_by(
 // Compacts ann's folder and stops that at each moment: the other slot is written and synced, the mark too, and the slot that stood is
 // cut.
 fn check_compaction(rt: &impl Abort, alloc: Global, choice: u64) -> Result<(), Fail> {
-    let mut desk = desk_of(alloc, ANN_FOLDER, &[])?;
-    let status = compact(alloc, AMPLE, &mut desk)?;
-    assert_eq!(rt; status, Status::Done);
+    let desk = ran(rt, alloc, &["compact"], b"", ANN_FOLDER, AMPLE, SILENT)?;
     assert!(rt; desk.moments() >= 5);
     stops_compacting_by(rt, alloc, &desk, choice)
 }

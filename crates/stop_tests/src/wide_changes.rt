@@ -1,9 +1,10 @@
 //! A change of ten thousand rows that stops at each moment: all of them are found, or none.
 
-use crate::desks::{source_of, wide_desk};
-use crate::folders::{FIRST, HEADER, audit, run_words};
-use crate::frames::{Row, replies, requests, whole_replies};
+use crate::desks::wide_desk;
+use crate::folders::{audit, run_words};
+use crate::frames::whole_replies;
 use ctrl_serve::Status;
+use sample_runs::{FIRST, HEADER, Row, replies, requests, source_of};
 use std::alloc::{AllocError, Global};
 use std::process::Abort;
 use std::test::Fail;

@@ -1,4 +1,5 @@
-//! Tests of the stores: entities, policies, counted pairs, terminators and circuits, and what is shown of them.
+//! Tests of the stores: entities, policies, counted pairs, terminators and circuits, what is shown of them, and commands on links and
+//! terminators, planned and applied.
 #![tactic(auto)]
 
 #[cfg(test)]
@@ -8,7 +9,11 @@ mod entities;
 #[cfg(test)]
 mod granted_circuits;
 #[cfg(test)]
+mod linking;
+#[cfg(test)]
 mod making;
+#[cfg(test)]
+mod offering;
 #[cfg(test)]
 mod offers;
 #[cfg(test)]

@@ -1,6 +1,6 @@
 //! Two sessions: what comes first by its last byte is answered first, and each session's replies are numbered.
 
-use crate::building::{empty_desk, push_data, push_reply, replay, replay_plain, request};
+use crate::building::{empty_desk, push_data, push_tagged, replay, replay_plain, request};
 use ctrl_serve::Status;
 use std::alloc::{AllocError, Global};
 use std::process::Abort;
@@ -123,8 +123,8 @@ fn trace_of(alloc: Global, deletes_first: bool) -> Result<Vec<u8>, AllocError> {
 fn answers_what_ends_first(rt: HostRuntime) -> Result<(), Fail> {
     let trace = trace_of(rt.alloc(), true)?;
     let mut wanted = Vec::new(rt.alloc());
-    push_reply(&mut wanted, 0, 0, "{}")?;
-    push_reply(&mut wanted, 1, 0, NO_DIAL)?;
+    push_tagged(&mut wanted, 0, 0, "{}")?;
+    push_tagged(&mut wanted, 1, 0, NO_DIAL)?;
     let mut desk = desk_with_line(&rt, rt.alloc())?;
     check_replies(&rt, rt.alloc(), &mut desk, &trace, &wanted)
 }
@@ -133,8 +133,8 @@ fn answers_what_ends_first(rt: HostRuntime) -> Result<(), Fail> {
 fn grants_what_ends_before_a_deletion(rt: HostRuntime) -> Result<(), Fail> {
     let trace = trace_of(rt.alloc(), false)?;
     let mut wanted = Vec::new(rt.alloc());
-    push_reply(&mut wanted, 1, 0, GRANTED)?;
-    push_reply(&mut wanted, 0, 0, "{}")?;
+    push_tagged(&mut wanted, 1, 0, GRANTED)?;
+    push_tagged(&mut wanted, 0, 0, "{}")?;
     let mut desk = desk_with_line(&rt, rt.alloc())?;
     check_replies(&rt, rt.alloc(), &mut desk, &trace, &wanted)
 }
@@ -153,10 +153,10 @@ fn in_turn(alloc: Global) -> Result<Vec<u8>, AllocError> {
 fn numbers_the_replies_of_each_session(rt: HostRuntime) -> Result<(), Fail> {
     let trace = in_turn(rt.alloc())?;
     let mut wanted = Vec::new(rt.alloc());
-    push_reply(&mut wanted, 0, 0, r#"{"no":1}"#)?;
-    push_reply(&mut wanted, 1, 0, NOT_PERMITTED)?;
-    push_reply(&mut wanted, 0, 1, r#"{"code":20,"name":"Exists"}"#)?;
-    push_reply(&mut wanted, 1, 1, NOT_PERMITTED)?;
+    push_tagged(&mut wanted, 0, 0, r#"{"no":1}"#)?;
+    push_tagged(&mut wanted, 1, 0, NOT_PERMITTED)?;
+    push_tagged(&mut wanted, 0, 1, r#"{"code":20,"name":"Exists"}"#)?;
+    push_tagged(&mut wanted, 1, 1, NOT_PERMITTED)?;
     let mut desk = empty_desk(rt.alloc())?;
     check_replies(&rt, rt.alloc(), &mut desk, &trace, &wanted)
 }

@@ -1,6 +1,9 @@
-//! Tests of runs over traces: the replies of many sessions with their tags, the statuses and the notes.
+//! Tests of runs over traces: the replies of many sessions with their tags, the statuses and the notes; and of runs over commands
+//! that give attributes and take them.
 #![tactic(auto)]
 
+#[cfg(test)]
+mod attribute_rows;
 #[cfg(test)]
 mod building;
 #[cfg(test)]

@@ -1,20 +1,8 @@
-//! Sources, and desks with a folder, over memory.
-
 use std::alloc::{AllocError, Global};
 use ziti_desk::{Images, MemDesk, MemSource, Room};
+use ziti_outside::Part;
 
-/// Room for some replies and notes, for slots of some records, and for the log of a run.
-const ROOM: Room = Room {
-    file_bytes: 2_048,
-    said_bytes: 4_096,
-    noted_bytes: 512,
-    log_bytes: 16_384,
-};
-
-/// A folder without a byte.
-pub(crate) const EMPTY: [&[u8]; 3] = [b"", b"", b""];
-
-/// A folder whose parts have these bytes: the first slot, the second one, and the mark.
+// A folder whose parts have these bytes.
 fn images_of(alloc: Global, parts: [&[u8]; 3]) -> Result<Images, AllocError> {
     let mut images = Images::empty(alloc);
     images.zero.extend_from_slice(parts[0])?;
@@ -23,18 +11,20 @@ fn images_of(alloc: Global, parts: [&[u8]; 3]) -> Result<Images, AllocError> {
     Ok(images)
 }
 
-/// A desk whose folder has these parts, and which fails at these calls, counted from 0.
-pub(crate) fn desk_of(
+/// A desk of this room, whose folder has these parts, the first slot, the second one and the mark, and which fails at these calls,
+/// counted from 0.
+pub fn desk_of(
     alloc: Global,
+    room: Room,
     parts: [&[u8]; 3],
     failing: &[u32],
 ) -> Result<MemDesk, AllocError> {
     let failing = Vec::from_slice(alloc, failing)?;
-    MemDesk::new(alloc, images_of(alloc, parts)?, ROOM, failing)
+    MemDesk::new(alloc, images_of(alloc, parts)?, room, failing)
 }
 
 /// The source of these bytes in pieces of so many, at least one, which fails at these calls, counted from 0.
-pub(crate) fn source_of(
+pub fn source_of(
     alloc: Global,
     bytes: &[u8],
     piece: usize,
@@ -46,4 +36,13 @@ pub(crate) fn source_of(
     }
     let failing = Vec::from_slice(alloc, failing)?;
     Ok(MemSource::new(pieces, failing))
+}
+
+/// The parts of a desk's folder as they read: the first slot, the second one, and the mark.
+pub fn parts_of(desk: &MemDesk) -> [&[u8]; 3] {
+    [
+        desk.part(Part::Zero),
+        desk.part(Part::One),
+        desk.part(Part::Mark),
+    ]
 }

@@ -1,5 +1,5 @@
 use Rattle.std.proofs.Common.{◌+◌, ◌<◌, ◌^◌, length}
-use Rattle.session_tests.proofs.pieces.tell_pieces.Given as goal
+use Rattle.codec_tests.proofs.pieces.tell_pieces.Given as goal
 
 -- the bytes that came, and those that are left, are not more than all
 abbrev pub invariant-pieces : goal.invariant-pieces

@@ -74,7 +74,11 @@ fn plans(known: &Entities, fabric: &Fabric, command: &Command) -> Result<bool, A
     requires { is_spelled command.now ≡ true }
 {
     match plan_link_command(known, fabric, command)? {
-        Some(plan) => Ok(is_planned(&plan)),
+        Some(plan) => {
+            let planned = is_planned(&plan);
+            drop(plan);
+            Ok(planned)
+        }
         None => Ok(false),
     }
 }
@@ -98,7 +102,9 @@ fn plans_a_link(
         latency_a: 0,
         latency_b: 60_000,
     };
-    plans(known, fabric, &command)
+    let planned = plans(known, fabric, &command);
+    drop(command);
+    planned
 }
 
 fn plans_a_third(alloc: Global, known: &Entities, fabric: &Fabric) -> Result<bool, Fail> {

@@ -1,28 +1,26 @@
-//! Frames of requests and replies, laid out by hand.
-
 use std::alloc::{AllocError, Global};
 
 /// A content type, the body of the frame, and the body of its reply.
-pub(crate) type Row = (u32, &'static str, &'static str);
+pub type Row = (u32, &'static str, &'static str);
 
 /// The sequence number of each request.
-const REQUEST: u32 = 7;
+pub const REQUEST: u32 = 7;
 
 /// A frame that creates ann: content type 1000, sequence 7, no headers.
-pub(crate) const ANN: &[u8] =
+pub const ANN: &[u8] =
     b"\x03\x06\x09\x0c\xe8\x03\0\0\x07\0\0\0\0\0\0\0\x0e\0\0\0{\"name\":\"ann\"}";
 
 /// Its reply as the first one: content type 2, reply for 7, success, the number 1.
-pub(crate) const MADE: &[u8] =
+pub const MADE: &[u8] =
     b"\x03\x06\x09\x0c\x02\0\0\0\0\0\0\0\x15\0\0\0\x08\0\0\0\x01\0\0\0\x04\0\0\0\x07\0\0\0\x02\0\0\0\x01\0\0\0\x01{\"no\":1}";
 
 /// The same as a row, and that of bob, who is the second identity.
-pub(crate) const ANN_MADE: Row = (1000, r#"{"name":"ann"}"#, r#"{"no":1}"#);
+pub const ANN_MADE: Row = (1000, r#"{"name":"ann"}"#, r#"{"no":1}"#);
 
-pub(crate) const BOB_MADE: Row = (1000, r#"{"name":"bob"}"#, r#"{"no":2}"#);
+pub const BOB_MADE: Row = (1000, r#"{"name":"bob"}"#, r#"{"no":2}"#);
 
 /// The reply to a change that makes nothing.
-pub(crate) const DONE: &str = "{}";
+pub const DONE: &str = "{}";
 
 fn push_number(bytes: &mut Vec<u8>, number: u32) -> Result<(), AllocError> {
     bytes.extend_from_slice(&number.to_le_bytes())
@@ -42,18 +40,14 @@ fn push_head(
     push_number(bytes, u32::try_from(body.len()).unwrap_or(u32::MAX))
 }
 
-/// Puts the frame of a request behind the others.
-pub(crate) fn push_request(
-    bytes: &mut Vec<u8>,
-    content: u32,
-    body: &str,
-) -> Result<(), AllocError> {
+/// Puts the frame of a request behind the others: sequence 7, no headers.
+pub fn push_request(bytes: &mut Vec<u8>, content: u32, body: &str) -> Result<(), AllocError> {
     push_head(bytes, content, REQUEST, 0, body)?;
     bytes.extend_from_slice(body.as_bytes())
 }
 
 /// The frames of requests.
-pub(crate) fn requests(alloc: Global, rows: &[Row]) -> Result<Vec<u8>, AllocError> {
+pub fn requests(alloc: Global, rows: &[Row]) -> Result<Vec<u8>, AllocError> {
     let mut bytes = Vec::new(alloc);
     for (content, body, _) in rows {
         push_request(&mut bytes, *content, body)?;
@@ -61,7 +55,8 @@ pub(crate) fn requests(alloc: Global, rows: &[Row]) -> Result<Vec<u8>, AllocErro
     Ok(bytes)
 }
 
-fn push_reply(bytes: &mut Vec<u8>, sequence: u32, body: &str) -> Result<(), AllocError> {
+/// Puts the frame of a reply to such a request behind the others: with the request's number, and whether it is no refusal.
+pub fn push_reply(bytes: &mut Vec<u8>, sequence: u32, body: &str) -> Result<(), AllocError> {
     push_head(bytes, 2, sequence, 21, body)?;
     bytes.extend_from_slice(b"\x01\0\0\0\x04\0\0\0")?;
     push_number(bytes, REQUEST)?;
@@ -71,14 +66,14 @@ fn push_reply(bytes: &mut Vec<u8>, sequence: u32, body: &str) -> Result<(), Allo
 }
 
 /// The frame of a reply.
-pub(crate) fn reply_frame(alloc: Global, sequence: u32, body: &str) -> Result<Vec<u8>, AllocError> {
+pub fn reply_frame(alloc: Global, sequence: u32, body: &str) -> Result<Vec<u8>, AllocError> {
     let mut bytes = Vec::new(alloc);
     push_reply(&mut bytes, sequence, body)?;
     Ok(bytes)
 }
 
-/// The frames of their replies in a run of its own: with the request's number, and whether it is no refusal.
-pub(crate) fn replies(alloc: Global, rows: &[Row]) -> Result<Vec<u8>, AllocError> {
+/// The frames of their replies in a run of its own, which count from 0.
+pub fn replies(alloc: Global, rows: &[Row]) -> Result<Vec<u8>, AllocError> {
     let mut bytes = Vec::new(alloc);
     let mut sequence = 0u32;
     for (_, _, body) in rows {

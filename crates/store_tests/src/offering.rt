@@ -8,7 +8,7 @@ use ctrl_model::{Command, Field, Instance, Kind, Name, Names, Precedence, Refusa
 use entity_store::Entities;
 use grant_denorm::Counted;
 use model_laws::Plan;
-use std::alloc::Global;
+use std::alloc::{AllocError, Global};
 use std::process::Abort;
 use std::test::Fail;
 use terminator_commands::{TermChange, apply_term_change, plan_terminator_command};
@@ -70,26 +70,73 @@ fn can_change(store: &Terminators, bind: &Counted, change: &TermChange) -> bool
     }
 }
 
-// Carries a command out as a caller has to.
+/// A reply in short.
+#[derive(Clone, Copy, Debug, PartialEq, Eq)]
+enum Told {
+    Made(u32),
+    Done,
+    UnknownNumber,
+    Other,
+}
+
+fn in_short(reply: &Reply) -> Told {
+    match reply {
+        Reply::Made { no } => Told::Made(*no),
+        Reply::Done => Told::Done,
+        Reply::Refused(Refusal::Unknown { field: Field::No }) => Told::UnknownNumber,
+        _ => Told::Other,
+    }
+}
+
+// Makes a change as a caller has to.
+fn apply(
+    rt: &impl Abort,
+    store: &mut Terminators,
+    bind: &Counted,
+    change: Option<TermChange>,
+) -> Result<(), AllocError> {
+    if let Some(change) = change {
+        assert!(rt; can_change(store, bind, &change));
+        apply_term_change(store, change)?;
+    }
+    Ok(())
+}
+
+// Carries a command out as a caller has to, and answers the reply in short. A command or reply that is let go by a call of `drop`
+// makes no long proof.
 fn carry(
     rt: &impl Abort,
-    alloc: Global,
     known: &Entities,
     store: &mut Terminators,
     bind: &Counted,
     command: &Command,
-) -> Result<Reply, Fail>
+) -> Result<Told, Fail>
     requires { is_spelled command.now ≡ true }
 {
     let Some(plan) = plan_terminator_command(known, store, bind, command)? else {
         return Err(Fail::new("the command is on terminators"));
     };
     let Plan { reply, change } = plan;
-    if let Some(change) = change {
-        assert!(rt; can_change(store, bind, &change));
-        apply_term_change(store, change)?;
-    }
-    Ok(reply)
+    let told = in_short(&reply);
+    drop(reply);
+    apply(rt, store, bind, change)?;
+    Ok(told)
+}
+
+fn tells(
+    rt: &impl Abort,
+    known: &Entities,
+    store: &mut Terminators,
+    bind: &Counted,
+    command: Command,
+    wanted: Told,
+) -> Result<(), Fail>
+    requires { is_spelled command ≡ true }
+{
+    let found = carry(rt, known, store, bind, &command);
+    drop(command);
+    assert_eq!(rt; found?, wanted);
+    Ok(())
 }
 
 // The offer is made and changed, and no other is there to go.
@@ -100,25 +147,17 @@ fn carries(
     store: &mut Terminators,
     bind: &Counted,
 ) -> Result<(), Fail> {
-    let made = carry(rt, alloc, known, store, bind, &offer_of_ann(alloc)?)?;
-    assert!(rt; matches!(&made, Reply::Made { no: 1 }));
+    let offer = offer_of_ann(alloc)?;
+    tells(rt, known, store, bind, offer, Told::Made(1))?;
     let dearer = Command::UpdateTerminator {
         no: 1,
         cost: 9,
         precedence: Precedence::Failed,
     };
-    let done = carry(rt, alloc, known, store, bind, &dearer)?;
-    assert!(rt; matches!(&done, Reply::Done));
+    tells(rt, known, store, bind, dearer, Told::Done)?;
     assert_eq!(rt; store.get(TermNo(1)).map(|term| term.cost), Ok(9));
     let gone = Command::DeleteTerminator { no: 2 };
-    let refused = carry(rt, alloc, known, store, bind, &gone)?;
-    assert!(rt;
-        matches!(
-            &refused,
-            Reply::Refused(Refusal::Unknown { field: Field::No })
-        )
-    );
-    Ok(())
+    tells(rt, known, store, bind, gone, Told::UnknownNumber)
 }
 
 // Ann may host the service.

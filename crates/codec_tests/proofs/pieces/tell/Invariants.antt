@@ -1,5 +1,5 @@
 use Rattle.std.proofs.Common.{◌+◌, ◌≤◌, length}
-use Rattle.session_tests.proofs.pieces.tell.Given as goal
+use Rattle.codec_tests.proofs.pieces.tell.Given as goal
 
 -- no byte is counted twice
 abbrev pub invariant-frames : goal.invariant-frames

@@ -1,0 +1,139 @@
+//! Hostile input: what is said and noted of it, and how the run ends.
+
+use crate::desks::EMPTY;
+use crate::folders::{AMPLE, Ended, has_parts, ran};
+use ctrl_serve::Status;
+use sample_runs::{Row, replies, requests};
+use std::alloc::{AllocError, Global};
+use std::process::Abort;
+use std::test::Fail;
+
+/// Some bytes, and behind them two stretches of one byte each.
+type Stretched = (&'static [u8], [(u8, usize); 2]);
+
+/// A head whose headers part has 65,537 bytes: content type 1000, sequence 7, no body.
+const LONG_HEADERS: Stretched = (
+    b"\x03\x06\x09\x0c\xe8\x03\0\0\x07\0\0\0\x01\0\x01\0\0\0\0\0",
+    [(0, 0), (0, 0)],
+);
+
+/// A Hello whose headers part has 65,536 bytes: the head, and one header of the key 9 with 65,528 bytes.
+const LONGEST_HEADER: Stretched = (
+    b"\x03\x06\x09\x0c\0\0\0\0\x07\0\0\0\0\0\x01\0\0\0\0\0\x09\0\0\0\xf8\xff\0\0",
+    [(0x61, 65_528), (0, 0)],
+);
+
+/// A whole frame whose headers part of 8 bytes has a header of 2^32 - 1 bytes.
+const ENDLESS_HEADER: Stretched = (
+    b"\x03\x06\x09\x0c\xe8\x03\0\0\x07\0\0\0\x08\0\0\0\0\0\0\0\x05\0\0\0\xff\xff\xff\xff",
+    [(0, 0), (0, 0)],
+);
+
+/// A frame that creates an identity by a body of 400 bytes: lists in lists, 200 deep.
+const NESTED: Stretched = (
+    b"\x03\x06\x09\x0c\xe8\x03\0\0\x07\0\0\0\0\0\0\0\x90\x01\0\0",
+    [(b'[', 200), (b']', 200)],
+);
+
+/// A trace that opens session 0 twice.
+const OPENED_TWICE: Stretched = (b"\x01\0\0\0\x01\0\0\0", [(0, 0), (0, 0)]);
+
+/// The only reply to the Hello, and to the nested body.
+const GREETED: Row = (0, "", "");
+
+const NO_OBJECT: Row = (
+    1000,
+    "",
+    r#"{"code":11,"field":"","name":"BadBody","reason":"NotObject"}"#,
+);
+
+/// What is refused of costs that are no whole number from 0 to 65,535.
+const NO_COST: &str = r#"{"code":11,"field":"cost","name":"BadBody","reason":"WrongKind"}"#;
+
+const COSTS: [Row; 5] = [
+    (1020, r#"{"name":"r1","cost":1.0}"#, NO_COST),
+    (1020, r#"{"name":"r1","cost":1e3}"#, NO_COST),
+    (1020, r#"{"name":"r1","cost":-1}"#, NO_COST),
+    (1020, r#"{"name":"r1","cost":65536}"#, NO_COST),
+    (1020, r#"{"name":"r1","cost":null}"#, NO_COST),
+];
+
+fn stretched(alloc: Global, input: &Stretched) -> Result<Vec<u8>, AllocError> {
+    let (front, stretches) = input;
+    let mut bytes = Vec::from_slice(alloc, front)?;
+    for (byte, count) in stretches {
+        for _ in 0usize..*count {
+            bytes.push(*byte)?;
+        }
+    }
+    Ok(bytes)
+}
+
+// Input is run by these words on an empty folder, which ends so.
+fn ends(
+    rt: &impl Abort,
+    alloc: Global,
+    words: &[&str],
+    input: &[u8],
+    ended: Ended<'_>,
+) -> Result<(), Fail> {
+    let desk = ran(rt, alloc, words, input, EMPTY, AMPLE, ended)?;
+    has_parts(rt, &desk, EMPTY);
+    Ok(())
+}
+
+// Input that is refused, which is so noted, and to which nothing is said.
+fn is_bad(
+    rt: &impl Abort,
+    alloc: Global,
+    words: &[&str],
+    input: &Stretched,
+    noted: &str,
+) -> Result<(), Fail> {
+    let input = stretched(alloc, input)?;
+    let ended = (Status::BadInput, b"".as_slice(), noted);
+    ran(rt, alloc, words, input.as_slice(), EMPTY, AMPLE, ended)?;
+    Ok(())
+}
+
+// Input to which so is replied without a folder; nothing is noted.
+fn is_answered(rt: &impl Abort, alloc: Global, input: &[u8], rows: &[Row]) -> Result<(), Fail> {
+    let said = replies(alloc, rows)?;
+    ends(
+        rt,
+        alloc,
+        &["dry"],
+        input,
+        (Status::Done, said.as_slice(), ""),
+    )
+}
+
+// An input of long stretches to which one reply is said.
+fn is_replied(rt: &impl Abort, alloc: Global, input: &Stretched, row: Row) -> Result<(), Fail> {
+    let input = stretched(alloc, input)?;
+    is_answered(rt, alloc, input.as_slice(), &[row])
+}
+
+#[test]
+fn refuses_hostile_input(rt: HostRuntime) -> Result<(), Fail> {
+    let long = "zitictl: session 0: TooLong at 0\n";
+    is_bad(&rt, rt.alloc(), &["dry"], &LONG_HEADERS, long)?;
+    let endless = "zitictl: session 0: BadHeaders at 0\n";
+    is_bad(&rt, rt.alloc(), &["dry"], &ENDLESS_HEADER, endless)?;
+    let twice = "zitictl: trace: BadRecord at 4\n";
+    is_bad(
+        &rt,
+        rt.alloc(),
+        &["replay", "--sessions"],
+        &OPENED_TWICE,
+        twice,
+    )
+}
+
+#[test]
+fn answers_hostile_input(rt: HostRuntime) -> Result<(), Fail> {
+    is_replied(&rt, rt.alloc(), &LONGEST_HEADER, GREETED)?;
+    is_replied(&rt, rt.alloc(), &NESTED, NO_OBJECT)?;
+    let costs = requests(rt.alloc(), &COSTS)?;
+    is_answered(&rt, rt.alloc(), costs.as_slice(), &COSTS)
+}
