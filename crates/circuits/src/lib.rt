@@ -4,7 +4,6 @@
 mod after;
 mod applying;
 mod changes;
-mod counting;
 mod grants;
 mod losses;
 mod store;
@@ -13,7 +12,6 @@ mod worked;
 pub use after::CircuitsAfter;
 pub use applying::apply_circuit_change;
 pub use changes::CircuitChange;
-pub use counting::count_circuits;
 pub use grants::Circuit;
 pub use losses::Loss;
 pub use store::{CircuitFault, Circuits};

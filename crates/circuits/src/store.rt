@@ -1,6 +1,8 @@
 ghost use Rattle.std.specs.Prelude.{◌≡◌, ◌≤◌, true, false, length, filter, IfOk, OnErr};
 ghost use Rattle.std.specs.Option.{ok_or, option_map};
 ghost use Rattle.std.specs.Result.{result_map_both};
+ghost use Rattle.ctrl_model.specs.declared.kinds.Kind.TheVariants as kind;
+ghost use Rattle.ctrl_model.specs.Limits as limits;
 ghost use Rattle.ctrl_model.specs.Numbered.{at, is_present, numbers};
 ghost use Rattle.circuits.specs.CircuitChanges.{without_circuits};
 ghost use Rattle.circuits.specs.LostCircuits.{is_lost};
@@ -8,8 +10,8 @@ ghost use Rattle.circuits.specs.CircuitTables.{no_circuits, is_full, with_circui
 
 use crate::grants::Circuit;
 use crate::losses::{Loss, lost_in};
-use ctrl_model::{CircuitNo, Numbers};
-use record_tables::NumberedTable;
+use ctrl_model::{CircuitNo, Kind, Numbers};
+use record_tables::{NumberedTable, limit};
 use std::alloc::{AllocError, Global};
 use std::marker::Model;
 use thiserror::Error;
@@ -22,9 +24,6 @@ pub enum CircuitFault {
     Unknown,
 }
 
-/// How many circuits there may be.
-const MOST_CIRCUITS: usize = 16_384;
-
 /// The circuits of a controller. Contracts see them as a table (`CircuitTables`).
 #[derive(Drop)]
 pub struct Circuits {
@@ -33,13 +32,15 @@ pub struct Circuits {
 
 impl Model for Circuits {
     ghost use Rattle.std.specs.Prelude.{◌≤◌, length};
+    ghost use Rattle.ctrl_model.specs.declared.kinds.Kind.TheVariants as kind;
+    ghost use Rattle.ctrl_model.specs.Limits.{limit};
     ghost use Rattle.circuits.specs.CircuitTables.{CircuitTables};
 
     ghost Value = { CircuitTables };
 
     ghost view = { λ c. record { circuits = c.granted } };
 
-    ghost invariant = { λ c. length c.granted.rows ≤ 16384 };
+    ghost invariant = { λ c. length c.granted.rows ≤ limit kind.Circuit };
 }
 
 impl Circuits {
@@ -52,11 +53,11 @@ impl Circuits {
         })
     }
 
-    /// Whether no circuit can be added: 16,384 are present, or their numbers have run out (docs/RULES.md, "Circuits").
+    /// Whether no circuit can be added: as many are present as may be, or their numbers have run out (docs/RULES.md, "Circuits").
     pub fn is_full(&self) -> bool
         ensures { result ≡ is_full self.now }
     {
-        self.granted.len() >= MOST_CIRCUITS || self.granted.next() == u32::MAX
+        !self.granted.has_room(limit(Kind::Circuit))
     }
 
     /// Adds a circuit under the next number, which it answers.
@@ -117,7 +118,7 @@ impl Circuits {
     /// How many circuits there are.
     pub fn count(&self) -> usize
         ensures count { result ≡ length self.now.circuits.rows }
-        ensures few { result ≤ 16384 }
+        ensures few { result ≤ limits.limit kind.Circuit }
     {
         self.granted.len()
     }

@@ -16,7 +16,8 @@ use ctrl_model::{Kind, Names, Side};
 use entity_store::Entities;
 use policy_store::{Policy, policy_names};
 use record_flaws::{Coming, Findings};
-use state_building::{Flaw, limit};
+use record_tables::limit;
+use state_building::Flaw;
 use std::alloc::{AllocError, Global};
 
 // Whether each `@` name of a side is that of a present entity.

@@ -7,11 +7,10 @@ ghost use Rattle.core_stores.specs.StoredState.{state_of};
 ghost use Rattle.core_stores.specs.Drafts.{IsShown};
 ghost use Rattle.ctrl_core.specs.PlannedCommands.{Plans};
 
-use circuits::count_circuits;
 use core_stores::{Draft, Stores};
 use ctrl_model::{Field, Kind, Name, Names, Refusal, Reply, Tallies};
 use policy_store::count_all_policies;
-use shown_records::{count_entities, count_links, count_terminators, names_of, tallies};
+use shown_records::{names_of, tallies};
 use std::alloc::{AllocError, Global};
 
 // The plan of a command whose identity nothing has.
@@ -91,30 +90,22 @@ fn count_grants(stores: &Stores) -> u64
 }
 
 /// Plans how many there are of each kind.
-pub fn plan_show_counts(alloc: Global, stores: &Stores) -> Result<Draft, AllocError>
+pub fn plan_show_counts(alloc: Global, stores: &Stores) -> Draft
     requires { Keeps stores.now }
-    ensures { IfOk result (λ p. Plans p (show_counts (state_of stores.now)) (state_of stores.now)) }
+    ensures { Plans result (show_counts (state_of stores.now)) (state_of stores.now) }
 {
     let entities = &stores.entities;
-    let identities = count_entities(alloc, entities, Kind::Identity)?;
-    let services = count_entities(alloc, entities, Kind::Service)?;
-    let routers = count_entities(alloc, entities, Kind::Router)?;
-    let policies = count_all_policies(alloc, &stores.policies)?;
-    let grants = count_grants(stores);
-    let circuits = count_circuits(alloc, &stores.circuits)?;
-    let links = count_links(alloc, &stores.fabric)?;
-    let terminators = count_terminators(alloc, &stores.terminators)?;
-    Ok(Draft::shown(
+    Draft::shown(
         alloc,
         Reply::Counts {
-            circuits,
-            grants,
-            identities,
-            links,
-            policies,
-            routers,
-            services,
-            terminators,
+            circuits: stores.circuits.count() as u32,
+            grants: count_grants(stores),
+            identities: entities.count(Kind::Identity) as u32,
+            links: stores.fabric.count() as u32,
+            policies: count_all_policies(&stores.policies),
+            routers: entities.count(Kind::Router) as u32,
+            services: entities.count(Kind::Service) as u32,
+            terminators: stores.terminators.count() as u32,
         },
-    ))
+    )
 }

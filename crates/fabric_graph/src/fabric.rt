@@ -2,6 +2,8 @@ ghost use Rattle.std.specs.Prelude.{◌≡◌, ◌+◌, ◌<◌, ◌≤◌, ℕ,
 ghost use Rattle.std.specs.List.{list_all};
 ghost use Rattle.std.specs.Option.{option_map};
 ghost use Rattle.ctrl_model.specs.CommandForm.{is_link_cost, is_latency};
+ghost use Rattle.ctrl_model.specs.declared.kinds.Kind.TheVariants as kind;
+ghost use Rattle.ctrl_model.specs.Limits as limits;
 ghost use Rattle.ctrl_model.specs.Mirrors.{Mirrors};
 ghost use Rattle.ctrl_model.specs.Networks.{hops};
 ghost use Rattle.ctrl_model.specs.Numbered.{at, numbers};
@@ -15,15 +17,12 @@ ghost use Rattle.fabric_graph.specs.Routers.{AreRouters, network, number_at, cos
 use crate::ends::links_at;
 use crate::links::{LinkRow, LinkView};
 use crate::steps::{all_steps, by_place, flags};
-use ctrl_model::{LinkNo, Name, Numbers, RouterNo, RouterSeen};
+use ctrl_model::{Kind, LinkNo, Name, Numbers, RouterNo, RouterSeen};
 use path_certificate::Graph;
-use record_tables::NamedTable;
+use record_tables::{NamedTable, limit};
 use std::alloc::{AllocError, Global};
 use std::marker::Model;
 use thiserror::Error;
-
-/// How many links there may be.
-const MOST_LINKS: usize = 4_096;
 
 /// What a path pays at least to enter a router, until it is set.
 const LEAST_AT_FIRST: u32 = 10;
@@ -75,7 +74,7 @@ impl Fabric {
     }
 
     /// Whether a link of the name may be added between the routers: `Exists` comes exactly where a link has the name, else `Full`
-    /// exactly where 4,096 links are present or their numbers have run out, and else `SameRouter` exactly where both ends are one
+    /// exactly where as many links as may be are present or their numbers have run out, and else `SameRouter` exactly where both ends are one
     /// router (docs/RULES.md, "Commands on links").
     pub fn may_add(&self, name: &Name, a: RouterNo, b: RouterNo) -> Result<(), FabricFault>
         ensures { result ≡ may_add name.now a.0 b.0 self.now }
@@ -83,7 +82,7 @@ impl Fabric {
         if self.links.find(name.bytes()).is_some() {
             return Err(FabricFault::Exists);
         }
-        if self.links.len() >= MOST_LINKS || self.links.next() == u32::MAX {
+        if !self.links.has_room(limit(Kind::Link)) {
             return Err(FabricFault::Full);
         }
         if a.0 == b.0 {
@@ -193,7 +192,7 @@ impl Fabric {
     /// How many links there are.
     pub fn count(&self) -> usize
         ensures count { result ≡ length self.now.links.rows }
-        ensures few { result ≤ 4096 }
+        ensures few { result ≤ limits.limit kind.Link }
     {
         self.links.len()
     }

@@ -1,26 +1,20 @@
 -- When a policy can be put, and what is found (docs/RULES.md, "Commands on policies", "Limits").
-use Rattle.std.specs.Prelude.{ℕ, ◌≤◌, nat_lt, Bool, ◌&&◌, cond, List, length, is_some, is_none, unwrap_or}
-use Rattle.std.specs.declared.option.Option.{Option}
+use Rattle.std.specs.Prelude.{ℕ, ◌≤◌, Bool, ◌&&◌, cond, List, length, is_some, is_none, unwrap_or}
 use Rattle.std.specs.declared.result.Result.{Result}
 use Rattle.std.specs.Option.{ok_or, option_map_or}
 use Rattle.ctrl_model.specs.declared.kinds.Kind.{Kind}
-use Rattle.ctrl_model.specs.declared.kinds.Kind.TheVariants as kind
+use Rattle.ctrl_model.specs.Limits.{limit, last_next}
 use Rattle.ctrl_model.specs.Numbered.{is_present, Between}
 use Rattle.ctrl_model.specs.State.{Policy}
+use Rattle.ctrl_model.specs.Tables.{has_room, is_policy_kind}
 use Rattle.policy_store.specs.declared.policies.PolicyFault.{PolicyFault}
 use Rattle.policy_store.specs.declared.policies.PolicyFault.TheVariants.{Unknown}
-use Rattle.policy_store.specs.PolicyTables.{PolicyTables, policies, next_of, number_of, with_policy, with_replaced}
+use Rattle.policy_store.specs.PolicyTables.{PolicyTables, policies, policies_of, next_of, number_of, with_policy, with_replaced}
 
--- How many policies of a kind there may be.
-abbrev pub most_of : Kind → ℕ
-most_of kind.ServicePolicy = 512
-most_of kind.EdgeRouterPolicy = 256
-most_of kind.ServiceEdgeRouterPolicy = 256
-most_of _ = 0
-
--- Whether one more policy of a kind can be put: fewer than its limit are present, and its numbers have not run out.
+-- Whether one more policy of a kind can be put: it is a kind of policy, fewer than its limit are present, and its numbers have not run
+-- out.
 abbrev pub has_kind_room : Kind → PolicyTables → Bool
-has_kind_room k t = nat_lt (length (policies k t)) (most_of k) && nat_lt (next_of k t) 4294967295
+has_kind_room k t = is_policy_kind k && has_room (limit k) (policies_of k t)
 
 -- Whether a name is as it has to be: free for a fresh policy, and one's for another.
 abbrev pub has_fitting_name : Kind → List ℕ → Bool → PolicyTables → Bool
@@ -49,6 +43,6 @@ put_number k name fresh t = cond fresh (next_of k t) (unwrap_or (number_of k nam
 -- What a store keeps of each kind: the numbers ascend from 1 below the next one, which has an end, and the limit is kept.
 pub record KeepsNumbers (k : Kind) (t : PolicyTables) : Type 0 where
   pub first : 1 ≤ next_of k t
-  pub last : next_of k t ≤ 4294967295
+  pub last : next_of k t ≤ last_next
   pub ordered : Between 1 (next_of k t) (policies k t)
-  pub few : length (policies k t) ≤ most_of k
+  pub few : length (policies k t) ≤ limit k

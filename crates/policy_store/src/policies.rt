@@ -1,14 +1,15 @@
-ghost use Rattle.std.specs.Prelude.{◌≡◌, ◌≤◌, ◌&&◌, cond, true, length, MatchOption, IfOk, OnErr};
+ghost use Rattle.std.specs.Prelude.{is_some, ◌≡◌, ◌≤◌, ◌&&◌, cond, true, length, MatchOption, IfOk, OnErr};
 ghost use Rattle.std.specs.Option.{option_map};
 ghost use Rattle.std.specs.Result.{result_map_both};
+ghost use Rattle.ctrl_model.specs.Limits as limits;
 ghost use Rattle.ctrl_model.specs.Numbered.{at, numbers, no_rows};
 ghost use Rattle.ctrl_model.specs.Tables.{is_entity_kind};
 ghost use Rattle.policy_store.specs.PolicyTables.{no_policies, is_policy_kind, policies_of, policies, next_of, number_of, without_policy, with_next, forgetting};
-ghost use Rattle.policy_store.specs.PolicyRules.{most_of, has_kind_room, found, is_there, can_put, put_in, put_number, KeepsNumbers};
+ghost use Rattle.policy_store.specs.PolicyRules.{has_kind_room, found, is_there, can_put, put_in, put_number, KeepsNumbers};
 
 use crate::records::{Hand, Policy, forget_in, put_in};
 use ctrl_model::{Kind, Name, Numbers, PolicyNo};
-use record_tables::NamedTable;
+use record_tables::{NamedTable, limit};
 use std::alloc::{AllocError, Global};
 use std::marker::Model;
 use thiserror::Error;
@@ -42,31 +43,23 @@ pub struct Policies {
 
 impl Model for Policies {
     ghost use Rattle.std.specs.Prelude.{◌≤◌, length};
+    ghost use Rattle.ctrl_model.specs.declared.kinds.Kind.TheVariants as kind;
+    ghost use Rattle.ctrl_model.specs.Limits.{limit};
     ghost use Rattle.policy_store.specs.PolicyTables.{PolicyTables};
 
     ghost Value = { PolicyTables };
 
     ghost view = { λ p. record { service_policies = p.service_policies; edge_router_policies = p.edge_router_policies; service_edge_router_policies = p.service_edge_router_policies } };
 
-    ghost invariant = { λ p. (length p.service_policies.rows ≤ 512) × (length p.edge_router_policies.rows ≤ 256) × (length p.service_edge_router_policies.rows ≤ 256) };
-}
-
-// How many policies of a kind there may be.
-fn most_of(kind: Kind) -> usize
-    ensures { result ≡ most_of kind }
-{
-    match kind {
-        Kind::ServicePolicy => 512,
-        Kind::EdgeRouterPolicy | Kind::ServiceEdgeRouterPolicy => 256,
-        _ => 0,
-    }
+    ghost invariant = { λ p. (length p.service_policies.rows ≤ limit kind.ServicePolicy) × (length p.edge_router_policies.rows ≤ limit kind.EdgeRouterPolicy) × (length p.service_edge_router_policies.rows ≤ limit kind.ServiceEdgeRouterPolicy) };
 }
 
 impl Policies {
-    /// The table of a kind. None where it is no kind of policy.
+    /// The table of a kind. None exactly where it is no kind of policy.
     pub fn table(&self, kind: Kind) -> Option<&NamedTable<Policy>>
+        ensures kind { is_some result ≡ is_policy_kind kind }
         ensures table { MatchOption result (policies_of kind self.now ≡ no_rows) (λ t. t.now ≡ policies_of kind self.now) }
-        ensures few { length (policies kind self.now) ≤ most_of kind }
+        ensures few { length (policies kind self.now) ≤ limits.limit kind }
     {
         match kind {
             Kind::ServicePolicy => Some(&self.service_policies),
@@ -89,7 +82,10 @@ impl Policies {
     pub fn has_room(&self, kind: Kind) -> bool
         ensures { result ≡ has_kind_room kind self.now }
     {
-        self.count(kind) < most_of(kind) && self.next(kind) < u32::MAX
+        match self.table(kind) {
+            Some(table) => table.has_room(limit(kind)),
+            None => false,
+        }
     }
 
     /// A store without policies.
@@ -191,7 +187,7 @@ impl Policies {
     /// How many policies of a kind there are.
     pub fn count(&self, kind: Kind) -> usize
         ensures count { result ≡ length (policies kind self.now) }
-        ensures few { result ≤ most_of kind }
+        ensures few { result ≤ limits.limit kind }
     {
         match self.table(kind) {
             Some(table) => table.len(),

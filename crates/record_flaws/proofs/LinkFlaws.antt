@@ -3,6 +3,7 @@ use Rattle.std.proofs.Common.{◌≡◌, ℕ, Bool, false, not, ◌&&◌, ◌||�
 use Rattle.std.proofs.Math.Bool.{or-false}
 use Rattle.std.specs.Option.{ok_or, option_map}
 use Rattle.std.specs.Result.{is_ok}
+use Rattle.ctrl_model.specs.Limits.{limit}
 use Rattle.ctrl_model.specs.declared.kinds.Kind.TheVariants as kind
 use Rattle.ctrl_model.specs.Numbered.{Table, is_present}
 use Rattle.ctrl_model.specs.State.{State, Link, Router, link_named}
@@ -21,7 +22,7 @@ found_named f e (Some n) = refl
 
 pub told_link : (t : Tables) (f : FabricSeen) (number end : ℕ) (order sound taken there many : Bool) (name : List ℕ) (a b : ℕ) (l : Link) (s : State)
     → order ≡ (nat_lt number f.links.next || nat_le end number) → taken ≡ is_ok (found name f)
-    → there ≡ (is_present t.routers.rows a && is_present t.routers.rows b) → many ≡ nat_le 4096 (length f.links.rows)
+    → there ≡ (is_present t.routers.rows a && is_present t.routers.rows b) → many ≡ nat_le (limit kind.Link) (length f.links.rows)
     → l.name ≡ name → l.a ≡ a → l.b ≡ b → AreEntitiesOf t s → AreLinksOf f s → attributes_full s ≡ false → sound ≡ is_sound kind.Link l
     → flaw_if order OutOfOrder (flaw_if (not sound) NoRecord (flaw_if taken NameTaken (flaw_if (not there) Hanging (flaw_if many TooMany None))))
     ≡ flaw_of (λ k. end) kind.Link number l s
@@ -34,6 +35,6 @@ told_link t f number end order sound taken there many name a b l s order_is take
     there_is ∙ ap (λ (rows : Table Router). is_present rows.rows a && is_present rows.rows b) (sym of_entities.routers)
     ∙ ap (λ n. is_present s.routers.rows n && is_present s.routers.rows b) (sym a_is) ∙ ap (λ n. is_present s.routers.rows l.a && is_present s.routers.rows n) (sym b_is) in
     let many_same : many ≡ is_one_too_many kind.Link number l s =
-    many_is ∙ ap (λ (rows : Table Link). nat_le 4096 (length rows.rows)) (sym of_links.links) ∙ sym (or-false (nat_le 4096 (length s.links.rows)))
-    ∙ ap (λ full. nat_le 4096 (length s.links.rows) || full) (sym few) in
+    many_is ∙ ap (λ (rows : Table Link). nat_le (limit kind.Link) (length rows.rows)) (sym of_links.links) ∙ sym (or-false (nat_le (limit kind.Link) (length s.links.rows)))
+    ∙ ap (λ full. nat_le (limit kind.Link) (length s.links.rows) || full) (sym few) in
     λ i. flaw_if (order_same i) OutOfOrder (flaw_if (not (sound_is i)) NoRecord (flaw_if (taken_same i) NameTaken (flaw_if (not (there_same i)) Hanging (flaw_if (many_same i) TooMany None))))

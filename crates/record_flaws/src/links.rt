@@ -10,10 +10,8 @@ use crate::coming::{Coming, Findings};
 use ctrl_model::{Kind, Name, RouterNo};
 use entity_store::Entities;
 use fabric_graph::Fabric;
+use record_tables::limit;
 use state_building::Flaw;
-
-/// How many links there may be.
-const MOST_LINKS: usize = 4_096;
 
 // Whether both routers of a link are present.
 fn are_there(entities: &Entities, a: RouterNo, b: RouterNo) -> bool
@@ -39,7 +37,7 @@ pub fn link_flaw(
         sound: coming.sound,
         taken: fabric.find(name).is_ok(),
         supported: are_there(entities, a, b),
-        too_many: fabric.count() >= MOST_LINKS,
+        too_many: fabric.count() >= limit(Kind::Link),
     };
     findings.flaw(Kind::Link)
 }

@@ -10,11 +10,9 @@ ghost use Rattle.record_flaws.specs.StoresOfStates.{AreEntitiesOf, AreTermsOf};
 use crate::coming::{Coming, Findings};
 use ctrl_model::{IdentityNo, Kind, RouterNo, ServiceNo};
 use entity_store::Entities;
+use record_tables::limit;
 use state_building::Flaw;
 use terminators::Terminators;
-
-/// How many terminators there may be.
-const MOST_TERMINATORS: usize = 4_096;
 
 // Whether a host is present, where there is one.
 fn is_host_there(entities: &Entities, host: Option<IdentityNo>) -> bool
@@ -60,7 +58,7 @@ pub fn term_flaw(
         sound: coming.sound,
         taken: false,
         supported: are_there(entities, service, router, host),
-        too_many: terminators.count() >= MOST_TERMINATORS,
+        too_many: terminators.count() >= limit(Kind::Terminator),
     };
     findings.flaw(Kind::Terminator)
 }

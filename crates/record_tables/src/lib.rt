@@ -3,6 +3,7 @@
 #![tactic(auto)]
 
 mod entries;
+mod limits;
 mod named_tables;
 mod number_lists;
 mod numbered_tables;
@@ -10,6 +11,7 @@ mod touching;
 mod worked;
 
 pub use entries::{Entries, Named};
+pub use limits::limit;
 pub use named_tables::NamedTable;
 pub use number_lists::{Turn, is_among, left_of, turned};
 pub use numbered_tables::NumberedTable;

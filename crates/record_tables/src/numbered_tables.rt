@@ -1,6 +1,7 @@
 ghost use Rattle.std.specs.Prelude.{◌≡◌, ◌+◌, ◌<◌, ◌≤◌, true, length, Some, IfOk, OnOk, OnErr};
 ghost use Rattle.std.specs.Option.{option_map};
 ghost use Rattle.ctrl_model.specs.Numbered.{at, is_present, numbers, without, no_rows, with_new, with_edit, with_removed, Between};
+ghost use Rattle.ctrl_model.specs.Tables.{has_room};
 ghost use Rattle.record_tables.specs.AfterChange.{without_numbers};
 ghost use Rattle.record_tables.specs.Changes.{ChangesAt, Does, IsCopied};
 ghost use Rattle.record_tables.specs.Entries.{listed, KeepsOrder};
@@ -101,6 +102,13 @@ impl<R: Drop> NumberedTable<R> {
         ensures { result ≡ length self.now.rows }
     {
         self.records.len()
+    }
+
+    /// Whether there is room for one more record, where there may be so many: fewer are present, and the numbers have not run out.
+    pub fn has_room(&self, most: usize) -> bool
+        ensures { result ≡ has_room most self.now }
+    {
+        self.records.len() < most && self.next < u32::MAX
     }
 
     /// The number that the next record gets.

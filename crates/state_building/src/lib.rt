@@ -3,10 +3,8 @@
 
 mod flaws;
 mod laws;
-mod limits;
 mod worked;
 
 pub use flaws::Flaw;
 pub use laws::{flawless_rows_build_valid_states, joining_keeps_validity, skipping_keeps_validity};
-pub use limits::limit;
 pub use worked::{worked_flaws, worked_joins, worked_limits, worked_orders_of_flaws, worked_rows};

@@ -1,11 +1,11 @@
 use crate::making::two;
-use circuits::{Circuits, count_circuits};
+use circuits::Circuits;
 use ctrl_model::{Kind, Tally};
 use entity_store::Entities;
 use fabric_graph::Fabric;
 use grant_denorm::Counted;
 use policy_store::{Policies, count_all_policies};
-use shown_records::{count_entities, count_links, count_terminators, names_of, tallies};
+use shown_records::{names_of, tallies};
 use std::alloc::{AllocError, Global};
 use std::process::Abort;
 use std::test::Fail;
@@ -41,7 +41,7 @@ fn shows_a_count(rt: &impl Abort, alloc: Global, known: &Entities) -> Result<(),
 }
 
 fn shows_both(rt: &impl Abort, alloc: Global, known: &Entities) -> Result<(), AllocError> {
-    assert_eq!(rt; count_entities(alloc, known, Kind::Service)?, 2);
+    assert_eq!(rt; known.count(Kind::Service), 2);
     shows_a_count(rt, alloc, known)
 }
 
@@ -54,25 +54,25 @@ fn shows_counts_where_memory_is_ample(rt: HostRuntime) -> Result<(), Fail> {
 
 fn counts_no_link(rt: &impl Abort, alloc: Global) -> Result<(), AllocError> {
     let fabric = Fabric::new(alloc)?;
-    assert_eq!(rt; count_links(alloc, &fabric)?, 0);
+    assert_eq!(rt; fabric.count(), 0);
     Ok(())
 }
 
 fn counts_no_circuit(rt: &impl Abort, alloc: Global) -> Result<(), AllocError> {
     let circuits = Circuits::new(alloc)?;
-    assert_eq!(rt; count_circuits(alloc, &circuits)?, 0);
+    assert_eq!(rt; circuits.count(), 0);
     Ok(())
 }
 
 fn counts_no_terminator(rt: &impl Abort, alloc: Global) -> Result<(), AllocError> {
     let terminators = Terminators::new(alloc)?;
-    assert_eq!(rt; count_terminators(alloc, &terminators)?, 0);
+    assert_eq!(rt; terminators.count(), 0);
     Ok(())
 }
 
 fn counts_no_policy(rt: &impl Abort, alloc: Global) -> Result<(), AllocError> {
     let policies = Policies::new(alloc)?;
-    assert_eq!(rt; count_all_policies(alloc, &policies)?, 0);
+    assert_eq!(rt; count_all_policies(&policies), 0);
     Ok(())
 }
 

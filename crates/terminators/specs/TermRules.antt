@@ -1,20 +1,23 @@
 -- When a terminator may be added, and the network in which terminators are admissible (docs/RULES.md, "Commands on
 -- terminators", "Limits", "Terminators").
-use Rattle.std.specs.Prelude.{ℕ, ⊤, nat_lt, Bool, false, not, ◌&&◌, cond, List, [], length, Ok, Err}
+use Rattle.std.specs.Prelude.{ℕ, ⊤, nat_lt, Bool, false, not, ◌&&◌, cond, List, [], Ok, Err}
 use Rattle.std.specs.declared.result.Result.{Result}
 use Rattle.std.specs.Option.{option_map_or}
+use Rattle.ctrl_model.specs.declared.kinds.Kind.TheVariants as kind
 use Rattle.ctrl_model.specs.declared.kinds.RouterSeen.{RouterSeen}
+use Rattle.ctrl_model.specs.Limits.{limit}
 use Rattle.ctrl_model.specs.Networks.{Network, is_counted, is_in_service}
 use Rattle.ctrl_model.specs.State.{Terminator}
+use Rattle.ctrl_model.specs.Tables.{has_room}
 use Rattle.grant_denorm.specs.PairCounts.{count_of}
 use Rattle.terminators.specs.declared.admitting.Grants.{Grants}
 use Rattle.terminators.specs.declared.store.TermFault.{TermFault}
 use Rattle.terminators.specs.declared.store.TermFault.TheVariants.{NotBindable, Full}
 use Rattle.terminators.specs.TermTables.{TermTables, no_terminators}
 
--- Whether one more terminator can be added: fewer than 4,096 are present, and their numbers have not run out.
+-- Whether one more terminator can be added: fewer than may be are present, and their numbers have not run out.
 abbrev pub has_term_room : TermTables → Bool
-has_term_room t = nat_lt (length t.terminators.rows) 4096 && nat_lt t.terminators.next 4294967295
+has_term_room t = has_room (limit kind.Terminator) t.terminators
 
 -- Whether a terminator names a host that lacks Bind on its service.
 abbrev pub is_not_bindable : Terminator → List ((ℕ × ℕ) × ℕ) → Bool

@@ -1,7 +1,9 @@
 ghost use Rattle.std.specs.Prelude.{◌≡◌, ◌≤◌, true, length, IfOk, OnErr, filter};
 ghost use Rattle.std.specs.Option.{ok_or};
 ghost use Rattle.std.specs.Result.{result_map_both};
+ghost use Rattle.ctrl_model.specs.declared.kinds.Kind.TheVariants as kind;
 ghost use Rattle.ctrl_model.specs.CommandForm.{is_cost};
+ghost use Rattle.ctrl_model.specs.Limits as limits;
 ghost use Rattle.ctrl_model.specs.Networks.{admissible};
 ghost use Rattle.ctrl_model.specs.Numbered.{at, is_present, numbers};
 ghost use Rattle.terminators.specs.NamedTerms.{stands_on};
@@ -14,7 +16,7 @@ use crate::naming::standing_in;
 use crate::offers::{Term, TermView, is_not_bindable};
 use ctrl_model::{Instance, Kind, Numbers, Precedence, RouterSeen, ServiceNo, TermNo};
 use grant_denorm::Counted;
-use record_tables::NumberedTable;
+use record_tables::{NumberedTable, limit};
 use std::alloc::{AllocError, Global};
 use std::marker::Model;
 use thiserror::Error;
@@ -32,9 +34,6 @@ pub enum TermFault {
     #[error("no terminator can be added")]
     Full,
 }
-
-/// How many terminators there may be.
-const MOST_TERMINATORS: usize = 4_096;
 
 /// The terminators of a controller. Contracts see them as a table (`TermTables`).
 #[derive(Drop)]
@@ -81,12 +80,12 @@ impl Terminators {
         })
     }
 
-    /// Whether a terminator may be added: `Full` comes exactly where 4,096 are present or their numbers have run out, and else
+    /// Whether a terminator may be added: `Full` comes exactly where as many as may be are present or their numbers have run out, and else
     /// `NotBindable` exactly where a host is named that lacks Bind on the service (docs/RULES.md, "Commands on terminators").
     pub fn may_add(&self, term: &Term, bind: &Counted) -> Result<(), TermFault>
         ensures { result ≡ may_add term.now self.now bind.now }
     {
-        if self.terms.len() >= MOST_TERMINATORS || self.terms.next() == u32::MAX {
+        if !self.terms.has_room(limit(Kind::Terminator)) {
             return Err(TermFault::Full);
         }
         if is_not_bindable(term, bind) {
@@ -170,7 +169,7 @@ impl Terminators {
     /// How many terminators there are.
     pub fn count(&self) -> usize
         ensures count { result ≡ length self.now.terminators.rows }
-        ensures few { result ≤ 4096 }
+        ensures few { result ≤ limits.limit kind.Terminator }
     {
         self.terms.len()
     }

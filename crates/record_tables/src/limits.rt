@@ -8,11 +8,11 @@ pub fn limit(kind: Kind) -> usize
     ensures { result ≡ limits.limit kind }
 {
     match kind {
-        Kind::Identity => 2048,
+        Kind::Identity => 2_048,
         Kind::Service | Kind::ServicePolicy => 512,
         Kind::Router | Kind::EdgeRouterPolicy | Kind::ServiceEdgeRouterPolicy => 256,
-        Kind::Link | Kind::Terminator => 4096,
-        Kind::Circuit => 16384,
-        Kind::Attribute => 1024,
+        Kind::Link | Kind::Terminator => 4_096,
+        Kind::Circuit => 16_384,
+        Kind::Attribute => 1_024,
     }
 }
