@@ -1,9 +1,9 @@
 -- Which circuits of a state stay in another where one router may not be passed through any more: exactly those that do not pass
 -- through it.
-use Rattle.std.proofs.Common.{◌≡◌, ◌≢◌, ℕ, ◌==◌, ◌||◌, ◌&&◌, Bool, true, false, not, List, [], ◌∷◌, Option, None, Some, inl, inr, ◌⊎◌, refl, sym, ◌∙◌, ap, subst, eqb-true, eq-eqb}
-use Rattle.std.proofs.lemmas.Bool.{and_from, false≢true, true≢false}
+use Rattle.std.proofs.Common.{◌≡◌, ◌≢◌, ℕ, ◌==◌, ◌||◌, ◌&&◌, Bool, true, false, not, List, [], ◌∷◌, None, Some, inl, inr, ◌⊎◌, refl, sym, ◌∙◌, ap, eqb-true, eq-eqb}
+use Rattle.std.proofs.lemmas.Bool.{and_from, true≢false}
 use Rattle.std.specs.Option.{option_map_or}
-use Rattle.ctrl_model.specs.Networks.{Network, network_of, is_on, hops}
+use Rattle.ctrl_model.specs.Networks.{network_of, is_on, hops}
 use Rattle.ctrl_model.specs.Numbered.{at, numbers}
 use Rattle.ctrl_model.specs.Settling.{circuit_reaches, stays_in}
 use Rattle.ctrl_model.specs.State.{State, Terminator, Circuit}

@@ -1,18 +1,18 @@
 -- What settling takes out where a router of a valid state may not be passed through any more.
-use Rattle.std.proofs.Common.{◌≡◌, ◌≢◌, ℕ, ◌+◌, ◌==◌, ◌||◌, ◌&&◌, Bool, true, false, not, cond, List, [], ◌∷◌, Option, None, Some, inl, inr, ◌⊎◌, refl, sym, ◌∙◌, ap, subst, eqb-true, eq-eqb, ne_eqb, ⊎_elim}
-use Rattle.std.proofs.lemmas.Bool.{false≢true, true≢false, or_cases, or_left, or_right, and_parts, and_from, cases_eq}
+use Rattle.std.proofs.Common.{◌≡◌, ◌≢◌, ℕ, ◌+◌, ◌==◌, ◌||◌, ◌&&◌, Bool, true, false, cond, List, [], Option, None, Some, ◌⊎◌, refl, sym, ◌∙◌, ap, subst, eqb-true, eq-eqb, ne_eqb, ⊎_elim}
+use Rattle.std.proofs.lemmas.Bool.{false≢true, or_cases, or_left, or_right, and_parts, and_from, cases_eq}
 use Rattle.std.proofs.lemmas.Option.{none-some, same_Some}
 use Rattle.std.specs.List.{filter}
 use Rattle.std.specs.Option.{option_map, option_map_or}
 use Rattle.ctrl_model.specs.declared.kinds.Kind.TheVariants as kind
 use Rattle.ctrl_model.specs.declared.kinds.RouterSeen.{RouterSeen}
 use Rattle.ctrl_model.specs.Networks.{Network, network_of, seen, is_on, is_usable, router_at, other_end, link_cost, entry_cost, hops}
-use Rattle.ctrl_model.specs.Numbered.{Table, at, numbers, edit_at, with_edit, Between}
+use Rattle.ctrl_model.specs.Numbered.{at, numbers, edit_at, with_edit}
 use Rattle.ctrl_model.specs.Settling.{link_stays, terminator_stays, settle_links, settle_terminators}
 use Rattle.ctrl_model.specs.State.{State, Entity, Router, Link, Terminator, Circuit}
 use Rattle.ctrl_model.specs.ValidState.{ValidState}
 use Rattle.ctrl_model.specs.Walks.{is_among}
-use Rattle.ctrl_model.proofs.NumberedLaws.{at-edit_at, at-edit_at-other, at-filter-back}
+use Rattle.ctrl_model.proofs.NumberedLaws.{at-edit_at, at-filter-back}
 use Rattle.model_laws.proofs.PathLaws.{by_hops, hops_from}
 use Rattle.circuits.specs.LostCircuits.{passes_through}
 use Rattle.fabric_graph.specs.LinkEnds.{is_at}

@@ -1,11 +1,10 @@
 -- What is left of entities, and so which links and terminators stay.
-use Rattle.std.proofs.Common.{◌≡◌, ◌≢◌, ℕ, ◌==◌, ◌||◌, ◌&&◌, Bool, true, false, not, cond, List, [], ◌∷◌, Option, None, Some, refl, sym, ◌∙◌, ap, subst, eqb-true, eq-eqb, is_some}
+use Rattle.std.proofs.Common.{◌≡◌, ℕ, ◌==◌, ◌||◌, ◌&&◌, Bool, true, false, not, List, [], Option, None, Some, refl, sym, ◌∙◌, ap, eqb-true, eq-eqb, is_some}
 use Rattle.std.proofs.lemmas.Bool.{and_parts, false≢true, true≢false}
-use Rattle.std.proofs.lemmas.Option.{none-some, same_Some}
+use Rattle.std.proofs.lemmas.Option.{same_Some}
 use Rattle.std.specs.List.{filter}
 use Rattle.std.specs.Option.{option_map_or}
-use Rattle.ctrl_model.specs.Membership.{Among}
-use Rattle.ctrl_model.specs.Numbered.{at, is_present, numbers, with_last, edit_at, without, Between}
+use Rattle.ctrl_model.specs.Numbered.{at, is_present, numbers, without, Between}
 use Rattle.ctrl_model.specs.Settling.{link_stays, terminator_stays}
 use Rattle.ctrl_model.specs.State.{State, Link, Terminator}
 use Rattle.ctrl_model.specs.ValidState.{ValidState}

@@ -1,18 +1,17 @@
 -- What settling takes out after a change of the entities of a valid state.
-use Rattle.std.proofs.Common.{◌≡◌, ◌≢◌, ℕ, ◌+◌, ◌==◌, ◌||◌, ◌&&◌, Bool, true, false, not, cond, List, [], ◌∷◌, Option, None, Some, inl, inr, ◌⊎◌, refl, sym, ◌∙◌, ap, ap₂, subst, eqb-true, eq-eqb, ⊎_elim, is_some}
+use Rattle.std.proofs.Common.{◌≡◌, ℕ, ◌==◌, ◌||◌, Bool, true, false, not, cond, List, [], None, Some, inr, refl, sym, ◌∙◌, ap, eqb-true, eq-eqb, is_some}
 use Rattle.std.proofs.lemmas.Bool.{false≢true, true≢false, or_cases}
-use Rattle.std.proofs.lemmas.Option.{none-some, same_Some}
+use Rattle.std.proofs.lemmas.Option.{none-some}
 use Rattle.std.specs.List.{filter}
 use Rattle.std.specs.Option.{option_map_or}
 use Rattle.ctrl_model.specs.declared.kinds.Kind.{Kind}
 use Rattle.ctrl_model.specs.declared.kinds.Kind.TheVariants as kind
-use Rattle.ctrl_model.specs.Membership.{Among}
-use Rattle.ctrl_model.specs.Numbered.{Table, at, is_present, numbers, edit_at, without, with_removed, with_edit, Between}
-use Rattle.ctrl_model.specs.Settling.{link_stays, terminator_stays, stays_in, settle_links, settle_terminators}
+use Rattle.ctrl_model.specs.Numbered.{Table, at, is_present, numbers, edit_at, without, with_removed, with_edit}
+use Rattle.ctrl_model.specs.Settling.{link_stays, terminator_stays}
 use Rattle.ctrl_model.specs.State.{State, Entity, Router, Link, Policy, Terminator, Circuit}
 use Rattle.ctrl_model.specs.ValidState.{ValidState}
 use Rattle.ctrl_model.specs.Walks.{is_among}
-use Rattle.ctrl_model.proofs.NumberedLaws.{at-edit_at, at-edit_at-back}
+use Rattle.ctrl_model.proofs.NumberedLaws.{at-edit_at-back}
 use Rattle.model_laws.proofs.AbsentRecords.{at-without-none}
 use Rattle.circuits.specs.LostCircuits.{names_entity, goes_over, needs}
 use Rattle.fabric_graph.specs.LinkEnds.{is_at}
@@ -21,8 +20,8 @@ use Rattle.circuit_settling.proofs.EntitiesLeft.{Left, EndsHold, among_those, li
 use Rattle.circuit_settling.proofs.FailingRows.{failing}
 use Rattle.circuit_settling.specs.FallenRecords.{Falls}
 use Rattle.circuit_settling.proofs.FallenCircuits.{circuits_fall}
-use Rattle.circuit_settling.proofs.HeldRows.{Held, AllStood, no_number, one_number, held_same, held_edit, held_without, stood_same, present_held}
-use Rattle.circuit_settling.proofs.SettlingCases.{any, router_itself, link_itself, term_itself, ends_itself, links_between, terms_between, Keeps, KeepsRows, LosesRows, all_links, all_terms, nothing_falls, lost_by}
+use Rattle.circuit_settling.proofs.HeldRows.{Held, no_number, one_number, held_same, held_edit, held_without, stood_same, present_held}
+use Rattle.circuit_settling.proofs.SettlingCases.{any, router_itself, link_itself, term_itself, ends_itself, links_between, terms_between, all_links, all_terms, nothing_falls, lost_by}
 use Rattle.circuit_settling.proofs.TurnedStates.{Any, RouterHolds, LinkHolds, TermHolds, Turns}
 
 -- numbers that are one or none of two

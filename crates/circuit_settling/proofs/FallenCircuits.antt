@@ -1,11 +1,10 @@
 -- What goes by one change of a valid state: which links, terminators and circuits.
-use Rattle.std.proofs.Common.{◌≡◌, ◌≢◌, ℕ, ◌==◌, ◌||◌, Bool, true, false, not, List, [], ◌∷◌, Option, None, Some, refl, sym, ◌∙◌, ap, subst}
+use Rattle.std.proofs.Common.{◌≡◌, ℕ, ◌||◌, Bool, false, not, List, [], ◌∷◌, Option, refl, sym, ◌∙◌, ap}
 use Rattle.std.specs.List.{filter, list_any}
-use Rattle.std.specs.Option.{option_map_or}
 use Rattle.ctrl_model.specs.declared.kinds.Kind.{Kind}
 use Rattle.ctrl_model.specs.Membership.{Among}
 use Rattle.ctrl_model.specs.Numbered.{numbers}
-use Rattle.ctrl_model.specs.Settling.{link_stays, terminator_stays, stays_in, settle_links, settle_terminators}
+use Rattle.ctrl_model.specs.Settling.{stays_in, settle_links, settle_terminators}
 use Rattle.ctrl_model.specs.State.{State, Circuit}
 use Rattle.ctrl_model.specs.ValidState.{ValidState}
 use Rattle.ctrl_model.specs.Walks.{is_among}

@@ -2,7 +2,7 @@
 use Rattle.std.proofs.Common.{◌≡◌, ℕ, true, not, List, sym, ◌∙◌, ap}
 use Rattle.std.specs.List.{filter}
 use Rattle.std.specs.Option.{option_map_or}
-use Rattle.ctrl_model.specs.Numbered.{at, numbers, Between}
+use Rattle.ctrl_model.specs.Numbered.{numbers, Between}
 use Rattle.ctrl_model.specs.State.{Circuit}
 use Rattle.record_tables.proofs.GoneLaws.{filter_among}
 use Rattle.record_tables.proofs.NumberLoops.{at_among}

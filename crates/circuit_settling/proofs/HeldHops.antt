@@ -1,5 +1,5 @@
 -- Hops of one network that another has too: over links that hold, between routers that hold.
-use Rattle.std.proofs.Common.{◌≡◌, ℕ, ◌+◌, ◌==◌, ◌||◌, ◌&&◌, Bool, true, false, cond, Option, None, Some, inl, inr, ◌⊎◌, refl, sym, ◌∙◌, ap, subst, ⊎_elim, option_and_then}
+use Rattle.std.proofs.Common.{◌≡◌, ℕ, ◌+◌, ◌==◌, ◌||◌, ◌&&◌, Bool, true, false, cond, Option, None, Some, refl, ◌∙◌, ap, subst, ⊎_elim, option_and_then}
 use Rattle.std.proofs.lemmas.Bool.{and_parts, and_from, or_cases, or_left, or_right, cond-false}
 use Rattle.std.proofs.lemmas.Option.{same_Some, none-some}
 use Rattle.std.specs.Option.{option_map_or}

@@ -5,7 +5,6 @@ use Rattle.std.specs.Option.{option_map_or}
 use Rattle.ctrl_model.specs.Membership.{Among}
 use Rattle.ctrl_model.specs.Networks.{Network, is_on, hops}
 use Rattle.ctrl_model.specs.Walks.{Hops, is_among, where_new, goes}
-use Rattle.ctrl_model.proofs.Members.{Among-from_test}
 use Rattle.ctrl_model.proofs.WalkLaws.{by_goes, goes_more}
 use Rattle.circuit_settling.proofs.HeldHops.{hop-on}
 

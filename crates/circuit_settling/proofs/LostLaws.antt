@@ -1,10 +1,9 @@
 -- Which circuits of a state stay in another: exactly those that need nothing of what is gone.
-use Rattle.std.proofs.Common.{◌≡◌, ◌≢◌, ℕ, ◌==◌, ◌||◌, ◌&&◌, Bool, true, false, not, cond, List, [], ◌∷◌, Option, None, Some, inl, inr, refl, sym, ◌∙◌, ap, ap₂, subst, eqb-true, eq-eqb}
+use Rattle.std.proofs.Common.{◌≡◌, ℕ, ◌||◌, ◌&&◌, Bool, true, false, not, List, [], ◌∷◌, Option, None, Some, refl, sym, ◌∙◌, ap}
 use Rattle.std.proofs.lemmas.Bool.{and_parts, and_from, false≢true}
-use Rattle.std.specs.List.{list_any}
 use Rattle.std.specs.Option.{option_map_or}
 use Rattle.ctrl_model.specs.Membership.{Among}
-use Rattle.ctrl_model.specs.Networks.{Network, network_of, is_on, is_path, hops}
+use Rattle.ctrl_model.specs.Networks.{Network, network_of, is_on, hops}
 use Rattle.ctrl_model.specs.Numbered.{at, numbers}
 use Rattle.ctrl_model.specs.Settling.{circuit_reaches, stays_in}
 use Rattle.ctrl_model.specs.State.{State, Terminator, Circuit}

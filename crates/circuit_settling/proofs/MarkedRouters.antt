@@ -1,12 +1,10 @@
 -- What settling takes out after an entity comes, or after one gets other attributes or other marks, or goes.
-use Rattle.std.proofs.Common.{◌≡◌, ℕ, ◌&&◌, Bool, true, false, not, cond, List, [], ◌∷◌, Option, None, Some, refl, sym, ◌∙◌, ap, subst}
-use Rattle.std.proofs.lemmas.Bool.{false≢true, and_parts}
+use Rattle.std.proofs.Common.{◌≡◌, ℕ, ◌&&◌, Bool, true, false, not, cond, [], Option, None, Some, refl, sym, ◌∙◌, ap}
+use Rattle.std.proofs.lemmas.Bool.{false≢true}
 use Rattle.std.proofs.lemmas.Option.{none-some, same_Some}
-use Rattle.ctrl_model.specs.declared.kinds.Kind.{Kind}
 use Rattle.ctrl_model.specs.declared.kinds.Kind.TheVariants as kind
-use Rattle.ctrl_model.specs.Numbered.{Table, at, with_new, with_edit, with_removed}
-use Rattle.ctrl_model.specs.State.{State, Entity, Router, Policy}
-use Rattle.ctrl_model.specs.Tables.{is_entity_kind}
+use Rattle.ctrl_model.specs.Numbered.{at, with_new, with_edit}
+use Rattle.ctrl_model.specs.State.{State, Entity, Router}
 use Rattle.ctrl_model.specs.ValidState.{ValidState}
 use Rattle.circuit_settling.specs.FallenRecords.{Falls, links_at, circuits_on, circuits_through, marked_circuits}
 use Rattle.circuit_settling.proofs.ClosedRouters.{router_closed}

@@ -1,11 +1,9 @@
 -- What settling takes out after a change of the policies, the links, the terminators or the circuits of a valid state.
-use Rattle.std.proofs.Common.{◌≡◌, ◌≢◌, ℕ, ◌==◌, ◌||◌, Bool, true, false, not, cond, List, [], ◌∷◌, Option, None, Some, inl, inr, refl, sym, ◌∙◌, ap, subst, eqb-true, eq-eqb, ⊎_elim}
+use Rattle.std.proofs.Common.{◌≡◌, ◌≢◌, ℕ, ◌==◌, ◌||◌, true, false, not, cond, List, [], ◌∷◌, None, Some, inl, refl, sym, ◌∙◌, ap, eqb-true, eq-eqb, ⊎_elim}
 use Rattle.std.proofs.lemmas.Bool.{false≢true, true≢false, or_cases}
 use Rattle.std.proofs.lemmas.Option.{none-some}
 use Rattle.std.specs.List.{filter}
-use Rattle.ctrl_model.specs.declared.kinds.Kind.TheVariants as kind
-use Rattle.ctrl_model.specs.Membership.{Among}
-use Rattle.ctrl_model.specs.Numbered.{Table, at, numbers, edit_at, without, with_edit, with_removed, Between}
+use Rattle.ctrl_model.specs.Numbered.{Table, at, numbers, edit_at, without, with_edit, with_removed}
 use Rattle.ctrl_model.specs.State.{State, Link, Policy, Terminator, Circuit}
 use Rattle.ctrl_model.specs.ValidState.{ValidState}
 use Rattle.ctrl_model.specs.Walks.{is_among}

@@ -1,6 +1,6 @@
 -- What settling takes out after each kind of change of a valid state.
-use Rattle.std.proofs.Common.{◌≡◌, ◌≢◌, ℕ, ◌+◌, ◌==◌, ◌||◌, ◌&&◌, Bool, true, false, not, cond, List, [], ◌∷◌, Option, None, Some, inl, inr, ◌⊎◌, refl, sym, ◌∙◌, ap, ap₂, subst, eqb-true, eq-eqb}
-use Rattle.std.proofs.lemmas.Bool.{false≢true, true≢false, or_cases}
+use Rattle.std.proofs.Common.{◌≡◌, ℕ, ◌+◌, ◌||◌, Bool, true, false, cond, List, [], ◌∷◌, Option, None, Some, ◌⊎◌, refl, sym, ◌∙◌, ap}
+use Rattle.std.proofs.lemmas.Bool.{false≢true}
 use Rattle.std.proofs.lemmas.Option.{none-some}
 use Rattle.std.specs.List.{filter}
 use Rattle.std.specs.Option.{option_map_or}
@@ -13,13 +13,12 @@ use Rattle.ctrl_model.specs.State.{State, Entity, Router, Link, Terminator, Circ
 use Rattle.ctrl_model.specs.ValidState.{ValidState}
 use Rattle.ctrl_model.specs.Walks.{is_among}
 use Rattle.circuits.specs.LostCircuits.{names_entity, goes_over, needs}
-use Rattle.terminators.specs.NamedTerms.{stands_on}
 use Rattle.ctrl_model.proofs.NumberedLaws.{Between-with_last}
-use Rattle.circuit_settling.proofs.EntitiesLeft.{Left, EndsHold, left_held, among_those, link_exactly, link_still, no_link_falls, term_exactly, term_still, no_term_falls, terms_fall}
-use Rattle.circuit_settling.proofs.FailingRows.{failing, last_fails}
+use Rattle.circuit_settling.proofs.EntitiesLeft.{Left, EndsHold, left_held, link_still, no_link_falls, term_still, no_term_falls}
+use Rattle.circuit_settling.proofs.FailingRows.{last_fails}
 use Rattle.circuit_settling.specs.FallenRecords.{Falls}
 use Rattle.circuit_settling.proofs.FallenCircuits.{circuits_fall, no_circuit_falls}
-use Rattle.circuit_settling.proofs.HeldRows.{Held, AllStood, no_number, one_number, held_same, held_last, stood_same}
+use Rattle.circuit_settling.proofs.HeldRows.{Held, AllStood, no_number, held_same, held_last, stood_same}
 use Rattle.circuit_settling.proofs.SettledRows.{each_link, each_terminator, each_circuit, same_so_far}
 use Rattle.circuit_settling.proofs.TurnedStates.{Any, RouterHolds, LinkHolds, TermHolds, Turns}
 

@@ -1,12 +1,12 @@
 -- A state and the state after one change of it: what is gone, what holds, and so which circuits stay once it is settled.
-use Rattle.std.proofs.Common.{◌≡◌, ◌≢◌, ℕ, ◌==◌, ◌&&◌, Bool, true, false, not, cond, List, [], ◌∷◌, map, Option, None, Some, inl, inr, ◌⊎◌, refl, sym, ◌∙◌, ap, subst, eqb-true, is_some}
+use Rattle.std.proofs.Common.{◌≡◌, ℕ, ◌==◌, ◌&&◌, Bool, true, false, not, cond, List, [], ◌∷◌, map, Option, None, Some, inl, inr, ◌⊎◌, refl, sym, ◌∙◌, ap, eqb-true, is_some}
 use Rattle.std.proofs.lemmas.Bool.{false≢true}
 use Rattle.std.proofs.lemmas.Option.{none-some, same_Some}
 use Rattle.std.specs.Bool.{⊤}
-use Rattle.std.specs.List.{find, filter}
+use Rattle.std.specs.List.{find}
 use Rattle.std.specs.Option.{option_map, option_map_or}
 use Rattle.ctrl_model.specs.declared.kinds.RouterSeen.{RouterSeen}
-use Rattle.ctrl_model.specs.Networks.{Network, network_of, seen, is_on, is_usable, router_at}
+use Rattle.ctrl_model.specs.Networks.{network_of, seen, is_on, is_usable, router_at}
 use Rattle.ctrl_model.specs.Numbered.{at, is_present, numbers, Between}
 use Rattle.ctrl_model.specs.Settling.{link_stays, terminator_stays, settle_links, settle_terminators}
 use Rattle.ctrl_model.specs.State.{State, Entity, Router, Link, Terminator}
@@ -14,7 +14,7 @@ use Rattle.ctrl_model.specs.Walks.{is_among}
 use Rattle.ctrl_model.proofs.NumberedLaws.{at-filter-back}
 use Rattle.circuit_settling.proofs.FailingRows.{at-passes}
 use Rattle.circuit_settling.proofs.HeldHops.{HoldsRouter, RoutersHold, on_holds, hop_holds, hop-breaks}
-use Rattle.circuit_settling.proofs.HeldRows.{Held, Holds, present_held, among_present}
+use Rattle.circuit_settling.proofs.HeldRows.{Held, present_held, among_present}
 use Rattle.circuit_settling.proofs.LostLaws.{Loses}
 
 -- ---- what holds of a record

@@ -1,14 +1,10 @@
 -- The rows of circuits that a change touches, and those that are gone (docs/PROMISES.md, "Rows and batches").
-use Rattle.std.specs.Prelude.{◌≡◌, ℕ, true, List, map, None, Some}
+use Rattle.std.specs.Prelude.{◌≡◌, ℕ, true, None, Some}
 use Rattle.std.specs.declared.option.Option.{Option}
-use Rattle.std.specs.Option.{option_map}
 use Rattle.ctrl_model.specs.declared.kinds.Kind.TheVariants as kind
 use Rattle.ctrl_model.specs.Numbered.{at}
 use Rattle.ctrl_model.specs.State.{Circuit}
-use Rattle.row_codec.specs.declared.changes.Change.{Change}
-use Rattle.row_codec.specs.RowValues.{circuit_value}
 use Rattle.row_laws.specs.FittingRecords.{fits}
-use Rattle.row_spelling.specs.RecordChanges.{change_of}
 use Rattle.circuits.specs.declared.changes.CircuitChange.{CircuitChange}
 use Rattle.circuits.specs.declared.changes.CircuitChange.TheVariants as change
 use Rattle.circuits.specs.CircuitTables.{CircuitTables}
@@ -22,11 +18,3 @@ abbrev pub changed_number : Option CircuitChange → ℕ → Option ℕ
 changed_number None next = None
 changed_number (Some (change.Add circuit)) next = Some next
 changed_number (Some (change.Remove n)) next = Some n.0
-
--- The change of the row of a circuit, which there was or is not.
-abbrev pub circuit_change_of : ℕ → Option Circuit → Option Circuit → Change
-circuit_change_of n before after = change_of kind.Circuit n (option_map circuit_value before) (option_map circuit_value after)
-
--- The changes of the rows of circuits at some numbers.
-abbrev pub circuit_changes_at : CircuitTables → CircuitTables → List ℕ → List Change
-circuit_changes_at before after ns = map (λ n. circuit_change_of n (at before.circuits.rows n) (at after.circuits.rows n)) ns

@@ -1,89 +1,68 @@
-ghost use Rattle.std.specs.Prelude.{◌≡◌, ℕ, true, Some, IfOk, IfSome, OnOk};
-ghost use Rattle.std.specs.List.{list_all};
+ghost use Rattle.std.specs.Prelude.{◌≡◌, ℕ, true, IfOk, IfSome};
 ghost use Rattle.std.specs.Option.{option_map};
 ghost use Rattle.ctrl_model.specs.declared.kinds.Kind.TheVariants as kind;
 ghost use Rattle.ctrl_model.specs.State.{State};
 ghost use Rattle.record_tables.specs.Climbing.{Climbs};
 ghost use Rattle.row_codec.specs.CoveredTables.{Covers};
-ghost use Rattle.row_codec.specs.RowKeys.{is_long};
-ghost use Rattle.row_codec.specs.RowValues.{circuit_value};
+ghost use Rattle.row_codec.specs.RowForm.{is_row, value_of};
+ghost use Rattle.row_codec.specs.RowValues.{record_value};
 ghost use Rattle.row_laws.specs.FittingRecords.{fits};
 ghost use Rattle.circuits.specs.CircuitChanges.{circuits_after};
-ghost use Rattle.circuit_settling.specs.CircuitRows.{HaveRows, changed_number, circuit_change_of, circuit_changes_at};
+ghost use Rattle.circuit_settling.specs.CircuitRows.{HaveRows, changed_number};
 
 use circuits::{Circuit, CircuitChange, Circuits, CircuitsAfter};
-use ctrl_model::{Bytes, CircuitNo, Kind, Numbers};
-use record_tables::touched;
-use row_codec::{Change, Changes, Row};
-use row_spelling::{change_of, value_of};
+use ctrl_model::{CircuitNo, Kind, Numbers};
+use row_codec::{Changes, Row};
+use row_spelling::{ChangedRows, touched_changes};
 use std::alloc::{AllocError, Global};
 
-// The value of the row of a circuit under a number.
-fn row_value(alloc: Global, no: CircuitNo, circuit: &Circuit) -> Result<Bytes, AllocError>
-    requires { fits kind.Circuit circuit.now ≡ true }
-    ensures { IfOk result (λ value. value ≡ circuit_value circuit.now) }
+// The row of a circuit under a number, if there is one.
+fn row_of(no: CircuitNo, circuit: Option<&Circuit>) -> Result<Option<Row>, AllocError>
+    requires { IfSome circuit (λ r. fits kind.Circuit r.now ≡ true) }
+    ensures form { IfOk result (λ row. IfSome row (λ r. is_row r ≡ true)) }
+    ensures value { IfOk result (λ row. option_map value_of row ≡ option_map (record_value kind.Circuit) (option_map (λ c. c.now) circuit.entry)) }
 {
+    let Some(circuit) = circuit else {
+        return Ok(None);
+    };
     let links = circuit.links.copy()?;
-    let row = Row::Circuit {
+    Ok(Some(Row::Circuit {
         no,
         identity: circuit.identity,
         service: circuit.service,
         terminator: circuit.terminator,
         ingress: circuit.ingress,
         links,
-    };
-    value_of(alloc, &row)
+    }))
 }
 
-// The value of the row of a circuit under a number, if there is one.
-fn value_if_some(
-    alloc: Global,
-    no: CircuitNo,
-    circuit: Option<&Circuit>,
-) -> Result<Option<Bytes>, AllocError>
-    requires { IfSome circuit (λ c. fits kind.Circuit c.now ≡ true) }
-    ensures { IfOk result (λ value. value ≡ option_map circuit_value (option_map (λ c. c.now) circuit.entry)) }
-{
-    match circuit {
-        Some(circuit) => Ok(Some(row_value(alloc, no, circuit)?)),
-        None => Ok(None),
+// The circuits before a change and after it.
+#[derive(Clone, Copy)]
+struct CircuitRows<'a> {
+    circuits: &'a Circuits,
+    after: &'a CircuitsAfter<'a>,
+}
+
+impl<'a> ChangedRows for CircuitRows<'a> {
+    ghost use Rattle.ctrl_model.specs.declared.kinds.Kind.TheVariants as kind;
+    ghost use Rattle.row_spelling.specs.RecordChanges.{value_at};
+    ghost use Rattle.circuit_settling.specs.CircuitRows.{HaveRows};
+
+    ghost values_before = { λ r. value_at kind.Circuit r.circuits.now.circuits.rows };
+
+    ghost values_after = { λ r. value_at kind.Circuit r.after.now.circuits.rows };
+
+    ghost HaveRows = { λ r. HaveRows r.circuits.now × HaveRows r.after.now };
+
+    fn row_before(&self, number: u32) -> Result<Option<Row>, AllocError> {
+        let no = CircuitNo(number);
+        row_of(no, self.circuits.seen(no))
     }
-}
 
-// The change of the row of a circuit.
-fn change_at(
-    alloc: Global,
-    no: CircuitNo,
-    before: Option<&Circuit>,
-    after: Option<&Circuit>,
-) -> Result<Change, AllocError>
-    requires before { IfSome before (λ c. fits kind.Circuit c.now ≡ true) }
-    requires after { IfSome after (λ c. fits kind.Circuit c.now ≡ true) }
-    ensures { IfOk result (λ change. change ≡ circuit_change_of no.0 (option_map (λ c. c.now) before.entry) (option_map (λ c. c.now) after.entry)) }
-{
-    let before = value_if_some(alloc, no, before)?;
-    let after = value_if_some(alloc, no, after)?;
-    change_of(alloc, Kind::Circuit, no.0, before, after)
-}
-
-// The changes of the rows of circuits at some numbers.
-fn changes_at(
-    alloc: Global,
-    circuits: &Circuits,
-    after: &CircuitsAfter,
-    numbers: &[u32],
-) -> Result<Vec<Change>, AllocError>
-    requires before { HaveRows circuits.now }
-    requires after { HaveRows after.now }
-    ensures changes { IfOk result (λ v. v.items ≡ circuit_changes_at circuits.now after.now numbers.now) }
-    ensures long { OnOk result (list_all is_long numbers.now ≡ true) }
-{
-    let mut changes = Vec::new(alloc);
-    'numbers: for number in numbers {
-        let no = CircuitNo(*number);
-        changes.push(change_at(alloc, no, circuits.seen(no), after.get(no))?)?;
+    fn row_after(&self, number: u32) -> Result<Option<Row>, AllocError> {
+        let no = CircuitNo(number);
+        row_of(no, self.after.get(no))
     }
-    Ok(changes)
 }
 
 // The number of the circuit that a change touches.
@@ -111,7 +90,11 @@ pub fn circuit_changes(
         → t.circuits ≡ (circuits_after (option_map (λ c. c.now) change.entry) gone.now circuits.now).circuits → Covers 11 12 s t changes) }
 {
     let after = CircuitsAfter::new(circuits, change, gone);
-    let numbers = touched(changed_number(circuits, change), gone)?;
-    let changes = changes_at(alloc, circuits, &after, numbers.as_slice())?;
-    Ok(Changes::of(changes))
+    let changed = changed_number(circuits, change);
+    let rows = CircuitRows {
+        circuits,
+        after: &after,
+    };
+    let changes = touched_changes(alloc, Kind::Circuit, &rows, changed, gone)?;
+    Ok(changes)
 }

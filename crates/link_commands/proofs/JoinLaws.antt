@@ -1,5 +1,5 @@
 -- When a link may join two routers, and what the plan of making it has to show.
-use Rattle.std.proofs.Common.{◌≡◌, ℕ, ◌+◌, ◌==◌, bytes_eq, Bool, true, false, cond, not, List, is_some, Option, None, Some, Result, Ok, Err, refl, sym, ◌∙◌, ap, eq-eqb, eqb-true}
+use Rattle.std.proofs.Common.{◌≡◌, ℕ, ◌==◌, bytes_eq, Bool, true, false, cond, not, List, is_some, Option, None, Some, Result, Ok, Err, refl, sym, ◌∙◌, ap, eq-eqb, eqb-true}
 use Rattle.std.proofs.lemmas.Bool.{both_ways}
 use Rattle.std.proofs.lemmas.Option.{same_Some}
 use Rattle.std.specs.Bool.{⊤}

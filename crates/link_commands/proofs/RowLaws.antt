@@ -1,5 +1,5 @@
 -- Laws of the rows of links: the numbers at which they can differ, and that the changes there cover them.
-use Rattle.std.proofs.Common.{◌≡◌, ℕ, true, List, Option, None, Some, refl, sym, ◌∙◌, ap, subst, lit≤}
+use Rattle.std.proofs.Common.{◌≡◌, ℕ, true, List, Option, None, Some, refl, sym, ◌∙◌, ap, lit≤}
 use Rattle.std.specs.List.{list_all}
 use Rattle.ctrl_model.specs.declared.kinds.Kind.TheVariants as kind
 use Rattle.ctrl_model.specs.Numbered.{at, Table}
@@ -7,16 +7,16 @@ use Rattle.ctrl_model.specs.State.{State, Link}
 use Rattle.ctrl_model.proofs.NumberedLaws.{at-with_last-other, at-edit_at-other, at-without-other}
 use Rattle.record_tables.specs.AfterChange.{changed_by, touched_numbers}
 use Rattle.record_tables.specs.Climbing.{Climbs}
-use Rattle.record_tables.proofs.GoneLaws.{touched_climb}
-use Rattle.record_tables.proofs.TurnLaws.{elsewhere}
 use Rattle.row_codec.specs.CoveredTables.{Covers}
 use Rattle.row_codec.specs.RowKeys.{is_long}
-use Rattle.row_laws.proofs.TouchedKeys.{Covers-records}
+use Rattle.row_laws.proofs.TouchedKeys.{Covers-touched}
+use Rattle.row_spelling.specs.RecordChanges.{value_at, changes_at}
+use Rattle.row_spelling.proofs.CoverLaws.{Covers-told}
 use Rattle.fabric_graph.specs.declared.changes.LinkChange.{LinkChange}
 use Rattle.fabric_graph.specs.declared.changes.LinkChange.TheVariants as change
 use Rattle.fabric_graph.specs.FabricChanges.{after_link_change, fabric_after}
 use Rattle.fabric_graph.specs.FabricTables.{FabricSeen}
-use Rattle.link_commands.specs.LinkRows.{changed_number, link_changes_at}
+use Rattle.link_commands.specs.LinkRows.{changed_number}
 
 -- a change touches its own number alone
 untouched : (c : Option LinkChange) (f : FabricSeen) (n : ℕ) → (changed_number c f.links.next ≡ Some n → ⊥)
@@ -31,12 +31,8 @@ untouched (Some (change.SetLeast cost)) f n misses = refl
 module _ (c : Option LinkChange) (gone : List ℕ) (f : FabricSeen) where
   pub changes_cover : (s t : State) → Climbs (λ n. n) gone → list_all is_long (touched_numbers (changed_number c f.links.next) gone) ≡ true
       → s.links ≡ f.links → t.links ≡ (fabric_after c gone f).links
-      → Covers 6 7 s t (link_changes_at f (fabric_after c gone f) (touched_numbers (changed_number c f.links.next) gone))
+      → Covers 6 7 s t (changes_at kind.Link (value_at kind.Link f.links.rows) (value_at kind.Link (fabric_after c gone f).links.rows) (touched_numbers (changed_number c f.links.next) gone))
   changes_cover s t climb long before after =
-      let ns = touched_numbers (changed_number c f.links.next) gone in
-      subst (λ (b : Table Link). Covers 6 7 s t (link_changes_at (record f { links = b }) (fabric_after c gone f) ns)) before
-      (subst (λ (a : Table Link). Covers 6 7 s t (link_changes_at (record f { links = s.links }) (record f { links = a }) ns)) after
-      (Covers-records kind.Link s t ns (lit≤ tt) (touched_climb (changed_number c f.links.next) gone climb) long (λ n misses.
-      ap (λ (b : Table Link). at b.rows n) before
-      ∙ elsewhere (changed_number c f.links.next) gone f.links (changed_by after_link_change c f).links (untouched c f) n misses
-      ∙ sym (ap (λ (a : Table Link). at a.rows n) after))))
+      Covers-told kind.Link 6 7 s t f.links (fabric_after c gone f).links (touched_numbers (changed_number c f.links.next) gone) before after
+      (Covers-touched kind.Link s t (changed_number c f.links.next) gone (changed_by after_link_change c f).links (lit≤ tt) climb long
+      (λ n misses. ap (λ (b : Table Link). at b.rows n) before ∙ untouched c f n misses) after)

@@ -1,5 +1,5 @@
 -- What the private functions of planning promise. Nothing public cites it.
-use Rattle.std.specs.Prelude.{◌≡◌, ℕ, Bool, true, cond, List, None, Some, Ok}
+use Rattle.std.specs.Prelude.{◌≡◌, ℕ, cond, List, None, Some, Ok}
 use Rattle.std.specs.declared.option.Option.{Option}
 use Rattle.std.specs.Option.{option_map_or}
 use Rattle.ctrl_model.specs.declared.refusals.Refusal.{Refusal}

@@ -1,30 +1,32 @@
-ghost use Rattle.std.specs.Prelude.{◌≡◌, ℕ, true, Some, IfOk, IfSome, OnOk};
-ghost use Rattle.std.specs.List.{list_all};
+ghost use Rattle.std.specs.Prelude.{◌≡◌, ℕ, true, IfOk, IfSome};
 ghost use Rattle.std.specs.Option.{option_map};
 ghost use Rattle.ctrl_model.specs.declared.kinds.Kind.TheVariants as kind;
 ghost use Rattle.ctrl_model.specs.State.{State};
 ghost use Rattle.record_tables.specs.Climbing.{Climbs};
 ghost use Rattle.row_codec.specs.CoveredTables.{Covers};
-ghost use Rattle.row_codec.specs.RowKeys.{is_long};
-ghost use Rattle.row_codec.specs.RowValues.{link_value};
+ghost use Rattle.row_codec.specs.RowForm.{is_row, value_of};
+ghost use Rattle.row_codec.specs.RowValues.{record_value};
 ghost use Rattle.row_laws.specs.FittingRecords.{fits};
 ghost use Rattle.fabric_graph.specs.FabricChanges.{fabric_after};
-ghost use Rattle.link_commands.specs.LinkRows.{HaveRows, changed_number, link_change_of, link_changes_at};
+ghost use Rattle.link_commands.specs.LinkRows.{HaveRows, changed_number};
 
-use ctrl_model::{Bytes, Kind, LinkNo, Numbers};
+use ctrl_model::{Kind, LinkNo, Numbers};
 use fabric_graph::{Fabric, FabricAfter, LinkChange, LinkView};
-use record_tables::touched;
-use row_codec::{Change, Changes, Row};
-use row_spelling::{change_of, value_of};
+use row_codec::{Changes, Row};
+use row_spelling::{ChangedRows, touched_changes};
 use std::alloc::{AllocError, Global};
 
-// The value of the row of a link under a number.
-fn row_value(alloc: Global, no: LinkNo, link: LinkView) -> Result<Bytes, AllocError>
-    requires { fits kind.Link link ≡ true }
-    ensures { IfOk result (λ value. value ≡ link_value link.entry) }
+// The row of a link under a number, if there is one.
+fn row_of(no: LinkNo, link: Option<LinkView>) -> Result<Option<Row>, AllocError>
+    requires { IfSome link (λ r. fits kind.Link r ≡ true) }
+    ensures form { IfOk result (λ row. IfSome row (λ r. is_row r ≡ true)) }
+    ensures value { IfOk result (λ row. option_map value_of row ≡ option_map (record_value kind.Link) link.entry) }
 {
+    let Some(link) = link else {
+        return Ok(None);
+    };
     let name = link.name.copy()?;
-    let row = Row::Link {
+    Ok(Some(Row::Link {
         no,
         name,
         a: link.a,
@@ -33,59 +35,36 @@ fn row_value(alloc: Global, no: LinkNo, link: LinkView) -> Result<Bytes, AllocEr
         latency_a: link.latency_a,
         latency_b: link.latency_b,
         up: link.up,
-    };
-    value_of(alloc, &row)
+    }))
 }
 
-// The value of the row of a link under a number, if there is one.
-fn value_if_some(
-    alloc: Global,
-    no: LinkNo,
-    link: Option<LinkView>,
-) -> Result<Option<Bytes>, AllocError>
-    requires { IfSome link (λ l. fits kind.Link l ≡ true) }
-    ensures { IfOk result (λ value. value ≡ option_map link_value link.entry) }
-{
-    match link {
-        Some(link) => Ok(Some(row_value(alloc, no, link)?)),
-        None => Ok(None),
+// The links before a change and after it.
+#[derive(Clone, Copy)]
+struct LinkRows<'a> {
+    fabric: &'a Fabric,
+    after: &'a FabricAfter<'a>,
+}
+
+impl<'a> ChangedRows for LinkRows<'a> {
+    ghost use Rattle.ctrl_model.specs.declared.kinds.Kind.TheVariants as kind;
+    ghost use Rattle.row_spelling.specs.RecordChanges.{value_at};
+    ghost use Rattle.link_commands.specs.LinkRows.{HaveRows};
+
+    ghost values_before = { λ r. value_at kind.Link r.fabric.now.links.rows };
+
+    ghost values_after = { λ r. value_at kind.Link r.after.now.links.rows };
+
+    ghost HaveRows = { λ r. HaveRows r.fabric.now × HaveRows r.after.now };
+
+    fn row_before(&self, number: u32) -> Result<Option<Row>, AllocError> {
+        let no = LinkNo(number);
+        row_of(no, self.fabric.seen(no))
     }
-}
 
-// The change of the row of a link.
-fn change_at(
-    alloc: Global,
-    no: LinkNo,
-    before: Option<LinkView>,
-    after: Option<LinkView>,
-) -> Result<Change, AllocError>
-    requires before { IfSome before (λ l. fits kind.Link l ≡ true) }
-    requires after { IfSome after (λ l. fits kind.Link l ≡ true) }
-    ensures { IfOk result (λ change. change ≡ link_change_of no.0 before.entry after.entry) }
-{
-    let before = value_if_some(alloc, no, before)?;
-    let after = value_if_some(alloc, no, after)?;
-    change_of(alloc, Kind::Link, no.0, before, after)
-}
-
-// The changes of the rows of links at some numbers.
-fn changes_at(
-    alloc: Global,
-    fabric: &Fabric,
-    after: &FabricAfter,
-    numbers: &[u32],
-) -> Result<Vec<Change>, AllocError>
-    requires before { HaveRows fabric.now }
-    requires after { HaveRows after.now }
-    ensures changes { IfOk result (λ v. v.items ≡ link_changes_at fabric.now after.now numbers.now) }
-    ensures long { OnOk result (list_all is_long numbers.now ≡ true) }
-{
-    let mut changes = Vec::new(alloc);
-    'numbers: for number in numbers {
-        let no = LinkNo(*number);
-        changes.push(change_at(alloc, no, fabric.seen(no), after.link(no))?)?;
+    fn row_after(&self, number: u32) -> Result<Option<Row>, AllocError> {
+        let no = LinkNo(number);
+        row_of(no, self.after.link(no))
     }
-    Ok(changes)
 }
 
 // The number of the link that a change touches.
@@ -115,7 +94,11 @@ pub fn link_changes(
         → t.links ≡ (fabric_after (option_map (λ c. c.now) change.entry) gone.now fabric.now).links → Covers 6 7 s t changes) }
 {
     let after = FabricAfter::new(fabric, change, gone);
-    let numbers = touched(changed_number(fabric, change), gone)?;
-    let changes = changes_at(alloc, fabric, &after, numbers.as_slice())?;
-    Ok(Changes::of(changes))
+    let changed = changed_number(fabric, change);
+    let links = LinkRows {
+        fabric,
+        after: &after,
+    };
+    let changes = touched_changes(alloc, Kind::Link, &links, changed, gone)?;
+    Ok(changes)
 }

@@ -1,22 +1,17 @@
 -- The rows of policies: those of a valid state fit, a change touches one, and an `@` name that goes touches those that could have it.
-use Rattle.std.proofs.Common.{◌≡◌, ◌≢◌, ℕ, ◌+◌, ◌<◌, ◌==◌, Bool, true, false, cond, not, ◌&&◌, List, [], ◌∷◌, ◌++◌, map, length, get_or, Option, None, Some, IfSome, inl, refl, sym, ◌∙◌, ap, subst, arith, eq-eqb, bytes_eq, ◌≤◌}
+use Rattle.std.proofs.Common.{◌≡◌, ◌≢◌, ℕ, ◌<◌, ◌==◌, Bool, true, false, cond, not, ◌&&◌, List, [], ◌∷◌, ◌++◌, map, length, get_or, Option, None, Some, IfSome, inl, refl, sym, ◌∙◌, ap, subst, arith, eq-eqb, bytes_eq, ◌≤◌}
 use Rattle.std.proofs.lemmas.Bool.{false≢true}
 use Rattle.std.proofs.lemmas.List.{append-nil}
 use Rattle.std.specs.Option.{option_map}
 use Rattle.ctrl_model.specs.declared.kinds.Kind.{Kind}
 use Rattle.ctrl_model.specs.declared.kinds.Kind.TheVariants as kind
 use Rattle.ctrl_model.specs.Limits.{last_next}
-use Rattle.ctrl_model.specs.Numbered.{Table, at, numbers, with_new, with_edit, with_removed, with_each, with_last, without, edit_at, map_each, Between, is_present}
+use Rattle.ctrl_model.specs.Numbered.{Table, at, numbers, with_new, with_edit, with_removed, with_each, without, map_each, Between, is_present}
 use Rattle.ctrl_model.specs.PolicyCommands.{replaced_by}
-use Rattle.ctrl_model.specs.Rules.{forget_left, forget_right}
 use Rattle.ctrl_model.specs.State.{State, Policy}
-use Rattle.ctrl_model.specs.Tables.{table}
-use Rattle.ctrl_model.specs.ValidState.{ValidState}
 use Rattle.ctrl_model.proofs.NumberedLaws.{at-past, at-with_last, at-with_last-other, at-edit_at, at-edit_at-other, at-without-other, at-map_each, by_is_some, first_where-found}
-use Rattle.row_codec.specs.declared.changes.Change.{Change}
-use Rattle.row_codec.specs.CoveredTables.{Covers, change_at}
-use Rattle.row_codec.specs.RowKeys.{is_long, key_in, kind_number}
-use Rattle.row_codec.specs.RowKeys.RowTable.{Records}
+use Rattle.row_codec.specs.CoveredTables.{Covers}
+use Rattle.row_codec.specs.RowKeys.{is_long}
 use Rattle.row_laws.specs.ChangedKeys.{record_changes}
 use Rattle.row_laws.proofs.Covers.{Covers-append, Covers-same_records}
 use Rattle.row_laws.proofs.KeyOrders.{long_upto}
@@ -29,11 +24,10 @@ use Rattle.policy_store.specs.declared.changes.PolicyChange.TheVariants as chang
 use Rattle.policy_store.specs.declared.records.Hand.TheVariants.{Left, Right}
 use Rattle.policy_store.specs.declared.records.Hand.{Hand}
 use Rattle.policy_store.specs.PolicyChanges.{CanChangePolicies, after_policy_change, tables_of}
-use Rattle.policy_rows.specs.PolicyRows.{AreValid, touched_kind, touched_number, fits_row, policy_value, policy_change_of, forgotten_at, forgotten_rows}
+use Rattle.policy_rows.specs.PolicyRows.{AreValid, touched_kind, touched_number, fits_row, policy_change_of, forgotten_at, forgotten_rows}
 use Rattle.policy_store.specs.PolicyRules.{KeepsNumbers}
 use Rattle.policy_store.specs.PolicyTables.{PolicyTables, policies, policies_of, next_of, number_of, with_policies, with_policy, forgetting, is_policy_kind}
 use Rattle.policy_store.specs.Stores.{forget_on}
-use Rattle.policy_store.proofs.FoundPolicies.{finds_policy}
 
 -- ---- policies of a valid state fit their rows
 

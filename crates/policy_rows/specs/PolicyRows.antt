@@ -1,5 +1,5 @@
 -- The rows of policies that a change touches: which one, and from what states they come (docs/PROMISES.md, "Rows and batches").
-use Rattle.std.specs.Prelude.{◌≡◌, ℕ, Bool, true, List, map}
+use Rattle.std.specs.Prelude.{◌≡◌, ℕ, Bool, List, map}
 use Rattle.std.specs.declared.option.Option.{Option}
 use Rattle.std.specs.Option.{option_map}
 use Rattle.ctrl_model.specs.declared.kinds.Kind.{Kind}

@@ -14,10 +14,10 @@ ghost use Rattle.policy_rows.specs.PolicyRows.{AreValid, touched_kind, touched_n
 ghost use Rattle.policy_store.specs.PolicyTables.{forgetting, is_policy_kind, policies};
 ghost use Rattle.policy_store.specs.Stores.{forget_on};
 
-use ctrl_model::{Bytes, Kind, Name, PolicyNo};
+use ctrl_model::{Kind, Name, PolicyNo};
 use policy_store::{Hand, Policies, Policy, PolicyChange, copy_policy, forget_on_side};
 use row_codec::{Change, Changes, Row};
-use row_spelling::{change_of, value_of};
+use row_spelling::row_change;
 use std::alloc::{AllocError, Global};
 
 // The row of a policy of a kind.
@@ -63,32 +63,17 @@ fn policy_row(kind: Kind, number: u32, policy: Policy) -> Row
     }
 }
 
-// The value of the row of a policy of a kind.
-fn policy_value(alloc: Global, kind: Kind, number: u32, policy: Policy) -> Result<Bytes, AllocError>
-    requires kind { is_policy_kind kind ≡ true }
-    requires long { is_long number ≡ true }
-    requires fits { fits_row kind policy ≡ true }
-    ensures { IfOk result (λ value. value ≡ policy_value kind policy) }
-{
-    let row = policy_row(kind, number, policy);
-    value_of(alloc, &row)
-}
-
-// The value of the row of a policy, if there is one.
-fn value_if_some(
-    alloc: Global,
-    kind: Kind,
-    number: u32,
-    policy: Option<Policy>,
-) -> Result<Option<Bytes>, AllocError>
+// The row of a policy of a kind, if there is one.
+fn row_if_some(kind: Kind, number: u32, policy: Option<Policy>) -> Option<Row>
     requires kind { is_policy_kind kind ≡ true }
     requires long { is_long number ≡ true }
     requires fits { IfSome policy (λ p. fits_row kind p ≡ true) }
-    ensures { IfOk result (λ value. value ≡ option_map (policy_value kind) policy) }
+    ensures form { IfSome result (λ r. is_row r ≡ true) }
+    ensures value { option_map value_of result ≡ option_map (policy_value kind) policy }
 {
     match policy {
-        Some(policy) => Ok(Some(policy_value(alloc, kind, number, policy)?)),
-        None => Ok(None),
+        Some(policy) => Some(policy_row(kind, number, policy)),
+        None => None,
     }
 }
 
@@ -106,9 +91,9 @@ fn change_at(
     requires after { IfSome after (λ p. fits_row kind p ≡ true) }
     ensures { IfOk result (λ change. change ≡ policy_change_of kind number before after) }
 {
-    let before = value_if_some(alloc, kind, number, before)?;
-    let after = value_if_some(alloc, kind, number, after)?;
-    change_of(alloc, kind, number, before, after)
+    let before = row_if_some(kind, number, before);
+    let after = row_if_some(kind, number, after);
+    row_change(alloc, kind, number, before, after)
 }
 
 // The policy of a number, copied, if it is there.

@@ -1,5 +1,5 @@
 -- The changes at the keys of one table that can differ between two states (docs/PROMISES.md, "Rows and batches").
-use Rattle.std.specs.Prelude.{ℕ, Bool, not, List, [], ◌∷◌, map, filter}
+use Rattle.std.specs.Prelude.{ℕ, Bool, not, List, map, filter}
 use Rattle.std.specs.declared.cmp.Ordering.{Ordering}
 use Rattle.std.specs.Ordering.{nat_cmp, ordering_then}
 use Rattle.ctrl_model.specs.declared.kinds.Kind.{Kind}

@@ -1,16 +1,10 @@
 -- Forms: a rule by which things are read, with the spelling that it reads and the test that they pass.
-use Rattle.std.proofs.Common.{◌≡◌, ℕ, zero, suc, ◌+◌, ◌^◌, ◌<◌, ◌≤◌, Bool, true, false, cond, ltb, leb, not, ◌&&◌, ◌==◌, eqb, List, [], ◌∷◌, ◌++◌, length, get_or, Option, Some, None, inl, inr, refl, sym, ap, subst, ◌∙◌, append_assoc, arith}
-use Rattle.std.specs.Int.{w16, w32, from_le_bytes, from_be_bytes, to_le_bytes, to_be_bytes}
+use Rattle.std.proofs.Common.{◌≡◌, ℕ, zero, suc, Bool, true, false, cond, leb, ◌&&◌, List, [], ◌∷◌, ◌++◌, length, Option, Some, None, refl, sym, ap, subst, ◌∙◌, append_assoc}
 use Rattle.std.specs.List.{flat_map, list_all}
-use Rattle.std.specs.Option.{option_map, option_and_then}
-use Rattle.std.proofs.lemmas.Bool.{eqb-true, leb-true, ltb-true}
+use Rattle.std.specs.Option.{option_map}
 use Rattle.std.proofs.lemmas.List.{append-nil}
-use Rattle.std.proofs.lemmas.Nat.{le_bytes_2, be_bytes_4, from_le_bytes-to_le_bytes_2, from_be_bytes-to_be_bytes_4}
-use Rattle.row_codec.specs.RowForm.{is_short}
-use Rattle.row_codec.specs.RowKeys.{is_long, number_in_key}
-use Rattle.row_codec.specs.RowValues.{long, short, text}
-use Rattle.row_codec.specs.FieldReading.{Front, front_byte, front_part, front_long, front_short, front_number, front_text, kept, both, mapped, front_code, front_each, front_list, at_end, alone}
-use Rattle.row_codec.proofs.FieldLaws.{AreBytes, Takes, Takes-then, IsPart, some_is, bind_some, map_some, and_left, and_right, byte_takes, part_takes, part_again, long_takes, long_again, text_takes, text_again}
+use Rattle.row_codec.specs.FieldReading.{Front, front_byte, kept, both, mapped, front_code, front_each, front_list, at_end, alone}
+use Rattle.row_codec.proofs.FieldLaws.{AreBytes, Takes, Takes-then, some_is, bind_some, map_some, and_left, and_right, byte_takes}
 
 -- what is spelled is read, and what is read is spelled so and passes the test
 pub record IsForm {A : Type 0} (front : List ℕ → Front A) (spell : A → List ℕ) (test : A → Bool) : Type 0 where

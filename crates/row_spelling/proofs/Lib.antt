@@ -3,3 +3,4 @@ mod FormLaws
 mod ValueLaws
 mod RowLaws
 mod LoopLaws
+pub mod CoverLaws

@@ -1,6 +1,6 @@
 -- Things that are read one behind the other, as a loop reads them.
 use Rattle.std.proofs.Common.{◌≡◌, ℕ, suc, ◌-◌, ◌+◌, ◌≤◌, ◌<◌, List, [], ◌∷◌, ◌++◌, Option, Some, None, refl, sym, ap, ◌∙◌, append_assoc, append-nil, arith}
-use Rattle.std.specs.Option.{option_map, option_and_then}
+use Rattle.std.specs.Option.{option_map}
 use Rattle.row_codec.specs.declared.faults.RowFault.{RowFault}
 use Rattle.row_codec.specs.declared.faults.RowFault.TheVariants as faults
 use Rattle.row_codec.specs.FieldReading.{Front, front_each, behind}

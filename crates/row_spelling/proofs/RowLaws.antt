@@ -1,6 +1,6 @@
 -- Rows: what is written is read again, what is read is what was written, and a key and a value spell one row.
-use Rattle.std.proofs.Common.{◌≡◌, ℕ, zero, suc, ◌+◌, ◌^◌, ◌<◌, ◌≤◌, Bool, true, false, cond, ne_eqb, ltb, leb, not, ◌&&◌, ◌==◌, eqb, List, [], ◌∷◌, ◌++◌, length, get_or, Option, Some, None, refl, sym, ap, subst, ◌∙◌, arith}
-use Rattle.std.specs.Prelude.{find, Ok, Err, IfOk, IsErrOf, ◌↔◌}
+use Rattle.std.proofs.Common.{◌≡◌, ℕ, suc, Bool, true, false, ne_eqb, ◌&&◌, ◌==◌, List, [], ◌∷◌, length, Option, Some, None, refl, sym, ap, subst, ◌∙◌, arith}
+use Rattle.std.specs.Prelude.{Ok, Err, IfOk, IsErrOf, ◌↔◌}
 use Rattle.std.specs.declared.result.Result.{Result}
 use Rattle.row_codec.specs.declared.faults.RowFault.{RowFault}
 use Rattle.row_codec.specs.declared.faults.RowFault.TheVariants as faults
@@ -15,13 +15,13 @@ use Rattle.ctrl_model.specs.declared.numbering.IdentityNo.{IdentityNo}
 use Rattle.row_codec.specs.declared.rows.Row.{Row}
 use Rattle.row_codec.specs.declared.rows.Row.TheVariants as row
 use Rattle.row_codec.specs.RowForm.{is_row, key_of, value_of, SpellsRow, is_positive}
-use Rattle.row_codec.specs.RowKeys.{RowTable, is_long, key_bytes, number_in_key, table_number, tables}
+use Rattle.row_codec.specs.RowKeys.{RowTable, is_long, key_bytes, table_number, tables}
 use Rattle.row_codec.specs.RowKeys.RowTable.{Next, Setting, Records, Counts}
 use Rattle.row_codec.specs.FieldReading.{Front, front_byte, front_long, front_number, kept, both, alone, behind, is_end, at_end}
-use Rattle.row_spelling.specs.RowReading.{is_kind, is_next, is_setting, front_entity, front_router, front_link, front_service_policy, front_router_policy, front_terminator, front_circuit, front_nothing, row_read, count_read, record_read, table_read, table_of, is_row_in, row_of, Gives}
+use Rattle.row_spelling.specs.RowReading.{is_kind, is_next, is_setting, front_entity, front_router, front_link, front_service_policy, front_router_policy, front_terminator, front_circuit, row_read, count_read, record_read, table_read, table_of, is_row_in, row_of, Gives}
 use Rattle.row_codec.proofs.FieldLaws.{AreBytes, some_is, bind_some, map_some, and_left, and_right}
 use Rattle.row_spelling.proofs.FormLaws.{IsForm, and_both, and_regrouped, alone_again, alone_takes}
-use Rattle.row_spelling.proofs.ValueLaws.{byte_form, long_form, number_form, entity_form, router_form, link_form, service_policy_form, router_policy_form, terminator_form, circuit_form, count_form, next_form, setting_form, kind_form, nothing_form, pair_form}
+use Rattle.row_spelling.proofs.ValueLaws.{number_form, entity_form, router_form, link_form, service_policy_form, router_policy_form, terminator_form, circuit_form, count_form, next_form, setting_form, kind_form, nothing_form, pair_form}
 
 -- ---- one table
 

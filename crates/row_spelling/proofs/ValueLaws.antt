@@ -1,8 +1,8 @@
 -- The forms of fields and of values.
-use Rattle.std.proofs.Common.{◌≡◌, ℕ, zero, suc, ◌+◌, ◌^◌, ◌<◌, ◌≤◌, Bool, true, false, cond, ltb, leb, not, ◌&&◌, ◌||◌, ne_eqb, ◌==◌, eqb, List, [], ◌∷◌, ◌++◌, length, get_or, Option, Some, None, inl, inr, refl, sym, ap, subst, ◌∙◌, append_assoc, arith}
-use Rattle.std.specs.Int.{w16, w32, from_le_bytes, from_be_bytes, to_le_bytes, to_be_bytes}
+use Rattle.std.proofs.Common.{◌≡◌, ℕ, zero, suc, ◌^◌, ◌<◌, Bool, true, false, cond, ltb, leb, not, ◌&&◌, ◌||◌, ne_eqb, ◌==◌, eqb, List, [], ◌∷◌, ◌++◌, length, Option, Some, None, refl, sym, ap, subst, ◌∙◌, arith}
+use Rattle.std.specs.Int.{w16, w32, from_le_bytes, from_be_bytes}
 use Rattle.std.specs.List.{flat_map, list_all}
-use Rattle.std.specs.Option.{option_map, option_and_then}
+use Rattle.std.specs.Option.{option_map}
 use Rattle.std.proofs.lemmas.Bool.{eqb-true, leb-true, ltb-true, lt-ltb, le-leb}
 use Rattle.std.proofs.lemmas.Nat.{le_bytes_2, be_bytes_4, from_le_bytes-to_le_bytes_2, from_be_bytes-to_be_bytes_4}
 use Rattle.ctrl_model.specs.NameForm.{is_name, is_instance, is_name_byte}
@@ -18,7 +18,7 @@ use Rattle.ctrl_model.specs.declared.kinds.Precedence.TheVariants.{Required, Nor
 use Rattle.row_codec.specs.RowForm.{is_short, are_listed, is_listed_side, is_positive, is_host}
 use Rattle.row_codec.specs.RowKeys.{is_long, number_in_key}
 use Rattle.row_codec.specs.RowValues.{long, short, text, texts, flag, side_bytes, relation_byte, semantic_byte, precedence_byte, router_marks, host_number}
-use Rattle.row_codec.specs.FieldReading.{Front, front_byte, front_part, front_long, front_short, front_number, front_text, front_name, front_names, front_instance, front_flag, flag_meant, front_side, side_of, kept, both, mapped, front_code, front_list}
+use Rattle.row_codec.specs.FieldReading.{front_byte, front_part, front_long, front_short, front_number, front_text, front_name, front_names, front_instance, front_flag, flag_meant, front_side, side_of, kept, both, mapped, front_code}
 use Rattle.row_spelling.specs.RowReading.{relation_meant, semantic_meant, precedence_meant, marks_meant, host_named, is_kind, is_next, is_setting, front_entity, front_router, front_costs, front_link, front_sides, front_service_policy, front_router_policy, front_place, front_terminator, front_circuit, front_nothing}
 use Rattle.row_codec.proofs.FieldLaws.{AreBytes, Takes, IsPart, some_is, map_some, and_left, and_right, byte_takes, part_takes, part_again, long_takes, long_again, text_takes, text_again}
 use Rattle.row_spelling.proofs.FormLaws.{IsForm, both_form, both_free, kept_form, mapped_form, code_form, list_form, and_both}

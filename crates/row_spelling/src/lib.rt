@@ -9,6 +9,7 @@ mod keys;
 mod laws;
 mod name_forms;
 mod reading;
+mod record_rows;
 mod row_building;
 mod spelling;
 mod tables;
@@ -18,5 +19,6 @@ mod writing;
 
 pub use changing::{change_of, next_change, setting_change, value_of};
 pub use laws::one_row;
+pub use record_rows::{ChangedRows, row_change, touched_changes};
 pub use spelling::{read_row, write_row};
 pub use worked_spellings::{worked_more_row_spellings, worked_no_rows, worked_row_spellings};

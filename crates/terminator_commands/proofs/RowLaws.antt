@@ -1,5 +1,5 @@
 -- Laws of the rows of terminators: the numbers at which they can differ, and that the changes there cover them.
-use Rattle.std.proofs.Common.{◌≡◌, ℕ, true, List, Option, None, Some, refl, sym, ◌∙◌, ap, subst, lit≤}
+use Rattle.std.proofs.Common.{◌≡◌, ℕ, true, List, Option, None, Some, refl, sym, ◌∙◌, ap, lit≤}
 use Rattle.std.specs.List.{list_all}
 use Rattle.ctrl_model.specs.declared.kinds.Kind.TheVariants as kind
 use Rattle.ctrl_model.specs.Numbered.{at, Table}
@@ -7,16 +7,16 @@ use Rattle.ctrl_model.specs.State.{State, Terminator}
 use Rattle.ctrl_model.proofs.NumberedLaws.{at-with_last-other, at-edit_at-other, at-without-other}
 use Rattle.record_tables.specs.AfterChange.{changed_by, touched_numbers}
 use Rattle.record_tables.specs.Climbing.{Climbs}
-use Rattle.record_tables.proofs.GoneLaws.{touched_climb}
-use Rattle.record_tables.proofs.TurnLaws.{elsewhere}
 use Rattle.row_codec.specs.CoveredTables.{Covers}
 use Rattle.row_codec.specs.RowKeys.{is_long}
-use Rattle.row_laws.proofs.TouchedKeys.{Covers-records}
+use Rattle.row_laws.proofs.TouchedKeys.{Covers-touched}
+use Rattle.row_spelling.specs.RecordChanges.{value_at, changes_at}
+use Rattle.row_spelling.proofs.CoverLaws.{Covers-told}
 use Rattle.terminators.specs.declared.changes.TermChange.{TermChange}
 use Rattle.terminators.specs.declared.changes.TermChange.TheVariants as change
 use Rattle.terminators.specs.TermChanges.{after_term_change, terms_after}
 use Rattle.terminators.specs.TermTables.{TermTables}
-use Rattle.terminator_commands.specs.TermRows.{changed_number, term_changes_at}
+use Rattle.terminator_commands.specs.TermRows.{changed_number}
 
 -- a change touches its own number alone
 untouched : (c : Option TermChange) (k : TermTables) (n : ℕ) → (changed_number c k.terminators.next ≡ Some n → ⊥)
@@ -30,11 +30,8 @@ untouched (Some (change.Remove m)) k n misses = sym (at-without-other k.terminat
 module _ (c : Option TermChange) (gone : List ℕ) (k : TermTables) where
   pub changes_cover : (s t : State) → Climbs (λ n. n) gone → list_all is_long (touched_numbers (changed_number c k.terminators.next) gone) ≡ true
       → s.terminators ≡ k.terminators → t.terminators ≡ (terms_after c gone k).terminators
-      → Covers 10 11 s t (term_changes_at k (terms_after c gone k) (touched_numbers (changed_number c k.terminators.next) gone))
+      → Covers 10 11 s t (changes_at kind.Terminator (value_at kind.Terminator k.terminators.rows) (value_at kind.Terminator (terms_after c gone k).terminators.rows) (touched_numbers (changed_number c k.terminators.next) gone))
   changes_cover s t climb long before after =
-      let ns = touched_numbers (changed_number c k.terminators.next) gone in
-      subst (λ (b : Table Terminator). Covers 10 11 s t (term_changes_at (record { terminators = b }) (terms_after c gone k) ns)) before
-      (subst (λ (a : Table Terminator). Covers 10 11 s t (term_changes_at (record { terminators = s.terminators }) (record { terminators = a }) ns)) after
-      (Covers-records kind.Terminator s t ns (lit≤ tt) (touched_climb (changed_number c k.terminators.next) gone climb) long (λ n misses.
-      ap (λ (b : Table Terminator). at b.rows n) before
-      ∙ elsewhere (changed_number c k.terminators.next) gone k.terminators (changed_by after_term_change c k).terminators (untouched c k) n misses ∙ sym (ap (λ (a : Table Terminator). at a.rows n) after))))
+      Covers-told kind.Terminator 10 11 s t k.terminators (terms_after c gone k).terminators (touched_numbers (changed_number c k.terminators.next) gone) before after
+      (Covers-touched kind.Terminator s t (changed_number c k.terminators.next) gone (changed_by after_term_change c k).terminators (lit≤ tt) climb long
+      (λ n misses. ap (λ (b : Table Terminator). at b.rows n) before ∙ untouched c k n misses) after)

@@ -1,14 +1,10 @@
 -- The rows of terminators that a change touches, and those that are gone (docs/PROMISES.md, "Rows and batches").
-use Rattle.std.specs.Prelude.{◌≡◌, ℕ, true, List, map, None, Some}
+use Rattle.std.specs.Prelude.{◌≡◌, ℕ, true, None, Some}
 use Rattle.std.specs.declared.option.Option.{Option}
-use Rattle.std.specs.Option.{option_map}
 use Rattle.ctrl_model.specs.declared.kinds.Kind.TheVariants as kind
 use Rattle.ctrl_model.specs.Numbered.{at}
 use Rattle.ctrl_model.specs.State.{Terminator}
-use Rattle.row_codec.specs.declared.changes.Change.{Change}
-use Rattle.row_codec.specs.RowValues.{terminator_value}
 use Rattle.row_laws.specs.FittingRecords.{fits}
-use Rattle.row_spelling.specs.RecordChanges.{change_of}
 use Rattle.terminators.specs.declared.changes.TermChange.{TermChange}
 use Rattle.terminators.specs.declared.changes.TermChange.TheVariants as change
 use Rattle.terminators.specs.TermTables.{TermTables}
@@ -23,11 +19,3 @@ changed_number None next = None
 changed_number (Some (change.Add term)) next = Some next
 changed_number (Some (change.Set n cost precedence)) next = Some n.0
 changed_number (Some (change.Remove n)) next = Some n.0
-
--- The change of the row of a terminator, which there was or is not.
-abbrev pub term_change_of : ℕ → Option Terminator → Option Terminator → Change
-term_change_of n before after = change_of kind.Terminator n (option_map terminator_value before) (option_map terminator_value after)
-
--- The changes of the rows of terminators at some numbers.
-abbrev pub term_changes_at : TermTables → TermTables → List ℕ → List Change
-term_changes_at before after ns = map (λ n. term_change_of n (at before.terminators.rows n) (at after.terminators.rows n)) ns

@@ -1,30 +1,32 @@
-ghost use Rattle.std.specs.Prelude.{◌≡◌, ◌≤◌, ℕ, true, Some, IfOk, IfSome, OnOk};
-ghost use Rattle.std.specs.List.{list_all};
+ghost use Rattle.std.specs.Prelude.{◌≡◌, ◌≤◌, ℕ, true, IfOk, IfSome};
 ghost use Rattle.std.specs.Option.{option_map};
 ghost use Rattle.ctrl_model.specs.declared.kinds.Kind.TheVariants as kind;
 ghost use Rattle.ctrl_model.specs.State.{State};
 ghost use Rattle.record_tables.specs.Climbing.{Climbs};
 ghost use Rattle.row_codec.specs.CoveredTables.{Covers};
-ghost use Rattle.row_codec.specs.RowKeys.{is_long};
-ghost use Rattle.row_codec.specs.RowValues.{terminator_value};
+ghost use Rattle.row_codec.specs.RowForm.{is_row, value_of};
+ghost use Rattle.row_codec.specs.RowValues.{record_value};
 ghost use Rattle.row_laws.specs.FittingRecords.{fits};
 ghost use Rattle.terminators.specs.TermChanges.{terms_after};
-ghost use Rattle.terminator_commands.specs.TermRows.{AreFit, changed_number, term_change_of, term_changes_at};
+ghost use Rattle.terminator_commands.specs.TermRows.{AreFit, changed_number};
 
-use ctrl_model::{Bytes, Kind, Numbers, TermNo};
-use record_tables::touched;
-use row_codec::{Change, Changes, Row};
-use row_spelling::{change_of, value_of};
+use ctrl_model::{Kind, Numbers, TermNo};
+use row_codec::{Changes, Row};
+use row_spelling::{ChangedRows, touched_changes};
 use std::alloc::{AllocError, Global};
 use terminators::{TermChange, TermView, Terminators, TerminatorsAfter};
 
-// The value of the row of a terminator under a number.
-fn row_value(alloc: Global, no: TermNo, term: TermView) -> Result<Bytes, AllocError>
-    requires { fits kind.Terminator term ≡ true }
-    ensures { IfOk result (λ value. value ≡ terminator_value term.entry) }
+// The row of a terminator under a number, if there is one.
+fn row_of(no: TermNo, term: Option<TermView>) -> Result<Option<Row>, AllocError>
+    requires { IfSome term (λ r. fits kind.Terminator r ≡ true) }
+    ensures form { IfOk result (λ row. IfSome row (λ r. is_row r ≡ true)) }
+    ensures value { IfOk result (λ row. option_map value_of row ≡ option_map (record_value kind.Terminator) term.entry) }
 {
+    let Some(term) = term else {
+        return Ok(None);
+    };
     let instance = term.instance.copy()?;
-    let row = Row::Terminator {
+    Ok(Some(Row::Terminator {
         no,
         service: term.service,
         router: term.router,
@@ -32,59 +34,36 @@ fn row_value(alloc: Global, no: TermNo, term: TermView) -> Result<Bytes, AllocEr
         instance,
         cost: term.cost,
         precedence: term.precedence,
-    };
-    value_of(alloc, &row)
+    }))
 }
 
-// The value of the row of a terminator under a number, if there is one.
-fn value_if_some(
-    alloc: Global,
-    no: TermNo,
-    term: Option<TermView>,
-) -> Result<Option<Bytes>, AllocError>
-    requires { IfSome term (λ e. fits kind.Terminator e ≡ true) }
-    ensures { IfOk result (λ value. value ≡ option_map terminator_value term.entry) }
-{
-    match term {
-        Some(term) => Ok(Some(row_value(alloc, no, term)?)),
-        None => Ok(None),
+// The terminators before a change and after it.
+#[derive(Clone, Copy)]
+struct TermRows<'a> {
+    terminators: &'a Terminators,
+    after: &'a TerminatorsAfter<'a>,
+}
+
+impl<'a> ChangedRows for TermRows<'a> {
+    ghost use Rattle.ctrl_model.specs.declared.kinds.Kind.TheVariants as kind;
+    ghost use Rattle.row_spelling.specs.RecordChanges.{value_at};
+    ghost use Rattle.terminator_commands.specs.TermRows.{AreFit};
+
+    ghost values_before = { λ r. value_at kind.Terminator r.terminators.now.terminators.rows };
+
+    ghost values_after = { λ r. value_at kind.Terminator r.after.now.terminators.rows };
+
+    ghost HaveRows = { λ r. AreFit r.terminators.now × AreFit r.after.now };
+
+    fn row_before(&self, number: u32) -> Result<Option<Row>, AllocError> {
+        let no = TermNo(number);
+        row_of(no, self.terminators.seen(no))
     }
-}
 
-// The change of the row of a terminator.
-fn change_at(
-    alloc: Global,
-    no: TermNo,
-    before: Option<TermView>,
-    after: Option<TermView>,
-) -> Result<Change, AllocError>
-    requires before { IfSome before (λ e. fits kind.Terminator e ≡ true) }
-    requires after { IfSome after (λ e. fits kind.Terminator e ≡ true) }
-    ensures { IfOk result (λ change. change ≡ term_change_of no.0 before.entry after.entry) }
-{
-    let before = value_if_some(alloc, no, before)?;
-    let after = value_if_some(alloc, no, after)?;
-    change_of(alloc, Kind::Terminator, no.0, before, after)
-}
-
-// The changes of the rows of terminators at some numbers.
-fn changes_at(
-    alloc: Global,
-    terminators: &Terminators,
-    after: &TerminatorsAfter,
-    numbers: &[u32],
-) -> Result<Vec<Change>, AllocError>
-    requires before { AreFit terminators.now }
-    requires after { AreFit after.now }
-    ensures changes { IfOk result (λ v. v.items ≡ term_changes_at terminators.now after.now numbers.now) }
-    ensures long { OnOk result (list_all is_long numbers.now ≡ true) }
-{
-    let mut changes = Vec::new(alloc);
-    'numbers: for number in numbers {
-        let no = TermNo(*number);
-        changes.push(change_at(alloc, no, terminators.seen(no), after.get(no))?)?;
+    fn row_after(&self, number: u32) -> Result<Option<Row>, AllocError> {
+        let no = TermNo(number);
+        row_of(no, self.after.get(no))
     }
-    Ok(changes)
 }
 
 // The number of the terminator that a change touches.
@@ -112,12 +91,12 @@ pub fn term_changes(
     ensures { IfOk result (λ changes. (s t : State) → s.terminators ≡ terminators.now.terminators
         → t.terminators ≡ (terms_after (option_map (λ c. c.now) change.entry) gone.now terminators.now).terminators → Covers 10 11 s t changes) }
 {
-    let after = TerminatorsAfter {
+    let after = TerminatorsAfter::new(terminators, change, gone);
+    let changed = changed_number(terminators, change);
+    let rows = TermRows {
         terminators,
-        change,
-        gone,
+        after: &after,
     };
-    let numbers = touched(changed_number(terminators, change), gone)?;
-    let changes = changes_at(alloc, terminators, &after, numbers.as_slice())?;
-    Ok(Changes::of(changes))
+    let changes = touched_changes(alloc, Kind::Terminator, &rows, changed, gone)?;
+    Ok(changes)
 }
