@@ -2,6 +2,10 @@
 use Rattle.std.specs.Prelude.{◌≡◌, ℕ, ◌<◌, ◌==◌, nat_le, Bool, List, length, slice_index, slice_index_or, bit_and}
 use Rattle.bit_lanes.specs.Lanes.{together}
 
+-- How many words a vector has.
+abbrev pub lanes : ℕ
+lanes = 8
+
 -- The word at a place has all bits of the wanted one.
 abbrev pub has_all : List ℕ → List ℕ → ℕ → Bool
 has_all have want n = bit_and (slice_index have n) (slice_index want n) == slice_index want n

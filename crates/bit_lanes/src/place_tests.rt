@@ -1,6 +1,6 @@
 ghost use Rattle.std.specs.Prelude.{◌≡◌, ◌+◌, ◌*◌, ◌/◌, ◌^◌, ◌≤◌, ◌<◌, ℕ, Bool, true, false, length, slice_index};
 ghost use Rattle.std.specs.Bool.{OnTrue, OnFalse};
-ghost use Rattle.bit_lanes.specs.Words.{Lanes};
+ghost use Rattle.bit_lanes.specs.Words.{Lanes, lanes};
 
 use std::simd::prelude::*;
 
@@ -9,8 +9,8 @@ pub const LANES: usize = 8;
 
 /// The vector of the words from a place on.
 pub fn vector_at(words: &[u64], place: usize) -> u64x8
-    requires { place + 8 ≤ length words.now }
-    ensures lanes { Lanes 0 8 result (λ i. slice_index words.now (place + i)) }
+    requires { place + lanes ≤ length words.now }
+    ensures vector { Lanes 0 lanes result (λ i. slice_index words.now (place + i)) }
     ensures fit { (i : ℕ) → slice_index words.now i < 2 ^ 64 }
 {
     u64x8::from_slice(&words[place..place + LANES])
@@ -35,14 +35,14 @@ pub trait PlaceTest {
 
     /// Whether each of the `LANES` places from this one on passes, in one vector.
     fn passes_from(&self, place: usize) -> bool
-        requires { place + 8 ≤ count self.now }
-        ensures all { OnTrue result ((n : ℕ) → place ≤ n → n < place + 8 → passes self.now n ≡ true) }
-        ensures some { OnFalse result ((n : ℕ) × (n < place + 8) × (passes self.now n ≡ false)) };
+        requires { place + lanes ≤ count self.now }
+        ensures all { OnTrue result ((n : ℕ) → place ≤ n → n < place + lanes → passes self.now n ≡ true) }
+        ensures some { OnFalse result ((n : ℕ) × (n < place + lanes) × (passes self.now n ≡ false)) };
 }
 
 // Whether each place of the whole vectors passes.
 fn vectors_pass<T: PlaceTest>(test: &T) -> bool
-    ensures all { OnTrue result ((n : ℕ) → n < T.count test.now / 8 * 8 → T.passes test.now n ≡ true) }
+    ensures all { OnTrue result ((n : ℕ) → n < T.count test.now / lanes * lanes → T.passes test.now n ≡ true) }
     ensures some { OnFalse result ((n : ℕ) × (n < T.count test.now) × (T.passes test.now n ≡ false)) }
 {
     'vectors: for vector in 0..test.places() / LANES {

@@ -3,8 +3,8 @@ use Rattle.std.proofs.lemmas.Simd.{get_or-chunk, length-chunk}
 use Rattle.std.proofs.lemmas.List.{length-take, length-drop}
 use Rattle.bit_lanes.proofs.place_tests.vector_at.Goals as goal
 
-pub returns-clause-lanes : goal.returns-clause-lanes
-returns-clause-lanes c =
+pub returns-clause-vector : goal.returns-clause-vector
+returns-clause-vector c =
     let few : c.args.place + 8 - c.args.place ≡ 8 = omega arith in
     let cut = take (c.args.place + 8 - c.args.place) (drop c.args.place c.args.words.now) in
     let cut_long : length cut ≡ min (c.args.place + 8 - c.args.place) (length (drop c.args.place c.args.words.now)) = length-take _ _ in

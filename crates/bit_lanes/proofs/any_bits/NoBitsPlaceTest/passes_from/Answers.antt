@@ -5,8 +5,8 @@ use Rattle.bit_lanes.proofs.any_bits.NoBitsPlaceTest.passes_from.Goals as goal
 
 pub returns : goal.returns
 returns c =
-    let have = c.vector_at-have.ensures.lanes in
-    let want = c.vector_at-want.ensures.lanes in
+    let have = c.vector_at-have.ensures.vector in
+    let want = c.vector_at-want.ensures.vector in
     mask_tells (has_none c.args.self.now.have.now c.args.self.now.want.now) c.args.place _
     (same_lanes false 8 _ _ _ (mapped _ 0 false 8 _ _ (zipped _ 0 0 0 8 _ _ _ _ (zipped _ 0 0 0 8 _ _ _ _ have want) (splatted 8 0)))
     (λ i p. compared (not (has_none c.args.self.now.have.now c.args.self.now.want.now (c.args.place + i)))))

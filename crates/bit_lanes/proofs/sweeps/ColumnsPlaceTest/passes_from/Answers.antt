@@ -24,9 +24,9 @@ over left cost right c r =
 
 pub returns : goal.returns
 returns c =
-    let left = c.vector_at-left.ensures.lanes in
-    let cost = c.vector_at-cost.ensures.lanes in
-    let right = c.vector_at-right.ensures.lanes in
+    let left = c.vector_at-left.ensures.vector in
+    let cost = c.vector_at-cost.ensures.vector in
+    let right = c.vector_at-right.ensures.vector in
     let rest = mapped _ 0 0 8 _ _ cost in
     let sum = zipped _ 0 0 0 8 _ _ _ _ cost (selected 8 _ _ _ _ _ _ (mapped _ 0 false 8 _ _ (zipped _ 0 0 0 8 _ _ _ _ right rest)) right rest) in
     mask_tells (is_at_most c.args.self.now.left.now c.args.self.now.cost.now c.args.self.now.right.now) c.args.place _
