@@ -1,2 +1,2 @@
 pub mod BitLemmas
-pub mod PairLemmas
+pub mod LaneLemmas

@@ -1,16 +1,24 @@
--- The same word by word. Only private functions and proofs cite this file.
-use Rattle.std.specs.Prelude.{ℕ, ◌==◌, Bool, true, ◌&&◌, List, [], ◌∷◌, bit_and}
+-- What is tested at one place of rows or columns. Only private functions and proofs cite this file.
+use Rattle.std.specs.Prelude.{◌≡◌, ℕ, ◌<◌, ◌==◌, nat_le, Bool, List, length, slice_index, slice_index_or, bit_and}
+use Rattle.bit_lanes.specs.Lanes.{together}
 
--- Whether each pair of words at one place passes a test.
-abbrev pub all_pairs : (ℕ → ℕ → Bool) → List ℕ → List ℕ → Bool
-all_pairs test [] ys = true
-all_pairs test (x ∷ xs) [] = true
-all_pairs test (x ∷ xs) (y ∷ ys) = test x y && all_pairs test xs ys
+-- How many words a vector has.
+abbrev pub lanes : ℕ
+lanes = 8
 
--- Whether each word has all bits of the wanted one.
-abbrev pub words_all_in : List ℕ → List ℕ → Bool
-words_all_in = all_pairs (λ h w. bit_and h w == w)
+-- The word at a place has all bits of the wanted one.
+abbrev pub has_all : List ℕ → List ℕ → ℕ → Bool
+has_all have want n = bit_and (slice_index have n) (slice_index want n) == slice_index want n
 
--- Whether no word has a bit of the wanted one.
-abbrev pub words_apart : List ℕ → List ℕ → Bool
-words_apart = all_pairs (λ h w. bit_and h w == 0)
+-- The word at a place has no bit of the wanted one.
+abbrev pub has_none : List ℕ → List ℕ → ℕ → Bool
+has_none have want n = bit_and (slice_index have n) (slice_index want n) == 0
+
+-- The left number at a place is at most the other two together.
+abbrev pub is_at_most : List ℕ → List ℕ → List ℕ → ℕ → Bool
+is_at_most left cost right n = nat_le (slice_index left n) (together (slice_index cost n) (slice_index right n))
+
+-- A vector has so many lanes, and they are these.
+pub record Lanes {A : Type 0} (missing : A) (count : ℕ) (vector : List A) (lane : ℕ → A) : Type 0 where
+  pub long : length vector ≡ count
+  pub each : (i : ℕ) → i < count → slice_index_or vector i missing ≡ lane i

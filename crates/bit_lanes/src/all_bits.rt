@@ -1,61 +1,35 @@
-ghost use Rattle.std.specs.Prelude.{◌≡◌, ◌+◌, ◌*◌, ◌≤◌, ◌<◌, ◌↔◌, ℕ, IsTrue, length};
+ghost use Rattle.std.specs.Prelude.{◌≡◌, ◌↔◌, min, IsTrue, length};
 ghost use Rattle.bit_lanes.specs.Lanes.{AllIn};
-ghost use Rattle.bit_lanes.specs.Words.{words_all_in};
+ghost use Rattle.bit_lanes.specs.Words.{has_all};
 
+use crate::place_tests::{PlaceTest, each_passes, vector_at};
 use std::simd::prelude::*;
 
-/// How many words a vector has.
-pub const LANES: usize = 8;
-
-// Whether each bit of one vector is in the other.
-fn vector_all_in(have: &[u64], want: &[u64]) -> bool
-    requires have { length have.now ≡ 8 }
-    requires want { length want.now ≡ 8 }
-    ensures { result ≡ words_all_in have.now want.now }
-{
-    let have = u64x8::from_slice(have);
-    let want = u64x8::from_slice(want);
-    (have & want).simd_ne(want).to_bitmask() == 0
+// At each place: whether the word of `have` has each bit of the word of `want`.
+#[derive(Clone, Copy)]
+struct AllBits<'a> {
+    have: &'a [u64],
+    want: &'a [u64],
 }
 
-// The same of whole vectors.
-fn vectors_all_in(have: &[u64], want: &[u64], vectors: usize) -> bool
-    requires have { length have.now ≡ 8 * vectors }
-    requires want { length want.now ≡ 8 * vectors }
-    ensures { result ≡ words_all_in have.now want.now }
-{
-    'vectors: for place in 0..vectors {
-        let at = place * LANES;
-        if !vector_all_in(&have[at..at + LANES], &want[at..at + LANES]) {
-            return false;
-        }
+impl<'a> PlaceTest for AllBits<'a> {
+    ghost count = { λ s. min (length s.have.now) (length s.want.now) };
+
+    ghost passes = { λ s. has_all s.have.now s.want.now };
+
+    fn places(&self) -> usize {
+        self.have.len().min(self.want.len())
     }
-    true
-}
 
-// The same word by word.
-#[tactic(auto, using(crate::proofs::PairLemmas::pair_step))]
-fn words_all_in(have: &[u64], want: &[u64]) -> bool
-    requires { length have.now ≡ length want.now }
-    ensures { result ≡ words_all_in have.now want.now }
-{
-    'words: for place in 0..have.len() {
-        if have[place] & want[place] != want[place] {
-            return false;
-        }
+    fn passes_at(&self, place: usize) -> bool {
+        self.have[place] & self.want[place] == self.want[place]
     }
-    true
-}
 
-// Whether each bit of `want` is in `have`: in vectors, and then in the words after the last whole vector.
-fn has_words(have: &[u64], want: &[u64]) -> bool
-    requires { length have.now ≡ length want.now }
-    ensures { result ≡ words_all_in have.now want.now }
-{
-    let vectors = have.len() / LANES;
-    let whole = vectors * LANES;
-    vectors_all_in(&have[..whole], &want[..whole], vectors)
-        && words_all_in(&have[whole..], &want[whole..])
+    fn passes_from(&self, place: usize) -> bool {
+        let have = vector_at(self.have, place);
+        let want = vector_at(self.want, place);
+        (have & want).simd_ne(want).to_bitmask() == 0
+    }
 }
 
 /// Whether each bit of `want` is in `have`.
@@ -63,5 +37,5 @@ pub fn all_in(have: &[u64], want: &[u64]) -> bool
     requires { length have.now ≡ length want.now }
     ensures { IsTrue result ↔ AllIn have.now want.now }
 {
-    has_words(have, want)
+    each_passes(&AllBits { have, want })
 }

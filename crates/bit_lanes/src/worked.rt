@@ -1,5 +1,5 @@
 ghost use Rattle.std.specs.Prelude.{◌≡◌, [], ◌∷◌, true, false};
-ghost use Rattle.bit_lanes.specs.Lanes.{bit_of, AllIn, AnyIn, Meets, row_at};
+ghost use Rattle.bit_lanes.specs.Lanes.{bit_of, AllIn, AnyIn, Meets, row_at, absent, together, Sweeps};
 
 /// A row of the words 5 and 1 has the bits 0, 2 and 64.
 pub fn worked_bits()
@@ -20,4 +20,19 @@ pub fn worked_rows()
     ensures none_common { AnyIn (5 ∷ 1 ∷ []) (2 ∷ 2 ∷ []) → ⊥ }
     ensures all_of_nothing { Meets true (5 ∷ []) (0 ∷ []) }
     ensures some_of_nothing { Meets false (5 ∷ []) (0 ∷ []) → ⊥ }
+{}
+
+/// Columns of costs over steps: what a place costs is at most the step's cost and what its end costs, or is not. The second
+/// sum of the first columns is an equality. An absent number, the greatest one, is at most an absent one alone, and everything
+/// is at most it.
+pub fn worked_columns()
+    ensures sum { together 21 21 ≡ 42 }
+    ensures over_absent { together 21 absent ≡ absent }
+    ensures reaches_absent { together 18446744073709551614 1 ≡ absent }
+    ensures short_of_absent { together 18446744073709551613 1 ≡ 18446744073709551614 }
+    ensures each { Sweeps (40 ∷ 21 ∷ 0 ∷ []) (21 ∷ 21 ∷ 5 ∷ []) (21 ∷ 0 ∷ 42 ∷ []) }
+    ensures one_too_high { Sweeps (40 ∷ 22 ∷ 0 ∷ []) (21 ∷ 21 ∷ 5 ∷ []) (21 ∷ 0 ∷ 42 ∷ []) → ⊥ }
+    ensures absent_over_absent { Sweeps (absent ∷ 7 ∷ []) (21 ∷ 21 ∷ []) (absent ∷ absent ∷ []) }
+    ensures absent_over_present { Sweeps (absent ∷ []) (21 ∷ []) (3 ∷ []) → ⊥ }
+    ensures no_places { Sweeps [] [] [] }
 {}

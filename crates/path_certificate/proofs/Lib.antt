@@ -3,3 +3,4 @@ pub mod LowerBounds
 pub mod TightChains
 pub mod Certificates
 pub mod WorkedRows
+pub mod SweptSteps

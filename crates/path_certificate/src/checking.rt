@@ -4,6 +4,7 @@ ghost use Rattle.path_certificate.specs.Graphs.{leaves, potential, improves, non
 ghost use Rattle.path_certificate.specs.Certified.{Certified, IsLeastPath, AreLeast};
 
 use crate::graph::{Graph, Step};
+use crate::sweeping::Columns;
 use ctrl_model::Potentials;
 
 /// The step's cost and the potential of its end together, at most `u64::MAX`.
@@ -34,17 +35,20 @@ pub fn is_tight(potentials: &[u64], step: &Step) -> bool
     start == reach(potentials, step) && start < u64::MAX
 }
 
+// Sweeps the counting steps in columns.
 fn is_settled(graph: &Graph, target: u16, potentials: &[u64]) -> bool
     requires { length potentials.now ≡ length graph.now.through }
     ensures { result ≡ none_improves graph.now target potentials.now }
 {
     let steps = graph.steps();
+    let mut columns = Columns::new();
     'steps: for step in steps {
-        if improves(graph, target, potentials, step) {
+        if !columns.make_room() {
             return false;
         }
+        columns.add_counting(graph, target, potentials, step);
     }
-    true
+    columns.hold()
 }
 
 fn find_step(steps: &[Step], place: u16, link: u32) -> Option<Step>

@@ -4,6 +4,7 @@
 mod checking;
 mod graph;
 mod listing;
+mod sweeping;
 mod worked;
 
 pub use checking::{check, improves, is_tight, reach};
