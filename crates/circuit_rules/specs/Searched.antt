@@ -190,10 +190,14 @@ pub record IsGraphOf (w : Network) (g : GraphSeen) : Type 0 where
   pub places : length g.through ≡ length w.routers
   pub mirrors : (t : ℕ) → t < length w.routers → Mirrors (length w.routers) (number_at w.routers) (graph_hops g t) (hops w (number_at w.routers t))
 
--- A search is one over the graph of a network, of which each step costs little.
+-- What a step of a graph of links costs at most: its link at most 65,535 and twice 60,000, and entering a router at most 65,535.
+abbrev pub most_step_cost : ℕ
+most_step_cost = 251070
+
+-- A search goes over the graph of a network, and no step of the graph costs more than steps of links can.
 pub record IsSearchOf (w : Network) (s : SearchSeen) : Type 0 where
   pub is_graph : IsGraphOf w s.graph
-  pub most : costs_at_most 251070 s.graph.steps ≡ true
+  pub most : costs_at_most most_step_cost s.graph.steps ≡ true
 
 -- Those of the exits whose precedence stands at a place.
 abbrev pub exits_at : ℕ → List Exit → List Exit
