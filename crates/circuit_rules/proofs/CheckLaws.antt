@@ -1,5 +1,5 @@
 -- Laws by which the check over the graph of the links judges the entries of a claim.
-use Rattle.std.proofs.Common.{◌≡◌, ◌↔◌, ℕ, zero, suc, ◌<◌, ◌≤◌, ◌==◌, ◌&&◌, nat_le, not, Bool, true, false, cond, inl, inr, List, [], ◌∷◌, length, map, get_or, Option, Some, None, refl, sym, ◌∙◌, ap, subst, arith, ltb, ltb-true, eqb-true, eq-eqb, le-leb, slice_get, unwrap_or}
+use Rattle.std.proofs.Common.{◌≡◌, ◌↔◌, ℕ, zero, suc, ◌<◌, ◌≤◌, ◌==◌, ◌&&◌, not, Bool, true, false, cond, inl, inr, List, [], ◌∷◌, length, map, Option, Some, None, refl, sym, ◌∙◌, ap, subst, arith, ltb, ltb-true, eqb-true, eq-eqb, le-leb, slice_get, unwrap_or}
 use Rattle.std.proofs.lemmas.Bool.{and_parts, and_from, leb-true, le-ltb, not_from_false, false_from_ne_true}
 use Rattle.std.proofs.lemmas.List.{length-map}
 use Rattle.std.specs.List.{list_all}
@@ -20,7 +20,7 @@ use Rattle.path_certificate.proofs.StepLaws.{hop_of}
 use Rattle.path_certificate.proofs.LowerBounds.{settled_hop}
 use Rattle.fabric_graph.specs.Routers.{number_at}
 use Rattle.circuit_rules.specs.Searched.{place_in, IsGraphOf}
-use Rattle.circuit_rules.proofs.ValueLaws.{value_placed, value_at-placed, value_there}
+use Rattle.circuit_rules.proofs.ValueLaws.{value_at-placed, value_there}
 
 -- ---- places and numbers
 

@@ -33,3 +33,7 @@ rank_not_below p m n t i q x u j xs ys zs ws most e k =
         terminators : n ≡ x → is_lt (slice_cmp nat_cmp (t ∷ i ∷ xs) (u ∷ j ∷ ys)) ≡ false → is_lt (slice_cmp nat_cmp (t ∷ i ∷ zs) (u ∷ j ∷ ws)) ≡ false
         terminators same_n g = no_less t t u (i ∷ xs) (j ∷ ys) (i ∷ zs) (j ∷ ws) (omega arith) g (λ same_t _.
             no_less i i j xs ys zs ws (omega arith) (tail_not_below t u (i ∷ xs) (j ∷ ys) same_t g) (λ same_i _. k same_n same_t same_i))
+
+-- a list that begins with a greater number is not below another
+pub greater_head : (a b : ℕ) (xs ys : List ℕ) → b < a → is_lt (slice_cmp nat_cmp (a ∷ xs) (b ∷ ys)) ≡ false
+greater_head a b xs ys h = ap (λ o. is_lt (ordering_then o (slice_cmp nat_cmp xs ys))) (sym (nat_cmp_is a b Greater h))

@@ -1,9 +1,11 @@
 -- Laws on the whole of a request: what the search found tells the best route, and with the rules what is decided.
-use Rattle.std.proofs.Common.{◌≡◌, ℕ, ◌≤◌, Bool, true, false, cond, List, [], ◌∷◌, ◌++◌, Option, Some, None, Ok, Err, refl, sym, ◌∙◌, ap, ap₂, subst}
+use Rattle.std.proofs.Common.{◌≡◌, ℕ, ◌<◌, ◌≤◌, ◌==◌, ◌⊎◌, inl, inr, eq-eqb, length, subst₂, Bool, true, false, cond, List, [], ◌∷◌, ◌++◌, Option, Some, None, Ok, Err, refl, sym, ◌∙◌, ap, ap₂, subst}
+use Rattle.std.proofs.lemmas.Bool.{cases_order}
 use Rattle.std.specs.List.{All}
 use Rattle.std.specs.Option.{option_map_or}
 use Rattle.std.specs.Result.{IsErrAnd}
 use Rattle.std.specs.declared.result.Result.{Result}
+use Rattle.ctrl_model.specs.declared.kinds.RouterSeen.{RouterSeen}
 use Rattle.ctrl_model.specs.declared.refusals.Denial.{Denial}
 use Rattle.ctrl_model.specs.declared.refusals.Denial.TheVariants.{UnknownIdentity, UnknownService, NoPath, CircuitsFull}
 use Rattle.ctrl_model.specs.Membership.{Among}
@@ -13,10 +15,10 @@ use Rattle.ctrl_model.specs.PlainPaths.{NoneTwice}
 use Rattle.ctrl_model.specs.CommandForm.{is_cost}
 use Rattle.ctrl_model.specs.State.{Terminator}
 use Rattle.ctrl_model.specs.ValidState.{each_passes}
-use Rattle.ctrl_model.specs.Networks.{Network, admissible}
-use Rattle.ctrl_model.specs.Choices.{Ask, Candidate, candidates_for, first_denial, failing, first_rule}
+use Rattle.ctrl_model.specs.Networks.{Network, is_path, admissible}
+use Rattle.ctrl_model.specs.Choices.{Ask, Candidate, ingresses, place_of, candidates_for, first_denial, failing, first_rule}
 use Rattle.ctrl_model.proofs.Tests.{in_bounds}
-use Rattle.ctrl_model.proofs.Members.{by_map, something, list_all-among}
+use Rattle.ctrl_model.proofs.Members.{by_map, Among-map, Among-filter, something, list_all-among}
 use Rattle.model_laws.proofs.CandidateLaws.{by_admissible, candidates-for, candidates-are, best-is}
 use Rattle.fabric_graph.specs.Routers.{AreRouters}
 use Rattle.circuit_rules.specs.declared.choosing.Choice.{Choice}
@@ -26,10 +28,13 @@ use Rattle.circuit_rules.specs.declared.views.Route.{Route}
 use Rattle.circuit_rules.specs.Decisions.{Grants, Decides}
 use Rattle.circuit_rules.specs.declared.views.DecideFault.{DecideFault}
 use Rattle.circuit_rules.specs.declared.views.DecideFault.TheVariants as fault
-use Rattle.circuit_rules.specs.Searched.{Passes, end_rules, way_rules, exit_of, entries_to, exits_to, IsFound, IsSearched, first_of_all, IsBestRoute, IsBestWay}
+use Rattle.circuit_rules.specs.Searched.{Passes, end_rules, way_rules, exit_of, entries_to, exits_to, exits_at, IsFound, IsSearched, first_of_all, IsBestRoute, IsBestWay}
+use Rattle.circuit_rules.specs.FoundRoutes.{IsFoundFirst, AreEnds, route_found}
+use Rattle.circuit_rules.specs.declared.deciding.Ends.{Ends}
+use Rattle.circuit_rules.specs.declared.deciding.Found.{Found}
 use Rattle.circuit_rules.proofs.ChoiceLaws.{chosen}
 use Rattle.circuit_rules.proofs.SearchLaws.{all_from_among}
-use Rattle.circuit_rules.proofs.DecideLaws.{IsSearch, no_candidates, best_route}
+use Rattle.circuit_rules.proofs.DecideLaws.{IsSearch, OthersFollow, entries_placed, exits_placed, no_path_to, no_candidates, best_route}
 
 -- ---- what the search found
 
@@ -40,24 +45,66 @@ exits_cheap w ask s costs =
     subst (λ (y : Exit). y.cost ≤ 65535) is
     (in_bounds 0 65535 e.1.cost (list_all-among (λ (x : ℕ × Terminator). is_cost x.1.cost) w.terminators e costs (by_admissible w s ask.instance e n).present)).1))
 
--- what the search found is the best way of the request
-pub best_way : (w : Network) (ask : Ask) (i s : ℕ) (entries : List Entry) (exits : List Exit) (found : Option Route) → ask.identity ≡ Some i → ask.service ≡ Some s
-    → AreRouters w.routers → NoneTwice (numbers w.terminators) → entries ≡ entries_to w ask i s → exits ≡ exits_to w ask s → IsSearched w entries exits found
-    → IsBestWay w ask i s found
-best_way w ask i s entries exits found who what routers once same_entries same_exits searched =
-    of (subst (λ os. IsSearched w (entries_to w ask i s) os found) same_exits (subst (λ xs. IsSearched w xs exits found) same_entries searched))
-  where
-    of : IsSearched w (entries_to w ask i s) (exits_to w ask s) found → IsBestWay w ask i s found
-    of h = from found (first_of_all h.costs (entries_to w ask i s) None (exits_to w ask s)) refl h.route
-      where
-        search : IsSearch w ask i s h.graph h.costs
-        search = record { who = who; what = what; routers = routers; once = once; is_graph = h.is_graph; least = h.least }
+-- a request, its routers and its terminators
+pub record IsRequest (w : Network) (ask : Ask) (i s : ℕ) : Type 0 where
+  pub who : ask.identity ≡ Some i
+  pub what : ask.service ≡ Some s
+  pub routers : AreRouters w.routers
+  pub once : NoneTwice (numbers w.terminators)
 
-        from : (found : Option Route) (o : Option Choice) → first_of_all h.costs (entries_to w ask i s) None (exits_to w ask s) ≡ o → IsFound h.graph h.costs o found → IsBestWay w ask i s found
-        from None None is f = no_candidates w ask i s h.graph h.costs search is
-        from None (Some c) is f = absurd f
-        from (Some r) None is f = absurd f
-        from (Some r) (Some c) is f = best_route w ask i s h.graph h.costs search c (chosen h.costs (entries_to w ask i s) (exits_to w ask s) c is) r f
+module _ (w : Network) (ask : Ask) (i s : ℕ) (k : IsRequest w ask i s) where
+  -- the exits of one precedence
+  abbrev level : ℕ → List Exit
+  level p = exits_at p (exits_to w ask s)
+
+  in_level : (p : ℕ) (e : ℕ × Terminator) → Among e (admissible w s ask.instance) → place_of e.1.precedence ≡ p → Among (exit_of w.routers e) (level p)
+  in_level p e in_e at_place =
+      Among-filter (λ (o : Exit). place_of o.precedence == p) (exits_to w ask s) (exit_of w.routers e) (Among-map (exit_of w.routers) (admissible w s ask.instance) e in_e)
+      (eq-eqb (place_of e.1.precedence) p at_place)
+
+  search_of : (exits : List Exit) (found : Option Route) (h : IsSearched w (entries_to w ask i s) exits found) → IsSearch w ask i s h.graph exits h.costs
+  search_of exits found h = record { who = k.who; what = k.what; routers = k.routers; once = k.once; is_graph = h.is_graph; least = h.least }
+
+  -- where nothing is found of a precedence, there is no path to a terminator of it
+  no_path_at : (p : ℕ) → IsSearched w (entries_to w ask i s) (level p) None → (r : RouterSeen) → Among r (ingresses w ask.ingress i s)
+      → (e : ℕ × Terminator) → Among e (admissible w s ask.instance) → place_of e.1.precedence ≡ p → (links : List ℕ) → is_path w r.no.0 links e.1.router ≡ true → ⊥
+  no_path_at p h r in_r e in_e at_place links path = from (first_of_all h.costs (entries_to w ask i s) None (level p)) refl h.route
+    where
+      from : (o : Option Choice) → first_of_all h.costs (entries_to w ask i s) None (level p) ≡ o → IsFound h.graph h.costs o None → ⊥
+      from None is f = no_path_to w ask i s h.graph (level p) h.costs (search_of (level p) None h) is r in_r e in_e (in_level p e in_e at_place) links path
+      from (Some c) is f = absurd f
+
+  -- what is found first is the best way
+  found_way : (found : Option Route) → IsFoundFirst w (entries_to w ask i s) (exits_to w ask s) found → IsBestWay w ask i s found
+  found_way None none = no_candidates w ask i s (λ r in_r e in_e links path.
+      no_path_at (place_of e.1.precedence) (none e.1.precedence) r in_r e in_e refl links path)
+  found_way (Some r) (p, h, better) = from (first_of_all h.costs (entries_to w ask i s) None (level p)) refl h.route
+    where
+      others : OthersFollow w ask i s (level p) p
+      others q in_q x in_x ls path = by (cases_order (place_of x.1.precedence) p)
+        where
+          by : (place_of x.1.precedence ≡ p) ⊎ ((place_of x.1.precedence < p) ⊎ (p < place_of x.1.precedence)) → Among (exit_of w.routers x) (level p) ⊎ (p < place_of x.1.precedence)
+          by (inl same) = inl (in_level p x in_x same)
+          by (inr (inl before)) =
+              absurd (no_path_at (place_of x.1.precedence) (better x.1.precedence before) q in_q x in_x refl ls path)
+          by (inr (inr after)) = inr after
+
+      from : (o : Option Choice) → first_of_all h.costs (entries_to w ask i s) None (level p) ≡ o → IsFound h.graph h.costs o (Some r) → IsBestWay w ask i s (Some r)
+      from None is f = absurd f
+      from (Some c) is f =
+          best_route w ask i s h.graph (level p) h.costs (search_of (level p) (Some r) h) p refl others c (chosen h.costs (entries_to w ask i s) (level p) c is) r f
+
+  -- of ends that are those of the request
+  pub best_way : (ends : Ends) (found : Option Route) → AreEnds w ask i s ends → IsFoundFirst w ends.entries.items ends.exits.items found → IsBestWay w ask i s found
+  best_way ends found are first =
+      found_way found (subst₂ (λ xs os. IsFoundFirst w xs os found) are.0 are.1 first)
+
+  -- and whose places are those of routers
+  pub ends_entered : (ends : Ends) → AreEnds w ask i s ends → All (λ (x : Entry). x.place < length w.routers) ends.entries.items
+  ends_entered ends are = subst (λ xs. All (λ (x : Entry). x.place < length w.routers) xs) (sym are.0) (entries_placed w k.routers ask i s)
+
+  pub ends_left : (ends : Ends) → AreEnds w ask i s ends → All (λ (o : Exit). o.place < length w.routers) ends.exits.items
+  ends_left ends are = subst (λ os. All (λ (o : Exit). o.place < length w.routers) os) (sym are.1) (exits_placed w ask s)
 
 -- ---- rules in parts
 
@@ -130,15 +177,16 @@ granted w ask i s r p b room = record {
 -- ---- denials
 
 -- a request that some of its rules deny is denied
-pub denied : (w : Network) (ask : Ask) (i s : ℕ) (reason : DecideFault) → ask.identity ≡ Some i → ask.service ≡ Some s
-    → Passes (end_rules w ask i s) (IsBestWay w ask i s) (Err reason) → Decides w ask (Err reason)
-denied w ask i s fault.NoMemory who what denial = tt
-denied w ask i s (fault.Denied d) who what denial =
+pub denied : {X : Type 0} (P : X → Type 0) (w : Network) (ask : Ask) (i s : ℕ) (reason : DecideFault) → ask.identity ≡ Some i → ask.service ≡ Some s
+    → Passes (end_rules w ask i s) P (Err reason) → Decides w ask (Err reason)
+denied P w ask i s fault.NoMemory who what denial = tt
+denied P w ask i s (fault.Denied d) who what denial =
     ap (λ o. option_map_or (λ i. option_map_or (λ s. first_denial (failing w ask i s)) ask.service (Some UnknownService)) o (Some UnknownIdentity)) who
     ∙ ap (λ o. option_map_or (λ s. first_denial (failing w ask i s)) o (Some UnknownService)) what
     ∙ first_denial-stays (end_rules w ask i s) (way_rules w ask i s) d denial
 
 -- and so is what hands its denial on
-pub handed_on : (w : Network) (ask : Ask) (r : Result Route DecideFault) (reason : DecideFault) → IsErrAnd r (λ y. y ≡ reason) → Decides w ask (Err reason) → Decides w ask r
+pub handed_on : (w : Network) (ask : Ask) (r : Result Found DecideFault) (reason : DecideFault) → IsErrAnd r (λ y. y ≡ reason) → Decides w ask (Err reason)
+    → Decides w ask (route_found r)
 handed_on w ask (Ok x) reason e h = absurd e
 handed_on w ask (Err y) reason e h = subst (λ z. Decides w ask (Err z)) (sym e) h

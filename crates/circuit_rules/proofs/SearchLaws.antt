@@ -1,5 +1,5 @@
 -- Laws on what the search needs: its bounds, and where the first choice stands.
-use Rattle.std.proofs.Common.{◌≡◌, ℕ, suc, ◌+◌, ◌-◌, ◌*◌, ◌<◌, ◌≤◌, ◌==◌, max, nat_le, Bool, true, false, cond, List, [], ◌∷◌, length, get_or, Some, None, inl, inr, refl, sym, ◌∙◌, ap, subst, arith, eq-eqb}
+use Rattle.std.proofs.Common.{◌≡◌, ℕ, suc, ◌+◌, ◌-◌, ◌*◌, ◌<◌, ◌≤◌, ◌==◌, max, nat_le, Bool, true, false, cond, List, [], ◌∷◌, length, get_or, Option, Some, None, inl, inr, refl, sym, ◌∙◌, ap, subst, arith, eq-eqb}
 use Rattle.std.specs.List.{All}
 use Rattle.std.proofs.lemmas.Bool.{and_parts, leb-true, false≢true}
 use Rattle.std.proofs.lemmas.Option.{same_Some}
@@ -13,7 +13,9 @@ use Rattle.fabric_graph.specs.Routers.{costs_at_most}
 use Rattle.circuit_rules.specs.declared.choosing.Choice.{Choice}
 use Rattle.circuit_rules.specs.declared.places.Exit.{Exit}
 use Rattle.circuit_rules.specs.declared.places.Entry.{Entry}
-use Rattle.circuit_rules.specs.Searched.{costs_to, is_exit_at, AreCosts, AreSmall, choice_at, first_of_all}
+use Rattle.circuit_rules.specs.Searched.{most_step_cost, costs_to, is_exit_at, AreCosts, AreSmall, choice_at, first_of_all, IsGraphOf, SearchSeen, IsSearchOf, IsFound, IsSearched}
+use Rattle.circuit_rules.specs.declared.views.Route.{Route}
+use Rattle.ctrl_model.specs.Networks.{Network}
 use Rattle.circuit_rules.proofs.ChoiceLaws.{IsChosen, chosen}
 
 -- what holds of each index holds of each element
@@ -37,7 +39,7 @@ greatest-le most (s ∷ steps) e =
     greater : (a b m : ℕ) → a ≤ m → b ≤ m → max a b ≤ m
     greater a b m p q = omega arith
 
-times_le : (n b v : ℕ) → n ≤ 256 → b ≤ 251070 → v ≤ (n - 1) * b → v ≤ 64022850
+times_le : (n b v : ℕ) → n ≤ 256 → b ≤ most_step_cost → v ≤ (n - 1) * b → v ≤ 64022850
 times_le n b v few most le = last v ((n - 1) * b) (255 * b) le (more (n - 1) b (omega arith)) (omega arith)
   where
     more : (m b : ℕ) → m ≤ 255 → m * b ≤ 255 * b
@@ -50,7 +52,7 @@ times_le n b v few most le = last v ((n - 1) * b) (255 * b) le (more (n - 1) b (
 pub exit_there : (exits : List Exit) (o : Exit) → Among o exits → is_exit_at exits o.place ≡ true
 exit_there exits o m = list_any-from_among (λ (x : Exit). x.place == o.place) exits o m (eq-eqb o.place o.place refl)
 
-pub small_costs : (g : GraphSeen) (exits : List Exit) (costs : List (List ℕ)) (places : ℕ) → places ≤ 256 → length g.through ≡ places → costs_at_most 251070 g.steps ≡ true
+pub small_costs : (g : GraphSeen) (exits : List Exit) (costs : List (List ℕ)) (places : ℕ) → places ≤ 256 → length g.through ≡ places → costs_at_most most_step_cost g.steps ≡ true
     → ((t : ℕ) → t < places → AreCosts g exits t (costs_to costs t)) → All (λ (o : Exit). o.place < places) exits
     → All (λ (o : Exit). AreSmall places (costs_to costs o.place)) exits
 small_costs g exits costs places few same most least within =
@@ -61,7 +63,7 @@ small_costs g exits costs places few same most least within =
     small : (p : List ℕ) → length p ≡ length g.through → AreFew g p → AreSmall places p
     small p at_each bounded = record {
       places_are = at_each ∙ same;
-      small = λ v below there. times_le (length g.through) (greatest_cost g.steps) (potential p v) (subst (λ n. n ≤ 256) (sym same) few) (greatest-le 251070 g.steps most)
+      small = λ v below there. times_le (length g.through) (greatest_cost g.steps) (potential p v) (subst (λ n. n ≤ 256) (sym same) few) (greatest-le most_step_cost g.steps most)
           (bounded v (subst (λ n. v < n) (sym same) below) there);
     }
 
@@ -93,16 +95,28 @@ pub record IsReady (places : ℕ) (g : GraphSeen) (costs : List (List ℕ)) (ent
   pub entries_in : All (λ (x : Entry). x.place < places) entries
   pub exits_in : All (λ (o : Exit). o.place < places) exits
 
-pub ready : (places : ℕ) (g : GraphSeen) (costs items : List (List ℕ)) (entries : List Entry) (exits : List Exit) → costs ≡ items → length g.through ≡ places
-    → length items ≡ length g.through → ((t : ℕ) → t < length g.through → AreCosts g exits t (costs_to items t))
-    → All (λ (x : Entry). x.place < places) entries → All (λ (o : Exit). o.place < places) exits → IsReady places g costs entries exits
-ready places g costs items entries exits same at_each listed least in_entries in_exits = record {
-  places_are = at_each;
-  listed = ap length same ∙ listed ∙ at_each;
-  least = λ t below. subst (λ cs. AreCosts g exits t (costs_to cs t)) (sym same) (least t (subst (λ n. t < n) (sym at_each) below));
+pub ready : (w : Network) (s : SearchSeen) (costs : List (List ℕ)) (entries : List Entry) (exits : List Exit) → IsSearchOf w s → costs ≡ s.costs
+    → length s.costs ≡ length s.graph.through → ((t : ℕ) → AreCosts s.graph exits t (costs_to s.costs t))
+    → All (λ (x : Entry). x.place < length w.routers) entries → All (λ (o : Exit). o.place < length w.routers) exits → IsReady (length w.routers) s.graph costs entries exits
+ready w s costs entries exits k same listed least in_entries in_exits = record {
+  places_are = k.is_graph.places;
+  listed = ap length same ∙ listed ∙ k.is_graph.places;
+  least = λ t below. subst (λ cs. AreCosts s.graph exits t (costs_to cs t)) (sym same) (least t);
   entries_in = in_entries;
   exits_in = in_exits;
 }
+
+-- a search goes on over the same graph
+pub still_search : (w : Network) (s u : SearchSeen) → u.graph ≡ s.graph → IsSearchOf w s → IsSearchOf w u
+still_search w s u same k = record {
+  is_graph = subst (IsGraphOf w) (sym same) k.is_graph;
+  most = subst (λ (g : GraphSeen). costs_at_most most_step_cost g.steps ≡ true) (sym same) k.most;
+}
+
+-- what was found by a search
+pub searched : (w : Network) (s : SearchSeen) (costs : List (List ℕ)) (entries : List Entry) (exits : List Exit) (found : Option Route) → IsSearchOf w s
+    → IsReady (length w.routers) s.graph costs entries exits → IsFound s.graph costs (first_of_all costs entries None exits) found → IsSearched w entries exits found
+searched w s costs entries exits found k at_hand is = record { graph = s.graph; is_graph = k.is_graph; costs = costs; least = at_hand.least; route = is }
 
 -- a choice has a least path in a graph
 pub record IsWalkable (g : GraphSeen) (costs : List (List ℕ)) (c : Choice) : Type 0 where

@@ -3,6 +3,7 @@ pub mod Decisions
 pub mod Explanations
 pub mod Offers
 pub mod Searched
+pub mod FoundRoutes
 pub mod Parts
 pub mod Reached
 pub mod BestClaims

@@ -1,5 +1,5 @@
 -- What the private functions of the search for a route find. No public contract cites it.
-use Rattle.std.specs.Prelude.{◌≡◌, ℕ, suc, ◌+◌, ◌<◌, ◌≤◌, ◌==◌, Bool, true, false, cond, ⊤, List, [], ◌∷◌, ◌++◌, map, length, None, Some, Ok, Err}
+use Rattle.std.specs.Prelude.{◌≡◌, ℕ, suc, ◌+◌, ◌<◌, ◌≤◌, ◌==◌, Bool, true, false, cond, ⊤, ◌⊎◌, List, [], ◌∷◌, ◌++◌, map, filter, length, None, Some, Ok, Err}
 use Rattle.std.specs.declared.option.Option.{Option}
 use Rattle.std.specs.declared.result.Result.{Result}
 use Rattle.std.specs.Cmp.Lexicographic.{slice_cmp}
@@ -17,8 +17,11 @@ use Rattle.ctrl_model.specs.Networks.{Network, hops, is_counted, counted, admiss
 use Rattle.ctrl_model.specs.Choices.{Ask, Wanted, Candidate, IsBest, is_absent, place_of, shared, ingresses, candidates_for, first_denial}
 use Rattle.ctrl_model.specs.Mirrors.{Mirrors}
 use Rattle.path_certificate.specs.Graphs.{GraphSeen, graph_hops, potential}
+use Rattle.path_certificate.specs.StepLists.{AreListed}
+use Rattle.path_certificate.specs.declared.graph.Step.{Step}
+use Rattle.path_certificate.specs.declared.listing.StepEnd.TheVariants as step_end
 use Rattle.path_search.specs.Searches.{IsLeast, AreFew, IsFirst}
-use Rattle.fabric_graph.specs.Routers.{number_at}
+use Rattle.fabric_graph.specs.Routers.{number_at, costs_at_most}
 use Rattle.circuit_rules.specs.declared.views.Route.{Route}
 use Rattle.circuit_rules.specs.declared.views.DecideFault.{DecideFault}
 use Rattle.circuit_rules.specs.declared.views.DecideFault.TheVariants as fault
@@ -104,9 +107,24 @@ costs_to costs place = slice_index_or costs place []
 abbrev pub is_exit_at : List Exit → ℕ → Bool
 is_exit_at exits place = list_any (λ o. o.place == place) exits
 
+-- The least costs of paths to a place, each with its bound.
+abbrev pub IsKnown : GraphSeen → ℕ → List ℕ → Type 0
+IsKnown g place p = IsLeast g place p × AreFew g p
+
 -- The least costs of paths to a place, if it has an exit.
 abbrev pub AreCosts : GraphSeen → List Exit → ℕ → List ℕ → Type 0
-AreCosts g exits place p = is_exit_at exits place ≡ true → IsLeast g place p × AreFew g p
+AreCosts g exits place p = is_exit_at exits place ≡ true → IsKnown g place p
+
+-- A graph, and the least costs to those of its places that were searched.
+pub record SearchSeen : Type 0 where
+  pub graph : GraphSeen
+  pub costs : List (List ℕ)
+
+-- What a search keeps: the steps of its graph by the places that they lead to, and for each place nothing or the least costs to it.
+pub record KeepsCosts (g : GraphSeen) (lists : List (List Step)) (costs : List (List ℕ)) : Type 0 where
+  pub listed : AreListed step_end.To (length g.through) g.steps lists
+  pub places : length costs ≡ length g.through
+  pub each : (t : ℕ) → t < length g.through → (costs_to costs t ≡ []) ⊎ IsKnown g t (costs_to costs t)
 
 -- Least costs, of which each is small.
 pub record AreSmall (places : ℕ) (p : List ℕ) : Type 0 where
@@ -171,6 +189,19 @@ IsFound g costs (Some c) (Some r) = GoesFirst g costs c r
 pub record IsGraphOf (w : Network) (g : GraphSeen) : Type 0 where
   pub places : length g.through ≡ length w.routers
   pub mirrors : (t : ℕ) → t < length w.routers → Mirrors (length w.routers) (number_at w.routers) (graph_hops g t) (hops w (number_at w.routers t))
+
+-- What a step of a graph of links costs at most: its link at most 65,535 and twice 60,000, and entering a router at most 65,535.
+abbrev pub most_step_cost : ℕ
+most_step_cost = 251070
+
+-- A search goes over the graph of a network, and no step of the graph costs more than steps of links can.
+pub record IsSearchOf (w : Network) (s : SearchSeen) : Type 0 where
+  pub is_graph : IsGraphOf w s.graph
+  pub most : costs_at_most most_step_cost s.graph.steps ≡ true
+
+-- Those of the exits whose precedence stands at a place.
+abbrev pub exits_at : ℕ → List Exit → List Exit
+exits_at place exits = filter (λ o. place_of o.precedence == place) exits
 
 -- What a search of a network between entries and exits finds.
 pub record IsSearched (w : Network) (entries : List Entry) (exits : List Exit) (found : Option Route) : Type 0 where

@@ -1,22 +1,37 @@
-ghost use Rattle.std.specs.Prelude.{◌≡◌, ◌<◌, ◌≤◌, All, length, IfOk, IsErrOf};
+ghost use Rattle.std.specs.Prelude.{◌≡◌, ◌<◌, ◌≤◌, All, length, option_map, IfOk, IfSome, IsErrOf};
 ghost use Rattle.ctrl_model.specs.Claims.{no_path};
 ghost use Rattle.path_certificate.specs.Graphs.{potential};
 ghost use Rattle.path_search.specs.Searches.{IsLeast};
 ghost use Rattle.fabric_graph.specs.Routers.{AreRouters};
 ghost use Rattle.circuit_rules.specs.Views.{network, asked};
 ghost use Rattle.circuit_rules.specs.Decisions.{Decides, MayWantMemory};
-ghost use Rattle.circuit_rules.specs.Searched.{Passes, PassesAtOnce, end_rules, costs_to, GoesFirst, IsSearched, IsBestWay};
+ghost use Rattle.circuit_rules.specs.Searched.{Passes, PassesAtOnce, end_rules, costs_to, GoesFirst, IsSearched, IsBestWay, IsSearchOf, exits_at};
+ghost use Rattle.circuit_rules.specs.FoundRoutes.{IsFoundFirst, AreEnds, route_found};
 
 use crate::choosing::{Choice, first_of_all};
-use crate::costs::costs;
 use crate::ingresses::allowed_ingresses;
-use crate::offers::allowed_offers;
+use crate::offers::{allowed_offers, place_of};
 use crate::places::{Entry, Exit, entries, exits};
+use crate::searching::Search;
 use crate::views::{Ask, DecideFault, Route, View};
-use ctrl_model::{Denial, IdentityNo, Potentials, RouterNo, ServiceNo, TermNo};
+use ctrl_model::{Denial, IdentityNo, Potentials, Precedence, RouterNo, ServiceNo, TermNo};
 use path_certificate::Graph;
 use path_search::walk;
 use std::alloc::{AllocError, Global};
+
+/// Where a circuit may enter and end.
+#[derive(Drop)]
+pub struct Ends {
+    pub entries: Vec<Entry>,
+    pub exits: Vec<Exit>,
+}
+
+/// A route, and the search that found it.
+#[derive(Drop)]
+pub struct Found {
+    pub route: Route,
+    pub search: Search,
+}
 
 // The route of a choice: over the first of the least paths between its places.
 fn route_of(
@@ -48,46 +63,162 @@ fn route_of(
 fn least_route(
     alloc: Global,
     view: &View,
+    search: &mut Search,
     entries: &[Entry],
     exits: &[Exit],
 ) -> Result<Option<Route>, AllocError>
     requires routers { AreRouters view.now.routers.now }
+    requires search { IsSearchOf (network view.now) search.old }
     requires entries { All (λ x. x.place < length view.now.routers.now) entries.now }
     requires exits { All (λ o. o.place < length view.now.routers.now) exits.now }
     requires costs { All (λ o. o.cost ≤ 65535) exits.now }
-    ensures { IfOk result (IsSearched (network view.now) entries.now exits.now) }
+    ensures search { IsSearchOf (network view.now) search.new }
+    ensures route { IfOk result (IsSearched (network view.now) entries.now exits.now) }
 {
-    let graph = view.fabric.graph_of(alloc, view.routers)?;
-    let costs = costs(alloc, &graph, exits)?;
-    let costs = costs.as_slice();
+    search.visit_exits(alloc, exits)?;
+    let costs = search.costs();
     let Some(choice) = first_of_all(costs, entries, exits, view.routers.len()) else {
         return Ok(None);
     };
-    let route = route_of(alloc, &graph, costs, &choice)?;
+    let route = route_of(alloc, search.graph(), costs, &choice)?;
     Ok(Some(route))
 }
 
-// The least route of a request whose identity and service are present, if there is one. `Denied` comes where a rule fails on where
-// the circuit enters or ends.
-fn best_route(
+// Those of the exits whose precedence stands at a place.
+fn exits_at(alloc: Global, exits: &[Exit], place: u8) -> Result<Vec<Exit>, AllocError>
+    ensures { IfOk result (λ v. v.items ≡ exits_at place exits.now) }
+{
+    exits
+        .iter()
+        .copied()
+        .filter(|exit| place_of(exit.precedence) == place)
+        .collect(alloc)
+}
+
+// The least route to an exit of the precedence that stands at a place.
+fn route_at(
+    alloc: Global,
+    view: &View,
+    search: &mut Search,
+    entries: &[Entry],
+    exits: &[Exit],
+    place: u8,
+) -> Result<Option<Route>, AllocError>
+    requires routers { AreRouters view.now.routers.now }
+    requires search { IsSearchOf (network view.now) search.old }
+    requires entries { All (λ x. x.place < length view.now.routers.now) entries.now }
+    requires exits { All (λ o. o.place < length view.now.routers.now) exits.now }
+    requires costs { All (λ o. o.cost ≤ 65535) exits.now }
+    ensures search { IsSearchOf (network view.now) search.new }
+    ensures route { IfOk result (IsSearched (network view.now) entries.now (exits_at place exits.now)) }
+{
+    let exits = exits_at(alloc, exits, place)?;
+    least_route(alloc, view, search, entries, exits.as_slice())
+}
+
+// The least route to an exit of the best precedence that has one. Places of a worse precedence are not searched.
+fn first_route(
+    alloc: Global,
+    view: &View,
+    search: &mut Search,
+    entries: &[Entry],
+    exits: &[Exit],
+) -> Result<Option<Route>, AllocError>
+    requires routers { AreRouters view.now.routers.now }
+    requires search { IsSearchOf (network view.now) search.old }
+    requires entries { All (λ x. x.place < length view.now.routers.now) entries.now }
+    requires exits { All (λ o. o.place < length view.now.routers.now) exits.now }
+    requires costs { All (λ o. o.cost ≤ 65535) exits.now }
+    ensures search { IsSearchOf (network view.now) search.new }
+    ensures route { IfOk result (IsFoundFirst (network view.now) entries.now exits.now) }
+{
+    'places: for place in place_of(Precedence::Required)..place_of(Precedence::Failed) + 1 {
+        let route = route_at(alloc, view, search, entries, exits, place)?;
+        if let Some(route) = route {
+            return Ok(Some(route));
+        }
+    }
+    Ok(None)
+}
+
+// Where a circuit of a request may enter and end. `Denied` comes where a rule on that fails.
+fn ends_of(
     alloc: Global,
     view: &View,
     ask: &Ask,
     identity: IdentityNo,
     service: ServiceNo,
-) -> Result<Option<Route>, DecideFault>
+) -> Result<Ends, DecideFault>
     requires routers { AreRouters view.now.routers.now }
-    requires who { (asked ask.now).identity ≡ Some identity.0 }
-    requires what { (asked ask.now).service ≡ Some service.0 }
-    ensures best { Passes (end_rules (network view.now) (asked ask.now) identity.0 service.0) (IsBestWay (network view.now) (asked ask.now) identity.0 service.0) result }
+    ensures ends { Passes (end_rules (network view.now) (asked ask.now) identity.0 service.0) (AreEnds (network view.now) (asked ask.now) identity.0 service.0) result }
     ensures memory { IsErrOf result DecideFault.NoMemory → PassesAtOnce (network view.now) (asked ask.now).ingress identity.0 service.0 }
 {
     let ingresses = allowed_ingresses(alloc, view, ask.ingress, identity, service)?;
     let offers = allowed_offers(alloc, view, service, &ask.instance)?;
     let entries = entries(alloc, view.routers, ingresses.as_slice())?;
     let exits = exits(alloc, view.routers, offers.as_slice())?;
-    let route = least_route(alloc, view, entries.as_slice(), exits.as_slice())?;
-    Ok(route)
+    Ok(Ends { entries, exits })
+}
+
+// The least route between ends, if there is one, and the search that found it.
+fn found_between(alloc: Global, view: &View, ends: &Ends) -> Result<Option<Found>, AllocError>
+    requires routers { AreRouters view.now.routers.now }
+    requires entries { All (λ x. x.place < length view.now.routers.now) ends.now.entries.items }
+    requires exits { All (λ o. o.place < length view.now.routers.now) ends.now.exits.items }
+    requires costs { All (λ o. o.cost ≤ 65535) ends.now.exits.items }
+    ensures search { IfOk result (λ o. IfSome o (λ f. IsSearchOf (network view.now) f.search)) }
+    ensures route { IfOk result (λ o. IsFoundFirst (network view.now) ends.now.entries.items ends.now.exits.items (option_map (λ f. f.route) o)) }
+{
+    let mut search = Search::over(alloc, view)?;
+    let (entries, exits) = (ends.entries.as_slice(), ends.exits.as_slice());
+    match first_route(alloc, view, &mut search, entries, exits)? {
+        Some(route) => Ok(Some(Found { route, search })),
+        None => Ok(None),
+    }
+}
+
+// The least route of a request whose identity and service are present, if there is one, and the search that found it. `Denied` comes
+// where a rule fails on where the circuit enters or ends.
+fn best_route(
+    alloc: Global,
+    view: &View,
+    ask: &Ask,
+    identity: IdentityNo,
+    service: ServiceNo,
+) -> Result<Option<Found>, DecideFault>
+    requires routers { AreRouters view.now.routers.now }
+    requires who { (asked ask.now).identity ≡ Some identity.0 }
+    requires what { (asked ask.now).service ≡ Some service.0 }
+    ensures best { Passes (end_rules (network view.now) (asked ask.now) identity.0 service.0) (λ o. IsBestWay (network view.now) (asked ask.now) identity.0 service.0 (option_map (λ f. f.route) o)) result }
+    ensures search { IfOk result (λ o. IfSome o (λ f. IsSearchOf (network view.now) f.search)) }
+    ensures memory { IsErrOf result DecideFault.NoMemory → PassesAtOnce (network view.now) (asked ask.now).ingress identity.0 service.0 }
+{
+    let _next = view.terminators.next();
+    let ends = ends_of(alloc, view, ask, identity, service)?;
+    let found = found_between(alloc, view, &ends)?;
+    Ok(found)
+}
+
+/// The least route of a request and the search that found it, or why it gets none, as `decide` says.
+pub fn find_route(alloc: Global, view: &View, ask: &Ask) -> Result<Found, DecideFault>
+    requires { AreRouters view.now.routers.now }
+    ensures decides { Decides (network view.now) (asked ask.now) (route_found result) }
+    ensures search { IfOk result (λ f. IsSearchOf (network view.now) f.search) }
+    ensures memory { IsErrOf result DecideFault.NoMemory → MayWantMemory (network view.now) (asked ask.now) }
+{
+    let Some(identity) = ask.identity else {
+        return Err(DecideFault::Denied(Denial::UnknownIdentity));
+    };
+    let Some(service) = ask.service else {
+        return Err(DecideFault::Denied(Denial::UnknownService));
+    };
+    let Some(found) = best_route(alloc, view, ask, identity, service)? else {
+        return Err(DecideFault::Denied(Denial::NoPath));
+    };
+    if view.circuits_full {
+        return Err(DecideFault::Denied(Denial::CircuitsFull));
+    }
+    Ok(found)
 }
 
 /// The least route of a request, or why it gets none: `Denied` with the first rule that fails, exactly where one does
@@ -98,17 +229,6 @@ pub fn decide(alloc: Global, view: &View, ask: &Ask) -> Result<Route, DecideFaul
     // Memory can be wanting only where no rule fails that needs none.
     ensures memory { IsErrOf result DecideFault.NoMemory → MayWantMemory (network view.now) (asked ask.now) }
 {
-    let Some(identity) = ask.identity else {
-        return Err(DecideFault::Denied(Denial::UnknownIdentity));
-    };
-    let Some(service) = ask.service else {
-        return Err(DecideFault::Denied(Denial::UnknownService));
-    };
-    let Some(route) = best_route(alloc, view, ask, identity, service)? else {
-        return Err(DecideFault::Denied(Denial::NoPath));
-    };
-    if view.circuits_full {
-        return Err(DecideFault::Denied(Denial::CircuitsFull));
-    }
-    Ok(route)
+    let found = find_route(alloc, view, ask)?;
+    Ok(found.route)
 }

@@ -8,12 +8,13 @@ ghost use Rattle.circuit_rules.specs.Decisions.{Grants, MayWantMemory};
 ghost use Rattle.circuit_rules.specs.Explanations.{IsExplained, Explains};
 ghost use Rattle.circuit_rules.specs.Offers.{offer_of};
 ghost use Rattle.circuit_rules.specs.Reached.{explained};
+ghost use Rattle.circuit_rules.specs.Searched.{IsSearchOf};
 
-use crate::deciding::decide;
+use crate::deciding::{Found, find_route};
 use crate::numbers::router_numbers;
 use crate::offers::{offer_at, offers, place_of};
 use crate::reaching::reaches;
-use crate::views::{Ask, DecideFault, Route, View};
+use crate::views::{Ask, DecideFault, View};
 use ctrl_model::{Explanation, Instance, Numbers, Reaches, ServiceNo};
 use std::alloc::{AllocError, Global};
 
@@ -24,15 +25,16 @@ fn explanation(
     view: &View,
     service: ServiceNo,
     instance: &Instance,
-    route: Route,
+    found: Found,
     most: u8,
 ) -> Result<Explanation, AllocError>
-    requires { AreRouters view.now.routers.now }
-    ensures { IfOk result (λ e. e ≡ explained (network view.now) (map offer_of (admissible (network view.now) service.0 instance.now)) most route) }
+    requires routers { AreRouters view.now.routers.now }
+    requires search { IsSearchOf (network view.now) found.search }
+    ensures { IfOk result (λ e. e ≡ explained (network view.now) (map offer_of (admissible (network view.now) service.0 instance.now)) most found.route) }
 {
+    let Found { route, mut search } = found;
     let offers = offers(alloc, view, service, instance)?;
-    let graph = view.fabric.graph_of(alloc, view.routers)?;
-    let potentials = reaches(alloc, view, &graph, offers.as_slice(), most)?;
+    let potentials = reaches(alloc, view, &mut search, offers.as_slice(), most)?;
     let routers = router_numbers(alloc, view.routers)?;
     Ok(Explanation {
         ingress: route.ingress,
@@ -49,10 +51,11 @@ fn explain_route(
     alloc: Global,
     view: &View,
     ask: &Ask,
-    route: Route,
+    found: Found,
 ) -> Result<Explanation, AllocError>
     requires routers { AreRouters view.now.routers.now }
-    requires granted { Grants (network view.now) (asked ask.now) route }
+    requires granted { Grants (network view.now) (asked ask.now) found.route }
+    requires search { IsSearchOf (network view.now) found.search }
     ensures explained { IfOk result (IsExplained (network view.now) (asked ask.now)) }
     ensures justified { IfOk result (λ e. justified (network view.now) (asked ask.now) e ≡ true) }
     ensures best { IfOk result (IsBestClaim (network view.now) (asked ask.now)) }
@@ -60,9 +63,9 @@ fn explain_route(
     let _next = view.terminators.next();
     let _next_link = view.fabric.next();
     let service = ask.service.unwrap();
-    let offer = offer_at(view.terminators, route.terminator).unwrap();
+    let offer = offer_at(view.terminators, found.route.terminator).unwrap();
     let most = place_of(offer.precedence);
-    explanation(alloc, view, service, &ask.instance, route, most)
+    explanation(alloc, view, service, &ask.instance, found, most)
 }
 
 /// The route that a request would get, with what shows that it is the least; or why it gets none (docs/RULES.md, "Explanations and
@@ -76,7 +79,7 @@ pub fn explain(alloc: Global, view: &View, ask: &Ask) -> Result<Explanation, Dec
     ensures justified { IfOk result (λ e. justified (network view.now) (asked ask.now) e ≡ true) }
     ensures best { IfOk result (IsBestClaim (network view.now) (asked ask.now)) }
 {
-    let route = decide(alloc, view, ask)?;
-    let explanation = explain_route(alloc, view, ask, route)?;
+    let found = find_route(alloc, view, ask)?;
+    let explanation = explain_route(alloc, view, ask, found)?;
     Ok(explanation)
 }

@@ -1,36 +1,32 @@
-use Rattle.std.proofs.Common.{◌≡◌, ◌<◌, ◌≤◌, length, map, sym, ◌∙◌, ap, subst}
+use Rattle.std.proofs.Common.{◌≤◌, sym, subst}
 use Rattle.std.specs.List.{All}
+use Rattle.std.specs.Option.{option_map}
 use Rattle.model_laws.proofs.NumberLaws.{Between-none_twice}
+use Rattle.circuit_rules.specs.declared.deciding.Found.{Found}
 use Rattle.circuit_rules.specs.declared.places.Exit.{Exit}
-use Rattle.circuit_rules.specs.declared.places.Entry.{Entry}
 use Rattle.circuit_rules.specs.Views.{network, asked}
-use Rattle.circuit_rules.specs.Searched.{entry_rules, offer_rules, entry_of, entries_to, exits_to}
-use Rattle.circuit_rules.proofs.DecideLaws.{entries_placed, exits_placed, exits_are}
-use Rattle.circuit_rules.proofs.RequestLaws.{exits_cheap, best_way, both_pass}
+use Rattle.circuit_rules.proofs.RequestLaws.{IsRequest, exits_cheap, ends_entered, ends_left, best_way}
 use Rattle.circuit_rules.proofs.deciding.best_route.Goals as goal
 
-pub least_route-requires : goal.least_route-requires
-least_route-requires c =
+pub found_between-requires : goal.found_between-requires
+found_between-requires c =
     let w = network c.args.view.now in
     let ask = asked c.args.ask.now in
-    let same_entries : c.as_slice-3.result.now ≡ entries_to w ask c.args.identity.0 c.args.service.0
-    = c.as_slice-3.ensures.value ∙ c.in_ok-entries.ensures ∙ ap (map (entry_of w.routers)) (c.as_slice.ensures.value ∙ c.in_ok-ingresses.ensures.allowed.1) in
-    let same_exits : c.as_slice-4.result.now ≡ exits_to w ask c.args.service.0
-    = c.as_slice-4.ensures.value ∙ c.in_ok-exits.ensures ∙ exits_are w ask c.args.service.0 c.as_slice-2.result.now (c.as_slice-2.ensures.value ∙ c.in_ok-offers.ensures.offers.1) in
+    let once = Between-none_twice 1 c.args.view.now.terminators.now.terminators.next w.terminators c.next-next.ensures.keeps.ordered in
+    let k : IsRequest w ask c.args.identity.0 c.args.service.0 = record { who = c.requires.who; what = c.requires.what; routers = c.requires.routers; once = once } in
     record {
       routers = c.requires.routers;
-      entries = subst (λ xs. All (λ (x : Entry). x.place < length w.routers) xs) (sym same_entries) (entries_placed w c.requires.routers ask c.args.identity.0 c.args.service.0);
-      exits = subst (λ os. All (λ (o : Exit). o.place < length w.routers) os) (sym same_exits) (exits_placed w ask c.args.service.0);
-      costs = subst (λ os. All (λ (o : Exit). o.cost ≤ 65535) os) (sym same_exits) (exits_cheap w ask c.args.service.0 c.allowed_offers.ensures.keeps.costs);
+      entries = ends_entered w ask c.args.identity.0 c.args.service.0 k c.in_ok-ends.ends c.in_ok-ends.ensures.ends.1;
+      exits = ends_left w ask c.args.identity.0 c.args.service.0 k c.in_ok-ends.ends c.in_ok-ends.ensures.ends.1;
+      costs = subst (λ os. All (λ (o : Exit). o.cost ≤ 65535) os) (sym c.in_ok-ends.ensures.ends.1.1) (exits_cheap w ask c.args.service.0 c.next-next.ensures.keeps.costs);
     }
 
 pub returns-clause-best : goal.returns-clause-best
 returns-clause-best c =
     let w = network c.args.view.now in
-    let ask = asked c.args.ask.now in (
-      both_pass (entry_rules w ask.ingress c.args.identity.0 c.args.service.0) (offer_rules w c.args.service.0 ask.instance) c.in_ok-ingresses.ensures.allowed.0 c.in_ok-offers.ensures.offers.0,
-      best_way w ask c.args.identity.0 c.args.service.0 c.as_slice-3.result.now c.as_slice-4.result.now c.in_ok-route.route c.requires.who c.requires.what c.requires.routers
-          (Between-none_twice 1 c.args.view.now.terminators.now.terminators.next w.terminators c.allowed_offers.ensures.keeps.ordered)
-          (c.as_slice-3.ensures.value ∙ c.in_ok-entries.ensures ∙ ap (map (entry_of w.routers)) (c.as_slice.ensures.value ∙ c.in_ok-ingresses.ensures.allowed.1))
-          (c.as_slice-4.ensures.value ∙ c.in_ok-exits.ensures ∙ exits_are w ask c.args.service.0 c.as_slice-2.result.now (c.as_slice-2.ensures.value ∙ c.in_ok-offers.ensures.offers.1)) c.in_ok-route.ensures,
+    let ask = asked c.args.ask.now in
+    let once = Between-none_twice 1 c.args.view.now.terminators.now.terminators.next w.terminators c.next-next.ensures.keeps.ordered in
+    let k : IsRequest w ask c.args.identity.0 c.args.service.0 = record { who = c.requires.who; what = c.requires.what; routers = c.requires.routers; once = once } in (
+      c.in_ok-ends.ensures.ends.0,
+      best_way w ask c.args.identity.0 c.args.service.0 k c.in_ok-ends.ends (option_map (λ (f : Found). f.route) c.in_ok-found.found) c.in_ok-ends.ensures.ends.1 c.in_ok-found.ensures.route,
     )

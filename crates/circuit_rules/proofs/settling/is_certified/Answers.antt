@@ -1,4 +1,4 @@
-use Rattle.std.proofs.Common.{◌≡◌, ◌<◌, ◌≤◌, length, sym, ◌∙◌, ap, subst}
+use Rattle.std.proofs.Common.{◌≡◌, ◌<◌, ◌≤◌, length, sym, subst}
 use Rattle.fabric_graph.specs.Routers.{number_at}
 use Rattle.circuit_rules.specs.Searched.{place_in}
 use Rattle.circuit_rules.specs.Views.{network}
