@@ -1,7 +1,7 @@
 ghost use Rattle.std.specs.Prelude.{IfSome};
 ghost use Rattle.channel_frame.specs.FrameSpelling.{KeepsLimits};
 
-use channel_frame::{Frame, encode, last_of, read_frame, read_head};
+use channel_frame::{Frame, encode, encode_behind, last_of, read_frame, read_head};
 use std::alloc::Global;
 use std::test::Fail;
 
@@ -49,6 +49,17 @@ fn a_frame_is_spelled(rt: HostRuntime) -> Result<(), Fail> {
     assert_eq!(rt; reply.headers.len(), 2);
     let again = encode(rt.alloc(), &reply)?;
     assert_eq!(rt; again.as_slice(), REPLY.as_slice());
+    Ok(())
+}
+
+#[test]
+fn a_frame_is_spelled_behind_other_bytes(rt: HostRuntime) -> Result<(), Fail> {
+    let reply = frame_of(rt.alloc(), &REPLY).ok_or("the bytes are a reply")?;
+    let mut out = Vec::from_slice(rt.alloc(), &[4, 7])?;
+    encode_behind(&mut out, &reply)?;
+    assert_eq!(rt; out.len(), 51);
+    assert!(rt; out.as_slice().starts_with(&[4, 7, 3, 6, 9, 12]));
+    assert!(rt; out.as_slice().ends_with(REPLY.as_slice()));
     Ok(())
 }
 

@@ -7,7 +7,7 @@ use ctrl_model::{
     CircuitNo, Denial, Explanation, Field, Kind, Name, NameFault, Names, Numbers, Potentials,
     Reach, Reaches, Reason, Refusal, Reply, RouterNo, Tallies, Tally, TermNo,
 };
-use reply_codec::write;
+use reply_codec::{write, write_behind};
 use std::alloc::{AllocError, Global};
 use std::process::Abort;
 use std::test::Fail;
@@ -157,6 +157,14 @@ fn writes(rt: &impl Abort, alloc: Global, reply: &Reply, body: &str) -> Result<(
 {
     let frame = write(alloc, reply, 5, 7)?;
     has_body(rt, &frame, body);
+    let mut out = Vec::from_slice(alloc, &[4, 7])?;
+    write_behind(&mut out, reply, 5, 7)?;
+    assert!(rt;
+        out.as_slice()
+            .starts_with(&[4, 7, 3, 6, 9, 12, 2, 0, 0, 0, 5]),
+        "{body}"
+    );
+    assert!(rt; out.as_slice().ends_with(body.as_bytes()), "{body}");
     Ok(())
 }
 

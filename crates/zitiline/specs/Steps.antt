@@ -6,12 +6,23 @@ use Rattle.std.specs.String.{string_bytes}
 use Rattle.ziti_outside.specs.Told.{Took, TookFront}
 use Rattle.ziti_outside.specs.Causes.{Rose}
 use Rattle.ziti_outside.specs.Images.{Image}
+use Rattle.frame_lines.specs.FaultTexts.{line_text, frame_text}
+use Rattle.trace_lines.specs.TraceTexts.{trace_text, reply_text}
 use Rattle.zitiline.specs.declared.words.Form.{Form}
 use Rattle.zitiline.specs.declared.answers.Answer.{Answer}
+use Rattle.zitiline.specs.declared.answers.Fault.{Fault}
+use Rattle.zitiline.specs.declared.answers.Fault.TheVariants.{Line, Frame, Trace, Reply}
 use Rattle.zitiline.specs.declared.status.Status.{Status}
 use Rattle.zitiline.specs.declared.status.Status.TheVariants.{Done, Usage, BadInput, ReadFault, WriteFault, NoMemory}
 use Rattle.zitiline.specs.Answers.{said_of, fault_of, status_for, status_of}
 use Rattle.zitiline.specs.Notes.{fault_note, notes_of}
+
+-- A fault in words.
+abbrev pub fault_text : Fault → List ℕ
+fault_text (Line f) = line_text f
+fault_text (Frame f) = frame_text f
+fault_text (Trace f) = trace_text f
+fault_text (Reply f) = reply_text f
 
 -- The bytes of a note that may be missing.
 abbrev pub note_bytes : Option (List ℕ) → List ℕ
