@@ -2,3 +2,4 @@ pub mod BitRows
 pub mod SlotLemmas
 pub mod UseLaws
 pub mod RoomLaws
+pub mod SlotKeeping

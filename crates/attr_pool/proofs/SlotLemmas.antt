@@ -20,7 +20,7 @@ false_where false f = refl
 pub held_name : (q : List ℕ) (s : Slot) → holds q s ≡ true → s.name ≡ q
 held_name q s h = (bytes_eq-Decides s.name q).0 (and_parts (not (is_free s)) (bytes_eq s.name q) h).1
 
-held_used : (q : List ℕ) (s : Slot) → holds q s ≡ true → is_free s ≡ false
+pub held_used : (q : List ℕ) (s : Slot) → holds q s ≡ true → is_free s ≡ false
 held_used q s h = not-true (is_free s) (and_parts (not (is_free s)) (bytes_eq s.name q) h).0
 
 held_within : (q : List ℕ) (xs : List Slot) (n : ℕ) → holds q (slot_at xs n) ≡ true → n < length xs

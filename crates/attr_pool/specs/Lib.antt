@@ -2,3 +2,4 @@ pub mod Slots
 pub mod Uses
 pub mod Moving
 pub mod WorkedSlots
+pub mod AttributeRows

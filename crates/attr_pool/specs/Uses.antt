@@ -1,9 +1,9 @@
 -- How often names are used: how often one stands in a list, how many uses slots count of it, and whether names can still be held.
-use Rattle.std.specs.Prelude.{ℕ, ◌+◌, ◌≤◌, nat_lt, nat_le, not, Bool, cond, List, ◌++◌, map, filter, count_by}
+use Rattle.std.specs.Prelude.{◌≡◌, ℕ, ◌+◌, ◌<◌, ◌≤◌, nat_lt, nat_le, not, Bool, cond, List, ◌++◌, map, filter, count_by}
 use Rattle.std.specs.List.{sum_by, list_all}
 use Rattle.std.specs.Set.{distinct_count}
 use Rattle.std.specs.Str.{bytes_eq}
-use Rattle.attr_pool.specs.Slots.{Slot, is_free, most_slots, most_uses}
+use Rattle.attr_pool.specs.Slots.{Slot, is_free, holds, slot_at, most_slots, most_uses}
 
 -- How often a name stands in a list.
 abbrev pub times : List ℕ → List (List ℕ) → ℕ
@@ -32,3 +32,7 @@ AreInUse slots names = (name : List ℕ) → times name names ≤ uses_of name s
 -- Whether a use more of each of these names can be counted.
 abbrev pub can_be_counted : List Slot → List (List ℕ) → Bool
 can_be_counted slots names = list_all (λ name. nat_le (uses_of name slots + times name names) most_uses) names
+
+-- A name that has uses before and after a change is held by the same slot.
+abbrev pub KeepsSlots : List Slot → List Slot → Type 0
+KeepsSlots old new = (name : List ℕ) → 0 < uses_of name old → 0 < uses_of name new → (n : ℕ) → holds name (slot_at new n) ≡ holds name (slot_at old n)

@@ -2,7 +2,7 @@ ghost use Rattle.std.specs.Prelude.{◌≡◌, ◌+◌, ◌<◌, ◌≤◌, ◌�
 ghost use Rattle.std.specs.Str.{bytes_eq};
 ghost use Rattle.bit_lanes.specs.Lanes.{bit_of};
 ghost use Rattle.attr_pool.specs.Slots.{free_slot, holds, slot_of, slot_at, held_count, most_slots, most_uses, without_use, row_bit, Interned, IsPool};
-ghost use Rattle.attr_pool.specs.Uses.{times, uses_of, has_slots, can_be_counted, AreInUse};
+ghost use Rattle.attr_pool.specs.Uses.{times, uses_of, has_slots, can_be_counted, AreInUse, KeepsSlots};
 
 use crate::room::{MOST_SLOTS, has_slots};
 use crate::rows::{Row, empty_row, set_bit};
@@ -108,9 +108,8 @@ impl Pool {
         let_go_at(self.slots.as_mut_slice(), usize::from(slot));
     }
 
-    /// The row of some held names: exactly the bits of the slots that hold one of them are set.
+    /// The row of some names: exactly the bits of the slots that hold one of them are set. A name that is not held has none.
     pub fn row_of(&self, names: &Names) -> Row
-        requires { All (λ name. IsSome (slot_of name self.now)) names.now }
         ensures { (n : ℕ) → bit_of result n ≡ row_bit self.now names.now n }
     {
         row_of(self.slots.as_slice(), names.as_slice())
@@ -144,19 +143,21 @@ impl Pool {
         has_slots(self.slots.as_slice(), gone.as_slice(), fresh.as_slice())
     }
 
-    /// Adds one use of each name.
+    /// Adds one use of each name. A name that has uses before keeps its slot.
     pub fn intern_all(&mut self, names: &Names)
         requires room { has_slots self.old [] names.now ≡ true }
         requires counted { can_be_counted self.old names.now ≡ true }
-        ensures { (q : List ℕ) → uses_of q self.new ≡ uses_of q self.old + times q names.now }
+        ensures uses { (q : List ℕ) → uses_of q self.new ≡ uses_of q self.old + times q names.now }
+        ensures slots { KeepsSlots self.old self.new }
     {
         intern_each(self.slots.as_mut_slice(), names.as_slice());
     }
 
-    /// Takes one use of each name away.
+    /// Takes one use of each name away. A name that still has uses keeps its slot.
     pub fn release_all(&mut self, names: &Names)
         requires { AreInUse self.old names.now }
-        ensures { (q : List ℕ) → uses_of q self.new + times q names.now ≡ uses_of q self.old }
+        ensures uses { (q : List ℕ) → uses_of q self.new + times q names.now ≡ uses_of q self.old }
+        ensures slots { KeepsSlots self.old self.new }
     {
         release_each(self.slots.as_mut_slice(), names.as_slice());
     }

@@ -1,7 +1,7 @@
 ghost use Rattle.std.specs.Prelude.{◌≡◌, ◌+◌, ◌<◌, ◌≤◌, ◌↔◌, ℕ, List, [], cond, true, nat_le, None, IfOk, OnOk, OnErr, IsErrOf};
 ghost use Rattle.std.specs.Str.{bytes_eq};
 ghost use Rattle.attr_pool.specs.Slots.{slot_of, held_count, most_slots, most_uses, Interned, IsPool};
-ghost use Rattle.attr_pool.specs.Uses.{times, uses_of, has_slots, can_be_counted, AreInUse};
+ghost use Rattle.attr_pool.specs.Uses.{times, uses_of, has_slots, can_be_counted, AreInUse, KeepsSlots};
 
 use crate::names::times;
 use crate::pool::PoolFault;
@@ -44,6 +44,7 @@ pub fn intern_in(slots: &mut [KeptSlot], name: &Name) -> Result<u16, PoolFault>
     ensures full { IsErrOf result PoolFault.Full ↔ (slot_of name.now slots.old ≡ None) × (held_count slots.old ≡ most_slots) }
     ensures memory { IsErrOf result PoolFault.NoMemory ↔ (uses_of name.now slots.old ≡ most_uses) }
     ensures uses { OnOk result ((q : List ℕ) → uses_of q slots.new ≡ uses_of q slots.old + cond (bytes_eq name.now q) 1 0) }
+    ensures slots { OnOk result (KeepsSlots slots.old slots.new) }
     ensures pool { IsPool slots.new }
 {
     let number = match number_for(slots, name) {
@@ -63,6 +64,7 @@ pub fn intern_each(slots: &mut [KeptSlot], names: &[Name])
     requires room { has_slots slots.old [] names.now ≡ true }
     requires counted { can_be_counted slots.old names.now ≡ true }
     ensures uses { (q : List ℕ) → uses_of q slots.new ≡ uses_of q slots.old + times q names.now }
+    ensures slots { KeepsSlots slots.old slots.new }
     ensures pool { IsPool slots.new }
 {
     'names: for name in names {
@@ -78,6 +80,7 @@ fn release_in(slots: &mut [KeptSlot], name: &Name)
     requires pool { IsPool slots.old }
     requires used { 0 < uses_of name.now slots.old }
     ensures uses { (q : List ℕ) → uses_of q slots.new + cond (bytes_eq name.now q) 1 0 ≡ uses_of q slots.old }
+    ensures slots { KeepsSlots slots.old slots.new }
     ensures pool { IsPool slots.new }
 {
     let number = slot_of(slots, name).unwrap();
@@ -89,6 +92,7 @@ pub fn release_each(slots: &mut [KeptSlot], names: &[Name])
     requires pool { IsPool slots.old }
     requires used { AreInUse slots.old names.now }
     ensures uses { (q : List ℕ) → uses_of q slots.new + times q names.now ≡ uses_of q slots.old }
+    ensures slots { KeepsSlots slots.old slots.new }
     ensures pool { IsPool slots.new }
 {
     'names: for name in names {

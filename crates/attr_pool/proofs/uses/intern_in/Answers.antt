@@ -5,6 +5,7 @@ use Rattle.attr_pool.specs.declared.pool.PoolFault.TheVariants.{Full, NoMemory}
 use Rattle.attr_pool.specs.Slots.{Slot, slot_at, with_use, most_uses}
 use Rattle.attr_pool.specs.Uses.{uses_of}
 use Rattle.attr_pool.proofs.SlotLemmas.{number_none, number_some, number_fits, IsPool-used, none_holds}
+use Rattle.attr_pool.proofs.SlotKeeping.{kept-interned}
 use Rattle.attr_pool.proofs.UseLaws.{uses-none, uses-with_use, number-uses}
 use Rattle.attr_pool.proofs.uses.intern_in.Goals as goal
 
@@ -58,6 +59,11 @@ returns-then-use_at-clause-uses c = λ q.
     let fits = number_fits c.args.name.now c.args.slots.now c.in-Some.number (sym c.in-Some.ensures) in
     ap (uses_of q) (taken c.use_at.new.slots (set c.args.slots.now c.in-Some.number (with_use c.args.name.now (slot_at c.args.slots.now c.in-Some.number))) c.args.slots.now c.use_at.result c.if-use_at.true c.use_at.ensures.value)
     ∙ uses-with_use q c.args.name.now c.args.slots.now c.in-Some.number fits.0 fits.1
+
+pub returns-then-use_at-clause-slots : goal.returns-then-use_at-clause-slots
+returns-then-use_at-clause-slots c =
+    kept-interned c.args.name.now c.args.slots.now c.use_at.new.slots c.in-Some.number c.requires (sym c.in-Some.ensures)
+    (taken c.use_at.new.slots (set c.args.slots.now c.in-Some.number (with_use c.args.name.now (slot_at c.args.slots.now c.in-Some.number))) c.args.slots.now c.use_at.result c.if-use_at.true c.use_at.ensures.value)
 
 pub returns-then-use_at-clause-pool : goal.returns-then-use_at-clause-pool
 returns-then-use_at-clause-pool c =
