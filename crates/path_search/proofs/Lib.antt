@@ -3,3 +3,4 @@ pub mod LeastCosts
 pub mod SettledCosts
 pub mod FirstChains
 pub mod WorkedCosts
+pub mod WaitingPlaces

@@ -28,14 +28,14 @@ improving g t p s e =
     record { counted = both.0; less = ltb-true (reached p s) (potential p s.from) both.1 }
 
 -- the potential of the step's start, and of any other place
-lowered_at : (p : List ℕ) (s : Step) → s.from < length p → potential (lowered p s) s.from ≡ reached p s
+pub lowered_at : (p : List ℕ) (s : Step) → s.from < length p → potential (lowered p s) s.from ≡ reached p s
 lowered_at p s within = get_or-set_same p s.from (reached p s) 0 within
 
-lowered_off : (p : List ℕ) (s : Step) (v : ℕ) → (v ≡ s.from → ⊥) → potential (lowered p s) v ≡ potential p v
+pub lowered_off : (p : List ℕ) (s : Step) (v : ℕ) → (v ≡ s.from → ⊥) → potential (lowered p s) v ≡ potential p v
 lowered_off p s v ne = get_or-set_other p s.from v (reached p s) 0 ne
 
 -- no potential rises
-lowered-le : (p : List ℕ) (s : Step) (v : ℕ) → s.from < length p → reached p s < potential p s.from
+pub lowered-le : (p : List ℕ) (s : Step) (v : ℕ) → s.from < length p → reached p s < potential p s.from
     → potential (lowered p s) v ≤ potential p v
 lowered-le p s v within less =
     ⊎_elim
@@ -96,7 +96,7 @@ lowered_supported g t p s graph m kept e =
     }
 
 -- and their sum falls
-lowered_less : (g : GraphSeen) (t : ℕ) (p : List ℕ) (s : Step) → s.from < length p → improves g.through t p s ≡ true
+pub lowered_less : (g : GraphSeen) (t : ℕ) (p : List ℕ) (s : Step) → s.from < length p → improves g.through t p s ≡ true
     → sum (lowered p s) < sum p
 lowered_less g t p s within e =
     let less : reached p s < potential p s.from = (improving g t p s e).less in
@@ -110,7 +110,6 @@ pub record Relaxing (g : GraphSeen) (t v : ℕ) (before p : List ℕ) (xs : List
   pub supported : Supported g t p
   pub falls : (u : ℕ) → potential p u ≤ potential before u
   pub stays : potential p v ≡ potential before v
-  pub total : sum p ≤ sum before
   pub settled : (s : Step) → Among s xs → s.to ≡ v → counts g.through t s ≡ true → potential p s.from ≤ reached p s
 
 pub relaxing_none : (g : GraphSeen) (t v : ℕ) (p : List ℕ) → Supported g t p → Relaxing g t v p p []
@@ -118,7 +117,6 @@ relaxing_none g t v p kept = record {
   supported = kept;
   falls = λ u. omega arith;
   stays = refl;
-  total = omega arith;
   settled = λ s m. absurd m;
 }
 
@@ -135,7 +133,6 @@ relaxing_more g t v before now next xs s true graph m to k is put same =
       supported = lowered_supported g t now s graph m k.supported (sym is);
       falls = λ u. let fall = fell u in let old = k.falls u in omega (arith, fall, old);
       stays = kept_at ∙ k.stays;
-      total = let fall : sum (lowered now s) < sum now = lowered_less g t now s within (sym is) in let old = k.total in omega (arith, fall, old);
       settled = λ x n is_to c. by_append xs (s ∷ []) x n (λ old. earlier x is_to (k.settled x old is_to c)) (λ own. latest x own);
     })
   where
@@ -171,7 +168,6 @@ relaxing_more g t v before now next xs s false graph m to k is put same =
       supported = k.supported;
       falls = k.falls;
       stays = k.stays;
-      total = k.total;
       settled = λ x n is_to c. by_append xs (s ∷ []) x n (λ old. k.settled x old is_to c) (λ own. latest x own c);
     })
   where
@@ -216,7 +212,6 @@ relaxed_whole g t v into before p i listed all k = record {
   supported = k.supported;
   falls = k.falls;
   stays = k.stays;
-  total = k.total;
   settled = λ s m to c.
       k.settled s
       (subst (λ xs. Among s xs) (sym (take_all i into all ∙ listed)) (Among-filter (λ s. s.to == v) g.steps s m (eq-eqb s.to v to))) to c;
@@ -251,15 +246,6 @@ spread_fixed g t v p fixed q k place waits r = record {
     settled s m c (inr ne) =
         subst (λ n. potential q s.from ≤ reach_over s.cost n) (sym (off s.to ne))
         (let fall = r.falls s.from in let old = k.settled s m c in omega (arith, fall, old))
-
--- and with a turn the sum of all potentials falls
-pub less_fixed : (g : GraphSeen) (t v : ℕ) (p fixed q : List ℕ) → Spread g t p fixed → v < length g.through
-    → potential p v < potential fixed v → Relaxed g t v p q → sum q + sum (slice_set fixed v (potential p v)) < sum p + sum fixed
-less_fixed g t v p fixed q k place waits r =
-    let moved : sum (slice_set fixed v (potential p v)) + potential fixed v ≡ sum fixed + potential p v =
-    sum_by-set (λ x. x) fixed v (potential p v) 0 (subst (λ n. v < n) (sym k.places) place) in
-    let fall : sum q ≤ sum p = r.total in
-    omega (arith, moved, fall, waits)
 
 -- where all potentials are fixed, no step improves one
 pub fixed_settled : (g : GraphSeen) (t : ℕ) (p fixed : List ℕ) → IsGraph g.through g.steps → Spread g t p fixed → AllFixed p fixed

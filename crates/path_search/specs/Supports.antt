@@ -1,7 +1,7 @@
 -- What the private functions of the search keep. No public contract cites it.
-use Rattle.std.specs.Prelude.{◌≡◌, true, sum, ℕ, ◌+◌, ◌<◌, ◌≤◌, ◌==◌, ◌&&◌, ◌⊎◌, nat_lt, Bool, List, length, Some}
+use Rattle.std.specs.Prelude.{◌≡◌, sum, ℕ, ◌+◌, ◌<◌, ◌≤◌, ◌==◌, ◌&&◌, ◌⊎◌, nat_lt, Bool, true, List, length, map, Some}
 use Rattle.path_certificate.specs.declared.graph.Step.{Step}
-use Rattle.std.specs.List.{slice_set}
+use Rattle.std.specs.List.{All, Contains, slice_set}
 use Rattle.ctrl_model.specs.Membership.{Among}
 use Rattle.ctrl_model.specs.Claims.{no_path, reach_over}
 use Rattle.path_certificate.specs.Graphs.{GraphSeen, counts, graph_hops, potential}
@@ -34,7 +34,6 @@ pub record Relaxed (g : GraphSeen) (target v : ℕ) (before p : List ℕ) : Type
   pub supported : Supported g target p
   pub falls : (u : ℕ) → potential p u ≤ potential before u
   pub stays : potential p v ≡ potential before v
-  pub total : sum p ≤ sum before
   pub settled : (s : Step) → Among s g.steps → s.to ≡ v → counts g.through target s ≡ true → potential p s.from ≤ reached p s
 
 -- No potential is less than the fixed one.
@@ -48,6 +47,23 @@ pub record Spread (g : GraphSeen) (target : ℕ) (p fixed : List ℕ) : Type 0 w
   pub places : length fixed ≡ length g.through
   pub above : (v : ℕ) → v < length g.through → potential p v ≤ potential fixed v
   pub settled : (s : Step) → Among s g.steps → counts g.through target s ≡ true → potential p s.from ≤ reached fixed s
+
+-- The places of what waits, which are pairs of potential and place.
+abbrev pub places_of : List (ℕ × ℕ) → List ℕ
+places_of waiting = map (λ e. e.1) waiting
+
+-- Each place whose potential is less than the fixed one waits, and nothing but places does.
+pub record IsWaiting (p fixed waiting : List ℕ) : Type 0 where
+  pub each : (v : ℕ) → v < length p → potential p v < potential fixed v → Contains waiting v
+  pub places : All (λ v. v < length p) waiting
+
+-- What waits after some potentials fell: what did before, each place whose potential fell, and nothing but places. For each place
+-- that waits more the potentials have fallen by at least 1.
+pub record Grown (before p old new : List ℕ) : Type 0 where
+  pub kept : (v : ℕ) → Contains old v → Contains new v
+  pub fell : (v : ℕ) → potential p v < potential before v → Contains new v
+  pub places : All (λ v. v < length before) old → All (λ v. v < length before) new
+  pub fewer : length new + sum p ≤ length old + sum before
 
 -- The step leaves the place, counts, and falls from the place's potential, which is not `no_path`, by exactly its cost.
 abbrev pub falls_from : List Bool → ℕ → List ℕ → ℕ → Step → Bool

@@ -2,6 +2,7 @@
 #![tactic(auto)]
 
 mod relaxing;
+mod waiting;
 mod walking;
 mod worked;
 

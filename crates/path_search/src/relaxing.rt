@@ -1,4 +1,4 @@
-ghost use Rattle.std.specs.Prelude.{◌≡◌, ◌+◌, ◌<◌, ◌≤◌, ◌⊎◌, Some, length, sum, IfOk, IfSome, IfNone, true, replicate};
+ghost use Rattle.std.specs.Prelude.{◌≡◌, ◌+◌, ◌<◌, ◌≤◌, ◌∷◌, length, sum, IfOk, OnOk, true, replicate};
 ghost use Rattle.std.specs.Bool.{OnTrue, OnFalse};
 ghost use Rattle.std.specs.List.{slice_set};
 ghost use Rattle.ctrl_model.specs.Claims.{no_path};
@@ -6,11 +6,20 @@ ghost use Rattle.path_certificate.specs.Graphs.{potential, improves, none_improv
 ghost use Rattle.path_certificate.specs.StepLists.{standing, AreListed};
 ghost use Rattle.path_certificate.specs.declared.listing.StepEnd.TheVariants as step_end;
 ghost use Rattle.path_search.specs.Searches.{IsLeast, AreFew};
-ghost use Rattle.path_search.specs.Supports.{Supported, lowered, Relaxed, AllFixed, Spread};
+ghost use Rattle.path_search.specs.Supports.{Supported, lowered, Relaxed, Spread, places_of, IsWaiting, Grown};
 
+use crate::waiting::Waiting;
 use ctrl_model::Potentials;
 use path_certificate::{Graph, Step, StepEnd, StepLists, improves, reach};
 use std::alloc::{AllocError, Global};
+
+// A graph, its steps by the places that they lead to, and the target of a search.
+#[derive(Clone, Copy)]
+struct Search<'a> {
+    graph: &'a Graph,
+    lists: &'a StepLists,
+    target: u16,
+}
 
 fn start(alloc: Global, places: usize, target: u16) -> Result<Vec<u64>, AllocError>
     requires { target < places }
@@ -38,77 +47,117 @@ fn relax_step(graph: &Graph, target: u16, potentials: &mut [u64], step: &Step) -
     }
 }
 
-// Relaxes the steps into a place.
-fn relax_into(graph: &Graph, target: u16, potentials: &mut [u64], place: u16, into: &[Step])
+// Relaxes the step. Where its start's potential falls, the start waits.
+fn relax_and_wait(
+    graph: &Graph,
+    target: u16,
+    potentials: &mut [u64],
+    waiting: &mut Waiting,
+    step: &Step,
+) -> Result<(), AllocError>
+    requires places { length potentials.old ≡ length graph.now.through }
+    requires from { step.now.from < length potentials.old }
+    requires to { step.now.to < length potentials.old }
+    ensures set { OnOk result (OnTrue (improves graph.now.through target potentials.old step.now) (potentials.new ≡ lowered potentials.old step.now)) }
+    ensures same { OnOk result (OnFalse (improves graph.now.through target potentials.old step.now) (potentials.new ≡ potentials.old)) }
+    ensures grown { OnOk result (Grown potentials.old potentials.new (places_of waiting.old) (places_of waiting.new)) }
+{
+    if !relax_step(graph, target, potentials, step) {
+        return Ok(());
+    }
+    waiting.push(potentials[step.from as usize], step.from)
+}
+
+// Relaxes the steps into a place. The places whose potentials fall wait.
+fn relax_into(
+    graph: &Graph,
+    target: u16,
+    potentials: &mut [u64],
+    waiting: &mut Waiting,
+    place: u16,
+    into: &[Step],
+) -> Result<(), AllocError>
     requires supported { Supported graph.now target potentials.old }
     requires into { into.now ≡ standing step_end.To place graph.now.steps }
-    ensures { Relaxed graph.now target place potentials.old potentials.new }
+    ensures relaxed { OnOk result (Relaxed graph.now target place potentials.old potentials.new) }
+    ensures grown { OnOk result (Grown potentials.old potentials.new (places_of waiting.old) (places_of waiting.new)) }
 {
     let _places = graph.places();
     'steps: for step in into {
-        relax_step(graph, target, potentials, step);
+        relax_and_wait(graph, target, potentials, waiting, step)?;
     }
-}
-
-// The one of two places, of which the first may be none, that has the lesser potential.
-fn nearer(potentials: &[u64], place: Option<u16>, other: u16) -> u16
-    requires place { IfSome place (λ v. v < length potentials.now) }
-    requires other { other < length potentials.now }
-    ensures { (result ≡ other) ⊎ (place ≡ Some result) }
-{
-    match place {
-        Some(place) if potentials[place as usize] <= potentials[other as usize] => place,
-        _ => other,
-    }
-}
-
-// Of the places whose potential is not the fixed one the place of the least potential.
-fn next_place(potentials: &[u64], fixed: &[u64]) -> Option<u16>
-    requires places { length fixed.now ≡ length potentials.now }
-    requires few { length potentials.now ≤ 256 }
-    ensures waits { IfSome result (λ v. (v < length potentials.now) × (potential potentials.now v < potential fixed.now v)) }
-    ensures none { IfNone result (AllFixed potentials.now fixed.now) }
-{
-    let mut next = None;
-    'places: for place in 0..potentials.len() {
-        if potentials[place] < fixed[place] {
-            next = Some(nearer(potentials, next, place as u16));
-        }
-    }
-    next
+    Ok(())
 }
 
 // Fixes the potential of a place, and relaxes the steps into it.
 fn fix(
-    graph: &Graph,
-    lists: &StepLists,
-    target: u16,
+    search: &Search,
     potentials: &mut [u64],
     fixed: &mut [u64],
+    waiting: &mut Waiting,
     place: u16,
-)
-    requires lists { AreListed step_end.To (length graph.now.through) graph.now.steps lists.now }
-    requires spread { Spread graph.now target potentials.old fixed.old }
-    requires place { place < length graph.now.through }
+) -> Result<(), AllocError>
+    requires lists { AreListed step_end.To (length search.now.graph.now.through) search.now.graph.now.steps search.now.lists.now }
+    requires spread { Spread search.now.graph.now search.now.target potentials.old fixed.old }
+    requires place { place < length search.now.graph.now.through }
     requires waits { potential potentials.old place < potential fixed.old place }
-    ensures spread { Spread graph.now target potentials.new fixed.new }
-    ensures less { sum potentials.new + sum fixed.new < sum potentials.old + sum fixed.old }
+    requires waiting { IsWaiting potentials.old fixed.old (place ∷ places_of waiting.old) }
+    ensures spread { OnOk result (Spread search.now.graph.now search.now.target potentials.new fixed.new) }
+    ensures waiting { OnOk result (IsWaiting potentials.new fixed.new (places_of waiting.new)) }
+    ensures fewer { OnOk result (length waiting.new + sum potentials.new + sum fixed.new ≤ length waiting.old + sum potentials.old + sum fixed.old) }
 {
     fixed[place as usize] = potentials[place as usize];
-    relax_into(graph, target, potentials, place, lists.at(place));
+    relax_into(
+        search.graph,
+        search.target,
+        potentials,
+        waiting,
+        place,
+        search.lists.at(place),
+    )
 }
 
-// Fixes the least potential that is not fixed, a place a turn, until all are.
-fn settle(graph: &Graph, lists: &StepLists, target: u16, potentials: &mut [u64], fixed: &mut [u64])
-    requires lists { AreListed step_end.To (length graph.now.through) graph.now.steps lists.now }
-    requires spread { Spread graph.now target potentials.old fixed.old }
-    ensures supported { Supported graph.now target potentials.new }
-    ensures settled { none_improves graph.now target potentials.new ≡ true }
+// One turn: fixes the potential of a place, unless it is the fixed one since it waited more than once.
+fn turn(
+    search: &Search,
+    potentials: &mut [u64],
+    fixed: &mut [u64],
+    waiting: &mut Waiting,
+    place: u16,
+) -> Result<(), AllocError>
+    requires lists { AreListed step_end.To (length search.now.graph.now.through) search.now.graph.now.steps search.now.lists.now }
+    requires spread { Spread search.now.graph.now search.now.target potentials.old fixed.old }
+    requires place { place < length search.now.graph.now.through }
+    requires waiting { IsWaiting potentials.old fixed.old (place ∷ places_of waiting.old) }
+    ensures spread { OnOk result (Spread search.now.graph.now search.now.target potentials.new fixed.new) }
+    ensures waiting { OnOk result (IsWaiting potentials.new fixed.new (places_of waiting.new)) }
+    ensures fewer { OnOk result (length waiting.new + sum potentials.new + sum fixed.new ≤ length waiting.old + sum potentials.old + sum fixed.old) }
 {
-    let _places = graph.places();
-    'turns: while let Some(place) = next_place(potentials, fixed) {
-        fix(graph, lists, target, potentials, fixed, place);
+    if potentials[place as usize] < fixed[place as usize] {
+        fix(search, potentials, fixed, waiting, place)
+    } else {
+        Ok(())
     }
+}
+
+// Fixes the least potential that waits, a place a turn, until none does.
+fn settle(
+    search: &Search,
+    potentials: &mut [u64],
+    fixed: &mut [u64],
+    waiting: &mut Waiting,
+) -> Result<(), AllocError>
+    requires lists { AreListed step_end.To (length search.now.graph.now.through) search.now.graph.now.steps search.now.lists.now }
+    requires spread { Spread search.now.graph.now search.now.target potentials.old fixed.old }
+    requires waiting { IsWaiting potentials.old fixed.old (places_of waiting.old) }
+    ensures supported { OnOk result (Supported search.now.graph.now search.now.target potentials.new) }
+    ensures settled { OnOk result (none_improves search.now.graph.now search.now.target potentials.new ≡ true) }
+{
+    let _places = search.graph.places();
+    'turns: while let Some((_, place)) = waiting.pop() {
+        turn(search, potentials, fixed, waiting, place)?;
+    }
+    Ok(())
 }
 
 fn least_costs(
@@ -125,13 +174,18 @@ fn least_costs(
     let places = graph.places();
     let mut potentials = start(alloc, places, target)?;
     let mut fixed = vec![in alloc; u64::MAX; places]?;
+    let mut waiting = Waiting::new(alloc);
+    waiting.push(0, target)?;
     settle(
-        graph,
-        lists,
-        target,
+        &Search {
+            graph,
+            lists,
+            target,
+        },
         potentials.as_mut_slice(),
         fixed.as_mut_slice(),
-    );
+        &mut waiting,
+    )?;
     Ok(potentials)
 }
 
