@@ -6,6 +6,7 @@ mod entries;
 mod named_tables;
 mod number_lists;
 mod numbered_tables;
+mod removing;
 mod touching;
 mod worked;
 
@@ -13,5 +14,5 @@ pub use entries::{Entries, Named};
 pub use named_tables::NamedTable;
 pub use number_lists::{Turn, is_among, left_of, turned};
 pub use numbered_tables::NumberedTable;
-pub use touching::{kept_are_not_gone, numbers_are_touched, touched};
+pub use touching::{kept_are_not_gone, numbers_are_touched, touched, unless_gone};
 pub use worked::{records_at_places, tables_as_they_will_be};
