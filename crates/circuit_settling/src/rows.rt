@@ -7,6 +7,7 @@ ghost use Rattle.row_codec.specs.CoveredTables.{Covers};
 ghost use Rattle.row_codec.specs.RowForm.{is_row, value_of};
 ghost use Rattle.row_codec.specs.RowValues.{record_value};
 ghost use Rattle.row_laws.specs.FittingRecords.{fits};
+ghost use Rattle.row_spelling.specs.RecordChanges.{value_at};
 ghost use Rattle.circuits.specs.CircuitChanges.{circuits_after};
 ghost use Rattle.circuit_settling.specs.CircuitRows.{HaveRows, changed_number};
 
@@ -44,24 +45,17 @@ struct CircuitRows<'a> {
 }
 
 impl<'a> ChangedRows for CircuitRows<'a> {
-    ghost use Rattle.ctrl_model.specs.declared.kinds.Kind.TheVariants as kind;
-    ghost use Rattle.row_spelling.specs.RecordChanges.{value_at};
-    ghost use Rattle.circuit_settling.specs.CircuitRows.{HaveRows};
-
     ghost values_before = { λ r. value_at kind.Circuit r.circuits.now.circuits.rows };
 
     ghost values_after = { λ r. value_at kind.Circuit r.after.now.circuits.rows };
 
     ghost HaveRows = { λ r. HaveRows r.circuits.now × HaveRows r.after.now };
 
-    fn row_before(&self, number: u32) -> Result<Option<Row>, AllocError> {
+    fn rows_at(&self, number: u32) -> Result<(Option<Row>, Option<Row>), AllocError> {
         let no = CircuitNo(number);
-        row_of(no, self.circuits.seen(no))
-    }
-
-    fn row_after(&self, number: u32) -> Result<Option<Row>, AllocError> {
-        let no = CircuitNo(number);
-        row_of(no, self.after.get(no))
+        let before = row_of(no, self.circuits.seen(no))?;
+        let after = row_of(no, self.after.get(no))?;
+        Ok((before, after))
     }
 }
 

@@ -1,6 +1,7 @@
 ghost use Rattle.std.specs.Prelude.{◌≡◌, IfOk, OnOk};
 ghost use Rattle.std.specs.Option.{option_map};
 ghost use Rattle.ctrl_model.specs.Numbered.{at, numbers, Between};
+ghost use Rattle.record_tables.specs.AfterChange.{changed_by};
 ghost use Rattle.circuits.specs.ChangedCircuits.{turn_of, circuit_after};
 ghost use Rattle.circuits.specs.CircuitChanges.{after_circuit_change, circuits_after};
 
@@ -8,7 +9,7 @@ use crate::changes::CircuitChange;
 use crate::grants::Circuit;
 use crate::store::Circuits;
 use ctrl_model::{CircuitNo, Numbers};
-use record_tables::{Turn, is_among, left_of, turned};
+use record_tables::{Turn, left_of, turned, unless_gone};
 use std::alloc::{AllocError, Global};
 use std::marker::Model;
 
@@ -57,17 +58,21 @@ fn circuit_after<'a>(
     }
 }
 
-// The circuit that will have a number after a change.
+// The circuit that will have a number after a change, if there is one.
 fn changed_circuit<'a>(
     circuits: &'a Circuits,
-    change: &'a CircuitChange,
+    change: Option<&'a CircuitChange>,
     no: CircuitNo,
 ) -> Option<&'a Circuit>
-    ensures { option_map (λ c. c.now) result ≡ at (after_circuit_change change.now circuits.now).circuits.rows no.0 }
+    ensures { option_map (λ c. c.now) result ≡ at (changed_by after_circuit_change (option_map (λ c. c.now) change.entry) circuits.now).circuits.rows no.0 }
 {
+    let present = circuits.seen(no);
+    let Some(change) = change else {
+        return present;
+    };
     // With it comes that the numbers ascend below it, so that no circuit has it yet.
     let next = circuits.next();
-    circuit_after(change, next, no, circuits.seen(no))
+    circuit_after(change, next, no, present)
 }
 
 impl<'a> CircuitsAfter<'a> {
@@ -100,12 +105,10 @@ impl<'a> CircuitsAfter<'a> {
     pub fn get(&self, no: CircuitNo) -> Option<&'a Circuit>
         ensures { option_map (λ c. c.now) result ≡ at self.now.circuits.rows no.0 }
     {
-        if is_among(no.0, self.gone.as_slice()) {
-            return None;
-        }
-        match self.change {
-            Some(change) => changed_circuit(self.circuits, change, no),
-            None => self.circuits.seen(no),
-        }
+        unless_gone(
+            no.0,
+            self.gone,
+            changed_circuit(self.circuits, self.change, no),
+        )
     }
 }

@@ -1,25 +1,10 @@
--- What one change does to the numbers of the links, and to the link at a number. Only private functions and proofs of this crate cite
--- this file.
+-- What one change does to the link at a number. Only private functions and proofs of this crate cite this file.
 use Rattle.std.specs.Prelude.{ℕ, ◌==◌, cond, None, Some}
 use Rattle.std.specs.declared.option.Option.{Option}
 use Rattle.std.specs.Option.{option_map}
 use Rattle.ctrl_model.specs.State.{Link}
-use Rattle.record_tables.specs.declared.number_lists.Turn.{Turn}
-use Rattle.record_tables.specs.declared.number_lists.Turn.TheVariants.{Adds, Removes, Keeps}
 use Rattle.fabric_graph.specs.declared.changes.LinkChange.{LinkChange}
 use Rattle.fabric_graph.specs.declared.changes.LinkChange.TheVariants as change
-
--- What a change does to the numbers of the links.
-abbrev pub turn_by : LinkChange → Turn
-turn_by (change.Add row) = Adds
-turn_by (change.Set n cost latency_a latency_b up) = Keeps
-turn_by (change.Remove n) = Removes n.0
-turn_by (change.SetLeast cost) = Keeps
-
--- What a change does to them, if there is one.
-abbrev pub turn_of : Option LinkChange → Turn
-turn_of None = Keeps
-turn_of (Some c) = turn_by c
 
 -- The link at a number after a change, by the next number and the link that stands at the number before it.
 abbrev pub link_after : LinkChange → ℕ → ℕ → Option Link → Option Link

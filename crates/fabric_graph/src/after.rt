@@ -1,8 +1,9 @@
-ghost use Rattle.std.specs.Prelude.{◌≡◌, IfOk, OnOk};
+ghost use Rattle.std.specs.Prelude.{◌≡◌};
 ghost use Rattle.std.specs.Option.{option_map};
 ghost use Rattle.ctrl_model.specs.Networks.{hops};
-ghost use Rattle.ctrl_model.specs.Numbered.{at, numbers, Between};
-ghost use Rattle.fabric_graph.specs.ChangedLinks.{turn_of, link_after};
+ghost use Rattle.ctrl_model.specs.Numbered.{at};
+ghost use Rattle.record_tables.specs.AfterChange.{changed_by};
+ghost use Rattle.fabric_graph.specs.ChangedLinks.{link_after};
 ghost use Rattle.fabric_graph.specs.FabricChanges.{after_link_change, fabric_after};
 ghost use Rattle.fabric_graph.specs.Hops.{hop_of};
 ghost use Rattle.fabric_graph.specs.Routers.{network};
@@ -12,8 +13,7 @@ use crate::fabric::Fabric;
 use crate::hopping::{Hop, across};
 use crate::links::LinkView;
 use ctrl_model::{LinkNo, Numbers, RouterNo, RouterSeen};
-use record_tables::{Turn, is_among, left_of, turned};
-use std::alloc::{AllocError, Global};
+use record_tables::unless_gone;
 use std::marker::Model;
 
 /// The links as they will be after a change, if there is one, and without those that are gone. Contracts see them as a fabric
@@ -33,17 +33,6 @@ impl<'a> Model for FabricAfter<'a> {
     ghost Value = { FabricSeen };
 
     ghost view = { λ a. fabric_after (option_map (λ c. c.now) a.change) a.gone.now a.fabric.now };
-}
-
-// What a change does to the numbers of the links.
-fn turn_of(change: Option<&LinkChange>) -> Turn
-    ensures { result ≡ turn_of (option_map (λ c. c.now) change.entry) }
-{
-    match change {
-        Some(LinkChange::Add(_)) => Turn::Adds,
-        Some(LinkChange::Remove(no)) => Turn::Removes(no.0),
-        _ => Turn::Keeps,
-    }
 }
 
 // The link that will have a number, where one has it now or none has.
@@ -82,13 +71,21 @@ fn link_after<'a>(
     }
 }
 
-// The link that will have a number after a change.
-fn changed_link<'a>(fabric: &'a Fabric, change: &'a LinkChange, no: LinkNo) -> Option<LinkView<'a>>
-    ensures { result ≡ at (after_link_change change.now fabric.now).links.rows no.0 }
+// The link that will have a number after a change, if there is one.
+fn changed_link<'a>(
+    fabric: &'a Fabric,
+    change: Option<&'a LinkChange>,
+    no: LinkNo,
+) -> Option<LinkView<'a>>
+    ensures { result ≡ at (changed_by after_link_change (option_map (λ c. c.now) change.entry) fabric.now).links.rows no.0 }
 {
+    let present = fabric.seen(no);
+    let Some(change) = change else {
+        return present;
+    };
     // With it comes that the numbers ascend below it, so that no link has it yet.
     let next = fabric.next();
-    link_after(change, next, no, fabric.seen(no))
+    link_after(change, next, no, present)
 }
 
 impl<'a> FabricAfter<'a> {
@@ -107,27 +104,11 @@ impl<'a> FabricAfter<'a> {
         }
     }
 
-    /// The numbers of the links, ascending.
-    pub fn numbers(&self, alloc: Global) -> Result<Numbers, AllocError>
-        ensures all { IfOk result (λ ns. ns ≡ numbers self.now.links.rows) }
-        ensures ordered { OnOk result (Between 1 self.now.links.next self.now.links.rows) }
-    {
-        let numbers = self.fabric.numbers(alloc)?;
-        let changed = turned(alloc, turn_of(self.change), self.fabric.next(), numbers)?;
-        left_of(alloc, &changed, self.gone)
-    }
-
     /// The link of the number. None exactly where it will be absent.
     pub fn link(&self, no: LinkNo) -> Option<LinkView<'a>>
         ensures { result ≡ at self.now.links.rows no.0 }
     {
-        if is_among(no.0, self.gone.as_slice()) {
-            return None;
-        }
-        match self.change {
-            Some(change) => changed_link(self.fabric, change, no),
-            None => self.fabric.seen(no),
-        }
+        unless_gone(no.0, self.gone, changed_link(self.fabric, self.change, no))
     }
 
     /// What a path will pay at least to enter a router.

@@ -7,6 +7,7 @@ ghost use Rattle.row_codec.specs.CoveredTables.{Covers};
 ghost use Rattle.row_codec.specs.RowForm.{is_row, value_of};
 ghost use Rattle.row_codec.specs.RowValues.{record_value};
 ghost use Rattle.row_laws.specs.FittingRecords.{fits};
+ghost use Rattle.row_spelling.specs.RecordChanges.{value_at};
 ghost use Rattle.fabric_graph.specs.FabricChanges.{fabric_after};
 ghost use Rattle.link_commands.specs.LinkRows.{HaveRows, changed_number};
 
@@ -46,24 +47,17 @@ struct LinkRows<'a> {
 }
 
 impl<'a> ChangedRows for LinkRows<'a> {
-    ghost use Rattle.ctrl_model.specs.declared.kinds.Kind.TheVariants as kind;
-    ghost use Rattle.row_spelling.specs.RecordChanges.{value_at};
-    ghost use Rattle.link_commands.specs.LinkRows.{HaveRows};
-
     ghost values_before = { λ r. value_at kind.Link r.fabric.now.links.rows };
 
     ghost values_after = { λ r. value_at kind.Link r.after.now.links.rows };
 
     ghost HaveRows = { λ r. HaveRows r.fabric.now × HaveRows r.after.now };
 
-    fn row_before(&self, number: u32) -> Result<Option<Row>, AllocError> {
+    fn rows_at(&self, number: u32) -> Result<(Option<Row>, Option<Row>), AllocError> {
         let no = LinkNo(number);
-        row_of(no, self.fabric.seen(no))
-    }
-
-    fn row_after(&self, number: u32) -> Result<Option<Row>, AllocError> {
-        let no = LinkNo(number);
-        row_of(no, self.after.link(no))
+        let before = row_of(no, self.fabric.seen(no))?;
+        let after = row_of(no, self.after.link(no))?;
+        Ok((before, after))
     }
 }
 

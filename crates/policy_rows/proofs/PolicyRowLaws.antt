@@ -9,7 +9,9 @@ use Rattle.ctrl_model.specs.Limits.{last_next}
 use Rattle.ctrl_model.specs.Numbered.{Table, at, numbers, with_new, with_edit, with_removed, with_each, without, map_each, Between, is_present}
 use Rattle.ctrl_model.specs.PolicyCommands.{replaced_by}
 use Rattle.ctrl_model.specs.State.{State, Policy}
+use Rattle.ctrl_model.specs.Tables.{is_entity_kind}
 use Rattle.ctrl_model.proofs.NumberedLaws.{at-past, at-with_last, at-with_last-other, at-edit_at, at-edit_at-other, at-without-other, at-map_each, by_is_some, first_where-found}
+use Rattle.row_codec.specs.declared.changes.Change.{Change}
 use Rattle.row_codec.specs.CoveredTables.{Covers}
 use Rattle.row_codec.specs.RowKeys.{is_long}
 use Rattle.row_laws.specs.ChangedKeys.{record_changes}
@@ -24,7 +26,7 @@ use Rattle.policy_store.specs.declared.changes.PolicyChange.TheVariants as chang
 use Rattle.policy_store.specs.declared.records.Hand.TheVariants.{Left, Right}
 use Rattle.policy_store.specs.declared.records.Hand.{Hand}
 use Rattle.policy_store.specs.PolicyChanges.{CanChangePolicies, after_policy_change, tables_of}
-use Rattle.policy_rows.specs.PolicyRows.{AreValid, touched_kind, touched_number, fits_row, policy_change_of, forgotten_at, forgotten_rows}
+use Rattle.policy_rows.specs.PolicyRows.{AreValid, touched_kind, touched_number, fits_row, policy_change_of, forgotten_at, forgotten_rows, naming}
 use Rattle.policy_store.specs.PolicyRules.{KeepsNumbers}
 use Rattle.policy_store.specs.PolicyTables.{PolicyTables, policies, policies_of, next_of, number_of, with_policies, with_policy, forgetting, is_policy_kind}
 use Rattle.policy_store.specs.Stores.{forget_on}
@@ -209,7 +211,7 @@ last_edge p v = subst (λ (q : PolicyTables). q.edge_router_policies.next ≤ la
 last_last : (p : PolicyTables) → AreValid p → p.service_edge_router_policies.next ≤ last_next
 last_last p v = subst (λ (q : PolicyTables). q.service_edge_router_policies.next ≤ last_next) v.holds (v.valid.kinds kind.ServiceEdgeRouterPolicy).numbers.last
 
-pub covers_identity : (name : List ℕ) (p : PolicyTables) (s t : State) → AreValid p → tables_of s ≡ p → tables_of t ≡ forgetting kind.Identity name p
+covers_identity : (name : List ℕ) (p : PolicyTables) (s t : State) → AreValid p → tables_of s ≡ p → tables_of t ≡ forgetting kind.Identity name p
     → Covers 7 10 s t (([] ++ forgotten_rows kind.ServicePolicy Left name p) ++ forgotten_rows kind.EdgeRouterPolicy Left name p)
 covers_identity name p s t v es et =
     let first = each_service s t Left name p (ap (λ (q : PolicyTables). q.service_policies) es) (ap (λ (q : PolicyTables). q.service_policies) et) (ordered kind.ServicePolicy p refl v) (last_service p v) in
@@ -219,7 +221,7 @@ covers_identity name p s t v es et =
     (Covers-append 7 9 10 s t (forgotten_rows kind.ServicePolicy Left name p ++ forgotten_rows kind.EdgeRouterPolicy Left name p) [] (omega arith) (omega arith)
     (Covers-append 7 8 9 s t (forgotten_rows kind.ServicePolicy Left name p) (forgotten_rows kind.EdgeRouterPolicy Left name p) (omega arith) (omega arith) first second) third)
 
-pub covers_service : (name : List ℕ) (p : PolicyTables) (s t : State) → AreValid p → tables_of s ≡ p → tables_of t ≡ forgetting kind.Service name p
+covers_service : (name : List ℕ) (p : PolicyTables) (s t : State) → AreValid p → tables_of s ≡ p → tables_of t ≡ forgetting kind.Service name p
     → Covers 7 10 s t (([] ++ forgotten_rows kind.ServicePolicy Right name p) ++ forgotten_rows kind.ServiceEdgeRouterPolicy Left name p)
 covers_service name p s t v es et =
     let first = each_service s t Right name p (ap (λ (q : PolicyTables). q.service_policies) es) (ap (λ (q : PolicyTables). q.service_policies) et) (ordered kind.ServicePolicy p refl v) (last_service p v) in
@@ -228,7 +230,7 @@ covers_service name p s t v es et =
     Covers-append 7 8 10 s t (forgotten_rows kind.ServicePolicy Right name p) (forgotten_rows kind.ServiceEdgeRouterPolicy Left name p) (omega arith) (omega arith) first
     (Covers-append 8 9 10 s t [] (forgotten_rows kind.ServiceEdgeRouterPolicy Left name p) (omega arith) (omega arith) second third)
 
-pub covers_router : (name : List ℕ) (p : PolicyTables) (s t : State) → AreValid p → tables_of s ≡ p → tables_of t ≡ forgetting kind.Router name p
+covers_router : (name : List ℕ) (p : PolicyTables) (s t : State) → AreValid p → tables_of s ≡ p → tables_of t ≡ forgetting kind.Router name p
     → Covers 7 10 s t (([] ++ forgotten_rows kind.EdgeRouterPolicy Right name p) ++ forgotten_rows kind.ServiceEdgeRouterPolicy Right name p)
 covers_router name p s t v es et =
     let first = Covers-same_records kind.ServicePolicy s t (omega arith) (λ m. ap (λ (q : PolicyTables). at q.service_policies.rows m) es ∙ sym (ap (λ (q : PolicyTables). at q.service_policies.rows m) et)) in
@@ -238,10 +240,42 @@ covers_router name p s t v es et =
     (Covers-append 8 9 10 s t (forgotten_rows kind.EdgeRouterPolicy Right name p) (forgotten_rows kind.ServiceEdgeRouterPolicy Right name p) (omega arith) (omega arith) second third)
 
 -- a policy that loses a name still fits, where the policies after it are those of a valid state
-pub fits_forgetting : (k : Kind) (hand : Hand) (name : List ℕ) (p after : PolicyTables) → is_policy_kind k ≡ true → AreValid after → policies k after ≡ map_each (forget_on hand name) (policies k p)
+fits_forgetting : (k : Kind) (hand : Hand) (name : List ℕ) (p after : PolicyTables) → is_policy_kind k ≡ true → AreValid after → policies k after ≡ map_each (forget_on hand name) (policies k p)
     → (n : ℕ) (r : Policy) → at (policies k p) n ≡ Some r → fits_row k (forget_on hand name r) ≡ true
 fits_forgetting k hand name p after is v e n r stands =
     (valid_row k after n (forget_on hand name r) is v (ap (λ rows. at rows n) e ∙ at-map_each (forget_on hand name) (policies k p) n ∙ ap (option_map (forget_on hand name)) stands)).1
+
+-- the two kinds that may name an entity: each is one of policies, and its policies still fit
+pub naming_policies : (k : Kind) → is_entity_kind k ≡ true → (is_policy_kind (naming k).0.0 ≡ true) × (is_policy_kind (naming k).1.0 ≡ true)
+naming_policies kind.Identity is = (refl, refl)
+naming_policies kind.Service is = (refl, refl)
+naming_policies kind.Router is = (refl, refl)
+naming_policies _ is = absurd (false≢true is)
+
+-- the policies of a kind still fit where a name goes on a hand
+abbrev pub StillFit : PolicyTables → List ℕ → Kind × Hand → Type 0
+StillFit p name on = (n : ℕ) (r : Policy) → at (policies on.0 p) n ≡ Some r → fits_row on.0 (forget_on on.1 name r) ≡ true
+
+pub naming_fit : (k : Kind) (name : List ℕ) (p : PolicyTables) → is_entity_kind k ≡ true → AreValid (forgetting k name p)
+    → StillFit p name (naming k).0 × StillFit p name (naming k).1
+naming_fit kind.Identity name p is v =
+    (fits_forgetting kind.ServicePolicy Left name p (forgetting kind.Identity name p) refl v refl, fits_forgetting kind.EdgeRouterPolicy Left name p (forgetting kind.Identity name p) refl v refl)
+naming_fit kind.Service name p is v =
+    (fits_forgetting kind.ServicePolicy Right name p (forgetting kind.Service name p) refl v refl, fits_forgetting kind.ServiceEdgeRouterPolicy Left name p (forgetting kind.Service name p) refl v refl)
+naming_fit kind.Router name p is v =
+    (fits_forgetting kind.EdgeRouterPolicy Right name p (forgetting kind.Router name p) refl v refl, fits_forgetting kind.ServiceEdgeRouterPolicy Right name p (forgetting kind.Router name p) refl v refl)
+naming_fit _ name p is v = absurd (false≢true is)
+
+-- the changes where a name goes on a hand, and then on another of another kind
+abbrev pub forgotten_pair : PolicyTables → List ℕ → (Kind × Hand) × (Kind × Hand) → List Change
+forgotten_pair p name on = ([] ++ forgotten_rows on.0.0 on.0.1 name p) ++ forgotten_rows on.1.0 on.1.1 name p
+
+pub covers_forgotten : (k : Kind) (name : List ℕ) (p : PolicyTables) (s t : State) → is_entity_kind k ≡ true → AreValid p → tables_of s ≡ p
+    → tables_of t ≡ forgetting k name p → Covers 7 10 s t (forgotten_pair p name (naming k))
+covers_forgotten kind.Identity name p s t is = covers_identity name p s t
+covers_forgotten kind.Service name p s t is = covers_service name p s t
+covers_forgotten kind.Router name p s t is = covers_router name p s t
+covers_forgotten _ name p s t is = absurd (false≢true is)
 
 pub if_some : {A : Type 0} (P : A → Type 0) (o : Option A) → ((x : A) → o ≡ Some x → P x) → IfSome o P
 if_some P None h = tt

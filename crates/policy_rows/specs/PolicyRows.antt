@@ -14,6 +14,7 @@ use Rattle.row_spelling.specs.RecordChanges.{change_of}
 use Rattle.policy_store.specs.declared.changes.PolicyChange.{PolicyChange}
 use Rattle.policy_store.specs.declared.changes.PolicyChange.TheVariants as change
 use Rattle.policy_store.specs.declared.records.Hand.{Hand}
+use Rattle.policy_store.specs.declared.records.Hand.TheVariants.{Left, Right}
 use Rattle.policy_store.specs.PolicyTables.{PolicyTables, next_of, policies}
 use Rattle.policy_store.specs.PolicyChanges.{tables_of}
 use Rattle.policy_store.specs.Stores.{forget_on}
@@ -58,3 +59,9 @@ forgotten_at k hand name rows n = policy_change_of k n (at rows n) (option_map (
 -- The changes of the rows of all policies of a kind, whose sides on one hand lose an `@` name.
 abbrev pub forgotten_rows : Kind → Hand → List ℕ → PolicyTables → List Change
 forgotten_rows k hand name t = map (forgotten_at k hand name (policies k t)) (numbers (policies k t))
+
+-- The two kinds of policies that may name an entity of a kind with `@`, each with the hand on which it does.
+abbrev pub naming : Kind → (Kind × Hand) × (Kind × Hand)
+naming kind.Identity = ((kind.ServicePolicy, Left), (kind.EdgeRouterPolicy, Left))
+naming kind.Service = ((kind.ServicePolicy, Right), (kind.ServiceEdgeRouterPolicy, Left))
+naming _ = ((kind.EdgeRouterPolicy, Right), (kind.ServiceEdgeRouterPolicy, Right))

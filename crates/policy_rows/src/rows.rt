@@ -10,7 +10,7 @@ ghost use Rattle.row_codec.specs.CoveredTables.{Covers};
 ghost use Rattle.row_codec.specs.RowForm.{is_row, value_of};
 ghost use Rattle.row_codec.specs.RowKeys.{is_long};
 ghost use Rattle.policy_store.specs.PolicyChanges.{CanChangePolicies, after_policy_change, tables_of};
-ghost use Rattle.policy_rows.specs.PolicyRows.{AreValid, touched_kind, touched_number, policy_value, fits_row, policy_change_of, forgotten_at, forgotten_rows};
+ghost use Rattle.policy_rows.specs.PolicyRows.{AreValid, touched_kind, touched_number, policy_value, fits_row, policy_change_of, forgotten_at, forgotten_rows, naming};
 ghost use Rattle.policy_store.specs.PolicyTables.{forgetting, is_policy_kind, policies};
 ghost use Rattle.policy_store.specs.Stores.{forget_on};
 
@@ -230,82 +230,29 @@ fn push_forgotten(
     Ok(())
 }
 
-// The changes where the `@` name of an identity goes.
-fn forgotten_identity(alloc: Global, kept: &Policies, name: &Name) -> Result<Changes, AllocError>
-    requires before { AreValid kept.now }
-    requires after { AreValid (forgetting kind.Identity name.now kept.now) }
-    ensures { IfOk result (λ changes. (s t : State) → tables_of s ≡ kept.now → tables_of t ≡ forgetting kind.Identity name.now kept.now → Covers 7 10 s t changes) }
+// The two kinds of policies that may name an entity of a kind, each with the hand on which it does.
+fn naming(kind: Kind) -> ((Kind, Hand), (Kind, Hand))
+    requires { is_entity_kind kind ≡ true }
+    ensures { result ≡ naming kind }
 {
-    let mut changes = Vec::new(alloc);
-    push_forgotten(
-        alloc,
-        &mut changes,
-        kept,
-        Kind::ServicePolicy,
-        Hand::Left,
-        name,
-    )?;
-    push_forgotten(
-        alloc,
-        &mut changes,
-        kept,
-        Kind::EdgeRouterPolicy,
-        Hand::Left,
-        name,
-    )?;
-    Ok(Changes::of(changes))
-}
-
-// The changes where the `@` name of a service goes.
-fn forgotten_service(alloc: Global, kept: &Policies, name: &Name) -> Result<Changes, AllocError>
-    requires before { AreValid kept.now }
-    requires after { AreValid (forgetting kind.Service name.now kept.now) }
-    ensures { IfOk result (λ changes. (s t : State) → tables_of s ≡ kept.now → tables_of t ≡ forgetting kind.Service name.now kept.now → Covers 7 10 s t changes) }
-{
-    let mut changes = Vec::new(alloc);
-    push_forgotten(
-        alloc,
-        &mut changes,
-        kept,
-        Kind::ServicePolicy,
-        Hand::Right,
-        name,
-    )?;
-    push_forgotten(
-        alloc,
-        &mut changes,
-        kept,
-        Kind::ServiceEdgeRouterPolicy,
-        Hand::Left,
-        name,
-    )?;
-    Ok(Changes::of(changes))
-}
-
-// The changes where the `@` name of a router goes.
-fn forgotten_router(alloc: Global, kept: &Policies, name: &Name) -> Result<Changes, AllocError>
-    requires before { AreValid kept.now }
-    requires after { AreValid (forgetting kind.Router name.now kept.now) }
-    ensures { IfOk result (λ changes. (s t : State) → tables_of s ≡ kept.now → tables_of t ≡ forgetting kind.Router name.now kept.now → Covers 7 10 s t changes) }
-{
-    let mut changes = Vec::new(alloc);
-    push_forgotten(
-        alloc,
-        &mut changes,
-        kept,
-        Kind::EdgeRouterPolicy,
-        Hand::Right,
-        name,
-    )?;
-    push_forgotten(
-        alloc,
-        &mut changes,
-        kept,
-        Kind::ServiceEdgeRouterPolicy,
-        Hand::Right,
-        name,
-    )?;
-    Ok(Changes::of(changes))
+    let identity = (
+        (Kind::ServicePolicy, Hand::Left),
+        (Kind::EdgeRouterPolicy, Hand::Left),
+    );
+    let service = (
+        (Kind::ServicePolicy, Hand::Right),
+        (Kind::ServiceEdgeRouterPolicy, Hand::Left),
+    );
+    let router = (
+        (Kind::EdgeRouterPolicy, Hand::Right),
+        (Kind::ServiceEdgeRouterPolicy, Hand::Right),
+    );
+    match kind {
+        Kind::Identity => identity,
+        Kind::Service => service,
+        Kind::Router => router,
+        _ => unreachable!(),
+    }
 }
 
 /// The changes of the rows of policies where the `@` name of an entity goes out of every side that may name it: of all policies of the
@@ -321,10 +268,9 @@ pub fn forgotten_changes(
     requires after { AreValid (forgetting kind name.now kept.now) }
     ensures { IfOk result (λ changes. (s t : State) → tables_of s ≡ kept.now → tables_of t ≡ forgetting kind name.now kept.now → Covers 7 10 s t changes) }
 {
-    match kind {
-        Kind::Identity => forgotten_identity(alloc, kept, name),
-        Kind::Service => forgotten_service(alloc, kept, name),
-        Kind::Router => forgotten_router(alloc, kept, name),
-        _ => unreachable!(),
-    }
+    let ((first, first_hand), (second, second_hand)) = naming(kind);
+    let mut changes = Vec::new(alloc);
+    push_forgotten(alloc, &mut changes, kept, first, first_hand, name)?;
+    push_forgotten(alloc, &mut changes, kept, second, second_hand, name)?;
+    Ok(Changes::of(changes))
 }

@@ -2,12 +2,13 @@
 use Rattle.std.proofs.Common.{◌≡◌, ℕ, ◌==◌, Bool, true, false, cond, not, List, [], ◌∷◌, ◌++◌, Option, None, Some, inl, inr, refl, sym, ◌∙◌, ap, arith, eqb-true}
 use Rattle.std.proofs.lemmas.List.{map-append}
 use Rattle.std.specs.List.{filter}
+use Rattle.std.specs.Option.{option_map}
 use Rattle.ctrl_model.specs.Membership.{Among}
 use Rattle.ctrl_model.specs.Numbered.{Table, at, numbers, with_last, edit_at, without, Between}
 use Rattle.ctrl_model.specs.Walks.{is_among}
 use Rattle.ctrl_model.proofs.Members.{Among-from_test}
 use Rattle.ctrl_model.proofs.NumberedLaws.{at-past, at-with_last, Between-filter}
-use Rattle.record_tables.specs.AfterChange.{without_numbers, touched_numbers}
+use Rattle.record_tables.specs.AfterChange.{without_numbers, touched_numbers, unless_gone}
 use Rattle.record_tables.proofs.GoneLaws.{touched_are}
 use Rattle.record_tables.specs.Turns.{left_of}
 
@@ -54,6 +55,13 @@ numbers-with_last rows n r = map-append (λ x. x.0) rows ((n, r) ∷ [])
 
 -- ---- a table without some numbers
 
+pub unless_gone-map : {V W : Type 0} (f : V → W) (n : ℕ) (gone : List ℕ) (o : Option V) → option_map f (unless_gone n gone o) ≡ unless_gone n gone (option_map f o)
+unless_gone-map {V} {W} f n gone o = by (is_among n gone)
+  where
+    by : (b : Bool) → option_map f (cond b None o) ≡ cond b None (option_map f o)
+    by true = refl
+    by false = refl
+
 module _ {R : Type 0} (gone : List ℕ) (t : Table R) where
   pub numbers-left : left_of gone (numbers t.rows) ≡ numbers (without_numbers gone t).rows
   numbers-left = sym (numbers-filter (λ n. not (is_among n gone)) t.rows)
@@ -61,11 +69,15 @@ module _ {R : Type 0} (gone : List ℕ) (t : Table R) where
   pub ordered-left : (low high : ℕ) → Between low high t.rows → Between low high (without_numbers gone t).rows
   ordered-left low high b = Between-filter (λ (row : ℕ × R). not (is_among row.0 gone)) high t.rows low b
 
-  pub at-gone : (n : ℕ) → is_among n gone ≡ true → None ≡ at (without_numbers gone t).rows n
-  at-gone n e = sym (at-filter (λ m. not (is_among m gone)) t.rows n ∙ ap (λ b. cond (not b) (at t.rows n) None) e)
+  pub at-unless : (n : ℕ) → unless_gone n gone (at t.rows n) ≡ at (without_numbers gone t).rows n
+  at-unless n = by (is_among n gone) ∙ sym (at-filter (λ m. not (is_among m gone)) t.rows n)
+    where
+      by : (b : Bool) → cond b None (at t.rows n) ≡ cond (not b) (at t.rows n) None
+      by true = refl
+      by false = refl
 
-  pub at-left : (n : ℕ) → is_among n gone ≡ false → at t.rows n ≡ at (without_numbers gone t).rows n
-  at-left n e = sym (at-filter (λ m. not (is_among m gone)) t.rows n ∙ ap (λ b. cond (not b) (at t.rows n) None) e)
+  at-left : (n : ℕ) → is_among n gone ≡ false → at t.rows n ≡ at (without_numbers gone t).rows n
+  at-left n e = sym (ap (λ b. cond b None (at t.rows n)) e) ∙ at-unless n
 
 -- where one change leaves all numbers but one as they are, nothing differs but there and at the numbers that are gone
 pub elsewhere : {R : Type 0} (changed : Option ℕ) (gone : List ℕ) (before after : Table R) → ((n : ℕ) → (changed ≡ Some n → ⊥) → at before.rows n ≡ at after.rows n)

@@ -7,6 +7,7 @@ mod limits;
 mod named_tables;
 mod number_lists;
 mod numbered_tables;
+mod removing;
 mod touching;
 mod worked;
 
@@ -15,5 +16,5 @@ pub use limits::limit;
 pub use named_tables::NamedTable;
 pub use number_lists::{Turn, is_among, left_of, turned};
 pub use numbered_tables::NumberedTable;
-pub use touching::{kept_are_not_gone, numbers_are_touched, touched};
+pub use touching::{kept_are_not_gone, numbers_are_touched, touched, unless_gone};
 pub use worked::{records_at_places, tables_as_they_will_be};

@@ -10,6 +10,7 @@ use crate::entries::{
     Entries, Named, change_each, change_row, copy_of, insert_row, number_in, numbers_in,
     remove_row, row_at,
 };
+use crate::removing::{Losing, lose_all};
 use ctrl_model::Numbers;
 use indexmap::IndexMap;
 use indexmap::map::Values;
@@ -192,21 +193,13 @@ impl<R: Named> NamedTable<R> {
     }
 }
 
-// Removes the record that has the number, if one has it.
-fn remove_if_there<R: Named>(table: &mut NamedTable<R>, number: u32)
-    ensures { table.new ≡ with_removed number table.old }
-{
-    if table.get(number).is_some() {
-        table.remove(number);
-    }
-}
+impl<R: Named> Losing<R> for NamedTable<R> {
+    ghost table = { λ t. t };
 
-// Removes the records of some numbers, where one is there.
-fn remove_all<R: Named>(table: &mut NamedTable<R>, gone: &[u32])
-    ensures { table.new ≡ without_numbers gone.now table.old }
-{
-    'numbers: for number in gone {
-        remove_if_there(table, *number);
+    fn lose(&mut self, number: u32) {
+        if self.get(number).is_some() {
+            self.remove(number);
+        }
     }
 }
 
@@ -215,6 +208,6 @@ impl<R: Named> NamedTable<R> {
     pub fn remove_each(&mut self, gone: &Numbers)
         ensures { self.new ≡ without_numbers gone.now self.old }
     {
-        remove_all(self, gone.as_slice());
+        lose_all(self, gone.as_slice());
     }
 }

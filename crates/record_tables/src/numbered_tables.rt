@@ -6,6 +6,7 @@ ghost use Rattle.record_tables.specs.AfterChange.{without_numbers};
 ghost use Rattle.record_tables.specs.Changes.{ChangesAt, Does, IsCopied};
 ghost use Rattle.record_tables.specs.Entries.{listed, KeepsOrder};
 
+use crate::removing::{Losing, lose_all};
 use ctrl_model::Numbers;
 use std::alloc::{AllocError, Global};
 use std::collections::BTreeMap;
@@ -195,12 +196,11 @@ impl<R: Drop> NumberedTable<R> {
     }
 }
 
-// Removes the records of some numbers, where one is there.
-fn remove_all<R: Drop>(table: &mut NumberedTable<R>, gone: &[u32])
-    ensures { table.new ≡ without_numbers gone.now table.old }
-{
-    'numbers: for number in gone {
-        table.remove(*number);
+impl<R: Drop> Losing<R> for NumberedTable<R> {
+    ghost table = { λ t. t };
+
+    fn lose(&mut self, number: u32) {
+        self.remove(number);
     }
 }
 
@@ -209,6 +209,6 @@ impl<R: Drop> NumberedTable<R> {
     pub fn remove_each(&mut self, gone: &Numbers)
         ensures { self.new ≡ without_numbers gone.now self.old }
     {
-        remove_all(self, gone.as_slice());
+        lose_all(self, gone.as_slice());
     }
 }

@@ -2,9 +2,10 @@ ghost use Rattle.std.specs.Prelude.{◌≡◌, ◌↔◌, ◌⊎◌, ℕ, nat_lt
 ghost use Rattle.std.specs.declared.option.Option.{Option};
 ghost use Rattle.ctrl_model.specs.Membership.{Among};
 ghost use Rattle.ctrl_model.specs.Numbered.{Table, numbers, Between, with_kept};
-ghost use Rattle.record_tables.specs.AfterChange.{touched_numbers, without_numbers, with_number};
+ghost use Rattle.record_tables.specs.AfterChange.{touched_numbers, unless_gone, without_numbers, with_number};
 ghost use Rattle.record_tables.specs.Climbing.{Climbs};
 
+use crate::number_lists::is_among;
 use ctrl_model::Numbers;
 use std::alloc::{AllocError, Global};
 
@@ -43,6 +44,17 @@ pub fn touched(changed: Option<u32>, gone: &Numbers) -> Result<Numbers, AllocErr
     match changed {
         Some(number) => with_number(number, gone),
         None => gone.copy(),
+    }
+}
+
+/// What stands at a number once the records of some numbers are gone: nothing where it is one of these.
+pub fn unless_gone<V: Drop>(number: u32, gone: &Numbers, stands: Option<V>) -> Option<V>
+    ensures { result ≡ unless_gone number gone.now stands }
+{
+    if is_among(number, gone.as_slice()) {
+        None
+    } else {
+        stands
     }
 }
 

@@ -21,17 +21,13 @@ pub trait ChangedRows {
 
     ghost HaveRows: { Self → Type 0 };
 
-    /// The row of the record that has the number before the change, if one has it. An Err is want of memory.
-    fn row_before(&self, number: u32) -> Result<Option<Row>, AllocError>
+    /// The rows of the record that has the number, before the change and after it, where one has it. An Err is want of memory.
+    fn rows_at(&self, number: u32) -> Result<(Option<Row>, Option<Row>), AllocError>
         requires { HaveRows self.now }
-        ensures form { IfOk result (λ row. IfSome row (λ r. is_row r ≡ true)) }
-        ensures value { IfOk result (λ row. option_map value_of row ≡ values_before self.now number) };
-
-    /// The row of the record that has the number after the change, if one has it. An Err is want of memory.
-    fn row_after(&self, number: u32) -> Result<Option<Row>, AllocError>
-        requires { HaveRows self.now }
-        ensures form { IfOk result (λ row. IfSome row (λ r. is_row r ≡ true)) }
-        ensures value { IfOk result (λ row. option_map value_of row ≡ values_after self.now number) };
+        ensures before_form { IfOk result (λ rows. IfSome rows.0 (λ r. is_row r ≡ true)) }
+        ensures after_form { IfOk result (λ rows. IfSome rows.1 (λ r. is_row r ≡ true)) }
+        ensures before { IfOk result (λ rows. option_map value_of rows.0 ≡ values_before self.now number) }
+        ensures after { IfOk result (λ rows. option_map value_of rows.1 ≡ values_after self.now number) };
 }
 
 // The value of a row, if there is one.
@@ -78,8 +74,7 @@ fn changes_at<R: ChangedRows>(
 {
     let mut changes = Vec::new(alloc);
     'numbers: for number in numbers {
-        let before = records.row_before(*number)?;
-        let after = records.row_after(*number)?;
+        let (before, after) = records.rows_at(*number)?;
         changes.push(row_change(alloc, kind, *number, before, after)?)?;
     }
     Ok(changes)

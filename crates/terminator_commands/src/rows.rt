@@ -7,6 +7,7 @@ ghost use Rattle.row_codec.specs.CoveredTables.{Covers};
 ghost use Rattle.row_codec.specs.RowForm.{is_row, value_of};
 ghost use Rattle.row_codec.specs.RowValues.{record_value};
 ghost use Rattle.row_laws.specs.FittingRecords.{fits};
+ghost use Rattle.row_spelling.specs.RecordChanges.{value_at};
 ghost use Rattle.terminators.specs.TermChanges.{terms_after};
 ghost use Rattle.terminator_commands.specs.TermRows.{AreFit, changed_number};
 
@@ -45,24 +46,17 @@ struct TermRows<'a> {
 }
 
 impl<'a> ChangedRows for TermRows<'a> {
-    ghost use Rattle.ctrl_model.specs.declared.kinds.Kind.TheVariants as kind;
-    ghost use Rattle.row_spelling.specs.RecordChanges.{value_at};
-    ghost use Rattle.terminator_commands.specs.TermRows.{AreFit};
-
     ghost values_before = { λ r. value_at kind.Terminator r.terminators.now.terminators.rows };
 
     ghost values_after = { λ r. value_at kind.Terminator r.after.now.terminators.rows };
 
     ghost HaveRows = { λ r. AreFit r.terminators.now × AreFit r.after.now };
 
-    fn row_before(&self, number: u32) -> Result<Option<Row>, AllocError> {
+    fn rows_at(&self, number: u32) -> Result<(Option<Row>, Option<Row>), AllocError> {
         let no = TermNo(number);
-        row_of(no, self.terminators.seen(no))
-    }
-
-    fn row_after(&self, number: u32) -> Result<Option<Row>, AllocError> {
-        let no = TermNo(number);
-        row_of(no, self.after.get(no))
+        let before = row_of(no, self.terminators.seen(no))?;
+        let after = row_of(no, self.after.get(no))?;
+        Ok((before, after))
     }
 }
 

@@ -1,24 +1,10 @@
--- What one change does to the numbers of the terminators, and to the terminator at a number. Only private functions and proofs of
--- this crate cite this file.
+-- What one change does to the terminator at a number. Only private functions and proofs of this crate cite this file.
 use Rattle.std.specs.Prelude.{ℕ, ◌==◌, cond, None, Some}
 use Rattle.std.specs.declared.option.Option.{Option}
 use Rattle.std.specs.Option.{option_map}
 use Rattle.ctrl_model.specs.State.{Terminator}
-use Rattle.record_tables.specs.declared.number_lists.Turn.{Turn}
-use Rattle.record_tables.specs.declared.number_lists.Turn.TheVariants.{Adds, Removes, Keeps}
 use Rattle.terminators.specs.declared.changes.TermChange.{TermChange}
 use Rattle.terminators.specs.declared.changes.TermChange.TheVariants as change
-
--- What a change does to the numbers of the terminators.
-abbrev pub turn_by : TermChange → Turn
-turn_by (change.Add term) = Adds
-turn_by (change.Set n cost precedence) = Keeps
-turn_by (change.Remove n) = Removes n.0
-
--- What a change does to them, if there is one.
-abbrev pub turn_of : Option TermChange → Turn
-turn_of None = Keeps
-turn_of (Some c) = turn_by c
 
 -- The terminator at a number after a change, by the next number and the terminator that stands at the number before it.
 abbrev pub term_after : TermChange → ℕ → ℕ → Option Terminator → Option Terminator

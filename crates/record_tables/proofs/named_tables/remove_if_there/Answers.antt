@@ -1,6 +1,0 @@
-use Rattle.std.proofs.Common.{sym, ◌∙◌}
-use Rattle.record_tables.proofs.GoneLaws.{removed_absent}
-use Rattle.record_tables.proofs.named_tables.remove_if_there.Goals as goal
-
-pub returns-else-is_some : goal.returns-else-is_some
-returns-else-is_some g c = removed_absent c.args.table.now c.args.number c.get.result c.get.ensures (sym c.is_some.ensures ∙ c.if-is_some.false)
