@@ -86,7 +86,7 @@ times-with_last f x rows n r =
     omega (arith, all, first, last)
 
 -- without a number below all, all records stay
-without-below : {R : Type 0} (high : ℕ) (rows : List (ℕ × R)) (low n : ℕ) → Between low high rows → n < low → without rows n ≡ rows
+pub without-below : {R : Type 0} (high : ℕ) (rows : List (ℕ × R)) (low n : ℕ) → Between low high rows → n < low → without rows n ≡ rows
 without-below high [] low n b h = refl
 without-below {R} high (y ∷ ys) low n b h =
     let above : y.0 ≢ n = λ e. absurd (omega (arith, b.0, h, e)) in

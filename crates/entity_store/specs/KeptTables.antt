@@ -1,6 +1,6 @@
 -- How a store keeps its tables, with a pool that counts the uses of attributes. Only private functions and proofs of this crate cite
 -- this file.
-use Rattle.std.specs.Prelude.{◌≡◌, ℕ, ◌≤◌, List, length, map}
+use Rattle.std.specs.Prelude.{◌≡◌, ℕ, ◌<◌, ◌≤◌, List, length, map, slice_index_or}
 use Rattle.attr_pool.specs.Slots.{Slot}
 use Rattle.attr_pool.specs.Uses.{uses_of}
 use Rattle.entity_store.specs.declared.kind_tables.KindTables.{KindTables}
@@ -25,3 +25,7 @@ pub record AreWithin (t : Tables) : Type 0 where
 pub record IsKept (t : Tables) (slots : List Slot) : Type 0 where
   pub within : AreWithin t
   pub counted : (name : List ℕ) → uses_of name slots ≡ uses name t
+
+-- The place of a number among some.
+abbrev pub IsPlaceOf : ℕ → List ℕ → ℕ → Type 0
+IsPlaceOf n ns place = (place < length ns) × (slice_index_or ns place 0 ≡ n)

@@ -2,12 +2,15 @@ ghost use Rattle.std.specs.Prelude.{◌≡◌, ◌≤◌, ⊤, true, [], IfOk, O
 ghost use Rattle.ctrl_model.specs.CommandForm.{is_cost};
 ghost use Rattle.ctrl_model.specs.Networks.{seen};
 ghost use Rattle.ctrl_model.specs.Numbered.{at, numbers};
+ghost use Rattle.attr_pool.specs.AttributeRows.{AreRows};
 ghost use Rattle.entity_store.specs.EntityTables.{no_entities, is_entity_kind, entities, next_of, number_of, with_entity, with_attributes, with_router, without_entity, with_next};
 ghost use Rattle.entity_store.specs.AttributeUses.{has_attribute_room, AreUsed, AreHeld, Holds, LetsGo};
 ghost use Rattle.entity_store.specs.TableRules.{may_add, found, is_there, attributes_at, most_of, KeepsNumbers};
 
 use crate::held_names::{hold_names, let_names_go};
-use crate::kind_tables::{KindTables, add_row, edit_row, mark_row, remove_row, seen, tell_order};
+use crate::kind_rows::{AllRows, KindRows, Lanes, lent, remove_entry, set_row};
+use crate::kind_tables::{KindTables, edit_row, mark_row, place_of, remove_row, seen, tell_order};
+use crate::listing::add_listed;
 use crate::records::{EntityView, KeptRouter, RouterView};
 use attr_pool::Pool;
 use ctrl_model::{Kind, Name, Names, Numbers, RouterNo, RouterSeen};
@@ -36,6 +39,7 @@ pub enum EntityFault {
 #[derive(Drop)]
 pub struct Entities {
     tables: KindTables,
+    listed: AllRows,
     held: Vec<Name>,
     pool: Pool,
 }
@@ -43,12 +47,13 @@ pub struct Entities {
 impl Model for Entities {
     ghost use Rattle.entity_store.specs.EntityTables.{Tables};
     ghost use Rattle.entity_store.specs.KeptTables.{held_once, tables_of, IsKept};
+    ghost use Rattle.entity_store.specs.KeptRows.{AreAllListed};
 
     ghost Value = { Tables };
 
     ghost view = { λ e. tables_of e.tables (held_once e.held.items) };
 
-    ghost invariant = { λ e. IsKept (tables_of e.tables (held_once e.held.items)) e.pool };
+    ghost invariant = { λ e. IsKept (tables_of e.tables (held_once e.held.items)) e.pool × AreAllListed e.pool (tables_of e.tables (held_once e.held.items)) e.listed };
 }
 
 // How many entities of a kind there may be.
@@ -99,6 +104,11 @@ impl Entities {
                 services: NamedTable::new(alloc),
                 routers: NamedTable::new(alloc),
             },
+            listed: AllRows {
+                identities: KindRows::new(alloc),
+                services: KindRows::new(alloc),
+                routers: KindRows::new(alloc),
+            },
             held: Vec::new(alloc),
             pool,
         })
@@ -145,8 +155,10 @@ impl Entities {
         if !self.pool.can_count(attributes) {
             return Err(AllocError);
         }
-        let number = add_row(&mut self.tables, kind, name, attributes)?;
+        let place = self.count(kind);
+        let number = add_listed(&mut self.tables, &mut self.listed, kind, name, attributes)?;
         self.pool.intern_all(attributes);
+        set_row(&mut self.listed, kind, place, self.pool.row_of(attributes));
         Ok(number)
     }
 
@@ -176,6 +188,13 @@ impl Entities {
         let (_, had) = seen(&self.tables, kind, no).unwrap();
         self.pool.release_all(had);
         self.pool.intern_all(attributes);
+        let row = self.pool.row_of(attributes);
+        set_row(
+            &mut self.listed,
+            kind,
+            place_of(&self.tables, kind, no),
+            row,
+        );
         edit_row(&mut self.tables, kind, no, copied);
         Ok(())
     }
@@ -198,6 +217,7 @@ impl Entities {
         tell_order(&self.tables);
         let (_, had) = seen(&self.tables, kind, no).unwrap();
         self.pool.release_all(had);
+        remove_entry(&mut self.listed, kind, place_of(&self.tables, kind, no));
         remove_row(&mut self.tables, kind, no);
     }
 
@@ -246,6 +266,15 @@ impl Entities {
         ensures { option_map (λ p. record { name = p.0.now; attributes = p.1.now }) result ≡ at (entities kind self.now) no }
     {
         seen(&self.tables, kind, no)
+    }
+
+    /// The entities of a kind, lent: their names in the order of their numbers, and the rows of their attributes in the pool.
+    pub fn lanes(&self, kind: Kind) -> Lanes<'_>
+        requires { is_entity_kind kind ≡ true }
+        ensures names { result.names.now ≡ map (λ row. row.1.name) (entities kind self.now) }
+        ensures rows { AreRows result.pool.now (map (λ row. row.1.attributes) (entities kind self.now)) result.rows.now }
+    {
+        lent(&self.listed, kind, &self.pool)
     }
 
     /// The entity of a number, lent. None exactly where it is absent.

@@ -1,15 +1,15 @@
-ghost use Rattle.std.specs.Prelude.{◌≡◌, ◌<◌, ℕ, List, [], true, None, IfOk, OnOk, OnErr};
+ghost use Rattle.std.specs.Prelude.{◌≡◌, ◌<◌, ◌==◌, ℕ, List, position, [], true, None, IfOk, OnOk, OnErr};
 ghost use Rattle.std.specs.Option.{option_map};
-ghost use Rattle.ctrl_model.specs.Numbered.{at};
+ghost use Rattle.ctrl_model.specs.Numbered.{at, is_present, numbers};
 ghost use Rattle.ctrl_model.specs.State.{as_entity};
 ghost use Rattle.record_tables.specs.Entries.{KeepsOrder};
 ghost use Rattle.entity_store.specs.EntityTables.{is_entity_kind, entities, next_of, number_of, new_router, with_entity, with_attributes, with_router, without_entity};
 ghost use Rattle.entity_store.specs.TableRules.{is_there};
-ghost use Rattle.entity_store.specs.KeptTables.{tables_of};
+ghost use Rattle.entity_store.specs.KeptTables.{tables_of, IsPlaceOf};
 
 use crate::records::{KeptEntity, KeptRouter};
 use ctrl_model::{Kind, Name, Names};
-use record_tables::NamedTable;
+use record_tables::{Named, NamedTable};
 use std::alloc::AllocError;
 
 /// The tables of the three kinds.
@@ -68,6 +68,35 @@ pub fn seen(tables: &KindTables, kind: Kind, no: u32) -> Option<(&Name, &Names)>
         Kind::Identity => seen_entity(&tables.identities, no),
         Kind::Service => seen_entity(&tables.services, no),
         Kind::Router => seen_router(&tables.routers, no),
+        _ => unreachable!(),
+    }
+}
+
+// The place of a record in the order of the numbers.
+fn found_in<R: Named>(table: &NamedTable<R>, no: u32) -> Option<usize>
+    ensures { result ≡ position (λ row. row.0 == no) table.now.rows }
+{
+    table.rows().position(|row| row.0 == no)
+}
+
+// The place of a present record in the order of the numbers.
+fn place_in<R: Named>(table: &NamedTable<R>, no: u32) -> usize
+    requires { is_present table.now.rows no ≡ true }
+    ensures { IsPlaceOf no (numbers table.now.rows) result }
+{
+    found_in(table, no).unwrap()
+}
+
+/// The place of a present entity in the order of the numbers of its kind.
+pub fn place_of(tables: &KindTables, kind: Kind, no: u32) -> usize
+    requires kind { is_entity_kind kind ≡ true }
+    requires there { is_there kind no (tables_of tables.now []) ≡ true }
+    ensures { (held : List (List ℕ × ℕ)) → IsPlaceOf no (numbers (entities kind (tables_of tables.now held))) result }
+{
+    match kind {
+        Kind::Identity => place_in(&tables.identities, no),
+        Kind::Service => place_in(&tables.services, no),
+        Kind::Router => place_in(&tables.routers, no),
         _ => unreachable!(),
     }
 }
