@@ -1,15 +1,24 @@
 -- A policy that a spelled command says has short sides.
-use Rattle.std.proofs.Common.{◌≡◌, ℕ, ◌+◌, ◌≤◌, nat_le, true, not, ◌&&◌, ◌||◌, List, length, sym, subst, arith}
+use Rattle.std.proofs.Common.{◌≡◌, ℕ, ◌+◌, ◌≤◌, nat_le, true, not, ◌&&◌, ◌||◌, ◌⊎◌, inl, inr, List, length, sym, ◌∙◌, ap, subst, arith}
 use Rattle.std.proofs.lemmas.Bool.{and_parts, leb-true}
+use Rattle.ctrl_model.specs.declared.commands.Command.{Command}
+use Rattle.ctrl_model.specs.declared.commands.Command.TheVariants as command
+use Rattle.ctrl_model.specs.declared.kinds.Kind.{Kind}
 use Rattle.ctrl_model.specs.declared.kinds.Relation.{Relation}
 use Rattle.ctrl_model.specs.declared.kinds.Semantic.{Semantic}
 use Rattle.ctrl_model.specs.declared.kinds.Side.{Side}
-use Rattle.ctrl_model.specs.CommandForm.{is_side, is_stored_side, is_service_relation}
-use Rattle.ctrl_model.specs.Controller.{policy}
+use Rattle.ctrl_model.specs.CommandForm.{is_side, is_spelled, is_stored_side, is_service_relation}
+use Rattle.ctrl_model.specs.declared.refusals.Field.TheVariants as field
+use Rattle.ctrl_model.specs.Controller.{carry, policy}
 use Rattle.ctrl_model.specs.Matches.{is_nothing}
 use Rattle.ctrl_model.specs.NameForm.{is_name}
 use Rattle.ctrl_model.specs.State.{Policy}
-use Rattle.core_stores.specs.PlannedPolicies.{AreShort}
+use Rattle.ctrl_model.specs.RecordCommands.{delete}
+use Rattle.model_laws.specs.declared.plans.Plan.{Plan}
+use Rattle.entity_store.specs.EntityTables.{Tables}
+use Rattle.policy_store.specs.declared.changes.PolicyChange.{PolicyChange}
+use Rattle.policy_store.specs.PolicyTables.{PolicyTables}
+use Rattle.core_stores.specs.PlannedPolicies.{AreShort, Answers, router_kind}
 
 short_side : (side : Side) → is_side side ≡ true → length side.ids ≤ 64
 short_side side e =
@@ -37,3 +46,17 @@ pub short_service_sides : (p : Policy) (name : List ℕ) (relation : Relation) (
 short_service_sides p name relation semantic left right spelled is =
     let related = and_parts (is_name name) (is_service_relation relation && (is_side left && is_side right)) spelled in
     said_short p name relation semantic left right (and_parts (is_service_relation relation) (is_side left && is_side right) related.1).1 is
+
+-- one of two commands that are spelled alike
+pub spelled_either : (c d e : Command) → (c ≡ d) ⊎ (c ≡ e) → is_spelled e ≡ is_spelled d → is_spelled c ≡ true → is_spelled d ≡ true
+spelled_either c d e (inl is) alike spelled = sym (ap is_spelled is) ∙ spelled
+spelled_either c d e (inr is) alike spelled = sym alike ∙ sym (ap is_spelled is) ∙ spelled
+
+-- where one of the two kinds of policies on routers goes, by the kind that its command is on
+pub delete_either : (c : Command) (name : List ℕ) (on : Kind × Relation) (t : Tables) (p : PolicyTables) (plan : Plan PolicyChange)
+    → (c ≡ command.DeleteEdgeRouterPolicy name) ⊎ (c ≡ command.DeleteServiceEdgeRouterPolicy name) → on ≡ router_kind c
+    → Answers (delete on.0 field.Name name) t p plan → Answers (carry c) t p plan
+delete_either c name on t p plan (inl is) kinds h =
+    subst (λ (d : Command). Answers (carry d) t p plan) (sym is) (subst (λ (k : Kind × Relation). Answers (delete k.0 field.Name name) t p plan) (kinds ∙ ap router_kind is) h)
+delete_either c name on t p plan (inr is) kinds h =
+    subst (λ (d : Command). Answers (carry d) t p plan) (sym is) (subst (λ (k : Kind × Relation). Answers (delete k.0 field.Name name) t p plan) (kinds ∙ ap router_kind is) h)

@@ -2,8 +2,11 @@
 use Rattle.std.specs.Prelude.{ℕ, ◌<◌, ◌≤◌, ⊤, Bool, true, false, not, cond, List, [], ◌++◌, length, slice_index_or, Some, Ok, Err}
 use Rattle.std.specs.declared.result.Result.{Result}
 use Rattle.std.specs.declared.option.Option.{Option}
+use Rattle.ctrl_model.specs.declared.commands.Command.{Command}
 use Rattle.ctrl_model.specs.declared.kinds.Kind.{Kind}
 use Rattle.ctrl_model.specs.declared.kinds.Kind.TheVariants as kind
+use Rattle.ctrl_model.specs.declared.kinds.Relation.{Relation}
+use Rattle.ctrl_model.specs.declared.kinds.Relation.TheVariants.{IdentityRouter, ServiceRouter}
 use Rattle.ctrl_model.specs.declared.refusals.Field.{Field}
 use Rattle.ctrl_model.specs.declared.refusals.Field.TheVariants as field
 use Rattle.ctrl_model.specs.declared.refusals.Refusal.{Refusal}
@@ -25,7 +28,7 @@ use Rattle.policy_store.specs.declared.policies.PolicyFault.TheVariants as fault
 use Rattle.policy_store.specs.PolicyTables.{PolicyTables}
 use Rattle.core_stores.specs.PutPolicies.{may_put}
 use Rattle.core_stores.specs.PolicyStates.{HoldsUses, over}
-use Rattle.core_stores.specs.PolicyPlans.{PlansPolicies}
+use Rattle.core_stores.specs.PolicyPlans.{PlansPolicies, is_edge_router_policy_command}
 
 -- A plan of an answer in every valid state with these entities and these policies, whose uses of attributes are held.
 abbrev pub Answers : (State → Reply × State) → Tables → PolicyTables → Plan PolicyChange → Type 0
@@ -92,3 +95,8 @@ refusal_judged k p gone t (Err f) = Some (refusal_for k p f)
 -- The refusal of a policy that is put, where some uses of attributes go.
 abbrev pub refusal_to_put : Kind → Policy → Bool → List (List ℕ) → PolicyTables → Tables → Option Refusal
 refusal_to_put k p fresh gone t e = refusal_judged k p gone e (may_put k p fresh t e)
+
+-- The kind of a policy on routers that a command is on, and its relation: of an edge-router policy, or else of a service-edge-router
+-- policy.
+abbrev pub router_kind : Command → Kind × Relation
+router_kind c = cond (is_edge_router_policy_command c) (kind.EdgeRouterPolicy, IdentityRouter) (kind.ServiceEdgeRouterPolicy, ServiceRouter)

@@ -1,4 +1,4 @@
-ghost use Rattle.std.specs.Prelude.{◌≡◌, ◌<◌, ◌++◌, true, false, IfOk, MatchOption, length, slice_index_or, [], Some};
+ghost use Rattle.std.specs.Prelude.{◌≡◌, ◌<◌, ◌++◌, ◌||◌, true, false, IfOk, MatchOption, length, slice_index_or, [], Some};
 ghost use Rattle.ctrl_model.specs.CommandForm.{is_spelled};
 ghost use Rattle.ctrl_model.specs.Controller.{carry, policy};
 ghost use Rattle.ctrl_model.specs.RecordCommands.{delete};
@@ -11,7 +11,7 @@ ghost use Rattle.entity_store.specs.EntityTables.{Tables};
 ghost use Rattle.policy_store.specs.PolicyTables.{is_policy_kind};
 ghost use Rattle.core_stores.specs.PolicyStates.{HoldsUses, over};
 ghost use Rattle.core_stores.specs.PolicyPlans.{is_policy_command, is_service_policy_command, is_edge_router_policy_command, is_service_edge_router_policy_command, PlansPolicies};
-ghost use Rattle.core_stores.specs.PlannedPolicies.{Answers, AreShort, IsPlaced, ids_of, refusal_for, refusal_to_put, answer_create, answer_replace, roles_field};
+ghost use Rattle.core_stores.specs.PlannedPolicies.{Answers, AreShort, IsPlaced, ids_of, refusal_for, refusal_to_put, answer_create, answer_replace, roles_field, router_kind};
 
 use crate::putting::may_put;
 use ctrl_model::{Command, Field, Kind, Name, Names, Refusal, Relation, Reply, Semantic, Side};
@@ -230,84 +230,68 @@ fn plan_service_policy(
     }
 }
 
-// Plans the answer to a command on edge-router policies. None is a command on something else.
-fn plan_edge_router_policy(
+// The kind of a policy on routers that a command is on, and its relation.
+fn router_kind(command: &Command) -> (Kind, Relation)
+    ensures { result ≡ router_kind command.now }
+{
+    match command {
+        Command::CreateEdgeRouterPolicy { .. }
+        | Command::UpdateEdgeRouterPolicy { .. }
+        | Command::DeleteEdgeRouterPolicy { .. } => (
+            Kind::EdgeRouterPolicy,
+            Relation::IdentityRouter,
+        ),
+        _ => (Kind::ServiceEdgeRouterPolicy, Relation::ServiceRouter),
+    }
+}
+
+// Plans the answer to a command on edge-router or service-edge-router policies. None is a command on something else.
+fn plan_router_policy(
     alloc: Global,
     known: &Known,
     command: &Command,
 ) -> Result<Option<Plan<PolicyChange>>, AllocError>
     requires spelled { is_spelled command.now ≡ true }
     requires held { HoldsUses known.now.entities.now known.now.policies.now }
-    ensures { IfOk result (λ o. MatchOption o (is_edge_router_policy_command command.now ≡ false)
+    ensures { IfOk result (λ o. MatchOption o ((is_edge_router_policy_command command.now || is_service_edge_router_policy_command command.now) ≡ false)
         (Answers (carry command.now) known.now.entities.now known.now.policies.now)) }
 {
-    let kind = Kind::EdgeRouterPolicy;
-    let relation = Relation::IdentityRouter;
+    let (kind, relation) = router_kind(command);
     match command {
         Command::CreateEdgeRouterPolicy {
             name,
             semantic,
-            identity_roles,
-            router_roles,
+            identity_roles: left,
+            router_roles: right,
+        }
+        | Command::CreateServiceEdgeRouterPolicy {
+            name,
+            semantic,
+            service_roles: left,
+            router_roles: right,
         } => {
-            let policy = policy(name, relation, *semantic, identity_roles, router_roles)?;
+            let policy = policy(name, relation, *semantic, left, right)?;
             Ok(Some(plan_create(alloc, known, kind, policy)?))
         }
         Command::UpdateEdgeRouterPolicy {
             name,
             semantic,
-            identity_roles,
-            router_roles,
-        } => {
-            let policy = policy(name, relation, *semantic, identity_roles, router_roles)?;
-            Ok(Some(plan_replace(alloc, known, kind, policy)?))
+            identity_roles: left,
+            router_roles: right,
         }
-        Command::DeleteEdgeRouterPolicy { name } => Ok(Some(plan_delete(
-            known.policies,
-            kind,
-            name,
-        ))),
-        _ => Ok(None),
-    }
-}
-
-// Plans the answer to a command on service-edge-router policies. None is a command on something else.
-fn plan_service_edge_router_policy(
-    alloc: Global,
-    known: &Known,
-    command: &Command,
-) -> Result<Option<Plan<PolicyChange>>, AllocError>
-    requires spelled { is_spelled command.now ≡ true }
-    requires held { HoldsUses known.now.entities.now known.now.policies.now }
-    ensures { IfOk result (λ o. MatchOption o (is_service_edge_router_policy_command command.now ≡ false)
-        (Answers (carry command.now) known.now.entities.now known.now.policies.now)) }
-{
-    let kind = Kind::ServiceEdgeRouterPolicy;
-    let relation = Relation::ServiceRouter;
-    match command {
-        Command::CreateServiceEdgeRouterPolicy {
+        | Command::UpdateServiceEdgeRouterPolicy {
             name,
             semantic,
-            service_roles,
-            router_roles,
+            service_roles: left,
+            router_roles: right,
         } => {
-            let policy = policy(name, relation, *semantic, service_roles, router_roles)?;
-            Ok(Some(plan_create(alloc, known, kind, policy)?))
-        }
-        Command::UpdateServiceEdgeRouterPolicy {
-            name,
-            semantic,
-            service_roles,
-            router_roles,
-        } => {
-            let policy = policy(name, relation, *semantic, service_roles, router_roles)?;
+            let policy = policy(name, relation, *semantic, left, right)?;
             Ok(Some(plan_replace(alloc, known, kind, policy)?))
         }
-        Command::DeleteServiceEdgeRouterPolicy { name } => Ok(Some(plan_delete(
-            known.policies,
-            kind,
-            name,
-        ))),
+        Command::DeleteEdgeRouterPolicy { name }
+        | Command::DeleteServiceEdgeRouterPolicy { name } => {
+            Ok(Some(plan_delete(known.policies, kind, name)))
+        }
         _ => Ok(None),
     }
 }
@@ -331,8 +315,5 @@ pub fn plan_policy_command(
     if let Some(plan) = plan_service_policy(alloc, &known, command)? {
         return Ok(Some(plan));
     }
-    if let Some(plan) = plan_edge_router_policy(alloc, &known, command)? {
-        return Ok(Some(plan));
-    }
-    plan_service_edge_router_policy(alloc, &known, command)
+    plan_router_policy(alloc, &known, command)
 }
