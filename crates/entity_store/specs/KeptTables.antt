@@ -1,6 +1,8 @@
 -- How a store keeps its tables, with a pool that counts the uses of attributes. Only private functions and proofs of this crate cite
 -- this file.
 use Rattle.std.specs.Prelude.{◌≡◌, ℕ, ◌<◌, ◌≤◌, List, length, map, slice_index_or}
+use Rattle.ctrl_model.specs.declared.kinds.Kind.TheVariants as kind
+use Rattle.ctrl_model.specs.Limits.{limit}
 use Rattle.attr_pool.specs.Slots.{Slot}
 use Rattle.attr_pool.specs.Uses.{uses_of}
 use Rattle.entity_store.specs.declared.kind_tables.KindTables.{KindTables}
@@ -17,9 +19,9 @@ tables_of kinds held = record { identities = kinds.identities; services = kinds.
 
 -- Each kind keeps its limit.
 pub record AreWithin (t : Tables) : Type 0 where
-  pub identities : length t.identities.rows ≤ 2048
-  pub services : length t.services.rows ≤ 512
-  pub routers : length t.routers.rows ≤ 256
+  pub identities : length t.identities.rows ≤ limit kind.Identity
+  pub services : length t.services.rows ≤ limit kind.Service
+  pub routers : length t.routers.rows ≤ limit kind.Router
 
 -- What a store keeps: each kind its limit, and the pool has the uses of each name.
 pub record IsKept (t : Tables) (slots : List Slot) : Type 0 where

@@ -1,25 +1,19 @@
 -- When an entity may be added, and what is found (docs/RULES.md, "Commands on entities", "Limits").
-use Rattle.std.specs.Prelude.{ℕ, ◌≤◌, ⊤, nat_lt, Bool, ◌&&◌, cond, List, [], length, Ok, Err, is_some}
+use Rattle.std.specs.Prelude.{ℕ, ◌≤◌, ⊤, Bool, cond, List, [], length, Ok, Err, is_some}
 use Rattle.std.specs.declared.result.Result.{Result}
 use Rattle.std.specs.Option.{ok_or, option_map_or}
 use Rattle.ctrl_model.specs.declared.kinds.Kind.{Kind}
-use Rattle.ctrl_model.specs.declared.kinds.Kind.TheVariants as kind
+use Rattle.ctrl_model.specs.Limits.{limit, last_next}
 use Rattle.ctrl_model.specs.Numbered.{at, is_present, Between}
 use Rattle.ctrl_model.specs.State.{Entity}
+use Rattle.ctrl_model.specs.Tables.{has_room}
 use Rattle.entity_store.specs.declared.entities.EntityFault.{EntityFault}
 use Rattle.entity_store.specs.declared.entities.EntityFault.TheVariants.{Exists, Unknown, Full}
 use Rattle.entity_store.specs.EntityTables.{Tables, entities, next_of, number_of}
 
--- How many entities of a kind there may be.
-abbrev pub most_of : Kind → ℕ
-most_of kind.Identity = 2048
-most_of kind.Service = 512
-most_of kind.Router = 256
-most_of _ = 0
-
 -- Whether one more entity of a kind can be added: fewer than its limit are present, and its numbers have not run out.
 abbrev pub has_kind_room : Kind → Tables → Bool
-has_kind_room k t = nat_lt (length (entities k t)) (most_of k) && nat_lt (next_of k t) 4294967295
+has_kind_room k t = has_room (limit k) (record { rows = entities k t; next = next_of k t })
 
 -- Whether an entity of a name may be added: the name is not taken, and then the kind is not full.
 abbrev pub may_add : Kind → List ℕ → Tables → Result ⊤ EntityFault
@@ -40,6 +34,6 @@ attributes_at k n t = option_map_or (λ (e : Entity). e.attributes) (at (entitie
 -- What a store keeps of each kind: the numbers ascend from 1 below the next one, which has an end, and the limit is kept.
 pub record KeepsNumbers (k : Kind) (t : Tables) : Type 0 where
   pub first : 1 ≤ next_of k t
-  pub last : next_of k t ≤ 4294967295
+  pub last : next_of k t ≤ last_next
   pub ordered : Between 1 (next_of k t) (entities k t)
-  pub few : length (entities k t) ≤ most_of k
+  pub few : length (entities k t) ≤ limit k

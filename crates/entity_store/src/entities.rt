@@ -1,11 +1,12 @@
 ghost use Rattle.std.specs.Prelude.{◌≡◌, ◌≤◌, ⊤, true, [], IfOk, OnOk, OnErr, length, map, option_map, Ok};
 ghost use Rattle.ctrl_model.specs.CommandForm.{is_cost};
+ghost use Rattle.ctrl_model.specs.Limits as limits;
 ghost use Rattle.ctrl_model.specs.Networks.{seen};
 ghost use Rattle.ctrl_model.specs.Numbered.{at, numbers};
 ghost use Rattle.attr_pool.specs.AttributeRows.{AreRows};
 ghost use Rattle.entity_store.specs.EntityTables.{no_entities, is_entity_kind, entities, next_of, number_of, with_entity, with_attributes, with_router, without_entity, with_next};
 ghost use Rattle.entity_store.specs.AttributeUses.{has_attribute_room, AreUsed, AreHeld, Holds, LetsGo};
-ghost use Rattle.entity_store.specs.TableRules.{may_add, found, is_there, attributes_at, most_of, KeepsNumbers};
+ghost use Rattle.entity_store.specs.TableRules.{may_add, found, is_there, attributes_at, KeepsNumbers};
 
 use crate::held_names::{hold_names, let_names_go};
 use crate::kind_rows::{AllRows, KindRows, Lanes, lent, remove_entry, set_row};
@@ -14,7 +15,7 @@ use crate::listing::add_listed;
 use crate::records::{EntityView, KeptRouter, RouterView};
 use attr_pool::Pool;
 use ctrl_model::{Kind, Name, Names, Numbers, RouterNo, RouterSeen};
-use record_tables::NamedTable;
+use record_tables::{NamedTable, limit};
 use std::alloc::{AllocError, Global};
 use std::marker::Model;
 use thiserror::Error;
@@ -54,19 +55,6 @@ impl Model for Entities {
     ghost view = { λ e. tables_of e.tables (held_once e.held.items) };
 
     ghost invariant = { λ e. IsKept (tables_of e.tables (held_once e.held.items)) e.pool × AreAllListed e.pool (tables_of e.tables (held_once e.held.items)) e.listed };
-}
-
-// How many entities of a kind there may be.
-fn most_of(kind: Kind) -> usize
-    requires { is_entity_kind kind ≡ true }
-    ensures { result ≡ most_of kind }
-{
-    match kind {
-        Kind::Identity => 2_048,
-        Kind::Service => 512,
-        Kind::Router => 256,
-        _ => unreachable!(),
-    }
 }
 
 // A router as routes see it.
@@ -137,7 +125,7 @@ impl Entities {
         if self.number_of(kind, name).is_some() {
             return Err(EntityFault::Exists);
         }
-        if self.count(kind) >= most_of(kind) || self.next(kind) == u32::MAX {
+        if self.count(kind) >= limit(kind) || self.next(kind) == u32::MAX {
             return Err(EntityFault::Full(kind));
         }
         Ok(())
@@ -321,7 +309,7 @@ impl Entities {
     pub fn count(&self, kind: Kind) -> usize
         requires { is_entity_kind kind ≡ true }
         ensures count { result ≡ length (entities kind self.now) }
-        ensures few { result ≤ most_of kind }
+        ensures few { result ≤ limits.limit kind }
     {
         match kind {
             Kind::Identity => self.tables.identities.len(),

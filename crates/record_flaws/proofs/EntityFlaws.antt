@@ -5,6 +5,7 @@ use Rattle.std.proofs.lemmas.Bool.{le-leb, lt-leb}
 use Rattle.std.proofs.lemmas.List.{length-map}
 use Rattle.std.specs.Option.{ok_or}
 use Rattle.std.specs.Result.{is_ok}
+use Rattle.ctrl_model.specs.Limits.{limit}
 use Rattle.ctrl_model.specs.declared.kinds.Kind.{Kind}
 use Rattle.ctrl_model.specs.declared.kinds.Kind.TheVariants as kind
 use Rattle.ctrl_model.specs.Numbered.{Table}
@@ -13,7 +14,7 @@ use Rattle.ctrl_model.specs.Rules.{attributes_in_use, attributes_full}
 use Rattle.entity_store.specs.EntityTables.{Tables, entities, next_of, number_of}
 use Rattle.entity_store.specs.AttributeUses.{times, has_attribute_room}
 use Rattle.entity_store.specs.HeldUses.{with_entities}
-use Rattle.entity_store.specs.TableRules.{found, most_of}
+use Rattle.entity_store.specs.TableRules.{found}
 use Rattle.entity_store.specs.declared.entities.EntityFault.TheVariants.{Unknown}
 use Rattle.entity_store.proofs.TimesLaws.{times-with_last}
 use Rattle.entity_store.proofs.InUseLaws.{in_use-parts, room_in_state}
@@ -72,16 +73,16 @@ found_entity k name t = by (number_of k name t)
     by (Some n) = refl
 
 -- A kind that is full, and one that is not, whose limit and number of entities are found.
-pub full_kind : (k : Kind) (attributes : List (List ℕ)) (t : Tables) (most count : ℕ) → most ≡ most_of k → count ≡ length (entities k t) → most ≤ count
+pub full_kind : (k : Kind) (attributes : List (List ℕ)) (t : Tables) (most count : ℕ) → most ≡ limit k → count ≡ length (entities k t) → most ≤ count
     → nat_le most count ≡ has_one_too_many k attributes t
 full_kind k attributes t most count most_is count_is full =
-    let all : nat_le (most_of k) (length (entities k t)) ≡ true = le-leb _ _ (omega (arith, most_is, count_is, full)) in
+    let all : nat_le (limit k) (length (entities k t)) ≡ true = le-leb _ _ (omega (arith, most_is, count_is, full)) in
     le-leb most count full ∙ sym (ap (λ b. b || not (has_attribute_room t [] attributes)) all)
 
-pub open_kind : (k : Kind) (attributes : List (List ℕ)) (t : Tables) (most count : ℕ) → most ≡ most_of k → count ≡ length (entities k t) → count < most
+pub open_kind : (k : Kind) (attributes : List (List ℕ)) (t : Tables) (most count : ℕ) → most ≡ limit k → count ≡ length (entities k t) → count < most
     → not (has_attribute_room t [] attributes) ≡ has_one_too_many k attributes t
 open_kind k attributes t most count most_is count_is open_yet =
-    let few : nat_le (most_of k) (length (entities k t)) ≡ false = lt-leb _ _ (omega (arith, most_is, count_is, open_yet)) in
+    let few : nat_le (limit k) (length (entities k t)) ≡ false = lt-leb _ _ (omega (arith, most_is, count_is, open_yet)) in
     sym (ap (λ b. b || not (has_attribute_room t [] attributes)) few)
 
 -- What is found of an entity gives its flaw.

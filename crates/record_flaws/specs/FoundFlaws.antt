@@ -3,9 +3,9 @@
 use Rattle.std.specs.Prelude.{ℕ, Bool, ◌||◌, not, nat_lt, nat_le, List, [], length, None, is_some}
 use Rattle.std.specs.declared.option.Option.{Option}
 use Rattle.ctrl_model.specs.declared.kinds.Kind.{Kind}
+use Rattle.ctrl_model.specs.Limits.{limit}
 use Rattle.entity_store.specs.EntityTables.{Tables, entities, next_of, number_of}
 use Rattle.entity_store.specs.AttributeUses.{has_attribute_room}
-use Rattle.entity_store.specs.TableRules.{most_of}
 use Rattle.state_building.specs.declared.flaws.Flaw.{Flaw}
 use Rattle.state_building.specs.declared.flaws.Flaw.TheVariants.{OutOfOrder, NoRecord, NameTaken, TooMany}
 use Rattle.state_building.specs.JoinedRecords.{flaw_if}
@@ -13,7 +13,7 @@ use Rattle.record_flaws.specs.declared.coming.Coming.{Coming}
 
 -- A kind of entities is full, or with some attributes more would be in use than may be.
 abbrev pub has_one_too_many : Kind → List (List ℕ) → Tables → Bool
-has_one_too_many k attributes t = nat_le (most_of k) (length (entities k t)) || not (has_attribute_room t [] attributes)
+has_one_too_many k attributes t = nat_le (limit k) (length (entities k t)) || not (has_attribute_room t [] attributes)
 
 -- An entity of a kind that comes next cannot join the entities of a store: its number is out of order, it is not sound, its name is
 -- taken, or its kind is full or has too many attributes with it.

@@ -2,7 +2,6 @@ ghost use Rattle.std.specs.Prelude.{◌≡◌, ◌⊎◌, true};
 ghost use Rattle.ctrl_model.specs.declared.kinds.Kind.TheVariants as kinds;
 ghost use Rattle.ctrl_model.specs.State.{State, Entity, Router};
 ghost use Rattle.entity_store.specs.EntityTables.{is_entity_kind};
-ghost use Rattle.entity_store.specs.TableRules.{most_of};
 ghost use Rattle.state_building.specs.JoinedRecords.{is_sound, flaw_of};
 ghost use Rattle.record_flaws.specs.FoundFlaws.{has_one_too_many, entity_flaw};
 ghost use Rattle.record_flaws.specs.StoresOfStates.{AreEntitiesOf};
@@ -10,21 +9,9 @@ ghost use Rattle.record_flaws.specs.StoresOfStates.{AreEntitiesOf};
 use crate::coming::{Coming, Findings};
 use ctrl_model::{Kind, Name, Names};
 use entity_store::Entities;
+use record_tables::limit;
 use state_building::Flaw;
 use std::alloc::Global;
-
-// How many entities of a kind there may be.
-fn most_of(kind: Kind) -> usize
-    requires { is_entity_kind kind ≡ true }
-    ensures { result ≡ most_of kind }
-{
-    match kind {
-        Kind::Identity => 2_048,
-        Kind::Service => 512,
-        Kind::Router => 256,
-        _ => unreachable!(),
-    }
-}
 
 // Whether a kind is full, or with some attributes more would be in use than may be.
 fn has_one_too_many(alloc: Global, entities: &Entities, kind: Kind, attributes: &Names) -> bool
@@ -32,7 +19,7 @@ fn has_one_too_many(alloc: Global, entities: &Entities, kind: Kind, attributes: 
     ensures { result ≡ has_one_too_many kind attributes.now entities.now }
 {
     let none = Names::of(Vec::new(alloc));
-    entities.count(kind) >= most_of(kind) || !entities.has_room(&none, attributes)
+    entities.count(kind) >= limit(kind) || !entities.has_room(&none, attributes)
 }
 
 // Why an entity cannot join the entities of a store, if it cannot.
