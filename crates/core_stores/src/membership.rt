@@ -1,32 +1,48 @@
-ghost use Rattle.std.specs.Prelude.{◌≡◌, true, false, filter, IfOk};
-ghost use Rattle.std.specs.Option.{option_map_or};
+ghost use Rattle.std.specs.Prelude.{◌≡◌, true, filter, map, zip, IfOk};
 ghost use Rattle.ctrl_model.specs.Matches.{matches};
-ghost use Rattle.ctrl_model.specs.Numbered.{at};
 ghost use Rattle.entity_store.specs.EntityTables.{is_entity_kind, entities};
 ghost use Rattle.core_stores.specs.Members.{members_of};
 
 use ctrl_model::{Kind, Numbers, Semantic, Side};
 use entity_store::Entities;
-use role_expr::matches;
+use role_expr::match_all;
 use std::alloc::{AllocError, Global};
 
-// Whether a side matches the entity of a number.
-fn is_member(side: &Side, semantic: Semantic, kind: Kind, no: u32, known: &Entities) -> bool
-    requires { is_entity_kind kind ≡ true }
-    ensures { result ≡ option_map_or (λ e. matches side.now semantic e) (at (entities kind known.now) no) false }
+// The numbers whose places are marked.
+fn marked_numbers(alloc: Global, numbers: &[u32], marks: &[bool]) -> Result<Vec<u32>, AllocError>
+    ensures { IfOk result (λ v. v.items ≡ map (λ pair. pair.0) (filter (λ pair. pair.1) (zip numbers.now marks.now))) }
 {
-    match known.seen(kind, no) {
-        Some((name, attributes)) => matches(side, semantic, name, attributes),
-        None => false,
-    }
+    numbers
+        .iter()
+        .copied()
+        .zip(marks.iter().copied())
+        .filter(|(_, mark)| *mark)
+        .map(|(number, _)| number)
+        .collect(alloc)
 }
 
-// Leaves the numbers of entities that a side matches.
-fn keep_members(found: &mut Vec<u32>, side: &Side, semantic: Semantic, kind: Kind, known: &Entities)
+// Whether a side matches each of a kind's entities, in the order of their numbers.
+fn marks_of(
+    alloc: Global,
+    side: &Side,
+    semantic: Semantic,
+    kind: Kind,
+    known: &Entities,
+) -> Result<Vec<bool>, AllocError>
     requires { is_entity_kind kind ≡ true }
-    ensures { found.new.items ≡ filter (λ n. option_map_or (λ e. matches side.now semantic e) (at (entities kind known.now) n) false) found.old.items }
+    ensures { IfOk result (λ v. v.items ≡ map (λ row. matches side.now semantic row.1) (entities kind known.now)) }
 {
-    found.retain(|no| is_member(side, semantic, kind, *no, known));
+    let lanes = known.lanes(kind);
+    let mut marks = vec![in alloc; false; lanes.names.len()]?;
+    match_all(
+        side,
+        semantic,
+        lanes.names,
+        lanes.rows,
+        lanes.pool,
+        marks.as_mut_slice(),
+    );
+    Ok(marks)
 }
 
 /// The numbers of a kind's entities that a side matches, ascending. The kind is Identity, Service or Router
@@ -41,7 +57,8 @@ pub fn members(
     requires { is_entity_kind kind ≡ true }
     ensures { IfOk result (λ ns. ns ≡ members_of side.now semantic (entities kind known.now)) }
 {
-    let mut found = known.numbers(alloc, kind)?;
-    keep_members(&mut found.items, side, semantic, kind, known);
-    Ok(found)
+    let numbers = known.numbers(alloc, kind)?;
+    let marks = marks_of(alloc, side, semantic, kind, known)?;
+    let found = marked_numbers(alloc, numbers.as_slice(), marks.as_slice())?;
+    Ok(Numbers::of(found))
 }

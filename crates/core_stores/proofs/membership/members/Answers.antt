@@ -1,9 +1,12 @@
+use Rattle.std.proofs.Common.{◌≡◌, rules}
 use Rattle.ctrl_model.specs.Matches.{matches}
-use Rattle.entity_store.specs.EntityTables.{entities, next_of}
-use Rattle.core_stores.proofs.MemberLaws.{passing_numbers}
+use Rattle.ctrl_model.specs.Numbered.{numbers}
+use Rattle.entity_store.specs.EntityTables.{entities}
+use Rattle.core_stores.proofs.MemberLaws.{marked_members}
 use Rattle.core_stores.proofs.membership.members.Goals as goal
 
 pub returns : goal.returns
 returns c =
-    rw (c.keep_members.ensures, c.found.view_is, c.in_ok-found.ensures.all)
-    (passing_numbers (λ e. matches c.args.side.now c.args.semantic e) (next_of c.args.kind c.args.known.now) (entities c.args.kind c.args.known.now) 1 c.numbers.ensures.numbers.ordered)
+    let rows = entities c.args.kind c.args.known.now in
+    let listed : c.as_slice.result.now ≡ numbers rows = search rules in
+    rw (c.of.ensures, c.in_ok-found.ensures, c.as_slice-2.ensures.value, c.in_ok-marks.ensures, listed) (marked_members (λ e. matches c.args.side.now c.args.semantic e) rows)
