@@ -2,7 +2,7 @@
 use Rattle.std.specs.Prelude.{◌≡◌, ℕ, true, false, List}
 use Rattle.std.specs.declared.option.Option.{Option}
 use Rattle.ctrl_model.specs.Numbered.{is_present}
-use Rattle.ctrl_model.specs.State.{State, Circuit}
+use Rattle.ctrl_model.specs.State.{State}
 use Rattle.circuits.specs.CircuitTables.{CircuitTables, is_full, with_circuit, without_circuit}
 use Rattle.record_tables.specs.AfterChange.{changed_by, without_numbers}
 use Rattle.circuits.specs.declared.changes.CircuitChange.{CircuitChange}

@@ -1,7 +1,6 @@
 -- The plans of the commands on policies: what is refused, and what comes, is replaced or goes.
 use Rattle.std.proofs.Common.{◌≡◌, ℕ, true, false, List, [], Option, None, Some, is_some, refl, sym, ◌∙◌, ap, subst, arith}
 use Rattle.std.proofs.lemmas.Bool.{false≢true}
-use Rattle.std.proofs.lemmas.Option.{none-some}
 use Rattle.ctrl_model.specs.RecordCommands.{delete}
 use Rattle.ctrl_model.specs.declared.kinds.Kind.{Kind}
 use Rattle.ctrl_model.specs.declared.kinds.Kind.TheVariants as kind
@@ -10,7 +9,7 @@ use Rattle.ctrl_model.specs.declared.refusals.Refusal.{Refusal}
 use Rattle.ctrl_model.specs.declared.refusals.Refusal.TheVariants.{Unknown}
 use Rattle.ctrl_model.specs.declared.replies.Reply.TheVariants.{Done, Made}
 use Rattle.ctrl_model.specs.Numbered.{at}
-use Rattle.ctrl_model.specs.State.{State, Policy, policy_named, start}
+use Rattle.ctrl_model.specs.State.{State, Policy, start}
 use Rattle.ctrl_model.specs.Tables.{is_policy_kind}
 use Rattle.ctrl_model.specs.Rules.{or_then, carried_out, unknown_if_absent, at_number}
 use Rattle.ctrl_model.proofs.TableLaws.{found-named}
@@ -23,10 +22,10 @@ use Rattle.policy_store.specs.declared.changes.PolicyChange.TheVariants as chang
 use Rattle.policy_store.specs.PolicyTables.{PolicyTables, policies, next_of, number_of}
 use Rattle.policy_store.specs.PolicyRules.{KeepsNumbers}
 use Rattle.core_stores.specs.PolicyStates.{HoldsUses}
-use Rattle.policy_store.specs.PolicyChanges.{with_tables, with_policy, with_replaced, without_policy}
+use Rattle.policy_store.specs.PolicyChanges.{with_policy, with_replaced, without_policy}
 use Rattle.core_stores.specs.PolicyPlans.{PlansPolicies}
 use Rattle.core_stores.specs.PlannedPolicies.{AreShort, refusal_to_put, refusal_of_new, refusal_of_replace, answer_create, answer_replace}
-use Rattle.core_stores.proofs.Arounds.{Around, HoldsPolicies, Keeps, state_of}
+use Rattle.core_stores.proofs.Arounds.{Around, HoldsPolicies, state_of}
 use Rattle.core_stores.proofs.PolicyUses.{names_of, policy_removed}
 use Rattle.core_stores.proofs.RefusedPolicies.{refused_create, refused_replace}
 

@@ -1,5 +1,5 @@
 -- What the private functions of planning answer. No public contract cites it.
-use Rattle.std.specs.Prelude.{ℕ, ◌<◌, ◌≤◌, ⊤, Bool, true, false, not, cond, List, [], ◌++◌, length, slice_index_or, Some, Ok, Err}
+use Rattle.std.specs.Prelude.{ℕ, ◌<◌, ◌≤◌, ⊤, Bool, not, cond, List, [], ◌++◌, length, slice_index_or, Some, Ok, Err}
 use Rattle.std.specs.declared.result.Result.{Result}
 use Rattle.std.specs.declared.option.Option.{Option}
 use Rattle.ctrl_model.specs.declared.commands.Command.{Command}
