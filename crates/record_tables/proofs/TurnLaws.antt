@@ -4,7 +4,7 @@ use Rattle.std.proofs.lemmas.List.{map-append}
 use Rattle.std.specs.List.{filter}
 use Rattle.std.specs.Option.{option_map}
 use Rattle.ctrl_model.specs.Membership.{Among}
-use Rattle.ctrl_model.specs.Numbered.{Table, at, numbers, with_last, edit_at, without, Between}
+use Rattle.ctrl_model.specs.Numbered.{Table, at, numbers, with_last, edit_at, Between}
 use Rattle.ctrl_model.specs.Walks.{is_among}
 use Rattle.ctrl_model.proofs.Members.{Among-from_test}
 use Rattle.ctrl_model.proofs.NumberedLaws.{at-past, at-with_last, Between-filter}

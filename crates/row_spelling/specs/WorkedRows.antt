@@ -1,9 +1,11 @@
 -- Rows of the worked examples, one or two of each table (docs/FORMATS.md, "Rows").
 use Rattle.std.specs.Prelude.{ℕ, true, false, List, [], ◌∷◌, codes, None, Some}
+use Rattle.ctrl_model.specs.declared.kinds.Kind.TheVariants as kind
 use Rattle.ctrl_model.specs.declared.kinds.Side.{Side}
 use Rattle.ctrl_model.specs.declared.kinds.Semantic.TheVariants.{AnyOf, AllOf}
 use Rattle.ctrl_model.specs.declared.kinds.Relation.TheVariants as relation
 use Rattle.ctrl_model.specs.declared.kinds.Precedence.TheVariants.{Normal, Failed}
+use Rattle.ctrl_model.specs.Tables.{Record}
 use Rattle.ctrl_model.specs.WorkedStates.{everyone, only}
 use Rattle.row_codec.specs.declared.rows.Row.{Row}
 use Rattle.row_codec.specs.declared.rows.Row.TheVariants as row
@@ -29,6 +31,10 @@ ann = row.Identity (record { 0 = 1 }) (codes "ann") (codes "a" ∷ [])
 -- Service 258, web, without attributes.
 abbrev pub web : Row
 web = row.Service (record { 0 = 258 }) (codes "web") []
+
+-- The service web alone, under a number.
+abbrev pub web_alone : ℕ → List (ℕ × Record kind.Service)
+web_alone n = (n, record { name = codes "web"; attributes = [] }) ∷ []
 
 -- Router 1, r1, of cost 300, which is connected, and through which no path may pass.
 abbrev pub marked_router : Row

@@ -21,4 +21,6 @@ pub use changing::{change_of, next_change, setting_change, value_of};
 pub use laws::one_row;
 pub use record_rows::{ChangedRows, row_change, touched_changes};
 pub use spelling::{read_row, write_row};
-pub use worked_spellings::{worked_more_row_spellings, worked_no_rows, worked_row_spellings};
+pub use worked_spellings::{
+    worked_more_row_spellings, worked_no_rows, worked_record_changes, worked_row_spellings,
+};

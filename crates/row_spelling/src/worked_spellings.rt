@@ -1,8 +1,10 @@
-ghost use Rattle.std.specs.Prelude.{◌≡◌, true, [], ◌∷◌};
+ghost use Rattle.std.specs.Prelude.{◌≡◌, true, None, Some, [], ◌∷◌};
 ghost use Rattle.std.specs.List.{list_all};
+ghost use Rattle.ctrl_model.specs.declared.kinds.Kind.TheVariants as kind;
 ghost use Rattle.row_codec.specs.declared.rows.Row.{Row};
 ghost use Rattle.row_codec.specs.RowForm.{is_row, SpellsRow};
-ghost use Rattle.row_spelling.specs.WorkedRows.{worked_rows, spelled, next_identity, cost_of_twenty, ann, web, marked_router, second_link, bind_policy, edge_policy, service_edge_policy, plain_terminator, hosted_terminator, first_circuit, dial_count, bind_count, identity_router_count, service_router_count};
+ghost use Rattle.row_spelling.specs.RecordChanges.{value_at, changes_at};
+ghost use Rattle.row_spelling.specs.WorkedRows.{worked_rows, spelled, next_identity, cost_of_twenty, ann, web, web_alone, marked_router, second_link, bind_policy, edge_policy, service_edge_policy, plain_terminator, hosted_terminator, first_circuit, dial_count, bind_count, identity_router_count, service_router_count};
 
 /// Rows of the first nine tables as their keys and values, worked by hand.
 pub fn worked_row_spellings()
@@ -27,6 +29,15 @@ pub fn worked_more_row_spellings()
     ensures bind { spelled bind_count ≡ (13 ∷ 0 ∷ 0 ∷ 0 ∷ 1 ∷ 0 ∷ 0 ∷ 0 ∷ 1 ∷ [], 1 ∷ 0 ∷ 0 ∷ 0 ∷ []) }
     ensures identity_router { spelled identity_router_count ≡ (14 ∷ 0 ∷ 0 ∷ 0 ∷ 1 ∷ 0 ∷ 0 ∷ 1 ∷ 0 ∷ [], 1 ∷ 0 ∷ 0 ∷ 0 ∷ []) }
     ensures service_router { spelled service_router_count ≡ (15 ∷ 0 ∷ 0 ∷ 0 ∷ 2 ∷ 0 ∷ 0 ∷ 0 ∷ 3 ∷ [], 0 ∷ 0 ∷ 1 ∷ 0 ∷ []) }
+{}
+
+/// The service web alone: its value at its number and none at another; and the changes where it stood under 1 and stands under 2.
+pub fn worked_record_changes()
+    ensures stands { value_at kind.Service (web_alone 2) 2 ≡ Some (3 ∷ 119 ∷ 101 ∷ 98 ∷ 0 ∷ []) }
+    ensures absent { value_at kind.Service (web_alone 2) 1 ≡ None }
+    ensures changes { changes_at kind.Service (value_at kind.Service (web_alone 1)) (value_at kind.Service (web_alone 2)) (1 ∷ 2 ∷ [])
+        ≡ record { key = 4 ∷ 0 ∷ 0 ∷ 0 ∷ 1 ∷ []; before = Some (3 ∷ 119 ∷ 101 ∷ 98 ∷ 0 ∷ []); after = None }
+        ∷ record { key = 4 ∷ 0 ∷ 0 ∷ 0 ∷ 2 ∷ []; before = None; after = Some (3 ∷ 119 ∷ 101 ∷ 98 ∷ 0 ∷ []) } ∷ [] }
 {}
 
 /// Keys and values that spell no row: a mark that has no meaning, a key and a value cut short, and values that have no row.
