@@ -1,19 +1,10 @@
 ghost use Rattle.std.specs.Prelude.{IfSome};
 ghost use Rattle.channel_frame.specs.FrameSpelling.{KeepsLimits};
 
+use crate::samples::{ANN, REPLY};
 use channel_frame::{Frame, encode, encode_behind, last_of, read_frame, read_head};
 use std::alloc::Global;
 use std::test::Fail;
-
-const FRAME: [u8; 34] = [
-    3, 6, 9, 12, 232, 3, 0, 0, 7, 0, 0, 0, 0, 0, 0, 0, 14, 0, 0, 0, 123, 34, 110, 97, 109, 101, 34,
-    58, 34, 97, 110, 110, 34, 125,
-];
-
-const REPLY: [u8; 49] = [
-    3, 6, 9, 12, 2, 0, 0, 0, 0, 0, 0, 0, 21, 0, 0, 0, 8, 0, 0, 0, 1, 0, 0, 0, 4, 0, 0, 0, 7, 0, 0,
-    0, 2, 0, 0, 0, 1, 0, 0, 0, 1, 123, 34, 110, 111, 34, 58, 49, 125,
-];
 
 // Three headers: of the key 5 with the byte 2, of the key 6 without a byte, and of the key 5 again with the byte 3.
 const REPEATED: [u8; 46] = [
@@ -35,7 +26,7 @@ fn frame_of(alloc: Global, bytes: &[u8]) -> Option<Frame>
 
 #[test]
 fn a_frame_is_read(rt: HostRuntime) -> Result<(), Fail> {
-    let frame = frame_of(rt.alloc(), &FRAME).ok_or("the bytes are a frame")?;
+    let frame = frame_of(rt.alloc(), &ANN).ok_or("the bytes are a frame")?;
     assert_eq!(rt; frame.content, 1000);
     assert_eq!(rt; frame.sequence, 7);
     assert_eq!(rt; frame.headers.len(), 0);

@@ -19,6 +19,8 @@ mod roles;
 #[cfg(test)]
 mod rows;
 #[cfg(test)]
+mod samples;
+#[cfg(test)]
 mod sessions;
 #[cfg(test)]
 mod traces;

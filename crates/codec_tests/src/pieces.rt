@@ -1,15 +1,10 @@
 ghost use Rattle.std.specs.Prelude.{◌≡◌, ◌+◌, ◌<◌, ◌≤◌, ◌^◌, IfOk, length};
 
+use crate::samples::ANN;
 use frame_stream::{Decoder, StreamFault};
 use std::alloc::{AllocError, Global};
 use std::process::Abort;
 use std::test::Fail;
-
-// A frame with the sequence number 7 and a body of 14 bytes.
-const SHORT_FRAME: [u8; 34] = [
-    3, 6, 9, 12, 232, 3, 0, 0, 7, 0, 0, 0, 0, 0, 0, 0, 14, 0, 0, 0, 123, 34, 110, 97, 109, 101, 34,
-    58, 34, 97, 110, 110, 34, 125,
-];
 
 // The head of a frame with the sequence number 8 and a body of 4,200 bytes.
 const LONG_HEAD: [u8; 20] = [
@@ -19,12 +14,12 @@ const LONG_HEAD: [u8; 20] = [
 // 20 bytes that begin with another marker.
 const UNMARKED: [u8; 20] = [3, 6, 9, 13, 0, 0, 0, 0, 0, 0, 0, 0, 0, 0, 0, 0, 0, 0, 0, 0];
 
-// The two frames, of 34 and 4,220 bytes, and the faulty bytes behind them.
+// Two frames, of 34 and 4,220 bytes, and the faulty bytes behind them.
 fn input(alloc: Global) -> Result<Vec<u8>, AllocError>
     ensures { IfOk result (λ bytes. length bytes.items ≡ 4274) }
 {
     let mut bytes = Vec::new(alloc);
-    bytes.extend_from_slice(&SHORT_FRAME)?;
+    bytes.extend_from_slice(&ANN)?;
     bytes.extend_from_slice(&LONG_HEAD)?;
     bytes.resize(4254, 0)?;
     bytes.extend_from_slice(&UNMARKED)?;

@@ -1,6 +1,6 @@
 use frame_lines::LineCause;
 use std::test::Fail;
-use trace_lines::{ReplyFault, TraceCause, tell_replies, trace};
+use trace_lines::{ReplyFault, TraceCause, TraceFault, tell_replies, trace};
 
 // Session 0 is opened by an administrator, sends a frame of 34 bytes and is closed.
 const ANN: [u8; 44] = [
@@ -14,6 +14,9 @@ const REPLY: [u8; 51] = [
     0, 0, 0, 2, 0, 0, 0, 1, 0, 0, 0, 1, 123, 34, 110, 111, 34, 58, 49, 125,
 ];
 
+/// The second line opens no session.
+const BAD_ROLE: &[u8] = b"2 open router r1\n0 open admin x\n2 close\n";
+
 #[test]
 fn a_text_is_traced(rt: HostRuntime) -> Result<(), Fail> {
     let text = b"# ann\n0 open admin\r\n0 7 CreateIdentity {\"name\":\"ann\"}\n\n0 close\n";
@@ -25,11 +28,9 @@ fn a_text_is_traced(rt: HostRuntime) -> Result<(), Fail> {
 
 #[test]
 fn the_records_before_a_fault_are_traced(rt: HostRuntime) -> Result<(), Fail> {
-    let traced = trace(rt.alloc(), b"2 open router r1\n0 open admin x\n2 close\n")?;
+    let traced = trace(rt.alloc(), BAD_ROLE)?;
     assert_eq!(rt; traced.bytes.as_slice(), [1, 2, 1, 2, 114, 49].as_slice());
     let fault = traced.fault.ok_or("the second line has a fault")?;
-    assert_eq!(rt; fault.line, 2);
-    assert_eq!(rt; fault.cause, TraceCause::BadRole);
     let words = fault.text(rt.alloc())?;
     assert_eq!(rt; words.as_str(), "line 2: bad role");
     Ok(())
@@ -52,14 +53,18 @@ fn a_long_frame_is_cut_into_pieces(rt: HostRuntime) -> Result<(), Fail> {
 }
 
 #[test]
-fn a_closed_session_sends_nothing(rt: HostRuntime) -> Result<(), Fail> {
-    let traced = trace(rt.alloc(), b"7 open identity ann\n7 close\n7 Hello\n")?;
-    let fault = traced.fault.ok_or("the third line has a fault")?;
-    assert_eq!(rt; fault.line, 3);
-    assert_eq!(rt; fault.cause, TraceCause::NotOpen);
-    let helo = trace(rt.alloc(), b"7 open admin\n7 Helo\n")?;
-    let fault = helo.fault.ok_or("the second line has a fault")?;
-    assert_eq!(rt; fault.cause, TraceCause::NoFrame(LineCause::UnknownType));
+fn the_first_line_at_fault_is_told(rt: HostRuntime) -> Result<(), Fail> {
+    let not_open = b"7 open identity ann\n7 close\n7 Hello\n".as_slice();
+    let unknown = b"7 open admin\n7 Helo\n".as_slice();
+    let rows = [
+        (BAD_ROLE, 2, TraceCause::BadRole),
+        (not_open, 3, TraceCause::NotOpen),
+        (unknown, 2, TraceCause::NoFrame(LineCause::UnknownType)),
+    ];
+    for (text, line, cause) in rows {
+        let traced = trace(rt.alloc(), text)?;
+        assert_eq!(rt; traced.fault, Some(TraceFault { line, cause }));
+    }
     Ok(())
 }
 

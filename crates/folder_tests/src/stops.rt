@@ -40,15 +40,18 @@ pub(crate) enum Call {
 /// A call, and whether it is made; or a look, and whether it finds that.
 pub(crate) type Step = (Call, bool);
 
-/// A moment, a choice, and what a stop leaves by them: the first slot, the second one, and the replies.
-type Stop<'b> = (u64, u64, [&'b [u8]; 3]);
+/// What a stop leaves: the first slot, the second one, and the replies.
+type Left<'b> = [&'b [u8]; 3];
+
+/// A moment, and what a stop leaves at it by choice 0, which keeps nothing of what is pending, and by choice 1, which keeps all of it.
+type Stop = (u64, Left<'static>, Left<'static>);
 
 /// Calls that fail, counted from 0, the steps in two parts, and stops behind them. The first slot reads `abc` before.
 #[derive(Clone, Copy)]
 struct Trial {
     failing: &'static [u32],
     steps: [&'static [Step]; 2],
-    stops: &'static [Stop<'static>],
+    stops: &'static [Stop],
 }
 
 // Parts of which the first slot has the bytes `abc`.
@@ -96,9 +99,11 @@ fn leaves(
     rt: &impl Abort,
     alloc: Global,
     desk: &MemDesk,
-    stop: Stop<'_>,
+    moment: u64,
+    choice: u64,
+    left: Left<'_>,
 ) -> Result<(), AllocError> {
-    let (moment, choice, [zero, one, said]) = stop;
+    let [zero, one, said] = left;
     assert!(rt; moment <= desk.moments());
     let (images, taken) = desk.stopped(alloc, moment, choice)?;
     are_bytes(rt, images.zero.as_slice(), zero);
@@ -111,8 +116,9 @@ fn check_trial(rt: &impl Abort, alloc: Global, trial: &Trial) -> Result<(), Fail
     let mut desk = desk(alloc, trial.failing)?;
     does(rt, &mut desk, trial.steps[0]);
     does(rt, &mut desk, trial.steps[1]);
-    for stop in trial.stops {
-        leaves(rt, alloc, &desk, *stop)?;
+    for (moment, nothing, all) in trial.stops {
+        leaves(rt, alloc, &desk, *moment, 0, *nothing)?;
+        leaves(rt, alloc, &desk, *moment, 1, *all)?;
     }
     Ok(())
 }
@@ -133,16 +139,11 @@ const PENDING: Trial = Trial {
         &[],
     ],
     stops: &[
-        (0, 0, [b"abc", b"", b""]),
-        (1, 0, [b"abc", b"", b""]),
-        (2, 0, [b"abc", b"", b""]),
-        (3, 0, [b"aX", b"", b""]),
-        (4, 0, [b"aX", b"", b"done"]),
-        (0, 1, [b"abc", b"", b""]),
-        (1, 1, [b"aXYZ", b"", b""]),
-        (2, 1, [b"aX", b"", b""]),
-        (3, 1, [b"aX", b"", b"done"]),
-        (4, 1, [b"aX", b"", b"done"]),
+        (0, [b"abc", b"", b""], [b"abc", b"", b""]),
+        (1, [b"abc", b"", b""], [b"aXYZ", b"", b""]),
+        (2, [b"abc", b"", b""], [b"aX", b"", b""]),
+        (3, [b"aX", b"", b""], [b"aX", b"", b"done"]),
+        (4, [b"aX", b"", b"done"], [b"aX", b"", b"done"]),
     ],
 };
 
@@ -168,10 +169,9 @@ const FAILED: Trial = Trial {
         &[],
     ],
     stops: &[
-        (2, 0, [b"abc", b"", b""]),
-        (1, 1, [b"XYc", b"", b""]),
-        (2, 1, [b"X", b"", b""]),
-        (3, 1, [b"abc", b"", b""]),
+        (1, [b"abc", b"", b""], [b"XYc", b"", b""]),
+        (2, [b"abc", b"", b""], [b"X", b"", b""]),
+        (3, [b"abc", b"", b""], [b"abc", b"", b""]),
     ],
 };
 
@@ -236,58 +236,8 @@ const WORK: &[Step] = &[
     (Call::Moments(5), true),
 ];
 
-/// Stops that keep nothing of what is pending.
-const SYNCED: Trial = Trial {
-    failing: &[],
-    steps: [WORK, &[]],
-    stops: &[
-        (1, 0, [b"abc", b"", b""]),
-        (2, 0, [b"abc", b"", b""]),
-        (3, 0, [b"abc", b"one", b""]),
-        (4, 0, [b"abc", b"one", b"first"]),
-    ],
-};
-
-#[test]
-fn keeps_what_was_synced_alone(rt: HostRuntime) -> Result<(), Fail> {
-    check_trial(&rt, rt.alloc(), &SYNCED)
-}
-
-/// Stops that keep all of it, and the say of their moment.
-const WHOLE: Trial = Trial {
-    failing: &[],
-    steps: [WORK, &[]],
-    stops: &[
-        (0, 1, [b"abc", b"", b""]),
-        (1, 1, [b"XYc", b"", b""]),
-        (2, 1, [b"XYc", b"one", b""]),
-        (3, 1, [b"XYc", b"one", b"first"]),
-    ],
-};
-
-#[test]
-fn keeps_what_is_pending_and_the_say(rt: HostRuntime) -> Result<(), Fail> {
-    check_trial(&rt, rt.alloc(), &WHOLE)
-}
-
-/// Behind the last call, and a sync of all that was written, each choice keeps the same.
-const ENDED: Trial = Trial {
-    failing: &[],
-    steps: [WORK, &[(Call::Sync(Part::Zero), true)]],
-    stops: &[
-        (6, 0, [b"XYc", b"one", b"firstthen"]),
-        (6, 1, [b"XYc", b"one", b"firstthen"]),
-        (6, 2, [b"XYc", b"one", b"firstthen"]),
-    ],
-};
-
-#[test]
-fn keeps_the_same_at_the_end(rt: HostRuntime) -> Result<(), Fail> {
-    check_trial(&rt, rt.alloc(), &ENDED)
-}
-
 /// A note, a length and a say without room matter to no stop: no moment comes behind the last one.
-const LAST: Trial = Trial {
+const WORKED: Trial = Trial {
     failing: &[],
     steps: [
         WORK,
@@ -299,16 +249,42 @@ const LAST: Trial = Trial {
         ],
     ],
     stops: &[
-        (4, 0, [b"abc", b"one", b"first"]),
-        (4, 1, [b"XYc", b"one", b"firstthen"]),
-        (5, 0, [b"abc", b"one", b"firstthen"]),
-        (5, 1, [b"XYc", b"one", b"firstthen"]),
+        (0, [b"abc", b"", b""], [b"abc", b"", b""]),
+        (1, [b"abc", b"", b""], [b"XYc", b"", b""]),
+        (2, [b"abc", b"", b""], [b"XYc", b"one", b""]),
+        (3, [b"abc", b"one", b""], [b"XYc", b"one", b"first"]),
+        (
+            4,
+            [b"abc", b"one", b"first"],
+            [b"XYc", b"one", b"firstthen"],
+        ),
+        (
+            5,
+            [b"abc", b"one", b"firstthen"],
+            [b"XYc", b"one", b"firstthen"],
+        ),
     ],
 };
 
 #[test]
-fn ends_with_the_last_say(rt: HostRuntime) -> Result<(), Fail> {
-    check_trial(&rt, rt.alloc(), &LAST)
+fn keeps_what_was_synced_or_what_is_pending_too(rt: HostRuntime) -> Result<(), Fail> {
+    check_trial(&rt, rt.alloc(), &WORKED)
+}
+
+// Behind the last call, and a sync of all that was written, each choice keeps the same.
+fn keeps_the_same(rt: &impl Abort, alloc: Global) -> Result<(), Fail> {
+    let mut desk = desk(alloc, &[])?;
+    does(rt, &mut desk, WORK);
+    does(rt, &mut desk, &[(Call::Sync(Part::Zero), true)]);
+    for choice in 0u64..3 {
+        leaves(rt, alloc, &desk, 6, choice, [b"XYc", b"one", b"firstthen"])?;
+    }
+    Ok(())
+}
+
+#[test]
+fn keeps_the_same_at_the_end(rt: HostRuntime) -> Result<(), Fail> {
+    keeps_the_same(&rt, rt.alloc())
 }
 
 // Whether a part of `WXYZ`, written behind the first byte of `abc`, is there.
@@ -340,7 +316,7 @@ fn draws(
         images.one.as_slice(),
         taken.as_slice(),
     );
-    leaves(rt, alloc, desk, (moment, choice, [zero, one, said]))?;
+    leaves(rt, alloc, desk, moment, choice, [zero, one, said])?;
     Ok(if says {
         is_parted(rt, said)
     } else {

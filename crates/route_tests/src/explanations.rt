@@ -1,14 +1,10 @@
 ghost use Rattle.fabric_graph.specs.Routers.{AreRouters};
 
-use crate::lines::{asked, granted, line, offered, router};
 use circuit_rules::{Ask, View, explain, verify};
 use ctrl_model::{Explanation, Numbers, Potentials, Reach, Reaches, RouterNo, TermNo};
-use fabric_graph::Fabric;
-use grant_denorm::Counted;
 use std::alloc::Global;
 use std::process::Abort;
 use std::test::Fail;
-use terminators::Terminators;
 
 fn reaches(alloc: Global) -> Result<Reaches, Fail> {
     let values = Potentials::of(vec![in alloc; 42, 21, 0]?);
@@ -64,65 +60,11 @@ fn is_told(rt: &impl Abort, told: &Explanation) -> Result<(), Fail> {
     }
 }
 
-fn explains(rt: &impl Abort, alloc: Global, view: &View, ask: &Ask) -> Result<(), Fail>
+/// The one route, of cost 42, is told: a claim of it is justified, and one at a higher total is not.
+pub(crate) fn explains(rt: &impl Abort, alloc: Global, view: &View, ask: &Ask) -> Result<(), Fail>
     requires { AreRouters view.now.routers.now }
 {
     let told = explain(alloc, view, ask)?;
-    is_told(rt, &told)
-}
-
-fn answers(
-    rt: &impl Abort,
-    alloc: Global,
-    counted: &Counted,
-    fabric: &Fabric,
-    terminators: &Terminators,
-    ask: &Ask,
-) -> Result<(), Fail> {
-    let view = View {
-        dial: counted,
-        bind: counted,
-        identity_router: counted,
-        service_router: counted,
-        routers: &[router(1, 0), router(2, 0), router(3, 0)],
-        fabric,
-        terminators,
-        circuits_full: false,
-    };
-    explains(rt, alloc, &view, ask)?;
-    verifies(rt, alloc, &view, ask)
-}
-
-// Each function owns one value, and lends it to the next.
-fn with_request(
-    rt: &impl Abort,
-    alloc: Global,
-    counted: &Counted,
-    fabric: &Fabric,
-    terminators: &Terminators,
-) -> Result<(), Fail> {
-    let ask = asked(alloc)?;
-    answers(rt, alloc, counted, fabric, terminators, &ask)
-}
-
-fn with_offers(
-    rt: &impl Abort,
-    alloc: Global,
-    counted: &Counted,
-    fabric: &Fabric,
-) -> Result<(), Fail> {
-    let terminators = offered(alloc)?;
-    with_request(rt, alloc, counted, fabric, &terminators)
-}
-
-fn with_links(rt: &impl Abort, alloc: Global, counted: &Counted) -> Result<(), Fail> {
-    let fabric = line(alloc)?;
-    with_offers(rt, alloc, counted, &fabric)
-}
-
-// A row of three routers has one route, of cost 42: a claim of it is justified, and one at a higher total is not.
-#[test]
-fn tells_the_route_of_a_row(rt: HostRuntime) -> Result<(), Fail> {
-    let counted = granted(rt.alloc())?;
-    with_links(&rt, rt.alloc(), &counted)
+    is_told(rt, &told)?;
+    verifies(rt, alloc, view, ask)
 }

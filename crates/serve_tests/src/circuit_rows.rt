@@ -1,9 +1,7 @@
 //! Rows of circuit requests, of explanations and of claims. The rows of a table are one run, which may stand behind others.
 
-use crate::command_rows::{UNKNOWN_NUMBER, check_table};
+use crate::command_rows::{PAIR, UNKNOWN_NUMBER, check_tables};
 use sample_runs::{DONE, Row};
-use std::alloc::{AllocError, Global};
-use std::process::Abort;
 use std::test::Fail;
 
 /// What ann asks for.
@@ -20,27 +18,10 @@ const LOW_CLAIM: &str =
 const CLAIM: &str =
     r#"{"identity":"ann","service":"web","chosen":"r1","links":[1,2],"potentials":[{"router":3,"values":[42,21,0]}],"routers":[1,2,3],"terminator":1,"total":42}"#;
 
-/// Three routers in a row, with links that cost 11 each; ann may dial web and enters at the first router, and web is offered at the
-/// third.
-const LINE: [Row; 14] = [
-    (1000, r#"{"name":"ann"}"#, r#"{"no":1}"#),
-    (1010, r#"{"name":"web"}"#, r#"{"no":1}"#),
+/// Behind the pair: a router that is connected. Ann may dial web and enters at it.
+const ENTRY: [Row; 5] = [
     (1020, r#"{"name":"r1"}"#, r#"{"no":1}"#),
-    (1020, r#"{"name":"r2"}"#, r#"{"no":2}"#),
-    (1020, r#"{"name":"r3"}"#, r#"{"no":3}"#),
     (1023, r#"{"name":"r1"}"#, DONE),
-    (1023, r#"{"name":"r2"}"#, DONE),
-    (1023, r#"{"name":"r3"}"#, DONE),
-    (
-        1200,
-        r#"{"name":"l1","a":"r1","b":"r2","latency_a":5,"latency_b":5}"#,
-        r#"{"no":1}"#,
-    ),
-    (
-        1200,
-        r#"{"name":"l2","a":"r2","b":"r3","latency_a":5,"latency_b":5}"#,
-        r#"{"no":2}"#,
-    ),
     (
         1100,
         r#"{"name":"d","type":"Dial","semantic":"AnyOf","identity_roles":["@ann"],"service_roles":["@web"]}"#,
@@ -55,6 +36,24 @@ const LINE: [Row; 14] = [
         1120,
         r##"{"name":"s","semantic":"AnyOf","service_roles":["#all"],"router_roles":["#all"]}"##,
         r#"{"no":1}"#,
+    ),
+];
+
+/// Two more routers in a row behind the first, with links that cost 11 each: web is offered at the third.
+const LINE: [Row; 7] = [
+    (1020, r#"{"name":"r2"}"#, r#"{"no":2}"#),
+    (1020, r#"{"name":"r3"}"#, r#"{"no":3}"#),
+    (1023, r#"{"name":"r2"}"#, DONE),
+    (1023, r#"{"name":"r3"}"#, DONE),
+    (
+        1200,
+        r#"{"name":"l1","a":"r1","b":"r2","latency_a":5,"latency_b":5}"#,
+        r#"{"no":1}"#,
+    ),
+    (
+        1200,
+        r#"{"name":"l2","a":"r2","b":"r3","latency_a":5,"latency_b":5}"#,
+        r#"{"no":2}"#,
     ),
     (1300, r#"{"service":"web","router":"r3"}"#, r#"{"no":1}"#),
 ];
@@ -152,15 +151,11 @@ const PRECEDENCES: [Row; 9] = [
     ),
 ];
 
-/// Four routers in a square, and two ways of one cost between two of them: the one whose links come first is taken.
-const SQUARE: [Row; 19] = [
-    (1000, r#"{"name":"ann"}"#, r#"{"no":1}"#),
-    (1010, r#"{"name":"web"}"#, r#"{"no":1}"#),
-    (1020, r#"{"name":"r1"}"#, r#"{"no":1}"#),
+/// With three more routers a square, and two ways of one cost between two of them: the one whose links come first is taken.
+const SQUARE: [Row; 12] = [
     (1020, r#"{"name":"r2"}"#, r#"{"no":2}"#),
     (1020, r#"{"name":"r3"}"#, r#"{"no":3}"#),
     (1020, r#"{"name":"r4"}"#, r#"{"no":4}"#),
-    (1023, r#"{"name":"r1"}"#, DONE),
     (1023, r#"{"name":"r2"}"#, DONE),
     (1023, r#"{"name":"r3"}"#, DONE),
     (1023, r#"{"name":"r4"}"#, DONE),
@@ -183,21 +178,6 @@ const SQUARE: [Row; 19] = [
         1200,
         r#"{"name":"l4","a":"r2","b":"r4","cost":11}"#,
         r#"{"no":4}"#,
-    ),
-    (
-        1100,
-        r#"{"name":"d","type":"Dial","semantic":"AnyOf","identity_roles":["@ann"],"service_roles":["@web"]}"#,
-        r#"{"no":1}"#,
-    ),
-    (
-        1110,
-        r#"{"name":"e","semantic":"AnyOf","identity_roles":["@ann"],"router_roles":["@r1"]}"#,
-        r#"{"no":1}"#,
-    ),
-    (
-        1120,
-        r##"{"name":"s","semantic":"AnyOf","service_roles":["#all"],"router_roles":["#all"]}"##,
-        r#"{"no":1}"#,
     ),
     (1300, r#"{"service":"web","router":"r4"}"#, r#"{"no":1}"#),
     (
@@ -300,27 +280,16 @@ const HOSTED: [Row; 10] = [
     ),
 ];
 
-fn check_behind(rt: &impl Abort, alloc: Global, first: &[Row], then: &[Row]) -> Result<(), Fail> {
-    let rows = joined(alloc, first, then)?;
-    check_table(rt, alloc, rows.as_slice())
-}
-
-fn joined(alloc: Global, first: &[Row], then: &[Row]) -> Result<Vec<Row>, AllocError> {
-    let mut rows = Vec::from_slice(alloc, first)?;
-    rows.extend_from_slice(then)?;
-    Ok(rows)
-}
-
 #[test]
 fn grants_the_least_route(rt: HostRuntime) -> Result<(), Fail> {
-    check_behind(&rt, rt.alloc(), &LINE, &CLAIMS)?;
-    check_behind(&rt, rt.alloc(), &LINE, &PATHS)?;
-    check_behind(&rt, rt.alloc(), &LINE, &PRECEDENCES)?;
-    check_table(&rt, rt.alloc(), &SQUARE)
+    for table in [CLAIMS.as_slice(), PATHS.as_slice(), PRECEDENCES.as_slice()] {
+        check_tables(&rt, rt.alloc(), &[&PAIR, &ENTRY, &LINE, table])?;
+    }
+    check_tables(&rt, rt.alloc(), &[&PAIR, &ENTRY, &SQUARE])
 }
 
 #[test]
 fn denies_by_the_first_rule_that_fails(rt: HostRuntime) -> Result<(), Fail> {
-    check_behind(&rt, rt.alloc(), &LINE, &HOSTED)?;
-    check_table(&rt, rt.alloc(), &DENIALS)
+    check_tables(&rt, rt.alloc(), &[&PAIR, &ENTRY, &LINE, &HOSTED])?;
+    check_tables(&rt, rt.alloc(), &[&DENIALS])
 }

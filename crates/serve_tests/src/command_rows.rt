@@ -1,4 +1,4 @@
-//! Rows of commands on policies, links and terminators, and of what is then shown. The rows of a table are one run.
+//! Rows of commands on policies, links and terminators, and of what is then shown. The rows of a table are one run, which may stand behind others.
 
 use crate::desks::{steady_desk, steady_source};
 use ctrl_serve::{Bounds, Status, run_within};
@@ -78,10 +78,14 @@ const ROLES: [Row; 26] = [
     (1500, r#"{"identity":"y"}"#, ONCE),
 ];
 
-/// Two policies that grant the same, which go one after the other.
-const COUNTS: [Row; 11] = [
+/// An identity ann and a service web.
+pub(crate) const PAIR: [Row; 2] = [
     (1000, r#"{"name":"ann"}"#, r#"{"no":1}"#),
     (1010, r#"{"name":"web"}"#, r#"{"no":1}"#),
+];
+
+/// Two policies that grant ann the same, which go one after the other.
+const COUNTS: [Row; 9] = [
     (
         1100,
         r#"{"name":"p","type":"Dial","semantic":"AllOf","identity_roles":["@ann"],"service_roles":["@web"]}"#,
@@ -105,10 +109,8 @@ const COUNTS: [Row; 11] = [
     (1501, r#"{"identity":"ann"}"#, r#"{"services":[]}"#),
 ];
 
-/// A policy by names: an identity of the name that comes later is not meant by it.
-const NAMES: [Row; 7] = [
-    (1000, r#"{"name":"ann"}"#, r#"{"no":1}"#),
-    (1010, r#"{"name":"web"}"#, r#"{"no":1}"#),
+/// A policy by the names of the pair: an identity of the name that comes later is not meant by it.
+const NAMES: [Row; 5] = [
     (
         1100,
         r#"{"name":"p","type":"Dial","semantic":"AnyOf","identity_roles":["@ann"],"service_roles":["@web"]}"#,
@@ -124,11 +126,9 @@ const NAMES: [Row; 7] = [
     (1500, r#"{"identity":"ann"}"#, NONE),
 ];
 
-/// What updates change: attributes of both sides of a policy, the routers that a policy joins to an identity, and those that one joins
+/// What updates change for the pair: attributes of both sides of a policy, the routers that a policy joins to an identity, and those that one joins
 /// to services; and what goes with a policy and with a service.
-const CHANGES: [Row; 22] = [
-    (1000, r#"{"name":"ann"}"#, r#"{"no":1}"#),
-    (1010, r#"{"name":"web"}"#, r#"{"no":1}"#),
+const CHANGES: [Row; 20] = [
     (1020, r#"{"name":"r1"}"#, r#"{"no":1}"#),
     (
         1100,
@@ -314,11 +314,24 @@ fn check_frames(rt: &impl Abort, alloc: Global, frames: &[u8], wanted: &[u8]) ->
     Ok(())
 }
 
-/// Runs the frames of some rows from the start, and compares what is said with their replies.
-pub(crate) fn check_table(rt: &impl Abort, alloc: Global, rows: &[Row]) -> Result<(), Fail> {
+fn joined(alloc: Global, tables: &[&[Row]]) -> Result<Vec<Row>, AllocError> {
+    let mut rows = Vec::new(alloc);
+    for table in tables {
+        rows.extend_from_slice(table)?;
+    }
+    Ok(rows)
+}
+
+fn check_rows(rt: &impl Abort, alloc: Global, rows: &[Row]) -> Result<(), Fail> {
     let frames = requests(alloc, rows)?;
     let wanted = replies(alloc, rows)?;
     check_frames(rt, alloc, &frames, &wanted)
+}
+
+/// Runs the frames of some tables from the start, one behind the other, and compares what is said with their replies.
+pub(crate) fn check_tables(rt: &impl Abort, alloc: Global, tables: &[&[Row]]) -> Result<(), Fail> {
+    let rows = joined(alloc, tables)?;
+    check_rows(rt, alloc, rows.as_slice())
 }
 
 /// Frames that make as many identities as there may be, and one more.
@@ -350,15 +363,15 @@ fn numbered(alloc: Global) -> Result<Vec<u8>, AllocError> {
 
 #[test]
 fn answers_commands_on_policies(rt: HostRuntime) -> Result<(), Fail> {
-    check_table(&rt, rt.alloc(), &ROLES)?;
-    check_table(&rt, rt.alloc(), &COUNTS)?;
-    check_table(&rt, rt.alloc(), &CHANGES)?;
-    check_table(&rt, rt.alloc(), &NAMES)
+    check_tables(&rt, rt.alloc(), &[&ROLES])?;
+    check_tables(&rt, rt.alloc(), &[&PAIR, &COUNTS])?;
+    check_tables(&rt, rt.alloc(), &[&PAIR, &CHANGES])?;
+    check_tables(&rt, rt.alloc(), &[&PAIR, &NAMES])
 }
 
 #[test]
 fn makes_identities_up_to_the_limits(rt: HostRuntime) -> Result<(), Fail> {
-    check_table(&rt, rt.alloc(), &BODIES)?;
+    check_tables(&rt, rt.alloc(), &[&BODIES])?;
     let frames = crowd(rt.alloc())?;
     let wanted = numbered(rt.alloc())?;
     check_frames(&rt, rt.alloc(), &frames, &wanted)
@@ -366,5 +379,5 @@ fn makes_identities_up_to_the_limits(rt: HostRuntime) -> Result<(), Fail> {
 
 #[test]
 fn answers_commands_on_links_and_terminators(rt: HostRuntime) -> Result<(), Fail> {
-    check_table(&rt, rt.alloc(), &NETWORK)
+    check_tables(&rt, rt.alloc(), &[&NETWORK])
 }

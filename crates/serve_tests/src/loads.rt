@@ -58,18 +58,11 @@ fn says(rt: &impl Abort, alloc: Global, number: &str, line: &str) -> Result<(), 
 }
 
 #[test]
-fn says_the_counts_of_load_0(rt: HostRuntime) -> Result<(), Fail> {
-    says(&rt, rt.alloc(), "0", LINE_OF_0)
-}
-
-#[test]
-fn says_the_counts_of_load_1(rt: HostRuntime) -> Result<(), Fail> {
-    says(&rt, rt.alloc(), "1", LINE_OF_1)
-}
-
-#[test]
-fn says_the_counts_of_load_7(rt: HostRuntime) -> Result<(), Fail> {
-    says(&rt, rt.alloc(), "7", LINE_OF_7)
+fn says_the_counts_of_the_loads(rt: HostRuntime) -> Result<(), Fail> {
+    for (number, line) in [("0", LINE_OF_0), ("1", LINE_OF_1), ("7", LINE_OF_7)] {
+        says(&rt, rt.alloc(), number, line)?;
+    }
+    Ok(())
 }
 
 #[test]

@@ -162,23 +162,11 @@ fn check_trial(rt: &impl Abort, alloc: Global, trial: &Trial) -> Result<(), Fail
 }
 
 #[test]
-fn ends_a_replay_at_each_failing_call(rt: HostRuntime) -> Result<(), Fail> {
-    check_trial(&rt, rt.alloc(), &REPLAY)
-}
-
-#[test]
-fn ends_sessions_at_each_failing_call(rt: HostRuntime) -> Result<(), Fail> {
-    check_trial(&rt, rt.alloc(), &SESSIONS)
-}
-
-#[test]
-fn ends_a_look_at_each_failing_call(rt: HostRuntime) -> Result<(), Fail> {
-    check_trial(&rt, rt.alloc(), &AUDIT)
-}
-
-#[test]
-fn ends_a_compaction_at_each_failing_call(rt: HostRuntime) -> Result<(), Fail> {
-    check_trial(&rt, rt.alloc(), &COMPACT)
+fn ends_at_each_failing_call(rt: HostRuntime) -> Result<(), Fail> {
+    for trial in [REPLAY, SESSIONS, AUDIT, COMPACT] {
+        check_trial(&rt, rt.alloc(), &trial)?;
+    }
+    Ok(())
 }
 
 // A look leaves the folder as it was whichever call fails, and makes no call on it that matters to a stop.

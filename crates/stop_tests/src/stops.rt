@@ -14,6 +14,9 @@ use ziti_desk::MemDesk;
 /// The requests of a run on an empty folder, each of which makes an identity, and the slot that has their rows in one record.
 type Trial = (&'static [Row], &'static [u8]);
 
+/// The choices of a stop: of what is pending it keeps nothing, all, or a part.
+const CHOICES: [u64; 3] = [0, 1, 2];
+
 const ANN_ALONE: Trial = (&[ANN_MADE], ANN_SLOT);
 
 const BOTH: Trial = (&[ANN_MADE, BOB_MADE], BOTH_SLOT);
@@ -66,42 +69,25 @@ fn stops_by(
     Ok(())
 }
 
-// Makes a run and stops it at each moment: each record takes two writes and two syncs, and each reply one say.
-fn check_trial(rt: &impl Abort, alloc: Global, trial: &Trial, choice: u64) -> Result<(), Fail> {
+// Makes a run and stops it at each moment, by each choice: each record takes two writes and two syncs, and each reply one say.
+fn check_trial(rt: &impl Abort, alloc: Global, trial: &Trial) -> Result<(), Fail> {
     let (rows, _) = *trial;
     let desk = answers(rt, alloc, EMPTY, rows)?;
     assert!(rt; desk.moments() >= rows.len().saturating_mul(5) as u64);
-    stops_by(rt, alloc, &desk, choice, trial)
+    for choice in CHOICES {
+        stops_by(rt, alloc, &desk, choice, trial)?;
+    }
+    Ok(())
 }
 
 #[test]
-fn keeps_ann_where_nothing_pending_is_kept(rt: HostRuntime) -> Result<(), Fail> {
-    check_trial(&rt, rt.alloc(), &ANN_ALONE, 0)
+fn keeps_ann_whatever_is_kept_of_what_is_pending(rt: HostRuntime) -> Result<(), Fail> {
+    check_trial(&rt, rt.alloc(), &ANN_ALONE)
 }
 
 #[test]
-fn keeps_ann_where_all_pending_is_kept(rt: HostRuntime) -> Result<(), Fail> {
-    check_trial(&rt, rt.alloc(), &ANN_ALONE, 1)
-}
-
-#[test]
-fn keeps_ann_where_some_pending_is_kept(rt: HostRuntime) -> Result<(), Fail> {
-    check_trial(&rt, rt.alloc(), &ANN_ALONE, 2)
-}
-
-#[test]
-fn keeps_both_where_nothing_pending_is_kept(rt: HostRuntime) -> Result<(), Fail> {
-    check_trial(&rt, rt.alloc(), &BOTH, 0)
-}
-
-#[test]
-fn keeps_both_where_all_pending_is_kept(rt: HostRuntime) -> Result<(), Fail> {
-    check_trial(&rt, rt.alloc(), &BOTH, 1)
-}
-
-#[test]
-fn keeps_both_where_some_pending_is_kept(rt: HostRuntime) -> Result<(), Fail> {
-    check_trial(&rt, rt.alloc(), &BOTH, 2)
+fn keeps_both_whatever_is_kept_of_what_is_pending(rt: HostRuntime) -> Result<(), Fail> {
+    check_trial(&rt, rt.alloc(), &BOTH)
 }
 
 // The folder that a stop of a compaction leaves keeps ann, answers as before, and has ann's rows.
@@ -138,25 +124,18 @@ fn stops_compacting_by(
     Ok(())
 }
 
-// Compacts ann's folder and stops that at each moment: the other slot is written and synced, the mark too, and the slot that stood is
-// cut.
-fn check_compaction(rt: &impl Abort, alloc: Global, choice: u64) -> Result<(), Fail> {
+// Compacts ann's folder and stops that at each moment, by each choice: the other slot is written and synced, the mark too, and the slot
+// that stood is cut.
+fn check_compaction(rt: &impl Abort, alloc: Global) -> Result<(), Fail> {
     let desk = ran(rt, alloc, &["compact"], b"", ANN_FOLDER, AMPLE, SILENT)?;
     assert!(rt; desk.moments() >= 5);
-    stops_compacting_by(rt, alloc, &desk, choice)
+    for choice in CHOICES {
+        stops_compacting_by(rt, alloc, &desk, choice)?;
+    }
+    Ok(())
 }
 
 #[test]
-fn compacts_where_nothing_pending_is_kept(rt: HostRuntime) -> Result<(), Fail> {
-    check_compaction(&rt, rt.alloc(), 0)
-}
-
-#[test]
-fn compacts_where_all_pending_is_kept(rt: HostRuntime) -> Result<(), Fail> {
-    check_compaction(&rt, rt.alloc(), 1)
-}
-
-#[test]
-fn compacts_where_some_pending_is_kept(rt: HostRuntime) -> Result<(), Fail> {
-    check_compaction(&rt, rt.alloc(), 2)
+fn compacts_whatever_is_kept_of_what_is_pending(rt: HostRuntime) -> Result<(), Fail> {
+    check_compaction(&rt, rt.alloc())
 }
