@@ -18,4 +18,4 @@ pub invariant_of-self-2 : goal.invariant_of-self-2
 invariant_of-self-2 c =
     let may = subst (λ (t : Tables). may_add c.args.kind c.args.name.now t ≡ Ok tt) (sym c.self.view_is) c.requires.may in
     subst (λ (t : Tables). IsKept t c.intern_all.new.self) (sym (c.in_ok-number.ensures.ok (held_once c.self.inside.held.items)))
-    (kept-added (tables_of c.self.inside.tables (held_once c.self.inside.held.items)) c.self.inside.pool c.self.invariant c.args.kind c.args.name.now c.args.attributes.now c.intern_all.new.self c.requires.kind may c.intern_all.ensures)
+    (kept-added (tables_of c.self.inside.tables (held_once c.self.inside.held.items)) c.self.inside.pool c.self.invariant c.args.kind c.args.name.now c.args.attributes.now c.intern_all.new.self c.requires.kind may c.intern_all.ensures.uses)

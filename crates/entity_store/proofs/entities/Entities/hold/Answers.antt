@@ -11,7 +11,7 @@ intern_all-requires-clause-room c = room_by_pool c.args.self.now c.self.inside.p
 pub invariant_of-self-2 : goal.invariant_of-self-2
 invariant_of-self-2 c =
     kept-held c.self.inside.tables (held_once c.self.inside.held.items) (held_once c.hold_names.new.held.items) c.self.inside.pool c.intern_all.new.self c.args.names.now c.self.invariant
-    (λ q. holds_more q c.self.inside.held.items c.args.names.now c.hold_names.new.held.items c.in_ok-hold_names.ensures.ok) c.intern_all.ensures
+    (λ q. holds_more q c.self.inside.held.items c.args.names.now c.hold_names.new.held.items c.in_ok-hold_names.ensures.ok) c.intern_all.ensures.uses
 
 pub returns-clause-ok : goal.returns-clause-ok
 returns-clause-ok c =

@@ -14,7 +14,7 @@ release_all-requires c = held_in_pool c.args.self.now c.self.inside.pool (subst 
 pub invariant_of-self : goal.invariant_of-self
 invariant_of-self c =
     kept-let_go c.self.inside.tables (held_once c.self.inside.held.items) (held_once c.let_names_go.new.held.items) c.self.inside.pool c.release_all.new.self c.args.names.now c.self.invariant
-    (λ q. rw (held_times-once q c.let_names_go.new.held.items, held_times-once q c.self.inside.held.items, ← c.as_slice.ensures) (c.let_names_go.ensures q)) c.release_all.ensures
+    (λ q. rw (held_times-once q c.let_names_go.new.held.items, held_times-once q c.self.inside.held.items, ← c.as_slice.ensures) (c.let_names_go.ensures q)) c.release_all.ensures.uses
 
 pub returns : goal.returns
 returns c = rw (← c.self.view_is) (record { fewer = λ q. rw (held_times-once q c.let_names_go.new.held.items, held_times-once q c.self.inside.held.items, ← c.as_slice.ensures) (c.let_names_go.ensures q); others = refl })

@@ -20,4 +20,4 @@ invariant_of-self c =
     let had = attributes_of_seen c.args.kind (tables_of c.self.inside.tables (held_once c.self.inside.held.items)) c.args.no (record { name = c.unwrap.result.0.now; attributes = c.unwrap.result.1.now }) seen_at in
     subst (λ (t : Tables). IsKept t c.release_all.new.self) (sym (c.remove_row.ensures (held_once c.self.inside.held.items)))
     (kept-removed (tables_of c.self.inside.tables (held_once c.self.inside.held.items)) c.self.inside.pool c.self.invariant c.tell_order.ensures.identities c.tell_order.ensures.services c.tell_order.ensures.routers
-    c.args.kind c.args.no c.unwrap.result.1.now c.release_all.new.self c.requires.kind there had c.release_all.ensures)
+    c.args.kind c.args.no c.unwrap.result.1.now c.release_all.new.self c.requires.kind there had c.release_all.ensures.uses)

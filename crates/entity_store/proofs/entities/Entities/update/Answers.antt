@@ -20,14 +20,14 @@ intern_all-requires-clause-room c =
     let seen_at = rw some at c.seen.ensures (held_once c.self.inside.held.items) in
     let had = attributes_of_seen c.args.kind (tables_of c.self.inside.tables (held_once c.self.inside.held.items)) c.args.no (record { name = c.unwrap.result.0.now; attributes = c.unwrap.result.1.now }) seen_at in
     let room = subst (λ (t : Tables). has_attribute_room t (attributes_at c.args.kind c.args.no t) c.args.attributes.now ≡ true) (sym c.self.view_is) c.requires.room in
-    room_after_release (tables_of c.self.inside.tables (held_once c.self.inside.held.items)) c.self.inside.pool c.self.invariant c.unwrap.result.1.now c.args.attributes.now c.release_all.new.self c.release_all.ensures
+    room_after_release (tables_of c.self.inside.tables (held_once c.self.inside.held.items)) c.self.inside.pool c.self.invariant c.unwrap.result.1.now c.args.attributes.now c.release_all.new.self c.release_all.ensures.uses
     ∙ ap (λ names. has_attribute_room (tables_of c.self.inside.tables (held_once c.self.inside.held.items)) names c.args.attributes.now) (sym had)
     ∙ room
 
 pub intern_all-requires-clause-counted : goal.intern_all-requires-clause-counted
 intern_all-requires-clause-counted c =
     let can : c.can_count.result ≡ true = search rules in
-    can_be_counted-fewer c.self.inside.pool c.release_all.new.self c.args.attributes.now (λ q. let less = c.release_all.ensures q in omega (arith, less)) (sym c.can_count.ensures ∙ can)
+    can_be_counted-fewer c.self.inside.pool c.release_all.new.self c.args.attributes.now (λ q. let less = c.release_all.ensures.uses q in omega (arith, less)) (sym c.can_count.ensures ∙ can)
 
 pub invariant_of-self : goal.invariant_of-self
 invariant_of-self c =
@@ -37,4 +37,4 @@ invariant_of-self c =
     let had = attributes_of_seen c.args.kind (tables_of c.self.inside.tables (held_once c.self.inside.held.items)) c.args.no (record { name = c.unwrap.result.0.now; attributes = c.unwrap.result.1.now }) seen_at in
     subst (λ (t : Tables). IsKept t c.intern_all.new.self) (sym (c.edit_row.ensures (held_once c.self.inside.held.items)))
     (rw c.in_ok-copied.ensures (kept-changed (tables_of c.self.inside.tables (held_once c.self.inside.held.items)) c.self.inside.pool c.self.invariant c.tell_order.ensures.identities c.tell_order.ensures.services c.tell_order.ensures.routers
-    c.args.kind c.args.no c.unwrap.result.1.now c.args.attributes.now c.release_all.new.self c.intern_all.new.self c.requires.kind there had c.release_all.ensures c.intern_all.ensures))
+    c.args.kind c.args.no c.unwrap.result.1.now c.args.attributes.now c.release_all.new.self c.intern_all.new.self c.requires.kind there had c.release_all.ensures.uses c.intern_all.ensures.uses))
