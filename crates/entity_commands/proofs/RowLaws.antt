@@ -1,28 +1,31 @@
 -- Laws of the row of the entity that a change touches: what stands at its number afterwards, and that nothing else changes.
-use Rattle.std.proofs.Common.{◌≡◌, ℕ, ◌+◌, ◌≤◌, ◌==◌, true, false, cond, List, [], ◌∷◌, Option, None, Some, IfSome, inl, refl, sym, ◌∙◌, ap, subst, lit≤, eq-eqb}
+use Rattle.std.proofs.Common.{◌≡◌, ℕ, ◌+◌, ◌≤◌, ◌==◌, true, false, cond, List, [], ◌∷◌, Option, None, Some, IfSome, inl, refl, sym, ◌∙◌, ap, ap₂, subst, lit≤, eq-eqb}
 use Rattle.std.proofs.lemmas.Bool.{and_from, cond-true, false≢true}
 use Rattle.std.specs.Option.{option_map}
 use Rattle.ctrl_model.specs.declared.kinds.Kind.{Kind}
 use Rattle.ctrl_model.specs.declared.kinds.Kind.TheVariants as kind
-use Rattle.ctrl_model.specs.Numbered.{at, with_last, edit_at, without, Between, Table}
-use Rattle.ctrl_model.specs.State.{State, Router, start}
-use Rattle.ctrl_model.specs.Tables.{Record, table, is_entity_kind}
+use Rattle.ctrl_model.specs.Numbered.{at, with_last, edit_at, without, with_new, with_edit, with_removed, Between, Table}
+use Rattle.ctrl_model.specs.State.{State, Router, as_entity, start}
+use Rattle.ctrl_model.specs.Tables.{Record, table, with_table, is_entity_kind}
 use Rattle.ctrl_model.proofs.NumberedLaws.{at-edit_at, at-without, at-with_last-other, at-edit_at-other, at-without-other}
 use Rattle.entity_store.specs.declared.changes.EntityChange.{EntityChange}
 use Rattle.entity_store.specs.declared.changes.EntityChange.TheVariants as change
 use Rattle.entity_store.specs.EntityChanges.{after_entity_change}
 use Rattle.entity_store.specs.EntityTables.{Tables, new_router}
 use Rattle.entity_store.specs.HeldUses.{with_entities}
+use Rattle.entity_store.specs.TableRules.{KeepsNumbers}
+use Rattle.entity_store.proofs.TimesLaws.{Between-from_map}
+use Rattle.model_laws.proofs.KindLaws.{with_table-holds}
 use Rattle.record_tables.proofs.TurnLaws.{at-new}
 use Rattle.row_codec.specs.CoveredTables.{Covers, change_at}
 use Rattle.row_codec.specs.RowKeys.{kind_number, key_in, is_long}
 use Rattle.row_codec.specs.RowKeys.RowTable.{Records}
-use Rattle.row_codec.specs.RowValues.{entity_value, router_value, record_value}
+use Rattle.row_codec.specs.RowValues.{record_value}
 use Rattle.row_laws.specs.FittingRecords.{fits}
 use Rattle.row_laws.proofs.Covers.{Covers-append, Covers-same_records}
 use Rattle.row_laws.proofs.SpelledChanges.{row_at-record}
 use Rattle.row_laws.proofs.TouchedKeys.{Covers-records}
-use Rattle.row_spelling.specs.RecordChanges.{change_of}
+use Rattle.row_spelling.specs.RecordChanges.{change_of, value_at}
 use Rattle.entity_commands.specs.EntityChanges.{CanChangeEntities}
 use Rattle.entity_commands.specs.EntityRows.{AreFit, Has, plain_after, router_after, row_change, touched_kind, touched_number}
 
@@ -46,140 +49,135 @@ twice : {X : Type 0} (f g : X → X) (o : Option X) → option_map f (option_map
 twice f g None = refl
 twice f g (Some x) = refl
 
-pub identity_stands : (c : EntityChange) (t : Tables) → Between 1 t.identities.next t.identities.rows → touched_kind c ≡ kind.Identity
-    → plain_after c (at t.identities.rows (touched_number c t)) ≡ at (after_entity_change c t).identities.rows (touched_number c t)
-identity_stands (change.Add kind.Identity name attributes) t b e = sym (at_added t.identities.rows t.identities.next (record { name = name; attributes = attributes }) b)
-identity_stands (change.Add _ name attributes) t b e = absurd (cc)
-identity_stands (change.AddRouter name attributes cost through) t b e = absurd (cc)
-identity_stands (change.Describe kind.Identity n attributes) t b e = sym (at_edited t.identities.rows n (λ r. record r { attributes = attributes }))
-identity_stands (change.Describe _ n attributes) t b e = absurd (cc)
-identity_stands (change.DescribeRouter n attributes cost through connected) t b e = absurd (cc)
-identity_stands (change.Mark n cost through connected) t b e = absurd (cc)
-identity_stands (change.Remove kind.Identity n name) t b e = sym (at_removed t.identities.rows n t.identities.next b)
-identity_stands (change.Remove _ n name) t b e = absurd (cc)
+-- A table is turned into another at one number: this stands there afterwards, and elsewhere nothing changes.
+record IsTurned {R : Type 0} (before after : Table R) (n : ℕ) (now : Option R) : Type 0 where
+  pub stands : Between 1 before.next before.rows → now ≡ at after.rows n
+  pub stays : (m : ℕ) → (n ≡ m → ⊥) → at before.rows m ≡ at after.rows m
 
-pub service_stands : (c : EntityChange) (t : Tables) → Between 1 t.services.next t.services.rows → touched_kind c ≡ kind.Service
-    → plain_after c (at t.services.rows (touched_number c t)) ≡ at (after_entity_change c t).services.rows (touched_number c t)
-service_stands (change.Add kind.Service name attributes) t b e = sym (at_added t.services.rows t.services.next (record { name = name; attributes = attributes }) b)
-service_stands (change.Add _ name attributes) t b e = absurd (cc)
-service_stands (change.AddRouter name attributes cost through) t b e = absurd (cc)
-service_stands (change.Describe kind.Service n attributes) t b e = sym (at_edited t.services.rows n (λ r. record r { attributes = attributes }))
-service_stands (change.Describe _ n attributes) t b e = absurd (cc)
-service_stands (change.DescribeRouter n attributes cost through connected) t b e = absurd (cc)
-service_stands (change.Mark n cost through connected) t b e = absurd (cc)
-service_stands (change.Remove kind.Service n name) t b e = sym (at_removed t.services.rows n t.services.next b)
-service_stands (change.Remove _ n name) t b e = absurd (cc)
+module _ {R : Type 0} (t : Table R) where
+  turned_new : (r : R) → IsTurned t (with_new r t) t.next (Some r)
+  turned_new r = record { stands = λ b. sym (at_added t.rows t.next r b); stays = λ m misses. sym (at-with_last-other t.rows t.next m r (λ same. misses (sym same))) }
 
-pub router_stands : (c : EntityChange) (t : Tables) → CanChangeEntities c t → Between 1 t.routers.next t.routers.rows → touched_kind c ≡ kind.Router
-    → router_after c (at t.routers.rows (touched_number c t)) ≡ at (after_entity_change c t).routers.rows (touched_number c t)
-router_stands (change.Add kind.Router name attributes) t can b e = absurd (false≢true can.0)
-router_stands (change.Add _ name attributes) t can b e = absurd (cc)
-router_stands (change.AddRouter name attributes cost through) t can b e =
-    let f : Router → Router = λ r. record r { cost = cost; through = through; connected = false } in
-    let new = new_router name attributes in
-    sym (at_edited (with_last t.routers.rows t.routers.next new) t.routers.next f ∙ ap (option_map f) (at_added t.routers.rows t.routers.next new b))
-router_stands (change.Describe kind.Router n attributes) t can b e = absurd (false≢true can.0)
-router_stands (change.Describe _ n attributes) t can b e = absurd (cc)
-router_stands (change.DescribeRouter n attributes cost through connected) t can b e =
+  turned_gone : (n : ℕ) → IsTurned t (with_removed n t) n None
+  turned_gone n = record { stands = λ b. sym (at_removed t.rows n t.next b); stays = λ m misses. sym (at-without-other t.rows n m (λ same. misses (sym same))) }
+
+  turned_not : (n : ℕ) → IsTurned t t n (at t.rows n)
+  turned_not n = record { stands = λ b. refl; stays = λ m misses. refl }
+
+-- a table that is edited behind that
+turned_on : {R : Type 0} (before after : Table R) (n : ℕ) (now : Option R) (f : R → R) → IsTurned before after n now
+    → IsTurned before (with_edit n f after) n (option_map f now)
+turned_on before after n now f is = record {
+  stands = λ b. ap (option_map f) (is.stands b) ∙ sym (at_edited after.rows n f);
+  stays = λ m misses. is.stays m misses ∙ sym (at-edit_at-other after.rows n m f (λ same. misses (sym same)));
+}
+
+turned_edit : {R : Type 0} (t : Table R) (n : ℕ) (f : R → R) → IsTurned t (with_edit n f t) n (option_map f (at t.rows n))
+turned_edit t n f = turned_on t t n (at t.rows n) f (turned_not t n)
+
+-- ---- the kind that a change touches
+
+-- The tables of a kind.
+abbrev pub kind_table : (k : Kind) → Tables → Table (Record k)
+kind_table k t = table k (with_entities t start)
+
+-- The entity of a kind that a change touches as it will be, by what it is.
+abbrev pub kind_after : (k : Kind) → EntityChange → Option (Record k) → Option (Record k)
+kind_after kind.Identity c o = plain_after c o
+kind_after kind.Service c o = plain_after c o
+kind_after kind.Router c o = router_after c o
+kind_after k c o = o
+
+-- The table of that kind is turned at the number that the change touches.
+turned : (c : EntityChange) (t : Tables) → CanChangeEntities c t → IsTurned (kind_table (touched_kind c) t) (kind_table (touched_kind c) (after_entity_change c t))
+    (touched_number c t) (kind_after (touched_kind c) c (at (kind_table (touched_kind c) t).rows (touched_number c t)))
+turned (change.Add kind.Identity name attributes) t can = turned_new t.identities (record { name = name; attributes = attributes })
+turned (change.Add kind.Service name attributes) t can = turned_new t.services (record { name = name; attributes = attributes })
+turned (change.Add _ name attributes) t can = absurd (false≢true can.0)
+turned (change.AddRouter name attributes cost through) t can =
+    turned_on t.routers (with_new (new_router name attributes) t.routers) t.routers.next (Some (new_router name attributes)) (λ r. record r { cost = cost; through = through; connected = false })
+    (turned_new t.routers (new_router name attributes))
+turned (change.Describe kind.Identity n attributes) t can = turned_edit t.identities n (λ e. record e { attributes = attributes })
+turned (change.Describe kind.Service n attributes) t can = turned_edit t.services n (λ e. record e { attributes = attributes })
+turned (change.Describe _ n attributes) t can = absurd (false≢true can.0)
+turned (change.DescribeRouter n attributes cost through connected) t can =
     let f : Router → Router = λ r. record r { cost = cost; through = through; connected = connected } in
     let g : Router → Router = λ r. record r { attributes = attributes } in
-    sym (at_edited (edit_at t.routers.rows n g) n f ∙ ap (option_map f) (at_edited t.routers.rows n g) ∙ twice f g (at t.routers.rows n))
-router_stands (change.Mark n cost through connected) t can b e =
-    sym (at_edited t.routers.rows n (λ r. record r { cost = cost; through = through; connected = connected }))
-router_stands (change.Remove kind.Router n name) t can b e = sym (at_removed t.routers.rows n t.routers.next b)
-router_stands (change.Remove _ n name) t can b e = absurd (cc)
+    let described = with_edit n g t.routers in
+    subst (λ (o : Option Router). IsTurned t.routers (with_edit n f described) n o) (twice f g (at t.routers.rows n))
+    (turned_on t.routers described n (option_map g (at t.routers.rows n)) f (turned_edit t.routers n g))
+turned (change.Mark n cost through connected) t can = turned_edit t.routers n (λ r. record r { cost = cost; through = through; connected = connected })
+turned (change.Remove kind.Identity n name) t can = turned_gone t.identities n
+turned (change.Remove kind.Service n name) t can = turned_gone t.services n
+turned (change.Remove kind.Router n name) t can = turned_gone t.routers n
+turned (change.Remove _ n name) t can = absurd (false≢true can.0)
+
+-- The other tables stay.
+alone : (c : EntityChange) (t : Tables) → CanChangeEntities c t
+    → with_entities (after_entity_change c t) start ≡ with_table (touched_kind c) (kind_table (touched_kind c) (after_entity_change c t)) (with_entities t start)
+alone (change.Add kind.Identity name attributes) t can = refl
+alone (change.Add kind.Service name attributes) t can = refl
+alone (change.Add _ name attributes) t can = absurd (false≢true can.0)
+alone (change.AddRouter name attributes cost through) t can = refl
+alone (change.Describe kind.Identity n attributes) t can = refl
+alone (change.Describe kind.Service n attributes) t can = refl
+alone (change.Describe _ n attributes) t can = absurd (false≢true can.0)
+alone (change.DescribeRouter n attributes cost through connected) t can = refl
+alone (change.Mark n cost through connected) t can = refl
+alone (change.Remove kind.Identity n name) t can = refl
+alone (change.Remove kind.Service n name) t can = refl
+alone (change.Remove kind.Router n name) t can = refl
+alone (change.Remove _ n name) t can = absurd (false≢true can.0)
 
 -- ---- the change there, and that what stands there fits its row
 
-module _ (c : EntityChange) (t : Tables) (n : ℕ) (is : n ≡ touched_number c t) where
-  pub identity_change : Between 1 t.identities.next t.identities.rows → touched_kind c ≡ kind.Identity
-      → change_of kind.Identity n (option_map entity_value (at t.identities.rows n)) (option_map entity_value (plain_after c (at t.identities.rows n)))
+ordered : (k : Kind) (t : Tables) → is_entity_kind k ≡ true → KeepsNumbers k t → Between 1 (kind_table k t).next (kind_table k t).rows
+ordered kind.Identity t entity keeps = keeps.ordered
+ordered kind.Service t entity keeps = keeps.ordered
+ordered kind.Router t entity keeps = Between-from_map (λ (row : ℕ × Router). as_entity row.1) t.routers.next t.routers.rows 1 keeps.ordered
+ordered _ t entity keeps = absurd (false≢true entity)
+
+kind_fits : (k : Kind) (t : Tables) → is_entity_kind k ≡ true → AreFit t → (n : ℕ) (r : Record k) → at (kind_table k t).rows n ≡ Some r → fits k r ≡ true
+kind_fits kind.Identity t entity fit = fit.identities
+kind_fits kind.Service t entity fit = fit.services
+kind_fits kind.Router t entity fit = fit.routers
+kind_fits _ t entity fit = absurd (false≢true entity)
+
+numbered : (k : Kind) → is_entity_kind k ≡ true → 1 ≤ kind_number k
+numbered kind.Identity entity = lit≤ tt
+numbered kind.Service entity = lit≤ tt
+numbered kind.Router entity = lit≤ tt
+numbered _ entity = absurd (false≢true entity)
+
+module _ (c : EntityChange) (t : Tables) (can : CanChangeEntities c t) (k : Kind) (n : ℕ) (touched : touched_kind c ≡ k) (there : n ≡ touched_number c t)
+    (entity : is_entity_kind k ≡ true) (keeps : KeepsNumbers k t) where
+  stands : kind_after k c (at (kind_table k t).rows n) ≡ at (kind_table k (after_entity_change c t)).rows n
+  stands =
+      subst (λ (j : Kind). Between 1 (kind_table j t).next (kind_table j t).rows → kind_after j c (at (kind_table j t).rows n) ≡ at (kind_table j (after_entity_change c t)).rows n) touched
+      (λ b. subst (λ m. kind_after (touched_kind c) c (at (kind_table (touched_kind c) t).rows m) ≡ at (kind_table (touched_kind c) (after_entity_change c t)).rows m) (sym there)
+      ((turned c t can).stands b)) (ordered k t entity keeps)
+
+  pub change_there : change_of k n (value_at k (kind_table k t).rows n) (option_map (record_value k) (kind_after k c (at (kind_table k t).rows n)))
       ≡ row_change (touched_kind c) (touched_number c t) t (after_entity_change c t)
-  identity_change b e =
-      ap (λ m. change_of kind.Identity m (option_map entity_value (at t.identities.rows m)) (option_map entity_value (plain_after c (at t.identities.rows m)))) is
-      ∙ ap (λ o. change_of kind.Identity (touched_number c t) (option_map entity_value (at t.identities.rows (touched_number c t))) (option_map entity_value o)) (identity_stands c t b e)
-      ∙ ap (λ k. row_change k (touched_number c t) t (after_entity_change c t)) (sym e)
+  change_there =
+      let before = row_at-record k (with_entities t start) n (numbered k entity) in
+      let after = row_at-record k (with_entities (after_entity_change c t) start) n (numbered k entity) in
+      ap (λ o. change_of k n (value_at k (kind_table k t).rows n) (option_map (record_value k) o)) stands
+      ∙ sym (ap₂ (change_of k n) before after)
+      ∙ ap₂ (λ (j : Kind) m. row_change j m t (after_entity_change c t)) (sym touched) there
 
-  pub identity_fits : Between 1 t.identities.next t.identities.rows → touched_kind c ≡ kind.Identity → AreFit (after_entity_change c t)
-      → IfSome (plain_after c (at t.identities.rows n)) (λ e. fits kind.Identity e ≡ true)
-  identity_fits b e fit =
-      subst (λ o. IfSome o (λ e. fits kind.Identity e ≡ true)) (sym (ap (λ m. plain_after c (at t.identities.rows m)) is ∙ identity_stands c t b e))
-      (if_some (λ e. fits kind.Identity e ≡ true) _ (fit.identities (touched_number c t)))
-
-  pub service_change : Between 1 t.services.next t.services.rows → touched_kind c ≡ kind.Service
-      → change_of kind.Service n (option_map entity_value (at t.services.rows n)) (option_map entity_value (plain_after c (at t.services.rows n)))
-      ≡ row_change (touched_kind c) (touched_number c t) t (after_entity_change c t)
-  service_change b e =
-      ap (λ m. change_of kind.Service m (option_map entity_value (at t.services.rows m)) (option_map entity_value (plain_after c (at t.services.rows m)))) is
-      ∙ ap (λ o. change_of kind.Service (touched_number c t) (option_map entity_value (at t.services.rows (touched_number c t))) (option_map entity_value o)) (service_stands c t b e)
-      ∙ ap (λ k. row_change k (touched_number c t) t (after_entity_change c t)) (sym e)
-
-  pub service_fits : Between 1 t.services.next t.services.rows → touched_kind c ≡ kind.Service → AreFit (after_entity_change c t)
-      → IfSome (plain_after c (at t.services.rows n)) (λ e. fits kind.Service e ≡ true)
-  service_fits b e fit =
-      subst (λ o. IfSome o (λ e. fits kind.Service e ≡ true)) (sym (ap (λ m. plain_after c (at t.services.rows m)) is ∙ service_stands c t b e))
-      (if_some (λ e. fits kind.Service e ≡ true) _ (fit.services (touched_number c t)))
-
-  pub router_change : CanChangeEntities c t → Between 1 t.routers.next t.routers.rows → touched_kind c ≡ kind.Router
-      → change_of kind.Router n (option_map router_value (at t.routers.rows n)) (option_map router_value (router_after c (at t.routers.rows n)))
-      ≡ row_change (touched_kind c) (touched_number c t) t (after_entity_change c t)
-  router_change can b e =
-      ap (λ m. change_of kind.Router m (option_map router_value (at t.routers.rows m)) (option_map router_value (router_after c (at t.routers.rows m)))) is
-      ∙ ap (λ o. change_of kind.Router (touched_number c t) (option_map router_value (at t.routers.rows (touched_number c t))) (option_map router_value o)) (router_stands c t can b e)
-      ∙ ap (λ k. row_change k (touched_number c t) t (after_entity_change c t)) (sym e)
-
-  pub router_fits : CanChangeEntities c t → Between 1 t.routers.next t.routers.rows → touched_kind c ≡ kind.Router → AreFit (after_entity_change c t)
-      → IfSome (router_after c (at t.routers.rows n)) (λ r. fits kind.Router r ≡ true)
-  router_fits can b e fit =
-      subst (λ o. IfSome o (λ r. fits kind.Router r ≡ true)) (sym (ap (λ m. router_after c (at t.routers.rows m)) is ∙ router_stands c t can b e))
-      (if_some (λ r. fits kind.Router r ≡ true) _ (fit.routers (touched_number c t)))
+  pub fits_there : AreFit (after_entity_change c t) → IfSome (kind_after k c (at (kind_table k t).rows n)) (λ r. fits k r ≡ true)
+  fits_there fit =
+      subst (λ o. IfSome o (λ r. fits k r ≡ true)) (sym stands) (if_some (λ r. fits k r ≡ true) _ (kind_fits k (after_entity_change c t) entity fit n))
 
 -- ---- elsewhere nothing changes
 
-module _ (t : Tables) (m : ℕ) where
-  identities_stay : (c : EntityChange) → (touched_kind c ≡ kind.Identity → touched_number c t ≡ m → ⊥) → at t.identities.rows m ≡ at (after_entity_change c t).identities.rows m
-  identities_stay (change.Add kind.Identity name attributes) misses =
-      sym (at-with_last-other t.identities.rows t.identities.next m (record { name = name; attributes = attributes }) (λ same. misses refl (sym same)))
-  identities_stay (change.Add _ name attributes) misses = refl
-  identities_stay (change.AddRouter name attributes cost through) misses = refl
-  identities_stay (change.Describe kind.Identity n attributes) misses =
-      sym (at-edit_at-other t.identities.rows n m (λ r. record r { attributes = attributes }) (λ same. misses refl (sym same)))
-  identities_stay (change.Describe _ n attributes) misses = refl
-  identities_stay (change.DescribeRouter n attributes cost through connected) misses = refl
-  identities_stay (change.Mark n cost through connected) misses = refl
-  identities_stay (change.Remove kind.Identity n name) misses = sym (at-without-other t.identities.rows n m (λ same. misses refl (sym same)))
-  identities_stay (change.Remove _ n name) misses = refl
-
-  services_stay : (c : EntityChange) → (touched_kind c ≡ kind.Service → touched_number c t ≡ m → ⊥) → at t.services.rows m ≡ at (after_entity_change c t).services.rows m
-  services_stay (change.Add kind.Service name attributes) misses =
-      sym (at-with_last-other t.services.rows t.services.next m (record { name = name; attributes = attributes }) (λ same. misses refl (sym same)))
-  services_stay (change.Add _ name attributes) misses = refl
-  services_stay (change.AddRouter name attributes cost through) misses = refl
-  services_stay (change.Describe kind.Service n attributes) misses =
-      sym (at-edit_at-other t.services.rows n m (λ r. record r { attributes = attributes }) (λ same. misses refl (sym same)))
-  services_stay (change.Describe _ n attributes) misses = refl
-  services_stay (change.DescribeRouter n attributes cost through connected) misses = refl
-  services_stay (change.Mark n cost through connected) misses = refl
-  services_stay (change.Remove kind.Service n name) misses = sym (at-without-other t.services.rows n m (λ same. misses refl (sym same)))
-  services_stay (change.Remove _ n name) misses = refl
-
-  routers_stay : (c : EntityChange) → (touched_kind c ≡ kind.Router → touched_number c t ≡ m → ⊥) → at t.routers.rows m ≡ at (after_entity_change c t).routers.rows m
-  routers_stay (change.Add kind.Router name attributes) misses =
-      sym (at-with_last-other t.routers.rows t.routers.next m (new_router name attributes) (λ same. misses refl (sym same)))
-  routers_stay (change.Add _ name attributes) misses = refl
-  routers_stay (change.AddRouter name attributes cost through) misses =
-      sym (at-edit_at-other (with_last t.routers.rows t.routers.next (new_router name attributes)) t.routers.next m (λ r. record r { cost = cost; through = through; connected = false }) (λ same. misses refl (sym same))
-      ∙ at-with_last-other t.routers.rows t.routers.next m (new_router name attributes) (λ same. misses refl (sym same)))
-  routers_stay (change.Describe kind.Router n attributes) misses =
-      sym (at-edit_at-other t.routers.rows n m (λ r. record r { attributes = attributes }) (λ same. misses refl (sym same)))
-  routers_stay (change.Describe _ n attributes) misses = refl
-  routers_stay (change.DescribeRouter n attributes cost through connected) misses =
-      sym (at-edit_at-other (edit_at t.routers.rows n (λ r. record r { attributes = attributes })) n m (λ r. record r { cost = cost; through = through; connected = connected }) (λ same. misses refl (sym same))
-      ∙ at-edit_at-other t.routers.rows n m (λ r. record r { attributes = attributes }) (λ same. misses refl (sym same)))
-  routers_stay (change.Mark n cost through connected) misses =
-      sym (at-edit_at-other t.routers.rows n m (λ r. record r { cost = cost; through = through; connected = connected }) (λ same. misses refl (sym same)))
-  routers_stay (change.Remove kind.Router n name) misses = sym (at-without-other t.routers.rows n m (λ same. misses refl (sym same)))
-  routers_stay (change.Remove _ n name) misses = refl
+stays : (c : EntityChange) (t : Tables) → CanChangeEntities c t → (k : Kind) (m : ℕ) → (touched_kind c ≡ k → touched_number c t ≡ m → ⊥)
+    → at (kind_table k t).rows m ≡ at (kind_table k (after_entity_change c t)).rows m
+stays c t can k m misses =
+    subst (λ (w : State). at (kind_table k t).rows m ≡ at (table k w).rows m) (sym (alone c t can))
+    (with_table-holds (λ j v. (touched_kind c ≡ j → touched_number c t ≡ m → ⊥) → at (kind_table j t).rows m ≡ at v.rows m) (with_entities t start)
+    (touched_kind c) (kind_table (touched_kind c) (after_entity_change c t)) (λ other. refl) (λ other. (turned c t can).stays m (other refl)) (λ j other. refl) k misses)
 
 -- ---- covers
 
@@ -216,7 +214,7 @@ module _ (s u : State) (t : Tables) where
       (Covers-append 4 5 6 s u [] [] (lit≤ tt) (lit≤ tt) (no_row kind.Service s u v v (lit≤ tt) h.services j.services (λ m. refl))
       (no_row kind.Router s u v v (lit≤ tt) h.routers j.routers (λ m. refl)))
 
-  module _ (c : EntityChange) (h : Has t s) (j : Has (after_entity_change c t) u) (long : is_long (touched_number c t) ≡ true) where
+  module _ (c : EntityChange) (can : CanChangeEntities c t) (h : Has t s) (j : Has (after_entity_change c t) u) (long : is_long (touched_number c t) ≡ true) where
     abbrev n : ℕ
     n = touched_number c t
 
@@ -230,22 +228,22 @@ module _ (s u : State) (t : Tables) where
     by : (k : Kind) → touched_kind c ≡ k → is_entity_kind k ≡ true → Covers 3 6 s u (row_change k (touched_number c t) t (after_entity_change c t) ∷ [])
     by kind.Identity e is =
         Covers-append 3 4 6 s u (row_change kind.Identity (touched_number c t) t (after_entity_change c t) ∷ []) [] (lit≤ tt) (lit≤ tt)
-        (one_row kind.Identity s u v w (lit≤ tt) h.identities j.identities n long (λ m misses. identities_stay t m c (λ f. misses)))
+        (one_row kind.Identity s u v w (lit≤ tt) h.identities j.identities n long (λ m misses. stays c t can kind.Identity m (λ f. misses)))
         (Covers-append 4 5 6 s u [] [] (lit≤ tt) (lit≤ tt)
-        (no_row kind.Service s u v w (lit≤ tt) h.services j.services (λ m. services_stay t m c (λ f g. let clash : kind.Service ≡ kind.Identity = sym f ∙ e in cc)))
-        (no_row kind.Router s u v w (lit≤ tt) h.routers j.routers (λ m. routers_stay t m c (λ f g. let clash : kind.Router ≡ kind.Identity = sym f ∙ e in cc))))
+        (no_row kind.Service s u v w (lit≤ tt) h.services j.services (λ m. stays c t can kind.Service m (λ f g. let clash : kind.Service ≡ kind.Identity = sym f ∙ e in cc)))
+        (no_row kind.Router s u v w (lit≤ tt) h.routers j.routers (λ m. stays c t can kind.Router m (λ f g. let clash : kind.Router ≡ kind.Identity = sym f ∙ e in cc))))
     by kind.Service e is =
         Covers-append 3 4 6 s u [] (row_change kind.Service (touched_number c t) t (after_entity_change c t) ∷ []) (lit≤ tt) (lit≤ tt)
-        (no_row kind.Identity s u v w (lit≤ tt) h.identities j.identities (λ m. identities_stay t m c (λ f g. let clash : kind.Identity ≡ kind.Service = sym f ∙ e in cc)))
+        (no_row kind.Identity s u v w (lit≤ tt) h.identities j.identities (λ m. stays c t can kind.Identity m (λ f g. let clash : kind.Identity ≡ kind.Service = sym f ∙ e in cc)))
         (Covers-append 4 5 6 s u (row_change kind.Service (touched_number c t) t (after_entity_change c t) ∷ []) [] (lit≤ tt) (lit≤ tt)
-        (one_row kind.Service s u v w (lit≤ tt) h.services j.services n long (λ m misses. services_stay t m c (λ f. misses)))
-        (no_row kind.Router s u v w (lit≤ tt) h.routers j.routers (λ m. routers_stay t m c (λ f g. let clash : kind.Router ≡ kind.Service = sym f ∙ e in cc))))
+        (one_row kind.Service s u v w (lit≤ tt) h.services j.services n long (λ m misses. stays c t can kind.Service m (λ f. misses)))
+        (no_row kind.Router s u v w (lit≤ tt) h.routers j.routers (λ m. stays c t can kind.Router m (λ f g. let clash : kind.Router ≡ kind.Service = sym f ∙ e in cc))))
     by kind.Router e is =
         Covers-append 3 4 6 s u [] (row_change kind.Router (touched_number c t) t (after_entity_change c t) ∷ []) (lit≤ tt) (lit≤ tt)
-        (no_row kind.Identity s u v w (lit≤ tt) h.identities j.identities (λ m. identities_stay t m c (λ f g. let clash : kind.Identity ≡ kind.Router = sym f ∙ e in cc)))
+        (no_row kind.Identity s u v w (lit≤ tt) h.identities j.identities (λ m. stays c t can kind.Identity m (λ f g. let clash : kind.Identity ≡ kind.Router = sym f ∙ e in cc)))
         (Covers-append 4 5 6 s u [] (row_change kind.Router (touched_number c t) t (after_entity_change c t) ∷ []) (lit≤ tt) (lit≤ tt)
-        (no_row kind.Service s u v w (lit≤ tt) h.services j.services (λ m. services_stay t m c (λ f g. let clash : kind.Service ≡ kind.Router = sym f ∙ e in cc)))
-        (one_row kind.Router s u v w (lit≤ tt) h.routers j.routers n long (λ m misses. routers_stay t m c (λ f. misses))))
+        (no_row kind.Service s u v w (lit≤ tt) h.services j.services (λ m. stays c t can kind.Service m (λ f g. let clash : kind.Service ≡ kind.Router = sym f ∙ e in cc)))
+        (one_row kind.Router s u v w (lit≤ tt) h.routers j.routers n long (λ m misses. stays c t can kind.Router m (λ f. misses))))
     by _ e is = absurd (false≢true is)
 
     pub touched_covers : is_entity_kind (touched_kind c) ≡ true → Covers 3 6 s u (row_change (touched_kind c) (touched_number c t) t (after_entity_change c t) ∷ [])

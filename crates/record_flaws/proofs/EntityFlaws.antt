@@ -1,65 +1,60 @@
 -- The flaws of an entity in a state that has the entities of a store and the policies whose uses the store holds.
-use Rattle.std.proofs.Common.{◌≡◌, ℕ, ◌+◌, ◌<◌, ◌≤◌, Bool, true, false, not, ◌||◌, nat_lt, nat_le, List, [], length, Option, None, Some, refl, sym, ◌∙◌, ap, is_some, arith}
+use Rattle.std.proofs.Common.{◌≡◌, ℕ, ◌+◌, ◌<◌, ◌≤◌, Bool, true, false, not, ◌||◌, nat_lt, nat_le, List, [], length, Option, None, Some, refl, sym, ◌∙◌, ap, ap₂, subst, is_some, arith}
 use Rattle.std.proofs.Math.Bool.{not-not}
-use Rattle.std.proofs.lemmas.Bool.{le-leb, lt-leb}
+use Rattle.std.proofs.lemmas.Bool.{le-leb, lt-leb, false≢true}
 use Rattle.std.proofs.lemmas.List.{length-map}
 use Rattle.std.specs.Option.{ok_or}
 use Rattle.std.specs.Result.{is_ok}
-use Rattle.ctrl_model.specs.Limits.{limit}
 use Rattle.ctrl_model.specs.declared.kinds.Kind.{Kind}
 use Rattle.ctrl_model.specs.declared.kinds.Kind.TheVariants as kind
-use Rattle.ctrl_model.specs.Numbered.{Table}
-use Rattle.ctrl_model.specs.State.{State, Entity, Router, entity_named, router_named}
+use Rattle.ctrl_model.specs.Limits.{limit}
+use Rattle.ctrl_model.specs.State.{State, Entity, Router, as_entity}
+use Rattle.ctrl_model.specs.Tables.{Record, table, record_name, is_entity_kind}
 use Rattle.ctrl_model.specs.Rules.{attributes_in_use, attributes_full}
 use Rattle.entity_store.specs.EntityTables.{Tables, entities, next_of, number_of}
 use Rattle.entity_store.specs.AttributeUses.{times, has_attribute_room}
-use Rattle.entity_store.specs.HeldUses.{with_entities}
+use Rattle.entity_store.specs.HeldUses.{with_entities, HoldsPolicies}
 use Rattle.entity_store.specs.TableRules.{found}
 use Rattle.entity_store.specs.declared.entities.EntityFault.TheVariants.{Unknown}
 use Rattle.entity_store.proofs.TimesLaws.{times-with_last}
 use Rattle.entity_store.proofs.InUseLaws.{in_use-parts, room_in_state}
+use Rattle.state_building.specs.declared.flaws.Flaw.{Flaw}
 use Rattle.state_building.specs.declared.flaws.Flaw.TheVariants.{NoRecord, OutOfOrder, NameTaken, TooMany}
-use Rattle.state_building.specs.JoinedRecords.{joined, is_sound, is_out_of_order, is_name_taken, is_one_too_many, flaw_if, flaw_of}
+use Rattle.state_building.specs.JoinedRecords.{joined, is_sound, is_supported, unsupported, is_out_of_order, is_name_taken, flaw_if, flaw_of}
 use Rattle.record_flaws.specs.declared.coming.Coming.{Coming}
 use Rattle.record_flaws.specs.FoundFlaws.{has_one_too_many, entity_flaw}
 use Rattle.record_flaws.specs.StoresOfStates.{AreEntitiesOf}
 
--- ---- the attributes in use, once one more entity has joined
+-- ---- an entity that joins the state around a store's entities
 
-joined_identity : (n : ℕ) (e : Entity) (s : State) (x : List ℕ)
-    → times x (attributes_in_use (joined kind.Identity n e s)) ≡ times x (attributes_in_use s) + times x e.attributes
-joined_identity n e s x =
-    let more = times-with_last (λ (q : Entity). q.attributes) x s.identities.rows n e in
-    let before = in_use-parts x s in let after = in_use-parts x (joined kind.Identity n e s) in
-    omega (arith, more, before, after)
+-- The attributes of an entity.
+abbrev pub attributes_of : (k : Kind) → Record k → List (List ℕ)
+attributes_of kind.Identity e = e.attributes
+attributes_of kind.Service e = e.attributes
+attributes_of kind.Router r = r.attributes
+attributes_of k r = []
 
-joined_service : (n : ℕ) (e : Entity) (s : State) (x : List ℕ)
-    → times x (attributes_in_use (joined kind.Service n e s)) ≡ times x (attributes_in_use s) + times x e.attributes
-joined_service n e s x =
-    let more = times-with_last (λ (q : Entity). q.attributes) x s.services.rows n e in
-    let before = in_use-parts x s in let after = in_use-parts x (joined kind.Service n e s) in
-    omega (arith, more, before, after)
-
-joined_router : (n : ℕ) (r : Router) (s : State) (x : List ℕ)
-    → times x (attributes_in_use (joined kind.Router n r s)) ≡ times x (attributes_in_use s) + times x r.attributes
-joined_router n r s x =
-    let more = times-with_last (λ (q : Router). q.attributes) x s.routers.rows n r in
-    let before = in_use-parts x s in let after = in_use-parts x (joined kind.Router n r s) in
-    omega (arith, more, before, after)
+-- The attributes in use are more by those of the entity.
+joined_uses : (k : Kind) (n : ℕ) (r : Record k) (s : State) (x : List ℕ) → is_entity_kind k ≡ true
+    → times x (attributes_in_use (joined k n r s)) ≡ times x (attributes_in_use s) + times x (attributes_of k r)
+joined_uses kind.Identity n e s x is =
+    let more = times-with_last (λ (q : Entity). q.attributes) x s.identities.rows n e in omega (arith, more, in_use-parts x s, in_use-parts x (joined kind.Identity n e s))
+joined_uses kind.Service n e s x is =
+    let more = times-with_last (λ (q : Entity). q.attributes) x s.services.rows n e in omega (arith, more, in_use-parts x s, in_use-parts x (joined kind.Service n e s))
+joined_uses kind.Router n r s x is =
+    let more = times-with_last (λ (q : Router). q.attributes) x s.routers.rows n r in omega (arith, more, in_use-parts x s, in_use-parts x (joined kind.Router n r s))
+joined_uses _ n r s x is = absurd (false≢true is)
 
 -- The state around the entities is the one that has them.
 around : (t : Tables) (s : State) → AreEntitiesOf t s → with_entities t s ≡ s
 around t s of = λ i. record s { identities = sym of.identities i; services = sym of.services i; routers = sym of.routers i }
 
--- Too many attributes are in use with one more entity exactly where the store has no room for its attributes.
-full_where_no_room : (t : Tables) (s : State) (attributes : List (List ℕ)) (after : State) → AreEntitiesOf t s
-    → ((x : List ℕ) → times x (attributes_in_use after) ≡ times x (attributes_in_use s) + times x attributes)
-    → not (has_attribute_room t [] attributes) ≡ attributes_full after
-full_where_no_room t s attributes after of balance =
-    ap not (room_in_state t s [] attributes after of.held (λ x.
-    let all = balance x in
-    let same : times x (attributes_in_use (with_entities t s)) ≡ times x (attributes_in_use s) = ap (λ q. times x (attributes_in_use q)) (around t s of) in
-    omega (arith, all, same)))
+-- Too many attributes are in use with the entity exactly where the store has no room for its own.
+full_where_no_room : (k : Kind) (n : ℕ) (r : Record k) (t : Tables) (s : State) → is_entity_kind k ≡ true → HoldsPolicies t s
+    → not (has_attribute_room t [] (attributes_of k r)) ≡ attributes_full (joined k n r (with_entities t s))
+full_where_no_room k n r t s is held =
+    let after = joined k n r (with_entities t s) in
+    ap not (room_in_state t s [] (attributes_of k r) after held (λ x. let more = joined_uses k n r (with_entities t s) x is in omega (arith, more)))
     ∙ not-not (attributes_full after)
 
 -- ---- the flaws
@@ -93,45 +88,37 @@ found_flaw k c name attributes t order taken many order_is taken_is many_is =
     let named : taken ≡ is_some (number_of k name t) = taken_is ∙ found_entity k name t in
     λ i. flaw_if (order_is i) OutOfOrder (flaw_if (not c.sound) NoRecord (flaw_if (named i) NameTaken (flaw_if (many_is i) TooMany None)))
 
-pub told_identity : (t : Tables) (c : Coming) (e : Entity) (s : State) → AreEntitiesOf t s → c.sound ≡ is_sound kind.Identity e
-    → entity_flaw kind.Identity c e.name e.attributes t ≡ flaw_of (λ k. c.end) kind.Identity c.number e s
-told_identity t c e s of sound =
-    let order : (nat_lt c.number t.identities.next || nat_le c.end c.number) ≡ is_out_of_order (λ k. c.end) kind.Identity c.number s =
-    ap (λ (rows : Table Entity). nat_lt c.number rows.next || nat_le c.end c.number) (sym of.identities) in
-    let taken : is_some (number_of kind.Identity e.name t) ≡ is_name_taken kind.Identity e s =
-    ap (λ (rows : Table Entity). is_some (entity_named rows.rows e.name)) (sym of.identities) in
-    let full : not (has_attribute_room t [] e.attributes) ≡ attributes_full (joined kind.Identity c.number e s) =
-    full_where_no_room t s e.attributes (joined kind.Identity c.number e s) of (joined_identity c.number e s) in
-    let many : has_one_too_many kind.Identity e.attributes t ≡ is_one_too_many kind.Identity c.number e s =
-    ap (λ (rows : Table Entity). nat_le 2048 (length rows.rows) || not (has_attribute_room t [] e.attributes)) (sym of.identities)
-    ∙ ap (λ b. nat_le 2048 (length s.identities.rows) || b) full in
-    λ i. flaw_if (order i) OutOfOrder (flaw_if (not (sound i)) NoRecord (flaw_if (taken i) NameTaken (flaw_if (many i) TooMany None)))
+-- The flaw of an entity, by how many of its kind there are, whether it is sound and whether attributes are too many with it: as the
+-- store tells it, and as it is in a state.
+module _ (k : Kind) (c : Coming) (r : Record k) where
+  abbrev told_by : Tables → ℕ → Bool → Bool → Option Flaw
+  told_by t count sound full =
+      flaw_if (nat_lt c.number (next_of k t) || nat_le c.end c.number) OutOfOrder
+      (flaw_if (not sound) NoRecord
+      (flaw_if (is_some (number_of k (record_name k r) t)) NameTaken
+      (flaw_if (nat_le (most_of k) count || full) TooMany None)))
 
-pub told_service : (t : Tables) (c : Coming) (e : Entity) (s : State) → AreEntitiesOf t s → c.sound ≡ is_sound kind.Service e
-    → entity_flaw kind.Service c e.name e.attributes t ≡ flaw_of (λ k. c.end) kind.Service c.number e s
-told_service t c e s of sound =
-    let order : (nat_lt c.number t.services.next || nat_le c.end c.number) ≡ is_out_of_order (λ k. c.end) kind.Service c.number s =
-    ap (λ (rows : Table Entity). nat_lt c.number rows.next || nat_le c.end c.number) (sym of.services) in
-    let taken : is_some (number_of kind.Service e.name t) ≡ is_name_taken kind.Service e s =
-    ap (λ (rows : Table Entity). is_some (entity_named rows.rows e.name)) (sym of.services) in
-    let full : not (has_attribute_room t [] e.attributes) ≡ attributes_full (joined kind.Service c.number e s) =
-    full_where_no_room t s e.attributes (joined kind.Service c.number e s) of (joined_service c.number e s) in
-    let many : has_one_too_many kind.Service e.attributes t ≡ is_one_too_many kind.Service c.number e s =
-    ap (λ (rows : Table Entity). nat_le 512 (length rows.rows) || not (has_attribute_room t [] e.attributes)) (sym of.services)
-    ∙ ap (λ b. nat_le 512 (length s.services.rows) || b) full in
-    λ i. flaw_if (order i) OutOfOrder (flaw_if (not (sound i)) NoRecord (flaw_if (taken i) NameTaken (flaw_if (many i) TooMany None)))
+  abbrev is_by : State → Bool → Bool → Option Flaw
+  is_by s sound full =
+      flaw_if (is_out_of_order (λ j. c.end) k c.number s) OutOfOrder
+      (flaw_if (not sound) NoRecord
+      (flaw_if (is_name_taken k r s) NameTaken
+      (flaw_if (not (is_supported k s (c.number, r))) (unsupported k)
+      (flaw_if (nat_le (limit k) (length (table k s).rows) || full) TooMany None))))
 
-pub told_router : (t : Tables) (c : Coming) (r : Router) (s : State) → AreEntitiesOf t s → c.sound ≡ is_sound kind.Router r
-    → entity_flaw kind.Router c r.name r.attributes t ≡ flaw_of (λ k. c.end) kind.Router c.number r s
-told_router t c r s of sound =
-    let order : (nat_lt c.number t.routers.next || nat_le c.end c.number) ≡ is_out_of_order (λ k. c.end) kind.Router c.number s =
-    ap (λ (rows : Table Router). nat_lt c.number rows.next || nat_le c.end c.number) (sym of.routers) in
-    let taken : is_some (number_of kind.Router r.name t) ≡ is_name_taken kind.Router r s =
-    ap (λ (rows : Table Router). is_some (router_named rows.rows r.name)) (sym of.routers) in
-    let full : not (has_attribute_room t [] r.attributes) ≡ attributes_full (joined kind.Router c.number r s) =
-    full_where_no_room t s r.attributes (joined kind.Router c.number r s) of (joined_router c.number r s) in
-    let many : has_one_too_many kind.Router r.attributes t ≡ is_one_too_many kind.Router c.number r s =
-    ap (λ n. nat_le 256 n || not (has_attribute_room t [] r.attributes)) (length-map t.routers.rows (λ row. (row.0, record { name = row.1.name; attributes = row.1.attributes })))
-    ∙ ap (λ (rows : Table Router). nat_le 256 (length rows.rows) || not (has_attribute_room t [] r.attributes)) (sym of.routers)
-    ∙ ap (λ b. nat_le 256 (length s.routers.rows) || b) full in
-    λ i. flaw_if (order i) OutOfOrder (flaw_if (not (sound i)) NoRecord (flaw_if (taken i) NameTaken (flaw_if (many i) TooMany None)))
+told_as_is : (k : Kind) (c : Coming) (r : Record k) (t : Tables) (s : State) (sound full : Bool) → is_entity_kind k ≡ true
+    → told_by k c r t (length (entities k t)) sound full ≡ is_by k c r (with_entities t s) sound full
+told_as_is kind.Identity c e t s sound full is = refl
+told_as_is kind.Service c e t s sound full is = refl
+told_as_is kind.Router c r t s sound full is =
+    ap (λ count. told_by kind.Router c r t count sound full) (length-map t.routers.rows (λ row. (row.0, as_entity row.1)))
+told_as_is _ c r t s sound full is = absurd (false≢true is)
+
+-- The flaw that a store of entities tells is the one in the state that has them.
+pub told_flaw : (k : Kind) (c : Coming) (r : Record k) (t : Tables) (s : State) → is_entity_kind k ≡ true → AreEntitiesOf t s → c.sound ≡ is_sound k r
+    → entity_flaw k c (record_name k r) (attributes_of k r) t ≡ flaw_of (λ j. c.end) k c.number r s
+told_flaw k c r t s is of sound =
+    let around_t = with_entities t s in
+    let full_told = not (has_attribute_room t [] (attributes_of k r)) in
+    subst (λ (q : State). entity_flaw k c (record_name k r) (attributes_of k r) t ≡ flaw_of (λ j. c.end) k c.number r q) (around t s of)
+    (told_as_is k c r t s c.sound full_told is ∙ ap₂ (is_by k c r around_t) sound (full_where_no_room k c.number r t s is of.held))

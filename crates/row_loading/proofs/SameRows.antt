@@ -10,12 +10,13 @@ use Rattle.row_codec.specs.declared.rows.Row.{Row}
 use Rattle.row_codec.specs.declared.rows.Row.TheVariants as row
 use Rattle.row_codec.specs.declared.changes.Op.{Op}
 use Rattle.row_codec.specs.declared.changes.Op.TheVariants.{Put, Delete}
-use Rattle.row_codec.specs.RowKeys.{Key, is_key, is_long}
+use Rattle.row_codec.specs.RowKeys.{Key, is_long}
 use Rattle.row_codec.specs.RowValues.{long}
 use Rattle.row_codec.specs.RowForm.{is_row, key_of, value_of, policy_of, is_positive}
 use Rattle.row_laws.proofs.SpelledValues.{long_same, first_same, same_record}
 use Rattle.row_laws.proofs.SameStates.{key_same}
 use Rattle.row_loading.specs.LoadedRows.{put_of}
+use Rattle.row_loading.proofs.ReadRows.{is_key-key_of}
 
 -- ---- numbers in rows
 
@@ -93,39 +94,6 @@ same_form (row.ServiceRouter a b c) (row.ServiceRouter a' b' c') h g e f =
     let same = same_count (is_long a.0) (is_long b.0) (is_long a'.0) (is_long b'.0) c c' h g f in λ i. row.ServiceRouter (record { 0 = (e i).1 }) (record { 0 = (e i).2 }) (same i)
 same_form x y h g e f = absurd (apart (key_of x).0 (key_of y).0 refl (ap (λ (k : Key). k.0) e))
 
--- ---- the key of a row is one
-
-record_key : (a b : Bool) → (a && b) ≡ true → (a && true) ≡ true
-record_key true b h = refl
-record_key false b h = h
-
-pair_key : (a b c : Bool) → (a && (b && c)) ≡ true → (a && b) ≡ true
-pair_key true true c h = refl
-pair_key true false c h = h
-pair_key false b c h = h
-
-next_key : (a b c : Bool) → ((a && b) && c) ≡ true → (a && (b && true)) ≡ true
-next_key true true c h = refl
-next_key true false c h = h
-next_key false b c h = h
-
-pub is_key-row : (x : Row) → is_row x ≡ true → is_key (key_of x) ≡ true
-is_key-row (row.Next k n) h = next_key (nat_le 1 k) (nat_le k 9) (nat_lt 1 n && is_long n) h
-is_key-row (row.Setting c) h = refl
-is_key-row (row.Identity n a b) h = record_key (is_long n.0) _ h
-is_key-row (row.Service n a b) h = record_key (is_long n.0) _ h
-is_key-row (row.Router n a b c t o) h = record_key (is_long n.0) _ h
-is_key-row (row.Link n name a b cost u v up) h = record_key (is_long n.0) _ h
-is_key-row (row.ServicePolicy n a r s x y) h = record_key (is_long n.0) _ h
-is_key-row (row.EdgeRouterPolicy n a s x y) h = record_key (is_long n.0) _ h
-is_key-row (row.ServiceEdgeRouterPolicy n a s x y) h = record_key (is_long n.0) _ h
-is_key-row (row.Terminator n s r o t c p) h = record_key (is_long n.0) _ h
-is_key-row (row.Circuit n a s t r ls) h = record_key (is_long n.0) _ h
-is_key-row (row.Dial a b c) h = pair_key (is_long a.0) (is_long b.0) (is_positive c) h
-is_key-row (row.Bind a b c) h = pair_key (is_long a.0) (is_long b.0) (is_positive c) h
-is_key-row (row.IdentityRouter a b c) h = pair_key (is_long a.0) (is_long b.0) (is_positive c) h
-is_key-row (row.ServiceRouter a b c) h = pair_key (is_long a.0) (is_long b.0) (is_positive c) h
-
 -- ---- rows that are put by the same changes
 
 -- the key that a change names, and the value that it puts
@@ -139,7 +107,7 @@ op_value (Delete key) = []
 
 pub same_row : (x y : Row) → is_row x ≡ true → is_row y ≡ true → put_of x ≡ put_of y → x ≡ y
 same_row x y h g e =
-    same_form x y h g (key_same (key_of x) (key_of y) (is_key-row x h) (is_key-row y g) (ap op_key e)) (ap op_value e)
+    same_form x y h g (key_same (key_of x) (key_of y) (is_key-key_of x h) (is_key-key_of y g) (ap op_key e)) (ap op_value e)
 
 pub same_rows : (xs ys : List Row) → list_all is_row xs ≡ true → list_all is_row ys ≡ true → map put_of xs ≡ map put_of ys → xs ≡ ys
 same_rows [] [] h g e = refl

@@ -1,10 +1,11 @@
-use Rattle.std.proofs.Common.{List, [], ◌∷◌, sym, ◌∙◌, ap, subst}
+use Rattle.std.proofs.Common.{List, [], ◌∷◌, IfSome, sym, ◌∙◌, ap, subst}
 use Rattle.std.proofs.lemmas.Result.{IfOk-weaker}
 use Rattle.std.specs.Option.{option_map}
 use Rattle.entity_store.specs.EntityChanges.{after_entity_change}
 use Rattle.record_tables.specs.AfterChange.{changed_by}
 use Rattle.row_codec.specs.declared.changes.Change.{Change}
 use Rattle.row_codec.specs.CoveredTables.{Covers}
+use Rattle.entity_commands.specs.EntityChanges.{CanChangeEntities}
 use Rattle.entity_commands.specs.EntityRows.{Has}
 use Rattle.entity_commands.proofs.RowLaws.{same_covers, touched_covers}
 use Rattle.entity_commands.proofs.rows.entity_changes.Goals as goal
@@ -19,6 +20,7 @@ pub returns-in_ok-made-in-Some : goal.returns-in_ok-made-in-Some
 returns-in_ok-made-in-Some c =
     let t = c.args.entities.now in
     let made = c.in_ok-made-in-Some.ensures in
+    let can = subst (λ o. IfSome o (λ d. CanChangeEntities d.now t)) c.in-Some.is c.requires.can in
     IfOk-weaker c.one_change.result _ _ (λ changes e s u before after.
     let there = subst (λ o. Has (changed_by after_entity_change (option_map (λ d. d.now) o) t) u) c.in-Some.is after in
-    subst (λ (cs : List Change). Covers 3 6 s u cs) (sym (e ∙ ap (λ (x : Change). x ∷ []) made.made)) (touched_covers s u t c.in-Some.change.now before there made.long made.entity)) c.one_change.ensures
+    subst (λ (cs : List Change). Covers 3 6 s u cs) (sym (e ∙ ap (λ (x : Change). x ∷ []) made.made)) (touched_covers s u t c.in-Some.change.now can before there made.long made.entity)) c.one_change.ensures
