@@ -96,7 +96,7 @@ module _ (k : Kind) (c : Coming) (r : Record k) where
       flaw_if (nat_lt c.number (next_of k t) || nat_le c.end c.number) OutOfOrder
       (flaw_if (not sound) NoRecord
       (flaw_if (is_some (number_of k (record_name k r) t)) NameTaken
-      (flaw_if (nat_le (most_of k) count || full) TooMany None)))
+      (flaw_if (nat_le (limit k) count || full) TooMany None)))
 
   abbrev is_by : State → Bool → Bool → Option Flaw
   is_by s sound full =
