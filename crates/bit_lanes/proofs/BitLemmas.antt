@@ -1,4 +1,4 @@
--- From bits to words, and back.
+-- From what the calls mean to what is tested at each place, and back.
 use Rattle.std.proofs.Common.{◌≡◌, ℕ, ◌+◌, ◌*◌, ◌/◌, ◌%◌, ◌^◌, ◌<◌, ◌≤◌, ◌↔◌, ◌≢◌, min, Bool, true, false, List, length, get_or, refl, sym, ap, ap₂, ◌==◌, ◌∙◌, inl, inr, arith, bit_and, IsTrue, not, w64}
 use Rattle.std.specs.Bool.{OnTrue, OnFalse}
 use Rattle.std.specs.Int.{bit_at, trailing_zeros}

@@ -22,9 +22,8 @@ pub fn worked_rows()
     ensures some_of_nothing { Meets false (5 ∷ []) (0 ∷ []) → ⊥ }
 {}
 
-/// Columns of costs over steps: what a place costs is at most the step's cost and what its end costs, or is not. The second
-/// sum of the first columns is an equality. An absent number, the greatest one, is at most an absent one alone, and everything
-/// is at most it.
+/// Sums near the greatest number, and columns of three places, of which the second one just holds: with 1 more on its left side
+/// it does not. An absent number is at most an absent sum alone, and every number is at most that.
 pub fn worked_columns()
     ensures sum { together 21 21 ≡ 42 }
     ensures over_absent { together 21 absent ≡ absent }

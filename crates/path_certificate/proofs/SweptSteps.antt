@@ -1,6 +1,7 @@
 -- Columns that grow by a place, and what their sweep says of the steps.
 use Rattle.std.proofs.Common.{◌≡◌, ℕ, zero, suc, ◌+◌, ◌<◌, ◌≤◌, ◌↔◌, Bool, true, false, not, List, [], ◌∷◌, ◌++◌, length, get_or, set, take, refl, sym, ap, ◌∙◌, subst, arith, inl, inr}
 use Rattle.std.specs.List.{list_all}
+use Rattle.std.proofs.Math.Seq.{get_or-append_seam}
 use Rattle.std.specs.Cmp.{both_ways}
 use Rattle.std.proofs.lemmas.Bool.{and_parts, and_from, not-true, false_from_ne_true}
 use Rattle.std.proofs.lemmas.Bool.Decides.{leb_tells}
@@ -9,10 +10,7 @@ use Rattle.std.proofs.lemmas.List.Folds.{list_all_more}
 use Rattle.bit_lanes.specs.Lanes.{Sweeps, together}
 
 at_end : (xs : List ℕ) (y n : ℕ) → length xs ≡ n → get_or (xs ++ y ∷ []) n 0 ≡ y
-at_end [] y zero e = refl
-at_end [] y (suc n) e = absurd (omega arith)
-at_end (x ∷ xs) y zero e = absurd (omega arith)
-at_end (x ∷ xs) y (suc n) e = at_end xs y n (omega arith)
+at_end xs y n e = ap (λ k. get_or (xs ++ y ∷ []) k 0) (sym e) ∙ get_or-append_seam xs y [] 0
 
 -- columns with a place more hold where they did before and the place does
 swept_append : (ls cs rs : List ℕ) (l c r : ℕ) → length cs ≡ length ls → length rs ≡ length ls
