@@ -1,9 +1,13 @@
 -- A valid state stays valid: each command's own law, put together for every command that some body spells.
-use Rattle.std.proofs.Common.{◌≡◌, true, false, ◌&&◌, Option, None, Some, refl}
-use Rattle.std.proofs.lemmas.Bool.{and_parts}
+use Rattle.std.proofs.Common.{◌≡◌, ℕ, List, true, false, ◌&&◌, Option, None, Some, refl}
+use Rattle.std.proofs.lemmas.Bool.{and_parts, and_from}
 use Rattle.ctrl_model.specs.declared.commands.Command.{Command}
 use Rattle.ctrl_model.specs.declared.commands.Command.TheVariants as command
+use Rattle.ctrl_model.specs.declared.kinds.Kind.{Kind}
 use Rattle.ctrl_model.specs.declared.kinds.Kind.TheVariants as kind
+use Rattle.ctrl_model.specs.declared.kinds.Relation.{Relation}
+use Rattle.ctrl_model.specs.declared.kinds.Semantic.{Semantic}
+use Rattle.ctrl_model.specs.declared.kinds.Side.{Side}
 use Rattle.ctrl_model.specs.declared.kinds.Who.{Who}
 use Rattle.ctrl_model.specs.declared.refusals.Field.TheVariants as field
 use Rattle.ctrl_model.specs.declared.kinds.Relation.TheVariants.{IdentityRouter, ServiceRouter}
@@ -23,7 +27,7 @@ use Rattle.ctrl_model.specs.PolicyCommands.{replaced_by}
 use Rattle.ctrl_model.specs.CircuitCommands.{ask_of, explain}
 use Rattle.ctrl_model.specs.Permitted.{is_permitted}
 use Rattle.ctrl_model.specs.Controller.{policy, carry, answer}
-use Rattle.ctrl_model.specs.ValidState.{ValidState}
+use Rattle.ctrl_model.specs.ValidState.{ValidState, may_relate, is_valid_policy_in}
 use Rattle.model_laws.proofs.RefusalLaws.{cond-holds, decided-holds}
 use Rattle.model_laws.proofs.RecordCommandLaws.{create-valid, delete-valid, update-valid, update_identity-valid, update_service-valid, update_router-valid, mark_router-valid, policy-valid, policy_in-valid, replaced_in-valid}
 use Rattle.model_laws.proofs.LinkCommandLaws.{create_link-valid, set_link_cost-valid, report_latency-valid, report_state-valid, set_least_router_cost-valid}
@@ -37,6 +41,21 @@ shown-valid (Some r) s reply v = v
 
 explain-valid : (ask : Ask) (s : State) → ValidState s → ValidState (explain ask s).1
 explain-valid ask s v = decided-holds (λ a. ValidState a.1) (first_rule (network_of s) ask) (best (network_of s) ask) (λ d. (Refused (Denied d), s)) _ (λ d. v) (λ c none. v)
+
+-- a policy of a command is valid in a state that has the names of its sides
+policy-fits : (k : Kind) (name : List ℕ) (relation : Relation) (semantic : Semantic) (left right : Side) (s : State) → (is_name name && (is_side left && is_side right)) ≡ true
+    → may_relate k relation ≡ true → absent_names k (policy name relation semantic left right) s ≡ None → is_valid_policy_in k s (policy name relation semantic left right) ≡ true
+policy-fits k name relation semantic left right s e related none =
+    let named = and_parts (is_name name) (is_side left && is_side right) e in
+    policy_in-valid k (policy name relation semantic left right) s (policy-valid name relation semantic left right named.0 named.1) related none
+
+-- the relation of a service policy, and the rest
+service_parts : (name : List ℕ) (relation : Relation) (left right : Side) → (is_name name && (is_service_relation relation && (is_side left && is_side right))) ≡ true
+    → (is_service_relation relation ≡ true) × ((is_name name && (is_side left && is_side right)) ≡ true)
+service_parts name relation left right e =
+    let named = and_parts (is_name name) (is_service_relation relation && (is_side left && is_side right)) e in
+    let related = and_parts (is_service_relation relation) (is_side left && is_side right) named.1 in
+    (related.0, and_from (is_name name) (is_side left && is_side right) named.0 related.1)
 
 carry-valid : (c : Command) (s : State) → is_spelled c ≡ true → ValidState s → ValidState (carry c s).1
 carry-valid command.Hello s e v = v
@@ -54,30 +73,24 @@ carry-valid (command.DeleteRouter name) s e v = delete-valid kind.Router field.N
 carry-valid (command.ConnectRouter name) s e v = mark_router-valid name true s v
 carry-valid (command.DisconnectRouter name) s e v = mark_router-valid name false s v
 carry-valid (command.CreateServicePolicy name relation semantic left right) s e v =
-    let named = and_parts (is_name name) (is_service_relation relation && (is_side left && is_side right)) e in
-    let related = and_parts (is_service_relation relation) (is_side left && is_side right) named.1 in
-    create-valid kind.ServicePolicy (policy name relation semantic left right) s (λ none. policy_in-valid kind.ServicePolicy (policy name relation semantic left right) s (policy-valid name relation semantic left right named.0 related.1) related.0 none) v
+    let parts = service_parts name relation left right e in
+    create-valid kind.ServicePolicy (policy name relation semantic left right) s (policy-fits kind.ServicePolicy name relation semantic left right s parts.1 parts.0) v
 carry-valid (command.UpdateServicePolicy name relation semantic left right) s e v =
-    let named = and_parts (is_name name) (is_service_relation relation && (is_side left && is_side right)) e in
-    let related = and_parts (is_service_relation relation) (is_side left && is_side right) named.1 in
+    let parts = service_parts name relation left right e in
     update-valid kind.ServicePolicy name (replaced_by (policy name relation semantic left right)) (absent_names kind.ServicePolicy (policy name relation semantic left right) s) s (λ q. refl)
-    (λ none q t. replaced_in-valid kind.ServicePolicy (policy name relation semantic left right) q s (policy_in-valid kind.ServicePolicy (policy name relation semantic left right) s (policy-valid name relation semantic left right named.0 related.1) related.0 none) t) v
+    (λ none q t. replaced_in-valid kind.ServicePolicy (policy name relation semantic left right) q s (policy-fits kind.ServicePolicy name relation semantic left right s parts.1 parts.0 none) t) v
 carry-valid (command.DeleteServicePolicy name) s e v = delete-valid kind.ServicePolicy field.Name name s v
 carry-valid (command.CreateEdgeRouterPolicy name semantic left right) s e v =
-    let named = and_parts (is_name name) (is_side left && is_side right) e in
-    create-valid kind.EdgeRouterPolicy (policy name IdentityRouter semantic left right) s (λ none. policy_in-valid kind.EdgeRouterPolicy (policy name IdentityRouter semantic left right) s (policy-valid name IdentityRouter semantic left right named.0 named.1) refl none) v
+    create-valid kind.EdgeRouterPolicy (policy name IdentityRouter semantic left right) s (policy-fits kind.EdgeRouterPolicy name IdentityRouter semantic left right s e refl) v
 carry-valid (command.UpdateEdgeRouterPolicy name semantic left right) s e v =
-    let named = and_parts (is_name name) (is_side left && is_side right) e in
     update-valid kind.EdgeRouterPolicy name (replaced_by (policy name IdentityRouter semantic left right)) (absent_names kind.EdgeRouterPolicy (policy name IdentityRouter semantic left right) s) s (λ q. refl)
-    (λ none q t. replaced_in-valid kind.EdgeRouterPolicy (policy name IdentityRouter semantic left right) q s (policy_in-valid kind.EdgeRouterPolicy (policy name IdentityRouter semantic left right) s (policy-valid name IdentityRouter semantic left right named.0 named.1) refl none) t) v
+    (λ none q t. replaced_in-valid kind.EdgeRouterPolicy (policy name IdentityRouter semantic left right) q s (policy-fits kind.EdgeRouterPolicy name IdentityRouter semantic left right s e refl none) t) v
 carry-valid (command.DeleteEdgeRouterPolicy name) s e v = delete-valid kind.EdgeRouterPolicy field.Name name s v
 carry-valid (command.CreateServiceEdgeRouterPolicy name semantic left right) s e v =
-    let named = and_parts (is_name name) (is_side left && is_side right) e in
-    create-valid kind.ServiceEdgeRouterPolicy (policy name ServiceRouter semantic left right) s (λ none. policy_in-valid kind.ServiceEdgeRouterPolicy (policy name ServiceRouter semantic left right) s (policy-valid name ServiceRouter semantic left right named.0 named.1) refl none) v
+    create-valid kind.ServiceEdgeRouterPolicy (policy name ServiceRouter semantic left right) s (policy-fits kind.ServiceEdgeRouterPolicy name ServiceRouter semantic left right s e refl) v
 carry-valid (command.UpdateServiceEdgeRouterPolicy name semantic left right) s e v =
-    let named = and_parts (is_name name) (is_side left && is_side right) e in
     update-valid kind.ServiceEdgeRouterPolicy name (replaced_by (policy name ServiceRouter semantic left right)) (absent_names kind.ServiceEdgeRouterPolicy (policy name ServiceRouter semantic left right) s) s (λ q. refl)
-    (λ none q t. replaced_in-valid kind.ServiceEdgeRouterPolicy (policy name ServiceRouter semantic left right) q s (policy_in-valid kind.ServiceEdgeRouterPolicy (policy name ServiceRouter semantic left right) s (policy-valid name ServiceRouter semantic left right named.0 named.1) refl none) t) v
+    (λ none q t. replaced_in-valid kind.ServiceEdgeRouterPolicy (policy name ServiceRouter semantic left right) q s (policy-fits kind.ServiceEdgeRouterPolicy name ServiceRouter semantic left right s e refl none) t) v
 carry-valid (command.DeleteServiceEdgeRouterPolicy name) s e v = delete-valid kind.ServiceEdgeRouterPolicy field.Name name s v
 carry-valid (command.CreateLink name a b cost latency_a latency_b) s e v =
     let named = and_parts (is_name name) _ e in

@@ -165,6 +165,12 @@ Covers-records k s t ns h climbs fits same =
 
 -- ---- counts
 
+pub pair_key : (r : Relation) (p : ℕ × ℕ) → (is_long p.0 && is_long p.1) ≡ true → is_key (key_in (Counts r) p.0 p.1) ≡ true
+pair_key Dial p h = h
+pair_key Bind p h = h
+pair_key IdentityRouter p h = h
+pair_key ServiceRouter p h = h
+
 pub Covers-counts : (r : Relation) (s t : State) (pairs : List (ℕ × ℕ)) → Rises pair_cmp (map (λ p. (p, p)) pairs) → list_all (λ p. is_long p.0 && is_long p.1) pairs ≡ true
     → ((p : ℕ × ℕ) → (Among p pairs → ⊥) → count r s p.0 p.1 ≡ count r t p.0 p.1)
     → Covers (table_number (Counts r)) (table_number (Counts r) + 1) s t (count_changes r s t pairs)
@@ -174,12 +180,6 @@ Covers-counts r s t pairs rises fits same =
   where
     f : ℕ × ℕ → Key
     f p = key_in (Counts r) p.0 p.1
-
-    pair_key : (r : Relation) (p : ℕ × ℕ) → (is_long p.0 && is_long p.1) ≡ true → is_key (key_in (Counts r) p.0 p.1) ≡ true
-    pair_key Dial p h = h
-    pair_key Bind p h = h
-    pair_key IdentityRouter p h = h
-    pair_key ServiceRouter p h = h
 
     order : (p q : ℕ × ℕ) → pair_cmp p q ≡ Less → key_cmp (f p) (f q) ≡ Less
     order p q h = ap (λ c. ordering_then c (pair_cmp p q)) (nat_cmp-equal (table_number (Counts r)) (table_number (Counts r)) refl) ∙ h

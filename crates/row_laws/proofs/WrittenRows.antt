@@ -28,6 +28,7 @@ use Rattle.row_laws.proofs.RisingRows.{All-flat_map, All-more, All-among, All-te
 use Rattle.row_laws.proofs.RisingStates.{IsNumbered}
 use Rattle.row_laws.proofs.SpelledKeys.{AreKeys}
 use Rattle.row_laws.proofs.TableRows.{has_number}
+use Rattle.row_laws.proofs.TouchedKeys.{pair_key}
 use Rattle.row_laws.specs.FittingRecords.{fits}
 use Rattle.row_laws.proofs.WrittenRecords.{listed_fits, record_fits}
 
@@ -160,6 +161,10 @@ hosts_back (Some n) = refl
 fit_number : (n : ℕ) → is_long n ≡ true → (is_long n && true) ≡ true
 fit_number n h = and_from (is_long n) true h refl
 
+-- what holds without the third
+without_third : (l m r x : Bool) → l ≡ true → (m && (r && x)) ≡ true → (l && (m && x)) ≡ true
+without_third l m r x h f = let parts = and_parts m (r && x) f in and_from l _ h (and_from m x parts.0 (and_parts r x parts.1).1)
+
 pub written_record : (k : Kind) (n : ℕ) (r : Record k) → has_number (Records k) ≡ true → is_long n ≡ true → fits k r ≡ true → Written ((kind_number k + 2, n, 0), record_value k r)
 written_record kind.Identity n e has h f = record {
   under_key = fit_number n h;
@@ -191,30 +196,18 @@ written_record kind.ServicePolicy n p has h f = record {
   spells = record { form = and_from (is_long n) _ h f; key_is = refl; value_is = refl };
   short_value = short_record kind.ServicePolicy p f;
 }
-written_record kind.EdgeRouterPolicy n p has h f =
-    let parts = and_parts (is_name p.name) _ f in
-    record {
-      under_key = fit_number n h;
-      form = row.EdgeRouterPolicy (record { 0 = n }) p.name p.semantic p.left p.right;
-      spells = record {
-        form = and_from (is_long n) _ h (and_from (is_name p.name) _ parts.0 (and_parts (may_relate kind.EdgeRouterPolicy p.relation) _ parts.1).1);
-        key_is = refl;
-        value_is = refl;
-      };
-      short_value = short_record kind.EdgeRouterPolicy p f;
-    }
-written_record kind.ServiceEdgeRouterPolicy n p has h f =
-    let parts = and_parts (is_name p.name) _ f in
-    record {
-      under_key = fit_number n h;
-      form = row.ServiceEdgeRouterPolicy (record { 0 = n }) p.name p.semantic p.left p.right;
-      spells = record {
-        form = and_from (is_long n) _ h (and_from (is_name p.name) _ parts.0 (and_parts (may_relate kind.ServiceEdgeRouterPolicy p.relation) _ parts.1).1);
-        key_is = refl;
-        value_is = refl;
-      };
-      short_value = short_record kind.ServiceEdgeRouterPolicy p f;
-    }
+written_record kind.EdgeRouterPolicy n p has h f = record {
+  under_key = fit_number n h;
+  form = row.EdgeRouterPolicy (record { 0 = n }) p.name p.semantic p.left p.right;
+  spells = record { form = without_third (is_long n) (is_name p.name) (may_relate kind.EdgeRouterPolicy p.relation) _ h f; key_is = refl; value_is = refl };
+  short_value = short_record kind.EdgeRouterPolicy p f;
+}
+written_record kind.ServiceEdgeRouterPolicy n p has h f = record {
+  under_key = fit_number n h;
+  form = row.ServiceEdgeRouterPolicy (record { 0 = n }) p.name p.semantic p.left p.right;
+  spells = record { form = without_third (is_long n) (is_name p.name) (may_relate kind.ServiceEdgeRouterPolicy p.relation) _ h f; key_is = refl; value_is = refl };
+  short_value = short_record kind.ServiceEdgeRouterPolicy p f;
+}
 written_record kind.Terminator n t has h f =
     let hosts = hosts_back t.host in
     record {
@@ -236,29 +229,24 @@ written_record kind.Circuit n c has h f = record {
 }
 written_record kind.Attribute n u has h f = absurd (false≢true has)
 
+-- the row of a count, which spells it
+abbrev count_row : Relation → ℕ → ℕ → ℕ → Row
+count_row Dial a b c = row.Dial (record { 0 = a }) (record { 0 = b }) c
+count_row Bind a b c = row.Bind (record { 0 = a }) (record { 0 = b }) c
+count_row IdentityRouter a b c = row.IdentityRouter (record { 0 = a }) (record { 0 = b }) c
+count_row ServiceRouter a b c = row.ServiceRouter (record { 0 = a }) (record { 0 = b }) c
+
+count_spells : (r : Relation) (a b c : ℕ) → (is_long a && (is_long b && is_positive c)) ≡ true → SpellsRow (key_bytes (table_number (Counts r), a, b)) (long c) (count_row r a b c)
+count_spells Dial a b c e = record { form = e; key_is = refl; value_is = refl }
+count_spells Bind a b c e = record { form = e; key_is = refl; value_is = refl }
+count_spells IdentityRouter a b c e = record { form = e; key_is = refl; value_is = refl }
+count_spells ServiceRouter a b c e = record { form = e; key_is = refl; value_is = refl }
+
 written_count : (r : Relation) (a b c : ℕ) → is_long a ≡ true → is_long b ≡ true → is_positive c ≡ true → Written ((table_number (Counts r), a, b), long c)
-written_count Dial a b c h k p = record {
-  under_key = and_from (is_long a) (is_long b) h k;
-  form = row.Dial (record { 0 = a }) (record { 0 = b }) c;
-  spells = record { form = and_from (is_long a) _ h (and_from (is_long b) _ k p); key_is = refl; value_is = refl };
-  short_value = omega arith;
-}
-written_count Bind a b c h k p = record {
-  under_key = and_from (is_long a) (is_long b) h k;
-  form = row.Bind (record { 0 = a }) (record { 0 = b }) c;
-  spells = record { form = and_from (is_long a) _ h (and_from (is_long b) _ k p); key_is = refl; value_is = refl };
-  short_value = omega arith;
-}
-written_count IdentityRouter a b c h k p = record {
-  under_key = and_from (is_long a) (is_long b) h k;
-  form = row.IdentityRouter (record { 0 = a }) (record { 0 = b }) c;
-  spells = record { form = and_from (is_long a) _ h (and_from (is_long b) _ k p); key_is = refl; value_is = refl };
-  short_value = omega arith;
-}
-written_count ServiceRouter a b c h k p = record {
-  under_key = and_from (is_long a) (is_long b) h k;
-  form = row.ServiceRouter (record { 0 = a }) (record { 0 = b }) c;
-  spells = record { form = and_from (is_long a) _ h (and_from (is_long b) _ k p); key_is = refl; value_is = refl };
+written_count r a b c h k p = record {
+  under_key = pair_key r (a, b) (and_from (is_long a) (is_long b) h k);
+  form = count_row r a b c;
+  spells = count_spells r a b c (and_from (is_long a) _ h (and_from (is_long b) _ k p));
   short_value = omega arith;
 }
 
