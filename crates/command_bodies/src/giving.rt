@@ -1,12 +1,12 @@
 ghost use Rattle.std.specs.Prelude.{◌≡◌, ◌∷◌, [], OnOk};
 ghost use Rattle.serde_json.specs.View.{members_view};
 ghost use Rattle.command_bodies.specs.CommandFields.{fields_of, entity_fields, router_fields, service_policy_fields, router_policy_fields, link_fields, terminator_fields, asked_fields, claim_fields};
-ghost use Rattle.command_bodies.specs.WrittenFields.{a_text, a_number, a_flag, with_fields};
+ghost use Rattle.command_bodies.specs.WrittenFields.{a_text, a_number, with_fields};
 ghost use Rattle.command_bodies.specs.WrittenWords.{precedence_word};
 
+use crate::listing::{names_value, numbers_value, reaches_value};
 use crate::putting::{
-    put_attributes, put_flag, put_instance, put_name, put_name_if_any, put_number, put_numbers,
-    put_potentials, put_side, put_text,
+    put_instance, put_name, put_name_if_any, put_number, put_side, put_text, put_value,
 };
 use crate::spelling::{precedence_word, relation_word, semantic_word};
 use ctrl_model::{
@@ -24,7 +24,8 @@ fn put_entity(
     ensures { OnOk result (members_view members.new.entries ≡ with_fields (entity_fields name.now attributes.now) (members_view members.old.entries)) }
 {
     put_name(alloc, members, Field::Name, name)?;
-    put_attributes(alloc, members, attributes)
+    let texts = names_value(alloc, attributes)?;
+    put_value(alloc, members, Field::Attributes, texts)
 }
 
 fn put_router(
@@ -39,7 +40,12 @@ fn put_router(
 {
     put_entity(alloc, members, name, attributes)?;
     put_number(alloc, members, Field::Cost, cost)?;
-    put_flag(alloc, members, Field::NoTraversal, no_traversal)
+    put_value(
+        alloc,
+        members,
+        Field::NoTraversal,
+        Value::Bool(no_traversal),
+    )
 }
 
 fn put_service_policy(
@@ -98,44 +104,17 @@ fn put_link(
     put_number(alloc, members, Field::LatencyB, latency_b)
 }
 
-fn put_link_cost(
-    alloc: Global,
-    members: &mut Map<String, Value>,
-    link: &Name,
-    cost: u32,
-) -> Result<(), AllocError>
-    ensures { OnOk result (members_view members.new.entries ≡ with_fields ((Field.Link, a_text link.now) ∷ (Field.Cost, a_number cost) ∷ []) (members_view members.old.entries)) }
-{
-    put_name(alloc, members, Field::Link, link)?;
-    put_number(alloc, members, Field::Cost, cost)
-}
-
-fn put_latency(
+// Puts the link and the router of one of its ends.
+fn put_link_end(
     alloc: Global,
     members: &mut Map<String, Value>,
     link: &Name,
     router: &Name,
-    latency: u32,
 ) -> Result<(), AllocError>
-    ensures { OnOk result (members_view members.new.entries ≡ with_fields ((Field.Link, a_text link.now) ∷ (Field.Router, a_text router.now) ∷ (Field.Latency, a_number latency) ∷ []) (members_view members.old.entries)) }
+    ensures { OnOk result (members_view members.new.entries ≡ with_fields ((Field.Link, a_text link.now) ∷ (Field.Router, a_text router.now) ∷ []) (members_view members.old.entries)) }
 {
     put_name(alloc, members, Field::Link, link)?;
-    put_name(alloc, members, Field::Router, router)?;
-    put_number(alloc, members, Field::Latency, latency)
-}
-
-fn put_state(
-    alloc: Global,
-    members: &mut Map<String, Value>,
-    link: &Name,
-    router: &Name,
-    up: bool,
-) -> Result<(), AllocError>
-    ensures { OnOk result (members_view members.new.entries ≡ with_fields ((Field.Link, a_text link.now) ∷ (Field.Router, a_text router.now) ∷ (Field.Up, a_flag up) ∷ []) (members_view members.old.entries)) }
-{
-    put_name(alloc, members, Field::Link, link)?;
-    put_name(alloc, members, Field::Router, router)?;
-    put_flag(alloc, members, Field::Up, up)
+    put_name(alloc, members, Field::Router, router)
 }
 
 fn put_terminator(
@@ -211,9 +190,19 @@ fn put_claim(
     ensures { OnOk result (members_view members.new.entries ≡ with_fields (claim_fields chosen.now links.now potentials.now routers.now terminator total) (members_view members.old.entries)) }
 {
     put_name(alloc, members, Field::Chosen, chosen)?;
-    put_numbers(alloc, members, Field::Links, links)?;
-    put_potentials(alloc, members, potentials)?;
-    put_numbers(alloc, members, Field::Routers, routers)?;
+    put_value(alloc, members, Field::Links, numbers_value(alloc, links)?)?;
+    put_value(
+        alloc,
+        members,
+        Field::Potentials,
+        reaches_value(alloc, potentials)?,
+    )?;
+    put_value(
+        alloc,
+        members,
+        Field::Routers,
+        numbers_value(alloc, routers)?,
+    )?;
     put_number(alloc, members, Field::Terminator, terminator)?;
     put_number(alloc, members, Field::Total, total)
 }
@@ -326,13 +315,22 @@ pub(crate) fn put_fields(
             latency_a,
             latency_b,
         } => put_link(alloc, members, name, a, b, *cost, *latency_a, *latency_b),
-        Command::SetLinkCost { link, cost } => put_link_cost(alloc, members, link, *cost),
+        Command::SetLinkCost { link, cost } => {
+            put_name(alloc, members, Field::Link, link)?;
+            put_number(alloc, members, Field::Cost, *cost)
+        }
         Command::ReportLatency {
             link,
             router,
             latency,
-        } => put_latency(alloc, members, link, router, *latency),
-        Command::ReportState { link, router, up } => put_state(alloc, members, link, router, *up),
+        } => {
+            put_link_end(alloc, members, link, router)?;
+            put_number(alloc, members, Field::Latency, *latency)
+        }
+        Command::ReportState { link, router, up } => {
+            put_link_end(alloc, members, link, router)?;
+            put_value(alloc, members, Field::Up, Value::Bool(*up))
+        }
         Command::DeleteLink { link } => put_name(alloc, members, Field::Link, link),
         Command::SetLeastRouterCost { cost } => put_number(alloc, members, Field::Cost, *cost),
         Command::CreateTerminator {

@@ -3,16 +3,16 @@ ghost use Rattle.serde_json.specs.Data.{put};
 ghost use Rattle.serde_json.specs.View.{view, members_view};
 ghost use Rattle.ctrl_model.specs.Words.{word_of};
 ghost use Rattle.command_bodies.specs.RoleEntries.{role_texts};
-ghost use Rattle.command_bodies.specs.WrittenFields.{a_text, a_number, a_flag, some_texts, some_numbers, some_reaches, with_field, with_fields, name_if_any};
+ghost use Rattle.command_bodies.specs.WrittenFields.{a_text, a_number, some_texts, with_field, with_fields, name_if_any};
 
-use crate::listing::{names_value, numbers_value, reaches_value, roles_value};
+use crate::listing::roles_value;
 use crate::spelling::{instance_text, name_text};
-use ctrl_model::{Field, Instance, Name, Names, Numbers, Reaches, Side};
+use ctrl_model::{Field, Instance, Name, Side};
 use serde_json::{Map, Value};
 use std::alloc::{AllocError, Global};
 
-// Puts a value under a field's word, beside what is there.
-fn put_value(
+/// Puts a value under a field's word, beside what is there.
+pub(crate) fn put_value(
     alloc: Global,
     members: &mut Map<String, Value>,
     field: Field,
@@ -84,28 +84,6 @@ pub(crate) fn put_number(
     put_value(alloc, members, field, Value::from(number))
 }
 
-pub(crate) fn put_flag(
-    alloc: Global,
-    members: &mut Map<String, Value>,
-    field: Field,
-    flag: bool,
-) -> Result<(), AllocError>
-    ensures { OnOk result (members_view members.new.entries ≡ with_field (field, a_flag flag) (members_view members.old.entries)) }
-{
-    put_value(alloc, members, field, Value::Bool(flag))
-}
-
-pub(crate) fn put_attributes(
-    alloc: Global,
-    members: &mut Map<String, Value>,
-    attributes: &Names,
-) -> Result<(), AllocError>
-    ensures { OnOk result (members_view members.new.entries ≡ with_field (Field.Attributes, some_texts attributes.now) (members_view members.old.entries)) }
-{
-    let value = names_value(alloc, attributes)?;
-    put_value(alloc, members, Field::Attributes, value)
-}
-
 pub(crate) fn put_side(
     alloc: Global,
     members: &mut Map<String, Value>,
@@ -116,27 +94,4 @@ pub(crate) fn put_side(
 {
     let value = roles_value(alloc, side)?;
     put_value(alloc, members, field, value)
-}
-
-pub(crate) fn put_numbers(
-    alloc: Global,
-    members: &mut Map<String, Value>,
-    field: Field,
-    numbers: &Numbers,
-) -> Result<(), AllocError>
-    ensures { OnOk result (members_view members.new.entries ≡ with_field (field, some_numbers numbers.now) (members_view members.old.entries)) }
-{
-    let value = numbers_value(alloc, numbers)?;
-    put_value(alloc, members, field, value)
-}
-
-pub(crate) fn put_potentials(
-    alloc: Global,
-    members: &mut Map<String, Value>,
-    potentials: &Reaches,
-) -> Result<(), AllocError>
-    ensures { OnOk result (members_view members.new.entries ≡ with_field (Field.Potentials, some_reaches potentials.now) (members_view members.old.entries)) }
-{
-    let value = reaches_value(alloc, potentials)?;
-    put_value(alloc, members, Field::Potentials, value)
 }

@@ -12,13 +12,15 @@ use Rattle.ctrl_model.specs.Tables.{Record, table}
 use Rattle.ctrl_model.specs.ValidState.{ValidState}
 use Rattle.ctrl_model.proofs.NumberedLaws.{same_numbered}
 use Rattle.ctrl_model.proofs.Members.{at-row}
-use Rattle.row_codec.specs.RowKeys.{Key, key_cmp, key_bytes, is_key, is_long}
+use Rattle.row_codec.specs.RowKeys.{Key, key_cmp, key_bytes, key_in, kind_number, is_key, is_long}
+use Rattle.row_codec.specs.RowKeys.RowTable.{Next, Records}
 use Rattle.row_codec.specs.RowValues.{long, record_value}
 use Rattle.row_codec.specs.RowDifference.{value_at}
 use Rattle.row_codec.specs.StateRows.{Rows, next_value, setting_value, rows_of, row_at}
 use Rattle.row_codec.specs.Batches.{bytes_cmp, spelled_rows}
 use Rattle.row_laws.proofs.KeyOrders.{key_exact, bytes_order, long_upto}
 use Rattle.row_laws.proofs.RowsAtKeys.{value_at-rows_of}
+use Rattle.row_laws.proofs.SpelledChanges.{row_at-next, row_at-record}
 use Rattle.row_laws.proofs.SpelledKeys.{AreKeys}
 use Rattle.row_laws.proofs.SpelledValues.{long_same, same_record, first_same}
 use Rattle.row_laws.proofs.WrittenRecords.{record_fits}
@@ -84,28 +86,25 @@ same_table k s t v w e f =
 
 pub same_from_keys : (s t : State) → ValidState s → ValidState t → ((key : Key) → row_at s key ≡ row_at t key) → s ≡ t
 same_from_keys s t v w e =
-    let identities = same_table kind.Identity s t v w (e (1, 1, 0)) (λ n. e (3, n, 0)) in
-    let services = same_table kind.Service s t v w (e (1, 2, 0)) (λ n. e (4, n, 0)) in
-    let routers = same_table kind.Router s t v w (e (1, 3, 0)) (λ n. e (5, n, 0)) in
-    let links = same_table kind.Link s t v w (e (1, 4, 0)) (λ n. e (6, n, 0)) in
-    let service_policies = same_table kind.ServicePolicy s t v w (e (1, 5, 0)) (λ n. e (7, n, 0)) in
-    let edge_router_policies = same_table kind.EdgeRouterPolicy s t v w (e (1, 6, 0)) (λ n. e (8, n, 0)) in
-    let service_edge_router_policies = same_table kind.ServiceEdgeRouterPolicy s t v w (e (1, 7, 0)) (λ n. e (9, n, 0)) in
-    let terminators = same_table kind.Terminator s t v w (e (1, 8, 0)) (λ n. e (10, n, 0)) in
-    let circuits = same_table kind.Circuit s t v w (e (1, 9, 0)) (λ n. e (11, n, 0)) in
     let cost = setting_same s.least_router_cost t.least_router_cost (setting_fits s v) (setting_fits t w) (e (2, 0, 0)) in
     λ i. record {
-      identities = identities i;
-      services = services i;
-      routers = routers i;
-      links = links i;
-      service_policies = service_policies i;
-      edge_router_policies = edge_router_policies i;
-      service_edge_router_policies = service_edge_router_policies i;
-      terminators = terminators i;
-      circuits = circuits i;
+      identities = same kind.Identity refl i;
+      services = same kind.Service refl i;
+      routers = same kind.Router refl i;
+      links = same kind.Link refl i;
+      service_policies = same kind.ServicePolicy refl i;
+      edge_router_policies = same kind.EdgeRouterPolicy refl i;
+      service_edge_router_policies = same kind.ServiceEdgeRouterPolicy refl i;
+      terminators = same kind.Terminator refl i;
+      circuits = same kind.Circuit refl i;
       least_router_cost = cost i;
     }
+  where
+    same : (k : Kind) → nat_le 1 (kind_number k) ≡ true → table k s ≡ table k t
+    same k h =
+        let one = leb-true 1 (kind_number k) h in
+        same_table k s t v w (sym (row_at-next k s one) ∙ e (key_in Next (kind_number k) 0) ∙ row_at-next k t one)
+        (λ n. sym (row_at-record k s n one) ∙ e (key_in (Records k) n 0) ∙ row_at-record k t n one)
 
 pub same_from_rows : (s t : State) → ValidState s → ValidState t → rows_of s ≡ rows_of t → s ≡ t
 same_from_rows s t v w e =

@@ -1,33 +1,27 @@
 -- The row of a state at a key, table by table: which table a key lies in, and that no key elsewhere has a row.
-use Rattle.std.proofs.Common.{◌≡◌, ℕ, ◌+◌, ◌<◌, ◌≤◌, ◌==◌, Bool, true, false, find, Option, None, Some, option_and_then, refl, ◌∙◌, ap, arith, eqb-true}
+use Rattle.std.proofs.Common.{◌≡◌, ℕ, ◌+◌, ◌<◌, ◌≤◌, ◌==◌, ◌&&◌, nat_le, nat_lt, Bool, true, false, find, Option, None, Some, option_and_then, refl, ◌∙◌, ap, arith, eqb-true, leb-true, ltb-true}
+use Rattle.std.proofs.lemmas.Bool.{and_parts}
 use Rattle.ctrl_model.specs.declared.kinds.Kind.{Kind}
 use Rattle.ctrl_model.specs.declared.kinds.Kind.TheVariants as kind
 use Rattle.ctrl_model.specs.declared.kinds.Relation.TheVariants.{Dial, Bind, IdentityRouter, ServiceRouter}
+use Rattle.ctrl_model.specs.Membership.{Among}
 use Rattle.ctrl_model.specs.State.{State}
-use Rattle.ctrl_model.proofs.Members.{find_passes}
+use Rattle.ctrl_model.proofs.Members.{find_passes, find_among, each_among}
 use Rattle.row_codec.specs.RowKeys.{RowTable, Key, kind_number, table_number, tables}
 use Rattle.row_codec.specs.RowKeys.RowTable.{Next, Setting, Records, Counts}
 use Rattle.row_codec.specs.StateRows.{row_in, row_at}
 use Rattle.row_codec.specs.CoveredTables.{LiesIn}
+use Rattle.row_laws.proofs.RisingRows.{All-tested}
 
 -- the numbers of tables are 1 to 15
-table_within : (t : RowTable) → (1 ≤ table_number t) × (table_number t < 16)
-table_within Next = (omega arith, omega arith)
-table_within Setting = (omega arith, omega arith)
-table_within (Records kind.Identity) = (omega arith, omega arith)
-table_within (Records kind.Service) = (omega arith, omega arith)
-table_within (Records kind.Router) = (omega arith, omega arith)
-table_within (Records kind.Link) = (omega arith, omega arith)
-table_within (Records kind.ServicePolicy) = (omega arith, omega arith)
-table_within (Records kind.EdgeRouterPolicy) = (omega arith, omega arith)
-table_within (Records kind.ServiceEdgeRouterPolicy) = (omega arith, omega arith)
-table_within (Records kind.Terminator) = (omega arith, omega arith)
-table_within (Records kind.Circuit) = (omega arith, omega arith)
-table_within (Records kind.Attribute) = (omega arith, omega arith)
-table_within (Counts Dial) = (omega arith, omega arith)
-table_within (Counts Bind) = (omega arith, omega arith)
-table_within (Counts IdentityRouter) = (omega arith, omega arith)
-table_within (Counts ServiceRouter) = (omega arith, omega arith)
+table_within : (t : RowTable) → Among t tables → (1 ≤ table_number t) × (table_number t < 16)
+table_within t m =
+    let all = All-tested within tables refl in
+    let both = and_parts (nat_le 1 (table_number t)) (nat_lt (table_number t) 16) (each_among (λ u. within u ≡ true) tables t all m) in
+    (leb-true 1 (table_number t) both.0, ltb-true (table_number t) 16 both.1)
+  where
+    within : RowTable → Bool
+    within u = nat_le 1 (table_number u) && nat_lt (table_number u) 16
 
 -- a key that lies in no table has no row
 pub row_at-outside : (s : State) (q : Key) → (LiesIn 1 16 q → ⊥) → row_at s q ≡ None
@@ -37,7 +31,7 @@ row_at-outside s q out = by (find (λ t. table_number t == q.0) tables) refl
     by None e = refl
     by (Some t) e =
         let same = eqb-true (table_number t) q.0 (find_passes (λ t. table_number t == q.0) tables t e) in
-        let within = table_within t in absurd (out (moved (table_number t) q.0 same within.0 within.1))
+        let within = table_within t (find_among (λ u. table_number u == q.0) tables t e) in absurd (out (moved (table_number t) q.0 same within.0 within.1))
       where
         moved : (a b : ℕ) → a ≡ b → 1 ≤ a → a < 16 → (1 ≤ b) × (b < 16)
         moved a b e h k = (omega arith, omega arith)

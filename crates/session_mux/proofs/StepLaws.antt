@@ -1,20 +1,22 @@
 -- Each step of the mux, said of the fields as they stand before and after it.
-use Rattle.std.proofs.Common.{◌≡◌, ℕ, zero, suc, ◌+◌, ◌<◌, ◌≤◌, List, [], ◌∷◌, ◌++◌, length, drop, map, set, replicate, Option, None, Some, Result, Ok, Err, refl, sym, ap, subst, ◌∙◌, arith}
+use Rattle.std.proofs.Common.{◌≡◌, ℕ, zero, suc, ◌+◌, ◌<◌, ◌≤◌, false, List, [], ◌∷◌, ◌++◌, length, drop, map, set, replicate, Option, None, Some, Result, Ok, Err, refl, sym, ap, subst, ◌∙◌, arith}
 use Rattle.std.proofs.lemmas.List.{append-nil, get_or-set_same}
 use Rattle.session_mux.specs.declared.events.Event.{Event}
 use Rattle.session_mux.specs.declared.sessions.Session.{Session}
 use Rattle.session_mux.specs.declared.sessions.Session.TheVariants as session
+use Rattle.session_mux.specs.declared.sessions.Stage.{Stage}
 use Rattle.session_mux.specs.declared.sessions.Form.{Form}
 use Rattle.session_mux.specs.declared.sessions.Form.TheVariants.{Plain, Trace}
-use Rattle.session_mux.specs.Arrivals.{Arrival, Data, Unfinished, Bad, Whole, record_front}
+use Rattle.session_mux.specs.Arrivals.{Arrival, Data, Unfinished, Bad, Whole, stage_at, within, record_front}
 use Rattle.session_mux.specs.Completion.{Standing, arrivals_in, tail_in, fed, events_of, end_of, begins_bad, session_at, stage_of, with_data, settled_session, fault_met, sessions_after, events_by, events_held, GoesTo, IsBadAt, IsUnfinished}
+use Rattle.session_mux.specs.RecordSteps.{is_opened}
 use Rattle.session_mux.specs.SessionSteps.{SessionsGive, TakesBytes, HasAnnounced, SomeHasAnnounced, IsAlone}
 use Rattle.session_mux.specs.declared.muxing.Step.TheVariants.{Ended}
 use Rattle.session_mux.specs.MuxSteps.{HeldGives, StepGives, HasMoved, HoldsFew, GivesNone, GivesFault, MayWantMemory}
 use Rattle.session_mux.specs.declared.events.MuxFault.{MuxFault}
 use Rattle.session_mux.specs.declared.events.MuxFault.TheVariants.{BadRecord, NoMemory}
 use Rattle.std.specs.Prelude.{IfOk, IfErr, MatchOption, ◌-◌}
-use Rattle.session_mux.proofs.RecordLaws.{tail_within, record_step}
+use Rattle.session_mux.proofs.RecordLaws.{tail_within, record_step, not_open}
 use Rattle.session_mux.proofs.EventLaws.{few_of_quiet, announced_event, announced_unmet, takes_unmet, data_fault}
 use Rattle.session_mux.proofs.TableLaws.{AtMost, held_quiet, from_zero, unopened_at, set_other}
 use Rattle.session_mux.proofs.GoingLaws.{alike_at, goes_then, held_goes, trace_goes, plain_goes, plain_ends, plain_moved, trace_ends, trace_moved, trace_bad}
@@ -73,6 +75,21 @@ pub trace_stuck : (v st : Standing) → v ≡ st → st.form ≡ Trace → recor
 trace_stuck v st e form front quiet =
     subst (λ (n : ℕ). IsBadAt st n) (sym (ap (λ (x : Standing). x.before) e))
     (subst (λ (x : Standing). IsBadAt x st.before) (formed st Trace form) (trace_bad st.input st.before st.sessions front quiet))
+
+-- the same of the bytes that are held
+pub trace_bad_front : (v st : Standing) → v ≡ st → st.form ≡ Trace → (bytes : List ℕ) → bytes ≡ v.input → record_front (map stage_of st.sessions) bytes ≡ Bad
+    → events_held 0 st.sessions ≡ [] → IsBadAt st v.before
+trace_bad_front v st e form bytes held front quiet =
+    trace_stuck v st e form (ap (record_front (map stage_of st.sessions)) (sym (held ∙ ap (λ (x : Standing). x.input) e)) ∙ front) quiet
+
+-- a record of a session that is not open is bad
+pub trace_not_open : (v st : Standing) → v ≡ st → st.form ≡ Trace → (bytes : List ℕ) → bytes ≡ v.input → (s : ℕ) (a : Arrival) (n : ℕ)
+    → is_opened (stage_at (map stage_of v.sessions) s) ≡ false → ((stages : List Stage) → record_front stages bytes ≡ within (stage_at stages s) a n)
+    → events_held 0 st.sessions ≡ [] → IsBadAt st v.before
+trace_not_open v st e form bytes held s a n closed front quiet =
+    let stages : List Stage = map stage_of st.sessions in
+    let stage : is_opened (stage_at stages s) ≡ false = ap (λ (x : Standing). is_opened (stage_at (map stage_of x.sessions) s)) (sym e) ∙ closed in
+    trace_bad_front v st e form bytes held (front stages ∙ not_open (stage_at stages s) a n stage) quiet
 
 no_input : (input : List ℕ) → length input ≡ 0 → input ≡ []
 no_input [] e = refl
