@@ -7,9 +7,6 @@ use Rattle.attr_pool.specs.Uses.{uses_of, KeepsSlots}
 use Rattle.attr_pool.proofs.SlotLemmas.{held_name, held_used, used_within, none_holds, number_within, number_cases, number_fits, at_set}
 use Rattle.attr_pool.proofs.UseLaws.{uses-none, uses-held, uses_at_number, released}
 
-pub kept-same : (slots : List Slot) → KeepsSlots slots slots
-kept-same slots q u v n = refl
-
 -- one change after another
 pub kept-then : (first middle last : List Slot) → KeepsSlots first middle → KeepsSlots middle last
     → ((q : List ℕ) → 0 < uses_of q first → 0 < uses_of q last → 0 < uses_of q middle) → KeepsSlots first last

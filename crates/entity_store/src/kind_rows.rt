@@ -32,12 +32,14 @@ pub struct AllRows {
     pub routers: KindRows,
 }
 
-/// The entities of a kind, lent: their names, the words of their rows one behind the other, each in the order of the numbers, and the
-/// pool that numbers the bits of the rows.
+/// The entities of a kind, lent, in the order of their numbers.
 #[derive(Drop)]
 pub struct Lanes<'a> {
+    /// Their names.
     pub names: &'a [Name],
+    /// The rows of bits of their attributes, `attr_pool::WORDS` words for each, one row behind the other.
     pub rows: &'a [u64],
+    /// What numbers the bits of the rows.
     pub pool: &'a Pool,
 }
 
@@ -59,6 +61,7 @@ impl KindRows {
     {
         self.rows.reserve(1)?;
         self.names.push(name)?;
+        // There is room for it.
         let _pushed = self.rows.push([0; WORDS]);
         Ok(())
     }

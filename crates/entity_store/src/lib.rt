@@ -1,4 +1,4 @@
-//! The store of identities, services and edge routers: by name and by number, with the uses of attributes.
+//! The store of identities, services and edge routers: by name and by number, with the uses of attributes and their rows of bits.
 #![tactic(auto)]
 
 mod after;
