@@ -6,17 +6,17 @@ use Rattle.ctrl_model.specs.declared.kinds.Kind.{Kind}
 use Rattle.ctrl_model.specs.declared.kinds.Kind.TheVariants as kind
 use Rattle.ctrl_model.specs.declared.kinds.Relation.{Relation}
 use Rattle.ctrl_model.specs.declared.kinds.Relation.TheVariants.{Dial, Bind, IdentityRouter, ServiceRouter}
-use Rattle.ctrl_model.specs.Numbered.{with_removed, with_edit, at, with_last, edit_at, without, first_where, Between}
+use Rattle.ctrl_model.specs.Numbered.{Table, with_new, with_removed, with_edit, at, with_last, edit_at, without, first_where, Between}
 use Rattle.ctrl_model.specs.State.{State, Entity, Router, as_entity, entity_named, router_named}
 use Rattle.ctrl_model.specs.Grants.{count}
 use Rattle.ctrl_model.specs.ShowCommands.{router_entities}
-use Rattle.ctrl_model.specs.RecordCommands.{after_create}
+use Rattle.ctrl_model.specs.RecordCommands.{after_create, after_remove}
 use Rattle.ctrl_model.specs.EntityCommands.{described, new_router}
 use Rattle.ctrl_model.specs.ValidState.{ValidState, HaveUniqueNames}
 use Rattle.ctrl_model.proofs.DistinctLaws.{same_name}
 use Rattle.ctrl_model.proofs.NumberedLaws.{at-map, at-map-back, at-with_last, at-with_last-other, at-edit_at, at-edit_at-other, at-without, at-without-other, at-without-back, Between-map}
 use Rattle.ctrl_model.proofs.TableLaws.{at-next, found-named}
-use Rattle.ctrl_model.specs.Tables.{is_entity_kind}
+use Rattle.ctrl_model.specs.Tables.{Record, table, with_table, is_entity_kind, has_names, record_name, named}
 use Rattle.grant_denorm.specs.declared.deltas.Delta.{Delta}
 use Rattle.grant_moves.specs.CountMoves.{LeadCounts}
 use Rattle.grant_moves.proofs.EntityMoves.{entity_leads}
@@ -105,6 +105,25 @@ differing_leads kind.Router x m s t steps d v is ServiceRouter = entity_leads Se
     (record { policies = d.policies.service_edge_router; entity_was = d.before_is; entity_is = d.after_is; others = d.others; partners = d.apart.1; high = s.services.next; ordered = (v.kinds kind.Service).numbers.ordered }) is.service_router.up is.service_router.down
 differing_leads _ x m s t steps d v is r = absurd d.apart
 
+-- one entity differs where its kind has another table
+kind_differs : (k : Kind) (x : ℕ) (m : MovedEntity) (s : State) (new : Table (Record k)) → is_entity_kind k ≡ true → at (entities_in k s) x ≡ m.before
+    → at (entities_in k (with_table k new s)) x ≡ m.after → ((n : ℕ) → n ≢ x → at (entities_in k (with_table k new s)) n ≡ at (entities_in k s) n)
+    → DiffersAt k x m s (with_table k new s)
+kind_differs kind.Identity x m s new is before after others =
+    record { before_is = before; after_is = after; others = others; apart = (refl, refl); policies = record { service = refl; edge_router = refl; service_edge_router = refl } }
+kind_differs kind.Service x m s new is before after others =
+    record { before_is = before; after_is = after; others = others; apart = (refl, refl); policies = record { service = refl; edge_router = refl; service_edge_router = refl } }
+kind_differs kind.Router x m s new is before after others =
+    record { before_is = before; after_is = after; others = others; apart = (refl, refl); policies = record { service = refl; edge_router = refl; service_edge_router = refl } }
+kind_differs _ x m s new is before after others = absurd (false≢true is)
+
+-- so its steps lead to the counts with that table
+table_leads : (k : Kind) (x : ℕ) (m : MovedEntity) (s : State) (new : Table (Record k)) (steps : GrantSteps) → StepsOfEntity k x m s steps → is_entity_kind k ≡ true → ValidState s
+    → at (entities_in k s) x ≡ m.before → at (entities_in k (with_table k new s)) x ≡ m.after
+    → ((n : ℕ) → n ≢ x → at (entities_in k (with_table k new s)) n ≡ at (entities_in k s) n)
+    → (r : Relation) → LeadCounts (count r s) (count r (with_table k new s)) (steps_of r steps)
+table_leads k x m s new steps are is v before after others = differing_leads k x m s (with_table k new s) steps (kind_differs k x m s new is before after others) v are
+
 -- ---- what stands at a number after a change, of entities and of records that are seen as entities
 
 -- routers as entities
@@ -135,36 +154,21 @@ seen_alike rows others n e = seen_at rows n (at others n) e ∙ sym (at-map (λ 
 pub added_leads : (k : Kind) (name : List ℕ) (attributes : List (List ℕ)) (s : State) (steps : GrantSteps) → is_plain_kind k ≡ true → ValidState s
     → StepsOfEntity k (next_in k s) (record { before = None; after = Some (record { name = name; attributes = attributes }) }) s steps
     → (r : Relation) → LeadCounts (count r s) (count r (with_plain k name attributes s)) (steps_of r steps)
-added_leads kind.Identity name attributes s steps plain v is = differing_leads kind.Identity s.identities.next _ s (with_plain kind.Identity name attributes s) steps
-    (record {
-      before_is = at-next (v.kinds kind.Identity).numbers;
-      after_is = stands_last s.identities.rows s.identities.next _ (at-next (v.kinds kind.Identity).numbers);
-      others = λ n ne. at-with_last-other s.identities.rows s.identities.next n _ ne;
-      apart = (refl, refl);
-      policies = record { service = refl; edge_router = refl; service_edge_router = refl };
-    }) v is
-added_leads kind.Service name attributes s steps plain v is = differing_leads kind.Service s.services.next _ s (with_plain kind.Service name attributes s) steps
-    (record {
-      before_is = at-next (v.kinds kind.Service).numbers;
-      after_is = stands_last s.services.rows s.services.next _ (at-next (v.kinds kind.Service).numbers);
-      others = λ n ne. at-with_last-other s.services.rows s.services.next n _ ne;
-      apart = (refl, refl);
-      policies = record { service = refl; edge_router = refl; service_edge_router = refl };
-    }) v is
+added_leads kind.Identity name attributes s steps plain v is =
+    table_leads kind.Identity s.identities.next _ s (with_new (record { name = name; attributes = attributes }) s.identities) steps is refl v (at-next (v.kinds kind.Identity).numbers)
+    (stands_last s.identities.rows s.identities.next _ (at-next (v.kinds kind.Identity).numbers)) (λ n ne. at-with_last-other s.identities.rows s.identities.next n _ ne)
+added_leads kind.Service name attributes s steps plain v is =
+    table_leads kind.Service s.services.next _ s (with_new (record { name = name; attributes = attributes }) s.services) steps is refl v (at-next (v.kinds kind.Service).numbers)
+    (stands_last s.services.rows s.services.next _ (at-next (v.kinds kind.Service).numbers)) (λ n ne. at-with_last-other s.services.rows s.services.next n _ ne)
 added_leads _ name attributes s steps plain v is = absurd (false≢true plain)
 
 pub added_router_leads : (name : List ℕ) (attributes : List (List ℕ)) (cost : ℕ) (no_traversal : Bool) (s : State) (steps : GrantSteps) → ValidState s
     → StepsOfEntity kind.Router s.routers.next (record { before = None; after = Some (record { name = name; attributes = attributes }) }) s steps
     → (r : Relation) → LeadCounts (count r s) (count r (after_create kind.Router (new_router name attributes cost no_traversal) s)) (steps_of r steps)
 added_router_leads name attributes cost no_traversal s steps v is =
-    differing_leads kind.Router s.routers.next _ s (after_create kind.Router (new_router name attributes cost no_traversal) s) steps
-    (record {
-      before_is = seen_at s.routers.rows s.routers.next None (at-next (v.kinds kind.Router).numbers);
-      after_is = seen_at (with_last s.routers.rows s.routers.next made) s.routers.next (Some made) (stands_last s.routers.rows s.routers.next made (at-next (v.kinds kind.Router).numbers));
-      others = λ n ne. seen_alike (with_last s.routers.rows s.routers.next made) s.routers.rows n (at-with_last-other s.routers.rows s.routers.next n made ne);
-      apart = (refl, refl);
-      policies = record { service = refl; edge_router = refl; service_edge_router = refl };
-    }) v is
+    table_leads kind.Router s.routers.next _ s (with_new made s.routers) steps is refl v (seen_at s.routers.rows s.routers.next None (at-next (v.kinds kind.Router).numbers))
+    (seen_at (with_last s.routers.rows s.routers.next made) s.routers.next (Some made) (stands_last s.routers.rows s.routers.next made (at-next (v.kinds kind.Router).numbers)))
+    (λ n ne. seen_alike (with_last s.routers.rows s.routers.next made) s.routers.rows n (at-with_last-other s.routers.rows s.routers.next n made ne))
   where
     made : Router
     made = record { name = name; attributes = attributes; cost = cost; through = not no_traversal; connected = false }
@@ -174,22 +178,12 @@ added_router_leads name attributes cost no_traversal s steps v is =
 pub described_leads : (k : Kind) (n : ℕ) (attributes : List (List ℕ)) (s : State) (steps : GrantSteps) → is_plain_kind k ≡ true → ValidState s
     → StepsOfEntity k n (record { before = at (entities_in k s) n; after = option_map (described attributes) (at (entities_in k s) n) }) s steps
     → (r : Relation) → LeadCounts (count r s) (count r (with_described k n attributes s)) (steps_of r steps)
-described_leads kind.Identity n attributes s steps plain v is = differing_leads kind.Identity n _ s (with_described kind.Identity n attributes s) steps
-    (record {
-      before_is = refl;
-      after_is = stands_edited s.identities.rows n (described attributes);
-      others = λ m ne. at-edit_at-other s.identities.rows n m (described attributes) ne;
-      apart = (refl, refl);
-      policies = record { service = refl; edge_router = refl; service_edge_router = refl };
-    }) v is
-described_leads kind.Service n attributes s steps plain v is = differing_leads kind.Service n _ s (with_described kind.Service n attributes s) steps
-    (record {
-      before_is = refl;
-      after_is = stands_edited s.services.rows n (described attributes);
-      others = λ m ne. at-edit_at-other s.services.rows n m (described attributes) ne;
-      apart = (refl, refl);
-      policies = record { service = refl; edge_router = refl; service_edge_router = refl };
-    }) v is
+described_leads kind.Identity n attributes s steps plain v is =
+    table_leads kind.Identity n _ s (with_edit n (described attributes) s.identities) steps is refl v refl (stands_edited s.identities.rows n (described attributes))
+    (λ m ne. at-edit_at-other s.identities.rows n m (described attributes) ne)
+described_leads kind.Service n attributes s steps plain v is =
+    table_leads kind.Service n _ s (with_edit n (described attributes) s.services) steps is refl v refl (stands_edited s.services.rows n (described attributes))
+    (λ m ne. at-edit_at-other s.services.rows n m (described attributes) ne)
 described_leads _ n attributes s steps plain v is = absurd (false≢true plain)
 
 -- a router, whatever becomes of its cost and its marks
@@ -197,15 +191,11 @@ pub described_router_leads : (n : ℕ) (attributes : List (List ℕ)) (f : Route
     → ((r : Router) → as_entity (f r) ≡ described attributes (as_entity r))
     → StepsOfEntity kind.Router n (record { before = at (router_entities s) n; after = option_map (described attributes) (at (router_entities s) n) }) s steps
     → (r : Relation) → LeadCounts (count r s) (count r (record s { routers = with_edit n f s.routers })) (steps_of r steps)
-described_router_leads n attributes f s steps v same is = differing_leads kind.Router n _ s (record s { routers = with_edit n f s.routers }) steps
-    (record {
-      before_is = refl;
-      after_is = seen_at (edit_at s.routers.rows n f) n (option_map f (at s.routers.rows n)) (stands_edited s.routers.rows n f)
-          ∙ alike (at s.routers.rows n) ∙ ap (option_map (described attributes)) (sym (at-map (λ row. as_entity row.1) s.routers.rows n));
-      others = λ m ne. seen_alike (edit_at s.routers.rows n f) s.routers.rows m (at-edit_at-other s.routers.rows n m f ne);
-      apart = (refl, refl);
-      policies = record { service = refl; edge_router = refl; service_edge_router = refl };
-    }) v is
+described_router_leads n attributes f s steps v same is =
+    table_leads kind.Router n _ s (with_edit n f s.routers) steps is refl v refl
+    (seen_at (edit_at s.routers.rows n f) n (option_map f (at s.routers.rows n)) (stands_edited s.routers.rows n f)
+    ∙ alike (at s.routers.rows n) ∙ ap (option_map (described attributes)) (sym (at-map (λ row. as_entity row.1) s.routers.rows n)))
+    (λ m ne. seen_alike (edit_at s.routers.rows n f) s.routers.rows m (at-edit_at-other s.routers.rows n m f ne))
   where
     alike : (o : Option Router) → option_map as_entity (option_map f o) ≡ option_map (described attributes) (option_map as_entity o)
     alike None = refl
@@ -242,76 +232,52 @@ unnamed name_of high rows n name unique b found m r stands = false_from_ne_true 
     let back = at-without-back high rows 1 n m r b stands in
     back.1 (unique m n r kept.0 back.0 kept.1 (same_name (name_of r) name e ∙ sym kept.2)))
 
+-- of a kind whose records have names
+absent : (k : Kind) (n : ℕ) (name : List ℕ) (s : State) → ValidState s → has_names k ≡ true → named k s name ≡ Some n
+    → (m : ℕ) (r : Record k) → at (without (table k s).rows n) m ≡ Some r → bytes_eq (record_name k r) name ≡ false
+absent k n name s v names found = unnamed (record_name k) (table k s).next (table k s).rows n name ((v.kinds k).names names) (v.kinds k).numbers.ordered found
+
+absent_router : (n : ℕ) (name : List ℕ) (s : State) → ValidState s → router_named s.routers.rows name ≡ Some n
+    → (m : ℕ) (e : Entity) → at (router_rows (without s.routers.rows n)) m ≡ Some e → bytes_eq e.name name ≡ false
+absent_router n name s v found m e stands =
+    let back = at-map-back (λ row. as_entity row.1) (without s.routers.rows n) m e stands in
+    ap (λ (q : Entity). bytes_eq q.name name) (sym back.2) ∙ absent kind.Router n name s v refl found m back.0 back.1
+
+-- what stands where an entity goes, and elsewhere
+gone_of : (k : Kind) (n : ℕ) (s : State) → is_entity_kind k ≡ true → ValidState s → at (entities_in k (after_remove k n s)) n ≡ None
+gone_of kind.Identity n s is v = gone_at s.identities.next s.identities.rows n (v.kinds kind.Identity).numbers.ordered
+gone_of kind.Service n s is v = gone_at s.services.next s.services.rows n (v.kinds kind.Service).numbers.ordered
+gone_of kind.Router n s is v = seen_at (without s.routers.rows n) n None (gone_at s.routers.next s.routers.rows n (v.kinds kind.Router).numbers.ordered)
+gone_of _ n s is v = absurd (false≢true is)
+
+left_of : (k : Kind) (n : ℕ) (s : State) → is_entity_kind k ≡ true → (m : ℕ) → m ≢ n → at (entities_in k (after_remove k n s)) m ≡ at (entities_in k s) m
+left_of kind.Identity n s is m ne = at-without-other s.identities.rows n m ne
+left_of kind.Service n s is m ne = at-without-other s.services.rows n m ne
+left_of kind.Router n s is m ne = seen_alike (without s.routers.rows n) s.routers.rows m (at-without-other s.routers.rows n m ne)
+left_of _ n s is m ne = absurd (false≢true is)
+
+-- its name counts nothing once it has gone
+module _ (n : ℕ) (name : List ℕ) (s : State) (v : ValidState s) where
+  forgotten_counts : (k : Kind) → is_entity_kind k ≡ true → named_in k name s ≡ Some n → (r : Relation) (a b : ℕ)
+      → count r (after_remove k n s) a b ≡ count r (without_named k n name s) a b
+  forgotten_counts kind.Identity is found ServiceRouter a b = refl
+  forgotten_counts kind.Identity is found Dial a b = sym (forget_left_leaves Dial (after_remove kind.Identity n s) (without_named kind.Identity n name s) name refl refl refl (absent kind.Identity n name s v refl found) a b)
+  forgotten_counts kind.Identity is found Bind a b = sym (forget_left_leaves Bind (after_remove kind.Identity n s) (without_named kind.Identity n name s) name refl refl refl (absent kind.Identity n name s v refl found) a b)
+  forgotten_counts kind.Identity is found IdentityRouter a b = sym (forget_left_leaves IdentityRouter (after_remove kind.Identity n s) (without_named kind.Identity n name s) name refl refl refl (absent kind.Identity n name s v refl found) a b)
+  forgotten_counts kind.Service is found IdentityRouter a b = refl
+  forgotten_counts kind.Service is found Dial a b = sym (forget_right_leaves Dial (after_remove kind.Service n s) (without_named kind.Service n name s) name refl refl refl (absent kind.Service n name s v refl found) a b)
+  forgotten_counts kind.Service is found Bind a b = sym (forget_right_leaves Bind (after_remove kind.Service n s) (without_named kind.Service n name s) name refl refl refl (absent kind.Service n name s v refl found) a b)
+  forgotten_counts kind.Service is found ServiceRouter a b = sym (forget_left_leaves ServiceRouter (after_remove kind.Service n s) (without_named kind.Service n name s) name refl refl refl (absent kind.Service n name s v refl found) a b)
+  forgotten_counts kind.Router is found Dial a b = refl
+  forgotten_counts kind.Router is found Bind a b = refl
+  forgotten_counts kind.Router is found IdentityRouter a b = sym (forget_right_leaves IdentityRouter (after_remove kind.Router n s) (without_named kind.Router n name s) name refl refl refl (absent_router n name s v found) a b)
+  forgotten_counts kind.Router is found ServiceRouter a b = sym (forget_right_leaves ServiceRouter (after_remove kind.Router n s) (without_named kind.Router n name s) name refl refl refl (absent_router n name s v found) a b)
+  forgotten_counts _ is found r a b = absurd (false≢true is)
+
 pub removed_leads : (k : Kind) (n : ℕ) (name : List ℕ) (s : State) (steps : GrantSteps) → is_entity_kind k ≡ true → ValidState s → named_in k name s ≡ Some n
     → StepsOfEntity k n (record { before = at (entities_in k s) n; after = None }) s steps
     → (r : Relation) → LeadCounts (count r s) (count r (without_named k n name s)) (steps_of r steps)
-removed_leads kind.Identity n name s steps is_kind v found is r =
-    leads_on (count r s) (count r bare) (count r (without_named kind.Identity n name s)) (steps_of r steps)
-    (differing_leads kind.Identity n _ s bare steps
-    (record {
-      before_is = refl;
-      after_is = gone_at s.identities.next s.identities.rows n (v.kinds kind.Identity).numbers.ordered;
-      others = λ m ne. at-without-other s.identities.rows n m ne;
-      apart = (refl, refl);
-      policies = record { service = refl; edge_router = refl; service_edge_router = refl };
-    }) v is r) (λ a b. forgotten r a b)
-  where
-    bare : State
-    bare = record s { identities = with_removed n s.identities }
-
-    absent : (m : ℕ) (e : Entity) → at (without s.identities.rows n) m ≡ Some e → bytes_eq e.name name ≡ false
-    absent = unnamed (λ (e : Entity). e.name) s.identities.next s.identities.rows n name (((v.kinds kind.Identity).names) refl) (v.kinds kind.Identity).numbers.ordered found
-
-    forgotten : (r : Relation) (a b : ℕ) → count r bare a b ≡ count r (without_named kind.Identity n name s) a b
-    forgotten Dial a b = sym (forget_left_leaves Dial bare (without_named kind.Identity n name s) name refl refl refl absent a b)
-    forgotten Bind a b = sym (forget_left_leaves Bind bare (without_named kind.Identity n name s) name refl refl refl absent a b)
-    forgotten IdentityRouter a b = sym (forget_left_leaves IdentityRouter bare (without_named kind.Identity n name s) name refl refl refl absent a b)
-    forgotten ServiceRouter a b = refl
-removed_leads kind.Service n name s steps is_kind v found is r =
-    leads_on (count r s) (count r bare) (count r (without_named kind.Service n name s)) (steps_of r steps)
-    (differing_leads kind.Service n _ s bare steps
-    (record {
-      before_is = refl;
-      after_is = gone_at s.services.next s.services.rows n (v.kinds kind.Service).numbers.ordered;
-      others = λ m ne. at-without-other s.services.rows n m ne;
-      apart = (refl, refl);
-      policies = record { service = refl; edge_router = refl; service_edge_router = refl };
-    }) v is r) (λ a b. forgotten r a b)
-  where
-    bare : State
-    bare = record s { services = with_removed n s.services }
-
-    absent : (m : ℕ) (e : Entity) → at (without s.services.rows n) m ≡ Some e → bytes_eq e.name name ≡ false
-    absent = unnamed (λ (e : Entity). e.name) s.services.next s.services.rows n name (((v.kinds kind.Service).names) refl) (v.kinds kind.Service).numbers.ordered found
-
-    forgotten : (r : Relation) (a b : ℕ) → count r bare a b ≡ count r (without_named kind.Service n name s) a b
-    forgotten Dial a b = sym (forget_right_leaves Dial bare (without_named kind.Service n name s) name refl refl refl absent a b)
-    forgotten Bind a b = sym (forget_right_leaves Bind bare (without_named kind.Service n name s) name refl refl refl absent a b)
-    forgotten IdentityRouter a b = refl
-    forgotten ServiceRouter a b = sym (forget_left_leaves ServiceRouter bare (without_named kind.Service n name s) name refl refl refl absent a b)
-removed_leads kind.Router n name s steps is_kind v found is r =
-    leads_on (count r s) (count r bare) (count r (without_named kind.Router n name s)) (steps_of r steps)
-    (differing_leads kind.Router n _ s bare steps
-    (record {
-      before_is = refl;
-      after_is = seen_at (without s.routers.rows n) n None (gone_at s.routers.next s.routers.rows n (v.kinds kind.Router).numbers.ordered);
-      others = λ m ne. seen_alike (without s.routers.rows n) s.routers.rows m (at-without-other s.routers.rows n m ne);
-      apart = (refl, refl);
-      policies = record { service = refl; edge_router = refl; service_edge_router = refl };
-    }) v is r) (λ a b. forgotten r a b)
-  where
-    bare : State
-    bare = record s { routers = with_removed n s.routers }
-
-    absent : (m : ℕ) (e : Entity) → at (router_entities bare) m ≡ Some e → bytes_eq e.name name ≡ false
-    absent m e stands =
-        let back = at-map-back (λ row. as_entity row.1) (without s.routers.rows n) m e stands in
-        ap (λ (q : Entity). bytes_eq q.name name) (sym back.2)
-        ∙ unnamed (λ (q : Router). q.name) s.routers.next s.routers.rows n name (((v.kinds kind.Router).names) refl) (v.kinds kind.Router).numbers.ordered found m back.0 back.1
-
-    forgotten : (r : Relation) (a b : ℕ) → count r bare a b ≡ count r (without_named kind.Router n name s) a b
-    forgotten Dial a b = refl
-    forgotten Bind a b = refl
-    forgotten IdentityRouter a b = sym (forget_right_leaves IdentityRouter bare (without_named kind.Router n name s) name refl refl refl absent a b)
-    forgotten ServiceRouter a b = sym (forget_right_leaves ServiceRouter bare (without_named kind.Router n name s) name refl refl refl absent a b)
-removed_leads _ n name s steps is_kind v found is r = absurd (false≢true is_kind)
+removed_leads k n name s steps is_kind v found is r =
+    leads_on (count r s) (count r (after_remove k n s)) (count r (without_named k n name s)) (steps_of r steps)
+    (table_leads k n _ s (with_removed n (table k s)) steps is is_kind v refl (gone_of k n s is_kind v) (left_of k n s is_kind) r)
+    (λ a b. forgotten_counts n name s v k is_kind found r a b)

@@ -17,10 +17,6 @@ use Rattle.link_commands.specs.LinkChanges as linked
 use Rattle.policy_store.specs.declared.steps.GrantSteps.{GrantSteps}
 use Rattle.policy_store.specs.StepsOfRelations.{HasNoSteps, steps_of}
 use Rattle.circuits.specs.declared.changes.CircuitChange.{CircuitChange}
-use Rattle.circuits.specs.CircuitChanges.{without_circuits}
-use Rattle.circuits.specs.CircuitTables.{CircuitTables}
-use Rattle.fabric_graph.specs.FabricTables.{FabricSeen}
-use Rattle.terminators.specs.TermTables.{TermTables}
 use Rattle.terminators.specs.declared.changes.TermChange.{TermChange}
 use Rattle.terminator_commands.specs.TermChanges as offered
 use Rattle.core_stores.specs.declared.changes.Change.{Change}
@@ -29,7 +25,6 @@ use Rattle.core_stores.specs.declared.changes.Draft.{Draft}
 use Rattle.core_stores.specs.declared.stores.Stores.{Stores}
 use Rattle.core_stores.specs.CarriedStates.{Carries}
 use Rattle.circuit_rules.specs.CircuitPlans.{CanRoute, routed}
-use Rattle.core_stores.specs.StoredState.{HoldsPolicies}
 use Rattle.core_stores.specs.StoredState.{state_of}
 use Rattle.ctrl_core.specs.Changes.{CanChange, after_change}
 use Rattle.core_stores.specs.LeadingSteps.{LeadAllCounts}
@@ -37,8 +32,6 @@ use Rattle.ctrl_core.specs.ChangedStores.{CanSettle}
 use Rattle.core_stores.specs.SettledNumbers.{AreSettled, without_settled}
 use Rattle.core_stores.specs.declared.settled.Settled.{Settled}
 use Rattle.ctrl_core.proofs.StateParts.{without_is_settled}
-use Rattle.fabric_graph.specs.FabricChanges.{without_links}
-use Rattle.terminators.specs.TermChanges.{without_terms}
 use Rattle.ctrl_core.specs.PlannedCommands.{Plans}
 use Rattle.core_stores.specs.Drafts.{IsShown, IsUncounted}
 use Rattle.ctrl_core.proofs.PlanLaws.{no_steps_lead, settled_lead}
@@ -105,32 +98,25 @@ module _ {C : Type 0} (after : C → State → State) (can_be : C → State → 
 
 -- ---- links, terminators and circuits
 
-links_uncounted : (s : State) (c : LinkChange) (r : Relation) → count r (settle (linked.linked c s)) ≡ count r s
-links_uncounted s c Dial = refl
-links_uncounted s c Bind = refl
-links_uncounted s c IdentityRouter = refl
-links_uncounted s c ServiceRouter = refl
+-- A state with the links, the terminators, the circuits and the setting of another one.
+abbrev beside : State → State → State
+beside s t = record s { links = t.links; terminators = t.terminators; circuits = t.circuits; least_router_cost = t.least_router_cost }
+
+-- None of these counts.
+same_counts : (s t : State) (r : Relation) → count r (beside s t) ≡ count r s
+same_counts s t Dial = refl
+same_counts s t Bind = refl
+same_counts s t IdentityRouter = refl
+same_counts s t ServiceRouter = refl
 
 pub links_planned : (s : State) (made : Plan LinkChange) (p : Draft) (answered : Reply × State) → plans.Plans linked.linked linked.CanLink made answered s
     → IsUncounted made.reply (option_map change.Link made.change) p → Plans p answered s
-links_planned s = family_planned linked.linked linked.CanLink change.Link s (λ c. refl) (λ c can. can) (links_uncounted s)
-
-terms_uncounted : (s : State) (c : TermChange) (r : Relation) → count r (settle (offered.offered c s)) ≡ count r s
-terms_uncounted s c Dial = refl
-terms_uncounted s c Bind = refl
-terms_uncounted s c IdentityRouter = refl
-terms_uncounted s c ServiceRouter = refl
+links_planned s = family_planned linked.linked linked.CanLink change.Link s (λ c. refl) (λ c can. can) (λ c. same_counts s (settle (linked.linked c s)))
 
 pub terms_planned : (s : State) (made : Plan TermChange) (p : Draft) (answered : Reply × State) → plans.Plans offered.offered offered.CanOffer made answered s
     → IsUncounted made.reply (option_map change.Terminator made.change) p → Plans p answered s
-terms_planned s = family_planned offered.offered offered.CanOffer change.Terminator s (λ c. refl) (λ c can. can) (terms_uncounted s)
-
-circuits_uncounted : (s : State) (c : CircuitChange) (r : Relation) → count r (settle (routed c s)) ≡ count r s
-circuits_uncounted s c Dial = refl
-circuits_uncounted s c Bind = refl
-circuits_uncounted s c IdentityRouter = refl
-circuits_uncounted s c ServiceRouter = refl
+terms_planned s = family_planned offered.offered offered.CanOffer change.Terminator s (λ c. refl) (λ c can. can) (λ c. same_counts s (settle (offered.offered c s)))
 
 pub circuits_planned : (s : State) (made : Plan CircuitChange) (p : Draft) (answered : Reply × State) → plans.Plans routed CanRoute made answered s
     → IsUncounted made.reply (option_map change.Circuit made.change) p → Plans p answered s
-circuits_planned s = family_planned routed CanRoute change.Circuit s (λ c. refl) (λ c can. can) (circuits_uncounted s)
+circuits_planned s = family_planned routed CanRoute change.Circuit s (λ c. refl) (λ c can. can) (λ c. same_counts s (settle (routed c s)))

@@ -14,14 +14,14 @@ ghost use Rattle.row_spelling.specs.RecordChanges.{change_of};
 ghost use Rattle.entity_commands.specs.EntityChanges.{CanChangeEntities};
 ghost use Rattle.entity_commands.specs.EntityRows.{AreFit, Has, plain_after, router_after, row_change, touched_kind, touched_number};
 
-use ctrl_model::{Bytes, IdentityNo, Kind, RouterNo, ServiceNo};
+use ctrl_model::{Bytes, IdentityNo, Kind, RouterNo};
 use entity_store::{Entities, EntityChange, EntityView, RouterView};
 use row_codec::{Change, Changes, Row};
 use row_spelling::{change_of, value_of};
 use std::alloc::{AllocError, Global};
 
-// The value of the row of an identity under a number.
-fn identity_value(alloc: Global, number: u32, entity: EntityView) -> Result<Bytes, AllocError>
+// The value of the row of an identity or a service under a number: those of both kinds are spelled alike.
+fn plain_value(alloc: Global, number: u32, entity: EntityView) -> Result<Bytes, AllocError>
     requires { fits Kind.Identity entity ≡ true }
     ensures { IfOk result (λ value. value ≡ entity_value entity.entry) }
 {
@@ -35,25 +35,9 @@ fn identity_value(alloc: Global, number: u32, entity: EntityView) -> Result<Byte
     value_of(alloc, &row)
 }
 
-// The value of the row of a service under a number.
-fn service_value(alloc: Global, number: u32, entity: EntityView) -> Result<Bytes, AllocError>
-    requires { fits Kind.Service entity ≡ true }
-    ensures { IfOk result (λ value. value ≡ entity_value entity.entry) }
-{
-    let name = entity.name.copy()?;
-    let attributes = entity.attributes.copy()?;
-    let row = Row::Service {
-        no: ServiceNo(number),
-        name,
-        attributes,
-    };
-    value_of(alloc, &row)
-}
-
 // The value of the row of an identity or a service, if there is one.
 fn plain_if_some(
     alloc: Global,
-    kind: Kind,
     number: u32,
     entity: Option<EntityView>,
 ) -> Result<Option<Bytes>, AllocError>
@@ -63,10 +47,7 @@ fn plain_if_some(
     let Some(entity) = entity else {
         return Ok(None);
     };
-    match kind {
-        Kind::Identity => Ok(Some(identity_value(alloc, number, entity)?)),
-        _ => Ok(Some(service_value(alloc, number, entity)?)),
-    }
+    Ok(Some(plain_value(alloc, number, entity)?))
 }
 
 // The identity or the service that a change touches, if it will be there.
@@ -199,13 +180,8 @@ fn plain_change(
     ensures { IfOk result (λ made. made ≡ change_of kind number (option_map entity_value (at (entity_tables.entities kind entities.now) number))
         (option_map entity_value (plain_after change.now (at (entity_tables.entities kind entities.now) number)))) }
 {
-    let before = plain_if_some(alloc, kind, number, entities.entity(kind, number))?;
-    let after = plain_if_some(
-        alloc,
-        kind,
-        number,
-        plain_after(entities, kind, number, change),
-    )?;
+    let before = plain_if_some(alloc, number, entities.entity(kind, number))?;
+    let after = plain_if_some(alloc, number, plain_after(entities, kind, number, change))?;
     change_of(alloc, kind, number, before, after)
 }
 

@@ -1,15 +1,18 @@
-ghost use Rattle.std.specs.Prelude.{◌≡◌, ◌<◌, ◌∷◌, [], IfOk, OnOk, Ok, true};
+ghost use Rattle.std.specs.Prelude.{◌≡◌, ◌+◌, ◌<◌, ◌&&◌, ◌∷◌, [], nat_le, length, IfOk, OnOk, Ok, true};
 ghost use Rattle.ctrl_model.specs.CommandForm.{is_spelled};
+ghost use Rattle.ctrl_model.specs.NameForm.{is_name};
 ghost use Rattle.command_codec.specs.BodyMeaning.{meaning};
 ghost use Rattle.command_codec.specs.ContentTypes.{content_of};
 ghost use Rattle.command_bodies.specs.BodyTexts.{body_text};
 ghost use Rattle.load_gen.specs.Draws.{draw};
+ghost use Rattle.load_gen.specs.LoadCommands.{numbered};
 ghost use Rattle.load_gen.specs.LoadFrames.{frame_at};
 ghost use Rattle.load_gen.specs.LoadSteps.{Pushes};
 
+use crate::naming::numbered;
 use channel_frame::{Frame, Headers};
 use command_bodies::{content_of, write};
-use ctrl_model::Command;
+use ctrl_model::{Command, Name};
 use rand_core::utils::NextWord;
 use rand_pcg::Lcg64Xsh32;
 use std::alloc::{AllocError, Global};
@@ -22,6 +25,23 @@ pub(crate) fn draw(rng: &mut Lcg64Xsh32, k: u32) -> u32
     ensures below { result < k }
 {
     rng.next_word() % k
+}
+
+// The name of one of so many records of a letter, which is drawn.
+pub(crate) fn drawn_name(
+    alloc: Global,
+    rng: &mut Lcg64Xsh32,
+    letter: &str,
+    count: u32,
+) -> Result<Name, AllocError>
+    requires some { 0 < count }
+    requires letter { (is_name letter.now && nat_le (length letter.now) 10) ≡ true }
+    ensures value { IfOk result (λ name. name ≡ numbered letter.now (1 + (draw count rng.old).0)) }
+    ensures form { IfOk result (λ name. is_name name ≡ true) }
+    ensures left { rng.new ≡ (draw count rng.old).1 }
+{
+    let number = draw(rng, count);
+    numbered(alloc, letter, 1 + number)
 }
 
 fn frame(alloc: Global, place: u32, command: &Command) -> Result<Frame, AllocError>

@@ -5,7 +5,7 @@ ghost use Rattle.load_gen.specs.LoadCommands.{numbered, an_identity, a_service, 
 ghost use Rattle.load_gen.specs.LoadFrames.{load_frames, AreMeant};
 ghost use Rattle.load_gen.specs.LoadSteps.{Adds, IsDrawn, Pushes};
 
-use crate::drawing::{draw, push};
+use crate::drawing::{draw, drawn_name, push};
 use crate::groups::Group;
 use crate::naming::{
     everything, no_instance, numbered, one_attribute, two_attributes, with_attributes,
@@ -185,11 +185,9 @@ fn service_edge_router_policy(
 fn terminator(alloc: Global, rng: &mut Lcg64Xsh32) -> Result<Command, AllocError>
     ensures { IfOk result (λ c. IsDrawn a_terminator rng.old rng.new c) }
 {
-    let s = draw(rng, 40);
-    let r = draw(rng, 12);
+    let service = drawn_name(alloc, rng, "s", 40)?;
+    let router = drawn_name(alloc, rng, "r", 12)?;
     let cost = draw(rng, 200);
-    let service = numbered(alloc, "s", 1 + s)?;
-    let router = numbered(alloc, "r", 1 + r)?;
     let instance = no_instance(alloc)?;
     Ok(Command::CreateTerminator {
         service,
@@ -204,10 +202,8 @@ fn terminator(alloc: Global, rng: &mut Lcg64Xsh32) -> Result<Command, AllocError
 fn circuit(alloc: Global, rng: &mut Lcg64Xsh32) -> Result<Command, AllocError>
     ensures { IfOk result (λ c. IsDrawn a_circuit rng.old rng.new c) }
 {
-    let u = draw(rng, 200);
-    let s = draw(rng, 40);
-    let identity = numbered(alloc, "u", 1 + u)?;
-    let service = numbered(alloc, "s", 1 + s)?;
+    let identity = drawn_name(alloc, rng, "u", 200)?;
+    let service = drawn_name(alloc, rng, "s", 40)?;
     let instance = no_instance(alloc)?;
     Ok(Command::CreateCircuit {
         identity,
@@ -220,10 +216,9 @@ fn circuit(alloc: Global, rng: &mut Lcg64Xsh32) -> Result<Command, AllocError>
 fn changed_identity(alloc: Global, rng: &mut Lcg64Xsh32) -> Result<Command, AllocError>
     ensures { IfOk result (λ c. IsDrawn a_changed_identity rng.old rng.new c) }
 {
-    let u = draw(rng, 200);
+    let name = drawn_name(alloc, rng, "u", 200)?;
     let g = draw(rng, 8);
     let h = draw(rng, 8);
-    let name = numbered(alloc, "u", 1 + u)?;
     let attributes = two_attributes(alloc, g, h)?;
     Ok(Command::UpdateIdentity { name, attributes })
 }
@@ -231,9 +226,8 @@ fn changed_identity(alloc: Global, rng: &mut Lcg64Xsh32) -> Result<Command, Allo
 fn changed_cost(alloc: Global, rng: &mut Lcg64Xsh32) -> Result<Command, AllocError>
     ensures { IfOk result (λ c. IsDrawn a_changed_cost rng.old rng.new c) }
 {
-    let l = draw(rng, 30);
+    let link = drawn_name(alloc, rng, "l", 30)?;
     let cost = draw(rng, 100);
-    let link = numbered(alloc, "l", 1 + l)?;
     Ok(Command::SetLinkCost {
         link,
         cost: 1 + cost,
@@ -243,16 +237,14 @@ fn changed_cost(alloc: Global, rng: &mut Lcg64Xsh32) -> Result<Command, AllocErr
 fn disconnection(alloc: Global, rng: &mut Lcg64Xsh32) -> Result<Command, AllocError>
     ensures { IfOk result (λ c. IsDrawn a_disconnection rng.old rng.new c) }
 {
-    let r = draw(rng, 12);
-    let name = numbered(alloc, "r", 1 + r)?;
+    let name = drawn_name(alloc, rng, "r", 12)?;
     Ok(Command::DisconnectRouter { name })
 }
 
 fn connection(alloc: Global, rng: &mut Lcg64Xsh32) -> Result<Command, AllocError>
     ensures { IfOk result (λ c. IsDrawn a_connection rng.old rng.new c) }
 {
-    let r = draw(rng, 12);
-    let name = numbered(alloc, "r", 1 + r)?;
+    let name = drawn_name(alloc, rng, "r", 12)?;
     Ok(Command::ConnectRouter { name })
 }
 

@@ -1,12 +1,11 @@
-use Rattle.std.proofs.Common.{◌+◌, ◌&&◌, codes, refl, ap₂, ◌∙◌, arith}
-use Rattle.ctrl_model.specs.NameForm.{is_name}
+use Rattle.std.proofs.Common.{refl, ap, ◌∙◌, arith}
 use Rattle.ctrl_model.specs.CommandForm.{are_attributes}
-use Rattle.load_gen.proofs.SpelledLoads.{name_form, two_form, both_hold}
+use Rattle.load_gen.proofs.SpelledLoads.{two_form, both_hold}
 use Rattle.load_gen.proofs.making.changed_identity.Goals as goal
 
 pub returns : goal.returns
 returns c = record {
-  drawn = rw (c.in_ok-name.ensures, c.in_ok-attributes.ensures, c.draw-h.ensures.value, c.draw-g.ensures.value, c.draw-u.ensures.value, c.draw-g.ensures.left, c.draw-u.ensures.left) refl;
-  generator = rw (c.draw-h.ensures.left, c.draw-g.ensures.left, c.draw-u.ensures.left) refl;
-  spelled = ap₂ (λ n names. is_name n && are_attributes names) c.in_ok-name.ensures c.in_ok-attributes.ensures ∙ both_hold _ _ (name_form (codes "u") (1 + c.draw-u.result) refl (omega arith)) (two_form c.draw-g.result c.draw-h.result (omega arith) (omega arith));
+  drawn = rw (c.in_ok-name.ensures.value, c.in_ok-attributes.ensures, c.draw-h.ensures.value, c.draw-g.ensures.value, c.draw-g.ensures.left, c.drawn_name.ensures.left) refl;
+  generator = rw (c.draw-h.ensures.left, c.draw-g.ensures.left, c.drawn_name.ensures.left) refl;
+  spelled = both_hold _ _ c.in_ok-name.ensures.form (ap are_attributes c.in_ok-attributes.ensures ∙ two_form c.draw-g.result c.draw-h.result (omega arith) (omega arith));
 }
