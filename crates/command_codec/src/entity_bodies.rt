@@ -1,4 +1,4 @@
-ghost use Rattle.std.specs.Prelude.{◌≡◌, ℕ, List, IsErrOf, Err};
+ghost use Rattle.std.specs.Prelude.{◌≡◌, ℕ, List, IsErrOf, Err, if◌then◌else◌};
 ghost use Rattle.ctrl_model.specs.declared.commands.Command.{Command};
 ghost use Rattle.command_codec.specs.BodyObjects.{object_of_body, said_by};
 ghost use Rattle.command_codec.specs.BodyMeaning.{meaning_in};
@@ -41,26 +41,18 @@ pub(crate) fn named(alloc: Global, body: &[u8], field: Field) -> Result<Name, Co
     Ok(name)
 }
 
-// What a body says that makes an identity or a service.
-fn made(alloc: Global, body: &[u8]) -> Result<(Name, Names), CodecFault>
-    ensures { (make : List ℕ → List (List ℕ) → Command) → Gives CodecFault.NoMemory (λ x. make x.0 x.1) result (said_by (made make) (object_of_body body.now)) }
+// What a body says that makes or updates an identity or a service. One that makes it may leave the attributes out.
+fn entity(alloc: Global, body: &[u8], makes: bool) -> Result<(Name, Names), CodecFault>
+    ensures { (make : List ℕ → List (List ℕ) → Command) → Gives CodecFault.NoMemory (λ x. make x.0 x.1) result (said_by (if makes then made make else updated make) (object_of_body body.now)) }
 {
     let value = value_in(alloc, body)?;
     let fields = Fields::of(&value)?;
     let name = fields.name(alloc, Field::Name)?;
-    let attributes = attributes_or_none(alloc, &fields)?;
-    fields.finish(&ENTITY_FIELDS)?;
-    Ok((name, attributes))
-}
-
-// What a body says that updates an identity or a service.
-fn updated(alloc: Global, body: &[u8]) -> Result<(Name, Names), CodecFault>
-    ensures { (make : List ℕ → List (List ℕ) → Command) → Gives CodecFault.NoMemory (λ x. make x.0 x.1) result (said_by (updated make) (object_of_body body.now)) }
-{
-    let value = value_in(alloc, body)?;
-    let fields = Fields::of(&value)?;
-    let name = fields.name(alloc, Field::Name)?;
-    let attributes = attributes(alloc, &fields)?;
+    let attributes = if makes {
+        attributes_or_none(alloc, &fields)?
+    } else {
+        attributes(alloc, &fields)?
+    };
     fields.finish(&ENTITY_FIELDS)?;
     Ok((name, attributes))
 }
@@ -115,22 +107,28 @@ pub(crate) fn entity_command(
 {
     match content {
         CREATE_IDENTITY => {
-            made(alloc, body).map(|(name, attributes)| Command::CreateIdentity { name, attributes })
+            entity(alloc, body, true).map(|(name, attributes)| Command::CreateIdentity {
+                name,
+                attributes,
+            })
         }
-        UPDATE_IDENTITY => updated(alloc, body).map(|(name, attributes)| Command::UpdateIdentity {
+        UPDATE_IDENTITY => entity(alloc, body, false).map(|(
             name,
             attributes,
-        }),
+        )| Command::UpdateIdentity { name, attributes }),
         DELETE_IDENTITY => {
             named(alloc, body, Field::Name).map(|name| Command::DeleteIdentity { name })
         }
         CREATE_SERVICE => {
-            made(alloc, body).map(|(name, attributes)| Command::CreateService { name, attributes })
+            entity(alloc, body, true).map(|(name, attributes)| Command::CreateService {
+                name,
+                attributes,
+            })
         }
-        UPDATE_SERVICE => updated(alloc, body).map(|(name, attributes)| Command::UpdateService {
+        UPDATE_SERVICE => entity(alloc, body, false).map(|(
             name,
             attributes,
-        }),
+        )| Command::UpdateService { name, attributes }),
         DELETE_SERVICE => {
             named(alloc, body, Field::Name).map(|name| Command::DeleteService { name })
         }

@@ -104,12 +104,20 @@ fn past_costs(bytes: &[u8]) -> Option<&[u8]>
     Some(rest)
 }
 
+// What follows two numbers.
+fn past_two_long(bytes: &[u8]) -> Option<&[u8]>
+    ensures { option_map (λ r. r.now) result ≡ behind (both front_long front_long bytes.now) }
+{
+    let (_, rest) = split_long(bytes)?;
+    let (_, rest) = split_long(rest)?;
+    Some(rest)
+}
+
 fn past_link(bytes: &[u8]) -> Option<&[u8]>
     ensures { option_map (λ r. r.now) result ≡ behind (front_link bytes.now) }
 {
     let (_, rest) = split_name(bytes)?;
-    let (_, rest) = split_long(rest)?;
-    let (_, rest) = split_long(rest)?;
+    let rest = past_two_long(rest)?;
     past_costs(rest)
 }
 
@@ -148,8 +156,7 @@ fn past_place(bytes: &[u8]) -> Option<&[u8]>
 fn past_terminator(bytes: &[u8]) -> Option<&[u8]>
     ensures { option_map (λ r. r.now) result ≡ behind (front_terminator bytes.now) }
 {
-    let (_, rest) = split_long(bytes)?;
-    let (_, rest) = split_long(rest)?;
+    let rest = past_two_long(bytes)?;
     let (_, rest) = split_long(rest)?;
     past_place(rest)
 }
@@ -157,10 +164,8 @@ fn past_terminator(bytes: &[u8]) -> Option<&[u8]>
 fn past_circuit(bytes: &[u8]) -> Option<&[u8]>
     ensures { option_map (λ r. r.now) result ≡ behind (front_circuit bytes.now) }
 {
-    let (_, rest) = split_long(bytes)?;
-    let (_, rest) = split_long(rest)?;
-    let (_, rest) = split_long(rest)?;
-    let (_, rest) = split_long(rest)?;
+    let rest = past_two_long(bytes)?;
+    let rest = past_two_long(rest)?;
     let (count, rest) = split_byte(rest)?;
     past_each_long(count, rest)
 }
