@@ -174,10 +174,7 @@ fn past_circuit(bytes: &[u8]) -> Option<&[u8]>
 fn ends(rest: Option<&[u8]>) -> bool
     ensures { result ≡ is_end (option_map (λ r. r.now) rest.entry) }
 {
-    match rest {
-        Some(rest) => rest.is_empty(),
-        None => false,
-    }
+    matches!(rest, Some(rest) if rest.is_empty())
 }
 
 // Whether a value is that of a record of a kind.
@@ -185,13 +182,11 @@ fn is_value(kind: Kind, value: &[u8]) -> bool
     ensures { result ≡ is_value kind value.now }
 {
     match kind {
-        Kind::Identity => ends(past_entity(value)),
-        Kind::Service => ends(past_entity(value)),
+        Kind::Identity | Kind::Service => ends(past_entity(value)),
         Kind::Router => ends(past_router(value)),
         Kind::Link => ends(past_link(value)),
         Kind::ServicePolicy => ends(past_service_policy(value)),
-        Kind::EdgeRouterPolicy => ends(past_router_policy(value)),
-        Kind::ServiceEdgeRouterPolicy => ends(past_router_policy(value)),
+        Kind::EdgeRouterPolicy | Kind::ServiceEdgeRouterPolicy => ends(past_router_policy(value)),
         Kind::Terminator => ends(past_terminator(value)),
         Kind::Circuit => ends(past_circuit(value)),
         Kind::Attribute => false,
