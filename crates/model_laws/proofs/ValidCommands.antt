@@ -16,7 +16,7 @@ use Rattle.ctrl_model.specs.declared.refusals.Refusal.TheVariants.{NotPermitted,
 use Rattle.ctrl_model.specs.declared.replies.Reply.{Reply}
 use Rattle.ctrl_model.specs.declared.replies.Reply.TheVariants.{Refused}
 use Rattle.ctrl_model.specs.NameForm.{is_name, is_instance}
-use Rattle.ctrl_model.specs.State.{State}
+use Rattle.ctrl_model.specs.State.{State, Policy}
 use Rattle.ctrl_model.specs.CommandForm.{is_spelled, is_service_relation, is_side, is_number, is_cost, is_link_cost, is_latency, is_name_or_none}
 use Rattle.ctrl_model.specs.Rules.{shown}
 use Rattle.ctrl_model.specs.Networks.{network_of}
@@ -49,6 +49,13 @@ policy-fits k name relation semantic left right s e related none =
     let named = and_parts (is_name name) (is_side left && is_side right) e in
     policy_in-valid k (policy name relation semantic left right) s (policy-valid name relation semantic left right named.0 named.1) related none
 
+-- so it is in place of another
+replaced-fits : (k : Kind) (name : List ℕ) (relation : Relation) (semantic : Semantic) (left right : Side) (s : State) → (is_name name && (is_side left && is_side right)) ≡ true
+    → may_relate k relation ≡ true → absent_names k (policy name relation semantic left right) s ≡ None
+    → (q : Policy) → is_valid_policy_in k s q ≡ true → is_valid_policy_in k s (replaced_by (policy name relation semantic left right) q) ≡ true
+replaced-fits k name relation semantic left right s e related none q old =
+    replaced_in-valid k (policy name relation semantic left right) q s (policy-fits k name relation semantic left right s e related none) old
+
 -- the relation of a service policy, and the rest
 service_parts : (name : List ℕ) (relation : Relation) (left right : Side) → (is_name name && (is_service_relation relation && (is_side left && is_side right))) ≡ true
     → (is_service_relation relation ≡ true) × ((is_name name && (is_side left && is_side right)) ≡ true)
@@ -77,20 +84,17 @@ carry-valid (command.CreateServicePolicy name relation semantic left right) s e 
     create-valid kind.ServicePolicy (policy name relation semantic left right) s (policy-fits kind.ServicePolicy name relation semantic left right s parts.1 parts.0) v
 carry-valid (command.UpdateServicePolicy name relation semantic left right) s e v =
     let parts = service_parts name relation left right e in
-    update-valid kind.ServicePolicy name (replaced_by (policy name relation semantic left right)) (absent_names kind.ServicePolicy (policy name relation semantic left right) s) s (λ q. refl)
-    (λ none q t. replaced_in-valid kind.ServicePolicy (policy name relation semantic left right) q s (policy-fits kind.ServicePolicy name relation semantic left right s parts.1 parts.0 none) t) v
+    update-valid kind.ServicePolicy name (replaced_by (policy name relation semantic left right)) (absent_names kind.ServicePolicy (policy name relation semantic left right) s) s (λ q. refl) (replaced-fits kind.ServicePolicy name relation semantic left right s parts.1 parts.0) v
 carry-valid (command.DeleteServicePolicy name) s e v = delete-valid kind.ServicePolicy field.Name name s v
 carry-valid (command.CreateEdgeRouterPolicy name semantic left right) s e v =
     create-valid kind.EdgeRouterPolicy (policy name IdentityRouter semantic left right) s (policy-fits kind.EdgeRouterPolicy name IdentityRouter semantic left right s e refl) v
 carry-valid (command.UpdateEdgeRouterPolicy name semantic left right) s e v =
-    update-valid kind.EdgeRouterPolicy name (replaced_by (policy name IdentityRouter semantic left right)) (absent_names kind.EdgeRouterPolicy (policy name IdentityRouter semantic left right) s) s (λ q. refl)
-    (λ none q t. replaced_in-valid kind.EdgeRouterPolicy (policy name IdentityRouter semantic left right) q s (policy-fits kind.EdgeRouterPolicy name IdentityRouter semantic left right s e refl none) t) v
+    update-valid kind.EdgeRouterPolicy name (replaced_by (policy name IdentityRouter semantic left right)) (absent_names kind.EdgeRouterPolicy (policy name IdentityRouter semantic left right) s) s (λ q. refl) (replaced-fits kind.EdgeRouterPolicy name IdentityRouter semantic left right s e refl) v
 carry-valid (command.DeleteEdgeRouterPolicy name) s e v = delete-valid kind.EdgeRouterPolicy field.Name name s v
 carry-valid (command.CreateServiceEdgeRouterPolicy name semantic left right) s e v =
     create-valid kind.ServiceEdgeRouterPolicy (policy name ServiceRouter semantic left right) s (policy-fits kind.ServiceEdgeRouterPolicy name ServiceRouter semantic left right s e refl) v
 carry-valid (command.UpdateServiceEdgeRouterPolicy name semantic left right) s e v =
-    update-valid kind.ServiceEdgeRouterPolicy name (replaced_by (policy name ServiceRouter semantic left right)) (absent_names kind.ServiceEdgeRouterPolicy (policy name ServiceRouter semantic left right) s) s (λ q. refl)
-    (λ none q t. replaced_in-valid kind.ServiceEdgeRouterPolicy (policy name ServiceRouter semantic left right) q s (policy-fits kind.ServiceEdgeRouterPolicy name ServiceRouter semantic left right s e refl none) t) v
+    update-valid kind.ServiceEdgeRouterPolicy name (replaced_by (policy name ServiceRouter semantic left right)) (absent_names kind.ServiceEdgeRouterPolicy (policy name ServiceRouter semantic left right) s) s (λ q. refl) (replaced-fits kind.ServiceEdgeRouterPolicy name ServiceRouter semantic left right s e refl) v
 carry-valid (command.DeleteServiceEdgeRouterPolicy name) s e v = delete-valid kind.ServiceEdgeRouterPolicy field.Name name s v
 carry-valid (command.CreateLink name a b cost latency_a latency_b) s e v =
     let named = and_parts (is_name name) _ e in

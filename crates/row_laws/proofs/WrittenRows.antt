@@ -165,68 +165,42 @@ fit_number n h = and_from (is_long n) true h refl
 without_third : (l m r x : Bool) → l ≡ true → (m && (r && x)) ≡ true → (l && (m && x)) ≡ true
 without_third l m r x h f = let parts = and_parts m (r && x) f in and_from l _ h (and_from m x parts.0 (and_parts r x parts.1).1)
 
+-- a record as the row that it spells
+written_by : (k : Kind) (n : ℕ) (r : Record k) (x : Row) → is_key (kind_number k + 2, n, 0) ≡ true → fits k r ≡ true → SpellsRow (key_bytes (kind_number k + 2, n, 0)) (record_value k r) x
+    → Written ((kind_number k + 2, n, 0), record_value k r)
+written_by k n r x key f spells = record { under_key = key; form = x; spells = spells; short_value = short_record k r f }
+
 pub written_record : (k : Kind) (n : ℕ) (r : Record k) → has_number (Records k) ≡ true → is_long n ≡ true → fits k r ≡ true → Written ((kind_number k + 2, n, 0), record_value k r)
-written_record kind.Identity n e has h f = record {
-  under_key = fit_number n h;
-  form = row.Identity (record { 0 = n }) e.name e.attributes;
-  spells = record { form = and_from (is_long n) _ h f; key_is = refl; value_is = refl };
-  short_value = short_record kind.Identity e f;
-}
-written_record kind.Service n e has h f = record {
-  under_key = fit_number n h;
-  form = row.Service (record { 0 = n }) e.name e.attributes;
-  spells = record { form = and_from (is_long n) _ h f; key_is = refl; value_is = refl };
-  short_value = short_record kind.Service e f;
-}
-written_record kind.Router n r has h f = record {
-  under_key = fit_number n h;
-  form = row.Router (record { 0 = n }) r.name r.attributes r.cost r.through r.connected;
-  spells = record { form = and_from (is_long n) _ h f; key_is = refl; value_is = refl };
-  short_value = short_record kind.Router r f;
-}
-written_record kind.Link n l has h f = record {
-  under_key = fit_number n h;
-  form = row.Link (record { 0 = n }) l.name (record { 0 = l.a }) (record { 0 = l.b }) l.cost l.latency_a l.latency_b l.up;
-  spells = record { form = and_from (is_long n) _ h f; key_is = refl; value_is = refl };
-  short_value = short_record kind.Link l f;
-}
-written_record kind.ServicePolicy n p has h f = record {
-  under_key = fit_number n h;
-  form = row.ServicePolicy (record { 0 = n }) p.name p.relation p.semantic p.left p.right;
-  spells = record { form = and_from (is_long n) _ h f; key_is = refl; value_is = refl };
-  short_value = short_record kind.ServicePolicy p f;
-}
-written_record kind.EdgeRouterPolicy n p has h f = record {
-  under_key = fit_number n h;
-  form = row.EdgeRouterPolicy (record { 0 = n }) p.name p.semantic p.left p.right;
-  spells = record { form = without_third (is_long n) (is_name p.name) (may_relate kind.EdgeRouterPolicy p.relation) _ h f; key_is = refl; value_is = refl };
-  short_value = short_record kind.EdgeRouterPolicy p f;
-}
-written_record kind.ServiceEdgeRouterPolicy n p has h f = record {
-  under_key = fit_number n h;
-  form = row.ServiceEdgeRouterPolicy (record { 0 = n }) p.name p.semantic p.left p.right;
-  spells = record { form = without_third (is_long n) (is_name p.name) (may_relate kind.ServiceEdgeRouterPolicy p.relation) _ h f; key_is = refl; value_is = refl };
-  short_value = short_record kind.ServiceEdgeRouterPolicy p f;
-}
+written_record kind.Identity n e has h f =
+    written_by kind.Identity n e (row.Identity (record { 0 = n }) e.name e.attributes) (fit_number n h) f (record { form = and_from (is_long n) _ h f; key_is = refl; value_is = refl })
+written_record kind.Service n e has h f =
+    written_by kind.Service n e (row.Service (record { 0 = n }) e.name e.attributes) (fit_number n h) f (record { form = and_from (is_long n) _ h f; key_is = refl; value_is = refl })
+written_record kind.Router n r has h f =
+    written_by kind.Router n r (row.Router (record { 0 = n }) r.name r.attributes r.cost r.through r.connected) (fit_number n h) f (record { form = and_from (is_long n) _ h f; key_is = refl; value_is = refl })
+written_record kind.Link n l has h f =
+    written_by kind.Link n l (row.Link (record { 0 = n }) l.name (record { 0 = l.a }) (record { 0 = l.b }) l.cost l.latency_a l.latency_b l.up) (fit_number n h) f
+    (record { form = and_from (is_long n) _ h f; key_is = refl; value_is = refl })
+written_record kind.ServicePolicy n p has h f =
+    written_by kind.ServicePolicy n p (row.ServicePolicy (record { 0 = n }) p.name p.relation p.semantic p.left p.right) (fit_number n h) f (record { form = and_from (is_long n) _ h f; key_is = refl; value_is = refl })
+written_record kind.EdgeRouterPolicy n p has h f =
+    written_by kind.EdgeRouterPolicy n p (row.EdgeRouterPolicy (record { 0 = n }) p.name p.semantic p.left p.right) (fit_number n h) f
+    (record { form = without_third (is_long n) (is_name p.name) (may_relate kind.EdgeRouterPolicy p.relation) _ h f; key_is = refl; value_is = refl })
+written_record kind.ServiceEdgeRouterPolicy n p has h f =
+    written_by kind.ServiceEdgeRouterPolicy n p (row.ServiceEdgeRouterPolicy (record { 0 = n }) p.name p.semantic p.left p.right) (fit_number n h) f
+    (record { form = without_third (is_long n) (is_name p.name) (may_relate kind.ServiceEdgeRouterPolicy p.relation) _ h f; key_is = refl; value_is = refl })
 written_record kind.Terminator n t has h f =
     let hosts = hosts_back t.host in
-    record {
-      under_key = fit_number n h;
-      form = row.Terminator (record { 0 = n }) (record { 0 = t.service }) (record { 0 = t.router }) (option_map (λ n. record { 0 = n }) t.host) t.instance t.cost t.precedence;
-      spells = record {
-        form = and_from (is_long n) _ h
-            (subst (λ o. (is_long t.service && (is_long t.router && (is_host o && (is_instance t.instance && is_short t.cost)))) ≡ true) (sym hosts) f);
-        key_is = refl;
-        value_is = ap (λ o. record_value kind.Terminator (record t { host = o })) (sym hosts);
-      };
-      short_value = short_record kind.Terminator t f;
-    }
-written_record kind.Circuit n c has h f = record {
-  under_key = fit_number n h;
-  form = row.Circuit (record { 0 = n }) (record { 0 = c.identity }) (record { 0 = c.service }) (record { 0 = c.terminator }) (record { 0 = c.ingress }) c.links;
-  spells = record { form = and_from (is_long n) _ h f; key_is = refl; value_is = refl };
-  short_value = short_record kind.Circuit c f;
-}
+    written_by kind.Terminator n t
+    (row.Terminator (record { 0 = n }) (record { 0 = t.service }) (record { 0 = t.router }) (option_map (λ n. record { 0 = n }) t.host) t.instance t.cost t.precedence) (fit_number n h) f
+    (record {
+      form = and_from (is_long n) _ h
+          (subst (λ o. (is_long t.service && (is_long t.router && (is_host o && (is_instance t.instance && is_short t.cost)))) ≡ true) (sym hosts) f);
+      key_is = refl;
+      value_is = ap (λ o. record_value kind.Terminator (record t { host = o })) (sym hosts);
+    })
+written_record kind.Circuit n c has h f =
+    written_by kind.Circuit n c (row.Circuit (record { 0 = n }) (record { 0 = c.identity }) (record { 0 = c.service }) (record { 0 = c.terminator }) (record { 0 = c.ingress }) c.links) (fit_number n h) f
+    (record { form = and_from (is_long n) _ h f; key_is = refl; value_is = refl })
 written_record kind.Attribute n u has h f = absurd (false≢true has)
 
 -- the row of a count, which spells it

@@ -7,19 +7,15 @@ use Rattle.frame_lines.proofs.decoding.decode.Goals as goal
 
 pub returns-in-Err-clause-text : goal.returns-in-Err-clause-text
 returns-in-Err-clause-text c =
-    let rest = c.frames.rest.now in
-    let whole : front rest ≡ Whole c.in-Whole.frame c.in-Whole.len = sym c.in_ok-frame.ensures.front ∙ c.in-Whole.is in
     let put = rw c.in-Err.is at c.in_ok-put-in-Whole.ensures in
     ap (λ d. d.text) c.ended.ensures ∙ put.1
-    ∙ (told_untold c.frames.out.items c.frames.number rest c.args.bytes.now c.in-Whole.frame c.in-Whole.len c.in-Err.cause whole put.0 c.frames.invariant.told).0
+    ∙ (told_untold c.frames.out.items c.frames.number c.frames.rest.now c.args.bytes.now c.in-Whole.frame c.in-Whole.len c.in-Err.cause (sym c.in_ok-frame.ensures.front ∙ c.in-Whole.is) put.0 c.frames.invariant.told).0
 
 pub returns-in-Err-clause-fault : goal.returns-in-Err-clause-fault
 returns-in-Err-clause-fault c =
-    let rest = c.frames.rest.now in
-    let whole : front rest ≡ Whole c.in-Whole.frame c.in-Whole.len = sym c.in_ok-frame.ensures.front ∙ c.in-Whole.is in
     let put = rw c.in-Err.is at c.in_ok-put-in-Whole.ensures in
     ap (λ d. d.fault) c.ended.ensures ∙ c.fault_at.ensures
-    ∙ (told_untold c.frames.out.items c.frames.number rest c.args.bytes.now c.in-Whole.frame c.in-Whole.len c.in-Err.cause whole put.0 c.frames.invariant.told).1
+    ∙ (told_untold c.frames.out.items c.frames.number c.frames.rest.now c.args.bytes.now c.in-Whole.frame c.in-Whole.len c.in-Err.cause (sym c.in_ok-frame.ensures.front ∙ c.in-Whole.is) put.0 c.frames.invariant.told).1
 
 pub split_at-requires : goal.split_at-requires
 split_at-requires c = whole_fits c.frames.rest.now c.in-Whole.frame c.in-Whole.len (sym c.in_ok-frame.ensures.front ∙ c.in-Whole.is)

@@ -34,13 +34,17 @@ returns-else-may_open-clause-ok c =
 
 pub returns-else-is_open-clause-ok : goal.returns-else-is_open-clause-ok
 returns-else-is_open-clause-ok c =
-    let v : Standing = record { form = c.self.inside.form; input = c.self.inside.input; before = c.self.inside.before; sessions = c.self.inside.sessions } in
-    (refl, trace_not_open v c.args.self.now c.self.view_is c.requires.form c.as_slice.result.now c.as_slice.ensures
-    c.in-Brings.session (Data c.in-Brings.session (take c.in-Brings.len (drop 4 c.as_slice.result.now))) (4 + c.in-Brings.len)
-    (sym c.is_open.ensures ∙ c.if-is_open.false) c.in-Brings.ensures.front c.requires.quiet)
+    let v : Standing = record { form = c.self.inside.form; input = c.self.inside.input; before = c.self.inside.before; sessions = c.self.inside.sessions } in (
+      refl,
+      trace_not_open v c.args.self.now c.self.view_is c.requires.form c.as_slice.result.now c.as_slice.ensures
+          c.in-Brings.session (Data c.in-Brings.session (take c.in-Brings.len (drop 4 c.as_slice.result.now))) (4 + c.in-Brings.len)
+          (sym c.is_open.ensures ∙ c.if-is_open.false) c.in-Brings.ensures.front c.requires.quiet,
+    )
 
 pub returns-else-is_open-2-clause-ok : goal.returns-else-is_open-2-clause-ok
 returns-else-is_open-2-clause-ok c =
-    let v : Standing = record { form = c.self.inside.form; input = c.self.inside.input; before = c.self.inside.before; sessions = c.self.inside.sessions } in
-    (refl, trace_not_open v c.args.self.now c.self.view_is c.requires.form c.as_slice.result.now c.as_slice.ensures
-    c.in-Closes.session (Close c.in-Closes.session) 2 (sym c.is_open-in-Closes.ensures ∙ c.if-is_open-2.false) c.in-Closes.ensures.front c.requires.quiet)
+    let v : Standing = record { form = c.self.inside.form; input = c.self.inside.input; before = c.self.inside.before; sessions = c.self.inside.sessions } in (
+      refl,
+      trace_not_open v c.args.self.now c.self.view_is c.requires.form c.as_slice.result.now c.as_slice.ensures
+          c.in-Closes.session (Close c.in-Closes.session) 2 (sym c.is_open-in-Closes.ensures ∙ c.if-is_open-2.false) c.in-Closes.ensures.front c.requires.quiet,
+    )
