@@ -22,6 +22,7 @@ use Rattle.run_notes.specs.Endings.{ending_at}
 use Rattle.ctrl_serve.specs.SaidReplies.{SaysAll, joined}
 use Rattle.ctrl_serve.specs.FrameAnswer.{replies, replies_to}
 use Rattle.ctrl_serve.specs.Headline.{Serves}
+use Rattle.ctrl_serve.specs.Reading.{is_decided}
 use Rattle.run_notes.specs.Inputs.{events_in, end_in, is_fault, is_bad_input, closed_rests, rest_at, has_rest}
 use Rattle.run_notes.specs.Notes.{session_note, session_rest_lines, trace_note, fault_lines, bad_lines, rest_lines, notes_of}
 use Rattle.run_notes.proofs.NoteLaws.{some_rest}
@@ -115,18 +116,22 @@ good_lines form used answered more all good =
 
 -- ---- Done
 
-record DoneReads (form : Form) (most : ℕ) (bytes taken : List ℕ) (left : Option (List ℕ)) : Type 0 where
+-- An input without a fault was read to its end, with a rest or without one.
+record ReadsWell (form : Form) (most : ℕ) (bytes taken : List ℕ) (left : Option (List ℕ)) (rest : Bool) : Type 0 where
   pub read : WasRead most bytes taken left
   pub good : is_bad_input form bytes ≡ false
-  pub rests : has_rest form bytes ≡ false
+  pub rests : has_rest form bytes ≡ rest
+
+reads_well : (form : Form) (most : ℕ) (bytes taken : List ℕ) (left : Option (List ℕ)) (rest : Bool)
+    → Decided (is_bad_input form (take most taken)) (has_rest form (take most taken)) (ltb most (length taken)) rest
+    → Gave (Some bytes) left taken → (is_decided form (take most taken) ≡ false → IsAtEnd left ⊎ (most < length taken)) → ReadsWell form most bytes taken left rest
+reads_well form most bytes taken left rest is gave read_on =
+    let read = was_read most bytes taken left gave (at_end most left taken is.whole (read_on (good_undecided form (take most taken) is.good))) is.whole in
+    record { read = read; good = ap (is_bad_input form) (sym read.used) ∙ is.good; rests = ap (has_rest form) (sym read.used) ∙ is.rests }
 
 done_reads : (form : Form) (bounds : StoreBounds) (m : Machine) (most : ℕ) (bytes : List ℕ) (left b c d e : Option (List ℕ)) (x y : ℕ) (s : Serves form bounds m most (Some bytes) left b c d e x y Done)
-    → DoneReads form most bytes s.taken left
-done_reads form bounds m most bytes left b c d e x y s =
-    let first : List ℕ = take most s.taken in
-    let is = done_is (is_bad_input form first) (has_rest form first) (ltb most (length s.taken)) (s.ends refl) in
-    let read = was_read most bytes s.taken left s.gave (at_end most left s.taken is.whole (s.read_on refl (good_undecided form first is.good))) is.whole in
-    record { read = read; good = ap (is_bad_input form) (sym read.used) ∙ is.good; rests = ap (has_rest form) (sym read.used) ∙ is.rests }
+    → ReadsWell form most bytes s.taken left false
+done_reads form bounds m most bytes left b c d e x y s = reads_well form most bytes s.taken left false (done_is _ _ _ (s.ends refl)) s.gave (s.read_on refl)
 
 pub done_read : (form : Form) (bounds : StoreBounds) (m : Machine) (most : ℕ) (bytes : List ℕ) (left b c d e : Option (List ℕ)) (x y : ℕ) → Serves form bounds m most (Some bytes) left b c d e x y Done
     → (left ≡ Some []) × (length bytes ≤ most)
@@ -169,18 +174,9 @@ done_noted form bounds m most bytes left b c d e x y s =
 
 -- ---- Truncated
 
-record TruncatedReads (form : Form) (most : ℕ) (bytes taken : List ℕ) (left : Option (List ℕ)) : Type 0 where
-  pub read : WasRead most bytes taken left
-  pub good : is_bad_input form bytes ≡ false
-  pub rests : has_rest form bytes ≡ true
-
 truncated_reads : (form : Form) (bounds : StoreBounds) (m : Machine) (most : ℕ) (bytes : List ℕ) (left b c d e : Option (List ℕ)) (x y : ℕ) (s : Serves form bounds m most (Some bytes) left b c d e x y Truncated)
-    → TruncatedReads form most bytes s.taken left
-truncated_reads form bounds m most bytes left b c d e x y s =
-    let first : List ℕ = take most s.taken in
-    let is = truncated_at (is_bad_input form first) (has_rest form first) (ltb most (length s.taken)) (s.ends refl) in
-    let read = was_read most bytes s.taken left s.gave (at_end most left s.taken is.whole (s.read_on refl (good_undecided form first is.good))) is.whole in
-    record { read = read; good = ap (is_bad_input form) (sym read.used) ∙ is.good; rests = ap (has_rest form) (sym read.used) ∙ is.rests }
+    → ReadsWell form most bytes s.taken left true
+truncated_reads form bounds m most bytes left b c d e x y s = reads_well form most bytes s.taken left true (truncated_at _ _ _ (s.ends refl)) s.gave (s.read_on refl)
 
 pub truncated_read : (form : Form) (bounds : StoreBounds) (m : Machine) (most : ℕ) (bytes : List ℕ) (left b c d e : Option (List ℕ)) (x y : ℕ) → Serves form bounds m most (Some bytes) left b c d e x y Truncated
     → (left ≡ Some []) × (length bytes ≤ most)

@@ -332,6 +332,10 @@ two_used most count taken piece part counted le is =
     ∙ ap (λ (later : List ℕ). taken ++ later) (sym is)
     ∙ ap (λ (first : List ℕ). first ++ part) (sym (take_all most taken few))
 
+-- A piece is no longer than the room for it.
+pub short_piece : (count : ℕ) (buf : List ℕ) → length buf ≤ 65536 → length (take count buf) ≤ 65536
+short_piece count buf few = omega (arith, length-take count buf, few)
+
 -- A piece came, and none of it was answered yet.
 pub record FedPieces (form : Form) (c : Serving) (most : ℕ) (k : Known) (m : Machine) (st : Standing) (l r a b : Option (List ℕ)) (f g : Bool) (n n1 : Option (List ℕ)) (x x1 : ℕ)
     (tells : Bool) (elapses : (Image → List ℕ → Type 0) → Type 0) (size : ℕ) : Type 0 where
@@ -346,10 +350,10 @@ pub undecided_calm : (form : Form) (used : List ℕ) (es : List Event) → is_de
 undecided_calm Plain used es going all is = ap (list_any is_fault) all ∙ going
 undecided_calm Trace used es going all is = absurd cc
 
-abbrev pub pieces_fed : {i j : ℕ} {past since : ℕ → Image → List ℕ → Type 0} (form : Form) (c : Serving) (most : ℕ) (k : Known) (m : Machine) (st st2 : Standing) (l r r2 a b : Option (List ℕ)) (f g : Bool) (n n1 : Option (List ℕ)) (x x1 : ℕ) (tells : Bool) (count : ℕ) (piece part : List ℕ)
+abbrev pub pieces_fed : {i j : ℕ} {past since : ℕ → Image → List ℕ → Type 0} {form : Form} {c : Serving} {most : ℕ} {k : Known} {m : Machine} {st st2 : Standing} {l r r2 a b : Option (List ℕ)} {f g : Bool} {n n1 : Option (List ℕ)} {x x1 : ℕ} {tells : Bool} {count : ℕ} (piece : List ℕ) {part : List ℕ}
     → AnswersPieces form c most k m st l r a b f g n n1 x x1 tells (Elapses i j past since) count → events_of st ≡ [] → count ≤ most → Gave r r2 piece → length piece ≤ 65536 → part ≡ take (most - count) piece → st2 ≡ fed st part
     → FedPieces form c most k m st2 l r2 a b f g n n1 x x1 tells (Elapses i j past since) (count + length piece)
-pieces_fed {i} {j} {past} {since} form c most k m st st2 l r r2 a b f g n n1 x x1 tells count piece part held none le gave few is now =
+pieces_fed {i} {j} {past} {since} {form} {c} {most} {k} {m} {st} {st2} {l} {r} {r2} {a} {b} {f} {g} {n} {n1} {x} {x1} {tells} {count} piece {part} held none le gave few is now =
     let taken : List ℕ = held.takes.taken in
     let used : List ℕ = take most taken in
     let start : at_start form (take most (taken ++ piece)) ≡ fed (at_start form used) part =
@@ -372,9 +376,9 @@ pieces_fed {i} {j} {past} {since} form c most k m st st2 l r r2 a b f g n n1 x x
     }
 
 -- No memory was left to hold it.
-pub fed_starved : {elapses : (Image → List ℕ → Type 0) → Type 0} (form : Form) (c : Serving) (most : ℕ) (k : Known) (m : Machine) (st : Standing) (l r a b : Option (List ℕ)) (f g : Bool) (n n1 : Option (List ℕ)) (x x1 : ℕ) (tells : Bool) (size : ℕ)
+pub fed_starved : {elapses : (Image → List ℕ → Type 0) → Type 0} {form : Form} {c : Serving} {most : ℕ} {k : Known} {m : Machine} {st : Standing} {l r a b : Option (List ℕ)} {f g : Bool} {n n1 : Option (List ℕ)} {x x1 : ℕ} {tells : Bool} {size : ℕ}
     → FedPieces form c most k m st l r a b f g n n1 x x1 tells elapses size → CutsInput NoMemory form c most l r a b f g n n1 x x1 tells elapses
-fed_starved form c most k m st l r a b f g n n1 x x1 tells size fed =
+fed_starved {elapses} {form} {c} {most} {k} {m} {st} {l} {r} {a} {b} {f} {g} {n} {n1} {x} {x1} {tells} {size} fed =
     let es : List Event = fed.answers.answered in
     record {
       takes = fed.takes;
@@ -402,10 +406,10 @@ takes_on form c here most k m st l r a b f g n n1 x x1 tells size fed within sto
 }
 
 -- The answering of its events was cut short.
-pub fed_cut : {i j o : ℕ} {past mid since : ℕ → Image → List ℕ → Type 0} (by : Cut) (form : Form) (c : Serving) (here : StoreBounds) (most : ℕ) (k : Known) (m : Machine) (st : Standing) (l r a b d : Option (List ℕ)) (f g h : Bool) (n n1 n2 : Option (List ℕ)) (x x1 x2 : ℕ) (tells : Bool) (size : ℕ)
+pub fed_cut : {i j o : ℕ} {past mid since : ℕ → Image → List ℕ → Type 0} {by : Cut} {form : Form} {c : Serving} {here : StoreBounds} {most : ℕ} {k : Known} {m : Machine} {st : Standing} {l r a b d : Option (List ℕ)} {f g h : Bool} {n n1 n2 : Option (List ℕ)} {x x1 x2 : ℕ} {tells : Bool} {size : ℕ}
     → FedPieces form c most k m st l r a b f g n n1 x x1 tells (Elapses i j past mid) size → here ≡ c.bounds → IsCutShort by form here k m st b d g h n1 n2 x1 x2
     → (IsSome c.kept → IsTrue tells → Elapses j o mid since (StopsAlong form here k m st b)) → CutsInput by form c most l r a d f h n n2 x x2 tells (Elapses i o past since)
-fed_cut by form c here most k m st l r a b d f g h n n1 n2 x x1 x2 tells size fed within short stops =
+fed_cut {i} {j} {o} {past} {mid} {since} {by} {form} {c} {here} {most} {k} {m} {st} {l} {r} {a} {b} {d} {f} {g} {h} {n} {n1} {n2} {x} {x1} {x2} {tells} {size} fed within short stops =
     let used : List ℕ = take most fed.takes.taken in
     let cuts = subst (λ (y : StoreBounds). IsCutShort by form y k m st b d g h n1 n2 x1 x2) within short in
     record {
@@ -416,11 +420,11 @@ fed_cut by form c here most k m st l r a b d f g h n n1 n2 x x1 x2 tells size fe
     }
 
 -- All its events were answered: the input is not decided and goes on, or it is.
-abbrev pub fed_more : {i j o : ℕ} {past mid since : ℕ → Image → List ℕ → Type 0} (form : Form) (c : Serving) (here : StoreBounds) (most : ℕ) (k k1 : Known) (m m1 : Machine) (st st1 : Standing) (l r a b d : Option (List ℕ)) (f g h : Bool) (n n1 n2 : Option (List ℕ)) (x x1 x2 : ℕ) (tells : Bool) (bad : Option ℕ) (size count : ℕ)
+abbrev pub fed_more : {i j o : ℕ} {past mid since : ℕ → Image → List ℕ → Type 0} {form : Form} {c : Serving} {here : StoreBounds} {most : ℕ} {k k1 : Known} {m m1 : Machine} {st st1 : Standing} {l r a b d : Option (List ℕ)} {f g h : Bool} {n n1 n2 : Option (List ℕ)} {x x1 x2 : ℕ} {tells : Bool} (bad : Option ℕ) {size count : ℕ}
     → FedPieces form c most k m st l r a b f g n n1 x x1 tells (Elapses i j past mid) size → here ≡ c.bounds → Answers form here k k1 m m1 st st1 b d g h n1 n2 x1 x2
     → (IsSome c.kept → IsTrue tells → Elapses j o mid since (StopsAlong form here k m st b)) → ComesToEnd st1 bad → decided_by form bad k1.faulty ≡ false → size ≡ count
     → AnswersPieces form c most k1 m1 st1 l r a d f h n n2 x x2 tells (Elapses i o past since) count
-fed_more form c here most k k1 m m1 st st1 l r a b d f g h n n1 n2 x x1 x2 tells bad size count fed within later stops end going same =
+fed_more {i} {j} {o} {past} {mid} {since} {form} {c} {here} {most} {k} {k1} {m} {m1} {st} {st1} {l} {r} {a} {b} {d} {f} {g} {h} {n} {n1} {n2} {x} {x1} {x2} {tells} bad {size} {count} fed within later stops end going same =
     let used : List ℕ = take most fed.takes.taken in
     let told = answers_then form c.bounds here (known_in form) k k1 c.machine m m1 (at_start form used) st st1 a b d f g h n n1 n2 x x1 x2 within fed.answers later in
     let all : told.answered ≡ events_in form used = all_so form used st1 told.answered told.goes (none_left st1 bad end) in
@@ -431,11 +435,11 @@ fed_more form c here most k k1 m m1 st st1 l r a b d f g h n n1 n2 x x1 x2 tells
       undecided = sym (decided_so form used st1 k1 told.answered bad told.known_is all (end_so form used st1 told.answered told.goes) end) ∙ going;
     }
 
-abbrev pub fed_decided : {i j o : ℕ} {past mid since : ℕ → Image → List ℕ → Type 0} (form : Form) (c : Serving) (here : StoreBounds) (most : ℕ) (k k1 : Known) (m m1 : Machine) (st st1 : Standing) (l r a b d : Option (List ℕ)) (f g h : Bool) (n n1 n2 : Option (List ℕ)) (x x1 x2 : ℕ) (tells : Bool) (bad : Option ℕ) (size : ℕ)
+abbrev pub fed_decided : {i j o : ℕ} {past mid since : ℕ → Image → List ℕ → Type 0} {form : Form} {c : Serving} {here : StoreBounds} {most : ℕ} {k k1 : Known} {m m1 : Machine} {st st1 : Standing} {l r a b d : Option (List ℕ)} {f g h : Bool} {n n1 n2 : Option (List ℕ)} {x x1 x2 : ℕ} {tells : Bool} (bad : Option ℕ) {size : ℕ}
     → FedPieces form c most k m st l r a b f g n n1 x x1 tells (Elapses i j past mid) size → here ≡ c.bounds → Answers form here k k1 m m1 st st1 b d g h n1 n2 x1 x2
     → (IsSome c.kept → IsTrue tells → Elapses j o mid since (StopsAlong form here k m st b)) → ComesToEnd st1 bad → decided_by form bad k1.faulty ≡ true
     → EndsPieces form c most k1 m1 st1 l r a d f h n n2 x x2 tells (Elapses i o past since) Whole
-fed_decided form c here most k k1 m m1 st st1 l r a b d f g h n n1 n2 x x1 x2 tells bad size fed within later stops end decided =
+fed_decided {i} {j} {o} {past} {mid} {since} {form} {c} {here} {most} {k} {k1} {m} {m1} {st} {st1} {l} {r} {a} {b} {d} {f} {g} {h} {n} {n1} {n2} {x} {x1} {x2} {tells} bad {size} fed within later stops end decided =
     let used : List ℕ = take most fed.takes.taken in
     let told = answers_then form c.bounds here (known_in form) k k1 c.machine m m1 (at_start form used) st st1 a b d f g h n n1 n2 x x1 x2 within fed.answers later in
     let all : told.answered ≡ events_in form used = all_so form used st1 told.answered told.goes (none_left st1 bad end) in
@@ -447,16 +451,16 @@ fed_decided form c here most k k1 m m1 st st1 l r a b d f g h n n1 n2 x x1 x2 te
     }
 
 -- Where it goes on, all was given.
-pub more_given : {elapses : (Image → List ℕ → Type 0) → Type 0} (form : Form) (c : Serving) (most : ℕ) (k : Known) (m : Machine) (st : Standing) (l r a b : Option (List ℕ)) (f g : Bool) (n n1 : Option (List ℕ)) (x x1 : ℕ) (tells : Bool) (bad : Option ℕ) (count : ℕ)
+pub more_given : {elapses : (Image → List ℕ → Type 0) → Type 0} {form : Form} {c : Serving} {most : ℕ} {k : Known} {m : Machine} {st : Standing} {l r a b : Option (List ℕ)} {f g : Bool} {n n1 : Option (List ℕ)} {x x1 : ℕ} {tells : Bool} (bad : Option ℕ) {count : ℕ}
     → AnswersPieces form c most k m st l r a b f g n n1 x x1 tells elapses count → ComesToEnd st bad → decided_by form bad k.faulty ≡ false → IsAllGiven st
-more_given form c most k m st l r a b f g n n1 x x1 tells bad count held end going =
+more_given {elapses} {form} {c} {most} {k} {m} {st} {l} {r} {a} {b} {f} {g} {n} {n1} {x} {x1} {tells} bad {count} held end going =
     let used : List ℕ = take most held.takes.taken in
     undecided_given form used st bad k.faulty (end_so form used st held.answers.answered held.answers.goes) end going
 
 -- No more bytes came than are used.
-pub came_few : {elapses : (Image → List ℕ → Type 0) → Type 0} (form : Form) (c : Serving) (most : ℕ) (k : Known) (m : Machine) (st : Standing) (l r a b : Option (List ℕ)) (f g : Bool) (n n1 : Option (List ℕ)) (x x1 : ℕ) (tells : Bool) (count : ℕ)
+pub came_few : {elapses : (Image → List ℕ → Type 0) → Type 0} {form : Form} {c : Serving} {most : ℕ} {k : Known} {m : Machine} {st : Standing} {l r a b : Option (List ℕ)} {f g : Bool} {n n1 : Option (List ℕ)} {x x1 : ℕ} {tells : Bool} {count : ℕ}
     → AnswersPieces form c most k m st l r a b f g n n1 x x1 tells elapses count → st.before + length st.input ≤ count
-came_few form c most k m st l r a b f g n n1 x x1 tells count held =
+came_few {elapses} {form} {c} {most} {k} {m} {st} {l} {r} {a} {b} {f} {g} {n} {n1} {x} {x1} {tells} {count} held =
     let taken : List ℕ = held.takes.taken in
     let used : List ℕ = take most taken in
     let all = came_so form used st held.answers.answered held.answers.goes in
@@ -464,10 +468,10 @@ came_few form c most k m st l r a b f g n n1 x x1 tells count held =
     omega (arith, all, few, held.counted)
 
 -- No more of it was taken.
-abbrev pub pieces_end : {elapses : (Image → List ℕ → Type 0) → Type 0} (end : End) (form : Form) (c : Serving) (most : ℕ) (k : Known) (m : Machine) (st : Standing) (l r r2 a b : Option (List ℕ)) (f g : Bool) (n n1 : Option (List ℕ)) (x x1 : ℕ) (tells : Bool) (count : ℕ)
+abbrev pub pieces_end : {elapses : (Image → List ℕ → Type 0) → Type 0} {end : End} {form : Form} {c : Serving} {most : ℕ} {k : Known} {m : Machine} {st : Standing} {l r r2 a b : Option (List ℕ)} {f g : Bool} {n n1 : Option (List ℕ)} {x x1 : ℕ} {tells : Bool} {count : ℕ}
     → (held : AnswersPieces form c most k m st l r a b f g n n1 x x1 tells elapses count) → Gave l r2 held.takes.taken → EndsSo end most r2 held.takes.taken (is_decided form (take most held.takes.taken))
     → EndsPieces form c most k m st l r2 a b f g n n1 x x1 tells elapses end
-pieces_end end form c most k m st l r r2 a b f g n n1 x x1 tells count held gave ends = record {
+pieces_end {elapses} {end} {form} {c} {most} {k} {m} {st} {l} {r} {r2} {a} {b} {f} {g} {n} {n1} {x} {x1} {tells} {count} held gave ends = record {
   takes = record { taken = held.takes.taken; gave = gave; few = held.takes.few; stops = held.takes.stops };
   answers = held.answers;
   near = record {

@@ -77,10 +77,10 @@ stops_next form bounds here (event.Ended s fault at) k k1 m m1 st st1 later a b 
 stops_next form bounds here (event.Closed s rest) k k1 m m1 st st1 later a b f g n n1 x x1 within told goes image taken stop = absurd stop
 
 -- The loop with one event more.
-pub stops_more : {i j l : ℕ} {past mid since : ℕ → Image → List ℕ → Type 0} (form : Form) (bounds here : StoreBounds) (e : Event) (k k1 : Known) (m m1 : Machine) (st st1 later : Standing) (a b : Option (List ℕ)) (f g : Bool) (n n1 : Option (List ℕ)) (x x1 : ℕ)
+pub stops_more : {i j l : ℕ} {past mid since : ℕ → Image → List ℕ → Type 0} {form : Form} {bounds here : StoreBounds} {e : Event} {k k1 : Known} {m m1 : Machine} {st st1 later : Standing} {a b : Option (List ℕ)} {f g : Bool} {n n1 : Option (List ℕ)} {x x1 : ℕ}
     → here ≡ bounds → Answers form bounds k k1 m m1 st st1 a b f g n n1 x x1 → GoesTo st1 later (e ∷ [])
     → Elapses i j past mid (StopsAlong form bounds k m st a) → Elapses j l mid since (StopsEvent form here e k1 m1 b) → Elapses i l past since (StopsAlong form bounds k m st a)
-stops_more form bounds here e k k1 m m1 st st1 later a b f g n n1 x x1 within told goes before turn =
+stops_more {i} {j} {l} {past} {mid} {since} {form} {bounds} {here} {e} {k} {k1} {m} {m1} {st} {st1} {later} {a} {b} {f} {g} {n} {n1} {x} {x1} within told goes before turn =
     Elapses-then (StopsAlong form bounds k m st a) before turn (λ image taken stop. stop)
     (stops_next form bounds here e k k1 m m1 st st1 later a b f g n n1 x x1 within told goes)
 

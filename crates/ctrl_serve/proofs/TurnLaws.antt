@@ -1,5 +1,5 @@
 -- How the turns of the serving loop make up what comes of the events of an input.
-use Rattle.std.specs.Prelude.{Bool}
+use Rattle.std.specs.Prelude.{Bool, MatchOption}
 use Rattle.std.proofs.Common.{◌≡◌, inl, inr, ℕ, ◌<◌, ◌++◌, List, [], ◌∷◌, length, None, Some, refl, sym, ap, ◌∙◌, subst, append-nil, arith}
 use Rattle.std.specs.declared.option.Option.{Option}
 use Rattle.std.proofs.lemmas.Grind.{flat_map-append}
@@ -134,10 +134,10 @@ pub one_more_lines : (es : List Event) (e : Event) → fault_lines es ++ event_l
 one_more_lines es e = ap (λ (l : List ℕ). fault_lines es ++ l) (sym (append-nil (event_lines e))) ∙ sym (flat_map-append event_lines es (e ∷ []))
 
 -- One more event, within the same bounds.
-abbrev pub answers_more : (form : Form) (bounds here : StoreBounds) (e : Event) (k k1 k2 : Known) (m m1 m2 : Machine) (st st1 st2 : Standing) (a b c : Option (List ℕ)) (f g h : Bool) (n n1 n2 : Option (List ℕ)) (x x1 x2 : ℕ)
+abbrev pub answers_more : {form : Form} {bounds here : StoreBounds} {e : Event} {k k1 k2 : Known} {m m1 m2 : Machine} {st st1 st2 : Standing} {a b c : Option (List ℕ)} {f g h : Bool} {n n1 n2 : Option (List ℕ)} {x x1 x2 : ℕ}
     → here ≡ bounds → Answers form bounds k k1 m m1 st st1 a b f g n n1 x x1 → GoesTo st1 st2 (e ∷ []) → TakesEvent form here e k1 k2 m1 m2 b c
     → NotesMore g h (event_lines e) n1 n2 x1 x2 → Answers form bounds k k2 m m2 st st2 a c f h n n2 x x2
-answers_more form bounds here e k k1 k2 m m1 m2 st st1 st2 a b c f g h n n1 n2 x x1 x2 within told goes took noted =
+answers_more {form} {bounds} {here} {e} {k} {k1} {k2} {m} {m1} {m2} {st} {st1} {st2} {a} {b} {c} {f} {g} {h} {n} {n1} {n2} {x} {x1} {x2} within told goes took noted =
     let turn = subst (λ (y : StoreBounds). TakesEvent form y e k1 k2 m1 m2 b c) within took in
     let es : List Event = told.answered in
     let said : Took b c (joined (replies_by form bounds e (known_along es k) (machine_along bounds es k m))) =
@@ -157,9 +157,9 @@ answers_more form bounds here e k k1 k2 m m1 m2 st st1 st2 a b c f g h n n1 n2 x
     }
 
 -- The standing went on, and gave no event.
-abbrev pub answers_still : (form : Form) (bounds : StoreBounds) (k k1 : Known) (m m1 : Machine) (st st1 st2 : Standing) (a b : Option (List ℕ)) (f g : Bool) (n n1 : Option (List ℕ)) (x x1 : ℕ)
+abbrev pub answers_still : {form : Form} {bounds : StoreBounds} {k k1 : Known} {m m1 : Machine} {st st1 st2 : Standing} {a b : Option (List ℕ)} {f g : Bool} {n n1 : Option (List ℕ)} {x x1 : ℕ}
     → Answers form bounds k k1 m m1 st st1 a b f g n n1 x x1 → GoesTo st1 st2 [] → Answers form bounds k k1 m m1 st st2 a b f g n n1 x x1
-answers_still form bounds k k1 m m1 st st1 st2 a b f g n n1 x x1 told goes = record {
+answers_still {form} {bounds} {k} {k1} {m} {m1} {st} {st1} {st2} {a} {b} {f} {g} {n} {n1} {x} {x1} told goes = record {
   answered = told.answered;
   goes = subst (λ (es : List Event). GoesTo st st2 es) (append-nil told.answered) (goes_then st st1 st2 told.answered [] told.goes goes);
   known_is = told.known_is;
@@ -167,6 +167,13 @@ answers_still form bounds k k1 m m1 st st1 st2 a b f g n n1 x x1 told goes = rec
   said = told.said;
   noted_is = told.noted_is;
 }
+
+-- What an answer with an event, and one without, says of where the sessions stand.
+pub goes_on : (old new : Standing) (answer : Option Event) (e : Event) → answer ≡ Some e → MatchOption answer (GivesNone old new) (λ e. GoesTo old new (e ∷ [])) → GoesTo old new (e ∷ [])
+goes_on old new answer e is gives = subst (λ (o : Option Event). MatchOption o (GivesNone old new) (λ e. GoesTo old new (e ∷ []))) is gives
+
+pub gives_none : (old new : Standing) (answer : Option Event) → answer ≡ None → MatchOption answer (GivesNone old new) (λ e. GoesTo old new (e ∷ [])) → GivesNone old new
+gives_none old new answer is gives = subst (λ (o : Option Event). MatchOption o (GivesNone old new) (λ e. GoesTo old new (e ∷ []))) is gives
 
 -- ---- where the loop ends
 
@@ -215,10 +222,10 @@ next_cut Disk form bounds e k m st later a b goes cuts =
 next_cut Unsaid form bounds e k m st later a b goes cuts =
     (cuts.0, cuts.1, later, subst (λ (x : Event). GoesTo st later (x ∷ [])) cuts.2 goes, cuts.3)
 
-pub cut_answers : (cut : Cut) (form : Form) (bounds here : StoreBounds) (e : Event) (k k1 : Known) (m m1 : Machine) (st st1 later : Standing) (a b c : Option (List ℕ)) (f g h : Bool) (n n1 n2 : Option (List ℕ)) (x x1 x2 : ℕ)
+pub cut_answers : {cut : Cut} {form : Form} {bounds here : StoreBounds} {e : Event} {k k1 : Known} {m m1 : Machine} {st st1 later : Standing} {a b c : Option (List ℕ)} {f g h : Bool} {n n1 n2 : Option (List ℕ)} {x x1 x2 : ℕ}
     → here ≡ bounds → Answers form bounds k k1 m m1 st st1 a b f g n n1 x x1 → GoesTo st1 later (e ∷ []) → CutsEvent cut form here e k1 m1 b c → h ≡ g → n2 ≡ n1 → x2 ≡ x1
     → IsCutShort cut form bounds k m st a c f h n n2 x x2
-cut_answers cut form bounds here e k k1 m m1 st st1 later a b c f g h n n1 n2 x x1 x2 within told goes cuts p q r = rw (p, q, r) (record {
+cut_answers {cut} {form} {bounds} {here} {e} {k} {k1} {m} {m1} {st} {st1} {later} {a} {b} {c} {f} {g} {h} {n} {n1} {n2} {x} {x1} {x2} within told goes cuts p q r = rw (p, q, r) (record {
   known_mid = k1;
   machine_mid = m1;
   st_mid = st1;
@@ -228,9 +235,9 @@ cut_answers cut form bounds here e k k1 m m1 st st1 later a b c f g h n n1 n2 x 
 })
 
 -- For want of memory, before an event was found.
-pub starved_answers : (form : Form) (bounds : StoreBounds) (k k1 : Known) (m m1 : Machine) (st st1 : Standing) (a b : Option (List ℕ)) (f g : Bool) (n n1 : Option (List ℕ)) (x x1 : ℕ)
+pub starved_answers : {form : Form} {bounds : StoreBounds} {k k1 : Known} {m m1 : Machine} {st st1 : Standing} {a b : Option (List ℕ)} {f g : Bool} {n n1 : Option (List ℕ)} {x x1 : ℕ}
     → Answers form bounds k k1 m m1 st st1 a b f g n n1 x x1 → MayWantMemory st1 → IsCutShort NoMemory form bounds k m st a b f g n n1 x x1
-starved_answers form bounds k k1 m m1 st st1 a b f g n n1 x x1 told may = record {
+starved_answers {form} {bounds} {k} {k1} {m} {m1} {st} {st1} {a} {b} {f} {g} {n} {n1} {x} {x1} told may = record {
   known_mid = k1;
   machine_mid = m1;
   st_mid = st1;

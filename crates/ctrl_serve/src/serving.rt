@@ -22,10 +22,10 @@ ghost use Rattle.ziti_outside.specs.Moments.{Elapses, Leaves, Remembers};
 ghost use Rattle.ziti_outside.specs.Untouched.{OnlyDisk};
 
 use crate::controller::Controller;
-use channel_frame::{Frame, encode};
+use channel_frame::Frame;
 use command_codec::{CodecFault, read};
 use ctrl_model::{Refusal, Reply, Who};
-use reply_codec::write;
+use reply_codec::write_behind;
 use run_notes::{Cut, Notes, Sessions, note_fault};
 use session_mux::{Event, Form, Mux, MuxFault};
 use std::alloc::{AllocError, Global};
@@ -101,10 +101,8 @@ fn reply_bytes(
     requires { keeps_limits reply.now ≡ true }
     ensures { IfOk result (λ v. v.items ≡ reply_text address.form address.session address.sequence request reply.now) }
 {
-    let frame = write(alloc, reply, address.sequence, request)?;
-    let spelled = encode(alloc, &frame)?;
     let mut bytes = tag_of(alloc, address)?;
-    bytes.extend_from_slice(spelled.as_slice())?;
+    write_behind(&mut bytes, reply, address.sequence, request)?;
     Ok(bytes)
 }
 

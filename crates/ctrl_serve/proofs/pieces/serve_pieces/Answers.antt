@@ -8,11 +8,11 @@ use Rattle.run_notes.specs.declared.ends.End.TheVariants.{Whole, More, Fault}
 use Rattle.run_notes.specs.Endings.{IsAllGiven}
 use Rattle.ctrl_serve.specs.ControllerViews.{serving_of}
 use Rattle.ctrl_serve.proofs.ControllerLaws.{GoesOn-then, still_alone, OnlySaysAndNotes-none, OnlySaysAndNotes-then}
-use Rattle.ctrl_serve.proofs.FailureLaws.{takes_none, takes_so_far}
+use Rattle.ctrl_serve.proofs.FailureLaws.{takes_more, takes_none, takes_so_far}
 use Rattle.run_notes.specs.KnownSessions.{known_in}
 use Rattle.ctrl_serve.proofs.FollowedRuns.{follows_start, follows_then}
 use Rattle.ctrl_serve.proofs.RoomRuns.{room_calm, room_more}
-use Rattle.ctrl_serve.proofs.PieceLaws.{came_few, fed_cut, fed_decided, fed_more, fed_starved, more_given, pieces_end, pieces_fed, pieces_none, pieces_start, start_given}
+use Rattle.ctrl_serve.proofs.PieceLaws.{came_few, fed_cut, fed_decided, fed_more, fed_starved, more_given, pieces_end, pieces_fed, pieces_none, pieces_start, short_piece, start_given}
 use Rattle.ctrl_serve.proofs.pieces.serve_pieces.Goals as goal
 
 pub pieces-init : goal.pieces-init
@@ -38,31 +38,19 @@ pieces-preserved g c =
     let held = c.pieces.invariant in
     let first = serving_of c.args.controller.now in
     let mid = serving_of c.pieces.controller in
-    let said = g.D.Desk.said in
-    let noted = g.D.Desk.noted in
-    let faults = g.D.Desk.note_faults in
-    let left = g.S.Source.left in
-    let last = serving_of c.serve_events.new.controller in
     let e = c.in_ok-bad-in-Ok.ensures in
     let piece : List ℕ = take c.in-Ok.count c.take.new.buf in
     let long : length piece ≡ c.in-Ok.count = length-take-le c.in-Ok.count c.take.new.buf c.in-Ok.ensures.bytes.within in
-    let few : length piece ≤ 65536 = omega (arith, long, c.in-Ok.ensures.bytes.within, c.in_ok-room.ensures, c.pieces.auto.piece, c.take.auto.buf) in
-    let came = pieces_fed c.args.form first c.args.most c.pieces.sessions mid.machine c.pieces.mux c.feed.new.self (left c.args.source.now) (left c.pieces.source) (left c.take.new.self) (said c.args.desk.now) (said c.pieces.desk)
-    c.args.notes.now.failed c.pieces.notes.failed (noted c.args.desk.now) (noted c.pieces.desk) (faults c.args.desk.now) (faults c.pieces.desk) g.D.Desk.tells c.pieces.taken piece c.first_bytes.result.now
-    held.answers held.given.none (omega (arith, c.pieces-test.true)) c.in-Ok.ensures.bytes.bytes few c.first_bytes.ensures c.in_ok-feed-in-Ok.ensures.ok in
-    let now = fed_more c.args.form first mid.bounds c.args.most c.pieces.sessions c.serve_events.new.sessions mid.machine last.machine c.feed.new.self c.serve_events.new.mux (left c.args.source.now) (left c.take.new.self)
-    (said c.args.desk.now) (said c.pieces.desk) (said c.serve_events.new.desk) c.args.notes.now.failed c.pieces.notes.failed c.serve_events.new.notes.failed (noted c.args.desk.now) (noted c.pieces.desk) (noted c.serve_events.new.desk)
-    (faults c.args.desk.now) (faults c.pieces.desk) (faults c.serve_events.new.desk) g.D.Desk.tells c.in_ok-bad-in-Ok.bad _ _
-    came held.on.bounds e.ok.0 (λ some told. c.serve_events.ensures.stops (held.on.kind ∙ some) told) e.end (sym c.is_decided.ensures ∙ c.if-is_decided.false) (ap (λ (n : ℕ). c.pieces.taken + n) long) in
+    let few = short_piece c.in-Ok.count c.take.new.buf (omega (arith, c.in_ok-room.ensures, c.pieces.auto.piece, c.take.auto.buf)) in
+    let came = pieces_fed (take c.in-Ok.count c.take.new.buf) held.answers held.given.none (omega (arith, c.pieces-test.true)) c.in-Ok.ensures.bytes.bytes few c.first_bytes.ensures c.in_ok-feed-in-Ok.ensures.ok in
+    let now = fed_more c.in_ok-bad-in-Ok.bad came held.on.bounds e.ok.0 (λ some told. c.serve_events.ensures.stops (held.on.kind ∙ some) told) e.end (sym c.is_decided.ensures ∙ c.if-is_decided.false) (ap (λ (n : ℕ). c.pieces.taken + n) long) in
     record {
       on = GoesOn-then held.on e.on;
       ready = e.ready;
       answers = now;
       follows = λ some told.
-          follows_then first.bounds mid.bounds held.answers.answers.answered e.ok.0.answered (known_in c.args.form) c.pieces.sessions first.machine mid.machine
-          (g.D.Desk.reads c.args.desk.now) (g.D.Desk.reads c.pieces.desk) (g.D.Desk.reads c.serve_events.new.desk)
-          held.on.bounds held.answers.answers.known_is held.answers.answers.machine_is (held.follows some told) (e.ok.1 (held.on.kind ∙ some) told);
-      given = more_given c.args.form first c.args.most _ _ _ _ _ _ _ _ _ _ _ _ _ g.D.Desk.tells c.in_ok-bad-in-Ok.bad _ now e.end (sym c.is_decided.ensures ∙ c.if-is_decided.false);
+          follows_then held.on.bounds held.answers.answers.known_is held.answers.answers.machine_is (held.follows some told) (e.ok.1 (held.on.kind ∙ some) told);
+      given = more_given c.in_ok-bad-in-Ok.bad now e.end (sym c.is_decided.ensures ∙ c.if-is_decided.false);
       few = omega (arith, c.pieces-test.true, few, long);
       calm = c.in-Ok.ensures.cause.calm ∙ held.calm;
       calm_say = e.say_cause.calm ∙ held.calm_say;
@@ -74,16 +62,9 @@ pieces-preserved g c =
 pub feed-requires : goal.feed-requires
 feed-requires g c =
     let held = c.pieces.invariant in
-    let first = serving_of c.args.controller.now in
-    let mid = serving_of c.pieces.controller in
-    let said = g.D.Desk.said in
-    let noted = g.D.Desk.noted in
-    let faults = g.D.Desk.note_faults in
-    let left = g.S.Source.left in
     let piece : List ℕ = take c.in-Ok.count c.take.new.buf in
-    let long : length piece ≡ c.in-Ok.count = length-take-le c.in-Ok.count c.take.new.buf c.in-Ok.ensures.bytes.within in
-    let few : length piece ≤ 65536 = omega (arith, long, c.in-Ok.ensures.bytes.within, c.in_ok-room.ensures, c.pieces.auto.piece, c.take.auto.buf) in
-    let came = came_few c.args.form first c.args.most _ _ c.pieces.mux _ _ _ _ _ _ _ _ _ _ g.D.Desk.tells c.pieces.taken held.answers in
+    let few = short_piece c.in-Ok.count c.take.new.buf (omega (arith, c.in_ok-room.ensures, c.pieces.auto.piece, c.take.auto.buf)) in
+    let came = came_few held.answers in
     let part : length c.first_bytes.result.now ≤ length piece = omega (arith, ap length c.first_bytes.ensures, length-take (c.args.most - c.pieces.taken) piece) in
     omega (arith, came, part, few, c.pieces-test.true, c.requires.most)
 
@@ -100,7 +81,7 @@ pub returns-in-Err-clause-ok : goal.returns-in-Err-clause-ok
 returns-in-Err-clause-ok g c =
     let held = c.pieces.invariant in
     let taken : List ℕ = held.answers.takes.taken in (
-      pieces_end Fault c.args.form (serving_of c.args.controller.now) c.args.most _ _ _ _ _ _ _ _ _ _ _ _ _ _ g.D.Desk.tells c.pieces.taken held.answers
+      pieces_end held.answers
           (Gave-kept _ _ _ taken held.answers.takes.gave c.in-Err.ensures.bytes.bytes) (omega (arith, held.answers.counted, c.pieces-test.true)),
       held.follows,
     )
@@ -116,7 +97,7 @@ returns-in-Ok-eq0-clause-ok g c =
     let left = g.S.Source.left in
     let taken : List ℕ = held.answers.takes.taken in
     let none : Gave (left c.pieces.source) (left c.take.new.self) [] = subst (λ (n : ℕ). Gave (left c.pieces.source) (left c.take.new.self) (take n c.take.new.buf)) c.in-Ok-eq0.field-0-test c.in-Ok-eq0.ensures.bytes.bytes in (
-      pieces_end Whole c.args.form (serving_of c.args.controller.now) c.args.most _ _ _ _ _ _ _ _ _ _ _ _ _ _ g.D.Desk.tells c.pieces.taken held.answers
+      pieces_end held.answers
           (subst (λ (bytes : List ℕ). Gave (left c.args.source.now) (left c.take.new.self) bytes) (append-nil taken) (Gave-then _ _ _ taken [] held.answers.takes.gave none))
           (inr (omega (arith, held.answers.counted, c.pieces-test.true), c.in-Ok-eq0.ensures.bytes.end c.in-Ok-eq0.field-0-test)),
       held.follows,
@@ -125,93 +106,49 @@ returns-in-Ok-eq0-clause-ok g c =
 pub returns-in-Ok-eq0-clause-until_failure : goal.returns-in-Ok-eq0-clause-until_failure
 returns-in-Ok-eq0-clause-until_failure g c =
     let held = c.pieces.invariant in
-    let piece : List ℕ = take c.in-Ok-eq0.field-0 c.take.new.buf in
-    takes_so_far _ _ (held.answers.takes.taken ++ piece) (Gave-then _ _ _ held.answers.takes.taken piece held.answers.takes.gave c.in-Ok-eq0.ensures.bytes.bytes) (c.in-Ok-eq0.ensures.cause.calm ∙ held.calm)
+    takes_more _ c.pieces.source _ held.answers.takes.taken (take c.in-Ok-eq0.field-0 c.take.new.buf) held.answers.takes.gave c.in-Ok-eq0.ensures.bytes.bytes c.in-Ok-eq0.ensures.cause.calm held.calm
 
 pub returns-in_err-feed-in-Ok-clause-cut : goal.returns-in_err-feed-in-Ok-clause-cut
 returns-in_err-feed-in-Ok-clause-cut g c =
     let held = c.pieces.invariant in
-    let first = serving_of c.args.controller.now in
-    let mid = serving_of c.pieces.controller in
-    let said = g.D.Desk.said in
-    let noted = g.D.Desk.noted in
-    let faults = g.D.Desk.note_faults in
-    let left = g.S.Source.left in
-    let piece : List ℕ = take c.in-Ok.count c.take.new.buf in
-    let long : length piece ≡ c.in-Ok.count = length-take-le c.in-Ok.count c.take.new.buf c.in-Ok.ensures.bytes.within in
-    let few : length piece ≤ 65536 = omega (arith, long, c.in-Ok.ensures.bytes.within, c.in_ok-room.ensures, c.pieces.auto.piece, c.take.auto.buf) in
-    let st = fed c.pieces.mux c.first_bytes.result.now in
+    let few = short_piece c.in-Ok.count c.take.new.buf (omega (arith, c.in_ok-room.ensures, c.pieces.auto.piece, c.take.auto.buf)) in
     let p = err_from_is_err_and c.from_residual-in_err-feed-in-Ok.result c.from_residual-in_err-feed-in-Ok.ensures.1 in
-    let came = pieces_fed c.args.form first c.args.most c.pieces.sessions mid.machine c.pieces.mux st (left c.args.source.now) (left c.pieces.source) (left c.take.new.self) (said c.args.desk.now) (said c.pieces.desk)
-    c.args.notes.now.failed c.pieces.notes.failed (noted c.args.desk.now) (noted c.pieces.desk) (faults c.args.desk.now) (faults c.pieces.desk) g.D.Desk.tells c.pieces.taken piece c.first_bytes.result.now
-    held.answers held.given.none (omega (arith, c.pieces-test.true)) c.in-Ok.ensures.bytes.bytes few c.first_bytes.ensures refl in
-    rw p.1 (rw p.2 (fed_starved c.args.form first c.args.most c.pieces.sessions mid.machine st (left c.args.source.now) (left c.take.new.self) (said c.args.desk.now) (said c.pieces.desk)
-    c.args.notes.now.failed c.pieces.notes.failed (noted c.args.desk.now) (noted c.pieces.desk) (faults c.args.desk.now) (faults c.pieces.desk) g.D.Desk.tells _ came))
+    let came = pieces_fed (take c.in-Ok.count c.take.new.buf) held.answers held.given.none (omega (arith, c.pieces-test.true)) c.in-Ok.ensures.bytes.bytes few c.first_bytes.ensures refl in
+    rw p.1 (rw p.2 (fed_starved came))
 
 pub returns-in_err-feed-in-Ok-clause-until_failure : goal.returns-in_err-feed-in-Ok-clause-until_failure
 returns-in_err-feed-in-Ok-clause-until_failure g c =
     let held = c.pieces.invariant in
-    let piece : List ℕ = take c.in-Ok.count c.take.new.buf in
-    takes_so_far _ _ (held.answers.takes.taken ++ piece) (Gave-then _ _ _ held.answers.takes.taken piece held.answers.takes.gave c.in-Ok.ensures.bytes.bytes) (c.in-Ok.ensures.cause.calm ∙ held.calm)
+    takes_more _ c.pieces.source _ held.answers.takes.taken (take c.in-Ok.count c.take.new.buf) held.answers.takes.gave c.in-Ok.ensures.bytes.bytes c.in-Ok.ensures.cause.calm held.calm
 
 pub returns-in_err-bad-in-Ok-clause-cut : goal.returns-in_err-bad-in-Ok-clause-cut
 returns-in_err-bad-in-Ok-clause-cut g c =
     let held = c.pieces.invariant in
-    let first = serving_of c.args.controller.now in
-    let mid = serving_of c.pieces.controller in
-    let said = g.D.Desk.said in
-    let noted = g.D.Desk.noted in
-    let faults = g.D.Desk.note_faults in
-    let left = g.S.Source.left in
-    let piece : List ℕ = take c.in-Ok.count c.take.new.buf in
-    let long : length piece ≡ c.in-Ok.count = length-take-le c.in-Ok.count c.take.new.buf c.in-Ok.ensures.bytes.within in
-    let few : length piece ≤ 65536 = omega (arith, long, c.in-Ok.ensures.bytes.within, c.in_ok-room.ensures, c.pieces.auto.piece, c.take.auto.buf) in
+    let few = short_piece c.in-Ok.count c.take.new.buf (omega (arith, c.in_ok-room.ensures, c.pieces.auto.piece, c.take.auto.buf)) in
     let p = err_from_is_err_and c.from_residual-in_err-bad-in-Ok.result c.from_residual-in_err-bad-in-Ok.ensures.1 in
-    let came = pieces_fed c.args.form first c.args.most c.pieces.sessions mid.machine c.pieces.mux c.feed.new.self (left c.args.source.now) (left c.pieces.source) (left c.take.new.self) (said c.args.desk.now) (said c.pieces.desk)
-    c.args.notes.now.failed c.pieces.notes.failed (noted c.args.desk.now) (noted c.pieces.desk) (faults c.args.desk.now) (faults c.pieces.desk) g.D.Desk.tells c.pieces.taken piece c.first_bytes.result.now
-    held.answers held.given.none (omega (arith, c.pieces-test.true)) c.in-Ok.ensures.bytes.bytes few c.first_bytes.ensures c.in_ok-feed-in-Ok.ensures.ok in
-    rw p.1 (rw p.2 (fed_cut _ c.args.form first mid.bounds c.args.most c.pieces.sessions mid.machine c.feed.new.self (left c.args.source.now) (left c.take.new.self)
-    (said c.args.desk.now) (said c.pieces.desk) (said c.serve_events.new.desk) c.args.notes.now.failed c.pieces.notes.failed c.serve_events.new.notes.failed (noted c.args.desk.now) (noted c.pieces.desk) (noted c.serve_events.new.desk)
-    (faults c.args.desk.now) (faults c.pieces.desk) (faults c.serve_events.new.desk) g.D.Desk.tells _ came held.on.bounds c.in_err-bad-in-Ok.ensures.cut (λ some told. c.serve_events.ensures.stops (held.on.kind ∙ some) told)))
+    let came = pieces_fed (take c.in-Ok.count c.take.new.buf) held.answers held.given.none (omega (arith, c.pieces-test.true)) c.in-Ok.ensures.bytes.bytes few c.first_bytes.ensures c.in_ok-feed-in-Ok.ensures.ok in
+    rw p.1 (rw p.2 (fed_cut came held.on.bounds c.in_err-bad-in-Ok.ensures.cut (λ some told. c.serve_events.ensures.stops (held.on.kind ∙ some) told)))
 
 pub returns-in_err-bad-in-Ok-clause-until_failure : goal.returns-in_err-bad-in-Ok-clause-until_failure
 returns-in_err-bad-in-Ok-clause-until_failure g c =
     let held = c.pieces.invariant in
-    let piece : List ℕ = take c.in-Ok.count c.take.new.buf in
-    takes_so_far _ _ (held.answers.takes.taken ++ piece) (Gave-then _ _ _ held.answers.takes.taken piece held.answers.takes.gave c.in-Ok.ensures.bytes.bytes) (c.in-Ok.ensures.cause.calm ∙ held.calm)
+    takes_more _ c.pieces.source _ held.answers.takes.taken (take c.in-Ok.count c.take.new.buf) held.answers.takes.gave c.in-Ok.ensures.bytes.bytes c.in-Ok.ensures.cause.calm held.calm
 
 pub returns-then-is_decided-clause-ok : goal.returns-then-is_decided-clause-ok
 returns-then-is_decided-clause-ok g c =
     let held = c.pieces.invariant in
-    let first = serving_of c.args.controller.now in
-    let mid = serving_of c.pieces.controller in
-    let said = g.D.Desk.said in
-    let noted = g.D.Desk.noted in
-    let faults = g.D.Desk.note_faults in
-    let left = g.S.Source.left in
-    let last = serving_of c.serve_events.new.controller in
     let e = c.in_ok-bad-in-Ok.ensures in
-    let piece : List ℕ = take c.in-Ok.count c.take.new.buf in
-    let long : length piece ≡ c.in-Ok.count = length-take-le c.in-Ok.count c.take.new.buf c.in-Ok.ensures.bytes.within in
-    let few : length piece ≤ 65536 = omega (arith, long, c.in-Ok.ensures.bytes.within, c.in_ok-room.ensures, c.pieces.auto.piece, c.take.auto.buf) in
-    let came = pieces_fed c.args.form first c.args.most c.pieces.sessions mid.machine c.pieces.mux c.feed.new.self (left c.args.source.now) (left c.pieces.source) (left c.take.new.self) (said c.args.desk.now) (said c.pieces.desk)
-    c.args.notes.now.failed c.pieces.notes.failed (noted c.args.desk.now) (noted c.pieces.desk) (faults c.args.desk.now) (faults c.pieces.desk) g.D.Desk.tells c.pieces.taken piece c.first_bytes.result.now
-    held.answers held.given.none (omega (arith, c.pieces-test.true)) c.in-Ok.ensures.bytes.bytes few c.first_bytes.ensures c.in_ok-feed-in-Ok.ensures.ok in (
-      fed_decided c.args.form first mid.bounds c.args.most c.pieces.sessions c.serve_events.new.sessions mid.machine last.machine c.feed.new.self c.serve_events.new.mux (left c.args.source.now) (left c.take.new.self)
-          (said c.args.desk.now) (said c.pieces.desk) (said c.serve_events.new.desk) c.args.notes.now.failed c.pieces.notes.failed c.serve_events.new.notes.failed (noted c.args.desk.now) (noted c.pieces.desk) (noted c.serve_events.new.desk)
-          (faults c.args.desk.now) (faults c.pieces.desk) (faults c.serve_events.new.desk) g.D.Desk.tells c.in_ok-bad-in-Ok.bad _
-          came held.on.bounds e.ok.0 (λ some told. c.serve_events.ensures.stops (held.on.kind ∙ some) told) e.end (sym c.is_decided.ensures ∙ c.if-is_decided.true),
+    let few = short_piece c.in-Ok.count c.take.new.buf (omega (arith, c.in_ok-room.ensures, c.pieces.auto.piece, c.take.auto.buf)) in
+    let came = pieces_fed (take c.in-Ok.count c.take.new.buf) held.answers held.given.none (omega (arith, c.pieces-test.true)) c.in-Ok.ensures.bytes.bytes few c.first_bytes.ensures c.in_ok-feed-in-Ok.ensures.ok in (
+      fed_decided c.in_ok-bad-in-Ok.bad came held.on.bounds e.ok.0 (λ some told. c.serve_events.ensures.stops (held.on.kind ∙ some) told) e.end (sym c.is_decided.ensures ∙ c.if-is_decided.true),
       λ some told.
-          follows_then first.bounds mid.bounds held.answers.answers.answered e.ok.0.answered (known_in c.args.form) c.pieces.sessions first.machine mid.machine
-          (g.D.Desk.reads c.args.desk.now) (g.D.Desk.reads c.pieces.desk) (g.D.Desk.reads c.serve_events.new.desk)
-          held.on.bounds held.answers.answers.known_is held.answers.answers.machine_is (held.follows some told) (e.ok.1 (held.on.kind ∙ some) told),
+          follows_then held.on.bounds held.answers.answers.known_is held.answers.answers.machine_is (held.follows some told) (e.ok.1 (held.on.kind ∙ some) told),
     )
 
 pub returns-then-is_decided-clause-until_failure : goal.returns-then-is_decided-clause-until_failure
 returns-then-is_decided-clause-until_failure g c =
     let held = c.pieces.invariant in
-    let piece : List ℕ = take c.in-Ok.count c.take.new.buf in
-    takes_so_far _ _ (held.answers.takes.taken ++ piece) (Gave-then _ _ _ held.answers.takes.taken piece held.answers.takes.gave c.in-Ok.ensures.bytes.bytes) (c.in-Ok.ensures.cause.calm ∙ held.calm)
+    takes_more _ c.pieces.source _ held.answers.takes.taken (take c.in-Ok.count c.take.new.buf) held.answers.takes.gave c.in-Ok.ensures.bytes.bytes c.in-Ok.ensures.cause.calm held.calm
 
 pub returns-then-is_decided-clause-alone : goal.returns-then-is_decided-clause-alone
 returns-then-is_decided-clause-alone g c = λ none.
@@ -220,7 +157,7 @@ returns-then-is_decided-clause-alone g c = λ none.
 pub returns-clause-ok : goal.returns-clause-ok
 returns-clause-ok g c =
     let held = c.pieces.invariant in (
-      pieces_end More c.args.form (serving_of c.args.controller.now) c.args.most _ _ _ _ _ _ _ _ _ _ _ _ _ _ g.D.Desk.tells c.pieces.taken held.answers held.answers.takes.gave
+      pieces_end held.answers held.answers.takes.gave
           (omega (arith, held.answers.counted, c.pieces-test.false)),
       held.follows,
     )

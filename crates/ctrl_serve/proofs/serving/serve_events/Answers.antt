@@ -1,12 +1,8 @@
-use Rattle.std.specs.Prelude.{MatchOption}
-use Rattle.std.proofs.Common.{ℕ, ◌∷◌, [], Err, refl, ap, sym, subst, ◌∙◌}
+use Rattle.std.proofs.Common.{ℕ, Err, refl, ap, sym, subst, ◌∙◌}
 use Rattle.std.proofs.lemmas.Result.{err_from_is_err_and}
-use Rattle.std.specs.declared.option.Option.{Option}
 use Rattle.ziti_outside.proofs.MomentLaws.{Elapses-none}
-use Rattle.session_mux.specs.declared.events.Event.{Event}
 use Rattle.session_mux.specs.declared.events.MuxFault.{MuxFault}
-use Rattle.session_mux.specs.Completion.{GoesTo}
-use Rattle.session_mux.specs.MuxSteps.{GivesNone, GivesFault}
+use Rattle.session_mux.specs.MuxSteps.{GivesFault}
 use Rattle.run_notes.specs.declared.notes.Notes.{Notes}
 use Rattle.ctrl_serve.specs.ControllerViews.{serving_of}
 use Rattle.run_notes.specs.Endings.{IsStuckAt}
@@ -14,7 +10,7 @@ use Rattle.ctrl_serve.proofs.ControllerLaws.{GoesOn-then, still_alone, OnlySaysA
 use Rattle.ctrl_serve.proofs.FollowedRuns.{follows_start, follows_more}
 use Rattle.ctrl_serve.proofs.RoomRuns.{room_calm, room_more}
 use Rattle.ctrl_serve.proofs.RunStopLaws.{stops_more}
-use Rattle.ctrl_serve.proofs.TurnLaws.{answers_start, answers_more, answers_still, fewer_events, all_given, stuck_at, cut_answers, starved_answers}
+use Rattle.ctrl_serve.proofs.TurnLaws.{answers_start, answers_more, answers_still, goes_on, gives_none, fewer_events, all_given, stuck_at, cut_answers, starved_answers}
 use Rattle.ctrl_serve.proofs.serving.serve_events.Goals as goal
 
 pub events-init : goal.events-init
@@ -37,69 +33,41 @@ pub events-smaller : goal.events-smaller
 events-smaller g c =
     let old = c.events.mux in
     let new = c.next.new.self in
-    let goes : GoesTo old new (c.in-Ok-Some.event ∷ []) =
-    subst (λ (o : Option Event). MatchOption o (GivesNone old new) (λ e. GoesTo old new (e ∷ []))) c.in-Ok-Some.field-0-is c.in-Ok-Some.ensures.some in
-    fewer_events old new c.in-Ok-Some.event goes
+    fewer_events old new c.in-Ok-Some.event (goes_on old new _ c.in-Ok-Some.event c.in-Ok-Some.field-0-is c.in-Ok-Some.ensures.some)
 
 pub events-preserved : goal.events-preserved
 events-preserved g c =
-    let old = c.events.mux in
-    let new = c.next.new.self in
-    let goes : GoesTo old new (c.in-Ok-Some.event ∷ []) =
-    subst (λ (o : Option Event). MatchOption o (GivesNone old new) (λ e. GoesTo old new (e ∷ []))) c.in-Ok-Some.field-0-is c.in-Ok-Some.ensures.some in
+    let goes = goes_on c.events.mux c.next.new.self _ c.in-Ok-Some.event c.in-Ok-Some.field-0-is c.in-Ok-Some.ensures.some in
     let held = c.events.invariant in
     let turn = c.in_ok-serve_event-in-Ok-Some.ensures in
     let first = serving_of c.args.controller.now in
     let mid = serving_of c.events.controller in
-    let last = serving_of c.serve_event.new.controller in
-    let said = g.D.Desk.said in
-    let noted = g.D.Desk.noted in
-    let faults = g.D.Desk.note_faults in
     record {
       on = GoesOn-then held.on turn.on;
       ready = turn.ready;
-      answers = answers_more c.args.form first.bounds mid.bounds c.in-Ok-Some.event c.args.sessions.now c.events.sessions c.serve_event.new.sessions first.machine mid.machine last.machine
-          c.args.mux.now old new (said c.args.desk.now) (said c.events.desk) (said c.serve_event.new.desk) c.args.notes.now.failed c.events.notes.failed c.serve_event.new.notes.failed
-          (noted c.args.desk.now) (noted c.events.desk) (noted c.serve_event.new.desk) (faults c.args.desk.now) (faults c.events.desk) (faults c.serve_event.new.desk)
-          held.on.bounds held.answers goes turn.ok turn.noted;
+      answers = answers_more held.on.bounds held.answers goes turn.ok turn.noted;
       follows = λ some told.
-          follows_more first.bounds mid.bounds held.answers.answered c.in-Ok-Some.event c.args.sessions.now c.events.sessions first.machine mid.machine last.machine
-          (g.D.Desk.reads c.args.desk.now) (g.D.Desk.reads c.events.desk) (g.D.Desk.reads c.serve_event.new.desk)
-          held.on.bounds held.answers.known_is held.answers.machine_is (held.follows some told) turn.ok.next (turn.follows (held.on.kind ∙ some) told);
+          follows_more c.in-Ok-Some.event held.on.bounds held.answers.known_is held.answers.machine_is (held.follows some told) turn.ok.next (turn.follows (held.on.kind ∙ some) told);
       calm = turn.say_cause.calm ∙ held.calm;
       calm_disk = turn.disk_cause.calm ∙ held.calm_disk;
       alone = λ none. OnlySaysAndNotes-then (held.alone none) (c.serve_event.ensures.alone (still_alone _ _ held.on.kind none));
       images = room_more first.bounds mid.bounds held.on.bounds held.images c.serve_event.ensures.images;
-      stops = λ some told.
-          stops_more c.args.form first.bounds mid.bounds c.in-Ok-Some.event c.args.sessions.now c.events.sessions first.machine mid.machine
-          c.args.mux.now old new (said c.args.desk.now) (said c.events.desk) c.args.notes.now.failed c.events.notes.failed (noted c.args.desk.now) (noted c.events.desk) (faults c.args.desk.now) (faults c.events.desk)
-          held.on.bounds held.answers goes (held.stops some told) (c.serve_event.ensures.stops (held.on.kind ∙ some) told);
+      stops = λ some told. stops_more held.on.bounds held.answers goes (held.stops some told) (c.serve_event.ensures.stops (held.on.kind ∙ some) told);
     }
 
 pub returns-in_err-serve_event-in-Ok-Some-clause-cut : goal.returns-in_err-serve_event-in-Ok-Some-clause-cut
 returns-in_err-serve_event-in-Ok-Some-clause-cut g c =
-    let old = c.events.mux in
-    let new = c.next.new.self in
-    let goes : GoesTo old new (c.in-Ok-Some.event ∷ []) =
-    subst (λ (o : Option Event). MatchOption o (GivesNone old new) (λ e. GoesTo old new (e ∷ []))) c.in-Ok-Some.field-0-is c.in-Ok-Some.ensures.some in
+    let goes = goes_on c.events.mux c.next.new.self _ c.in-Ok-Some.event c.in-Ok-Some.field-0-is c.in-Ok-Some.ensures.some in
     let p = err_from_is_err_and c.from_residual.result c.from_residual.ensures.1 in
     let held = c.events.invariant in
-    let left = c.in_err-serve_event-in-Ok-Some.ensures.unnoted in
-    let first = serving_of c.args.controller.now in
-    let mid = serving_of c.events.controller in
-    let said = g.D.Desk.said in
-    let noted = g.D.Desk.noted in
-    let faults = g.D.Desk.note_faults in
-    rw p.1 (rw p.2 (cut_answers _ c.args.form first.bounds mid.bounds c.in-Ok-Some.event c.args.sessions.now c.events.sessions first.machine mid.machine
-    c.args.mux.now old new (said c.args.desk.now) (said c.events.desk) (said c.serve_event.new.desk) c.args.notes.now.failed c.events.notes.failed c.serve_event.new.notes.failed
-    (noted c.args.desk.now) (noted c.events.desk) (noted c.serve_event.new.desk) (faults c.args.desk.now) (faults c.events.desk) (faults c.serve_event.new.desk)
-    held.on.bounds held.answers goes c.in_err-serve_event-in-Ok-Some.ensures.cut (ap (λ (x : Notes). x.failed) left.0) left.1.notes left.1.failed_notes))
+    let cut = c.in_err-serve_event-in-Ok-Some.ensures in
+    rw p.1 (rw p.2 (cut_answers held.on.bounds held.answers goes cut.cut (ap (λ (x : Notes). x.failed) cut.unnoted.0) cut.unnoted.1.notes cut.unnoted.1.failed_notes))
 
 pub returns-in-Ok-None-clause-end : goal.returns-in-Ok-None-clause-end
 returns-in-Ok-None-clause-end g c =
     let old = c.events.mux in
     let new = c.next.new.self in
-    all_given old new (subst (λ (o : Option Event). MatchOption o (GivesNone old new) (λ e. GoesTo old new (e ∷ []))) c.in-Ok-None.field-0-is c.in-Ok-None.ensures.some)
+    all_given old new (gives_none old new _ c.in-Ok-None.field-0-is c.in-Ok-None.ensures.some)
 
 pub returns-in-Err-BadRecord-clause-end : goal.returns-in-Err-BadRecord-clause-end
 returns-in-Err-BadRecord-clause-end g c =
@@ -109,32 +77,13 @@ returns-in-Err-BadRecord-clause-end g c =
     subst (λ (n : ℕ). IsStuckAt new n) (sym c.in-Err-BadRecord.at-is) (stuck_at old new c.in-Err-BadRecord.at stuck.0 stuck.1)
 
 pub returns-in-Err-NoMemory-clause-cut : goal.returns-in-Err-NoMemory-clause-cut
-returns-in-Err-NoMemory-clause-cut g c =
-    let held = c.events.invariant in
-    let first = serving_of c.args.controller.now in
-    let mid = serving_of c.events.controller in
-    let said = g.D.Desk.said in
-    let noted = g.D.Desk.noted in
-    let faults = g.D.Desk.note_faults in
-    starved_answers c.args.form first.bounds c.args.sessions.now c.events.sessions first.machine mid.machine c.args.mux.now c.events.mux (said c.args.desk.now) (said c.events.desk)
-    c.args.notes.now.failed c.events.notes.failed (noted c.args.desk.now) (noted c.events.desk) (faults c.args.desk.now) (faults c.events.desk)
-    held.answers (c.next.ensures.memory (c.in-Err-NoMemory.is ∙ ap Err c.in-Err-NoMemory.field-0-is))
+returns-in-Err-NoMemory-clause-cut g c = starved_answers c.events.invariant.answers (c.next.ensures.memory (c.in-Err-NoMemory.is ∙ ap Err c.in-Err-NoMemory.field-0-is))
 
 pub returns-in_err-serve_event-in-Ok-Some-clause-stops : goal.returns-in_err-serve_event-in-Ok-Some-clause-stops
 returns-in_err-serve_event-in-Ok-Some-clause-stops g c = λ some told.
-    let old = c.events.mux in
-    let new = c.next.new.self in
-    let goes : GoesTo old new (c.in-Ok-Some.event ∷ []) =
-    subst (λ (o : Option Event). MatchOption o (GivesNone old new) (λ e. GoesTo old new (e ∷ []))) c.in-Ok-Some.field-0-is c.in-Ok-Some.ensures.some in
+    let goes = goes_on c.events.mux c.next.new.self _ c.in-Ok-Some.event c.in-Ok-Some.field-0-is c.in-Ok-Some.ensures.some in
     let held = c.events.invariant in
-    let first = serving_of c.args.controller.now in
-    let mid = serving_of c.events.controller in
-    let said = g.D.Desk.said in
-    let noted = g.D.Desk.noted in
-    let faults = g.D.Desk.note_faults in
-    stops_more c.args.form first.bounds mid.bounds c.in-Ok-Some.event c.args.sessions.now c.events.sessions first.machine mid.machine
-    c.args.mux.now old new (said c.args.desk.now) (said c.events.desk) c.args.notes.now.failed c.events.notes.failed (noted c.args.desk.now) (noted c.events.desk) (faults c.args.desk.now) (faults c.events.desk)
-    held.on.bounds held.answers goes (held.stops some told) (c.serve_event.ensures.stops (held.on.kind ∙ some) told)
+    stops_more held.on.bounds held.answers goes (held.stops some told) (c.serve_event.ensures.stops (held.on.kind ∙ some) told)
 
 pub returns-in_err-serve_event-in-Ok-Some-clause-images : goal.returns-in_err-serve_event-in-Ok-Some-clause-images
 returns-in_err-serve_event-in-Ok-Some-clause-images g c =
@@ -143,37 +92,13 @@ returns-in_err-serve_event-in-Ok-Some-clause-images g c =
 
 pub returns-in-Ok-None-clause-ok : goal.returns-in-Ok-None-clause-ok
 returns-in-Ok-None-clause-ok g c =
-    let old = c.events.mux in
-    let new = c.next.new.self in
-    let gives = subst (λ (o : Option Event). MatchOption o (GivesNone old new) (λ e. GoesTo old new (e ∷ []))) c.in-Ok-None.field-0-is c.in-Ok-None.ensures.some in
-    let goes : GoesTo old new [] = gives.goes in
-    let held = c.events.invariant in
-    let first = serving_of c.args.controller.now in
-    let mid = serving_of c.events.controller in
-    let said = g.D.Desk.said in
-    let noted = g.D.Desk.noted in
-    let faults = g.D.Desk.note_faults in (
-      answers_still c.args.form first.bounds c.args.sessions.now c.events.sessions first.machine mid.machine c.args.mux.now c.events.mux c.next.new.self (said c.args.desk.now) (said c.events.desk)
-          c.args.notes.now.failed c.events.notes.failed (noted c.args.desk.now) (noted c.events.desk) (faults c.args.desk.now) (faults c.events.desk) held.answers goes,
-      held.follows,
-    )
+    let gives = gives_none c.events.mux c.next.new.self _ c.in-Ok-None.field-0-is c.in-Ok-None.ensures.some in
+    (answers_still c.events.invariant.answers gives.goes, c.events.invariant.follows)
 
 pub returns-in-Err-BadRecord-clause-ok : goal.returns-in-Err-BadRecord-clause-ok
 returns-in-Err-BadRecord-clause-ok g c =
-    let old = c.events.mux in
-    let new = c.next.new.self in
-    let stuck = subst (λ (e : MuxFault). GivesFault old new e) c.in-Err-BadRecord.field-0-is c.in-Err-BadRecord.ensures.fault in
-    let goes : GoesTo old new [] = stuck.0 in
-    let held = c.events.invariant in
-    let first = serving_of c.args.controller.now in
-    let mid = serving_of c.events.controller in
-    let said = g.D.Desk.said in
-    let noted = g.D.Desk.noted in
-    let faults = g.D.Desk.note_faults in (
-      answers_still c.args.form first.bounds c.args.sessions.now c.events.sessions first.machine mid.machine c.args.mux.now c.events.mux c.next.new.self (said c.args.desk.now) (said c.events.desk)
-          c.args.notes.now.failed c.events.notes.failed (noted c.args.desk.now) (noted c.events.desk) (faults c.args.desk.now) (faults c.events.desk) held.answers goes,
-      held.follows,
-    )
+    let stuck = subst (λ (e : MuxFault). GivesFault c.events.mux c.next.new.self e) c.in-Err-BadRecord.field-0-is c.in-Err-BadRecord.ensures.fault in
+    (answers_still c.events.invariant.answers stuck.0, c.events.invariant.follows)
 
 pub returns-in_err-serve_event-in-Ok-Some-clause-alone : goal.returns-in_err-serve_event-in-Ok-Some-clause-alone
 returns-in_err-serve_event-in-Ok-Some-clause-alone g c = λ none.
