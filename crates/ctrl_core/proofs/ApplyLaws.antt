@@ -10,7 +10,7 @@ use Rattle.ctrl_model.specs.RecordCommands.{after_create}
 use Rattle.ctrl_model.specs.EntityCommands.{new_router as made_router}
 use Rattle.ctrl_model.specs.Numbered.{with_new, with_last, edit_at, map_each, Between}
 use Rattle.ctrl_model.specs.Rules.{side_attributes, forget_left, forget_right}
-use Rattle.ctrl_model.specs.State.{State, Policy, start}
+use Rattle.ctrl_model.specs.State.{State, Policy}
 use Rattle.ctrl_model.specs.Tables.{is_entity_kind}
 use Rattle.ctrl_model.specs.Settling.{settle}
 use Rattle.ctrl_model.specs.ValidState.{ValidState}

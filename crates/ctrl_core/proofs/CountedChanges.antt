@@ -1,21 +1,18 @@
 -- The steps of a change of entities lead to the counts of the state after it.
-use Rattle.std.proofs.Common.{◌≡◌, ℕ, Bool, true, not, List, None, Some, refl, sym, ◌∙◌, ap, subst}
+use Rattle.std.proofs.Common.{◌≡◌, ℕ, Bool, true, not, List, Some, refl, sym, ◌∙◌}
 use Rattle.std.proofs.lemmas.Bool.{false≢true}
 use Rattle.ctrl_model.specs.declared.kinds.Kind.{Kind}
 use Rattle.ctrl_model.specs.declared.kinds.Kind.TheVariants as kind
-use Rattle.ctrl_model.specs.Numbered.{at, is_present}
+use Rattle.ctrl_model.specs.Numbered.{is_present}
 use Rattle.ctrl_model.specs.EntityCommands.{new_router}
 use Rattle.ctrl_model.specs.RecordCommands.{after_create}
 use Rattle.ctrl_model.specs.Settling.{settle}
-use Rattle.ctrl_model.specs.State.{State, Policy}
-use Rattle.ctrl_model.specs.Tables.{table, named, is_entity_kind, is_policy_kind}
-use Rattle.ctrl_model.proofs.NumberedLaws.{by_is_some}
-use Rattle.ctrl_model.proofs.TableLaws.{found-named}
+use Rattle.ctrl_model.specs.State.{State}
+use Rattle.ctrl_model.specs.Tables.{table, named, is_entity_kind}
 use Rattle.entity_store.specs.TableRules.{is_there}
 use Rattle.entity_commands.specs.EntityChanges.{is_plain_kind, with_plain, with_described, with_described_router, with_marked, without_named}
 use Rattle.entity_commands.proofs.EntityPlans.{named_as, there_from_number}
 use Rattle.policy_store.specs.declared.steps.GrantSteps.{GrantSteps}
-use Rattle.core_stores.specs.GrantChanges.{granting_state, StepsOfPolicy}
 use Rattle.policy_store.specs.StepsOfRelations.{HasNoSteps}
 use Rattle.core_stores.specs.declared.stores.Stores.{Stores}
 use Rattle.ctrl_core.specs.KeptState.{Keeps}

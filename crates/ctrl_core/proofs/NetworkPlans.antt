@@ -17,10 +17,6 @@ use Rattle.link_commands.specs.LinkChanges as linked
 use Rattle.policy_store.specs.declared.steps.GrantSteps.{GrantSteps}
 use Rattle.policy_store.specs.StepsOfRelations.{HasNoSteps, steps_of}
 use Rattle.circuits.specs.declared.changes.CircuitChange.{CircuitChange}
-use Rattle.circuits.specs.CircuitChanges.{without_circuits}
-use Rattle.circuits.specs.CircuitTables.{CircuitTables}
-use Rattle.fabric_graph.specs.FabricTables.{FabricSeen}
-use Rattle.terminators.specs.TermTables.{TermTables}
 use Rattle.terminators.specs.declared.changes.TermChange.{TermChange}
 use Rattle.terminator_commands.specs.TermChanges as offered
 use Rattle.core_stores.specs.declared.changes.Change.{Change}
@@ -29,7 +25,6 @@ use Rattle.core_stores.specs.declared.changes.Draft.{Draft}
 use Rattle.core_stores.specs.declared.stores.Stores.{Stores}
 use Rattle.core_stores.specs.CarriedStates.{Carries}
 use Rattle.circuit_rules.specs.CircuitPlans.{CanRoute, routed}
-use Rattle.core_stores.specs.StoredState.{HoldsPolicies}
 use Rattle.core_stores.specs.StoredState.{state_of}
 use Rattle.ctrl_core.specs.Changes.{CanChange, after_change}
 use Rattle.core_stores.specs.LeadingSteps.{LeadAllCounts}
@@ -37,8 +32,6 @@ use Rattle.ctrl_core.specs.ChangedStores.{CanSettle}
 use Rattle.core_stores.specs.SettledNumbers.{AreSettled, without_settled}
 use Rattle.core_stores.specs.declared.settled.Settled.{Settled}
 use Rattle.ctrl_core.proofs.StateParts.{without_is_settled}
-use Rattle.fabric_graph.specs.FabricChanges.{without_links}
-use Rattle.terminators.specs.TermChanges.{without_terms}
 use Rattle.ctrl_core.specs.PlannedCommands.{Plans}
 use Rattle.core_stores.specs.Drafts.{IsShown, IsUncounted}
 use Rattle.ctrl_core.proofs.PlanLaws.{no_steps_lead, settled_lead}

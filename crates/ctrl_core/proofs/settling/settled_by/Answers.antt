@@ -1,4 +1,3 @@
-use Rattle.core_stores.specs.StoredState.{state_of}
 use Rattle.ctrl_core.proofs.SettledChanges.{settles}
 use Rattle.ctrl_core.proofs.settling.settled_by.Goals as goal
 
