@@ -1,17 +1,22 @@
-ghost use Rattle.std.specs.Prelude.{◌≡◌, true, false, IfOk, MatchOption};
+ghost use Rattle.std.specs.Prelude.{◌≡◌, true, false, refl, IfOk, MatchOption};
 ghost use Rattle.ctrl_model.specs.CommandForm.{is_spelled};
 ghost use Rattle.ctrl_model.specs.Controller.{carry};
 ghost use Rattle.ctrl_model.specs.State.{State};
 ghost use Rattle.ctrl_model.specs.declared.replies.Reply.{Reply};
+ghost use Rattle.model_laws.specs.Plans as family;
 ghost use Rattle.model_laws.specs.Plans.{CanLeadBy};
-ghost use Rattle.entity_commands.specs.EntityChanges.{CanEnter};
-ghost use Rattle.entity_commands.specs.EntityPlans.{is_entity_command, PlansEntities};
+ghost use Rattle.entity_commands.specs.EntityChanges.{CanEnter, entered};
+ghost use Rattle.entity_commands.specs.EntityPlans.{is_entity_command};
 ghost use Rattle.link_commands.specs.LinkPlans.{is_link_command};
-ghost use Rattle.policy_store.specs.PolicyChanges.{CanRule};
-ghost use Rattle.core_stores.specs.PolicyPlans.{is_policy_command, PlansPolicies};
+ghost use Rattle.policy_store.specs.PolicyChanges.{CanRule, ruled};
+ghost use Rattle.core_stores.specs.declared.changes.Change.{Change};
+ghost use Rattle.core_stores.specs.declared.changes.Change.TheVariants as change;
+ghost use Rattle.core_stores.specs.LeadingSteps.{LeadAllCounts};
+ghost use Rattle.core_stores.specs.PolicyPlans.{is_policy_command};
 ghost use Rattle.terminator_commands.specs.TermPlans.{is_terminator_command};
 ghost use Rattle.ctrl_core.specs.OtherCommands.{is_grant_command, reply_alone};
 ghost use Rattle.circuit_rules.specs.CircuitPlans.{is_circuit_command};
+ghost use Rattle.ctrl_core.specs.Changes.{CanChange, after_change};
 ghost use Rattle.ctrl_core.specs.KeptState.{Keeps};
 ghost use Rattle.core_stores.specs.StoredState.{state_of};
 ghost use Rattle.ctrl_core.specs.PlannedCommands.{Plans};
@@ -27,28 +32,88 @@ use ctrl_model::{Command, Reply};
 use entity_commands::{EntityChange, plan_entity_command};
 use link_commands::plan_link_command;
 use model_laws::Plan;
-use policy_store::PolicyChange;
+use policy_store::{GrantSteps, PolicyChange};
 use std::alloc::{AllocError, Global};
 use terminator_commands::plan_terminator_command;
 
-// The plan of a change of the entities, if there is one, with its steps.
-fn counted_entities(
-    alloc: Global,
-    stores: &Stores,
-    plan: Plan<EntityChange>,
-) -> Result<Draft, AllocError>
+// A change that moves counts, whose steps are found before it is made.
+trait Counting: Drop {
+    ghost after: { Self → State → State };
+
+    ghost CanBe: { Self → State → Type 0 };
+
+    ghost as_change: { Self → Change };
+
+    // The steps that the counts take where the change is made.
+    fn steps(&self, alloc: Global, stores: &Stores) -> Result<GrantSteps, AllocError>
+        requires kept { Keeps stores.now }
+        requires can { CanBe self.now (state_of stores.now) }
+        ensures { IfOk result (LeadAllCounts (state_of stores.now) (after self.now (state_of stores.now))) };
+
+    // The change as one of a state.
+    fn change(self) -> Change
+        ensures { result ≡ as_change self };
+
+    ghost same: { (c : Self) (s : State) → after_change (as_change c) s ≡ after c s };
+
+    ghost allows: { (c : Self) (s : State) → CanBe c s → CanChange (as_change c) s };
+}
+
+impl Counting for EntityChange {
+    ghost after = { entered };
+
+    ghost CanBe = { CanEnter };
+
+    ghost as_change = { change.Entity };
+
+    fn steps(&self, alloc: Global, stores: &Stores) -> Result<GrantSteps, AllocError> {
+        entity_change_steps(alloc, stores, self)
+    }
+
+    fn change(self) -> Change {
+        Change::Entity(self)
+    }
+
+    ghost same = { λ c s. refl };
+
+    ghost allows = { λ c s can. can };
+}
+
+impl Counting for PolicyChange {
+    ghost after = { ruled };
+
+    ghost CanBe = { CanRule };
+
+    ghost as_change = { change.Policy };
+
+    fn steps(&self, alloc: Global, stores: &Stores) -> Result<GrantSteps, AllocError> {
+        policy_change_steps(alloc, stores, self)
+    }
+
+    fn change(self) -> Change {
+        Change::Policy(self)
+    }
+
+    ghost same = { λ c s. refl };
+
+    ghost allows = { λ c s can. can };
+}
+
+// The plan of a change, if there is one, with its steps.
+fn counted<C: Counting>(alloc: Global, stores: &Stores, plan: Plan<C>) -> Result<Draft, AllocError>
     requires kept { Keeps stores.now }
-    requires can { CanLeadBy CanEnter plan.change (state_of stores.now) }
-    ensures { IfOk result (λ p. (answered : Reply × State) → PlansEntities plan answered (state_of stores.now) → Plans p answered (state_of stores.now)) }
+    requires can { CanLeadBy C.CanBe plan.change (state_of stores.now) }
+    ensures { IfOk result (λ p. (answered : Reply × State) → family.Plans C.after C.CanBe plan answered (state_of stores.now) → Plans p answered (state_of stores.now)) }
 {
     let Plan { reply, change } = plan;
     let Some(change) = change else {
         return Ok(Draft::shown(alloc, reply));
     };
-    let steps = entity_change_steps(alloc, stores, &change)?;
+    let steps = change.steps(alloc, stores)?;
+    let change = Some(change.change());
     Ok(Draft {
         reply,
-        change: Some(Change::Entity(change)),
+        change,
         steps,
     })
 }
@@ -63,31 +128,9 @@ fn plan_entities(
     ensures { IfOk result (λ o. MatchOption o (is_entity_command command.now ≡ false) (λ p. Plans p (carry command.now (state_of stores.now)) (state_of stores.now))) }
 {
     match plan_entity_command(alloc, &stores.entities, command)? {
-        Some(plan) => Ok(Some(counted_entities(alloc, stores, plan)?)),
+        Some(plan) => Ok(Some(counted(alloc, stores, plan)?)),
         None => Ok(None),
     }
-}
-
-// The plan of a change of the policies, if there is one, with its steps.
-fn counted_policies(
-    alloc: Global,
-    stores: &Stores,
-    plan: Plan<PolicyChange>,
-) -> Result<Draft, AllocError>
-    requires kept { Keeps stores.now }
-    requires can { CanLeadBy CanRule plan.change (state_of stores.now) }
-    ensures { IfOk result (λ p. (answered : Reply × State) → PlansPolicies plan answered (state_of stores.now) → Plans p answered (state_of stores.now)) }
-{
-    let Plan { reply, change } = plan;
-    let Some(change) = change else {
-        return Ok(Draft::shown(alloc, reply));
-    };
-    let steps = policy_change_steps(alloc, stores, &change)?;
-    Ok(Draft {
-        reply,
-        change: Some(Change::Policy(change)),
-        steps,
-    })
 }
 
 // Plans the answer to a command on policies. None is a command on something else.
@@ -101,7 +144,7 @@ fn plan_policies(
     ensures { IfOk result (λ o. MatchOption o (is_policy_command command.now ≡ false) (λ p. Plans p (carry command.now (state_of stores.now)) (state_of stores.now))) }
 {
     match plan_policy_command(alloc, &stores.entities, &stores.policies, command)? {
-        Some(plan) => Ok(Some(counted_policies(alloc, stores, plan)?)),
+        Some(plan) => Ok(Some(counted(alloc, stores, plan)?)),
         None => Ok(None),
     }
 }
