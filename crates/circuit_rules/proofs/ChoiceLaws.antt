@@ -8,7 +8,8 @@ use Rattle.model_laws.proofs.Orders.{not_below, below_one_way}
 use Rattle.circuit_rules.specs.declared.choosing.Choice.{Choice}
 use Rattle.circuit_rules.specs.declared.places.Exit.{Exit}
 use Rattle.circuit_rules.specs.declared.places.Entry.{Entry}
-use Rattle.circuit_rules.specs.Searched.{costs_to, key, is_before, choice_at, keep, first_of, first_of_all}
+use Rattle.path_search.specs.Visits.{costs_to}
+use Rattle.circuit_rules.specs.Searched.{key, is_before, choice_at, keep, first_of, first_of_all}
 
 -- ---- the order of choices
 

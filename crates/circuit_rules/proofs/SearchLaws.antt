@@ -2,7 +2,9 @@
 use Rattle.std.proofs.Common.{◌≡◌, ℕ, suc, ◌+◌, ◌-◌, ◌*◌, ◌<◌, ◌≤◌, ◌==◌, max, nat_le, Bool, true, false, cond, List, [], ◌∷◌, length, get_or, Option, Some, None, inl, inr, refl, sym, ◌∙◌, ap, subst, arith, eq-eqb}
 use Rattle.std.specs.List.{All}
 use Rattle.std.proofs.lemmas.Bool.{and_parts, leb-true, false≢true}
+use Rattle.std.proofs.lemmas.List.Elements.{All-filter}
 use Rattle.std.proofs.lemmas.Option.{same_Some}
+use Rattle.ctrl_model.specs.Choices.{place_of}
 use Rattle.ctrl_model.specs.Claims.{no_path}
 use Rattle.ctrl_model.specs.Membership.{Among}
 use Rattle.ctrl_model.proofs.Members.{Among-get_or, list_any-from_among}
@@ -11,9 +13,12 @@ use Rattle.path_certificate.specs.Graphs.{GraphSeen, potential}
 use Rattle.path_search.specs.Searches.{IsLeast, AreFew, greatest_cost}
 use Rattle.fabric_graph.specs.Routers.{costs_at_most}
 use Rattle.circuit_rules.specs.declared.choosing.Choice.{Choice}
+use Rattle.circuit_rules.specs.declared.deciding.Ends.{Ends}
+use Rattle.circuit_rules.specs.FoundRoutes.{AreWithin}
 use Rattle.circuit_rules.specs.declared.places.Exit.{Exit}
 use Rattle.circuit_rules.specs.declared.places.Entry.{Entry}
-use Rattle.circuit_rules.specs.Searched.{most_step_cost, costs_to, is_exit_at, AreCosts, AreSmall, choice_at, first_of_all, IsGraphOf, SearchSeen, IsSearchOf, IsFound, IsSearched}
+use Rattle.path_search.specs.Visits.{costs_to, SearchSeen}
+use Rattle.circuit_rules.specs.Searched.{most_step_cost, is_exit_at, AreCosts, AreSmall, choice_at, first_of_all, IsGraphOf, IsSearchOf, exits_at, IsFound, IsSearched}
 use Rattle.circuit_rules.specs.declared.views.Route.{Route}
 use Rattle.ctrl_model.specs.Networks.{Network}
 use Rattle.circuit_rules.proofs.ChoiceLaws.{IsChosen, chosen}
@@ -106,12 +111,31 @@ ready w s costs entries exits k same listed least in_entries in_exits = record {
   exits_in = in_exits;
 }
 
+-- and so to those of the ends whose exits have one precedence
+pub within_at : (places place : ℕ) (ends : Ends) → AreWithin places ends
+    → All (λ (o : Exit). o.place < places) (exits_at place ends.exits.items) × All (λ (o : Exit). o.cost ≤ 65535) (exits_at place ends.exits.items)
+within_at places place ends h = (
+  All-filter (λ (o : Exit). place_of o.precedence == place) (λ (o : Exit). o.place < places) ends.exits.items h.exits,
+  All-filter (λ (o : Exit). place_of o.precedence == place) (λ (o : Exit). o.cost ≤ 65535) ends.exits.items h.costs,
+)
+
+pub ready_at : (w : Network) (s : SearchSeen) (costs : List (List ℕ)) (ends : Ends) (place : ℕ) (exits : List Exit) → IsSearchOf w s → costs ≡ s.costs
+    → length s.costs ≡ length s.graph.through → exits ≡ exits_at place ends.exits.items → ((t : ℕ) → AreCosts s.graph exits t (costs_to s.costs t))
+    → AreWithin (length w.routers) ends → IsReady (length w.routers) s.graph costs ends.entries.items (exits_at place ends.exits.items)
+ready_at w s costs ends place exits k same listed is least h =
+    ready w s costs ends.entries.items (exits_at place ends.exits.items) k same listed
+    (subst (λ os. (t : ℕ) → AreCosts s.graph os t (costs_to s.costs t)) is least) h.entries (within_at (length w.routers) place ends h).0
+
+-- a search of the graph of a network is one of the network
+pub search_of : (w : Network) (s : SearchSeen) (g : GraphSeen) → s.graph ≡ g → IsGraphOf w g → costs_at_most most_step_cost g.steps ≡ true → IsSearchOf w s
+search_of w s g same is most = record {
+  is_graph = subst (IsGraphOf w) (sym same) is;
+  most = subst (λ (g : GraphSeen). costs_at_most most_step_cost g.steps ≡ true) (sym same) most;
+}
+
 -- a search goes on over the same graph
 pub still_search : (w : Network) (s u : SearchSeen) → u.graph ≡ s.graph → IsSearchOf w s → IsSearchOf w u
-still_search w s u same k = record {
-  is_graph = subst (IsGraphOf w) (sym same) k.is_graph;
-  most = subst (λ (g : GraphSeen). costs_at_most most_step_cost g.steps ≡ true) (sym same) k.most;
-}
+still_search w s u same k = search_of w u s.graph same k.is_graph k.most
 
 -- what was found by a search
 pub searched : (w : Network) (s : SearchSeen) (costs : List (List ℕ)) (entries : List Entry) (exits : List Exit) (found : Option Route) → IsSearchOf w s

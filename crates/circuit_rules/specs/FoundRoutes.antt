@@ -1,7 +1,8 @@
 -- What the private functions that go through the precedences find. No public contract cites it.
-use Rattle.std.specs.Prelude.{◌≡◌, ℕ, ◌<◌, List, None, Some, Ok, Err}
+use Rattle.std.specs.Prelude.{◌≡◌, ℕ, ◌<◌, ◌≤◌, List, None, Some, Ok, Err}
 use Rattle.std.specs.declared.option.Option.{Option}
 use Rattle.std.specs.declared.result.Result.{Result}
+use Rattle.std.specs.List.{All}
 use Rattle.ctrl_model.specs.declared.kinds.Precedence.{Precedence}
 use Rattle.ctrl_model.specs.Networks.{Network}
 use Rattle.ctrl_model.specs.Choices.{Ask, place_of}
@@ -21,6 +22,12 @@ NoneBefore w entries exits place = (c : Precedence) → place_of c < place → I
 abbrev pub IsFoundFirst : Network → List Entry → List Exit → Option Route → Type 0
 IsFoundFirst w entries exits None = (c : Precedence) → IsSearched w entries (exits_at (place_of c) exits) None
 IsFoundFirst w entries exits (Some r) = (place : ℕ) × IsSearched w entries (exits_at place exits) (Some r) × NoneBefore w entries exits place
+
+-- The ends stand at places, of which there are so many, and no exit costs more than a terminator may.
+pub record AreWithin (places : ℕ) (ends : Ends) : Type 0 where
+  pub entries : All (λ (x : Entry). x.place < places) ends.entries.items
+  pub exits : All (λ (o : Exit). o.place < places) ends.exits.items
+  pub costs : All (λ (o : Exit). o.cost ≤ 65535) ends.exits.items
 
 -- The ends are those of a request.
 abbrev pub AreEnds : Network → Ask → ℕ → ℕ → Ends → Type 0

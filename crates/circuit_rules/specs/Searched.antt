@@ -1,11 +1,11 @@
 -- What the private functions of the search for a route find. No public contract cites it.
-use Rattle.std.specs.Prelude.{◌≡◌, ℕ, suc, ◌+◌, ◌<◌, ◌≤◌, ◌==◌, Bool, true, false, cond, ⊤, ◌⊎◌, List, [], ◌∷◌, ◌++◌, map, filter, length, None, Some, Ok, Err}
+use Rattle.std.specs.Prelude.{◌≡◌, ℕ, suc, ◌+◌, ◌<◌, ◌≤◌, ◌==◌, Bool, true, false, cond, ⊤, List, [], ◌∷◌, ◌++◌, map, filter, length, None, Some, Ok, Err}
 use Rattle.std.specs.declared.option.Option.{Option}
 use Rattle.std.specs.declared.result.Result.{Result}
 use Rattle.std.specs.Cmp.Lexicographic.{slice_cmp}
 use Rattle.std.specs.Ordering.{nat_cmp, is_lt}
 use Rattle.std.specs.Option.{option_map_or}
-use Rattle.std.specs.List.{list_any, slice_index_or}
+use Rattle.std.specs.List.{list_any}
 use Rattle.ctrl_model.specs.declared.kinds.RouterSeen.{RouterSeen}
 use Rattle.ctrl_model.specs.declared.refusals.Denial.{Denial}
 use Rattle.ctrl_model.specs.declared.refusals.Denial.TheVariants.{UnknownRouter, NoDial, NoSharedRouter, SharedRoutersOffline, NoTerminators, NoAdmissibleTerminator, NoPath, CircuitsFull}
@@ -17,10 +17,8 @@ use Rattle.ctrl_model.specs.Networks.{Network, hops, is_counted, counted, admiss
 use Rattle.ctrl_model.specs.Choices.{Ask, Wanted, Candidate, IsBest, is_absent, place_of, shared, ingresses, candidates_for, first_denial}
 use Rattle.ctrl_model.specs.Mirrors.{Mirrors}
 use Rattle.path_certificate.specs.Graphs.{GraphSeen, graph_hops, potential}
-use Rattle.path_certificate.specs.StepLists.{AreListed}
-use Rattle.path_certificate.specs.declared.graph.Step.{Step}
-use Rattle.path_certificate.specs.declared.listing.StepEnd.TheVariants as step_end
-use Rattle.path_search.specs.Searches.{IsLeast, AreFew, IsFirst}
+use Rattle.path_search.specs.Searches.{IsFirst}
+use Rattle.path_search.specs.Visits.{SearchSeen, costs_to, IsKnown}
 use Rattle.fabric_graph.specs.Routers.{number_at, costs_at_most}
 use Rattle.circuit_rules.specs.declared.views.Route.{Route}
 use Rattle.circuit_rules.specs.declared.views.DecideFault.{DecideFault}
@@ -99,32 +97,13 @@ exits_to w ask s = map (exit_of w.routers) (admissible w s ask.instance)
 
 -- ---- least costs
 
--- The least costs to a place, of lists by place.
-abbrev pub costs_to : List (List ℕ) → ℕ → List ℕ
-costs_to costs place = slice_index_or costs place []
-
 -- Whether one of the exits stands at a place.
 abbrev pub is_exit_at : List Exit → ℕ → Bool
 is_exit_at exits place = list_any (λ o. o.place == place) exits
 
--- The least costs of paths to a place, each with its bound.
-abbrev pub IsKnown : GraphSeen → ℕ → List ℕ → Type 0
-IsKnown g place p = IsLeast g place p × AreFew g p
-
 -- The least costs of paths to a place, if it has an exit.
 abbrev pub AreCosts : GraphSeen → List Exit → ℕ → List ℕ → Type 0
 AreCosts g exits place p = is_exit_at exits place ≡ true → IsKnown g place p
-
--- A graph, and the least costs to those of its places that were searched.
-pub record SearchSeen : Type 0 where
-  pub graph : GraphSeen
-  pub costs : List (List ℕ)
-
--- What a search keeps: the steps of its graph by the places that they lead to, and for each place nothing or the least costs to it.
-pub record KeepsCosts (g : GraphSeen) (lists : List (List Step)) (costs : List (List ℕ)) : Type 0 where
-  pub listed : AreListed step_end.To (length g.through) g.steps lists
-  pub places : length costs ≡ length g.through
-  pub each : (t : ℕ) → t < length g.through → (costs_to costs t ≡ []) ⊎ IsKnown g t (costs_to costs t)
 
 -- Least costs, of which each is small.
 pub record AreSmall (places : ℕ) (p : List ℕ) : Type 0 where

@@ -41,12 +41,9 @@ fn none_beats_from(
 ) -> bool
     ensures { result ≡ list_all (λ o. is_no_better (network view.now) claim.now place ingress.0 (term_offered o)) offers.now }
 {
-    'offers: for offer in offers {
-        if !is_no_better(view, claim, place, ingress, offer) {
-            return false;
-        }
-    }
-    true
+    offers
+        .iter()
+        .all(|offer| is_no_better(view, claim, place, ingress, offer))
 }
 
 /// Whether no offer beats the claim from any ingress.
@@ -59,10 +56,5 @@ pub fn none_beats(
 ) -> bool
     ensures { result ≡ list_all (λ r. list_all (λ o. is_no_better (network view.now) claim.now place r.no.0 (term_offered o)) offers.now) ingresses.now }
 {
-    'ingresses: for ingress in ingresses {
-        if !none_beats_from(view, claim, place, ingress.no, offers) {
-            return false;
-        }
-    }
-    true
+    ingresses.iter().all(|ingress| none_beats_from(view, claim, place, ingress.no, offers))
 }

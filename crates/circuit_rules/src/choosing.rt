@@ -1,7 +1,8 @@
 ghost use Rattle.std.specs.Prelude.{◌≡◌, ◌<◌, ◌≤◌, ℕ, All, length, None};
 ghost use Rattle.ctrl_model.specs.Claims.{no_path};
 ghost use Rattle.path_certificate.specs.Graphs.{potential};
-ghost use Rattle.circuit_rules.specs.Searched.{AreSmall, costs_to, is_before, choice_at, keep, first_of, first_of_all};
+ghost use Rattle.path_search.specs.Visits.{costs_to};
+ghost use Rattle.circuit_rules.specs.Searched.{AreSmall, is_before, choice_at, keep, first_of, first_of_all};
 
 use crate::places::{Entry, Exit};
 use ctrl_model::{Potentials, Precedence};

@@ -1,22 +1,23 @@
-ghost use Rattle.std.specs.Prelude.{◌≡◌, ◌<◌, ◌≤◌, All, length, option_map, IfOk, IfSome, IsErrOf};
+ghost use Rattle.std.specs.Prelude.{◌≡◌, ◌<◌, length, option_map, IfOk, IfSome, IsErrOf};
 ghost use Rattle.ctrl_model.specs.Claims.{no_path};
 ghost use Rattle.path_certificate.specs.Graphs.{potential};
 ghost use Rattle.path_search.specs.Searches.{IsLeast};
 ghost use Rattle.fabric_graph.specs.Routers.{AreRouters};
 ghost use Rattle.circuit_rules.specs.Views.{network, asked};
 ghost use Rattle.circuit_rules.specs.Decisions.{Decides, MayWantMemory};
-ghost use Rattle.circuit_rules.specs.Searched.{Passes, PassesAtOnce, end_rules, costs_to, GoesFirst, IsSearched, IsBestWay, IsSearchOf, exits_at};
-ghost use Rattle.circuit_rules.specs.FoundRoutes.{IsFoundFirst, AreEnds, route_found};
+ghost use Rattle.path_search.specs.Visits.{costs_to};
+ghost use Rattle.circuit_rules.specs.Searched.{Passes, PassesAtOnce, end_rules, GoesFirst, IsSearched, IsBestWay, IsSearchOf, exits_at};
+ghost use Rattle.circuit_rules.specs.FoundRoutes.{AreWithin, IsFoundFirst, AreEnds, route_found};
 
 use crate::choosing::{Choice, first_of_all};
 use crate::ingresses::allowed_ingresses;
 use crate::offers::{allowed_offers, place_of};
 use crate::places::{Entry, Exit, entries, exits};
-use crate::searching::Search;
+use crate::searching::visit_exits;
 use crate::views::{Ask, DecideFault, Route, View};
 use ctrl_model::{Denial, IdentityNo, Potentials, Precedence, RouterNo, ServiceNo, TermNo};
 use path_certificate::Graph;
-use path_search::walk;
+use path_search::{CostSearch, walk};
 use std::alloc::{AllocError, Global};
 
 /// Where a circuit may enter and end.
@@ -30,7 +31,7 @@ pub struct Ends {
 #[derive(Drop)]
 pub struct Found {
     pub route: Route,
-    pub search: Search,
+    pub search: CostSearch,
 }
 
 // The route of a choice: over the first of the least paths between its places.
@@ -59,31 +60,6 @@ fn route_of(
     })
 }
 
-// The least route from one of the entries to one of the exits, if there is one.
-fn least_route(
-    alloc: Global,
-    view: &View,
-    search: &mut Search,
-    entries: &[Entry],
-    exits: &[Exit],
-) -> Result<Option<Route>, AllocError>
-    requires routers { AreRouters view.now.routers.now }
-    requires search { IsSearchOf (network view.now) search.old }
-    requires entries { All (λ x. x.place < length view.now.routers.now) entries.now }
-    requires exits { All (λ o. o.place < length view.now.routers.now) exits.now }
-    requires costs { All (λ o. o.cost ≤ 65535) exits.now }
-    ensures search { IsSearchOf (network view.now) search.new }
-    ensures route { IfOk result (IsSearched (network view.now) entries.now exits.now) }
-{
-    search.visit_exits(alloc, exits)?;
-    let costs = search.costs();
-    let Some(choice) = first_of_all(costs, entries, exits, view.routers.len()) else {
-        return Ok(None);
-    };
-    let route = route_of(alloc, search.graph(), costs, &choice)?;
-    Ok(Some(route))
-}
-
 // Those of the exits whose precedence stands at a place.
 fn exits_at(alloc: Global, exits: &[Exit], place: u8) -> Result<Vec<Exit>, AllocError>
     ensures { IfOk result (λ v. v.items ≡ exits_at place exits.now) }
@@ -95,45 +71,46 @@ fn exits_at(alloc: Global, exits: &[Exit], place: u8) -> Result<Vec<Exit>, Alloc
         .collect(alloc)
 }
 
-// The least route to an exit of the precedence that stands at a place.
+// The least route between the ends to an exit of the precedence that stands at a place, if there is one.
 fn route_at(
     alloc: Global,
     view: &View,
-    search: &mut Search,
-    entries: &[Entry],
-    exits: &[Exit],
+    search: &mut CostSearch,
+    ends: &Ends,
     place: u8,
 ) -> Result<Option<Route>, AllocError>
     requires routers { AreRouters view.now.routers.now }
     requires search { IsSearchOf (network view.now) search.old }
-    requires entries { All (λ x. x.place < length view.now.routers.now) entries.now }
-    requires exits { All (λ o. o.place < length view.now.routers.now) exits.now }
-    requires costs { All (λ o. o.cost ≤ 65535) exits.now }
+    requires ends { AreWithin (length view.now.routers.now) ends.now }
     ensures search { IsSearchOf (network view.now) search.new }
-    ensures route { IfOk result (IsSearched (network view.now) entries.now (exits_at place exits.now)) }
+    ensures route { IfOk result (IsSearched (network view.now) ends.now.entries.items (exits_at place ends.now.exits.items)) }
 {
-    let exits = exits_at(alloc, exits, place)?;
-    least_route(alloc, view, search, entries, exits.as_slice())
+    let entries = ends.entries.as_slice();
+    let exits = exits_at(alloc, ends.exits.as_slice(), place)?;
+    visit_exits(alloc, search, exits.as_slice())?;
+    let costs = search.costs();
+    let Some(choice) = first_of_all(costs, entries, exits.as_slice(), view.routers.len()) else {
+        return Ok(None);
+    };
+    let route = route_of(alloc, search.graph(), costs, &choice)?;
+    Ok(Some(route))
 }
 
-// The least route to an exit of the best precedence that has one. Places of a worse precedence are not searched.
+// The least route between the ends to an exit of the best precedence that has one. Places of a worse precedence are not searched.
 fn first_route(
     alloc: Global,
     view: &View,
-    search: &mut Search,
-    entries: &[Entry],
-    exits: &[Exit],
+    search: &mut CostSearch,
+    ends: &Ends,
 ) -> Result<Option<Route>, AllocError>
     requires routers { AreRouters view.now.routers.now }
     requires search { IsSearchOf (network view.now) search.old }
-    requires entries { All (λ x. x.place < length view.now.routers.now) entries.now }
-    requires exits { All (λ o. o.place < length view.now.routers.now) exits.now }
-    requires costs { All (λ o. o.cost ≤ 65535) exits.now }
+    requires ends { AreWithin (length view.now.routers.now) ends.now }
     ensures search { IsSearchOf (network view.now) search.new }
-    ensures route { IfOk result (IsFoundFirst (network view.now) entries.now exits.now) }
+    ensures route { IfOk result (IsFoundFirst (network view.now) ends.now.entries.items ends.now.exits.items) }
 {
     'places: for place in place_of(Precedence::Required)..place_of(Precedence::Failed) + 1 {
-        let route = route_at(alloc, view, search, entries, exits, place)?;
+        let route = route_at(alloc, view, search, ends, place)?;
         if let Some(route) = route {
             return Ok(Some(route));
         }
@@ -163,15 +140,13 @@ fn ends_of(
 // The least route between ends, if there is one, and the search that found it.
 fn found_between(alloc: Global, view: &View, ends: &Ends) -> Result<Option<Found>, AllocError>
     requires routers { AreRouters view.now.routers.now }
-    requires entries { All (λ x. x.place < length view.now.routers.now) ends.now.entries.items }
-    requires exits { All (λ o. o.place < length view.now.routers.now) ends.now.exits.items }
-    requires costs { All (λ o. o.cost ≤ 65535) ends.now.exits.items }
+    requires ends { AreWithin (length view.now.routers.now) ends.now }
     ensures search { IfOk result (λ o. IfSome o (λ f. IsSearchOf (network view.now) f.search)) }
     ensures route { IfOk result (λ o. IsFoundFirst (network view.now) ends.now.entries.items ends.now.exits.items (option_map (λ f. f.route) o)) }
 {
-    let mut search = Search::over(alloc, view)?;
-    let (entries, exits) = (ends.entries.as_slice(), ends.exits.as_slice());
-    match first_route(alloc, view, &mut search, entries, exits)? {
+    let graph = view.fabric.graph_of(alloc, view.routers)?;
+    let mut search = CostSearch::over(alloc, graph)?;
+    match first_route(alloc, view, &mut search, ends)? {
         Some(route) => Ok(Some(Found { route, search })),
         None => Ok(None),
     }

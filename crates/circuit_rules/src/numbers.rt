@@ -1,5 +1,4 @@
 ghost use Rattle.std.specs.Prelude.{◌≡◌, IfOk, map, filter};
-ghost use Rattle.std.specs.Str.{bytes_eq};
 ghost use Rattle.circuit_rules.specs.Offers.{is_carried};
 
 use crate::offers::{Offer, is_carried};
@@ -34,11 +33,4 @@ pub fn entry_numbers(alloc: Global, entries: &[Reach]) -> Result<Vec<u32>, Alloc
     ensures { IfOk result (λ v. v.items ≡ map (λ e. e.router.0) entries.now) }
 {
     entries.iter().map(|entry| entry.router.0).collect(alloc)
-}
-
-/// Whether the numbers are the same, in the same order.
-pub fn are_equal(numbers: &[u32], others: &[u32]) -> bool
-    ensures { result ≡ bytes_eq numbers.now others.now }
-{
-    numbers == others
 }

@@ -8,16 +8,16 @@ ghost use Rattle.circuit_rules.specs.Reached.{AreOn};
 ghost use Rattle.circuit_rules.specs.Searched.{IsSearchOf};
 
 use crate::offers::{Offer, is_carried};
-use crate::searching::Search;
 use crate::views::View;
 use ctrl_model::Reach;
+use path_search::CostSearch;
 use std::alloc::{AllocError, Global};
 
 // The least costs of paths from each router to the one of a place.
 fn reach_to(
     alloc: Global,
     view: &View,
-    search: &mut Search,
+    search: &mut CostSearch,
     place: u16,
 ) -> Result<Reach, AllocError>
     requires search { IsSearchOf (network view.now) search.old }
@@ -37,7 +37,7 @@ fn reach_to(
 pub fn reaches(
     alloc: Global,
     view: &View,
-    search: &mut Search,
+    search: &mut CostSearch,
     offers: &[Offer],
     most: u8,
 ) -> Result<Vec<Reach>, AllocError>

@@ -50,25 +50,14 @@ fn none_improves_at(
 ) -> bool
     ensures { result ≡ list_all (λ l. does_not_improve (value_at (router_numbers (network view.now)) values.now) router.0 (hops (network view.now) target.0 router.0 l)) links.now }
 {
-    'links: for link in links {
-        if !does_not_improve(view, values, target, router, *link) {
-            return false;
-        }
-    }
-    true
+    links.iter().all(|link| does_not_improve(view, values, target, router, *link))
 }
 
 // Whether no hop improves a value.
 fn none_improves(view: &View, links: &[u32], values: &[u64], target: RouterNo) -> bool
     ensures { result ≡ list_all (λ r. list_all (λ l. does_not_improve (value_at (router_numbers (network view.now)) values.now) r.no.0 (hops (network view.now) target.0 r.no.0 l)) links.now) view.now.routers.now }
 {
-    let routers = view.routers;
-    'routers: for router in routers {
-        if !none_improves_at(view, links, values, target, router.no) {
-            return false;
-        }
-    }
-    true
+    view.routers.iter().all(|router| none_improves_at(view, links, values, target, router.no))
 }
 
 // Whether the entry has a value for each router, 0 at its own, and no hop on the way to it improves a value.
@@ -154,13 +143,7 @@ fn have_costs(routers: &[RouterSeen]) -> bool
 fn are_routers(routers: &[RouterSeen]) -> bool
     ensures { IsTrue result → AreRouters routers.now }
 {
-    if routers.len() > MOST_ROUTERS {
-        return false;
-    }
-    if !have_costs(routers) {
-        return false;
-    }
-    ascend(routers)
+    routers.len() <= MOST_ROUTERS && have_costs(routers) && ascend(routers)
 }
 
 /// Whether each entry is settled: judged by the check over the graph of the links, and hop by hop where the routers are none that

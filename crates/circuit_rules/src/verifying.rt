@@ -8,7 +8,7 @@ ghost use Rattle.circuit_rules.specs.Parts.{term_offered, is_entitled_by, is_com
 
 use crate::beating::none_beats;
 use crate::ingresses::ingresses;
-use crate::numbers::{are_equal, carrying_numbers, entry_numbers, router_numbers};
+use crate::numbers::{carrying_numbers, entry_numbers, router_numbers};
 use crate::offers::{Offer, offer_at, offers, place_of};
 use crate::settling::are_settled;
 use crate::tight::is_route;
@@ -63,10 +63,7 @@ fn is_complete(
     let present = router_numbers(alloc, view.routers)?;
     let carrying = carrying_numbers(alloc, view.routers, offers, place)?;
     let entries = entry_numbers(alloc, claim.potentials.as_slice())?;
-    Ok(
-        are_equal(claim.routers.as_slice(), present.as_slice())
-            && are_equal(entries.as_slice(), carrying.as_slice()),
-    )
+    Ok(claim.routers.as_slice() == present.as_slice() && entries.as_slice() == carrying.as_slice())
 }
 
 // Whether the claim's links are a route to the offer, and no offer beats it from any of these ingresses.
@@ -97,16 +94,12 @@ fn is_justified_by(
     ensures { IfOk result (λ yes. yes ≡ is_justified_by (network view.now) claim.now identity.0 service.0 ingresses.now offers.now offer) }
 {
     let place = place_of(offer.precedence);
-    if !is_entitled(view, claim, identity, service, ingresses, offers) {
-        return Ok(false);
-    }
-    if !is_complete(alloc, view, claim, place, offers)? {
-        return Ok(false);
-    }
-    if !are_settled(alloc, view, claim.potentials.as_slice())? {
-        return Ok(false);
-    }
-    Ok(is_unbeaten(view, claim, place, ingresses, offers, offer))
+    Ok(
+        is_entitled(view, claim, identity, service, ingresses, offers)
+            && is_complete(alloc, view, claim, place, offers)?
+            && are_settled(alloc, view, claim.potentials.as_slice())?
+            && is_unbeaten(view, claim, place, ingresses, offers, offer),
+    )
 }
 
 // Whether the claim is justified for a present identity and service and the offer of the terminator that it names.

@@ -4,3 +4,4 @@ pub mod SettledCosts
 pub mod FirstChains
 pub mod WorkedCosts
 pub mod WaitingPlaces
+pub mod KnownCosts

@@ -2,10 +2,12 @@
 #![tactic(auto)]
 
 mod relaxing;
+mod visiting;
 mod waiting;
 mod walking;
 mod worked;
 
 pub use relaxing::{arrivals, least, least_over};
+pub use visiting::CostSearch;
 pub use walking::walk;
 pub use worked::{bound_of_three, least_costs_of_a_row, lesser_links_first};

@@ -16,9 +16,11 @@ found_between-requires c =
     let k : IsRequest w ask c.args.identity.0 c.args.service.0 = record { who = c.requires.who; what = c.requires.what; routers = c.requires.routers; once = once } in
     record {
       routers = c.requires.routers;
-      entries = ends_entered w ask c.args.identity.0 c.args.service.0 k c.in_ok-ends.ends c.in_ok-ends.ensures.ends.1;
-      exits = ends_left w ask c.args.identity.0 c.args.service.0 k c.in_ok-ends.ends c.in_ok-ends.ensures.ends.1;
-      costs = subst (λ os. All (λ (o : Exit). o.cost ≤ 65535) os) (sym c.in_ok-ends.ensures.ends.1.1) (exits_cheap w ask c.args.service.0 c.next-next.ensures.keeps.costs);
+      ends = record {
+        entries = ends_entered w ask c.args.identity.0 c.args.service.0 k c.in_ok-ends.ends c.in_ok-ends.ensures.ends.1;
+        exits = ends_left w ask c.args.identity.0 c.args.service.0 k c.in_ok-ends.ends c.in_ok-ends.ensures.ends.1;
+        costs = subst (λ os. All (λ (o : Exit). o.cost ≤ 65535) os) (sym c.in_ok-ends.ensures.ends.1.1) (exits_cheap w ask c.args.service.0 c.next-next.ensures.keeps.costs);
+      };
     }
 
 pub returns-clause-best : goal.returns-clause-best

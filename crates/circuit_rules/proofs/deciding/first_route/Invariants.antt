@@ -7,5 +7,5 @@ use Rattle.circuit_rules.proofs.deciding.first_route.Given as goal
 abbrev pub invariant-places : goal.invariant-places
 invariant-places l = record {
   search : IsSearchOf (network l.view) l.search;
-  none : NoneBefore (network l.view) l.entries l.exits l.place;
+  none : NoneBefore (network l.view) l.ends.entries.items l.ends.exits.items l.place;
 }

@@ -2,7 +2,7 @@ use Rattle.std.proofs.Common.{◌≡◌, ◌<◌, [], length, false, sym, ◌∙
 use Rattle.std.proofs.lemmas.List.{get_or_default}
 use Rattle.path_search.specs.Searches.{IsLeast}
 use Rattle.circuit_rules.specs.Views.{network}
-use Rattle.circuit_rules.specs.Searched.{costs_to}
+use Rattle.path_search.specs.Visits.{costs_to}
 use Rattle.fabric_graph.specs.Routers.{number_at}
 use Rattle.circuit_rules.proofs.ReachLaws.{values-reach, number_there, reach_from}
 use Rattle.circuit_rules.proofs.SearchLaws.{still_search}
