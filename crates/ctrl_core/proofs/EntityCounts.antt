@@ -7,7 +7,7 @@ use Rattle.ctrl_model.specs.declared.kinds.Kind.TheVariants as kind
 use Rattle.ctrl_model.specs.declared.kinds.Relation.{Relation}
 use Rattle.ctrl_model.specs.declared.kinds.Relation.TheVariants.{Dial, Bind, IdentityRouter, ServiceRouter}
 use Rattle.ctrl_model.specs.Numbered.{Table, with_new, with_removed, with_edit, at, with_last, edit_at, without, first_where, Between}
-use Rattle.ctrl_model.specs.State.{State, Entity, Router, as_entity, entity_named, router_named}
+use Rattle.ctrl_model.specs.State.{State, Entity, Router, as_entity, router_named}
 use Rattle.ctrl_model.specs.Grants.{count}
 use Rattle.ctrl_model.specs.ShowCommands.{router_entities}
 use Rattle.ctrl_model.specs.RecordCommands.{after_create, after_remove}
@@ -35,20 +35,6 @@ entities_in kind.Identity s = s.identities.rows
 entities_in kind.Service s = s.services.rows
 entities_in kind.Router s = router_entities s
 entities_in _ s = []
-
--- the number that the next entity of a kind gets
-abbrev pub next_in : Kind → State → ℕ
-next_in kind.Identity s = s.identities.next
-next_in kind.Service s = s.services.next
-next_in kind.Router s = s.routers.next
-next_in _ s = 1
-
--- the number that a name of a kind finds
-abbrev pub named_in : Kind → List ℕ → State → Option ℕ
-named_in kind.Identity name s = entity_named s.identities.rows name
-named_in kind.Service name s = entity_named s.services.rows name
-named_in kind.Router name s = router_named s.routers.rows name
-named_in _ name s = None
 
 -- the entities of the other two kinds are the same
 abbrev pub OthersStay : Kind → State → State → Type 0
@@ -152,7 +138,7 @@ seen_alike rows others n e = seen_at rows n (at others n) e ∙ sym (at-map (λ 
 -- ---- a new entity
 
 pub added_leads : (k : Kind) (name : List ℕ) (attributes : List (List ℕ)) (s : State) (steps : GrantSteps) → is_plain_kind k ≡ true → ValidState s
-    → StepsOfEntity k (next_in k s) (record { before = None; after = Some (record { name = name; attributes = attributes }) }) s steps
+    → StepsOfEntity k (table k s).next (record { before = None; after = Some (record { name = name; attributes = attributes }) }) s steps
     → (r : Relation) → LeadCounts (count r s) (count r (with_plain k name attributes s)) (steps_of r steps)
 added_leads kind.Identity name attributes s steps plain v is =
     table_leads kind.Identity s.identities.next _ s (with_new (record { name = name; attributes = attributes }) s.identities) steps is refl v (at-next (v.kinds kind.Identity).numbers)
@@ -258,7 +244,7 @@ left_of _ n s is m ne = absurd (false≢true is)
 
 -- its name counts nothing once it has gone
 module _ (n : ℕ) (name : List ℕ) (s : State) (v : ValidState s) where
-  forgotten_counts : (k : Kind) → is_entity_kind k ≡ true → named_in k name s ≡ Some n → (r : Relation) (a b : ℕ)
+  forgotten_counts : (k : Kind) → is_entity_kind k ≡ true → named k s name ≡ Some n → (r : Relation) (a b : ℕ)
       → count r (after_remove k n s) a b ≡ count r (without_named k n name s) a b
   forgotten_counts kind.Identity is found ServiceRouter a b = refl
   forgotten_counts kind.Identity is found Dial a b = sym (forget_left_leaves Dial (after_remove kind.Identity n s) (without_named kind.Identity n name s) name refl refl refl (absent kind.Identity n name s v refl found) a b)
@@ -274,7 +260,7 @@ module _ (n : ℕ) (name : List ℕ) (s : State) (v : ValidState s) where
   forgotten_counts kind.Router is found ServiceRouter a b = sym (forget_right_leaves ServiceRouter (after_remove kind.Router n s) (without_named kind.Router n name s) name refl refl refl (absent_router n name s v found) a b)
   forgotten_counts _ is found r a b = absurd (false≢true is)
 
-pub removed_leads : (k : Kind) (n : ℕ) (name : List ℕ) (s : State) (steps : GrantSteps) → is_entity_kind k ≡ true → ValidState s → named_in k name s ≡ Some n
+pub removed_leads : (k : Kind) (n : ℕ) (name : List ℕ) (s : State) (steps : GrantSteps) → is_entity_kind k ≡ true → ValidState s → named k s name ≡ Some n
     → StepsOfEntity k n (record { before = at (entities_in k s) n; after = None }) s steps
     → (r : Relation) → LeadCounts (count r s) (count r (without_named k n name s)) (steps_of r steps)
 removed_leads k n name s steps is_kind v found is r =

@@ -40,6 +40,10 @@ pub record CameTo {D : Type 0} (core : Cored) (old new : Stored) (desk later : D
   pub done : OnOk r (MayCompact old × (new ≡ compacted_of old))
   pub fault : IfErr r (λ fault. CompactFails old new desk later fault)
 
+pub came_of : {D : Type 0} {core : Cored} {old new : Stored} {desk later : D} {r : Result ⊤ StoreFault} → Keeps core old
+    → OnOk r (MayCompact old × (new ≡ compacted_of old)) → IfErr r (λ fault. CompactFails old new desk later fault) → CameTo core old new desk later r
+came_of keeps done fault = record { keeps = keeps; done = done; fault = fault }
+
 -- A store that was compacted keeps the state.
 keeps_compacted : (core : Cored) (old new : Stored) → Keeps core old → new ≡ compacted_of old → Keeps core new
 keeps_compacted core old new k e = subst (Keeps core) (sym e) (record { live = k.live; valid = k.valid; opened = k.opened; unspent = k.unspent; rows = k.rows })

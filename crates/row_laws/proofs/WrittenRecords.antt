@@ -83,13 +83,13 @@ side_from side e =
 kept_all : {X : Type 0} (p : X → Bool) (xs : List X) → filter p xs ≡ xs → (x : X) → Among x xs → p x ≡ true
 kept_all p xs e x m = by_filter p xs x (subst (λ ys. Among x ys) (sym e) m) (λ _ passes. passes)
 
-links_stay : (s : State) → ValidState s → (row : ℕ × Link) → Among row s.links.rows → link_stays s row ≡ true
+pub links_stay : (s : State) → ValidState s → (row : ℕ × Link) → Among row s.links.rows → link_stays s row ≡ true
 links_stay s v = kept_all (link_stays s) s.links.rows (ap (λ (t : State). t.links.rows) v.settled)
 
-terminators_stay : (s : State) → ValidState s → (row : ℕ × Terminator) → Among row s.terminators.rows → terminator_stays s row ≡ true
+pub terminators_stay : (s : State) → ValidState s → (row : ℕ × Terminator) → Among row s.terminators.rows → terminator_stays s row ≡ true
 terminators_stay s v = kept_all (terminator_stays s) s.terminators.rows (ap (λ (t : State). t.terminators.rows) v.settled)
 
-circuits_stay : (s : State) → ValidState s → (row : ℕ × Circuit) → Among row s.circuits.rows → stays_in s row ≡ true
+pub circuits_stay : (s : State) → ValidState s → (row : ℕ × Circuit) → Among row s.circuits.rows → stays_in s row ≡ true
 circuits_stay s v row m =
     subst (λ t. stays_in t row ≡ true) same
     (kept_all (stays_in (settle_terminators (settle_links s))) s.circuits.rows (ap (λ (t : State). t.circuits.rows) v.settled) row m)

@@ -252,13 +252,13 @@ All-uncond : (P : Key × List ℕ → Type 0) (key : Key) (b : Bool) (v : List �
 All-uncond P key true v h = tt
 All-uncond P key false v h = (h refl, tt)
 
-left_fits : (r : Relation) (s : State) → ValidState s → (a : ℕ) → Among a (left_numbers r s) → is_long a ≡ true
+pub left_fits : (r : Relation) (s : State) → ValidState s → (a : ℕ) → Among a (left_numbers r s) → is_long a ≡ true
 left_fits Dial s v = listed_fits (v.kinds kind.Identity).numbers
 left_fits Bind s v = listed_fits (v.kinds kind.Identity).numbers
 left_fits IdentityRouter s v = listed_fits (v.kinds kind.Identity).numbers
 left_fits ServiceRouter s v = listed_fits (v.kinds kind.Service).numbers
 
-right_fits : (r : Relation) (s : State) → ValidState s → (a : ℕ) → Among a (right_numbers r s) → is_long a ≡ true
+pub right_fits : (r : Relation) (s : State) → ValidState s → (a : ℕ) → Among a (right_numbers r s) → is_long a ≡ true
 right_fits Dial s v = listed_fits (v.kinds kind.Service).numbers
 right_fits Bind s v = listed_fits (v.kinds kind.Service).numbers
 right_fits IdentityRouter s v = listed_fits (v.kinds kind.Router).numbers

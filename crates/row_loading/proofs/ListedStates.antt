@@ -27,7 +27,7 @@ use Rattle.row_laws.specs.FittingRecords.{fits}
 use Rattle.row_laws.proofs.KeyOrders.{long_upto}
 use Rattle.row_laws.proofs.TableRows.{has_number}
 use Rattle.row_laws.proofs.WrittenRecords.{listed_fits, record_fits}
-use Rattle.row_laws.proofs.WrittenRows.{count_fits}
+use Rattle.row_laws.proofs.WrittenRows.{count_fits, left_fits, right_fits}
 use Rattle.row_loading.specs.LoadedRows.{keyed}
 
 -- ---- rows of records and counts
@@ -136,18 +136,6 @@ lists_records : (k : Kind) → has_number (Records k) ≡ true → (s : State) �
 lists_records k has s v =
     Lists-map (λ x. row_for k x.0 x.1) (λ x. (key_in (Records k) x.0 0, record_value k x.1)) (table k s).rows (λ x m.
     record_listed k x.0 x.1 has (listed_fits (v.kinds k).numbers x.0 (Among-map (λ (y : ℕ × Record k). y.0) (table k s).rows x m)) (record_fits s v k x m))
-
-left_fits : (r : Relation) (s : State) → ValidState s → (a : ℕ) → Among a (left_numbers r s) → is_long a ≡ true
-left_fits Dial s v = listed_fits (v.kinds kind.Identity).numbers
-left_fits Bind s v = listed_fits (v.kinds kind.Identity).numbers
-left_fits IdentityRouter s v = listed_fits (v.kinds kind.Identity).numbers
-left_fits ServiceRouter s v = listed_fits (v.kinds kind.Service).numbers
-
-right_fits : (r : Relation) (s : State) → ValidState s → (a : ℕ) → Among a (right_numbers r s) → is_long a ≡ true
-right_fits Dial s v = listed_fits (v.kinds kind.Service).numbers
-right_fits Bind s v = listed_fits (v.kinds kind.Service).numbers
-right_fits IdentityRouter s v = listed_fits (v.kinds kind.Router).numbers
-right_fits ServiceRouter s v = listed_fits (v.kinds kind.Router).numbers
 
 count_listed : (r : Relation) (a b c : ℕ) → is_long a ≡ true → is_long b ≡ true → is_long c ≡ true
     → Lists (row_if (nat_lt 0 c) (count_row r a b c)) (row_if_some (key_in (Counts r) a b) (count_value c))

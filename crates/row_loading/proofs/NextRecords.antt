@@ -1,5 +1,5 @@
 -- A record of a valid state that comes next behind a front of the records of its kind has no flaw.
-use Rattle.std.proofs.Common.{◌≡◌, ℕ, ◌+◌, ◌<◌, ◌≤◌, ◌==◌, ◌&&◌, ◌||◌, nat_lt, nat_le, Bool, true, false, not, cond, inl, inr, List, [], ◌∷◌, ◌++◌, length, filter, flat_map, is_some, Option, None, Some, refl, sym, ◌∙◌, ap, ap₂, subst, arith, eq-eqb, ne_eqb, leb-true, ltb-true, length-append}
+use Rattle.std.proofs.Common.{◌≡◌, ℕ, ◌+◌, ◌<◌, ◌≤◌, ◌==◌, ◌&&◌, ◌||◌, nat_lt, nat_le, Bool, true, false, not, cond, inl, inr, List, [], ◌∷◌, ◌++◌, length, flat_map, is_some, Option, None, Some, refl, sym, ◌∙◌, ap, ap₂, subst, arith, eq-eqb, ne_eqb, leb-true, ltb-true, length-append}
 use Rattle.std.proofs.lemmas.Bool.{and_parts, cond-true, cond-false, false_from_ne_true}
 use Rattle.std.proofs.lemmas.Option.{none-some}
 use Rattle.std.specs.Str.{bytes_eq}
@@ -8,17 +8,17 @@ use Rattle.ctrl_model.specs.declared.kinds.Kind.TheVariants as kind
 use Rattle.ctrl_model.specs.Limits.{limit}
 use Rattle.ctrl_model.specs.Membership.{Among}
 use Rattle.ctrl_model.specs.Numbered.{at, with_last, first_where, Between}
-use Rattle.ctrl_model.specs.State.{State, Link, Terminator, Circuit}
+use Rattle.ctrl_model.specs.State.{State}
 use Rattle.ctrl_model.specs.Tables.{Record, table, has_names, record_name, named}
 use Rattle.ctrl_model.specs.Rules.{attributes_full}
-use Rattle.ctrl_model.specs.Settling.{link_stays, terminator_stays, stays_in, settle_links, settle_terminators}
 use Rattle.ctrl_model.specs.ValidState.{ValidState, HaveUniqueNames, is_valid, is_valid_policy, may_relate}
 use Rattle.ctrl_model.proofs.DistinctLaws.{Includes, same_name}
-use Rattle.ctrl_model.proofs.Members.{list_all-among, by_filter, by_append, by_flat_map, Among-append_left, Among-append_right, Among-flat_map}
+use Rattle.ctrl_model.proofs.Members.{list_all-among, by_append, by_flat_map, Among-append_left, Among-append_right, Among-flat_map}
 use Rattle.ctrl_model.proofs.NumberedLaws.{at-within, first_where-found}
 use Rattle.model_laws.proofs.ValidLaws.{attributes_fewer}
 use Rattle.row_codec.specs.RowKeys.RowTable.{Records}
 use Rattle.row_laws.proofs.TableRows.{has_number}
+use Rattle.row_laws.proofs.WrittenRecords.{links_stay, terminators_stay, circuits_stay}
 use Rattle.state_building.specs.declared.flaws.Flaw.{Flaw}
 use Rattle.state_building.specs.JoinedRecords.{joined, is_sound, is_supported, are_both_found, flaw_if, flaw_of}
 use Rattle.row_loading.proofs.FrontStates.{past, front, table-front, joined-front, inside-front}
@@ -97,23 +97,6 @@ sound kind.ServiceEdgeRouterPolicy s p e = sound_policy (is_valid_policy p) (may
 sound k s r e = e
 
 -- ---- what it stands on
-
-kept_all : {X : Type 0} (p : X → Bool) (xs : List X) → filter p xs ≡ xs → (x : X) → Among x xs → p x ≡ true
-kept_all p xs e x m = by_filter p xs x (subst (λ ys. Among x ys) (sym e) m) (λ _ passes. passes)
-
-links_stay : (s : State) → ValidState s → (row : ℕ × Link) → Among row s.links.rows → link_stays s row ≡ true
-links_stay s v = kept_all (link_stays s) s.links.rows (ap (λ (t : State). t.links.rows) v.settled)
-
-terminators_stay : (s : State) → ValidState s → (row : ℕ × Terminator) → Among row s.terminators.rows → terminator_stays s row ≡ true
-terminators_stay s v = kept_all (terminator_stays s) s.terminators.rows (ap (λ (t : State). t.terminators.rows) v.settled)
-
-circuits_stay : (s : State) → ValidState s → (row : ℕ × Circuit) → Among row s.circuits.rows → stays_in s row ≡ true
-circuits_stay s v row m =
-    subst (λ t. stays_in t row ≡ true) same
-    (kept_all (stays_in (settle_terminators (settle_links s))) s.circuits.rows (ap (λ (t : State). t.circuits.rows) v.settled) row m)
-  where
-    same : settle_terminators (settle_links s) ≡ s
-    same i = record s { links = (v.settled i).links; terminators = (v.settled i).terminators }
 
 found_policy : (valid related found : Bool) → (valid && (related && found)) ≡ true → found ≡ true
 found_policy valid related found e = (and_parts related found (and_parts valid (related && found) e).1).1

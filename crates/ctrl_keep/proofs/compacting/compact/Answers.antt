@@ -2,33 +2,25 @@ use Rattle.std.proofs.Common.{sym, ◌∙◌}
 use Rattle.std.specs.Prelude.{IsTrue}
 use Rattle.ziti_outside.proofs.MomentLaws.{Leaves-weaker}
 use Rattle.row_store.specs.CompactedStores.{IsCompacted}
-use Rattle.ctrl_keep.proofs.CompactedStates.{CameTo, came_step, came_unspent, came_done, came_keeps, came_fault, came_fits, came_memory, came_cause, opens_kept, came_room}
+use Rattle.ctrl_keep.proofs.CompactedStates.{came_of, came_step, came_unspent, came_done, came_keeps, came_fault, came_fits, came_memory, came_cause, opens_kept, came_room}
 use Rattle.ctrl_keep.proofs.FollowedSteps.{came_still, came_follows}
 use Rattle.ctrl_keep.proofs.compacting.compact.Goals as goal
 
 pub returns-clause-step : goal.returns-clause-step
 returns-clause-step g c =
-    let came : CameTo c.args.core.now c.args.store.now c.compact-compacted.new.self c.args.desk.now c.compact-compacted.new.desk c.compact-compacted.result =
-    record { keeps = c.requires.keeps; done = c.compact-compacted.ensures.compacted; fault = c.compact-compacted.ensures.fault } in
-    rw c.reply_of.ensures (came_step c.args.core.now c.args.store.now c.compact-compacted.new.self c.args.desk.now c.compact-compacted.new.desk c.compact-compacted.result came)
+    rw c.reply_of.ensures (came_step c.args.core.now c.args.store.now c.compact-compacted.new.self c.args.desk.now c.compact-compacted.new.desk c.compact-compacted.result (came_of c.requires.keeps c.compact-compacted.ensures.compacted c.compact-compacted.ensures.fault))
 
 pub returns-clause-unspent : goal.returns-clause-unspent
 returns-clause-unspent g c =
-    let came : CameTo c.args.core.now c.args.store.now c.compact-compacted.new.self c.args.desk.now c.compact-compacted.new.desk c.compact-compacted.result =
-    record { keeps = c.requires.keeps; done = c.compact-compacted.ensures.compacted; fault = c.compact-compacted.ensures.fault } in
-    rw c.reply_of.ensures (rw c.is_spent.ensures (came_unspent c.args.core.now c.args.store.now c.compact-compacted.new.self c.args.desk.now c.compact-compacted.new.desk c.compact-compacted.result came))
+    rw c.reply_of.ensures (rw c.is_spent.ensures (came_unspent c.args.core.now c.args.store.now c.compact-compacted.new.self c.args.desk.now c.compact-compacted.new.desk c.compact-compacted.result (came_of c.requires.keeps c.compact-compacted.ensures.compacted c.compact-compacted.ensures.fault)))
 
 pub returns-clause-still : goal.returns-clause-still
 returns-clause-still g c =
-    let came : CameTo c.args.core.now c.args.store.now c.compact-compacted.new.self c.args.desk.now c.compact-compacted.new.desk c.compact-compacted.result =
-    record { keeps = c.requires.keeps; done = c.compact-compacted.ensures.compacted; fault = c.compact-compacted.ensures.fault } in
-    rw c.reply_of.ensures (came_still c.args.core.now c.args.store.now c.compact-compacted.new.self c.args.desk.now c.compact-compacted.new.desk c.compact-compacted.result came)
+    rw c.reply_of.ensures (came_still c.args.core.now c.args.store.now c.compact-compacted.new.self c.args.desk.now c.compact-compacted.new.desk c.compact-compacted.result (came_of c.requires.keeps c.compact-compacted.ensures.compacted c.compact-compacted.ensures.fault))
 
 pub returns-clause-follows : goal.returns-clause-follows
 returns-clause-follows g c =
-    let came : CameTo c.args.core.now c.args.store.now c.compact-compacted.new.self c.args.desk.now c.compact-compacted.new.desk c.compact-compacted.result =
-    record { keeps = c.requires.keeps; done = c.compact-compacted.ensures.compacted; fault = c.compact-compacted.ensures.fault } in
-    rw c.reply_of.ensures (came_follows g.D.Desk.reads (IsTrue g.D.Desk.tells) c.args.core.now c.args.store.now c.compact-compacted.new.self c.args.desk.now c.compact-compacted.new.desk c.compact-compacted.result came
+    rw c.reply_of.ensures (came_follows g.D.Desk.reads (IsTrue g.D.Desk.tells) c.args.core.now c.args.store.now c.compact-compacted.new.self c.args.desk.now c.compact-compacted.new.desk c.compact-compacted.result (came_of c.requires.keeps c.compact-compacted.ensures.compacted c.compact-compacted.ensures.fault)
     c.compact-compacted.ensures.folder)
 
 pub returns-clause-folder : goal.returns-clause-folder
@@ -38,27 +30,19 @@ returns-clause-folder g c =
 
 pub returns-clause-keeps : goal.returns-clause-keeps
 returns-clause-keeps g c = λ fresh.
-    let came : CameTo c.args.core.now c.args.store.now c.compact-compacted.new.self c.args.desk.now c.compact-compacted.new.desk c.compact-compacted.result =
-    record { keeps = c.requires.keeps; done = c.compact-compacted.ensures.compacted; fault = c.compact-compacted.ensures.fault } in
-    came_keeps c.args.core.now c.args.store.now c.compact-compacted.new.self c.args.desk.now c.compact-compacted.new.desk c.compact-compacted.result came (sym c.is_spent.ensures ∙ fresh)
+    came_keeps c.args.core.now c.args.store.now c.compact-compacted.new.self c.args.desk.now c.compact-compacted.new.desk c.compact-compacted.result (came_of c.requires.keeps c.compact-compacted.ensures.compacted c.compact-compacted.ensures.fault) (sym c.is_spent.ensures ∙ fresh)
 
 pub returns-clause-fault : goal.returns-clause-fault
 returns-clause-fault g c =
-    let came : CameTo c.args.core.now c.args.store.now c.compact-compacted.new.self c.args.desk.now c.compact-compacted.new.desk c.compact-compacted.result =
-    record { keeps = c.requires.keeps; done = c.compact-compacted.ensures.compacted; fault = c.compact-compacted.ensures.fault } in
-    rw c.reply_of.ensures (rw c.is_spent.ensures (came_fault c.args.core.now c.args.store.now c.compact-compacted.new.self c.args.desk.now c.compact-compacted.new.desk c.compact-compacted.result came))
+    rw c.reply_of.ensures (rw c.is_spent.ensures (came_fault c.args.core.now c.args.store.now c.compact-compacted.new.self c.args.desk.now c.compact-compacted.new.desk c.compact-compacted.result (came_of c.requires.keeps c.compact-compacted.ensures.compacted c.compact-compacted.ensures.fault)))
 
 pub returns-clause-fits : goal.returns-clause-fits
 returns-clause-fits g c =
-    let came : CameTo c.args.core.now c.args.store.now c.compact-compacted.new.self c.args.desk.now c.compact-compacted.new.desk c.compact-compacted.result =
-    record { keeps = c.requires.keeps; done = c.compact-compacted.ensures.compacted; fault = c.compact-compacted.ensures.fault } in
-    rw c.reply_of.ensures (came_fits c.args.core.now c.args.store.now c.compact-compacted.new.self c.args.desk.now c.compact-compacted.new.desk c.compact-compacted.result came)
+    rw c.reply_of.ensures (came_fits c.args.core.now c.args.store.now c.compact-compacted.new.self c.args.desk.now c.compact-compacted.new.desk c.compact-compacted.result (came_of c.requires.keeps c.compact-compacted.ensures.compacted c.compact-compacted.ensures.fault))
 
 pub returns-clause-memory : goal.returns-clause-memory
 returns-clause-memory g c =
-    let came : CameTo c.args.core.now c.args.store.now c.compact-compacted.new.self c.args.desk.now c.compact-compacted.new.desk c.compact-compacted.result =
-    record { keeps = c.requires.keeps; done = c.compact-compacted.ensures.compacted; fault = c.compact-compacted.ensures.fault } in
-    rw c.reply_of.ensures (rw c.is_spent.ensures (came_memory c.args.core.now c.args.store.now c.compact-compacted.new.self c.args.desk.now c.compact-compacted.new.desk c.compact-compacted.result came))
+    rw c.reply_of.ensures (rw c.is_spent.ensures (came_memory c.args.core.now c.args.store.now c.compact-compacted.new.self c.args.desk.now c.compact-compacted.new.desk c.compact-compacted.result (came_of c.requires.keeps c.compact-compacted.ensures.compacted c.compact-compacted.ensures.fault)))
 
 pub returns-clause-cause : goal.returns-clause-cause
 returns-clause-cause g c =
