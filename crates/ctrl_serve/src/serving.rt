@@ -76,7 +76,11 @@ fn answer_frame<D: Desk>(
     ensures remembers { Remembers (D.moment desk.old) (D.since desk.old) (D.since desk.new) }
 {
     match read(alloc, frame.content, frame.body.as_slice()) {
-        Ok(command) => controller.carry_out(desk, who, &command),
+        Ok(command) => {
+            let answered = controller.carry_out(desk, who, &command);
+            drop(command);
+            answered
+        }
         Err(fault) => Ok(Reply::Refused(refusal_of(fault)?)),
     }
 }
