@@ -20,7 +20,7 @@ use Rattle.ctrl_model.specs.Tables.{Record, table}
 use Rattle.ctrl_model.specs.ValidState.{ValidState}
 use Rattle.ctrl_model.proofs.NumberedLaws.{Between-more, at-with_last, at-past}
 use Rattle.model_laws.proofs.KindLaws.{with_table-holds}
-use Rattle.entity_store.proofs.AfterLaws.{edit_at-with_last}
+use Rattle.entity_store.proofs.EditLaws.{edit_at-with_last}
 use Rattle.entity_commands.specs.EntityChanges.{with_plain, with_marked}
 use Rattle.policy_store.specs.PolicyChanges.{with_policy}
 use Rattle.policy_store.specs.StepsOfRelations.{HasNoSteps}

@@ -7,7 +7,7 @@ pub mod RoomLaws
 pub mod KeptLaws
 pub mod InUseLaws
 pub mod LookUps
-pub mod AfterLaws
+pub mod EditLaws
 pub mod PlaceLaws
 pub mod ListedLaws
 pub mod AllListedLaws

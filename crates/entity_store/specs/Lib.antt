@@ -5,7 +5,6 @@ pub mod KeptTables
 pub mod WorkedTables
 pub mod HeldUses
 pub mod EntityChanges
-pub mod ChangedNumbers
 pub mod ListedRows
 pub mod ListedKinds
 pub mod KeptRows
