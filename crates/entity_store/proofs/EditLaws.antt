@@ -1,5 +1,5 @@
 -- A law of a change of one record of a table.
-use Rattle.std.proofs.Common.{◌≡◌, ◌≢◌, ℕ, ◌+◌, ◌==◌, cond, List, [], ◌∷◌, ap, arith, eq-eqb, ne_eqb}
+use Rattle.std.proofs.Common.{◌≡◌, ◌≢◌, ℕ, ◌+◌, ◌==◌, cond, List, [], ◌∷◌, ap, arith, eq-eqb, ne_eqb, refl}
 use Rattle.std.proofs.lemmas.Bool.{cond-false}
 use Rattle.ctrl_model.specs.Numbered.{with_last, edit_at, Between}
 
