@@ -77,7 +77,7 @@ follows_one bounds e k m next before now is follows =
     record { on = step.on; still = step.still; stands = step.stands }
 
 -- Along some, and then others, by what is known and the machine behind the first ones.
-pub follows_then : {bounds here : StoreBounds} {es later : List Event} {k k1 : Known} {m m1 : Machine} {before mid now : Image}→ here ≡ bounds → k1 ≡ known_along es k → m1 ≡ machine_along bounds es k m
+pub follows_then : {bounds here : StoreBounds} {es later : List Event} {k k1 : Known} {m m1 : Machine} {before mid now : Image} → here ≡ bounds → k1 ≡ known_along es k → m1 ≡ machine_along bounds es k m
     → FollowsEvents bounds es k m before mid → FollowsEvents here later k1 m1 mid now → FollowsEvents bounds (es ++ later) k m before now
 follows_then {bounds} {here} {es} {later} {k} {k1} {m} {m1} {before} {mid} {now} within known same first second =
     let at : FollowsEvents bounds later (known_along es k) (machine_along bounds es k m) mid now =
@@ -95,7 +95,7 @@ follows_then {bounds} {here} {es} {later} {k} {k1} {m} {m1} {before} {mid} {now}
     }
 
 -- One event more.
-pub follows_more : {bounds here : StoreBounds} {es : List Event} (e : Event) {k k1 : Known} {m m1 next : Machine} {before mid now : Image}→ here ≡ bounds → k1 ≡ known_along es k → m1 ≡ machine_along bounds es k m
+pub follows_more : {bounds here : StoreBounds} {es : List Event} (e : Event) {k k1 : Known} {m m1 next : Machine} {before mid now : Image} → here ≡ bounds → k1 ≡ known_along es k → m1 ≡ machine_along bounds es k m
     → FollowsEvents bounds es k m before mid → next ≡ machine_after here e k1 m1 → Follows m1 next mid now → FollowsEvents bounds (es ++ e ∷ []) k m before now
 follows_more {bounds} {here} {es} e {k} {k1} {m} {m1} {next} {before} {mid} {now} within known same first is step =
     follows_then within known same first (follows_one here e k1 m1 next mid now is step)
