@@ -1,5 +1,5 @@
 -- What comes behind the bytes that decide an input decides nothing more.
-use Rattle.std.specs.Prelude.{true, false, Bool, ◌||◌, map}
+use Rattle.std.specs.Prelude.{true, Bool, map}
 use Rattle.std.specs.List.{list_any}
 use Rattle.std.proofs.Common.{◌≡◌, ℕ, zero, suc, ◌-◌, List, [], ◌∷◌, ◌++◌, Option, None, Some, refl, sym, ap, ◌∙◌, append-nil}
 use Rattle.channel_frame.specs.declared.frames.Frame.{Frame}
@@ -20,10 +20,9 @@ use Rattle.session_mux.proofs.EventLaws.{events_met, held_fault, more_events, st
 use Rattle.session_mux.proofs.FaultLaws.{all_of, plain_events}
 use Rattle.session_mux.proofs.GoingLaws.{stages_read}
 use Rattle.session_mux.proofs.RecordLaws.{record_stays}
-use Rattle.run_notes.specs.declared.status.Status.{Status}
 use Rattle.run_notes.specs.declared.status.Status.TheVariants.{BadInput}
 use Rattle.run_notes.specs.Endings.{ending, ending_at}
-use Rattle.run_notes.specs.Inputs.{events_in, end_in, has_rest}
+use Rattle.run_notes.specs.Inputs.{events_in, has_rest}
 use Rattle.ctrl_serve.specs.Reading.{is_decided}
 use Rattle.ctrl_serve.proofs.PieceLaws.{decided_bad}
 

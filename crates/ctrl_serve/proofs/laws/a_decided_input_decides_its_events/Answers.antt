@@ -1,6 +1,4 @@
-use Rattle.std.specs.Prelude.{map}
-use Rattle.std.specs.List.{flat_map}
-use Rattle.std.proofs.Common.{List, ℕ, ap}
+use Rattle.std.proofs.Common.{List, ap}
 use Rattle.session_mux.specs.declared.events.Event.{Event}
 use Rattle.ctrl_serve.specs.FrameAnswer.{machine_behind, replies_to}
 use Rattle.run_notes.specs.Inputs.{frames_in}

@@ -1,10 +1,8 @@
-use Rattle.std.proofs.Common.{◌∙◌, ◌+◌, ◌++◌, ◌≡◌, ◌≤◌, List, ℕ, [], length, take, ◌-◌, inr, refl, sym, ap, subst, append-nil, arith}
+use Rattle.std.proofs.Common.{◌∙◌, ◌+◌, ◌≡◌, ◌≤◌, List, ℕ, [], length, take, ◌-◌, inr, refl, sym, ap, subst, append-nil, arith}
 use Rattle.std.proofs.lemmas.Result.{err_from_is_err_and}
 use Rattle.std.proofs.lemmas.List.{length-take, length-take-le}
 use Rattle.ziti_outside.specs.Told.{Gave}
 use Rattle.ziti_outside.proofs.Moves.{Gave-then, Gave-kept}
-use Rattle.session_mux.specs.Completion.{fed}
-use Rattle.run_notes.specs.declared.ends.End.TheVariants.{Whole, More, Fault}
 use Rattle.run_notes.specs.Endings.{IsAllGiven}
 use Rattle.ctrl_serve.specs.ControllerViews.{serving_of}
 use Rattle.ctrl_serve.proofs.ControllerLaws.{GoesOn-then, still_alone, OnlySaysAndNotes-none, OnlySaysAndNotes-then}
