@@ -8,7 +8,7 @@ CREATE_IDENTITY, UPDATE_IDENTITY, DELETE_IDENTITY = 1000, 1001, 1002
 CREATE_SERVICE = 1010
 CREATE_ROUTER, CONNECT_ROUTER = 1020, 1023
 CREATE_SERVICE_POLICY, CREATE_EDGE_ROUTER_POLICY, CREATE_SERVICE_EDGE_ROUTER_POLICY = 1100, 1110, 1120
-CREATE_LINK, REPORT_LATENCY = 1200, 1202
+CREATE_LINK, REPORT_LATENCY, DELETE_LINK = 1200, 1202, 1204
 CREATE_TERMINATOR = 1300
 CREATE_CIRCUIT, EXPLAIN, VERIFY_ROUTE = 1400, 1402, 1403
 SHOW_COUNTS = 1502
@@ -110,6 +110,15 @@ def mesh_full():
     """16,384 circuits over the mesh, and then 1,000 reports of a latency."""
     reports = [(REPORT_LATENCY, {"link": "l7", "router": "r7", "latency": i % 1000}) for i in range(1000)]
     return mesh_circuits(16_384) + reports
+
+
+def mesh_losses():
+    """16,384 circuits over the mesh, and then 1,000 times an identity and a link that no circuit needs are made and deleted: each deletion looks at every circuit."""
+    losses = []
+    for _ in range(1000):
+        losses += [named(CREATE_IDENTITY, "guest"), named(DELETE_IDENTITY, "guest")]
+        losses += [(DELETE_LINK, {"link": "l4095"}), named(CREATE_LINK, "l4095", a="r255", b="r15", cost=60_000)]
+    return mesh_circuits(16_384) + losses
 
 
 def line_circuits():

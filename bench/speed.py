@@ -46,6 +46,8 @@ INPUTS = {
     "mesh": lambda program: networks.mesh(),
     "mesh_circuits": lambda program: networks.mesh_circuits(1000),
     "mesh_full": lambda program: networks.mesh_full(),
+    "mesh_filled": lambda program: networks.mesh_circuits(16_384),
+    "mesh_losses": lambda program: networks.mesh_losses(),
     "line_circuits": lambda program: networks.line_circuits(),
     "claims": claims,
     "load": lambda program: None,
