@@ -215,13 +215,24 @@ fn looks_at<D: Desk>(rt: &impl Abort, alloc: Global, desk: &mut D) -> Result<(),
     Ok(())
 }
 
-// Looks at the working folder, which counts nothing.
+// Looks at the files of the working folder, and gives what is said and noted.
+fn looks_here(
+    rt: &impl Abort,
+    host: &HostRuntime,
+    said: &mut Vec<u8>,
+    noted: &mut Vec<u8>,
+) -> Result<(), AllocError> {
+    let replies = Writes::new(said);
+    let notes = Writes::new(noted);
+    let mut desk = FileDesk::new(host, Paths::WORKING_FOLDER, replies, notes);
+    looks_at(rt, host.alloc(), &mut desk)
+}
+
+// The working folder counts nothing.
 fn is_bare(rt: &impl Abort, host: &HostRuntime) -> Result<(), AllocError> {
     let mut said = Vec::new(host.alloc());
     let mut noted = Vec::new(host.alloc());
-    let (replies, notes) = (Writes::new(&mut said), Writes::new(&mut noted));
-    let mut desk = FileDesk::new(host, Paths::WORKING_FOLDER, replies, notes);
-    looks_at(rt, host.alloc(), &mut desk)?;
+    looks_here(rt, host, &mut said, &mut noted)?;
     assert_eq!(rt; said.as_slice(), NOTHING);
     assert!(rt; noted.is_empty());
     Ok(())

@@ -1,9 +1,9 @@
 //! The word `compact`: where the rows then stand, what has no room, and how the folder goes on.
 
-use crate::desks::EMPTY;
+use crate::desks::{EMPTY, desk_of};
 use crate::folders::{
     AMPLE, ANN_FOLDER, ANN_SLOT, BARE_SLOT, BOTH_SLOT, Ended, SECOND, SILENT, THIRD, answers,
-    has_parts, ran,
+    has_parts, ran, run_input,
 };
 use crate::frames::ANN_EXISTS;
 use ctrl_serve::Status;
@@ -13,6 +13,7 @@ use sample_runs::{
 use std::alloc::Global;
 use std::process::Abort;
 use std::test::Fail;
+use ziti_desk::MemDesk;
 
 /// Folders, how many bytes a slot and the mark may have, and the parts once compacted. Ann takes 42 bytes, both identities 58 and web
 /// 28 more.
@@ -135,29 +136,33 @@ const ASKED: [Row; 5] = [
     (1000, r#"{"name":"ann"}"#, r#"{"no":3}"#),
 ];
 
-// Of a compacted folder: it is asked, and so answers.
-fn goes_on(rt: &impl Abort, alloc: Global, parts: [&[u8]; 3]) -> Result<(), Fail> {
-    answers(rt, alloc, parts, &ASKED)?;
+// The folder of a desk is asked, and so answers.
+fn goes_on(rt: &impl Abort, alloc: Global, desk: &MemDesk) -> Result<(), Fail> {
+    answers(rt, alloc, parts_of(desk), &ASKED)?;
     Ok(())
+}
+
+// Ann's folder is compacted so many times, has these parts then, and goes on.
+fn goes_on_behind(
+    rt: &impl Abort,
+    alloc: Global,
+    times: u32,
+    parts: [&[u8]; 3],
+) -> Result<(), Fail> {
+    let mut desk = desk_of(alloc, ANN_FOLDER, &[])?;
+    for _ in 0u32..times {
+        let status = run_input(alloc, &["compact"], b"", AMPLE, &mut desk)?;
+        assert_eq!(rt; status, Status::Done);
+    }
+    has_parts(rt, &desk, parts);
+    goes_on(rt, alloc, &desk)
 }
 
 #[test]
 fn goes_on_with_the_same_replies(rt: HostRuntime) -> Result<(), Fail> {
-    let alloc = rt.alloc();
-    goes_on(&rt, alloc, ANN_FOLDER)?;
-    let once = ran(&rt, alloc, &["compact"], b"", ANN_FOLDER, AMPLE, SILENT)?;
-    goes_on(&rt, alloc, parts_of(&once))?;
-    let twice = ran(
-        &rt,
-        alloc,
-        &["compact"],
-        b"",
-        parts_of(&once),
-        AMPLE,
-        SILENT,
-    )?;
-    has_parts(&rt, &twice, [ANN_SLOT, b"", THIRD]);
-    goes_on(&rt, alloc, parts_of(&twice))
+    goes_on_behind(&rt, rt.alloc(), 0, ANN_FOLDER)?;
+    goes_on_behind(&rt, rt.alloc(), 1, [b"", ANN_SLOT, SECOND])?;
+    goes_on_behind(&rt, rt.alloc(), 2, [ANN_SLOT, b"", THIRD])
 }
 
 // Ann is made in an empty folder that was compacted, whose second slot stands.
