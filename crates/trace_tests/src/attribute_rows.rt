@@ -180,6 +180,6 @@ fn updates_ten_thousand_times(rt: HostRuntime) -> Result<(), Fail> {
         talk.put(1001, r#"{"name":"u1","attributes":["a","x"]}"#, "{}")?;
         talk.put(1001, r#"{"name":"u1","attributes":["a"]}"#, "{}")?;
     }
-    talk.put(1502, "", COUNTS)?;
+    talk.put(1502, "{}", COUNTS)?;
     talk.check(&rt)
 }
