@@ -1,16 +1,6 @@
-ghost use Rattle.std.specs.Prelude.{◌≡◌, ◌↔◌, IfOk, IsTrue, length, []};
-
-use ctrl_model::Bytes;
-use std::alloc::{AllocError, AllocFailed, Global};
-use std::marker::Model;
+use ctrl_model::{Bytes, Copies, Items};
+use std::alloc::{AllocError, AllocFailed};
 use thiserror::Error;
-
-/// Values of which an equal one can be made.
-pub trait Copies: Sized {
-    /// An equal value. An Err is want of memory.
-    fn copy(&self) -> Result<Self, AllocError>
-        ensures { IfOk result (λ c. c ≡ self.now) };
-}
 
 /// A header of a frame: a key and its bytes.
 #[derive(Debug, Drop)]
@@ -26,68 +16,6 @@ impl Copies for Header {
             key: self.key,
             value,
         })
-    }
-}
-
-/// A list of values, in order and with repeats. Contracts see the list.
-#[derive(Debug, Drop)]
-pub struct Items<T> {
-    pub items: Vec<T>,
-}
-
-impl<T> Model for Items<T> {
-    ghost use Rattle.std.specs.Prelude.{List};
-
-    ghost Value = { List T };
-
-    ghost view = { λ l. l.items.items };
-}
-
-impl<T> Items<T> {
-    /// The values of a vector.
-    pub fn of(items: Vec<T>) -> Items<T>
-        ensures { result ≡ items.items }
-    {
-        Items { items }
-    }
-
-    /// The values as a slice.
-    pub fn as_slice(&self) -> &[T]
-        ensures { result.now ≡ self.now }
-    {
-        self.items.as_slice()
-    }
-
-    /// How many values there are.
-    pub fn len(&self) -> usize
-        ensures { result ≡ length self.now }
-    {
-        self.items.len()
-    }
-
-    /// Whether there are none.
-    pub fn is_empty(&self) -> bool
-        ensures { IsTrue result ↔ (self.now ≡ []) }
-    {
-        self.items.is_empty()
-    }
-}
-
-// Copies of some values.
-fn copy_each<T: Copies + Drop>(alloc: Global, values: &[T]) -> Result<Vec<T>, AllocError>
-    ensures { IfOk result (λ v. v.items ≡ values.now) }
-{
-    let mut copied = Vec::new(alloc);
-    'values: for value in values {
-        copied.push(value.copy()?)?;
-    }
-    Ok(copied)
-}
-
-impl<T: Copies + Drop> Copies for Items<T> {
-    fn copy(&self) -> Result<Items<T>, AllocError> {
-        let items = copy_each(*self.items.allocator(), self.items.as_slice())?;
-        Ok(Items { items })
     }
 }
 

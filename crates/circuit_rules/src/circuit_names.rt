@@ -4,7 +4,7 @@ ghost use Rattle.entity_store.specs.EntityTables.{is_entity_kind};
 ghost use Rattle.entity_store.specs.TableRules.{is_there};
 ghost use Rattle.circuit_rules.specs.PlannedCircuits.{name_at, router_at};
 
-use ctrl_model::{Kind, Name, RouterNo};
+use ctrl_model::{Copies, Kind, Name, RouterNo};
 use entity_store::Entities;
 use std::alloc::AllocError;
 

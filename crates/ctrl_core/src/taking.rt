@@ -21,7 +21,7 @@ use crate::row_joining::{
 };
 use circuits::Circuit;
 use core_stores::Stores;
-use ctrl_model::{Kind, Name, Names, Relation};
+use ctrl_model::{Copies, Kind, Name, Names, Relation};
 use fabric_graph::LinkRow;
 use policy_store::Policy;
 use record_flaws::{

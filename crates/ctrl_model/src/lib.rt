@@ -4,6 +4,7 @@
 
 mod claims;
 mod commands;
+mod items;
 mod kinds;
 mod numbering;
 mod refusals;
@@ -12,6 +13,7 @@ mod texts;
 
 pub use claims::{Explanation, Potentials, Reach, Reaches};
 pub use commands::Command;
+pub use items::{Copies, Items};
 pub use kinds::{Kind, Precedence, Relation, Role, RouterSeen, Semantic, Side, Who};
 pub use numbering::{
     CircuitNo, IdentityNo, LinkNo, Numbers, PolicyNo, RouterNo, ServiceNo, TermNo,

@@ -1,11 +1,9 @@
-ghost use Rattle.std.specs.Prelude.{◌≡◌, IfOk};
-
 use crate::claims::Explanation;
+use crate::items::{Copies, Items};
 use crate::numbering::{CircuitNo, Numbers, TermNo};
 use crate::refusals::Refusal;
 use crate::texts::{Name, Names};
-use std::alloc::{AllocError, Global};
-use std::marker::Model;
+use std::alloc::AllocError;
 
 /// A name and how many policies grant it.
 #[derive(Debug, Drop)]
@@ -14,11 +12,8 @@ pub struct Tally {
     pub count: u32,
 }
 
-impl Tally {
-    /// An equal tally.
-    pub fn copy(&self) -> Result<Tally, AllocError>
-        ensures { IfOk result (λ t. t ≡ self.now) }
-    {
+impl Copies for Tally {
+    fn copy(&self) -> Result<Tally, AllocError> {
         let name = self.name.copy()?;
         Ok(Tally {
             name,
@@ -27,54 +22,8 @@ impl Tally {
     }
 }
 
-/// A list of tallies. Contracts see the list.
-#[derive(Debug, Drop)]
-pub struct Tallies {
-    pub items: Vec<Tally>,
-}
-
-impl Model for Tallies {
-    ghost use Rattle.std.specs.Prelude.{List};
-    ghost use Rattle.ctrl_model.specs.declared.replies.Tally.{Tally};
-
-    ghost Value = { List Tally };
-
-    ghost view = { λ t. t.items.items };
-}
-
-fn copy_tallies(alloc: Global, tallies: &[Tally]) -> Result<Vec<Tally>, AllocError>
-    ensures { IfOk result (λ v. v.items ≡ tallies.now) }
-{
-    let mut copied = Vec::new(alloc);
-    for tally in tallies {
-        copied.push(tally.copy()?)?;
-    }
-    Ok(copied)
-}
-
-impl Tallies {
-    /// The tallies of a vector.
-    pub fn of(items: Vec<Tally>) -> Tallies
-        ensures { result ≡ items.items }
-    {
-        Tallies { items }
-    }
-
-    /// The tallies as a slice.
-    pub fn as_slice(&self) -> &[Tally]
-        ensures { result.now ≡ self.now }
-    {
-        self.items.as_slice()
-    }
-
-    /// An equal list.
-    pub fn copy(&self) -> Result<Tallies, AllocError>
-        ensures { IfOk result (λ t. t ≡ self.now) }
-    {
-        let items = copy_tallies(*self.items.allocator(), self.items.as_slice())?;
-        Ok(Tallies { items })
-    }
-}
+/// A list of tallies.
+pub type Tallies = Items<Tally>;
 
 /// The reply to a command (docs/FORMATS.md, "Replies").
 #[derive(Debug, Drop)]

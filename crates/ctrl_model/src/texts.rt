@@ -1,7 +1,8 @@
-ghost use Rattle.std.specs.Prelude.{◌≡◌, ◌↔◌, true, false, IfOk, IsErrOf, IsTrue, length, []};
+ghost use Rattle.std.specs.Prelude.{◌≡◌, ◌↔◌, true, false, IfOk, IsErrOf};
 ghost use Rattle.std.specs.List.{list_all};
 ghost use Rattle.ctrl_model.specs.NameForm.{is_name, is_name_byte, is_instance};
 
+use crate::items::{Copies, Items};
 use std::alloc::{AllocError, Global};
 use std::marker::Model;
 use thiserror::Error;
@@ -87,11 +88,10 @@ impl Name {
     {
         self.bytes.as_slice()
     }
+}
 
-    /// An equal name.
-    pub fn copy(&self) -> Result<Name, AllocError>
-        ensures { IfOk result (λ name. name ≡ self.now) }
-    {
+impl Copies for Name {
+    fn copy(&self) -> Result<Name, AllocError> {
         let bytes = Vec::from_slice(*self.bytes.allocator(), self.bytes.as_slice())?;
         Ok(Name { bytes })
     }
@@ -144,134 +144,17 @@ impl Instance {
     {
         self.bytes.as_slice()
     }
+}
 
-    /// An equal instance.
-    pub fn copy(&self) -> Result<Instance, AllocError>
-        ensures { IfOk result (λ instance. instance ≡ self.now) }
-    {
+impl Copies for Instance {
+    fn copy(&self) -> Result<Instance, AllocError> {
         let bytes = Vec::from_slice(*self.bytes.allocator(), self.bytes.as_slice())?;
         Ok(Instance { bytes })
     }
 }
 
-/// Bytes that stand for themselves, as the body of a frame. Contracts see the list of them.
-#[derive(Debug, Drop)]
-pub struct Bytes {
-    pub items: Vec<u8>,
-}
+/// Bytes that stand for themselves, as the body of a frame.
+pub type Bytes = Items<u8>;
 
-impl Model for Bytes {
-    ghost use Rattle.std.specs.Prelude.{List, ℕ};
-
-    ghost Value = { List ℕ };
-
-    ghost view = { λ b. b.items.items };
-}
-
-impl Bytes {
-    /// The bytes of a vector.
-    pub fn of(items: Vec<u8>) -> Bytes
-        ensures { result ≡ items.items }
-    {
-        Bytes { items }
-    }
-
-    /// A copy of a slice.
-    pub fn from_slice(alloc: Global, bytes: &[u8]) -> Result<Bytes, AllocError>
-        ensures { IfOk result (λ b. b ≡ bytes.now) }
-    {
-        let items = Vec::from_slice(alloc, bytes)?;
-        Ok(Bytes { items })
-    }
-
-    /// The bytes as a slice.
-    pub fn as_slice(&self) -> &[u8]
-        ensures { result.now ≡ self.now }
-    {
-        self.items.as_slice()
-    }
-
-    /// How many bytes there are.
-    pub fn len(&self) -> usize
-        ensures { result ≡ length self.now }
-    {
-        self.items.len()
-    }
-
-    /// Whether there are none.
-    pub fn is_empty(&self) -> bool
-        ensures { IsTrue result ↔ (self.now ≡ []) }
-    {
-        self.items.is_empty()
-    }
-
-    /// Equal bytes.
-    pub fn copy(&self) -> Result<Bytes, AllocError>
-        ensures { IfOk result (λ b. b ≡ self.now) }
-    {
-        let items = Vec::from_slice(*self.items.allocator(), self.items.as_slice())?;
-        Ok(Bytes { items })
-    }
-}
-
-/// A list of names. Contracts see the list of their bytes.
-#[derive(Debug, Drop)]
-pub struct Names {
-    pub items: Vec<Name>,
-}
-
-impl Model for Names {
-    ghost use Rattle.std.specs.Prelude.{List, ℕ};
-
-    ghost Value = { List (List ℕ) };
-
-    ghost view = { λ n. n.items.items };
-}
-
-fn copy_names(alloc: Global, names: &[Name]) -> Result<Vec<Name>, AllocError>
-    ensures { IfOk result (λ v. v.items ≡ names.now) }
-{
-    let mut copied = Vec::new(alloc);
-    for name in names {
-        copied.push(name.copy()?)?;
-    }
-    Ok(copied)
-}
-
-impl Names {
-    /// The names of a vector.
-    pub fn of(items: Vec<Name>) -> Names
-        ensures { result ≡ items.items }
-    {
-        Names { items }
-    }
-
-    /// The names as a slice.
-    pub fn as_slice(&self) -> &[Name]
-        ensures { result.now ≡ self.now }
-    {
-        self.items.as_slice()
-    }
-
-    /// How many names there are.
-    pub fn len(&self) -> usize
-        ensures { result ≡ length self.now }
-    {
-        self.items.len()
-    }
-
-    /// Whether there are none.
-    pub fn is_empty(&self) -> bool
-        ensures { IsTrue result ↔ (self.now ≡ []) }
-    {
-        self.items.is_empty()
-    }
-
-    /// An equal list.
-    pub fn copy(&self) -> Result<Names, AllocError>
-        ensures { IfOk result (λ names. names ≡ self.now) }
-    {
-        let items = copy_names(*self.items.allocator(), self.items.as_slice())?;
-        Ok(Names { items })
-    }
-}
+/// A list of names.
+pub type Names = Items<Name>;

@@ -13,7 +13,7 @@ ghost use Rattle.entity_commands.specs.EntityChanges.{is_plain_kind};
 ghost use Rattle.entity_commands.specs.EntityPlans.{is_entity_command, PlansEntities};
 ghost use Rattle.entity_commands.specs.PlannedEntities.{Answers, answer_add, answer_update, refusal_of_add, refusal_of_describe};
 
-use ctrl_model::{Command, Field, Kind, Name, Names, Refusal, Reply, RouterNo};
+use ctrl_model::{Command, Copies, Field, Kind, Name, Names, Refusal, Reply, RouterNo};
 use entity_store::{Entities, EntityChange, EntityFault};
 use model_laws::Plan;
 use std::alloc::{AllocError, Global};

@@ -14,7 +14,7 @@ ghost use Rattle.row_spelling.specs.RecordChanges.{change_of};
 ghost use Rattle.entity_commands.specs.EntityChanges.{CanChangeEntities};
 ghost use Rattle.entity_commands.specs.EntityRows.{AreFit, Has, plain_after, router_after, row_change, touched_kind, touched_number};
 
-use ctrl_model::{Bytes, IdentityNo, Kind, RouterNo};
+use ctrl_model::{Bytes, Copies, IdentityNo, Kind, RouterNo};
 use entity_store::{Entities, EntityChange, EntityView, RouterView};
 use row_codec::{Change, Changes, Row};
 use row_spelling::{change_of, value_of};

@@ -8,7 +8,7 @@ ghost use Rattle.entity_store.specs.TableRules.{is_there};
 ghost use Rattle.entity_store.specs.KeptTables.{tables_of, IsPlaceOf};
 
 use crate::records::{KeptEntity, KeptRouter};
-use ctrl_model::{Kind, Name, Names};
+use ctrl_model::{Copies, Kind, Name, Names};
 use record_tables::{Named, NamedTable};
 use std::alloc::AllocError;
 

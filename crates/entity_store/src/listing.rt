@@ -6,7 +6,7 @@ ghost use Rattle.entity_store.specs.ListedRows.{with_entry};
 
 use crate::kind_rows::{AllRows, pop_entry, push_entry};
 use crate::kind_tables::{KindTables, add_row};
-use ctrl_model::{Kind, Name, Names};
+use ctrl_model::{Copies, Kind, Name, Names};
 use std::alloc::AllocError;
 
 /// Adds an entity under the next number, which it answers, and its name with a row without a bit. For want of memory both stay.

@@ -1,6 +1,6 @@
 ghost use Rattle.std.specs.Prelude.{◌≡◌};
 
-use ctrl_model::{Name, RouterNo};
+use ctrl_model::{Copies, Name, RouterNo};
 use record_tables::Named;
 use std::alloc::AllocError;
 use std::clone::Clone;

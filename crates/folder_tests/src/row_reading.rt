@@ -1,3 +1,4 @@
+use ctrl_model::Copies;
 use row_codec::{Op, RowFault, read_batch};
 use row_loading::{CoreFault, Flaw, read_rows};
 use std::alloc::Global;

@@ -10,7 +10,7 @@ ghost use Rattle.link_commands.specs.LinkChanges.{over};
 ghost use Rattle.link_commands.specs.LinkPlans.{is_link_command, PlansLinks};
 ghost use Rattle.link_commands.specs.PlannedLinks.{Answers, Joins, RefusesJoin, IsLink, Reports, RefusesReport, end_of};
 
-use ctrl_model::{Command, Field, Kind, LinkNo, Name, Refusal, Reply, RouterNo};
+use ctrl_model::{Command, Copies, Field, Kind, LinkNo, Name, Refusal, Reply, RouterNo};
 use entity_store::Entities;
 use fabric_graph::{Fabric, FabricFault, LinkChange, LinkRow};
 use model_laws::Plan;

@@ -11,7 +11,7 @@ ghost use Rattle.row_spelling.specs.RecordChanges.{value_at};
 ghost use Rattle.fabric_graph.specs.FabricChanges.{fabric_after};
 ghost use Rattle.link_commands.specs.LinkRows.{HaveRows, changed_number};
 
-use ctrl_model::{Kind, LinkNo, Numbers};
+use ctrl_model::{Copies, Kind, LinkNo, Numbers};
 use fabric_graph::{Fabric, FabricAfter, LinkChange, LinkView};
 use row_codec::{Changes, Row};
 use row_spelling::{ChangedRows, touched_changes};

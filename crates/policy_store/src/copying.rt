@@ -1,7 +1,7 @@
 ghost use Rattle.std.specs.Prelude.{◌≡◌, IfOk};
 
 use crate::records::Policy;
-use ctrl_model::{Name, Relation, Semantic, Side};
+use ctrl_model::{Copies, Name, Relation, Semantic, Side};
 use std::alloc::AllocError;
 
 /// An equal side.

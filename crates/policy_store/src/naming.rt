@@ -1,7 +1,7 @@
 ghost use Rattle.std.specs.Prelude.{◌≡◌, ◌++◌, IfOk, OnOk};
 
 use crate::records::Policy;
-use ctrl_model::{Name, Names};
+use ctrl_model::{Copies, Name, Names};
 use std::alloc::{AllocError, Global};
 
 fn push_names(kept: &mut Vec<Name>, names: &[Name]) -> Result<(), AllocError>

@@ -2,7 +2,7 @@ ghost use Rattle.std.specs.Prelude.{◌≡◌, IfOk};
 ghost use Rattle.record_flaws.specs.SaidRecords.{circuit_in, link_in, policy_in, term_in};
 
 use circuits::Circuit;
-use ctrl_model::Relation;
+use ctrl_model::{Copies, Relation};
 use fabric_graph::LinkRow;
 use policy_store::{Policy, policy_of};
 use row_codec::Row;

@@ -5,7 +5,7 @@ ghost use Rattle.role_expr.specs.RoleSides.{is_all, id_in, attribute_in, is_all_
 
 use crate::names::keep_name;
 use crate::roles::RoleFault;
-use ctrl_model::{Names, Role, Side};
+use ctrl_model::{Copies, Names, Role, Side};
 use std::alloc::{AllocError, Global};
 
 fn is_all(role: &Role) -> bool

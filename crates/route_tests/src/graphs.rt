@@ -1,3 +1,4 @@
+use ctrl_model::Copies;
 use crate::lines::{line, router};
 use fabric_graph::Fabric;
 use path_certificate::Step;

@@ -10,7 +10,7 @@ use crate::events::{Event, MuxFault};
 use crate::records::{Look, peek};
 use crate::sessions::{Form, NUMBERS, Stage, is_opened, is_unopened};
 use crate::tables::SessionTable;
-use ctrl_model::{Name, NameFault, Who};
+use ctrl_model::{Copies, Name, NameFault, Who};
 use frame_stream::Buffer;
 use std::alloc::{AllocError, Global};
 use std::marker::Model;

@@ -3,7 +3,7 @@ ghost use Rattle.ctrl_model.specs.ShowCommands.{tallies};
 ghost use Rattle.entity_store.specs.EntityTables.{is_entity_kind, entities};
 ghost use Rattle.grant_denorm.specs.PairCounts.{count_of};
 
-use ctrl_model::{Kind, Name, Tally};
+use ctrl_model::{Copies, Kind, Name, Tally};
 use entity_store::Entities;
 use grant_denorm::Counted;
 use std::alloc::{AllocError, Global};

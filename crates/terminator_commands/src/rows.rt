@@ -11,7 +11,7 @@ ghost use Rattle.row_spelling.specs.RecordChanges.{value_at};
 ghost use Rattle.terminators.specs.TermChanges.{terms_after};
 ghost use Rattle.terminator_commands.specs.TermRows.{AreFit, changed_number};
 
-use ctrl_model::{Kind, Numbers, TermNo};
+use ctrl_model::{Copies, Kind, Numbers, TermNo};
 use row_codec::{Changes, Row};
 use row_spelling::{ChangedRows, touched_changes};
 use std::alloc::{AllocError, Global};

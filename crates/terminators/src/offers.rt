@@ -1,7 +1,7 @@
 ghost use Rattle.std.specs.Prelude.{◌≡◌};
 ghost use Rattle.terminators.specs.TermRules.{is_not_bindable};
 
-use ctrl_model::{IdentityNo, Instance, Precedence, RouterNo, ServiceNo};
+use ctrl_model::{Copies, IdentityNo, Instance, Precedence, RouterNo, ServiceNo};
 use grant_denorm::Counted;
 use std::alloc::AllocError;
 use std::marker::Model;

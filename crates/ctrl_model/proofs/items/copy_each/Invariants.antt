@@ -1,5 +1,5 @@
 use Rattle.std.proofs.Common.{◌≡◌, take}
-use Rattle.channel_frame.proofs.frames.copy_each.Given as goal
+use Rattle.ctrl_model.proofs.items.copy_each.Given as goal
 
 -- the copies are equal to the ones before the index
 abbrev pub invariant-values : goal.invariant-values
