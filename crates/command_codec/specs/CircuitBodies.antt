@@ -14,6 +14,8 @@ use Rattle.command_codec.specs.BodyObjects.{Reader, ◌>>=◌}
 use Rattle.command_codec.specs.FieldValues.{as_no, as_instance, as_some_name}
 use Rattle.command_codec.specs.RouteClaims.{as_numbers, as_potentials}
 use Rattle.command_codec.specs.TerminatorBodies.{numbered}
+use Rattle.ctrl_model.specs.Limits.{limit, longest_path, most_number}
+use Rattle.ctrl_model.specs.declared.kinds.Kind.TheVariants as kind
 
 -- What is asked for with a circuit: for which identity and service, and from which ingress and to which instance.
 pub record Asked : Type 0 where
@@ -50,16 +52,16 @@ route_fields =
 
 -- The cost of a route.
 abbrev pub as_total : Data → Option ℕ
-as_total = as_number_in 0 4294967295
+as_total = as_number_in 0 most_number
 
 -- VerifyRoute.
 abbrev pub claimed_route : Reader
 claimed_route o = do
   a ← asked o
   chosen ← required as_name field.Chosen o
-  links ← required (as_numbers 255) field.Links o
+  links ← required (as_numbers longest_path) field.Links o
   potentials ← required as_potentials field.Potentials o
-  routers ← required (as_numbers 256) field.Routers o
+  routers ← required (as_numbers (limit kind.Router)) field.Routers o
   terminator ← required as_no field.Terminator o
   total ← required as_total field.Total o
   end ← finished route_fields o

@@ -11,10 +11,11 @@ use Rattle.ctrl_model.specs.declared.refusals.Field.TheVariants as field
 use Rattle.json_body.specs.FieldKinds.{as_name, as_number_in, required, optional, finished}
 use Rattle.command_codec.specs.NameLists.{as_attributes}
 use Rattle.command_codec.specs.BodyObjects.{Reader, ◌>>=◌}
+use Rattle.ctrl_model.specs.Limits.{most_cost}
 
 -- A cost of a router or of a terminator.
 abbrev pub as_cost : Data → Option ℕ
-as_cost = as_number_in 0 65535
+as_cost = as_number_in 0 most_cost
 
 -- A command whose one field is a name.
 abbrev pub named : Field → (List ℕ → Command) → Reader

@@ -5,10 +5,11 @@ use Rattle.serde_json.specs.Data.{Data}
 use Rattle.serde_json.specs.Find.{as_str}
 use Rattle.ctrl_model.specs.NameForm.{is_instance}
 use Rattle.json_body.specs.FieldKinds.{as_name, as_number_in}
+use Rattle.ctrl_model.specs.Limits.{most_number}
 
 -- The number of a record.
 abbrev pub as_no : Data → Option ℕ
-as_no = as_number_in 1 4294967295
+as_no = as_number_in 1 most_number
 
 -- The bytes as an instance, if they are one.
 abbrev pub instance_of : List ℕ → Option (List ℕ)

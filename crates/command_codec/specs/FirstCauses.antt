@@ -23,6 +23,8 @@ use Rattle.command_codec.specs.EntityBodies.{as_cost}
 use Rattle.command_codec.specs.LinkBodies.{as_link_cost, as_latency}
 use Rattle.command_codec.specs.RouteClaims.{as_numbers, as_potentials}
 use Rattle.command_codec.specs.CircuitBodies.{as_total}
+use Rattle.ctrl_model.specs.Limits.{limit, longest_path}
+use Rattle.ctrl_model.specs.declared.kinds.Kind.TheVariants as kind
 
 -- What a command asks of one field: whether it has to be there, and which values are of its kind.
 pub record FieldRule : Type 0 where
@@ -171,8 +173,8 @@ route_rules =
     ∷ (1402, request_rules)
     ∷ (
       1403,
-      request_rules ++ needs as_name field.Chosen ∷ needs (as_numbers 255) field.Links ∷ needs as_potentials field.Potentials
-          ∷ needs (as_numbers 256) field.Routers ∷ needs as_no field.Terminator ∷ needs as_total field.Total ∷ [],
+      request_rules ++ needs as_name field.Chosen ∷ needs (as_numbers longest_path) field.Links ∷ needs as_potentials field.Potentials
+          ∷ needs (as_numbers (limit kind.Router)) field.Routers ∷ needs as_no field.Terminator ∷ needs as_total field.Total ∷ [],
     )
     ∷ (1503, number_rules)
     ∷ []

@@ -10,14 +10,15 @@ use Rattle.ctrl_model.specs.declared.refusals.Field.TheVariants as field
 use Rattle.json_body.specs.FieldKinds.{as_name, as_number_in, required, optional, finished}
 use Rattle.command_codec.specs.BodyObjects.{Reader, ◌>>=◌}
 use Rattle.command_codec.specs.EntityBodies.{named}
+use Rattle.ctrl_model.specs.Limits.{most_cost, most_latency}
 
 -- The static cost of a link, and the least router cost.
 abbrev pub as_link_cost : Data → Option ℕ
-as_link_cost = as_number_in 1 65535
+as_link_cost = as_number_in 1 most_cost
 
 -- The latency that one end of a link reports.
 abbrev pub as_latency : Data → Option ℕ
-as_latency = as_number_in 0 60000
+as_latency = as_number_in 0 most_latency
 
 -- The fields of the command that makes a link.
 abbrev pub link_fields : List Field

@@ -10,6 +10,9 @@ use Rattle.ctrl_model.specs.declared.refusals.Field.TheVariants as field
 use Rattle.json_body.specs.FieldKinds.{as_number_in}
 use Rattle.command_codec.specs.FieldValues.{as_no}
 use Rattle.command_codec.specs.ItemLists.{as_each_of}
+use Rattle.ctrl_model.specs.Limits.{limit, most_number}
+use Rattle.ctrl_model.specs.Claims.{no_path}
+use Rattle.ctrl_model.specs.declared.kinds.Kind.TheVariants as kind
 
 -- A list of at most so many numbers of records.
 abbrev pub as_numbers : ℕ → Data → Option (List ℕ)
@@ -17,7 +20,7 @@ as_numbers most = as_each_of most as_no
 
 -- A value of a potential: a number of 32 bits, or null where there is no path.
 abbrev pub as_value : Data → Option ℕ
-as_value d = if is_some (as_null d) then Some 18446744073709551615 else as_number_in 0 4294967295 d
+as_value d = if is_some (as_null d) then Some no_path else as_number_in 0 most_number d
 
 -- Whether each key is one of those of a potential.
 abbrev pub are_reach_keys : Members → Bool
@@ -45,4 +48,4 @@ as_reach d =
 
 -- A list of at most 256 potentials.
 abbrev pub as_potentials : Data → Option (List Reach)
-as_potentials = as_each_of 256 as_reach
+as_potentials = as_each_of (limit kind.Router) as_reach

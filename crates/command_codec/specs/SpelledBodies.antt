@@ -27,6 +27,8 @@ use Rattle.command_codec.specs.TerminatorBodies.{terminator_fields}
 use Rattle.command_codec.specs.RouteClaims.{as_numbers, as_potentials}
 use Rattle.command_codec.specs.CircuitBodies.{circuit_fields, route_fields, as_total}
 use Rattle.command_codec.specs.ContentTypes.{content_of}
+use Rattle.ctrl_model.specs.Limits.{limit, longest_path}
+use Rattle.ctrl_model.specs.declared.kinds.Kind.TheVariants as kind
 
 -- The body is an object that has no keys but the words of these fields, and of which this holds.
 pub record Says (body : List ℕ) (fields : List Field) (Holds : Data → Type 0) : Type 0 where
@@ -128,8 +130,8 @@ SaysAskedCircuit body identity service ingress instance = Says body circuit_fiel
 abbrev pub SaysClaimedRoute : List ℕ → List ℕ → List ℕ → Option (List ℕ) → List ℕ → List ℕ → List ℕ → List Reach → List ℕ → ℕ → ℕ → Type 0
 SaysClaimedRoute body identity service ingress instance chosen links potentials routers terminator total = Says body route_fields (λ o.
     Tells as_name field.Identity identity o × Tells as_name field.Service service o × MayTell as_some_name None field.Ingress ingress o
-    × MayTell as_instance [] field.Instance instance o × Tells as_name field.Chosen chosen o × Tells (as_numbers 255) field.Links links o
-    × Tells as_potentials field.Potentials potentials o × Tells (as_numbers 256) field.Routers routers o × Tells as_no field.Terminator terminator o
+    × MayTell as_instance [] field.Instance instance o × Tells as_name field.Chosen chosen o × Tells (as_numbers longest_path) field.Links links o
+    × Tells as_potentials field.Potentials potentials o × Tells (as_numbers (limit kind.Router)) field.Routers routers o × Tells as_no field.Terminator terminator o
     × Tells as_total field.Total total o)
 
 -- A body gives the fields of a command. Any body gives those of Hello.

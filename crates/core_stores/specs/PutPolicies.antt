@@ -11,10 +11,11 @@ use Rattle.policy_store.specs.declared.policies.PolicyFault.{PolicyFault}
 use Rattle.policy_store.specs.declared.policies.PolicyFault.TheVariants.{Exists, Unknown, UnknownRef, Full}
 use Rattle.policy_store.specs.PolicyRules.{has_kind_room, has_fitting_name}
 use Rattle.policy_store.specs.PolicyTables.{PolicyTables, left_kind, right_kind}
+use Rattle.ctrl_model.specs.Limits.{most_number}
 
 -- The place of the first `@` name that no entity of a kind has, if there is one; at most 4,294,967,295.
 abbrev pub absent_place : Kind → List (List ℕ) → Tables → Option ℕ
-absent_place k ids e = option_map (λ i. min i 4294967295) (position (λ name. is_none (entity_tables.number_of k name e)) ids)
+absent_place k ids e = option_map (λ i. min i most_number) (position (λ name. is_none (entity_tables.number_of k name e)) ids)
 
 -- The fault of the first absent `@` name of a right side.
 abbrev pub absent_on_right : Kind → Policy → Tables → Option PolicyFault

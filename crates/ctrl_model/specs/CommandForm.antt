@@ -11,6 +11,9 @@ use Rattle.ctrl_model.specs.declared.kinds.Relation.TheVariants.{Dial, Bind, Ide
 use Rattle.ctrl_model.specs.declared.claims.Reach.{Reach}
 use Rattle.ctrl_model.specs.NameForm.{is_name, is_instance}
 use Rattle.ctrl_model.specs.Matches.{has_name, is_nothing}
+use Rattle.ctrl_model.specs.Limits.{limit, longest_path, most_cost, most_latency, most_number}
+use Rattle.ctrl_model.specs.Claims.{no_path}
+use Rattle.ctrl_model.specs.declared.kinds.Kind.TheVariants as kind
 
 -- A number in a range, its ends included.
 abbrev pub in_range : ℕ → ℕ → ℕ → Bool
@@ -48,19 +51,19 @@ is_service_relation ServiceRouter = false
 
 -- A cost of a router or of a terminator.
 abbrev pub is_cost : ℕ → Bool
-is_cost n = in_range 0 65535 n
+is_cost n = in_range 0 most_cost n
 
 -- The static cost of a link, and the least router cost.
 abbrev pub is_link_cost : ℕ → Bool
-is_link_cost n = in_range 1 65535 n
+is_link_cost n = in_range 1 most_cost n
 
 -- The latency that one end of a link reports.
 abbrev pub is_latency : ℕ → Bool
-is_latency n = in_range 0 60000 n
+is_latency n = in_range 0 most_latency n
 
 -- The number of a record.
 abbrev pub is_number : ℕ → Bool
-is_number n = in_range 1 4294967295 n
+is_number n = in_range 1 most_number n
 
 -- A name that may be left out.
 abbrev pub is_name_or_none : Option (List ℕ) → Bool
@@ -68,11 +71,11 @@ is_name_or_none n = option_map_or is_name n true
 
 -- A value of a claim: a number of 32 bits, or no path.
 abbrev pub is_value : ℕ → Bool
-is_value n = nat_le n 4294967295 || (n == 18446744073709551615)
+is_value n = nat_le n most_number || (n == no_path)
 
 -- An entry of a claim: at most 256 values.
 abbrev pub is_reach : Reach → Bool
-is_reach e = is_number e.router.0 && (nat_le (length e.values) 256 && list_all is_value e.values)
+is_reach e = is_number e.router.0 && (nat_le (length e.values) (limit kind.Router) && list_all is_value e.values)
 
 -- Some numbers of records, at most so many.
 abbrev pub are_numbers : ℕ → List ℕ → Bool
@@ -115,8 +118,8 @@ is_spelled (command.DeleteCircuit n) = is_number n
 is_spelled (command.Explain identity service ingress instance) = is_name identity && (is_name service && (is_name_or_none ingress && is_instance instance))
 is_spelled (command.VerifyRoute identity service ingress instance chosen links potentials routers terminator total) =
     is_name identity && (is_name service && (is_name_or_none ingress && (is_instance instance && (is_name chosen
-    && (are_numbers 255 links && (nat_le (length potentials) 256 && (list_all is_reach potentials
-    && (are_numbers 256 routers && (is_number terminator && nat_le total 4294967295)))))))))
+    && (are_numbers longest_path links && (nat_le (length potentials) (limit kind.Router) && (list_all is_reach potentials
+    && (are_numbers (limit kind.Router) routers && (is_number terminator && nat_le total most_number)))))))))
 is_spelled (command.ShowGrants identity) = is_name identity
 is_spelled (command.ListServices identity) = is_name identity
 is_spelled command.ShowCounts = true

@@ -16,9 +16,17 @@ limit kind.Terminator = 4096
 limit kind.Circuit = 16384
 limit kind.Attribute = 1024
 
+-- The greatest number of four bytes.
+abbrev pub most_number : ℕ
+most_number = 4294967295
+
 -- The last value of a next number. A kind that has reached it gets no more records.
 abbrev pub last_next : ℕ
-last_next = 4294967295
+last_next = most_number
+
+-- How many links a path may have: it visits no router twice.
+abbrev pub longest_path : ℕ
+longest_path = 255
 
 -- How many entries an attribute or role list may have.
 abbrev pub most_entries : ℕ

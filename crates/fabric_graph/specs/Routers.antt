@@ -9,6 +9,8 @@ use Rattle.ctrl_model.specs.Numbered.{Between, no_rows}
 use Rattle.ctrl_model.specs.State.{State}
 use Rattle.path_certificate.specs.declared.graph.Step.{Step}
 use Rattle.fabric_graph.specs.FabricTables.{FabricSeen}
+use Rattle.ctrl_model.specs.Limits.{limit}
+use Rattle.ctrl_model.specs.declared.kinds.Kind.TheVariants as kind
 
 -- A router under its number.
 abbrev pub numbered : RouterSeen → ℕ × RouterSeen
@@ -24,7 +26,7 @@ IsRouterPlace n routers i = (r : RouterSeen) × (slice_get routers i ≡ Some r)
 
 -- What routers must be: at most 256, by strictly ascending number, each cost in its range.
 pub record AreRouters (routers : List RouterSeen) : Type 0 where
-  pub few : length routers ≤ 256
+  pub few : length routers ≤ limit kind.Router
   pub ordered : Between 0 4294967296 (map numbered routers)
   pub costs : list_all (λ (r : RouterSeen). is_cost r.cost) routers ≡ true
 

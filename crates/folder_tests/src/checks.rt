@@ -7,22 +7,22 @@ use std::process::Abort;
 use ziti_outside::{Desk, Failed, Part};
 
 /// Bytes are the wanted ones.
-pub fn are_bytes(rt: &impl Abort, found: &[u8], wanted: &[u8]) {
+pub(crate) fn are_bytes(rt: &impl Abort, found: &[u8], wanted: &[u8]) {
     assert_eq!(rt; found, wanted);
 }
 
 /// A fault is the wanted one, or there is none where none is wanted.
-pub fn is_fault(rt: &impl Abort, found: Option<StoreFault>, wanted: Option<StoreFault>) {
+pub(crate) fn is_fault(rt: &impl Abort, found: Option<StoreFault>, wanted: Option<StoreFault>) {
     assert_eq!(rt; found, wanted);
 }
 
 /// A call was made.
-pub fn is_done(rt: &impl Abort, answer: Result<(), Failed>) {
+pub(crate) fn is_done(rt: &impl Abort, answer: Result<(), Failed>) {
     assert_eq!(rt; answer, Ok(()));
 }
 
 /// A call was refused.
-pub fn is_refused(rt: &impl Abort, answer: Result<(), Failed>) {
+pub(crate) fn is_refused(rt: &impl Abort, answer: Result<(), Failed>) {
     assert!(rt; answer.is_err());
 }
 

@@ -36,18 +36,18 @@ pub fn empty_desk(alloc: Global) -> Result<MemDesk, AllocError>
 }
 
 /// A desk with a folder whose first slot has these bytes and stands.
-pub fn desk_of(alloc: Global, slot: &[u8]) -> Result<MemDesk, AllocError> {
+pub(crate) fn desk_of(alloc: Global, slot: &[u8]) -> Result<MemDesk, AllocError> {
     desk_with(alloc, slot, &[], &[0], &[])
 }
 
 /// A desk with a folder of these parts, which fails at these calls.
-pub fn of_parts(alloc: Global, images: Images, failing: &[u32]) -> Result<MemDesk, AllocError> {
+pub(crate) fn of_parts(alloc: Global, images: Images, failing: &[u32]) -> Result<MemDesk, AllocError> {
     let failing = Vec::from_slice(alloc, failing)?;
     MemDesk::new(alloc, images, ROOM, failing)
 }
 
 /// A desk whose parts have these bytes, which fails at these calls.
-pub fn desk_with(
+pub(crate) fn desk_with(
     alloc: Global,
     zero: &[u8],
     one: &[u8],
@@ -62,7 +62,7 @@ pub fn desk_with(
 }
 
 /// Adds a record behind an open gate.
-pub fn add_record(slot: &mut Vec<u8>, payload: &[u8]) -> Result<(), AllocError> {
+pub(crate) fn add_record(slot: &mut Vec<u8>, payload: &[u8]) -> Result<(), AllocError> {
     slot.push(1)?;
     let len = u32::try_from(payload.len()).unwrap_or(u32::MAX);
     slot.extend_from_slice(&len.to_le_bytes())?;
@@ -70,7 +70,7 @@ pub fn add_record(slot: &mut Vec<u8>, payload: &[u8]) -> Result<(), AllocError> 
 }
 
 /// The slot of the first identity with another record behind it, and a closed gate.
-pub fn slot_with(alloc: Global, payload: &[u8]) -> Result<Vec<u8>, AllocError> {
+pub(crate) fn slot_with(alloc: Global, payload: &[u8]) -> Result<Vec<u8>, AllocError> {
     let mut slot = Vec::from_slice(alloc, &HEADER_OF_SLOT)?;
     add_record(&mut slot, &BATCH_OF_ANN)?;
     add_record(&mut slot, payload)?;
@@ -79,7 +79,7 @@ pub fn slot_with(alloc: Global, payload: &[u8]) -> Result<Vec<u8>, AllocError> {
 }
 
 /// A slot with one record, and a closed gate.
-pub fn slot_of(alloc: Global, payload: &[u8]) -> Result<Vec<u8>, AllocError> {
+pub(crate) fn slot_of(alloc: Global, payload: &[u8]) -> Result<Vec<u8>, AllocError> {
     let mut slot = Vec::from_slice(alloc, &HEADER_OF_SLOT)?;
     add_record(&mut slot, payload)?;
     slot.push(0)?;

@@ -6,12 +6,14 @@ use Rattle.ctrl_model.specs.declared.claims.Explanation.{Explanation}
 use Rattle.ctrl_model.specs.State.{Link, Terminator}
 use Rattle.ctrl_model.specs.Networks.{Network, link_cost, entry_cost}
 use Rattle.ctrl_model.specs.Choices.{Ask, Candidate, IsCandidate, place_of}
+use Rattle.ctrl_model.specs.Limits.{limit}
+use Rattle.ctrl_model.specs.declared.kinds.Kind.TheVariants as kind
 
 -- Whether costs are so small that each path costs less than the number that stands for no path: there are at most 256
 -- routers, and each link, and the entry into each router, costs less than 2 ^ 31. A state's costs are far below.
 abbrev pub has_small_costs : Network → Bool
 has_small_costs w =
-    nat_le (length w.routers) 256
+    nat_le (length w.routers) (limit kind.Router)
     && (list_all (λ (row : ℕ × Link). nat_lt (link_cost row.1) 2147483648) w.links
     && list_all (λ (r : RouterSeen). nat_lt (entry_cost w r) 2147483648) w.routers)
 

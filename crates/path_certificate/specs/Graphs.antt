@@ -5,6 +5,8 @@ use Rattle.std.specs.List.{list_all, AllByRecursion}
 use Rattle.path_certificate.specs.declared.graph.Step.{Step}
 use Rattle.ctrl_model.specs.Walks.{Hops, goes, cost_along}
 use Rattle.ctrl_model.specs.Claims.{reach_over}
+use Rattle.ctrl_model.specs.Limits.{limit}
+use Rattle.ctrl_model.specs.declared.kinds.Kind.TheVariants as kind
 
 -- A graph: for each place whether it may be passed through, and the steps.
 pub record GraphSeen : Type 0 where
@@ -47,7 +49,7 @@ is_ordered (s ∷ ss) = list_all (before s) ss && is_ordered ss
 
 -- What flags and steps must be to make a graph.
 pub record IsGraph (through : List Bool) (steps : List Step) : Type 0 where
-  pub few : length through ≤ 256
+  pub few : length through ≤ limit kind.Router
   pub each : AllByRecursion (IsStep (length through)) steps
   pub ordered : is_ordered steps ≡ true
 

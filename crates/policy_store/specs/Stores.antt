@@ -7,6 +7,7 @@ use Rattle.ctrl_model.specs.Rules.{forget_left, forget_right}
 use Rattle.ctrl_model.specs.State.{Policy, policy_named}
 use Rattle.policy_store.specs.declared.records.Hand.{Hand}
 use Rattle.policy_store.specs.declared.records.Hand.TheVariants.{Left, Right}
+use Rattle.ctrl_model.specs.Limits.{last_next}
 
 -- A policy, of which the side on one hand does not name an entity.
 abbrev pub forget_on : Hand → List ℕ → Policy → Policy
@@ -27,4 +28,4 @@ listed_number name fresh t = cond fresh t.next (unwrap_or (policy_named t.rows n
 
 -- A policy can be put in a table: a fresh one under a free name while numbers last, another under a name that one has.
 abbrev pub can_list : List ℕ → Bool → Table Policy → Bool
-can_list name fresh t = cond fresh (is_none (policy_named t.rows name) && nat_lt t.next 4294967295) (is_some (policy_named t.rows name))
+can_list name fresh t = cond fresh (is_none (policy_named t.rows name) && nat_lt t.next last_next) (is_some (policy_named t.rows name))

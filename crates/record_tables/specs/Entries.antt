@@ -5,6 +5,7 @@ use Rattle.std.specs.Global.{Vec}
 use Rattle.std.specs.List.{AllByRecursion}
 use Rattle.std.specs.Str.{bytes_eq}
 use Rattle.ctrl_model.specs.Numbered.{Table, first_where, Between}
+use Rattle.ctrl_model.specs.Limits.{last_next}
 
 -- An entry: the bytes of a name, and the record that has the name under its number.
 abbrev pub Entry : Type 0 → Type 0
@@ -21,7 +22,7 @@ number_named name_of rows name = first_where (λ r. bytes_eq (name_of r) name) r
 -- What a table keeps: the numbers ascend from 1 below the next one, which has an end.
 pub record KeepsOrder {R : Type 0} (t : Table R) : Type 0 where
   pub first : 1 ≤ t.next
-  pub last : t.next ≤ 4294967295
+  pub last : t.next ≤ last_next
   pub ordered : Between 1 t.next t.rows
 
 -- An entry stands at the bytes of its own name.
@@ -47,7 +48,7 @@ pub record AreKept {R : Type 0} (name_of : R → List ℕ) (es : List (Entry R))
 
 -- The numbers of some entries ascend.
 abbrev pub AreOrdered : {R : Type 0} → List (Entry R) → Type 0
-AreOrdered es = Between 1 4294967295 (rows_of es)
+AreOrdered es = Between 1 last_next (rows_of es)
 
 -- The entry of a number stands at a place.
 abbrev pub IsPlace : {R : Type 0} → ℕ → List (Entry R) → ℕ → Type 0

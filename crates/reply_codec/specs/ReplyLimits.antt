@@ -6,23 +6,25 @@ use Rattle.ctrl_model.specs.declared.claims.Explanation.{Explanation}
 use Rattle.ctrl_model.specs.declared.claims.Reach.{Reach}
 use Rattle.ctrl_model.specs.declared.replies.Reply.{Reply}
 use Rattle.ctrl_model.specs.declared.replies.Reply.TheVariants as reply
+use Rattle.ctrl_model.specs.Limits.{limit, longest_path}
+use Rattle.ctrl_model.specs.declared.kinds.Kind.TheVariants as kind
 
 -- An entry of an explanation: at most 256 values, each no path or below 2 ^ 32.
 abbrev pub is_short_reach : Reach → Bool
-is_short_reach e = nat_le (length e.values) 256 && list_all is_value e.values
+is_short_reach e = nat_le (length e.values) (limit kind.Router) && list_all is_value e.values
 
 -- An explanation: at most 255 links, 256 routers and 256 such entries.
 abbrev pub is_short_claim : Explanation → Bool
 is_short_claim claim =
-    nat_le (length claim.links) 255
-    && (nat_le (length claim.routers) 256 && (nat_le (length claim.potentials) 256 && list_all is_short_reach claim.potentials))
+    nat_le (length claim.links) longest_path
+    && (nat_le (length claim.routers) (limit kind.Router) && (nat_le (length claim.potentials) (limit kind.Router) && list_all is_short_reach claim.potentials))
 
 -- A reply that fits a frame: its lists are no longer than what a controller can show. There are at most 512 services and 256
 -- routers, and a path has at most 255 links.
 abbrev pub keeps_limits : Reply → Bool
-keeps_limits (reply.Circuit circuit ingress links terminator total) = nat_le (length links) 255
+keeps_limits (reply.Circuit circuit ingress links terminator total) = nat_le (length links) longest_path
 keeps_limits (reply.Explained ingress claim) = is_short_claim claim
-keeps_limits (reply.Services names) = nat_le (length names) 512
-keeps_limits (reply.Grants bind dial routers) = nat_le (length bind) 512 && (nat_le (length dial) 512 && nat_le (length routers) 256)
-keeps_limits (reply.Shown identity ingress links service terminator) = nat_le (length links) 255
+keeps_limits (reply.Services names) = nat_le (length names) (limit kind.Service)
+keeps_limits (reply.Grants bind dial routers) = nat_le (length bind) (limit kind.Service) && (nat_le (length dial) (limit kind.Service) && nat_le (length routers) (limit kind.Router))
+keeps_limits (reply.Shown identity ingress links service terminator) = nat_le (length links) longest_path
 keeps_limits _ = true

@@ -11,7 +11,7 @@ use Rattle.ctrl_model.specs.declared.kinds.Relation.{Relation}
 use Rattle.ctrl_model.specs.declared.kinds.Relation.TheVariants.{Dial, Bind, IdentityRouter, ServiceRouter}
 use Rattle.ctrl_model.specs.NameForm.{is_name, is_instance}
 use Rattle.ctrl_model.specs.CommandForm.{is_service_relation}
-use Rattle.ctrl_model.specs.Limits.{most_entries}
+use Rattle.ctrl_model.specs.Limits.{most_entries, longest_path}
 use Rattle.ctrl_model.specs.State.{Policy, start}
 use Rattle.row_codec.specs.declared.rows.Row.{Row}
 use Rattle.row_codec.specs.declared.rows.Row.TheVariants as row
@@ -118,7 +118,7 @@ is_row (row.Terminator n service router host instance cost precedence) =
     is_long n.0 && (is_long service.0 && (is_long router.0 && (is_host (option_map (λ h. h.0) host) && (is_instance instance && is_short cost))))
 is_row (row.Circuit n identity service terminator ingress links) =
     is_long n.0 && (is_long identity.0 && (is_long service.0 && (is_long terminator.0 && (is_long ingress.0
-    && (nat_le (length links) 255 && list_all is_long links)))))
+    && (nat_le (length links) longest_path && list_all is_long links)))))
 is_row (row.Dial identity service count) = is_long identity.0 && (is_long service.0 && is_positive count)
 is_row (row.Bind identity service count) = is_long identity.0 && (is_long service.0 && is_positive count)
 is_row (row.IdentityRouter identity router count) = is_long identity.0 && (is_long router.0 && is_positive count)

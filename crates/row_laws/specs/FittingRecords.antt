@@ -8,6 +8,7 @@ use Rattle.ctrl_model.specs.Tables.{Record}
 use Rattle.ctrl_model.specs.ValidState.{may_relate}
 use Rattle.row_codec.specs.RowKeys.{is_long}
 use Rattle.row_codec.specs.RowForm.{is_short, are_listed, is_listed_side, is_host}
+use Rattle.ctrl_model.specs.Limits.{longest_path}
 
 -- The fields of a record fit its row.
 abbrev pub fits : (k : Kind) → Record k → Bool
@@ -21,5 +22,5 @@ fits kind.ServiceEdgeRouterPolicy p =
     is_name p.name && (may_relate kind.ServiceEdgeRouterPolicy p.relation && (is_listed_side p.left && is_listed_side p.right))
 fits kind.Terminator t = is_long t.service && (is_long t.router && (is_host t.host && (is_instance t.instance && is_short t.cost)))
 fits kind.Circuit c =
-    is_long c.identity && (is_long c.service && (is_long c.terminator && (is_long c.ingress && (nat_le (length c.links) 255 && list_all is_long c.links))))
+    is_long c.identity && (is_long c.service && (is_long c.terminator && (is_long c.ingress && (nat_le (length c.links) longest_path && list_all is_long c.links))))
 fits kind.Attribute u = true

@@ -23,6 +23,7 @@ use Rattle.row_codec.specs.RowForm.{is_positive}
 use Rattle.row_codec.specs.RowKeys.{RowTable, is_long, table_number, tables}
 use Rattle.row_codec.specs.RowKeys.RowTable.{Next, Setting, Records, Counts}
 use Rattle.row_codec.specs.FieldReading.{Front, front_byte, front_code, front_flag, front_instance, front_list, front_long, front_name, front_names, front_number, front_short, front_side, kept, both, mapped, alone, behind, is_end}
+use Rattle.ctrl_model.specs.Limits.{longest_path}
 
 -- The relation of a service policy that a byte means.
 abbrev pub relation_meant : ℕ → Option Relation
@@ -95,7 +96,7 @@ front_terminator bytes = both front_long (both front_long (both (mapped host_nam
 
 -- An identity, a service, a terminator, an ingress, and links.
 abbrev pub front_circuit : List ℕ → Front (ℕ × (ℕ × (ℕ × (ℕ × List ℕ))))
-front_circuit bytes = both front_long (both front_long (both front_long (both front_long (front_list 255 front_long)))) bytes
+front_circuit bytes = both front_long (both front_long (both front_long (both front_long (front_list longest_path front_long)))) bytes
 
 -- A row whose key, behind its table, is read by one rule and whose value by another.
 abbrev pub row_read : {K V : Type 0} → (List ℕ → Front K) → (List ℕ → Front V) → (K → V → Row) → List ℕ → List ℕ → Option Row

@@ -13,16 +13,16 @@ const ROOM: Room = Room {
 };
 
 /// A desk that fails at these calls, counted from 0.
-pub fn failing_desk(alloc: Global, failing: &[u32]) -> Result<MemDesk, AllocError> {
+pub(crate) fn failing_desk(alloc: Global, failing: &[u32]) -> Result<MemDesk, AllocError> {
     desk_of(alloc, ROOM, [b"", b"", b""], failing)
 }
 
 /// A desk that does not fail.
-pub fn steady_desk(alloc: Global) -> Result<MemDesk, AllocError> {
+pub(crate) fn steady_desk(alloc: Global) -> Result<MemDesk, AllocError> {
     failing_desk(alloc, &[])
 }
 
 /// The source of these bytes in pieces of 4,096, which does not fail.
-pub fn steady_source(alloc: Global, bytes: &[u8]) -> Result<MemSource, AllocError> {
+pub(crate) fn steady_source(alloc: Global, bytes: &[u8]) -> Result<MemSource, AllocError> {
     source_of(alloc, bytes, 4_096, &[])
 }

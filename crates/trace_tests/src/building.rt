@@ -6,14 +6,14 @@ use std::alloc::{AllocError, Global};
 use ziti_desk::{MemDesk, MemSource, Room};
 
 /// The frame of a request.
-pub fn request(alloc: Global, content: u32, body: &str) -> Result<Vec<u8>, AllocError> {
+pub(crate) fn request(alloc: Global, content: u32, body: &str) -> Result<Vec<u8>, AllocError> {
     let mut bytes = Vec::new(alloc);
     push_request(&mut bytes, content, body)?;
     Ok(bytes)
 }
 
 /// Puts a data record of a session behind a trace.
-pub fn push_data(trace: &mut Vec<u8>, session: u8, bytes: &[u8]) -> Result<(), AllocError> {
+pub(crate) fn push_data(trace: &mut Vec<u8>, session: u8, bytes: &[u8]) -> Result<(), AllocError> {
     let len = u16::try_from(bytes.len()).unwrap_or(u16::MAX);
     trace.extend_from_slice(&[2, session])?;
     trace.extend_from_slice(&len.to_le_bytes())?;
@@ -21,7 +21,7 @@ pub fn push_data(trace: &mut Vec<u8>, session: u8, bytes: &[u8]) -> Result<(), A
 }
 
 /// Puts the tagged reply to a session behind others.
-pub fn push_tagged(
+pub(crate) fn push_tagged(
     bytes: &mut Vec<u8>,
     session: u8,
     sequence: u32,
@@ -32,7 +32,7 @@ pub fn push_tagged(
 }
 
 /// A desk that does not fail, with an empty folder.
-pub fn empty_desk(alloc: Global) -> Result<MemDesk, AllocError> {
+pub(crate) fn empty_desk(alloc: Global) -> Result<MemDesk, AllocError> {
     let room = Room {
         file_bytes: 8_192,
         said_bytes: 16_384,
@@ -62,13 +62,13 @@ fn run_on(
 }
 
 /// Replays plain input on the desk.
-pub fn replay_plain(alloc: Global, input: &[u8], desk: &mut MemDesk) -> Result<Status, AllocError> {
+pub(crate) fn replay_plain(alloc: Global, input: &[u8], desk: &mut MemDesk) -> Result<Status, AllocError> {
     let mut source = source_of(alloc, input, 4_096, &[])?;
     run_on(alloc, &["replay"], &mut source, desk)
 }
 
 /// Replays a trace on the desk, given in pieces of so many bytes by a source that fails at these calls, counted from 0.
-pub fn replay_failing(
+pub(crate) fn replay_failing(
     alloc: Global,
     trace: &[u8],
     piece: usize,
@@ -80,7 +80,7 @@ pub fn replay_failing(
 }
 
 /// Replays a trace on the desk, given in pieces of so many bytes.
-pub fn replay(
+pub(crate) fn replay(
     alloc: Global,
     trace: &[u8],
     piece: usize,

@@ -70,7 +70,7 @@ fn make<R: Files>(rt: &R, folder: &str, path: &str) -> Result<R::File, Failed> {
 
 impl<'r, R: Files> Folder<'r, R> {
     /// The files at these paths, none of them opened.
-    pub fn new(rt: &'r R, paths: Paths<'r>) -> Folder<'r, R> {
+    pub(crate) fn new(rt: &'r R, paths: Paths<'r>) -> Folder<'r, R> {
         Folder {
             rt,
             paths,
@@ -124,7 +124,7 @@ impl<'r, R: Files> Folder<'r, R> {
     }
 
     /// How long a part is.
-    pub fn len(&mut self, part: Part) -> Result<u64, Failed> {
+    pub(crate) fn len(&mut self, part: Part) -> Result<u64, Failed> {
         match self.found(part)? {
             Some(file) => Ok(given(file.metadata())?.len()),
             None => Ok(0),
@@ -132,7 +132,7 @@ impl<'r, R: Files> Folder<'r, R> {
     }
 
     /// Fills the buffer from a place of a part on.
-    pub fn read_at(&mut self, part: Part, at: u64, buf: &mut [u8]) -> Result<(), Failed> {
+    pub(crate) fn read_at(&mut self, part: Part, at: u64, buf: &mut [u8]) -> Result<(), Failed> {
         match self.found(part)? {
             Some(file) => {
                 given(file.seek(SeekFrom::Start(at)))?;
@@ -144,14 +144,14 @@ impl<'r, R: Files> Folder<'r, R> {
     }
 
     /// Writes the bytes at a place of a part.
-    pub fn write_at(&mut self, part: Part, at: u64, bytes: &[u8]) -> Result<(), Failed> {
+    pub(crate) fn write_at(&mut self, part: Part, at: u64, bytes: &[u8]) -> Result<(), Failed> {
         let file = self.made(part)?;
         given(file.seek(SeekFrom::Start(at)))?;
         given(file.write_all(bytes))
     }
 
     /// Cuts a part to a length.
-    pub fn cut(&mut self, part: Part, len: u64) -> Result<(), Failed> {
+    pub(crate) fn cut(&mut self, part: Part, len: u64) -> Result<(), Failed> {
         match self.found(part)? {
             Some(file) => given(file.set_len(len)),
             None if len == 0 => Ok(()),
@@ -160,7 +160,7 @@ impl<'r, R: Files> Folder<'r, R> {
     }
 
     /// Makes a part stable.
-    pub fn sync(&mut self, part: Part) -> Result<(), Failed> {
+    pub(crate) fn sync(&mut self, part: Part) -> Result<(), Failed> {
         match self.found(part)? {
             Some(file) => given(file.sync_all()),
             None => Ok(()),
