@@ -9,7 +9,7 @@ ghost use Rattle.circuit_rules.specs.Searched.{IsSearchOf};
 
 use crate::offers::{Offer, is_carried};
 use crate::views::View;
-use ctrl_model::{Copies, Reach};
+use ctrl_model::Reach;
 use path_search::CostSearch;
 use std::alloc::{AllocError, Global};
 

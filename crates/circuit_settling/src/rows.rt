@@ -12,7 +12,7 @@ ghost use Rattle.circuits.specs.CircuitChanges.{circuits_after};
 ghost use Rattle.circuit_settling.specs.CircuitRows.{HaveRows, changed_number};
 
 use circuits::{Circuit, CircuitChange, Circuits, CircuitsAfter};
-use ctrl_model::{CircuitNo, Copies, Kind, Numbers};
+use ctrl_model::{CircuitNo, Kind, Numbers};
 use row_codec::{Changes, Row};
 use row_spelling::{ChangedRows, touched_changes};
 use std::alloc::{AllocError, Global};

@@ -14,7 +14,9 @@ ghost use Rattle.core_stores.specs.PolicyPlans.{is_policy_command, is_service_po
 ghost use Rattle.core_stores.specs.PlannedPolicies.{Answers, AreShort, IsPlaced, ids_of, refusal_for, refusal_to_put, answer_create, answer_replace, roles_field, router_kind};
 
 use crate::putting::may_put;
-use ctrl_model::{Command, Copies, Field, Kind, Name, Names, Refusal, Relation, Reply, Semantic, Side};
+use ctrl_model::{
+    Command, Copies, Field, Kind, Name, Names, Refusal, Relation, Reply, Semantic, Side,
+};
 use entity_store::Entities;
 use model_laws::Plan;
 use policy_store::{Policies, Policy, PolicyChange, PolicyFault, policy_names, policy_of};

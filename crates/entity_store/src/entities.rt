@@ -14,7 +14,7 @@ use crate::kind_tables::{KindTables, edit_row, mark_row, place_of, remove_row, s
 use crate::listing::add_listed;
 use crate::records::{EntityView, KeptRouter, RouterView};
 use attr_pool::Pool;
-use ctrl_model::{Copies, Kind, Name, Names, Numbers, RouterNo, RouterSeen};
+use ctrl_model::{Kind, Name, Names, Numbers, RouterNo, RouterSeen};
 use record_tables::{NamedTable, limit};
 use std::alloc::{AllocError, Global};
 use std::marker::Model;

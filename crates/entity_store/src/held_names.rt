@@ -2,7 +2,7 @@ ghost use Rattle.std.specs.Prelude.{◌≡◌, ◌+◌, ◌<◌, ◌≤◌, ◌+
 ghost use Rattle.std.specs.Str.{bytes_eq};
 ghost use Rattle.entity_store.specs.AttributeUses.{times};
 
-use ctrl_model::{Copies, Name, Names};
+use ctrl_model::{Name, Names};
 use std::alloc::AllocError;
 
 // The place of a name among some.

@@ -17,7 +17,7 @@ ghost use Rattle.fabric_graph.specs.Routers.{AreRouters, network, number_at, cos
 use crate::ends::links_at;
 use crate::links::{LinkRow, LinkView};
 use crate::steps::{all_steps, by_place, flags};
-use ctrl_model::{Copies, Kind, LinkNo, Name, Numbers, RouterNo, RouterSeen};
+use ctrl_model::{Kind, LinkNo, Name, Numbers, RouterNo, RouterSeen};
 use path_certificate::Graph;
 use record_tables::{NamedTable, limit};
 use std::alloc::{AllocError, Global};

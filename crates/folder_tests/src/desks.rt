@@ -41,7 +41,11 @@ pub(crate) fn desk_of(alloc: Global, slot: &[u8]) -> Result<MemDesk, AllocError>
 }
 
 /// A desk with a folder of these parts, which fails at these calls.
-pub(crate) fn of_parts(alloc: Global, images: Images, failing: &[u32]) -> Result<MemDesk, AllocError> {
+pub(crate) fn of_parts(
+    alloc: Global,
+    images: Images,
+    failing: &[u32],
+) -> Result<MemDesk, AllocError> {
     let failing = Vec::from_slice(alloc, failing)?;
     MemDesk::new(alloc, images, ROOM, failing)
 }

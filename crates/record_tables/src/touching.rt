@@ -6,7 +6,7 @@ ghost use Rattle.record_tables.specs.AfterChange.{touched_numbers, unless_gone, 
 ghost use Rattle.record_tables.specs.Climbing.{Climbs};
 
 use crate::number_lists::is_among;
-use ctrl_model::{Copies, Numbers};
+use ctrl_model::Numbers;
 use std::alloc::{AllocError, Global};
 
 // Leaves the numbers below one.

@@ -1,4 +1,3 @@
-use ctrl_model::Copies;
 use crate::lines::{line, router};
 use fabric_graph::Fabric;
 use path_certificate::Step;

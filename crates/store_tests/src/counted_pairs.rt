@@ -3,7 +3,7 @@ ghost use Rattle.grant_denorm.specs.PairCounts.{count_of};
 ghost use Rattle.grant_denorm.specs.Deltas.{has_pair};
 ghost use Rattle.grant_denorm.specs.WorkedChanges.{cross};
 
-use ctrl_model::{Copies, Numbers};
+use ctrl_model::Numbers;
 use grant_denorm::{Counted, Cross, Delta, Turn, apply_changes, deltas_entity, deltas_policy};
 use std::alloc::{AllocError, Global};
 use std::process::Abort;

@@ -1,6 +1,6 @@
 ghost use Rattle.std.specs.Prelude.{◌≡◌, IfOk};
 
-use ctrl_model::{Copies, IdentityNo, Instance, Precedence, RouterNo, RouterSeen, ServiceNo, TermNo};
+use ctrl_model::{IdentityNo, Instance, Precedence, RouterNo, RouterSeen, ServiceNo, TermNo};
 use grant_denorm::Counted;
 use std::alloc::Global;
 use std::process::Abort;

@@ -14,7 +14,7 @@ ghost use Rattle.terminators.specs.TermRules.{has_term_room, may_add, network, g
 use crate::admitting::{Grants, is_admissible};
 use crate::naming::standing_in;
 use crate::offers::{Term, TermView, is_not_bindable};
-use ctrl_model::{Copies, Instance, Kind, Numbers, Precedence, RouterSeen, ServiceNo, TermNo};
+use ctrl_model::{Instance, Kind, Numbers, Precedence, RouterSeen, ServiceNo, TermNo};
 use grant_denorm::Counted;
 use record_tables::{NumberedTable, limit};
 use std::alloc::{AllocError, Global};

@@ -62,7 +62,11 @@ fn run_on(
 }
 
 /// Replays plain input on the desk.
-pub(crate) fn replay_plain(alloc: Global, input: &[u8], desk: &mut MemDesk) -> Result<Status, AllocError> {
+pub(crate) fn replay_plain(
+    alloc: Global,
+    input: &[u8],
+    desk: &mut MemDesk,
+) -> Result<Status, AllocError> {
     let mut source = source_of(alloc, input, 4_096, &[])?;
     run_on(alloc, &["replay"], &mut source, desk)
 }
