@@ -3,3 +3,4 @@ pub mod SlotLemmas
 pub mod UseLaws
 pub mod RoomLaws
 pub mod SlotKeeping
+pub mod WorkedRows

@@ -11,4 +11,4 @@ mod worked;
 
 pub use pool::{Pool, PoolFault};
 pub use rows::{Row, WORDS};
-pub use worked::{worked_row, worked_slots, worked_uses};
+pub use worked::{worked_attribute_rows, worked_keeping, worked_row, worked_slots, worked_uses};
