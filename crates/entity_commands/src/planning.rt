@@ -233,50 +233,37 @@ pub fn plan_entity_command(
         (λ p. (s : State) → ValidState (with_entities entities.now s) → HoldsPolicies entities.now s
         → PlansEntities p (carry command.now (with_entities entities.now s)) (with_entities entities.now s))) }
 {
-    match command {
-        Command::CreateIdentity { name, attributes } => Ok(Some(plan_add(
-            alloc,
-            entities,
-            Kind::Identity,
-            name,
-            attributes,
-        )?)),
-        Command::UpdateIdentity { name, attributes } => Ok(Some(plan_update(
-            entities,
-            Kind::Identity,
-            name,
-            attributes,
-        )?)),
-        Command::DeleteIdentity { name } => Ok(Some(plan_delete(entities, Kind::Identity, name)?)),
-        Command::CreateService { name, attributes } => Ok(Some(plan_add(
-            alloc,
-            entities,
-            Kind::Service,
-            name,
-            attributes,
-        )?)),
-        Command::UpdateService { name, attributes } => Ok(Some(plan_update(
-            entities,
-            Kind::Service,
-            name,
-            attributes,
-        )?)),
-        Command::DeleteService { name } => Ok(Some(plan_delete(entities, Kind::Service, name)?)),
+    let plan = match command {
+        Command::CreateIdentity { name, attributes } => {
+            plan_add(alloc, entities, Kind::Identity, name, attributes)?
+        }
+        Command::UpdateIdentity { name, attributes } => {
+            plan_update(entities, Kind::Identity, name, attributes)?
+        }
+        Command::DeleteIdentity { name } => plan_delete(entities, Kind::Identity, name)?,
+        Command::CreateService { name, attributes } => {
+            plan_add(alloc, entities, Kind::Service, name, attributes)?
+        }
+        Command::UpdateService { name, attributes } => {
+            plan_update(entities, Kind::Service, name, attributes)?
+        }
+        Command::DeleteService { name } => plan_delete(entities, Kind::Service, name)?,
         Command::CreateRouter {
             name,
             attributes,
             cost,
             no_traversal,
-        } => Ok(Some(plan_add_router(alloc, entities, name, attributes, *cost, *no_traversal)?)),
+        } => plan_add_router(alloc, entities, name, attributes, *cost, *no_traversal)?,
         Command::UpdateRouter {
             name,
             attributes,
             cost,
             no_traversal,
-        } => Ok(Some(plan_update_router(entities, name, attributes, *cost, *no_traversal)?)),
-        Command::DeleteRouter { name } => Ok(Some(plan_delete(entities, Kind::Router, name)?)),
-        Command::ConnectRouter { name } => Ok(Some(plan_mark(entities, name, true)?)),
-        Command::DisconnectRouter { name } => Ok(Some(plan_mark(entities, name, false)?)),
-        _ => Ok(None),
-    }
+        } => plan_update_router(entities, name, attributes, *cost, *no_traversal)?,
+        Command::DeleteRouter { name } => plan_delete(entities, Kind::Router, name)?,
+        Command::ConnectRouter { name } => plan_mark(entities, name, true)?,
+        Command::DisconnectRouter { name } => plan_mark(entities, name, false)?,
+        _ => return Ok(None),
+    };
+    Ok(Some(plan))
 }

@@ -110,6 +110,18 @@ fn router_if_some(
     }
 }
 
+// A router with another cost and other marks.
+fn marked<'a>(router: RouterView<'a>, cost: u32, through: bool, connected: bool) -> RouterView<'a>
+    ensures { result ≡ record router.entry { cost = cost; through = through; connected = connected } }
+{
+    RouterView {
+        cost,
+        through,
+        connected,
+        ..router
+    }
+}
+
 // The router that a change touches, if it will be there.
 fn router_after<'a>(
     entities: &'a Entities,
@@ -138,13 +150,10 @@ fn router_after<'a>(
             connected,
             ..
         } => {
-            let router = entities.router(no)?;
+            let router = marked(entities.router(no)?, *cost, *through, *connected);
             Some(RouterView {
-                name: router.name,
                 attributes,
-                cost: *cost,
-                through: *through,
-                connected: *connected,
+                ..router
             })
         }
         EntityChange::Mark {
@@ -152,16 +161,7 @@ fn router_after<'a>(
             through,
             connected,
             ..
-        } => {
-            let router = entities.router(no)?;
-            Some(RouterView {
-                name: router.name,
-                attributes: router.attributes,
-                cost: *cost,
-                through: *through,
-                connected: *connected,
-            })
-        }
+        } => Some(marked(entities.router(no)?, *cost, *through, *connected)),
         _ => None,
     }
 }

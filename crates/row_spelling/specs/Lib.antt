@@ -1,3 +1,4 @@
 pub mod RowReading
 pub mod WorkedRows
 pub mod RecordChanges
+pub mod TableValues

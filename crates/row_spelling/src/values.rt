@@ -3,6 +3,7 @@ ghost use Rattle.std.specs.List.{flat_map};
 ghost use Rattle.std.specs.Option.{option_map};
 ghost use Rattle.row_codec.specs.RowForm.{is_row, is_short, are_listed, is_listed_side, value_of};
 ghost use Rattle.row_codec.specs.RowValues.{long, short, text, texts, flag, side_bytes, relation_byte, semantic_byte, precedence_byte, router_marks, host_number};
+ghost use Rattle.row_spelling.specs.TableValues.{value_between};
 
 use crate::writing::{push_longs, push_name, push_names, push_short, push_side};
 use ctrl_model::{
@@ -69,16 +70,16 @@ fn push_router(
     name: &Name,
     attributes: &Names,
     cost: u32,
-    marks: u8,
+    marks: (bool, bool),
 ) -> Result<(), AllocError>
     requires attributes { are_listed attributes.now ≡ true }
     requires cost { is_short cost ≡ true }
-    ensures { OnOk result (out.new.items ≡ out.old.items ++ (text name.now ++ (texts attributes.now ++ (short cost ++ marks ∷ [])))) }
+    ensures { OnOk result (out.new.items ≡ out.old.items ++ (text name.now ++ (texts attributes.now ++ (short cost ++ router_marks marks.0 marks.1 ∷ [])))) }
 {
     push_name(out, name)?;
     push_names(out, attributes.as_slice())?;
     push_short(out, cost)?;
-    Ok(out.push(marks)?)
+    Ok(out.push(router_marks(marks.0, marks.1))?)
 }
 
 fn push_costs(
@@ -179,20 +180,6 @@ fn push_place(
     Ok(out.push(precedence_byte(precedence))?)
 }
 
-fn push_terminator(
-    out: &mut Vec<u8>,
-    numbers: [u32; 3],
-    instance: &Instance,
-    cost: u32,
-    precedence: Precedence,
-) -> Result<(), AllocError>
-    requires { is_short cost ≡ true }
-    ensures { OnOk result (out.new.items ≡ out.old.items ++ (flat_map long numbers ++ (text instance.now ++ (short cost ++ precedence_byte precedence ∷ [])))) }
-{
-    push_longs(out, &numbers)?;
-    push_place(out, instance, cost, precedence)
-}
-
 fn push_circuit(out: &mut Vec<u8>, numbers: [u32; 4], links: &Numbers) -> Result<(), AllocError>
     requires { length links.now ≤ 255 }
     ensures { OnOk result (out.new.items ≡ out.old.items ++ (flat_map long numbers ++ length links.now ∷ flat_map long links.now)) }
@@ -200,6 +187,78 @@ fn push_circuit(out: &mut Vec<u8>, numbers: [u32; 4], links: &Numbers) -> Result
     push_longs(out, &numbers)?;
     out.push(links.len() as u8)?;
     push_longs(out, links.as_slice())
+}
+
+// Writes the value of a row of a policy, and nothing of another row.
+fn push_policy(out: &mut Vec<u8>, row: &Row) -> Result<(), AllocError>
+    requires { is_row row.now ≡ true }
+    ensures { OnOk result (out.new.items ≡ out.old.items ++ value_between 7 10 row.now) }
+{
+    match row {
+        Row::ServicePolicy {
+            name,
+            relation,
+            semantic,
+            identities,
+            services,
+            ..
+        } => { push_service_policy(out, name, *relation, *semantic, identities, services) }
+        Row::EdgeRouterPolicy {
+            name,
+            semantic,
+            identities,
+            routers,
+            ..
+        } => { push_router_policy(out, name, *semantic, identities, routers) }
+        Row::ServiceEdgeRouterPolicy {
+            name,
+            semantic,
+            services,
+            routers,
+            ..
+        } => { push_router_policy(out, name, *semantic, services, routers) }
+        _ => Ok(()),
+    }
+}
+
+// Writes the value of a row of what joins entities, a link, a policy, a terminator or a circuit, and nothing of another row.
+fn push_joining(out: &mut Vec<u8>, row: &Row) -> Result<(), AllocError>
+    requires { is_row row.now ≡ true }
+    ensures { OnOk result (out.new.items ≡ out.old.items ++ value_between 6 12 row.now) }
+{
+    match row {
+        Row::Link {
+            name,
+            a,
+            b,
+            cost,
+            latency_a,
+            latency_b,
+            up,
+            ..
+        } => { push_link(out, name, (*a, *b), *cost, (*latency_a, *latency_b), *up) }
+        Row::Terminator {
+            service,
+            router,
+            host,
+            instance,
+            cost,
+            precedence,
+            ..
+        } => {
+            push_longs(out, &[service.0, router.0, host_number(*host)])?;
+            push_place(out, instance, *cost, *precedence)
+        }
+        Row::Circuit {
+            identity,
+            service,
+            terminator,
+            ingress,
+            links,
+            ..
+        } => { push_circuit(out, [identity.0, service.0, terminator.0, ingress.0], links) }
+        _ => push_policy(out, row),
+    }
 }
 
 /// Writes the value of a row.
@@ -227,75 +286,11 @@ pub(crate) fn push_value(out: &mut Vec<u8>, row: &Row) -> Result<(), AllocError>
             through,
             connected,
             ..
-        } => {
-            push_router(
-                out,
-                name,
-                attributes,
-                *cost,
-                router_marks(*through, *connected),
-            )
-        }
-        Row::Link {
-            name,
-            a,
-            b,
-            cost,
-            latency_a,
-            latency_b,
-            up,
-            ..
-        } => { push_link(out, name, (*a, *b), *cost, (*latency_a, *latency_b), *up) }
-        Row::ServicePolicy {
-            name,
-            relation,
-            semantic,
-            identities,
-            services,
-            ..
-        } => { push_service_policy(out, name, *relation, *semantic, identities, services) }
-        Row::EdgeRouterPolicy {
-            name,
-            semantic,
-            identities,
-            routers,
-            ..
-        } => { push_router_policy(out, name, *semantic, identities, routers) }
-        Row::ServiceEdgeRouterPolicy {
-            name,
-            semantic,
-            services,
-            routers,
-            ..
-        } => { push_router_policy(out, name, *semantic, services, routers) }
-        Row::Terminator {
-            service,
-            router,
-            host,
-            instance,
-            cost,
-            precedence,
-            ..
-        } => {
-            push_terminator(
-                out,
-                [service.0, router.0, host_number(*host)],
-                instance,
-                *cost,
-                *precedence,
-            )
-        }
-        Row::Circuit {
-            identity,
-            service,
-            terminator,
-            ingress,
-            links,
-            ..
-        } => { push_circuit(out, [identity.0, service.0, terminator.0, ingress.0], links) }
+        } => { push_router(out, name, attributes, *cost, (*through, *connected)) }
         Row::Dial { count, .. } => push_long(out, *count),
         Row::Bind { count, .. } => push_long(out, *count),
         Row::IdentityRouter { count, .. } => push_long(out, *count),
         Row::ServiceRouter { count, .. } => push_long(out, *count),
+        _ => push_joining(out, row),
     }
 }
