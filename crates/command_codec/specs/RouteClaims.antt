@@ -32,10 +32,11 @@ abbrev pub has_reach_keys : Data → Bool
 has_reach_keys (object ms) = are_reach_keys ms
 has_reach_keys _ = false
 
--- The number of the router, and the values, that an object gives.
+-- The number of the router that an object gives.
 abbrev pub router_in : Data → Option ℕ
 router_in d = option_and_then as_no (get (word_of field.Router) d)
 
+-- The values that an object gives.
 abbrev pub values_in : Data → Option (List ℕ)
 values_in d = option_and_then (as_each_of 256 as_value) (get (codes "values") d)
 

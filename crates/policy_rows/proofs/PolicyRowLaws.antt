@@ -1,5 +1,5 @@
 -- The rows of policies: those of a valid state fit, a change touches one, and an `@` name that goes touches those that could have it.
-use Rattle.std.proofs.Common.{◌≡◌, ◌≢◌, ℕ, ◌<◌, ◌==◌, Bool, true, false, cond, not, ◌&&◌, List, [], ◌∷◌, ◌++◌, map, length, get_or, Option, None, Some, IfSome, inl, refl, sym, ◌∙◌, ap, subst, arith, eq-eqb, bytes_eq, ◌≤◌}
+use Rattle.std.proofs.Common.{◌≡◌, ◌≢◌, ℕ, ◌+◌, ◌<◌, ◌==◌, Bool, true, false, cond, not, ◌&&◌, List, [], ◌∷◌, ◌++◌, map, length, get_or, Option, None, Some, IfSome, inl, refl, sym, ◌∙◌, ap, ap₂, subst, arith, eq-eqb, bytes_eq, ◌≤◌}
 use Rattle.std.proofs.lemmas.Bool.{false≢true}
 use Rattle.std.proofs.lemmas.List.{append-nil}
 use Rattle.std.specs.Option.{option_map}
@@ -9,11 +9,13 @@ use Rattle.ctrl_model.specs.Limits.{last_next}
 use Rattle.ctrl_model.specs.Numbered.{Table, at, numbers, with_new, with_edit, with_removed, with_each, without, map_each, Between, is_present}
 use Rattle.ctrl_model.specs.PolicyCommands.{replaced_by}
 use Rattle.ctrl_model.specs.State.{State, Policy}
-use Rattle.ctrl_model.specs.Tables.{is_entity_kind}
+use Rattle.ctrl_model.specs.Tables.{Record, table, is_entity_kind}
 use Rattle.ctrl_model.proofs.NumberedLaws.{at-past, at-with_last, at-with_last-other, at-edit_at, at-edit_at-other, at-without-other, at-map_each, by_is_some, first_where-found}
 use Rattle.row_codec.specs.declared.changes.Change.{Change}
-use Rattle.row_codec.specs.CoveredTables.{Covers}
-use Rattle.row_codec.specs.RowKeys.{is_long}
+use Rattle.row_codec.specs.CoveredTables.{Covers, change_at}
+use Rattle.row_codec.specs.RowKeys.{is_long, key_in, kind_number, number_in_key}
+use Rattle.row_codec.specs.RowKeys.RowTable.{Records}
+use Rattle.row_codec.specs.RowValues.{record_value}
 use Rattle.row_laws.specs.ChangedKeys.{record_changes}
 use Rattle.row_laws.proofs.Covers.{Covers-append, Covers-same_records}
 use Rattle.row_laws.proofs.KeyOrders.{long_upto}
@@ -49,11 +51,14 @@ ordered kind.EdgeRouterPolicy p is v = subst (λ (q : PolicyTables). Between 1 q
 ordered kind.ServiceEdgeRouterPolicy p is v = subst (λ (q : PolicyTables). Between 1 q.service_edge_router_policies.next q.service_edge_router_policies.rows) v.holds (v.valid.kinds kind.ServiceEdgeRouterPolicy).numbers.ordered
 ordered _ p is v = absurd (false≢true is)
 
+last_number : (k : Kind) (p : PolicyTables) → is_policy_kind k ≡ true → AreValid p → next_of k p ≤ last_next
+last_number kind.ServicePolicy p is v = subst (λ (q : PolicyTables). q.service_policies.next ≤ last_next) v.holds (v.valid.kinds kind.ServicePolicy).numbers.last
+last_number kind.EdgeRouterPolicy p is v = subst (λ (q : PolicyTables). q.edge_router_policies.next ≤ last_next) v.holds (v.valid.kinds kind.EdgeRouterPolicy).numbers.last
+last_number kind.ServiceEdgeRouterPolicy p is v = subst (λ (q : PolicyTables). q.service_edge_router_policies.next ≤ last_next) v.holds (v.valid.kinds kind.ServiceEdgeRouterPolicy).numbers.last
+last_number _ p is v = absurd (false≢true is)
+
 next_long : (k : Kind) (p : PolicyTables) → is_policy_kind k ≡ true → AreValid p → is_long (next_of k p) ≡ true
-next_long kind.ServicePolicy p is v = subst (λ (q : PolicyTables). is_long q.service_policies.next ≡ true) v.holds (long_upto v.state.service_policies.next (v.valid.kinds kind.ServicePolicy).numbers.last)
-next_long kind.EdgeRouterPolicy p is v = subst (λ (q : PolicyTables). is_long q.edge_router_policies.next ≡ true) v.holds (long_upto v.state.edge_router_policies.next (v.valid.kinds kind.EdgeRouterPolicy).numbers.last)
-next_long kind.ServiceEdgeRouterPolicy p is v = subst (λ (q : PolicyTables). is_long q.service_edge_router_policies.next ≡ true) v.holds (long_upto v.state.service_edge_router_policies.next (v.valid.kinds kind.ServiceEdgeRouterPolicy).numbers.last)
-next_long _ p is v = absurd (false≢true is)
+next_long k p is v = long_upto (next_of k p) (last_number k p is v)
 
 present_long : (k : Kind) (p : PolicyTables) (n : ℕ) → is_policy_kind k ≡ true → AreValid p → is_present (policies k p) n ≡ true → is_long n ≡ true
 present_long k p n is v e = by_is_some (at (policies k p) n) e (λ r stands. (valid_row k p n r is v stands).0)
@@ -117,36 +122,69 @@ change_is k n b a c d e f = λ i. policy_change_of k n (e i) (f i)
 alone : (n : ℕ) → is_long n ≡ true → (is_long n && true) ≡ true
 alone n e = ap (λ b. b && true) e
 
+-- ---- one table of a state
+
+abbrev change_in : (k : Kind) → ℕ → Option (Record k) → Option (Record k) → Change
+change_in k n b a = record { key = (kind_number k + 2) ∷ number_in_key n; before = option_map (record_value k) b; after = option_map (record_value k) a }
+
+changed_at : (k : Kind) (s t : State) (n : ℕ) (b a : Option (Record k)) → 1 ≤ kind_number k → at (table k s).rows n ≡ b → at (table k t).rows n ≡ a
+    → change_at s t (key_in (Records k) n 0) ≡ change_in k n b a
+changed_at k s t n b a h before after = change_at-record k s t n h ∙ ap₂ (change_in k n) before after
+
+-- it stays
+stays : (k : Kind) (s t : State) (q : Table (Record k)) → 1 ≤ kind_number k → table k s ≡ q → table k t ≡ q → Covers (kind_number k + 2) (kind_number k + 3) s t []
+stays k s t q h es et = Covers-same_records k s t h (λ m. ap (λ (u : Table (Record k)). at u.rows m) (es ∙ sym et))
+
+-- one of its records changes
+moves : (k : Kind) (s t : State) (q new : Table (Record k)) (n : ℕ) → 1 ≤ kind_number k → is_long n ≡ true → table k s ≡ q → table k t ≡ new → ((m : ℕ) → m ≢ n → at q.rows m ≡ at new.rows m)
+    → Covers (kind_number k + 2) (kind_number k + 3) s t (change_in k n (at q.rows n) (at new.rows n) ∷ [])
+moves k s t q new n h long es et same =
+    let at_number = λ (u : Table (Record k)) (m : ℕ). at u.rows m in
+    subst (λ c. Covers (kind_number k + 2) (kind_number k + 3) s t (c ∷ [])) (changed_at k s t n _ _ h (ap (λ u. at_number u n) es) (ap (λ u. at_number u n) et))
+    (Covers-records k s t (n ∷ []) h (tt, tt) (alone n long) (λ m misses. ap (λ u. at_number u m) es ∙ same m (λ e. misses (inl (sym e))) ∙ sym (ap (λ u. at_number u m) et)))
+
+map_pointwise : {A B : Type 0} (f g : A → B) (xs : List A) → ((x : A) → f x ≡ g x) → map f xs ≡ map g xs
+map_pointwise f g [] h = refl
+map_pointwise f g (x ∷ xs) h = λ i. h x i ∷ map_pointwise f g xs h i
+
+-- each of its records changes
+moves_each : (k : Kind) (s t : State) (f : Record k → Record k) (q : Table (Record k)) → 1 ≤ kind_number k → table k s ≡ q → table k t ≡ with_each f q → Between 1 q.next q.rows → q.next ≤ last_next
+    → Covers (kind_number k + 2) (kind_number k + 3) s t (map (λ n. change_in k n (at q.rows n) (option_map f (at q.rows n))) (numbers q.rows))
+moves_each k s t f q h es et b last =
+    subst (λ cs. Covers (kind_number k + 2) (kind_number k + 3) s t cs)
+    (ap (λ (u : Table (Record k)). record_changes k s t (numbers u.rows)) es
+    ∙ map_pointwise _ _ (numbers q.rows) (λ n. changed_at k s t n _ _ h (ap (λ (u : Table (Record k)). at u.rows n) es) (ap (λ (u : Table (Record k)). at u.rows n) et ∙ at-map_each f q.rows n)))
+    (Covers-with_each k s t f q.next h (subst (λ (u : Table (Record k)). Between 1 q.next u.rows) (sym es) b) last (et ∙ ap (with_each f) (sym es)))
+
+-- ---- the tables of policies
+
+services : {p q : PolicyTables} → p ≡ q → p.service_policies ≡ q.service_policies
+services e = ap (λ (t : PolicyTables). t.service_policies) e
+
+edges : {p q : PolicyTables} → p ≡ q → p.edge_router_policies ≡ q.edge_router_policies
+edges e = ap (λ (t : PolicyTables). t.edge_router_policies) e
+
+lasts : {p q : PolicyTables} → p ≡ q → p.service_edge_router_policies ≡ q.service_edge_router_policies
+lasts e = ap (λ (t : PolicyTables). t.service_edge_router_policies) e
+
 pub covers_with : (k : Kind) (s t : State) (p : PolicyTables) (n : ℕ) (new : Table Policy) → is_policy_kind k ≡ true → is_long n ≡ true → tables_of s ≡ p → tables_of t ≡ with_policies k new p
     → ((m : ℕ) → m ≢ n → at (policies k p) m ≡ at new.rows m)
     → Covers 7 10 s t (policy_change_of k n (at (policies k p) n) (at (policies k (with_policies k new p)) n) ∷ [])
 covers_with kind.ServicePolicy s t p n new is long es et same =
-    let touched = Covers-records kind.ServicePolicy s t (n ∷ []) (omega arith) (tt, tt) (alone n long) (λ m misses.
-    ap (λ (q : PolicyTables). at q.service_policies.rows m) es ∙ same m (λ e. misses (inl (sym e))) ∙ sym (ap (λ (q : PolicyTables). at q.service_policies.rows m) et)) in
-    let second = Covers-same_records kind.EdgeRouterPolicy s t (omega arith) (λ m. ap (λ (q : PolicyTables). at q.edge_router_policies.rows m) (es ∙ refl) ∙ sym (ap (λ (q : PolicyTables). at q.edge_router_policies.rows m) et)) in
-    let third = Covers-same_records kind.ServiceEdgeRouterPolicy s t (omega arith) (λ m. ap (λ (q : PolicyTables). at q.service_edge_router_policies.rows m) es ∙ sym (ap (λ (q : PolicyTables). at q.service_edge_router_policies.rows m) et)) in
-    subst (λ c. Covers 7 10 s t (c ∷ []))
-    (change_at-record kind.ServicePolicy s t n (omega arith)
-    ∙ change_is kind.ServicePolicy n _ _ _ _ (ap (λ (q : PolicyTables). at q.service_policies.rows n) es) (ap (λ (q : PolicyTables). at q.service_policies.rows n) et))
-    (Covers-append 7 8 10 s t (record_changes kind.ServicePolicy s t (n ∷ [])) [] (omega arith) (omega arith) touched (Covers-append 8 9 10 s t [] [] (omega arith) (omega arith) second third))
+    Covers-append 7 8 10 s t (policy_change_of kind.ServicePolicy n (at p.service_policies.rows n) (at new.rows n) ∷ []) [] (omega arith) (omega arith)
+    (moves kind.ServicePolicy s t p.service_policies new n (omega arith) long (services es) (services et) same)
+    (Covers-append 8 9 10 s t [] [] (omega arith) (omega arith) (stays kind.EdgeRouterPolicy s t p.edge_router_policies (omega arith) (edges es) (edges et))
+    (stays kind.ServiceEdgeRouterPolicy s t p.service_edge_router_policies (omega arith) (lasts es) (lasts et)))
 covers_with kind.EdgeRouterPolicy s t p n new is long es et same =
-    let first = Covers-same_records kind.ServicePolicy s t (omega arith) (λ m. ap (λ (q : PolicyTables). at q.service_policies.rows m) es ∙ sym (ap (λ (q : PolicyTables). at q.service_policies.rows m) et)) in
-    let touched = Covers-records kind.EdgeRouterPolicy s t (n ∷ []) (omega arith) (tt, tt) (alone n long) (λ m misses.
-    ap (λ (q : PolicyTables). at q.edge_router_policies.rows m) es ∙ same m (λ e. misses (inl (sym e))) ∙ sym (ap (λ (q : PolicyTables). at q.edge_router_policies.rows m) et)) in
-    let third = Covers-same_records kind.ServiceEdgeRouterPolicy s t (omega arith) (λ m. ap (λ (q : PolicyTables). at q.service_edge_router_policies.rows m) es ∙ sym (ap (λ (q : PolicyTables). at q.service_edge_router_policies.rows m) et)) in
-    subst (λ c. Covers 7 10 s t (c ∷ []))
-    (change_at-record kind.EdgeRouterPolicy s t n (omega arith)
-    ∙ change_is kind.EdgeRouterPolicy n _ _ _ _ (ap (λ (q : PolicyTables). at q.edge_router_policies.rows n) es) (ap (λ (q : PolicyTables). at q.edge_router_policies.rows n) et))
-    (Covers-append 7 8 10 s t [] (record_changes kind.EdgeRouterPolicy s t (n ∷ [])) (omega arith) (omega arith) first (Covers-append 8 9 10 s t (record_changes kind.EdgeRouterPolicy s t (n ∷ [])) [] (omega arith) (omega arith) touched third))
+    let change = policy_change_of kind.EdgeRouterPolicy n (at p.edge_router_policies.rows n) (at new.rows n) in
+    Covers-append 7 8 10 s t [] (change ∷ []) (omega arith) (omega arith) (stays kind.ServicePolicy s t p.service_policies (omega arith) (services es) (services et))
+    (Covers-append 8 9 10 s t (change ∷ []) [] (omega arith) (omega arith) (moves kind.EdgeRouterPolicy s t p.edge_router_policies new n (omega arith) long (edges es) (edges et) same)
+    (stays kind.ServiceEdgeRouterPolicy s t p.service_edge_router_policies (omega arith) (lasts es) (lasts et)))
 covers_with kind.ServiceEdgeRouterPolicy s t p n new is long es et same =
-    let first = Covers-same_records kind.ServicePolicy s t (omega arith) (λ m. ap (λ (q : PolicyTables). at q.service_policies.rows m) es ∙ sym (ap (λ (q : PolicyTables). at q.service_policies.rows m) et)) in
-    let second = Covers-same_records kind.EdgeRouterPolicy s t (omega arith) (λ m. ap (λ (q : PolicyTables). at q.edge_router_policies.rows m) es ∙ sym (ap (λ (q : PolicyTables). at q.edge_router_policies.rows m) et)) in
-    let touched = Covers-records kind.ServiceEdgeRouterPolicy s t (n ∷ []) (omega arith) (tt, tt) (alone n long) (λ m misses.
-    ap (λ (q : PolicyTables). at q.service_edge_router_policies.rows m) es ∙ same m (λ e. misses (inl (sym e))) ∙ sym (ap (λ (q : PolicyTables). at q.service_edge_router_policies.rows m) et)) in
-    subst (λ c. Covers 7 10 s t (c ∷ []))
-    (change_at-record kind.ServiceEdgeRouterPolicy s t n (omega arith)
-    ∙ change_is kind.ServiceEdgeRouterPolicy n _ _ _ _ (ap (λ (q : PolicyTables). at q.service_edge_router_policies.rows n) es) (ap (λ (q : PolicyTables). at q.service_edge_router_policies.rows n) et))
-    (Covers-append 7 8 10 s t [] (record_changes kind.ServiceEdgeRouterPolicy s t (n ∷ [])) (omega arith) (omega arith) first (Covers-append 8 9 10 s t [] (record_changes kind.ServiceEdgeRouterPolicy s t (n ∷ [])) (omega arith) (omega arith) second touched))
+    let change = policy_change_of kind.ServiceEdgeRouterPolicy n (at p.service_edge_router_policies.rows n) (at new.rows n) in
+    Covers-append 7 8 10 s t [] (change ∷ []) (omega arith) (omega arith) (stays kind.ServicePolicy s t p.service_policies (omega arith) (services es) (services et))
+    (Covers-append 8 9 10 s t [] (change ∷ []) (omega arith) (omega arith) (stays kind.EdgeRouterPolicy s t p.edge_router_policies (omega arith) (edges es) (edges et))
+    (moves kind.ServiceEdgeRouterPolicy s t p.service_edge_router_policies new n (omega arith) long (lasts es) (lasts et) same))
 covers_with _ s t p n new is long es et same = absurd (false≢true is)
 
 pub covers_change : (c : PolicyChange) (p : PolicyTables) (s t : State) → CanChangePolicies c p → AreValid p → tables_of s ≡ p → tables_of t ≡ after_policy_change c p
@@ -164,80 +202,44 @@ pub forgotten_is : (k : Kind) (hand : Hand) (name : List ℕ) (rows : List (ℕ 
     → policy_change_of k n b a ≡ forgotten_at k hand name rows n
 forgotten_is k hand name rows n b a e f = change_is k n b a _ _ e f
 
-map_pointwise : {A B : Type 0} (f g : A → B) (xs : List A) → ((x : A) → f x ≡ g x) → map f xs ≡ map g xs
-map_pointwise f g [] h = refl
-map_pointwise f g (x ∷ xs) h = λ i. h x i ∷ map_pointwise f g xs h i
+-- the policies of a kind, each of which loses the name
+each_service : (s t : State) (hand : Hand) (name : List ℕ) (p : PolicyTables) → AreValid p → s.service_policies ≡ p.service_policies → t.service_policies ≡ with_each (forget_on hand name) p.service_policies
+    → Covers 7 8 s t (forgotten_rows kind.ServicePolicy hand name p)
+each_service s t hand name p v es et = moves_each kind.ServicePolicy s t (forget_on hand name) p.service_policies (omega arith) es et (ordered kind.ServicePolicy p refl v) (last_number kind.ServicePolicy p refl v)
 
--- the changes of all records of a table, each of which is changed
-each_service : (s t : State) (hand : Hand) (name : List ℕ) (p : PolicyTables) → s.service_policies ≡ p.service_policies → t.service_policies ≡ with_each (forget_on hand name) p.service_policies
-    → Between 1 p.service_policies.next p.service_policies.rows → p.service_policies.next ≤ last_next → Covers 7 8 s t (forgotten_rows kind.ServicePolicy hand name p)
-each_service s t hand name p es et b last =
-    subst (λ cs. Covers 7 8 s t cs)
-    (ap (λ (q : Table Policy). record_changes kind.ServicePolicy s t (numbers q.rows)) es
-    ∙ map_pointwise _ _ (numbers p.service_policies.rows) (λ n. change_at-record kind.ServicePolicy s t n (omega arith)
-    ∙ change_is kind.ServicePolicy n _ _ _ _ (ap (λ (q : Table Policy). at q.rows n) es) (ap (λ (q : Table Policy). at q.rows n) et ∙ at-map_each (forget_on hand name) p.service_policies.rows n)))
-    (Covers-with_each kind.ServicePolicy s t (forget_on hand name) p.service_policies.next (omega arith) (subst (λ (q : Table Policy). Between 1 p.service_policies.next q.rows) (sym es) b) last
-    (et ∙ ap (with_each (forget_on hand name)) (sym es)))
+each_edge : (s t : State) (hand : Hand) (name : List ℕ) (p : PolicyTables) → AreValid p → s.edge_router_policies ≡ p.edge_router_policies → t.edge_router_policies ≡ with_each (forget_on hand name) p.edge_router_policies
+    → Covers 8 9 s t (forgotten_rows kind.EdgeRouterPolicy hand name p)
+each_edge s t hand name p v es et = moves_each kind.EdgeRouterPolicy s t (forget_on hand name) p.edge_router_policies (omega arith) es et (ordered kind.EdgeRouterPolicy p refl v) (last_number kind.EdgeRouterPolicy p refl v)
 
-each_edge : (s t : State) (hand : Hand) (name : List ℕ) (p : PolicyTables) → s.edge_router_policies ≡ p.edge_router_policies → t.edge_router_policies ≡ with_each (forget_on hand name) p.edge_router_policies
-    → Between 1 p.edge_router_policies.next p.edge_router_policies.rows → p.edge_router_policies.next ≤ last_next → Covers 8 9 s t (forgotten_rows kind.EdgeRouterPolicy hand name p)
-each_edge s t hand name p es et b last =
-    subst (λ cs. Covers 8 9 s t cs)
-    (ap (λ (q : Table Policy). record_changes kind.EdgeRouterPolicy s t (numbers q.rows)) es
-    ∙ map_pointwise _ _ (numbers p.edge_router_policies.rows) (λ n. change_at-record kind.EdgeRouterPolicy s t n (omega arith)
-    ∙ change_is kind.EdgeRouterPolicy n _ _ _ _ (ap (λ (q : Table Policy). at q.rows n) es) (ap (λ (q : Table Policy). at q.rows n) et ∙ at-map_each (forget_on hand name) p.edge_router_policies.rows n)))
-    (Covers-with_each kind.EdgeRouterPolicy s t (forget_on hand name) p.edge_router_policies.next (omega arith) (subst (λ (q : Table Policy). Between 1 p.edge_router_policies.next q.rows) (sym es) b) last
-    (et ∙ ap (with_each (forget_on hand name)) (sym es)))
-
-each_last : (s t : State) (hand : Hand) (name : List ℕ) (p : PolicyTables) → s.service_edge_router_policies ≡ p.service_edge_router_policies
-    → t.service_edge_router_policies ≡ with_each (forget_on hand name) p.service_edge_router_policies
-    → Between 1 p.service_edge_router_policies.next p.service_edge_router_policies.rows → p.service_edge_router_policies.next ≤ last_next → Covers 9 10 s t (forgotten_rows kind.ServiceEdgeRouterPolicy hand name p)
-each_last s t hand name p es et b last =
-    subst (λ cs. Covers 9 10 s t cs)
-    (ap (λ (q : Table Policy). record_changes kind.ServiceEdgeRouterPolicy s t (numbers q.rows)) es
-    ∙ map_pointwise _ _ (numbers p.service_edge_router_policies.rows) (λ n. change_at-record kind.ServiceEdgeRouterPolicy s t n (omega arith)
-    ∙ change_is kind.ServiceEdgeRouterPolicy n _ _ _ _ (ap (λ (q : Table Policy). at q.rows n) es) (ap (λ (q : Table Policy). at q.rows n) et ∙ at-map_each (forget_on hand name) p.service_edge_router_policies.rows n)))
-    (Covers-with_each kind.ServiceEdgeRouterPolicy s t (forget_on hand name) p.service_edge_router_policies.next (omega arith)
-    (subst (λ (q : Table Policy). Between 1 p.service_edge_router_policies.next q.rows) (sym es) b) last
-    (et ∙ ap (with_each (forget_on hand name)) (sym es)))
-
--- the next numbers of the policies of a valid state
-last_service : (p : PolicyTables) → AreValid p → p.service_policies.next ≤ last_next
-last_service p v = subst (λ (q : PolicyTables). q.service_policies.next ≤ last_next) v.holds (v.valid.kinds kind.ServicePolicy).numbers.last
-
-last_edge : (p : PolicyTables) → AreValid p → p.edge_router_policies.next ≤ last_next
-last_edge p v = subst (λ (q : PolicyTables). q.edge_router_policies.next ≤ last_next) v.holds (v.valid.kinds kind.EdgeRouterPolicy).numbers.last
-
-last_last : (p : PolicyTables) → AreValid p → p.service_edge_router_policies.next ≤ last_next
-last_last p v = subst (λ (q : PolicyTables). q.service_edge_router_policies.next ≤ last_next) v.holds (v.valid.kinds kind.ServiceEdgeRouterPolicy).numbers.last
+each_last : (s t : State) (hand : Hand) (name : List ℕ) (p : PolicyTables) → AreValid p → s.service_edge_router_policies ≡ p.service_edge_router_policies
+    → t.service_edge_router_policies ≡ with_each (forget_on hand name) p.service_edge_router_policies → Covers 9 10 s t (forgotten_rows kind.ServiceEdgeRouterPolicy hand name p)
+each_last s t hand name p v es et =
+    moves_each kind.ServiceEdgeRouterPolicy s t (forget_on hand name) p.service_edge_router_policies (omega arith) es et (ordered kind.ServiceEdgeRouterPolicy p refl v) (last_number kind.ServiceEdgeRouterPolicy p refl v)
 
 covers_identity : (name : List ℕ) (p : PolicyTables) (s t : State) → AreValid p → tables_of s ≡ p → tables_of t ≡ forgetting kind.Identity name p
     → Covers 7 10 s t (([] ++ forgotten_rows kind.ServicePolicy Left name p) ++ forgotten_rows kind.EdgeRouterPolicy Left name p)
 covers_identity name p s t v es et =
-    let first = each_service s t Left name p (ap (λ (q : PolicyTables). q.service_policies) es) (ap (λ (q : PolicyTables). q.service_policies) et) (ordered kind.ServicePolicy p refl v) (last_service p v) in
-    let second = each_edge s t Left name p (ap (λ (q : PolicyTables). q.edge_router_policies) es) (ap (λ (q : PolicyTables). q.edge_router_policies) et) (ordered kind.EdgeRouterPolicy p refl v) (last_edge p v) in
-    let third = Covers-same_records kind.ServiceEdgeRouterPolicy s t (omega arith) (λ m. ap (λ (q : PolicyTables). at q.service_edge_router_policies.rows m) es ∙ sym (ap (λ (q : PolicyTables). at q.service_edge_router_policies.rows m) et)) in
+    let third = stays kind.ServiceEdgeRouterPolicy s t p.service_edge_router_policies (omega arith) (lasts es) (lasts et) in
     subst (λ cs. Covers 7 10 s t cs) (append-nil (forgotten_rows kind.ServicePolicy Left name p ++ forgotten_rows kind.EdgeRouterPolicy Left name p))
     (Covers-append 7 9 10 s t (forgotten_rows kind.ServicePolicy Left name p ++ forgotten_rows kind.EdgeRouterPolicy Left name p) [] (omega arith) (omega arith)
-    (Covers-append 7 8 9 s t (forgotten_rows kind.ServicePolicy Left name p) (forgotten_rows kind.EdgeRouterPolicy Left name p) (omega arith) (omega arith) first second) third)
+    (Covers-append 7 8 9 s t (forgotten_rows kind.ServicePolicy Left name p) (forgotten_rows kind.EdgeRouterPolicy Left name p) (omega arith) (omega arith)
+    (each_service s t Left name p v (services es) (services et)) (each_edge s t Left name p v (edges es) (edges et))) third)
 
 covers_service : (name : List ℕ) (p : PolicyTables) (s t : State) → AreValid p → tables_of s ≡ p → tables_of t ≡ forgetting kind.Service name p
     → Covers 7 10 s t (([] ++ forgotten_rows kind.ServicePolicy Right name p) ++ forgotten_rows kind.ServiceEdgeRouterPolicy Left name p)
 covers_service name p s t v es et =
-    let first = each_service s t Right name p (ap (λ (q : PolicyTables). q.service_policies) es) (ap (λ (q : PolicyTables). q.service_policies) et) (ordered kind.ServicePolicy p refl v) (last_service p v) in
-    let second = Covers-same_records kind.EdgeRouterPolicy s t (omega arith) (λ m. ap (λ (q : PolicyTables). at q.edge_router_policies.rows m) es ∙ sym (ap (λ (q : PolicyTables). at q.edge_router_policies.rows m) et)) in
-    let third = each_last s t Left name p (ap (λ (q : PolicyTables). q.service_edge_router_policies) es) (ap (λ (q : PolicyTables). q.service_edge_router_policies) et) (ordered kind.ServiceEdgeRouterPolicy p refl v) (last_last p v) in
-    Covers-append 7 8 10 s t (forgotten_rows kind.ServicePolicy Right name p) (forgotten_rows kind.ServiceEdgeRouterPolicy Left name p) (omega arith) (omega arith) first
-    (Covers-append 8 9 10 s t [] (forgotten_rows kind.ServiceEdgeRouterPolicy Left name p) (omega arith) (omega arith) second third)
+    Covers-append 7 8 10 s t (forgotten_rows kind.ServicePolicy Right name p) (forgotten_rows kind.ServiceEdgeRouterPolicy Left name p) (omega arith) (omega arith)
+    (each_service s t Right name p v (services es) (services et))
+    (Covers-append 8 9 10 s t [] (forgotten_rows kind.ServiceEdgeRouterPolicy Left name p) (omega arith) (omega arith)
+    (stays kind.EdgeRouterPolicy s t p.edge_router_policies (omega arith) (edges es) (edges et)) (each_last s t Left name p v (lasts es) (lasts et)))
 
 covers_router : (name : List ℕ) (p : PolicyTables) (s t : State) → AreValid p → tables_of s ≡ p → tables_of t ≡ forgetting kind.Router name p
     → Covers 7 10 s t (([] ++ forgotten_rows kind.EdgeRouterPolicy Right name p) ++ forgotten_rows kind.ServiceEdgeRouterPolicy Right name p)
 covers_router name p s t v es et =
-    let first = Covers-same_records kind.ServicePolicy s t (omega arith) (λ m. ap (λ (q : PolicyTables). at q.service_policies.rows m) es ∙ sym (ap (λ (q : PolicyTables). at q.service_policies.rows m) et)) in
-    let second = each_edge s t Right name p (ap (λ (q : PolicyTables). q.edge_router_policies) es) (ap (λ (q : PolicyTables). q.edge_router_policies) et) (ordered kind.EdgeRouterPolicy p refl v) (last_edge p v) in
-    let third = each_last s t Right name p (ap (λ (q : PolicyTables). q.service_edge_router_policies) es) (ap (λ (q : PolicyTables). q.service_edge_router_policies) et) (ordered kind.ServiceEdgeRouterPolicy p refl v) (last_last p v) in
-    Covers-append 7 8 10 s t [] (forgotten_rows kind.EdgeRouterPolicy Right name p ++ forgotten_rows kind.ServiceEdgeRouterPolicy Right name p) (omega arith) (omega arith) first
-    (Covers-append 8 9 10 s t (forgotten_rows kind.EdgeRouterPolicy Right name p) (forgotten_rows kind.ServiceEdgeRouterPolicy Right name p) (omega arith) (omega arith) second third)
+    Covers-append 7 8 10 s t [] (forgotten_rows kind.EdgeRouterPolicy Right name p ++ forgotten_rows kind.ServiceEdgeRouterPolicy Right name p) (omega arith) (omega arith)
+    (stays kind.ServicePolicy s t p.service_policies (omega arith) (services es) (services et))
+    (Covers-append 8 9 10 s t (forgotten_rows kind.EdgeRouterPolicy Right name p) (forgotten_rows kind.ServiceEdgeRouterPolicy Right name p) (omega arith) (omega arith)
+    (each_edge s t Right name p v (edges es) (edges et)) (each_last s t Right name p v (lasts es) (lasts et)))
 
 -- a policy that loses a name still fits, where the policies after it are those of a valid state
 fits_forgetting : (k : Kind) (hand : Hand) (name : List ℕ) (p after : PolicyTables) → is_policy_kind k ≡ true → AreValid after → policies k after ≡ map_each (forget_on hand name) (policies k p)

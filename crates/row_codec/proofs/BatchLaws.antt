@@ -15,7 +15,7 @@ use Rattle.row_codec.specs.RowDifference.{Rises, said_of}
 use Rattle.row_codec.specs.RowValues.{long, text}
 use Rattle.row_codec.specs.Batches.{bytes_cmp, entry_of, entries_of, op_at, op_bytes, batch_bytes, IsSpelledOp, IsBatch, Spells, ops_at, batch_of}
 use Rattle.row_codec.specs.FieldReading.{front_part, front_long, front_text}
-use Rattle.row_codec.specs.BatchReading.{front_put, front_delete, front_op, comes_after}
+use Rattle.row_codec.specs.BatchReading.{front_put, front_delete, front_op, next_op, comes_after}
 use Rattle.row_codec.proofs.FieldLaws.{AreBytes, Takes, Takes-then, behind_byte, are_bytes, some_is, bind_some, map_some, part_takes, part_again, long_takes, long_again, text_takes, text_again}
 
 -- ---- one operation
@@ -133,28 +133,30 @@ op_goes_on bytes rest after last ops o so e next =
     }
 
 -- the key of an operation with a key
-key_at : (key : List ℕ) (value : Option (List ℕ)) → key_of_op (op_at key value) ≡ key
+pub key_at : (key : List ℕ) (value : Option (List ℕ)) → key_of_op (op_at key value) ≡ key
 key_at key None = refl
 key_at key (Some value) = refl
 
+let_through : {A : Type 0} (b : Bool) (x y : A) → cond b (Some x) None ≡ Some y → (b ≡ true) × (x ≡ y)
+let_through true x y e = (refl, some_is x y e)
+let_through false x y e = absurd cc
+
+-- the next operation stands at the front, and its key comes next
+pub next_is : (last : Option (List ℕ)) (rest after : List ℕ) (o : Op) → next_op last rest ≡ Some (o, after) → (front_op rest ≡ Some (o, after)) × (comes_after last (key_of_op o) ≡ true)
+next_is last rest after o e =
+    let a = bind_some (front_op rest) (λ x. cond (comes_after last (key_of_op x.0)) (Some x) None) (o, after) e in
+    let b = let_through (comes_after last (key_of_op a.0.0)) a.0 (o, after) a.2 in
+    (a.1 ∙ ap Some b.1, ap (λ (x : Op × List ℕ). comes_after last (key_of_op x.0)) (sym b.1) ∙ b.0)
+
 pub goes_on : (bytes rest after : List ℕ) (last : Option (List ℕ)) (ops : List Op) (key : List ℕ) (value : Option (List ℕ)) → SoFar bytes last rest ops
-    → front_op rest ≡ Some (op_at key value, after) → comes_after last key ≡ true → SoFar bytes (Some key) after (ops ++ op_at key value ∷ [])
-goes_on bytes rest after last ops key value so e next =
-    let is = key_at key value in
-    subst (λ (k : List ℕ). SoFar bytes (Some k) after (ops ++ op_at key value ∷ [])) is
-    (op_goes_on bytes rest after last ops (op_at key value) so e (ap (comes_after last) is ∙ next))
+    → next_op last rest ≡ Some (op_at key value, after) → SoFar bytes (Some key) after (ops ++ op_at key value ∷ [])
+goes_on bytes rest after last ops key value so e =
+    let n = next_is last rest after (op_at key value) e in
+    subst (λ (k : List ℕ). SoFar bytes (Some k) after (ops ++ op_at key value ∷ [])) (key_at key value)
+    (op_goes_on bytes rest after last ops (op_at key value) so n.0 n.1)
 
 pub at_end : (bytes rest : List ℕ) (last : Option (List ℕ)) (ops : List Op) → SoFar bytes last rest ops → rest ≡ [] → Spells bytes ops
 at_end bytes rest last ops so e = record { batch = so.batch; spelled = so.parts ∙ ap (λ (t : List ℕ). batch_bytes ops ++ t) e ∙ append-nil (batch_bytes ops) }
-
-op_some : (o : Op) (rest : List ℕ) → length rest < length (op_bytes o ++ rest)
-op_some (Put key value) rest = omega (arith, length-append (key ++ (long (length value) ++ value)) rest)
-op_some (Delete key) rest = omega (arith, length-append key rest)
-
-pub op_shortens : (bytes rest after : List ℕ) (last : Option (List ℕ)) (ops : List Op) (o : Op) → SoFar bytes last rest ops → front_op rest ≡ Some (o, after) → length after < length rest
-op_shortens bytes rest after last ops o so e =
-    let t = op_takes rest (o, after) so.rest_fits e in
-    subst (λ (r : List ℕ). length after < length r) (sym t.0.parts) (op_some o after)
 
 -- ---- bytes that spell no batch
 
@@ -198,19 +200,11 @@ stands bytes rest last ops ps so some spells =
     let n = next_stands ops ps m.0 rest some spells.batch m.1 m.2 in
     (n.0, n.1, n.2, ap (λ (k : Option (List ℕ)). comes_after k (key_of_op n.0)) so.last_is ∙ n.3)
 
-pub no_next : (bytes rest : List ℕ) (last : Option (List ℕ)) (ops ps : List Op) → SoFar bytes last rest ops → 0 < length rest → front_op rest ≡ None → Spells bytes ps → ⊥
+pub no_next : (bytes rest : List ℕ) (last : Option (List ℕ)) (ops ps : List Op) → SoFar bytes last rest ops → 0 < length rest → next_op last rest ≡ None → Spells bytes ps → ⊥
 no_next bytes rest last ops ps so some none spells =
     let s = stands bytes rest last ops ps so some spells in
-    let both : ◌≡◌ {A = Option (Op × List ℕ)} None (Some (s.0, s.1)) = sym none ∙ s.2 in
-    cc
-
-pub out_of_order : (bytes rest after : List ℕ) (last : Option (List ℕ)) (ops ps : List Op) (key : List ℕ) (value : Option (List ℕ)) → SoFar bytes last rest ops
-    → 0 < length rest → front_op rest ≡ Some (op_at key value, after) → comes_after last key ≡ false → Spells bytes ps → ⊥
-out_of_order bytes rest after last ops ps key value so some e late spells =
-    let s = stands bytes rest last ops ps so some spells in
-    let same = same_front s.0 (op_at key value) s.1 after (sym s.2 ∙ e) in
-    let is : key_of_op s.0 ≡ key = ap key_of_op same.0 ∙ key_at key value in
-    let both : true ≡ false = sym s.3 ∙ ap (comes_after last) is ∙ late in
+    let is : next_op last rest ≡ Some (s.0, s.1) = rw (s.2, s.3) refl in
+    let both : ◌≡◌ {A = Option (Op × List ℕ)} None (Some (s.0, s.1)) = sym none ∙ is in
     cc
 
 -- bytes spell at most one batch
@@ -250,11 +244,10 @@ batch_rises (c ∷ cs) rises = rises_behind c.key (said_of c.before c.after) (ba
 
 -- ---- bytes of literals that spell no batch
 
-pub no_first : (bytes : List ℕ) → list_all (λ b. ltb b 256) bytes ≡ true → 0 < length bytes → front_op bytes ≡ None → (ps : List Op) → Spells bytes ps → ⊥
+pub no_first : (bytes : List ℕ) → list_all (λ b. ltb b 256) bytes ≡ true → 0 < length bytes → next_op None bytes ≡ None → (ps : List Op) → Spells bytes ps → ⊥
 no_first bytes fit some none ps = no_next bytes bytes None [] ps (at_start bytes (are_bytes bytes fit)) some none
 
-pub not_second : (bytes rest after : List ℕ) (key next : List ℕ) (value other : Option (List ℕ)) → list_all (λ b. ltb b 256) bytes ≡ true → front_op bytes ≡ Some (op_at key value, rest)
-    → 0 < length rest → front_op rest ≡ Some (op_at next other, after) → comes_after (Some key) next ≡ false → (ps : List Op) → Spells bytes ps → ⊥
-not_second bytes rest after key next value other fit e some second late ps =
-    out_of_order bytes rest after (Some key) (op_at key value ∷ []) ps next other
-    (goes_on bytes bytes rest None [] key value (at_start bytes (are_bytes bytes fit)) e refl) some second late
+pub no_second : (bytes rest key : List ℕ) (value : Option (List ℕ)) → list_all (λ b. ltb b 256) bytes ≡ true → next_op None bytes ≡ Some (op_at key value, rest)
+    → 0 < length rest → next_op (Some key) rest ≡ None → (ps : List Op) → Spells bytes ps → ⊥
+no_second bytes rest key value fit e some none ps =
+    no_next bytes rest (Some key) (op_at key value ∷ []) ps (goes_on bytes bytes rest None [] key value (at_start bytes (are_bytes bytes fit)) e) some none

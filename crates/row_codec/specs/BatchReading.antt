@@ -6,7 +6,7 @@ use Rattle.std.specs.Ordering.{is_lt}
 use Rattle.row_codec.specs.declared.changes.Op.{Op}
 use Rattle.row_codec.specs.declared.changes.Op.TheVariants.{Put, Delete}
 use Rattle.row_codec.specs.FieldReading.{Front, front_byte, front_part, front_long, front_text}
-use Rattle.row_codec.specs.Batches.{bytes_cmp, Spells}
+use Rattle.row_codec.specs.Batches.{bytes_cmp, entry_of, Spells}
 
 -- A put, behind its mark.
 abbrev pub front_put : List ℕ → Front Op
@@ -25,6 +25,10 @@ front_op bytes = option_and_then (λ m. cond (m.0 == 1) (front_put m.1) (cond (m
 abbrev pub comes_after : Option (List ℕ) → List ℕ → Bool
 comes_after None key = true
 comes_after (Some last) key = is_lt (bytes_cmp last key)
+
+-- The operation at the front of the bytes behind a last key, where its key comes after that one.
+abbrev pub next_op : Option (List ℕ) → List ℕ → Front Op
+next_op last bytes = option_and_then (λ x. cond (comes_after last (entry_of x.0).0) (Some x) None) (front_op bytes)
 
 -- Some bytes spell a batch.
 pub record IsSpelled (bytes : List ℕ) : Type 0 where

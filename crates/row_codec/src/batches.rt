@@ -2,7 +2,7 @@ ghost use Rattle.std.specs.Prelude.{◌≡◌, ◌↔◌, ◌++◌, ◌∷◌, [
 ghost use Rattle.std.specs.Option.{option_map};
 ghost use Rattle.row_codec.specs.declared.changes.Op.{Op};
 ghost use Rattle.row_codec.specs.Batches.{IsBatch, IsSpelledOp, Spells, op_at, op_bytes, batch_bytes, batch_of, ops_at};
-ghost use Rattle.row_codec.specs.BatchReading.{IsSpelled, front_op, comes_after};
+ghost use Rattle.row_codec.specs.BatchReading.{IsSpelled, front_op, next_op, comes_after};
 ghost use Rattle.row_codec.specs.RowDifference.{said_of};
 
 use crate::changes::{Batch, Change, Changes, Op};
@@ -87,6 +87,21 @@ fn comes_after(last: Option<&[u8]>, key: &[u8]) -> bool
     }
 }
 
+// The operation at the front of the rest, where its key comes after the last one.
+fn next_op<'a>(
+    last: Option<&[u8]>,
+    rest: &'a [u8],
+) -> Option<(&'a [u8], Option<&'a [u8]>, &'a [u8])>
+    ensures { option_map (λ p. (op_at p.0.now (option_map (λ v. v.now) p.1), p.2.now)) result ≡ next_op (option_map (λ l. l.now) last.entry) rest.now }
+{
+    let (key, value, after) = split_op(rest)?;
+    if comes_after(last, key) {
+        Some((key, value, after))
+    } else {
+        None
+    }
+}
+
 // Whether the bytes spell a batch. No memory is taken.
 fn is_batch(bytes: &[u8]) -> bool
     ensures yes { result ≡ true → IsSpelled bytes.now }
@@ -95,12 +110,9 @@ fn is_batch(bytes: &[u8]) -> bool
     let mut last: Option<&[u8]> = None;
     let mut rest = bytes;
     'ops: while !rest.is_empty() {
-        let Some((key, _, after)) = split_op(rest) else {
+        let Some((key, _, after)) = next_op(last, rest) else {
             return false;
         };
-        if !comes_after(last, key) {
-            return false;
-        }
         last = Some(key);
         rest = after;
     }
@@ -125,12 +137,9 @@ fn ops_from(alloc: Global, bytes: &[u8]) -> Result<Vec<Op>, RowFault>
     let mut last: Option<&[u8]> = None;
     let mut rest = bytes;
     'ops: while !rest.is_empty() {
-        let Some((key, value, after)) = split_op(rest) else {
+        let Some((key, value, after)) = next_op(last, rest) else {
             return Err(RowFault::BadBatch);
         };
-        if !comes_after(last, key) {
-            return Err(RowFault::BadBatch);
-        }
         add_op(&mut ops, key, value)?;
         last = Some(key);
         rest = after;

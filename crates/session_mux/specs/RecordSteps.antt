@@ -34,12 +34,13 @@ pub record IsLook (bytes : List ℕ) (l : Look) : Type 0 where
   pub front : (stages : List Stage) → record_front stages bytes ≡ judged stages bytes l
   pub fits : LookFits bytes l
 
--- Whether a session number was not opened, and whether it is open.
+-- Whether a session number was not opened.
 abbrev pub is_unopened : Stage → Bool
 is_unopened Unopened = true
 is_unopened Opened = false
 is_unopened Closed = false
 
+-- Whether a session number is open.
 abbrev pub is_opened : Stage → Bool
 is_opened Unopened = false
 is_opened Opened = true

@@ -10,16 +10,19 @@ open_0 = 1 ∷ 0 ∷ 0 ∷ 0 ∷ []
 abbrev pub open_1 : List ℕ
 open_1 = 1 ∷ 1 ∷ 2 ∷ 3 ∷ 97 ∷ 110 ∷ 110 ∷ []
 
--- The heads of data records: 34, 20 and 14 bytes of session 0, and 34 of session 1.
+-- The head of a data record with 34 bytes of session 0.
 abbrev pub data_34_of_0 : List ℕ
 data_34_of_0 = 2 ∷ 0 ∷ 34 ∷ 0 ∷ []
 
+-- The head of a data record with 20 bytes of session 0.
 abbrev pub data_20_of_0 : List ℕ
 data_20_of_0 = 2 ∷ 0 ∷ 20 ∷ 0 ∷ []
 
+-- The head of a data record with 14 bytes of session 0.
 abbrev pub data_14_of_0 : List ℕ
 data_14_of_0 = 2 ∷ 0 ∷ 14 ∷ 0 ∷ []
 
+-- The head of a data record with 34 bytes of session 1.
 abbrev pub data_34_of_1 : List ℕ
 data_34_of_1 = 2 ∷ 1 ∷ 34 ∷ 0 ∷ []
 
@@ -51,20 +54,23 @@ open_twice = open_0 ++ open_0
 abbrev pub open_again : List ℕ
 open_again = open_0 ++ close_0 ++ open_0
 
--- An administrator who has the name ann; a role of the number 3; an identity without a name.
+-- Session 0 is opened by an administrator who has the name ann.
 abbrev pub named_admin : List ℕ
 named_admin = 1 ∷ 0 ∷ 0 ∷ 3 ∷ 97 ∷ 110 ∷ 110 ∷ []
 
+-- Session 0 is opened with a role of the number 3.
 abbrev pub third_role : List ℕ
 third_role = 1 ∷ 0 ∷ 3 ∷ 3 ∷ 97 ∷ 110 ∷ 110 ∷ []
 
+-- Session 0 is opened by an identity without a name.
 abbrev pub nameless : List ℕ
 nameless = 1 ∷ 0 ∷ 2 ∷ 0 ∷ []
 
--- Data of session 1, where session 0 alone is open, and its close.
+-- Data of session 1, where session 0 alone is open.
 abbrev pub data_unopened : List ℕ
 data_unopened = open_0 ++ data_34_of_1 ++ ann_bytes
 
+-- A close of session 1, where session 0 alone is open.
 abbrev pub close_unopened : List ℕ
 close_unopened = open_0 ++ (3 ∷ 1 ∷ [])
 
