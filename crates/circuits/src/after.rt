@@ -1,15 +1,13 @@
 ghost use Rattle.std.specs.Prelude.{◌≡◌, IfOk, OnOk};
 ghost use Rattle.std.specs.Option.{option_map};
 ghost use Rattle.ctrl_model.specs.Numbered.{at, numbers, Between};
-ghost use Rattle.record_tables.specs.AfterChange.{changed_by};
-ghost use Rattle.circuits.specs.ChangedCircuits.{turn_of, circuit_after};
-ghost use Rattle.circuits.specs.CircuitChanges.{after_circuit_change, circuits_after};
+ghost use Rattle.circuits.specs.CircuitChanges.{circuits_after};
 
 use crate::changes::CircuitChange;
 use crate::grants::Circuit;
 use crate::store::Circuits;
 use ctrl_model::{CircuitNo, Numbers};
-use record_tables::{Turn, left_of, turned, unless_gone};
+use record_tables::{RecordChange, Turn, left_of, record_after, turned};
 use std::alloc::{AllocError, Global};
 use std::marker::Model;
 
@@ -32,47 +30,45 @@ impl<'a> Model for CircuitsAfter<'a> {
     ghost view = { λ a. circuits_after (option_map (λ c. c.now) a.change) a.gone.now a.circuits.now };
 }
 
-// What a change does to the numbers of the circuits.
-fn turn_of(change: Option<&CircuitChange>) -> Turn
-    ensures { result ≡ turn_of (option_map (λ c. c.now) change.entry) }
-{
-    match change {
-        Some(CircuitChange::Add(_)) => Turn::Adds,
-        Some(CircuitChange::Remove(no)) => Turn::Removes(no.0),
-        None => Turn::Keeps,
+// A lent circuit. Contracts see it as a circuit of the controller's state.
+#[derive(Drop)]
+struct CircuitView<'a>(&'a Circuit);
+
+impl<'a> Model for CircuitView<'a> {
+    ghost use Rattle.ctrl_model.specs.State as state;
+
+    ghost Value = { state.Circuit };
+
+    ghost view = { λ v. v.0.now };
+}
+
+impl<'a> RecordChange<CircuitView<'a>> for Option<&'a CircuitChange> {
+    ghost use Rattle.std.specs.Prelude.{option_map};
+    ghost use Rattle.circuits.specs.ChangedCircuits.{turn_of};
+
+    ghost turn = { λ o. turn_of (option_map (λ c. c.now) o) };
+
+    ghost set = { λ o c. c };
+
+    fn turn(self) -> Turn<CircuitView<'a>> {
+        match self {
+            Some(CircuitChange::Add(circuit)) => Turn::Adds(CircuitView(circuit)),
+            Some(CircuitChange::Remove(no)) => Turn::Removes(no.0),
+            None => Turn::Keeps,
+        }
+    }
+
+    fn set(self, circuit: CircuitView<'a>) -> CircuitView<'a> {
+        circuit
     }
 }
 
-// The circuit that will have a number, where one has it now or none has.
-fn circuit_after<'a>(
-    change: &'a CircuitChange,
-    next: u32,
-    no: CircuitNo,
-    present: Option<&'a Circuit>,
-) -> Option<&'a Circuit>
-    ensures { option_map (λ c. c.now) result ≡ circuit_after change.now next no.0 (option_map (λ c. c.now) present.entry) }
+// The circuit that stands at a number.
+fn view_at<'a>(circuits: &'a Circuits, no: CircuitNo) -> Option<CircuitView<'a>>
+    ensures { result ≡ at circuits.now.circuits.rows no.0 }
 {
-    match change {
-        CircuitChange::Add(circuit) => { if next == no.0 { Some(circuit) } else { present } }
-        CircuitChange::Remove(gone) => { if gone.0 == no.0 { None } else { present } }
-    }
-}
-
-// The circuit that will have a number after a change, if there is one.
-fn changed_circuit<'a>(
-    circuits: &'a Circuits,
-    change: Option<&'a CircuitChange>,
-    no: CircuitNo,
-) -> Option<&'a Circuit>
-    ensures { option_map (λ c. c.now) result ≡ at (changed_by after_circuit_change (option_map (λ c. c.now) change.entry) circuits.now).circuits.rows no.0 }
-{
-    let present = circuits.seen(no);
-    let Some(change) = change else {
-        return present;
-    };
-    // With it comes that the numbers ascend below it, so that no circuit has it yet.
-    let next = circuits.next();
-    circuit_after(change, next, no, present)
+    let circuit = circuits.seen(no)?;
+    Some(CircuitView(circuit))
 }
 
 impl<'a> CircuitsAfter<'a> {
@@ -97,7 +93,7 @@ impl<'a> CircuitsAfter<'a> {
         ensures ordered { OnOk result (Between 1 self.now.circuits.next self.now.circuits.rows) }
     {
         let numbers = self.circuits.numbers(alloc)?;
-        let changed = turned(alloc, turn_of(self.change), self.circuits.next(), numbers)?;
+        let changed = turned(alloc, self.change.turn(), self.circuits.next(), numbers)?;
         left_of(alloc, &changed, self.gone)
     }
 
@@ -105,10 +101,10 @@ impl<'a> CircuitsAfter<'a> {
     pub fn get(&self, no: CircuitNo) -> Option<&'a Circuit>
         ensures { option_map (λ c. c.now) result ≡ at self.now.circuits.rows no.0 }
     {
-        unless_gone(
-            no.0,
-            self.gone,
-            changed_circuit(self.circuits, self.change, no),
-        )
+        let present = view_at(self.circuits, no);
+        // With it comes that the numbers ascend below it, so that no circuit has it yet.
+        let next = self.circuits.next();
+        let circuit = record_after(self.change, next, self.gone, no.0, present)?;
+        Some(circuit.0)
     }
 }

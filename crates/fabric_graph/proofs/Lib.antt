@@ -6,4 +6,3 @@ pub mod OrderLaws
 pub mod FairLaws
 pub mod GraphLaws
 pub mod StateLaws
-pub mod ChangeLaws

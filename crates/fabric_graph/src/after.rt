@@ -2,9 +2,7 @@ ghost use Rattle.std.specs.Prelude.{◌≡◌};
 ghost use Rattle.std.specs.Option.{option_map};
 ghost use Rattle.ctrl_model.specs.Networks.{hops};
 ghost use Rattle.ctrl_model.specs.Numbered.{at};
-ghost use Rattle.record_tables.specs.AfterChange.{changed_by};
-ghost use Rattle.fabric_graph.specs.ChangedLinks.{link_after};
-ghost use Rattle.fabric_graph.specs.FabricChanges.{after_link_change, fabric_after};
+ghost use Rattle.fabric_graph.specs.FabricChanges.{fabric_after};
 ghost use Rattle.fabric_graph.specs.Hops.{hop_of};
 ghost use Rattle.fabric_graph.specs.Routers.{network};
 
@@ -13,7 +11,7 @@ use crate::fabric::Fabric;
 use crate::hopping::{Hop, across};
 use crate::links::LinkView;
 use ctrl_model::{LinkNo, Numbers, RouterNo, RouterSeen};
-use record_tables::unless_gone;
+use record_tables::{RecordChange, Turn, record_after};
 use std::marker::Model;
 
 /// The links as they will be after a change, if there is one, and without those that are gone. Contracts see them as a fabric
@@ -35,57 +33,38 @@ impl<'a> Model for FabricAfter<'a> {
     ghost view = { λ a. fabric_after (option_map (λ c. c.now) a.change) a.gone.now a.fabric.now };
 }
 
-// The link that will have a number, where one has it now or none has.
-fn link_after<'a>(
-    change: &'a LinkChange,
-    next: u32,
-    no: LinkNo,
-    present: Option<LinkView<'a>>,
-) -> Option<LinkView<'a>>
-    ensures { result ≡ link_after change.now next no.0 present.entry }
-{
-    match change {
-        LinkChange::Add(row) => {
-            if next == no.0 {
-                Some(LinkView::of(row))
-            } else {
-                present
-            }
-        }
-        LinkChange::Set {
-            no: set,
-            cost,
-            latency_a,
-            latency_b,
-            up,
-        } => {
-            let link = present?;
-            if no.0 == set.0 {
-                Some(link.set(*cost, *latency_a, *latency_b, *up))
-            } else {
-                Some(link)
-            }
-        }
-        LinkChange::Remove(gone) => { if gone.0 == no.0 { None } else { present } }
-        LinkChange::SetLeast(_) => present,
-    }
-}
+impl<'a> RecordChange<LinkView<'a>> for Option<&'a LinkChange> {
+    ghost use Rattle.std.specs.Prelude.{option_map};
+    ghost use Rattle.fabric_graph.specs.ChangedLinks.{set_by, turn_of};
 
-// The link that will have a number after a change, if there is one.
-fn changed_link<'a>(
-    fabric: &'a Fabric,
-    change: Option<&'a LinkChange>,
-    no: LinkNo,
-) -> Option<LinkView<'a>>
-    ensures { result ≡ at (changed_by after_link_change (option_map (λ c. c.now) change.entry) fabric.now).links.rows no.0 }
-{
-    let present = fabric.seen(no);
-    let Some(change) = change else {
-        return present;
-    };
-    // With it comes that the numbers ascend below it, so that no link has it yet.
-    let next = fabric.next();
-    link_after(change, next, no, present)
+    ghost turn = { λ o. turn_of (option_map (λ c. c.now) o) };
+
+    ghost set = { λ o. set_by (option_map (λ c. c.now) o) };
+
+    fn turn(self) -> Turn<LinkView<'a>> {
+        match self {
+            Some(LinkChange::Add(row)) => Turn::Adds(LinkView::of(row)),
+            Some(LinkChange::Set { no, .. }) => Turn::Sets(no.0),
+            Some(LinkChange::Remove(no)) => Turn::Removes(no.0),
+            Some(LinkChange::SetLeast(_)) => Turn::Keeps,
+            None => Turn::Keeps,
+        }
+    }
+
+    fn set(self, link: LinkView<'a>) -> LinkView<'a> {
+        match self {
+            Some(
+                LinkChange::Set {
+                    cost,
+                    latency_a,
+                    latency_b,
+                    up,
+                    ..
+                },
+            ) => link.set(*cost, *latency_a, *latency_b, *up),
+            _ => link,
+        }
+    }
 }
 
 impl<'a> FabricAfter<'a> {
@@ -108,7 +87,10 @@ impl<'a> FabricAfter<'a> {
     pub fn link(&self, no: LinkNo) -> Option<LinkView<'a>>
         ensures { result ≡ at self.now.links.rows no.0 }
     {
-        unless_gone(no.0, self.gone, changed_link(self.fabric, self.change, no))
+        let present = self.fabric.seen(no);
+        // With it comes that the numbers ascend below it, so that no link has it yet.
+        let next = self.fabric.next();
+        record_after(self.change, next, self.gone, no.0, present)
     }
 
     /// What a path will pay at least to enter a router.

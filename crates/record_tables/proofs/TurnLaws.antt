@@ -1,5 +1,5 @@
 -- Laws of changed tables, and of those without some numbers: their numbers, and what stands at one.
-use Rattle.std.proofs.Common.{◌≡◌, ℕ, ◌==◌, Bool, true, false, cond, not, List, [], ◌∷◌, ◌++◌, Option, None, Some, inl, inr, refl, sym, ◌∙◌, ap, arith, eqb-true}
+use Rattle.std.proofs.Common.{◌≡◌, ℕ, ◌≤◌, ◌==◌, Bool, true, false, cond, not, List, [], ◌∷◌, ◌++◌, Option, None, Some, inl, inr, refl, sym, ◌∙◌, ap, arith, eqb-true}
 use Rattle.std.proofs.lemmas.List.{map-append}
 use Rattle.std.specs.List.{filter}
 use Rattle.std.specs.Option.{option_map}
@@ -7,10 +7,12 @@ use Rattle.ctrl_model.specs.Membership.{Among}
 use Rattle.ctrl_model.specs.Numbered.{Table, at, numbers, with_last, edit_at, Between}
 use Rattle.ctrl_model.specs.Walks.{is_among}
 use Rattle.ctrl_model.proofs.Members.{Among-from_test}
-use Rattle.ctrl_model.proofs.NumberedLaws.{at-past, at-with_last, Between-filter}
+use Rattle.ctrl_model.proofs.NumberedLaws.{at-past, at-with_last, at-edit_at, at-without, at-with_last-other, at-edit_at-other, at-without-other, Between-with_last, Between-edit_at, Between-without, Between-filter}
 use Rattle.record_tables.specs.AfterChange.{without_numbers, touched_numbers, unless_gone}
 use Rattle.record_tables.proofs.GoneLaws.{touched_are}
-use Rattle.record_tables.specs.Turns.{left_of}
+use Rattle.record_tables.specs.declared.turns.Turn.{Turn}
+use Rattle.record_tables.specs.declared.turns.Turn.TheVariants.{Adds, Sets, Removes, Keeps}
+use Rattle.record_tables.specs.Turns.{left_of, record_turned, turned, turned_number, turned_table}
 
 module _ {R : Type 0} where
   pub numbers-edit_at : (rows : List (ℕ × R)) (n : ℕ) (f : R → R) → numbers (edit_at rows n f) ≡ numbers rows
@@ -52,6 +54,34 @@ module _ {R : Type 0} where
 
 pub numbers-with_last : {R : Type 0} (rows : List (ℕ × R)) (n : ℕ) (r : R) → numbers (with_last rows n r) ≡ numbers rows ++ n ∷ []
 numbers-with_last rows n r = map-append (λ x. x.0) rows ((n, r) ∷ [])
+
+-- ---- a table after one change
+
+module _ {R : Type 0} (set : R → R) where
+  pub at-turned : (turn : Turn R) (t : Table R) (n : ℕ) → Between 1 t.next t.rows → record_turned set turn t.next n (at t.rows n) ≡ at (turned_table set turn t).rows n
+  at-turned (Adds r) t n b = sym (at-new t.rows t.next n r b)
+  at-turned (Sets m) t n b = sym (at-edit_at t.rows m n set)
+  at-turned (Removes m) t n b = sym (at-without t.next t.rows 1 m n b)
+  at-turned Keeps t n b = refl
+
+  -- it touches its own number alone
+  pub untouched-turned : (turn : Turn R) (t : Table R) (n : ℕ) → (turned_number turn t.next ≡ Some n → ⊥) → at t.rows n ≡ at (turned_table set turn t).rows n
+  untouched-turned (Adds r) t n misses = sym (at-with_last-other t.rows t.next n r (λ same. misses (ap Some (sym same))))
+  untouched-turned (Sets m) t n misses = sym (at-edit_at-other t.rows m n set (λ same. misses (ap Some (sym same))))
+  untouched-turned (Removes m) t n misses = sym (at-without-other t.rows m n (λ same. misses (ap Some (sym same))))
+  untouched-turned Keeps t n misses = refl
+
+  pub numbers-turned : (turn : Turn R) (t : Table R) → turned turn t.next (numbers t.rows) ≡ numbers (turned_table set turn t).rows
+  numbers-turned (Adds r) t = sym (numbers-with_last t.rows t.next r)
+  numbers-turned (Sets m) t = sym (numbers-edit_at t.rows m set)
+  numbers-turned (Removes m) t = sym (numbers-filter (λ n. not (n == m)) t.rows)
+  numbers-turned Keeps t = refl
+
+  pub ordered-turned : (turn : Turn R) (t : Table R) → 1 ≤ t.next → Between 1 t.next t.rows → Between 1 (turned_table set turn t).next (turned_table set turn t).rows
+  ordered-turned (Adds r) t l b = Between-with_last t.next t.rows 1 r l b
+  ordered-turned (Sets m) t l b = Between-edit_at t.next t.rows 1 m set b
+  ordered-turned (Removes m) t l b = Between-without t.next t.rows 1 m b
+  ordered-turned Keeps t l b = b
 
 -- ---- a table without some numbers
 

@@ -9,12 +9,14 @@ mod number_lists;
 mod numbered_tables;
 mod removing;
 mod touching;
+mod turns;
 mod worked;
 
 pub use entries::{Entries, Named};
 pub use limits::limit;
 pub use named_tables::NamedTable;
-pub use number_lists::{Turn, is_among, left_of, turned};
+pub use number_lists::{is_among, left_of, turned};
 pub use numbered_tables::NumberedTable;
 pub use touching::{kept_are_not_gone, numbers_are_touched, touched, unless_gone};
+pub use turns::{RecordChange, Turn, changed_number, record_after};
 pub use worked::{records_at_places, tables_as_they_will_be};

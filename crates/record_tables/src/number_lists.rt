@@ -2,19 +2,9 @@ ghost use Rattle.std.specs.Prelude.{◌≡◌, ◌==◌, ◌++◌, not, [], ◌�
 ghost use Rattle.ctrl_model.specs.Walks.{is_among};
 ghost use Rattle.record_tables.specs.Turns.{left_of, turned};
 
+use crate::turns::Turn;
 use ctrl_model::Numbers;
 use std::alloc::{AllocError, Global};
-
-/// What a change does to the numbers of a table.
-#[derive(Clone, Copy, Debug, PartialEq, Eq)]
-pub enum Turn {
-    /// The next number comes.
-    Adds,
-    /// A number goes.
-    Removes(u32),
-    /// The numbers stay.
-    Keeps,
-}
 
 /// Whether a number stands among some.
 pub fn is_among(number: u32, numbers: &[u32]) -> bool
@@ -51,13 +41,18 @@ fn numbers_and(numbers: Numbers, last: u32) -> Result<Numbers, AllocError>
 }
 
 /// The numbers of a table after a turn. One that comes is the next one.
-pub fn turned(alloc: Global, turn: Turn, next: u32, numbers: Numbers) -> Result<Numbers, AllocError>
+pub fn turned<V: Drop>(
+    alloc: Global,
+    turn: Turn<V>,
+    next: u32,
+    numbers: Numbers,
+) -> Result<Numbers, AllocError>
     ensures { IfOk result (λ ns. ns ≡ turned turn next numbers) }
 {
     match turn {
-        Turn::Adds => numbers_and(numbers, next),
+        Turn::Adds(_) => numbers_and(numbers, next),
         Turn::Removes(gone) => numbers_but(alloc, &numbers, gone),
-        Turn::Keeps => Ok(numbers),
+        Turn::Sets(_) | Turn::Keeps => Ok(numbers),
     }
 }
 

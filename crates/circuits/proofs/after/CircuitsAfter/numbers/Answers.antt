@@ -1,32 +1,37 @@
 use Rattle.std.proofs.Common.{◌≡◌, IfOk, ◌∙◌, ap, ap₂, subst, rules}
 use Rattle.std.specs.Option.{option_map}
-use Rattle.ctrl_model.specs.Numbered.{numbers, Between}
-use Rattle.record_tables.specs.AfterChange.{changed_by}
-use Rattle.record_tables.specs.Turns.{turned, left_of}
-use Rattle.record_tables.proofs.TurnLaws.{numbers-left, ordered-left}
+use Rattle.ctrl_model.specs.Numbered.{Table, numbers, Between}
+use Rattle.ctrl_model.specs.State.{Circuit}
+use Rattle.record_tables.specs.AfterChange.{without_numbers}
+use Rattle.record_tables.specs.Turns.{turned, turned_table, left_of}
+use Rattle.record_tables.proofs.TurnLaws.{numbers-left, numbers-turned, ordered-left, ordered-turned}
 use Rattle.circuits.specs.ChangedCircuits.{turn_of}
-use Rattle.circuits.specs.CircuitChanges.{after_circuit_change}
 use Rattle.circuits.specs.CircuitTables.{CircuitTables}
-use Rattle.circuits.proofs.ChangeLaws.{numbers-changed, ordered-changed}
+use Rattle.circuits.proofs.ChangeLaws.{circuits_turned}
 use Rattle.circuits.proofs.after.CircuitsAfter.numbers.Goals as goal
 
 pub returns-clause-all : goal.returns-clause-all
 returns-clause-all c =
     let i = c.self.inside in
     let change = option_map (λ d. d.now) i.change in
-    let changed : c.in_ok-changed.changed ≡ turned (turn_of change) i.circuits.now.circuits.next (numbers i.circuits.now.circuits.rows) =
-    c.in_ok-changed.ensures ∙ ap₂ (λ t n. turned t n c.in_ok-numbers.numbers) c.turn_of.ensures c.next.ensures.next
-    ∙ ap (turned (turn_of change) i.circuits.now.circuits.next) c.in_ok-numbers.ensures.all in
+    let table = i.circuits.now.circuits in
+    let changed : c.in_ok-changed.changed ≡ turned (turn_of change) table.next (numbers table.rows) =
+    c.in_ok-changed.ensures ∙ ap₂ (λ t n. turned t n c.in_ok-numbers.numbers) c.turn.ensures c.next.ensures.next
+    ∙ ap (turned (turn_of change) table.next) c.in_ok-numbers.ensures.all in
     subst (λ ms. IfOk c.left_of.result (λ ns. ns ≡ ms))
-    (ap (left_of i.gone.now) (changed ∙ numbers-changed change i.circuits.now) ∙ numbers-left i.gone.now (changed_by after_circuit_change change i.circuits.now).circuits
+    (ap (left_of i.gone.now) (changed ∙ numbers-turned (λ r. r) (turn_of change) table) ∙ numbers-left i.gone.now (turned_table (λ r. r) (turn_of change) table)
+    ∙ ap (λ (t : Table Circuit). numbers (without_numbers i.gone.now t).rows) (circuits_turned change i.circuits.now)
     ∙ ap (λ (f : CircuitTables). numbers f.circuits.rows) c.self.view_is)
     c.left_of.ensures
 
 pub returns-clause-ordered : goal.returns-clause-ordered
 returns-clause-ordered c =
     let i = c.self.inside in
-    let g = changed_by after_circuit_change (option_map (λ d. d.now) i.change) i.circuits.now in
+    let change = option_map (λ d. d.now) i.change in
+    let g = turned_table (λ r. r) (turn_of change) i.circuits.now.circuits in
+    let keeps = c.in_ok-numbers.ensures.keeps in
     let here : Between 1 c.args.self.now.circuits.next c.args.self.now.circuits.rows =
     subst (λ (f : CircuitTables). Between 1 f.circuits.next f.circuits.rows) c.self.view_is
-    (ordered-left i.gone.now g.circuits 1 g.circuits.next (ordered-changed (option_map (λ d. d.now) i.change) i.circuits.now c.in_ok-numbers.ensures.keeps)) in
+    (subst (λ (t : Table Circuit). Between 1 t.next (without_numbers i.gone.now t).rows) (circuits_turned change i.circuits.now)
+    (ordered-left i.gone.now g 1 g.next (ordered-turned (λ r. r) (turn_of change) i.circuits.now.circuits keeps.first keeps.ordered))) in
     search (rules, here)
