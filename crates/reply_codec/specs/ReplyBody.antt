@@ -1,5 +1,5 @@
 -- The bodies of replies: compact JSON with keys in ascending order, or no bytes (docs/FORMATS.md, "Replies", "Refusals").
-use Rattle.std.specs.Prelude.{ℕ, ◌==◌, cond, List, [], ◌∷◌, codes, map, None, Some}
+use Rattle.std.specs.Prelude.{ℕ, ◌==◌, cond, Bool, true, false, List, [], ◌∷◌, codes, map, None, Some}
 use Rattle.std.specs.declared.option.Option.{Option}
 use Rattle.std.specs.Option.{option_map_or}
 use Rattle.serde_json.specs.Data.{Data, null, boolean, number, unsigned, string, array, object, Members, no_members, member}
@@ -187,6 +187,14 @@ reply_object (reply.Counts circuits grants identities links policies routers ser
     (member (codes "terminators") (natural terminators)
     no_members)))))))))
 reply_object (reply.Refused r) = Some (refusal_object r)
+
+-- Whether a reply shows what there is: the services that an identity may dial, its grants, a circuit or the counts.
+abbrev pub is_showing : Reply → Bool
+is_showing (reply.Services names) = true
+is_showing (reply.Grants bind dial routers) = true
+is_showing (reply.Shown identity ingress links service terminator) = true
+is_showing (reply.Counts circuits grants identities links policies routers services terminators) = true
+is_showing _ = false
 
 -- The body of a reply: its object as compact JSON, or no bytes.
 abbrev pub reply_body : Reply → List ℕ

@@ -1,10 +1,10 @@
-ghost use Rattle.std.specs.Prelude.{◌≡◌, ◌≤◌, true, IfOk, Some, nat_le, ◌&&◌, length};
+ghost use Rattle.std.specs.Prelude.{◌≡◌, ◌≤◌, true, if◌then◌else◌, IfOk, None, Some, nat_le, ◌&&◌, length};
 ghost use Rattle.std.specs.Option.{option_map, option_map_or};
 ghost use Rattle.serde_json.specs.Data.{number, string, object, member, no_members, boolean};
 ghost use Rattle.serde_json.specs.View.{view};
 ghost use Rattle.serde_json.specs.Written.{compact_text};
 ghost use Rattle.ctrl_model.specs.declared.replies.Reply.TheVariants as reply;
-ghost use Rattle.reply_codec.specs.ReplyBody.{reply_object, reply_body};
+ghost use Rattle.reply_codec.specs.ReplyBody.{is_showing, reply_object, reply_body};
 ghost use Rattle.reply_codec.specs.ReplyLimits.{is_short_claim, keeps_limits};
 
 use crate::lists::{
@@ -136,25 +136,13 @@ fn counts_value(
     })
 }
 
-/// The object of a reply, if it has one: at most 1,048,576 bytes.
-pub(crate) fn reply_value(alloc: Global, reply: &Reply) -> Result<Option<Value>, AllocError>
+// The object of a reply that shows what there is: services, grants, a circuit or counts. None is another reply.
+fn showing_value(alloc: Global, reply: &Reply) -> Result<Option<Value>, AllocError>
     requires { keeps_limits reply.now ≡ true }
-    ensures value { IfOk result (λ o. option_map view o ≡ reply_object reply.now) }
-    ensures few { IfOk result (λ _. length (reply_body reply.now) ≤ 1_048_576) }
+    ensures value { IfOk result (λ o. option_map view o ≡ (if is_showing reply.now then reply_object reply.now else None)) }
+    ensures few { is_showing reply.now ≡ true → IfOk result (λ _. length (reply_body reply.now) ≤ 1_048_576) }
 {
     let value = match reply {
-        Reply::Empty => return Ok(None),
-        Reply::Done => json!(in alloc; {})?,
-        Reply::Made { no } => made_value(alloc, *no)?,
-        Reply::Circuit {
-            circuit,
-            ingress,
-            links,
-            terminator,
-            total,
-        } => circuit_value(alloc, *circuit, ingress, links, *terminator, *total)?,
-        Reply::Explained { ingress, claim } => explained_value(alloc, ingress, claim)?,
-        Reply::Verified { certified } => verified_value(alloc, *certified)?,
         Reply::Services { names } => services_value(alloc, names)?,
         Reply::Grants {
             bind,
@@ -190,7 +178,31 @@ pub(crate) fn reply_value(alloc: Global, reply: &Reply) -> Result<Option<Value>,
                 *terminators,
             )?
         }
+        _ => return Ok(None),
+    };
+    Ok(Some(value))
+}
+
+/// The object of a reply, if it has one: at most 1,048,576 bytes.
+pub(crate) fn reply_value(alloc: Global, reply: &Reply) -> Result<Option<Value>, AllocError>
+    requires { keeps_limits reply.now ≡ true }
+    ensures value { IfOk result (λ o. option_map view o ≡ reply_object reply.now) }
+    ensures few { IfOk result (λ _. length (reply_body reply.now) ≤ 1_048_576) }
+{
+    let value = match reply {
+        Reply::Done => json!(in alloc; {})?,
+        Reply::Made { no } => made_value(alloc, *no)?,
+        Reply::Circuit {
+            circuit,
+            ingress,
+            links,
+            terminator,
+            total,
+        } => circuit_value(alloc, *circuit, ingress, links, *terminator, *total)?,
+        Reply::Explained { ingress, claim } => explained_value(alloc, ingress, claim)?,
+        Reply::Verified { certified } => verified_value(alloc, *certified)?,
         Reply::Refused(refusal) => refusal_value(alloc, refusal)?,
+        _ => return showing_value(alloc, reply),
     };
     Ok(Some(value))
 }

@@ -1,6 +1,6 @@
 use Rattle.std.proofs.Common.{lit≤, arith}
 use Rattle.reply_codec.proofs.reply_bodies.reply_value.Goals as goal
-use Rattle.reply_codec.proofs.reply_bodies.reply_value.Goals.{in-Done+in_ok-value-in-Done, in-Made+in_ok-value-in-Made, in-Circuit+in_ok-value-in-Circuit, in-Explained+in_ok-value-in-Explained, in-Verified+in_ok-value-in-Verified, in-Services+in_ok-value-in-Services, in-Grants+in_ok-value-in-Grants, in-Shown+in_ok-value-in-Shown, in-Counts+in_ok-value-in-Counts, in-Refused+in_ok-value-in-Refused}
+use Rattle.reply_codec.proofs.reply_bodies.reply_value.Goals.{in-Done+in_ok-value-in-Done, in-Made+in_ok-value-in-Made, in-Circuit+in_ok-value-in-Circuit, in-Explained+in_ok-value-in-Explained, in-Verified+in_ok-value-in-Verified, in-Refused+in_ok-value-in-Refused}
 
 pub returns-clause-few : goal.returns-clause-few
 returns-clause-few c =
@@ -10,9 +10,5 @@ returns-clause-few c =
       | in-Circuit+in_ok-value-in-Circuit w ↦ rw w.in-Circuit.is w.in_ok-value-in-Circuit.ensures.few
       | in-Explained+in_ok-value-in-Explained w ↦ rw w.in-Explained.is w.in_ok-value-in-Explained.ensures.few
       | in-Verified+in_ok-value-in-Verified w ↦ rw w.in-Verified.is w.in_ok-value-in-Verified.ensures.few
-      | in-Services+in_ok-value-in-Services w ↦ rw w.in-Services.is w.in_ok-value-in-Services.ensures.few
-      | in-Grants+in_ok-value-in-Grants w ↦ rw w.in-Grants.is w.in_ok-value-in-Grants.ensures.few
-      | in-Shown+in_ok-value-in-Shown w ↦ rw w.in-Shown.is w.in_ok-value-in-Shown.ensures.few
-      | in-Counts+in_ok-value-in-Counts w ↦ rw w.in-Counts.is w.in_ok-value-in-Counts.ensures.few
       | in-Refused+in_ok-value-in-Refused w ↦ rw w.in-Refused.is (omega (arith, w.in_ok-value-in-Refused.ensures.few))
     ]
