@@ -3,3 +3,4 @@ pub mod Heads
 pub mod Faults
 pub mod WorkedSlots
 pub mod Room
+pub mod AppendedRecords

@@ -3,6 +3,7 @@ ghost use Rattle.ziti_outside.specs.Causes.{HasCause};
 ghost use Rattle.ziti_outside.specs.Images.{Holds, Torn, Else, OnPart, After, IsStable};
 ghost use Rattle.ziti_outside.specs.Moments.{Remembers, Leaves};
 ghost use Rattle.ziti_outside.specs.Untouched.{OnlyDisk};
+ghost use Rattle.journal_core.specs.AppendedRecords.{OnlyAppends};
 ghost use Rattle.journal_core.specs.Slots.{IsClosed, text_of, added, ShutOrAdded};
 ghost use Rattle.journal_core.specs.Faults.{disk_failure, AppendFails};
 ghost use Rattle.journal_core.specs.Room.{KeepsRoom, LeavesRoom};
@@ -86,17 +87,9 @@ pub fn append<D: Desk>(
     ensures full { most < at + 6 + length packed.now → desk.new ≡ desk.old }
     ensures cause { HasCause (D.disk_faults desk.old) (D.disk_faults desk.new) (disk_failure result) }
 
-    // Whatever comes of it, a stop at any moment leaves in the part nothing added or the record whole, and all else as it was.
-    ensures elsewhere { Else part (D.reads desk.old) (D.reads desk.new) }
-    ensures others { OnlyDisk D.said D.noted D.say_faults D.note_faults desk.old desk.new }
-    ensures quiet { Leaves D.moment D.since D.may_leave D.said desk.old desk.new (λ image. ⊤) }
-    ensures stops { IsTrue D.tells → Leaves D.moment D.since D.may_leave D.said desk.old desk.new
-        (After (OnPart part (ShutOrAdded at (text_of packed.now))) (D.may_leave desk.old)) }
-    ensures remembers { Remembers (D.moment desk.old) (D.since desk.old) (D.since desk.new) }
-
-    // Nor does it make a slot longer than the bound, neither as the desk reads nor in what a stop leaves.
-    ensures room { IsTrue D.tells → KeepsRoom most (D.reads desk.old) (D.reads desk.new) }
-    ensures images { LeavesRoom most D.may_leave desk.old desk.new }
+    // Whatever comes of it, a stop at any moment leaves in the part nothing added or the record whole, and all else as it was. Nor
+    // does it make a slot longer than the bound, neither as the desk reads nor in what a stop leaves.
+    ensures alone { OnlyAppends D.tells D.reads D.said D.noted D.say_faults D.note_faults D.moment D.since D.may_leave part at (text_of packed.now) most desk.old desk.new }
 {
     let text = packed.text();
     if !fits(at, text.len(), most) {

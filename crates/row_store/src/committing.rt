@@ -1,10 +1,8 @@
-ghost use Rattle.std.specs.Prelude.{◌≡◌, ◌+◌, ◌^◌, ◌<◌, ◌≤◌, ⊤, [], length, IsTrue, OnOk, IfOk, IfErr};
+ghost use Rattle.std.specs.Prelude.{◌≡◌, ◌+◌, ◌^◌, ◌<◌, ◌≤◌, [], length, IsTrue, OnOk, IfOk, IfErr};
 ghost use Rattle.ziti_outside.specs.Causes.{HasCause};
-ghost use Rattle.ziti_outside.specs.Images.{Else, OnPart, After, IsStable};
-ghost use Rattle.ziti_outside.specs.Moments.{Remembers, Leaves};
-ghost use Rattle.ziti_outside.specs.Untouched.{OnlyDisk};
-ghost use Rattle.journal_core.specs.Slots.{IsClosed, text_of, added, ShutOrAdded};
-ghost use Rattle.journal_core.specs.Room.{KeepsRoom, LeavesRoom};
+ghost use Rattle.ziti_outside.specs.Images.{IsStable};
+ghost use Rattle.journal_core.specs.AppendedRecords.{OnlyAppends};
+ghost use Rattle.journal_core.specs.Slots.{IsClosed, text_of, added};
 ghost use Rattle.row_codec.specs.RowDifference.{Rises};
 ghost use Rattle.row_codec.specs.Batches.{bytes_cmp, IsBatch, batch_bytes};
 ghost use Rattle.row_store.specs.BatchRows.{rows_in, rows_after};
@@ -44,14 +42,7 @@ fn append_within<D: Desk>(
     ensures stable { OnOk result (IsStable part (D.reads desk.new) (D.may_leave desk.new)) }
     ensures fault { IfErr result (λ fault. fault ≡ StoreFault.Disk) }
     ensures cause { HasCause (D.disk_faults desk.old) (D.disk_faults desk.new) (disk_failure result) }
-    ensures elsewhere { Else part (D.reads desk.old) (D.reads desk.new) }
-    ensures others { OnlyDisk D.said D.noted D.say_faults D.note_faults desk.old desk.new }
-    ensures quiet { Leaves D.moment D.since D.may_leave D.said desk.old desk.new (λ image. ⊤) }
-    ensures stops { IsTrue D.tells → Leaves D.moment D.since D.may_leave D.said desk.old desk.new
-        (After (OnPart part (ShutOrAdded end (text_of packed.now))) (D.may_leave desk.old)) }
-    ensures remembers { Remembers (D.moment desk.old) (D.since desk.old) (D.since desk.new) }
-    ensures room { IsTrue D.tells → KeepsRoom most (D.reads desk.old) (D.reads desk.new) }
-    ensures images { LeavesRoom most D.may_leave desk.old desk.new }
+    ensures alone { OnlyAppends D.tells D.reads D.said D.noted D.say_faults D.note_faults D.moment D.since D.may_leave part end (text_of packed.now) most desk.old desk.new }
 {
     match append(desk, part, end, packed, most) {
         Ok(next) => Ok(next),
@@ -85,14 +76,7 @@ pub(crate) fn keep<D: Desk>(
     ensures stable { IsKept result → IsStable part (D.reads desk.new) (D.may_leave desk.new) }
     ensures fault { IfErr result (λ fault. KeepFails (rows_in rows.old.entries) (rows_in rows.new.entries) fault) }
     ensures cause { HasCause (D.disk_faults desk.old) (D.disk_faults desk.new) (disk_failure result) }
-    ensures elsewhere { Else part (D.reads desk.old) (D.reads desk.new) }
-    ensures others { OnlyDisk D.said D.noted D.say_faults D.note_faults desk.old desk.new }
-    ensures quiet { Leaves D.moment D.since D.may_leave D.said desk.old desk.new (λ image. ⊤) }
-    ensures stops { IsTrue D.tells → Leaves D.moment D.since D.may_leave D.said desk.old desk.new
-        (After (OnPart part (ShutOrAdded end (text_of packed.now))) (D.may_leave desk.old)) }
-    ensures remembers { Remembers (D.moment desk.old) (D.since desk.old) (D.since desk.new) }
-    ensures room { IsTrue D.tells → KeepsRoom most (D.reads desk.old) (D.reads desk.new) }
-    ensures images { LeavesRoom most D.may_leave desk.old desk.new }
+    ensures alone { OnlyAppends D.tells D.reads D.said D.noted D.say_faults D.note_faults D.moment D.since D.may_leave part end (text_of packed.now) most desk.old desk.new }
 {
     let place = append_within(desk, part, end, packed, most)?;
     change_all(alloc, rows, ops)?;

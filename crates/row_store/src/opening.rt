@@ -1,14 +1,11 @@
-ghost use Rattle.std.specs.Prelude.{◌≡◌, ◌<◌, ⊤, length, IsTrue, OnOk, IfOk, IfErr, IfSome};
-ghost use Rattle.ziti_outside.specs.declared.desk.Part.TheVariants.{One, Mark};
+ghost use Rattle.std.specs.Prelude.{◌≡◌, ◌<◌, length, IsTrue, OnOk, IfOk, IfErr, IfSome};
+ghost use Rattle.ziti_outside.specs.declared.desk.Part.TheVariants.{Mark};
 ghost use Rattle.ziti_outside.specs.Told.{IsFront};
 ghost use Rattle.ziti_outside.specs.Causes.{HasCause};
-ghost use Rattle.ziti_outside.specs.Images.{After};
-ghost use Rattle.ziti_outside.specs.Moments.{Remembers, Leaves};
-ghost use Rattle.ziti_outside.specs.Untouched.{OnlyDisk, OnlyReads};
+ghost use Rattle.ziti_outside.specs.Untouched.{OnlyReads};
 ghost use Rattle.journal_core.specs.Slots.{header};
-ghost use Rattle.journal_core.specs.Room.{empty_size, KeepsRoom, LeavesRoom};
-ghost use Rattle.slot_files.specs.FolderImage.{StandsAsBefore};
-ghost use Rattle.slot_files.specs.OpenedSlots.{IsNamed, IsOpened, Opens, Finds};
+ghost use Rattle.journal_core.specs.Room.{empty_size, KeepsRoom};
+ghost use Rattle.slot_files.specs.OpenedSlots.{IsNamed, IsOpened, OnlyOpens, Opens, Finds};
 ghost use Rattle.row_codec.specs.RowDifference.{Rises};
 ghost use Rattle.row_codec.specs.Batches.{bytes_cmp};
 ghost use Rattle.row_store.specs.BatchRows.{ArePuttable, rows_in};
@@ -27,17 +24,10 @@ pub(crate) fn settle<D: Desk>(desk: &mut D) -> Result<Standing, StoreFault>
     ensures named { IfOk result IsNamed }
     ensures opened { IfOk result (λ standing. IsTrue D.tells → IsOpened standing (D.reads desk.new) (D.may_leave desk.new)) }
     ensures opens { OnOk result (IsTrue D.tells → Opens (length (D.reads desk.old Mark)) (D.reads desk.old) (D.reads desk.new)) }
-    ensures kept { IsTrue D.tells → 0 < length (D.reads desk.old Mark) → D.reads desk.new ≡ D.reads desk.old }
-    ensures second { D.reads desk.new One ≡ D.reads desk.old One }
-    ensures unwritten { IsTrue D.tells → 0 < length (D.reads desk.old Mark) → Leaves D.moment D.since D.may_leave D.said desk.old desk.new (D.may_leave desk.old) }
+    ensures alone { OnlyOpens D.tells D.reads D.said D.noted D.say_faults D.note_faults D.moment D.since D.may_leave desk.old desk.new }
     ensures fault { IfErr result (λ fault. OpenFails D.tells (D.reads desk.old) fault) }
     ensures cause { HasCause (D.disk_faults desk.old) (D.disk_faults desk.new) (disk_failure result) }
-    ensures others { OnlyDisk D.said D.noted D.say_faults D.note_faults desk.old desk.new }
-    ensures quiet { Leaves D.moment D.since D.may_leave D.said desk.old desk.new (λ image. ⊤) }
-    ensures stops { IsTrue D.tells → Leaves D.moment D.since D.may_leave D.said desk.old desk.new (After StandsAsBefore (D.may_leave desk.old)) }
-    ensures remembers { Remembers (D.moment desk.old) (D.since desk.old) (D.since desk.new) }
     ensures room { IsTrue D.tells → OnOk (disk_failure result) (KeepsRoom empty_size (D.reads desk.old) (D.reads desk.new)) }
-    ensures images { LeavesRoom empty_size D.may_leave desk.old desk.new }
 {
     match slot_files::open(desk) {
         Ok(standing) => Ok(standing),

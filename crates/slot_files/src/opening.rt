@@ -6,7 +6,7 @@ ghost use Rattle.ziti_outside.specs.Moments.{Remembers, Leaves};
 ghost use Rattle.ziti_outside.specs.Untouched.{OnlyDisk};
 ghost use Rattle.journal_core.specs.Room.{empty_size, KeepsRoom, LeavesRoom};
 ghost use Rattle.slot_files.specs.FolderImage.{StandsAsBefore};
-ghost use Rattle.slot_files.specs.OpenedSlots.{IsNamed, IsOpened, IsCreated, Opens};
+ghost use Rattle.slot_files.specs.OpenedSlots.{IsNamed, IsOpened, IsCreated, OnlyOpens, Opens};
 ghost use Rattle.slot_files.specs.Faults.{disk_failure, FindFails};
 
 use crate::faults::SlotFault;
@@ -48,26 +48,10 @@ pub fn open<D: Desk>(desk: &mut D) -> Result<Standing, SlotFault>
     ensures named { IfOk result IsNamed }
     ensures opened { IfOk result (λ standing. IsTrue D.tells → IsOpened standing (D.reads desk.new) (D.may_leave desk.new)) }
     ensures opens { OnOk result (IsTrue D.tells → Opens (length (D.reads desk.old Mark)) (D.reads desk.old) (D.reads desk.new)) }
-
-    // A folder whose mark is not empty reads as before, whatever comes of the call; and the second slot always does.
-    ensures kept { IsTrue D.tells → 0 < length (D.reads desk.old Mark) → D.reads desk.new ≡ D.reads desk.old }
-    ensures second { D.reads desk.new One ≡ D.reads desk.old One }
-
-    // Nor does a stop leave anything else of such a folder: each image, at every moment of the call and after it, is one that a stop
-    // might have left before.
-    ensures unwritten { IsTrue D.tells → 0 < length (D.reads desk.old Mark) → Leaves D.moment D.since D.may_leave D.said desk.old desk.new (D.may_leave desk.old) }
-
+    ensures alone { OnlyOpens D.tells D.reads D.said D.noted D.say_faults D.note_faults D.moment D.since D.may_leave desk.old desk.new }
     ensures fault { IfErr result (λ fault. FindFails D.tells (D.reads desk.old) fault) }
     ensures cause { HasCause (D.disk_faults desk.old) (D.disk_faults desk.new) (disk_failure result) }
-    ensures others { OnlyDisk D.said D.noted D.say_faults D.note_faults desk.old desk.new }
-    ensures quiet { Leaves D.moment D.since D.may_leave D.said desk.old desk.new (λ image. ⊤) }
-    ensures stops { IsTrue D.tells → Leaves D.moment D.since D.may_leave D.said desk.old desk.new (After StandsAsBefore (D.may_leave desk.old)) }
-    ensures remembers { Remembers (D.moment desk.old) (D.since desk.old) (D.since desk.new) }
-
-    // No slot grows past the size of one without a record, neither in what a stop leaves nor, where no call on the disk failed, as
-    // the desk reads.
     ensures room { IsTrue D.tells → OnOk (disk_failure result) (KeepsRoom empty_size (D.reads desk.old) (D.reads desk.new)) }
-    ensures images { LeavesRoom empty_size D.may_leave desk.old desk.new }
 {
     desk.sync(Part::Mark)?;
     match peek(desk)? {

@@ -19,7 +19,7 @@ pub returns-in_err-self-inside-clause-stops : goal.returns-in_err-self-inside-cl
 returns-in_err-self-inside-clause-stops g c = λ fresh told.
     let room = subst (λ (ops : List Op). c.self.inside.end + 6 + length (batch_bytes ops) ≤ c.self.inside.bounds.slot) c.as_slice.ensures (c.has_room.ensures.0 c.if-not-has_room.false) in
     let short : IsPayload (batch_bytes c.args.batch.now) = short_batch c.self.inside.end c.self.inside.bounds.slot (batch_bytes c.args.batch.now) room c.self.invariant.1 in
-    Leaves-weaker _ (c.keep.ensures.stops told)
+    Leaves-weaker _ (c.keep.ensures.alone.stops told)
     (seen_stops _ _ _ _ c.args.batch.now _ c.self.view_is (c.requires.stands fresh told) c.requires.batch (c.requires.changes fresh) c.in_ok-packed.ensures short)
 
 pub returns-clause-stands : goal.returns-clause-stands
@@ -29,7 +29,7 @@ returns-clause-stands g c = λ unspent told.
     let short : IsPayload (batch_bytes c.args.batch.now) = short_batch c.self.inside.end c.self.inside.bounds.slot (batch_bytes c.args.batch.now) room c.self.invariant.1 in
     seen_stands _ _ _ _ _ _ _ c.args.batch.now _ c.self.view_is (c.requires.stands fresh told) c.requires.batch (c.requires.changes fresh) c.in_ok-packed.ensures short
     (c.in_ok-self-inside.ensures.rows ∙ ap (rows_after _) c.as_slice-2.ensures) refl refl c.in_ok-self-inside.ensures.next (c.in_ok-self-inside.ensures.added tt told)
-    c.keep.ensures.elsewhere (c.in_ok-self-inside.ensures.stable tt) (c.keep.ensures.stops told).found
+    c.keep.ensures.alone.elsewhere (c.in_ok-self-inside.ensures.stable tt) (c.keep.ensures.alone.stops told).found
 
 pub returns-clause-added : goal.returns-clause-added
 returns-clause-added g c = λ told.
@@ -37,13 +37,13 @@ returns-clause-added g c = λ told.
     let room = subst (λ (ops : List Op). c.self.inside.end + 6 + length (batch_bytes ops) ≤ c.self.inside.bounds.slot) c.as_slice.ensures (c.has_room.ensures.0 c.if-not-has_room.false) in
     let short : IsPayload (batch_bytes c.args.batch.now) = short_batch c.self.inside.end c.self.inside.bounds.slot (batch_bytes c.args.batch.now) room c.self.invariant.1 in
     seen_adds _ _ _ _ _ c.args.batch.now _ c.self.view_is (c.requires.stands fresh told) c.in_ok-packed.ensures short
-    (c.in_ok-self-inside.ensures.added tt told) c.keep.ensures.elsewhere
+    (c.in_ok-self-inside.ensures.added tt told) c.keep.ensures.alone.elsewhere
 
 pub returns-clause-stops : goal.returns-clause-stops
 returns-clause-stops g c = λ fresh told.
     let room = subst (λ (ops : List Op). c.self.inside.end + 6 + length (batch_bytes ops) ≤ c.self.inside.bounds.slot) c.as_slice.ensures (c.has_room.ensures.0 c.if-not-has_room.false) in
     let short : IsPayload (batch_bytes c.args.batch.now) = short_batch c.self.inside.end c.self.inside.bounds.slot (batch_bytes c.args.batch.now) room c.self.invariant.1 in
-    Leaves-weaker _ (c.keep.ensures.stops told)
+    Leaves-weaker _ (c.keep.ensures.alone.stops told)
     (seen_stops _ _ _ _ c.args.batch.now _ c.self.view_is (c.requires.stands fresh told) c.requires.batch (c.requires.changes fresh) c.in_ok-packed.ensures short)
 
 pub returns-in_err-self-inside-clause-behind : goal.returns-in_err-self-inside-clause-behind
@@ -53,8 +53,8 @@ returns-in_err-self-inside-clause-behind g c = λ none fresh spent told.
     let room = subst (λ (ops : List Op). c.self.inside.end + 6 + length (batch_bytes ops) ≤ c.self.inside.bounds.slot) c.as_slice.ensures (c.has_room.ensures.0 c.if-not-has_room.false) in
     let short : IsPayload (batch_bytes c.args.batch.now) = short_batch c.self.inside.end c.self.inside.bounds.slot (batch_bytes c.args.batch.now) room c.self.invariant.1 in
     seen_behind _ _ _ _ _ _ c.args.batch.now _ c.self.view_is (c.requires.stands fresh told) c.requires.batch (c.requires.changes fresh) c.in_ok-packed.ensures short
-    (c.in_err-self-inside.ensures.added (kept_none ℕ _ (sym p.2 ∙ wanting)) told) c.keep.ensures.elsewhere
-    (c.in_err-self-inside.ensures.stable (kept_none ℕ _ (sym p.2 ∙ wanting))) (c.keep.ensures.stops told).found
+    (c.in_err-self-inside.ensures.added (kept_none ℕ _ (sym p.2 ∙ wanting)) told) c.keep.ensures.alone.elsewhere
+    (c.in_err-self-inside.ensures.stable (kept_none ℕ _ (sym p.2 ∙ wanting))) (c.keep.ensures.alone.stops told).found
 
 pub invariant_of-self-2 : goal.invariant_of-self-2
 invariant_of-self-2 g c = (
