@@ -11,7 +11,10 @@ ghost use Rattle.terminator_commands.specs.TermChanges.{over};
 ghost use Rattle.terminator_commands.specs.TermPlans.{is_terminator_command, PlansTerms};
 ghost use Rattle.terminator_commands.specs.PlannedTerms.{unknown_place, plan_of_add, ArePlaced, PlansOver, PlansIn};
 
-use ctrl_model::{Command, Copies, Field, IdentityNo, Instance, Kind, Name, Precedence, Refusal, Reply, RouterNo, ServiceNo, TermNo};
+use ctrl_model::{
+    Command, Copies, Field, IdentityNo, Instance, Kind, Name, Precedence, Refusal, Reply, RouterNo,
+    ServiceNo, TermNo,
+};
 use entity_store::Entities;
 use grant_denorm::Counted;
 use model_laws::Plan;
