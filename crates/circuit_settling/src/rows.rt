@@ -9,10 +9,11 @@ ghost use Rattle.row_codec.specs.RowValues.{record_value};
 ghost use Rattle.row_laws.specs.FittingRecords.{fits};
 ghost use Rattle.row_spelling.specs.RecordChanges.{value_at};
 ghost use Rattle.circuits.specs.CircuitChanges.{circuits_after};
-ghost use Rattle.circuit_settling.specs.CircuitRows.{HaveRows, changed_number};
+ghost use Rattle.circuit_settling.specs.CircuitRows.{HaveRows};
 
 use circuits::{Circuit, CircuitChange, Circuits, CircuitsAfter};
 use ctrl_model::{CircuitNo, Kind, Numbers};
+use record_tables::changed_number;
 use row_codec::{Changes, Row};
 use row_spelling::{ChangedRows, touched_changes};
 use std::alloc::{AllocError, Global};
@@ -59,16 +60,6 @@ impl<'a> ChangedRows for CircuitRows<'a> {
     }
 }
 
-// The number of the circuit that a change touches.
-fn changed_number(circuits: &Circuits, change: Option<&CircuitChange>) -> Option<u32>
-    ensures { result ≡ changed_number (option_map (λ c. c.now) change.entry) circuits.now.circuits.next }
-{
-    match change? {
-        CircuitChange::Add(_) => Some(circuits.next()),
-        CircuitChange::Remove(no) => Some(no.0),
-    }
-}
-
 /// The changes of the rows of circuits by a change, if there is one, and where those of some numbers are gone, which climb. Each
 /// circuit fits its row, now and then, as those of a valid state do. An Err is want of memory.
 pub fn circuit_changes(
@@ -84,7 +75,7 @@ pub fn circuit_changes(
         → t.circuits ≡ (circuits_after (option_map (λ c. c.now) change.entry) gone.now circuits.now).circuits → Covers 11 12 s t changes) }
 {
     let after = CircuitsAfter::new(circuits, change, gone);
-    let changed = changed_number(circuits, change);
+    let changed = changed_number(change, circuits.next());
     let rows = CircuitRows {
         circuits,
         after: &after,

@@ -4,7 +4,7 @@ ghost use Rattle.ctrl_model.specs.Numbered.{at, numbers, Between};
 ghost use Rattle.circuits.specs.CircuitChanges.{circuits_after};
 
 use crate::changes::CircuitChange;
-use crate::grants::Circuit;
+use crate::grants::{Circuit, CircuitView};
 use crate::store::Circuits;
 use ctrl_model::{CircuitNo, Numbers};
 use record_tables::{RecordChange, Turn, left_of, record_after, turned};
@@ -28,18 +28,6 @@ impl<'a> Model for CircuitsAfter<'a> {
     ghost Value = { CircuitTables };
 
     ghost view = { λ a. circuits_after (option_map (λ c. c.now) a.change) a.gone.now a.circuits.now };
-}
-
-// A lent circuit. Contracts see it as a circuit of the controller's state.
-#[derive(Drop)]
-struct CircuitView<'a>(&'a Circuit);
-
-impl<'a> Model for CircuitView<'a> {
-    ghost use Rattle.ctrl_model.specs.State as state;
-
-    ghost Value = { state.Circuit };
-
-    ghost view = { λ v. v.0.now };
 }
 
 impl<'a> RecordChange<CircuitView<'a>> for Option<&'a CircuitChange> {

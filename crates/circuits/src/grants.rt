@@ -21,3 +21,15 @@ impl Model for Circuit {
 
     ghost view = { λ c. record { identity = c.identity.0; service = c.service.0; terminator = c.terminator.0; ingress = c.ingress.0; links = c.links } };
 }
+
+/// A circuit as it will be, which is lent (`Circuit`). Contracts see it as a circuit of the controller's state.
+#[derive(Debug, Drop)]
+pub struct CircuitView<'a>(pub &'a Circuit);
+
+impl<'a> Model for CircuitView<'a> {
+    ghost use Rattle.ctrl_model.specs.State as state;
+
+    ghost Value = { state.Circuit };
+
+    ghost view = { λ v. v.0.now };
+}

@@ -12,7 +12,7 @@ mod worked;
 pub use after::CircuitsAfter;
 pub use applying::apply_circuit_change;
 pub use changes::CircuitChange;
-pub use grants::Circuit;
+pub use grants::{Circuit, CircuitView};
 pub use losses::Loss;
 pub use store::{CircuitFault, Circuits};
 pub use worked::{circuits_as_they_will_be, circuits_by_number};

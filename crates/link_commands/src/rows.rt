@@ -9,10 +9,11 @@ ghost use Rattle.row_codec.specs.RowValues.{record_value};
 ghost use Rattle.row_laws.specs.FittingRecords.{fits};
 ghost use Rattle.row_spelling.specs.RecordChanges.{value_at};
 ghost use Rattle.fabric_graph.specs.FabricChanges.{fabric_after};
-ghost use Rattle.link_commands.specs.LinkRows.{HaveRows, changed_number};
+ghost use Rattle.link_commands.specs.LinkRows.{HaveRows};
 
 use ctrl_model::{Copies, Kind, LinkNo, Numbers};
 use fabric_graph::{Fabric, FabricAfter, LinkChange, LinkView};
+use record_tables::changed_number;
 use row_codec::{Changes, Row};
 use row_spelling::{ChangedRows, touched_changes};
 use std::alloc::{AllocError, Global};
@@ -61,18 +62,6 @@ impl<'a> ChangedRows for LinkRows<'a> {
     }
 }
 
-// The number of the link that a change touches.
-fn changed_number(fabric: &Fabric, change: Option<&LinkChange>) -> Option<u32>
-    ensures { result ≡ changed_number (option_map (λ c. c.now) change.entry) fabric.now.links.next }
-{
-    match change? {
-        LinkChange::Add(_) => Some(fabric.next()),
-        LinkChange::Set { no, .. } => Some(no.0),
-        LinkChange::Remove(no) => Some(no.0),
-        LinkChange::SetLeast(_) => None,
-    }
-}
-
 /// The changes of the rows of links by a change, if there is one, and where those of some numbers are gone, which climb. Each link
 /// fits its row, now and then, as those of a valid state do. An Err is want of memory.
 pub fn link_changes(
@@ -88,7 +77,7 @@ pub fn link_changes(
         → t.links ≡ (fabric_after (option_map (λ c. c.now) change.entry) gone.now fabric.now).links → Covers 6 7 s t changes) }
 {
     let after = FabricAfter::new(fabric, change, gone);
-    let changed = changed_number(fabric, change);
+    let changed = changed_number(change, fabric.next());
     let links = LinkRows {
         fabric,
         after: &after,

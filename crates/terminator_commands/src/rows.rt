@@ -9,9 +9,10 @@ ghost use Rattle.row_codec.specs.RowValues.{record_value};
 ghost use Rattle.row_laws.specs.FittingRecords.{fits};
 ghost use Rattle.row_spelling.specs.RecordChanges.{value_at};
 ghost use Rattle.terminators.specs.TermChanges.{terms_after};
-ghost use Rattle.terminator_commands.specs.TermRows.{AreFit, changed_number};
+ghost use Rattle.terminator_commands.specs.TermRows.{AreFit};
 
 use ctrl_model::{Copies, Kind, Numbers, TermNo};
+use record_tables::changed_number;
 use row_codec::{Changes, Row};
 use row_spelling::{ChangedRows, touched_changes};
 use std::alloc::{AllocError, Global};
@@ -60,17 +61,6 @@ impl<'a> ChangedRows for TermRows<'a> {
     }
 }
 
-// The number of the terminator that a change touches.
-fn changed_number(terminators: &Terminators, change: Option<&TermChange>) -> Option<u32>
-    ensures { result ≡ changed_number (option_map (λ c. c.now) change.entry) terminators.now.terminators.next }
-{
-    match change? {
-        TermChange::Add(_) => Some(terminators.next()),
-        TermChange::Set { no, .. } => Some(no.0),
-        TermChange::Remove(no) => Some(no.0),
-    }
-}
-
 /// The changes of the rows of terminators by a change, if there is one, and where those of some numbers are gone, which climb. Each
 /// terminator fits its row, now and then, as those of a valid state do. An Err is want of memory.
 pub fn term_changes(
@@ -86,7 +76,7 @@ pub fn term_changes(
         → t.terminators ≡ (terms_after (option_map (λ c. c.now) change.entry) gone.now terminators.now).terminators → Covers 10 11 s t changes) }
 {
     let after = TerminatorsAfter::new(terminators, change, gone);
-    let changed = changed_number(terminators, change);
+    let changed = changed_number(change, terminators.next());
     let rows = TermRows {
         terminators,
         after: &after,
