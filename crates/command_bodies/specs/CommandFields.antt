@@ -1,6 +1,6 @@
 -- The fields that the body of a command gives, each with its value: every field of the command, but a host or an ingress that is
 -- none (docs/FORMATS.md, "Commands", "Bodies").
-use Rattle.std.specs.Prelude.{ℕ, Bool, List, [], ◌∷◌, ◌++◌}
+use Rattle.std.specs.Prelude.{ℕ, nat_le, nat_lt, if◌then◌else◌, Bool, ◌&&◌, List, [], ◌∷◌, ◌++◌}
 use Rattle.std.specs.declared.option.Option.{Option}
 use Rattle.ctrl_model.specs.declared.claims.Reach.{Reach}
 use Rattle.ctrl_model.specs.declared.commands.Command.{Command}
@@ -11,6 +11,7 @@ use Rattle.ctrl_model.specs.declared.kinds.Semantic.{Semantic}
 use Rattle.ctrl_model.specs.declared.kinds.Side.{Side}
 use Rattle.ctrl_model.specs.declared.refusals.Field.{Field}
 use Rattle.ctrl_model.specs.declared.refusals.Field.TheVariants as field
+use Rattle.command_codec.specs.ContentTypes.{content_of}
 use Rattle.command_bodies.specs.RoleEntries.{role_texts}
 use Rattle.command_bodies.specs.WrittenFields.{Given, a_text, a_number, a_flag, some_texts, some_numbers, some_reaches, name_if_any}
 use Rattle.command_bodies.specs.WrittenWords.{relation_word, semantic_word, precedence_word}
@@ -113,3 +114,8 @@ fields_of (command.ListServices identity) = name_field field.Identity identity
 fields_of command.ShowCounts = []
 fields_of (command.ShowCircuit n) = no_field n
 fields_of command.Compact = []
+
+-- The fields that the body of a command of a family gives, and none of another command. The content types of a family begin at
+-- the first number and end before the second.
+abbrev pub fields_between : ℕ → ℕ → Command → GivenFields
+fields_between first past c = if nat_le first (content_of c) && nat_lt (content_of c) past then fields_of c else []

@@ -1,14 +1,13 @@
-ghost use Rattle.std.specs.Prelude.{◌≡◌};
+ghost use Rattle.std.specs.Prelude.{◌≡◌, nat_lt, if◌then◌else◌};
 ghost use Rattle.command_codec.specs.ContentTypes.{content_of};
 
 use ctrl_model::Command;
 
-/// The content type of the frames that are a command (docs/FORMATS.md, "Commands").
-pub fn content_of(command: &Command) -> u32
-    ensures { result ≡ content_of command.now }
+// The content type of a command on entities or policies, and 0 of another.
+fn content_of_managed(command: &Command) -> u32
+    ensures { result ≡ (if nat_lt (content_of command.now) 1200 then content_of command.now else 0) }
 {
     match command {
-        Command::Hello => 0,
         Command::CreateIdentity { .. } => 1000,
         Command::UpdateIdentity { .. } => 1001,
         Command::DeleteIdentity { .. } => 1002,
@@ -29,6 +28,16 @@ pub fn content_of(command: &Command) -> u32
         Command::CreateServiceEdgeRouterPolicy { .. } => 1120,
         Command::UpdateServiceEdgeRouterPolicy { .. } => 1121,
         Command::DeleteServiceEdgeRouterPolicy { .. } => 1122,
+        _ => 0,
+    }
+}
+
+/// The content type of the frames that are a command (docs/FORMATS.md, "Commands").
+pub fn content_of(command: &Command) -> u32
+    ensures { result ≡ content_of command.now }
+{
+    match command {
+        Command::Hello => 0,
         Command::CreateLink { .. } => 1200,
         Command::SetLinkCost { .. } => 1201,
         Command::ReportLatency { .. } => 1202,
@@ -47,5 +56,6 @@ pub fn content_of(command: &Command) -> u32
         Command::ShowCounts => 1502,
         Command::ShowCircuit { .. } => 1503,
         Command::Compact => 1510,
+        _ => content_of_managed(command),
     }
 }

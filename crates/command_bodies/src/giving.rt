@@ -1,6 +1,6 @@
 ghost use Rattle.std.specs.Prelude.{◌≡◌, ◌∷◌, [], OnOk};
 ghost use Rattle.serde_json.specs.View.{members_view};
-ghost use Rattle.command_bodies.specs.CommandFields.{fields_of, entity_fields, router_fields, service_policy_fields, router_policy_fields, link_fields, terminator_fields, asked_fields, claim_fields};
+ghost use Rattle.command_bodies.specs.CommandFields.{entity_fields, router_fields, service_policy_fields, router_policy_fields, link_fields, terminator_fields, asked_fields, claim_fields};
 ghost use Rattle.command_bodies.specs.WrittenFields.{a_text, a_number, with_fields};
 ghost use Rattle.command_bodies.specs.WrittenWords.{precedence_word};
 
@@ -10,12 +10,12 @@ use crate::putting::{
 };
 use crate::spelling::{precedence_word, relation_word, semantic_word};
 use ctrl_model::{
-    Command, Field, Instance, Name, Names, Numbers, Precedence, Reaches, Relation, Semantic, Side,
+    Field, Instance, Name, Names, Numbers, Precedence, Reaches, Relation, Semantic, Side,
 };
 use serde_json::{Map, Value};
 use std::alloc::{AllocError, Global};
 
-fn put_entity(
+pub(crate) fn put_entity(
     alloc: Global,
     members: &mut Map<String, Value>,
     name: &Name,
@@ -28,7 +28,7 @@ fn put_entity(
     put_value(alloc, members, Field::Attributes, texts)
 }
 
-fn put_router(
+pub(crate) fn put_router(
     alloc: Global,
     members: &mut Map<String, Value>,
     name: &Name,
@@ -48,7 +48,7 @@ fn put_router(
     )
 }
 
-fn put_service_policy(
+pub(crate) fn put_service_policy(
     alloc: Global,
     members: &mut Map<String, Value>,
     name: &Name,
@@ -67,7 +67,7 @@ fn put_service_policy(
 }
 
 // The side of what gets routers stands in this field.
-fn put_router_policy(
+pub(crate) fn put_router_policy(
     alloc: Global,
     members: &mut Map<String, Value>,
     field: Field,
@@ -84,7 +84,7 @@ fn put_router_policy(
     put_side(alloc, members, Field::RouterRoles, router_roles)
 }
 
-fn put_link(
+pub(crate) fn put_link(
     alloc: Global,
     members: &mut Map<String, Value>,
     name: &Name,
@@ -105,7 +105,7 @@ fn put_link(
 }
 
 // Puts the link and the router of one of its ends.
-fn put_link_end(
+pub(crate) fn put_link_end(
     alloc: Global,
     members: &mut Map<String, Value>,
     link: &Name,
@@ -117,7 +117,7 @@ fn put_link_end(
     put_name(alloc, members, Field::Router, router)
 }
 
-fn put_terminator(
+pub(crate) fn put_terminator(
     alloc: Global,
     members: &mut Map<String, Value>,
     service: &Name,
@@ -142,7 +142,7 @@ fn put_terminator(
     put_name_if_any(alloc, members, Field::Host, host)
 }
 
-fn put_changed_terminator(
+pub(crate) fn put_changed_terminator(
     alloc: Global,
     members: &mut Map<String, Value>,
     no: u32,
@@ -161,7 +161,7 @@ fn put_changed_terminator(
     )
 }
 
-fn put_asked(
+pub(crate) fn put_asked(
     alloc: Global,
     members: &mut Map<String, Value>,
     identity: &Name,
@@ -177,7 +177,7 @@ fn put_asked(
     put_name_if_any(alloc, members, Field::Ingress, ingress)
 }
 
-fn put_claim(
+pub(crate) fn put_claim(
     alloc: Global,
     members: &mut Map<String, Value>,
     chosen: &Name,
@@ -205,197 +205,4 @@ fn put_claim(
     )?;
     put_number(alloc, members, Field::Terminator, terminator)?;
     put_number(alloc, members, Field::Total, total)
-}
-
-/// Puts the fields of a command: every field, but a host or an ingress that is none.
-pub(crate) fn put_fields(
-    alloc: Global,
-    members: &mut Map<String, Value>,
-    command: &Command,
-) -> Result<(), AllocError>
-    ensures { OnOk result (members_view members.new.entries ≡ with_fields (fields_of command.now) (members_view members.old.entries)) }
-{
-    match command {
-        Command::Hello | Command::ShowCounts | Command::Compact => Ok(()),
-        Command::CreateIdentity { name, attributes }
-        | Command::UpdateIdentity { name, attributes }
-        | Command::CreateService { name, attributes }
-        | Command::UpdateService { name, attributes } => {
-            put_entity(alloc, members, name, attributes)
-        }
-        Command::CreateRouter {
-            name,
-            attributes,
-            cost,
-            no_traversal,
-        }
-        | Command::UpdateRouter {
-            name,
-            attributes,
-            cost,
-            no_traversal,
-        } => put_router(alloc, members, name, attributes, *cost, *no_traversal),
-        Command::DeleteIdentity { name }
-        | Command::DeleteService { name }
-        | Command::DeleteRouter { name }
-        | Command::ConnectRouter { name }
-        | Command::DisconnectRouter { name }
-        | Command::DeleteServicePolicy { name }
-        | Command::DeleteEdgeRouterPolicy { name }
-        | Command::DeleteServiceEdgeRouterPolicy { name } => {
-            put_name(alloc, members, Field::Name, name)
-        }
-        Command::CreateServicePolicy {
-            name,
-            relation,
-            semantic,
-            identity_roles,
-            service_roles,
-        }
-        | Command::UpdateServicePolicy {
-            name,
-            relation,
-            semantic,
-            identity_roles,
-            service_roles,
-        } => put_service_policy(
-            alloc,
-            members,
-            name,
-            *relation,
-            *semantic,
-            identity_roles,
-            service_roles,
-        ),
-        Command::CreateEdgeRouterPolicy {
-            name,
-            semantic,
-            identity_roles,
-            router_roles,
-        }
-        | Command::UpdateEdgeRouterPolicy {
-            name,
-            semantic,
-            identity_roles,
-            router_roles,
-        } => put_router_policy(
-            alloc,
-            members,
-            Field::IdentityRoles,
-            name,
-            *semantic,
-            identity_roles,
-            router_roles,
-        ),
-        Command::CreateServiceEdgeRouterPolicy {
-            name,
-            semantic,
-            service_roles,
-            router_roles,
-        }
-        | Command::UpdateServiceEdgeRouterPolicy {
-            name,
-            semantic,
-            service_roles,
-            router_roles,
-        } => put_router_policy(
-            alloc,
-            members,
-            Field::ServiceRoles,
-            name,
-            *semantic,
-            service_roles,
-            router_roles,
-        ),
-        Command::CreateLink {
-            name,
-            a,
-            b,
-            cost,
-            latency_a,
-            latency_b,
-        } => put_link(alloc, members, name, a, b, *cost, *latency_a, *latency_b),
-        Command::SetLinkCost { link, cost } => {
-            put_name(alloc, members, Field::Link, link)?;
-            put_number(alloc, members, Field::Cost, *cost)
-        }
-        Command::ReportLatency {
-            link,
-            router,
-            latency,
-        } => {
-            put_link_end(alloc, members, link, router)?;
-            put_number(alloc, members, Field::Latency, *latency)
-        }
-        Command::ReportState { link, router, up } => {
-            put_link_end(alloc, members, link, router)?;
-            put_value(alloc, members, Field::Up, Value::Bool(*up))
-        }
-        Command::DeleteLink { link } => put_name(alloc, members, Field::Link, link),
-        Command::SetLeastRouterCost { cost } => put_number(alloc, members, Field::Cost, *cost),
-        Command::CreateTerminator {
-            service,
-            router,
-            instance,
-            host,
-            cost,
-            precedence,
-        } => put_terminator(
-            alloc,
-            members,
-            service,
-            router,
-            instance,
-            host,
-            *cost,
-            *precedence,
-        ),
-        Command::UpdateTerminator {
-            no,
-            cost,
-            precedence,
-        } => put_changed_terminator(alloc, members, *no, *cost, *precedence),
-        Command::DeleteTerminator { no }
-        | Command::DeleteCircuit { no }
-        | Command::ShowCircuit { no } => put_number(alloc, members, Field::No, *no),
-        Command::CreateCircuit {
-            identity,
-            service,
-            ingress,
-            instance,
-        }
-        | Command::Explain {
-            identity,
-            service,
-            ingress,
-            instance,
-        } => put_asked(alloc, members, identity, service, ingress, instance),
-        Command::VerifyRoute {
-            identity,
-            service,
-            ingress,
-            instance,
-            chosen,
-            links,
-            potentials,
-            routers,
-            terminator,
-            total,
-        } => {
-            put_claim(
-                alloc,
-                members,
-                chosen,
-                links,
-                potentials,
-                routers,
-                *terminator,
-                *total,
-            )?;
-            put_asked(alloc, members, identity, service, ingress, instance)
-        }
-        Command::ShowGrants { identity } | Command::ListServices { identity } => {
-            put_name(alloc, members, Field::Identity, identity)
-        }
-    }
 }

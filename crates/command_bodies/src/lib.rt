@@ -2,6 +2,7 @@
 #![tactic(auto)]
 
 mod content_types;
+mod families;
 mod giving;
 mod listing;
 mod putting;

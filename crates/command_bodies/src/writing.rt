@@ -7,7 +7,7 @@ ghost use Rattle.command_codec.specs.BodyObjects.{object_of_body};
 ghost use Rattle.command_codec.specs.ContentTypes.{content_of};
 ghost use Rattle.command_bodies.specs.BodyTexts.{body_object, body_text};
 
-use crate::giving::put_fields;
+use crate::families::put_fields;
 use ctrl_model::{Bytes, Command};
 use serde_json::{Map, Value};
 use std::alloc::{AllocError, Global};
