@@ -13,7 +13,9 @@ use crate::deciding::decide;
 use crate::explaining::explain;
 use crate::verifying::verify;
 use crate::views::{Ask, DecideFault, Route, View, Wanted};
-use ctrl_model::{Copies, Explanation, IdentityNo, Instance, Kind, Name, RouterNo, RouterSeen, ServiceNo};
+use ctrl_model::{
+    Copies, Explanation, IdentityNo, Instance, Kind, Name, RouterNo, RouterSeen, ServiceNo,
+};
 use entity_store::Entities;
 use std::alloc::{AllocError, Global};
 

@@ -14,7 +14,10 @@ use crate::circuit_names::{name_at, router_name};
 use crate::circuit_parts::Parts;
 use crate::views::{Ask, DecideFault, Route};
 use circuits::{Circuit, CircuitChange};
-use ctrl_model::{CircuitNo, Command, Copies, Explanation, Field, Kind, Name, Numbers, Reaches, Refusal, Reply, RouterNo, TermNo};
+use ctrl_model::{
+    CircuitNo, Command, Copies, Explanation, Field, Kind, Name, Numbers, Reaches, Refusal, Reply,
+    RouterNo, TermNo,
+};
 use model_laws::Plan;
 use std::alloc::{AllocError, Global};
 
