@@ -119,13 +119,6 @@ within_at places place ends h = (
   All-filter (λ (o : Exit). place_of o.precedence == place) (λ (o : Exit). o.cost ≤ 65535) ends.exits.items h.costs,
 )
 
-pub ready_at : (w : Network) (s : SearchSeen) (costs : List (List ℕ)) (ends : Ends) (place : ℕ) (exits : List Exit) → IsSearchOf w s → costs ≡ s.costs
-    → length s.costs ≡ length s.graph.through → exits ≡ exits_at place ends.exits.items → ((t : ℕ) → AreCosts s.graph exits t (costs_to s.costs t))
-    → AreWithin (length w.routers) ends → IsReady (length w.routers) s.graph costs ends.entries.items (exits_at place ends.exits.items)
-ready_at w s costs ends place exits k same listed is least h =
-    ready w s costs ends.entries.items (exits_at place ends.exits.items) k same listed
-    (subst (λ os. (t : ℕ) → AreCosts s.graph os t (costs_to s.costs t)) is least) h.entries (within_at (length w.routers) place ends h).0
-
 -- a search of the graph of a network is one of the network
 pub search_of : (w : Network) (s : SearchSeen) (g : GraphSeen) → s.graph ≡ g → IsGraphOf w g → costs_at_most most_step_cost g.steps ≡ true → IsSearchOf w s
 search_of w s g same is most = record {
@@ -138,9 +131,15 @@ pub still_search : (w : Network) (s u : SearchSeen) → u.graph ≡ s.graph → 
 still_search w s u same k = search_of w u s.graph same k.is_graph k.most
 
 -- what was found by a search
-pub searched : (w : Network) (s : SearchSeen) (costs : List (List ℕ)) (entries : List Entry) (exits : List Exit) (found : Option Route) → IsSearchOf w s
-    → IsReady (length w.routers) s.graph costs entries exits → IsFound s.graph costs (first_of_all costs entries None exits) found → IsSearched w entries exits found
-searched w s costs entries exits found k at_hand is = record { graph = s.graph; is_graph = k.is_graph; costs = costs; least = at_hand.least; route = is }
+pub searched : (w : Network) (s : SearchSeen) (costs : List (List ℕ)) (entries : List Entry) (exits : List Exit) (found : Option Route) → IsSearchOf w s → costs ≡ s.costs
+    → ((t : ℕ) → AreCosts s.graph exits t (costs_to s.costs t)) → IsFound s.graph costs (first_of_all costs entries None exits) found → IsSearched w entries exits found
+searched w s costs entries exits found k same least is = record {
+  graph = s.graph;
+  is_graph = k.is_graph;
+  costs = costs;
+  least = λ t below. subst (λ cs. AreCosts s.graph exits t (costs_to cs t)) (sym same) (least t);
+  route = is;
+}
 
 -- a choice has a least path in a graph
 pub record IsWalkable (g : GraphSeen) (costs : List (List ℕ)) (c : Choice) : Type 0 where

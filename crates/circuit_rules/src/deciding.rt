@@ -1,4 +1,4 @@
-ghost use Rattle.std.specs.Prelude.{◌≡◌, ◌<◌, length, option_map, IfOk, IfSome, IsErrOf};
+ghost use Rattle.std.specs.Prelude.{◌≡◌, ℕ, ◌<◌, ◌≤◌, All, length, option_map, IfOk, IfSome, IsErrOf};
 ghost use Rattle.ctrl_model.specs.Claims.{no_path};
 ghost use Rattle.path_certificate.specs.Graphs.{potential};
 ghost use Rattle.path_search.specs.Searches.{IsLeast};
@@ -6,7 +6,7 @@ ghost use Rattle.fabric_graph.specs.Routers.{AreRouters};
 ghost use Rattle.circuit_rules.specs.Views.{network, asked};
 ghost use Rattle.circuit_rules.specs.Decisions.{Decides, MayWantMemory};
 ghost use Rattle.path_search.specs.Visits.{costs_to};
-ghost use Rattle.circuit_rules.specs.Searched.{Passes, PassesAtOnce, end_rules, GoesFirst, IsSearched, IsBestWay, IsSearchOf, exits_at};
+ghost use Rattle.circuit_rules.specs.Searched.{Passes, PassesAtOnce, end_rules, GoesFirst, IsSearched, IsBestWay, IsSearchOf, AreCosts, exits_at};
 ghost use Rattle.circuit_rules.specs.FoundRoutes.{AreWithin, IsFoundFirst, AreEnds, route_found};
 
 use crate::choosing::{Choice, first_of_all};
@@ -71,6 +71,30 @@ fn exits_at(alloc: Global, exits: &[Exit], place: u8) -> Result<Vec<Exit>, Alloc
         .collect(alloc)
 }
 
+// The least route from entries to exits by a search that was at the places of the exits, if there is one.
+fn route_over(
+    alloc: Global,
+    view: &View,
+    search: &CostSearch,
+    entries: &[Entry],
+    exits: &[Exit],
+) -> Result<Option<Route>, AllocError>
+    requires routers { AreRouters view.now.routers.now }
+    requires search { IsSearchOf (network view.now) search.now }
+    requires least { (t : ℕ) → AreCosts search.now.graph exits.now t (costs_to search.now.costs t) }
+    requires entries { All (λ x. x.place < length view.now.routers.now) entries.now }
+    requires exits { All (λ o. o.place < length view.now.routers.now) exits.now }
+    requires costs { All (λ o. o.cost ≤ 65535) exits.now }
+    ensures { IfOk result (IsSearched (network view.now) entries.now exits.now) }
+{
+    let costs = search.costs();
+    let Some(choice) = first_of_all(costs, entries, exits, view.routers.len()) else {
+        return Ok(None);
+    };
+    let route = route_of(alloc, search.graph(), costs, &choice)?;
+    Ok(Some(route))
+}
+
 // The least route between the ends to an exit of the precedence that stands at a place, if there is one.
 fn route_at(
     alloc: Global,
@@ -85,15 +109,10 @@ fn route_at(
     ensures search { IsSearchOf (network view.now) search.new }
     ensures route { IfOk result (IsSearched (network view.now) ends.now.entries.items (exits_at place ends.now.exits.items)) }
 {
-    let entries = ends.entries.as_slice();
-    let exits = exits_at(alloc, ends.exits.as_slice(), place)?;
-    visit_exits(alloc, search, exits.as_slice())?;
-    let costs = search.costs();
-    let Some(choice) = first_of_all(costs, entries, exits.as_slice(), view.routers.len()) else {
-        return Ok(None);
-    };
-    let route = route_of(alloc, search.graph(), costs, &choice)?;
-    Ok(Some(route))
+    let some = exits_at(alloc, ends.exits.as_slice(), place)?;
+    let exits = some.as_slice();
+    visit_exits(alloc, search, exits)?;
+    route_over(alloc, view, search, ends.entries.as_slice(), exits)
 }
 
 // The least route between the ends to an exit of the best precedence that has one. Places of a worse precedence are not searched.
