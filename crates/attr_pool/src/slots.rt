@@ -1,11 +1,8 @@
 ghost use Rattle.std.specs.Prelude.{◌≡◌, ◌+◌, ◌-◌, ◌<◌, ◌≤◌, ◌||◌, ◌==◌, ℕ, true, not, cond, position, length, slice_set, get_or};
 ghost use Rattle.attr_pool.specs.Slots.{free_slot, is_free, holds, slot_of, slot_at, number_for, held_count, with_use, without_use, most_uses};
 
-use ctrl_model::Name;
+use ctrl_model::{LONGEST_NAME, Name};
 use std::marker::Model;
-
-/// How many bytes a name may have.
-const LONGEST_NAME: usize = 64;
 
 /// One slot of a pool. Contracts see its name and its uses.
 #[derive(Drop)]

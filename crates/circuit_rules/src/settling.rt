@@ -11,15 +11,9 @@ ghost use Rattle.circuit_rules.specs.Views.{network};
 use crate::places::place_in;
 use crate::values::value_at;
 use crate::views::View;
-use ctrl_model::{LinkNo, Reach, RouterNo, RouterSeen};
+use ctrl_model::{LinkNo, MOST_COST, MOST_ROUTERS, Reach, RouterNo, RouterSeen};
 use path_certificate::{Graph, check};
 use std::alloc::{AllocError, Global};
-
-/// How many routers there may be.
-const MOST_ROUTERS: usize = 256;
-
-/// The greatest cost of a router.
-const MOST_COST: u32 = 65_535;
 
 // Whether the hop over a link does not improve the value of the router that it leaves.
 fn does_not_improve(

@@ -10,8 +10,8 @@ ghost use Rattle.circuits.specs.CircuitTables.{no_circuits, is_full, with_circui
 
 use crate::grants::Circuit;
 use crate::losses::{Loss, lost_in};
-use ctrl_model::{CircuitNo, Kind, Numbers};
-use record_tables::{NumberedTable, limit};
+use ctrl_model::{CircuitNo, Kind, Numbers, limit};
+use record_tables::NumberedTable;
 use std::alloc::{AllocError, Global};
 use std::marker::Model;
 use thiserror::Error;

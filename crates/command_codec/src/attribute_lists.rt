@@ -7,14 +7,11 @@ ghost use Rattle.command_codec.specs.ItemLists.{each_of};
 ghost use Rattle.command_codec.specs.NameLists.{as_attributes};
 ghost use Rattle.command_codec.specs.ReadResults.{Gives};
 
-use ctrl_model::{Field, Names};
+use ctrl_model::{Field, MOST_ENTRIES, Names};
 use json_body::{FieldFault, Fields, as_name};
 use role_expr::keep_name;
 use serde_json::Value;
 use std::alloc::{AllocError, Global};
-
-// How many attributes a list may have as it is sent.
-const MOST_ATTRIBUTES: usize = 64;
 
 // The names that some values are, without repeats, if each is a name.
 fn names_in(alloc: Global, values: &[Value]) -> Result<Option<Names>, AllocError>
@@ -36,7 +33,7 @@ pub(crate) fn attributes(alloc: Global, fields: &Fields) -> Result<Names, FieldF
     // Memory can be wanting only where the field is a list that is not too long.
     ensures memory { IsErrOf result FieldFault.NoMemory → IsOk (required (as_list_of 64) Field.Attributes (object_of fields.now)) }
 {
-    let values = fields.list(Field::Attributes, MOST_ATTRIBUTES)?;
+    let values = fields.list(Field::Attributes, MOST_ENTRIES)?;
     names_in(alloc, values)?.ok_or(FieldFault::WrongKind(Field::Attributes))
 }
 

@@ -12,14 +12,9 @@ use crate::optional_fields::{instance_or_empty, name_or_none};
 use crate::reading::CodecFault;
 use crate::route_claims::{numbers, potentials};
 use crate::terminator_bodies::numbered;
-use ctrl_model::{Command, Field, Instance, Name};
+use ctrl_model::{Command, Field, Instance, LONGEST_PATH, MOST_ROUTERS, Name};
 use json_body::{FieldFault, Fields};
 use std::alloc::Global;
-
-// How many links and how many routers a claimed route may have.
-const MOST_LINKS: usize = 255;
-
-const MOST_ROUTERS: usize = 256;
 
 // The fields of a body that asks for a circuit, and of one that claims a route.
 const CIRCUIT_FIELDS: [Field; 4] = [
@@ -109,7 +104,7 @@ fn route_in(alloc: Global, fields: &Fields) -> Result<Command, FieldFault>
 {
     let circuit = asked(alloc, fields)?;
     let chosen = fields.name(alloc, Field::Chosen)?;
-    let links = numbers(alloc, fields, Field::Links, MOST_LINKS)?;
+    let links = numbers(alloc, fields, Field::Links, LONGEST_PATH)?;
     let potentials = potentials(alloc, fields)?;
     let routers = numbers(alloc, fields, Field::Routers, MOST_ROUTERS)?;
     let terminator = fields.number(Field::Terminator, 1, u32::MAX)?;

@@ -13,12 +13,9 @@ use crate::content_types::{
 };
 use crate::optional_fields::{flag_or_not, number_or};
 use crate::reading::CodecFault;
-use ctrl_model::{Command, Field, Name, Names};
+use ctrl_model::{Command, Field, MOST_COST, Name, Names};
 use json_body::Fields;
 use std::alloc::Global;
-
-// The greatest cost of a router, of a terminator or of a link.
-pub(crate) const MOST_COST: u32 = 65_535;
 
 // The fields of a body that makes or updates an identity or a service, and of one that makes or updates a router.
 const ENTITY_FIELDS: [Field; 2] = [Field::Name, Field::Attributes];

@@ -8,15 +8,12 @@ use crate::bodies::value_in;
 use crate::content_types::{
     CREATE_LINK, DELETE_LINK, REPORT_LATENCY, REPORT_STATE, SET_LEAST_ROUTER_COST, SET_LINK_COST,
 };
-use crate::entity_bodies::{MOST_COST, named};
+use crate::entity_bodies::named;
 use crate::optional_fields::number_or;
 use crate::reading::CodecFault;
-use ctrl_model::{Command, Field};
+use ctrl_model::{Command, Field, MOST_COST, MOST_LATENCY};
 use json_body::Fields;
 use std::alloc::Global;
-
-// The greatest latency that an end of a link reports.
-const MOST_LATENCY: u32 = 60_000;
 
 // The fields of a body that makes a link.
 const LINK_FIELDS: [Field; 6] = [

@@ -5,14 +5,11 @@ ghost use Rattle.command_codec.specs.RoleLists.{side_of, as_side};
 ghost use Rattle.command_codec.specs.ReadResults.{Gives};
 
 use crate::item_lists::{ListItem, list};
-use ctrl_model::{Field, Role, Side};
+use ctrl_model::{Field, MOST_ENTRIES, Role, Side};
 use json_body::{FieldFault, Fields};
 use role_expr::{RoleFault, read_role};
 use serde_json::Value;
 use std::alloc::{AllocError, Global};
-
-// How many entries a role list may have as it is sent.
-const MOST_ROLES: usize = 64;
 
 // The role entry that some bytes are, if they are one.
 fn role_in(alloc: Global, bytes: &[u8]) -> Result<Option<Role>, AllocError>
@@ -58,6 +55,6 @@ fn side_of(alloc: Global, roles: &[Role]) -> Result<Option<Side>, AllocError>
 pub(crate) fn side(alloc: Global, fields: &Fields, field: Field) -> Result<Side, FieldFault>
     ensures { Gives FieldFault.NoMemory (λ s. s) result (required as_side field (object_of fields.now)) }
 {
-    let roles: Vec<Role> = list(alloc, fields, field, MOST_ROLES)?;
+    let roles: Vec<Role> = list(alloc, fields, field, MOST_ENTRIES)?;
     side_of(alloc, roles.as_slice())?.ok_or(FieldFault::WrongKind(field))
 }

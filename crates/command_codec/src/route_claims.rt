@@ -9,15 +9,10 @@ ghost use Rattle.command_codec.specs.ReadResults.{Gives};
 ghost use Rattle.command_codec.specs.RouteClaims.{as_numbers, as_potentials, has_reach_keys, router_in, values_in};
 
 use crate::item_lists::{ListItem, each_in, list};
-use ctrl_model::{Field, Numbers, Potentials, Reach, Reaches, RouterNo};
+use ctrl_model::{Field, MOST_ROUTERS, Numbers, Potentials, Reach, Reaches, RouterNo};
 use json_body::{FieldFault, Fields, as_list_of, as_number_in};
 use serde_json::{Map, Value};
 use std::alloc::{AllocError, Global};
-
-// How many values a potential may have, and how many potentials a claim.
-const MOST_VALUES: usize = 256;
-
-const MOST_POTENTIALS: usize = 256;
 
 // The key of the values of a potential.
 const VALUES: &str = "values";
@@ -106,7 +101,7 @@ fn values_in(alloc: Global, value: &Value) -> Result<Option<Vec<u64>>, AllocErro
     let Some(values) = value.get(VALUES) else {
         return Ok(None);
     };
-    match as_list_of(values, MOST_VALUES) {
+    match as_list_of(values, MOST_ROUTERS) {
         Some(values) => each_in(alloc, values),
         None => Ok(None),
     }
@@ -128,5 +123,5 @@ pub(crate) fn numbers(
 pub(crate) fn potentials(alloc: Global, fields: &Fields) -> Result<Reaches, FieldFault>
     ensures { Gives FieldFault.NoMemory (λ r. r) result (required as_potentials Field.Potentials (object_of fields.now)) }
 {
-    Ok(Reaches::of(list(alloc, fields, Field::Potentials, MOST_POTENTIALS)?))
+    Ok(Reaches::of(list(alloc, fields, Field::Potentials, MOST_ROUTERS)?))
 }

@@ -7,11 +7,10 @@ ghost use Rattle.command_codec.specs.ReadResults.{Gives};
 
 use crate::bodies::value_in;
 use crate::content_types::{CREATE_TERMINATOR, DELETE_TERMINATOR, UPDATE_TERMINATOR};
-use crate::entity_bodies::MOST_COST;
 use crate::field_words::precedence;
 use crate::optional_fields::{instance_or_empty, name_or_none, number_or, precedence_or_default};
 use crate::reading::CodecFault;
-use ctrl_model::{Command, Field};
+use ctrl_model::{Command, Field, MOST_COST};
 use json_body::Fields;
 use std::alloc::Global;
 

@@ -12,11 +12,10 @@ ghost use Rattle.ctrl_core.specs.LoadedRows.{policy_flaw_of};
 use circuit_settling::{Standing, stays_here};
 use circuits::Circuit;
 use core_stores::{Stores, left_kind, right_kind};
-use ctrl_model::{Kind, Names, Side};
+use ctrl_model::{Kind, Names, Side, limit};
 use entity_store::Entities;
 use policy_store::{Policy, policy_names};
 use record_flaws::{Coming, Findings};
-use record_tables::limit;
 use state_building::Flaw;
 use std::alloc::{AllocError, Global};
 

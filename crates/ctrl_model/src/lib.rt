@@ -6,6 +6,7 @@ mod claims;
 mod commands;
 mod items;
 mod kinds;
+mod limits;
 mod numbering;
 mod refusals;
 mod replies;
@@ -15,6 +16,9 @@ pub use claims::{Explanation, Potentials, Reach, Reaches};
 pub use commands::Command;
 pub use items::{Copies, Items};
 pub use kinds::{Kind, Precedence, Relation, Role, RouterSeen, Semantic, Side, Who};
+pub use limits::{
+    LONGEST_NAME, LONGEST_PATH, MOST_COST, MOST_ENTRIES, MOST_LATENCY, MOST_ROUTERS, limit,
+};
 pub use numbering::{
     CircuitNo, IdentityNo, LinkNo, Numbers, PolicyNo, RouterNo, ServiceNo, TermNo,
 };

@@ -3,6 +3,7 @@ ghost use Rattle.std.specs.List.{list_all};
 ghost use Rattle.ctrl_model.specs.NameForm.{is_name, is_name_byte, is_instance};
 
 use crate::items::{Copies, Items};
+use crate::limits::LONGEST_NAME;
 use std::alloc::{AllocError, Global};
 use std::marker::Model;
 use thiserror::Error;
@@ -63,7 +64,7 @@ fn all_of_names(bytes: &[u8]) -> bool
 fn has_name_form(bytes: &[u8]) -> bool
     ensures { result ≡ is_name bytes.now }
 {
-    !bytes.is_empty() && bytes.len() <= 64 && all_of_names(bytes)
+    !bytes.is_empty() && bytes.len() <= LONGEST_NAME && all_of_names(bytes)
 }
 
 impl Name {

@@ -14,8 +14,8 @@ use crate::kind_tables::{KindTables, edit_row, mark_row, place_of, remove_row, s
 use crate::listing::add_listed;
 use crate::records::{EntityView, KeptRouter, RouterView};
 use attr_pool::Pool;
-use ctrl_model::{Kind, Name, Names, Numbers, RouterNo, RouterSeen};
-use record_tables::{NamedTable, limit};
+use ctrl_model::{Kind, Name, Names, Numbers, RouterNo, RouterSeen, limit};
+use record_tables::NamedTable;
 use std::alloc::{AllocError, Global};
 use std::marker::Model;
 use thiserror::Error;

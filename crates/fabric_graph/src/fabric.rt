@@ -17,9 +17,9 @@ ghost use Rattle.fabric_graph.specs.Routers.{AreRouters, network, number_at, cos
 use crate::ends::links_at;
 use crate::links::{LinkRow, LinkView};
 use crate::steps::{all_steps, by_place, flags};
-use ctrl_model::{Kind, LinkNo, Name, Numbers, RouterNo, RouterSeen};
+use ctrl_model::{Kind, LinkNo, Name, Numbers, RouterNo, RouterSeen, limit};
 use path_certificate::Graph;
-use record_tables::{NamedTable, limit};
+use record_tables::NamedTable;
 use std::alloc::{AllocError, Global};
 use std::marker::Model;
 use thiserror::Error;

@@ -8,8 +8,8 @@ ghost use Rattle.policy_store.specs.PolicyTables.{no_policies, is_policy_kind, p
 ghost use Rattle.policy_store.specs.PolicyRules.{has_kind_room, found, is_there, can_put, put_in, put_number, KeepsNumbers};
 
 use crate::records::{Hand, Policy, forget_in, put_in};
-use ctrl_model::{Kind, Name, Numbers, PolicyNo};
-use record_tables::{NamedTable, limit};
+use ctrl_model::{Kind, Name, Numbers, PolicyNo, limit};
+use record_tables::NamedTable;
 use std::alloc::{AllocError, Global};
 use std::marker::Model;
 use thiserror::Error;

@@ -7,9 +7,8 @@ ghost use Rattle.record_flaws.specs.FoundFlaws.{has_one_too_many, entity_flaw};
 ghost use Rattle.record_flaws.specs.StoresOfStates.{AreEntitiesOf};
 
 use crate::coming::{Coming, Findings};
-use ctrl_model::{Kind, Name, Names};
+use ctrl_model::{Kind, Name, Names, limit};
 use entity_store::Entities;
-use record_tables::limit;
 use state_building::Flaw;
 use std::alloc::Global;
 

@@ -7,10 +7,9 @@ ghost use Rattle.state_building.specs.JoinedRecords.{is_sound, flaw_of};
 ghost use Rattle.record_flaws.specs.StoresOfStates.{AreEntitiesOf, AreLinksOf};
 
 use crate::coming::{Coming, Findings};
-use ctrl_model::{Kind, Name, RouterNo};
+use ctrl_model::{Kind, Name, RouterNo, limit};
 use entity_store::Entities;
 use fabric_graph::Fabric;
-use record_tables::limit;
 use state_building::Flaw;
 
 // Whether both routers of a link are present.

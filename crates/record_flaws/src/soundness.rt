@@ -4,17 +4,8 @@ ghost use Rattle.ctrl_model.specs.Matches.{has_name, is_nothing};
 ghost use Rattle.row_codec.specs.RowForm.{is_row, are_listed, is_listed_side};
 ghost use Rattle.record_flaws.specs.SoundRows as sound;
 
-use ctrl_model::{Name, Names, RouterNo, Side};
+use ctrl_model::{MOST_COST, MOST_ENTRIES, MOST_LATENCY, Name, Names, RouterNo, Side};
 use row_codec::Row;
-
-/// How many entries both lists of a side may have.
-const MOST_ENTRIES: usize = 64;
-
-/// The greatest cost.
-const MOST_COST: u32 = 65_535;
-
-/// The greatest latency that one end of a link reports.
-const MOST_LATENCY: u32 = 60_000;
 
 // Whether a name stands among some.
 fn has_name(names: &[Name], name: &Name) -> bool

@@ -8,9 +8,8 @@ ghost use Rattle.state_building.specs.JoinedRecords.{is_sound, flaw_of};
 ghost use Rattle.record_flaws.specs.StoresOfStates.{AreEntitiesOf, AreTermsOf};
 
 use crate::coming::{Coming, Findings};
-use ctrl_model::{IdentityNo, Kind, RouterNo, ServiceNo};
+use ctrl_model::{IdentityNo, Kind, RouterNo, ServiceNo, limit};
 use entity_store::Entities;
-use record_tables::limit;
 use state_building::Flaw;
 use terminators::Terminators;
 

@@ -3,7 +3,6 @@
 #![tactic(auto)]
 
 mod entries;
-mod limits;
 mod named_tables;
 mod number_lists;
 mod numbered_tables;
@@ -13,7 +12,6 @@ mod turns;
 mod worked;
 
 pub use entries::{Entries, Named};
-pub use limits::limit;
 pub use named_tables::NamedTable;
 pub use number_lists::{is_among, left_of, turned};
 pub use numbered_tables::NumberedTable;

@@ -14,9 +14,9 @@ ghost use Rattle.terminators.specs.TermRules.{has_term_room, may_add, network, g
 use crate::admitting::{Grants, is_admissible};
 use crate::naming::standing_in;
 use crate::offers::{Term, TermView, is_not_bindable};
-use ctrl_model::{Instance, Kind, Numbers, Precedence, RouterSeen, ServiceNo, TermNo};
+use ctrl_model::{Instance, Kind, Numbers, Precedence, RouterSeen, ServiceNo, TermNo, limit};
 use grant_denorm::Counted;
-use record_tables::{NumberedTable, limit};
+use record_tables::NumberedTable;
 use std::alloc::{AllocError, Global};
 use std::marker::Model;
 use thiserror::Error;
