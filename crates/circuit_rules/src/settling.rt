@@ -74,12 +74,7 @@ fn are_settled_by_hops(view: &View, links: &[u32], entries: &[Reach]) -> bool
     requires { links.now ≡ numbers view.now.fabric.now.links.rows }
     ensures { result ≡ list_all (is_settled (network view.now)) entries.now }
 {
-    'entries: for entry in entries {
-        if !is_settled(view, links, entry) {
-            return false;
-        }
-    }
-    true
+    entries.iter().all(|entry| is_settled(view, links, entry))
 }
 
 // Whether the check over the graph of the links certifies the entry.
@@ -103,12 +98,7 @@ fn are_certified(view: &View, graph: &Graph, entries: &[Reach]) -> bool
     requires graph { IsGraphOf (network view.now) graph.now }
     ensures { result ≡ list_all (is_settled (network view.now)) entries.now }
 {
-    'entries: for entry in entries {
-        if !is_certified(view, graph, entry) {
-            return false;
-        }
-    }
-    true
+    entries.iter().all(|entry| is_certified(view, graph, entry))
 }
 
 // Whether the routers ascend by number.
