@@ -1,6 +1,5 @@
 pub mod GoingLaws
 pub mod WalkedLinks
-pub mod RowLaws
 pub mod FailingRows
 pub mod SettledRows
 pub mod HeldHops

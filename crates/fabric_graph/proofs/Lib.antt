@@ -6,3 +6,4 @@ pub mod OrderLaws
 pub mod FairLaws
 pub mod GraphLaws
 pub mod StateLaws
+pub mod ChangeLaws

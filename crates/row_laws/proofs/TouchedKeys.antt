@@ -27,8 +27,10 @@ use Rattle.row_laws.specs.ChangedKeys.{Climbs, pair_cmp, next_changes, setting_c
 use Rattle.row_laws.proofs.RisingRows.{Above, All-each, All-map}
 use Rattle.row_laws.proofs.KeyOrders.{key_total, less_by_first, nat_cmp-equal, long_upto}
 use Rattle.record_tables.specs.AfterChange.{touched_numbers, without_numbers}
+use Rattle.record_tables.specs.declared.turns.Turn.{Turn}
+use Rattle.record_tables.specs.Turns.{turned_number, turned_table}
 use Rattle.record_tables.proofs.GoneLaws.{Climbs-numbers, touched_climb}
-use Rattle.record_tables.proofs.TurnLaws.{elsewhere}
+use Rattle.record_tables.proofs.TurnLaws.{elsewhere, untouched-turned}
 use Rattle.row_laws.proofs.TableRows.{row_at-table, has_number, kind_has_number, lies_in_one}
 use Rattle.row_laws.proofs.Covers.{paired}
 
@@ -263,11 +265,13 @@ pub Covers-then_kept : (k : Kind) (s e t : State) (keeps : ℕ × Record k → B
 Covers-then_kept k s e t keeps ns h climbs fits same inside is = Covers-records k s t ns h climbs fits (λ n misses.
     same n misses ∙ at_table k e t (with_kept keeps (table k e)) n is (at-kept keeps (table k e).rows n (λ m. misses (inside n m))))
 
--- a table that differs from the old one at the number of one record alone, if one is changed, and then loses the records of some numbers
-pub Covers-touched : (k : Kind) (s t : State) (changed : Option ℕ) (ns : List ℕ) (after : Table (Record k)) → 1 ≤ kind_number k
-    → Climbs (λ n. n) ns → list_all is_long (touched_numbers changed ns) ≡ true
-    → ((n : ℕ) → (changed ≡ Some n → ⊥) → at (table k s).rows n ≡ at after.rows n) → table k t ≡ without_numbers ns after
+-- a table that one change turns, and that then loses the records of some numbers
+pub Covers-turned : (k : Kind) (s t : State) (set : Record k → Record k) (turn : Turn (Record k)) (ns : List ℕ) (before after : Table (Record k)) (changed : Option ℕ)
+    → 1 ≤ kind_number k → Climbs (λ n. n) ns → list_all is_long (touched_numbers changed ns) ≡ true → changed ≡ turned_number turn before.next
+    → turned_table set turn before ≡ after → table k s ≡ before → table k t ≡ without_numbers ns after
     → Covers (kind_number k + 2) (kind_number k + 3) s t (record_changes k s t (touched_numbers changed ns))
-Covers-touched k s t changed ns after h climbs fits untouched is =
+Covers-turned k s t set turn ns before after changed h climbs fits touched turns is goes =
     Covers-records k s t (touched_numbers changed ns) h (touched_climb changed ns climbs) fits (λ n misses.
-    at_table k s t (without_numbers ns after) n is (elsewhere changed ns (table k s) after untouched n misses))
+    at_table k s t (without_numbers ns after) n goes
+    (ap (λ (u : Table (Record k)). at u.rows n) is ∙ elsewhere changed ns before after (λ m other.
+    untouched-turned set turn before m (λ e. other (touched ∙ e)) ∙ ap (λ (u : Table (Record k)). at u.rows m) turns) n misses))

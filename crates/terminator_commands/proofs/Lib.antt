@@ -1,2 +1,1 @@
 pub mod TermPlanLaws
-pub mod RowLaws

@@ -1,1 +1,2 @@
 pub mod TermLaws
+pub mod ChangeLaws

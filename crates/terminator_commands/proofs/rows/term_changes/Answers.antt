@@ -1,26 +1,22 @@
-use Rattle.std.proofs.Common.{◌≡◌, List, ◌∙◌, sym, ap, ap₂, subst}
-use Rattle.std.specs.List.{list_all}
+use Rattle.std.proofs.Common.{◌∙◌, ap, lit≤}
 use Rattle.std.specs.Option.{option_map}
 use Rattle.ctrl_model.specs.declared.kinds.Kind.TheVariants as kind
-use Rattle.record_tables.specs.AfterChange.{touched_numbers}
+use Rattle.record_tables.specs.AfterChange.{changed_by, touched_numbers}
 use Rattle.record_tables.specs.Turns.{turned_number}
-use Rattle.row_codec.specs.declared.changes.Change.{Change}
-use Rattle.row_codec.specs.CoveredTables.{Covers}
-use Rattle.row_codec.specs.RowKeys.{is_long}
-use Rattle.row_spelling.specs.RecordChanges.{value_at, changes_at}
-use Rattle.terminators.specs.ChangedTerms.{turn_of}
-use Rattle.terminators.specs.TermChanges.{terms_after}
+use Rattle.row_laws.proofs.TouchedKeys.{Covers-turned}
+use Rattle.row_spelling.proofs.CoverLaws.{Covers-made}
+use Rattle.terminators.specs.ChangedTerms.{turn_of, set_by}
+use Rattle.terminators.specs.TermChanges.{after_term_change, terms_after}
 use Rattle.terminators.specs.TermTables.{TermTables}
-use Rattle.terminator_commands.proofs.RowLaws.{changes_cover}
+use Rattle.terminators.proofs.ChangeLaws.{terms_turned}
 use Rattle.terminator_commands.proofs.rows.term_changes.Goals as goal
 
 pub returns : goal.returns
 returns c = λ s t before after.
-    let k = c.args.terminators.now in
+    let now = c.args.terminators.now in
     let change = option_map (λ d. d.now) c.args.change in
     let gone = c.args.gone.now in
-    let ns = touched_numbers (turned_number (turn_of change) k.terminators.next) gone in
-    let those = ap (λ o. touched_numbers o gone) (c.changed_number-changed.ensures ∙ ap (turned_number (turn_of change)) c.next.ensures.next) in
-    let made : c.in_ok-changes.changes ≡ changes_at kind.Terminator (value_at kind.Terminator k.terminators.rows) (value_at kind.Terminator (terms_after change gone k).terminators.rows) ns =
-    c.in_ok-changes.ensures.changes ∙ ap₂ (λ (u : TermTables) ns. changes_at kind.Terminator (value_at kind.Terminator k.terminators.rows) (value_at kind.Terminator u.terminators.rows) ns) c.new-after.ensures those in
-    subst (λ (cs : List Change). Covers 10 11 s t cs) (sym made) (changes_cover change gone k s t c.requires.climb (ap (list_all is_long) (sym those) ∙ c.in_ok-changes.ensures.long) before after)
+    Covers-made kind.Terminator 10 11 s t now.terminators (terms_after change gone now).terminators c.new-after.result.terminators (touched_numbers c.changed_number-changed.result gone) c.in_ok-changes.changes
+    c.in_ok-changes.ensures.changes (ap (λ (u : TermTables). u.terminators) c.new-after.ensures) before after
+    (Covers-turned kind.Terminator s t (set_by change) (turn_of change) gone now.terminators (changed_by after_term_change change now).terminators c.changed_number-changed.result (lit≤ tt) c.requires.climb c.in_ok-changes.ensures.long
+    (c.changed_number-changed.ensures ∙ ap (turned_number (turn_of change)) c.next.ensures.next) (terms_turned change now) before after)
