@@ -21,8 +21,7 @@ use Rattle.ctrl_model.specs.ValidState.{ValidState}
 use Rattle.ctrl_model.proofs.NumberedLaws.{Between-more, at-with_last, at-past}
 use Rattle.model_laws.proofs.KindLaws.{with_table-holds}
 use Rattle.entity_store.proofs.EditLaws.{edit_at-with_last}
-use Rattle.entity_commands.specs.EntityChanges.{with_plain, with_marked}
-use Rattle.policy_store.specs.PolicyChanges.{with_policy}
+use Rattle.entity_commands.specs.EntityChanges.{with_marked}
 use Rattle.policy_store.specs.StepsOfRelations.{HasNoSteps}
 use Rattle.policy_store.specs.declared.steps.GrantSteps.{GrantSteps}
 use Rattle.fabric_graph.specs.declared.changes.LinkChange.{LinkChange}
@@ -44,7 +43,7 @@ use Rattle.core_stores.specs.declared.stores.Stores.{Stores}
 use Rattle.core_stores.specs.CarriedStates.{Carries}
 use Rattle.core_stores.specs.LeadingSteps.{LeadAllCounts}
 use Rattle.ctrl_core.specs.Changes.{after_change}
-use Rattle.ctrl_core.specs.JoinedRows.{MayJoin, MayJoinPlain, MayJoinPolicy}
+use Rattle.ctrl_core.specs.JoinedRows.{MayJoin}
 use Rattle.ctrl_core.specs.KeptState.{Keeps}
 use Rattle.core_stores.specs.StoredState.{counts_of, state_of}
 use Rattle.ctrl_core.proofs.PlanLaws.{no_steps_lead}
@@ -101,36 +100,13 @@ network_leads c s steps (inr (inr of)) none =
     let after = after_circuit_change of.0 (circuits_of s) in
     subst (λ d. LeadAllCounts s (after_change d s) steps) (sym of.1) (network_still s.links s.terminators after.circuits s.least_router_cost s steps none)
 
--- ---- identities, services and policies
+-- ---- a record that may join
 
-above : (k : Kind) (n : ℕ) (r : Record k) (s : State) → MayJoin k n r s → (table k s).next ≤ n
+pub above : (k : Kind) (n : ℕ) (r : Record k) (s : State) → MayJoin k n r s → (table k s).next ≤ n
 above k n r s may = (IsFlawless-from (λ j. may.end) k n r s may.flawless).above
 
 pub joins_valid : (k : Kind) (n : ℕ) (r : Record k) (s : State) → ValidState s → MayJoin k n r s → ValidState (joined k n r s)
 joins_valid k n r s v may = joined-valid (λ j. may.end) k n r s v may.last may.flawless
-
-pub plain_above : (k : Kind) (n : ℕ) (name : List ℕ) (attributes : List (List ℕ)) (s : State) → MayJoinPlain k n name attributes s → (table k s).next ≤ n
-plain_above kind.Identity n name attributes s may = above kind.Identity n (record { name = name; attributes = attributes }) s may
-plain_above kind.Service n name attributes s may = above kind.Service n (record { name = name; attributes = attributes }) s may
-plain_above _ n name attributes s may = absurd may
-
-pub plain_valid : (k : Kind) (n : ℕ) (name : List ℕ) (attributes : List (List ℕ)) (s : State) → ValidState s → MayJoinPlain k n name attributes s
-    → ValidState (with_plain k name attributes (skipped k n s))
-plain_valid kind.Identity n name attributes s v may = joins_valid kind.Identity n (record { name = name; attributes = attributes }) s v may
-plain_valid kind.Service n name attributes s v may = joins_valid kind.Service n (record { name = name; attributes = attributes }) s v may
-plain_valid _ n name attributes s v may = absurd may
-
-pub policy_above : (k : Kind) (n : ℕ) (p : Policy) (s : State) → MayJoinPolicy k n p s → (table k s).next ≤ n
-policy_above kind.ServicePolicy n p s may = above kind.ServicePolicy n p s may
-policy_above kind.EdgeRouterPolicy n p s may = above kind.EdgeRouterPolicy n p s may
-policy_above kind.ServiceEdgeRouterPolicy n p s may = above kind.ServiceEdgeRouterPolicy n p s may
-policy_above _ n p s may = absurd may
-
-pub policy_valid : (k : Kind) (n : ℕ) (p : Policy) (s : State) → ValidState s → MayJoinPolicy k n p s → ValidState (with_policy k p (skipped k n s))
-policy_valid kind.ServicePolicy n p s v may = joins_valid kind.ServicePolicy n p s v may
-policy_valid kind.EdgeRouterPolicy n p s v may = joins_valid kind.EdgeRouterPolicy n p s v may
-policy_valid kind.ServiceEdgeRouterPolicy n p s v may = joins_valid kind.ServiceEdgeRouterPolicy n p s v may
-policy_valid _ n p s v may = absurd may
 
 -- ---- routers
 

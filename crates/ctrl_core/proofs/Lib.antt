@@ -15,4 +15,5 @@ pub mod CountRows
 pub mod TakenLaws
 pub mod LoadedLaws
 pub mod JoinedLaws
+pub mod NewRecordLaws
 pub mod PolicyFlaws

@@ -1,10 +1,7 @@
--- Plans of commands whose crates plan them over parts of the state and whose changes move no count, as those of links, terminators
--- and circuits; and what settling leaves.
+-- Plans of the families of commands as plans of the core, with their steps; and what settling leaves.
 use Rattle.std.proofs.Common.{◌≡◌, Option, None, Some, refl, sym, ◌∙◌, ap, subst}
 use Rattle.std.proofs.lemmas.Option.{none-some}
 use Rattle.std.specs.Option.{option_map}
-use Rattle.ctrl_model.specs.declared.kinds.Relation.{Relation}
-use Rattle.ctrl_model.specs.declared.kinds.Relation.TheVariants.{Dial, Bind, IdentityRouter, ServiceRouter}
 use Rattle.ctrl_model.specs.declared.replies.Reply.{Reply}
 use Rattle.ctrl_model.specs.Grants.{count}
 use Rattle.ctrl_model.specs.Settling.{settle}
@@ -12,19 +9,12 @@ use Rattle.ctrl_model.specs.State.{State}
 use Rattle.model_laws.specs.declared.plans.Plan.{Plan}
 use Rattle.model_laws.specs.Plans as plans
 use Rattle.grant_moves.specs.CountMoves.{LeadCounts}
-use Rattle.fabric_graph.specs.declared.changes.LinkChange.{LinkChange}
-use Rattle.link_commands.specs.LinkChanges as linked
 use Rattle.policy_store.specs.declared.steps.GrantSteps.{GrantSteps}
 use Rattle.policy_store.specs.StepsOfRelations.{HasNoSteps, steps_of}
-use Rattle.circuits.specs.declared.changes.CircuitChange.{CircuitChange}
-use Rattle.terminators.specs.declared.changes.TermChange.{TermChange}
-use Rattle.terminator_commands.specs.TermChanges as offered
 use Rattle.core_stores.specs.declared.changes.Change.{Change}
-use Rattle.core_stores.specs.declared.changes.Change.TheVariants as change
 use Rattle.core_stores.specs.declared.changes.Draft.{Draft}
 use Rattle.core_stores.specs.declared.stores.Stores.{Stores}
 use Rattle.core_stores.specs.CarriedStates.{Carries}
-use Rattle.circuit_rules.specs.CircuitPlans.{CanRoute, routed}
 use Rattle.core_stores.specs.StoredState.{state_of}
 use Rattle.ctrl_core.specs.Changes.{CanChange, after_change}
 use Rattle.core_stores.specs.LeadingSteps.{LeadAllCounts}
@@ -33,7 +23,7 @@ use Rattle.core_stores.specs.SettledNumbers.{AreSettled, without_settled}
 use Rattle.core_stores.specs.declared.settled.Settled.{Settled}
 use Rattle.ctrl_core.proofs.StateParts.{without_is_settled}
 use Rattle.ctrl_core.specs.PlannedCommands.{Plans}
-use Rattle.core_stores.specs.Drafts.{IsShown, IsUncounted}
+use Rattle.core_stores.specs.Drafts.{IsShown}
 use Rattle.ctrl_core.proofs.PlanLaws.{no_steps_lead, settled_lead}
 
 -- ---- settling
@@ -59,64 +49,37 @@ module _ {C : Type 0} (after : C → State → State) (can_be : C → State → 
   leads None = refl
   leads (Some c) = ap settle (same c)
 
-  -- a plan of a family, with steps to the counts of the state that it leads to
-  pub counted_planned : (made : Plan C) (p : Draft) (answered : Reply × State) → plans.Plans after can_be made answered s
-      → p.reply ≡ made.reply → p.change ≡ option_map embed made.change → (made.change ≡ None → HasNoSteps p.steps) → LeadAllCounts s (plans.led_by after made.change s) p.steps
-      → Plans p answered s
-  counted_planned made p answered planned reply_is change_is none counted = record {
-    reply = reply_is ∙ planned.reply;
-    can = subst (λ (o : Option Change). plans.CanLeadBy CanChange o s) (sym change_is) (can_lead made.change planned.can);
-    next = ap (λ (o : Option Change). plans.led_by after_change o s) change_is ∙ leads made.change ∙ planned.next;
-    still = λ tells. record { change_is = change_is ∙ ap (option_map embed) (planned.still tells); no_steps = none (planned.still tells) };
-    counts = subst (λ t. LeadAllCounts s t p.steps) planned.next counted;
+  -- a plan of a family, as one of the core
+  pub planned_so : (made : Plan C) (change : Option Change) (answered : Reply × State) → change ≡ option_map embed made.change → plans.Plans after can_be made answered s
+      → plans.Plans after_change CanChange (record { reply = made.reply; change = change }) answered s
+  planned_so made change answered is planned = record {
+    reply = planned.reply;
+    can = subst (λ (o : Option Change). plans.CanLeadBy CanChange o s) (sym is) (can_lead made.change planned.can);
+    next = ap (λ (o : Option Change). plans.led_by after_change o s) is ∙ leads made.change ∙ planned.next;
+    still = λ tells. is ∙ ap (option_map embed) (planned.still tells);
   }
 
-  -- a plan of a family without a change
-  pub shown_planned : (made : Plan C) (p : Draft) (answered : Reply × State) → made.change ≡ None → IsShown made.reply p → plans.Plans after can_be made answered s → Plans p answered s
-  shown_planned made p answered none is planned =
-      counted_planned made p answered planned is.reply_is (is.change_is ∙ sym (ap (option_map embed) none)) (λ e. is.no_steps)
-      (λ r. subst (λ o. LeadCounts (count r s) (count r (plans.led_by after o s)) (steps_of r p.steps)) (sym none) (no_steps_lead s p.steps is.no_steps r))
+-- the draft of a plan, with steps to the counts of the state that it leads to
+drafted_planned : (made : Plan Change) (p : Draft) (answered : Reply × State) (s : State) → plans.Plans after_change CanChange made answered s → p.reply ≡ made.reply
+    → p.change ≡ made.change → (made.change ≡ None → HasNoSteps p.steps) → LeadAllCounts s (plans.led_by after_change made.change s) p.steps → Plans p answered s
+drafted_planned made p answered s planned reply_is change_is none counted = record {
+  reply = reply_is ∙ planned.reply;
+  can = subst (λ (o : Option Change). plans.CanLeadBy CanChange o s) (sym change_is) planned.can;
+  next = ap (λ (o : Option Change). plans.led_by after_change o s) change_is ∙ planned.next;
+  still = λ tells. record { change_is = change_is ∙ planned.still tells; no_steps = none (planned.still tells) };
+  counts = subst (λ t. LeadAllCounts s t p.steps) planned.next counted;
+}
 
-  -- a plan of a family with a change, whose steps are known
-  pub changed_planned : (made : Plan C) (c : C) (steps : GrantSteps) (answered : Reply × State) → made.change ≡ Some c → LeadAllCounts s (after c s) steps
-      → plans.Plans after can_be made answered s → Plans (record { reply = made.reply; change = Some (embed c); steps = steps }) answered s
-  changed_planned made c steps answered some leading planned =
-      counted_planned made (record { reply = made.reply; change = Some (embed c); steps = steps }) answered planned refl (sym (ap (option_map embed) some))
-      (λ e. absurd (none-some c (sym e ∙ some)))
-      (λ r. subst (λ o. LeadCounts (count r s) (count r (plans.led_by after o s)) (steps_of r steps)) (sym some) (settled_lead r s (after c s) (steps_of r steps) (leading r)))
+-- the draft of a plan without a change
+pub shown_planned : (made : Plan Change) (p : Draft) (answered : Reply × State) (s : State) → made.change ≡ None → IsShown made.reply p
+    → plans.Plans after_change CanChange made answered s → Plans p answered s
+shown_planned made p answered s none is planned =
+    drafted_planned made p answered s planned is.reply_is (is.change_is ∙ sym none) (λ e. is.no_steps)
+    (λ r. subst (λ o. LeadCounts (count r s) (count r (plans.led_by after_change o s)) (steps_of r p.steps)) (sym none) (no_steps_lead s p.steps is.no_steps r))
 
-  -- a plan of a family whose changes move no count
-  pub family_planned : ((c : C) (r : Relation) → count r (settle (after c s)) ≡ count r s) → (made : Plan C) (p : Draft) (answered : Reply × State)
-      → plans.Plans after can_be made answered s → IsUncounted made.reply (option_map embed made.change) p → Plans p answered s
-  family_planned uncounted made p answered planned is =
-      counted_planned made p answered planned is.reply_is is.change_is (λ e. is.no_steps)
-      (λ r. subst (λ f. LeadCounts (count r s) f (steps_of r p.steps)) (sym (stay made.change r)) (no_steps_lead s p.steps is.no_steps r))
-    where
-      stay : (o : Option C) (r : Relation) → count r (plans.led_by after o s) ≡ count r s
-      stay None r = refl
-      stay (Some c) r = uncounted c r
-
--- ---- links, terminators and circuits
-
--- A state with the links, the terminators, the circuits and the setting of another one.
-abbrev beside : State → State → State
-beside s t = record s { links = t.links; terminators = t.terminators; circuits = t.circuits; least_router_cost = t.least_router_cost }
-
--- None of these counts.
-same_counts : (s t : State) (r : Relation) → count r (beside s t) ≡ count r s
-same_counts s t Dial = refl
-same_counts s t Bind = refl
-same_counts s t IdentityRouter = refl
-same_counts s t ServiceRouter = refl
-
-pub links_planned : (s : State) (made : Plan LinkChange) (p : Draft) (answered : Reply × State) → plans.Plans linked.linked linked.CanLink made answered s
-    → IsUncounted made.reply (option_map change.Link made.change) p → Plans p answered s
-links_planned s = family_planned linked.linked linked.CanLink change.Link s (λ c. refl) (λ c can. can) (λ c. same_counts s (settle (linked.linked c s)))
-
-pub terms_planned : (s : State) (made : Plan TermChange) (p : Draft) (answered : Reply × State) → plans.Plans offered.offered offered.CanOffer made answered s
-    → IsUncounted made.reply (option_map change.Terminator made.change) p → Plans p answered s
-terms_planned s = family_planned offered.offered offered.CanOffer change.Terminator s (λ c. refl) (λ c can. can) (λ c. same_counts s (settle (offered.offered c s)))
-
-pub circuits_planned : (s : State) (made : Plan CircuitChange) (p : Draft) (answered : Reply × State) → plans.Plans routed CanRoute made answered s
-    → IsUncounted made.reply (option_map change.Circuit made.change) p → Plans p answered s
-circuits_planned s = family_planned routed CanRoute change.Circuit s (λ c. refl) (λ c can. can) (λ c. same_counts s (settle (routed c s)))
+-- the draft of a plan with a change, whose steps are known
+pub changed_planned : (made : Plan Change) (c : Change) (steps : GrantSteps) (answered : Reply × State) (s : State) → made.change ≡ Some c → LeadAllCounts s (after_change c s) steps
+    → plans.Plans after_change CanChange made answered s → Plans (record { reply = made.reply; change = Some c; steps = steps }) answered s
+changed_planned made c steps answered s some leading planned =
+    drafted_planned made (record { reply = made.reply; change = Some c; steps = steps }) answered s planned refl (sym some) (λ e. absurd (none-some c (sym e ∙ some)))
+    (λ r. subst (λ o. LeadCounts (count r s) (count r (plans.led_by after_change o s)) (steps_of r steps)) (sym some) (settled_lead r s (after_change c s) (steps_of r steps) (leading r)))

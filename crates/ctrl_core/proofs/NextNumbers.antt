@@ -24,6 +24,7 @@ use Rattle.entity_store.specs.declared.changes.EntityChange.{EntityChange}
 use Rattle.entity_store.specs.declared.changes.EntityChange.TheVariants as entity
 use Rattle.entity_store.specs.EntityChanges.{after_entity_change}
 use Rattle.entity_store.specs.EntityTables.{Tables}
+use Rattle.entity_store.specs.EntityTables as tables
 use Rattle.fabric_graph.specs.declared.changes.LinkChange.{LinkChange}
 use Rattle.fabric_graph.specs.declared.changes.LinkChange.TheVariants as link
 use Rattle.fabric_graph.specs.FabricChanges.{after_link_change}
@@ -50,36 +51,38 @@ none_more n = omega arith
 
 -- ---- entities
 
-identity_next : (o : Option EntityChange) (t : Tables) → (changed_by after_entity_change o t).identities.next ≡ t.identities.next + cond (adds_entity o kind.Identity) 1 0
-identity_next None t = none_more t.identities.next
-identity_next (Some (entity.Add kind.Identity name attributes)) t = refl
-identity_next (Some (entity.Add _ name attributes)) t = none_more t.identities.next
-identity_next (Some (entity.Describe kind.Identity n attributes)) t = none_more t.identities.next
-identity_next (Some (entity.Describe _ n attributes)) t = none_more t.identities.next
-identity_next (Some (entity.Remove kind.Identity n name)) t = none_more t.identities.next
-identity_next (Some (entity.Remove _ n name)) t = none_more t.identities.next
-identity_next (Some _) t = none_more t.identities.next
+-- the next number of a kind of entities rises by one where a change adds one of the kind, and else stays
+abbrev EntityNext : Option EntityChange → Tables → Kind → Type 0
+EntityNext o t k = tables.next_of k (changed_by after_entity_change o t) ≡ tables.next_of k t + cond (adds_entity o k) 1 0
 
-service_next : (o : Option EntityChange) (t : Tables) → (changed_by after_entity_change o t).services.next ≡ t.services.next + cond (adds_entity o kind.Service) 1 0
-service_next None t = none_more t.services.next
-service_next (Some (entity.Add kind.Service name attributes)) t = refl
-service_next (Some (entity.Add _ name attributes)) t = none_more t.services.next
-service_next (Some (entity.Describe kind.Service n attributes)) t = none_more t.services.next
-service_next (Some (entity.Describe _ n attributes)) t = none_more t.services.next
-service_next (Some (entity.Remove kind.Service n name)) t = none_more t.services.next
-service_next (Some (entity.Remove _ n name)) t = none_more t.services.next
-service_next (Some _) t = none_more t.services.next
+entity_nexts : (o : Option EntityChange) (t : Tables) → EntityNext o t kind.Identity × EntityNext o t kind.Service × EntityNext o t kind.Router
+entity_nexts o t = by o
+  where
+    identities : t.identities.next ≡ t.identities.next + 0
+    identities = none_more t.identities.next
 
-router_next : (o : Option EntityChange) (t : Tables) → (changed_by after_entity_change o t).routers.next ≡ t.routers.next + cond (adds_entity o kind.Router) 1 0
-router_next None t = none_more t.routers.next
-router_next (Some (entity.Add kind.Router name attributes)) t = refl
-router_next (Some (entity.Add _ name attributes)) t = none_more t.routers.next
-router_next (Some (entity.Describe kind.Router n attributes)) t = none_more t.routers.next
-router_next (Some (entity.Describe _ n attributes)) t = none_more t.routers.next
-router_next (Some (entity.Remove kind.Router n name)) t = none_more t.routers.next
-router_next (Some (entity.Remove _ n name)) t = none_more t.routers.next
-router_next (Some (entity.AddRouter name attributes cost through)) t = refl
-router_next (Some _) t = none_more t.routers.next
+    services : t.services.next ≡ t.services.next + 0
+    services = none_more t.services.next
+
+    routers : t.routers.next ≡ t.routers.next + 0
+    routers = none_more t.routers.next
+
+    by : (o : Option EntityChange) → EntityNext o t kind.Identity × EntityNext o t kind.Service × EntityNext o t kind.Router
+    by (Some (entity.Add kind.Identity name attributes)) = (refl, services, routers)
+    by (Some (entity.Add kind.Service name attributes)) = (identities, refl, routers)
+    by (Some (entity.Add kind.Router name attributes)) = (identities, services, refl)
+    by (Some (entity.Add _ name attributes)) = (identities, services, routers)
+    by (Some (entity.AddRouter name attributes cost through)) = (identities, services, refl)
+    by (Some (entity.Describe kind.Identity n attributes)) = (identities, services, routers)
+    by (Some (entity.Describe kind.Service n attributes)) = (identities, services, routers)
+    by (Some (entity.Describe kind.Router n attributes)) = (identities, services, routers)
+    by (Some (entity.Describe _ n attributes)) = (identities, services, routers)
+    by (Some (entity.Remove kind.Identity n name)) = (identities, services, routers)
+    by (Some (entity.Remove kind.Service n name)) = (identities, services, routers)
+    by (Some (entity.Remove kind.Router n name)) = (identities, services, routers)
+    by (Some (entity.Remove _ n name)) = (identities, services, routers)
+    by (Some _) = (identities, services, routers)
+    by None = (identities, services, routers)
 
 -- ---- policies
 
@@ -160,9 +163,9 @@ circuit_next (Some _) k = none_more k.circuits.next
 -- ---- each kind
 
 next_then : (k : Kind) (c : Change) (st : Stores) → nat_le 1 (kind_number k) ≡ true → (table k (settle (state_then c st))).next ≡ (table k (state_of st)).next + cond (adds c k) 1 0
-next_then kind.Identity c st h = identity_next (entity_part c) st.entities
-next_then kind.Service c st h = service_next (entity_part c) st.entities
-next_then kind.Router c st h = router_next (entity_part c) st.entities
+next_then kind.Identity c st h = (entity_nexts (entity_part c) st.entities).0
+next_then kind.Service c st h = (entity_nexts (entity_part c) st.entities).1
+next_then kind.Router c st h = (entity_nexts (entity_part c) st.entities).2
 next_then kind.Link c st h = link_next (link_part c) st.fabric
 next_then kind.ServicePolicy c st h = service_policies_next c st
 next_then kind.EdgeRouterPolicy c st h = edge_policies_next c st

@@ -24,7 +24,7 @@ use Rattle.core_stores.specs.declared.stores.Stores.{Stores}
 use Rattle.core_stores.specs.StoredState.{HoldsPolicies}
 use Rattle.ctrl_core.specs.KeptState.{Keeps}
 use Rattle.core_stores.specs.StoredState.{state_of}
-use Rattle.ctrl_core.specs.LoadedRows.{policy_flaw_of}
+use Rattle.ctrl_core.specs.NewRecords.{policy_flaw_of}
 
 -- ---- policies
 

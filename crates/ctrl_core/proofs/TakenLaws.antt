@@ -8,14 +8,12 @@ use Rattle.ctrl_model.specs.declared.kinds.Relation.{Relation}
 use Rattle.ctrl_model.specs.declared.kinds.Relation.TheVariants.{Dial, Bind, IdentityRouter, ServiceRouter}
 use Rattle.ctrl_model.specs.CommandForm.{is_link_cost}
 use Rattle.ctrl_model.specs.Grants.{count}
-use Rattle.ctrl_model.specs.Limits.{last_next}
-use Rattle.ctrl_model.specs.State.{State, Entity, Policy}
+use Rattle.ctrl_model.specs.State.{State, Entity}
 use Rattle.ctrl_model.specs.ValidState.{is_valid_entity}
 use Rattle.entity_commands.specs.EntityChanges.{is_plain_kind}
 use Rattle.fabric_graph.specs.FabricTables.{with_least}
 use Rattle.grant_denorm.specs.MovedCounts.{AreCountsOf}
 use Rattle.grant_denorm.specs.PairCounts.{count_of}
-use Rattle.policy_store.specs.PolicyTables.{is_policy_kind}
 use Rattle.record_flaws.specs.declared.coming.Coming.{Coming}
 use Rattle.record_flaws.specs.StoresOfStates.{AreEntitiesOf}
 use Rattle.row_codec.specs.declared.rows.Row.TheVariants as row
@@ -24,12 +22,12 @@ use Rattle.state_building.specs.declared.flaws.Flaw.TheVariants.{NoRecord, Wrong
 use Rattle.state_building.specs.JoinedRecords.{flaw_if, flaw_of, is_sound}
 use Rattle.state_building.proofs.ComingRows.{row-valid}
 use Rattle.core_stores.specs.declared.stores.Stores.{Stores}
-use Rattle.ctrl_core.specs.JoinedRows.{KeepState, MayJoinPlain, MayJoinPolicy}
+use Rattle.ctrl_core.specs.JoinedRows.{KeepState}
 use Rattle.core_stores.specs.StoredState.{HoldsPolicies}
 use Rattle.ctrl_core.specs.KeptState.{Keeps}
 use Rattle.core_stores.specs.StoredState.{counts_of, state_of}
-use Rattle.ctrl_core.specs.LoadedRows.{policy_flaw_of}
-use Rattle.ctrl_core.specs.TakenRows.{Takes, plain_flaw_of}
+use Rattle.ctrl_core.specs.NewRecords.{plain_flaw_of}
+use Rattle.ctrl_core.specs.TakenRows.{Takes}
 
 -- ---- a flaw, or none
 
@@ -69,22 +67,6 @@ pub plain_told : (k : Kind) (c : Coming) (name : List ℕ) (attributes : List (L
 plain_told kind.Identity c name attributes st told p held sound identity service = identity _ (state_of st) refl refl (entities_of st held) sound
 plain_told kind.Service c name attributes st told p held sound identity service = service _ (state_of st) refl refl (entities_of st held) sound
 plain_told k c name attributes st told p held sound identity service = absurd (false≢true p)
-
--- an identity or a service without a flaw may join
-pub may_join_plain : (k : Kind) (end n : ℕ) (name : List ℕ) (attributes : List (List ℕ)) (s : State) → is_plain_kind k ≡ true → end ≤ last_next
-    → plain_flaw_of end k n name attributes s ≡ None → MayJoinPlain k n name attributes s
-may_join_plain kind.Identity end n name attributes s p last e = record { end = end; last = last; flawless = e }
-may_join_plain kind.Service end n name attributes s p last e = record { end = end; last = last; flawless = e }
-may_join_plain k end n name attributes s p last e = absurd (false≢true p)
-
--- ---- the policies
-
--- a policy without a flaw may join
-pub may_join_policy : (k : Kind) (end n : ℕ) (p : Policy) (s : State) → is_policy_kind k ≡ true → end ≤ last_next → policy_flaw_of end k n p s ≡ None → MayJoinPolicy k n p s
-may_join_policy kind.ServicePolicy end n p s h last e = record { end = end; last = last; flawless = e }
-may_join_policy kind.EdgeRouterPolicy end n p s h last e = record { end = end; last = last; flawless = e }
-may_join_policy kind.ServiceEdgeRouterPolicy end n p s h last e = record { end = end; last = last; flawless = e }
-may_join_policy k end n p s h last e = absurd (false≢true h)
 
 -- ---- the setting
 

@@ -1,13 +1,15 @@
--- When a record may join the stores of a core, and what then is (docs/PROMISES.md, "The core"). Only private functions and proofs of
+-- When a record may join a state, and that stores keep a state (docs/PROMISES.md, "The core"). Only private functions and proofs of
 -- this crate cite this file.
-use Rattle.std.specs.Prelude.{◌≡◌, ℕ, ◌≤◌, None, List}
+use Rattle.std.specs.Prelude.{◌≡◌, ℕ, ◌≤◌, None}
 use Rattle.ctrl_model.specs.declared.kinds.Kind.{Kind}
-use Rattle.ctrl_model.specs.declared.kinds.Kind.TheVariants as kind
 use Rattle.ctrl_model.specs.Limits.{last_next}
-use Rattle.ctrl_model.specs.State.{State, Policy}
-use Rattle.ctrl_model.specs.Tables.{Record}
-use Rattle.state_building.specs.JoinedRecords.{flaw_of, joined}
+use Rattle.ctrl_model.specs.State.{State}
+use Rattle.ctrl_model.specs.Tables.{Record, table}
+use Rattle.ctrl_model.specs.ValidState.{ValidState}
+use Rattle.state_building.specs.JoinedRecords.{flaw_of, skipped}
+use Rattle.core_stores.specs.declared.changes.Change.{Change}
 use Rattle.core_stores.specs.declared.stores.Stores.{Stores}
+use Rattle.ctrl_core.specs.Changes.{CanChange, after_change}
 use Rattle.ctrl_core.specs.KeptState.{Keeps}
 use Rattle.core_stores.specs.StoredState.{state_of}
 
@@ -17,33 +19,14 @@ pub record MayJoin (k : Kind) (n : ℕ) (r : Record k) (s : State) : Type 0 wher
   pub last : end ≤ last_next
   pub flawless : flaw_of (λ j. end) k n r s ≡ None
 
+-- A change that adds a record of a kind can be made under a number: the number is not below the next one of the kind, and once that
+-- one is raised to it, the change can be made and leads to a valid state.
+pub record CanJoin (k : Kind) (n : ℕ) (c : Change) (s : State) : Type 0 where
+  pub later : (table k s).next ≤ n
+  pub can : CanChange c (skipped k n s)
+  pub valid : ValidState (after_change c (skipped k n s))
+
 -- The stores keep a state.
 pub record KeepState (st : Stores) (s : State) : Type 0 where
   pub kept : Keeps st
   pub state_is : state_of st ≡ s
-
--- An identity or a service may join.
-abbrev pub MayJoinPlain : Kind → ℕ → List ℕ → List (List ℕ) → State → Type 0
-MayJoinPlain kind.Identity n name attributes s = MayJoin kind.Identity n (record { name = name; attributes = attributes }) s
-MayJoinPlain kind.Service n name attributes s = MayJoin kind.Service n (record { name = name; attributes = attributes }) s
-MayJoinPlain _ n name attributes s = ⊥
-
--- The state with one more identity or service.
-abbrev pub with_joined_plain : Kind → ℕ → List ℕ → List (List ℕ) → State → State
-with_joined_plain kind.Identity n name attributes s = joined kind.Identity n (record { name = name; attributes = attributes }) s
-with_joined_plain kind.Service n name attributes s = joined kind.Service n (record { name = name; attributes = attributes }) s
-with_joined_plain _ n name attributes s = s
-
--- A policy of a kind may join.
-abbrev pub MayJoinPolicy : Kind → ℕ → Policy → State → Type 0
-MayJoinPolicy kind.ServicePolicy n p s = MayJoin kind.ServicePolicy n p s
-MayJoinPolicy kind.EdgeRouterPolicy n p s = MayJoin kind.EdgeRouterPolicy n p s
-MayJoinPolicy kind.ServiceEdgeRouterPolicy n p s = MayJoin kind.ServiceEdgeRouterPolicy n p s
-MayJoinPolicy _ n p s = ⊥
-
--- The state with one more policy.
-abbrev pub with_joined_policy : Kind → ℕ → Policy → State → State
-with_joined_policy kind.ServicePolicy n p s = joined kind.ServicePolicy n p s
-with_joined_policy kind.EdgeRouterPolicy n p s = joined kind.EdgeRouterPolicy n p s
-with_joined_policy kind.ServiceEdgeRouterPolicy n p s = joined kind.ServiceEdgeRouterPolicy n p s
-with_joined_policy _ n p s = s

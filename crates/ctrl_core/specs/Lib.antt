@@ -9,3 +9,4 @@ pub mod LoadedRows
 pub mod OtherCommands
 pub mod TakenRows
 pub mod SettledParts
+pub mod NewRecords

@@ -1,11 +1,13 @@
 -- What taking a row leaves. Only private functions and proofs of this crate cite this file.
-use Rattle.std.specs.Prelude.{◌≡◌, ℕ, List, None}
+use Rattle.std.specs.Prelude.{◌≡◌, ◌==◌, not, None}
 use Rattle.std.specs.declared.option.Option.{Option}
-use Rattle.ctrl_model.specs.declared.kinds.Kind.{Kind}
-use Rattle.ctrl_model.specs.declared.kinds.Kind.TheVariants as kind
+use Rattle.ctrl_model.specs.Grants.{count}
 use Rattle.ctrl_model.specs.State.{State}
+use Rattle.row_codec.specs.declared.rows.Row.{Row}
 use Rattle.state_building.specs.declared.flaws.Flaw.{Flaw}
-use Rattle.state_building.specs.JoinedRecords.{flaw_of}
+use Rattle.state_building.specs.declared.flaws.Flaw.TheVariants.{WrongCount}
+use Rattle.state_building.specs.JoinedRecords.{flaw_if}
+use Rattle.state_building.specs.RowForms.{by_row}
 use Rattle.core_stores.specs.declared.stores.Stores.{Stores}
 use Rattle.ctrl_core.specs.JoinedRows.{KeepState}
 
@@ -14,8 +16,11 @@ pub record Takes (told flaw : Option Flaw) (st : Stores) (next : State) : Type 0
   pub told_is : told ≡ flaw
   pub taken : flaw ≡ None → KeepState st next
 
--- The flaw of an identity or a service.
-abbrev pub plain_flaw_of : ℕ → Kind → ℕ → List ℕ → List (List ℕ) → State → Option Flaw
-plain_flaw_of end kind.Identity n name attributes s = flaw_of (λ k. end) kind.Identity n (record { name = name; attributes = attributes }) s
-plain_flaw_of end kind.Service n name attributes s = flaw_of (λ k. end) kind.Service n (record { name = name; attributes = attributes }) s
-plain_flaw_of end _ n name attributes s = None
+-- Why a count that a row tells is wrong. Other rows tell none.
+abbrev pub count_flaw_of : Row → State → Option Flaw
+count_flaw_of x s = by_row (record {
+  next = λ k n. None;
+  setting = λ cost. None;
+  one = λ k n r. None;
+  count = λ r a b c. flaw_if (not (count r s a b == c)) WrongCount None;
+}) x

@@ -5,9 +5,13 @@ ghost use Rattle.entity_commands.specs.EntityChanges.{CanEnter, entered};
 ghost use Rattle.core_stores.specs.EntitySteps.{IsDescribed};
 ghost use Rattle.core_stores.specs.LeadingSteps.{LeadAllCounts};
 ghost use Rattle.core_stores.specs.StoredState.{state_of};
+ghost use Rattle.ctrl_core.specs.Changes.{CanChange, after_change};
 ghost use Rattle.ctrl_core.specs.KeptState.{Keeps};
 
-use core_stores::{Stores, coming_router_steps, coming_steps, described_steps, going_steps};
+use core_stores::{
+    Change, Stores, coming_router_steps, coming_steps, described_steps, going_steps,
+    policy_change_steps,
+};
 use ctrl_model::{Kind, Names};
 use entity_commands::EntityChange;
 use policy_store::GrantSteps;
@@ -26,8 +30,8 @@ fn described_router_steps(
     described_steps(alloc, stores, Kind::Router, number, attributes)
 }
 
-/// The steps that the counts take where a change of the entities is made.
-pub fn entity_change_steps(
+// The steps that the counts take where a change of the entities is made.
+fn entity_change_steps(
     alloc: Global,
     stores: &Stores,
     change: &EntityChange,
@@ -59,5 +63,22 @@ pub fn entity_change_steps(
         } => described_router_steps(alloc, stores, *number, attributes),
         EntityChange::Mark { .. } => Ok(GrantSteps::none(alloc)),
         EntityChange::Remove { kind, number, .. } => going_steps(alloc, stores, *kind, *number),
+    }
+}
+
+/// The steps that the counts take where a change is made. Links, terminators and circuits move none.
+pub fn change_steps(
+    alloc: Global,
+    stores: &Stores,
+    change: &Change,
+) -> Result<GrantSteps, AllocError>
+    requires kept { Keeps stores.now }
+    requires can { CanChange change.now (state_of stores.now) }
+    ensures { IfOk result (LeadAllCounts (state_of stores.now) (after_change change.now (state_of stores.now))) }
+{
+    match change {
+        Change::Entity(change) => entity_change_steps(alloc, stores, change),
+        Change::Policy(change) => policy_change_steps(alloc, stores, change),
+        Change::Link(_) | Change::Terminator(_) | Change::Circuit(_) => Ok(GrantSteps::none(alloc)),
     }
 }

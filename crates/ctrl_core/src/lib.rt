@@ -7,6 +7,7 @@ mod completing;
 mod core_state;
 mod counting;
 mod loading;
+mod new_records;
 mod plans;
 mod row_changes;
 mod row_flaws;

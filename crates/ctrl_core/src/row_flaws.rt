@@ -1,23 +1,27 @@
 ghost use Rattle.std.specs.Prelude.{◌≡◌, true, IfOk};
 ghost use Rattle.ctrl_model.specs.Settling.{stays_in};
 ghost use Rattle.ctrl_model.specs.ValidState as valid;
+ghost use Rattle.ctrl_model.specs.ValidState.{is_valid_entity};
+ghost use Rattle.entity_commands.specs.EntityChanges.{is_plain_kind};
 ghost use Rattle.ctrl_model.specs.declared.kinds.Kind.TheVariants as kind;
 ghost use Rattle.entity_store.specs.EntityTables.{is_entity_kind, number_of};
 ghost use Rattle.policy_store.specs.PolicyTables.{is_policy_kind};
-ghost use Rattle.state_building.specs.JoinedRecords.{flaw_of, is_sound_policy};
+ghost use Rattle.state_building.specs.JoinedRecords.{flaw_of, is_sound, is_sound_policy};
 ghost use Rattle.ctrl_core.specs.KeptState.{Keeps};
 ghost use Rattle.core_stores.specs.StoredState.{state_of};
-ghost use Rattle.ctrl_core.specs.LoadedRows.{policy_flaw_of};
+ghost use Rattle.ctrl_core.specs.NewRecords.{plain_flaw_of, policy_flaw_of};
 
 use circuit_settling::{Standing, stays_here};
 use circuits::Circuit;
 use core_stores::{Stores, left_kind, right_kind};
-use ctrl_model::{Kind, Names, Side, limit};
+use ctrl_model::{Kind, Name, Names, Side, limit};
 use entity_store::Entities;
+use fabric_graph::LinkRow;
 use policy_store::{Policy, policy_names};
-use record_flaws::{Coming, Findings};
+use record_flaws::{Coming, Findings, link_flaw, plain_flaw, term_flaw};
 use state_building::Flaw;
 use std::alloc::{AllocError, Global};
+use terminators::Term;
 
 // Whether each `@` name of a side is that of a present entity.
 fn are_found(entities: &Entities, kind: Kind, side: &Side) -> bool
@@ -28,6 +32,55 @@ fn are_found(entities: &Entities, kind: Kind, side: &Side) -> bool
         .as_slice()
         .iter()
         .all(|name| entities.find(kind, name).is_ok())
+}
+
+/// Why an identity or a service cannot join, if it cannot.
+pub fn plain_flaw_in(
+    alloc: Global,
+    stores: &Stores,
+    kind: Kind,
+    coming: Coming,
+    name: &Name,
+    attributes: &Names,
+) -> Option<Flaw>
+    requires kept { Keeps stores.now }
+    requires kind { is_plain_kind kind ≡ true }
+    requires sound { coming.sound ≡ is_valid_entity (record { name = name.now; attributes = attributes.now }) }
+    ensures { result ≡ plain_flaw_of coming.end kind coming.number name.now attributes.now (state_of stores.now) }
+{
+    plain_flaw(alloc, &stores.entities, kind, coming, name, attributes)
+}
+
+/// Why a link cannot join, if it cannot.
+pub fn link_flaw_in(stores: &Stores, coming: Coming, link: &LinkRow) -> Option<Flaw>
+    requires kept { Keeps stores.now }
+    requires sound { coming.sound ≡ is_sound kind.Link link.now }
+    ensures { result ≡ flaw_of (λ k. coming.end) kind.Link coming.number link.now (state_of stores.now) }
+{
+    link_flaw(
+        &stores.entities,
+        &stores.fabric,
+        coming,
+        &link.name,
+        link.a,
+        link.b,
+    )
+}
+
+/// Why a terminator cannot join, if it cannot.
+pub fn term_flaw_in(stores: &Stores, coming: Coming, term: &Term) -> Option<Flaw>
+    requires kept { Keeps stores.now }
+    requires sound { coming.sound ≡ is_sound kind.Terminator term.now }
+    ensures { result ≡ flaw_of (λ k. coming.end) kind.Terminator coming.number term.now (state_of stores.now) }
+{
+    term_flaw(
+        &stores.entities,
+        &stores.terminators,
+        coming,
+        term.service,
+        term.router,
+        term.host,
+    )
 }
 
 /// Why a policy of a kind cannot join, if it cannot.

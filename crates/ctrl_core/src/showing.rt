@@ -1,38 +1,45 @@
-ghost use Rattle.std.specs.Prelude.{◌≡◌, IfOk};
+ghost use Rattle.std.specs.Prelude.{◌≡◌, false, IfOk, MatchOption};
 ghost use Rattle.ctrl_model.specs.declared.refusals.Refusal.TheVariants.{Unknown};
 ghost use Rattle.ctrl_model.specs.declared.replies.Reply.TheVariants.{Refused};
-ghost use Rattle.ctrl_model.specs.ShowCommands.{show_grants, list_services, show_counts, grants_in_all};
+ghost use Rattle.ctrl_model.specs.Controller.{carry};
+ghost use Rattle.ctrl_model.specs.State.{entity_named};
+ghost use Rattle.ctrl_model.specs.ShowCommands.{counts_of, show_grants, list_services, grants_in_all};
 ghost use Rattle.ctrl_core.specs.KeptState.{Keeps};
+ghost use Rattle.ctrl_core.specs.OtherCommands.{is_grant_command};
 ghost use Rattle.core_stores.specs.StoredState.{state_of};
-ghost use Rattle.core_stores.specs.Drafts.{IsShown};
-ghost use Rattle.ctrl_core.specs.PlannedCommands.{Plans};
 
-use core_stores::{Draft, Stores};
-use ctrl_model::{Field, Kind, Name, Names, Refusal, Reply, Tallies};
+use core_stores::Stores;
+use ctrl_model::{Command, Field, Kind, Name, Names, Refusal, Reply, Tallies};
 use policy_store::count_all_policies;
 use shown_records::{names_of, tallies};
 use std::alloc::{AllocError, Global};
 
-// The plan of a command whose identity nothing has.
-fn unknown_identity(alloc: Global) -> Draft
-    ensures { IsShown (Refused (Unknown Field.Identity)) result }
+// The reply where nothing has the name of the identity.
+fn unknown_identity() -> Reply
+    ensures { result ≡ Refused (Unknown Field.Identity) }
 {
     let field = Field::Identity;
-    Draft::refused(alloc, Refusal::Unknown { field })
+    Reply::Refused(Refusal::Unknown { field })
 }
 
-/// Plans what an identity is granted.
-pub fn plan_show_grants(
-    alloc: Global,
-    stores: &Stores,
-    identity: &Name,
-) -> Result<Draft, AllocError>
+// The number of the identity of a name, if one has it.
+fn identity_named(stores: &Stores, name: &Name) -> Option<u32>
+    ensures { result ≡ entity_named stores.now.entities.identities.rows name.now }
+{
+    match stores.entities.find(Kind::Identity, name) {
+        Ok(number) => Some(number),
+        Err(_fault) => None,
+    }
+}
+
+// What an identity is granted.
+fn shown_grants(alloc: Global, stores: &Stores, identity: &Name) -> Result<Reply, AllocError>
     requires { Keeps stores.now }
-    ensures { IfOk result (λ p. Plans p (show_grants identity.now (state_of stores.now)) (state_of stores.now)) }
+    ensures { IfOk result (λ r. show_grants identity.now (state_of stores.now) ≡ (r, state_of stores.now)) }
 {
     let entities = &stores.entities;
-    let Ok(number) = entities.find(Kind::Identity, identity) else {
-        return Ok(unknown_identity(alloc));
+    let Some(number) = identity_named(stores, identity) else {
+        return Ok(unknown_identity());
     };
     let grants = &stores.grants;
     let bind = tallies(alloc, entities, Kind::Service, &grants.bind, number)?;
@@ -44,37 +51,25 @@ pub fn plan_show_grants(
         &grants.identity_router,
         number,
     )?;
-    Ok(Draft::shown(
-        alloc,
-        Reply::Grants {
-            bind: Tallies::of(bind),
-            dial: Tallies::of(dial),
-            routers: Tallies::of(routers),
-        },
-    ))
+    Ok(Reply::Grants {
+        bind: Tallies::of(bind),
+        dial: Tallies::of(dial),
+        routers: Tallies::of(routers),
+    })
 }
 
-/// Plans which services an identity may dial.
-pub fn plan_list_services(
-    alloc: Global,
-    stores: &Stores,
-    identity: &Name,
-) -> Result<Draft, AllocError>
+// Which services an identity may dial.
+fn shown_services(alloc: Global, stores: &Stores, identity: &Name) -> Result<Reply, AllocError>
     requires { Keeps stores.now }
-    ensures { IfOk result (λ p. Plans p (list_services identity.now (state_of stores.now)) (state_of stores.now)) }
+    ensures { IfOk result (λ r. list_services identity.now (state_of stores.now) ≡ (r, state_of stores.now)) }
 {
     let entities = &stores.entities;
-    let Ok(number) = entities.find(Kind::Identity, identity) else {
-        return Ok(unknown_identity(alloc));
+    let Some(number) = identity_named(stores, identity) else {
+        return Ok(unknown_identity());
     };
     let dialled = tallies(alloc, entities, Kind::Service, &stores.grants.dial, number)?;
-    let names = names_of(alloc, dialled.as_slice())?;
-    Ok(Draft::shown(
-        alloc,
-        Reply::Services {
-            names: Names::of(names),
-        },
-    ))
+    let names = Names::of(names_of(alloc, dialled.as_slice())?);
+    Ok(Reply::Services { names })
 }
 
 // How many pairs all four relations grant.
@@ -89,23 +84,37 @@ fn count_grants(stores: &Stores) -> u64
         + grants.service_router.pairs()
 }
 
-/// Plans how many there are of each kind.
-pub fn plan_show_counts(alloc: Global, stores: &Stores) -> Draft
+// How many there are of each kind.
+fn shown_counts(stores: &Stores) -> Reply
     requires { Keeps stores.now }
-    ensures { Plans result (show_counts (state_of stores.now)) (state_of stores.now) }
+    ensures { result ≡ counts_of (state_of stores.now) }
 {
     let entities = &stores.entities;
-    Draft::shown(
-        alloc,
-        Reply::Counts {
-            circuits: stores.circuits.count() as u32,
-            grants: count_grants(stores),
-            identities: entities.count(Kind::Identity) as u32,
-            links: stores.fabric.count() as u32,
-            policies: count_all_policies(&stores.policies),
-            routers: entities.count(Kind::Router) as u32,
-            services: entities.count(Kind::Service) as u32,
-            terminators: stores.terminators.count() as u32,
-        },
-    )
+    Reply::Counts {
+        circuits: stores.circuits.count() as u32,
+        grants: count_grants(stores),
+        identities: entities.count(Kind::Identity) as u32,
+        links: stores.fabric.count() as u32,
+        policies: count_all_policies(&stores.policies),
+        routers: entities.count(Kind::Router) as u32,
+        services: entities.count(Kind::Service) as u32,
+        terminators: stores.terminators.count() as u32,
+    }
+}
+
+/// The reply to a command that shows grants or counts. None is another command. An `Err` is want of memory.
+pub fn shown_by(
+    alloc: Global,
+    stores: &Stores,
+    command: &Command,
+) -> Result<Option<Reply>, AllocError>
+    requires { Keeps stores.now }
+    ensures { IfOk result (λ o. MatchOption o (is_grant_command command.now ≡ false) (λ r. carry command.now (state_of stores.now) ≡ (r, state_of stores.now))) }
+{
+    match command {
+        Command::ShowGrants { identity } => Ok(Some(shown_grants(alloc, stores, identity)?)),
+        Command::ListServices { identity } => Ok(Some(shown_services(alloc, stores, identity)?)),
+        Command::ShowCounts => Ok(Some(shown_counts(stores))),
+        _ => Ok(None),
+    }
 }

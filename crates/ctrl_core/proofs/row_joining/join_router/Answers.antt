@@ -1,16 +1,22 @@
 use Rattle.std.proofs.Common.{OnOk, ◌∙◌, sym, ap, subst}
 use Rattle.ctrl_model.specs.declared.kinds.Kind.TheVariants as kind
 use Rattle.ctrl_model.specs.Numbered.{is_present}
-use Rattle.ctrl_model.specs.State.{State}
+use Rattle.ctrl_model.specs.State.{State, Router}
 use Rattle.ctrl_model.specs.ValidState.{ValidState}
 use Rattle.entity_commands.specs.EntityChanges.{with_marked}
 use Rattle.ctrl_core.specs.JoinedRows.{KeepState}
 use Rattle.core_stores.specs.StoredState.{state_of}
-use Rattle.ctrl_core.proofs.JoinedLaws.{joins_valid, made_valid, router_there, router_marked}
+use Rattle.ctrl_core.proofs.JoinedLaws.{above, joins_valid, made_valid, router_there, router_marked}
 use Rattle.ctrl_core.proofs.row_joining.join_router.Goals as goal
 
-pub make_at-requires-clause-valid : goal.make_at-requires-clause-valid
-make_at-requires-clause-valid c = made_valid c.args.number (record { name = c.args.name; attributes = c.args.attributes; cost = c.args.cost; through = c.args.through; connected = c.args.connected }) (state_of c.args.stores.now) c.requires.kept.valid c.requires.may
+pub make_at-requires-clause-may : goal.make_at-requires-clause-may
+make_at-requires-clause-may c =
+    let r : Router = record { name = c.args.name; attributes = c.args.attributes; cost = c.args.cost; through = c.args.through; connected = c.args.connected } in
+    record {
+      later = above kind.Router c.args.number r (state_of c.args.stores.now) c.requires.may;
+      can = tt;
+      valid = made_valid c.args.number r (state_of c.args.stores.now) c.requires.kept.valid c.requires.may;
+    }
 
 pub make-requires-clause-can : goal.make-requires-clause-can
 make-requires-clause-can c =
