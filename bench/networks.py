@@ -8,7 +8,7 @@ CREATE_IDENTITY, UPDATE_IDENTITY, DELETE_IDENTITY = 1000, 1001, 1002
 CREATE_SERVICE = 1010
 CREATE_ROUTER, CONNECT_ROUTER = 1020, 1023
 CREATE_SERVICE_POLICY, CREATE_EDGE_ROUTER_POLICY, CREATE_SERVICE_EDGE_ROUTER_POLICY = 1100, 1110, 1120
-CREATE_LINK, REPORT_LATENCY, DELETE_LINK = 1200, 1202, 1204
+CREATE_LINK, REPORT_LATENCY, REPORT_STATE, DELETE_LINK = 1200, 1202, 1203, 1204
 CREATE_TERMINATOR = 1300
 CREATE_CIRCUIT, EXPLAIN, VERIFY_ROUTE = 1400, 1402, 1403
 SHOW_COUNTS = 1502
@@ -46,8 +46,8 @@ def churn(rounds):
 
 
 def attributes(count):
-    """Identities of 64 attributes each, of 1,024 distinct ones."""
-    return [named(CREATE_IDENTITY, f"u{i}", attributes=[f"a{(i * 64 + k) % 1024}" for k in range(64)]) for i in range(count)]
+    """Identities of 64 attributes each, of 4,096 distinct ones."""
+    return [named(CREATE_IDENTITY, f"u{i}", attributes=[f"a{(i * 64 + k) % 4096}" for k in range(64)]) for i in range(count)]
 
 
 def updates():
@@ -126,6 +126,16 @@ def line_circuits():
     made = network(ROUTERS, [(i, i + 1) for i in range(ROUTERS - 1)]) + granted() + [terminator(ROUTERS - 1)]
     made += [(CREATE_CIRCUIT, request(0)) for _ in range(300)]
     return made + [(REPORT_LATENCY, {"link": "l7", "router": "r7", "latency": i}) for i in range(100)]
+
+
+def ring_moves():
+    """A ring of 256 routers, 300 circuits halfway round it, and 100 times a link of the way that they go down and up again: each time all go the other way round."""
+    made = network(ROUTERS, [(i, (i + 1) % ROUTERS) for i in range(ROUTERS)]) + granted() + [terminator(ROUTERS // 2)]
+    made += [(CREATE_CIRCUIT, request(0)) for _ in range(300)]
+    for i in range(100):
+        link = {"link": ("l7", "l200")[i % 2], "router": ("r7", "r200")[i % 2]}
+        made += [(REPORT_STATE, {**link, "up": False}), (REPORT_STATE, {**link, "up": True})]
+    return made
 
 
 def explained():

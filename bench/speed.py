@@ -49,6 +49,7 @@ INPUTS = {
     "mesh_filled": lambda program: networks.mesh_circuits(16_384),
     "mesh_losses": lambda program: networks.mesh_losses(),
     "line_circuits": lambda program: networks.line_circuits(),
+    "ring_moves": lambda program: networks.ring_moves(),
     "claims": claims,
     "load": lambda program: None,
 }

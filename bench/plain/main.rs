@@ -70,7 +70,7 @@ fn create(network: &mut Network, kind: Kind, body: &Json) -> Option<String> {
         return Some(refused(20, "Exists"));
     }
     let fresh = attributes.iter().filter(|it| !network.uses.contains_key(*it)).count();
-    if network.uses.len() + fresh > 1024 {
+    if network.uses.len() + fresh > 4096 {
         return Some(refused(24, "Full"));
     }
     change_uses(network, &attributes, 1);

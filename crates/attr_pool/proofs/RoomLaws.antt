@@ -239,10 +239,10 @@ module _ (xs : List Slot) (pool : IsPool xs) (gone fresh : List (List ℕ)) (use
       omega (arith, left, right, held, most, least)
 
   -- so a count of these tells whether there is a slot for each
-  pub slots_told : nat_le (held_count xs + distinct_count bytes_eq come) (1024 + distinct_count bytes_eq go) ≡ has_slots xs gone fresh
+  pub slots_told : nat_le (held_count xs + distinct_count bytes_eq come) (4096 + distinct_count bytes_eq go) ≡ has_slots xs gone fresh
   slots_told = told (held_count xs) (distinct_count bytes_eq come) (distinct_count bytes_eq stay) (distinct_count bytes_eq go) moved
     where
-      told : (a b c d : ℕ) → c + d ≡ a + b → nat_le (a + b) (1024 + d) ≡ nat_le c 1024
+      told : (a b c d : ℕ) → c + d ≡ a + b → nat_le (a + b) (4096 + d) ≡ nat_le c 4096
       told a b c d e = grind (arith, nat_tests)
 
 -- ---- a slot for each of the names that come
@@ -255,7 +255,7 @@ slot_left old now names i name pool room so_far within is full =
     let more = distinct-cons name (held_names now) in
     let one : ◌≡◌ {A = ℕ} (cond (is_member bytes_eq (held_names now) name) 0 1) 1 = zeros (false_from_ne_true (is_member bytes_eq (held_names now) name) (λ e. new (uses-from_held name now (Among-from_is_member (held_names now) name e)))) in
     let held = held-distinct now pool.apart in
-    let most = leb-true (distinct_count bytes_eq kept) 1024 room in
+    let most = leb-true (distinct_count bytes_eq kept) 4096 room in
     let sub = distinct_count-Includes (name ∷ held_names now) kept there in
     let all = full.1 in
     absurd (omega (arith, more, one, held, most, sub, all))

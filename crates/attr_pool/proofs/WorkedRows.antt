@@ -1,24 +1,14 @@
 -- The rows of small lists of names, bit for bit.
-use Rattle.std.proofs.Common.{◌≡◌, ℕ, zero, suc, ◌/◌, ◌%◌, ◌<◌, List, [], ◌∷◌, ◌++◌, cond, codes, length, get_or, eqb, refl, ◌∙◌, ap, arith, inl, inr, ne_eqb, subst, IsSome}
-use Rattle.std.specs.Int.{bit_at}
-use Rattle.std.proofs.lemmas.Bool.Decides.{leb_tells}
-use Rattle.std.proofs.lemmas.List.{get_or-replicate, get_or_past}
-use Rattle.std.proofs.lemmas.Nat.Bits.{bit_at-zero}
+use Rattle.std.proofs.Common.{◌≡◌, ℕ, zero, suc, ◌<◌, List, [], ◌∷◌, ◌++◌, cond, codes, length, get_or, eqb, refl, ◌∙◌, ap, arith, inl, inr, ne_eqb, subst, IsSome}
 use Rattle.bit_lanes.specs.Lanes.{bit_of, row_at}
 use Rattle.ctrl_model.specs.Membership.{Among}
 use Rattle.attr_pool.specs.AttributeRows.{row_words, AreRows}
 use Rattle.attr_pool.specs.Slots.{slot_of, row_bit}
 use Rattle.attr_pool.specs.WorkedSlots.{four_slots, two_lists, row_from}
-use Rattle.attr_pool.proofs.BitRows.{bit_of-set}
-
-no_bits : (n : ℕ) → bit_of (row_from 0) n ≡ 0
-no_bits n = elim (leb_tells 16 (n / 64)) [
-  | inl t ↦ ap (λ x. bit_at x (n % 64)) (get_or_past (row_from 0) (n / 64) 0 t.1) ∙ bit_at-zero (n % 64)
-  | inr t ↦ ap (λ x. bit_at x (n % 64)) (get_or-replicate 16 (n / 64) 0 0 (omega (arith, t.1))) ∙ bit_at-zero (n % 64)
-]
+use Rattle.attr_pool.proofs.BitRows.{bit_of-none, bit_of-set}
 
 blue_bits : (n : ℕ) → bit_of (row_from 4) n ≡ row_bit four_slots (codes "blue" ∷ []) n
-blue_bits n = bit_of-set (row_from 0) 2 (omega arith) n ∙ ap (λ b. cond (eqb n 2) 1 b) (no_bits n) ∙ by n
+blue_bits n = bit_of-set (row_from 0) 2 (omega arith) n ∙ ap (λ b. cond (eqb n 2) 1 b) (bit_of-none n) ∙ by n
   where
     by : (n : ℕ) → cond (eqb n 2) 1 0 ≡ row_bit four_slots (codes "blue" ∷ []) n
     by zero = refl

@@ -1,12 +1,12 @@
 -- Rows of bits behind each other, as one list of words.
-use Rattle.std.specs.Prelude.{◌≡◌, ℕ, ◌*◌, ◌<◌, List, [], IsSome, length, get_or}
+use Rattle.std.specs.Prelude.{◌≡◌, ℕ, ◌*◌, ◌/◌, ◌<◌, List, [], IsSome, length, get_or}
 use Rattle.bit_lanes.specs.Lanes.{bit_of, row_at}
 use Rattle.ctrl_model.specs.Membership.{Among}
-use Rattle.attr_pool.specs.Slots.{Slot, slot_of, row_bit}
+use Rattle.attr_pool.specs.Slots.{Slot, most_slots, slot_of, row_bit}
 
 -- How many words a row has: one bit for each slot.
 abbrev pub row_words : ℕ
-row_words = 16
+row_words = most_slots / 64
 
 -- Words are the rows of some lists of names, one behind the other: each of the names is held, each list has its words, and in its row
 -- exactly the bits of the slots that hold one of its names are set.

@@ -2,6 +2,8 @@
 use Rattle.std.specs.Prelude.{◌≡◌, ℕ, ◌+◌, ◌-◌, ◌^◌, ◌<◌, ◌==◌, Bool, true, not, ◌&&◌, cond, List, [], length, get_or, slice_set, Option, Some, None, count_by, position}
 use Rattle.std.specs.List.{list_any}
 use Rattle.std.specs.Str.{bytes_eq}
+use Rattle.ctrl_model.specs.declared.kinds.Kind.TheVariants as kind
+use Rattle.ctrl_model.specs.Limits.{limit}
 
 -- A slot: the attribute that it numbers, and how many uses this has. A free slot has no name and no use.
 pub record Slot : Type 0 where
@@ -18,7 +20,7 @@ free_slot = slot_with [] 0
 
 -- How many attributes may be in use.
 abbrev pub most_slots : ℕ
-most_slots = 1024
+most_slots = limit kind.Attribute
 
 -- The greatest number of uses that is counted.
 abbrev pub most_uses : ℕ
@@ -70,7 +72,7 @@ pub record Interned (name : List ℕ) (n : ℕ) (old new : List Slot) : Type 0 w
   pub number : number_for name old ≡ Some n
   pub changed : new ≡ slice_set old n (with_use name (slot_at old n))
 
--- What is so of each pool: there are 1,024 slots, no two of them hold one name, and a slot without a use has no name.
+-- What is so of each pool: there are 4,096 slots, no two of them hold one name, and a slot without a use has no name.
 pub record IsPool (slots : List Slot) : Type 0 where
   pub long : length slots ≡ most_slots
   pub apart : (i j : ℕ) → i < length slots → j < length slots → (name : List ℕ) → holds name (slot_at slots i) ≡ true → holds name (slot_at slots j) ≡ true → i ≡ j

@@ -1,5 +1,6 @@
 -- Small slots for worked examples.
-use Rattle.std.specs.Prelude.{ℕ, List, [], ◌∷◌, codes, replicate}
+use Rattle.std.specs.Prelude.{ℕ, ◌-◌, List, [], ◌∷◌, codes, replicate}
+use Rattle.attr_pool.specs.AttributeRows.{row_words}
 use Rattle.attr_pool.specs.Slots.{Slot, slot_with, free_slot}
 
 -- Red has two uses and blue has one, and two slots are free.
@@ -18,6 +19,6 @@ swapped_slots = slot_with (codes "blue") 1 ∷ free_slot ∷ slot_with (codes "r
 abbrev pub two_lists : List (List (List ℕ))
 two_lists = (codes "blue" ∷ []) ∷ (codes "blue" ∷ codes "red" ∷ []) ∷ []
 
--- A row of sixteen words, of which the first alone may have bits.
+-- A row of which the first word alone may have bits.
 abbrev pub row_from : ℕ → List ℕ
-row_from word = word ∷ replicate 15 0
+row_from word = word ∷ replicate (row_words - 1) 0

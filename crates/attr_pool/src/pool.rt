@@ -4,11 +4,11 @@ ghost use Rattle.bit_lanes.specs.Lanes.{bit_of};
 ghost use Rattle.attr_pool.specs.Slots.{free_slot, holds, slot_of, slot_at, held_count, most_slots, most_uses, without_use, row_bit, Interned, IsPool};
 ghost use Rattle.attr_pool.specs.Uses.{times, uses_of, has_slots, can_be_counted, AreInUse, KeepsSlots};
 
-use crate::room::{MOST_SLOTS, has_slots};
+use crate::room::has_slots;
 use crate::rows::{Row, empty_row, set_bit};
 use crate::slots::{KeptSlot, let_go_at, slot_of};
 use crate::uses::{can_count, intern_each, intern_in, release_each};
-use ctrl_model::{Name, Names};
+use ctrl_model::{MOST_ATTRIBUTES, Name, Names};
 use std::alloc::{AllocError, Global};
 use std::marker::Model;
 use thiserror::Error;
@@ -46,8 +46,8 @@ fn free_slots(alloc: Global) -> Result<Vec<KeptSlot>, AllocError>
     ensures long { IfOk result (λ slots. length slots.items ≡ most_slots) }
     ensures free { IfOk result (λ slots. All (λ slot. slot ≡ free_slot) slots.items) }
 {
-    let mut slots = Vec::with_capacity(alloc, MOST_SLOTS)?;
-    'slots: while slots.len() < MOST_SLOTS {
+    let mut slots = Vec::with_capacity(alloc, MOST_ATTRIBUTES)?;
+    'slots: while slots.len() < MOST_ATTRIBUTES {
         slots.push(KeptSlot::free())?;
     }
     Ok(slots)
@@ -88,7 +88,7 @@ impl Pool {
 
     /// Adds one use of a name and answers its slot.
     ///
-    /// `Full` comes exactly where 1,024 names are held and this is none of them, and `NoMemory` exactly where no more uses of the
+    /// `Full` comes exactly where 4,096 names are held and this is none of them, and `NoMemory` exactly where no more uses of the
     /// name can be counted.
     pub fn intern(&mut self, name: &Name) -> Result<u16, PoolFault>
         ensures ok { IfOk result (λ n. Interned name.now n self.old self.new) }

@@ -10,10 +10,7 @@ ghost use Rattle.attr_pool.specs.Moving.{is_new, leaves};
 use crate::names::{has_name, times};
 use crate::slots::{KeptSlot, held_count};
 use crate::uses::uses_in;
-use ctrl_model::Name;
-
-/// How many attributes may be in use.
-pub const MOST_SLOTS: usize = 1_024;
+use ctrl_model::{MOST_ATTRIBUTES, Name};
 
 // Whether a name has no use.
 fn is_new(slots: &[KeptSlot], name: &Name) -> bool
@@ -89,5 +86,5 @@ pub fn has_slots(slots: &[KeptSlot], gone: &[Name], fresh: &[Name]) -> bool
     requires used { AreInUse slots.now gone.now }
     ensures { result ≡ has_slots slots.now gone.now fresh.now }
 {
-    held_count(slots) + new_count(slots, fresh) <= MOST_SLOTS + left_count(slots, gone, fresh)
+    held_count(slots) + new_count(slots, fresh) <= MOST_ATTRIBUTES + left_count(slots, gone, fresh)
 }

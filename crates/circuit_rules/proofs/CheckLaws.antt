@@ -18,8 +18,8 @@ use Rattle.path_certificate.specs.Graphs.{GraphSeen, IsGraph, IsStep, counts, gr
 use Rattle.path_certificate.specs.Certified.{Certified}
 use Rattle.path_certificate.proofs.StepLaws.{hop_of}
 use Rattle.path_certificate.proofs.LowerBounds.{settled_hop}
-use Rattle.fabric_graph.specs.Routers.{number_at}
-use Rattle.circuit_rules.specs.Searched.{place_in, IsGraphOf}
+use Rattle.fabric_graph.specs.Routers.{number_at, IsGraphOf}
+use Rattle.circuit_rules.specs.Searched.{place_in}
 use Rattle.circuit_rules.proofs.ValueLaws.{value_at-placed, value_there}
 
 -- ---- places and numbers

@@ -4,8 +4,7 @@ use Rattle.ctrl_model.specs.Walks.{goes}
 use Rattle.ctrl_model.specs.Networks.{Network, hops, path_cost}
 use Rattle.model_laws.proofs.MirrorLaws.{same_goes, same_cost}
 use Rattle.path_certificate.specs.Graphs.{GraphSeen, graph_hops, cost_of}
-use Rattle.fabric_graph.specs.Routers.{number_at}
-use Rattle.circuit_rules.specs.Searched.{IsGraphOf}
+use Rattle.fabric_graph.specs.Routers.{number_at, IsGraphOf}
 
 -- a walk of the network is one of the graph
 pub same_walk : (w : Network) (g : GraphSeen) (t v : ℕ) → IsGraphOf w g → t < length w.routers → v < length w.routers → (links : List ℕ)

@@ -10,14 +10,14 @@ use Rattle.ctrl_model.specs.declared.kinds.RouterSeen.{RouterSeen}
 use Rattle.ctrl_model.specs.Choices.{Ask, Candidate, best}
 use Rattle.ctrl_model.specs.Membership.{Among}
 use Rattle.ctrl_model.specs.Networks.{Network, network_of, seen, is_on, hops}
-use Rattle.ctrl_model.specs.Numbered.{at, is_present, numbers}
-use Rattle.ctrl_model.specs.Settling.{settle_links, settle_terminators, stays_in, circuit_reaches}
+use Rattle.ctrl_model.specs.Numbered.{at, is_present, map_each, numbers}
+use Rattle.ctrl_model.specs.Settling.{settle_links, settle_terminators, stays_in, circuit_reaches, rerouted}
 use Rattle.ctrl_model.specs.State.{State, Entity, Router, Terminator, Circuit, as_entity}
 use Rattle.ctrl_model.specs.ValidState.{ValidState}
 use Rattle.ctrl_model.specs.Walks.{is_among, goes}
 use Rattle.model_laws.proofs.CandidateLaws.{best-is}
 use Rattle.ctrl_model.proofs.Members.{Among-map, by_map, is_among-from}
-use Rattle.ctrl_model.proofs.NumberedLaws.{at-map, at-filter-back}
+use Rattle.ctrl_model.proofs.NumberedLaws.{at-map, at-filter-back, Between-map_each}
 use Rattle.entity_store.specs.EntityTables.{Tables}
 use Rattle.circuit_rules.specs.declared.circuit_parts.Parts.{Parts}
 use Rattle.circuit_rules.specs.PlannedCircuits.{name_at, router_at, network_in}
@@ -83,7 +83,8 @@ pub stands : (s : State) (n : ℕ) (c : Circuit) → ValidState s → at s.circu
 stands s n c valid e =
     let t : State = settle_terminators (settle_links s) in
     let reaches : Bool = option_map_or (circuit_reaches (network_of t) c) (at t.terminators.rows c.terminator) false in
-    let passes = (at-filter-back (stays_in t) s.circuits.next s.circuits.rows 1 n c (valid.kinds kind.Circuit).numbers.ordered (ap (λ (u : State). at u.circuits.rows n) valid.settled ∙ e)).1 in
+    let passes = (at-filter-back (stays_in t) s.circuits.next (map_each (rerouted (network_of t)) s.circuits.rows) 1 n c
+    (Between-map_each (rerouted (network_of t)) s.circuits.next s.circuits.rows 1 (valid.kinds kind.Circuit).numbers.ordered) (ap (λ (u : State). at u.circuits.rows n) valid.settled ∙ e)).1 in
     let parts = and_parts (is_among c.identity (numbers s.identities.rows)) (is_among c.service (numbers s.services.rows) && reaches) passes in
     let rest = and_parts (is_among c.service (numbers s.services.rows)) reaches parts.1 in
     record {

@@ -1,21 +1,16 @@
 -- Laws on the order of ranks: what choices say of the order of their candidates.
-use Rattle.std.proofs.Common.{◌≡◌, ℕ, ◌<◌, ◌≤◌, false, ◌⊎◌, inl, inr, List, ◌∷◌, sym, ◌∙◌, ap, arith, Equal, Greater, is_lt, nat_cmp}
-use Rattle.std.proofs.lemmas.Bool.{cases_order}
-use Rattle.std.specs.Cmp.{nat_cmp_is}
+use Rattle.std.proofs.Common.{◌≡◌, ℕ, ◌<◌, ◌≤◌, false, List, ◌∷◌, arith, is_lt, nat_cmp}
 use Rattle.std.specs.Cmp.Lexicographic.{slice_cmp}
-use Rattle.std.specs.Ordering.{ordering_then}
 use Rattle.model_laws.proofs.BestLaws.{head_le, tail_not_below}
+use Rattle.path_search.proofs.NetworkPaths.{not_less}
 
 -- a list that begins with no less than one that is not below another is not below any with the other's head, if it is not where
 -- both begin alike
 no_less : (m a b : ℕ) (xs ys zs ws : List ℕ) → m ≤ a → is_lt (slice_cmp nat_cmp (m ∷ xs) (b ∷ ys)) ≡ false
     → (m ≡ b → a ≡ b → is_lt (slice_cmp nat_cmp zs ws) ≡ false) → is_lt (slice_cmp nat_cmp (a ∷ zs) (b ∷ ws)) ≡ false
-no_less m a b xs ys zs ws most e k = apart (head_le m b xs ys e) (cases_order a b)
-  where
-    apart : b ≤ m → (a ≡ b) ⊎ ((a < b) ⊎ (b < a)) → is_lt (slice_cmp nat_cmp (a ∷ zs) (b ∷ ws)) ≡ false
-    apart le (inl s) = ap (λ o. is_lt (ordering_then o (slice_cmp nat_cmp zs ws))) (sym (nat_cmp_is a b Equal s)) ∙ k (omega arith) s
-    apart le (inr (inl h)) = absurd (omega arith)
-    apart le (inr (inr h)) = ap (λ o. is_lt (ordering_then o (slice_cmp nat_cmp zs ws))) (sym (nat_cmp_is a b Greater h))
+no_less m a b xs ys zs ws most e k =
+    let le = head_le m b xs ys e in
+    not_less a b zs ws (omega arith) (λ same. k (omega arith) same)
 
 -- where the key of a choice is not below that of another, the rank of a candidate of at least its total is not below that of the
 -- other's candidate, if the links are not where all else is alike
@@ -36,4 +31,4 @@ rank_not_below p m n t i q x u j xs ys zs ws most e k =
 
 -- a list that begins with a greater number is not below another
 pub greater_head : (a b : ℕ) (xs ys : List ℕ) → b < a → is_lt (slice_cmp nat_cmp (a ∷ xs) (b ∷ ys)) ≡ false
-greater_head a b xs ys h = ap (λ o. is_lt (ordering_then o (slice_cmp nat_cmp xs ys))) (sym (nat_cmp_is a b Greater h))
+greater_head a b xs ys h = not_less a b xs ys (omega arith) (λ same. absurd (omega arith))

@@ -18,9 +18,8 @@ use Rattle.model_laws.proofs.CandidateLaws.{by_admissible}
 use Rattle.model_laws.proofs.LeastCostLaws.{least_number-most, least_cost-le, least_cost-path}
 use Rattle.path_certificate.specs.Graphs.{GraphSeen, potential, IsPath, cost_of}
 use Rattle.path_search.specs.Searches.{IsLeast, IsLeastAt}
-use Rattle.fabric_graph.specs.Routers.{number_at}
+use Rattle.fabric_graph.specs.Routers.{number_at, IsGraphOf}
 use Rattle.circuit_rules.specs.Offers.{offer_of}
-use Rattle.circuit_rules.specs.Searched.{IsGraphOf}
 use Rattle.circuit_rules.specs.Reached.{AreOn}
 use Rattle.circuit_rules.proofs.GraphLaws.{same_walk, same_price}
 use Rattle.circuit_rules.proofs.PartLaws.{carried}

@@ -11,14 +11,14 @@ use Rattle.ctrl_model.proofs.Members.{Among-get_or, list_any-from_among}
 use Rattle.path_certificate.specs.declared.graph.Step.{Step}
 use Rattle.path_certificate.specs.Graphs.{GraphSeen, potential}
 use Rattle.path_search.specs.Searches.{IsLeast, AreFew, greatest_cost}
-use Rattle.fabric_graph.specs.Routers.{costs_at_most}
+use Rattle.fabric_graph.specs.Routers.{costs_at_most, IsGraphOf}
 use Rattle.circuit_rules.specs.declared.choosing.Choice.{Choice}
 use Rattle.circuit_rules.specs.declared.deciding.Ends.{Ends}
 use Rattle.circuit_rules.specs.FoundRoutes.{AreWithin}
 use Rattle.circuit_rules.specs.declared.places.Exit.{Exit}
 use Rattle.circuit_rules.specs.declared.places.Entry.{Entry}
 use Rattle.path_search.specs.Visits.{costs_to, SearchSeen}
-use Rattle.circuit_rules.specs.Searched.{most_step_cost, is_exit_at, AreCosts, AreSmall, choice_at, first_of_all, IsGraphOf, IsSearchOf, exits_at, IsFound, IsSearched}
+use Rattle.circuit_rules.specs.Searched.{most_step_cost, is_exit_at, AreCosts, AreSmall, choice_at, first_of_all, IsSearchOf, exits_at, IsFound, IsSearched}
 use Rattle.circuit_rules.specs.declared.views.Route.{Route}
 use Rattle.ctrl_model.specs.Networks.{Network}
 use Rattle.circuit_rules.proofs.ChoiceLaws.{IsChosen, chosen}

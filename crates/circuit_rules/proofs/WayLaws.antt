@@ -9,17 +9,11 @@ use Rattle.ctrl_model.specs.Networks.{Network, is_on, hops, is_path, path_cost}
 use Rattle.model_laws.proofs.PathLaws.{by_is_on}
 use Rattle.path_certificate.specs.Graphs.{GraphSeen, graph_hops, potential, IsPath, cost_of}
 use Rattle.path_search.specs.Searches.{IsLeast}
-use Rattle.fabric_graph.specs.Routers.{number_at}
-use Rattle.circuit_rules.specs.Searched.{place_in, IsGraphOf}
+use Rattle.fabric_graph.specs.Routers.{number_at, IsPlaceOf, IsGraphOf}
+use Rattle.circuit_rules.specs.Searched.{place_in}
 use Rattle.circuit_rules.proofs.GraphLaws.{same_walk, same_price}
 
 -- ---- places of routers
-
--- a router of a number stands at a place, and is connected
-pub record IsPlaceOf (w : Network) (n v : ℕ) : Type 0 where
-  pub below : v < length w.routers
-  pub named : number_at w.routers v ≡ n
-  pub on : is_on w n ≡ true
 
 -- the place of a router that is found
 found_place : (routers : List RouterSeen) (n : ℕ) (q : RouterSeen) → find (λ r. r.no.0 == n) routers ≡ Some q

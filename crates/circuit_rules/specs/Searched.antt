@@ -13,13 +13,12 @@ use Rattle.ctrl_model.specs.State.{Terminator}
 use Rattle.ctrl_model.specs.Claims.{no_path}
 use Rattle.ctrl_model.specs.Matches.{is_nothing}
 use Rattle.ctrl_model.specs.Numbered.{at}
-use Rattle.ctrl_model.specs.Networks.{Network, hops, is_counted, counted, admissible}
+use Rattle.ctrl_model.specs.Networks.{Network, is_counted, counted, admissible}
 use Rattle.ctrl_model.specs.Choices.{Ask, Wanted, Candidate, IsBest, is_absent, place_of, shared, ingresses, candidates_for, first_denial}
-use Rattle.ctrl_model.specs.Mirrors.{Mirrors}
-use Rattle.path_certificate.specs.Graphs.{GraphSeen, graph_hops, potential}
+use Rattle.path_certificate.specs.Graphs.{GraphSeen, potential}
 use Rattle.path_search.specs.Searches.{IsFirst}
 use Rattle.path_search.specs.Visits.{SearchSeen, costs_to, IsKnown}
-use Rattle.fabric_graph.specs.Routers.{number_at, costs_at_most}
+use Rattle.fabric_graph.specs.Routers.{costs_at_most, IsGraphOf}
 use Rattle.circuit_rules.specs.declared.views.Route.{Route}
 use Rattle.circuit_rules.specs.declared.views.DecideFault.{DecideFault}
 use Rattle.circuit_rules.specs.declared.views.DecideFault.TheVariants as fault
@@ -163,11 +162,6 @@ IsFound g costs None None = ⊤
 IsFound g costs None (Some r) = ⊥
 IsFound g costs (Some c) None = ⊥
 IsFound g costs (Some c) (Some r) = GoesFirst g costs c r
-
--- A graph has the hops of a network, between the places of its routers.
-pub record IsGraphOf (w : Network) (g : GraphSeen) : Type 0 where
-  pub places : length g.through ≡ length w.routers
-  pub mirrors : (t : ℕ) → t < length w.routers → Mirrors (length w.routers) (number_at w.routers) (graph_hops g t) (hops w (number_at w.routers t))
 
 -- What a step of a graph of links costs at most: its link at most 65,535 and twice 60,000, and entering a router at most 65,535.
 abbrev pub most_step_cost : ℕ

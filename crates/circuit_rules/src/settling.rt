@@ -4,8 +4,7 @@ ghost use Rattle.ctrl_model.specs.Networks.{hops};
 ghost use Rattle.ctrl_model.specs.CommandForm.{is_cost};
 ghost use Rattle.ctrl_model.specs.Numbered.{numbers, Between};
 ghost use Rattle.ctrl_model.specs.Claims.{router_numbers, value_at, does_not_improve, is_settled};
-ghost use Rattle.fabric_graph.specs.Routers.{AreRouters, numbered};
-ghost use Rattle.circuit_rules.specs.Searched.{IsGraphOf};
+ghost use Rattle.fabric_graph.specs.Routers.{AreRouters, numbered, IsGraphOf};
 ghost use Rattle.circuit_rules.specs.Views.{network};
 
 use crate::places::place_in;

@@ -1,4 +1,4 @@
--- What settling takes out where a router of a valid state may not be passed through any more.
+-- What settles where a router of a valid state may not be passed through any more.
 use Rattle.std.proofs.Common.{◌≡◌, ◌≢◌, ℕ, ◌+◌, ◌==◌, ◌||◌, ◌&&◌, Bool, true, false, cond, List, [], Option, None, Some, ◌⊎◌, refl, sym, ◌∙◌, ap, subst, eqb-true, eq-eqb, ne_eqb, ⊎_elim}
 use Rattle.std.proofs.lemmas.Bool.{false≢true, or_cases, or_left, or_right, and_parts, and_from, cases_eq}
 use Rattle.std.proofs.lemmas.Option.{none-some, same_Some}

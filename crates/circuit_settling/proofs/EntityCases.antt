@@ -1,4 +1,4 @@
--- What settling takes out after a change of the entities of a valid state.
+-- What settles after a change of the entities of a valid state.
 use Rattle.std.proofs.Common.{◌≡◌, ℕ, ◌==◌, ◌||◌, Bool, true, false, not, cond, List, [], None, Some, inr, refl, sym, ◌∙◌, ap, eqb-true, eq-eqb, is_some}
 use Rattle.std.proofs.lemmas.Bool.{false≢true, true≢false, or_cases}
 use Rattle.std.proofs.lemmas.Option.{none-some}

@@ -15,3 +15,6 @@ pub mod EntityCases
 pub mod ClosedRouters
 pub mod NetworkCases
 pub mod MarkedRouters
+pub mod MovedRows
+pub mod JudgedCircuits
+pub mod LeastWays

@@ -1,4 +1,4 @@
--- What settling takes out after an entity comes, or after one gets other attributes or other marks, or goes.
+-- What settles after an entity comes, or after one gets other attributes or other marks, or goes.
 use Rattle.std.proofs.Common.{◌≡◌, ℕ, ◌&&◌, Bool, true, false, not, cond, [], Option, None, Some, refl, sym, ◌∙◌, ap}
 use Rattle.std.proofs.lemmas.Bool.{false≢true}
 use Rattle.std.proofs.lemmas.Option.{none-some, same_Some}

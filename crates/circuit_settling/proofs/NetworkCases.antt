@@ -1,4 +1,4 @@
--- What settling takes out after a change of the policies, the links, the terminators or the circuits of a valid state.
+-- What settles after a change of the policies, the links, the terminators or the circuits of a valid state.
 use Rattle.std.proofs.Common.{◌≡◌, ◌≢◌, ℕ, ◌==◌, ◌||◌, true, false, not, cond, List, [], ◌∷◌, None, Some, inl, refl, sym, ◌∙◌, ap, eqb-true, eq-eqb, ⊎_elim}
 use Rattle.std.proofs.lemmas.Bool.{false≢true, true≢false, or_cases}
 use Rattle.std.proofs.lemmas.Option.{none-some}

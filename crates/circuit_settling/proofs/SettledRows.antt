@@ -1,7 +1,9 @@
 -- In a valid state each link, each terminator and each circuit stays.
 use Rattle.std.proofs.Common.{◌≡◌, ℕ, true, List, sym, ◌∙◌, ap, subst}
 use Rattle.ctrl_model.specs.Membership.{Among}
-use Rattle.ctrl_model.specs.Settling.{link_stays, terminator_stays, stays_in, settle_links, settle_terminators}
+use Rattle.ctrl_model.specs.Networks.{network_of}
+use Rattle.ctrl_model.specs.Numbered.{map_each}
+use Rattle.ctrl_model.specs.Settling.{link_stays, terminator_stays, stays_in, rerouted, settle_links, settle_terminators}
 use Rattle.ctrl_model.specs.State.{State, Link, Terminator, Circuit}
 use Rattle.ctrl_model.specs.ValidState.{ValidState}
 use Rattle.ctrl_model.proofs.Members.{by_filter}
@@ -20,5 +22,5 @@ module _ (s : State) (v : ValidState s) where
   pub each_circuit : (x : ℕ × Circuit) → Among x s.circuits.rows → stays_in s x ≡ true
   each_circuit x m =
       ap (λ (u : State). stays_in u x) (sym same_so_far)
-      ∙ by_filter (stays_in (settle_terminators (settle_links s))) s.circuits.rows x
+      ∙ by_filter (stays_in (settle_terminators (settle_links s))) (map_each (rerouted (network_of (settle_terminators (settle_links s)))) s.circuits.rows) x
       (subst (λ (rows : List (ℕ × Circuit)). Among x rows) (sym (ap (λ (u : State). u.circuits.rows) v.settled)) m) (λ _ e. e)

@@ -1,4 +1,4 @@
--- What settling takes out after each kind of change of a valid state.
+-- What settles after each kind of change of a valid state.
 use Rattle.std.proofs.Common.{◌≡◌, ℕ, ◌+◌, ◌||◌, Bool, true, false, cond, List, [], ◌∷◌, Option, None, Some, ◌⊎◌, refl, sym, ◌∙◌, ap}
 use Rattle.std.proofs.lemmas.Bool.{false≢true}
 use Rattle.std.proofs.lemmas.Option.{none-some}

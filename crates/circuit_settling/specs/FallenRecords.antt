@@ -1,4 +1,4 @@
--- What settling takes out of a state, and what it takes out by what is gone (docs/RULES.md, "Settling").
+-- What does not stay in a state as it is, and what does not by what is gone (docs/RULES.md, "Settling").
 use Rattle.std.specs.Prelude.{◌≡◌, ℕ, Bool, not, ◌&&◌, cond, List, [], filter, None, Some}
 use Rattle.std.specs.declared.option.Option.{Option}
 use Rattle.ctrl_model.specs.declared.kinds.Kind.{Kind}
@@ -10,7 +10,7 @@ use Rattle.circuits.specs.LostCircuits.{needs, passes_through}
 use Rattle.fabric_graph.specs.LinkEnds.{is_at}
 use Rattle.terminators.specs.NamedTerms.{stands_on}
 
--- Settling takes these links, terminators and circuits out of a state.
+-- Settling takes these links and terminators out of a state, and these circuits do not stay as they are.
 pub record Falls (t : State) (links terminators circuits : List ℕ) : Type 0 where
   pub links_are : links ≡ numbers (filter (λ row. not (link_stays t row)) t.links.rows)
   pub terms_are : terminators ≡ numbers (filter (λ row. not (terminator_stays (settle_links t) row)) t.terminators.rows)
@@ -37,7 +37,7 @@ circuits_on entity links terminators s = numbers (filter (λ x. needs entity lin
 abbrev pub circuits_through : ℕ → State → List ℕ
 circuits_through n s = numbers (filter (λ x. passes_through n (links_at n s) (ends_on kind.Router n s) x.1) s.circuits.rows)
 
--- The circuits that go where a router of a number, which has these marks if it is there, gets others: those that need it or a link at it
+-- The circuits that do not stay where a router of a number, which has these marks if it is there, gets others: those that need it or a link at it
 -- where it is not connected any more, and else those that pass through it where it may not be passed through any more.
 abbrev pub marked_circuits : Option Router → ℕ → Bool → Bool → State → List ℕ
 marked_circuits None n through connected s = []

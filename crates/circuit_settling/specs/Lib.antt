@@ -3,3 +3,4 @@ pub mod CircuitRows
 pub mod WorkedLines
 pub mod FallenRecords
 pub mod NamedRecords
+pub mod OtherLinks

@@ -1,4 +1,4 @@
--- What stands before a change, and what settles after it by its numbers (docs/PROMISES.md, "What settles").
+-- What stands before a change, and what settles after it by its numbers (docs/PROMISES.md, "Commands on circuits").
 use Rattle.std.specs.Prelude.{◌≡◌, ℕ, Bool, cond, List, [], ◌∷◌, None, Some}
 use Rattle.ctrl_model.specs.Numbered.{at}
 use Rattle.ctrl_model.specs.Settling.{link_stays, terminator_stays, stays_in}

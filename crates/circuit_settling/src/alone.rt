@@ -2,7 +2,7 @@ ghost use Rattle.std.specs.Prelude.{◌≡◌, IfOk};
 ghost use Rattle.circuit_settling.specs.PresentRecords.{stays_with};
 
 use crate::staying::{Present, stays};
-use circuits::Circuit;
+use circuits::{Circuit, CircuitView};
 use ctrl_model::Kind;
 use entity_store::Entities;
 use fabric_graph::FabricAfter;
@@ -29,5 +29,5 @@ pub fn would_stay(
         routers: routers.as_slice(),
         fabric,
     };
-    stays(alloc, &present, circuit)
+    stays(alloc, &present, &CircuitView::of(circuit))
 }

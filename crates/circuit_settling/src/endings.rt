@@ -5,10 +5,10 @@ ghost use Rattle.ctrl_model.specs.State.{State, Entity, Router, Link, Policy, Te
 ghost use Rattle.ctrl_model.specs.ValidState.{ValidState};
 ghost use Rattle.circuit_settling.specs.FallenRecords.{Falls, links_at, ends_on, circuits_on, marked_circuits};
 
-/// What ends with one change of a valid state, and that nothing else does (docs/RULES.md, "Settling"): with an identity or a service
-/// the terminators that stand on it, and the circuits of it or to one of these; with a router its links besides, and the circuits that
-/// enter by it or go over one of these; with the marks of a router the circuits that `marked_circuits` says; with a link that is down
-/// or gone the circuits over it; with a terminator its circuits.
+/// What settles with one change of a valid state, and that nothing else does (docs/RULES.md, "Settling"). These links and terminators go,
+/// and these circuits do not stay as they are: with an identity or a service the terminators that stand on it, and the circuits of it or
+/// to one of these; with a router its links besides, and the circuits that enter by it or go over one of these; with the marks of a
+/// router the circuits that `marked_circuits` says; with a link that is down or gone the circuits over it; with a terminator its circuits.
 pub fn what_ends_with_a_change()
     ensures identity { (s : State) → ValidState s → (p q r : Table Policy) (n : ℕ)
         → Falls (record s { identities = with_removed n s.identities; service_policies = p; edge_router_policies = q; service_edge_router_policies = r })
@@ -29,7 +29,7 @@ pub fn what_ends_with_a_change()
         → Falls (record s { terminators = with_removed n s.terminators }) [] [] (circuits_on None [] (n ∷ []) s) }
 {}
 
-/// Nothing ends where an entity comes or gets other attributes, where a policy changes, where a link gets other costs, latencies or is
+/// Nothing settles where an entity comes or gets other attributes, where a policy changes, where a link gets other costs, latencies or is
 /// up, where a terminator gets another cost or precedence, where a circuit goes, or where the least router cost changes.
 pub fn what_ends_with_nothing()
     ensures identity { (s : State) → ValidState s → (e : Entity) → Falls (record s { identities = with_new e s.identities }) [] [] [] }

@@ -23,7 +23,8 @@ pub struct Standing<'a> {
     pub circuits: &'a Circuits,
 }
 
-/// What settles after a change: the numbers of the links, of the terminators and of the circuits that go, ascending.
+/// What settles after a change: the numbers of the links and of the terminators that go, and of the circuits that do not stay as they are,
+/// each ascending.
 #[derive(Drop)]
 pub struct Fallen {
     pub links: Numbers,
@@ -369,7 +370,7 @@ pub fn settled_by_term(
     }
 }
 
-// What settles after a circuit comes: it goes where it does not stay.
+// What settles after a circuit comes: itself, where it does not stay.
 fn settled_with_circuit(
     alloc: Global,
     standing: &Standing,

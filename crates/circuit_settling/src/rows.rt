@@ -1,6 +1,7 @@
 ghost use Rattle.std.specs.Prelude.{◌≡◌, ℕ, true, IfOk, IfSome};
 ghost use Rattle.std.specs.Option.{option_map};
 ghost use Rattle.ctrl_model.specs.declared.kinds.Kind.TheVariants as kind;
+ghost use Rattle.ctrl_model.specs.Membership.{Among};
 ghost use Rattle.ctrl_model.specs.State.{State};
 ghost use Rattle.record_tables.specs.Climbing.{Climbs};
 ghost use Rattle.row_codec.specs.CoveredTables.{Covers};
@@ -9,9 +10,10 @@ ghost use Rattle.row_codec.specs.RowValues.{record_value};
 ghost use Rattle.row_laws.specs.FittingRecords.{fits};
 ghost use Rattle.row_spelling.specs.RecordChanges.{value_at};
 ghost use Rattle.circuits.specs.CircuitChanges.{circuits_after};
+ghost use Rattle.circuits.specs.MovedCircuits.{moved_numbers, with_moves};
 ghost use Rattle.circuit_settling.specs.CircuitRows.{HaveRows};
 
-use circuits::{Circuit, CircuitChange, Circuits, CircuitsAfter};
+use circuits::{CircuitChange, CircuitView, Circuits, CircuitsAfter, Moves};
 use ctrl_model::{CircuitNo, Kind, Numbers};
 use record_tables::changed_number;
 use row_codec::{Changes, Row};
@@ -19,10 +21,10 @@ use row_spelling::{ChangedRows, touched_changes};
 use std::alloc::{AllocError, Global};
 
 // The row of a circuit under a number, if there is one.
-fn row_of(no: CircuitNo, circuit: Option<&Circuit>) -> Result<Option<Row>, AllocError>
-    requires { IfSome circuit (λ r. fits kind.Circuit r.now ≡ true) }
+fn row_of(no: CircuitNo, circuit: Option<CircuitView>) -> Result<Option<Row>, AllocError>
+    requires { IfSome circuit (λ c. fits kind.Circuit c ≡ true) }
     ensures form { IfOk result (λ row. IfSome row (λ r. is_row r ≡ true)) }
-    ensures value { IfOk result (λ row. option_map value_of row ≡ option_map (record_value kind.Circuit) (option_map (λ c. c.now) circuit.entry)) }
+    ensures value { IfOk result (λ row. option_map value_of row ≡ option_map (record_value kind.Circuit) circuit.entry) }
 {
     let Some(circuit) = circuit else {
         return Ok(None);
@@ -60,26 +62,31 @@ impl<'a> ChangedRows for CircuitRows<'a> {
     }
 }
 
-/// The changes of the rows of circuits by a change, if there is one, and where those of some numbers are gone, which climb. Each
-/// circuit fits its row, now and then, as those of a valid state do. An Err is want of memory.
+/// The changes of the rows of circuits by a change, if there is one, where those of some numbers are gone and others are moved. Touched
+/// are, climbing, at least the numbers that are gone and those that are moved. Each circuit fits its row, now and then, as those of a
+/// valid state do. An Err is want of memory.
 pub fn circuit_changes(
     alloc: Global,
     circuits: &Circuits,
     change: Option<&CircuitChange>,
+    touched: &Numbers,
     gone: &Numbers,
+    moves: &Moves,
 ) -> Result<Changes, AllocError>
-    requires climb { Climbs (λ n. n) gone.now }
+    requires climb { Climbs (λ n. n) touched.now }
+    requires gone { (n : ℕ) → Among n gone.now → Among n touched.now }
+    requires moved { (n : ℕ) → Among n (moved_numbers moves.now) → Among n touched.now }
     requires before { HaveRows circuits.now }
-    requires after { HaveRows (circuits_after (option_map (λ c. c.now) change) gone.now circuits.now) }
+    requires after { HaveRows (with_moves moves.now (circuits_after (option_map (λ c. c.now) change) gone.now circuits.now)) }
     ensures { IfOk result (λ changes. (s t : State) → s.circuits ≡ circuits.now.circuits
-        → t.circuits ≡ (circuits_after (option_map (λ c. c.now) change.entry) gone.now circuits.now).circuits → Covers 11 12 s t changes) }
+        → t.circuits ≡ (with_moves moves.now (circuits_after (option_map (λ c. c.now) change.entry) gone.now circuits.now)).circuits → Covers 11 12 s t changes) }
 {
-    let after = CircuitsAfter::new(circuits, change, gone);
+    let after = CircuitsAfter::new(circuits, change, gone, moves);
     let changed = changed_number(change, circuits.next());
     let rows = CircuitRows {
         circuits,
         after: &after,
     };
-    let changes = touched_changes(alloc, Kind::Circuit, &rows, changed, gone)?;
+    let changes = touched_changes(alloc, Kind::Circuit, &rows, changed, touched)?;
     Ok(changes)
 }

@@ -2,7 +2,7 @@ ghost use Rattle.std.specs.Prelude.{◌≡◌, IfOk};
 ghost use Rattle.circuit_settling.specs.PresentRecords.{stays_beside};
 
 use crate::paths::is_path;
-use circuits::Circuit;
+use circuits::CircuitView;
 use ctrl_model::{Numbers, RouterSeen};
 use fabric_graph::FabricAfter;
 use record_tables::is_among;
@@ -22,7 +22,7 @@ pub struct Present<'a> {
 
 /// Whether the circuit stays: its identity, its service and its terminator are present, and its links are a path from its
 /// ingress to the terminator's router.
-pub fn stays(alloc: Global, present: &Present, circuit: &Circuit) -> Result<bool, AllocError>
+pub fn stays(alloc: Global, present: &Present, circuit: &CircuitView) -> Result<bool, AllocError>
     ensures { IfOk result (λ b. b ≡ stays_beside present.now circuit.now) }
 {
     if !is_among(circuit.identity.0, present.identities.as_slice()) {
@@ -32,7 +32,7 @@ pub fn stays(alloc: Global, present: &Present, circuit: &Circuit) -> Result<bool
         return Ok(false);
     }
     match present.terminators.get(circuit.terminator) {
-        Some(term) => is_path(alloc, present, circuit.ingress, &circuit.links, term.router),
+        Some(term) => is_path(alloc, present, circuit.ingress, circuit.links, term.router),
         None => Ok(false),
     }
 }

@@ -1,2 +1,4 @@
 pub mod CircuitLaws
 pub mod ChangeLaws
+pub mod MoveLaws
+pub mod JudgedMoves

@@ -3,3 +3,4 @@ pub mod LostCircuits
 pub mod WorkedCircuits
 pub mod CircuitChanges
 pub mod ChangedCircuits
+pub mod MovedCircuits

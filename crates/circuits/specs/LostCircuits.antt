@@ -1,4 +1,4 @@
--- Which circuits cannot stand once something is gone, or may not be passed through any more (docs/RULES.md, "Settling").
+-- Which circuits cannot stay as they are once something is gone, or may not be passed through any more (docs/RULES.md, "Settling").
 use Rattle.std.specs.Prelude.{ℕ, ◌==◌, Bool, false, not, ◌&&◌, ◌||◌, List}
 use Rattle.std.specs.declared.option.Option.{Option}
 use Rattle.std.specs.List.{list_any}
@@ -32,7 +32,7 @@ abbrev pub passes_through : ℕ → List ℕ → List ℕ → Circuit → Bool
 passes_through r links terminators c =
     goes_over links c && (not (c.ingress == r) && not (is_among c.terminator terminators))
 
--- A circuit cannot stand after a loss.
+-- A circuit cannot stay as it is after a loss.
 abbrev pub is_lost : Loss → Circuit → Bool
 is_lost (loss.Gone entity links terminators) c = needs entity links.now terminators.now c
 is_lost (loss.Closed router links terminators) c = passes_through router.0 links.now terminators.now c

@@ -2,32 +2,36 @@ ghost use Rattle.std.specs.Prelude.{◌≡◌, IfOk, OnOk};
 ghost use Rattle.std.specs.Option.{option_map};
 ghost use Rattle.ctrl_model.specs.Numbered.{at, numbers, Between};
 ghost use Rattle.circuits.specs.CircuitChanges.{circuits_after};
+ghost use Rattle.circuits.specs.MovedCircuits.{moved, with_moves};
 
 use crate::changes::CircuitChange;
-use crate::grants::{Circuit, CircuitView};
+use crate::grants::CircuitView;
+use crate::moves::{Moves, moved_links};
 use crate::store::Circuits;
 use ctrl_model::{CircuitNo, Numbers};
 use record_tables::{RecordChange, Turn, left_of, record_after, turned};
 use std::alloc::{AllocError, Global};
 use std::marker::Model;
 
-/// The circuits as they will be after a change, if there is one, and without those that are gone. Contracts see them as a table
-/// (`CircuitTables`).
+/// The circuits as they will be after a change, if there is one, without those that are gone, and with those that are moved over
+/// their other links. Contracts see them as a table (`CircuitTables`).
 #[derive(Drop)]
 pub struct CircuitsAfter<'a> {
     pub circuits: &'a Circuits,
     pub change: Option<&'a CircuitChange>,
     pub gone: &'a Numbers,
+    pub moves: &'a Moves,
 }
 
 impl<'a> Model for CircuitsAfter<'a> {
     ghost use Rattle.std.specs.Prelude.{option_map};
     ghost use Rattle.circuits.specs.CircuitTables.{CircuitTables};
     ghost use Rattle.circuits.specs.CircuitChanges.{circuits_after};
+    ghost use Rattle.circuits.specs.MovedCircuits.{with_moves};
 
     ghost Value = { CircuitTables };
 
-    ghost view = { λ a. circuits_after (option_map (λ c. c.now) a.change) a.gone.now a.circuits.now };
+    ghost view = { λ a. with_moves a.moves.now (circuits_after (option_map (λ c. c.now) a.change) a.gone.now a.circuits.now) };
 }
 
 impl<'a> RecordChange<CircuitView<'a>> for Option<&'a CircuitChange> {
@@ -40,7 +44,7 @@ impl<'a> RecordChange<CircuitView<'a>> for Option<&'a CircuitChange> {
 
     fn turn(self) -> Turn<CircuitView<'a>> {
         match self {
-            Some(CircuitChange::Add(circuit)) => Turn::Adds(CircuitView(circuit)),
+            Some(CircuitChange::Add(circuit)) => Turn::Adds(CircuitView::of(circuit)),
             Some(CircuitChange::Remove(no)) => Turn::Removes(no.0),
             None => Turn::Keeps,
         }
@@ -51,27 +55,31 @@ impl<'a> RecordChange<CircuitView<'a>> for Option<&'a CircuitChange> {
     }
 }
 
-// The circuit that stands at a number.
-fn view_at<'a>(circuits: &'a Circuits, no: CircuitNo) -> Option<CircuitView<'a>>
-    ensures { result ≡ at circuits.now.circuits.rows no.0 }
+// A circuit under its number as moves have it.
+fn moved<'a>(circuit: CircuitView<'a>, no: CircuitNo, moves: &'a Moves) -> CircuitView<'a>
+    ensures { result ≡ moved moves.now (no.0, circuit.entry) }
 {
-    let circuit = circuits.seen(no)?;
-    Some(CircuitView(circuit))
+    match moved_links(moves, no) {
+        Some(links) => circuit.over(links),
+        None => circuit,
+    }
 }
 
 impl<'a> CircuitsAfter<'a> {
-    /// The circuits after a change, if there is one, and without those of some numbers.
+    /// The circuits after a change, if there is one, without those of some numbers, and with others moved.
     pub fn new(
         circuits: &'a Circuits,
         change: Option<&'a CircuitChange>,
         gone: &'a Numbers,
+        moves: &'a Moves,
     ) -> CircuitsAfter<'a>
-        ensures { result ≡ circuits_after (option_map (λ c. c.now) change.entry) gone.now circuits.now }
+        ensures { result ≡ with_moves moves.now (circuits_after (option_map (λ c. c.now) change.entry) gone.now circuits.now) }
     {
         CircuitsAfter {
             circuits,
             change,
             gone,
+            moves,
         }
     }
 
@@ -85,14 +93,14 @@ impl<'a> CircuitsAfter<'a> {
         left_of(alloc, &changed, self.gone)
     }
 
-    /// The circuit of the number. None exactly where it will be absent.
-    pub fn get(&self, no: CircuitNo) -> Option<&'a Circuit>
-        ensures { option_map (λ c. c.now) result ≡ at self.now.circuits.rows no.0 }
+    /// The circuit of the number, lent. None exactly where it will be absent.
+    pub fn get(&self, no: CircuitNo) -> Option<CircuitView<'a>>
+        ensures { result ≡ at self.now.circuits.rows no.0 }
     {
-        let present = view_at(self.circuits, no);
+        let present = self.circuits.seen(no);
         // With it comes that the numbers ascend below it, so that no circuit has it yet.
         let next = self.circuits.next();
         let circuit = record_after(self.change, next, self.gone, no.0, present)?;
-        Some(circuit.0)
+        Some(moved(circuit, no, self.moves))
     }
 }

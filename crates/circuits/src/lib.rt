@@ -6,6 +6,7 @@ mod applying;
 mod changes;
 mod grants;
 mod losses;
+mod moves;
 mod store;
 mod worked;
 
@@ -14,5 +15,9 @@ pub use applying::apply_circuit_change;
 pub use changes::CircuitChange;
 pub use grants::{Circuit, CircuitView};
 pub use losses::Loss;
+pub use moves::{Move, Moves};
 pub use store::{CircuitFault, Circuits};
-pub use worked::{circuits_as_they_will_be, circuits_by_number};
+pub use worked::{
+    circuits_as_they_will_be, circuits_by_number, circuits_that_are_moved,
+    numbers_that_are_given_links,
+};

@@ -48,7 +48,7 @@ fn goes_over(circuit: &Circuit, links: &Numbers) -> bool
         .any(|link| is_among(*link, links.as_slice()))
 }
 
-/// Whether a circuit cannot stand after a loss.
+/// Whether a circuit cannot stay as it is after a loss.
 pub fn is_lost(circuit: &Circuit, loss: &Loss) -> bool
     ensures { result ≡ is_lost loss.now circuit.now }
 {
@@ -77,7 +77,7 @@ pub fn is_lost(circuit: &Circuit, loss: &Loss) -> bool
     }
 }
 
-/// The numbers of the circuits that cannot stand after a loss, ascending.
+/// The numbers of the circuits that cannot stay as they are after a loss, ascending.
 pub fn lost_in(
     alloc: Global,
     granted: &NumberedTable<Circuit>,

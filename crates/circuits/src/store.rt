@@ -1,15 +1,17 @@
 ghost use Rattle.std.specs.Prelude.{◌≡◌, ◌≤◌, true, false, length, filter, IfOk, OnErr};
-ghost use Rattle.std.specs.Option.{ok_or, option_map};
+ghost use Rattle.std.specs.Option.{ok_or};
 ghost use Rattle.std.specs.Result.{result_map_both};
 ghost use Rattle.ctrl_model.specs.declared.kinds.Kind.TheVariants as kind;
 ghost use Rattle.ctrl_model.specs.Limits as limits;
 ghost use Rattle.ctrl_model.specs.Numbered.{at, is_present, numbers};
 ghost use Rattle.circuits.specs.CircuitChanges.{without_circuits};
 ghost use Rattle.circuits.specs.LostCircuits.{is_lost};
+ghost use Rattle.circuits.specs.MovedCircuits.{with_links, with_moves};
 ghost use Rattle.circuits.specs.CircuitTables.{no_circuits, is_full, with_circuit, without_circuit, with_next, KeepsCircuits};
 
-use crate::grants::Circuit;
+use crate::grants::{Circuit, CircuitView};
 use crate::losses::{Loss, lost_in};
+use crate::moves::{Moves, move_each, set_links};
 use ctrl_model::{CircuitNo, Kind, Numbers, limit};
 use record_tables::NumberedTable;
 use std::alloc::{AllocError, Global};
@@ -77,11 +79,29 @@ impl Circuits {
         self.granted.get(no.0).ok_or(CircuitFault::Unknown)
     }
 
-    /// The circuit that has the number. None exactly where none has it.
-    pub fn seen(&self, no: CircuitNo) -> Option<&Circuit>
-        ensures { option_map (λ c. c.now) result ≡ at self.now.circuits.rows no.0 }
+    /// The circuit that has the number, lent. None exactly where none has it.
+    pub fn seen(&self, no: CircuitNo) -> Option<CircuitView<'_>>
+        ensures { result ≡ at self.now.circuits.rows no.0 }
     {
-        self.granted.get(no.0)
+        match self.granted.get(no.0) {
+            Some(circuit) => Some(CircuitView::of(circuit)),
+            None => None,
+        }
+    }
+
+    /// Gives a present circuit other links. All else of it stays.
+    pub fn set_links(&mut self, no: CircuitNo, links: Numbers)
+        requires { is_present self.old.circuits.rows no.0 ≡ true }
+        ensures { self.new ≡ record self.old { circuits = with_links no.0 links self.old.circuits } }
+    {
+        set_links(&mut self.granted, no.0, links);
+    }
+
+    /// Moves circuits, where they are present. Where several moves name one circuit, the first counts.
+    pub fn move_each(&mut self, moves: Moves)
+        ensures { self.new ≡ with_moves moves self.old }
+    {
+        move_each(&mut self.granted, moves);
     }
 
     /// Removes a present circuit.
@@ -99,7 +119,7 @@ impl Circuits {
         self.granted.remove_each(gone);
     }
 
-    /// The numbers of the circuits that cannot stand after a loss, ascending. It removes none.
+    /// The numbers of the circuits that cannot stay as they are after a loss, ascending. It removes none.
     pub fn lost(&self, alloc: Global, loss: &Loss) -> Result<Numbers, AllocError>
         ensures { IfOk result (λ ns. ns ≡ numbers (filter (λ row. is_lost loss.now row.1) self.now.circuits.rows)) }
     {

@@ -1,39 +1,47 @@
 ghost use Rattle.std.specs.Prelude.{◌≡◌, []};
 ghost use Rattle.core_stores.specs.CarriedStates.{Carries};
-ghost use Rattle.core_stores.specs.SettledNumbers.{without_settled};
+ghost use Rattle.core_stores.specs.SettledNumbers.{SettlesNothing, without_settled};
 ghost use Rattle.core_stores.specs.StoredState.{HoldsPolicies, state_of};
 
 use crate::stores::Stores;
+use circuits::Moves;
 use ctrl_model::Numbers;
 use std::alloc::Global;
 
-/// What settling takes out after a change: the numbers of the links, of the terminators and of the circuits that go, ascending.
+/// What settling makes of what a change leaves: the numbers of the links and of the terminators that go, of the circuits that do not stay
+/// as they are and of those that end, each ascending, and the moves of the other circuits (docs/RULES.md, "Settling").
 #[derive(Drop)]
 pub struct Settled {
     pub links: Numbers,
     pub terminators: Numbers,
-    pub circuits: Numbers,
+    /// The circuits that do not stay as they are: each of them ends or is moved.
+    pub lost: Numbers,
+    pub ended: Numbers,
+    pub moves: Moves,
 }
 
 impl Settled {
     /// Nothing.
     pub fn nothing(alloc: Global) -> Settled
-        ensures { (result.links ≡ []) × (result.terminators ≡ []) × (result.circuits ≡ []) }
+        ensures { SettlesNothing result }
     {
         Settled {
             links: Numbers::of(Vec::new(alloc)),
             terminators: Numbers::of(Vec::new(alloc)),
-            circuits: Numbers::of(Vec::new(alloc)),
+            lost: Numbers::of(Vec::new(alloc)),
+            ended: Numbers::of(Vec::new(alloc)),
+            moves: Moves::of(Vec::new(alloc)),
         }
     }
 }
 
-/// Takes out what settles.
-pub fn take_out(stores: &mut Stores, settled: &Settled)
+/// Takes out what goes and moves the circuits that go on over other links.
+pub fn take_out(stores: &mut Stores, settled: Settled)
     requires { HoldsPolicies stores.old }
-    ensures { Carries stores.old stores.new (without_settled settled.now (state_of stores.old)) }
+    ensures { Carries stores.old stores.new (without_settled settled (state_of stores.old)) }
 {
     stores.fabric.remove_each(&settled.links);
     stores.terminators.remove_each(&settled.terminators);
-    stores.circuits.remove_each(&settled.circuits);
+    stores.circuits.remove_each(&settled.ended);
+    stores.circuits.move_each(settled.moves);
 }

@@ -118,7 +118,7 @@ same_attributes n q r e (x ∷ rows) = ap (λ names. x.1.attributes ++ names) (s
 
 same_full : (n : ℕ) (q r : Router) (s : State) → q.attributes ≡ r.attributes → attributes_full (joined kind.Router n q s) ≡ attributes_full (joined kind.Router n r s)
 same_full n q r s e =
-    ap (λ (names : List (List ℕ)). nat_lt 1024 (distinct_count bytes_eq (flat_map (λ row. row.1.attributes) s.identities.rows ++ (flat_map (λ row. row.1.attributes) s.services.rows
+    ap (λ (names : List (List ℕ)). nat_lt 4096 (distinct_count bytes_eq (flat_map (λ row. row.1.attributes) s.identities.rows ++ (flat_map (λ row. row.1.attributes) s.services.rows
     ++ (names ++ (flat_map side_attributes s.service_policies.rows ++ (flat_map side_attributes s.edge_router_policies.rows ++ flat_map side_attributes s.service_edge_router_policies.rows)))))))
     (same_attributes n q r e s.routers.rows)
 

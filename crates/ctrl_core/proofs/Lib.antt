@@ -9,6 +9,7 @@ pub mod CountedChanges
 pub mod FoundPlans
 pub mod StateParts
 pub mod SettledChanges
+pub mod JudgedChanges
 pub mod NextNumbers
 pub mod RowEnds
 pub mod CountRows

@@ -19,7 +19,8 @@ use Rattle.core_stores.specs.StoredState.{state_of}
 use Rattle.ctrl_core.specs.Changes.{CanChange, after_change}
 use Rattle.core_stores.specs.LeadingSteps.{LeadAllCounts}
 use Rattle.ctrl_core.specs.ChangedStores.{CanSettle}
-use Rattle.core_stores.specs.SettledNumbers.{AreSettled, without_settled}
+use Rattle.core_stores.specs.SettledNumbers.{without_settled}
+use Rattle.ctrl_core.specs.SettledRecords.{AreSettled}
 use Rattle.core_stores.specs.declared.settled.Settled.{Settled}
 use Rattle.ctrl_core.proofs.StateParts.{without_is_settled}
 use Rattle.ctrl_core.specs.PlannedCommands.{Plans}

@@ -4,8 +4,9 @@ use Rattle.std.proofs.lemmas.Option.{none-some}
 use Rattle.std.specs.Option.{option_map, unwrap_or}
 use Rattle.ctrl_model.specs.declared.kinds.Kind.{Kind}
 use Rattle.ctrl_model.specs.declared.kinds.Kind.TheVariants as kind
+use Rattle.ctrl_model.specs.Membership.{Among}
 use Rattle.ctrl_model.specs.Numbered.{at}
-use Rattle.ctrl_model.specs.Settling.{link_stays, terminator_stays, stays_in, settle, settle_links, settle_terminators}
+use Rattle.ctrl_model.specs.Settling.{link_stays, terminator_stays, stays_in, settle, settle_links}
 use Rattle.ctrl_model.specs.State.{State}
 use Rattle.ctrl_model.specs.ValidState.{ValidState}
 use Rattle.record_tables.specs.AfterChange.{changed_by}
@@ -16,7 +17,10 @@ use Rattle.row_laws.proofs.Covers.{Covers-append, Covers-same_records}
 use Rattle.row_laws.proofs.WrittenRecords.{record_at_fits}
 use Rattle.circuits.specs.declared.changes.CircuitChange.{CircuitChange}
 use Rattle.circuits.specs.CircuitChanges.{circuits_after}
+use Rattle.circuits.specs.MovedCircuits.{moved_numbers, with_moves}
+use Rattle.circuits.proofs.JudgedMoves.{ended_among, moved_among}
 use Rattle.circuit_settling.specs.CircuitRows as circuit_rows
+use Rattle.circuit_settling.specs.OtherLinks.{other_links_in}
 use Rattle.entity_store.specs.declared.changes.EntityChange.{EntityChange}
 use Rattle.entity_store.specs.EntityChanges.{after_entity_change}
 use Rattle.entity_store.specs.declared.changes.EntityChange.TheVariants as entity
@@ -41,8 +45,10 @@ use Rattle.core_stores.specs.declared.settled.Settled.{Settled}
 use Rattle.core_stores.specs.declared.stores.Stores.{Stores}
 use Rattle.core_stores.specs.ChangeParts.{entity_part, policy_part, link_part, term_part, circuit_part, forgotten_name, least_after}
 use Rattle.ctrl_core.specs.ChangedStores.{CanSettle, KnowsSettled, next_state}
+use Rattle.ctrl_core.specs.Changes.{after_change}
 use Rattle.core_stores.specs.StoredState.{state_of}
-use Rattle.core_stores.specs.SettledNumbers.{without_settled, links_failing, terminators_failing, circuits_failing}
+use Rattle.core_stores.specs.SettledNumbers.{without_settled}
+use Rattle.ctrl_core.specs.SettledRecords.{AreSettled, before_circuits}
 use Rattle.ctrl_core.proofs.StateParts.{parts_after, state_then, policies_then, links_then, terms_then, circuits_then, links_ordered, terms_ordered, circuits_ordered, without_is_settled}
 
 -- ---- the tables of the next state
@@ -57,8 +63,8 @@ links_end c st g o knows e = ap (λ (s : State). s.links) (left c st g knows) �
 pub terms_end : (c : Change) (st : Stores) (g : Settled) (o : Option TermChange) → KnowsSettled st c g → o ≡ term_part c → (next_state st c).terminators ≡ (terms_after o g.terminators st.terminators).terminators
 terms_end c st g o knows e = ap (λ (s : State). s.terminators) (left c st g knows) ∙ sym (ap (λ p. (terms_after p g.terminators st.terminators).terminators) e)
 
-pub circuits_end : (c : Change) (st : Stores) (g : Settled) (o : Option CircuitChange) → KnowsSettled st c g → o ≡ circuit_part c → (next_state st c).circuits ≡ (circuits_after o g.circuits st.circuits).circuits
-circuits_end c st g o knows e = ap (λ (s : State). s.circuits) (left c st g knows) ∙ sym (ap (λ p. (circuits_after p g.circuits st.circuits).circuits) e)
+pub circuits_end : (c : Change) (st : Stores) (g : Settled) (o : Option CircuitChange) → KnowsSettled st c g → o ≡ circuit_part c → (next_state st c).circuits ≡ (with_moves g.moves (circuits_after o g.ended st.circuits)).circuits
+circuits_end c st g o knows e = ap (λ (s : State). s.circuits) (left c st g knows) ∙ sym (ap (λ p. (with_moves g.moves (circuits_after p g.ended st.circuits)).circuits) e)
 
 -- what settling leaves alone
 whole : (c : Change) (st : Stores) → CanSettle st c → next_state st c ≡ settle (state_then c st)
@@ -82,22 +88,35 @@ entities_now st = record { identities = refl; services = refl; routers = refl }
 
 -- ---- the numbers of what settles climb
 
+-- what settles, of the state by its parts
+settled_then : (c : Change) (st : Stores) (g : Settled) → KnowsSettled st c g → AreSettled (state_then c st) g
+settled_then c st g knows = subst (λ s. AreSettled s g) (parts_after c st knows.can) knows.settled
+
 pub links_climb : (c : Change) (st : Stores) (g : Settled) → KnowsSettled st c g → Climbs (λ n. n) g.links
 links_climb c st g knows =
     let o = links_ordered c st knows.can in
-    subst (λ ns. Climbs (λ n. n) ns) (sym (knows.settled.links ∙ ap links_failing (parts_after c st knows.can))) (gone_climb (link_stays (state_then c st)) (links_then c st).links o.high o.ordered)
+    subst (λ ns. Climbs (λ n. n) ns) (sym (settled_then c st g knows).falls.links_are) (gone_climb (link_stays (state_then c st)) (links_then c st).links o.high o.ordered)
 
 pub terms_climb : (c : Change) (st : Stores) (g : Settled) → KnowsSettled st c g → Climbs (λ n. n) g.terminators
 terms_climb c st g knows =
     let o = terms_ordered c st knows.can in
-    subst (λ ns. Climbs (λ n. n) ns) (sym (knows.settled.terminators ∙ ap terminators_failing (parts_after c st knows.can)))
+    subst (λ ns. Climbs (λ n. n) ns) (sym (settled_then c st g knows).falls.terms_are)
     (gone_climb (terminator_stays (settle_links (state_then c st))) (terms_then c st).terminators o.high o.ordered)
 
-pub circuits_climb : (c : Change) (st : Stores) (g : Settled) → KnowsSettled st c g → Climbs (λ n. n) g.circuits
+-- and the circuits that do not stay as they are hold those that end and those that are moved
+pub circuits_climb : (c : Change) (st : Stores) (g : Settled) → KnowsSettled st c g → Climbs (λ n. n) g.lost
 circuits_climb c st g knows =
-    let o = circuits_ordered c st knows.can in
-    subst (λ ns. Climbs (λ n. n) ns) (sym (knows.settled.circuits ∙ ap circuits_failing (parts_after c st knows.can)))
-    (gone_climb (stays_in (settle_terminators (settle_links (state_then c st)))) (circuits_then c st).circuits o.high o.ordered)
+    subst (λ ns. Climbs (λ n. n) ns) (sym (settled_then c st g knows).falls.circuits_are)
+    (gone_climb (stays_in (before_circuits (state_then c st))) (circuits_then c st).circuits (circuits_then c st).circuits.next (circuits_ordered c st knows.can))
+
+pub ended_lost : (c : Change) (st : Stores) (g : Settled) → KnowsSettled st c g → (n : ℕ) → Among n g.ended → Among n g.lost
+ended_lost c st g knows n among =
+    let judged = knows.settled.judged in ended_among (other_links_in (before_circuits (after_change c (state_of st)))) g.lost n (subst (λ ns. Among n ns) judged.ended_are among)
+
+pub moved_lost : (c : Change) (st : Stores) (g : Settled) → KnowsSettled st c g → (n : ℕ) → Among n (moved_numbers g.moves) → Among n g.lost
+moved_lost c st g knows n among =
+    let judged = knows.settled.judged in
+    moved_among (other_links_in (before_circuits (after_change c (state_of st)))) g.lost n (subst (λ ms. Among n (moved_numbers ms)) judged.moves_are among)
 
 -- ---- records that fit their rows
 
@@ -107,7 +126,7 @@ links_fit c st g o knows e = λ n l stands. (record_at_fits kind.Link (next_stat
 pub terms_fit : (c : Change) (st : Stores) (g : Settled) (o : Option TermChange) → KnowsSettled st c g → o ≡ term_part c → term_rows.AreFit (terms_after o g.terminators st.terminators)
 terms_fit c st g o knows e = λ n l stands. (record_at_fits kind.Terminator (next_state st c) n l knows.can.valid (ap (λ t. at t.rows n) (terms_end c st g o knows e) ∙ stands)).1
 
-pub circuits_fit : (c : Change) (st : Stores) (g : Settled) (o : Option CircuitChange) → KnowsSettled st c g → o ≡ circuit_part c → circuit_rows.HaveRows (circuits_after o g.circuits st.circuits)
+pub circuits_fit : (c : Change) (st : Stores) (g : Settled) (o : Option CircuitChange) → KnowsSettled st c g → o ≡ circuit_part c → circuit_rows.HaveRows (with_moves g.moves (circuits_after o g.ended st.circuits))
 circuits_fit c st g o knows e = λ n l stands. (record_at_fits kind.Circuit (next_state st c) n l knows.can.valid (ap (λ t. at t.rows n) (circuits_end c st g o knows e) ∙ stands)).1
 
 pub links_fit_now : (st : Stores) → ValidState (state_of st) → link_rows.HaveRows st.fabric

@@ -29,25 +29,23 @@ use Rattle.circuit_settling.proofs.NetworkCases.{policies_changed, setting_chang
 use Rattle.circuit_settling.proofs.SettlingCases.{link_more, term_more, circuit_more}
 use Rattle.core_stores.specs.declared.changes.Change.{Change}
 use Rattle.core_stores.specs.declared.changes.Change.TheVariants as change
-use Rattle.core_stores.specs.declared.settled.Settled.{Settled}
 use Rattle.core_stores.specs.declared.stores.Stores.{Stores}
 use Rattle.core_stores.specs.StoredState.{state_of}
-use Rattle.core_stores.specs.SettledNumbers.{AreSettled}
 use Rattle.ctrl_core.specs.Changes.{CanChange, after_change}
 use Rattle.circuit_settling.specs.declared.falling.Fallen.{Fallen}
 use Rattle.circuit_settling.specs.NamedRecords.{Names, number_unless, NamesByEntity, NamesByLink, NamesByTerm, NamesByCircuit}
 use Rattle.ctrl_core.specs.SettledParts.{bare_state_of, NamesBy}
 
--- what settles, as numbers that a store of changes keeps
-abbrev pub settled_of : Fallen → Settled
-settled_of g = record { links = g.links; terminators = g.terminators; circuits = g.circuits }
+-- these fall
+abbrev pub FallAs : State → Fallen → Type 0
+FallAs t g = Falls t g.links g.terminators g.circuits
 
--- what falls by its numbers is what settles
-settled_from : (t : State) (links terminators circuits : List ℕ) (g : Fallen) → Falls t links terminators circuits → Names links terminators circuits g → AreSettled t (settled_of g)
+-- what falls by its numbers falls
+settled_from : (t : State) (links terminators circuits : List ℕ) (g : Fallen) → Falls t links terminators circuits → Names links terminators circuits g → FallAs t g
 settled_from t links terminators circuits g f n = record {
-  links = n.links_are ∙ f.links_are;
-  terminators = n.terminators_are ∙ f.terms_are;
-  circuits = n.circuits_are ∙ f.circuits_are;
+  links_are = n.links_are ∙ f.links_are;
+  terms_are = n.terminators_are ∙ f.terms_are;
+  circuits_are = n.circuits_are ∙ f.circuits_are;
 }
 
 plain_more : (k : Kind) (name : List ℕ) (attributes : List (List ℕ)) (s : State) → ValidState s → is_plain_kind k ≡ true → Falls (with_plain k name attributes s) [] [] []
@@ -80,7 +78,7 @@ module _ (st : Stores) (v : ValidState (state_of st)) where
   bare_marks None n through connected = refl
   bare_marks (Some r) n through connected = refl
 
-  entity_settles : (c : EntityChange) → CanEnter c s → (g : Fallen) → NamesByEntity c b g → AreSettled (entered c s) (settled_of g)
+  entity_settles : (c : EntityChange) → CanEnter c s → (g : Fallen) → NamesByEntity c b g → FallAs (entered c s) g
   entity_settles (entity.Add k name attributes) can g n = settled_from (with_plain k name attributes s) [] [] [] g (plain_more k name attributes s v can) n
   entity_settles (entity.AddRouter name attributes cost through) can g n =
       settled_from (entered (entity.AddRouter name attributes cost through) s) [] [] [] g (router_more s v (new_router name attributes cost (not through))) n
@@ -98,11 +96,11 @@ module _ (st : Stores) (v : ValidState (state_of st)) where
   entity_settles (entity.Remove k m name) can g n =
       settled_from (without_named k m name s) (links_of k m b) (ends_on k m b) (circuits_on (Some (k, m)) (links_of k m b) (ends_on k m b) b) g (removed k m name can.0) n
 
-  link_settles : (c : LinkChange) (g : Fallen) → NamesByLink c b g → AreSettled (linked c s) (settled_of g)
+  link_settles : (c : LinkChange) (g : Fallen) → NamesByLink c b g → FallAs (linked c s) g
   link_settles (link.Add l) g n = settled_from (linked (link.Add l) s) (number_unless (link_stays b (0, l)) b.links.next) [] [] g (link_more s v l) n
   link_settles (link.Set m cost latency_a latency_b up) g n = by up n
     where
-      by : (a : Bool) → Names [] [] (cond a [] (circuits_on None (m.0 ∷ []) [] b)) g → AreSettled (linked (link.Set m cost latency_a latency_b a) s) (settled_of g)
+      by : (a : Bool) → Names [] [] (cond a [] (circuits_on None (m.0 ∷ []) [] b)) g → FallAs (linked (link.Set m cost latency_a latency_b a) s) g
       by true n = settled_from (linked (link.Set m cost latency_a latency_b true) s) [] [] [] g (link_set s v m.0 (λ l. record l { cost = cost; latency_a = latency_a; latency_b = latency_b; up = true }) (λ k. (refl, refl, λ e. refl))) n
       by false n =
           settled_from (linked (link.Set m cost latency_a latency_b false) s) [] [] (circuits_on None (m.0 ∷ []) [] b) g
@@ -110,17 +108,17 @@ module _ (st : Stores) (v : ValidState (state_of st)) where
   link_settles (link.Remove m) g n = settled_from (linked (link.Remove m) s) [] [] (circuits_on None (m.0 ∷ []) [] b) g (link_removed s v m.0) n
   link_settles (link.SetLeast cost) g n = settled_from (linked (link.SetLeast cost) s) [] [] [] g (setting_changed s v cost) n
 
-  term_settles : (c : TermChange) (g : Fallen) → NamesByTerm c b g → AreSettled (offered c s) (settled_of g)
+  term_settles : (c : TermChange) (g : Fallen) → NamesByTerm c b g → FallAs (offered c s) g
   term_settles (term.Add e) g n = settled_from (offered (term.Add e) s) [] (number_unless (terminator_stays b (0, e)) b.terminators.next) [] g (term_more s v e) n
   term_settles (term.Set m cost precedence) g n =
       settled_from (offered (term.Set m cost precedence) s) [] [] [] g (term_set s v m.0 (λ e. record e { cost = cost; precedence = precedence }) (λ e. (refl, refl, refl))) n
   term_settles (term.Remove m) g n = settled_from (offered (term.Remove m) s) [] [] (circuits_on None [] (m.0 ∷ []) b) g (term_removed s v m.0) n
 
-  circuit_settles : (c : CircuitChange) (g : Fallen) → NamesByCircuit c b g → AreSettled (routed c s) (settled_of g)
+  circuit_settles : (c : CircuitChange) (g : Fallen) → NamesByCircuit c b g → FallAs (routed c s) g
   circuit_settles (circuit.Add c) g n = settled_from (routed (circuit.Add c) s) [] [] (number_unless (stays_in b (0, c)) b.circuits.next) g (circuit_more s v c) n
   circuit_settles (circuit.Remove m) g n = settled_from (routed (circuit.Remove m) s) [] [] [] g (circuit_removed s v m.0) n
 
-  pub settles : (c : Change) → CanChange c s → (g : Fallen) → NamesBy c b g → AreSettled (after_change c s) (settled_of g)
+  pub settles : (c : Change) → CanChange c s → (g : Fallen) → NamesBy c b g → FallAs (after_change c s) g
   settles (change.Entity c) can g n = entity_settles c can g n
   settles (change.Policy c) can g n =
       let t = ruled c s in settled_from t [] [] [] g (policies_changed s v t.service_policies t.edge_router_policies t.service_edge_router_policies) n

@@ -1,8 +1,9 @@
 -- The state after a change, by its parts: what each store makes of the change, as it is looked at before it is made.
-use Rattle.std.proofs.Common.{◌≡◌, ℕ, ◌+◌, ◌≤◌, List, Option, None, Some, refl, sym, ◌∙◌, ap, subst}
+use Rattle.std.proofs.Common.{◌≡◌, ℕ, ◌+◌, ◌≤◌, Bool, not, List, Option, None, Some, refl, sym, ◌∙◌, ap, subst}
 use Rattle.ctrl_model.specs.declared.kinds.Kind.TheVariants as kind
-use Rattle.ctrl_model.specs.Numbered.{Between, with_kept}
-use Rattle.ctrl_model.specs.Settling.{link_stays, terminator_stays, stays_in, settle, settle_links, settle_terminators}
+use Rattle.std.specs.List.{filter}
+use Rattle.ctrl_model.specs.Numbered.{numbers, Between, with_kept}
+use Rattle.ctrl_model.specs.Settling.{link_stays, terminator_stays, settle, settle_links}
 use Rattle.ctrl_model.specs.State.{State}
 use Rattle.ctrl_model.proofs.NumberedLaws.{Between-with_last, Between-edit_at, Between-without}
 use Rattle.record_tables.specs.AfterChange.{changed_by, without_numbers}
@@ -11,6 +12,8 @@ use Rattle.circuits.specs.declared.changes.CircuitChange.{CircuitChange}
 use Rattle.circuits.specs.declared.changes.CircuitChange.TheVariants as circuit
 use Rattle.circuits.specs.CircuitChanges.{after_circuit_change}
 use Rattle.circuits.specs.CircuitTables.{CircuitTables}
+use Rattle.circuits.specs.MovedCircuits.{moved_table}
+use Rattle.circuit_settling.proofs.JudgedCircuits.{circuits_settled}
 use Rattle.entity_store.specs.EntityChanges.{after_entity_change}
 use Rattle.entity_store.specs.EntityTables.{Tables}
 use Rattle.fabric_graph.specs.declared.changes.LinkChange.{LinkChange}
@@ -32,7 +35,8 @@ use Rattle.core_stores.specs.ChangeParts.{entity_part, link_part, term_part, cir
 use Rattle.ctrl_core.specs.ChangedStores.{CanSettle}
 use Rattle.ctrl_core.specs.Changes.{after_change}
 use Rattle.core_stores.specs.StoredState.{state_of}
-use Rattle.core_stores.specs.SettledNumbers.{AreSettled, links_failing, terminators_failing, circuits_failing, without_settled}
+use Rattle.core_stores.specs.SettledNumbers.{without_settled}
+use Rattle.ctrl_core.specs.SettledRecords.{AreSettled}
 use Rattle.ctrl_core.proofs.ApplyLaws.{carried_entity}
 
 -- the state of some tables
@@ -98,10 +102,11 @@ terms_numbered (Some (term.Add t)) e h b = record { high = e.terminators.next + 
 terms_numbered (Some (term.Set n cost precedence)) e h b = record { high = e.terminators.next; ordered = Between-edit_at e.terminators.next e.terminators.rows 1 n.0 _ b }
 terms_numbered (Some (term.Remove n)) e h b = record { high = e.terminators.next; ordered = Between-without e.terminators.next e.terminators.rows 1 n.0 b }
 
-circuits_numbered : (o : Option CircuitChange) (k : CircuitTables) → 1 ≤ k.circuits.next → Between 1 k.circuits.next k.circuits.rows → IsNumbered (changed_by after_circuit_change o k).circuits.rows
-circuits_numbered None k h b = record { high = k.circuits.next; ordered = b }
-circuits_numbered (Some (circuit.Add c)) k h b = record { high = k.circuits.next + 1; ordered = Between-with_last k.circuits.next k.circuits.rows 1 c h b }
-circuits_numbered (Some (circuit.Remove n)) k h b = record { high = k.circuits.next; ordered = Between-without k.circuits.next k.circuits.rows 1 n.0 b }
+circuits_numbered : (o : Option CircuitChange) (k : CircuitTables) → 1 ≤ k.circuits.next → Between 1 k.circuits.next k.circuits.rows
+    → Between 1 (changed_by after_circuit_change o k).circuits.next (changed_by after_circuit_change o k).circuits.rows
+circuits_numbered None k h b = b
+circuits_numbered (Some (circuit.Add c)) k h b = Between-with_last k.circuits.next k.circuits.rows 1 c h b
+circuits_numbered (Some (circuit.Remove n)) k h b = Between-without k.circuits.next k.circuits.rows 1 n.0 b
 
 pub links_ordered : (c : Change) (st : Stores) → CanSettle st c → IsNumbered (links_then c st).links.rows
 links_ordered c st can = let v = (can.before.kinds kind.Link).numbers in links_numbered (link_part c) st.fabric v.first v.ordered
@@ -109,30 +114,41 @@ links_ordered c st can = let v = (can.before.kinds kind.Link).numbers in links_n
 pub terms_ordered : (c : Change) (st : Stores) → CanSettle st c → IsNumbered (terms_then c st).terminators.rows
 terms_ordered c st can = let v = (can.before.kinds kind.Terminator).numbers in terms_numbered (term_part c) st.terminators v.first v.ordered
 
-pub circuits_ordered : (c : Change) (st : Stores) → CanSettle st c → IsNumbered (circuits_then c st).circuits.rows
+pub circuits_ordered : (c : Change) (st : Stores) → CanSettle st c → Between 1 (circuits_then c st).circuits.next (circuits_then c st).circuits.rows
 circuits_ordered c st can = let v = (can.before.kinds kind.Circuit).numbers in circuits_numbered (circuit_part c) st.circuits v.first v.ordered
 
 -- ---- what is left
 
+-- the numbers of the records that a test does not pass
+abbrev pub failing : {R : Type 0} → (ℕ × R → Bool) → List (ℕ × R) → List ℕ
+failing stays rows = numbers (filter (λ row. not (stays row)) rows)
+
 -- the links and the terminators that are left are those of the state once both are settled
-links_left : (c : Change) (st : Stores) → CanSettle st c → with_kept (link_stays (state_then c st)) (links_then c st).links ≡ without_numbers (links_failing (state_then c st)) (links_then c st).links
-links_left c st can = let o = links_ordered c st can in kept (link_stays (state_then c st)) (links_then c st).links o.high o.ordered
+pub links_left : (c : Change) (st : Stores) (gone : List ℕ) → CanSettle st c → gone ≡ failing (link_stays (state_then c st)) (links_then c st).links.rows
+    → without_numbers gone (links_then c st).links ≡ with_kept (link_stays (state_then c st)) (links_then c st).links
+links_left c st gone can are =
+    let o = links_ordered c st can in
+    ap (λ ns. without_numbers ns (links_then c st).links) are ∙ sym (kept (link_stays (state_then c st)) (links_then c st).links o.high o.ordered)
 
-terms_left : (c : Change) (st : Stores) → CanSettle st c
-    → with_kept (terminator_stays (settle_links (state_then c st))) (terms_then c st).terminators ≡ without_numbers (terminators_failing (state_then c st)) (terms_then c st).terminators
-terms_left c st can = let o = terms_ordered c st can in kept (terminator_stays (settle_links (state_then c st))) (terms_then c st).terminators o.high o.ordered
+pub terms_left : (c : Change) (st : Stores) (gone : List ℕ) → CanSettle st c → gone ≡ failing (terminator_stays (settle_links (state_then c st))) (terms_then c st).terminators.rows
+    → without_numbers gone (terms_then c st).terminators ≡ with_kept (terminator_stays (settle_links (state_then c st))) (terms_then c st).terminators
+terms_left c st gone can are =
+    let o = terms_ordered c st can in
+    ap (λ ns. without_numbers ns (terms_then c st).terminators) are ∙ sym (kept (terminator_stays (settle_links (state_then c st))) (terms_then c st).terminators o.high o.ordered)
 
-circuits_left : (c : Change) (st : Stores) → CanSettle st c
-    → with_kept (stays_in (settle_terminators (settle_links (state_then c st)))) (circuits_then c st).circuits ≡ without_numbers (circuits_failing (state_then c st)) (circuits_then c st).circuits
-circuits_left c st can = let o = circuits_ordered c st can in kept (stays_in (settle_terminators (settle_links (state_then c st)))) (circuits_then c st).circuits o.high o.ordered
+-- the circuits that are left, of which some are moved, are those of the settled state
+circuits_left : (c : Change) (st : Stores) (g : Settled) → CanSettle st c → AreSettled (state_then c st) g
+    → moved_table g.moves (without_numbers g.ended (circuits_then c st).circuits) ≡ (settle (state_then c st)).circuits
+circuits_left c st g can named =
+    (λ i. moved_table (named.judged.moves_are i) (without_numbers (named.judged.ended_are i) (circuits_then c st).circuits))
+    ∙ ap (λ (k : CircuitTables). k.circuits) (circuits_settled (state_then c st) g.lost (circuits_ordered c st can) named.falls.circuits_are)
 
 -- a state without what settles is settled
 pub without_is_settled : (c : Change) (st : Stores) (g : Settled) → CanSettle st c → AreSettled (after_change c (state_of st)) g
     → without_settled g (after_change c (state_of st)) ≡ settle (after_change c (state_of st))
 without_is_settled c st g can are =
-    let whole = parts_after c st can in
-    subst (λ s. AreSettled s g → without_settled g s ≡ settle s) (sym whole) (λ named i. record (state_then c st) {
-      links = (ap (λ ls. without_numbers ls (links_then c st).links) named.links ∙ sym (links_left c st can)) i;
-      terminators = (ap (λ ls. without_numbers ls (terms_then c st).terminators) named.terminators ∙ sym (terms_left c st can)) i;
-      circuits = (ap (λ ls. without_numbers ls (circuits_then c st).circuits) named.circuits ∙ sym (circuits_left c st can)) i;
+    subst (λ s. AreSettled s g → without_settled g s ≡ settle s) (sym (parts_after c st can)) (λ named i. record (state_then c st) {
+      links = links_left c st g.links can named.falls.links_are i;
+      terminators = terms_left c st g.terminators can named.falls.terms_are i;
+      circuits = circuits_left c st g can named i;
     }) are

@@ -12,7 +12,7 @@ use Rattle.core_stores.specs.declared.stores.Stores.{Stores}
 use Rattle.ctrl_core.specs.Changes.{CanChange, after_change}
 use Rattle.core_stores.specs.StoredState.{HoldsPolicies}
 use Rattle.core_stores.specs.StoredState.{state_of}
-use Rattle.core_stores.specs.SettledNumbers.{AreSettled}
+use Rattle.ctrl_core.specs.SettledRecords.{AreSettled}
 
 -- The state after a change of some stores, settled.
 abbrev pub next_state : Stores → Change → State

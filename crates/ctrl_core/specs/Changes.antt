@@ -1,6 +1,6 @@
 -- What a plan keeps to carry out: one change of the stores and the steps of the counts, where it leads, and when it can
 -- (docs/PROMISES.md, "The core").
-use Rattle.std.specs.Prelude.{◌≡◌, [], None, Some}
+use Rattle.std.specs.Prelude.{◌≡◌, None, Some}
 use Rattle.std.specs.declared.option.Option.{Option}
 use Rattle.ctrl_model.specs.State.{State}
 use Rattle.ctrl_model.specs.ValidState.{ValidState}
@@ -17,7 +17,8 @@ use Rattle.core_stores.specs.declared.changes.Change.TheVariants as change
 use Rattle.core_stores.specs.LeadingSteps.{LeadAllCounts}
 use Rattle.ctrl_core.specs.declared.plans.Planned.{Planned}
 use Rattle.core_stores.specs.declared.settled.Settled.{Settled}
-use Rattle.core_stores.specs.SettledNumbers.{AreSettled}
+use Rattle.core_stores.specs.SettledNumbers.{SettlesNothing}
+use Rattle.ctrl_core.specs.SettledRecords.{AreSettled}
 
 -- The state after a change, not yet settled.
 abbrev pub after_change : Change → State → State
@@ -44,9 +45,10 @@ pub record IsStill (change : Option Change) (steps : GrantSteps) : Type 0 where
   pub change_is : change ≡ None
   pub no_steps : HasNoSteps steps
 
--- What settles after a change is named: the numbers of what is taken out of the state after it. Where nothing changes there are none.
+-- What settles after a change is named: what goes out of the state after it, and which circuits are moved. Where nothing changes nothing
+-- settles.
 abbrev pub NamesSettled : Option Change → State → Settled → Type 0
-NamesSettled None s g = (g.links ≡ []) × (g.terminators ≡ []) × (g.circuits ≡ [])
+NamesSettled None s g = SettlesNothing g
 NamesSettled (Some c) s g = AreSettled (after_change c s) g
 
 -- A plan can lead from a state: what it keeps can be changed there, where it leads is a valid state, it names what settles, and its

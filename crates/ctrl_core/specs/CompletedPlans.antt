@@ -16,7 +16,8 @@ use Rattle.ctrl_core.specs.Changes.{CanChange, NamesSettled, after_change}
 use Rattle.core_stores.specs.LeadingSteps.{LeadAllCounts}
 use Rattle.ctrl_core.specs.KeptState.{Keeps}
 use Rattle.core_stores.specs.StoredState.{state_of}
-use Rattle.core_stores.specs.SettledNumbers.{AreSettled}
+use Rattle.core_stores.specs.SettledNumbers.{SettlesNothing}
+use Rattle.ctrl_core.specs.SettledRecords.{AreSettled}
 
 -- A draft that can be carried out in the state of some stores, and leads to a valid state by its change and its steps.
 pub record CanComplete (st : Stores) (d : Draft) : Type 0 where
@@ -43,7 +44,5 @@ pub record IsUnchanged (reply : Reply) (steps : GrantSteps) (p : Planned) : Type
   pub reply_is : p.reply ≡ reply
   pub change_is : p.change ≡ None
   pub steps_are : p.steps ≡ steps
-  pub links_stay : p.settled.links ≡ []
-  pub terminators_stay : p.settled.terminators ≡ []
-  pub circuits_stay : p.settled.circuits ≡ []
+  pub none_settles : SettlesNothing p.settled
   pub empty : p.batch ≡ []

@@ -9,4 +9,5 @@ pub mod LoadedRows
 pub mod OtherCommands
 pub mod TakenRows
 pub mod SettledParts
+pub mod SettledRecords
 pub mod NewRecords

@@ -44,18 +44,18 @@ pub fn apply_change(alloc: Global, stores: &mut Stores, change: Change) -> Resul
     }
 }
 
-/// Carries a change out that leads from a valid state to a valid one: it is made, and what settles is taken out, whose numbers are
-/// known. Where there is none the stores stay. Of a change that fails for want of memory nothing is said.
+/// Carries a change out that leads from a valid state to a valid one: it is made, what goes is taken out, and the circuits that go on over
+/// other links are moved; what settles is known. Where there is no change the stores stay. Of a change that fails for want of memory nothing is said.
 pub fn carry_out(
     alloc: Global,
     stores: &mut Stores,
     change: Option<Change>,
-    settled: &Settled,
+    settled: Settled,
 ) -> Result<(), AllocError>
     requires can { CanLeadBy CanChange change (state_of stores.old) }
     requires before { ValidState (state_of stores.old) }
     requires valid { ValidState (led_by after_change change (state_of stores.old)) }
-    requires settled { NamesSettled change (state_of stores.old) settled.now }
+    requires settled { NamesSettled change (state_of stores.old) settled }
     requires held { HoldsPolicies stores.old }
     ensures { OnOk result (Carries stores.old stores.new (led_by after_change change (state_of stores.old))) }
 {

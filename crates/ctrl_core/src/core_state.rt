@@ -121,7 +121,7 @@ impl Core {
             ..
         } = planned;
         self.live = false;
-        carry_out(self.alloc, &mut self.stores, change, &settled)?;
+        carry_out(self.alloc, &mut self.stores, change, settled)?;
         apply_steps(&mut self.stores.grants, &steps)?;
         self.live = true;
         Ok(reply)

@@ -193,7 +193,9 @@ fn circuit_rows(
         alloc,
         &stores.circuits,
         change.of_circuits(),
-        &settled.circuits,
+        &settled.lost,
+        &settled.ended,
+        &settled.moves,
     )
 }
 
@@ -249,7 +251,7 @@ fn push_records(
     Ok(())
 }
 
-/// The batch that leads from the rows of the state of some stores to those of the state after a change, once what settles is taken out.
+/// The batch that leads from the rows of the state of some stores to those of the state after a change, once it is settled.
 /// It is made of the keys that the change can touch; nothing is evaluated again for the counts.
 pub fn batch_for(
     alloc: Global,

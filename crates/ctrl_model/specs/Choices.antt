@@ -3,14 +3,13 @@ use Rattle.std.specs.Prelude.{◌≡◌, ℕ, ◌+◌, ◌==◌, Bool, true, fal
 use Rattle.std.specs.declared.option.Option.{Option}
 use Rattle.std.specs.Option.{option_map_or}
 use Rattle.std.specs.List.{flat_map}
-use Rattle.std.specs.Cmp.Lexicographic.{slice_cmp}
-use Rattle.std.specs.Ordering.{nat_cmp, is_lt}
 use Rattle.ctrl_model.specs.declared.kinds.RouterSeen.{RouterSeen}
 use Rattle.ctrl_model.specs.declared.kinds.Precedence.{Precedence}
 use Rattle.ctrl_model.specs.declared.kinds.Precedence.TheVariants.{Required, Normal, Failed}
 use Rattle.ctrl_model.specs.declared.refusals.Denial.{Denial}
 use Rattle.ctrl_model.specs.declared.refusals.Denial.TheVariants.{UnknownIdentity, UnknownService, UnknownRouter, NoDial, NoSharedRouter, SharedRoutersOffline, NoTerminators, NoAdmissibleTerminator, NoPath, CircuitsFull}
 use Rattle.ctrl_model.specs.Membership.{Among}
+use Rattle.ctrl_model.specs.Ranks.{comes_before, least_by}
 use Rattle.ctrl_model.specs.State.{Terminator}
 use Rattle.ctrl_model.specs.Matches.{is_nothing}
 use Rattle.ctrl_model.specs.Networks.{Network, is_shared, is_counted, is_in_service, counted, admissible, is_path, path_cost, paths}
@@ -82,7 +81,7 @@ rank c = c.precedence ∷ c.total ∷ c.terminator ∷ c.ingress ∷ c.links
 
 -- Whether one candidate precedes another.
 abbrev pub precedes : Candidate → Candidate → Bool
-precedes c d = is_lt (slice_cmp nat_cmp (rank c) (rank d))
+precedes = comes_before rank
 
 -- The candidates from one ingress to one terminator: one for each path.
 abbrev pub candidates_between : Network → RouterSeen → ℕ × Terminator → List Candidate
@@ -97,19 +96,9 @@ candidates_for w ask i s =
 abbrev pub candidates : Network → Ask → List Candidate
 candidates w ask = option_map_or (λ i. option_map_or (candidates_for w ask i) ask.service []) ask.identity []
 
--- The candidate that comes first of one and another.
-abbrev pub better : Candidate → Option Candidate → Candidate
-better c None = c
-better c (Some d) = cond (precedes d c) d c
-
--- The first of some candidates.
-abbrev pub least_of : List Candidate → Option Candidate
-least_of [] = None
-least_of (c ∷ cs) = Some (better c (least_of cs))
-
 -- The best candidate of a request: the one that no candidate precedes.
 abbrev pub best : Network → Ask → Option Candidate
-best w ask = least_of (candidates w ask)
+best w ask = least_by rank (candidates w ask)
 
 -- The denial of the first rule that fails, of rules in order, each with whether it fails.
 abbrev pub first_denial : List (Bool × Denial) → Option Denial

@@ -9,6 +9,7 @@ pub mod Limits
 pub mod Tables
 pub mod Matches
 pub mod Grants
+pub mod Ranks
 pub mod Networks
 pub mod PlainPaths
 pub mod Choices

@@ -14,7 +14,7 @@ limit kind.EdgeRouterPolicy = 256
 limit kind.ServiceEdgeRouterPolicy = 256
 limit kind.Terminator = 4096
 limit kind.Circuit = 16384
-limit kind.Attribute = 1024
+limit kind.Attribute = 4096
 
 -- The greatest number of four bytes.
 abbrev pub most_number : ℕ

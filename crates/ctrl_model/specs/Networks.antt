@@ -1,6 +1,6 @@
 -- The network that routes see: routers, links, terminators and grants. A state has one; whatever else has these parts has
 -- one too, so that those who choose routes speak of it in the same words (docs/RULES.md, "Links and paths", "Terminators").
-use Rattle.std.specs.Prelude.{ℕ, ◌+◌, ◌==◌, max, Bool, true, false, not, ◌&&◌, ◌||◌, nat_lt, cond, List, [], ◌∷◌, length, map, filter, find, None, Some, option_and_then}
+use Rattle.std.specs.Prelude.{◌≡◌, ℕ, ◌+◌, ◌==◌, max, Bool, true, false, not, ◌&&◌, ◌||◌, nat_lt, cond, List, [], ◌∷◌, length, map, filter, find, None, Some, option_and_then}
 use Rattle.std.specs.declared.option.Option.{Option}
 use Rattle.std.specs.Option.{option_map_or}
 use Rattle.std.specs.Str.{bytes_eq}
@@ -12,6 +12,7 @@ use Rattle.ctrl_model.specs.Numbered.{at, numbers}
 use Rattle.ctrl_model.specs.State.{State, Router, Link, Terminator}
 use Rattle.ctrl_model.specs.Tables.{table, has_room}
 use Rattle.ctrl_model.specs.Grants.{count}
+use Rattle.ctrl_model.specs.Ranks.{comes_before, least_by}
 use Rattle.ctrl_model.specs.Walks.{Hops, goes, cost_along, walks}
 
 -- A network: the routers by ascending number, the links, the least cost of entering a router, the terminators, the four
@@ -97,6 +98,19 @@ path_cost w r links t = cost_along (hops w t) r links
 -- All paths from one router to another.
 abbrev pub paths : Network → ℕ → ℕ → List (List ℕ)
 paths w r t = cond (is_on w r && is_on w t) (walks (hops w t) (numbers w.links) t (length w.routers) (r ∷ []) r) []
+
+-- The rank of a path from one router to another: what it costs, and then its links in lexicographic order.
+abbrev pub path_rank : Network → ℕ → ℕ → List ℕ → List ℕ
+path_rank w r t links = path_cost w r links t ∷ links
+
+-- The least path from one router to another, if there is a path.
+abbrev pub least_path : Network → ℕ → ℕ → Option (List ℕ)
+least_path w r t = least_by (path_rank w r t) (paths w r t)
+
+-- A least path, said without lists: a path that no path comes before.
+pub record IsLeastPath (w : Network) (r t : ℕ) (links : List ℕ) : Type 0 where
+  pub is_a_path : is_path w r links t ≡ true
+  pub first : (other : List ℕ) → is_path w r other t ≡ true → comes_before (path_rank w r t) other links ≡ false
 
 -- Whether a router is shared by an identity and a service: the identity is granted it, and the service too.
 abbrev pub is_shared : Network → ℕ → ℕ → ℕ → Bool

@@ -1,10 +1,10 @@
--- Settling: what stands no longer is removed after each change (docs/RULES.md, "Settling").
-use Rattle.std.specs.Prelude.{ℕ, Bool, true, false, ◌&&◌, List}
+-- Settling: after each change what stands no longer is removed, and circuits whose path fails are rerouted (docs/RULES.md, "Settling").
+use Rattle.std.specs.Prelude.{ℕ, Bool, true, false, ◌&&◌, cond, List}
 use Rattle.std.specs.Option.{option_map_or}
-use Rattle.ctrl_model.specs.Numbered.{with_kept, at, is_present, numbers}
+use Rattle.ctrl_model.specs.Numbered.{with_each, with_kept, at, is_present, numbers}
 use Rattle.ctrl_model.specs.State.{State, Link, Terminator, Circuit}
 use Rattle.ctrl_model.specs.Walks.{is_among}
-use Rattle.ctrl_model.specs.Networks.{Network, network_of, is_path}
+use Rattle.ctrl_model.specs.Networks.{Network, network_of, is_path, least_path}
 
 -- A link stays whose two routers are present.
 abbrev pub link_stays : State → ℕ × Link → Bool
@@ -40,10 +40,23 @@ settle_links s = record s { links = with_kept (link_stays s) s.links }
 abbrev pub settle_terminators : State → State
 settle_terminators s = record s { terminators = with_kept (terminator_stays s) s.terminators }
 
--- The third filter.
-abbrev pub settle_circuits : State → State
-settle_circuits s = record s { circuits = with_kept (stays_in s) s.circuits }
+-- A circuit to a terminator: where its links are a path it stays as it is, even if a cheaper path exists, and else it goes over the
+-- least path, if there is one. Its ingress and its terminator never change.
+abbrev pub rerouted_to : Network → Circuit → Terminator → Circuit
+rerouted_to w c e = cond (circuit_reaches w c e) c (option_map_or (λ links. record c { links = links }) (least_path w c.ingress e.router) c)
 
--- The state settled: links, then terminators, then circuits are filtered.
+-- A circuit of a network, over the least path where its links are a path no more.
+abbrev pub rerouted : Network → Circuit → Circuit
+rerouted w c = option_map_or (rerouted_to w c) (at w.terminators c.terminator) c
+
+-- Each circuit is judged by itself: it is rerouted where its links are a path no more.
+abbrev pub reroute_circuits : State → State
+reroute_circuits s = record s { circuits = with_each (rerouted (network_of s)) s.circuits }
+
+-- And it ends where its identity, service or terminator is absent, or where its links are no path even so.
+abbrev pub end_circuits : State → State
+end_circuits s = record s { circuits = with_kept (stays_in s) s.circuits }
+
+-- The state settled: links and then terminators are filtered, and then each circuit stays, is rerouted or ends.
 abbrev pub settle : State → State
-settle s = settle_circuits (settle_terminators (settle_links s))
+settle s = end_circuits (reroute_circuits (settle_terminators (settle_links s)))

@@ -91,7 +91,7 @@ pub record ValidTable (k : Kind) (s : State) (t : Table (Record k)) : Type 0 whe
   pub each : each_passes (is_valid k s) t.rows ≡ true
 
 -- A valid state: the table of each kind is valid, the setting is in its range, no more attributes are in use than may be, and
--- settling removes nothing.
+-- settling changes nothing.
 pub record ValidState (s : State) : Type 0 where
   pub kinds : (k : Kind) → ValidTable k s (table k s)
   pub setting : is_link_cost s.least_router_cost ≡ true

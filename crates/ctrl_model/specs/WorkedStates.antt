@@ -83,6 +83,10 @@ abbrev pub claim_on_line : List ℕ → Command
 claim_on_line values = VerifyRoute (codes "ann") (codes "web") None [] (codes "r1") (1 ∷ 2 ∷ [])
     (record { router = record { 0 = 3 }; values = values } ∷ []) (1 ∷ 2 ∷ 3 ∷ []) 1 42
 
+-- The line with a circuit of ann's over both its links, and after it a dear link from r1 straight to r3.
+abbrev pub detoured : State
+detoured = after (ann_to_web ∷ CreateLink (codes "l3") (codes "r1") (codes "r3") 60 0 0 ∷ []) line
+
 -- The line with r2 made a router that no path passes through.
 abbrev pub line_stopped_at_r2 : State
 line_stopped_at_r2 = after (UpdateRouter (codes "r2") [] 0 true ∷ []) (after (ann_to_web ∷ []) line)
@@ -188,12 +192,12 @@ fork = after (
 
 -- The names of one byte: 65 of them, as many as there are bytes of names.
 abbrev pub names_of_one_byte : List (List ℕ)
-names_of_one_byte = map (λ b. b ∷ []) (codes "ABCDEFGHIJKLMNOPQRSTUVWXYZabcdefghijklmnopqrstuvwxyz0123456789._-")
+names_of_one_byte = map (λ b. b ∷ []) (codes "-.0123456789ABCDEFGHIJKLMNOPQRSTUVWXYZ_abcdefghijklmnopqrstuvwxyz")
 
 -- All of these but the first.
 abbrev pub names_of_one_byte_but_one : List (List ℕ)
 names_of_one_byte_but_one = drop 1 names_of_one_byte
 
--- Names of two bytes, each of which is one of the first 32 bytes of these: 1,024 of them.
+-- Names of two bytes, each of which is one of the first 64 bytes of these: 4,096 of them.
 abbrev pub names_of_two_bytes : List (List ℕ)
-names_of_two_bytes = flat_map (λ a. map (λ b. a ++ b) (take 32 names_of_one_byte)) (take 32 names_of_one_byte)
+names_of_two_bytes = flat_map (λ a. map (λ b. a ++ b) (take 64 names_of_one_byte)) (take 64 names_of_one_byte)

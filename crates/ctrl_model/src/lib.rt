@@ -17,7 +17,8 @@ pub use commands::Command;
 pub use items::{Copies, Items};
 pub use kinds::{Kind, Precedence, Relation, Role, RouterSeen, Semantic, Side, Who};
 pub use limits::{
-    LONGEST_NAME, LONGEST_PATH, MOST_COST, MOST_ENTRIES, MOST_LATENCY, MOST_ROUTERS, limit,
+    LONGEST_NAME, LONGEST_PATH, MOST_ATTRIBUTES, MOST_COST, MOST_ENTRIES, MOST_LATENCY,
+    MOST_ROUTERS, limit,
 };
 pub use numbering::{
     CircuitNo, IdentityNo, LinkNo, Numbers, PolicyNo, RouterNo, ServiceNo, TermNo,

@@ -6,6 +6,9 @@ use crate::kinds::Kind;
 /// How many routers may be present (docs/RULES.md, "Limits", as each limit here).
 pub const MOST_ROUTERS: usize = 256;
 
+/// How many attributes may be in use.
+pub const MOST_ATTRIBUTES: usize = 4_096;
+
 /// How many links a path may have: it visits no router twice.
 pub const LONGEST_PATH: usize = 255;
 
@@ -32,6 +35,6 @@ pub fn limit(kind: Kind) -> usize
         Kind::EdgeRouterPolicy | Kind::ServiceEdgeRouterPolicy => 256,
         Kind::Link | Kind::Terminator => 4_096,
         Kind::Circuit => 16_384,
-        Kind::Attribute => 1_024,
+        Kind::Attribute => MOST_ATTRIBUTES,
     }
 }

@@ -19,17 +19,18 @@ use Rattle.ctrl_model.specs.CommandForm.{are_attributes, is_cost, is_link_cost, 
 use Rattle.ctrl_model.specs.NameForm.{is_name}
 use Rattle.ctrl_model.specs.Networks.{Network, network_of, seen, is_on, link_cost, entry_cost, hops, is_path, path_cost, admissible}
 use Rattle.ctrl_model.specs.Numbered.{at, numbers}
-use Rattle.ctrl_model.specs.Settling.{settle, settle_links, settle_terminators, stays_in, circuit_reaches}
+use Rattle.ctrl_model.specs.Settling.{settle, circuit_reaches}
 use Rattle.ctrl_model.specs.State.{State, Router, Link, Terminator, Circuit}
 use Rattle.ctrl_model.specs.ValidState.{ValidState, is_valid_router, is_valid_link}
 use Rattle.ctrl_model.specs.Walks.{goes, is_among}
 use Rattle.model_laws.proofs.CandidateLaws.{best-is}
 use Rattle.model_laws.proofs.LeastCostLaws.{least_cost-path}
 use Rattle.ctrl_model.proofs.Members.{by_map, list_all-among, list_all-from_among, at-row}
-use Rattle.ctrl_model.proofs.NumberedLaws.{at-filter-back, length-filter-le}
+use Rattle.ctrl_model.proofs.NumberedLaws.{length-filter-le}
 use Rattle.model_laws.proofs.PathLaws.{is_on-among, by_router_at, by_hops, hops_stay}
 use Rattle.ctrl_model.proofs.Tests.{three_parts, in_bounds}
 use Rattle.ctrl_model.proofs.WalkLaws.{cost_along-le, length-path}
+use Rattle.row_laws.proofs.WrittenRecords.{circuits_stay}
 use Rattle.reply_codec.specs.ReplyLimits.{is_short_reach, is_short_claim, keeps_limits}
 
 -- ---- paths are short
@@ -168,12 +169,11 @@ reaches_short w c (Some e) few h = path_short w c.ingress e.router c.links few h
 
 circuit_short : (s : State) (n : ℕ) (c : Circuit) → ValidState s → at s.circuits.rows n ≡ Some c → length c.links ≤ 255
 circuit_short s n c valid e =
-    let t : State = settle_terminators (settle_links s) in
-    let reaches : Bool = option_map_or (circuit_reaches (network_of t) c) (at t.terminators.rows c.terminator) false in
-    let passes = (at-filter-back (stays_in t) s.circuits.next s.circuits.rows 1 n c (valid.kinds kind.Circuit).numbers.ordered (ap (λ (u : State). at u.circuits.rows n) valid.settled ∙ e)).1 in
-    let parts = and_parts (is_among c.identity (numbers s.identities.rows)) (is_among c.service (numbers s.services.rows) && reaches) passes in
+    let reaches : Bool = option_map_or (circuit_reaches (network_of s) c) (at s.terminators.rows c.terminator) false in
+    let stays = circuits_stay s valid (n, c) (at-row s.circuits.rows n c e) in
+    let parts = and_parts (is_among c.identity (numbers s.identities.rows)) (is_among c.service (numbers s.services.rows) && reaches) stays in
     let rest = and_parts (is_among c.service (numbers s.services.rows)) reaches parts.1 in
-    reaches_short (network_of t) c (at t.terminators.rows c.terminator) (few_routers s valid) rest.1
+    reaches_short (network_of s) c (at s.terminators.rows c.terminator) (few_routers s valid) rest.1
 
 pub shown_fit : (n : ℕ) (s : State) → ValidState s → keeps_limits (option_map_or (shown_circuit s) (at s.circuits.rows n) Done) ≡ true
 shown_fit n s valid = by (at s.circuits.rows n) refl

@@ -107,7 +107,7 @@ pub fn worked_networks()
     ensures next { reply_behind two_routers 1300 (codes "{\"service\":\"web\",\"router\":\"r2\"}") ≡ reply.Made 2 }
 {}
 
-/// Answers to a circuit request: the least route is granted, a circuit ends where its path does, and then no route is left.
+/// Answers to a circuit request: the least route is granted, a circuit ends where no path is left, and then there is no route.
 pub fn worked_circuits()
     ensures granted { reply_behind line 1400 ann_asks ≡ reply.Circuit (record { 0 = 1 }) (codes "r1") (1 ∷ 2 ∷ []) (record { 0 = 1 }) 42 }
     ensures ended { reply_behind (line ++ ((1400, ann_asks) ∷ middle_closes)) 1503 (codes "{\"no\":1}") ≡ reply.Refused (refusal.Unknown field.No) }

@@ -8,6 +8,7 @@ pub mod KeptLaws
 pub mod InUseLaws
 pub mod LookUps
 pub mod EditLaws
+pub mod AfterLaws
 pub mod PlaceLaws
 pub mod ListedLaws
 pub mod AllListedLaws

@@ -13,12 +13,12 @@ use Rattle.entity_store.specs.AttributeUses.{times, held_times, uses, entity_att
 use Rattle.attr_pool.proofs.UseLaws.{times-from_among, Among-from_times, held-from_uses}
 
 -- two lists of the same names have as many different ones
-same_count : (xs ys : List (List ℕ)) → Includes xs ys → Includes ys xs → nat_le (distinct_count bytes_eq xs) 1024 ≡ not (nat_lt 1024 (distinct_count bytes_eq ys))
+same_count : (xs ys : List (List ℕ)) → Includes xs ys → Includes ys xs → nat_le (distinct_count bytes_eq xs) 4096 ≡ not (nat_lt 4096 (distinct_count bytes_eq ys))
 same_count xs ys there back =
     let least = distinct_count-Includes xs ys there in let most = distinct_count-Includes ys xs back in
     same_numbers (distinct_count bytes_eq xs) (distinct_count bytes_eq ys) least most
   where
-    same_numbers : (m n : ℕ) → m ≤ n → n ≤ m → nat_le m 1024 ≡ not (nat_lt 1024 n)
+    same_numbers : (m n : ℕ) → m ≤ n → n ≤ m → nat_le m 4096 ≡ not (nat_lt 4096 n)
     same_numbers m n l k = grind (arith, nat_tests)
 
 -- a name with held uses is among the held ones
@@ -46,7 +46,7 @@ named t fresh x h = by (either (times x (entity_attributes t)) (held_times x t.h
 -- exactly where these are not too many.
 pub room_by_uses : (t : Tables) (gone fresh after : List (List ℕ))
     → ((x : List ℕ) → times x after + times x gone ≡ uses x t + times x fresh)
-    → has_attribute_room t gone fresh ≡ not (nat_lt 1024 (distinct_count bytes_eq after))
+    → has_attribute_room t gone fresh ≡ not (nat_lt 4096 (distinct_count bytes_eq after))
 room_by_uses t gone fresh after balance = same_count (filter (stays_used t gone fresh) (used_names t fresh)) after there back
   where
     there : Includes (filter (stays_used t gone fresh) (used_names t fresh)) after
@@ -96,4 +96,4 @@ module _ (t : Tables) (gone fresh : List (List ℕ)) (slots : List Slot) (left r
       let least = distinct_count-Includes kept staying there in
       let most = distinct_count-Includes staying kept back in
       let same : distinct_count bytes_eq kept ≡ distinct_count bytes_eq staying = omega (arith, least, most) in
-      ap (λ n. nat_le n 1024) same
+      ap (λ n. nat_le n 4096) same

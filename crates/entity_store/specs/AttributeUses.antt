@@ -4,6 +4,8 @@ use Rattle.std.specs.Prelude.{◌≡◌, ℕ, ◌+◌, ◌≤◌, nat_lt, nat_le
 use Rattle.std.specs.List.{flat_map}
 use Rattle.std.specs.Set.{distinct_count}
 use Rattle.std.specs.Str.{bytes_eq}
+use Rattle.ctrl_model.specs.declared.kinds.Kind.TheVariants as kind
+use Rattle.ctrl_model.specs.Limits.{limit}
 pub use Rattle.attr_pool.specs.Uses.{times}
 use Rattle.entity_store.specs.EntityTables.{Tables}
 
@@ -30,9 +32,9 @@ used_names t fresh = entity_attributes t ++ (map (λ x. x.0) t.held ++ fresh)
 abbrev pub stays_used : Tables → List (List ℕ) → List (List ℕ) → List ℕ → Bool
 stays_used t gone fresh name = nat_lt (times name gone) (uses name t + times name fresh)
 
--- Whether at most 1,024 attributes would be in use then, each counted once.
+-- Whether at most 4,096 attributes would be in use then, each counted once.
 abbrev pub has_attribute_room : Tables → List (List ℕ) → List (List ℕ) → Bool
-has_attribute_room t gone fresh = nat_le (distinct_count bytes_eq (filter (stays_used t gone fresh) (used_names t fresh))) 1024
+has_attribute_room t gone fresh = nat_le (distinct_count bytes_eq (filter (stays_used t gone fresh) (used_names t fresh))) (limit kind.Attribute)
 
 -- Each of these names has as many uses as it stands among them.
 abbrev pub AreUsed : Tables → List (List ℕ) → Type 0

@@ -5,6 +5,7 @@ pub mod KeptTables
 pub mod WorkedTables
 pub mod HeldUses
 pub mod EntityChanges
+pub mod ChangedNumbers
 pub mod ListedRows
 pub mod ListedKinds
 pub mod KeptRows

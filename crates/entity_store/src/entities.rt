@@ -216,7 +216,7 @@ impl Entities {
         routers_in(alloc, &self.tables.routers)
     }
 
-    /// Whether at most 1,024 attributes are in use once a use of each entry of `gone` is taken away, and one of each entry of
+    /// Whether at most 4,096 attributes are in use once a use of each entry of `gone` is taken away, and one of each entry of
     /// `fresh` is added.
     pub fn has_room(&self, gone: &Names, fresh: &Names) -> bool
         requires { AreUsed self.now gone.now }

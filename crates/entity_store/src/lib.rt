@@ -1,6 +1,8 @@
 //! The store of identities, services and edge routers: by name and by number, with the uses of attributes and their rows of bits.
 #![tactic(auto)]
 
+mod after;
+mod changed_routers;
 mod changes;
 mod entities;
 mod held_names;
@@ -8,8 +10,10 @@ mod kind_rows;
 mod kind_tables;
 mod listing;
 mod records;
+mod turns;
 mod worked;
 
+pub use after::EntitiesAfter;
 pub use changes::EntityChange;
 pub use entities::{Entities, EntityFault};
 pub use kind_rows::Lanes;

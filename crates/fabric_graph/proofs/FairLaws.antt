@@ -14,7 +14,7 @@ use Rattle.ctrl_model.proofs.Tests.{in_bounds}
 use Rattle.path_certificate.specs.declared.graph.Step.{Step}
 use Rattle.path_certificate.specs.Graphs.{IsStep}
 use Rattle.fabric_graph.specs.declared.steps.End.{End}
-use Rattle.fabric_graph.specs.KeptLinks.{is_fit}
+use Rattle.fabric_graph.specs.FabricRules.{is_fit}
 use Rattle.fabric_graph.specs.Routers.{AreRouters}
 use Rattle.fabric_graph.specs.Steps.{end_at, link_ends, step_between, two_steps, link_steps, all_steps}
 use Rattle.fabric_graph.proofs.EndLaws.{IsEnd, end_is}

@@ -12,7 +12,7 @@ use Rattle.ctrl_model.specs.State.{Link}
 use Rattle.path_certificate.specs.Graphs.{leaves, taken}
 use Rattle.fabric_graph.specs.declared.steps.End.{End}
 use Rattle.fabric_graph.specs.FabricTables.{FabricSeen}
-use Rattle.fabric_graph.specs.Routers.{numbered, number_at, network}
+use Rattle.fabric_graph.specs.Routers.{numbered, number_at, IsPlaceOf, network}
 use Rattle.fabric_graph.specs.Steps.{end_at, step_between, link_steps, two_steps}
 use Rattle.fabric_graph.proofs.EndLaws.{IsEnd, end_is, end_none}
 
@@ -79,6 +79,14 @@ module _ (f : FabricSeen) (routers : List RouterSeen) (b : Between 0 4294967296 
 
   end_on_is : (n : ℕ) (e : End) → IsEnd routers f.least n e → is_on (network f routers) n ≡ true
   end_on_is n e i = ap (λ o. option_map_or (λ (r : RouterSeen). r.connected) o false) i.found ∙ i.connected
+
+  -- the place of an end is that of its router
+  pub place_of_end : (n : ℕ) (e : End) → IsEnd routers f.least n e → IsPlaceOf (network f routers) n e.place
+  place_of_end n e i = record {
+    below = slice_get_within routers e.place i.router i.stands;
+    named = number_of routers e.place i.router i.stands ∙ i.number;
+    on = end_on_is n e i;
+  }
 
   -- a router is the one at a place exactly where its end is there
   at_end : (v n : ℕ) (e : End) → v < length routers → IsEnd routers f.least n e → (n == number_at routers v) ≡ (e.place == v)

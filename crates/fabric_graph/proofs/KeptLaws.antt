@@ -8,14 +8,15 @@ use Rattle.ctrl_model.specs.Numbered.{Table, with_new, edit_at, without, with_re
 use Rattle.ctrl_model.specs.State.{Link, link_named}
 use Rattle.ctrl_model.proofs.NumberedLaws.{length-with_last, length-filter-le}
 use Rattle.ctrl_model.proofs.TableLaws.{each_passes-more, each_passes-with_last, each_passes-map, each_passes-filter}
+use Rattle.ctrl_model.specs.ValidState.{each_passes}
 use Rattle.ctrl_model.specs.Walks.{is_among}
 use Rattle.record_tables.specs.AfterChange.{without_numbers}
 use Rattle.record_tables.specs.Entries.{KeepsOrder}
 use Rattle.fabric_graph.specs.declared.fabric.FabricFault.{FabricFault}
 use Rattle.fabric_graph.specs.declared.fabric.FabricFault.TheVariants.{Exists, SameRouter, Full}
 use Rattle.fabric_graph.specs.FabricTables.{FabricSeen}
-use Rattle.fabric_graph.specs.FabricRules.{may_add, has_link_room, has_costs, KeepsLinks}
-use Rattle.fabric_graph.specs.KeptLinks.{AreFit, is_fit}
+use Rattle.fabric_graph.specs.FabricRules.{may_add, has_link_room, has_costs, KeepsLinks, is_fit}
+use Rattle.fabric_graph.specs.KeptLinks.{AreFit}
 
 -- what a fabric keeps, by the order of its table and what is kept of each link
 pub keeps : (t : Table Link) (least : ℕ) → KeepsOrder t → AreFit t least → KeepsLinks (record { links = t; least = least })
@@ -24,6 +25,7 @@ keeps t least order k = record {
   last = order.last;
   ordered = order.ordered;
   few = k.few;
+  fit = k.each;
   costs = each_passes-more is_fit has_costs (λ l e. (and_parts (not (l.a == l.b)) (has_costs l) e).1) t.rows k.each;
   setting = k.setting;
 }
@@ -68,20 +70,26 @@ fit_add t least l k may cost latency_a latency_b =
 abbrev pub set_to : ℕ → ℕ → ℕ → Bool → Link → Link
 set_to cost latency_a latency_b up l = record l { cost = cost; latency_a = latency_a; latency_b = latency_b; up = up }
 
-pub fit_set : (t : Table Link) (least n cost latency_a latency_b : ℕ) (up : Bool) → AreFit t least
+-- other costs in their ranges leave links fit
+set_fit : (rows : List (ℕ × Link)) (n cost latency_a latency_b : ℕ) (up : Bool) → each_passes is_fit rows ≡ true
     → is_link_cost cost ≡ true → is_latency latency_a ≡ true → is_latency latency_b ≡ true
-    → AreFit (record t { rows = edit_at t.rows n (set_to cost latency_a latency_b up) }) least
-fit_set t least n cost latency_a latency_b up k c a b = record {
-  few = rw (length-map {B = ℕ × Link} t.rows (λ x. (x.0, cond (x.0 == n) (set_to cost latency_a latency_b up x.1) x.1))) k.few;
-  each = each_passes-map is_fit is_fit (λ x. cond (x.0 == n) (set_to cost latency_a latency_b up x.1) x.1) (λ x p. by (x.0 == n) x.1 p) t.rows k.each;
-  setting = k.setting;
-}
+    → each_passes is_fit (edit_at rows n (set_to cost latency_a latency_b up)) ≡ true
+set_fit rows n cost latency_a latency_b up each c a b = each_passes-map is_fit is_fit (λ x. cond (x.0 == n) (set_to cost latency_a latency_b up x.1) x.1) (λ x p. by (x.0 == n) x.1 p) rows each
   where
     by : (d : Bool) (l : Link) → is_fit l ≡ true → is_fit (cond d (set_to cost latency_a latency_b up l) l) ≡ true
     by true l p =
         let both = and_parts (not (l.a == l.b)) (is_link_cost l.cost && (is_latency l.latency_a && is_latency l.latency_b)) p in
         fit_from (not (l.a == l.b)) (is_link_cost cost) (is_latency latency_a) (is_latency latency_b) both.0 c a b
     by false l p = p
+
+pub fit_set : (t : Table Link) (least n cost latency_a latency_b : ℕ) (up : Bool) → AreFit t least
+    → is_link_cost cost ≡ true → is_latency latency_a ≡ true → is_latency latency_b ≡ true
+    → AreFit (record t { rows = edit_at t.rows n (set_to cost latency_a latency_b up) }) least
+fit_set t least n cost latency_a latency_b up k c a b = record {
+  few = rw (length-map {B = ℕ × Link} t.rows (λ x. (x.0, cond (x.0 == n) (set_to cost latency_a latency_b up x.1) x.1))) k.few;
+  each = set_fit t.rows n cost latency_a latency_b up k.each c a b;
+  setting = k.setting;
+}
 
 pub fit_gone : (t : Table Link) (least : ℕ) (gone : List ℕ) → AreFit t least → AreFit (without_numbers gone t) least
 fit_gone t least gone k =

@@ -7,3 +7,4 @@ pub mod FairLaws
 pub mod GraphLaws
 pub mod StateLaws
 pub mod ChangeLaws
+pub mod AfterLaws

@@ -15,7 +15,7 @@ use Rattle.ctrl_model.proofs.Members.{by_append, by_filter, list_all-from_among}
 use Rattle.path_certificate.specs.declared.graph.Step.{Step}
 use Rattle.path_certificate.specs.Graphs.{before, is_ordered}
 use Rattle.fabric_graph.specs.declared.steps.End.{End}
-use Rattle.fabric_graph.specs.KeptLinks.{is_fit}
+use Rattle.fabric_graph.specs.FabricRules.{is_fit}
 use Rattle.fabric_graph.specs.Steps.{link_ends, step_between, two_steps, link_steps, all_steps, leaving, by_place}
 use Rattle.fabric_graph.proofs.FairLaws.{by_link_step, ends_are, places_apart, priced}
 

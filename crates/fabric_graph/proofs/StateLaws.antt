@@ -7,14 +7,16 @@ use Rattle.ctrl_model.specs.declared.kinds.Kind.TheVariants as kind
 use Rattle.ctrl_model.specs.declared.kinds.RouterSeen.{RouterSeen}
 use Rattle.ctrl_model.specs.CommandForm.{is_cost, are_attributes}
 use Rattle.ctrl_model.specs.NameForm.{is_name}
+use Rattle.ctrl_model.specs.Limits.{most_cost}
 use Rattle.ctrl_model.specs.Networks.{seen}
 use Rattle.ctrl_model.specs.Numbered.{Between}
 use Rattle.ctrl_model.specs.State.{State, Router, Link}
 use Rattle.ctrl_model.specs.ValidState.{ValidState, is_valid_router, is_valid_link, each_passes}
 use Rattle.ctrl_model.proofs.NumberedLaws.{Between-more}
 use Rattle.ctrl_model.proofs.TableLaws.{each_passes-more}
-use Rattle.fabric_graph.specs.FabricRules.{KeepsLinks, has_costs}
-use Rattle.fabric_graph.specs.Routers.{AreRouters, numbered, fabric_of}
+use Rattle.ctrl_model.proofs.Tests.{in_bounds}
+use Rattle.fabric_graph.specs.FabricRules.{KeepsLinks, has_costs, is_fit}
+use Rattle.fabric_graph.specs.Routers.{AreRouters, HaveGraph, numbered, fabric_of}
 
 seen_ordered : (high : ℕ) (rows : List (ℕ × Router)) (low : ℕ) → Between low high rows → Between low high (map numbered (map seen rows))
 seen_ordered high [] low b = tt
@@ -28,10 +30,12 @@ seen_costs (x ∷ rows) e =
     and_from (is_cost x.1.cost) (list_all (λ (r : RouterSeen). is_cost r.cost) (map seen rows))
     (and_parts (are_attributes x.1.attributes) (is_cost x.1.cost) router.1).1 (seen_costs rows parts.1)
 
--- the costs of a valid link are in their ranges
+-- a valid link joins two routers, at costs in their ranges
+valid_fit : (l : Link) → is_valid_link l ≡ true → is_fit l ≡ true
+valid_fit l e = (and_parts (is_name l.name) (is_fit l) e).1
+
 valid_costs : (l : Link) → is_valid_link l ≡ true → has_costs l ≡ true
-valid_costs l e =
-    (and_parts (not (l.a == l.b)) (has_costs l) (and_parts (is_name l.name) (not (l.a == l.b) && has_costs l) e).1).1
+valid_costs l e = (and_parts (not (l.a == l.b)) (has_costs l) (valid_fit l e)).1
 
 pub keeps_links : (s : State) → ValidState s → KeepsLinks (fabric_of s)
 keeps_links s v =
@@ -41,9 +45,13 @@ keeps_links s v =
       last = numbers.last;
       ordered = numbers.ordered;
       few = numbers.few;
+      fit = each_passes-more is_valid_link is_fit valid_fit s.links.rows (v.kinds kind.Link).each;
       costs = each_passes-more is_valid_link has_costs valid_costs s.links.rows (v.kinds kind.Link).each;
       setting = v.setting;
     }
+
+pub have_graph : (s : State) → ValidState s → HaveGraph (fabric_of s)
+have_graph s v = let k = keeps_links s v in record { fit = k.fit; least = (in_bounds 1 most_cost s.least_router_cost k.setting).1 }
 
 pub are_routers : (s : State) → ValidState s → AreRouters (map seen s.routers.rows)
 are_routers s v =

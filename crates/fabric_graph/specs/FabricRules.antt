@@ -1,5 +1,5 @@
 -- When a link may be added, what is found, and what a fabric keeps (docs/RULES.md, "Commands on links", "Limits").
-use Rattle.std.specs.Prelude.{◌≡◌, ℕ, ◌≤◌, ⊤, Bool, true, ◌==◌, ◌&&◌, cond, List, length, Ok, Err, is_some}
+use Rattle.std.specs.Prelude.{◌≡◌, ℕ, ◌≤◌, ⊤, Bool, true, not, ◌==◌, ◌&&◌, cond, List, length, Ok, Err, is_some}
 use Rattle.std.specs.declared.result.Result.{Result}
 use Rattle.std.specs.Option.{ok_or, option_map}
 use Rattle.ctrl_model.specs.declared.kinds.Kind.TheVariants as kind
@@ -36,12 +36,17 @@ is_there n f = is_present f.links.rows n
 abbrev pub has_costs : Link → Bool
 has_costs l = is_link_cost l.cost && (is_latency l.latency_a && is_latency l.latency_b)
 
--- What a fabric keeps: the numbers ascend from 1 below the next one, which has an end, no more links are present than may be, what a path
--- pays for each is in its range, and so is the least cost of entering a router.
+-- A link that may be kept: it joins two routers, at costs in their ranges.
+abbrev pub is_fit : Link → Bool
+is_fit l = not (l.a == l.b) && has_costs l
+
+-- What a fabric keeps: the numbers ascend from 1 below the next one, which has an end, no more links are present than may be, each joins
+-- two routers, what a path pays for each is in its range, and so is the least cost of entering a router.
 pub record KeepsLinks (f : FabricSeen) : Type 0 where
   pub first : 1 ≤ f.links.next
   pub last : f.links.next ≤ last_next
   pub ordered : Between 1 f.links.next f.links.rows
   pub few : length f.links.rows ≤ limit kind.Link
+  pub fit : each_passes is_fit f.links.rows ≡ true
   pub costs : each_passes has_costs f.links.rows ≡ true
   pub setting : is_link_cost f.least ≡ true

@@ -5,6 +5,7 @@ use Rattle.std.specs.List.{flat_map}
 use Rattle.std.specs.Option.{option_map, option_map_or}
 use Rattle.ctrl_model.specs.declared.kinds.RouterSeen.{RouterSeen}
 use Rattle.ctrl_model.specs.Networks.{link_cost}
+use Rattle.ctrl_model.specs.Numbered.{at}
 use Rattle.ctrl_model.specs.State.{Link}
 use Rattle.path_certificate.specs.declared.graph.Step.{Step}
 use Rattle.path_certificate.specs.declared.listing.StepEnd.TheVariants as step_end
@@ -44,6 +45,10 @@ link_steps routers least x = option_map_or (λ (p : End × End). two_steps x.0 (
 -- The steps over links, in the order of the links.
 abbrev pub all_steps : List RouterSeen → ℕ → List (ℕ × Link) → List Step
 all_steps routers least links = flat_map (link_steps routers least) links
+
+-- The steps over the link of a number, if it is there.
+abbrev pub steps_at : List RouterSeen → ℕ → List (ℕ × Link) → ℕ → List Step
+steps_at routers least links n = option_map_or (λ (l : Link). link_steps routers least (n, l)) (at links n) []
 
 -- Those of the steps that leave a place.
 abbrev pub leaving : ℕ → List Step → List Step

@@ -1,17 +1,26 @@
-ghost use Rattle.std.specs.Prelude.{◌≡◌};
+ghost use Rattle.std.specs.Prelude.{◌≡◌, ◌<◌, ◌≤◌, ◌++◌, ℕ, true, length, map, IfOk, OnOk};
 ghost use Rattle.std.specs.Option.{option_map};
+ghost use Rattle.ctrl_model.specs.Limits.{most_cost};
+ghost use Rattle.ctrl_model.specs.Mirrors.{Mirrors};
 ghost use Rattle.ctrl_model.specs.Networks.{hops};
-ghost use Rattle.ctrl_model.specs.Numbered.{at};
+ghost use Rattle.ctrl_model.specs.Numbered.{at, numbers, Between};
+ghost use Rattle.ctrl_model.specs.ValidState.{each_passes};
+ghost use Rattle.path_certificate.specs.Graphs.{graph_hops};
 ghost use Rattle.fabric_graph.specs.FabricChanges.{fabric_after};
 ghost use Rattle.fabric_graph.specs.Hops.{hop_of};
-ghost use Rattle.fabric_graph.specs.Routers.{network};
+ghost use Rattle.fabric_graph.specs.FabricRules.{is_fit};
+ghost use Rattle.fabric_graph.specs.Routers.{AreRouters, network, number_at, costs_at_most};
+ghost use Rattle.fabric_graph.specs.Steps.{steps_at, all_steps};
 
 use crate::changes::LinkChange;
 use crate::fabric::Fabric;
 use crate::hopping::{Hop, across};
 use crate::links::LinkView;
+use crate::steps::{graph_over, push_link};
 use ctrl_model::{LinkNo, Numbers, RouterNo, RouterSeen};
-use record_tables::{RecordChange, Turn, record_after};
+use path_certificate::{Graph, Step};
+use record_tables::{RecordChange, Turn, left_of, record_after, turned};
+use std::alloc::{AllocError, Global};
 use std::marker::Model;
 
 /// The links as they will be after a change, if there is one, and without those that are gone. Contracts see them as a fabric
@@ -116,5 +125,66 @@ impl<'a> FabricAfter<'a> {
     {
         let link = self.link(link)?;
         across(self.least(), routers, target, at, &link)
+    }
+
+    // The numbers of the links, ascending.
+    fn numbers(&self, alloc: Global) -> Result<Numbers, AllocError>
+        ensures all { IfOk result (λ ns. ns ≡ numbers self.now.links.rows) }
+        ensures ordered { OnOk result (Between 1 self.now.links.next self.now.links.rows) }
+    {
+        let numbers = self.fabric.numbers(alloc)?;
+        let changed = turned(alloc, self.change.turn(), self.fabric.next(), numbers)?;
+        left_of(alloc, &changed, self.gone)
+    }
+
+    // Adds the steps over the link of a number, if there will be one.
+    fn push_steps(
+        &self,
+        steps: &mut Vec<Step>,
+        routers: &[RouterSeen],
+        no: LinkNo,
+    ) -> Result<(), AllocError>
+        requires routers { AreRouters routers.now }
+        requires fit { each_passes is_fit self.now.links.rows ≡ true }
+        requires least { self.now.least ≤ most_cost }
+        ensures { OnOk result (steps.new.items ≡ steps.old.items ++ steps_at routers.now self.now.least self.now.links.rows no.0) }
+    {
+        match self.link(no) {
+            Some(link) => push_link(steps, routers, self.least(), no.0, &link),
+            None => Ok(()),
+        }
+    }
+
+    // The steps over the links, in the order of the links.
+    fn all_steps(&self, alloc: Global, routers: &[RouterSeen]) -> Result<Vec<Step>, AllocError>
+        requires routers { AreRouters routers.now }
+        requires fit { each_passes is_fit self.now.links.rows ≡ true }
+        requires least { self.now.least ≤ most_cost }
+        ensures steps { IfOk result (λ v. v.items ≡ all_steps routers.now self.now.least self.now.links.rows) }
+        ensures ordered { OnOk result (Between 1 self.now.links.next self.now.links.rows) }
+    {
+        let numbers = self.numbers(alloc)?;
+        let mut steps = Vec::new(alloc);
+        'links: for number in numbers.as_slice() {
+            self.push_steps(&mut steps, routers, LinkNo(*number))?;
+        }
+        Ok(steps)
+    }
+
+    /// The graph of the usable links that there will be (`Fabric::graph_of`): its places are the routers in order, and each usable
+    /// link is a step both ways, which costs what the link and entering its router cost.
+    pub fn graph_of(&self, alloc: Global, routers: &[RouterSeen]) -> Result<Graph, AllocError>
+        requires routers { AreRouters routers.now }
+        // A change may say anything; a graph has only links between two routers, at costs in their ranges.
+        requires fit { each_passes is_fit self.now.links.rows ≡ true }
+        requires least { self.now.least ≤ most_cost }
+        ensures places { IfOk result (λ g. g.through ≡ map (λ r. r.through) routers.now) }
+        // For each target the graph has the hops of the network, between the places of its routers.
+        ensures mirrors { IfOk result (λ g. (t : ℕ) → t < length routers.now → Mirrors (length routers.now) (number_at routers.now) (graph_hops g t) (hops (network self.now routers.now) (number_at routers.now t))) }
+        // A link costs at most 65,535 and twice 60,000, and entering a router at most 65,535.
+        ensures costs { IfOk result (λ g. costs_at_most 251070 g.steps ≡ true) }
+    {
+        let all = self.all_steps(alloc, routers)?;
+        graph_over(alloc, routers, all.as_slice())
     }
 }

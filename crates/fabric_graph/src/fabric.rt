@@ -16,7 +16,7 @@ ghost use Rattle.fabric_graph.specs.Routers.{AreRouters, network, number_at, cos
 
 use crate::ends::links_at;
 use crate::links::{LinkRow, LinkView};
-use crate::steps::{all_steps, by_place, flags};
+use crate::steps::{all_steps, graph_over};
 use ctrl_model::{Kind, LinkNo, Name, Numbers, RouterNo, RouterSeen, limit};
 use path_certificate::Graph;
 use record_tables::NamedTable;
@@ -243,9 +243,7 @@ impl Fabric {
         // A link costs at most 65,535 and twice 60,000, and entering a router at most 65,535.
         ensures costs { IfOk result (λ g. costs_at_most 251070 g.steps ≡ true) }
     {
-        let through = flags(alloc, routers)?;
         let all = all_steps(alloc, &self.links, self.least, routers)?;
-        let steps = by_place(alloc, all.as_slice(), routers.len() as u16)?;
-        Ok(Graph::new(through, steps))
+        graph_over(alloc, routers, all.as_slice())
     }
 }

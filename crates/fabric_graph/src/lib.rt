@@ -17,4 +17,5 @@ pub use fabric::{Fabric, FabricFault};
 pub use hopping::Hop;
 pub use links::{LinkRow, LinkView};
 pub use state_laws::fabric_of_a_state;
+pub use steps::connected_place;
 pub use worked::{graph_of_a_line, links_and_numbers, links_as_they_will_be};

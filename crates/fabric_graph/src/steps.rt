@@ -1,15 +1,16 @@
-ghost use Rattle.std.specs.Prelude.{◌≡◌, ◌+◌, ◌++◌, ◌≤◌, map, None, IfOk, IfSome, IfNone, OnOk, true};
-ghost use Rattle.ctrl_model.specs.Networks.{link_cost};
+ghost use Rattle.std.specs.Prelude.{◌≡◌, ◌+◌, ◌++◌, ◌≤◌, length, map, None, IfOk, IfSome, IfNone, OnOk, true, false};
+ghost use Rattle.ctrl_model.specs.Networks.{is_on, link_cost};
 ghost use Rattle.ctrl_model.specs.Numbered.{at};
 ghost use Rattle.ctrl_model.specs.ValidState.{each_passes};
+ghost use Rattle.path_certificate.specs.Graphs.{IsGraph};
 ghost use Rattle.record_tables.specs.Entries.{KeepsOrder};
-ghost use Rattle.fabric_graph.specs.KeptLinks.{is_fit};
-ghost use Rattle.fabric_graph.specs.Routers.{AreRouters, IsRouterPlace, numbered};
+ghost use Rattle.fabric_graph.specs.FabricRules.{is_fit};
+ghost use Rattle.fabric_graph.specs.Routers.{AreRouters, IsPlaceOf, IsRouterPlace, crossed, numbered};
 ghost use Rattle.fabric_graph.specs.Steps.{end_at, link_ends, step_between, link_steps, all_steps, by_place};
 
-use crate::links::LinkRow;
+use crate::links::{LinkRow, LinkView};
 use ctrl_model::{RouterNo, RouterSeen};
-use path_certificate::{Step, StepEnd, StepLists};
+use path_certificate::{Graph, Step, StepEnd, StepLists};
 use record_tables::NamedTable;
 use std::alloc::{AllocError, Global};
 
@@ -49,8 +50,19 @@ fn end_at(routers: &[RouterSeen], least: u32, router: RouterNo) -> Option<End>
     })
 }
 
+/// The place of a connected router: how many stand before it. None exactly where the router is absent or not connected.
+pub fn connected_place(routers: &[RouterSeen], router: RouterNo) -> Option<u16>
+    requires { AreRouters routers.now }
+    ensures on { IfSome result (IsPlaceOf (crossed 0 routers.now) router.0) }
+    ensures off { IfNone result (is_on (crossed 0 routers.now) router.0 ≡ false) }
+{
+    // Its place does not depend on what a path pays to enter it.
+    let end = end_at(routers, 0, router)?;
+    Some(end.place)
+}
+
 // What a link costs.
-fn link_cost(link: &LinkRow) -> u32
+fn link_cost(link: &LinkView) -> u32
     requires { is_fit link.now ≡ true }
     ensures cost { result ≡ link_cost link.now }
     ensures most { result ≤ 185535 }
@@ -59,7 +71,7 @@ fn link_cost(link: &LinkRow) -> u32
 }
 
 // The ends of a usable link. None where the link is not usable.
-fn ends(routers: &[RouterSeen], least: u32, link: &LinkRow) -> Option<(End, End)>
+fn ends(routers: &[RouterSeen], least: u32, link: &LinkView) -> Option<(End, End)>
     requires routers { AreRouters routers.now }
     requires least { least ≤ 65535 }
     ensures ends { result ≡ link_ends routers.now least link.now }
@@ -86,13 +98,13 @@ fn step_between(link: u32, cost: u32, from: End, to: End) -> Step
     }
 }
 
-// Adds the steps over a link.
-fn push_link(
+/// Adds the steps over a link.
+pub fn push_link(
     steps: &mut Vec<Step>,
     routers: &[RouterSeen],
     least: u32,
     number: u32,
-    link: &LinkRow,
+    link: &LinkView,
 ) -> Result<(), AllocError>
     requires routers { AreRouters routers.now }
     requires fit { is_fit link.now ≡ true }
@@ -122,13 +134,13 @@ pub fn all_steps(
 {
     let mut steps = Vec::new(alloc);
     'rows: for (number, link) in table.rows() {
-        push_link(&mut steps, routers, least, *number, link)?;
+        push_link(&mut steps, routers, least, *number, &LinkView::of(link))?;
     }
     Ok(steps)
 }
 
-/// The steps by the place that they leave.
-pub fn by_place(alloc: Global, all: &[Step], places: u16) -> Result<Vec<Step>, AllocError>
+// The steps by the place that they leave.
+fn by_place(alloc: Global, all: &[Step], places: u16) -> Result<Vec<Step>, AllocError>
     ensures { IfOk result (λ v. v.items ≡ by_place all.now places) }
 {
     let lists = StepLists::by(alloc, all, places as usize, StepEnd::From)?;
@@ -139,8 +151,8 @@ pub fn by_place(alloc: Global, all: &[Step], places: u16) -> Result<Vec<Step>, A
     Ok(steps)
 }
 
-/// For each router whether it may be passed through.
-pub fn flags(alloc: Global, routers: &[RouterSeen]) -> Result<Vec<bool>, AllocError>
+// For each router whether it may be passed through.
+fn flags(alloc: Global, routers: &[RouterSeen]) -> Result<Vec<bool>, AllocError>
     ensures { IfOk result (λ v. v.items ≡ map (λ r. r.through) routers.now) }
 {
     let mut through = Vec::new(alloc);
@@ -148,4 +160,15 @@ pub fn flags(alloc: Global, routers: &[RouterSeen]) -> Result<Vec<bool>, AllocEr
         through.push(router.through)?;
     }
     Ok(through)
+}
+
+/// The graph of the routers and of some steps between them.
+pub fn graph_over(alloc: Global, routers: &[RouterSeen], all: &[Step]) -> Result<Graph, AllocError>
+    requires routers { AreRouters routers.now }
+    requires graph { IsGraph (map (λ r. r.through) routers.now) (by_place all.now (length routers.now)) }
+    ensures { IfOk result (λ g. g ≡ record { through = map (λ r. r.through) routers.now; steps = by_place all.now (length routers.now) }) }
+{
+    let through = flags(alloc, routers)?;
+    let steps = by_place(alloc, all, routers.len() as u16)?;
+    Ok(Graph::new(through, steps))
 }

@@ -7,10 +7,10 @@ use Rattle.ctrl_model.specs.declared.kinds.RouterSeen.{RouterSeen}
 use Rattle.ctrl_model.specs.Membership.{Among}
 use Rattle.ctrl_model.specs.State.{Terminator}
 use Rattle.ctrl_model.specs.Networks.{Network, is_shared, is_counted, is_in_service, counted, admissible, paths}
-use Rattle.ctrl_model.specs.Choices.{Ask, Wanted, Candidate, IsIngress, IsAdmissible, IsCandidate, IsBest, is_wanted, shared, ingresses, candidate, candidates_between, candidates_for, candidates, best}
+use Rattle.ctrl_model.specs.Choices.{Ask, Wanted, Candidate, rank, IsIngress, IsAdmissible, IsCandidate, IsBest, is_wanted, shared, ingresses, candidate, candidates_between, candidates_for, candidates, best}
 use Rattle.ctrl_model.proofs.Members.{by_filter, Among-filter, by_map, Among-map, by_flat_map, Among-flat_map}
 use Rattle.model_laws.proofs.PathLaws.{paths-is_path}
-use Rattle.model_laws.proofs.BestLaws.{IsFirst, least_of-is, least_of-none}
+use Rattle.model_laws.proofs.BestLaws.{IsFirst, same_candidate, least_by-is, least_by-none}
 
 -- ---- ingresses and terminators
 
@@ -94,16 +94,16 @@ candidates-are w ask c = (λ m. there ask.identity ask.service refl refl m, λ k
 -- ---- the best one
 
 pub best-is : (w : Network) (ask : Ask) (c : Candidate) → (best w ask ≡ Some c) ↔ IsBest w ask c
-best-is w ask c = (λ e. is ((least_of-is (candidates w ask) c).0 e), λ b. (least_of-is (candidates w ask) c).1 (first b))
+best-is w ask c = (λ e. is ((least_by-is rank same_candidate (candidates w ask) c).0 e), λ b. (least_by-is rank same_candidate (candidates w ask) c).1 (first b))
   where
-    is : IsFirst (candidates w ask) c → IsBest w ask c
+    is : IsFirst rank (candidates w ask) c → IsBest w ask c
     is f = record { is_candidate = (candidates-are w ask c).0 f.0; first = λ d k. f.1 d ((candidates-are w ask d).1 k) }
 
-    first : IsBest w ask c → IsFirst (candidates w ask) c
+    first : IsBest w ask c → IsFirst rank (candidates w ask) c
     first b = ((candidates-are w ask c).1 b.is_candidate, λ d m. b.first d ((candidates-are w ask d).0 m))
 
 pub best-none : (w : Network) (ask : Ask) → (best w ask ≡ None) ↔ ((c : Candidate) → IsCandidate w ask c → ⊥)
 best-none w ask = (
-  λ e c k. (least_of-none (candidates w ask)).0 e c ((candidates-are w ask c).1 k),
-  λ none. (least_of-none (candidates w ask)).1 (λ c m. none c ((candidates-are w ask c).0 m)),
+  λ e c k. (least_by-none rank (candidates w ask)).0 e c ((candidates-are w ask c).1 k),
+  λ none. (least_by-none rank (candidates w ask)).1 (λ c m. none c ((candidates-are w ask c).0 m)),
 )

@@ -1,8 +1,10 @@
+pub mod DistinctNames
 pub mod Orders
 pub mod MirrorLaws
 pub mod PathLaws
 pub mod PlainPathLaws
 pub mod BestLaws
+pub mod LeastPathLaws
 pub mod CandidateLaws
 pub mod RuleLaws
 pub mod DenialLaws
@@ -16,6 +18,7 @@ pub mod AbsentRecords
 pub mod NamedLaws
 pub mod RefusalLaws
 pub mod SettleLaws
+pub mod JudgedLaws
 pub mod ValidLaws
 pub mod RecordCommandLaws
 pub mod LinkCommandLaws

@@ -75,7 +75,7 @@ less {t = t} {u = u} v h same_next none = record {
 settled : (s t : State) → AllFollow s t → AllFollow s (settle t)
 settled s t h kind.Link = less (settle t).links (h kind.Link) refl (λ m e. at-filter-none _ t.links.rows m e)
 settled s t h kind.Terminator = less (settle t).terminators (h kind.Terminator) refl (λ m e. at-filter-none _ t.terminators.rows m e)
-settled s t h kind.Circuit = less (settle t).circuits (h kind.Circuit) refl (λ m e. at-filter-none _ t.circuits.rows m e)
+settled s t h kind.Circuit = less (settle t).circuits (h kind.Circuit) refl (λ m e. at-filter-none _ _ m (at-map_each-none _ t.circuits.rows m e))
 settled s t h k = h k
 
 forgets : (i : Kind) (name : List ℕ) (s t : State) → AllFollow s t → AllFollow s (forgotten i name t)

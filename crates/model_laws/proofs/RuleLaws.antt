@@ -8,9 +8,9 @@ use Rattle.ctrl_model.specs.declared.refusals.Denial.{Denial}
 use Rattle.ctrl_model.specs.declared.refusals.Denial.TheVariants.{UnknownIdentity, UnknownService}
 use Rattle.ctrl_model.specs.Membership.{Among}
 use Rattle.ctrl_model.specs.Networks.{Network}
-use Rattle.ctrl_model.specs.Choices.{Ask, Wanted, Any, Absent, One, Candidate, IsCandidate, IsGranted, is_wanted, is_absent, candidates, candidates_for, best, first_denial, failing, first_rule}
+use Rattle.ctrl_model.specs.Choices.{Ask, Wanted, Any, Absent, One, Candidate, rank, IsCandidate, IsGranted, is_wanted, is_absent, candidates, candidates_for, best, first_denial, failing, first_rule}
 use Rattle.ctrl_model.proofs.Members.{by_something, something}
-use Rattle.model_laws.proofs.BestLaws.{least_of-there}
+use Rattle.model_laws.proofs.BestLaws.{least_by-there}
 use Rattle.model_laws.proofs.CandidateLaws.{Among-shared, Among-ingresses, Among-counted, Among-admissible, Among-candidates_for, candidates-for, best-is}
 
 -- ---- rules in order
@@ -54,7 +54,7 @@ granted w ask e =
   where
     chosen : (i s : ℕ) → ask.identity ≡ Some i → ask.service ≡ Some s → (w.dial i s == 0) ≡ false → w.full ≡ false → (c : Candidate) → Among c (candidates w ask)
         → (o : Option Candidate) → best w ask ≡ o → IsGranted w ask
-    chosen i s who what dials room c m None is = absurd (least_of-there (candidates w ask) c m is)
+    chosen i s who what dials room c m None is = absurd (least_by-there rank (candidates w ask) c m is)
     chosen i s who what dials room c m (Some b) is =
         record { identity = i; service = s; who = who; what = what; dials = dials; chosen = b; is_chosen = is; room = room }
 

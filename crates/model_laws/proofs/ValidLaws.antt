@@ -8,11 +8,12 @@ use Rattle.ctrl_model.specs.declared.kinds.Kind.TheVariants as kind
 use Rattle.ctrl_model.specs.declared.refusals.Refusal.{Refusal}
 use Rattle.ctrl_model.specs.declared.replies.Reply.{Reply}
 use Rattle.ctrl_model.specs.Limits.{limit, last_next}
+use Rattle.ctrl_model.specs.Networks.{network_of}
 use Rattle.ctrl_model.specs.Numbered.{Table, with_new, with_edit, with_removed, first_where}
 use Rattle.ctrl_model.specs.State.{State}
 use Rattle.ctrl_model.specs.Tables.{Record, table, with_table, is_entity_kind, has_names, record_name, named}
 use Rattle.ctrl_model.specs.CommandForm.{is_link_cost}
-use Rattle.ctrl_model.specs.Settling.{settle, link_stays, terminator_stays, stays_in, settle_links, settle_terminators}
+use Rattle.ctrl_model.specs.Settling.{settle, link_stays, terminator_stays, stays_in, rerouted, settle_links, settle_terminators, reroute_circuits}
 use Rattle.ctrl_model.specs.Rules.{carried_out, at_number, attributes_full, attributes_in_use, side_attributes, forget_left, forget_right}
 use Rattle.ctrl_model.specs.RecordCommands.{after_create, after_edit, after_remove, forgotten}
 use Rattle.ctrl_model.specs.ValidState.{ValidState, ValidTable, is_valid, may_relate}
@@ -37,10 +38,13 @@ Orderly-from_valid s v = record { kinds = v.kinds; setting = v.setting; attribut
 pub ValidState-settle : (s : State) → Orderly s → ValidState (settle s)
 ValidState-settle s o = record { kinds = settled; setting = o.setting; attributes = o.attributes; settled = settle-settle s }
   where
+    rerouted_table : ValidTable kind.Circuit s (reroute_circuits (settle_terminators (settle_links s))).circuits
+    rerouted_table = valid-each (o.kinds kind.Circuit) s (rerouted (network_of (settle_terminators (settle_links s)))) (λ q. refl) (λ q e. refl)
+
     settled : (k : Kind) → ValidTable k (settle s) (table k (settle s))
     settled kind.Link = valid-filter (o.kinds kind.Link) (settle s) (λ q e. e) (link_stays s)
     settled kind.Terminator = valid-filter (o.kinds kind.Terminator) (settle s) (λ q e. e) (terminator_stays (settle_links s))
-    settled kind.Circuit = valid-filter (o.kinds kind.Circuit) (settle s) (λ q e. e) (stays_in (settle_terminators (settle_links s)))
+    settled kind.Circuit = valid-filter rerouted_table (settle s) (λ q e. e) (stays_in (settle_terminators (settle_links s)))
     settled k = valid-more (o.kinds k) (settle s) (λ q e. e)
 
 -- ---- a command keeps a state valid where its effect, if nothing refuses it, is orderly

@@ -2,3 +2,4 @@ pub mod TouchedTables
 pub mod ClaimedRoutes
 pub mod Denials
 pub mod Plans
+pub mod JudgedCircuits

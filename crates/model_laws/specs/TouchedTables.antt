@@ -1,4 +1,4 @@
--- Which record of which table a command may change before what stands no longer is removed. All else it leaves alone
+-- Which record of which table a command may change before the state is settled. All else it leaves alone
 -- (docs/RULES.md, "The controller").
 use Rattle.std.specs.Prelude.{◌≡◌, ℕ, ◌+◌, ◌≤◌, ◌⊎◌, List, None, Some, ⊤}
 use Rattle.std.specs.declared.option.Option.{Option}

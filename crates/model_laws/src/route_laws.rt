@@ -1,4 +1,4 @@
-ghost use Rattle.std.specs.Prelude.{◌≡◌, ◌<◌, ◌≤◌, ◌↔◌, ℕ, List, map, true, None, Some};
+ghost use Rattle.std.specs.Prelude.{◌≡◌, ◌<◌, ◌≤◌, ◌↔◌, ℕ, List, map, true, false, None, Some};
 ghost use Rattle.ctrl_model.specs.declared.claims.Explanation.{Explanation};
 ghost use Rattle.ctrl_model.specs.declared.refusals.Denial.{Denial};
 ghost use Rattle.ctrl_model.specs.Membership.{Among};
@@ -6,7 +6,7 @@ ghost use Rattle.ctrl_model.specs.Numbered.{at, numbers};
 ghost use Rattle.ctrl_model.specs.State.{State, Terminator};
 ghost use Rattle.ctrl_model.specs.Walks.{Hops, goes, cost_along};
 ghost use Rattle.ctrl_model.specs.Mirrors.{Mirrors, ArePlaces};
-ghost use Rattle.ctrl_model.specs.Networks.{Network, network_of, is_path, paths};
+ghost use Rattle.ctrl_model.specs.Networks.{Network, network_of, is_path, paths, least_path, IsLeastPath};
 ghost use Rattle.ctrl_model.specs.PlainPaths.{NoneTwice, IsPlainPath};
 ghost use Rattle.ctrl_model.specs.Choices.{Ask, Candidate, IsCandidate, IsBest, IsGranted, place_of, best, first_rule};
 ghost use Rattle.ctrl_model.specs.Claims.{justified, explanation_of};
@@ -23,6 +23,12 @@ pub fn each_path()
 /// before, no router is visited twice, both ends are present and connected, and each one between may be passed through.
 pub fn plain_path()
     ensures { (w : Network) (r t : ℕ) (links : List ℕ) → ((is_path w r links t ≡ true) ↔ IsPlainPath w r links t) }
+{}
+
+/// The least path is a path that no path comes before, any such path is it, and there is none exactly where there is no path.
+pub fn the_least_path()
+    ensures is { (w : Network) (r t : ℕ) (links : List ℕ) → ((least_path w r t ≡ Some links) ↔ IsLeastPath w r t links) }
+    ensures none { (w : Network) (r t : ℕ) → ((least_path w r t ≡ None) ↔ ((links : List ℕ) → is_path w r links t ≡ false)) }
 {}
 
 /// The best candidate is a candidate that none precedes, any candidate that none precedes is it, and there is none exactly

@@ -1,16 +1,20 @@
-ghost use Rattle.std.specs.Prelude.{◌≡◌, ◌⊎◌, ℕ, ◌<◌, ◌≤◌, true, List, filter, None, Some};
+ghost use Rattle.std.specs.Prelude.{◌≡◌, ◌⊎◌, ℕ, ◌<◌, ◌≤◌, true, false, List, filter, None, Some};
+ghost use Rattle.std.specs.Option.{option_map};
 ghost use Rattle.ctrl_model.specs.declared.commands.Command.{Command};
 ghost use Rattle.ctrl_model.specs.declared.kinds.Kind.{Kind};
 ghost use Rattle.ctrl_model.specs.declared.kinds.Relation.{Relation};
 ghost use Rattle.ctrl_model.specs.declared.kinds.Who.{Who};
 ghost use Rattle.ctrl_model.specs.declared.refusals.Refusal.{Refusal};
 ghost use Rattle.ctrl_model.specs.declared.replies.Reply.TheVariants.{Refused};
-ghost use Rattle.ctrl_model.specs.Numbered.{at, Between};
+ghost use Rattle.ctrl_model.specs.Numbered.{at, map_each, numbers, Between};
 ghost use Rattle.ctrl_model.specs.Limits.{last_next};
 ghost use Rattle.ctrl_model.specs.State.{State, Link, Terminator, Circuit};
 ghost use Rattle.ctrl_model.specs.Tables.{Record, table, has_names, record_name, named};
 ghost use Rattle.ctrl_model.specs.Grants.{count, left_entity, right_entity};
-ghost use Rattle.ctrl_model.specs.Settling.{settle, link_stays, terminator_stays, stays_in};
+ghost use Rattle.ctrl_model.specs.Settling.{settle, link_stays, terminator_stays, stays_in, rerouted, settle_links, settle_terminators};
+ghost use Rattle.ctrl_model.specs.Networks.{Network, network_of, is_path, IsLeastPath};
+ghost use Rattle.ctrl_model.specs.Walks.{is_among};
+ghost use Rattle.model_laws.specs.JudgedCircuits.{CircuitAt, HasEnds};
 ghost use Rattle.model_laws.specs.TouchedTables.{touched_by, ChangesOnly, GivesNext};
 ghost use Rattle.ctrl_model.specs.Controller.{answer};
 ghost use Rattle.ctrl_model.specs.ValidState.{ValidState};
@@ -44,16 +48,43 @@ pub fn absent_pairs_count_nothing()
     ensures right { (relation : Relation) (s : State) (a b : ℕ) → right_entity relation s b ≡ None → count relation s a b ≡ 0 }
 {}
 
-/// Settling leaves all but links, terminators and circuits. Each of these three is a filter of what was: a record that is
-/// there after stood there before, under its number.
-pub fn settling_only_removes()
+/// Settling leaves all but links, terminators and circuits. Links and terminators are filtered, and circuits are rerouted and then
+/// filtered: what is there after stood there before, under its number, and a circuit is the one that stood there, rerouted.
+pub fn settling_removes_and_reroutes()
     ensures rest { (s : State) → record (settle s) { links = record (settle s).links { rows = s.links.rows }; terminators = record (settle s).terminators { rows = s.terminators.rows }; circuits = record (settle s).circuits { rows = s.circuits.rows } } ≡ s }
     ensures links { (s : State) → (settle s).links.rows ≡ filter (link_stays s) s.links.rows }
     ensures terminators { (s : State) → (settle s).terminators.rows ≡ filter (terminator_stays s) s.terminators.rows }
-    ensures circuits { (s : State) → (settle s).circuits.rows ≡ filter (stays_in (record s { links = (settle s).links; terminators = (settle s).terminators })) s.circuits.rows }
+    ensures circuits { (s : State) → (settle s).circuits.rows
+        ≡ filter (stays_in (settle_terminators (settle_links s))) (map_each (rerouted (network_of (settle_terminators (settle_links s)))) s.circuits.rows) }
     ensures link_stood { (s : State) (n : ℕ) (l : Link) → Between 1 s.links.next s.links.rows → at (settle s).links.rows n ≡ Some l → at s.links.rows n ≡ Some l }
     ensures terminator_stood { (s : State) (n : ℕ) (e : Terminator) → Between 1 s.terminators.next s.terminators.rows → at (settle s).terminators.rows n ≡ Some e → at s.terminators.rows n ≡ Some e }
-    ensures circuit_stood { (s : State) (n : ℕ) (c : Circuit) → Between 1 s.circuits.next s.circuits.rows → at (settle s).circuits.rows n ≡ Some c → at s.circuits.rows n ≡ Some c }
+    ensures circuit_stood { (s : State) (n : ℕ) (c : Circuit) → Between 1 s.circuits.next s.circuits.rows → at (settle s).circuits.rows n ≡ Some c
+        → option_map (rerouted (network_of (settle_terminators (settle_links s)))) (at s.circuits.rows n) ≡ Some c }
+{}
+
+/// What becomes of a circuit of a network that is rerouted, where its terminator is present: it stays as it is where its links are a path,
+/// it gets the least path where they are none and there is one, and else it stays too. Its links alone may change.
+pub fn rerouted_circuits()
+    ensures links_alone { (w : Network) (c : Circuit) → record (rerouted w c) { links = c.links } ≡ c }
+    ensures stays { (w : Network) (c : Circuit) (e : Terminator) → at w.terminators c.terminator ≡ Some e → is_path w c.ingress c.links e.router ≡ true → rerouted w c ≡ c }
+    ensures gets_the_least { (w : Network) (c : Circuit) (e : Terminator) (links : List ℕ) → at w.terminators c.terminator ≡ Some e → is_path w c.ingress c.links e.router ≡ false
+        → IsLeastPath w c.ingress e.router links → rerouted w c ≡ record c { links = links } }
+    ensures has_none { (w : Network) (c : Circuit) (e : Terminator) → at w.terminators c.terminator ≡ Some e → ((links : List ℕ) → is_path w c.ingress links e.router ≡ false) → rerouted w c ≡ c }
+{}
+
+/// Each circuit is judged by itself when a state whose circuits ascend is settled. Where its identity, its service or its terminator is
+/// absent it ends; where its links are a path from its ingress to the terminator's router it stays as it is; else it goes over the least
+/// path between the two, and where there is none it ends.
+pub fn each_circuit_is_judged()
+    ensures no_identity { (s : State) (n : ℕ) (c : Circuit) → CircuitAt s n c → is_among c.identity (numbers s.identities.rows) ≡ false → at (settle s).circuits.rows n ≡ None }
+    ensures no_service { (s : State) (n : ℕ) (c : Circuit) → CircuitAt s n c → is_among c.service (numbers s.services.rows) ≡ false → at (settle s).circuits.rows n ≡ None }
+    ensures no_terminator { (s : State) (n : ℕ) (c : Circuit) → CircuitAt s n c → at (settle s).terminators.rows c.terminator ≡ None → at (settle s).circuits.rows n ≡ None }
+    ensures stays { (s : State) (n : ℕ) (c : Circuit) (e : Terminator) → CircuitAt s n c → HasEnds s c e → is_path (network_of (settle s)) c.ingress c.links e.router ≡ true
+        → at (settle s).circuits.rows n ≡ Some c }
+    ensures goes_over_the_least { (s : State) (n : ℕ) (c : Circuit) (e : Terminator) (links : List ℕ) → CircuitAt s n c → HasEnds s c e → is_path (network_of (settle s)) c.ingress c.links e.router ≡ false
+        → IsLeastPath (network_of (settle s)) c.ingress e.router links → at (settle s).circuits.rows n ≡ Some (record c { links = links }) }
+    ensures no_path { (s : State) (n : ℕ) (c : Circuit) (e : Terminator) → CircuitAt s n c → HasEnds s c e → ((links : List ℕ) → is_path (network_of (settle s)) c.ingress links e.router ≡ false)
+        → at (settle s).circuits.rows n ≡ None }
 {}
 
 /// A command leaves the state, or has an effect that is then settled: it adds one record under the next number, which rises by one,

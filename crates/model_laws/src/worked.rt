@@ -26,7 +26,7 @@ ghost use Rattle.ctrl_model.specs.Claims.{least_cost, no_path};
 ghost use Rattle.ctrl_model.specs.Permitted.{is_permitted};
 ghost use Rattle.ctrl_model.specs.Settling.{circuit_stays};
 ghost use Rattle.ctrl_model.specs.Controller.{answer};
-ghost use Rattle.ctrl_model.specs.WorkedStates.{reply_to, after, everyone, only, carrying, service_policy, link_of_eleven, offered, line, line_without_terminator, line_stopped_at_r2, line_of_precedences, square, two_policies, hosted_line, narrow_line, line_from_two, two_terminators, fork, ann_to_web, explain_ann_to_web, claim_on_line, claim_from_r1, claim_by_ingress, towards, names_of_one_byte, names_of_one_byte_but_one, names_of_two_bytes};
+ghost use Rattle.ctrl_model.specs.WorkedStates.{reply_to, after, everyone, only, carrying, service_policy, link_of_eleven, offered, line, detoured, line_without_terminator, line_stopped_at_r2, line_of_precedences, square, two_policies, hosted_line, narrow_line, line_from_two, two_terminators, fork, ann_to_web, explain_ann_to_web, claim_on_line, claim_from_r1, claim_by_ingress, towards, names_of_one_byte, names_of_one_byte_but_one, names_of_two_bytes};
 
 /// Examples of names and instances, from the rule alone.
 pub fn names_and_words()
@@ -87,7 +87,7 @@ pub fn a_circuit_on_a_line()
     ensures first_is_free { reply_to ann_to_web (after (UpdateRouter (codes "r1") [] 5000 false ∷ []) line) ≡ reply.Circuit (record { 0 = 1 }) (codes "r1") (1 ∷ 2 ∷ []) (record { 0 = 1 }) 42 }
 {}
 
-/// No path passes through a no-traversal router, and a circuit whose path fails ends. A second link gives another path.
+/// No path passes through a no-traversal router, and a circuit whose path fails ends where there is no other. A second link gives another path.
 pub fn no_traversal()
     ensures ended { reply_to (ShowCircuit 1) line_stopped_at_r2 ≡ reply.Refused (refusal.Unknown field.No) }
     ensures no_path { reply_to ann_to_web line_stopped_at_r2 ≡ reply.Refused (refusal.Denied denial.NoPath) }
@@ -463,6 +463,17 @@ pub fn settled_circuits()
     ensures host_without_router { reply_to ann_to_web (after (DeleteEdgeRouterPolicy (codes "bobs") ∷ []) hosted_line) ≡ reply.Refused (refusal.Denied denial.NoAdmissibleTerminator) }
 {}
 
+/// A circuit whose links fail while its ends stand goes over the least path, and stays there when its old links serve again; where it
+/// has no path it ends.
+pub fn circuits_that_go_another_way()
+    ensures past_a_closed_router { reply_to (ShowCircuit 1) (after (UpdateRouter (codes "r2") [] 0 true ∷ []) detoured) ≡ reply.Shown (codes "ann") (codes "r1") (3 ∷ []) (codes "web") (record { 0 = 1 }) }
+    ensures stays_there { reply_to (ShowCircuit 1) (after (UpdateRouter (codes "r2") [] 0 true ∷ UpdateRouter (codes "r2") [] 0 false ∷ []) detoured) ≡ reply.Shown (codes "ann") (codes "r1") (3 ∷ []) (codes "web") (record { 0 = 1 }) }
+    ensures and_back { reply_to (ShowCircuit 1) (after (UpdateRouter (codes "r2") [] 0 true ∷ UpdateRouter (codes "r2") [] 0 false ∷ DeleteLink (codes "l3") ∷ []) detoured)
+        ≡ reply.Shown (codes "ann") (codes "r1") (1 ∷ 2 ∷ []) (codes "web") (record { 0 = 1 }) }
+    ensures no_way_left { reply_to (ShowCircuit 1) (after (UpdateRouter (codes "r2") [] 0 true ∷ DeleteLink (codes "l3") ∷ []) detoured) ≡ reply.Refused (refusal.Unknown field.No) }
+    ensures ingress_off { reply_to (ShowCircuit 1) (after (DisconnectRouter (codes "r1") ∷ ConnectRouter (codes "r1") ∷ []) detoured) ≡ reply.Refused (refusal.Unknown field.No) }
+{}
+
 /// Whether a circuit of the line stays, said of a network and the present identities and services: each of the two must be
 /// present under its own number, and the terminator too, and the links must still be a path.
 pub fn circuits_that_stay()
@@ -526,7 +537,7 @@ pub fn limits_of_kinds()
     ensures no_more_circuits { circuits_full (record start { circuits = record start.circuits { rows = replicate 16384 (1, record { identity = 1; service = 1; terminator = 1; ingress = 1; links = [] }) } }) ≡ true }
 {}
 
-/// At most 1,024 attributes are in use, each counted once however often it is used: one more is refused, after a kind that is full;
+/// At most 4,096 attributes are in use, each counted once however often it is used: one more is refused, after a kind that is full;
 /// one that is in use already may be used again; and an update may put another in the place of one.
 pub fn limit_of_attributes()
     ensures one_more { reply_to (CreateService (codes "web") (codes "a" ∷ [])) (record start { identities = record { rows = (1, record { name = codes "a"; attributes = names_of_two_bytes }) ∷ []; next = 2 } }) ≡ reply.Refused (refusal.Full kind.Attribute) }

@@ -5,3 +5,4 @@ pub mod FirstChains
 pub mod WorkedCosts
 pub mod WaitingPlaces
 pub mod KnownCosts
+pub mod NetworkPaths

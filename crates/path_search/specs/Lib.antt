@@ -1,3 +1,4 @@
 pub mod Searches
 pub mod Supports
 pub mod Visits
+pub mod MirroredSearches

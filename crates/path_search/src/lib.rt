@@ -1,12 +1,14 @@
 //! The search for least paths in a graph: the least cost from each place to a target, and the first of the least paths.
 #![tactic(auto)]
 
+mod laws;
 mod relaxing;
 mod visiting;
 mod waiting;
 mod walking;
 mod worked;
 
+pub use laws::least_paths_of_a_network;
 pub use relaxing::{arrivals, least, least_over};
 pub use visiting::CostSearch;
 pub use walking::walk;

@@ -244,8 +244,13 @@ fn is_untaken(rt: &impl Abort, alloc: Global, source: &mut MemSource) -> Result<
     Ok(())
 }
 
-// A folder is damaged, which is so noted: nothing is taken of the input and nothing said, and it reads as before.
-fn refuses(rt: &impl Abort, alloc: Global, parts: [&[u8]; 3], noted: &str) -> Result<(), Fail> {
+/// A folder is damaged, which is so noted: nothing is taken of the input and nothing said, and it reads as before.
+pub(crate) fn refuses(
+    rt: &impl Abort,
+    alloc: Global,
+    parts: [&[u8]; 3],
+    noted: &str,
+) -> Result<(), Fail> {
     let mut desk = desk_of(alloc, parts, &[])?;
     let mut source = source_of(alloc, [ANN, b""], &[])?;
     let status = run_word(alloc, "replay", 64, 4_096, &mut source, &mut desk)?;

@@ -1,5 +1,5 @@
-//! Tests of runs on a folder: what is kept from run to run, where folders are damaged, what failing calls leave, and a realistic
-//! network.
+//! Tests of runs on a folder: what is kept from run to run, where folders are damaged, what failing calls leave, circuits that
+//! go over another path, and a realistic network.
 #![tactic(auto)]
 
 #[cfg(test)]
@@ -16,3 +16,5 @@ mod folders;
 mod model_runs;
 #[cfg(test)]
 mod replays;
+#[cfg(test)]
+mod rerouting;

@@ -16,7 +16,8 @@ use ziti_desk::MemDesk;
 const ROUTER_KEPT: &[u8] =
     b"\x01\x1e\0\0\0\x01\x02\x01\x03\x04\0\0\0\x02\0\0\0\x01\x05\x05\0\0\0\x01\x07\0\0\0\x02r1\0\0\0\0";
 
-const CONNECTED_KEPT: &[u8] = b"\x01\x12\0\0\0\x01\x05\x05\0\0\0\x01\x07\0\0\0\x02r1\0\0\0\x02";
+pub(crate) const CONNECTED_KEPT: &[u8] =
+    b"\x01\x12\0\0\0\x01\x05\x05\0\0\0\x01\x07\0\0\0\x02r1\0\0\0\x02";
 
 /// The refusal of a change without room.
 const FULL: &str = r#"{"code":40,"name":"JournalFull"}"#;

@@ -1,4 +1,4 @@
-//! Tests of routes: certificates and searches over graphs, the graph of a fabric, and what a request is answered.
+//! Tests of routes: certificates and searches over graphs, the graph of a fabric, what a request is answered, and what becomes of circuits.
 #![tactic(auto)]
 
 #[cfg(test)]
@@ -9,6 +9,8 @@ mod certificates;
 mod decisions;
 #[cfg(test)]
 mod explanations;
+#[cfg(test)]
+mod granted_circuits;
 #[cfg(test)]
 mod graphs;
 #[cfg(test)]

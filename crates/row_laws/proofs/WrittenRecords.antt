@@ -11,14 +11,14 @@ use Rattle.ctrl_model.specs.Membership.{Among}
 use Rattle.ctrl_model.specs.NameForm.{is_name, is_instance}
 use Rattle.ctrl_model.specs.CommandForm.{are_names, are_attributes, is_stored_side, is_distinct, is_cost, is_link_cost, is_latency}
 use Rattle.ctrl_model.specs.Limits.{last_next}
-use Rattle.ctrl_model.specs.Numbered.{at, is_present, Between, numbers}
+use Rattle.ctrl_model.specs.Numbered.{at, is_present, Between, map_each, numbers}
 use Rattle.ctrl_model.specs.State.{State, Router, Link, Policy, Terminator, Circuit}
 use Rattle.ctrl_model.specs.Tables.{Record, table}
 use Rattle.ctrl_model.specs.ValidState.{ValidState, ValidNumbers, is_valid, may_relate}
 use Rattle.ctrl_model.specs.Networks.{network_of, seen, is_path, hops}
 use Rattle.ctrl_model.specs.Claims.{router_numbers}
 use Rattle.ctrl_model.specs.Walks.{Hops, is_among, goes}
-use Rattle.ctrl_model.specs.Settling.{link_stays, terminator_stays, stays_in, settle_links, settle_terminators}
+use Rattle.ctrl_model.specs.Settling.{link_stays, terminator_stays, stays_in, rerouted, settle_links, settle_terminators}
 use Rattle.ctrl_model.proofs.Members.{list_all-among, by_filter, Among-from_test, at-row, at-among}
 use Rattle.ctrl_model.proofs.NumberedLaws.{at-within, by_is_some}
 use Rattle.ctrl_model.proofs.WalkLaws.{by_there, by_goes, LinksAmong, length-path}
@@ -78,21 +78,23 @@ side_from side e =
     right : (a b : ℕ) → a + b ≤ 64 → b ≤ 64
     right a b h = omega arith
 
--- ---- what settling removes nothing of
+-- ---- what stays in a valid state
 
-kept_all : {X : Type 0} (p : X → Bool) (xs : List X) → filter p xs ≡ xs → (x : X) → Among x xs → p x ≡ true
-kept_all p xs e x m = by_filter p xs x (subst (λ ys. Among x ys) (sym e) m) (λ _ passes. passes)
+-- what is left by a test passes it
+kept_all : {X : Type 0} (p : X → Bool) (xs ys : List X) → filter p xs ≡ ys → (x : X) → Among x ys → p x ≡ true
+kept_all p xs ys e x m = by_filter p xs x (subst (λ zs. Among x zs) (sym e) m) (λ _ passes. passes)
 
 pub links_stay : (s : State) → ValidState s → (row : ℕ × Link) → Among row s.links.rows → link_stays s row ≡ true
-links_stay s v = kept_all (link_stays s) s.links.rows (ap (λ (t : State). t.links.rows) v.settled)
+links_stay s v = kept_all (link_stays s) s.links.rows s.links.rows (ap (λ (t : State). t.links.rows) v.settled)
 
 pub terminators_stay : (s : State) → ValidState s → (row : ℕ × Terminator) → Among row s.terminators.rows → terminator_stays s row ≡ true
-terminators_stay s v = kept_all (terminator_stays s) s.terminators.rows (ap (λ (t : State). t.terminators.rows) v.settled)
+terminators_stay s v = kept_all (terminator_stays s) s.terminators.rows s.terminators.rows (ap (λ (t : State). t.terminators.rows) v.settled)
 
 pub circuits_stay : (s : State) → ValidState s → (row : ℕ × Circuit) → Among row s.circuits.rows → stays_in s row ≡ true
 circuits_stay s v row m =
     subst (λ t. stays_in t row ≡ true) same
-    (kept_all (stays_in (settle_terminators (settle_links s))) s.circuits.rows (ap (λ (t : State). t.circuits.rows) v.settled) row m)
+    (kept_all (stays_in (settle_terminators (settle_links s))) (map_each (rerouted (network_of (settle_terminators (settle_links s)))) s.circuits.rows) s.circuits.rows
+    (ap (λ (t : State). t.circuits.rows) v.settled) row m)
   where
     same : settle_terminators (settle_links s) ≡ s
     same i = record s { links = (v.settled i).links; terminators = (v.settled i).terminators }

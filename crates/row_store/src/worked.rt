@@ -64,7 +64,7 @@ pub fn worked_compactions()
 {}
 
 /// The batches of commands of other families, worked by hand, on a line of three routers with a circuit over both its links: router 2
-/// may not be passed through any more, so the circuit goes; it is deleted, and with it both links, the circuit and a count; a link
+/// may not be passed through any more, so the circuit, which has no other path, goes; it is deleted, and with it both links, the circuit and a count; a link
 /// goes, and the terminator, each with the circuit.
 pub fn worked_commands()
     ensures no_traversal { batch_bytes (batch_between (after (ann_to_web ∷ []) line) (after (ann_to_web ∷ UpdateRouter (codes "r2") [] 0 true ∷ []) line))

@@ -1,13 +1,18 @@
-//! What tests of whole runs share: frames of requests and replies, laid out by hand, slots of records, and sources and desks over memory.
+//! What tests of whole runs share: frames of requests and replies, laid out by hand, a small network, slots of records, and sources and desks over memory.
 #![tactic(auto)]
 
 mod desks;
 mod frames;
+mod networks;
 mod slots;
 
 pub use desks::{desk_of, parts_of, source_of};
 pub use frames::{
     ANN, ANN_MADE, BOB_MADE, DONE, MADE, REQUEST, Row, push_reply, push_request, replies,
     reply_frame, requests,
+};
+pub use networks::{
+    ASK, CLOSED, DEAR_LINK, ENTRY, GONE, LINE, ON_DEAR_LINK, ON_LINE, OPENED, OVER_LINE, PAIR,
+    SECOND_GONE, SECOND_OFF, SECOND_ON_LINK, TWO_CIRCUITS, UNKNOWN_NUMBER, joined,
 };
 pub use slots::{ANN_KEPT, BOB_KEPT, FIRST, HEADER, WEB_KEPT, slot_of};

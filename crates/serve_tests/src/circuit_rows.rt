@@ -1,11 +1,10 @@
 //! Rows of circuit requests, of explanations and of claims. The rows of a table are one run, which may stand behind others.
 
-use crate::command_rows::{PAIR, UNKNOWN_NUMBER, check_tables};
-use sample_runs::{DONE, Row};
+use crate::command_rows::check_tables;
+use sample_runs::{
+    ASK, CLOSED, DEAR_LINK, DONE, ENTRY, GONE, LINE, ON_LINE, OVER_LINE, PAIR, Row, UNKNOWN_NUMBER,
+};
 use std::test::Fail;
-
-/// What ann asks for.
-const ASK: &str = r#"{"identity":"ann","service":"web"}"#;
 
 /// No path.
 const NO_PATH: &str = r#"{"code":38,"name":"NoPath"}"#;
@@ -17,46 +16,6 @@ const LOW_CLAIM: &str =
 /// The claim of the route over both links.
 const CLAIM: &str =
     r#"{"identity":"ann","service":"web","chosen":"r1","links":[1,2],"potentials":[{"router":3,"values":[42,21,0]}],"routers":[1,2,3],"terminator":1,"total":42}"#;
-
-/// Behind the pair: a router that is connected. Ann may dial web and enters at it.
-const ENTRY: [Row; 5] = [
-    (1020, r#"{"name":"r1"}"#, r#"{"no":1}"#),
-    (1023, r#"{"name":"r1"}"#, DONE),
-    (
-        1100,
-        r#"{"name":"d","type":"Dial","semantic":"AnyOf","identity_roles":["@ann"],"service_roles":["@web"]}"#,
-        r#"{"no":1}"#,
-    ),
-    (
-        1110,
-        r#"{"name":"e","semantic":"AnyOf","identity_roles":["@ann"],"router_roles":["@r1"]}"#,
-        r#"{"no":1}"#,
-    ),
-    (
-        1120,
-        r##"{"name":"s","semantic":"AnyOf","service_roles":["#all"],"router_roles":["#all"]}"##,
-        r#"{"no":1}"#,
-    ),
-];
-
-/// Two more routers in a row behind the first, with links that cost 11 each: web is offered at the third.
-const LINE: [Row; 7] = [
-    (1020, r#"{"name":"r2"}"#, r#"{"no":2}"#),
-    (1020, r#"{"name":"r3"}"#, r#"{"no":3}"#),
-    (1023, r#"{"name":"r2"}"#, DONE),
-    (1023, r#"{"name":"r3"}"#, DONE),
-    (
-        1200,
-        r#"{"name":"l1","a":"r1","b":"r2","latency_a":5,"latency_b":5}"#,
-        r#"{"no":1}"#,
-    ),
-    (
-        1200,
-        r#"{"name":"l2","a":"r2","b":"r3","latency_a":5,"latency_b":5}"#,
-        r#"{"no":2}"#,
-    ),
-    (1300, r#"{"service":"web","router":"r3"}"#, r#"{"no":1}"#),
-];
 
 /// The route is explained, claims are verified, and a cheaper terminator makes the claim an old one.
 const CLAIMS: [Row; 7] = [
@@ -85,30 +44,14 @@ const CLAIMS: [Row; 7] = [
     ),
 ];
 
-/// A circuit ends where its path does, and another way is found.
+/// A circuit ends where its path does and there is no other, and the next request finds a way that came later.
 const PATHS: [Row; 9] = [
-    (
-        1400,
-        ASK,
-        r#"{"circuit":1,"ingress":"r1","links":[1,2],"terminator":1,"total":42}"#,
-    ),
-    (
-        1503,
-        r#"{"no":1}"#,
-        r#"{"identity":"ann","ingress":"r1","links":[1,2],"service":"web","terminator":1}"#,
-    ),
-    (
-        1021,
-        r#"{"name":"r2","attributes":[],"cost":0,"no_traversal":true}"#,
-        DONE,
-    ),
-    (1503, r#"{"no":1}"#, UNKNOWN_NUMBER),
+    OVER_LINE,
+    ON_LINE,
+    CLOSED,
+    GONE,
     (1400, ASK, NO_PATH),
-    (
-        1200,
-        r#"{"name":"l3","a":"r1","b":"r3","cost":60}"#,
-        r#"{"no":3}"#,
-    ),
+    DEAR_LINK,
     (
         1400,
         ASK,
@@ -152,7 +95,7 @@ const PRECEDENCES: [Row; 9] = [
 ];
 
 /// With three more routers a square, and two ways of one cost between two of them: the one whose links come first is taken.
-const SQUARE: [Row; 12] = [
+pub(crate) const SQUARE: [Row; 12] = [
     (1020, r#"{"name":"r2"}"#, r#"{"no":2}"#),
     (1020, r#"{"name":"r3"}"#, r#"{"no":3}"#),
     (1020, r#"{"name":"r4"}"#, r#"{"no":4}"#),

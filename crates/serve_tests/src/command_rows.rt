@@ -2,13 +2,12 @@
 
 use crate::desks::{steady_desk, steady_source};
 use ctrl_serve::{Bounds, Status, run_within};
-use sample_runs::{DONE, Row, push_reply, push_request, replies, requests};
+use sample_runs::{
+    DONE, PAIR, Row, UNKNOWN_NUMBER, joined, push_reply, push_request, replies, requests,
+};
 use std::alloc::{AllocError, Global};
 use std::process::Abort;
 use std::test::Fail;
-
-/// The refusal of a number that nothing has.
-pub const UNKNOWN_NUMBER: &str = r#"{"code":21,"field":"no","name":"Unknown"}"#;
 
 /// The grants of who may dial web, by one policy.
 const ONCE: &str = r#"{"bind":[],"dial":[["web",1]],"routers":[]}"#;
@@ -76,12 +75,6 @@ const ROLES: [Row; 26] = [
     ),
     (1500, r#"{"identity":"x"}"#, ONCE),
     (1500, r#"{"identity":"y"}"#, ONCE),
-];
-
-/// An identity ann and a service web.
-pub(crate) const PAIR: [Row; 2] = [
-    (1000, r#"{"name":"ann"}"#, r#"{"no":1}"#),
-    (1010, r#"{"name":"web"}"#, r#"{"no":1}"#),
 ];
 
 /// Two policies that grant ann the same, which go one after the other.
@@ -312,14 +305,6 @@ fn check_frames(rt: &impl Abort, alloc: Global, frames: &[u8], wanted: &[u8]) ->
     assert_eq!(rt; status, Status::Done);
     assert_eq!(rt; desk.said(), wanted);
     Ok(())
-}
-
-fn joined(alloc: Global, tables: &[&[Row]]) -> Result<Vec<Row>, AllocError> {
-    let mut rows = Vec::new(alloc);
-    for table in tables {
-        rows.extend_from_slice(table)?;
-    }
-    Ok(rows)
 }
 
 fn check_rows(rt: &impl Abort, alloc: Global, rows: &[Row]) -> Result<(), Fail> {

@@ -12,4 +12,6 @@ mod desks;
 #[cfg(test)]
 mod loads;
 #[cfg(test)]
+mod rerouted_rows;
+#[cfg(test)]
 mod runs;

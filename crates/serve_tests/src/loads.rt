@@ -9,7 +9,7 @@ use std::process::Abort;
 use std::test::Fail;
 use ziti_desk::MemDesk;
 
-/// The counts line of the load of 0, which an independent model of the rules gave, as the next two.
+/// The counts line of the load of 0, which an independent model of the rules gave, as the next three.
 const LINE_OF_0: &str =
     "{\"circuits\":1,\"grants\":4118,\"identities\":200,\"links\":29,\"policies\":30,\"routers\":12,\"services\":40,\"terminators\":40}\n";
 
@@ -20,6 +20,10 @@ const LINE_OF_1: &str =
 /// That of 7.
 const LINE_OF_7: &str =
     "{\"circuits\":1,\"grants\":4558,\"identities\":200,\"links\":27,\"policies\":30,\"routers\":12,\"services\":40,\"terminators\":40}\n";
+
+/// That of 126, in which four times a circuit goes over another path: were it to end there, 7 would be left.
+const LINE_OF_126: &str =
+    "{\"circuits\":10,\"grants\":5491,\"identities\":200,\"links\":29,\"policies\":30,\"routers\":12,\"services\":40,\"terminators\":40}\n";
 
 /// Lines of words that are none of the table.
 const NO_LOADS: [&[&str]; 8] = [
@@ -59,7 +63,12 @@ fn says(rt: &impl Abort, alloc: Global, number: &str, line: &str) -> Result<(), 
 
 #[test]
 fn says_the_counts_of_the_loads(rt: HostRuntime) -> Result<(), Fail> {
-    for (number, line) in [("0", LINE_OF_0), ("1", LINE_OF_1), ("7", LINE_OF_7)] {
+    for (number, line) in [
+        ("0", LINE_OF_0),
+        ("1", LINE_OF_1),
+        ("7", LINE_OF_7),
+        ("126", LINE_OF_126),
+    ] {
         says(&rt, rt.alloc(), number, line)?;
     }
     Ok(())

@@ -5,11 +5,13 @@ use Rattle.std.specs.List.{filter, list_all}
 use Rattle.ctrl_model.specs.declared.kinds.Kind.{Kind}
 use Rattle.ctrl_model.specs.declared.kinds.Kind.TheVariants as kind
 use Rattle.ctrl_model.specs.Membership.{Among}
-use Rattle.ctrl_model.specs.Numbered.{Table, with_kept}
+use Rattle.ctrl_model.specs.Networks.{network_of}
+use Rattle.ctrl_model.specs.Numbered.{Table, map_each, numbers, with_each, with_kept}
 use Rattle.ctrl_model.specs.State.{State, Link, Terminator}
 use Rattle.ctrl_model.specs.Tables.{Record, table}
-use Rattle.ctrl_model.specs.Settling.{settle, settle_links, settle_terminators, link_stays, terminator_stays, stays_in}
+use Rattle.ctrl_model.specs.Settling.{settle, settle_links, settle_terminators, link_stays, terminator_stays, stays_in, rerouted}
 use Rattle.ctrl_model.proofs.Members.{list_all-from_among, list_all-among, by_filter}
+use Rattle.model_laws.proofs.SettleLaws.{rerouted-stays}
 use Rattle.state_building.proofs.GrownStates.{Grown, link_still, terminator_still, circuit_still}
 
 -- whether a record of a kind stays in a state
@@ -38,8 +40,8 @@ all_still s u grown k rows e = list_all-from_among (stays k u) rows (λ row m. s
 
 -- ---- what a filter keeps whole
 
-all_pass : {X : Type 0} (p : X → Bool) (xs : List X) → filter p xs ≡ xs → list_all p xs ≡ true
-all_pass p xs e = list_all-from_among p xs (λ x m. by_filter p xs x (subst (λ ys. Among x ys) (sym e) m) (λ _ q. q))
+all_pass : {X : Type 0} (p : X → Bool) (xs ys : List X) → filter p xs ≡ ys → list_all p ys ≡ true
+all_pass p xs ys e = list_all-from_among p ys (λ x m. by_filter p xs x (subst (λ zs. Among x zs) (sym e) m) (λ _ q. q))
 
 all_kept : {X : Type 0} (p : X → Bool) (xs : List X) → list_all p xs ≡ true → filter p xs ≡ xs
 all_kept p [] e = refl
@@ -50,26 +52,39 @@ all_kept p (x ∷ xs) e =
 with_kept-all : {R : Type 0} (p : ℕ × R → Bool) (t : Table R) → list_all p t.rows ≡ true → with_kept p t ≡ t
 with_kept-all p t e = ap (λ rows. record t { rows = rows }) (all_kept p t.rows e)
 
+-- a change that leaves what passes a test leaves a table that passes it
+with_each-still : {R : Type 0} (p : ℕ × R → Bool) (f : R → R) → ((x : ℕ × R) → p x ≡ true → f x.1 ≡ x.1) → (t : Table R) → list_all p t.rows ≡ true → with_each f t ≡ t
+with_each-still {R} p f same t e = ap (λ rows. record t { rows = rows }) (each t.rows e)
+  where
+    each : (xs : List (ℕ × R)) → list_all p xs ≡ true → map_each f xs ≡ xs
+    each [] e = refl
+    each (x ∷ xs) e =
+        let both = and_parts (p x) (list_all p xs) e in
+        ap (λ r. (x.0, r) ∷ map_each f xs) (same x both.0) ∙ ap (λ ys. x ∷ ys) (each xs both.1)
+
 -- ---- settled states
 
 pub IsStanding-settled : (s : State) → settle s ≡ s → IsStanding s
-IsStanding-settled s e kind.Link = all_pass (link_stays s) s.links.rows (ap (λ (t : State). t.links.rows) e)
-IsStanding-settled s e kind.Terminator = all_pass (terminator_stays s) s.terminators.rows (ap (λ (t : State). t.terminators.rows) e)
+IsStanding-settled s e kind.Link = all_pass (link_stays s) s.links.rows s.links.rows (ap (λ (t : State). t.links.rows) e)
+IsStanding-settled s e kind.Terminator = all_pass (terminator_stays s) s.terminators.rows s.terminators.rows (ap (λ (t : State). t.terminators.rows) e)
 IsStanding-settled s e kind.Circuit =
     let before : s ≡ settle_terminators (settle_links s) = ap (λ (t : State). record t { circuits = s.circuits }) (sym e) in
-    all_pass (stays_in s) s.circuits.rows (ap (λ t. filter (stays_in t) s.circuits.rows) before ∙ ap (λ (t : State). t.circuits.rows) e)
+    let judged = map_each (rerouted (network_of (settle_terminators (settle_links s)))) s.circuits.rows in
+    all_pass (stays_in s) judged s.circuits.rows (ap (λ t. filter (stays_in t) judged) before ∙ ap (λ (t : State). t.circuits.rows) e)
 IsStanding-settled s e k = list_all-from_among _ (table k s).rows (λ row m. refl)
 
--- the state with these links and terminators, and those of its circuits that they keep
+-- the state with these links and terminators, and those of its circuits that they keep, rerouted where that is needed
 abbrev with_ends : State → Table Link → Table Terminator → State
 with_ends s links terminators = record s {
   links = links;
   terminators = terminators;
-  circuits = with_kept (stays_in (record s { links = links; terminators = terminators })) s.circuits;
+  circuits = with_kept (stays_in (record s { links = links; terminators = terminators })) (with_each (rerouted (network_of (record s { links = links; terminators = terminators }))) s.circuits);
 }
 
 pub settled-standing : (s : State) → IsStanding s → settle s ≡ s
 settled-standing s stand =
     ap (λ links. with_ends s links (with_kept (terminator_stays s) s.terminators)) (with_kept-all (link_stays s) s.links (stand kind.Link))
     ∙ ap (λ terminators. with_ends s s.links terminators) (with_kept-all (terminator_stays s) s.terminators (stand kind.Terminator))
+    ∙ ap (λ circuits. record s { circuits = with_kept (stays_in s) circuits }) (with_each-still (stays_in s) (rerouted (network_of s))
+    (rerouted-stays (network_of s) (numbers s.identities.rows) (numbers s.services.rows)) s.circuits (stand kind.Circuit))
     ∙ ap (λ circuits. record s { circuits = circuits }) (with_kept-all (stays_in s) s.circuits (stand kind.Circuit))

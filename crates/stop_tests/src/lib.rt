@@ -16,6 +16,8 @@ mod frames;
 #[cfg(test)]
 mod hostile;
 #[cfg(test)]
+mod rerouting;
+#[cfg(test)]
 mod stops;
 #[cfg(test)]
 mod wide_changes;

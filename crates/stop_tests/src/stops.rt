@@ -15,7 +15,7 @@ use ziti_desk::MemDesk;
 type Trial = (&'static [Row], &'static [u8]);
 
 /// The choices of a stop: of what is pending it keeps nothing, all, or a part.
-const CHOICES: [u64; 3] = [0, 1, 2];
+pub(crate) const CHOICES: [u64; 3] = [0, 1, 2];
 
 const ANN_ALONE: Trial = (&[ANN_MADE], ANN_SLOT);
 

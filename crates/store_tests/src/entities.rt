@@ -3,7 +3,7 @@ ghost use Rattle.entity_store.specs.EntityTables.{is_entity_kind};
 
 use crate::making::{add, names};
 use ctrl_model::{Kind, Name, Names, RouterNo, RouterSeen};
-use entity_store::{Entities, EntityFault};
+use entity_store::{Entities, EntitiesAfter, EntityChange, EntityFault};
 use std::alloc::Global;
 use std::process::Abort;
 use std::test::Fail;
@@ -167,11 +167,103 @@ fn marks(rt: &impl Abort, alloc: Global, store: &mut Entities) -> Result<(), Fai
     Ok(())
 }
 
+// The routers will be these after a change.
+fn will_be(
+    rt: &impl Abort,
+    alloc: Global,
+    store: &Entities,
+    change: &EntityChange,
+    wanted: &[RouterSeen],
+) -> Result<(), Fail> {
+    let routers = EntitiesAfter::new(store, Some(change)).routers(alloc)?;
+    assert_eq!(rt; routers.as_slice(), wanted);
+    Ok(())
+}
+
+// The numbers of a kind will be these after a change.
+fn will_have(
+    rt: &impl Abort,
+    alloc: Global,
+    store: &Entities,
+    change: &EntityChange,
+    kind: Kind,
+    wanted: &[u32],
+) -> Result<(), Fail>
+    requires { is_entity_kind kind ≡ true }
+{
+    let numbers = EntitiesAfter::new(store, Some(change)).numbers(alloc, kind)?;
+    assert_eq!(rt; numbers.as_slice(), wanted);
+    Ok(())
+}
+
+fn mark(number: u32) -> EntityChange {
+    EntityChange::Mark {
+        number,
+        cost: MARKED.cost,
+        through: MARKED.through,
+        connected: MARKED.connected,
+    }
+}
+
+// The router 3 is marked as 2 is, and one that is gone is not.
+fn marks_after(rt: &impl Abort, alloc: Global, store: &Entities) -> Result<(), Fail> {
+    let like = RouterSeen {
+        no: MADE.no,
+        ..MARKED
+    };
+    will_be(rt, alloc, store, &mark(3), &[MARKED, like])?;
+    will_be(rt, alloc, store, &mark(1), &[MARKED, MADE])
+}
+
+// One more router has the next number.
+fn adds_after(rt: &impl Abort, alloc: Global, store: &Entities) -> Result<(), Fail> {
+    let more = RouterSeen {
+        no: RouterNo(9),
+        connected: false,
+        ..MARKED
+    };
+    let change = EntityChange::AddRouter {
+        name: Name::of(alloc, b"carl")?,
+        attributes: Names::of(Vec::new(alloc)),
+        cost: MARKED.cost,
+        through: MARKED.through,
+    };
+    will_be(rt, alloc, store, &change, &[MARKED, MADE, more])?;
+    will_have(rt, alloc, store, &change, Kind::Router, &[2, 3, 9])
+}
+
+// The second of a kind goes.
+fn removal(alloc: Global, kind: Kind) -> Result<EntityChange, Fail> {
+    Ok(EntityChange::Remove {
+        kind,
+        number: 2,
+        name: Name::of(alloc, b"bob")?,
+    })
+}
+
+// A router goes, and no other kind has fewer.
+fn removes_router(rt: &impl Abort, alloc: Global, store: &Entities) -> Result<(), Fail> {
+    let change = removal(alloc, Kind::Router)?;
+    will_be(rt, alloc, store, &change, &[MADE])?;
+    will_have(rt, alloc, store, &change, Kind::Identity, &[2, 3])
+}
+
+// An identity goes, and the routers stay.
+fn removes_identity(rt: &impl Abort, alloc: Global, store: &Entities) -> Result<(), Fail> {
+    let change = removal(alloc, Kind::Identity)?;
+    will_have(rt, alloc, store, &change, Kind::Identity, &[3])?;
+    will_be(rt, alloc, store, &change, &[MARKED, MADE])
+}
+
 fn keeps_kinds(rt: &impl Abort, alloc: Global, store: &mut Entities) -> Result<(), Fail> {
     keeps(rt, alloc, store, Kind::Identity)?;
     keeps(rt, alloc, store, Kind::Service)?;
     keeps(rt, alloc, store, Kind::Router)?;
-    marks(rt, alloc, store)
+    marks(rt, alloc, store)?;
+    marks_after(rt, alloc, store)?;
+    adds_after(rt, alloc, store)?;
+    removes_router(rt, alloc, store)?;
+    removes_identity(rt, alloc, store)
 }
 
 #[test]

@@ -1,13 +1,11 @@
-//! Tests of the stores: entities, policies, counted pairs, terminators and circuits, what is shown of them, and commands on links and
-//! terminators, planned and applied.
+//! Tests of the stores: entities, policies, counted pairs and terminators, what is shown of them, and commands on links and terminators,
+//! planned and applied.
 #![tactic(auto)]
 
 #[cfg(test)]
 mod counted_pairs;
 #[cfg(test)]
 mod entities;
-#[cfg(test)]
-mod granted_circuits;
 #[cfg(test)]
 mod linking;
 #[cfg(test)]

@@ -108,7 +108,12 @@ impl Talk {
     }
 }
 
-/// The body that names an entity and 64 attributes from a number on.
+/// How many identities have all attributes that may be in use, and how many attributes each of them has.
+const IDENTITIES: u32 = 64;
+
+const EACH: u32 = 64;
+
+/// The body that names an entity and its attributes, by their numbers from a first to before a last one.
 fn with_attributes(alloc: Global, name: u32, first: u32, last: u32) -> Result<String, AllocError> {
     let mut body = format!(in alloc; "{{\"name\":\"u{name}\",\"attributes\":[\"a{first}\"")?;
     for number in first.wrapping_add(1)..last {
@@ -122,14 +127,18 @@ fn with_attributes(alloc: Global, name: u32, first: u32, last: u32) -> Result<St
 fn gives_an_attribute_up_for_another(rt: HostRuntime) -> Result<(), Fail> {
     let alloc = rt.alloc();
     let mut talk = Talk::new(alloc);
-    for number in 1..17_u32 {
-        let first = number.wrapping_mul(64);
-        let body = with_attributes(alloc, number, first, first.wrapping_add(64))?;
-        talk.put_made(1000, &body, number)?;
+    for number in 0..IDENTITIES {
+        let first = number.wrapping_mul(EACH);
+        let body = with_attributes(alloc, number, first, first.wrapping_add(EACH))?;
+        talk.put_made(1000, &body, number.wrapping_add(1))?;
     }
     talk.put(1000, r#"{"name":"v","attributes":["z"]}"#, FULL)?;
-    talk.put(1001, &with_attributes(alloc, 1, 65, 128)?, "{}")?;
-    talk.put_made(1000, r#"{"name":"v","attributes":["z"]}"#, 17)?;
+    talk.put(1001, &with_attributes(alloc, 0, 1, EACH)?, "{}")?;
+    talk.put_made(
+        1000,
+        r#"{"name":"v","attributes":["z"]}"#,
+        IDENTITIES.wrapping_add(1),
+    )?;
     talk.check(&rt)
 }
 

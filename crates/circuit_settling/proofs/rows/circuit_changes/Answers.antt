@@ -1,14 +1,14 @@
-use Rattle.std.proofs.Common.{◌∙◌, ap, lit≤}
+use Rattle.std.proofs.Common.{◌∙◌, ap}
 use Rattle.std.specs.Option.{option_map}
 use Rattle.ctrl_model.specs.declared.kinds.Kind.TheVariants as kind
-use Rattle.record_tables.specs.AfterChange.{changed_by, touched_numbers}
+use Rattle.record_tables.specs.AfterChange.{touched_numbers}
 use Rattle.record_tables.specs.Turns.{turned_number}
-use Rattle.row_laws.proofs.TouchedKeys.{Covers-turned}
 use Rattle.row_spelling.proofs.CoverLaws.{Covers-made}
 use Rattle.circuits.specs.ChangedCircuits.{turn_of}
-use Rattle.circuits.specs.CircuitChanges.{after_circuit_change, circuits_after}
+use Rattle.circuits.specs.CircuitChanges.{circuits_after}
 use Rattle.circuits.specs.CircuitTables.{CircuitTables}
-use Rattle.circuits.proofs.ChangeLaws.{circuits_turned}
+use Rattle.circuits.specs.MovedCircuits.{with_moves}
+use Rattle.circuit_settling.proofs.MovedRows.{Covers-moved}
 use Rattle.circuit_settling.proofs.rows.circuit_changes.Goals as goal
 
 pub returns : goal.returns
@@ -16,7 +16,10 @@ returns c = λ s t before after.
     let now = c.args.circuits.now in
     let change = option_map (λ d. d.now) c.args.change in
     let gone = c.args.gone.now in
-    Covers-made kind.Circuit 11 12 s t now.circuits (circuits_after change gone now).circuits c.new-after.result.circuits (touched_numbers c.changed_number-changed.result gone) c.in_ok-changes.changes
+    let touched = c.args.touched.now in
+    let moves = c.args.moves.now in
+    let changed = c.changed_number-changed.result in
+    Covers-made kind.Circuit 11 12 s t now.circuits (with_moves moves (circuits_after change gone now)).circuits c.new-after.result.circuits (touched_numbers changed touched) c.in_ok-changes.changes
     c.in_ok-changes.ensures.changes (ap (λ (u : CircuitTables). u.circuits) c.new-after.ensures) before after
-    (Covers-turned kind.Circuit s t (λ r. r) (turn_of change) gone now.circuits (changed_by after_circuit_change change now).circuits c.changed_number-changed.result (lit≤ tt) c.requires.climb c.in_ok-changes.ensures.long
-    (c.changed_number-changed.ensures ∙ ap (turned_number (turn_of change)) c.next.ensures.next) (circuits_turned change now) before after)
+    (Covers-moved change gone touched moves now changed (c.changed_number-changed.ensures ∙ ap (turned_number (turn_of change)) c.next.ensures.next) c.requires.gone c.requires.moved
+    s t c.requires.climb c.in_ok-changes.ensures.long before after)

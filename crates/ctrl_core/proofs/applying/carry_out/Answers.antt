@@ -18,11 +18,11 @@ pub returns : goal.returns
 returns c =
     let s = state_of c.args.stores.now in
     subst (λ (o : Option Change). Carries c.args.stores.now c.take_out.new.stores (led_by after_change o s)) (sym c.in-Some.is)
-    (carries_then c.in-Some.change c.args.stores.now c.apply_change.new.stores c.take_out.new.stores c.args.settled.now
+    (carries_then c.in-Some.change c.args.stores.now c.apply_change.new.stores c.take_out.new.stores c.args.settled
     (record {
       before = c.requires.before;
       held = c.requires.held;
       can = subst (λ (o : Option Change). CanLeadBy CanChange o s) c.in-Some.is c.requires.can;
       valid = subst (λ (o : Option Change). ValidState (led_by after_change o s)) c.in-Some.is c.requires.valid;
     })
-    (subst (λ (o : Option Change). NamesSettled o s c.args.settled.now) c.in-Some.is c.requires.settled) c.in_ok-apply_change.ensures c.take_out.ensures)
+    (subst (λ (o : Option Change). NamesSettled o s c.args.settled) c.in-Some.is c.requires.settled) c.in_ok-apply_change.ensures c.take_out.ensures)

@@ -16,7 +16,7 @@ returns-in_default c =
       reply_is = made.reply_is;
       change_is = made.change_is ∙ sym c.in_default.is;
       steps_are = made.steps_are;
-      settled = subst (λ (o : Option Change). NamesSettled o s c.still.result.settled) (sym c.in_default.is) (made.links_stay, made.terminators_stay, made.circuits_stay);
+      settled = subst (λ (o : Option Change). NamesSettled o s c.still.result.settled) (sym c.in_default.is) made.none_settles;
       batch_is = made.empty ∙ sym (ap (λ (o : Option Change). batch_between s (led_by after_change o s)) c.in_default.is ∙ batch_between-same s c.requires.kept.valid);
     }
 

@@ -1,6 +1,6 @@
 use Rattle.std.proofs.Common.{◌≡◌, ◌++◌, true}
 use Rattle.ctrl_model.specs.ValidState.{each_passes}
-use Rattle.fabric_graph.specs.KeptLinks.{is_fit}
+use Rattle.fabric_graph.specs.FabricRules.{is_fit}
 use Rattle.fabric_graph.specs.Steps.{all_steps}
 use Rattle.fabric_graph.proofs.steps.all_steps.Given as goal
 

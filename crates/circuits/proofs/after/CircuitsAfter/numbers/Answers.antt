@@ -1,4 +1,4 @@
-use Rattle.std.proofs.Common.{◌≡◌, IfOk, ◌∙◌, ap, ap₂, subst, rules}
+use Rattle.std.proofs.Common.{◌≡◌, IfOk, ◌∙◌, ap, ap₂, sym, subst, rules}
 use Rattle.std.specs.Option.{option_map}
 use Rattle.ctrl_model.specs.Numbered.{Table, numbers, Between}
 use Rattle.ctrl_model.specs.State.{Circuit}
@@ -6,8 +6,11 @@ use Rattle.record_tables.specs.AfterChange.{without_numbers}
 use Rattle.record_tables.specs.Turns.{turned, turned_table, left_of}
 use Rattle.record_tables.proofs.TurnLaws.{numbers-left, numbers-turned, ordered-left, ordered-turned}
 use Rattle.circuits.specs.ChangedCircuits.{turn_of}
+use Rattle.circuits.specs.CircuitChanges.{circuits_after}
 use Rattle.circuits.specs.CircuitTables.{CircuitTables}
+use Rattle.circuits.specs.MovedCircuits.{moved_table}
 use Rattle.circuits.proofs.ChangeLaws.{circuits_turned}
+use Rattle.circuits.proofs.MoveLaws.{numbers-moved, ordered-moved}
 use Rattle.circuits.proofs.after.CircuitsAfter.numbers.Goals as goal
 
 pub returns-clause-all : goal.returns-clause-all
@@ -21,6 +24,7 @@ returns-clause-all c =
     subst (λ ms. IfOk c.left_of.result (λ ns. ns ≡ ms))
     (ap (left_of i.gone.now) (changed ∙ numbers-turned (λ r. r) (turn_of change) table) ∙ numbers-left i.gone.now (turned_table (λ r. r) (turn_of change) table)
     ∙ ap (λ (t : Table Circuit). numbers (without_numbers i.gone.now t).rows) (circuits_turned change i.circuits.now)
+    ∙ sym (numbers-moved i.moves.now (circuits_after change i.gone.now i.circuits.now).circuits)
     ∙ ap (λ (f : CircuitTables). numbers f.circuits.rows) c.self.view_is)
     c.left_of.ensures
 
@@ -32,6 +36,6 @@ returns-clause-ordered c =
     let keeps = c.in_ok-numbers.ensures.keeps in
     let here : Between 1 c.args.self.now.circuits.next c.args.self.now.circuits.rows =
     subst (λ (f : CircuitTables). Between 1 f.circuits.next f.circuits.rows) c.self.view_is
-    (subst (λ (t : Table Circuit). Between 1 t.next (without_numbers i.gone.now t).rows) (circuits_turned change i.circuits.now)
-    (ordered-left i.gone.now g 1 g.next (ordered-turned (λ r. r) (turn_of change) i.circuits.now.circuits keeps.first keeps.ordered))) in
+    (subst (λ (t : Table Circuit). Between 1 t.next (moved_table i.moves.now (without_numbers i.gone.now t)).rows) (circuits_turned change i.circuits.now)
+    (ordered-moved i.moves.now (without_numbers i.gone.now g) g.next (ordered-left i.gone.now g 1 g.next (ordered-turned (λ r. r) (turn_of change) i.circuits.now.circuits keeps.first keeps.ordered)))) in
     search (rules, here)
