@@ -1,0 +1,421 @@
+"""Random inputs for the independent model: small networks that change, and the requests that see it (docs/TRIALS.md)."""
+
+import json
+import struct
+
+import frames
+import model_bodies as bodies
+import model_commands as commands
+import model_rules as rules
+import model_spellings as spellings
+
+ATTRIBUTES = ["a", "b", "c", "d", "all", "ALL"]
+INSTANCES = ["", "", "", "x"]
+# How often each command is drawn, beside those that build the network up and those that look at what changed.
+WEIGHTS = {
+    "CreateIdentity": 2, "UpdateIdentity": 3, "DeleteIdentity": 1, "CreateService": 2, "UpdateService": 3, "DeleteService": 1,
+    "CreateRouter": 6, "UpdateRouter": 10, "DeleteRouter": 3, "ConnectRouter": 16, "DisconnectRouter": 8,
+    "CreateServicePolicy": 3, "UpdateServicePolicy": 3, "DeleteServicePolicy": 1,
+    "CreateEdgeRouterPolicy": 3, "UpdateEdgeRouterPolicy": 2, "DeleteEdgeRouterPolicy": 1,
+    "CreateServiceEdgeRouterPolicy": 3, "UpdateServiceEdgeRouterPolicy": 2, "DeleteServiceEdgeRouterPolicy": 1,
+    "CreateLink": 16, "SetLinkCost": 6, "ReportLatency": 6, "ReportState": 26, "DeleteLink": 6, "SetLeastRouterCost": 2,
+    "CreateTerminator": 8, "UpdateTerminator": 4, "DeleteTerminator": 2,
+    "CreateCircuit": 40, "DeleteCircuit": 3, "Explain": 10, "VerifyRoute": 16,
+    "ShowGrants": 4, "ListServices": 3, "ShowCounts": 4, "ShowCircuit": 4, "Hello": 1, "Compact": 1,
+}
+# Those that are drawn less where circuits are to stand for long.
+CALM = {command for command in WEIGHTS if "Policy" in command}
+CALM |= {"DeleteIdentity", "DeleteService", "CreateTerminator", "DeleteTerminator", "UpdateIdentity", "UpdateService"}
+
+
+class Scene:
+    """A network in the making: the model's state, and the requests and replies so far.
+
+    In most scenes circuits stand for long, and links and routers fail; in some all changes, and in some half of the bodies are spoiled.
+    """
+
+    def __init__(self, rand):
+        self.rand, self.state = rand, rules.State()
+        self.requests, self.replies, self.tally, self.moved = [], [], {}, {}
+        kind = rand.choices(["settling", "changing", "spoiled"], [7, 2, 1])[0]
+        self.settles, self.spoils, self.absent = kind == "settling", 0.5 if kind == "spoiled" else 0.04, 0.06 if kind == "settling" else 0.15
+        routers = rand.randint(3, 8) if self.settles else rand.randint(2, 8)
+        self.pools = {
+            "router": [f"r{i + 1}" for i in range(routers)], "link": [f"l{i + 1}" for i in range(rand.randint(routers if self.settles else 1, 14))],
+            "identity": ["i1", "i2", "i3", "i4"], "service": ["s1", "s2", "s3"],
+            "service_policy": ["p1", "p2", "p3", "p4"], "edge_router_policy": ["p1", "p2", "p3"], "service_edge_router_policy": ["p1", "p2", "p3"],
+        }
+        self.most_cost, self.router_costs = rand.choice([1, 2, 3, 6, 40]), rand.choice([[0], [0], [0, 0, 0, 5, 12, 30]])
+        self.weights = [weight * rand.choice([0.3, 1, 1, 3]) * (0.1 if self.settles and command in CALM else 1) for command, weight in WEIGHTS.items()]
+        if kind == "spoiled":
+            self.weights = [1] * len(WEIGHTS)
+        self.claims = []
+
+    def send(self, content, body):
+        """Sends a body: the model answers it, and both are kept."""
+        rand = self.rand
+        sequence = rand.getrandbits(32) if rand.random() < 0.03 else len(self.requests)
+        data = frames.frame(content, body, sequence)
+        if rand.random() < 0.03:
+            headers = b"".join(struct.pack("<II", rand.choice([1, 2, 7]), size) + spellings.some_bytes(rand, size) for size in (0, rand.randrange(9)))
+            data = data[:12] + struct.pack("<II", len(headers), len(body)) + headers + body
+        before = len(self.state.tables["circuit"])
+        done, succeeds, text = commands.answer(self.state, content, body)
+        self.replies.append(bodies.reply_frame(sequence, len(self.requests), succeeds, text))
+        self.requests.append(data)
+        self.tally[done] = self.tally.get(done, 0) + 1
+        self.note_moves(done[0], before)
+
+    def note_moves(self, command, before):
+        """Counts what became of the circuits that were there before a command."""
+        if command in commands.SETTLING:
+            rerouted, ended = self.state.rerouted, self.state.ended
+            found = self.moved.setdefault(command, [0, 0, 0, 0])
+            for i, more in enumerate((len(rerouted), sum(ties > 1 for ties in rerouted.values()), len(ended), before - len(rerouted) - len(ended))):
+                found[i] += more
+
+    def say(self, command, **fields):
+        self.send(bodies.CONTENTS[command], spellings.compact(fields))
+
+    # Draws.
+
+    def some(self, kind):
+        """A name of a kind: most often of a record that is there."""
+        rand, table = self.rand, self.state.tables[kind]
+        if table and rand.random() > self.absent:
+            return rand.choice(list(table.values()))["name"]
+        return rand.choice(self.pools[kind] + ["zz"])
+
+    def new(self, kind):
+        """A name for a new record of a kind: most often one that is free."""
+        free = [name for name in self.pools[kind] if self.state.find(kind, name) is None]
+        return self.rand.choice(free if free and self.rand.random() < 0.9 else self.pools[kind])
+
+    def number(self, kind):
+        """A number of a kind, most often of a record that is there."""
+        table = self.state.tables[kind]
+        if table and self.rand.random() < 0.9:
+            return self.rand.choice(list(table))
+        return self.rand.randint(1, self.state.next[kind])
+
+    def used_link(self):
+        """A link of some circuit."""
+        links = [number for circuit in self.state.tables["circuit"].values() for number in circuit["links"]]
+        return self.state.tables["link"][self.rand.choice(links)]["name"] if links else self.some("link")
+
+    def passed_router(self):
+        """A router that some circuit passes, and by times one by which it enters or at which it ends."""
+        found, tables = [], self.state.tables
+        for circuit in tables["circuit"].values():
+            ends = {circuit["ingress"], tables["terminator"][circuit["terminator"]]["router"]}
+            passed = {tables["link"][number][end] for number in circuit["links"] for end in "ab"}
+            found += sorted(passed - ends if self.rand.random() < 0.95 else ends)
+        return tables["router"][self.rand.choice(found)]["name"] if found else "zz" if self.settles else self.some("router")
+
+    def broken(self, kind, mark):
+        """A router that is not connected, or a link that is not up."""
+        found = [record["name"] for record in self.state.tables[kind].values() if not record[mark]]
+        return self.rand.choice(found) if found else self.some(kind)
+
+    def listed(self):
+        return [self.rand.choice(ATTRIBUTES) for _ in range(self.rand.randint(0, 3))]
+
+    def roles(self, kind):
+        """A role list: all, or attributes and names that are most often there."""
+        if self.rand.random() < 0.4:
+            return ["#all"]
+        return ["#" + self.rand.choice(ATTRIBUTES[:4] + ["ALL"]) if self.rand.random() < 0.6 else "@" + self.some(kind) for _ in range(self.rand.randint(0, 3))]
+
+    def cost(self):
+        return self.rand.randint(1, self.most_cost)
+
+    def router_cost(self):
+        return self.rand.choice(self.router_costs)
+
+    def request(self):
+        """A request: where circuits are to stand for long, most often one from afar for what is offered."""
+        rand, tables = self.rand, self.state.tables
+        if self.settles and tables["terminator"] and tables["identity"] and rand.random() < 0.9:
+            return self.good_request(rand.choice(list(tables["terminator"].values())))
+        fields = {"identity": self.some("identity"), "service": self.some("service")}
+        if rand.random() < 0.4:
+            fields["ingress"] = self.some("router")
+        if rand.random() < 0.2:
+            fields["instance"] = rand.choice(INSTANCES)
+        return fields
+
+    def good_request(self, terminator):
+        rand, tables = self.rand, self.state.tables
+        identity, service = rand.choice(list(tables["identity"].values())), tables["service"][terminator["service"]]
+        fields = {"identity": identity["name"], "service": service["name"], "instance": terminator["instance"]}
+        afar = [record["name"] for number, record in tables["router"].items() if record["connected"] and number != terminator["router"]]
+        if afar and rand.random() < 0.85:
+            fields["ingress"] = rand.choice(afar)
+        return fields
+
+
+# The fields of a drawn command.
+
+
+def entity_fields(scene, command, kind):
+    fields = {"name": (scene.new if command.startswith("Create") else scene.some)(kind)}
+    if command == "DeleteRouter" and scene.settles:
+        fields["name"] = scene.passed_router()
+    if command.startswith("Delete"):
+        return fields
+    fields["attributes"] = scene.listed()
+    if kind == "router":
+        fields.update(cost=scene.router_cost(), no_traversal=scene.rand.random() < 0.3)
+        if command == "UpdateRouter" and scene.rand.random() < 0.4:
+            fields.update(name=scene.passed_router(), no_traversal=True)
+    return fields
+
+
+def policy_fields(scene, command, kind):
+    fields = {"name": (scene.new if command.startswith("Create") else scene.some)(kind)}
+    if command.startswith("Delete"):
+        return fields
+    fields["semantic"] = scene.rand.choice(["AnyOf", "AllOf"])
+    if kind == "service_policy":
+        fields["type"] = scene.rand.choice(["Dial", "Dial", "Bind"])
+    for side in rules.SIDES[kind]:
+        fields[side + "_roles"] = scene.roles(side)
+    return fields
+
+
+def link_fields(scene, command):
+    rand = scene.rand
+    if command == "CreateLink":
+        fields = {"name": scene.new("link"), "a": scene.some("router"), "b": scene.some("router"), "cost": scene.cost()}
+        if fields["a"] == fields["b"]:
+            fields["b"] = scene.some("router")
+        if rand.random() < 0.2:
+            fields.update(latency_a=rand.randint(0, 3), latency_b=rand.randint(0, 3))
+        return fields
+    fields = {"link": scene.some("link")}
+    if command == "SetLinkCost":
+        fields["cost"] = scene.cost()
+    elif command == "DeleteLink":
+        fields["link"] = scene.used_link() if rand.random() < 0.6 else scene.some("link")
+    elif command == "ReportState":
+        return state_fields(scene)
+    else:
+        fields.update(router=reporter(scene, fields["link"]), latency=rand.choice([0, 0, 1, 2, 60_000]))
+    return fields
+
+
+def reporter(scene, link):
+    """The name of a router that reports of a link: most often of one of its ends."""
+    number, rand = scene.state.find("link", link), scene.rand
+    if number is None or rand.random() < 0.06:
+        return scene.some("router")
+    return scene.state.tables["router"][scene.state.tables["link"][number][rand.choice("ab")]]["name"]
+
+
+def state_fields(scene):
+    """A report: most often that a link in use is down, or that one is up again."""
+    rand = scene.rand
+    up = rand.random() < 0.6
+    link = scene.some("link") if rand.random() < 0.3 else scene.broken("link", "up") if up else scene.used_link()
+    return {"link": link, "router": reporter(scene, link), "up": up}
+
+
+def terminator_fields(scene, command):
+    rand = scene.rand
+    fields = {"cost": rand.choice([0, 0, 1, 2, 20]), "precedence": rand.choice(["default", "default", "required", "failed"])}
+    if command != "CreateTerminator":
+        return dict(fields if command == "UpdateTerminator" else {}, no=scene.number("terminator"))
+    fields.update(service=scene.some("service"), router=scene.some("router"), instance=rand.choice(INSTANCES))
+    if rand.random() < 0.4:
+        fields["host"] = scene.some("identity")
+    return fields
+
+
+def circuit_fields(scene, command):
+    if command in ("CreateCircuit", "Explain"):
+        return scene.request()
+    if command == "VerifyRoute":
+        return claim_fields(scene)
+    return {"no": scene.number("circuit")}
+
+
+def drawn_fields(scene, command):
+    """The fields of a command, drawn so that most of them are right."""
+    verbless = command.replace("Create", "").replace("Update", "").replace("Delete", "")
+    if verbless in commands.ENTITIES:
+        return entity_fields(scene, command, commands.ENTITIES[verbless])
+    if verbless in commands.POLICIES:
+        return policy_fields(scene, command, commands.POLICIES[verbless])
+    if command in ("ConnectRouter", "DisconnectRouter"):
+        if scene.rand.random() < (0.1 if scene.settles else 0.3):
+            return {"name": scene.some("router")}
+        return {"name": scene.broken("router", "connected") if command == "ConnectRouter" else scene.passed_router()}
+    if command == "SetLeastRouterCost":
+        return {"cost": scene.rand.choice([1, 2, 10, 20])}
+    if "Terminator" in command:
+        return terminator_fields(scene, command)
+    if "Circuit" in command or command in ("Explain", "VerifyRoute"):
+        return circuit_fields(scene, command)
+    if command in ("ShowGrants", "ListServices"):
+        return {"identity": scene.some("identity")}
+    return link_fields(scene, command) if "Link" in command or "Report" in command else {}
+
+
+# Claims.
+
+
+def claim_fields(scene):
+    """A claim: of any candidate of a request or an old one, and spoiled by times."""
+    rand, state = scene.rand, scene.state
+    if scene.claims and rand.random() < 0.2:
+        return rand.choice(scene.claims)
+    fields = scene.request()
+    request = rules.Request(state, dict({"ingress": None, "instance": ""}, **fields))
+    found = rules.candidates(state, request)
+    if not found:
+        claim = {"chosen": scene.some("router"), "links": [], "potentials": [], "routers": sorted(state.tables["router"])}
+        return dict(fields, terminator=scene.number("terminator"), total=0, **claim)
+    candidate = found[0] if rand.random() < 0.6 else rand.choice(found)
+    claim = json.loads(json.dumps(rules.explanation(state, request, candidate)))
+    claim["chosen"] = claim.pop("ingress")
+    for _ in range(rand.choice([0, 0, 1, 1, 2])):
+        spoil_claim(scene, claim)
+    scene.claims = scene.claims[-4:] + [dict(fields, **claim)]
+    return scene.claims[-1]
+
+
+def spoil_values(scene, claim, values):
+    """Changes the values of one entry: one of them, all of them, those without a path, or those of routers that are not connected."""
+    rand, low = scene.rand, scene.rand.choice([0, 1, 10, 20])
+    at = rand.randrange(len(values)) if values else 0
+    how = rand.randrange(7)
+    if how == 0:
+        values[at:at + 1] = [rand.choice([None, 0, low, 2**32 - 1])]
+    elif how == 1:
+        values[at:at + 1] = [value and max(0, value + rand.choice([-1, 1])) for value in values[at:at + 1]]
+    elif how == 2:
+        values[:] = [low if value is None else value for value in values]
+    elif how == 3:
+        values[:] = [value if value is None else min(low, value) for value in values]
+    elif how == 4:
+        values[:] = [value if value is None else value + low for value in values]
+        claim["total"] += low
+    elif how == 5:
+        routers = scene.state.tables["router"]
+        for i, number in enumerate(claim["routers"][:len(values)]):
+            if number in routers and not routers[number]["connected"]:
+                values[i] = rand.choice([None, 0, low])
+    else:
+        values[:] = rand.choice([values[:-1], values + [None], values + [None] * 250])
+
+
+def spoil_claim(scene, claim):
+    """Changes one part of a claim."""
+    rand, links = scene.rand, claim["links"]
+    entry = rand.choice(claim["potentials"] or [{"router": 1, "values": [0]}])
+    if rand.random() < 0.4:
+        spoil_values(scene, claim, entry.setdefault("values", []))
+        return
+    changes = {
+        "total": [max(0, claim["total"] + rand.choice([-1, 1]))],
+        "routers": [claim["routers"][::-1], claim["routers"][:-1], claim["routers"] + [99]],
+        "potentials": [claim["potentials"][::-1], claim["potentials"][:-1], claim["potentials"] + [entry]],
+        "links": [links[:-1], links + [scene.number("link")], links[::-1], [scene.number("link")] + links[1:], links + [1] * 255],
+        "chosen": [scene.some("router")], "terminator": [scene.number("terminator")], "entry": [None],
+    }
+    field = rand.choice(list(changes))
+    if field == "entry":
+        rand.choice([lambda: entry.update(router=scene.number("router")), lambda: entry.update(zz=1), lambda: entry.pop("values", None)])()
+    else:
+        claim[field] = rand.choice(changes[field])
+
+
+# Scenes.
+
+
+def build_up(scene):
+    """Makes a network in which most requests are granted."""
+    rand, pools = scene.rand, scene.pools
+    scene.say("SetLeastRouterCost", cost=rand.choice([1, 1, 10]))
+    for router in pools["router"]:
+        scene.say("CreateRouter", name=router, attributes=scene.listed(), cost=scene.router_cost(), no_traversal=rand.random() < 0.1)
+        if rand.random() < 0.95:
+            scene.say("ConnectRouter", name=router)
+    for _ in pools["link"]:
+        a, b = rand.sample(pools["router"], 2)
+        scene.say("CreateLink", name=scene.new("link"), a=a, b=b, cost=scene.cost())
+    for identity in pools["identity"][:2]:
+        scene.say("CreateIdentity", name=identity, attributes=scene.listed())
+    for service in pools["service"][:2]:
+        scene.say("CreateService", name=service, attributes=scene.listed())
+    broad = scene.settles or rand.random() < 0.5
+    for kind, noun in ((kind, noun) for noun, kind in commands.POLICIES.items()):
+        for policy in pools[kind][:2]:
+            if broad and policy == "p1" or kind == "service_policy" and rand.random() < 0.6:
+                scene.say("Create" + noun, **broad_policy(scene, kind, policy))
+            else:
+                scene.say("Create" + noun, **dict(policy_fields(scene, "Create" + noun, kind), name=policy))
+    for _ in range(rand.randint(1, 3)):
+        scene.say("CreateTerminator", **terminator_fields(scene, "CreateTerminator"))
+    for _ in range(rand.randint(1, 6)):
+        scene.say("CreateCircuit", **scene.request())
+
+
+def broad_policy(scene, kind, name):
+    """A policy that grants all: p1 lets dial, p2 lets bind. By times the routers are one identity's alone, so that a host may lack them."""
+    fields = dict({side + "_roles": ["#all"] for side in rules.SIDES[kind]}, name=name, semantic="AnyOf")
+    if kind == "service_policy":
+        fields["type"] = "Dial" if name == "p1" else "Bind"
+    if kind == "edge_router_policy" and scene.rand.random() < 0.15 and scene.state.find("identity", "i1"):
+        fields["identity_roles"] = ["@i1"]
+    return fields
+
+
+def lapse(scene):
+    """Takes the policies that grant all away, or brings one back."""
+    rand = scene.rand
+    kind, noun = rand.choice([(kind, noun) for noun, kind in commands.POLICIES.items()])
+    name = rand.choice(["p1", "p2"]) if kind == "service_policy" else "p1"
+    there = scene.state.find(kind, name)
+    if there is None:
+        scene.say("Create" + noun, **broad_policy(scene, kind, name))
+    elif rand.random() < 0.07:
+        scene.say("Delete" + noun, name=name)
+
+
+def look(scene):
+    """Shows the circuits that the last command moved, one that ended and one more, and by times the counts."""
+    state, rand = scene.state, scene.rand
+    rerouted, ended = list(state.rerouted), state.ended[:1]
+    others = [rand.choice(list(state.tables["circuit"]))] if state.tables["circuit"] and rand.random() < 0.2 else []
+    for number in rerouted + ended + others:
+        scene.say("ShowCircuit", no=number)
+    if rerouted or ended and rand.random() < 0.3:
+        scene.say("ShowCounts")
+
+
+def wanted(scene):
+    """The command that brings back what is wanting, where circuits are to stand for long."""
+    tables = scene.state.tables
+    if not all(record["connected"] for record in tables["router"].values()):
+        return "ConnectRouter"
+    wants = {"Identity": 2, "Service": 1, "Router": 3, "Terminator": 2, "Link": 6, "Circuit": 5}
+    return next(("Create" + noun for noun, least in wants.items() if len(tables[noun.lower()]) < min(least, len(scene.pools.get(noun.lower(), range(least))))), None)
+
+
+def play(rand, size):
+    """A scene of about so many commands."""
+    scene = Scene(rand)
+    build_up(scene)
+    names = list(WEIGHTS)
+    while len(scene.requests) < size:
+        command = rand.choices(names, scene.weights)[0]
+        if scene.settles and rand.random() < 0.05:
+            lapse(scene)
+        if scene.settles and rand.random() < 0.4:
+            command = wanted(scene) or command
+        body = spellings.spelled(rand, drawn_fields(scene, command), scene.spoils)
+        content = bodies.CONTENTS[command] if rand.random() < 0.995 else rand.choice([1, 2, 999, 1003, 1404, 1511, 2**32 - 1])
+        scene.send(content, body)
+        look(scene)
+    return scene
