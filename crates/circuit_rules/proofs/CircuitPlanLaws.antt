@@ -42,6 +42,7 @@ network_is p s g = λ i. record {
   links = p.fabric.now.links.rows;
   least = p.fabric.now.least;
   terminators = p.terminators.now.terminators.rows;
+  load = λ n. sym (g.load n) i;
   dial = λ a b. sym (g.dial a b) i;
   bind = λ a b. sym (g.bind a b) i;
   identity_router = λ a b. sym (g.identity_router a b) i;

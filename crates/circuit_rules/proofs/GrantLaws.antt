@@ -25,10 +25,10 @@ candidate_of w ask r k = ((best-is w ask k.chosen).0 k.is_best).is_candidate
 
 -- what its terminator offers
 pub offered : (w : Network) (ask : Ask) (r : Route) (k : Grants w ask r) → NoneTwice (numbers w.terminators)
-    → offer_at w.terminators r.terminator.0 ≡ Some (offer_of (candidate_of w ask r k).terminator)
+    → offer_at w r.terminator.0 ≡ Some (offer_of w (candidate_of w ask r k).terminator)
 offered w ask r k once =
-    ap (offer_at w.terminators) (ap (λ (q : Route). q.terminator.0) k.route ∙ sym (ap (λ (c : Candidate). c.terminator) (candidate_of w ask r k).told))
-    ∙ ap (λ o. option_map (λ e. offer_of ((candidate_of w ask r k).terminator.0, e)) o) (at-unique w.terminators once (candidate_of w ask r k).terminator (candidate_of w ask r k).ends.present)
+    ap (offer_at w) (ap (λ (q : Route). q.terminator.0) k.route ∙ sym (ap (λ (c : Candidate). c.terminator) (candidate_of w ask r k).told))
+    ∙ ap (λ o. option_map (λ e. offer_of w ((candidate_of w ask r k).terminator.0, e)) o) (at-unique w.terminators once (candidate_of w ask r k).terminator (candidate_of w ask r k).ends.present)
 
 -- the explanation of a candidate, with the entries of a place
 abbrev explained_at : Network → Ask → Candidate → ℕ → ℕ → Explanation
@@ -42,15 +42,15 @@ explained_at w ask c s place = record {
 }
 
 pub explained-is : (w : Network) (ask : Ask) (r : Route) (k : Grants w ask r) (s : ℕ) (o : Offer) → NoneTwice (numbers w.terminators) → ask.service ≡ Some s
-    → offer_at w.terminators r.terminator.0 ≡ Some o
-    → explained w (map offer_of (admissible w s ask.instance)) (place_of o.precedence) r ≡ explanation_of w ask (unwrap_or ask.service 0) k.chosen
+    → offer_at w r.terminator.0 ≡ Some o
+    → explained w (map (offer_of w) (admissible w s ask.instance)) (place_of o.precedence) r ≡ explanation_of w ask (unwrap_or ask.service 0) k.chosen
 explained-is w ask r k s o once what is =
-    ap (explained w (map offer_of (admissible w s ask.instance)) (place_of o.precedence)) k.route
+    ap (explained w (map (offer_of w) (admissible w s ask.instance)) (place_of o.precedence)) k.route
     ∙ ap (λ ns. record (explained_at w ask k.chosen s (place_of o.precedence)) { potentials = map (reach_of w) ns }) (carrying w ask s (place_of o.precedence))
     ∙ ap₂ (explained_at w ask k.chosen) (sym (ap (λ p. unwrap_or p 0) what)) place
   where
-    same : o ≡ offer_of (candidate_of w ask r k).terminator
-    same = same_Some o (offer_of (candidate_of w ask r k).terminator) (sym is ∙ offered w ask r k once)
+    same : o ≡ offer_of w (candidate_of w ask r k).terminator
+    same = same_Some o (offer_of w (candidate_of w ask r k).terminator) (sym is ∙ offered w ask r k once)
 
     place : place_of o.precedence ≡ k.chosen.precedence
     place = ap (λ (p : Offer). place_of p.precedence) same ∙ ap (λ (c : Candidate). c.precedence) (candidate_of w ask r k).told

@@ -23,17 +23,17 @@ admissible-present w s instance e m =
     by_filter (is_in_service w) (counted w s instance) e m (λ n _. by_filter (is_counted s instance) w.terminators e n (λ k _. k))
 
 -- what is looked up by the numbers of some terminators is what they offer
-looked_up : (terms es : List (ℕ × Terminator)) → ((e : ℕ × Terminator) → Among e es → at terms e.0 ≡ Some e.1) → filter_map (offer_at terms) (numbers es) ≡ map offer_of es
-looked_up terms [] there = refl
-looked_up terms (e ∷ es) there =
-    ap (λ o. cons_option (option_map (λ t. offer_of (e.0, t)) o) (filter_map (offer_at terms) (numbers es))) (there e (inl refl))
-    ∙ ap (λ os. offer_of e ∷ os) (looked_up terms es (λ d m. there d (inr m)))
+looked_up : (w : Network) (es : List (ℕ × Terminator)) → ((e : ℕ × Terminator) → Among e es → at w.terminators e.0 ≡ Some e.1) → filter_map (offer_at w) (numbers es) ≡ map (offer_of w) es
+looked_up w [] there = refl
+looked_up w (e ∷ es) there =
+    ap (λ o. cons_option (option_map (λ t. offer_of w (e.0, t)) o) (filter_map (offer_at w) (numbers es))) (there e (inl refl))
+    ∙ ap (λ os. offer_of w e ∷ os) (looked_up w es (λ d m. there d (inr m)))
 
 -- the offers of the admissible terminators, looked up by their numbers
 pub offers-admissible : (w : Network) (s next : ℕ) (instance : List ℕ) → Between 1 next w.terminators
-    → filter_map (offer_at w.terminators) (numbers (admissible w s instance)) ≡ map offer_of (admissible w s instance)
+    → filter_map (offer_at w) (numbers (admissible w s instance)) ≡ map (offer_of w) (admissible w s instance)
 offers-admissible w s next instance ordered =
-    looked_up w.terminators (admissible w s instance) (λ e m.
+    looked_up w (admissible w s instance) (λ e m.
     at-unique w.terminators (Between-none_twice 1 next w.terminators ordered) e (admissible-present w s instance e m))
 
 -- what a filter leaves is nothing exactly where nothing passes
@@ -61,19 +61,19 @@ nothing_counted w s instance once =
 
 -- ---- the rules on terminators
 
-offers-nothing : (es : List (ℕ × Terminator)) → [] ≡ map offer_of es → is_nothing es ≡ true
-offers-nothing [] e = refl
-offers-nothing (x ∷ es) e = absurd (cc)
+offers-nothing : (w : Network) (es : List (ℕ × Terminator)) → [] ≡ map (offer_of w) es → is_nothing es ≡ true
+offers-nothing w [] e = refl
+offers-nothing w (x ∷ es) e = absurd (cc)
 
-offers-something : (es : List (ℕ × Terminator)) → (map offer_of es ≡ [] → ⊥) → is_nothing es ≡ false
-offers-something [] k = absurd (k refl)
-offers-something (x ∷ es) k = refl
+offers-something : (w : Network) (es : List (ℕ × Terminator)) → (map (offer_of w) es ≡ [] → ⊥) → is_nothing es ≡ false
+offers-something w [] k = absurd (k refl)
+offers-something w (x ∷ es) k = refl
 
-pub offers-pass : (w : Network) (s : ℕ) (instance : List ℕ) (os : List Offer) → os ≡ map offer_of (admissible w s instance) → (os ≡ [] → ⊥) → first_denial (offer_rules w s instance) ≡ None
+pub offers-pass : (w : Network) (s : ℕ) (instance : List ℕ) (os : List Offer) → os ≡ map (offer_of w) (admissible w s instance) → (os ≡ [] → ⊥) → first_denial (offer_rules w s instance) ≡ None
 offers-pass w s instance os is there = both (is_nothing (counted w s instance)) (is_nothing (admissible w s instance)) some_counted some
   where
     some : is_nothing (admissible w s instance) ≡ false
-    some = offers-something (admissible w s instance) (λ e. there (is ∙ e))
+    some = offers-something w (admissible w s instance) (λ e. there (is ∙ e))
 
     some_counted : is_nothing (counted w s instance) ≡ false
     some_counted = by_something (admissible w s instance) some (λ e m. by_filter (is_in_service w) (counted w s instance) e m (λ n _. something (counted w s instance) e n))
@@ -81,10 +81,10 @@ offers-pass w s instance os is there = both (is_nothing (counted w s instance)) 
     both : (a b : Bool) → a ≡ false → b ≡ false → cond a (Some NoTerminators) (cond b (Some NoAdmissibleTerminator) None) ≡ None
     both a b p q = ap₂ (λ x y. cond x (Some NoTerminators) (cond y (Some NoAdmissibleTerminator) None)) p q
 
-pub none_admissible : (w : Network) (s : ℕ) (instance : List ℕ) (os : List Offer) (b : Bool) → os ≡ map offer_of (admissible w s instance) → os ≡ []
+pub none_admissible : (w : Network) (s : ℕ) (instance : List ℕ) (os : List Offer) (b : Bool) → os ≡ map (offer_of w) (admissible w s instance) → os ≡ []
     → is_nothing (counted w s instance) ≡ not b → first_denial (offer_rules w s instance) ≡ cond b (Some NoAdmissibleTerminator) (Some NoTerminators)
 none_admissible w s instance os b is none counted_is =
-    ap₂ (λ x y. cond x (Some NoTerminators) (cond y (Some NoAdmissibleTerminator) None)) counted_is (offers-nothing (admissible w s instance) (sym none ∙ is))
+    ap₂ (λ x y. cond x (Some NoTerminators) (cond y (Some NoAdmissibleTerminator) None)) counted_is (offers-nothing w (admissible w s instance) (sym none ∙ is))
     ∙ apart b
   where
     apart : (b : Bool) → cond (not b) (Some NoTerminators) (cond true (Some NoAdmissibleTerminator) None) ≡ cond b (Some NoAdmissibleTerminator) (Some NoTerminators)

@@ -1,8 +1,7 @@
 -- What a circuit names is present: of a circuit that stands its identity, its service and its ingress, and the ingress of the best
 -- candidate.
-use Rattle.std.proofs.Common.{◌≡◌, ℕ, ◌==◌, Bool, true, false, cond, ◌&&◌, ◌||◌, List, [], ◌∷◌, map, is_some, Option, None, Some, Ok, refl, sym, ◌∙◌, ap, subst}
+use Rattle.std.proofs.Common.{◌≡◌, ℕ, Bool, true, false, ◌&&◌, List, [], ◌∷◌, map, Option, None, Some, Ok, refl, sym, ◌∙◌, ap, subst}
 use Rattle.std.proofs.lemmas.Bool.{and_parts, false≢true}
-use Rattle.std.specs.List.{find}
 use Rattle.std.specs.Option.{option_map, option_map_or, ok_or}
 use Rattle.std.specs.Result.{result_ok}
 use Rattle.ctrl_model.specs.declared.kinds.Kind.TheVariants as kind
@@ -16,22 +15,14 @@ use Rattle.ctrl_model.specs.State.{State, Entity, Router, Terminator, Circuit, a
 use Rattle.ctrl_model.specs.ValidState.{ValidState}
 use Rattle.ctrl_model.specs.Walks.{is_among, goes}
 use Rattle.model_laws.proofs.CandidateLaws.{best-is}
+use Rattle.model_laws.proofs.ConnectedRouters.{on_present}
 use Rattle.ctrl_model.proofs.Members.{Among-map, by_map, is_among-from}
-use Rattle.ctrl_model.proofs.NumberedLaws.{at-map, at-filter-back, Between-map_each}
+use Rattle.ctrl_model.proofs.NumberedLaws.{among_present, at-map, at-filter-back, Between-map_each}
 use Rattle.entity_store.specs.EntityTables.{Tables}
 use Rattle.circuit_rules.specs.declared.circuit_parts.Parts.{Parts}
 use Rattle.circuit_rules.specs.PlannedCircuits.{name_at, router_at, network_in}
 
 -- ---- routers
-
--- a number is among those of some records exactly where one of them has it
-among_present : {R : Type 0} (rows : List (ℕ × R)) (n : ℕ) → is_among n (numbers rows) ≡ is_present rows n
-among_present [] n = refl
-among_present (x ∷ rows) n = by (x.0 == n) (among_present rows n)
-  where
-    by : (c : Bool) → is_among n (numbers rows) ≡ is_present rows n → (c || is_among n (numbers rows)) ≡ is_some (cond c (Some x.1) (at rows n))
-    by true h = refl
-    by false h = h
 
 -- a router that is seen is present
 seen_present : (rows : List (ℕ × Router)) (r : RouterSeen) → Among r (map seen rows) → is_present rows r.no.0 ≡ true
@@ -39,18 +30,6 @@ seen_present rows r m =
     by_map seen rows r m (λ y n e.
     subst (λ k. is_present rows k ≡ true) (ap (λ (q : RouterSeen). q.no.0) e)
     (sym (among_present rows y.0) ∙ is_among-from y.0 (numbers rows) (Among-map (λ (x : ℕ × Router). x.0) rows y n)))
-
--- a router that is connected is present
-on_present : (rows : List (ℕ × Router)) (n : ℕ) → option_map_or (λ (r : RouterSeen). r.connected) (find (λ (r : RouterSeen). r.no.0 == n) (map seen rows)) false ≡ true
-    → is_present rows n ≡ true
-on_present [] n e = absurd (false≢true e)
-on_present (x ∷ rows) n e = by (x.0 == n) e (on_present rows n)
-  where
-    by : (c : Bool) → option_map_or (λ (r : RouterSeen). r.connected) (cond c (Some (seen x)) (find (λ (r : RouterSeen). r.no.0 == n) (map seen rows))) false ≡ true
-        → (option_map_or (λ (r : RouterSeen). r.connected) (find (λ (r : RouterSeen). r.no.0 == n) (map seen rows)) false ≡ true → is_present rows n ≡ true)
-        → is_some (cond c (Some x.1) (at rows n)) ≡ true
-    by true h k = refl
-    by false h k = k h
 
 -- the name of a router is that of the router as an entity
 pub router_named_so : (n : ℕ) (t : Tables) → name_at kind.Router n t ≡ router_at n t
@@ -84,7 +63,7 @@ stands s n c valid e =
     let t : State = settle_terminators (settle_links s) in
     let reaches : Bool = option_map_or (circuit_reaches (network_of t) c) (at t.terminators.rows c.terminator) false in
     let passes = (at-filter-back (stays_in t) s.circuits.next (map_each (rerouted (network_of t)) s.circuits.rows) 1 n c
-    (Between-map_each (rerouted (network_of t)) s.circuits.next s.circuits.rows 1 (valid.kinds kind.Circuit).numbers.ordered) (ap (λ (u : State). at u.circuits.rows n) valid.settled ∙ e)).1 in
+    (Between-map_each (rerouted (network_of t)) s.circuits.next s.circuits.rows 1 (valid.kinds kind.Circuit).numbers.ordered) (ap (λ (u : State). at u.circuits.rows n) valid.repaired ∙ e)).1 in
     let parts = and_parts (is_among c.identity (numbers s.identities.rows)) (is_among c.service (numbers s.services.rows) && reaches) passes in
     let rest = and_parts (is_among c.service (numbers s.services.rows)) reaches parts.1 in
     record {

@@ -85,9 +85,9 @@ values-reach w g t p k below on least =
 -- ---- routers
 
 -- a router that carries an admissible terminator is present and connected
-pub carrying_on : (w : Network) (s : ℕ) (instance : List ℕ) (most : ℕ) → AreOn w (map offer_of (admissible w s instance)) most
+pub carrying_on : (w : Network) (s : ℕ) (instance : List ℕ) (most : ℕ) → AreOn w (map (offer_of w) (admissible w s instance)) most
 carrying_on w s instance most r is =
-    by_list_any (λ (e : ℕ × Terminator). (e.1.router == r) && nat_le (place_of e.1.precedence) most) (admissible w s instance) (sym (carried (admissible w s instance) most r) ∙ is)
+    by_list_any (λ (e : ℕ × Terminator). (e.1.router == r) && nat_le (place_of e.1.precedence) most) (admissible w s instance) (sym (carried w (admissible w s instance) most r) ∙ is)
     (λ e m passes.
     subst (λ x. is_on w x ≡ true) (eqb-true e.1.router r (and_parts (e.1.router == r) (nat_le (place_of e.1.precedence) most) passes).0)
     (and_parts (is_on w e.1.router) (option_map_or (may_host w e.1) e.1.host true) (by_admissible w s instance e m).serves).0)

@@ -1,5 +1,5 @@
 -- Laws on the whole of a request: what the search found tells the best route, and with the rules what is decided.
-use Rattle.std.proofs.Common.{◌≡◌, ℕ, ◌<◌, ◌≤◌, ◌==◌, ◌⊎◌, inl, inr, eq-eqb, length, subst₂, Bool, true, false, cond, List, [], ◌∷◌, ◌++◌, Option, Some, None, Ok, Err, refl, sym, ◌∙◌, ap, ap₂, subst}
+use Rattle.std.proofs.Common.{◌≡◌, ℕ, ◌<◌, ◌≤◌, ◌==◌, ◌⊎◌, inl, inr, eq-eqb, length, subst₂, Bool, true, false, cond, List, [], ◌∷◌, ◌++◌, Option, Some, None, Ok, Err, refl, sym, ◌∙◌, ap, ap₂, subst, arith}
 use Rattle.std.proofs.lemmas.Bool.{cases_order}
 use Rattle.std.specs.List.{All}
 use Rattle.std.specs.Option.{option_map_or}
@@ -38,12 +38,13 @@ use Rattle.circuit_rules.proofs.DecideLaws.{IsSearch, OthersFollow, entries_plac
 
 -- ---- what the search found
 
-pub exits_cheap : (w : Network) (ask : Ask) (s : ℕ) → each_passes (λ (e : Terminator). is_cost e.cost) w.terminators ≡ true → All (λ (o : Exit). o.cost ≤ 65535) (exits_to w ask s)
-exits_cheap w ask s costs =
-    all_from_among (λ (o : Exit). o.cost ≤ 65535) (exits_to w ask s) (λ o m.
-    by_map (exit_of w.routers) (admissible w s ask.instance) o m (λ e n is.
-    subst (λ (y : Exit). y.cost ≤ 65535) is
-    (in_bounds 0 65535 e.1.cost (list_all-among (λ (x : ℕ × Terminator). is_cost x.1.cost) w.terminators e costs (by_admissible w s ask.instance e n).present)).1))
+pub exits_cheap : (w : Network) (ask : Ask) (s : ℕ) → each_passes (λ (e : Terminator). is_cost e.cost) w.terminators ≡ true → ((n : ℕ) → w.load n ≤ 16384) → All (λ (o : Exit). o.cost ≤ 81919) (exits_to w ask s)
+exits_cheap w ask s costs loads =
+    all_from_among (λ (o : Exit). o.cost ≤ 81919) (exits_to w ask s) (λ o m.
+    by_map (exit_of w) (admissible w s ask.instance) o m (λ e n is.
+    subst (λ (y : Exit). y.cost ≤ 81919) is
+    (let static = (in_bounds 0 65535 e.1.cost (list_all-among (λ (x : ℕ × Terminator). is_cost x.1.cost) w.terminators e costs (by_admissible w s ask.instance e n).present)).1 in
+    let load = loads e.0 in omega (arith, static, load))))
 
 -- a request, its routers and its terminators
 pub record IsRequest (w : Network) (ask : Ask) (i s : ℕ) : Type 0 where
@@ -57,9 +58,9 @@ module _ (w : Network) (ask : Ask) (i s : ℕ) (k : IsRequest w ask i s) where
   abbrev level : ℕ → List Exit
   level p = exits_at p (exits_to w ask s)
 
-  in_level : (p : ℕ) (e : ℕ × Terminator) → Among e (admissible w s ask.instance) → place_of e.1.precedence ≡ p → Among (exit_of w.routers e) (level p)
+  in_level : (p : ℕ) (e : ℕ × Terminator) → Among e (admissible w s ask.instance) → place_of e.1.precedence ≡ p → Among (exit_of w e) (level p)
   in_level p e in_e at_place =
-      Among-filter (λ (o : Exit). place_of o.precedence == p) (exits_to w ask s) (exit_of w.routers e) (Among-map (exit_of w.routers) (admissible w s ask.instance) e in_e)
+      Among-filter (λ (o : Exit). place_of o.precedence == p) (exits_to w ask s) (exit_of w e) (Among-map (exit_of w) (admissible w s ask.instance) e in_e)
       (eq-eqb (place_of e.1.precedence) p at_place)
 
   search_of : (exits : List Exit) (found : Option Route) (h : IsSearched w (entries_to w ask i s) exits found) → IsSearch w ask i s h.graph exits h.costs
@@ -83,7 +84,7 @@ module _ (w : Network) (ask : Ask) (i s : ℕ) (k : IsRequest w ask i s) where
       others : OthersFollow w ask i s (level p) p
       others q in_q x in_x ls path = by (cases_order (place_of x.1.precedence) p)
         where
-          by : (place_of x.1.precedence ≡ p) ⊎ ((place_of x.1.precedence < p) ⊎ (p < place_of x.1.precedence)) → Among (exit_of w.routers x) (level p) ⊎ (p < place_of x.1.precedence)
+          by : (place_of x.1.precedence ≡ p) ⊎ ((place_of x.1.precedence < p) ⊎ (p < place_of x.1.precedence)) → Among (exit_of w x) (level p) ⊎ (p < place_of x.1.precedence)
           by (inl same) = inl (in_level p x in_x same)
           by (inr (inl before)) =
               absurd (no_path_at (place_of x.1.precedence) (better x.1.precedence before) q in_q x in_x refl ls path)

@@ -113,10 +113,10 @@ ready w s costs entries exits k same listed least in_entries in_exits = record {
 
 -- and so to those of the ends whose exits have one precedence
 pub within_at : (places place : ℕ) (ends : Ends) → AreWithin places ends
-    → All (λ (o : Exit). o.place < places) (exits_at place ends.exits.items) × All (λ (o : Exit). o.cost ≤ 65535) (exits_at place ends.exits.items)
+    → All (λ (o : Exit). o.place < places) (exits_at place ends.exits.items) × All (λ (o : Exit). o.cost ≤ 81919) (exits_at place ends.exits.items)
 within_at places place ends h = (
   All-filter (λ (o : Exit). place_of o.precedence == place) (λ (o : Exit). o.place < places) ends.exits.items h.exits,
-  All-filter (λ (o : Exit). place_of o.precedence == place) (λ (o : Exit). o.cost ≤ 65535) ends.exits.items h.costs,
+  All-filter (λ (o : Exit). place_of o.precedence == place) (λ (o : Exit). o.cost ≤ 81919) ends.exits.items h.costs,
 )
 
 -- a search of the graph of a network is one of the network

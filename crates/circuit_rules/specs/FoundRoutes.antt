@@ -13,7 +13,7 @@ use Rattle.circuit_rules.specs.declared.deciding.Found.{Found}
 use Rattle.circuit_rules.specs.declared.places.Entry.{Entry}
 use Rattle.circuit_rules.specs.declared.places.Exit.{Exit}
 use Rattle.circuit_rules.specs.Searched.{entries_to, exits_to, exits_at, IsSearched}
-use Rattle.ctrl_model.specs.Limits.{most_cost}
+use Rattle.ctrl_model.specs.Limits.{most_terminator_cost}
 
 -- Of no precedence that stands before a place a route is found.
 abbrev pub NoneBefore : Network → List Entry → List Exit → ℕ → Type 0
@@ -28,7 +28,7 @@ IsFoundFirst w entries exits (Some r) = (place : ℕ) × IsSearched w entries (e
 pub record AreWithin (places : ℕ) (ends : Ends) : Type 0 where
   pub entries : All (λ (x : Entry). x.place < places) ends.entries.items
   pub exits : All (λ (o : Exit). o.place < places) ends.exits.items
-  pub costs : All (λ (o : Exit). o.cost ≤ most_cost) ends.exits.items
+  pub costs : All (λ (o : Exit). o.cost ≤ most_terminator_cost) ends.exits.items
 
 -- The ends are those of a request.
 abbrev pub AreEnds : Network → Ask → ℕ → ℕ → Ends → Type 0

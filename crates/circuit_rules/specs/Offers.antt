@@ -5,17 +5,18 @@ use Rattle.std.specs.List.{list_any}
 use Rattle.std.specs.Option.{option_map}
 use Rattle.ctrl_model.specs.Numbered.{at}
 use Rattle.ctrl_model.specs.State.{Terminator}
-use Rattle.ctrl_model.specs.Choices.{place_of}
+use Rattle.ctrl_model.specs.Choices.{place_of, terminator_cost}
+use Rattle.ctrl_model.specs.Networks.{Network}
 use Rattle.circuit_rules.specs.declared.offers.Offer.{Offer}
 
--- What a terminator offers to routes.
-abbrev pub offer_of : ℕ × Terminator → Offer
-offer_of e =
-    record { terminator = record { 0 = e.0 }; router = record { 0 = e.1.router }; cost = e.1.cost; precedence = e.1.precedence }
+-- What a terminator of a network offers to routes.
+abbrev pub offer_of : Network → ℕ × Terminator → Offer
+offer_of w e =
+    record { terminator = record { 0 = e.0 }; router = record { 0 = e.1.router }; cost = terminator_cost w e; precedence = e.1.precedence }
 
 -- What the terminator of a number offers, if it is present.
-abbrev pub offer_at : List (ℕ × Terminator) → ℕ → Option Offer
-offer_at terms n = option_map (λ e. offer_of (n, e)) (at terms n)
+abbrev pub offer_at : Network → ℕ → Option Offer
+offer_at w n = option_map (λ e. offer_of w (n, e)) (at w.terminators n)
 
 -- Whether one of these stands on a router and has a precedence of at most a place.
 abbrev pub is_carried : List Offer → ℕ → ℕ → Bool

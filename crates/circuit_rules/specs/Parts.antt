@@ -14,7 +14,11 @@ use Rattle.ctrl_model.specs.Claims.{no_path, router_numbers, is_settled, is_rout
 use Rattle.circuit_rules.specs.declared.offers.Offer.{Offer}
 use Rattle.circuit_rules.specs.Offers.{is_carried}
 
--- A terminator that offers this, and of which nothing else is known.
+-- A network in which no terminator has a load, so that each costs its static cost.
+abbrev pub unloaded : Network → Network
+unloaded w = record w { load = λ n. 0 }
+
+-- A terminator that offers this where none has a load, and of which nothing else is known.
 abbrev pub term_offered : Offer → ℕ × Terminator
 term_offered o = (o.terminator.0, record { service = 0; router = o.router.0; instance = []; host = None; cost = o.cost; precedence = o.precedence })
 
@@ -37,7 +41,7 @@ is_complete_by w claim place offers =
 -- No offer beats the claim from any of these ingresses.
 abbrev pub none_beats_by : Network → Explanation → ℕ → List RouterSeen → List Offer → Bool
 none_beats_by w claim place ingresses offers =
-    list_all (λ (r : RouterSeen). list_all (λ o. is_no_better w claim place r.no.0 (term_offered o)) offers) ingresses
+    list_all (λ (r : RouterSeen). list_all (λ o. is_no_better (unloaded w) claim place r.no.0 (term_offered o)) offers) ingresses
 
 -- The claim is justified for an offer, of all offers and ingresses.
 abbrev pub is_justified_by : Network → Explanation → ℕ → ℕ → List RouterSeen → List Offer → Offer → Bool
@@ -45,4 +49,4 @@ is_justified_by w claim i s ingresses offers offer =
     is_entitled_by w claim i s ingresses offers
     && (is_complete_by w claim (place_of offer.precedence) offers
     && (list_all (is_settled w) claim.potentials
-    && (is_route w claim (term_offered offer) && none_beats_by w claim (place_of offer.precedence) ingresses offers)))
+    && (is_route (unloaded w) claim (term_offered offer) && none_beats_by w claim (place_of offer.precedence) ingresses offers)))

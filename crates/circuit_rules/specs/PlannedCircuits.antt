@@ -11,6 +11,7 @@ use Rattle.ctrl_model.specs.ValidState.{ValidState}
 use Rattle.circuits.specs.CircuitTables.{is_full}
 use Rattle.entity_store.specs.EntityTables.{Tables, entities}
 use Rattle.grant_denorm.specs.PairCounts.{count_of}
+use Rattle.terminators.specs.TermTables.{open_at}
 use Rattle.circuit_rules.specs.declared.circuit_asking.Request.{Request}
 use Rattle.circuits.specs.declared.changes.CircuitChange.{CircuitChange}
 use Rattle.model_laws.specs.declared.plans.Plan.{Plan}
@@ -46,6 +47,7 @@ network_over p routers = record {
   links = p.fabric.now.links.rows;
   least = p.fabric.now.least;
   terminators = p.terminators.now.terminators.rows;
+  load = open_at p.terminators.now;
   dial = count_of p.dial.now;
   bind = count_of p.bind.now;
   identity_router = count_of p.identity_router.now;

@@ -79,8 +79,8 @@ abbrev pub exit_from : List RouterSeen → Offer → Exit
 exit_from routers o = record { place = place_in routers o.router.0; terminator = o.terminator; cost = o.cost; precedence = o.precedence }
 
 -- A terminator as a circuit ends there.
-abbrev pub exit_of : List RouterSeen → ℕ × Terminator → Exit
-exit_of routers e = exit_from routers (offer_of e)
+abbrev pub exit_of : Network → ℕ × Terminator → Exit
+exit_of w e = exit_from w.routers (offer_of w e)
 
 -- Whether a request counts the terminator of a number.
 abbrev pub counts : Network → ℕ → List ℕ → ℕ → Bool
@@ -92,7 +92,7 @@ entries_to w ask i s = map (entry_of w.routers) (ingresses w ask.ingress i s)
 
 -- The exits of a request.
 abbrev pub exits_to : Network → Ask → ℕ → List Exit
-exits_to w ask s = map (exit_of w.routers) (admissible w s ask.instance)
+exits_to w ask s = map (exit_of w) (admissible w s ask.instance)
 
 -- ---- least costs
 

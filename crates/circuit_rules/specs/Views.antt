@@ -1,8 +1,9 @@
--- The network that a view shows, and a request in the words of the rules (docs/PROMISES.md, "Circuits").
+-- The network that a view shows, and a request in the words of the rules (docs/PROMISES.md, "Circuit requests").
 use Rattle.std.specs.Option.{option_map}
 use Rattle.ctrl_model.specs.Networks.{Network}
 use Rattle.ctrl_model.specs.Choices as choices
 use Rattle.grant_denorm.specs.PairCounts.{count_of}
+use Rattle.terminators.specs.TermTables.{open_at}
 use Rattle.circuit_rules.specs.declared.views.View.{View}
 use Rattle.circuit_rules.specs.declared.views.Ask.{Ask}
 use Rattle.circuit_rules.specs.declared.views.Wanted.{Wanted}
@@ -15,6 +16,7 @@ network v = record {
   links = v.fabric.now.links.rows;
   least = v.fabric.now.least;
   terminators = v.terminators.now.terminators.rows;
+  load = open_at v.terminators.now;
   dial = count_of v.dial.now;
   bind = count_of v.bind.now;
   identity_router = count_of v.identity_router.now;

@@ -2,7 +2,7 @@ ghost use Rattle.std.specs.Prelude.{◌≡◌};
 ghost use Rattle.std.specs.List.{list_all};
 ghost use Rattle.ctrl_model.specs.Claims.{is_no_better};
 ghost use Rattle.circuit_rules.specs.Views.{network};
-ghost use Rattle.circuit_rules.specs.Parts.{term_offered};
+ghost use Rattle.circuit_rules.specs.Parts.{term_offered, unloaded};
 
 use crate::offers::{Offer, place_of};
 use crate::values::claimed;
@@ -18,7 +18,7 @@ fn is_no_better(
     ingress: RouterNo,
     offer: &Offer,
 ) -> bool
-    ensures { result ≡ is_no_better (network view.now) claim.now place ingress.0 (term_offered offer.now) }
+    ensures { result ≡ is_no_better (unloaded (network view.now)) claim.now place ingress.0 (term_offered offer.now) }
 {
     let own = place_of(offer.precedence);
     if own > place {
@@ -39,7 +39,7 @@ fn none_beats_from(
     ingress: RouterNo,
     offers: &[Offer],
 ) -> bool
-    ensures { result ≡ list_all (λ o. is_no_better (network view.now) claim.now place ingress.0 (term_offered o)) offers.now }
+    ensures { result ≡ list_all (λ o. is_no_better (unloaded (network view.now)) claim.now place ingress.0 (term_offered o)) offers.now }
 {
     offers
         .iter()
@@ -54,7 +54,7 @@ pub fn none_beats(
     ingresses: &[RouterSeen],
     offers: &[Offer],
 ) -> bool
-    ensures { result ≡ list_all (λ r. list_all (λ o. is_no_better (network view.now) claim.now place r.no.0 (term_offered o)) offers.now) ingresses.now }
+    ensures { result ≡ list_all (λ r. list_all (λ o. is_no_better (unloaded (network view.now)) claim.now place r.no.0 (term_offered o)) offers.now) ingresses.now }
 {
     ingresses.iter().all(|ingress| none_beats_from(view, claim, place, ingress.no, offers))
 }

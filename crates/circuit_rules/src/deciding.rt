@@ -84,7 +84,7 @@ fn route_over(
     requires least { (t : ℕ) → AreCosts search.now.graph exits.now t (costs_to search.now.costs t) }
     requires entries { All (λ x. x.place < length view.now.routers.now) entries.now }
     requires exits { All (λ o. o.place < length view.now.routers.now) exits.now }
-    requires costs { All (λ o. o.cost ≤ 65535) exits.now }
+    requires costs { All (λ o. o.cost ≤ 81919) exits.now }
     ensures { IfOk result (IsSearched (network view.now) entries.now exits.now) }
 {
     let costs = search.costs();

@@ -30,7 +30,7 @@ fn explanation(
 ) -> Result<Explanation, AllocError>
     requires routers { AreRouters view.now.routers.now }
     requires search { IsSearchOf (network view.now) found.search }
-    ensures { IfOk result (λ e. e ≡ explained (network view.now) (map offer_of (admissible (network view.now) service.0 instance.now)) most found.route) }
+    ensures { IfOk result (λ e. e ≡ explained (network view.now) (map (offer_of (network view.now)) (admissible (network view.now) service.0 instance.now)) most found.route) }
 {
     let Found { route, mut search } = found;
     let offers = offers(alloc, view, service, instance)?;
@@ -63,7 +63,7 @@ fn explain_route(
     let _next = view.terminators.next();
     let _next_link = view.fabric.next();
     let service = ask.service.unwrap();
-    let offer = offer_at(view.terminators, found.route.terminator).unwrap();
+    let offer = offer_at(view, found.route.terminator).unwrap();
     let most = place_of(offer.precedence);
     explanation(alloc, view, service, &ask.instance, found, most)
 }

@@ -11,9 +11,9 @@ ghost use Rattle.circuit_rules.specs.Searched.{Passes, offer_rules, counts};
 use crate::views::{DecideFault, View};
 use ctrl_model::{Denial, Instance, Precedence, RouterNo, ServiceNo, TermNo};
 use std::alloc::{AllocError, Global};
-use terminators::{Term, Terminators};
+use terminators::Term;
 
-/// What a terminator offers to routes: where it stands, what it costs, and its precedence.
+/// What a terminator offers to routes: where it stands, what it costs with its load, and its precedence.
 #[derive(Clone, Copy)]
 pub struct Offer {
     pub terminator: TermNo,
@@ -34,14 +34,14 @@ pub fn place_of(precedence: Precedence) -> u8
 }
 
 /// What the terminator of a number offers, if it is present.
-pub fn offer_at(terminators: &Terminators, no: TermNo) -> Option<Offer>
-    ensures { result ≡ offer_at terminators.now.terminators.rows no.0 }
+pub fn offer_at(view: &View, no: TermNo) -> Option<Offer>
+    ensures { result ≡ offer_at (network view.now) no.0 }
 {
-    match terminators.get(no) {
+    match view.terminators.get(no) {
         Ok(term) => Some(Offer {
             terminator: no,
             router: term.router,
-            cost: term.cost,
+            cost: view.terminators.term_cost(no),
             precedence: term.precedence,
         }),
         Err(_) => None,
@@ -49,16 +49,12 @@ pub fn offer_at(terminators: &Terminators, no: TermNo) -> Option<Offer>
 }
 
 // What the present terminators of some numbers offer.
-fn offers_at(
-    alloc: Global,
-    terminators: &Terminators,
-    numbers: &[u32],
-) -> Result<Vec<Offer>, AllocError>
-    ensures { IfOk result (λ v. v.items ≡ filter_map (offer_at terminators.now.terminators.rows) numbers.now) }
+fn offers_at(alloc: Global, view: &View, numbers: &[u32]) -> Result<Vec<Offer>, AllocError>
+    ensures { IfOk result (λ v. v.items ≡ filter_map (offer_at (network view.now)) numbers.now) }
 {
     numbers
         .iter()
-        .filter_map(|no| offer_at(terminators, TermNo(*no)))
+        .filter_map(|no| offer_at(view, TermNo(*no)))
         .collect(alloc)
 }
 
@@ -69,7 +65,7 @@ pub fn offers(
     service: ServiceNo,
     instance: &Instance,
 ) -> Result<Vec<Offer>, AllocError>
-    ensures offers { IfOk result (λ v. v.items ≡ map offer_of (admissible (network view.now) service.0 instance.now)) }
+    ensures offers { IfOk result (λ v. v.items ≡ map (offer_of (network view.now)) (admissible (network view.now) service.0 instance.now)) }
     // The terminators have different numbers, and each cost is in its range.
     ensures keeps { KeepsTerms view.now.terminators.now }
 {
@@ -84,7 +80,7 @@ pub fn offers(
         view.service_router,
         view.routers,
     )?;
-    offers_at(alloc, view.terminators, numbers.as_slice())
+    offers_at(alloc, view, numbers.as_slice())
 }
 
 // Whether a request for the service and the instance counts the terminator.
@@ -134,7 +130,7 @@ pub fn allowed_offers(
     service: ServiceNo,
     instance: &Instance,
 ) -> Result<Vec<Offer>, DecideFault>
-    ensures offers { Passes (offer_rules (network view.now) service.0 instance.now) (λ v. v.items ≡ map offer_of (admissible (network view.now) service.0 instance.now)) result }
+    ensures offers { Passes (offer_rules (network view.now) service.0 instance.now) (λ v. v.items ≡ map (offer_of (network view.now)) (admissible (network view.now) service.0 instance.now)) result }
     // The terminators have different numbers, and each cost is in its range.
     ensures keeps { KeepsTerms view.now.terminators.now }
 {

@@ -2,7 +2,7 @@ ghost use Rattle.std.specs.Prelude.{◌≡◌, ◌+◌, ◌==◌, option_map};
 ghost use Rattle.ctrl_model.specs.Networks.{hops};
 ghost use Rattle.ctrl_model.specs.Claims.{is_tight, claimed, is_route};
 ghost use Rattle.circuit_rules.specs.Views.{network};
-ghost use Rattle.circuit_rules.specs.Parts.{tight_next, term_offered};
+ghost use Rattle.circuit_rules.specs.Parts.{tight_next, term_offered, unloaded};
 
 use crate::offers::Offer;
 use crate::values::claimed;
@@ -59,7 +59,7 @@ fn is_total(view: &View, claim: &Explanation, offer: Offer) -> bool
 /// Whether the claimed links are a chain of tight hops from the ingress to the terminator's router, and the total is the
 /// terminator's cost and the value at the ingress.
 pub fn is_route(view: &View, claim: &Explanation, offer: Offer) -> bool
-    ensures { result ≡ is_route (network view.now) claim.now (term_offered offer) }
+    ensures { result ≡ is_route (unloaded (network view.now)) claim.now (term_offered offer) }
 {
     is_tight(
         view,

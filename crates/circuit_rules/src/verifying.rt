@@ -1,10 +1,12 @@
-ghost use Rattle.std.specs.Prelude.{◌≡◌, ◌==◌, ◌&&◌, true, IfOk};
+ghost use Rattle.std.specs.Prelude.{◌≡◌, ℕ, ◌==◌, ◌&&◌, true, IfOk};
 ghost use Rattle.std.specs.List.{list_any};
 ghost use Rattle.ctrl_model.specs.Claims.{is_route, justified, justified_for};
+ghost use Rattle.ctrl_model.specs.State.{Terminator};
 ghost use Rattle.fabric_graph.specs.Routers.{AreRouters};
 ghost use Rattle.circuit_rules.specs.BestClaims.{IsBestClaim};
+ghost use Rattle.circuit_rules.specs.Offers.{offer_of};
 ghost use Rattle.circuit_rules.specs.Views.{network, asked};
-ghost use Rattle.circuit_rules.specs.Parts.{term_offered, is_entitled_by, is_complete_by, none_beats_by, is_justified_by};
+ghost use Rattle.circuit_rules.specs.Parts.{term_offered, unloaded, is_entitled_by, is_complete_by, none_beats_by, is_justified_by};
 
 use crate::beating::none_beats;
 use crate::ingresses::ingresses;
@@ -75,7 +77,7 @@ fn is_unbeaten(
     offers: &[Offer],
     offer: Offer,
 ) -> bool
-    ensures { result ≡ (is_route (network view.now) claim.now (term_offered offer) && none_beats_by (network view.now) claim.now place ingresses.now offers.now) }
+    ensures { result ≡ (is_route (unloaded (network view.now)) claim.now (term_offered offer) && none_beats_by (network view.now) claim.now place ingresses.now offers.now) }
 {
     is_route(view, claim, offer) && none_beats(view, claim, place, ingresses, offers)
 }
@@ -112,7 +114,7 @@ fn is_justified(
     service: ServiceNo,
     offer: Offer,
 ) -> Result<bool, AllocError>
-    ensures { IfOk result (λ yes. yes ≡ justified_for (network view.now) (asked ask.now) claim.now identity.0 service.0 (term_offered offer)) }
+    ensures { (e : ℕ × Terminator) → offer ≡ offer_of (network view.now) e → IfOk result (λ yes. yes ≡ justified_for (network view.now) (asked ask.now) claim.now identity.0 service.0 e) }
 {
     let ingresses = ingresses(alloc, view, ask.ingress, identity, service)?;
     let offers = offers(alloc, view, service, &ask.instance)?;
@@ -138,7 +140,7 @@ fn judge(alloc: Global, view: &View, ask: &Ask, claim: &Explanation) -> Result<b
     let Some(service) = ask.service else {
         return Ok(false);
     };
-    match offer_at(view.terminators, claim.terminator) {
+    match offer_at(view, claim.terminator) {
         Some(offer) => is_justified(alloc, view, ask, claim, identity, service, offer),
         None => Ok(false),
     }

@@ -10,11 +10,11 @@ use Rattle.ctrl_model.specs.State.{State, Link, Terminator}
 use Rattle.ctrl_model.specs.ValidState.{ValidState}
 use Rattle.ctrl_model.specs.Walks.{is_among}
 use Rattle.ctrl_model.proofs.Members.{at-row}
-use Rattle.ctrl_model.proofs.NumberedLaws.{at-filter-back, at-without-other}
+use Rattle.ctrl_model.proofs.NumberedLaws.{among_present, at-filter-back, at-without-other}
 use Rattle.model_laws.proofs.AbsentRecords.{at-without-none}
 use Rattle.record_tables.proofs.NumberLoops.{at_among}
 use Rattle.circuit_settling.proofs.FailingRows.{failing, none_fails, those_fail, at-passes}
-use Rattle.circuit_settling.proofs.HeldRows.{Held, AllStood, no_number, one_number, present_held, among_present}
+use Rattle.circuit_settling.proofs.HeldRows.{Held, AllStood, no_number, one_number, present_held}
 use Rattle.circuit_settling.proofs.SettledRows.{each_link, each_terminator}
 use Rattle.circuit_settling.proofs.TurnedStates.{TermHolds}
 

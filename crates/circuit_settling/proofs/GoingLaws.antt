@@ -7,13 +7,14 @@ use Rattle.ctrl_model.specs.State.{Circuit}
 use Rattle.record_tables.proofs.GoneLaws.{filter_among}
 use Rattle.record_tables.proofs.NumberLoops.{at_among}
 use Rattle.record_tables.proofs.TurnLaws.{numbers-filter}
+use Rattle.circuit_settling.specs.declared.granting.GrantsAfter.{GrantsAfter}
 use Rattle.circuit_settling.specs.declared.staying.Present.{Present}
-use Rattle.circuit_settling.specs.PresentRecords.{stays_beside, stays_at}
+use Rattle.circuit_settling.specs.OtherLinks.{keeps_beside, keeps_at}
 
 -- the numbers whose circuit does not stay are those of the circuits that do not
-pub going_are : (p : Present) (rows : List (ℕ × Circuit)) (high : ℕ) → Between 1 high rows
-    → filter (λ n. not (stays_at p rows n)) (numbers rows) ≡ numbers (filter (λ row. not (stays_beside p row.1)) rows)
-going_are p rows high b =
-    sym (numbers-filter (λ n. not (stays_at p rows n)) rows)
-    ∙ ap numbers (filter_among (λ (row : ℕ × Circuit). not (stays_at p rows row.0)) (λ row. not (stays_beside p row.1)) rows (λ x m.
-    ap (λ o. not (option_map_or (stays_beside p) o true)) (at_among high rows 1 x.0 x.1 b m)))
+pub going_are : (p : Present) (g : GrantsAfter) (rows : List (ℕ × Circuit)) (high : ℕ) → Between 1 high rows
+    → filter (λ n. not (keeps_at p g rows n)) (numbers rows) ≡ numbers (filter (λ row. not (keeps_beside p g row.1)) rows)
+going_are p g rows high b =
+    sym (numbers-filter (λ n. not (keeps_at p g rows n)) rows)
+    ∙ ap numbers (filter_among (λ (row : ℕ × Circuit). not (keeps_at p g rows row.0)) (λ row. not (keeps_beside p g row.1)) rows (λ x m.
+    ap (λ o. not (option_map_or (keeps_beside p g) o true)) (at_among high rows 1 x.0 x.1 b m)))

@@ -1,9 +1,8 @@
 -- Records of one table that another has too, by their numbers: after one change of it, and once some are gone.
-use Rattle.std.proofs.Common.{◌≡◌, ◌≢◌, ℕ, ◌<◌, ◌==◌, ◌||◌, Bool, true, false, cond, List, [], ◌∷◌, Option, None, Some, refl, sym, ◌∙◌, ap, subst, arith, eqb-true, is_some}
+use Rattle.std.proofs.Common.{◌≡◌, ◌≢◌, ℕ, ◌<◌, ◌==◌, Bool, true, false, cond, List, Option, None, Some, refl, sym, ◌∙◌, ap, subst, arith, eqb-true, is_some}
 use Rattle.std.proofs.lemmas.Bool.{false≢true}
 use Rattle.std.specs.Option.{option_map}
-use Rattle.ctrl_model.specs.Numbered.{at, is_present, numbers, with_last, edit_at, without, Between}
-use Rattle.ctrl_model.specs.Walks.{is_among}
+use Rattle.ctrl_model.specs.Numbered.{at, is_present, with_last, edit_at, without, Between}
 use Rattle.ctrl_model.proofs.NumberedLaws.{at-within, at-with_last-other, at-edit_at, at-without-other, at-edit_at-back, at-without-back}
 
 -- a record that holds: one stands where it stood, which is to it as it should be
@@ -79,12 +78,3 @@ present_held {R} P gone xs ys held n g p = by (at xs n) refl p
     by : (o : Option R) → at xs n ≡ o → is_some o ≡ true → is_some (at ys n) ≡ true
     by None e q = absurd (false≢true q)
     by (Some r) e q = ap is_some (held n r g e).there
-
--- a number is among those of some records where one is present
-pub among_present : {R : Type 0} (rows : List (ℕ × R)) (n : ℕ) → is_among n (numbers rows) ≡ is_present rows n
-among_present [] n = refl
-among_present (x ∷ rows) n = by (x.0 == n) (among_present rows n)
-  where
-    by : (b : Bool) → is_among n (numbers rows) ≡ is_present rows n → (b || is_among n (numbers rows)) ≡ is_some (cond b (Some x.1) (at rows n))
-    by true e = refl
-    by false e = e

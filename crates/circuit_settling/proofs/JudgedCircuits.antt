@@ -1,21 +1,21 @@
 -- What becomes of each circuit of a settled state: it stays, goes on over other links, or ends.
-use Rattle.std.proofs.Common.{◌≡◌, ℕ, ◌&&◌, ◌||◌, Bool, true, false, cond, List, is_some, Option, None, Some, option_and_then, refl, sym, ◌∙◌, ap, ap₂}
-use Rattle.std.proofs.lemmas.Bool.{false≢true}
+use Rattle.std.proofs.Common.{◌≡◌, ℕ, ◌&&◌, ◌||◌, Bool, true, false, cond, List, [], ◌∷◌, is_some, Option, None, Some, option_and_then, refl, sym, ◌∙◌, ap, ap₂}
+use Rattle.std.proofs.lemmas.Bool.{and_parts, false≢true}
+use Rattle.std.specs.List.{filter}
 use Rattle.std.proofs.lemmas.Option.{none-some}
 use Rattle.std.specs.Option.{option_map_or}
 use Rattle.ctrl_model.specs.Networks.{Network, network_of, is_path, least_path}
-use Rattle.ctrl_model.specs.Numbered.{Table, at, numbers, Between}
-use Rattle.ctrl_model.specs.Settling.{circuit_stays, circuit_reaches, rerouted, rerouted_to, stays_in, settle, settle_links, settle_terminators}
+use Rattle.ctrl_model.specs.Numbered.{Table, at, map_each, numbers, Between}
+use Rattle.ctrl_model.specs.Settling.{granted_in, circuit_stays, circuit_reaches, rerouted, rerouted_to, stays_in, settle}
 use Rattle.ctrl_model.specs.State.{State, Terminator, Circuit}
 use Rattle.ctrl_model.specs.Walks.{is_among}
 use Rattle.model_laws.proofs.LeastPathLaws.{least_path-is}
+use Rattle.model_laws.proofs.RevokedLaws.{rerouted-granted}
 use Rattle.model_laws.proofs.SettleLaws.{rerouted-stays}
 use Rattle.circuits.specs.CircuitChanges.{circuits_of, without_circuits}
 use Rattle.circuits.specs.MovedCircuits.{moves_by, ended_by, with_moves}
 use Rattle.circuits.proofs.JudgedMoves.{moved_and_left}
-use Rattle.circuit_settling.specs.declared.staying.Present.{Present}
-use Rattle.circuit_settling.specs.PresentRecords.{network}
-use Rattle.circuit_settling.specs.OtherLinks.{other_links, other_links_at, other_links_in, lost_in, IsPresentOf}
+use Rattle.circuit_settling.specs.OtherLinks.{other_links, before_circuits, keeps_in, going_in, way_in}
 
 -- ---- one circuit
 
@@ -108,23 +108,63 @@ module _ (w : Network) (identities services : List ℕ) where
       ∙ judged_at x.1 (at w.terminators x.1.terminator) refl
       ∙ ap (λ b. b || is_some (other_links w identities services x.1)) (sym (three (is_among x.1.identity identities) (is_among x.1.service services) (reaches_end x.1)))
 
+-- ---- with what granted them
+
+-- of the circuits that pass a first test, changed, those that pass a second are of all, changed, those that pass both, where the change leaves the first test
+filter_twice : (f : Circuit → Circuit) (p q : ℕ × Circuit → Bool) → ((x : ℕ × Circuit) → p (x.0, f x.1) ≡ p x) → (xs : List (ℕ × Circuit))
+    → filter q (map_each f (filter p xs)) ≡ filter (λ x. p x && q x) (map_each f xs)
+filter_twice f p q same [] = refl
+filter_twice f p q same (x ∷ xs) = by (p x) refl (filter_twice f p q same xs)
+  where
+    y : ℕ × Circuit
+    y = (x.0, f x.1)
+
+    both : List (ℕ × Circuit)
+    both = filter (λ x. p x && q x) (map_each f xs)
+
+    by : (b : Bool) → p x ≡ b → filter q (map_each f (filter p xs)) ≡ both → filter q (map_each f (cond b (x ∷ filter p xs) (filter p xs))) ≡ cond (p y && q y) (y ∷ both) both
+    by true is h = ap (λ ys. cond (q y) (y ∷ ys) ys) h ∙ ap (λ b. cond (b && q y) (y ∷ both) both) (sym (same x ∙ is))
+    by false is h = h ∙ ap (λ b. cond (b && q y) (y ∷ both) both) (sym (same x ∙ is))
+
 -- ---- all of a state
 
-pub circuits_settled : (t : State) (lost : List ℕ) → Between 1 t.circuits.next t.circuits.rows → lost ≡ lost_in (settle_terminators (settle_links t))
-    → with_moves (moves_by (other_links_in (settle_terminators (settle_links t))) lost) (without_circuits (ended_by (other_links_in (settle_terminators (settle_links t))) lost) (circuits_of t))
-    ≡ circuits_of (settle t)
-circuits_settled t lost b is =
-    let u = settle_terminators (settle_links t) in
-    let w = network_of u in
-    let identities = numbers t.identities.rows in
-    let services = numbers t.services.rows in
-    ap (λ ns. with_moves (moves_by (other_links_in u) ns) (without_circuits (ended_by (other_links_in u) ns) (circuits_of t))) is
-    ∙ ap (λ (c : Table Circuit). record { circuits = c })
-    (moved_and_left (stays_in u) (rerouted w) (other_links w identities services) (rerouted-stays w identities services) (over w identities services) (judged w identities services)
-    t.circuits t.circuits.next b)
+module _ (t : State) where
+  -- the network in which the circuits are judged
+  abbrev judging : Network
+  judging = network_of (before_circuits t)
 
--- beside what is present of a state circuits go on over the links that they go on over there
-pub beside_state : (p : Present) (s : State) (n : ℕ) → IsPresentOf p s → other_links_at p s.circuits.rows n ≡ other_links_in s n
-beside_state p s n is =
-    λ i. option_and_then (other_links (network (record { terminators = is.terminators i }) (record { links = is.links i; least = is.least i }) (is.routers i)) (is.identities i) (is.services i))
-    (at s.circuits.rows n)
+  abbrev identities_of : List ℕ
+  identities_of = numbers t.identities.rows
+
+  abbrev services_of : List ℕ
+  services_of = numbers t.services.rows
+
+  -- where one goes on that does not stay as it is
+  abbrev goes_over : Circuit → Option (List ℕ)
+  goes_over c = cond (granted_in t (0, c)) (other_links judging identities_of services_of c) None
+
+  still : (x : ℕ × Circuit) → keeps_in t x ≡ true → rerouted judging x.1 ≡ x.1
+  still x e = rerouted-stays judging identities_of services_of x (and_parts (granted_in t x) (stays_in (before_circuits t) x) e).1
+
+  goes : (x : ℕ × Circuit) (links : List ℕ) → keeps_in t x ≡ false → goes_over x.1 ≡ Some links → rerouted judging x.1 ≡ record x.1 { links = links }
+  goes x links fails is = by (granted_in t x) refl is
+    where
+      by : (b : Bool) → granted_in t x ≡ b → cond b (other_links judging identities_of services_of x.1) None ≡ Some links → rerouted judging x.1 ≡ record x.1 { links = links }
+      by true g way = over judging identities_of services_of x links (ap (λ b. b && stays_in (before_circuits t) x) (sym g) ∙ fails) way
+      by false g way = absurd (none-some links way)
+
+  ends_or_goes : (x : ℕ × Circuit) → keeps_in t (x.0, rerouted judging x.1) ≡ (keeps_in t x || is_some (goes_over x.1))
+  ends_or_goes x = ap₂ (λ a b. a && b) (rerouted-granted t judging x.0 x.1) (judged judging identities_of services_of x) ∙ by (granted_in t x)
+    where
+      by : (a : Bool) → (a && (stays_in (before_circuits t) x || is_some (other_links judging identities_of services_of x.1)))
+          ≡ ((a && stays_in (before_circuits t) x) || is_some (cond a (other_links judging identities_of services_of x.1) None))
+      by true = refl
+      by false = refl
+
+  pub circuits_settled : (lost : List ℕ) → Between 1 t.circuits.next t.circuits.rows → lost ≡ going_in t
+      → with_moves (moves_by (way_in t) lost) (without_circuits (ended_by (way_in t) lost) (circuits_of t)) ≡ circuits_of (settle t)
+  circuits_settled lost b is =
+      ap (λ ns. with_moves (moves_by (way_in t) ns) (without_circuits (ended_by (way_in t) ns) (circuits_of t))) is
+      ∙ ap (λ (c : Table Circuit). record { circuits = c })
+      (moved_and_left (keeps_in t) (rerouted judging) goes_over still goes ends_or_goes t.circuits t.circuits.next b
+      ∙ ap (λ rows. record t.circuits { rows = rows }) (sym (filter_twice (rerouted judging) (granted_in t) (stays_in (before_circuits t)) (λ x. rerouted-granted t judging x.0 x.1) t.circuits.rows)))

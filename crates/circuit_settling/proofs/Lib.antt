@@ -17,4 +17,5 @@ pub mod NetworkCases
 pub mod MarkedRouters
 pub mod MovedRows
 pub mod JudgedCircuits
+pub mod GrantedCircuits
 pub mod LeastWays

@@ -10,17 +10,17 @@ use Rattle.ctrl_model.proofs.Members.{by_filter}
 
 module _ (s : State) (v : ValidState s) where
   pub each_link : (x : ℕ × Link) → Among x s.links.rows → link_stays s x ≡ true
-  each_link x m = by_filter (link_stays s) s.links.rows x (subst (λ (rows : List (ℕ × Link)). Among x rows) (sym (ap (λ (u : State). u.links.rows) v.settled)) m) (λ _ e. e)
+  each_link x m = by_filter (link_stays s) s.links.rows x (subst (λ (rows : List (ℕ × Link)). Among x rows) (sym (ap (λ (u : State). u.links.rows) v.repaired)) m) (λ _ e. e)
 
   pub each_terminator : (x : ℕ × Terminator) → Among x s.terminators.rows → terminator_stays s x ≡ true
   each_terminator x m =
-      by_filter (terminator_stays s) s.terminators.rows x (subst (λ (rows : List (ℕ × Terminator)). Among x rows) (sym (ap (λ (u : State). u.terminators.rows) v.settled)) m) (λ _ e. e)
+      by_filter (terminator_stays s) s.terminators.rows x (subst (λ (rows : List (ℕ × Terminator)). Among x rows) (sym (ap (λ (u : State). u.terminators.rows) v.repaired)) m) (λ _ e. e)
 
   pub same_so_far : settle_terminators (settle_links s) ≡ s
-  same_so_far = λ i. record s { links = ap (λ (u : State). u.links) v.settled i; terminators = ap (λ (u : State). u.terminators) v.settled i }
+  same_so_far = λ i. record s { links = ap (λ (u : State). u.links) v.repaired i; terminators = ap (λ (u : State). u.terminators) v.repaired i }
 
   pub each_circuit : (x : ℕ × Circuit) → Among x s.circuits.rows → stays_in s x ≡ true
   each_circuit x m =
       ap (λ (u : State). stays_in u x) (sym same_so_far)
       ∙ by_filter (stays_in (settle_terminators (settle_links s))) (map_each (rerouted (network_of (settle_terminators (settle_links s)))) s.circuits.rows) x
-      (subst (λ (rows : List (ℕ × Circuit)). Among x rows) (sym (ap (λ (u : State). u.circuits.rows) v.settled)) m) (λ _ e. e)
+      (subst (λ (rows : List (ℕ × Circuit)). Among x rows) (sym (ap (λ (u : State). u.circuits.rows) v.repaired)) m) (λ _ e. e)

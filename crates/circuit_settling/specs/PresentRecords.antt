@@ -1,24 +1,26 @@
 -- What is present, as settling circuits asks, and which circuits stay beside it (docs/RULES.md, "Settling").
-use Rattle.std.specs.Prelude.{ℕ, Bool, true, false, List, map}
-use Rattle.std.specs.Option.{option_map_or}
+use Rattle.std.specs.Prelude.{ℕ, Bool, false, List, map}
 use Rattle.ctrl_model.specs.declared.kinds.RouterSeen.{RouterSeen}
 use Rattle.ctrl_model.specs.Networks.{Network, seen}
-use Rattle.ctrl_model.specs.Numbered.{at, numbers}
-use Rattle.ctrl_model.specs.Settling.{circuit_stays}
+use Rattle.ctrl_model.specs.Numbered.{numbers}
+use Rattle.ctrl_model.specs.Settling.{circuit_granted, circuit_stays}
 use Rattle.ctrl_model.specs.State.{Circuit}
 use Rattle.entity_store.specs.EntityTables.{Tables}
+use Rattle.grant_denorm.specs.CountsAfter.{count_after}
 use Rattle.fabric_graph.specs.FabricTables.{FabricSeen}
 use Rattle.terminators.specs.TermTables.{TermTables}
+use Rattle.circuit_settling.specs.declared.granting.GrantsAfter.{GrantsAfter}
 use Rattle.circuit_settling.specs.declared.staying.Present.{Present}
 
--- The network of terminators, of links with the least router cost, and of routers. Nothing else of a network matters to whether
--- a circuit stays: it has no grants.
+-- The network of terminators, of links with the least router cost, and of routers. Nothing else of a network matters to whether the links
+-- of a circuit are a path: it has no grants and no load.
 abbrev pub network : TermTables → FabricSeen → List RouterSeen → Network
 network t f routers = record {
   routers = routers;
   links = f.links.rows;
   least = f.least;
   terminators = t.terminators.rows;
+  load = λ _. 0;
   dial = λ _ _. 0;
   bind = λ _ _. 0;
   identity_router = λ _ _. 0;
@@ -34,13 +36,18 @@ stays w identities services c = circuit_stays w identities services (0, c)
 abbrev pub network_in : Present → Network
 network_in p = network p.terminators.now p.fabric.now p.routers.now
 
+-- The network of what is present, with the grants of the four relations.
+abbrev pub network_with : Present → GrantsAfter → Network
+network_with p g =
+    record (network_in p) { dial = count_after g.dial; bind = count_after g.bind; identity_router = count_after g.identity_router; service_router = count_after g.service_router }
+
+-- Whether what granted a circuit stands beside what is present.
+abbrev pub granted_beside : Present → GrantsAfter → Circuit → Bool
+granted_beside p g c = circuit_granted (network_with p g) p.identities.now p.services.now (0, c)
+
 -- Whether a circuit stays beside what is present.
 abbrev pub stays_beside : Present → Circuit → Bool
 stays_beside p c = stays (network_in p) p.identities.now p.services.now c
-
--- Whether the circuit at a number stays beside what is present, if one is there.
-abbrev pub stays_at : Present → List (ℕ × Circuit) → ℕ → Bool
-stays_at p rows n = option_map_or (stays_beside p) (at rows n) true
 
 -- A circuit stays beside these entities, links and terminators.
 abbrev pub stays_with : Tables → FabricSeen → TermTables → ℕ × Circuit → Bool

@@ -20,7 +20,7 @@ link a b up = record { name = codes "l"; a = a; b = b; cost = 1; latency_a = 5; 
 -- or not, and is connected or not. Terminator 1 is on router 3.
 abbrev pub line : Bool → Bool → Bool → Network
 line up through connected =
-    network (record { terminators = record { rows = (1, record { service = 2; router = 3; instance = []; host = None; cost = 0; precedence = Normal }) ∷ []; next = 2 } })
+    network (record { terminators = record { rows = (1, record { service = 2; router = 3; instance = []; host = None; cost = 0; precedence = Normal }) ∷ []; next = 2 }; loads = [] })
     (record { links = record { rows = (1, link 1 2 true) ∷ (2, link 2 3 up) ∷ []; next = 3 }; least = 10 })
     (router 1 true true ∷ router 2 through connected ∷ router 3 true true ∷ [])
 

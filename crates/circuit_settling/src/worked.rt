@@ -1,6 +1,7 @@
 ghost use Rattle.std.specs.Prelude.{◌≡◌, [], ◌∷◌, true, false, None, Some};
+ghost use Rattle.ctrl_model.specs.WorkedStates.{line_in_use, ungranted};
 ghost use Rattle.circuits.specs.WorkedCircuits.{over};
-ghost use Rattle.circuit_settling.specs.OtherLinks.{other_links, other_links_in, lost_in};
+ghost use Rattle.circuit_settling.specs.OtherLinks.{other_links, way_in, going_in};
 ghost use Rattle.circuit_settling.specs.PresentRecords.{stays};
 ghost use Rattle.circuit_settling.specs.WorkedLines.{line, unsettled};
 
@@ -23,7 +24,7 @@ pub fn circuits_on_a_line()
 
 /// On the line a circuit that leads back goes on over both links, or over none where it enters at its end. It ends where a link is down,
 /// where its identity, its service or its terminator is absent, and where router 2 may not be passed through. Where a link goes straight to
-/// the end of a circuit it goes on over that link once one of its own is down.
+/// the end of a circuit it goes on over that link once one of its own is down. A circuit that nothing grants goes on nowhere.
 pub fn circuits_that_go_on()
     ensures least { other_links (line true true true) (3 ∷ []) (2 ∷ []) (over (1 ∷ 1 ∷ 1 ∷ 2 ∷ [])) ≡ Some (1 ∷ 2 ∷ []) }
     ensures at_the_end { other_links (line true true true) (3 ∷ []) (2 ∷ []) (record (over (1 ∷ 2 ∷ [])) { ingress = 3 }) ≡ Some [] }
@@ -32,7 +33,10 @@ pub fn circuits_that_go_on()
     ensures service_gone { other_links (line true true true) (3 ∷ []) (3 ∷ []) (over []) ≡ None }
     ensures terminator_gone { other_links (line true true true) (3 ∷ []) (2 ∷ []) (record (over []) { terminator = 2 }) ≡ None }
     ensures not_passed_through { other_links (line true false true) (3 ∷ []) (2 ∷ []) (over (1 ∷ 2 ∷ [])) ≡ None }
-    ensures lost { lost_in unsettled ≡ 1 ∷ [] }
-    ensures way { other_links_in unsettled 1 ≡ Some (3 ∷ []) }
-    ensures no_circuit { other_links_in unsettled 2 ≡ None }
+    ensures going { going_in unsettled ≡ 1 ∷ [] }
+    ensures way { way_in unsettled 1 ≡ Some (3 ∷ []) }
+    ensures no_circuit { way_in unsettled 2 ≡ None }
+    ensures no_grant { going_in ungranted ≡ 1 ∷ [] }
+    ensures no_way { way_in ungranted 1 ≡ None }
+    ensures grant { going_in line_in_use ≡ [] }
 {}

@@ -1,3 +1,4 @@
+pub mod EndLaws
 pub mod CircuitLaws
 pub mod ChangeLaws
 pub mod MoveLaws

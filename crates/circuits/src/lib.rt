@@ -4,6 +4,7 @@
 mod after;
 mod applying;
 mod changes;
+mod ends;
 mod grants;
 mod losses;
 mod moves;

@@ -1,18 +1,21 @@
-ghost use Rattle.std.specs.Prelude.{◌≡◌, ◌≤◌, true, false, length, filter, IfOk, OnErr};
+ghost use Rattle.std.specs.Prelude.{◌≡◌, ℕ, ◌≤◌, ◌==◌, true, false, length, filter, count_by, IfOk, OnErr};
 ghost use Rattle.std.specs.Option.{ok_or};
 ghost use Rattle.std.specs.Result.{result_map_both};
 ghost use Rattle.ctrl_model.specs.declared.kinds.Kind.TheVariants as kind;
 ghost use Rattle.ctrl_model.specs.Limits as limits;
 ghost use Rattle.ctrl_model.specs.Numbered.{at, is_present, numbers};
+ghost use Rattle.grant_denorm.specs.PairCounts.{count_of};
 ghost use Rattle.circuits.specs.CircuitChanges.{without_circuits};
 ghost use Rattle.circuits.specs.LostCircuits.{is_lost};
 ghost use Rattle.circuits.specs.MovedCircuits.{with_links, with_moves};
 ghost use Rattle.circuits.specs.CircuitTables.{no_circuits, is_full, with_circuit, without_circuit, with_next, KeepsCircuits};
 
+use crate::ends::tally_in;
 use crate::grants::{Circuit, CircuitView};
 use crate::losses::{Loss, lost_in};
 use crate::moves::{Moves, move_each, set_links};
 use ctrl_model::{CircuitNo, Kind, Numbers, limit};
+use grant_denorm::Counted;
 use record_tables::NumberedTable;
 use std::alloc::{AllocError, Global};
 use std::marker::Model;
@@ -133,6 +136,14 @@ impl Circuits {
         ensures keeps { KeepsCircuits self.now }
     {
         self.granted.numbers(alloc)
+    }
+
+    /// How many circuits end at the terminator of each number: the count of the number and 0.
+    pub fn tally(&self, alloc: Global) -> Result<Counted, AllocError>
+        ensures tally { IfOk result (λ c. (n : ℕ) → count_of c n 0 ≡ count_by (λ row. row.1.terminator == n) self.now.circuits.rows) }
+        ensures few { length self.now.circuits.rows ≤ limits.limit kind.Circuit }
+    {
+        tally_in(alloc, &self.granted)
     }
 
     /// How many circuits there are.

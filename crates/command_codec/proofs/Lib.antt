@@ -11,6 +11,6 @@ mod LinkLaws
 mod TerminatorLaws
 mod ClaimLaws
 mod CircuitLaws
-mod SpelledLaws
+pub mod SpelledLaws
 mod FirstCauseLaws
 mod CauseTables

@@ -13,3 +13,4 @@ pub mod PolicyPlans
 pub mod PolicyApplyLaws
 pub mod LaterNumbers
 pub mod SettledLaws
+pub mod LoadLaws

@@ -16,3 +16,4 @@ pub mod PolicyPlans
 pub mod PlannedPolicies
 pub mod WorkedMembers
 pub mod WorkedPutting
+pub mod OpenCircuits

@@ -1,4 +1,4 @@
--- What a plan of a command on policies is (docs/PROMISES.md, "Commands on policies").
+-- What a plan of a command on policies is (docs/PROMISES.md, "The stores of a core").
 use Rattle.std.specs.Prelude.{Bool, true, false, ◌||◌}
 use Rattle.ctrl_model.specs.declared.commands.Command.{Command}
 use Rattle.ctrl_model.specs.declared.commands.Command.TheVariants as command

@@ -1,4 +1,4 @@
--- A state with some entities and policies, and the uses of attributes that are held there (docs/PROMISES.md, "Commands on policies").
+-- A state with some entities and policies, and the uses of attributes that are held there (docs/PROMISES.md, "The stores of a core").
 use Rattle.ctrl_model.specs.State.{State, start}
 use Rattle.entity_store.specs.EntityTables.{Tables}
 use Rattle.entity_store.specs.HeldUses.{with_entities, HoldsPolicies}

@@ -44,13 +44,6 @@ fn number_of(kind: Kind) -> u8
     }
 }
 
-// Whether two kinds are one.
-fn is_same(one: Kind, other: Kind) -> bool
-    ensures { result ≡ (kind_number one == kind_number other) }
-{
-    number_of(one) == number_of(other)
-}
-
 /// The next number once a record is added, or none is.
 pub fn next_if(adds: bool, next: u32) -> u32
     requires { adds ≡ true → next < 4294967295 }
@@ -64,8 +57,8 @@ fn adds_entity(change: Option<&EntityChange>, kind: Kind) -> bool
     ensures { result ≡ adds_entity (option_map (λ c. c.now) change.entry) kind }
 {
     match change {
-        Some(EntityChange::Add { kind: added, .. }) => is_same(*added, kind),
-        Some(EntityChange::AddRouter { .. }) => is_same(Kind::Router, kind),
+        Some(EntityChange::Add { kind: added, .. }) => number_of(*added) == number_of(kind),
+        Some(EntityChange::AddRouter { .. }) => number_of(Kind::Router) == number_of(kind),
         _ => false,
     }
 }
@@ -75,7 +68,7 @@ fn adds_policy(change: Option<&PolicyChange>, kind: Kind) -> bool
     ensures { result ≡ adds_policy (option_map (λ c. c.now) change.entry) kind }
 {
     match change {
-        Some(PolicyChange::Add { kind: added, .. }) => is_same(*added, kind),
+        Some(PolicyChange::Add { kind: added, .. }) => number_of(*added) == number_of(kind),
         _ => false,
     }
 }

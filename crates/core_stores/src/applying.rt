@@ -24,7 +24,8 @@ fn add_policy(
     requires kind { is_policy_kind kind ≡ true }
     requires valid { ValidState (settle (with_policy kind policy (state_of stores.old))) }
     requires held { HoldsPolicies stores.old }
-    ensures { OnOk result (Carries stores.old stores.new (with_policy kind policy (state_of stores.old))) }
+    ensures carried { OnOk result (Carries stores.old stores.new (with_policy kind policy (state_of stores.old))) }
+    ensures terminators { OnOk result (stores.new.terminators ≡ stores.old.terminators) }
 {
     let names = policy_names(alloc, &policy)?;
     stores.entities.hold(&names)?;
@@ -63,7 +64,8 @@ fn replace_policy(
     requires named { policy_named (policies_in kind (state_of stores.old)) policy.name ≡ Some number }
     requires valid { ValidState (settle (with_replaced kind number policy (state_of stores.old))) }
     requires held { HoldsPolicies stores.old }
-    ensures { OnOk result (Carries stores.old stores.new (with_replaced kind number policy (state_of stores.old))) }
+    ensures carried { OnOk result (Carries stores.old stores.new (with_replaced kind number policy (state_of stores.old))) }
+    ensures terminators { OnOk result (stores.new.terminators ≡ stores.old.terminators) }
 {
     let names = policy_names(alloc, &policy)?;
     let_policy_go(alloc, stores, kind, number)?;
@@ -82,7 +84,8 @@ fn remove_policy(
     requires there { is_present (policies_in kind (state_of stores.old)) number ≡ true }
     requires before { ValidState (state_of stores.old) }
     requires held { HoldsPolicies stores.old }
-    ensures { OnOk result (Carries stores.old stores.new (without_policy kind number (state_of stores.old))) }
+    ensures carried { OnOk result (Carries stores.old stores.new (without_policy kind number (state_of stores.old))) }
+    ensures terminators { OnOk result (stores.new.terminators ≡ stores.old.terminators) }
 {
     let_policy_go(alloc, stores, kind, number)?;
     stores.policies.remove(kind, PolicyNo(number));
@@ -100,7 +103,8 @@ pub fn apply_policy(
     requires before { ValidState (state_of stores.old) }
     requires valid { ValidState (settle (ruled change (state_of stores.old))) }
     requires held { HoldsPolicies stores.old }
-    ensures { OnOk result (Carries stores.old stores.new (ruled change (state_of stores.old))) }
+    ensures carried { OnOk result (Carries stores.old stores.new (ruled change (state_of stores.old))) }
+    ensures terminators { OnOk result (stores.new.terminators ≡ stores.old.terminators) }
 {
     match change {
         PolicyChange::Add { kind, policy } => add_policy(alloc, stores, kind, policy),

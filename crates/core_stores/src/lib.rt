@@ -8,6 +8,7 @@ mod change_parts;
 mod changes;
 mod counting;
 mod granting;
+mod loads;
 mod membership;
 mod planning;
 mod putting;
@@ -24,6 +25,7 @@ pub use counting::{
     coming_router_steps, coming_steps, described_steps, going_steps, policy_change_steps,
 };
 pub use granting::{Moved, entity_steps, policy_steps};
+pub use loads::{Loads, count_loads, loads_after};
 pub use membership::members;
 pub use planning::plan_policy_command;
 pub use putting::{left_kind, may_put, right_kind};

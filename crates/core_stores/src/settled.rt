@@ -1,4 +1,5 @@
 ghost use Rattle.std.specs.Prelude.{◌≡◌, []};
+ghost use Rattle.terminators.specs.TermChanges.{without_terms};
 ghost use Rattle.core_stores.specs.CarriedStates.{Carries};
 ghost use Rattle.core_stores.specs.SettledNumbers.{SettlesNothing, without_settled};
 ghost use Rattle.core_stores.specs.StoredState.{HoldsPolicies, state_of};
@@ -38,7 +39,8 @@ impl Settled {
 /// Takes out what goes and moves the circuits that go on over other links.
 pub fn take_out(stores: &mut Stores, settled: Settled)
     requires { HoldsPolicies stores.old }
-    ensures { Carries stores.old stores.new (without_settled settled (state_of stores.old)) }
+    ensures carried { Carries stores.old stores.new (without_settled settled (state_of stores.old)) }
+    ensures terminators { stores.new.terminators ≡ without_terms settled.terminators stores.old.terminators }
 {
     stores.fabric.remove_each(&settled.links);
     stores.terminators.remove_each(&settled.terminators);

@@ -1,4 +1,4 @@
-ghost use Rattle.std.specs.Prelude.{◌≤◌};
+ghost use Rattle.std.specs.Prelude.{◌≡◌, ◌≤◌};
 ghost use Rattle.ctrl_model.specs.Tables.{table};
 ghost use Rattle.state_building.specs.JoinedRecords.{skipped};
 ghost use Rattle.core_stores.specs.CarriedStates.{Carries};
@@ -11,7 +11,8 @@ use ctrl_model::Kind;
 pub fn skip(stores: &mut Stores, kind: Kind, next: u32)
     requires later { (table kind (state_of stores.old)).next ≤ next }
     requires held { HoldsPolicies stores.old }
-    ensures { Carries stores.old stores.new (skipped kind next (state_of stores.old)) }
+    ensures carried { Carries stores.old stores.new (skipped kind next (state_of stores.old)) }
+    ensures loads { stores.new.terminators.loads ≡ stores.old.terminators.loads }
 {
     match kind {
         Kind::Identity | Kind::Service | Kind::Router => stores.entities.skip(kind, next),

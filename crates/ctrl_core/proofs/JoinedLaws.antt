@@ -1,6 +1,6 @@
 -- What joining a record to the stores of a core has to show: that a raised next number changes no count, and where a record without a
 -- flaw leads.
-use Rattle.std.proofs.Common.{◌≡◌, ℕ, ◌+◌, ◌≤◌, ◌==◌, ◌⊎◌, inl, inr, not, nat_lt, List, ◌++◌, ◌∷◌, [], None, Some, is_some, refl, sym, ◌∙◌, ap, subst, arith, eq-eqb}
+use Rattle.std.proofs.Common.{◌≡◌, ℕ, ◌+◌, ◌≤◌, ◌==◌, ◌⊎◌, inl, inr, not, nat_lt, List, ◌++◌, ◌∷◌, [], None, Some, is_some, count_by, unwrap_or, refl, sym, ◌∙◌, ap, subst, arith, eq-eqb}
 use Rattle.std.proofs.lemmas.Bool.{cond-true}
 use Rattle.std.specs.List.{flat_map}
 use Rattle.std.specs.Option.{option_map}
@@ -65,10 +65,13 @@ same_rows : (k : Kind) (n : ℕ) (s : State) (j : Kind) → (table j s).rows ≡
 same_rows k n s = with_table-holds (λ j t. (table j s).rows ≡ t.rows) s k (renumbered k n s) refl refl (λ j. refl)
 
 -- what a core keeps of its stores stays
-pub keeps_skipped : (k : Kind) (n : ℕ) (st mid : Stores) → (table k (state_of st)).next ≤ n → n ≤ last_next → Keeps st → Carries st mid (skipped k n (state_of st)) → Keeps mid
-keeps_skipped k n st mid above last keeps carries = record {
+pub keeps_skipped : (k : Kind) (n : ℕ) (st mid : Stores) → (table k (state_of st)).next ≤ n → n ≤ last_next → Keeps st → Carries st mid (skipped k n (state_of st)) → mid.terminators.loads ≡ st.terminators.loads → Keeps mid
+keeps_skipped k n st mid above last keeps carries same_loads = record {
   valid = subst ValidState (sym carries.next) (skipped-valid k n (state_of st) keeps.valid above last);
   held = carries.held;
+  loads = λ m.
+      ap (λ (ls : List (ℕ × ℕ)). unwrap_or (at ls m) 0) same_loads ∙ keeps.loads m
+      ∙ ap (λ (rows : List (ℕ × Circuit)). count_by (λ row. row.1.terminator == m) rows) (same_rows k n (state_of st) kind.Circuit ∙ sym (ap (λ (s : State). s.circuits.rows) carries.next));
   counts = λ r a b.
       let before = keeps.counts r a b in
       let same : count_of (counts_of r mid.grants) a b ≡ count_of (counts_of r st.grants) a b = ap (λ (g : Grants). count_of (counts_of r g) a b) carries.counts in

@@ -1,9 +1,12 @@
 -- What is present after a change, as circuits need it, and what becomes of circuits beside it.
-use Rattle.std.proofs.Common.{◌≡◌, ℕ, List, [], IfOk, Option, option_and_then, Result, Ok, Err, sym, ◌∙◌, ap, subst}
+use Rattle.std.proofs.Common.{◌≡◌, ℕ, Bool, true, ◌&&◌, not, cond, List, [], IfOk, Option, None, option_and_then, Result, Ok, Err, sym, ◌∙◌, ap, subst}
+use Rattle.std.specs.List.{filter}
+use Rattle.std.specs.Option.{option_map_or}
 use Rattle.ctrl_model.specs.declared.kinds.RouterSeen.{RouterSeen}
 use Rattle.ctrl_model.specs.Numbered.{at}
-use Rattle.ctrl_model.specs.Settling.{settle}
-use Rattle.ctrl_model.specs.State.{State}
+use Rattle.ctrl_model.specs.declared.kinds.Relation.TheVariants.{Dial, Bind, IdentityRouter, ServiceRouter}
+use Rattle.ctrl_model.specs.Settling.{circuit_granted, granted_in, settle}
+use Rattle.ctrl_model.specs.State.{State, Circuit}
 use Rattle.ctrl_model.specs.ValidState.{ValidState}
 use Rattle.record_tables.proofs.GoneLaws.{gone_none}
 use Rattle.circuits.specs.declared.changes.CircuitChange.{CircuitChange}
@@ -17,28 +20,29 @@ use Rattle.fabric_graph.specs.FabricChanges.{fabric_after}
 use Rattle.fabric_graph.specs.FabricTables.{FabricSeen}
 use Rattle.fabric_graph.specs.Routers.{AreRouters, HaveGraph, fabric_of}
 use Rattle.fabric_graph.proofs.StateLaws.{have_graph, are_routers}
+use Rattle.grant_denorm.specs.CountsAfter.{count_after}
 use Rattle.terminators.specs.declared.changes.TermChange.{TermChange}
 use Rattle.terminators.specs.TermChanges.{terms_after}
 use Rattle.terminators.specs.TermTables.{TermTables}
 use Rattle.circuit_settling.specs.declared.falling.Fallen.{Fallen}
+use Rattle.circuit_settling.specs.declared.granting.GrantsAfter.{GrantsAfter}
 use Rattle.circuit_settling.specs.declared.judging.Judged.{Judged}
-use Rattle.circuit_settling.specs.PresentRecords.{network}
-use Rattle.circuit_settling.specs.OtherLinks.{other_links, other_links_in}
+use Rattle.circuit_settling.specs.PresentRecords.{network, stays}
+use Rattle.circuit_settling.specs.OtherLinks.{other_links, way_in}
 use Rattle.core_stores.specs.declared.changes.Change.{Change}
 use Rattle.core_stores.specs.declared.stores.Stores.{Stores}
 use Rattle.core_stores.specs.ChangeParts.{link_part, term_part, circuit_part}
 use Rattle.core_stores.specs.StoredState.{state_of}
 use Rattle.ctrl_core.specs.ChangedStores.{CanSettle}
+use Rattle.ctrl_core.specs.KeptState.{IsGranted}
 use Rattle.ctrl_core.specs.Changes.{after_change}
 use Rattle.ctrl_core.specs.declared.settling.Remaining.{Remaining}
-use Rattle.ctrl_core.specs.SettledParts.{Remains}
+use Rattle.ctrl_core.specs.SettledParts.{Remains, AreGrantsAfter, looked_at}
 use Rattle.ctrl_core.specs.SettledRecords.{AreJudged, before_circuits}
+use Rattle.ctrl_core.proofs.LookedCircuits.{goes, looked_is}
+use Rattle.circuit_settling.proofs.GrantedCircuits.{granted-before}
 use Rattle.ctrl_core.proofs.SettledChanges.{FallAs}
-use Rattle.ctrl_core.proofs.StateParts.{parts_after, state_then, entities_then, links_then, circuits_then, links_left, terms_left}
-
--- no circuit is judged where none is lost
-pub none_judged : (s : State) (lost : List ℕ) (j : Judged) → lost ≡ [] → j.ended ≡ [] → j.moves ≡ [] → AreJudged s lost j
-none_judged s lost j none ended moves = subst (λ ns. AreJudged s ns j) (sym none) (record { ended_are = ended; moves_are = moves })
+use Rattle.ctrl_core.proofs.StateParts.{parts_after, state_then, entities_then, links_then, circuits_then, terms_ordered, links_left, terms_left}
 
 module _ (c : Change) (st : Stores) (g : Fallen) (can : CanSettle st c) (falls : FallAs (after_change c (state_of st)) g) where
   abbrev t : State
@@ -72,28 +76,52 @@ module _ (c : Change) (st : Stores) (g : Fallen) (can : CanSettle st c) (falls :
     pub routers_ordered : AreRouters r.routers.items
     routers_ordered = subst AreRouters (sym remains.routers_are) (are_routers (settle t) valid_then)
 
-    -- the links that the circuit of a number goes on over, beside what remains
-    abbrev pub way : FabricSeen → TermTables → List RouterSeen → CircuitTables → ℕ → Option (List ℕ)
-    way f e routers k n = option_and_then (other_links (network e f routers) r.identities r.services) (at k.circuits.rows n)
+    module _ (a : GrantsAfter) (counts : AreGrantsAfter t a) where
+      -- beside what remains and what is granted: what granted the circuit, whether it stays as it is, and where it goes on
+      abbrev pub granted_there : FabricSeen → TermTables → List RouterSeen → Circuit → Bool
+      granted_there f e routers k =
+          circuit_granted (record (network e f routers) { dial = count_after a.dial; bind = count_after a.bind; identity_router = count_after a.identity_router; service_router = count_after a.service_router }) r.identities r.services (0, k)
 
-    -- those are the links that it goes on over in the state
-    same_way : (f : FabricSeen) (e : TermTables) (routers : List RouterSeen) (k : CircuitTables) → f ≡ fabric_of (before_circuits t) → e.terminators ≡ (before_circuits t).terminators
-        → routers ≡ r.routers.items → k.circuits ≡ (circuits_then c st).circuits → (n : ℕ) → way f e routers k n ≡ other_links_in (before_circuits t) n
-    same_way f e routers k fabric terms seen_are circuits n =
-        let all = seen_are ∙ remains.routers_are in
-        λ i. option_and_then (other_links (network (record { terminators = terms i }) (fabric i) (all i)) (remains.identities_are i) (remains.services_are i)) (at (circuits i).rows n)
+      abbrev pub stays_there : FabricSeen → TermTables → List RouterSeen → CircuitTables → ℕ → Bool
+      stays_there f e routers k n = option_map_or (λ x. granted_there f e routers x && stays (network e f routers) r.identities r.services x) (at k.circuits.rows n) true
 
-    judged_so : (f : FabricSeen) (e : TermTables) (routers : List RouterSeen) (k : CircuitTables) (j : Judged) → f ≡ fabric_of (before_circuits t)
-        → e.terminators ≡ (before_circuits t).terminators → routers ≡ r.routers.items → k.circuits ≡ (circuits_then c st).circuits
-        → j.ended ≡ ended_by (way f e routers k) g.circuits → j.moves ≡ moves_by (way f e routers k) g.circuits → AreJudged (after_change c (state_of st)) g.circuits j
-    judged_so f e routers k j fabric terms seen_are circuits ended moves = subst (λ s. AreJudged s g.circuits j) (sym (parts_after c st can)) (record {
-      ended_are = ended ∙ (λ i. ended_by (λ n. same_way f e routers k fabric terms seen_are circuits n i) g.circuits);
-      moves_are = moves ∙ (λ i. moves_by (λ n. same_way f e routers k fabric terms seen_are circuits n i) g.circuits);
-    })
+      abbrev pub way_there : FabricSeen → TermTables → List RouterSeen → CircuitTables → ℕ → Option (List ℕ)
+      way_there f e routers k n = option_and_then (λ x. cond (granted_there f e routers x) (other_links (network e f routers) r.identities r.services x) None) (at k.circuits.rows n)
 
-    pub all_judged : {E : Type 0} (o : Result Judged E) (f : FabricSeen) (e : TermTables) (routers : List RouterSeen) (k : CircuitTables) → f ≡ fabric_of (before_circuits t)
-        → e.terminators ≡ (before_circuits t).terminators → routers ≡ r.routers.items → k.circuits ≡ (circuits_then c st).circuits
-        → IfOk o (λ j. j.ended ≡ ended_by (way f e routers k) g.circuits) → IfOk o (λ j. j.moves ≡ moves_by (way f e routers k) g.circuits)
-        → IfOk o (AreJudged (after_change c (state_of st)) g.circuits)
-    all_judged (Ok j) f e routers k fabric terms seen_are circuits ended moves = judged_so f e routers k j fabric terms seen_are circuits ended moves
-    all_judged (Err e) f k routers l fabric terms seen_are circuits ended moves = tt
+      -- what is present and granted there is what is of the state
+      pub record IsThere (f : FabricSeen) (e : TermTables) (routers : List RouterSeen) (k : CircuitTables) : Type 0 where
+        pub fabric : f ≡ fabric_of (before_circuits t)
+        pub terms : e.terminators ≡ (before_circuits t).terminators
+        pub seen_are : routers ≡ r.routers.items
+        pub circuits : k.circuits ≡ (circuits_then c st).circuits
+
+      same_granted : (f : FabricSeen) (e : TermTables) (routers : List RouterSeen) (k : CircuitTables) → IsThere f e routers k → (n : ℕ) (x : Circuit) → granted_there f e routers x ≡ granted_in t (n, x)
+      same_granted f e routers k is n x =
+          let all = is.seen_are ∙ remains.routers_are in
+          (λ i. circuit_granted (record (network (record { terminators = is.terms i; loads = [] }) (is.fabric i) (all i)) {
+            dial = λ p q. counts Dial p q i;
+            bind = λ p q. counts Bind p q i;
+            identity_router = λ p q. counts IdentityRouter p q i;
+            service_router = λ p q. counts ServiceRouter p q i;
+          }) (remains.identities_are i) (remains.services_are i) (0, x))
+          ∙ granted-before t (n, x) (terms_ordered c st can).high (terms_ordered c st can).ordered
+
+      same_way : (f : FabricSeen) (e : TermTables) (routers : List RouterSeen) (k : CircuitTables) → IsThere f e routers k → (n : ℕ) → way_there f e routers k n ≡ way_in t n
+      same_way f e routers k is n =
+          let all = is.seen_are ∙ remains.routers_are in
+          (λ i. option_and_then (λ x. cond (same_granted f e routers k is n x i) (other_links (network (record { terminators = is.terms i; loads = [] }) (is.fabric i) (all i)) (remains.identities_are i) (remains.services_are i) x) None) (at (is.circuits i).rows n))
+
+      same_stays : (f : FabricSeen) (e : TermTables) (routers : List RouterSeen) (k : CircuitTables) → IsThere f e routers k → (n : ℕ) → not (stays_there f e routers k n) ≡ goes c st g can falls_then n
+      same_stays f e routers k is n =
+          let all = is.seen_are ∙ remains.routers_are in
+          (λ i. not (option_map_or (λ x. same_granted f e routers k is n x i && stays (network (record { terminators = is.terms i; loads = [] }) (is.fabric i) (all i)) (remains.identities_are i) (remains.services_are i) x) (at (is.circuits i).rows n) true))
+
+      pub judged_so : (granted : Bool) → IsGranted granted (state_of st) → (f : FabricSeen) (e : TermTables) (routers : List RouterSeen) (k : CircuitTables) (looked going : List ℕ) (j : Judged) → IsThere f e routers k
+          → looked ≡ looked_at granted c g.circuits st.circuits.circuits.next (circuits_then c st)
+          → going ≡ filter (λ n. not (stays_there f e routers k n)) looked → j.ended ≡ ended_by (way_there f e routers k) going → j.moves ≡ moves_by (way_there f e routers k) going
+          → AreJudged (after_change c (state_of st)) going j
+      judged_so granted known f e routers k looked going j is looked_are going_are ended moves = subst (λ s. AreJudged s going j) (sym (parts_after c st can)) (record {
+        lost_are = going_are ∙ (λ i. filter (λ n. same_stays f e routers k is n i) (looked_are i)) ∙ looked_is granted c st g can falls_then known;
+        ended_are = ended ∙ (λ i. ended_by (λ n. same_way f e routers k is n i) going);
+        moves_are = moves ∙ (λ i. moves_by (λ n. same_way f e routers k is n i) going);
+      })

@@ -9,6 +9,8 @@ pub mod CountedChanges
 pub mod FoundPlans
 pub mod StateParts
 pub mod SettledChanges
+pub mod LookedCircuits
+pub mod LoadChanges
 pub mod JudgedChanges
 pub mod NextNumbers
 pub mod RowEnds

@@ -1,5 +1,5 @@
 -- What loading rows leaves: the stores of the state that they build, or the first flaw.
-use Rattle.std.proofs.Common.{◌≡◌, ◌⊎◌, inr, ℕ, suc, ◌+◌, ◌<◌, ◌≤◌, true, List, [], ◌∷◌, ◌++◌, length, map, take, drop, get_or, Option, None, Some, Err, IsErrOf, refl, sym, ◌∙◌, ap, subst, arith, take-append-drop}
+use Rattle.std.proofs.Common.{◌≡◌, ◌⊎◌, inr, ℕ, suc, ◌+◌, ◌<◌, ◌≤◌, ◌==◌, count_by, unwrap_or, true, List, [], ◌∷◌, ◌++◌, length, map, take, drop, get_or, Option, None, Some, Err, IsErrOf, refl, sym, ◌∙◌, ap, subst, arith, take-append-drop}
 use Rattle.std.proofs.lemmas.Bool.{and_parts}
 use Rattle.std.proofs.lemmas.List.{take_all, take_more, length-take-le}
 use Rattle.std.proofs.Math.Seq.{drop-cons}
@@ -9,6 +9,7 @@ use Rattle.ctrl_model.specs.declared.kinds.Kind.TheVariants as kind
 use Rattle.ctrl_model.specs.declared.kinds.Relation.{Relation}
 use Rattle.ctrl_model.specs.declared.kinds.Relation.TheVariants.{Dial, Bind, IdentityRouter, ServiceRouter}
 use Rattle.ctrl_model.specs.Grants.{count}
+use Rattle.ctrl_model.specs.Numbered.{at}
 use Rattle.ctrl_model.specs.State.{State, start}
 use Rattle.ctrl_model.specs.Tables.{table}
 use Rattle.ctrl_model.specs.ValidState.{ValidState}
@@ -196,7 +197,7 @@ no_stores = record {
 
 -- they keep the state at the start
 pub keeps_start : Keeps no_stores
-keeps_start = record { valid = start-valid; held = λ name. refl; counts = by }
+keeps_start = record { valid = start-valid; held = λ name. refl; loads = λ n. refl; counts = by }
   where
     by : (r : Relation) → AreCountsOf (count r start) (counts_of r no_stores.grants)
     by Dial = λ a b. refl
@@ -219,13 +220,16 @@ counts_told rows st l is f r a b h = told (next_in rows) rows start r a b l.rise
 
 -- with the next numbers raised the stores keep the state that the rows give
 pub keeps_loaded : (rows : List Row) (st new : Stores) → Loads (map put_of rows) rows → Keeps st → state_of st ≡ built rows start → AreFlawless (next_in rows) rows start
-    → Carries st new (with_nexts (next_in rows) (state_of st)) → KeepState new (state_in rows)
-keeps_loaded rows st new l k is f c =
+    → Carries st new (with_nexts (next_in rows) (state_of st)) → new.terminators.loads ≡ st.terminators.loads → KeepState new (state_in rows)
+keeps_loaded rows st new l k is f c same_loads =
     let ends : state_of new ≡ state_in rows = c.next ∙ ap (with_nexts (next_in rows)) is in
     record {
       kept = record {
         valid = subst ValidState (sym ends) (valid_in (map put_of rows) rows l f);
         held = c.held;
+        loads = λ n.
+            ap (λ (ls : List (ℕ × ℕ)). unwrap_or (at ls n) 0) same_loads ∙ k.loads n
+            ∙ sym (ap (λ (s : State). count_by (λ row. row.1.terminator == n) s.circuits.rows) c.next);
         counts = λ r a b.
             ap (λ g. count_of (counts_of r g) a b) c.counts ∙ k.counts r a b
             ∙ sym (ap (λ s. count r s a b) c.next ∙ with_nexts-count r (next_in rows) (state_of st) a b);

@@ -20,7 +20,7 @@ use Rattle.circuits.specs.CircuitChanges.{circuits_after}
 use Rattle.circuits.specs.MovedCircuits.{moved_numbers, with_moves}
 use Rattle.circuits.proofs.JudgedMoves.{ended_among, moved_among}
 use Rattle.circuit_settling.specs.CircuitRows as circuit_rows
-use Rattle.circuit_settling.specs.OtherLinks.{other_links_in}
+use Rattle.circuit_settling.specs.OtherLinks.{keeps_in, way_in}
 use Rattle.entity_store.specs.declared.changes.EntityChange.{EntityChange}
 use Rattle.entity_store.specs.EntityChanges.{after_entity_change}
 use Rattle.entity_store.specs.declared.changes.EntityChange.TheVariants as entity
@@ -48,7 +48,7 @@ use Rattle.ctrl_core.specs.ChangedStores.{CanSettle, KnowsSettled, next_state}
 use Rattle.ctrl_core.specs.Changes.{after_change}
 use Rattle.core_stores.specs.StoredState.{state_of}
 use Rattle.core_stores.specs.SettledNumbers.{without_settled}
-use Rattle.ctrl_core.specs.SettledRecords.{AreSettled, before_circuits}
+use Rattle.ctrl_core.specs.SettledRecords.{AreSettled}
 use Rattle.ctrl_core.proofs.StateParts.{parts_after, state_then, policies_then, links_then, terms_then, circuits_then, links_ordered, terms_ordered, circuits_ordered, without_is_settled}
 
 -- ---- the tables of the next state
@@ -95,28 +95,28 @@ settled_then c st g knows = subst (λ s. AreSettled s g) (parts_after c st knows
 pub links_climb : (c : Change) (st : Stores) (g : Settled) → KnowsSettled st c g → Climbs (λ n. n) g.links
 links_climb c st g knows =
     let o = links_ordered c st knows.can in
-    subst (λ ns. Climbs (λ n. n) ns) (sym (settled_then c st g knows).falls.links_are) (gone_climb (link_stays (state_then c st)) (links_then c st).links o.high o.ordered)
+    subst (λ ns. Climbs (λ n. n) ns) (sym (settled_then c st g knows).links_are) (gone_climb (link_stays (state_then c st)) (links_then c st).links o.high o.ordered)
 
 pub terms_climb : (c : Change) (st : Stores) (g : Settled) → KnowsSettled st c g → Climbs (λ n. n) g.terminators
 terms_climb c st g knows =
     let o = terms_ordered c st knows.can in
-    subst (λ ns. Climbs (λ n. n) ns) (sym (settled_then c st g knows).falls.terms_are)
+    subst (λ ns. Climbs (λ n. n) ns) (sym (settled_then c st g knows).terms_are)
     (gone_climb (terminator_stays (settle_links (state_then c st))) (terms_then c st).terminators o.high o.ordered)
 
 -- and the circuits that do not stay as they are hold those that end and those that are moved
 pub circuits_climb : (c : Change) (st : Stores) (g : Settled) → KnowsSettled st c g → Climbs (λ n. n) g.lost
 circuits_climb c st g knows =
-    subst (λ ns. Climbs (λ n. n) ns) (sym (settled_then c st g knows).falls.circuits_are)
-    (gone_climb (stays_in (before_circuits (state_then c st))) (circuits_then c st).circuits (circuits_then c st).circuits.next (circuits_ordered c st knows.can))
+    subst (λ ns. Climbs (λ n. n) ns) (sym (settled_then c st g knows).judged.lost_are)
+    (gone_climb (keeps_in (state_then c st)) (circuits_then c st).circuits (circuits_then c st).circuits.next (circuits_ordered c st knows.can))
 
 pub ended_lost : (c : Change) (st : Stores) (g : Settled) → KnowsSettled st c g → (n : ℕ) → Among n g.ended → Among n g.lost
 ended_lost c st g knows n among =
-    let judged = knows.settled.judged in ended_among (other_links_in (before_circuits (after_change c (state_of st)))) g.lost n (subst (λ ns. Among n ns) judged.ended_are among)
+    let judged = knows.settled.judged in ended_among (way_in (after_change c (state_of st))) g.lost n (subst (λ ns. Among n ns) judged.ended_are among)
 
 pub moved_lost : (c : Change) (st : Stores) (g : Settled) → KnowsSettled st c g → (n : ℕ) → Among n (moved_numbers g.moves) → Among n g.lost
 moved_lost c st g knows n among =
     let judged = knows.settled.judged in
-    moved_among (other_links_in (before_circuits (after_change c (state_of st)))) g.lost n (subst (λ ms. Among n (moved_numbers ms)) judged.moves_are among)
+    moved_among (way_in (after_change c (state_of st))) g.lost n (subst (λ ms. Among n (moved_numbers ms)) judged.moves_are among)
 
 -- ---- records that fit their rows
 

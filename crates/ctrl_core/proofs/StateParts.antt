@@ -1,10 +1,10 @@
 -- The state after a change, by its parts: what each store makes of the change, as it is looked at before it is made.
-use Rattle.std.proofs.Common.{◌≡◌, ℕ, ◌+◌, ◌≤◌, Bool, not, List, Option, None, Some, refl, sym, ◌∙◌, ap, subst}
+use Rattle.std.proofs.Common.{◌≡◌, ℕ, ◌+◌, ◌≤◌, Bool, not, List, [], Option, None, Some, refl, sym, ◌∙◌, ap, subst}
 use Rattle.ctrl_model.specs.declared.kinds.Kind.TheVariants as kind
 use Rattle.std.specs.List.{filter}
-use Rattle.ctrl_model.specs.Numbered.{numbers, Between, with_kept}
+use Rattle.ctrl_model.specs.Numbered.{Table, numbers, Between, with_kept}
 use Rattle.ctrl_model.specs.Settling.{link_stays, terminator_stays, settle, settle_links}
-use Rattle.ctrl_model.specs.State.{State}
+use Rattle.ctrl_model.specs.State.{State, Terminator}
 use Rattle.ctrl_model.proofs.NumberedLaws.{Between-with_last, Between-edit_at, Between-without}
 use Rattle.record_tables.specs.AfterChange.{changed_by, without_numbers}
 use Rattle.record_tables.proofs.GoneLaws.{kept}
@@ -75,12 +75,18 @@ circuits_then c st = changed_by after_circuit_change (circuit_part c) st.circuit
 abbrev pub state_then : Change → Stores → State
 state_then c st = assembled (entities_then c st) (policies_then c st) (links_then c st) (terms_then c st) (circuits_then c st)
 
+-- what is open at terminators is no part of a state
+same_terms : (c : TermChange) (e : TermTables) → (after_term_change c (record { terminators = e.terminators; loads = [] })).terminators ≡ (after_term_change c e).terminators
+same_terms (term.Add t) e = refl
+same_terms (term.Set n cost precedence) e = refl
+same_terms (term.Remove n) e = refl
+
 -- the state after a change is that of the tables after it
 pub parts_after : (c : Change) (st : Stores) → CanSettle st c → after_change c (state_of st) ≡ state_then c st
 parts_after (change.Entity e) st can = sym (carried_entity e st can.can can.valid can.held).next
 parts_after (change.Policy p) st can = refl
 parts_after (change.Link l) st can = refl
-parts_after (change.Terminator e) st can = refl
+parts_after (change.Terminator e) st can = ap (λ (t : Table Terminator). record (state_of st) { terminators = t }) (same_terms e st.terminators)
 parts_after (change.Circuit k) st can = refl
 
 -- ---- the tables after a change are numbered
@@ -96,11 +102,12 @@ links_numbered (Some (link.Set n cost x y up)) f h b = record { high = f.links.n
 links_numbered (Some (link.Remove n)) f h b = record { high = f.links.next; ordered = Between-without f.links.next f.links.rows 1 n.0 b }
 links_numbered (Some (link.SetLeast cost)) f h b = record { high = f.links.next; ordered = b }
 
-terms_numbered : (o : Option TermChange) (e : TermTables) → 1 ≤ e.terminators.next → Between 1 e.terminators.next e.terminators.rows → IsNumbered (changed_by after_term_change o e).terminators.rows
-terms_numbered None e h b = record { high = e.terminators.next; ordered = b }
-terms_numbered (Some (term.Add t)) e h b = record { high = e.terminators.next + 1; ordered = Between-with_last e.terminators.next e.terminators.rows 1 t h b }
-terms_numbered (Some (term.Set n cost precedence)) e h b = record { high = e.terminators.next; ordered = Between-edit_at e.terminators.next e.terminators.rows 1 n.0 _ b }
-terms_numbered (Some (term.Remove n)) e h b = record { high = e.terminators.next; ordered = Between-without e.terminators.next e.terminators.rows 1 n.0 b }
+terms_numbered : (o : Option TermChange) (e : TermTables) → 1 ≤ e.terminators.next → Between 1 e.terminators.next e.terminators.rows
+    → Between 1 (changed_by after_term_change o e).terminators.next (changed_by after_term_change o e).terminators.rows
+terms_numbered None e h b = b
+terms_numbered (Some (term.Add t)) e h b = Between-with_last e.terminators.next e.terminators.rows 1 t h b
+terms_numbered (Some (term.Set n cost precedence)) e h b = Between-edit_at e.terminators.next e.terminators.rows 1 n.0 _ b
+terms_numbered (Some (term.Remove n)) e h b = Between-without e.terminators.next e.terminators.rows 1 n.0 b
 
 circuits_numbered : (o : Option CircuitChange) (k : CircuitTables) → 1 ≤ k.circuits.next → Between 1 k.circuits.next k.circuits.rows
     → Between 1 (changed_by after_circuit_change o k).circuits.next (changed_by after_circuit_change o k).circuits.rows
@@ -111,8 +118,11 @@ circuits_numbered (Some (circuit.Remove n)) k h b = Between-without k.circuits.n
 pub links_ordered : (c : Change) (st : Stores) → CanSettle st c → IsNumbered (links_then c st).links.rows
 links_ordered c st can = let v = (can.before.kinds kind.Link).numbers in links_numbered (link_part c) st.fabric v.first v.ordered
 
+pub terms_ascend : (c : Change) (st : Stores) → CanSettle st c → Between 1 (terms_then c st).terminators.next (terms_then c st).terminators.rows
+terms_ascend c st can = let v = (can.before.kinds kind.Terminator).numbers in terms_numbered (term_part c) st.terminators v.first v.ordered
+
 pub terms_ordered : (c : Change) (st : Stores) → CanSettle st c → IsNumbered (terms_then c st).terminators.rows
-terms_ordered c st can = let v = (can.before.kinds kind.Terminator).numbers in terms_numbered (term_part c) st.terminators v.first v.ordered
+terms_ordered c st can = record { high = (terms_then c st).terminators.next; ordered = terms_ascend c st can }
 
 pub circuits_ordered : (c : Change) (st : Stores) → CanSettle st c → Between 1 (circuits_then c st).circuits.next (circuits_then c st).circuits.rows
 circuits_ordered c st can = let v = (can.before.kinds kind.Circuit).numbers in circuits_numbered (circuit_part c) st.circuits v.first v.ordered
@@ -141,14 +151,14 @@ circuits_left : (c : Change) (st : Stores) (g : Settled) → CanSettle st c → 
     → moved_table g.moves (without_numbers g.ended (circuits_then c st).circuits) ≡ (settle (state_then c st)).circuits
 circuits_left c st g can named =
     (λ i. moved_table (named.judged.moves_are i) (without_numbers (named.judged.ended_are i) (circuits_then c st).circuits))
-    ∙ ap (λ (k : CircuitTables). k.circuits) (circuits_settled (state_then c st) g.lost (circuits_ordered c st can) named.falls.circuits_are)
+    ∙ ap (λ (k : CircuitTables). k.circuits) (circuits_settled (state_then c st) g.lost (circuits_ordered c st can) named.judged.lost_are)
 
 -- a state without what settles is settled
 pub without_is_settled : (c : Change) (st : Stores) (g : Settled) → CanSettle st c → AreSettled (after_change c (state_of st)) g
     → without_settled g (after_change c (state_of st)) ≡ settle (after_change c (state_of st))
 without_is_settled c st g can are =
     subst (λ s. AreSettled s g → without_settled g s ≡ settle s) (sym (parts_after c st can)) (λ named i. record (state_then c st) {
-      links = links_left c st g.links can named.falls.links_are i;
-      terminators = terms_left c st g.terminators can named.falls.terms_are i;
+      links = links_left c st g.links can named.links_are i;
+      terminators = terms_left c st g.terminators can named.terms_are i;
       circuits = circuits_left c st g can named i;
     }) are

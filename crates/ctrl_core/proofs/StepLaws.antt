@@ -1,9 +1,10 @@
 -- What taking the steps of a plan has to show: that the kept counts have room for them, and that what a core keeps stays.
-use Rattle.std.proofs.Common.{◌≡◌, ◌≤◌, length, sym, ap, subst, arith}
+use Rattle.std.proofs.Common.{◌≡◌, ◌≤◌, ◌||◌, Bool, true, false, length, is_some, Option, None, Some, refl, sym, ◌∙◌, ap, subst, arith}
 use Rattle.ctrl_model.specs.declared.kinds.Kind.TheVariants as kind
 use Rattle.ctrl_model.specs.declared.kinds.Relation.{Relation}
 use Rattle.ctrl_model.specs.declared.kinds.Relation.TheVariants.{Dial, Bind, IdentityRouter, ServiceRouter}
 use Rattle.ctrl_model.specs.Grants.{count, policies_for}
+use Rattle.ctrl_model.specs.Settling.{settle}
 use Rattle.ctrl_model.specs.State.{State}
 use Rattle.ctrl_model.specs.ValidState.{ValidState}
 use Rattle.grant_denorm.specs.PairCounts.{count_of}
@@ -14,10 +15,20 @@ use Rattle.core_stores.specs.declared.stores.Grants.{Grants}
 use Rattle.core_stores.specs.declared.stores.Stores.{Stores}
 use Rattle.core_stores.specs.CarriedStates.{Carries}
 use Rattle.core_stores.specs.TakenSteps.{HaveRoom, Taken}
-use Rattle.ctrl_core.specs.Changes.{CanLead, led}
+use Rattle.circuit_settling.specs.declared.granting.GrantsAfter.{GrantsAfter}
+use Rattle.grant_denorm.specs.CountsAfter.{count_after}
+use Rattle.core_stores.specs.declared.changes.Change.{Change}
+use Rattle.ctrl_model.specs.Numbered.{Between}
+use Rattle.model_laws.specs.Plans.{CanLeadBy, led_by}
+use Rattle.model_laws.proofs.RevokedLaws.{revoke-settle}
+use Rattle.ctrl_core.specs.ChangedStores.{CanSettle}
+use Rattle.ctrl_core.specs.Changes.{CanChange, CanLead, after_change, led}
+use Rattle.ctrl_core.proofs.StateParts.{parts_after, terms_ascend}
+use Rattle.ctrl_core.specs.SettledParts.{AreGrantsAfter, StepTo, counts_after}
 use Rattle.core_stores.specs.LeadingSteps.{LeadAllCounts}
+use Rattle.core_stores.specs.OpenCircuits.{CountsOpen}
 use Rattle.policy_store.specs.StepsOfRelations.{steps_of}
-use Rattle.ctrl_core.specs.KeptState.{Keeps}
+use Rattle.ctrl_core.specs.KeptState.{Keeps, IsGranted}
 use Rattle.core_stores.specs.StoredState.{counts_of, state_of}
 
 -- a valid state has at most 512 policies of a kind
@@ -43,11 +54,12 @@ room_for_steps st mid t steps keeps valid leads same r =
     subst (λ (g : Grants). HaveRoom (counts_of r g) (steps_of r steps)) (sym same) (steps_fit st t steps keeps valid leads r)
 
 -- a state and the counts after the steps to it belong together
-pub keeps_with_steps : (st mid : Stores) (g : Grants) (t : State) (steps : GrantSteps) → Keeps st → ValidState t → LeadAllCounts (state_of st) t steps → Carries st mid t
+pub keeps_with_steps : (st mid : Stores) (g : Grants) (t : State) (steps : GrantSteps) → Keeps st → ValidState t → LeadAllCounts (state_of st) t steps → Carries st mid t → CountsOpen mid
     → ((r : Relation) → Taken (counts_of r mid.grants) (counts_of r g) (steps_of r steps)) → Keeps (record mid { grants = g })
-keeps_with_steps st mid g t steps keeps valid leads carries taken = record {
+keeps_with_steps st mid g t steps keeps valid leads carries loads taken = record {
   valid = subst ValidState (sym carries.next) valid;
   held = carries.held;
+  loads = loads;
   counts = λ r a b.
       let moved = (leads r).moves a b in
       let stepped = taken r a b in
@@ -61,6 +73,43 @@ keeps_with_steps st mid g t steps keeps valid leads carries taken = record {
 pub steps_have_room : (st mid : Stores) (p : Planned) → Keeps st → CanLead p (state_of st) → mid.grants ≡ st.grants → (r : Relation) → HaveRoom (counts_of r mid.grants) (steps_of r p.steps)
 steps_have_room st mid p keeps can = room_for_steps st mid (led p (state_of st)) p.steps keeps can.valid can.counts
 
-pub keeps_after : (st mid : Stores) (g : Grants) (p : Planned) → Keeps st → CanLead p (state_of st) → Carries st mid (led p (state_of st))
+pub keeps_after : (st mid : Stores) (g : Grants) (p : Planned) → Keeps st → CanLead p (state_of st) → Carries st mid (led p (state_of st)) → CountsOpen mid
     → ((r : Relation) → Taken (counts_of r mid.grants) (counts_of r g) (steps_of r p.steps)) → Keeps (record mid { grants = g })
 keeps_after st mid g p keeps can = keeps_with_steps st mid g (led p (state_of st)) p.steps keeps can.valid can.counts
+
+-- counts that are told by the steps, one relation after another
+pub stepped_by_relation : (g : Grants) (after : GrantsAfter) (steps : GrantSteps) → StepTo g.dial (count_after after.dial) steps.dial.items → StepTo g.bind (count_after after.bind) steps.bind.items
+    → StepTo g.identity_router (count_after after.identity_router) steps.identity_router.items → StepTo g.service_router (count_after after.service_router) steps.service_router.items
+    → (r : Relation) → StepTo (counts_of r g) (counts_after r after) (steps_of r steps)
+stepped_by_relation g after steps dial bind identity_router service_router Dial = dial
+stepped_by_relation g after steps dial bind identity_router service_router Bind = bind
+stepped_by_relation g after steps dial bind identity_router service_router IdentityRouter = identity_router
+stepped_by_relation g after steps dial bind identity_router service_router ServiceRouter = service_router
+
+-- they are the grant counts of the state to which the steps lead
+pub grants_after_are : (st : Stores) (t : State) (steps : GrantSteps) (after : GrantsAfter) → Keeps st → LeadAllCounts (state_of st) (settle t) steps
+    → ((r : Relation) → StepTo (counts_of r st.grants) (counts_after r after) (steps_of r steps)) → AreGrantsAfter t after
+grants_after_are st t steps after keeps leads stepped r a b =
+    let moved = (leads r).moves a b in
+    let before = keeps.counts r a b in
+    let step = stepped r a b in
+    let same = settled_count r in
+    omega (arith, moved, before, step, same)
+  where
+    settled_count : (r : Relation) → count r (settle t) a b ≡ count r t a b
+    settled_count Dial = refl
+    settled_count Bind = refl
+    settled_count IdentityRouter = refl
+    settled_count ServiceRouter = refl
+
+-- what granted each circuit stands after a change, and else where it stood before
+pub granted_after : (granted : Bool) (o : Option Change) (st : Stores) → Keeps st → CanLeadBy CanChange o (state_of st) → ValidState (led_by after_change o (state_of st)) → IsGranted granted (state_of st)
+    → IsGranted (granted || is_some o) (led_by after_change o (state_of st))
+granted_after granted None st keeps can valid is = λ e. is (plain granted ∙ e)
+  where
+    plain : (b : Bool) → b ≡ (b || false)
+    plain true = refl
+    plain false = refl
+granted_after granted (Some c) st keeps can valid is = λ e.
+    let then : CanSettle st c = record { before = keeps.valid; held = keeps.held; can = can; valid = valid } in
+    revoke-settle (after_change c (state_of st)) (subst (λ s. Between 1 s.terminators.next s.terminators.rows) (sym (parts_after c st then)) (terms_ascend c st then))

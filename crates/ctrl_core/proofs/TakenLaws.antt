@@ -77,6 +77,7 @@ keeps_setting cost st k fits = record {
   kept = record {
     valid = row-valid (λ j. 1) (row.Setting cost) (state_of st) k.valid (λ j. omega arith) (ap (λ b. flaw_if (not b) NoRecord None) fits);
     held = k.held;
+    loads = k.loads;
     counts = counts;
   };
   state_is = refl;

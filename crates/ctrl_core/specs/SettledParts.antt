@@ -1,8 +1,18 @@
 -- What settles after a change of some stores, by its numbers. Only private functions and proofs of this crate cite this file.
-use Rattle.std.specs.Prelude.{◌≡◌, [], map}
+use Rattle.std.specs.Prelude.{◌≡◌, ℕ, ◌+◌, Bool, true, List, [], ◌∷◌, map}
+use Rattle.ctrl_model.specs.declared.kinds.Relation.{Relation}
+use Rattle.ctrl_model.specs.declared.kinds.Relation.TheVariants.{Dial, Bind, IdentityRouter, ServiceRouter}
+use Rattle.ctrl_model.specs.Grants.{count}
 use Rattle.ctrl_model.specs.Networks.{seen}
 use Rattle.ctrl_model.specs.Numbered.{numbers}
 use Rattle.ctrl_model.specs.State.{State, start}
+use Rattle.circuits.specs.CircuitTables.{CircuitTables}
+use Rattle.circuits.specs.declared.changes.CircuitChange.TheVariants as circuit
+use Rattle.grant_denorm.specs.declared.deltas.Delta.{Delta}
+use Rattle.grant_denorm.specs.CountsAfter.{count_after}
+use Rattle.grant_denorm.specs.Deltas.{ups, downs}
+use Rattle.grant_denorm.specs.PairCounts.{count_of}
+use Rattle.circuit_settling.specs.declared.granting.GrantsAfter.{GrantsAfter}
 use Rattle.circuit_settling.specs.declared.falling.Fallen.{Fallen}
 use Rattle.circuit_settling.specs.NamedRecords.{Names, NamesByEntity, NamesByLink, NamesByTerm, NamesByCircuit}
 use Rattle.core_stores.specs.declared.changes.Change.{Change}
@@ -36,3 +46,26 @@ pub record Remains (t : Tables) (r : Remaining) : Type 0 where
   pub identities_are : r.identities ≡ numbers t.identities.rows
   pub services_are : r.services ≡ numbers t.services.rows
   pub routers_are : r.routers.items ≡ map seen t.routers.rows
+
+-- The counts of a relation, as they will be.
+abbrev pub counts_after : Relation → GrantsAfter → ℕ → ℕ → ℕ
+counts_after Dial g = count_after g.dial
+counts_after Bind g = count_after g.bind
+counts_after IdentityRouter g = count_after g.identity_router
+counts_after ServiceRouter g = count_after g.service_router
+
+-- Counts will be those before with some steps taken.
+abbrev pub StepTo : List ((ℕ × ℕ) × ℕ) → (ℕ → ℕ → ℕ) → List Delta → Type 0
+StepTo before after ds = (a b : ℕ) → after a b + downs ds a b ≡ count_of before a b + ups ds a b
+
+-- These are the grant counts of a state.
+abbrev pub AreGrantsAfter : State → GrantsAfter → Type 0
+AreGrantsAfter s g = (r : Relation) (a b : ℕ) → counts_after r g a b ≡ count r s a b
+
+-- The circuits that are looked at after a change: all, but where what granted each circuit stood before and the change leaves all grants,
+-- those alone that the change makes, which is the last one, or fells.
+abbrev pub looked_at : Bool → Change → List ℕ → ℕ → CircuitTables → List ℕ
+looked_at true (change.Link c) fallen next k = fallen
+looked_at true (change.Circuit (circuit.Remove n)) fallen next k = fallen
+looked_at true (change.Circuit (circuit.Add c)) fallen next k = next ∷ []
+looked_at granted c fallen next k = numbers k.circuits.rows

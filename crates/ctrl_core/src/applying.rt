@@ -4,12 +4,17 @@ ghost use Rattle.ctrl_model.specs.ValidState.{ValidState};
 ghost use Rattle.model_laws.specs.Plans.{CanLeadBy, led_by};
 ghost use Rattle.entity_commands.specs.EntityChanges.{CanEnter, entered};
 ghost use Rattle.ctrl_core.specs.Changes.{CanChange, NamesSettled, after_change};
-ghost use Rattle.core_stores.specs.StoredState.{HoldsPolicies};
-ghost use Rattle.core_stores.specs.StoredState.{state_of};
+ghost use Rattle.record_tables.specs.AfterChange.{changed_by};
+ghost use Rattle.terminators.specs.TermChanges.{after_term_change};
+ghost use Rattle.core_stores.specs.ChangeParts.{term_part};
+ghost use Rattle.core_stores.specs.OpenCircuits.{CountsOpen};
+ghost use Rattle.core_stores.specs.StoredState.{HoldsPolicies, state_of};
 ghost use Rattle.core_stores.specs.CarriedStates.{Carries, LetsPolicyGo};
 
 use circuits::apply_circuit_change;
-use core_stores::{Change, Settled, Stores, apply_policy, forget_by, take_out};
+use core_stores::{
+    Change, Settled, Stores, apply_policy, count_loads, forget_by, loads_after, take_out,
+};
 use entity_commands::{EntityChange, apply_entity_change};
 use link_commands::apply_link_change;
 use std::alloc::{AllocError, Global};
@@ -19,7 +24,8 @@ fn apply_entity(stores: &mut Stores, change: &EntityChange) -> Result<(), AllocE
     requires can { CanEnter change.now (state_of stores.old) }
     requires valid { ValidState (settle (entered change.now (state_of stores.old))) }
     requires held { HoldsPolicies stores.old }
-    ensures { OnOk result (Carries stores.old stores.new (entered change.now (state_of stores.old))) }
+    ensures carried { OnOk result (Carries stores.old stores.new (entered change.now (state_of stores.old))) }
+    ensures terminators { OnOk result (stores.new.terminators ≡ stores.old.terminators) }
 {
     apply_entity_change(&mut stores.entities, change)?;
     forget_by(&mut stores.policies, change);
@@ -33,7 +39,8 @@ pub fn apply_change(alloc: Global, stores: &mut Stores, change: Change) -> Resul
     requires before { ValidState (state_of stores.old) }
     requires valid { ValidState (settle (after_change change (state_of stores.old))) }
     requires held { HoldsPolicies stores.old }
-    ensures { OnOk result (Carries stores.old stores.new (after_change change (state_of stores.old))) }
+    ensures carried { OnOk result (Carries stores.old stores.new (after_change change (state_of stores.old))) }
+    ensures terminators { OnOk result (stores.new.terminators ≡ changed_by after_term_change (term_part change) stores.old.terminators) }
 {
     match change {
         Change::Entity(change) => apply_entity(stores, &change),
@@ -44,8 +51,9 @@ pub fn apply_change(alloc: Global, stores: &mut Stores, change: Change) -> Resul
     }
 }
 
-/// Carries a change out that leads from a valid state to a valid one: it is made, what goes is taken out, and the circuits that go on over
-/// other links are moved; what settles is known. Where there is no change the stores stay. Of a change that fails for want of memory nothing is said.
+/// Carries a change out that leads from a valid state to a valid one: it is made, what goes is taken out, the circuits that go on over
+/// other links are moved, and the loads of terminators are brought up to date; what settles is known. Where there is no change the stores
+/// stay. Of a change that fails for want of memory nothing is said.
 pub fn carry_out(
     alloc: Global,
     stores: &mut Stores,
@@ -57,12 +65,15 @@ pub fn carry_out(
     requires valid { ValidState (led_by after_change change (state_of stores.old)) }
     requires settled { NamesSettled change (state_of stores.old) settled }
     requires held { HoldsPolicies stores.old }
-    ensures { OnOk result (Carries stores.old stores.new (led_by after_change change (state_of stores.old))) }
+    requires loads { CountsOpen stores.old }
+    ensures carried { OnOk result (Carries stores.old stores.new (led_by after_change change (state_of stores.old))) }
+    ensures loads { OnOk result (CountsOpen stores.new) }
 {
     let Some(change) = change else {
         return Ok(());
     };
+    let loads = loads_after(&change, &settled);
     apply_change(alloc, stores, change)?;
     take_out(stores, settled);
-    Ok(())
+    count_loads(alloc, stores, loads)
 }

@@ -1,7 +1,7 @@
 ghost use Rattle.std.specs.Prelude.{◌≡◌, IfOk};
 ghost use Rattle.core_stores.specs.LeadingSteps.{LeadAllCounts};
 ghost use Rattle.ctrl_core.specs.ChangedStores.{CanSettle, next_state};
-ghost use Rattle.ctrl_core.specs.KeptState.{Keeps};
+ghost use Rattle.ctrl_core.specs.KeptState.{Keeps, IsGranted};
 ghost use Rattle.core_stores.specs.StoredState.{state_of};
 ghost use Rattle.ctrl_core.specs.CompletedPlans.{Completes, CanComplete, SettlesAs};
 
@@ -19,13 +19,15 @@ fn settled_rows(
     stores: &Stores,
     change: &Change,
     steps: &GrantSteps,
+    granted: bool,
 ) -> Result<(Settled, Batch), AllocError>
     requires kept { Keeps stores.now }
+    requires granted { IsGranted granted (state_of stores.now) }
     requires can { CanSettle stores.now change.now }
     requires counts { LeadAllCounts (state_of stores.now) (next_state stores.now change.now) steps.now }
     ensures { IfOk result (λ p. SettlesAs stores.now change.now p.0 p.1) }
 {
-    let settled = settled_by(alloc, stores, change)?;
+    let settled = settled_by(alloc, stores, change, steps, granted)?;
     let batch = batch_for(alloc, stores, change, &settled, steps)?;
     Ok((settled, batch))
 }
@@ -44,13 +46,19 @@ fn with_settled(draft: Draft, settled: Settled, batch: Batch) -> Planned
 }
 
 /// The plan of a draft: with what settles after its change, and the batch of the rows that differ.
-pub fn completed(alloc: Global, stores: &Stores, draft: Draft) -> Result<Planned, AllocError>
-    requires { CanComplete stores.now draft }
+pub fn completed(
+    alloc: Global,
+    stores: &Stores,
+    draft: Draft,
+    granted: bool,
+) -> Result<Planned, AllocError>
+    requires can { CanComplete stores.now draft }
+    requires granted { IsGranted granted (state_of stores.now) }
     ensures { IfOk result (Completes stores.now draft) }
 {
     let Some(change) = &draft.change else {
         return Ok(Planned::still(alloc, draft.reply, draft.steps));
     };
-    let (settled, batch) = settled_rows(alloc, stores, change, &draft.steps)?;
+    let (settled, batch) = settled_rows(alloc, stores, change, &draft.steps, granted)?;
     Ok(with_settled(draft, settled, batch))
 }

@@ -1,4 +1,4 @@
-ghost use Rattle.std.specs.Prelude.{◌≡◌, ℕ, true, false, IfOk, IsErrOf, OnErr};
+ghost use Rattle.std.specs.Prelude.{◌≡◌, ℕ, ◌||◌, true, false, is_some, IfOk, IsErrOf, OnErr};
 ghost use Rattle.ctrl_model.specs.State.{start};
 ghost use Rattle.ctrl_model.specs.CommandForm.{is_spelled};
 ghost use Rattle.ctrl_model.specs.Controller.{carry};
@@ -18,7 +18,7 @@ use crate::commands::plan_command;
 use crate::completing::completed;
 use crate::loading::load;
 use crate::plans::Planned;
-use core_stores::{Stores, apply_steps};
+use core_stores::{Change, Stores, apply_steps};
 use ctrl_model::{Command, Relation, Reply};
 use grant_denorm::Counted;
 use row_codec::Batch;
@@ -32,19 +32,28 @@ use std::marker::Model;
 pub struct Core {
     alloc: Global,
     live: bool,
+    // Whether it is known that what granted each circuit stands.
+    granted: bool,
     stores: Stores,
 }
 
 impl Model for Core {
     ghost use Rattle.std.specs.Prelude.{◌≡◌, true};
-    ghost use Rattle.ctrl_core.specs.KeptState.{Cored, Keeps};
+    ghost use Rattle.ctrl_core.specs.KeptState.{Cored, Keeps, IsGranted};
     ghost use Rattle.core_stores.specs.StoredState.{state_of};
 
     ghost Value = { Cored };
 
     ghost view = { λ c. record { state = state_of c.stores; live = c.live } };
 
-    ghost invariant = { λ c. c.live ≡ true → Keeps c.stores };
+    ghost invariant = { λ c. c.live ≡ true → Keeps c.stores × IsGranted c.granted (state_of c.stores) };
+}
+
+// Whether it is known that what granted each circuit stands, after a change or none: of a state settled nothing is revoked.
+fn is_granted_then(granted: bool, change: &Option<Change>) -> bool
+    ensures { result ≡ (granted || is_some change.now) }
+{
+    granted || change.is_some()
 }
 
 impl Core {
@@ -56,6 +65,7 @@ impl Core {
         Ok(Core {
             alloc,
             live: true,
+            granted: true,
             stores,
         })
     }
@@ -74,9 +84,11 @@ impl Core {
     {
         let rows = read_rows(alloc, rows.as_slice())?;
         let stores = load(alloc, rows.as_slice())?;
+        // Rows of before circuits were revoked may have some that nothing grants.
         Ok(Core {
             alloc,
             live: true,
+            granted: false,
             stores,
         })
     }
@@ -102,7 +114,7 @@ impl Core {
         ensures valid { ValidState self.now.state }
     {
         let draft = plan_command(self.alloc, &self.stores, command)?;
-        completed(self.alloc, &self.stores, draft)
+        completed(self.alloc, &self.stores, draft, self.granted)
     }
 
     /// Moves the state to where a plan leads, and answers the plan's reply. After want of memory the core is given up.
@@ -121,6 +133,7 @@ impl Core {
             ..
         } = planned;
         self.live = false;
+        self.granted = is_granted_then(self.granted, &change);
         carry_out(self.alloc, &mut self.stores, change, settled)?;
         apply_steps(&mut self.stores.grants, &steps)?;
         self.live = true;

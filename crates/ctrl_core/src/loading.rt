@@ -67,7 +67,8 @@ fn lacks(stores: &Stores, rows: &[Row]) -> bool
 fn raise_nexts(stores: &mut Stores, rows: &[Row])
     requires held { HoldsPolicies stores.old }
     requires later { (k : Kind) → (table k (state_of stores.old)).next ≤ next_in rows.now k }
-    ensures { Carries stores.old stores.new (with_nexts (next_in rows.now) (state_of stores.old)) }
+    ensures carried { Carries stores.old stores.new (with_nexts (next_in rows.now) (state_of stores.old)) }
+    ensures loads { stores.new.terminators.loads ≡ stores.old.terminators.loads }
 {
     'kinds: for kind in KINDS {
         skip(stores, kind, next_in(rows, kind));

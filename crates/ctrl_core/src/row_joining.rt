@@ -9,7 +9,7 @@ ghost use Rattle.core_stores.specs.StoredState.{state_of};
 
 use crate::applying::apply_change;
 use crate::counting::change_steps;
-use core_stores::{Change, Stores, apply_steps, skip};
+use core_stores::{Change, Settled, Stores, apply_steps, count_loads, loads_after, skip};
 use ctrl_model::{Kind, Name, Names};
 use entity_commands::EntityChange;
 use std::alloc::{AllocError, Global};
@@ -22,7 +22,9 @@ fn make(alloc: Global, stores: &mut Stores, change: Change) -> Result<(), AllocE
     ensures { OnOk result (KeepState stores.new (after_change change (state_of stores.old))) }
 {
     let steps = change_steps(alloc, stores, &change)?;
+    let loads = loads_after(&change, &Settled::nothing(alloc));
     apply_change(alloc, stores, change)?;
+    count_loads(alloc, stores, loads)?;
     apply_steps(&mut stores.grants, &steps)?;
     Ok(())
 }

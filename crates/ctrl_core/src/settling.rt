@@ -1,23 +1,33 @@
-ghost use Rattle.std.specs.Prelude.{IfOk};
+ghost use Rattle.std.specs.Prelude.{◌≡◌, IfOk};
+ghost use Rattle.ctrl_model.specs.declared.kinds.Relation.{Relation};
 ghost use Rattle.record_tables.specs.AfterChange.{changed_by};
 ghost use Rattle.entity_store.specs.EntityChanges.{after_entity_change};
 ghost use Rattle.circuit_settling.specs.FallenRecords.{Falls};
 ghost use Rattle.core_stores.specs.ChangeParts.{entity_part};
-ghost use Rattle.core_stores.specs.StoredState.{state_of};
-ghost use Rattle.ctrl_core.specs.ChangedStores.{CanSettle};
+ghost use Rattle.circuits.specs.MovedCircuits.{moves_by, ended_by};
+ghost use Rattle.fabric_graph.specs.Routers.{AreRouters, HaveGraph};
+ghost use Rattle.policy_store.specs.StepsOfRelations.{steps_of};
+ghost use Rattle.circuit_settling.specs.OtherLinks.{way_at};
+ghost use Rattle.core_stores.specs.LeadingSteps.{LeadAllCounts};
+ghost use Rattle.core_stores.specs.StoredState.{counts_of, state_of};
+ghost use Rattle.core_stores.specs.TakenSteps.{HaveRoom};
+ghost use Rattle.ctrl_core.specs.ChangedStores.{CanSettle, next_state};
+ghost use Rattle.ctrl_core.specs.KeptState.{Keeps, IsGranted};
 ghost use Rattle.ctrl_core.specs.Changes.{after_change};
-ghost use Rattle.ctrl_core.specs.SettledParts.{bare_state_of, NamesBy, Remains};
+ghost use Rattle.ctrl_core.specs.SettledParts.{bare_state_of, NamesBy, Remains, AreGrantsAfter, StepTo, counts_after, looked_at};
 ghost use Rattle.ctrl_core.specs.SettledRecords.{AreJudged, AreSettled};
 
 use circuit_settling::{
-    Fallen, Judged, Present, Standing, judge, nothing, search_of, settled_by_circuit,
-    settled_by_entity, settled_by_link, settled_by_term,
+    Fallen, GrantsAfter, Judged, Present, Standing, going_among, judge, nothing, search_of,
+    settled_by_circuit, settled_by_entity, settled_by_link, settled_by_term,
 };
-use circuits::{CircuitsAfter, Moves};
-use core_stores::{Change, Settled, Stores};
+use circuits::{CircuitChange, CircuitsAfter, Moves};
+use core_stores::{Change, Grants, Settled, Stores};
 use ctrl_model::{Kind, Numbers, RouterSeen};
 use entity_store::EntitiesAfter;
 use fabric_graph::FabricAfter;
+use grant_denorm::CountedAfter;
+use policy_store::GrantSteps;
 use std::alloc::{AllocError, Global};
 use terminators::TerminatorsAfter;
 
@@ -60,18 +70,72 @@ fn what_remains(alloc: Global, stores: &Stores, change: &Change) -> Result<Remai
     })
 }
 
-// What becomes of the circuits that do not stay as they are, beside what remains.
+// The grant counts after some steps.
+fn grants_after<'a>(
+    alloc: Global,
+    grants: &'a Grants,
+    steps: &GrantSteps,
+) -> Result<GrantsAfter<'a>, AllocError>
+    requires { (r : Relation) → HaveRoom (counts_of r grants.now) (steps_of r steps.now) }
+    ensures { IfOk result (λ after. (r : Relation) → StepTo (counts_of r grants.now) (counts_after r after) (steps_of r steps.now)) }
+{
+    Ok(GrantsAfter {
+        dial: CountedAfter::new(alloc, &grants.dial, steps.dial.as_slice())?,
+        bind: CountedAfter::new(alloc, &grants.bind, steps.bind.as_slice())?,
+        identity_router: CountedAfter::new(
+            alloc,
+            &grants.identity_router,
+            steps.identity_router.as_slice(),
+        )?,
+        service_router: CountedAfter::new(
+            alloc,
+            &grants.service_router,
+            steps.service_router.as_slice(),
+        )?,
+    })
+}
+
+// The circuits that are looked at after a change: all, but where what granted each circuit stood before and the change leaves all grants,
+// those alone that the change makes or fells.
+fn looked_at(
+    alloc: Global,
+    change: &Change,
+    circuits: &CircuitsAfter,
+    next: u32,
+    fallen: &Fallen,
+    granted: bool,
+) -> Result<Numbers, AllocError>
+    ensures { IfOk result (λ ns. ns ≡ looked_at granted change.now fallen.now.circuits next circuits.now) }
+{
+    if granted {
+        match change {
+            Change::Link(_) => return fallen.circuits.copy(),
+            Change::Circuit(CircuitChange::Remove(_)) => return fallen.circuits.copy(),
+            Change::Circuit(CircuitChange::Add(_)) => {
+                return Numbers::from_slice(alloc, &[next]);
+            }
+            _ => (),
+        }
+    }
+    circuits.numbers(alloc)
+}
+
+// What becomes of the circuits that do not stay as they are, beside what remains and what is granted.
 fn judged_beside(
     alloc: Global,
     stores: &Stores,
     change: &Change,
     fallen: &Fallen,
     remaining: &Remaining,
-) -> Result<Judged, AllocError>
+    grants: &GrantsAfter,
+    granted: bool,
+) -> Result<(Numbers, Judged), AllocError>
     requires can { CanSettle stores.now change.now }
     requires falls { Falls (after_change change.now (state_of stores.now)) fallen.now.links fallen.now.terminators fallen.now.circuits }
     requires remains { Remains (changed_by after_entity_change (entity_part change.now) stores.now.entities) remaining.now }
-    ensures { IfOk result (AreJudged (after_change change.now (state_of stores.now)) fallen.now.circuits) }
+    requires counts { AreGrantsAfter (after_change change.now (state_of stores.now)) grants.now }
+    requires granted { IsGranted granted (state_of stores.now) }
+    ensures { IfOk result (λ p. AreJudged (after_change change.now (state_of stores.now)) p.0 p.1) }
 {
     let fabric = FabricAfter::new(&stores.fabric, change.of_links(), &fallen.links);
     let ends = change.of_terminators();
@@ -86,42 +150,68 @@ fn judged_beside(
     let none = Numbers::of(Vec::new(alloc));
     let stay = Moves::of(Vec::new(alloc));
     let circuits = CircuitsAfter::new(&stores.circuits, change.of_circuits(), &none, &stay);
-    let mut search = search_of(alloc, &present)?;
-    judge(alloc, &present, &mut search, &circuits, &fallen.circuits)
+    let looked = looked_at(
+        alloc,
+        change,
+        &circuits,
+        stores.circuits.next(),
+        fallen,
+        granted,
+    )?;
+    let going = going_among(alloc, &circuits, &present, grants, &looked)?;
+    let judged = judged(alloc, &present, grants, &circuits, &going)?;
+    Ok((going, judged))
 }
 
-// What becomes of the circuits that do not stay as they are. Where there are none, nothing is searched.
+// What becomes of circuits that do not stay as they are. Where there are none, nothing is searched.
 fn judged(
     alloc: Global,
-    stores: &Stores,
-    change: &Change,
-    fallen: &Fallen,
+    present: &Present,
+    grants: &GrantsAfter,
+    circuits: &CircuitsAfter,
+    going: &Numbers,
 ) -> Result<Judged, AllocError>
-    requires can { CanSettle stores.now change.now }
-    requires falls { Falls (after_change change.now (state_of stores.now)) fallen.now.links fallen.now.terminators fallen.now.circuits }
-    ensures { IfOk result (AreJudged (after_change change.now (state_of stores.now)) fallen.now.circuits) }
+    requires routers { AreRouters present.now.routers.now }
+    requires links { HaveGraph present.now.fabric.now }
+    ensures ended { IfOk result (λ j. j.ended ≡ ended_by (way_at present.now grants.now circuits.now.circuits.rows) going.now) }
+    ensures moves { IfOk result (λ j. j.moves ≡ moves_by (way_at present.now grants.now circuits.now.circuits.rows) going.now) }
 {
-    if fallen.circuits.is_empty() {
+    if going.is_empty() {
         return Ok(Judged {
             ended: Numbers::of(Vec::new(alloc)),
             moves: Moves::of(Vec::new(alloc)),
         });
     }
-    let remaining = what_remains(alloc, stores, change)?;
-    judged_beside(alloc, stores, change, fallen, &remaining)
+    let mut search = search_of(alloc, present)?;
+    judge(alloc, present, grants, &mut search, circuits, going)
 }
 
-/// What settling makes of the state after a change, by its numbers. The stores stay.
-pub fn settled_by(alloc: Global, stores: &Stores, change: &Change) -> Result<Settled, AllocError>
-    requires { CanSettle stores.now change.now }
+/// What settling makes of the state after a change, by its numbers. The steps lead the counts to those after the change; and where it is
+/// told that what granted each circuit stood before, only those circuits are looked at whose grant or path the change may take. The
+/// stores stay.
+pub fn settled_by(
+    alloc: Global,
+    stores: &Stores,
+    change: &Change,
+    steps: &GrantSteps,
+    granted: bool,
+) -> Result<Settled, AllocError>
+    requires kept { Keeps stores.now }
+    requires can { CanSettle stores.now change.now }
+    requires counts { LeadAllCounts (state_of stores.now) (next_state stores.now change.now) steps.now }
+    requires granted { IsGranted granted (state_of stores.now) }
     ensures { IfOk result (AreSettled (after_change change.now (state_of stores.now))) }
 {
     let fallen = fallen_by(alloc, stores, change)?;
-    let judged = judged(alloc, stores, change, &fallen)?;
+    let remaining = what_remains(alloc, stores, change)?;
+    let grants = grants_after(alloc, &stores.grants, steps)?;
+    let (lost, judged) = judged_beside(
+        alloc, stores, change, &fallen, &remaining, &grants, granted,
+    )?;
     Ok(Settled {
         links: fallen.links,
         terminators: fallen.terminators,
-        lost: fallen.circuits,
+        lost,
         ended: judged.ended,
         moves: judged.moves,
     })

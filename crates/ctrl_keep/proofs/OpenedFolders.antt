@@ -65,7 +65,7 @@ start_kinds kind.Link = valid-none kind.Link start
 start_kinds k = valid-none k start
 
 start_valid : ValidState start
-start_valid = record { kinds = start_kinds; setting = refl; attributes = refl; settled = refl }
+start_valid = record { kinds = start_kinds; setting = refl; attributes = refl; repaired = refl }
 
 -- Over an empty mark there are no rows, which are those of the start.
 empty_opens : (image : Image) (rows : ByteRows) → length (image Mark) ≡ 0 → OpensTo image rows → rows ≡ byte_rows_of start

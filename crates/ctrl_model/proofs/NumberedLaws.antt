@@ -1,12 +1,13 @@
 -- Laws on numbered maps: what stands at a number after each change, that the numbers stay in order, and what a search by a
 -- test finds. The laws named `..-back` tell from what stands after a change what stood before it.
-use Rattle.std.proofs.Common.{◌≡◌, ◌≢◌, ℕ, ◌+◌, ◌<◌, ◌≤◌, ◌==◌, Bool, true, false, cond, not, ◌⊎◌, inl, inr, List, [], ◌∷◌, map, length, is_some, Option, None, Some, refl, sym, ◌∙◌, ap, arith, eqb-true, eq-eqb, ne_eqb, length-append, suc}
+use Rattle.std.proofs.Common.{◌≡◌, ◌≢◌, ℕ, ◌+◌, ◌<◌, ◌≤◌, ◌==◌, Bool, true, false, cond, not, ◌||◌, ◌⊎◌, inl, inr, List, [], ◌∷◌, map, length, is_some, Option, None, Some, refl, sym, ◌∙◌, ap, arith, eqb-true, eq-eqb, ne_eqb, length-append, suc}
 use Rattle.std.proofs.lemmas.Bool.{cases_eq, cond-true, cond-false, false≢true, not-true, both_ways}
 use Rattle.std.proofs.lemmas.Bool.Decides.{nat_tests}
 use Rattle.std.proofs.lemmas.Option.{same_Some, none-some}
 use Rattle.std.specs.Option.{option_map}
 use Rattle.std.specs.List.{filter}
-use Rattle.ctrl_model.specs.Numbered.{at, with_last, edit_at, without, map_each, first_where, Between}
+use Rattle.ctrl_model.specs.Numbered.{at, is_present, numbers, with_last, edit_at, without, map_each, first_where, Between}
+use Rattle.ctrl_model.specs.Walks.{is_among}
 
 -- ---- what stands at a number
 
@@ -242,3 +243,12 @@ pub first_where-map : {R S : Type 0} (test : R → Bool) (after : S → Bool) (g
     → (xs : List (ℕ × R)) → first_where after (map (λ x. (x.0, g x)) xs) ≡ first_where test xs
 first_where-map test after g same [] = refl
 first_where-map test after g same (x ∷ xs) = λ i. cond (same x i) (Some x.0) (first_where-map test after g same xs i)
+
+-- a number is among those of some records exactly where one of them has it
+pub among_present : {R : Type 0} (rows : List (ℕ × R)) (n : ℕ) → is_among n (numbers rows) ≡ is_present rows n
+among_present [] n = refl
+among_present (x ∷ rows) n = by (x.0 == n) (among_present rows n)
+  where
+    by : (b : Bool) → is_among n (numbers rows) ≡ is_present rows n → (b || is_among n (numbers rows)) ≡ is_some (cond b (Some x.1) (at rows n))
+    by true e = refl
+    by false e = e

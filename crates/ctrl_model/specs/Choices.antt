@@ -53,9 +53,9 @@ place_of Required = 1
 place_of Normal = 2
 place_of Failed = 3
 
--- What a terminator costs: its static cost.
+-- What a terminator costs: its static cost, and 1 for each circuit that is open there.
 abbrev pub terminator_cost : Network → ℕ × Terminator → ℕ
-terminator_cost w e = e.1.cost
+terminator_cost w e = e.1.cost + w.load e.0
 
 -- A candidate: its terminator's precedence, its total, its terminator, its ingress and its links.
 pub record Candidate : Type 0 where

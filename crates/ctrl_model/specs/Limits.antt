@@ -1,5 +1,5 @@
 -- The limits of a controller (docs/RULES.md, "Limits").
-use Rattle.std.specs.Prelude.{ℕ}
+use Rattle.std.specs.Prelude.{ℕ, ◌+◌}
 use Rattle.ctrl_model.specs.declared.kinds.Kind.{Kind}
 use Rattle.ctrl_model.specs.declared.kinds.Kind.TheVariants as kind
 
@@ -39,6 +39,10 @@ longest_name = 64
 -- The greatest cost of a router, a terminator or a link, and the greatest least router cost.
 abbrev pub most_cost : ℕ
 most_cost = 65535
+
+-- The greatest cost of a terminator with its load: its static cost, and 1 for each circuit that may be open.
+abbrev pub most_terminator_cost : ℕ
+most_terminator_cost = most_cost + limit kind.Circuit
 
 -- The greatest latency that one end of a link reports.
 abbrev pub most_latency : ℕ

@@ -1,6 +1,6 @@
--- The network that routes see: routers, links, terminators and grants. A state has one; whatever else has these parts has
+-- The network that routes see: routers, links, terminators, their load, and grants. A state has one; whatever else has these parts has
 -- one too, so that those who choose routes speak of it in the same words (docs/RULES.md, "Links and paths", "Terminators").
-use Rattle.std.specs.Prelude.{◌≡◌, ℕ, ◌+◌, ◌==◌, max, Bool, true, false, not, ◌&&◌, ◌||◌, nat_lt, cond, List, [], ◌∷◌, length, map, filter, find, None, Some, option_and_then}
+use Rattle.std.specs.Prelude.{◌≡◌, ℕ, ◌+◌, ◌==◌, max, Bool, true, false, not, ◌&&◌, ◌||◌, nat_lt, cond, List, [], ◌∷◌, length, map, filter, find, None, Some, option_and_then, count_by}
 use Rattle.std.specs.declared.option.Option.{Option}
 use Rattle.std.specs.Option.{option_map_or}
 use Rattle.std.specs.Str.{bytes_eq}
@@ -15,13 +15,14 @@ use Rattle.ctrl_model.specs.Grants.{count}
 use Rattle.ctrl_model.specs.Ranks.{comes_before, least_by}
 use Rattle.ctrl_model.specs.Walks.{Hops, goes, cost_along, walks}
 
--- A network: the routers by ascending number, the links, the least cost of entering a router, the terminators, the four
--- grant counts of pairs, and whether no circuit can be added.
+-- A network: the routers by ascending number, the links, the least cost of entering a router, the terminators, how many circuits
+-- are open at each, the four grant counts of pairs, and whether no circuit can be added.
 pub record Network : Type 0 where
   pub routers : List RouterSeen
   pub links : List (ℕ × Link)
   pub least : ℕ
   pub terminators : List (ℕ × Terminator)
+  pub load : ℕ → ℕ
   pub dial : ℕ → ℕ → ℕ
   pub bind : ℕ → ℕ → ℕ
   pub identity_router : ℕ → ℕ → ℕ
@@ -31,6 +32,10 @@ pub record Network : Type 0 where
 -- A router of the state as routes see it.
 abbrev pub seen : ℕ × Router → RouterSeen
 seen row = record { no = record { 0 = row.0 }; cost = row.1.cost; through = row.1.through; connected = row.1.connected }
+
+-- How many circuits are open at a terminator: those that end there.
+abbrev pub open_circuits : State → ℕ → ℕ
+open_circuits s n = count_by (λ row. row.1.terminator == n) s.circuits.rows
 
 -- Whether no circuit can be added.
 abbrev pub circuits_full : State → Bool
@@ -43,6 +48,7 @@ network_of s = record {
   links = s.links.rows;
   least = s.least_router_cost;
   terminators = s.terminators.rows;
+  load = open_circuits s;
   dial = count Dial s;
   bind = count Bind s;
   identity_router = count IdentityRouter s;

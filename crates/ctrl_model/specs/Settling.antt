@@ -1,10 +1,34 @@
--- Settling: after each change what stands no longer is removed, and circuits whose path fails are rerouted (docs/RULES.md, "Settling").
-use Rattle.std.specs.Prelude.{ℕ, Bool, true, false, ◌&&◌, cond, List}
+-- Settling: after each change circuits whose grant is gone are revoked, what stands no longer is removed, and circuits whose path fails
+-- are rerouted (docs/RULES.md, "Settling").
+use Rattle.std.specs.Prelude.{ℕ, Bool, true, false, ◌&&◌, nat_lt, cond, List}
 use Rattle.std.specs.Option.{option_map_or}
 use Rattle.ctrl_model.specs.Numbered.{with_each, with_kept, at, is_present, numbers}
 use Rattle.ctrl_model.specs.State.{State, Link, Terminator, Circuit}
 use Rattle.ctrl_model.specs.Walks.{is_among}
-use Rattle.ctrl_model.specs.Networks.{Network, network_of, is_path, least_path}
+use Rattle.ctrl_model.specs.Networks.{Network, network_of, is_path, least_path, is_shared, is_counted, is_in_service}
+
+-- Whether a terminator is admissible for a service and its own instance.
+abbrev pub admits : Network → ℕ → ℕ → Terminator → Bool
+admits w s n e = is_counted s e.instance (n, e) && is_in_service w (n, e)
+
+-- What granted a circuit still stands: its identity and its service are present and the identity is granted Dial on the service, its
+-- ingress is shared by the two, and its terminator is present and admissible for the service and the terminator's own instance. It
+-- is said over the network and the numbers of the present identities and services, as is whether a circuit stays.
+abbrev pub circuit_granted : Network → List ℕ → List ℕ → ℕ × Circuit → Bool
+circuit_granted w identities services row =
+    is_among row.1.identity identities
+    && (is_among row.1.service services
+    && (nat_lt 0 (w.dial row.1.identity row.1.service)
+    && (is_shared w row.1.identity row.1.service row.1.ingress
+    && option_map_or (admits w row.1.service row.1.terminator) (at w.terminators row.1.terminator) false)))
+
+-- What granted the circuit still stands in the state.
+abbrev pub granted_in : State → ℕ × Circuit → Bool
+granted_in s = circuit_granted (network_of s) (numbers s.identities.rows) (numbers s.services.rows)
+
+-- Circuits stay while what granted them stands. All else stays.
+abbrev pub revoke : State → State
+revoke s = record s { circuits = with_kept (granted_in s) s.circuits }
 
 -- A link stays whose two routers are present.
 abbrev pub link_stays : State → ℕ × Link → Bool
@@ -32,7 +56,7 @@ circuit_stays w identities services row =
 abbrev pub stays_in : State → ℕ × Circuit → Bool
 stays_in s = circuit_stays (network_of s) (numbers s.identities.rows) (numbers s.services.rows)
 
--- The first filter.
+-- The first filter of what stands no longer.
 abbrev pub settle_links : State → State
 settle_links s = record s { links = with_kept (link_stays s) s.links }
 
@@ -57,6 +81,10 @@ reroute_circuits s = record s { circuits = with_each (rerouted (network_of s)) s
 abbrev pub end_circuits : State → State
 end_circuits s = record s { circuits = with_kept (stays_in s) s.circuits }
 
--- The state settled: links and then terminators are filtered, and then each circuit stays, is rerouted or ends.
+-- The state repaired: links and then terminators are filtered, and then each circuit stays, is rerouted or ends.
+abbrev pub repair : State → State
+repair s = end_circuits (reroute_circuits (settle_terminators (settle_links s)))
+
+-- The state settled: circuits are revoked, and what is left is repaired.
 abbrev pub settle : State → State
-settle s = end_circuits (reroute_circuits (settle_terminators (settle_links s)))
+settle s = repair (revoke s)

@@ -15,7 +15,7 @@ use Rattle.ctrl_model.specs.State.{State, Entity, Router, Link, Policy, Terminat
 use Rattle.ctrl_model.specs.Tables.{Record, table, has_names, record_name, named, left_kind, right_kind}
 use Rattle.ctrl_model.specs.Grants.{same_relation}
 use Rattle.ctrl_model.specs.Rules.{attributes_full}
-use Rattle.ctrl_model.specs.Settling.{settle}
+use Rattle.ctrl_model.specs.Settling.{repair}
 
 -- A table is numbered: from 1, ascending, below the next number, which has an end; and it keeps its limit.
 pub record ValidNumbers {R : Type 0} (most : ℕ) (rows : List (ℕ × R)) (next : ℕ) : Type 0 where
@@ -70,7 +70,7 @@ is_valid_terminator e = is_instance e.instance && is_cost e.cost
 abbrev pub each_passes : {R : Type 0} → (R → Bool) → List (ℕ × R) → Bool
 each_passes test rows = list_all (λ row. test row.1) rows
 
--- Whether a record of a kind is valid in a state. Of circuits settling says all.
+-- Whether a record of a kind is valid in a state. Of circuits repairing says all.
 abbrev pub is_valid : (k : Kind) → State → Record k → Bool
 is_valid kind.Identity s e = is_valid_entity e
 is_valid kind.Service s e = is_valid_entity e
@@ -91,9 +91,10 @@ pub record ValidTable (k : Kind) (s : State) (t : Table (Record k)) : Type 0 whe
   pub each : each_passes (is_valid k s) t.rows ≡ true
 
 -- A valid state: the table of each kind is valid, the setting is in its range, no more attributes are in use than may be, and
--- settling changes nothing.
+-- repairing changes nothing. Circuits that settling would revoke may stand: those of a folder written before circuits were revoked, until a
+-- command has an effect.
 pub record ValidState (s : State) : Type 0 where
   pub kinds : (k : Kind) → ValidTable k s (table k s)
   pub setting : is_link_cost s.least_router_cost ≡ true
   pub attributes : attributes_full s ≡ false
-  pub settled : settle s ≡ s
+  pub repaired : repair s ≡ s

@@ -87,6 +87,18 @@ claim_on_line values = VerifyRoute (codes "ann") (codes "web") None [] (codes "r
 abbrev pub detoured : State
 detoured = after (ann_to_web ∷ CreateLink (codes "l3") (codes "r1") (codes "r3") 60 0 0 ∷ []) line
 
+-- The line with a second terminator of web on r3, at cost 0 too.
+abbrev pub two_on_r3 : State
+two_on_r3 = after (offered (codes "web") (codes "r3") 0 Normal ∷ []) line
+
+-- The line with a circuit of ann's over both its links.
+abbrev pub line_in_use : State
+line_in_use = after (ann_to_web ∷ []) line
+
+-- The same without the policy that lets her dial: what no run comes to from the start.
+abbrev pub ungranted : State
+ungranted = record line_in_use { service_policies = record line_in_use.service_policies { rows = [] } }
+
 -- The line with r2 made a router that no path passes through.
 abbrev pub line_stopped_at_r2 : State
 line_stopped_at_r2 = after (UpdateRouter (codes "r2") [] 0 true ∷ []) (after (ann_to_web ∷ []) line)

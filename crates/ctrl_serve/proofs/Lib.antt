@@ -20,6 +20,7 @@ pub mod IntakeLaws
 pub mod LoadRuns
 pub mod OpenedMachines
 pub mod ClosedFolders
+pub mod GrantedRuns
 pub mod ReplayLaws
 pub mod FolderLaws
 pub mod AcknowledgedLaws

@@ -36,7 +36,7 @@ kinds kind.Link = valid-none kind.Link start
 kinds k = valid-none k start
 
 start_valid : ValidState start
-start_valid = record { kinds = kinds; setting = refl; attributes = refl; settled = refl }
+start_valid = record { kinds = kinds; setting = refl; attributes = refl; repaired = refl }
 
 start_rows : byte_rows_of start ≡ []
 start_rows = refl

@@ -36,7 +36,9 @@ use Rattle.ctrl_serve.specs.Failures.{TakesUntilFailure}
 use Rattle.ctrl_serve.specs.Pieces.{CutsInput, EndsInput, IsReadCaused}
 use Rattle.ctrl_serve.specs.Turns.{StopsAlong}
 use Rattle.ctrl_serve.specs.RunStops.{AllOpenTo, StopFinds}
+use Rattle.session_mux.specs.Completion.{completed}
 use Rattle.ctrl_serve.specs.Headline.{Serves, Replays}
+use Rattle.ctrl_serve.proofs.GrantedRuns.{behind-granted}
 use Rattle.run_notes.specs.Notes.{status_lines}
 use Rattle.run_notes.specs.NotesSoFar.{NotesMore}
 use Rattle.run_notes.specs.KnownSessions.{known_in}
@@ -229,6 +231,7 @@ opened_replays form bounds most k l m a b c d x y tells before mid now first ima
       found = λ kept told. (runs.keeps refl kept told).1;
       stands = λ kept told batches. opened_stands_for form k.stored.bounds (machine_of k) before mid now (take most runs.serves.taken) batches (made told) (runs.follows refl kept told);
       still = λ kept told. opened_still form k.stored.bounds (machine_of k) before mid now (take most runs.serves.taken) (made told) (runs.follows refl kept told);
+      granted = λ stand n. behind-granted k.stored.bounds (machine_of k) (completed form (take n runs.serves.taken)) holds.valid stand;
       stops = λ told all. stops (events_in form (take most runs.serves.taken)) told (runs.stops refl told) all;
       stops_later = λ told. stops_later (events_in form (take most runs.serves.taken)) told (runs.stops refl told);
     })

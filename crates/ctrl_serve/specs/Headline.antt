@@ -12,6 +12,7 @@ use Rattle.ziti_outside.specs.declared.desk.Part.TheVariants.{Mark}
 use Rattle.journal_core.specs.Room.{KeepsRoom}
 use Rattle.ctrl_model.specs.State.{start}
 use Rattle.ctrl_model.specs.ValidState.{ValidState}
+use Rattle.model_laws.specs.JudgedCircuits.{AreGranted}
 use Rattle.slot_files.specs.FolderImage.{Stands, StandsAsBefore}
 use Rattle.ctrl_keep.specs.OpenedStates.{IsStateless, OpensToState}
 use Rattle.row_store.specs.declared.bounds.StoreBounds.{StoreBounds}
@@ -132,7 +133,8 @@ pub record Refuses {S D : Type 0} (said noted : D → Option (List ℕ)) (note_f
 -- Where it ended with all kept, the folder keeps the machine behind all frames of the used bytes: exactly the rows of its state, and its
 -- place; and what a stop may leave then opens to that state. For whatever batches it stood before the run, it stands for those that the run
 -- makes of them (`last_batches`); and where its mark was not empty and the machine behind all frames is the one at the opening, every part
--- reads as before.
+-- reads as before. Where what granted each circuit stands at the opening, as it does of a folder begun empty, it stands behind the frames of
+-- each front of the input.
 --
 -- A stop at any moment of the run finds the replies to the first frames, and the folder open to the state behind them, as `StopFinds`
 -- says, where all that a stop might have left before the run opens to the machine's state. Whatever it might have left, it finds that or
@@ -147,6 +149,7 @@ pub record Replays (form : Form) (bounds : StoreBounds) (most : ℕ) (left_befor
   pub found : is_kept status ≡ true → IsTrue tells → (image : Image) → may_leave_now image → OpensToState image (last_machine form bounds machine (take most serves.taken)).state
   pub stands : is_kept status ≡ true → IsTrue tells → (batches : List (List ℕ)) → Stands reads_before batches → Stands reads_now (last_batches form bounds machine (take most serves.taken) batches)
   pub still : is_kept status ≡ true → IsTrue tells → 0 < length (reads_before Mark) → last_machine form bounds machine (take most serves.taken) ≡ machine → reads_now ≡ reads_before
+  pub granted : AreGranted machine.state → (n : ℕ) → AreGranted (last_machine form bounds machine (take n serves.taken)).state
   pub stops : IsTrue tells → AllOpenTo may_leave_before machine.state → elapses (StopFinds form bounds machine (events_in form (take most serves.taken)) said_before)
   pub stops_later : IsTrue tells → elapses (λ image taken. StopFinds form bounds machine (events_in form (take most serves.taken)) said_before image taken
       ⊎ Now (After StandsAsBefore may_leave_before) said_before image taken)

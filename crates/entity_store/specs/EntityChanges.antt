@@ -1,4 +1,4 @@
--- What a change of entities makes of their tables (docs/PROMISES.md, "Entities").
+-- What a change of entities makes of their tables (docs/PROMISES.md, "The store of entities").
 use Rattle.std.specs.Prelude.{false}
 use Rattle.ctrl_model.specs.declared.kinds.Kind.TheVariants as kind
 use Rattle.entity_store.specs.declared.changes.EntityChange.{EntityChange}

@@ -1,5 +1,5 @@
 -- A state around the tables of a store: its entities are those of the tables, and the uses that the store holds are those of its
--- policies (docs/PROMISES.md, "Entities").
+-- policies (docs/PROMISES.md, "The store of entities").
 use Rattle.std.specs.Prelude.{◌≡◌, ℕ, List, ◌++◌}
 use Rattle.std.specs.List.{flat_map}
 use Rattle.ctrl_model.specs.Rules.{side_attributes}

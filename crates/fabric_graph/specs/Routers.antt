@@ -47,6 +47,7 @@ network f routers = record {
   links = f.links.rows;
   least = f.least;
   terminators = [];
+  load = λ _. 0;
   dial = λ _ _. 0;
   bind = λ _ _. 0;
   identity_router = λ _ _. 0;

@@ -1,5 +1,5 @@
 -- Laws of steps: how many steps up and down at a pair a row, a product, and the turns of an entity have.
-use Rattle.std.proofs.Common.{◌≡◌, ℕ, ◌+◌, ◌<◌, ◌==◌, ◌&&◌, ◌||◌, not, Bool, true, false, cond, List, [], ◌∷◌, ◌++◌, map, refl, sym, ◌∙◌, ap, ap₂, arith, eqb-true, filter}
+use Rattle.std.proofs.Common.{◌≡◌, ℕ, ◌+◌, ◌<◌, ◌==◌, ◌&&◌, ◌||◌, not, Bool, true, false, cond, List, [], ◌∷◌, ◌++◌, map, zero, suc, length, take, get_or, refl, sym, ◌∙◌, ap, ap₂, arith, eqb-true, filter}
 use Rattle.std.proofs.lemmas.Bool.{false_from_ne_true}
 use Rattle.std.proofs.lemmas.Grind.{common_steps}
 use Rattle.std.proofs.lemmas.List.Sums.{sum_by-cons, sum_by-append}
@@ -10,6 +10,7 @@ use Rattle.grant_denorm.specs.declared.deltas.Cross.{Cross}
 use Rattle.grant_denorm.specs.declared.deltas.Delta.{Delta}
 use Rattle.grant_denorm.specs.declared.deltas.Turn.{Turn}
 use Rattle.grant_denorm.specs.PairCounts.{Ascends, AreThose}
+use Rattle.grant_denorm.specs.CountsAfter.{goes, steps_at}
 use Rattle.grant_denorm.specs.Deltas.{is_at, ups, downs, has_pair, is_entity_pair, turn_count, entity_ups, entity_downs}
 use Rattle.grant_denorm.specs.Steps.{steps_of_row, steps_of_rows, steps_of_pair, steps_of_turn}
 use Rattle.grant_denorm.proofs.MemberLaws.{AreThose-filter, is_among-those}
@@ -48,14 +49,18 @@ counted_once b (y ∷ ys) a =
     by false true k = refl
     by false false k = refl
 
+-- up to a place whose element passes fewer pass than in all
+pub counted-within : {X : Type 0} (p : X → Bool) (xs : List X) (i : ℕ) (d : X) → i < length xs → p (get_or xs i d) ≡ true → count_by p (take i xs) < count_by p xs
+counted-within p [] i d h e = absurd (omega (arith, h))
+counted-within p (x ∷ xs) zero d h e =
+    let one : ◌≡◌ {A = ℕ} (cond (p x) 1 0) 1 = ap (λ b. cond b 1 0) e in
+    let all = sum_by-cons (λ y. cond (p y) 1 0) x xs in omega (arith, one, all)
+counted-within p (x ∷ xs) (suc i) d h e =
+    let rest = counted-within p xs i d (omega (arith, h)) e in
+    let taken = sum_by-cons (λ y. cond (p y) 1 0) x (take i xs) in
+    let all = sum_by-cons (λ y. cond (p y) 1 0) x xs in omega (arith, rest, taken, all)
+
 -- ---- steps one way, at a pair
-
--- whether a step goes a way: up, or else down
-abbrev pub goes : Bool → Bool → Bool
-goes way up = cond way up (not up)
-
-abbrev pub steps_at : Bool → List Delta → ℕ → ℕ → ℕ
-steps_at way ds a b = count_by (λ d. goes way d.up && is_at a b d) ds
 
 pub steps_at-append : (way : Bool) (ds es : List Delta) (a b : ℕ) → steps_at way (ds ++ es) a b ≡ steps_at way ds a b + steps_at way es a b
 steps_at-append way ds es a b = sum_by-append (λ d. cond (goes way d.up && is_at a b d) 1 0) ds es

@@ -1,5 +1,6 @@
 pub mod PairCounts
 pub mod Deltas
 pub mod Steps
+pub mod CountsAfter
 pub mod MovedCounts
 pub mod WorkedChanges

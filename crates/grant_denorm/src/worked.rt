@@ -1,5 +1,6 @@
 ghost use Rattle.std.specs.Prelude.{◌≡◌, [], ◌∷◌, length, true, false};
 ghost use Rattle.grant_denorm.specs.PairCounts.{count_of, AreCounts, Raises, Lowers};
+ghost use Rattle.grant_denorm.specs.CountsAfter.{count_after, steps_at};
 ghost use Rattle.grant_denorm.specs.Deltas.{policy_ups, policy_downs, entity_ups, entity_downs};
 ghost use Rattle.grant_denorm.specs.WorkedChanges.{two_pairs, cross, one_and_two, two_and_three, three_turns};
 
@@ -49,4 +50,13 @@ pub fn an_entity_on_a_side()
     ensures right_twice { entity_ups 1 false three_turns 5 1 ≡ 2 }
     ensures right_down { entity_downs 1 false three_turns 7 1 ≡ 1 }
     ensures right_alone { entity_ups 1 false three_turns 1 5 ≡ 0 }
+{}
+
+/// The pair of 1 and 5 has the count 2, and 2 and 7 the count 1: with a step up at the one and a step down at the other.
+pub fn counts_after_some_steps()
+    ensures up { count_after (record { before = two_pairs; up = ((1, 5), 1) ∷ []; down = ((2, 7), 1) ∷ [] }) 1 5 ≡ 3 }
+    ensures down { count_after (record { before = two_pairs; up = ((1, 5), 1) ∷ []; down = ((2, 7), 1) ∷ [] }) 2 7 ≡ 0 }
+    ensures none { count_after (record { before = two_pairs; up = ((1, 5), 1) ∷ []; down = ((2, 7), 1) ∷ [] }) 3 3 ≡ 0 }
+    ensures ups { steps_at true (record { a = 1; b = 5; up = true } ∷ record { a = 1; b = 5; up = false } ∷ []) 1 5 ≡ 1 }
+    ensures downs { steps_at false (record { a = 1; b = 5; up = false } ∷ record { a = 1; b = 5; up = false } ∷ []) 1 5 ≡ 2 }
 {}

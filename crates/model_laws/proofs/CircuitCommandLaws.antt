@@ -19,7 +19,7 @@ use Rattle.ctrl_model.specs.Choices.{Ask, best, failing, first_denial, first_rul
 use Rattle.ctrl_model.specs.CircuitCommands.{create_circuit, after_create_circuit, granted_reply, delete_circuit, no_such_circuit}
 use Rattle.ctrl_model.specs.ValidState.{ValidState}
 use Rattle.model_laws.proofs.RefusalLaws.{has_room-parts, decided-holds}
-use Rattle.model_laws.proofs.ValidLaws.{Orderly-from_valid, carried_out-valid, ValidState-settle, Orderly-create, Orderly-remove}
+use Rattle.model_laws.proofs.ValidLaws.{Orderly-from_valid, Follows, carried_out-follows, Orderly-create, Orderly-remove}
 
 -- where no rule fails, none of them does
 pub first_denial-none : (xs : List (Bool × Denial)) (x : Bool × Denial) → first_denial xs ≡ None → Among x xs → x.0 ≡ false
@@ -40,13 +40,16 @@ first_rule-full w ask e = by ask.identity ask.service e
     by (Some i) None e = absurd (cc)
     by (Some i) (Some s) e = first_denial-none (failing w ask i s) (w.full, CircuitsFull) e (inr (inr (inr (inr (inr (inr (inr (inl refl))))))))
 
-pub create_circuit-valid : (ask : Ask) (s : State) → ValidState s → ValidState (create_circuit ask s).1
-create_circuit-valid ask s v = decided-holds (λ a. ValidState a.1) (first_rule (network_of s) ask) (best (network_of s) ask)
-    (λ d. (Refused (Denied d), s)) (λ c. (granted_reply c s, settle (after_create_circuit ask c s))) (λ d. v) (λ c none.
+pub create_circuit-follows : (ask : Ask) (s : State) → ValidState s → Follows s (create_circuit ask s).1
+create_circuit-follows ask s v = decided-holds (λ a. Follows s a.1) (first_rule (network_of s) ask) (best (network_of s) ask)
+    (λ d. (Refused (Denied d), s)) (λ c. (granted_reply c s, settle (after_create_circuit ask c s))) (λ d. inl refl) (λ c none.
     let o = Orderly-from_valid s v in
-    ValidState-settle (after_create_circuit ask c s) (Orderly-create kind.Circuit _ s o (λ h. absurd (false≢true h))
-    (has_room-parts (limit kind.Circuit) (table kind.Circuit s) (first_rule-full (network_of s) ask none)) refl o.attributes))
+    inr (
+      after_create_circuit ask c s,
+      Orderly-create kind.Circuit _ s o (λ h. absurd (false≢true h)) (has_room-parts (limit kind.Circuit) (table kind.Circuit s) (first_rule-full (network_of s) ask none)) refl o.attributes,
+      refl,
+    ))
 
-pub delete_circuit-valid : (n : ℕ) (s : State) → ValidState s → ValidState (delete_circuit n s).1
-delete_circuit-valid n s v =
-    carried_out-valid (no_such_circuit n s) s Done (after_remove kind.Circuit n s) v (λ none. Orderly-remove kind.Circuit n s refl (Orderly-from_valid s v))
+pub delete_circuit-follows : (n : ℕ) (s : State) → ValidState s → Follows s (delete_circuit n s).1
+delete_circuit-follows n s v =
+    carried_out-follows (no_such_circuit n s) s Done (after_remove kind.Circuit n s) (λ none. Orderly-remove kind.Circuit n s refl (Orderly-from_valid s v))

@@ -254,9 +254,9 @@ justified-candidate w ask claim j costs apart =
         (same_Some e.1 j.named (sym (at-unique w.terminators apart e a.present) ∙ (ap (at w.terminators) same ∙ j.present)))) a
 
     routed : (is_tight (hops w j.named.router) (claimed w claim.potentials j.named.router) j.named.router claim.ingress.0 claim.links ≡ true)
-        × ((claim.total == j.named.cost + claimed w claim.potentials j.named.router claim.ingress.0) ≡ true)
+        × ((claim.total == terminator_cost w (claim.terminator.0, j.named) + claimed w claim.potentials j.named.router claim.ingress.0) ≡ true)
     routed = and_parts (is_tight (hops w j.named.router) (claimed w claim.potentials j.named.router) j.named.router claim.ingress.0 claim.links)
-        (claim.total == j.named.cost + claimed w claim.potentials j.named.router claim.ingress.0) j.routed
+        (claim.total == terminator_cost w (claim.terminator.0, j.named) + claimed w claim.potentials j.named.router claim.ingress.0) j.routed
 
     with_parts : (r : RouterSeen) → IsIngress w ask.ingress j.identity j.service r → r.no.0 ≡ claim.ingress.0 → IsAdmissible w j.service ask.instance (claim.terminator.0, j.named)
         → IsCandidate w ask (claimed_candidate claim j.named)
@@ -304,9 +304,9 @@ justified-candidate w ask claim j costs apart =
 
         total : terminator_cost w (claim.terminator.0, j.named) + path_cost w r.no.0 claim.links j.named.router ≡ claim.total
         total =
-            ap (λ n. j.named.cost + n) (ap (λ v. path_cost w v claim.links j.named.router) same
+            ap (λ n. terminator_cost w (claim.terminator.0, j.named) + n) (ap (λ v. path_cost w v claim.links j.named.router) same
             ∙ tight_cost (hops w j.named.router) (claimed w claim.potentials j.named.router) j.named.router settles.zero claim.links claim.ingress.0 routed.0)
-            ∙ sym (eqb-true claim.total (j.named.cost + claimed w claim.potentials j.named.router claim.ingress.0) routed.1)
+            ∙ sym (eqb-true claim.total (terminator_cost w (claim.terminator.0, j.named) + claimed w claim.potentials j.named.router claim.ingress.0) routed.1)
 
 -- the same for the terminator that the claim names
 pub claimed_is_candidate : (w : Network) (ask : Ask) (claim : Explanation) (e : Terminator) → 1 ≤ w.least → NoneTwice (numbers w.terminators)

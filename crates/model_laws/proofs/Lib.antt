@@ -15,10 +15,12 @@ pub mod LeastCostLaws
 pub mod ExplanationLaws
 pub mod KindLaws
 pub mod AbsentRecords
+pub mod ConnectedRouters
 pub mod NamedLaws
 pub mod RefusalLaws
 pub mod SettleLaws
 pub mod JudgedLaws
+pub mod RevokedLaws
 pub mod ValidLaws
 pub mod RecordCommandLaws
 pub mod LinkCommandLaws

@@ -21,7 +21,7 @@ use Rattle.ctrl_model.proofs.NumberedLaws.{first_where-found}
 use Rattle.model_laws.proofs.NamedLaws.{and_more}
 use Rattle.model_laws.proofs.RefusalLaws.{or_then-none, refuse_if-none, exists_if_present-none, full-none, at_number-holds}
 use Rattle.ctrl_model.proofs.TableLaws.{valid-more}
-use Rattle.model_laws.proofs.ValidLaws.{Orderly, Orderly-from_valid, carried_out-valid, Orderly-create, Orderly-edit}
+use Rattle.model_laws.proofs.ValidLaws.{Follows, Orderly, Orderly-from_valid, carried_out-follows, Orderly-create, Orderly-edit}
 
 -- routers of different names are different
 ends_apart : (s : State) → Orderly s → (a b : List ℕ) (from to : ℕ) → named kind.Router s a ≡ Some from → named kind.Router s b ≡ Some to
@@ -34,11 +34,11 @@ ends_apart s o a b from to is_a is_b apart = ne_eqb from to (λ same.
     both_ways (bytes_eq a b) apart
     (same_bytes a b (sym (same_name f.record_found.name a f.passes) ∙ ap (λ (r : Router). r.name) one ∙ same_name g.record_found.name b g.passes)))
 
-pub create_link-valid : (name a b : List ℕ) (cost latency_a latency_b : ℕ) (s : State) → is_name name ≡ true
-    → (is_link_cost cost && (is_latency latency_a && is_latency latency_b)) ≡ true → ValidState s → ValidState (create_link name a b cost latency_a latency_b s).1
-create_link-valid name a b cost latency_a latency_b s spelled costs v =
+pub create_link-follows : (name a b : List ℕ) (cost latency_a latency_b : ℕ) (s : State) → is_name name ≡ true
+    → (is_link_cost cost && (is_latency latency_a && is_latency latency_b)) ≡ true → ValidState s → Follows s (create_link name a b cost latency_a latency_b s).1
+create_link-follows name a b cost latency_a latency_b s spelled costs v =
     let o = Orderly-from_valid s v in
-    carried_out-valid (refusal_of_create_link name a b s) s (Made s.links.next) (after_create_link name a b cost latency_a latency_b s) v (λ none.
+    carried_out-follows (refusal_of_create_link name a b s) s (Made s.links.next) (after_create_link name a b cost latency_a latency_b s) (λ none.
     let rules = or_then-none _ _ none in
     let ends = or_then-none (unknown_if_absent field.B (named kind.Router s b)) _ (or_then-none (unknown_if_absent field.A (named kind.Router s a)) _ rules.1).1 in
     let limits = or_then-none _ _ ends.1 in
@@ -53,19 +53,19 @@ edit_link-orderly : (n : ℕ) (f : Link → Link) (s : State) → Orderly s → 
     → ((l : Link) → is_valid_link l ≡ true → is_valid_link (f l) ≡ true) → Orderly (after_edit kind.Link n f s)
 edit_link-orderly n f s o keeps passes = Orderly-edit kind.Link n f s o keeps passes o.attributes
 
-pub set_link_cost-valid : (link : List ℕ) (cost : ℕ) (s : State) → is_link_cost cost ≡ true → ValidState s → ValidState (set_link_cost link cost s).1
-set_link_cost-valid link cost s fits v =
+pub set_link_cost-follows : (link : List ℕ) (cost : ℕ) (s : State) → is_link_cost cost ≡ true → ValidState s → Follows s (set_link_cost link cost s).1
+set_link_cost-follows link cost s fits v =
     let o = Orderly-from_valid s v in
-    carried_out-valid (unknown_if_absent field.Link (named kind.Link s link)) s Done (after_set_link_cost link cost s) v (λ none.
+    carried_out-follows (unknown_if_absent field.Link (named kind.Link s link)) s Done (after_set_link_cost link cost s) (λ none.
     at_number-holds Orderly (named kind.Link s link) s _ o (λ n is.
     edit_link-orderly n (λ l. record l { cost = cost }) s o (λ l. refl)
     (λ l t. and_more _ _ _ _ (λ u. u) (and_more _ _ _ _ (λ u. u) (and_more _ _ _ _ (λ u. fits) (λ u. u))) t)))
 
-pub report_latency-valid : (link router : List ℕ) (latency : ℕ) (s : State) → is_latency latency ≡ true → ValidState s
-    → ValidState (report_latency link router latency s).1
-report_latency-valid link router latency s fits v =
+pub report_latency-follows : (link router : List ℕ) (latency : ℕ) (s : State) → is_latency latency ≡ true → ValidState s
+    → Follows s (report_latency link router latency s).1
+report_latency-follows link router latency s fits v =
     let o = Orderly-from_valid s v in
-    carried_out-valid (refusal_of_report link router s) s Done (after_report_latency link router latency s) v (λ none.
+    carried_out-follows (refusal_of_report link router s) s Done (after_report_latency link router latency s) (λ none.
     at_number-holds Orderly (named kind.Router s router) s _ o (λ r at_end. at_number-holds Orderly (named kind.Link s link) s _ o (λ n is.
     edit_link-orderly n (with_latency r latency) s o (λ l. refl)
     (λ l t. and_more (is_name l.name) _ _ _ (λ u. u) (and_more (not (l.a == l.b)) _ _ _ (λ u. u) (and_more (is_link_cost l.cost) _ _ _ (λ u. u)
@@ -75,15 +75,15 @@ report_latency-valid link router latency s fits v =
     either true old e = fits
     either false old e = e
 
-pub report_state-valid : (link router : List ℕ) (up : Bool) (s : State) → ValidState s → ValidState (report_state link router up s).1
-report_state-valid link router up s v =
+pub report_state-follows : (link router : List ℕ) (up : Bool) (s : State) → ValidState s → Follows s (report_state link router up s).1
+report_state-follows link router up s v =
     let o = Orderly-from_valid s v in
-    carried_out-valid (refusal_of_report link router s) s Done (after_report_state link up s) v (λ none.
+    carried_out-follows (refusal_of_report link router s) s Done (after_report_state link up s) (λ none.
     at_number-holds Orderly (named kind.Link s link) s _ o (λ n is. edit_link-orderly n (λ l. record l { up = up }) s o (λ l. refl) (λ l t. t)))
 
-pub set_least_router_cost-valid : (cost : ℕ) (s : State) → is_link_cost cost ≡ true → ValidState s → ValidState (set_least_router_cost cost s).1
-set_least_router_cost-valid cost s fits v =
-    carried_out-valid None s Done (record s { least_router_cost = cost }) v (λ none. record { kinds = kinds; setting = fits; attributes = v.attributes })
+pub set_least_router_cost-follows : (cost : ℕ) (s : State) → is_link_cost cost ≡ true → ValidState s → Follows s (set_least_router_cost cost s).1
+set_least_router_cost-follows cost s fits v =
+    carried_out-follows None s Done (record s { least_router_cost = cost }) (λ none. record { kinds = kinds; setting = fits; attributes = v.attributes })
   where
     kinds : (k : Kind) → ValidTable k (record s { least_router_cost = cost }) (table k (record s { least_router_cost = cost }))
     kinds kind.Link = valid-more (v.kinds kind.Link) (record s { least_router_cost = cost }) (λ q e. e)

@@ -17,7 +17,7 @@ use Rattle.ctrl_model.specs.declared.replies.Reply.TheVariants.{Refused, Done, M
 use Rattle.ctrl_model.specs.Numbered.{Table, at, with_last, no_rows, with_new, with_edit, with_removed}
 use Rattle.ctrl_model.specs.State.{State}
 use Rattle.ctrl_model.specs.Tables.{Record, table, with_table, named}
-use Rattle.ctrl_model.specs.Settling.{settle}
+use Rattle.ctrl_model.specs.Settling.{settle, revoke, repair}
 use Rattle.ctrl_model.specs.Rules.{carried_out, shown, at_number}
 use Rattle.ctrl_model.specs.RecordCommands.{create, update, delete, refusal_of_update, absent_names, after_create, after_edit, after_remove, after_update, forgotten}
 use Rattle.ctrl_model.specs.EntityCommands.{described, described_router, marked}
@@ -72,11 +72,18 @@ less {t = t} {u = u} v h same_next none = record {
     by m (inr p) = inr (p.0, same_next ∙ p.1)
 
 -- settling and forgetting a name leave every next number, and make no record
+revoked : (s t : State) → AllFollow s t → AllFollow s (revoke t)
+revoked s t h kind.Circuit = less (revoke t).circuits (h kind.Circuit) refl (λ m e. at-filter-none _ t.circuits.rows m e)
+revoked s t h k = h k
+
+repaired : (s t : State) → AllFollow s t → AllFollow s (repair t)
+repaired s t h kind.Link = less (repair t).links (h kind.Link) refl (λ m e. at-filter-none _ t.links.rows m e)
+repaired s t h kind.Terminator = less (repair t).terminators (h kind.Terminator) refl (λ m e. at-filter-none _ t.terminators.rows m e)
+repaired s t h kind.Circuit = less (repair t).circuits (h kind.Circuit) refl (λ m e. at-filter-none _ _ m (at-map_each-none _ t.circuits.rows m e))
+repaired s t h k = h k
+
 settled : (s t : State) → AllFollow s t → AllFollow s (settle t)
-settled s t h kind.Link = less (settle t).links (h kind.Link) refl (λ m e. at-filter-none _ t.links.rows m e)
-settled s t h kind.Terminator = less (settle t).terminators (h kind.Terminator) refl (λ m e. at-filter-none _ t.terminators.rows m e)
-settled s t h kind.Circuit = less (settle t).circuits (h kind.Circuit) refl (λ m e. at-filter-none _ _ m (at-map_each-none _ t.circuits.rows m e))
-settled s t h k = h k
+settled s t h = repaired s (revoke t) (revoked s t h)
 
 forgets : (i : Kind) (name : List ℕ) (s t : State) → AllFollow s t → AllFollow s (forgotten i name t)
 forgets kind.Identity name s t h kind.ServicePolicy = less (forgotten kind.Identity name t).service_policies (h kind.ServicePolicy) refl (at-map_each-none _ t.service_policies.rows)

@@ -26,58 +26,58 @@ use Rattle.ctrl_model.specs.Controller.{policy}
 use Rattle.ctrl_model.specs.ValidState.{ValidState, is_valid, is_valid_policy, is_valid_policy_in, are_found, may_relate}
 use Rattle.ctrl_model.proofs.DistinctLaws.{Includes-map}
 use Rattle.model_laws.proofs.RefusalLaws.{or_then-none, refuse_if-none, exists_if_present-none, full-none, at_number-holds}
-use Rattle.model_laws.proofs.ValidLaws.{Orderly, Orderly-from_valid, carried_out-valid, at_number-orderly, Orderly-create, Orderly-edit, Orderly-delete, attributes_fewer, with_table-uses}
+use Rattle.model_laws.proofs.ValidLaws.{Follows, Orderly, Orderly-from_valid, carried_out-follows, at_number-orderly, Orderly-create, Orderly-edit, Orderly-delete, attributes_fewer, with_table-uses}
 
 -- ---- making, updating and deleting
 
-pub create-valid : (k : Kind) (r : Record k) (s : State) → (absent_in k r s ≡ None → is_valid k s r ≡ true) → ValidState s → ValidState (create k r s).1
-create-valid k r s fits v =
-    carried_out-valid (refusal_of_create k r s) s (Made (table k s).next) (after_create k r s) v (λ none.
+pub create-follows : (k : Kind) (r : Record k) (s : State) → (absent_in k r s ≡ None → is_valid k s r ≡ true) → ValidState s → Follows s (create k r s).1
+create-follows k r s fits v =
+    carried_out-follows (refusal_of_create k r s) s (Made (table k s).next) (after_create k r s) (λ none.
     let rules = or_then-none _ _ none in
     let names = or_then-none (absent_in k r s) _ rules.1 in
     let limits = or_then-none _ _ names.1 in
     Orderly-create k r s (Orderly-from_valid s v) (λ h. exists_if_present-none (named k s (record_name k r)) rules.0)
     (full-none (limit k) (table k s) (Full k) limits.0) (fits names.0) (refuse_if-none _ (Full kind.Attribute) limits.1))
 
-pub update-valid : (k : Kind) (name : List ℕ) (f : Record k → Record k) (absent : Option Refusal) (s : State) → ((q : Record k) → record_name k (f q) ≡ record_name k q)
-    → (absent ≡ None → (q : Record k) → is_valid k s q ≡ true → is_valid k s (f q) ≡ true) → ValidState s → ValidState (update k name f absent s).1
-update-valid k name f absent s keeps passes v =
-    carried_out-valid (refusal_of_update k name f absent s) s Done (after_update k name f s) v (λ none.
+pub update-follows : (k : Kind) (name : List ℕ) (f : Record k → Record k) (absent : Option Refusal) (s : State) → ((q : Record k) → record_name k (f q) ≡ record_name k q)
+    → (absent ≡ None → (q : Record k) → is_valid k s q ≡ true → is_valid k s (f q) ≡ true) → ValidState s → Follows s (update k name f absent s).1
+update-follows k name f absent s keeps passes v =
+    carried_out-follows (refusal_of_update k name f absent s) s Done (after_update k name f s) (λ none.
     let rules = or_then-none _ _ none in
     let names = or_then-none absent _ rules.1 in
     at_number-orderly (named k s name) s (λ n. after_edit k n f s) (Orderly-from_valid s v)
     (λ n is few. Orderly-edit k n f s (Orderly-from_valid s v) keeps (passes names.0) few) (refuse_if-none _ (Full kind.Attribute) names.1))
 
-pub delete-valid : (k : Kind) (of : Field) (name : List ℕ) (s : State) → ValidState s → ValidState (delete k of name s).1
-delete-valid k of name s v =
-    carried_out-valid (unknown_if_absent of (named k s name)) s Done (after_delete k name s) v (λ none.
+pub delete-follows : (k : Kind) (of : Field) (name : List ℕ) (s : State) → ValidState s → Follows s (delete k of name s).1
+delete-follows k of name s v =
+    carried_out-follows (unknown_if_absent of (named k s name)) s Done (after_delete k name s) (λ none.
     at_number-holds Orderly (named k s name) s _ (Orderly-from_valid s v) (λ n is. Orderly-delete k n name s (Orderly-from_valid s v) is))
 
 -- ---- entities
 
-pub update_identity-valid : (name : List ℕ) (attributes : List (List ℕ)) (s : State) → (is_name name && are_attributes attributes) ≡ true → ValidState s
-    → ValidState (update_identity name attributes s).1
-update_identity-valid name attributes s spelled =
-    update-valid kind.Identity name (described attributes) None s (λ e. refl) (λ _ e t.
+pub update_identity-follows : (name : List ℕ) (attributes : List (List ℕ)) (s : State) → (is_name name && are_attributes attributes) ≡ true → ValidState s
+    → Follows s (update_identity name attributes s).1
+update_identity-follows name attributes s spelled =
+    update-follows kind.Identity name (described attributes) None s (λ e. refl) (λ _ e t.
     and_from _ _ (and_parts (is_name e.name) (are_attributes e.attributes) t).0 (and_parts (is_name name) (are_attributes attributes) spelled).1)
 
-pub update_service-valid : (name : List ℕ) (attributes : List (List ℕ)) (s : State) → (is_name name && are_attributes attributes) ≡ true → ValidState s
-    → ValidState (update_service name attributes s).1
-update_service-valid name attributes s spelled =
-    update-valid kind.Service name (described attributes) None s (λ e. refl) (λ _ e t.
+pub update_service-follows : (name : List ℕ) (attributes : List (List ℕ)) (s : State) → (is_name name && are_attributes attributes) ≡ true → ValidState s
+    → Follows s (update_service name attributes s).1
+update_service-follows name attributes s spelled =
+    update-follows kind.Service name (described attributes) None s (λ e. refl) (λ _ e t.
     and_from _ _ (and_parts (is_name e.name) (are_attributes e.attributes) t).0 (and_parts (is_name name) (are_attributes attributes) spelled).1)
 
-pub update_router-valid : (name : List ℕ) (attributes : List (List ℕ)) (cost : ℕ) (no_traversal : Bool) (s : State)
-    → (is_name name && (are_attributes attributes && is_cost cost)) ≡ true → ValidState s → ValidState (update_router name attributes cost no_traversal s).1
-update_router-valid name attributes cost no_traversal s spelled =
-    update-valid kind.Router name (described_router attributes cost no_traversal) None s (λ r. refl) (λ _ r t.
+pub update_router-follows : (name : List ℕ) (attributes : List (List ℕ)) (cost : ℕ) (no_traversal : Bool) (s : State)
+    → (is_name name && (are_attributes attributes && is_cost cost)) ≡ true → ValidState s → Follows s (update_router name attributes cost no_traversal s).1
+update_router-follows name attributes cost no_traversal s spelled =
+    update-follows kind.Router name (described_router attributes cost no_traversal) None s (λ r. refl) (λ _ r t.
     and_from _ _ (and_parts (is_name r.name) (are_attributes r.attributes && is_cost r.cost) t).0
     (and_parts (is_name name) (are_attributes attributes && is_cost cost) spelled).1)
 
-pub mark_router-valid : (name : List ℕ) (connected : Bool) (s : State) → ValidState s → ValidState (mark_router name connected s).1
-mark_router-valid name connected s v =
+pub mark_router-follows : (name : List ℕ) (connected : Bool) (s : State) → ValidState s → Follows s (mark_router name connected s).1
+mark_router-follows name connected s v =
     let o = Orderly-from_valid s v in
-    carried_out-valid (unknown_if_absent field.Name (named kind.Router s name)) s Done (after_update kind.Router name (marked connected) s) v (λ none.
+    carried_out-follows (unknown_if_absent field.Name (named kind.Router s name)) s Done (after_update kind.Router name (marked connected) s) (λ none.
     at_number-holds Orderly (named kind.Router s name) s _ o (λ n is.
     Orderly-edit kind.Router n (marked connected) s o (λ r. refl) (λ r t. t)
     (attributes_fewer s (after_edit kind.Router n (marked connected) s) (with_table-uses s kind.Router (with_edit n (marked connected) (table kind.Router s))

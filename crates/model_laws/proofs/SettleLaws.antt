@@ -1,4 +1,4 @@
--- Laws on settling: a second time it changes nothing.
+-- Laws on repairing: a second time it changes nothing.
 use Rattle.std.proofs.Common.{◌≡◌, ℕ, Bool, true, false, cond, List, [], ◌∷◌, Option, None, Some, refl, ◌∙◌, ap, cond}
 use Rattle.std.proofs.lemmas.Bool.{cond-true, and_parts, false≢true}
 use Rattle.std.specs.List.{filter}
@@ -6,7 +6,7 @@ use Rattle.std.specs.Option.{option_map_or}
 use Rattle.ctrl_model.specs.Networks.{Network, network_of}
 use Rattle.ctrl_model.specs.Numbered.{Table, map_each, with_each, with_kept, at, numbers}
 use Rattle.ctrl_model.specs.State.{State, Link, Terminator, Circuit}
-use Rattle.ctrl_model.specs.Settling.{settle, link_stays, terminator_stays, circuit_reaches, circuit_stays, stays_in, rerouted_to, rerouted, settle_links, settle_terminators, reroute_circuits}
+use Rattle.ctrl_model.specs.Settling.{repair, link_stays, terminator_stays, circuit_reaches, circuit_stays, stays_in, rerouted_to, rerouted, settle_links, settle_terminators, reroute_circuits}
 
 pub filter-filter : {X : Type 0} (p : X → Bool) (xs : List X) → filter p (filter p xs) ≡ filter p xs
 filter-filter p [] = refl
@@ -44,14 +44,14 @@ with_circuits_of s links terminators circuits = record s {
   circuits = with_kept (stays_in (record s { links = links; terminators = terminators })) (with_each (rerouted (network_of (record s { links = links; terminators = terminators }))) circuits);
 }
 
--- settling twice is settling once
-pub settle-settle : (s : State) → settle (settle s) ≡ settle s
-settle-settle s =
-    ap (λ links. with_circuits_of s links (with_kept (terminator_stays s) (settle s).terminators) (settle s).circuits) (with_kept-twice (link_stays s) s.links)
-    ∙ ap (λ terminators. with_circuits_of s (settle s).links terminators (settle s).circuits) (with_kept-twice (terminator_stays s) s.terminators)
-    ∙ ap (λ rows. record (settle s) { circuits = with_kept (stays_in (settle_terminators (settle_links s))) (record s.circuits { rows = rows }) })
+-- repairing twice is repairing once
+pub repair-repair : (s : State) → repair (repair s) ≡ repair s
+repair-repair s =
+    ap (λ links. with_circuits_of s links (with_kept (terminator_stays s) (repair s).terminators) (repair s).circuits) (with_kept-twice (link_stays s) s.links)
+    ∙ ap (λ terminators. with_circuits_of s (repair s).links terminators (repair s).circuits) (with_kept-twice (terminator_stays s) s.terminators)
+    ∙ ap (λ rows. record (repair s) { circuits = with_kept (stays_in (settle_terminators (settle_links s))) (record s.circuits { rows = rows }) })
     (map_each-kept (rerouted (network_of (settle_terminators (settle_links s)))) (stays_in (settle_terminators (settle_links s)))
     (λ row. rerouted-stays (network_of (settle_terminators (settle_links s))) (numbers s.identities.rows) (numbers s.services.rows) row)
     (reroute_circuits (settle_terminators (settle_links s))).circuits.rows)
-    ∙ ap (λ circuits. record (settle s) { circuits = circuits })
+    ∙ ap (λ circuits. record (repair s) { circuits = circuits })
     (with_kept-twice (stays_in (settle_terminators (settle_links s))) (reroute_circuits (settle_terminators (settle_links s))).circuits)

@@ -1,5 +1,5 @@
 -- What each kind of change has to show to keep a state valid: adding a record, changing one, removing one.
-use Rattle.std.proofs.Common.{◌≡◌, ℕ, ◌<◌, ◌==◌, true, false, not, List, [], ◌++◌, flat_map, length, Option, None, Some, refl, sym, ◌∙◌, ap, arith, ltb-true, ltb-false}
+use Rattle.std.proofs.Common.{◌≡◌, ◌⊎◌, ⊎_elim, inl, inr, ℕ, ◌<◌, ◌==◌, true, false, not, List, [], ◌++◌, flat_map, length, Option, None, Some, refl, sym, ◌∙◌, ap, subst, arith, ltb-true, ltb-false}
 use Rattle.std.proofs.lemmas.Bool.{false≢true, false_from_ne_true}
 use Rattle.std.specs.Set.{distinct_count}
 use Rattle.std.specs.Str.{bytes_eq}
@@ -13,7 +13,7 @@ use Rattle.ctrl_model.specs.Numbered.{Table, with_new, with_edit, with_removed, 
 use Rattle.ctrl_model.specs.State.{State}
 use Rattle.ctrl_model.specs.Tables.{Record, table, with_table, is_entity_kind, has_names, record_name, named}
 use Rattle.ctrl_model.specs.CommandForm.{is_link_cost}
-use Rattle.ctrl_model.specs.Settling.{settle, link_stays, terminator_stays, stays_in, rerouted, settle_links, settle_terminators, reroute_circuits}
+use Rattle.ctrl_model.specs.Settling.{settle, revoke, repair, granted_in, link_stays, terminator_stays, stays_in, rerouted, settle_links, settle_terminators, reroute_circuits}
 use Rattle.ctrl_model.specs.Rules.{carried_out, at_number, attributes_full, attributes_in_use, side_attributes, forget_left, forget_right}
 use Rattle.ctrl_model.specs.RecordCommands.{after_create, after_edit, after_remove, forgotten}
 use Rattle.ctrl_model.specs.ValidState.{ValidState, ValidTable, is_valid, may_relate}
@@ -21,10 +21,10 @@ use Rattle.ctrl_model.proofs.DistinctLaws.{Includes, Includes-append, Includes-f
 use Rattle.model_laws.proofs.KindLaws.{with_table-holds, with_table-setting}
 use Rattle.ctrl_model.proofs.TableLaws.{valid-none, valid-more, valid-new, valid-filter, valid-each, valid-edit}
 use Rattle.model_laws.proofs.NamedLaws.{FindsToo, FindsOthers, with_last-finds, edit_at-finds, without-finds, is_fitting-more, is_fitting-forget_left, is_fitting-forget_right}
-use Rattle.model_laws.proofs.SettleLaws.{settle-settle}
+use Rattle.model_laws.proofs.SettleLaws.{repair-repair}
 use Rattle.model_laws.proofs.RefusalLaws.{carried_out-holds, at_number-holds}
 
--- ---- all of a valid state but that it is settled
+-- ---- all of a valid state but that repairing changes nothing
 
 pub record Orderly (s : State) : Type 0 where
   pub kinds : (k : Kind) → ValidTable k s (table k s)
@@ -34,24 +34,43 @@ pub record Orderly (s : State) : Type 0 where
 pub Orderly-from_valid : (s : State) → ValidState s → Orderly s
 Orderly-from_valid s v = record { kinds = v.kinds; setting = v.setting; attributes = v.attributes }
 
--- settling keeps all of it, and leaves a settled state
-pub ValidState-settle : (s : State) → Orderly s → ValidState (settle s)
-ValidState-settle s o = record { kinds = settled; setting = o.setting; attributes = o.attributes; settled = settle-settle s }
+-- revoking keeps all of it
+Orderly-revoke : (s : State) → Orderly s → Orderly (revoke s)
+Orderly-revoke s o = record { kinds = kinds; setting = o.setting; attributes = o.attributes }
+  where
+    kinds : (k : Kind) → ValidTable k (revoke s) (table k (revoke s))
+    kinds kind.Circuit = valid-filter (o.kinds kind.Circuit) (revoke s) (λ q e. e) (granted_in s)
+    kinds k = valid-more (o.kinds k) (revoke s) (λ q e. e)
+
+-- repairing keeps all of it, and leaves a state that it changes no more
+ValidState-repair : (s : State) → Orderly s → ValidState (repair s)
+ValidState-repair s o = record { kinds = kinds; setting = o.setting; attributes = o.attributes; repaired = repair-repair s }
   where
     rerouted_table : ValidTable kind.Circuit s (reroute_circuits (settle_terminators (settle_links s))).circuits
     rerouted_table = valid-each (o.kinds kind.Circuit) s (rerouted (network_of (settle_terminators (settle_links s)))) (λ q. refl) (λ q e. refl)
 
-    settled : (k : Kind) → ValidTable k (settle s) (table k (settle s))
-    settled kind.Link = valid-filter (o.kinds kind.Link) (settle s) (λ q e. e) (link_stays s)
-    settled kind.Terminator = valid-filter (o.kinds kind.Terminator) (settle s) (λ q e. e) (terminator_stays (settle_links s))
-    settled kind.Circuit = valid-filter rerouted_table (settle s) (λ q e. e) (stays_in (settle_terminators (settle_links s)))
-    settled k = valid-more (o.kinds k) (settle s) (λ q e. e)
+    kinds : (k : Kind) → ValidTable k (repair s) (table k (repair s))
+    kinds kind.Link = valid-filter (o.kinds kind.Link) (repair s) (λ q e. e) (link_stays s)
+    kinds kind.Terminator = valid-filter (o.kinds kind.Terminator) (repair s) (λ q e. e) (terminator_stays (settle_links s))
+    kinds kind.Circuit = valid-filter rerouted_table (repair s) (λ q e. e) (stays_in (settle_terminators (settle_links s)))
+    kinds k = valid-more (o.kinds k) (repair s) (λ q e. e)
 
--- ---- a command keeps a state valid where its effect, if nothing refuses it, is orderly
+-- so does settling
+pub ValidState-settle : (s : State) → Orderly s → ValidState (settle s)
+ValidState-settle s o = ValidState-repair (revoke s) (Orderly-revoke s o)
 
-pub carried_out-valid : (o : Option Refusal) (s : State) (reply : Reply) (effect : State) → ValidState s → (o ≡ None → Orderly effect)
-    → ValidState (carried_out o s reply effect).1
-carried_out-valid o s reply effect v h = carried_out-holds ValidState o s reply effect v (λ none. ValidState-settle effect (h none))
+-- ---- after a command there is the state before it, or an orderly one settled
+
+abbrev pub Follows : State → State → Type 0
+Follows s t = (t ≡ s) ⊎ ((effect : State) × Orderly effect × (t ≡ settle effect))
+
+-- what holds of the state before and of each orderly one settled holds after
+pub follows-holds : (P : State → Type 0) → ((effect : State) → Orderly effect → P (settle effect)) → (s t : State) → Follows s t → P s → P t
+follows-holds P settled s t f p = ⊎_elim (λ same. subst P (sym same) p) (λ e. subst P (sym e.2) (settled e.0 e.1)) f
+
+-- a command whose effect is orderly, if nothing refuses it
+pub carried_out-follows : (o : Option Refusal) (s : State) (reply : Reply) (effect : State) → (o ≡ None → Orderly effect) → Follows s (carried_out o s reply effect).1
+carried_out-follows o s reply effect h = carried_out-holds (Follows s) o s reply effect (inl refl) (λ none. inr (effect, h none, refl))
 
 -- an effect at a number that is looked up, of which the limit on attributes was tested whole
 pub at_number-orderly : (found : Option ℕ) (s : State) (effect : ℕ → State) → Orderly s

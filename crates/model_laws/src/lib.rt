@@ -17,19 +17,20 @@ pub use route_laws::{
     the_best, the_denial, the_least_path, the_rule,
 };
 pub use state_laws::{
-    absent_pairs_count_nothing, each_circuit_is_judged, names_find_their_records,
-    next_numbers_have_an_end, numbers_are_given_once, numbers_never_fall, one_record_a_name,
-    refused_leaves_the_state, rerouted_circuits, settled_once, settling_removes_and_reroutes,
-    untouched_tables,
+    absent_pairs_count_nothing, circuits_are_revoked, each_circuit_is_judged,
+    names_find_their_records, next_numbers_have_an_end, numbers_are_given_once, numbers_never_fall,
+    one_record_a_name, refused_leaves_the_state, repairing_removes_and_reroutes, rerouted_circuits,
+    settled_once, untouched_tables,
 };
-pub use validity::valid_stays_valid;
+pub use validity::{granted_circuits_stay_granted, valid_stays_valid};
 pub use worked::{
-    a_circuit_on_a_line, a_nearer_terminator, absent_in_role_lists, circuits_that_go_another_way,
-    circuits_that_stay, claims_beside_others, claims_of_a_line, counted_grants,
-    deleted_and_made_again, denials, equal_paths, equal_totals, forgotten_names, full_kinds, hosts,
-    limit_of_attributes, limits_and_links, limits_of_kinds, names_and_words, new_records,
-    no_traversal, own_and_others, permissions, precedences, ranges, ranges_of_claims, role_lists,
-    settled_circuits, shown_grants, sides, spelled_commands, unknown_names, updates,
+    a_circuit_on_a_line, a_nearer_terminator, absent_in_role_lists, circuits_from_before,
+    circuits_that_go_another_way, circuits_that_stay, claims_beside_others, claims_of_a_line,
+    counted_grants, deleted_and_made_again, denials, equal_paths, equal_totals, forgotten_names,
+    full_kinds, hosts, limit_of_attributes, limits_and_links, limits_of_kinds, load_on_terminators,
+    names_and_words, new_records, no_traversal, own_and_others, permissions, precedences, ranges,
+    ranges_of_claims, revoked_circuits, role_lists, settled_circuits, shown_grants, sides,
+    spelled_commands, unknown_names, updates,
 };
 pub use worked_laws::{
     lists_of_numbers, plain_paths_of_a_line, ranks_and_small_costs, records_of_no_valid_state,

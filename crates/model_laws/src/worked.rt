@@ -17,16 +17,16 @@ ghost use Rattle.ctrl_model.specs.Numbered.{at, numbers};
 ghost use Rattle.ctrl_model.specs.State.{Entity, start};
 ghost use Rattle.ctrl_model.specs.Matches.{matches};
 ghost use Rattle.ctrl_model.specs.Grants.{count};
-ghost use Rattle.ctrl_model.specs.Networks.{network_of, paths, circuits_full};
+ghost use Rattle.ctrl_model.specs.Networks.{network_of, paths, circuits_full, open_circuits};
 ghost use Rattle.ctrl_model.specs.RecordCommands.{refusal_of_create};
 ghost use Rattle.ctrl_model.specs.EntityCommands.{entity, new_router};
 ghost use Rattle.ctrl_model.specs.LinkCommands.{refusal_of_create_link};
 ghost use Rattle.ctrl_model.specs.TerminatorCommands.{refusal_of_create_terminator};
 ghost use Rattle.ctrl_model.specs.Claims.{least_cost, no_path};
 ghost use Rattle.ctrl_model.specs.Permitted.{is_permitted};
-ghost use Rattle.ctrl_model.specs.Settling.{circuit_stays};
+ghost use Rattle.ctrl_model.specs.Settling.{circuit_stays, revoke, repair};
 ghost use Rattle.ctrl_model.specs.Controller.{answer};
-ghost use Rattle.ctrl_model.specs.WorkedStates.{reply_to, after, everyone, only, carrying, service_policy, link_of_eleven, offered, line, detoured, line_without_terminator, line_stopped_at_r2, line_of_precedences, square, two_policies, hosted_line, narrow_line, line_from_two, two_terminators, fork, ann_to_web, explain_ann_to_web, claim_on_line, claim_from_r1, claim_by_ingress, towards, names_of_one_byte, names_of_one_byte_but_one, names_of_two_bytes};
+ghost use Rattle.ctrl_model.specs.WorkedStates.{reply_to, after, everyone, only, carrying, service_policy, link_of_eleven, offered, line, detoured, line_without_terminator, line_stopped_at_r2, line_of_precedences, square, two_policies, hosted_line, narrow_line, line_from_two, two_terminators, fork, ann_to_web, explain_ann_to_web, claim_on_line, claim_from_r1, claim_by_ingress, towards, two_on_r3, ungranted, names_of_one_byte, names_of_one_byte_but_one, names_of_two_bytes};
 
 /// Examples of names and instances, from the rule alone.
 pub fn names_and_words()
@@ -85,6 +85,39 @@ pub fn a_circuit_on_a_line()
     ensures circuit_stands { reply_to (ShowCircuit 1) (after (ann_to_web ∷ []) line) ≡ reply.Shown (codes "ann") (codes "r1") (1 ∷ 2 ∷ []) (codes "web") (record { 0 = 1 }) }
     ensures dearer_entry { reply_to ann_to_web (after (SetLeastRouterCost 100 ∷ []) line) ≡ reply.Circuit (record { 0 = 1 }) (codes "r1") (1 ∷ 2 ∷ []) (record { 0 = 1 }) 222 }
     ensures first_is_free { reply_to ann_to_web (after (UpdateRouter (codes "r1") [] 5000 false ∷ []) line) ≡ reply.Circuit (record { 0 = 1 }) (codes "r1") (1 ∷ 2 ∷ []) (record { 0 = 1 }) 42 }
+{}
+
+/// Each circuit that is open at a terminator makes it dearer by 1, so that of two that cost the same they take turns; and the claim that the
+/// route of the line costs 42 fails beside the circuit that it told.
+pub fn load_on_terminators()
+    ensures first { reply_to ann_to_web two_on_r3 ≡ reply.Circuit (record { 0 = 1 }) (codes "r1") (1 ∷ 2 ∷ []) (record { 0 = 1 }) 42 }
+    ensures second { reply_to ann_to_web (after (ann_to_web ∷ []) two_on_r3) ≡ reply.Circuit (record { 0 = 2 }) (codes "r1") (1 ∷ 2 ∷ []) (record { 0 = 2 }) 42 }
+    ensures third { reply_to ann_to_web (after (ann_to_web ∷ ann_to_web ∷ []) two_on_r3) ≡ reply.Circuit (record { 0 = 3 }) (codes "r1") (1 ∷ 2 ∷ []) (record { 0 = 1 }) 43 }
+    ensures load { map (open_circuits (after (ann_to_web ∷ ann_to_web ∷ ann_to_web ∷ []) two_on_r3)) (1 ∷ 2 ∷ 3 ∷ []) ≡ 2 ∷ 1 ∷ 0 ∷ [] }
+    ensures freed { reply_to ann_to_web (after (ann_to_web ∷ ann_to_web ∷ DeleteCircuit 1 ∷ []) two_on_r3) ≡ reply.Circuit (record { 0 = 3 }) (codes "r1") (1 ∷ 2 ∷ []) (record { 0 = 1 }) 42 }
+    ensures explained { reply_to explain_ann_to_web (after (ann_to_web ∷ []) line) ≡ reply.Explained (codes "r1") (record { ingress = record { 0 = 1 }; links = 1 ∷ 2 ∷ []; potentials = towards 3 (42 ∷ 21 ∷ 0 ∷ []) ∷ []; routers = 1 ∷ 2 ∷ 3 ∷ []; terminator = record { 0 = 1 }; total = 43 }) }
+    ensures claimed { reply_to (claim_on_line (42 ∷ 21 ∷ 0 ∷ [])) (after (ann_to_web ∷ []) line) ≡ reply.Verified false }
+    ensures claimed_dearer { reply_to (claim_from_r1 (1 ∷ 2 ∷ []) (towards 3 (42 ∷ 21 ∷ 0 ∷ []) ∷ []) (1 ∷ 2 ∷ 3 ∷ []) 1 43) (after (ann_to_web ∷ []) line) ≡ reply.Verified true }
+{}
+
+/// A circuit ends with what granted it: with Dial, with the shared ingress, with its terminator in service, and not with what grants others.
+pub fn revoked_circuits()
+    ensures dial { reply_to (ShowCircuit 1) (after (ann_to_web ∷ DeleteServicePolicy (codes "dial") ∷ []) line) ≡ reply.Refused (refusal.Unknown field.No) }
+    ensures ingress { reply_to (ShowCircuit 1) (after (ann_to_web ∷ DeleteEdgeRouterPolicy (codes "edge") ∷ []) line) ≡ reply.Refused (refusal.Unknown field.No) }
+    ensures service_side { reply_to (ShowCircuit 1) (after (ann_to_web ∷ DeleteServiceEdgeRouterPolicy (codes "all") ∷ []) line) ≡ reply.Refused (refusal.Unknown field.No) }
+    ensures host { reply_to (ShowCircuit 1) (after (ann_to_web ∷ DeleteServicePolicy (codes "bind") ∷ []) hosted_line) ≡ reply.Refused (refusal.Unknown field.No) }
+    ensures router_of_the_host { reply_to (ShowCircuit 1) (after (ann_to_web ∷ DeleteEdgeRouterPolicy (codes "bobs") ∷ []) hosted_line) ≡ reply.Refused (refusal.Unknown field.No) }
+    ensures granted_twice { reply_to (ShowCircuit 1) (after (service_policy (codes "too") Dial everyone everyone ∷ ann_to_web ∷ DeleteServicePolicy (codes "dial") ∷ []) line) ≡ reply.Shown (codes "ann") (codes "r1") (1 ∷ 2 ∷ []) (codes "web") (record { 0 = 1 }) }
+    ensures not_again { reply_to (ShowCircuit 1) (after (ann_to_web ∷ DeleteServicePolicy (codes "dial") ∷ service_policy (codes "dial") Dial everyone everyone ∷ []) line) ≡ reply.Refused (refusal.Unknown field.No) }
+{}
+
+/// A circuit that stands though nothing grants it, as in a folder written before circuits were revoked: repairing leaves it, and so does
+/// a command that shows something or is refused; the first command that has an effect ends it, even one that changes nothing itself.
+pub fn circuits_from_before()
+    ensures stands { reply_to (ShowCircuit 1) (repair ungranted) ≡ reply.Shown (codes "ann") (codes "r1") (1 ∷ 2 ∷ []) (codes "web") (record { 0 = 1 }) }
+    ensures revoked { reply_to (ShowCircuit 1) (revoke ungranted) ≡ reply.Refused (refusal.Unknown field.No) }
+    ensures shown { reply_to (ShowCircuit 1) (after (ShowCounts ∷ DeleteIdentity (codes "bob") ∷ []) ungranted) ≡ reply.Shown (codes "ann") (codes "r1") (1 ∷ 2 ∷ []) (codes "web") (record { 0 = 1 }) }
+    ensures ended { reply_to (ShowCircuit 1) (after (UpdateIdentity (codes "ann") [] ∷ []) ungranted) ≡ reply.Refused (refusal.Unknown field.No) }
 {}
 
 /// No path passes through a no-traversal router, and a circuit whose path fails ends where there is no other. A second link gives another path.
@@ -457,8 +490,6 @@ pub fn settled_circuits()
     ensures disconnected { reply_to (ShowCircuit 1) (after (ann_to_web ∷ DisconnectRouter (codes "r2") ∷ ConnectRouter (codes "r2") ∷ []) line) ≡ reply.Refused (refusal.Unknown field.No) }
     ensures link_down { reply_to (ShowCircuit 1) (after (ann_to_web ∷ ReportState (codes "l2") (codes "r3") false ∷ []) line) ≡ reply.Refused (refusal.Unknown field.No) }
     ensures links_of_a_router { reply_to ShowCounts (after (DeleteRouter (codes "r1") ∷ []) line) ≡ reply.Counts 0 3 1 1 3 2 1 1 }
-    ensures no_dial { reply_to (ShowCircuit 1) (after (ann_to_web ∷ DeleteServicePolicy (codes "dial") ∷ []) line) ≡ reply.Shown (codes "ann") (codes "r1") (1 ∷ 2 ∷ []) (codes "web") (record { 0 = 1 }) }
-    ensures no_bind { reply_to (ShowCircuit 1) (after (ann_to_web ∷ DeleteServicePolicy (codes "bind") ∷ []) hosted_line) ≡ reply.Shown (codes "ann") (codes "r1") (1 ∷ 2 ∷ []) (codes "web") (record { 0 = 1 }) }
     ensures dearer { reply_to (ShowCircuit 1) (after (ann_to_web ∷ CreateLink (codes "l3") (codes "r1") (codes "r3") 1 0 0 ∷ []) line) ≡ reply.Shown (codes "ann") (codes "r1") (1 ∷ 2 ∷ []) (codes "web") (record { 0 = 1 }) }
     ensures host_without_router { reply_to ann_to_web (after (DeleteEdgeRouterPolicy (codes "bobs") ∷ []) hosted_line) ≡ reply.Refused (refusal.Denied denial.NoAdmissibleTerminator) }
 {}

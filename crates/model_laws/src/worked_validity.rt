@@ -7,13 +7,13 @@ ghost use Rattle.ctrl_model.specs.ValidState.{ValidState};
 ghost use Rattle.ctrl_model.specs.WorkedStates.{carrying};
 
 /// States that are not valid, each for one more clause: a next number past its end, more records than a kind may have, a name twice,
-/// and a link without its routers, which settling removes.
+/// and a link without its routers, which repairing removes.
 pub fn states_that_are_not_valid()
     ensures number_past_its_end { ValidState (record start { services = record start.services { next = 4294967296 } }) → ⊥ }
     ensures too_many { ValidState (record start { routers = record { rows = replicate 257 (1, record { name = codes "r1"; attributes = []; cost = 0; through = true; connected = true }); next = 2 } }) → ⊥ }
     ensures name_twice { ValidState (record start { identities = record { rows = (1, record { name = codes "ann"; attributes = [] }) ∷ (2, record { name = codes "ann"; attributes = [] }) ∷ []; next = 3 } }) → ⊥ }
     ensures bad_record { ValidState (record start { services = record { rows = (1, record { name = []; attributes = [] }) ∷ []; next = 2 } }) → ⊥ }
-    ensures not_settled { ValidState (record start { links = record { rows = (1, record { name = codes "l1"; a = 1; b = 2; cost = 1; latency_a = 0; latency_b = 0; up = true }) ∷ []; next = 2 } }) → ⊥ }
+    ensures not_repaired { ValidState (record start { links = record { rows = (1, record { name = codes "l1"; a = 1; b = 2; cost = 1; latency_a = 0; latency_b = 0; up = true }) ∷ []; next = 2 } }) → ⊥ }
 {}
 
 /// The attributes in use are those of identities, services and routers, and of both sides of the policies of all three kinds, with

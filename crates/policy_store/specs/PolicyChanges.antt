@@ -1,4 +1,4 @@
--- What a command on policies changes, in the policies themselves and in a state (docs/PROMISES.md, "Commands on policies").
+-- What a command on policies changes, in the policies themselves and in a state (docs/PROMISES.md, "The store of policies").
 use Rattle.std.specs.Prelude.{◌≡◌, true, ℕ, List, Some}
 use Rattle.ctrl_model.specs.declared.kinds.Kind.{Kind}
 use Rattle.ctrl_model.specs.State.{State, Policy}

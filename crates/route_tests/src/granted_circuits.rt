@@ -2,13 +2,14 @@ ghost use Rattle.std.specs.Prelude.{◌≡◌, [], true, IfOk};
 ghost use Rattle.ctrl_model.specs.CommandForm.{is_link_cost, is_latency};
 ghost use Rattle.fabric_graph.specs.Routers.{AreRouters, HaveGraph};
 
-use circuit_settling::{Present, settle};
+use circuit_settling::{GrantsAfter, Present, settle};
 use circuits::{Circuit, CircuitFault, Circuits, CircuitsAfter, Move, Moves};
 use ctrl_model::{
     CircuitNo, IdentityNo, Instance, LinkNo, Name, Numbers, Precedence, RouterNo, RouterSeen,
     ServiceNo, TermNo,
 };
 use fabric_graph::{Fabric, FabricAfter, LinkRow};
+use grant_denorm::{Counted, CountedAfter};
 use std::alloc::Global;
 use std::process::Abort;
 use std::test::Fail;
@@ -112,11 +113,58 @@ fn granted(rt: &impl Abort, alloc: Global) -> Result<Circuits, Fail> {
     Ok(circuits)
 }
 
-// What is to become of circuits: the numbers of those that end, and those that go on over other links, with these.
+// What is granted, as the pairs of each relation, and what is to become of circuits: the numbers of those that end, and those that go on over
+// other links, with these.
 #[derive(Clone, Copy)]
 struct Wanted<'a> {
+    granted: &'a [(u32, u32)],
     ended: &'a [u32],
     moved: &'a [(u32, &'a [u32])],
+}
+
+// Identity 5 is granted Dial on service 2, and both share the ingress 1.
+const ALL: &[(u32, u32)] = &[(5, 2), (5, 1), (2, 1)];
+
+fn counted(alloc: Global, pairs: &[(u32, u32)]) -> Result<Counted, Fail> {
+    let mut counted = Counted::new(alloc)?;
+    'pairs: for pair in pairs {
+        if counted.count(pair.0, pair.1) == 0 {
+            counted.raise(pair.0, pair.1)?;
+        }
+    }
+    Ok(counted)
+}
+
+// Each relation has the same pairs.
+fn grants<'a>(alloc: Global, counted: &'a Counted) -> Result<GrantsAfter<'a>, Fail> {
+    Ok(GrantsAfter {
+        dial: CountedAfter::unchanged(alloc, counted)?,
+        bind: CountedAfter::unchanged(alloc, counted)?,
+        identity_router: CountedAfter::unchanged(alloc, counted)?,
+        service_router: CountedAfter::unchanged(alloc, counted)?,
+    })
+}
+
+fn settles_by(
+    rt: &impl Abort,
+    alloc: Global,
+    circuits: &CircuitsAfter,
+    present: &Present,
+    counted: &Counted,
+    wanted: &Wanted,
+) -> Result<(), Fail>
+    requires routers { AreRouters present.now.routers.now }
+    requires links { HaveGraph present.now.fabric.now }
+{
+    let grants = grants(alloc, counted)?;
+    let judged = settle(alloc, circuits, present, &grants)?;
+    assert_eq!(rt; judged.ended.as_slice(), wanted.ended);
+    assert_eq!(rt; judged.moves.len(), wanted.moved.len());
+    'moves: for (change, moved) in judged.moves.as_slice().iter().zip(wanted.moved.iter()) {
+        assert_eq!(rt; change.circuit, CircuitNo(moved.0));
+        assert_eq!(rt; change.links.as_slice(), moved.1);
+    }
+    Ok(())
 }
 
 fn settles(
@@ -129,14 +177,8 @@ fn settles(
     requires routers { AreRouters present.now.routers.now }
     requires links { HaveGraph present.now.fabric.now }
 {
-    let judged = settle(alloc, circuits, present)?;
-    assert_eq!(rt; judged.ended.as_slice(), wanted.ended);
-    assert_eq!(rt; judged.moves.len(), wanted.moved.len());
-    'moves: for (change, moved) in judged.moves.as_slice().iter().zip(wanted.moved.iter()) {
-        assert_eq!(rt; change.circuit, CircuitNo(moved.0));
-        assert_eq!(rt; change.links.as_slice(), moved.1);
-    }
-    Ok(())
+    let counted = counted(alloc, wanted.granted)?;
+    settles_by(rt, alloc, circuits, present, &counted, wanted)
 }
 
 // No circuit changes, is gone or moved before.
@@ -263,6 +305,7 @@ fn line(alloc: Global) -> Result<Fabric, Fail> {
 fn settles_on_a_line(rt: &impl Abort, alloc: Global, circuits: &Circuits) -> Result<(), Fail> {
     let fabric = line(alloc)?;
     let wanted = Wanted {
+        granted: ALL,
         ended: &[2],
         moved: &[(3, &[1, 2])],
     };
@@ -287,12 +330,14 @@ fn settles_beside_a_third_link(
 ) -> Result<(), Fail> {
     let whole = triangle(alloc, false)?;
     let wanted = Wanted {
+        granted: ALL,
         ended: &[2],
         moved: &[(3, &[3])],
     };
     settles_over(rt, alloc, circuits, &whole, &wanted)?;
     let broken = triangle(alloc, true)?;
     let wanted = Wanted {
+        granted: ALL,
         ended: &[2],
         moved: &[(1, &[3]), (3, &[3])],
     };
@@ -306,10 +351,25 @@ fn settles_without_a_way(rt: &impl Abort, alloc: Global, circuits: &Circuits) ->
         fabric.remove(LinkNo(2));
     }
     let wanted = Wanted {
+        granted: ALL,
         ended: &[1, 2, 3],
         moved: &[],
     };
     settles_over(rt, alloc, circuits, &fabric, &wanted)
+}
+
+// Where the identity has no Dial, or the ingress is not shared, a circuit ends though its path stands.
+fn settles_without_grants(rt: &impl Abort, alloc: Global, circuits: &Circuits) -> Result<(), Fail> {
+    let fabric = line(alloc)?;
+    'granted: for granted in [&ALL[1..], &ALL[..1], &ALL[..2], &[]] {
+        let wanted = Wanted {
+            granted,
+            ended: &[1, 2, 3],
+            moved: &[],
+        };
+        settles_over(rt, alloc, circuits, &fabric, &wanted)?;
+    }
+    Ok(())
 }
 
 #[test]
@@ -317,7 +377,8 @@ fn settles_circuits(rt: HostRuntime) -> Result<(), Fail> {
     let circuits = granted(&rt, rt.alloc())?;
     settles_on_a_line(&rt, rt.alloc(), &circuits)?;
     settles_beside_a_third_link(&rt, rt.alloc(), &circuits)?;
-    settles_without_a_way(&rt, rt.alloc(), &circuits)
+    settles_without_a_way(&rt, rt.alloc(), &circuits)?;
+    settles_without_grants(&rt, rt.alloc(), &circuits)
 }
 
 // A circuit goes, and its number is not given again.

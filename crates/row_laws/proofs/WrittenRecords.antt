@@ -85,19 +85,19 @@ kept_all : {X : Type 0} (p : X → Bool) (xs ys : List X) → filter p xs ≡ ys
 kept_all p xs ys e x m = by_filter p xs x (subst (λ zs. Among x zs) (sym e) m) (λ _ passes. passes)
 
 pub links_stay : (s : State) → ValidState s → (row : ℕ × Link) → Among row s.links.rows → link_stays s row ≡ true
-links_stay s v = kept_all (link_stays s) s.links.rows s.links.rows (ap (λ (t : State). t.links.rows) v.settled)
+links_stay s v = kept_all (link_stays s) s.links.rows s.links.rows (ap (λ (t : State). t.links.rows) v.repaired)
 
 pub terminators_stay : (s : State) → ValidState s → (row : ℕ × Terminator) → Among row s.terminators.rows → terminator_stays s row ≡ true
-terminators_stay s v = kept_all (terminator_stays s) s.terminators.rows s.terminators.rows (ap (λ (t : State). t.terminators.rows) v.settled)
+terminators_stay s v = kept_all (terminator_stays s) s.terminators.rows s.terminators.rows (ap (λ (t : State). t.terminators.rows) v.repaired)
 
 pub circuits_stay : (s : State) → ValidState s → (row : ℕ × Circuit) → Among row s.circuits.rows → stays_in s row ≡ true
 circuits_stay s v row m =
     subst (λ t. stays_in t row ≡ true) same
     (kept_all (stays_in (settle_terminators (settle_links s))) (map_each (rerouted (network_of (settle_terminators (settle_links s)))) s.circuits.rows) s.circuits.rows
-    (ap (λ (t : State). t.circuits.rows) v.settled) row m)
+    (ap (λ (t : State). t.circuits.rows) v.repaired) row m)
   where
     same : settle_terminators (settle_links s) ≡ s
-    same i = record s { links = (v.settled i).links; terminators = (v.settled i).terminators }
+    same i = record s { links = (v.repaired i).links; terminators = (v.repaired i).terminators }
 
 -- ---- the records fit, kind by kind
 

@@ -14,6 +14,10 @@ pub const ANN: &[u8] =
 pub const MADE: &[u8] =
     b"\x03\x06\x09\x0c\x02\0\0\0\0\0\0\0\x15\0\0\0\x08\0\0\0\x01\0\0\0\x04\0\0\0\x07\0\0\0\x02\0\0\0\x01\0\0\0\x01{\"no\":1}";
 
+/// The reply to a second frame that creates ann, behind the first one: the name exists.
+pub const EXISTS: &[u8] =
+    b"\x03\x06\x09\x0c\x02\0\0\0\x01\0\0\0\x15\0\0\0\x1b\0\0\0\x01\0\0\0\x04\0\0\0\x07\0\0\0\x02\0\0\0\x01\0\0\0\0{\"code\":20,\"name\":\"Exists\"}";
+
 /// The same as a row, and that of bob, who is the second identity.
 pub const ANN_MADE: Row = (1000, r#"{"name":"ann"}"#, r#"{"no":1}"#);
 

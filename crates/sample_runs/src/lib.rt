@@ -8,7 +8,7 @@ mod slots;
 
 pub use desks::{desk_of, parts_of, source_of};
 pub use frames::{
-    ANN, ANN_MADE, BOB_MADE, DONE, MADE, REQUEST, Row, push_reply, push_request, replies,
+    ANN, ANN_MADE, BOB_MADE, DONE, EXISTS, MADE, REQUEST, Row, push_reply, push_request, replies,
     reply_frame, requests,
 };
 pub use networks::{

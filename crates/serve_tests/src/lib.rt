@@ -2,8 +2,6 @@
 #![tactic(auto)]
 
 #[cfg(test)]
-mod adapters;
-#[cfg(test)]
 mod circuit_rows;
 #[cfg(test)]
 mod command_rows;
@@ -13,5 +11,7 @@ mod desks;
 mod loads;
 #[cfg(test)]
 mod rerouted_rows;
+#[cfg(test)]
+mod revoked_rows;
 #[cfg(test)]
 mod runs;

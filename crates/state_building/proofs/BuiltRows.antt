@@ -20,7 +20,7 @@ use Rattle.state_building.proofs.ComingRows.{row-holds, row-valid}
 -- ---- the state at the start
 
 pub start-valid : ValidState start
-start-valid = record { kinds = kinds; setting = refl; attributes = refl; settled = refl }
+start-valid = record { kinds = kinds; setting = refl; attributes = refl; repaired = refl }
   where
     kinds : (k : Kind) → ValidTable k start (table k start)
     kinds kind.Link = valid-none kind.Link start

@@ -14,7 +14,7 @@ use Rattle.row_codec.specs.declared.rows.Row.TheVariants as row
 use Rattle.state_building.specs.JoinedRecords.{joined, flaw_of}
 use Rattle.state_building.specs.BuiltStates.{with_row, flaw_in}
 use Rattle.state_building.proofs.GrownStates.{Grown}
-use Rattle.state_building.proofs.StandingRecords.{IsStanding, all_still, IsStanding-settled, settled-standing}
+use Rattle.state_building.proofs.StandingRecords.{IsStanding, all_still, IsStanding-repaired, repaired-standing}
 use Rattle.state_building.proofs.JoinedStates.{flaw_if-none, joined-valid}
 
 -- what holds of a state, and after each flawless record and setting, holds after a row without flaws
@@ -39,7 +39,7 @@ set-valid cost s fits v = record {
   kinds = kinds;
   setting = fits;
   attributes = v.attributes;
-  settled = settled-standing (record s { least_router_cost = cost }) standing;
+  repaired = repaired-standing (record s { least_router_cost = cost }) standing;
 }
   where
     grown : Grown s (record s { least_router_cost = cost })
@@ -52,7 +52,7 @@ set-valid cost s fits v = record {
 
     standing : IsStanding (record s { least_router_cost = cost })
     standing kind.Attribute = refl
-    standing k = all_still s (record s { least_router_cost = cost }) grown k (table k s).rows (IsStanding-settled s v.settled k)
+    standing k = all_still s (record s { least_router_cost = cost }) grown k (table k s).rows (IsStanding-repaired s v.repaired k)
 
 pub row-valid : (nexts : Kind → ℕ) (x : Row) (s : State) → ValidState s → ((k : Kind) → nexts k ≤ last_next) → flaw_in nexts x s ≡ None → ValidState (with_row x s)
 row-valid nexts x s v last =

@@ -17,7 +17,7 @@ use Rattle.model_laws.proofs.ValidLaws.{Orderly-from_valid, Orderly-create}
 use Rattle.state_building.specs.declared.flaws.Flaw.{Flaw}
 use Rattle.state_building.specs.JoinedRecords.{skipped, joined, is_sound, is_sound_policy, is_supported, are_both_found, flaw_if, flaw_of, is_out_of_order, is_name_taken, is_one_too_many, unsupported}
 use Rattle.state_building.proofs.GrownStates.{Grown, Keeps, Keeps-with_last, valid_still}
-use Rattle.state_building.proofs.StandingRecords.{stays, AllStay, IsStanding, stays_still, all_still, IsStanding-settled, settled-standing}
+use Rattle.state_building.proofs.StandingRecords.{stays, AllStay, IsStanding, stays_still, all_still, IsStanding-repaired, repaired-standing}
 use Rattle.state_building.proofs.SkippedStates.{Grown-skipped, skipped-valid}
 
 -- ---- a record without a flaw
@@ -130,7 +130,7 @@ flawless-valid nexts k n r s v last f =
       kinds = o.kinds;
       setting = o.setting;
       attributes = o.attributes;
-      settled = settled-standing (after_create k r t) (IsStanding-created k r t (IsStanding-settled t valid.settled) stay);
+      repaired = repaired-standing (after_create k r t) (IsStanding-created k r t (IsStanding-repaired t valid.repaired) stay);
     }
 
 pub joined-valid : (nexts : Kind → ℕ) (k : Kind) (n : ℕ) (r : Record k) (s : State) → ValidState s → nexts k ≤ last_next → flaw_of nexts k n r s ≡ None → ValidState (joined k n r s)

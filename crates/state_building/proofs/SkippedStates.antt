@@ -14,7 +14,7 @@ use Rattle.model_laws.proofs.KindLaws.{with_table-holds, with_table-setting}
 use Rattle.model_laws.proofs.ValidLaws.{attributes_fewer, with_table-uses}
 use Rattle.state_building.specs.JoinedRecords.{skipped}
 use Rattle.state_building.proofs.GrownStates.{Grown, Keeps, valid_still}
-use Rattle.state_building.proofs.StandingRecords.{AllStay, all_still, IsStanding-settled, settled-standing}
+use Rattle.state_building.proofs.StandingRecords.{AllStay, all_still, IsStanding-repaired, repaired-standing}
 
 -- the table of a kind with another next number
 abbrev pub renumbered : (k : Kind) → ℕ → State → Table (Record k)
@@ -30,14 +30,14 @@ skipped-valid k n s v above last = record {
       (λ j. valid-more (v.kinds j) (skipped k n s) (more j));
   setting = ap is_link_cost (with_table-setting k (renumbered k n s) s) ∙ v.setting;
   attributes = attributes_fewer s (skipped k n s) (with_table-uses s k (renumbered k n s) (λ x m. m)) v.attributes;
-  settled = settled-standing (skipped k n s) (with_table-holds (λ j t. AllStay j (skipped k n s) t.rows) s k (renumbered k n s) refl (still k) still);
+  repaired = repaired-standing (skipped k n s) (with_table-holds (λ j t. AllStay j (skipped k n s) t.rows) s k (renumbered k n s) refl (still k) still);
 }
   where
     more : (j : Kind) (q : Record j) → is_valid j s q ≡ true → is_valid j (skipped k n s) q ≡ true
     more = valid_still s (skipped k n s) (Grown-skipped k n s) v.kinds
 
     still : (j : Kind) → AllStay j (skipped k n s) (table j s).rows
-    still j = all_still s (skipped k n s) (Grown-skipped k n s) j (table j s).rows (IsStanding-settled s v.settled j)
+    still j = all_still s (skipped k n s) (Grown-skipped k n s) j (table j s).rows (IsStanding-repaired s v.repaired j)
 
     changed : ValidTable k (skipped k n s) (renumbered k n s)
     changed = let t = v.kinds k in record {

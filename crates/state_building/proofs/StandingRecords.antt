@@ -9,7 +9,7 @@ use Rattle.ctrl_model.specs.Networks.{network_of}
 use Rattle.ctrl_model.specs.Numbered.{Table, map_each, numbers, with_each, with_kept}
 use Rattle.ctrl_model.specs.State.{State, Link, Terminator}
 use Rattle.ctrl_model.specs.Tables.{Record, table}
-use Rattle.ctrl_model.specs.Settling.{settle, settle_links, settle_terminators, link_stays, terminator_stays, stays_in, rerouted}
+use Rattle.ctrl_model.specs.Settling.{repair, settle_links, settle_terminators, link_stays, terminator_stays, stays_in, rerouted}
 use Rattle.ctrl_model.proofs.Members.{list_all-from_among, list_all-among, by_filter}
 use Rattle.model_laws.proofs.SettleLaws.{rerouted-stays}
 use Rattle.state_building.proofs.GrownStates.{Grown, link_still, terminator_still, circuit_still}
@@ -64,14 +64,14 @@ with_each-still {R} p f same t e = ap (λ rows. record t { rows = rows }) (each 
 
 -- ---- settled states
 
-pub IsStanding-settled : (s : State) → settle s ≡ s → IsStanding s
-IsStanding-settled s e kind.Link = all_pass (link_stays s) s.links.rows s.links.rows (ap (λ (t : State). t.links.rows) e)
-IsStanding-settled s e kind.Terminator = all_pass (terminator_stays s) s.terminators.rows s.terminators.rows (ap (λ (t : State). t.terminators.rows) e)
-IsStanding-settled s e kind.Circuit =
+pub IsStanding-repaired : (s : State) → repair s ≡ s → IsStanding s
+IsStanding-repaired s e kind.Link = all_pass (link_stays s) s.links.rows s.links.rows (ap (λ (t : State). t.links.rows) e)
+IsStanding-repaired s e kind.Terminator = all_pass (terminator_stays s) s.terminators.rows s.terminators.rows (ap (λ (t : State). t.terminators.rows) e)
+IsStanding-repaired s e kind.Circuit =
     let before : s ≡ settle_terminators (settle_links s) = ap (λ (t : State). record t { circuits = s.circuits }) (sym e) in
     let judged = map_each (rerouted (network_of (settle_terminators (settle_links s)))) s.circuits.rows in
     all_pass (stays_in s) judged s.circuits.rows (ap (λ t. filter (stays_in t) judged) before ∙ ap (λ (t : State). t.circuits.rows) e)
-IsStanding-settled s e k = list_all-from_among _ (table k s).rows (λ row m. refl)
+IsStanding-repaired s e k = list_all-from_among _ (table k s).rows (λ row m. refl)
 
 -- the state with these links and terminators, and those of its circuits that they keep, rerouted where that is needed
 abbrev with_ends : State → Table Link → Table Terminator → State
@@ -81,8 +81,8 @@ with_ends s links terminators = record s {
   circuits = with_kept (stays_in (record s { links = links; terminators = terminators })) (with_each (rerouted (network_of (record s { links = links; terminators = terminators }))) s.circuits);
 }
 
-pub settled-standing : (s : State) → IsStanding s → settle s ≡ s
-settled-standing s stand =
+pub repaired-standing : (s : State) → IsStanding s → repair s ≡ s
+repaired-standing s stand =
     ap (λ links. with_ends s links (with_kept (terminator_stays s) s.terminators)) (with_kept-all (link_stays s) s.links (stand kind.Link))
     ∙ ap (λ terminators. with_ends s s.links terminators) (with_kept-all (terminator_stays s) s.terminators (stand kind.Terminator))
     ∙ ap (λ circuits. record s { circuits = with_kept (stays_in s) circuits }) (with_each-still (stays_in s) (rerouted (network_of s))

@@ -1,6 +1,6 @@
 -- What a command on terminators changes, in the terminators themselves and in a state (docs/PROMISES.md, "Commands on
 -- terminators").
-use Rattle.std.specs.Prelude.{◌≡◌, true}
+use Rattle.std.specs.Prelude.{◌≡◌, true, []}
 use Rattle.ctrl_model.specs.CommandForm.{is_cost}
 use Rattle.ctrl_model.specs.Numbered.{is_present}
 use Rattle.ctrl_model.specs.State.{State}
@@ -11,9 +11,9 @@ use Rattle.terminators.specs.TermRules.{has_term_room}
 use Rattle.terminators.specs.declared.changes.TermChange.{TermChange}
 use Rattle.terminators.specs.declared.changes.TermChange.TheVariants as change
 
--- The terminators of a state.
+-- The terminators of a state. What is open at them is no part of the commands on them.
 abbrev pub terms_of : State → TermTables
-terms_of s = record { terminators = s.terminators }
+terms_of s = record { terminators = s.terminators; loads = [] }
 
 -- A state with these terminators in place of its own.
 abbrev pub with_terms : TermTables → State → State

@@ -1,2 +1,3 @@
 pub mod TermLaws
+pub mod KeptLaws
 pub mod ChangeLaws

@@ -1,6 +1,7 @@
--- What one change makes of the terminators, and the terminators as they will be after it (docs/PROMISES.md, "Terminators").
-use Rattle.std.specs.Prelude.{ℕ, List}
+-- What one change makes of the terminators, and the terminators as they will be after it (docs/PROMISES.md, "The store of terminators").
+use Rattle.std.specs.Prelude.{ℕ, not, List, filter}
 use Rattle.std.specs.declared.option.Option.{Option}
+use Rattle.ctrl_model.specs.Walks.{is_among}
 use Rattle.record_tables.specs.AfterChange.{changed_by, without_numbers}
 use Rattle.terminators.specs.declared.changes.TermChange.{TermChange}
 use Rattle.terminators.specs.declared.changes.TermChange.TheVariants as change
@@ -14,7 +15,7 @@ after_term_change (change.Remove n) k = without_term n.0 k
 
 -- The terminators without those of some numbers.
 abbrev pub without_terms : List ℕ → TermTables → TermTables
-without_terms gone k = record k { terminators = without_numbers gone k.terminators }
+without_terms gone k = record { terminators = without_numbers gone k.terminators; loads = filter (λ row. not (is_among row.0 gone)) k.loads }
 
 -- The terminators after a change, if there is one, without those of some numbers.
 abbrev pub terms_after : Option TermChange → List ℕ → TermTables → TermTables

@@ -9,11 +9,12 @@ use Rattle.ctrl_model.specs.Limits.{limit}
 use Rattle.ctrl_model.specs.Networks.{Network, is_counted, is_in_service}
 use Rattle.ctrl_model.specs.State.{Terminator}
 use Rattle.ctrl_model.specs.Tables.{has_room}
+use Rattle.grant_denorm.specs.CountsAfter.{count_after}
 use Rattle.grant_denorm.specs.PairCounts.{count_of}
 use Rattle.terminators.specs.declared.admitting.Grants.{Grants}
 use Rattle.terminators.specs.declared.store.TermFault.{TermFault}
 use Rattle.terminators.specs.declared.store.TermFault.TheVariants.{NotBindable, Full}
-use Rattle.terminators.specs.TermTables.{TermTables, no_terminators}
+use Rattle.terminators.specs.TermTables.{TermTables, no_terminators, open_at}
 
 -- Whether one more terminator can be added: fewer than may be are present, and their numbers have not run out.
 abbrev pub has_term_room : TermTables → Bool
@@ -29,22 +30,23 @@ may_add e t bind = cond (has_term_room t) (cond (is_not_bindable e bind) (Err No
 
 -- The network of these terminators, counts of Bind, of routers of identities and of routers of services, and routers. It has
 -- what decides which terminators are admissible: no links, no grants of Dial, and 0 as the least router cost.
-abbrev pub network : TermTables → List ((ℕ × ℕ) × ℕ) → List ((ℕ × ℕ) × ℕ) → List ((ℕ × ℕ) × ℕ) → List RouterSeen → Network
+abbrev pub network : TermTables → (ℕ → ℕ → ℕ) → (ℕ → ℕ → ℕ) → (ℕ → ℕ → ℕ) → List RouterSeen → Network
 network t bind identity_router service_router routers = record {
   routers = routers;
   links = [];
   least = 0;
   terminators = t.terminators.rows;
+  load = open_at t;
   dial = λ _ _. 0;
-  bind = count_of bind;
-  identity_router = count_of identity_router;
-  service_router = count_of service_router;
+  bind = bind;
+  identity_router = identity_router;
+  service_router = service_router;
   full = false;
 }
 
 -- The network of some grants and routers, in which no terminator stands yet.
 abbrev pub granted : Grants → Network
-granted g = network no_terminators g.bind.now g.identity_router.now g.service_router.now g.routers.now
+granted g = network no_terminators (count_after g.bind.now) (count_after g.identity_router.now) (count_after g.service_router.now) g.routers.now
 
 -- Whether a terminator is an admissible one of a service and an instance.
 abbrev pub is_admissible : Network → ℕ → List ℕ → ℕ × Terminator → Bool

@@ -4,6 +4,7 @@ use Rattle.std.specs.declared.option.Option.{Option}
 use Rattle.ctrl_model.specs.declared.kinds.Precedence.TheVariants.{Normal}
 use Rattle.ctrl_model.specs.Networks.{Network}
 use Rattle.ctrl_model.specs.State.{Terminator}
+use Rattle.grant_denorm.specs.PairCounts.{count_of}
 use Rattle.terminators.specs.TermTables.{TermTables, no_terminators, with_term}
 use Rattle.terminators.specs.TermRules.{network}
 
@@ -26,5 +27,5 @@ binds = ((5, 1), 1) ∷ ((7, 1), 2) ∷ []
 -- Router 1 is granted to the hosts 5 and 6, and to service 1. Router 2 is not connected.
 abbrev pub offered : Network
 offered =
-    network six_offers binds (((5, 1), 1) ∷ ((6, 1), 1) ∷ []) (((1, 1), 3) ∷ [])
+    network six_offers (count_of binds) (count_of (((5, 1), 1) ∷ ((6, 1), 1) ∷ [])) (count_of (((1, 1), 3) ∷ []))
     (record { no = record { 0 = 1 }; cost = 0; through = true; connected = true } ∷ record { no = record { 0 = 2 }; cost = 0; through = true; connected = false } ∷ [])

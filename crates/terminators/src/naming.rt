@@ -2,6 +2,7 @@ ghost use Rattle.std.specs.Prelude.{◌≡◌, filter, IfOk};
 ghost use Rattle.ctrl_model.specs.Numbered.{numbers};
 ghost use Rattle.terminators.specs.NamedTerms.{stands_on};
 
+use crate::kept::KeptTerm;
 use crate::offers::Term;
 use ctrl_model::{Kind, Numbers};
 use record_tables::NumberedTable;
@@ -25,15 +26,15 @@ fn stands_on(term: &Term, kind: Kind, number: u32) -> bool
 /// The numbers of the terminators that stand on an entity of a kind and number, ascending.
 pub fn standing_in(
     alloc: Global,
-    terms: &NumberedTable<Term>,
+    terms: &NumberedTable<KeptTerm>,
     kind: Kind,
     number: u32,
 ) -> Result<Numbers, AllocError>
-    ensures { IfOk result (λ ns. ns ≡ numbers (filter (λ row. stands_on kind number row.1) terms.now.rows)) }
+    ensures { IfOk result (λ ns. ns ≡ numbers (filter (λ row. stands_on kind number row.1.term) terms.now.rows)) }
 {
     let mut standing = Vec::new(alloc);
-    'terms: for (place, term) in terms.rows() {
-        if stands_on(term, kind, number) {
+    'terms: for (place, kept) in terms.rows() {
+        if stands_on(&kept.term, kind, number) {
             standing.push(*place)?;
         }
     }

@@ -6,16 +6,18 @@ ghost use Rattle.ctrl_model.specs.CommandForm.{is_cost};
 ghost use Rattle.ctrl_model.specs.Limits as limits;
 ghost use Rattle.ctrl_model.specs.Networks.{admissible};
 ghost use Rattle.ctrl_model.specs.Numbered.{at, is_present, numbers};
+ghost use Rattle.grant_denorm.specs.PairCounts.{count_of};
 ghost use Rattle.terminators.specs.NamedTerms.{stands_on};
 ghost use Rattle.terminators.specs.TermChanges.{without_terms};
-ghost use Rattle.terminators.specs.TermTables.{no_terminators, with_term, with_set, without_term, with_next, KeepsTerms};
+ghost use Rattle.terminators.specs.TermTables.{no_terminators, with_term, with_set, without_term, with_next, with_open, open_at, cost_at, KeepsTerms};
 ghost use Rattle.terminators.specs.TermRules.{has_term_room, may_add, network, granted, is_admissible};
 
 use crate::admitting::{Grants, is_admissible};
+use crate::kept::{KeptTerm, cost_of};
 use crate::naming::standing_in;
 use crate::offers::{Term, TermView, is_not_bindable};
 use ctrl_model::{Instance, Kind, Numbers, Precedence, RouterSeen, ServiceNo, TermNo, limit};
-use grant_denorm::Counted;
+use grant_denorm::{Counted, CountedAfter};
 use record_tables::NumberedTable;
 use std::alloc::{AllocError, Global};
 use std::marker::Model;
@@ -35,18 +37,19 @@ pub enum TermFault {
     Full,
 }
 
-/// The terminators of a controller. Contracts see them as a table (`TermTables`).
+/// The terminators of a controller, each with the number of circuits that are open at it. Contracts see them as a table, and these
+/// numbers beside it (`TermTables`).
 #[derive(Drop)]
 pub struct Terminators {
-    terms: NumberedTable<Term>,
+    terms: NumberedTable<KeptTerm>,
 }
 
 impl Model for Terminators {
-    ghost use Rattle.terminators.specs.TermTables.{TermTables, AreFit};
+    ghost use Rattle.terminators.specs.TermTables.{TermTables, tables_of, AreFit};
 
     ghost Value = { TermTables };
 
-    ghost view = { λ t. record { terminators = t.terms } };
+    ghost view = { λ t. tables_of t.terms };
 
     ghost invariant = { λ t. AreFit t.terms };
 }
@@ -54,16 +57,16 @@ impl Model for Terminators {
 // The numbers of the admissible terminators of a service and an instance, ascending.
 fn admissible_in(
     alloc: Global,
-    terms: &NumberedTable<Term>,
+    terms: &NumberedTable<KeptTerm>,
     grants: &Grants,
     service: ServiceNo,
     instance: &Instance,
 ) -> Result<Vec<u32>, AllocError>
-    ensures { IfOk result (λ v. v.items ≡ numbers (filter (is_admissible (granted grants.now) service.0 instance.now) terms.now.rows)) }
+    ensures { IfOk result (λ v. v.items ≡ numbers (filter (λ row. is_admissible (granted grants.now) service.0 instance.now (row.0, row.1.term)) terms.now.rows)) }
 {
     let mut found = Vec::new(alloc);
-    'terms: for (number, term) in terms.rows() {
-        if is_admissible(grants, service, instance, term) {
+    'terms: for (number, kept) in terms.rows() {
+        if is_admissible(grants, service, instance, &TermView::of(&kept.term)) {
             found.push(*number)?;
         }
     }
@@ -94,14 +97,14 @@ impl Terminators {
         Ok(())
     }
 
-    /// Adds a terminator under the next number, which it answers. Its cost is from 0 to 65,535.
+    /// Adds a terminator under the next number, which it answers. Its cost is from 0 to 65,535, and no circuit is open at it.
     pub fn add(&mut self, term: Term) -> Result<TermNo, AllocError>
         requires room { has_term_room self.old ≡ true }
         requires cost { is_cost term.cost ≡ true }
         ensures ok { IfOk result (λ n. (n.0 ≡ self.old.terminators.next) × (self.new ≡ with_term term self.old)) }
         ensures err { OnErr result (self.new ≡ self.old) }
     {
-        let number = self.terms.add(term)?;
+        let number = self.terms.add(KeptTerm { term, load: 0 })?;
         Ok(TermNo(number))
     }
 
@@ -109,7 +112,10 @@ impl Terminators {
     pub fn get(&self, no: TermNo) -> Result<&Term, TermFault>
         ensures { result_map_both (λ t. t.now) (λ fault. fault) result ≡ ok_or (at self.now.terminators.rows no.0) TermFault.Unknown }
     {
-        self.terms.get(no.0).ok_or(TermFault::Unknown)
+        match self.terms.get(no.0) {
+            Some(kept) => Ok(&kept.term),
+            None => Err(TermFault::Unknown),
+        }
     }
 
     /// The terminator that has the number, lent. None exactly where none has it.
@@ -117,7 +123,7 @@ impl Terminators {
         ensures { result ≡ at self.now.terminators.rows no.0 }
     {
         match self.terms.get(no.0) {
-            Some(term) => Some(TermView::of(term)),
+            Some(kept) => Some(TermView::of(&kept.term)),
             None => None,
         }
     }
@@ -128,10 +134,42 @@ impl Terminators {
         requires cost { is_cost cost ≡ true }
         ensures { self.new ≡ with_set no.0 cost precedence self.old }
     {
-        self.terms.edit(no.0, |term| {
-            term.cost = cost;
-            term.precedence = precedence;
+        self.terms.edit(no.0, |kept| {
+            kept.term.cost = cost;
+            kept.term.precedence = precedence;
         });
+    }
+
+    /// How many circuits are open at a present terminator, as `set_open` last said: 0 at a new one.
+    pub fn open_circuits(&self, no: TermNo) -> u32
+        requires { is_present self.now.terminators.rows no.0 ≡ true }
+        ensures { result ≡ open_at self.now no.0 }
+    {
+        let Some(kept) = self.terms.get(no.0) else {
+            unreachable!()
+        };
+        kept.load
+    }
+
+    /// What a present terminator costs: its static cost, and 1 for each circuit that is open at it (docs/RULES.md, "Terminators").
+    pub fn term_cost(&self, no: TermNo) -> u32
+        requires { is_present self.now.terminators.rows no.0 ≡ true }
+        ensures { result ≡ cost_at self.now no.0 }
+    {
+        let Some(kept) = self.terms.get(no.0) else {
+            unreachable!()
+        };
+        cost_of(kept)
+    }
+
+    /// Sets how many circuits, at most 16,384, are open at a present terminator.
+    pub fn set_open(&mut self, no: TermNo, count: u32)
+        requires there { is_present self.old.terminators.rows no.0 ≡ true }
+        requires most { count ≤ limits.limit kind.Circuit }
+        ensures set { self.new ≡ with_open no.0 count self.old }
+        ensures open { open_at self.new no.0 ≡ count }
+    {
+        self.terms.edit(no.0, |kept| kept.load = count);
     }
 
     /// Removes a present terminator.
@@ -152,7 +190,7 @@ impl Terminators {
     /// The numbers of the present terminators, ascending.
     pub fn numbers(&self, alloc: Global) -> Result<Numbers, AllocError>
         ensures all { IfOk result (λ ns. ns ≡ numbers self.now.terminators.rows) }
-        // The numbers ascend from 1 below the next one, the limit is kept, and each cost is in its range.
+        // The numbers ascend from 1 below the next one, the limit is kept, and each cost and each load is in its range.
         ensures keeps { KeepsTerms self.now }
     {
         self.terms.numbers(alloc)
@@ -177,7 +215,7 @@ impl Terminators {
     /// The number that the next terminator gets, 1 in a new store.
     pub fn next(&self) -> u32
         ensures next { result ≡ self.now.terminators.next }
-        // The numbers ascend from 1 below it, the limit is kept, and each cost is in its range.
+        // The numbers ascend from 1 below it, the limit is kept, and each cost and each load is in its range.
         ensures keeps { KeepsTerms self.now }
     {
         self.terms.next()
@@ -212,12 +250,15 @@ impl Terminators {
         service_router: &Counted,
         routers: &[RouterSeen],
     ) -> Result<Numbers, AllocError>
-        ensures { IfOk result (λ ns. ns ≡ numbers (admissible (network self.now bind.now identity_router.now service_router.now routers.now) service.0 instance.now)) }
+        ensures { IfOk result (λ ns. ns ≡ numbers (admissible (network self.now (count_of bind.now) (count_of identity_router.now) (count_of service_router.now) routers.now) service.0 instance.now)) }
     {
+        let bind = CountedAfter::unchanged(alloc, bind)?;
+        let identity_router = CountedAfter::unchanged(alloc, identity_router)?;
+        let service_router = CountedAfter::unchanged(alloc, service_router)?;
         let grants = Grants {
-            bind,
-            identity_router,
-            service_router,
+            bind: &bind,
+            identity_router: &identity_router,
+            service_router: &service_router,
             routers,
         };
         let found = admissible_in(alloc, &self.terms, &grants, service, instance)?;

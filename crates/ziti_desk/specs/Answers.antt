@@ -1,4 +1,4 @@
--- What the answer of a writer is to a desk (docs/PROMISES.md, "The adapters").
+-- What the answer of a writer is to a desk (docs/PROMISES.md, "The desks").
 use Rattle.std.specs.Prelude.{◌≡◌, ℕ, ◌<◌, IsErr, Ok}
 use Rattle.std.specs.declared.result.Result.{Result}
 

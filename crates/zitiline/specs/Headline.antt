@@ -1,4 +1,4 @@
--- What a run promises (docs/PROMISES.md, "Lines for people").
+-- What a run promises (docs/PROMISES.md, "The program of lines").
 use Rattle.std.specs.Prelude.{◌≡◌, ◌↔◌, ℕ, List, None, Some}
 use Rattle.std.specs.declared.option.Option.{Option}
 use Rattle.std.specs.Io.KnownBytes.{IsAtEnd}

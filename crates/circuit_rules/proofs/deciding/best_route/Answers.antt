@@ -19,7 +19,7 @@ found_between-requires c =
       ends = record {
         entries = ends_entered w ask c.args.identity.0 c.args.service.0 k c.in_ok-ends.ends c.in_ok-ends.ensures.ends.1;
         exits = ends_left w ask c.args.identity.0 c.args.service.0 k c.in_ok-ends.ends c.in_ok-ends.ensures.ends.1;
-        costs = subst (λ os. All (λ (o : Exit). o.cost ≤ 65535) os) (sym c.in_ok-ends.ensures.ends.1.1) (exits_cheap w ask c.args.service.0 c.next-next.ensures.keeps.costs);
+        costs = subst (λ os. All (λ (o : Exit). o.cost ≤ 81919) os) (sym c.in_ok-ends.ensures.ends.1.1) (exits_cheap w ask c.args.service.0 c.next-next.ensures.keeps.costs c.next-next.ensures.keeps.loads);
       };
     }
 

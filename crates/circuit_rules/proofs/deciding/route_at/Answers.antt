@@ -25,5 +25,5 @@ route_over-requires c =
       least = c.in_ok-visit_exits.ensures.costs;
       entries = subst (All (λ (x : Entry). x.place < places)) (sym c.as_slice-2.ensures.value) c.requires.ends.entries;
       exits = subst (All (λ (o : Exit). o.place < places)) (sym found) within.0;
-      costs = subst (All (λ (o : Exit). o.cost ≤ 65535)) (sym found) within.1;
+      costs = subst (All (λ (o : Exit). o.cost ≤ 81919)) (sym found) within.1;
     }

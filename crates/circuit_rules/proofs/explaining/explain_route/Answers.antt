@@ -21,8 +21,8 @@ returns-clause-explained c =
     let ask = asked c.args.ask.now in
     let once = Between-none_twice 1 c.args.view.now.terminators.now.terminators.next w.terminators c.next-next.ensures.keeps.ordered in
     explains w ask c.args.found.route c.requires.granted c.explanation.result
-    (explained w (map offer_of (admissible w c.unwrap-service.result.0 ask.instance)) c.place_of-most.result c.args.found.route)
-    (ap (λ most. explained w (map offer_of (admissible w c.unwrap-service.result.0 ask.instance)) most c.args.found.route) c.place_of-most.ensures
+    (explained w (map (offer_of w) (admissible w c.unwrap-service.result.0 ask.instance)) c.place_of-most.result c.args.found.route)
+    (ap (λ most. explained w (map (offer_of w) (admissible w c.unwrap-service.result.0 ask.instance)) most c.args.found.route) c.place_of-most.ensures
     ∙ explained-is w ask c.args.found.route c.requires.granted c.unwrap-service.result.0 c.unwrap-offer.result once (ap (λ o. option_map (λ s. s.0) o) c.unwrap-service.ensures)
     (sym c.offer_at.ensures ∙ c.unwrap-offer.ensures))
     c.explanation.ensures

@@ -9,5 +9,5 @@ pub returns-clause-offers : goal.returns-clause-offers
 returns-clause-offers c =
     let w = network c.args.view.now in
     subst (λ os. IfOk c.offers_at.result (λ v. v.items ≡ os))
-    (ap (filter_map (offer_at w.terminators)) (c.as_slice.ensures ∙ c.in_ok-numbers.ensures) ∙ offers-admissible w c.args.service.0 _ c.args.instance.now c.next-next.ensures.keeps.ordered)
+    (ap (filter_map (offer_at w)) (c.as_slice.ensures ∙ c.in_ok-numbers.ensures) ∙ offers-admissible w c.args.service.0 _ c.args.instance.now c.next-next.ensures.keeps.ordered)
     c.offers_at.ensures

@@ -3,6 +3,7 @@ use Rattle.std.proofs.lemmas.Result.{IfOk-weaker}
 use Rattle.record_tables.proofs.GoneLaws.{gone_none}
 use Rattle.fabric_graph.specs.FabricChanges.{fabric_after}
 use Rattle.terminators.specs.TermChanges.{terms_after}
+use Rattle.terminators.specs.TermTables.{TermTables}
 use Rattle.circuit_settling.specs.PresentRecords.{stays_with}
 use Rattle.circuit_settling.proofs.falling.stays_here.Goals as goal
 
@@ -14,5 +15,5 @@ returns c =
     let f = c.args.standing.now.fabric.now in
     let e = c.args.standing.now.terminators.now in
     let links = c.new-fabric.ensures ∙ (λ i. fabric_after None (no_links i) f) ∙ ap (λ ls. record f { links = ls }) (sym (gone_none f.links)) in
-    let offers = c.new-terminators.ensures ∙ (λ i. terms_after None (no_terms i) e) ∙ ap (λ ts. record e { terminators = ts }) (sym (gone_none e.terminators)) in
-    IfOk-weaker c.would_stay.result _ _ (λ b is. is ∙ (λ i. stays_with t (links i) (offers i) (0, c.args.circuit.now))) c.would_stay.ensures
+    let offers = ap (λ (k : TermTables). k.terminators) c.new-terminators.ensures ∙ (λ i. (terms_after None (no_terms i) e).terminators) ∙ sym (gone_none e.terminators) in
+    IfOk-weaker c.would_stay.result _ _ (λ b is. is ∙ (λ i. stays_with t (links i) (record { terminators = offers i; loads = [] }) (0, c.args.circuit.now))) c.would_stay.ensures

@@ -1,9 +1,9 @@
 use Rattle.std.proofs.Common.{◌≡◌, ◌++◌, not, drop}
 use Rattle.std.specs.List.{filter}
-use Rattle.circuit_settling.specs.PresentRecords.{stays_at}
+use Rattle.circuit_settling.specs.OtherLinks.{keeps_at}
 use Rattle.circuit_settling.proofs.settling.going.Given as goal
 
 abbrev pub invariant-circuits : goal.invariant-circuits
 invariant-circuits l =
-    l.going.items ++ filter (λ n. not (stays_at l.present l.circuits.circuits.rows n)) (drop l.number-index l.numbers)
-    ≡ filter (λ n. not (stays_at l.present l.circuits.circuits.rows n)) l.numbers
+    l.going.items ++ filter (λ n. not (keeps_at l.present l.grants l.circuits.circuits.rows n)) (drop l.number-index l.numbers)
+    ≡ filter (λ n. not (keeps_at l.present l.grants l.circuits.circuits.rows n)) l.numbers

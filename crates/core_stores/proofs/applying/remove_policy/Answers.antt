@@ -6,7 +6,7 @@ remove-requires c = record {
   there = policy_there c.args.kind c.args.number c.args.stores.now c.let_policy_go.new.stores c.requires.there c.in_ok-let_policy_go.ensures.policies_stay;
 }
 
-pub returns : goal.returns
-returns c =
+pub returns-clause-carried : goal.returns-clause-carried
+returns-clause-carried c =
     rw (c.remove.ensures)
     (carried_without c.args.kind c.args.number c.args.stores.now c.let_policy_go.new.stores c.requires.kind c.requires.before c.requires.held c.in_ok-let_policy_go.ensures)

@@ -16,8 +16,8 @@ pub put-requires-clause-can : goal.put-requires-clause-can
 put-requires-clause-can c =
     can_put_other c.args.kind c.args.number c.args.policy.name c.args.stores.now c.let_policy_go.new.stores c.requires.named c.in_ok-let_policy_go.ensures.policies_stay
 
-pub returns : goal.returns
-returns c =
+pub returns-clause-carried : goal.returns-clause-carried
+returns-clause-carried c =
     rw (c.in_ok-put.ensures.ok.1)
     (carried_replaced c.args.kind c.args.number c.args.policy c.args.stores.now c.let_policy_go.new.stores c.hold.new.self c.requires.kind c.requires.named c.requires.valid
     c.requires.held c.in_ok-let_policy_go.ensures (rw c.in_ok-names.ensures at c.in_ok-hold.ensures.ok))

@@ -10,7 +10,7 @@ apply_entity_change-requires c =
 pub forget_by-requires : goal.forget_by-requires
 forget_by-requires c = forgets_entity c.args.change.now (state_of c.args.stores.now) c.requires.can
 
-pub returns : goal.returns
-returns c =
+pub returns-clause-carried : goal.returns-clause-carried
+returns-clause-carried c =
     rw (c.in_ok-apply_entity_change.ensures, c.forget_by.ensures)
     (carried_entity c.args.change.now c.args.stores.now c.requires.can c.requires.valid c.requires.held)

@@ -68,19 +68,20 @@ plan_circuit_command-requires c = record {
     bind = c.requires.kept.counts Bind;
     identity_router = c.requires.kept.counts IdentityRouter;
     service_router = c.requires.kept.counts ServiceRouter;
+    load = c.requires.kept.loads;
   };
 }
 
 pub drafted-requires-in-Some-5-clause-can : goal.drafted-requires-in-Some-5-clause-can
 drafted-requires-in-Some-5-clause-can c =
     (planned_so routed CanRoute change.Circuit (state_of c.args.stores.now) (λ x. refl) (λ x can. can) c.in-Some-5.plan c.circuit_change.result (carry c.args.command.now (state_of c.args.stores.now)) c.circuit_change.ensures
-    (found_plan _ _ c.in_ok-plan-5.field-0 c.in-Some-5.plan c.in-Some-5.is c.in_ok-plan-5.ensures (state_of c.args.stores.now) c.requires.kept.valid (record { dial = c.requires.kept.counts Dial; bind = c.requires.kept.counts Bind; identity_router = c.requires.kept.counts IdentityRouter; service_router = c.requires.kept.counts ServiceRouter }))).can
+    (found_plan _ _ c.in_ok-plan-5.field-0 c.in-Some-5.plan c.in-Some-5.is c.in_ok-plan-5.ensures (state_of c.args.stores.now) c.requires.kept.valid (record { dial = c.requires.kept.counts Dial; bind = c.requires.kept.counts Bind; identity_router = c.requires.kept.counts IdentityRouter; service_router = c.requires.kept.counts ServiceRouter; load = c.requires.kept.loads }))).can
 
 pub returns-in-Some-5 : goal.returns-in-Some-5
 returns-in-Some-5 c =
     IfOk-weaker c.drafted-in-Some-5.result _ _ (λ p plans. plans (carry c.args.command.now (state_of c.args.stores.now))
     (planned_so routed CanRoute change.Circuit (state_of c.args.stores.now) (λ x. refl) (λ x can. can) c.in-Some-5.plan c.circuit_change.result (carry c.args.command.now (state_of c.args.stores.now)) c.circuit_change.ensures
-    (found_plan _ _ c.in_ok-plan-5.field-0 c.in-Some-5.plan c.in-Some-5.is c.in_ok-plan-5.ensures (state_of c.args.stores.now) c.requires.kept.valid (record { dial = c.requires.kept.counts Dial; bind = c.requires.kept.counts Bind; identity_router = c.requires.kept.counts IdentityRouter; service_router = c.requires.kept.counts ServiceRouter })))) c.drafted-in-Some-5.ensures
+    (found_plan _ _ c.in_ok-plan-5.field-0 c.in-Some-5.plan c.in-Some-5.is c.in_ok-plan-5.ensures (state_of c.args.stores.now) c.requires.kept.valid (record { dial = c.requires.kept.counts Dial; bind = c.requires.kept.counts Bind; identity_router = c.requires.kept.counts IdentityRouter; service_router = c.requires.kept.counts ServiceRouter; load = c.requires.kept.loads })))) c.drafted-in-Some-5.ensures
 
 pub returns : goal.returns
 returns c =

@@ -17,10 +17,10 @@ returns-in_default c =
       change_is = made.change_is ∙ sym c.in_default.is;
       steps_are = made.steps_are;
       settled = subst (λ (o : Option Change). NamesSettled o s c.still.result.settled) (sym c.in_default.is) made.none_settles;
-      batch_is = made.empty ∙ sym (ap (λ (o : Option Change). batch_between s (led_by after_change o s)) c.in_default.is ∙ batch_between-same s c.requires.kept.valid);
+      batch_is = made.empty ∙ sym (ap (λ (o : Option Change). batch_between s (led_by after_change o s)) c.in_default.is ∙ batch_between-same s c.requires.can.kept.valid);
     }
 
 pub settled_rows-requires-clause-counts : goal.settled_rows-requires-clause-counts
 settled_rows-requires-clause-counts c =
     let s = state_of c.args.stores.now in
-    subst (λ (o : Option Change). LeadAllCounts s (led_by after_change o s) c.args.draft.steps) c.in-Some.is c.requires.counts
+    subst (λ (o : Option Change). LeadAllCounts s (led_by after_change o s) c.args.draft.steps) c.in-Some.is c.requires.can.counts

@@ -32,4 +32,4 @@ returns-clause-kept c =
     let rows = c.args.rows.now in
     let taken = subst (λ s. KeepState c.take_rows.new.stores (built rows s)) c.requires.empty c.in_ok-take_rows.ensures.taken in
     keeps_loaded rows c.take_rows.new.stores c.raise_nexts.new.stores c.requires.loads taken.kept taken.state_is
-    (subst (AreFlawless (next_in rows) rows) c.requires.empty c.in_ok-take_rows.ensures.flawless) c.raise_nexts.ensures
+    (subst (AreFlawless (next_in rows) rows) c.requires.empty c.in_ok-take_rows.ensures.flawless) c.raise_nexts.ensures.carried c.raise_nexts.ensures.loads

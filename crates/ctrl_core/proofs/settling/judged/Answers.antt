@@ -1,7 +1,14 @@
-use Rattle.std.proofs.Common.{◌∙◌}
-use Rattle.ctrl_core.proofs.JudgedChanges.{none_judged}
+use Rattle.std.proofs.Common.{sym, ◌∙◌, ap}
+use Rattle.circuits.specs.MovedCircuits.{moves_by, ended_by}
+use Rattle.circuit_settling.specs.OtherLinks.{way_at}
 use Rattle.ctrl_core.proofs.settling.judged.Goals as goal
 
-pub returns-then-is_empty : goal.returns-then-is_empty
-returns-then-is_empty c =
-    none_judged _ c.args.fallen.now.circuits _ (c.is_empty.ensures.0 c.if-is_empty.true) (c.of.ensures ∙ c.new.ensures.items) (c.of-then-is_empty.ensures ∙ c.new-then-is_empty.ensures.items)
+pub returns-then-is_empty-clause-ended : goal.returns-then-is_empty-clause-ended
+returns-then-is_empty-clause-ended c =
+    c.of.ensures ∙ c.new.ensures.items
+    ∙ sym (ap (ended_by (way_at c.args.present.now c.args.grants.now c.args.circuits.now.circuits.rows)) (c.is_empty.ensures.0 c.if-is_empty.true))
+
+pub returns-then-is_empty-clause-moves : goal.returns-then-is_empty-clause-moves
+returns-then-is_empty-clause-moves c =
+    c.of-then-is_empty.ensures ∙ c.new-then-is_empty.ensures.items
+    ∙ sym (ap (moves_by (way_at c.args.present.now c.args.grants.now c.args.circuits.now.circuits.rows)) (c.is_empty.ensures.0 c.if-is_empty.true))

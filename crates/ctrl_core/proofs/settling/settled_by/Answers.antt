@@ -1,11 +1,20 @@
+use Rattle.core_stores.specs.StoredState.{state_of}
+use Rattle.ctrl_core.specs.Changes.{after_change}
 use Rattle.ctrl_core.proofs.SettledChanges.{settles}
+use Rattle.ctrl_core.proofs.StepLaws.{grants_after_are, steps_fit}
 use Rattle.ctrl_core.proofs.settling.settled_by.Goals as goal
 
-pub judged-requires-clause-falls : goal.judged-requires-clause-falls
-judged-requires-clause-falls c = settles c.args.stores.now c.requires.before c.args.change.now c.requires.can c.in_ok-fallen.fallen c.in_ok-fallen.ensures
+pub grants_after-requires : goal.grants_after-requires
+grants_after-requires c = steps_fit c.args.stores.now _ c.args.steps.now c.requires.kept c.requires.can.valid c.requires.counts
+
+pub judged_beside-requires-clause-falls : goal.judged_beside-requires-clause-falls
+judged_beside-requires-clause-falls c = settles c.args.stores.now c.requires.can.before c.args.change.now c.requires.can.can c.in_ok-fallen.fallen c.in_ok-fallen.ensures
+
+pub judged_beside-requires-clause-counts : goal.judged_beside-requires-clause-counts
+judged_beside-requires-clause-counts c =
+    grants_after_are c.args.stores.now (after_change c.args.change.now (state_of c.args.stores.now)) c.args.steps.now c.in_ok-grants.grants c.requires.kept c.requires.counts c.in_ok-grants.ensures
 
 pub returns : goal.returns
-returns c = record {
-  falls = settles c.args.stores.now c.requires.before c.args.change.now c.requires.can c.in_ok-fallen.fallen c.in_ok-fallen.ensures;
-  judged = c.in_ok-judged.ensures;
-}
+returns c =
+    let falls = settles c.args.stores.now c.requires.can.before c.args.change.now c.requires.can.can c.in_ok-fallen.fallen c.in_ok-fallen.ensures in
+    record { links_are = falls.links_are; terms_are = falls.terms_are; judged = c.in_ok-lost.ensures }

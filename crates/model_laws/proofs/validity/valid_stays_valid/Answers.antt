@@ -13,7 +13,7 @@ kinds kind.Link = valid-none kind.Link start
 kinds k = valid-none k start
 
 pub returns-clause-at_start : goal.returns-clause-at_start
-returns-clause-at_start c = record { kinds = kinds; setting = refl; attributes = refl; settled = refl }
+returns-clause-at_start c = record { kinds = kinds; setting = refl; attributes = refl; repaired = refl }
 
 pub returns-clause-stays : goal.returns-clause-stays
 returns-clause-stays c = answer-valid

@@ -22,5 +22,5 @@ returns-clause-name_twice c v = one_is_not_two ((v.kinds kind.Identity).names re
 pub returns-clause-bad_record : goal.returns-clause-bad_record
 returns-clause-bad_record c v = false≢true (v.kinds kind.Service).each
 
-pub returns-clause-not_settled : goal.returns-clause-not_settled
-returns-clause-not_settled c v = let gone = ap (λ (s : State). length s.links.rows) v.settled in absurd (omega (arith, gone))
+pub returns-clause-not_repaired : goal.returns-clause-not_repaired
+returns-clause-not_repaired c v = let gone = ap (λ (s : State). length s.links.rows) v.repaired in absurd (omega (arith, gone))

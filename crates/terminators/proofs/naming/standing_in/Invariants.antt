@@ -7,5 +7,5 @@ use Rattle.terminators.proofs.naming.standing_in.Given as goal
 -- the numbers so far and those among the terminators that are left are all
 abbrev pub invariant-terms : goal.invariant-terms
 invariant-terms l =
-    l.standing.items ++ numbers (filter (λ row. stands_on l.kind l.number row.1) l.place-iterator)
-    ≡ numbers (filter (λ row. stands_on l.kind l.number row.1) l.terms.rows)
+    l.standing.items ++ numbers (filter (λ row. stands_on l.kind l.number row.1.term) l.place-iterator)
+    ≡ numbers (filter (λ row. stands_on l.kind l.number row.1.term) l.terms.rows)

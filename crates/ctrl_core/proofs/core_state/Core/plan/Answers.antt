@@ -9,9 +9,12 @@ use Rattle.core_stores.specs.StoredState.{state_of}
 use Rattle.ctrl_core.proofs.PlanLaws.{can_complete, leads_from, still_is}
 use Rattle.ctrl_core.proofs.core_state.Core.plan.Goals as goal
 
-pub completed-requires : goal.completed-requires
-completed-requires c =
-    can_complete c.self.inside.stores c.in_ok-draft.draft c.args.command.now (c.self.invariant (ap (λ v. v.live) c.self.view_is ∙ c.requires.live)) c.requires.spelled c.in_ok-draft.ensures
+pub completed-requires-clause-can : goal.completed-requires-clause-can
+completed-requires-clause-can c =
+    can_complete c.self.inside.stores c.in_ok-draft.draft c.args.command.now (c.self.invariant (ap (λ v. v.live) c.self.view_is ∙ c.requires.live)).0 c.requires.spelled c.in_ok-draft.ensures
+
+pub completed-requires-clause-granted : goal.completed-requires-clause-granted
+completed-requires-clause-granted c = (c.self.invariant (ap (λ v. v.live) c.self.view_is ∙ c.requires.live)).1
 
 pub returns-clause-reply : goal.returns-clause-reply
 returns-clause-reply c =
@@ -20,7 +23,7 @@ returns-clause-reply c =
 pub returns-clause-leads : goal.returns-clause-leads
 returns-clause-leads c =
     let st = c.self.inside.stores in
-    let keeps = c.self.invariant (ap (λ v. v.live) c.self.view_is ∙ c.requires.live) in
+    let keeps = (c.self.invariant (ap (λ v. v.live) c.self.view_is ∙ c.requires.live)).0 in
     IfOk-weaker c.completed.result _ _ (λ p made.
     subst (λ s. LeadsFrom p s (carry c.args.command.now s).1) (ap (λ v. v.state) c.self.view_is)
     (leads_from st c.in_ok-draft.draft p c.args.command.now (can_complete st c.in_ok-draft.draft c.args.command.now keeps c.requires.spelled c.in_ok-draft.ensures) c.in_ok-draft.ensures made)) c.completed.ensures

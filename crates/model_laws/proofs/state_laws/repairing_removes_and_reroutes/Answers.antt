@@ -3,7 +3,7 @@ use Rattle.ctrl_model.specs.Networks.{network_of}
 use Rattle.ctrl_model.specs.Numbered.{map_each}
 use Rattle.ctrl_model.specs.Settling.{link_stays, terminator_stays, stays_in, rerouted, settle_links, settle_terminators}
 use Rattle.ctrl_model.proofs.NumberedLaws.{at-filter-back, at-map_each, Between-map_each}
-use Rattle.model_laws.proofs.state_laws.settling_removes_and_reroutes.Goals as goal
+use Rattle.model_laws.proofs.state_laws.repairing_removes_and_reroutes.Goals as goal
 
 pub returns-clause-link_stood : goal.returns-clause-link_stood
 returns-clause-link_stood c s n l b e = (at-filter-back (link_stays s) s.links.next s.links.rows 1 n l b e).0

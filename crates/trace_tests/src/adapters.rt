@@ -1,8 +1,7 @@
 //! Runs over the adapters: full, partial and failing readers and writers.
 
-use crate::runs::EXISTS;
 use ctrl_serve::{Status, run};
-use sample_runs::{ANN, MADE};
+use sample_runs::{ANN, EXISTS, MADE};
 use std::alloc::{AllocError, Global};
 use std::io::{self, ErrorKind, Read, Write};
 use std::process::Abort;

@@ -1,0 +1,13 @@
+use Rattle.std.proofs.Common.{◌+◌, ◌<◌, ◌≤◌, true, false, arith}
+use Rattle.grant_denorm.specs.CountsAfter.{steps_at}
+use Rattle.grant_denorm.specs.PairCounts.{count_of}
+use Rattle.grant_denorm.proofs.after.CountedAfter.new.Goals as goal
+
+pub tally-requires : goal.tally-requires
+tally-requires c = λ p q.
+    let most : count_of c.args.counted.now p q + steps_at true c.args.steps.now p q < 4294967296 = c.requires.most p q in omega (arith, most)
+
+pub tally-requires-2 : goal.tally-requires-2
+tally-requires-2 c = λ p q.
+    let least : steps_at false c.args.steps.now p q ≤ count_of c.args.counted.now p q = c.requires.least p q in
+    let most = c.requires.most p q in omega (arith, least, most)
