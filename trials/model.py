@@ -1,12 +1,17 @@
 #!/usr/bin/env python3
 """Compares the built program with an independent model of the controller, byte by byte.
 
-usage: model.py PROGRAM [COMMANDS [SEED]]
+usage: model.py PROGRAM [COMMANDS [SEED [SIZE]]]
+       model.py cases FOLDER [COMMANDS [SEED [SIZE]]]
 
 The model is written from docs/RULES.md and docs/FORMATS.md alone: model_bodies.py reads frames and bodies, model_rules.py has the state, grants, paths
-and settling, model_commands.py the commands. Compared are the replies to the examples, the counts line of some loads, the replies to inputs that reach
-the limits, and those to random inputs of about 300 commands each, until there are so many commands, with status and notes; a tenth of these inputs is
-answered by two runs on a folder too. At the first difference the input is shortened, and the command and both replies are printed.
+and settling, model_commands.py the commands, model_folder.py the rows. Compared are the replies to the examples, the counts line of some loads, the
+replies to inputs that reach the limits, and those to random inputs of about SIZE commands each, else 300, until there are so many commands, with status and notes; a
+tenth of these inputs is answered by two runs on a folder too, and as many others on a folder that was written before circuits were revoked. At the first
+difference the input is shortened, and the command and both replies are printed.
+
+The second form runs nothing. It writes the same inputs with what the model says to them, for `rt try --cases FOLDER/dry`, and for `rt try --cases FOLDER/old`
+with both files of FOLDER/folder as `--data`.
 """
 
 import collections
@@ -19,6 +24,7 @@ import time
 import frames
 import model_bodies as bodies
 import model_commands as commands
+import model_folder as folders
 import model_inputs as scenes
 import model_limits as limits
 import model_load as load
@@ -28,7 +34,6 @@ import model_spellings as spellings
 
 EXAMPLES = os.path.join(os.path.dirname(os.path.abspath(__file__)), "..", "examples")
 LOADS = [0, 1, 2, 3, 7, 126, 2**32 - 1]
-SIZE = 300
 # One of so many random inputs is answered on a folder too.
 KEPT = 10
 
@@ -125,6 +130,33 @@ def compare_kept(program, word, requests, cut):
         assert frames.run(program, "audit", b"", folder) == (0, counts_line(state), b""), word
 
 
+def old_folder(rand, size):
+    """A scene without revocation, its state with some more circuits that nothing may grant, and the folder of it."""
+    old = scenes.old_scene(rand, size)
+    folders.plant_circuits(rand, old.state, rand.randint(2, 6))
+    return old, old.state, folders.written(old.state)
+
+
+def compare_old(program, word, rand, each):
+    """Compares an input on a folder that a controller without revocation left."""
+    old, state, files = old_folder(rand, each)
+    scene = scenes.behind(rand, old, state, each)
+    with tempfile.TemporaryDirectory() as folder:
+        for name, data in files.items():
+            with open(os.path.join(folder, name), "wb") as file:
+                file.write(data)
+        assert frames.run(program, "audit", b"", folder) == (0, counts_line(state), b""), word
+        found = frames.run(program, "replay", b"".join(scene.requests), folder)
+        if found != (0, b"".join(scene.replies), b""):
+            theirs = split_replies(found[1])
+            at = next((at for at, pair in enumerate(zip(scene.replies, theirs)) if pair[0] != pair[1]), len(theirs))
+            print(f"{word}, on an old folder: another reply at place {at}:", *map(line, scene.requests[:at + 1]), sep="\n")
+            print(f"model:   {scene.replies[at:at + 1]}\nprogram: {theirs[at:at + 1]} status {found[0]} {found[2]}")
+            sys.exit(1)
+        assert frames.run(program, "audit", b"", folder) == (0, counts_line(scene.state), b""), word
+    return scene
+
+
 def compare_sessions(program, word, data):
     """Compares a trace of many sessions: what is said, the status, the notes, and the counts behind it."""
     trace = sessions.Trace(data)
@@ -175,11 +207,17 @@ def compare_examples(program):
         print(f"example {name}: {len(requests)} commands")
 
 
+def loaded(number):
+    """The state behind the generated frames of a number."""
+    state = rules.State()
+    for command, fields in load.commands(number):
+        commands.answer(state, bodies.CONTENTS[command], spellings.compact(fields))
+    return state
+
+
 def compare_loads(program):
     for number in LOADS:
-        state = rules.State()
-        for command, fields in load.commands(number):
-            commands.answer(state, bodies.CONTENTS[command], spellings.compact(fields))
+        state = loaded(number)
         found = frames.run(program, f"load {number}", b"", "/")
         assert found == (0, counts_line(state), b""), (number, counts_line(state), found)
     print("loads:", *LOADS)
@@ -192,62 +230,159 @@ def compare_limits(program):
         print(f"limit of {word}: {len(requests)} commands")
 
 
-def compare_scenes(program, size, seed):
-    """Compares random inputs until there are so many commands. Gives how many inputs and commands there were, and both tallies."""
-    tally, moved, inputs, done = collections.Counter(), collections.defaultdict(lambda: [0, 0, 0, 0]), 0, 0
-    while done < size:
-        rand = random.Random(f"{seed} {inputs}")
-        scene = scenes.play(rand, SIZE)
+class Tally:
+    """What was done and refused, what became of circuits, and what was seen of loads and revocation."""
+
+    def __init__(self):
+        self.done, self.moved, self.seen = collections.Counter(), collections.defaultdict(lambda: [0] * 5), collections.Counter()
+        self.inputs, self.commands, self.old = 0, 0, 0
+
+    def add(self, scene):
+        self.inputs, self.commands = self.inputs + 1, self.commands + len(scene.requests)
+        self.done.update(scene.tally)
+        self.seen.update(scene.seen)
+        for command, counts in scene.moved.items():
+            self.moved[command] = [one + more for one, more in zip(self.moved[command], counts)]
+
+
+def compare_scenes(program, size, seed, each):
+    """Compares random inputs until there are so many commands, and gives the tally."""
+    tally = Tally()
+    while tally.commands < size:
+        word, at = f"seed {seed}, input {tally.inputs}", tally.inputs
+        rand = random.Random(f"{seed} {at}")
+        scene = scenes.play(rand, each)
         tail = spellings.tail(rand)
         requests, replies = scene.requests, scene.replies
         _, status, note = bodies.read_session(b"".join(requests) + tail)
-        compare(program, f"seed {seed}, input {inputs}", requests, tail, (replies, status, note))
-        if inputs % KEPT == 0:
-            compare_kept(program, f"seed {seed}, input {inputs}", requests, rand.randrange(len(requests)))
-            tally["sessions", "NotPermitted"] += compare_sessions(program, f"seed {seed}, input {inputs}", sessions.random_trace(rand, requests))
-        inputs, done = inputs + 1, done + len(requests)
-        tally.update(scene.tally)
-        for command, counts in scene.moved.items():
-            moved[command] = [one + more for one, more in zip(moved[command], counts)]
-    return inputs, done, tally, moved
+        compare(program, word, requests, tail, (replies, status, note))
+        tally.add(scene)
+        if at % KEPT == 0:
+            compare_kept(program, word, requests, rand.randrange(len(requests)))
+            tally.done["sessions", "NotPermitted"] += compare_sessions(program, word, sessions.random_trace(rand, requests))
+            scene = compare_old(program, word, random.Random(f"old {seed} {at}"), each)
+            tally.add(scene)
+            tally.old += len(scene.requests)
+    return tally
 
 
-def tell(tally, moved):
-    """Prints how often each command was done and refused, and what became of circuits."""
+def tell(tally):
+    """Prints how often each command was done and refused, what became of circuits, and what was seen."""
     for name in [command for command, _ in bodies.COMMANDS.values()] + ["other types"]:
-        hows = collections.Counter({how: count for (command, how), count in tally.items() if command == name})
+        hows = collections.Counter({how: count for (command, how), count in tally.done.items() if command == name})
         print(f"{name}: " + ", ".join(f"{how} {count}" for how, count in hows.most_common()))
-    print("circuits that stood before a command: rerouted (of them with a tie of costs), ended, stayed")
-    for name, (rerouted, ties, ended, stayed) in sorted(moved.items(), key=lambda row: row[1], reverse=True):
-        print(f"{name}: {rerouted} ({ties}), {ended}, {stayed}")
+    print("circuits that stood before a command: rerouted (of them with a tie of costs), revoked, ended otherwise, stayed")
+    for name, (rerouted, ties, revoked, ended, stayed) in sorted(tally.moved.items(), key=lambda row: row[1], reverse=True):
+        print(f"{name}: {rerouted} ({ties}), {revoked}, {ended}, {stayed}")
+    print("requests and revocations:")
+    for what, count in tally.seen.most_common():
+        print(f"{what}: {count}")
 
 
-def summary(tally, moved):
-    """The sums of both tallies, in two lines."""
+def summary(tally):
+    """The sums of the tally, in four lines."""
     sums = collections.Counter()
-    for (command, how), count in tally.items():
+    for (command, how), count in tally.done.items():
         if command == "sessions":
             sums["traces"] += count
         else:
             sums["done" if how in ("done", "certified") else "body" if how.startswith("BadBody") else "other"] += count
-    rerouted, ties, ended, stayed = (sum(counts[i] for counts in moved.values()) for i in range(4))
-    certified, claims = tally["VerifyRoute", "certified"], tally["VerifyRoute", "certified"] + tally["VerifyRoute", "done"]
-    return (f"{sums['done']} done, {sums['body']} refused for their bodies, {sums['other']} for other causes; {certified} of {claims} claims certified; {sums['traces']} NotPermitted in traces\n"
-            f"circuits: {rerouted} rerouted, {ties} of them with a tie of costs, {ended} ended, {stayed} times one stayed")
+    rerouted, ties, revoked, ended, stayed = (sum(counts[i] for counts in tally.moved.values()) for i in range(5))
+    certified, seen = tally.done["VerifyRoute", "certified"], tally.seen
+    claims = certified + tally.done["VerifyRoute", "done"]
+    routes = (seen["granted"], seen["another terminator by the loads"], seen["a tie of terminators under loads"])
+    return "\n".join([
+        f"{sums['done']} done, {sums['body']} refused for their bodies, {sums['other']} for other causes; {certified} of {claims} claims certified; {sums['traces']} NotPermitted in traces",
+        f"circuits: {rerouted} rerouted, {ties} of them with a tie of costs, {revoked} revoked, {ended} ended otherwise, {stayed} times one stayed",
+        f"{seen['commands that revoke some and keep others']} commands revoke some and keep others, {seen['commands that revoke and reroute']} revoke and reroute",
+        "routes: %d granted, %d to another terminator by the loads, %d with a tie of terminators under loads" % routes,
+    ])
+
+
+# Cases for `rt try`.
+
+
+def write_case(folder, name, words, stdin, stdout):
+    """Writes an input, the words of its run, and what is to be said."""
+    for ending, data in (("", stdin), (".args", "\n".join(words.split()).encode() + b"\n"), (".stdout", stdout)):
+        with open(os.path.join(folder, name + ending), "wb") as file:
+            file.write(data)
+
+
+def has_lost_much(state):
+    """Whether circuits of a state have lost three or more things, some circuit has lost nothing, and one has lost nothing but that its terminator is of its service."""
+    circuits = list(state.tables["circuit"].values())
+    lost = [rules.what_is_lost(state, circuit) for circuit in circuits]
+    strays = (what == "the terminator's service" and rules.is_admissible(state, circuit["terminator"]) for what, circuit in zip(lost, circuits))
+    return None in lost and len(set(lost)) > 3 and any(strays)
+
+
+def write_cases(folder, size, seed, each):
+    """Writes the examples, loads, limits but that of circuits, random inputs and traces under dry/, and under old/ inputs on one folder of an old state."""
+    dry, old, kept = (os.path.join(folder, name) for name in ("dry", "old", "folder"))
+    for name in (dry, old, kept):
+        os.makedirs(name)
+    for name in ("ann", "network", "realistic"):
+        requests, lines = example(name)
+        replies = model_replies(b"".join(requests))[0]
+        print(f"example {name}: {sum(reply_line(reply) != told for reply, told in zip(replies, lines))} of {len(lines)} lines of the file are other ones")
+        write_case(dry, "example" + name, "dry", b"".join(requests), b"".join(replies))
+    for number in LOADS:
+        write_case(dry, f"load{number}", f"load {number}", b"", counts_line(loaded(number)))
+    for word, named in limits.inputs():
+        requests = numbered(named)
+        replies = model_replies(b"".join(requests))[0]
+        if sum(map(len, replies)) < 1_000_000:
+            write_case(dry, "limit" + word.replace(" ", ""), "dry", b"".join(requests), b"".join(replies))
+    tally = Tally()
+    while tally.commands < size:
+        at = tally.inputs
+        rand = random.Random(f"{seed} {at}")
+        scene = scenes.play(rand, each)
+        tail = spellings.tail(rand)
+        tally.add(scene)
+        write_case(dry, f"input{at}", "replay" if at % KEPT == 1 else "dry", b"".join(scene.requests) + tail, b"".join(scene.replies))
+        if at % KEPT == 0:
+            rand.randrange(len(scene.requests))
+            data = sessions.random_trace(rand, scene.requests)
+            trace = sessions.Trace(data)
+            tally.done["sessions", "NotPermitted"] += trace.said.count(b'"NotPermitted"')
+            write_case(dry, f"trace{at}", "replay --sessions", data, trace.said)
+    rand = random.Random(f"old {seed}")
+    before, state, files = old_folder(rand, 600)
+    while not has_lost_much(state):
+        before, state, files = old_folder(rand, 600)
+    lost = collections.Counter(str(rules.what_is_lost(state, circuit)) for circuit in state.tables["circuit"].values())
+    print("circuits of the old folder, by what they have lost:", dict(lost))
+    for name, data in files.items():
+        with open(os.path.join(kept, name), "wb") as file:
+            file.write(data)
+    write_case(old, "audit", "audit", b"", counts_line(state))
+    while tally.old < size // 4:
+        scene = scenes.behind(rand, before, state, each)
+        write_case(old, f"old{tally.inputs}", "replay", b"".join(scene.requests), b"".join(scene.replies))
+        tally.add(scene)
+        tally.old += len(scene.requests)
+    return tally
 
 
 def main():
-    program = os.path.abspath(sys.argv[1])
-    size = int(sys.argv[2]) if len(sys.argv) > 2 else 100_000
-    seed = int(sys.argv[3]) if len(sys.argv) > 3 else 1
     begun = time.monotonic()
-    compare_examples(program)
-    compare_loads(program)
-    compare_limits(program)
-    inputs, done, tally, moved = compare_scenes(program, size, seed)
-    tell(tally, moved)
-    print(summary(tally, moved))
-    print(f"{done} commands in {inputs} random inputs, {time.monotonic() - begun:.0f} s, no difference")
+    words = [word for word in sys.argv[1:] if word != "cases"]
+    size, seed, each = [int(word) for word in words[1:]] + [100_000, 1, 300][len(words) - 1:]
+    if sys.argv[1] == "cases":
+        tally = write_cases(words[0], size, seed, each)
+    else:
+        program = os.path.abspath(words[0])
+        compare_examples(program)
+        compare_loads(program)
+        compare_limits(program)
+        tally = compare_scenes(program, size, seed, each)
+    tell(tally)
+    print(summary(tally))
+    end = "written" if sys.argv[1] == "cases" else "no difference"
+    print(f"{tally.commands} commands in {tally.inputs} random inputs, {tally.old} of them on old folders, {time.monotonic() - begun:.0f} s, {end}")
 
 
-main()
+if __name__ == "__main__":
+    main()

@@ -203,13 +203,13 @@ def show_counts(state, _):
     }
 
 
-# Commands that change nothing that another one's circuit stands on, so that there is nothing to settle.
-UNSETTLING = {
+# Commands without an effect.
+SHOWING = {
     "Hello": lambda state, fields: None, "Compact": lambda state, fields: DONE,
-    "CreateCircuit": create_circuit, "Explain": explain, "VerifyRoute": verify_route, "ShowCircuit": show_circuit,
-    "DeleteCircuit": functools.partial(delete_numbered, "circuit"),
-    "ShowGrants": show_grants, "ListServices": list_services, "ShowCounts": show_counts,
+    "Explain": explain, "VerifyRoute": verify_route, "ShowCircuit": show_circuit, "ShowGrants": show_grants, "ListServices": list_services, "ShowCounts": show_counts,
 }
+# Commands that change nothing that another one's circuit stands on, so that there is nothing to settle but in a state that was not settled before.
+CIRCUITS = {"CreateCircuit": create_circuit, "DeleteCircuit": functools.partial(delete_numbered, "circuit")}
 SETTLING = {
     "ConnectRouter": functools.partial(connect, True), "DisconnectRouter": functools.partial(connect, False),
     "CreateLink": create_link, "SetLinkCost": set_link_cost, "ReportLatency": report_latency, "ReportState": report_state,
@@ -223,18 +223,29 @@ for verb, entity_call, policy_call in (("Create", create_entity, create_policy),
 
 def carried_out(state, command, fields):
     """The body of a command's success, or its refusal; and the state behind it."""
-    state.ended, state.rerouted = [], {}
-    if command in UNSETTLING:
-        return UNSETTLING[command](state, fields)
-    state.found_paths = {}
+    if command in SHOWING:
+        return SHOWING[command](state, fields)
+    if command in CIRCUITS:
+        body = CIRCUITS[command](state, fields)
+        if not state.is_settled:
+            rules.settle(state)
+        return body
+    forget(state)
     body = SETTLING[command](state, fields)
-    state.found_paths = {}
+    forget(state)
     rules.settle(state)
+    forget(state)
     return body
+
+
+def forget(state):
+    """Forgets the paths and counts that were found before a change."""
+    state.found_paths, state.found_counts = {}, {}
 
 
 def answer(state, content, body, permits=None):
     """Answers a frame of a sender who may send some commands, or all: the command and what became of it in words, whether it succeeds, and the body of the reply."""
+    state.revoked, state.ended, state.rerouted = {}, [], {}
     command = COMMANDS[content][0] if content in COMMANDS else "other types"
     try:
         named, fields = meaning(content, body)

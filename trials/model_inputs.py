@@ -1,5 +1,7 @@
 """Random inputs for the independent model: small networks that change, and the requests that see it (docs/TRIALS.md)."""
 
+import collections
+import copy
 import json
 import struct
 
@@ -23,6 +25,12 @@ WEIGHTS = {
     "CreateCircuit": 40, "DeleteCircuit": 3, "Explain": 10, "VerifyRoute": 16,
     "ShowGrants": 4, "ListServices": 3, "ShowCounts": 4, "ShowCircuit": 4, "Hello": 1, "Compact": 1,
 }
+# How much more often some are drawn where circuits are to be revoked.
+REVOKING = {
+    "CreateCircuit": 3, "Explain": 2, "CreateTerminator": 1.5, "DeleteTerminator": 0.5, "DeleteCircuit": 2, "UpdateTerminator": 2,
+    "UpdateIdentity": 3, "UpdateService": 2, "UpdateServicePolicy": 2, "DeleteServicePolicy": 2, "DeleteEdgeRouterPolicy": 2, "DeleteServiceEdgeRouterPolicy": 2,
+    "CreateLink": 0.5, "ReportState": 0.5, "DeleteLink": 0.3, "DisconnectRouter": 0.7, "ConnectRouter": 0.5, "DeleteRouter": 0.5,
+}
 # Those that are drawn less where circuits are to stand for long.
 CALM = {command for command in WEIGHTS if "Policy" in command}
 CALM |= {"DeleteIdentity", "DeleteService", "CreateTerminator", "DeleteTerminator", "UpdateIdentity", "UpdateService"}
@@ -31,22 +39,26 @@ CALM |= {"DeleteIdentity", "DeleteService", "CreateTerminator", "DeleteTerminato
 class Scene:
     """A network in the making: the model's state, and the requests and replies so far.
 
-    In most scenes circuits stand for long, and links and routers fail; in some all changes, and in some half of the bodies are spoiled.
+    In some scenes circuits stand for long, and links and routers fail; in as many what granted them lapses and comes back, and each service has terminators
+    that cost about the same; in some all changes, and in some half of the bodies are spoiled.
     """
 
-    def __init__(self, rand):
+    def __init__(self, rand, kind=None):
         self.rand, self.state = rand, rules.State()
-        self.requests, self.replies, self.tally, self.moved = [], [], {}, {}
-        kind = rand.choices(["settling", "changing", "spoiled"], [7, 2, 1])[0]
-        self.settles, self.spoils, self.absent = kind == "settling", 0.5 if kind == "spoiled" else 0.04, 0.06 if kind == "settling" else 0.15
-        routers = rand.randint(3, 8) if self.settles else rand.randint(2, 8)
+        self.requests, self.replies, self.tally, self.moved, self.seen, self.how = [], [], {}, {}, collections.Counter(), ""
+        kind = kind or rand.choices(["settling", "revoking", "changing", "spoiled"], [8, 8, 3, 1])[0]
+        self.revokes, self.settles = kind == "revoking", kind in ("settling", "revoking")
+        self.spoils, self.absent = 0.5 if kind == "spoiled" else 0.04, 0.06 if self.settles else 0.15
+        routers = rand.randint(4, 6) if self.revokes else rand.randint(3, 8) if self.settles else rand.randint(2, 8)
         self.pools = {
-            "router": [f"r{i + 1}" for i in range(routers)], "link": [f"l{i + 1}" for i in range(rand.randint(routers if self.settles else 1, 14))],
-            "identity": ["i1", "i2", "i3", "i4"], "service": ["s1", "s2", "s3"],
+            "router": [f"r{i + 1}" for i in range(routers)],
+            "link": [f"l{i + 1}" for i in range(rand.randint(9 if self.revokes else routers if self.settles else 1, 14))],
+            "identity": ["i1", "i2", "i3", "i4", "i5", "i6"] if self.revokes else ["i1", "i2", "i3", "i4"], "service": ["s1", "s2", "s3"],
             "service_policy": ["p1", "p2", "p3", "p4"], "edge_router_policy": ["p1", "p2", "p3"], "service_edge_router_policy": ["p1", "p2", "p3"],
         }
         self.most_cost, self.router_costs = rand.choice([1, 2, 3, 6, 40]), rand.choice([[0], [0], [0, 0, 0, 5, 12, 30]])
-        self.weights = [weight * rand.choice([0.3, 1, 1, 3]) * (0.1 if self.settles and command in CALM else 1) for command, weight in WEIGHTS.items()]
+        factor = {command: REVOKING.get(command, 1) if self.revokes else 0.1 if self.settles and command in CALM else 1 for command in WEIGHTS}
+        self.weights = [weight * rand.choice([0.3, 1, 1, 3]) * factor[command] for command, weight in WEIGHTS.items()]
         if kind == "spoiled":
             self.weights = [1] * len(WEIGHTS)
         self.claims = []
@@ -59,20 +71,44 @@ class Scene:
         if rand.random() < 0.03:
             headers = b"".join(struct.pack("<II", rand.choice([1, 2, 7]), size) + spellings.some_bytes(rand, size) for size in (0, rand.randrange(9)))
             data = data[:12] + struct.pack("<II", len(headers), len(body)) + headers + body
-        before = len(self.state.tables["circuit"])
+        before, route = len(self.state.tables["circuit"]), self.loaded_route(content, body)
         done, succeeds, text = commands.answer(self.state, content, body)
         self.replies.append(bodies.reply_frame(sequence, len(self.requests), succeeds, text))
         self.requests.append(data)
         self.tally[done] = self.tally.get(done, 0) + 1
+        self.how = done[1]
+        if route is not None and self.how == "done":
+            self.seen.update(route)
         self.note_moves(done[0], before)
+
+    def loaded_route(self, content, body):
+        """What the loads do to the best candidate of a request: words that are counted if it is granted; None where no request is spelled."""
+        try:
+            command, fields = bodies.meaning(content, body)
+            if command not in ("CreateCircuit", "Explain"):
+                return None
+            request, route = rules.best(self.state, fields)
+        except bodies.Refused:
+            return None
+        found = rules.candidates(self.state, request)
+        plain = min((rank, total - request.loads[terminator], terminator, ingress, links) for rank, total, terminator, ingress, links in found)
+        ties = [row for row in found if row[:2] == route[:2] and row[2] != route[2] and (request.loads[row[2]] or request.loads[route[2]])]
+        words = {"granted": True, "another terminator by the loads": plain[2] != route[2], "a tie of terminators under loads": bool(ties),
+                 "a tie that the ingress decides": any(row[:3] == route[:3] and row[3] != route[3] for row in found)}
+        return [word for word, holds in words.items() if holds]
 
     def note_moves(self, command, before):
         """Counts what became of the circuits that were there before a command."""
-        if command in commands.SETTLING:
-            rerouted, ended = self.state.rerouted, self.state.ended
-            found = self.moved.setdefault(command, [0, 0, 0, 0])
-            for i, more in enumerate((len(rerouted), sum(ties > 1 for ties in rerouted.values()), len(ended), before - len(rerouted) - len(ended))):
+        state = self.state
+        if command in commands.SETTLING or state.revoked:
+            rerouted, revoked, ended = state.rerouted, state.revoked, state.ended
+            found = self.moved.setdefault(command, [0, 0, 0, 0, 0])
+            gone = len(rerouted) + len(revoked) + len(ended)
+            for i, more in enumerate((len(rerouted), sum(ties > 1 for ties in rerouted.values()), len(revoked), len(ended), max(0, before - gone))):
                 found[i] += more
+            self.seen.update(f"revoked for {lost}" for lost in revoked.values())
+            self.seen["commands that revoke and reroute"] += bool(revoked and rerouted)
+            self.seen["commands that revoke some and keep others"] += bool(revoked) and len(revoked) < before
 
     def say(self, command, **fields):
         self.send(bodies.CONTENTS[command], spellings.compact(fields))
@@ -112,17 +148,29 @@ class Scene:
             found += sorted(passed - ends if self.rand.random() < 0.95 else ends)
         return tables["router"][self.rand.choice(found)]["name"] if found else "zz" if self.settles else self.some("router")
 
+    def crossed_router(self):
+        """A router that some circuit passes and by which another one enters or at which it ends, if there is one."""
+        ends, passed, tables = set(), set(), self.state.tables
+        for circuit in tables["circuit"].values():
+            own = {circuit["ingress"], tables["terminator"][circuit["terminator"]]["router"]}
+            ends |= own
+            passed |= {tables["link"][number][end] for number in circuit["links"] for end in "ab"} - own
+        found = sorted(ends & passed)
+        return tables["router"][self.rand.choice(found)]["name"] if found else None
+
     def broken(self, kind, mark):
         """A router that is not connected, or a link that is not up."""
         found = [record["name"] for record in self.state.tables[kind].values() if not record[mark]]
         return self.rand.choice(found) if found else self.some(kind)
 
     def listed(self):
+        if self.revokes and self.rand.random() < 0.9:
+            return self.rand.sample(ATTRIBUTES[:3], self.rand.choice([0, 1, 1, 1, 2]))
         return [self.rand.choice(ATTRIBUTES) for _ in range(self.rand.randint(0, 3))]
 
     def roles(self, kind):
         """A role list: all, or attributes and names that are most often there."""
-        if self.rand.random() < 0.4:
+        if self.rand.random() < (0.2 if self.revokes else 0.4):
             return ["#all"]
         return ["#" + self.rand.choice(ATTRIBUTES[:4] + ["ALL"]) if self.rand.random() < 0.6 else "@" + self.some(kind) for _ in range(self.rand.randint(0, 3))]
 
@@ -136,7 +184,9 @@ class Scene:
         """A request: where circuits are to stand for long, most often one from afar for what is offered."""
         rand, tables = self.rand, self.state.tables
         if self.settles and tables["terminator"] and tables["identity"] and rand.random() < 0.9:
-            return self.good_request(rand.choice(list(tables["terminator"].values())))
+            tries = 8 if self.revokes else 1
+            drawn = [self.good_request(rand.choice(list(tables["terminator"].values()))) for _ in range(tries)]
+            return next(filter(self.grants, drawn[1:]), drawn[0])
         fields = {"identity": self.some("identity"), "service": self.some("service")}
         if rand.random() < 0.4:
             fields["ingress"] = self.some("router")
@@ -144,10 +194,28 @@ class Scene:
             fields["instance"] = rand.choice(INSTANCES)
         return fields
 
+    def grants(self, fields):
+        """Whether a request would be granted."""
+        try:
+            rules.best(self.state, dict({"ingress": None}, **fields))
+        except bodies.Refused:
+            return False
+        return True
+
+    def host(self, service):
+        """The name of a host: where hosts are to lose Bind, most often of one that has it, or none where nobody has it."""
+        state, number = self.state, self.state.find("service", service)
+        able = [record["name"] for identity, record in state.tables["identity"].items() if rules.count(state, "Bind", identity, number) > 0]
+        if self.revokes and self.rand.random() < 0.85:
+            return self.rand.choice(able) if able else None
+        return self.some("identity")
+
     def good_request(self, terminator):
         rand, tables = self.rand, self.state.tables
         identity, service = rand.choice(list(tables["identity"].values())), tables["service"][terminator["service"]]
         fields = {"identity": identity["name"], "service": service["name"], "instance": terminator["instance"]}
+        if self.revokes and rand.random() < 0.25:
+            return fields
         afar = [record["name"] for number, record in tables["router"].items() if record["connected"] and number != terminator["router"]]
         if afar and rand.random() < 0.85:
             fields["ingress"] = rand.choice(afar)
@@ -171,13 +239,15 @@ def entity_fields(scene, command, kind):
     return fields
 
 
-def policy_fields(scene, command, kind):
-    fields = {"name": (scene.new if command.startswith("Create") else scene.some)(kind)}
+def policy_fields(scene, command, kind, name=None):
+    fields = {"name": name or (scene.new if command.startswith("Create") else scene.some)(kind)}
     if command.startswith("Delete"):
         return fields
     fields["semantic"] = scene.rand.choice(["AnyOf", "AllOf"])
     if kind == "service_policy":
         fields["type"] = scene.rand.choice(["Dial", "Dial", "Bind"])
+        if scene.revokes and scene.rand.random() < 0.9:
+            fields["type"] = "Bind" if fields["name"] in ("p2", "p4") else "Dial"
     for side in rules.SIDES[kind]:
         fields[side + "_roles"] = scene.roles(side)
     return fields
@@ -223,11 +293,15 @@ def state_fields(scene):
 def terminator_fields(scene, command):
     rand = scene.rand
     fields = {"cost": rand.choice([0, 0, 1, 2, 20]), "precedence": rand.choice(["default", "default", "required", "failed"])}
+    if scene.revokes and rand.random() < 0.9:
+        fields = {"cost": rand.randint(0, 3), "precedence": "default" if rand.random() < 0.9 else "required"}
     if command != "CreateTerminator":
         return dict(fields if command == "UpdateTerminator" else {}, no=scene.number("terminator"))
-    fields.update(service=scene.some("service"), router=scene.some("router"), instance=rand.choice(INSTANCES))
-    if rand.random() < 0.4:
-        fields["host"] = scene.some("identity")
+    fields.update(service=scene.some("service"), router=scene.some("router"), instance=rand.choice(INSTANCES) if not scene.revokes or rand.random() < 0.15 else "")
+    if rand.random() < (0.7 if scene.revokes else 0.4):
+        fields["host"] = scene.host(fields["service"])
+        if scene.revokes and fields["host"] is None:
+            del fields["host"]
     return fields
 
 
@@ -344,7 +418,7 @@ def build_up(scene):
     for _ in pools["link"]:
         a, b = rand.sample(pools["router"], 2)
         scene.say("CreateLink", name=scene.new("link"), a=a, b=b, cost=scene.cost())
-    for identity in pools["identity"][:2]:
+    for identity in pools["identity"][:4 if scene.revokes else 2]:
         scene.say("CreateIdentity", name=identity, attributes=scene.listed())
     for service in pools["service"][:2]:
         scene.say("CreateService", name=service, attributes=scene.listed())
@@ -354,21 +428,30 @@ def build_up(scene):
             if broad and policy == "p1" or kind == "service_policy" and rand.random() < 0.6:
                 scene.say("Create" + noun, **broad_policy(scene, kind, policy))
             else:
-                scene.say("Create" + noun, **dict(policy_fields(scene, "Create" + noun, kind), name=policy))
-    for _ in range(rand.randint(1, 3)):
+                scene.say("Create" + noun, **policy_fields(scene, "Create" + noun, kind, policy))
+    for _ in range(rand.randint(3, 6) if scene.revokes else rand.randint(1, 3)):
         scene.say("CreateTerminator", **terminator_fields(scene, "CreateTerminator"))
-    for _ in range(rand.randint(1, 6)):
+    for _ in range(rand.randint(6, 12) if scene.revokes else rand.randint(1, 6)):
         scene.say("CreateCircuit", **scene.request())
 
 
 def broad_policy(scene, kind, name):
-    """A policy that grants all: p1 lets dial, p2 lets bind. By times the routers are one identity's alone, so that a host may lack them."""
-    fields = dict({side + "_roles": ["#all"] for side in rules.SIDES[kind]}, name=name, semantic="AnyOf")
+    """A policy that grants all, or most where circuits are to be revoked: p1 lets dial, p2 lets bind. By times the routers are one identity's alone, so that a host may lack them."""
+    fields = dict({side + "_roles": narrow(scene, side) if scene.revokes else ["#all"] for side in rules.SIDES[kind]}, name=name, semantic="AnyOf")
     if kind == "service_policy":
-        fields["type"] = "Dial" if name == "p1" else "Bind"
+        fields["type"] = "Dial" if name in ("p1", "p3") else "Bind"
     if kind == "edge_router_policy" and scene.rand.random() < 0.15 and scene.state.find("identity", "i1"):
         fields["identity_roles"] = ["@i1"]
     return fields
+
+
+def narrow(scene, kind):
+    """A role list that most entities match, most of them by an attribute that they may lose."""
+    rand = scene.rand
+    if rand.random() < 0.2:
+        return ["#all"]
+    roles = ["#" + attribute for attribute in rand.sample(ATTRIBUTES[:3], rand.choice([1, 2, 2]))]
+    return roles + ["@" + record["name"] for record in scene.state.tables[kind].values() if rand.random() < 0.2]
 
 
 def lapse(scene):
@@ -383,14 +466,75 @@ def lapse(scene):
         scene.say("Delete" + noun, name=name)
 
 
+def turn(scene):
+    """Changes what may grant a circuit that stands: attributes of its parts, a policy, or a router that it ends at, enters by or passes."""
+    rand, tables = scene.rand, scene.state.tables
+    circuit = rand.choice(list(tables["circuit"].values())) if tables["circuit"] else None
+    terminator = circuit and tables["terminator"][circuit["terminator"]]
+    parts = circuit and {"identity": [circuit["identity"], terminator["host"]], "service": [circuit["service"]], "router": [circuit["ingress"], terminator["router"]]}
+    how, crossed = rand.randrange(14), scene.crossed_router()
+    if crossed and rand.random() < 0.4:
+        if rand.random() < 0.5:
+            scene.say("UpdateRouter", name=crossed, attributes=scene.listed()[:1], cost=scene.router_cost(), no_traversal=True)
+        else:
+            scene.say(rand.choice(["DisconnectRouter", "DisconnectRouter", "DeleteRouter"]), name=crossed)
+    elif how >= 12 and hosts(scene):
+        fields = {"name": rand.choice(hosts(scene)), "attributes": scene.listed()}
+        scene.say("UpdateIdentity", **fields)
+    elif how < 6 and parts:
+        kind = rand.choice(["identity", "identity", "service", "router", "router"])
+        record = tables[kind].get(rand.choice(parts[kind])) or tables[kind][parts[kind][0]]
+        fields = {"name": record["name"], "attributes": scene.listed()}
+        if kind == "router":
+            if rand.random() < 0.7:
+                fields["name"] = scene.passed_router()
+            fields.update(cost=scene.router_cost(), no_traversal=rand.random() < 0.6)
+        scene.say("Update" + kind.title(), **fields)
+    elif how < 10:
+        kind, noun = rand.choice([(kind, noun) for noun, kind in commands.POLICIES.items()])
+        name = "p2" if kind == "service_policy" and rand.random() < 0.4 else rand.choice(scene.pools[kind])
+        there = scene.state.find(kind, name) is not None
+        if there and rand.random() < 0.5:
+            scene.say("Delete" + noun, name=name)
+        else:
+            broad = rand.random() < 0.3
+            scene.say(("Update" if there else "Create") + noun, **(broad_policy(scene, kind, name) if broad else policy_fields(scene, "Update" + noun, kind, name)))
+    elif how == 10 and parts:
+        scene.say("DisconnectRouter", name=tables["router"][rand.choice(parts["router"])]["name"] if rand.random() < 0.3 else scene.passed_router())
+    elif tables["terminator"]:
+        number = rand.choice(list(tables["terminator"]))
+        scene.say("UpdateTerminator", no=number, cost=rand.randint(0, 3), precedence=rand.choice(["default", "default", "default", "required"]))
+
+
+# The denials that a policy mends, and the service policy that may.
+MENDS = {"NoDial": "p1", "NoSharedRouter": "", "NoAdmissibleTerminator": "p2", "NotBindable": "p2"}
+
+
+def hosts(scene):
+    """The names of the identities that host a terminator of some circuit and have none of their own."""
+    tables = scene.state.tables
+    dialling = {circuit["identity"] for circuit in tables["circuit"].values()}
+    found = {tables["terminator"][circuit["terminator"]]["host"] for circuit in tables["circuit"].values()} - dialling - {None}
+    return [tables["identity"][number]["name"] for number in sorted(found)]
+
+
+def mend(scene, refusal):
+    """Brings back what the last request for a circuit, or the last terminator, was refused for."""
+    kind, name = ("service_policy", MENDS[refusal]) if MENDS[refusal] == "p1" or scene.rand.random() < 0.5 else ("edge_router_policy", "p1")
+    if refusal == "NoSharedRouter":
+        kind, name = scene.rand.choice(["edge_router_policy", "service_edge_router_policy"]), "p1"
+    noun = next(noun for noun, other in commands.POLICIES.items() if other == kind)
+    scene.say(("Create" if scene.state.find(kind, name) is None else "Update") + noun, **broad_policy(scene, kind, name))
+
+
 def look(scene):
     """Shows the circuits that the last command moved, one that ended and one more, and by times the counts."""
     state, rand = scene.state, scene.rand
-    rerouted, ended = list(state.rerouted), state.ended[:1]
+    rerouted, ended = list(state.rerouted), (list(state.revoked) + state.ended)[:1]
     others = [rand.choice(list(state.tables["circuit"]))] if state.tables["circuit"] and rand.random() < 0.2 else []
     for number in rerouted + ended + others:
         scene.say("ShowCircuit", no=number)
-    if rerouted or ended and rand.random() < 0.3:
+    if rerouted or ended and rand.random() < 0.3 or scene.revokes and rand.random() < 0.05:
         scene.say("ShowCounts")
 
 
@@ -399,7 +543,7 @@ def wanted(scene):
     tables = scene.state.tables
     if not all(record["connected"] for record in tables["router"].values()):
         return "ConnectRouter"
-    wants = {"Identity": 2, "Service": 1, "Router": 3, "Terminator": 2, "Link": 6, "Circuit": 5}
+    wants = {"Identity": 2, "Service": 1, "Router": 3, "Terminator": 5 if scene.revokes else 2, "Link": 6, "Circuit": 10 if scene.revokes else 5}
     return next(("Create" + noun for noun, least in wants.items() if len(tables[noun.lower()]) < min(least, len(scene.pools.get(noun.lower(), range(least))))), None)
 
 
@@ -407,15 +551,63 @@ def play(rand, size):
     """A scene of about so many commands."""
     scene = Scene(rand)
     build_up(scene)
-    names = list(WEIGHTS)
+    go_on(scene, size)
+    return scene
+
+
+def go_on(scene, size):
+    """Draws commands until a scene has about so many."""
+    rand, names = scene.rand, list(WEIGHTS)
     while len(scene.requests) < size:
         command = rand.choices(names, scene.weights)[0]
         if scene.settles and rand.random() < 0.05:
             lapse(scene)
+        if scene.revokes and rand.random() < 0.22:
+            turn(scene)
+            look(scene)
         if scene.settles and rand.random() < 0.4:
             command = wanted(scene) or command
         body = spellings.spelled(rand, drawn_fields(scene, command), scene.spoils)
         content = bodies.CONTENTS[command] if rand.random() < 0.995 else rand.choice([1, 2, 999, 1003, 1404, 1511, 2**32 - 1])
         scene.send(content, body)
+        refusal = scene.how
         look(scene)
+        if scene.revokes and refusal in MENDS and rand.random() < 0.5:
+            mend(scene, refusal)
+
+
+# Folders that were written before circuits were revoked.
+
+
+def old_scene(rand, size):
+    """A scene of about so many commands without revocation, at whose end circuits may stand that nothing grants."""
+    scene = Scene(rand, "revoking")
+    scene.state.revokes = False
+    build_up(scene)
+    go_on(scene, size)
+    return scene
+
+
+def behind(rand, old, state, size):
+    """A scene that goes on from a state of an old one, by a controller that revokes: first it looks, and then a command comes that has an effect."""
+    scene = Scene(rand, "revoking")
+    scene.pools, scene.state = old.pools, copy.deepcopy(state)
+    scene.state.revokes, scene.state.is_settled = True, False
+    for _ in range(rand.choice([0, 1, 3, 6])):
+        command = rand.choice(["ShowCounts", "ShowCircuit", "ShowCircuit", "Explain", "VerifyRoute", "ShowGrants", "Hello", "Compact", "CreateCircuit", "DeleteLink"])
+        fields = {"link": "zz"} if command == "DeleteLink" else {"identity": "zz", "service": "zz"} if command == "CreateCircuit" else drawn_fields(scene, command)
+        scene.say(command, **fields)
+    start = rand.randrange(6)
+    if start == 0:
+        scene.say("CreateCircuit", **scene.request())
+    elif start == 1:
+        scene.say("DeleteCircuit", no=scene.number("circuit"))
+    elif start == 2:
+        scene.say("SetLeastRouterCost", cost=state.least_router_cost)
+    elif start == 3:
+        scene.say("ConnectRouter", name=scene.some("router"))
+    for number in list(scene.state.revoked)[:3]:
+        scene.say("ShowCircuit", no=number)
+    scene.say("ShowCounts")
+    go_on(scene, size)
     return scene

@@ -1,4 +1,4 @@
-"""The state of the controller, its grants, its paths and its settling, by docs/RULES.md alone: a part of the independent model (docs/TRIALS.md)."""
+"""The state of the controller, its grants, its paths, its loads and its settling, by docs/RULES.md alone: a part of the independent model (docs/TRIALS.md)."""
 
 import collections
 
@@ -30,8 +30,10 @@ class State:
         self.tables = {kind: {} for kind in LIMITS}
         self.next = dict.fromkeys(LIMITS, 1)
         self.least_router_cost = 10
-        self.found_paths = {}
-        self.ended, self.rerouted = [], {}
+        self.found_paths, self.found_counts = {}, {}
+        self.revoked, self.ended, self.rerouted = {}, [], {}
+        # Whether settling changes nothing, as in every state that the controller itself comes to; and whether it revokes, as it did not before.
+        self.is_settled, self.revokes = True, True
 
     def find(self, kind, name):
         """The number of the record of a kind that has a name, if any."""
@@ -94,7 +96,13 @@ def matches(side, semantic, entity):
 
 
 def count(state, relation, left, right):
-    """How many present policies grant the relation to a pair of numbers."""
+    """How many present policies grant the relation to a pair of numbers, found once in each state."""
+    if (relation, left, right) not in state.found_counts:
+        state.found_counts[relation, left, right] = count_anew(state, relation, left, right)
+    return state.found_counts[relation, left, right]
+
+
+def count_anew(state, relation, left, right):
     kind = RELATIONS[relation]
     left_kind, right_kind = SIDES[kind]
     if left not in state.tables[left_kind] or right not in state.tables[right_kind]:
@@ -195,13 +203,18 @@ def is_admissible(state, number):
     return host is None or (count(state, "Bind", host, service) > 0 and is_shared(state, record["router"], host, service))
 
 
+def open_circuits(state):
+    """How many circuits are open at each terminator."""
+    return collections.Counter(circuit["terminator"] for circuit in state.tables["circuit"].values())
+
+
 def rank(state, number):
     """The place of a terminator's precedence: the best one is 0."""
     return PRECEDENCES.index(state.tables["terminator"][number]["precedence"])
 
 
 class Request:
-    """A request by numbers: the routers that may be entered, and the terminators that are counted and that are admissible."""
+    """A request by numbers: the routers that may be entered, the terminators that are counted and that are admissible, and what these cost under their loads."""
 
     def __init__(self, state, fields):
         self.identity, self.service = state.find("identity", fields["identity"]), state.find("service", fields["service"])
@@ -212,6 +225,8 @@ class Request:
         self.ingresses = [number for number in self.shared if is_connected(state, number)]
         self.counted = counted(state, self.service, fields["instance"])
         self.admissible = [number for number in self.counted if is_admissible(state, number)]
+        self.loads = open_circuits(state)
+        self.costs = {number: state.tables["terminator"][number]["cost"] + self.loads[number] for number in self.admissible}
 
     def has_dial(self, state):
         return count(state, "Dial", self.identity, self.service) > 0
@@ -225,7 +240,7 @@ def candidates(state, request):
             record = state.tables["terminator"][terminator]
             path = least_path(state, ingress, record["router"])
             if path is not None:
-                found.append((rank(state, terminator), record["cost"] + path.cost, terminator, ingress, path.links))
+                found.append((rank(state, terminator), request.costs[terminator] + path.cost, terminator, ingress, path.links))
     return sorted(found)
 
 
@@ -313,17 +328,17 @@ def is_justified(state, claim):
         return False
     record = state.tables["terminator"][terminator]
     values = entries[record["router"]]
-    if not is_tight_chain(state, claim["links"], ingress, record["router"], values) or claim["total"] != record["cost"] + above(values[ingress]):
+    if not is_tight_chain(state, claim["links"], ingress, record["router"], values) or claim["total"] != request.costs[terminator] + above(values[ingress]):
         return False
-    return not any(is_better(state, entries, number, entrance, precedence, claim["total"]) for number in request.admissible for entrance in request.ingresses)
+    better = (is_better(state, entries, request.costs[number], number, entrance, precedence, claim["total"]) for number in request.admissible for entrance in request.ingresses)
+    return not any(better)
 
 
-def is_better(state, entries, number, entrance, precedence, total):
-    """Whether by a claim's values a terminator is reached from an entrance that is better than a precedence and a total."""
+def is_better(state, entries, cost, number, entrance, precedence, total):
+    """Whether by a claim's values a terminator of some cost is reached from an entrance that is better than a precedence and a total."""
     if rank(state, number) > precedence:
         return False
-    record = state.tables["terminator"][number]
-    reached = record["cost"] + above(entries[record["router"]][entrance])
+    reached = cost + above(entries[state.tables["terminator"][number]["router"]][entrance])
     return reached < (float("inf") if rank(state, number) < precedence else total)
 
 
@@ -331,8 +346,10 @@ def is_better(state, entries, number, entrance, precedence, total):
 
 
 def settle(state):
-    """Takes away the links and the terminators whose parts are absent, and judges each circuit by itself."""
+    """Revokes the circuits that nothing grants any more, takes away the links and the terminators whose parts are absent, and judges each circuit by itself."""
     tables = state.tables
+    if state.revokes:
+        revoke(state)
     for number, link in list(tables["link"].items()):
         if link["a"] not in tables["router"] or link["b"] not in tables["router"]:
             del tables["link"][number]
@@ -342,6 +359,34 @@ def settle(state):
             del tables["terminator"][number]
     for number, circuit in list(tables["circuit"].items()):
         judge(state, number, circuit)
+    state.is_settled = state.revokes
+
+
+def revoke(state):
+    for number, circuit in list(state.tables["circuit"].items()):
+        lost = what_is_lost(state, circuit)
+        if lost is not None:
+            del state.tables["circuit"][number]
+            state.revoked[number] = lost
+
+
+def what_is_lost(state, circuit):
+    """What a circuit was granted by and that no longer stands, in a word; None where all of it stands."""
+    identity, service, terminator = circuit["identity"], circuit["service"], circuit["terminator"]
+    if identity not in state.tables["identity"] or service not in state.tables["service"] or terminator not in state.tables["terminator"]:
+        return "a part"
+    if count(state, "Dial", identity, service) == 0:
+        return "Dial"
+    if not is_shared(state, circuit["ingress"], identity, service):
+        return "the ingress"
+    record = state.tables["terminator"][terminator]
+    if terminator not in counted(state, service, record["instance"]):
+        return "the terminator's service"
+    if is_admissible(state, terminator):
+        return None
+    if not is_connected(state, record["router"]):
+        return "the terminator's router"
+    return "the host's router" if count(state, "Bind", record["host"], service) > 0 else "Bind"
 
 
 def judge(state, number, circuit):
