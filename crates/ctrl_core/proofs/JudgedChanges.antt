@@ -34,10 +34,9 @@ use Rattle.core_stores.specs.declared.stores.Stores.{Stores}
 use Rattle.core_stores.specs.ChangeParts.{link_part, term_part, circuit_part}
 use Rattle.core_stores.specs.StoredState.{state_of}
 use Rattle.ctrl_core.specs.ChangedStores.{CanSettle}
-use Rattle.ctrl_core.specs.KeptState.{IsGranted}
 use Rattle.ctrl_core.specs.Changes.{after_change}
 use Rattle.ctrl_core.specs.declared.settling.Remaining.{Remaining}
-use Rattle.ctrl_core.specs.SettledParts.{Remains, AreGrantsAfter, looked_at}
+use Rattle.ctrl_core.specs.SettledParts.{Remains, AreGrantsAfter, StayGranted, looked_at}
 use Rattle.ctrl_core.specs.SettledRecords.{AreJudged, before_circuits}
 use Rattle.ctrl_core.proofs.LookedCircuits.{goes, looked_is}
 use Rattle.circuit_settling.proofs.GrantedCircuits.{granted-before}
@@ -116,7 +115,7 @@ module _ (c : Change) (st : Stores) (g : Fallen) (can : CanSettle st c) (falls :
           let all = is.seen_are ∙ remains.routers_are in
           (λ i. not (option_map_or (λ x. same_granted f e routers k is n x i && stays (network (record { terminators = is.terms i; loads = [] }) (is.fabric i) (all i)) (remains.identities_are i) (remains.services_are i) x) (at (is.circuits i).rows n) true))
 
-      pub judged_so : (granted : Bool) → IsGranted granted (state_of st) → (f : FabricSeen) (e : TermTables) (routers : List RouterSeen) (k : CircuitTables) (looked going : List ℕ) (j : Judged) → IsThere f e routers k
+      pub judged_so : (granted : Bool) → StayGranted granted (state_of st) (after_change c (state_of st)) → (f : FabricSeen) (e : TermTables) (routers : List RouterSeen) (k : CircuitTables) (looked going : List ℕ) (j : Judged) → IsThere f e routers k
           → looked ≡ looked_at granted c g.circuits st.circuits.circuits.next (circuits_then c st)
           → going ≡ filter (λ n. not (stays_there f e routers k n)) looked → j.ended ≡ ended_by (way_there f e routers k) going → j.moves ≡ moves_by (way_there f e routers k) going
           → AreJudged (after_change c (state_of st)) going j

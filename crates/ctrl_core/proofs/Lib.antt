@@ -9,6 +9,7 @@ pub mod CountedChanges
 pub mod FoundPlans
 pub mod StateParts
 pub mod SettledChanges
+pub mod StillGranted
 pub mod LookedCircuits
 pub mod LoadChanges
 pub mod JudgedChanges

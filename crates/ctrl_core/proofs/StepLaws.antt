@@ -1,5 +1,9 @@
 -- What taking the steps of a plan has to show: that the kept counts have room for them, and that what a core keeps stays.
-use Rattle.std.proofs.Common.{◌≡◌, ◌≤◌, ◌||◌, Bool, true, false, length, is_some, Option, None, Some, refl, sym, ◌∙◌, ap, subst, arith}
+use Rattle.std.proofs.Common.{◌≡◌, ℕ, ◌≤◌, ◌||◌, ◌&&◌, Bool, true, false, not, cond, List, [], ◌∷◌, length, is_some, Option, None, Some, refl, sym, ◌∙◌, ap, subst, arith}
+use Rattle.std.proofs.lemmas.Bool.{and_parts}
+use Rattle.std.proofs.lemmas.List.Sums.{sum_by-cons}
+use Rattle.grant_denorm.specs.declared.deltas.Delta.{Delta}
+use Rattle.grant_denorm.specs.Deltas.{downs, is_at}
 use Rattle.ctrl_model.specs.declared.kinds.Kind.TheVariants as kind
 use Rattle.ctrl_model.specs.declared.kinds.Relation.{Relation}
 use Rattle.ctrl_model.specs.declared.kinds.Relation.TheVariants.{Dial, Bind, IdentityRouter, ServiceRouter}
@@ -20,14 +24,14 @@ use Rattle.grant_denorm.specs.CountsAfter.{count_after}
 use Rattle.core_stores.specs.declared.changes.Change.{Change}
 use Rattle.ctrl_model.specs.Numbered.{Between}
 use Rattle.model_laws.specs.Plans.{CanLeadBy, led_by}
-use Rattle.model_laws.proofs.RevokedLaws.{revoke-settle}
+use Rattle.model_laws.proofs.RevokedLaws.{AreGranted-from, revoke-settle}
 use Rattle.ctrl_core.specs.ChangedStores.{CanSettle}
 use Rattle.ctrl_core.specs.Changes.{CanChange, CanLead, after_change, led}
 use Rattle.ctrl_core.proofs.StateParts.{parts_after, terms_ascend}
-use Rattle.ctrl_core.specs.SettledParts.{AreGrantsAfter, StepTo, counts_after}
+use Rattle.ctrl_core.specs.SettledParts.{AreGrantsAfter, StayGranted, StepTo, counts_after}
 use Rattle.core_stores.specs.LeadingSteps.{LeadAllCounts}
 use Rattle.core_stores.specs.OpenCircuits.{CountsOpen}
-use Rattle.policy_store.specs.StepsOfRelations.{steps_of}
+use Rattle.policy_store.specs.StepsOfRelations.{only_rise, steps_of, takes_nothing}
 use Rattle.ctrl_core.specs.KeptState.{Keeps, IsGranted}
 use Rattle.core_stores.specs.StoredState.{counts_of, state_of}
 
@@ -86,6 +90,13 @@ stepped_by_relation g after steps dial bind identity_router service_router Bind 
 stepped_by_relation g after steps dial bind identity_router service_router IdentityRouter = identity_router
 stepped_by_relation g after steps dial bind identity_router service_router ServiceRouter = service_router
 
+-- settling changes no count
+settled_count : (r : Relation) (t : State) (a b : ℕ) → count r (settle t) a b ≡ count r t a b
+settled_count Dial t a b = refl
+settled_count Bind t a b = refl
+settled_count IdentityRouter t a b = refl
+settled_count ServiceRouter t a b = refl
+
 -- they are the grant counts of the state to which the steps lead
 pub grants_after_are : (st : Stores) (t : State) (steps : GrantSteps) (after : GrantsAfter) → Keeps st → LeadAllCounts (state_of st) (settle t) steps
     → ((r : Relation) → StepTo (counts_of r st.grants) (counts_after r after) (steps_of r steps)) → AreGrantsAfter t after
@@ -93,14 +104,44 @@ grants_after_are st t steps after keeps leads stepped r a b =
     let moved = (leads r).moves a b in
     let before = keeps.counts r a b in
     let step = stepped r a b in
-    let same = settled_count r in
+    let same = settled_count r t a b in
     omega (arith, moved, before, step, same)
+
+-- no count falls by steps that only rise
+no_downs : (ds : List Delta) (a b : ℕ) → only_rise ds ≡ true → downs ds a b ≡ 0
+no_downs [] a b e = refl
+no_downs (d ∷ ds) a b e =
+    let up = and_parts d.up (only_rise ds) e in
+    let rest = no_downs ds a b up.1 in
+    let one : ◌≡◌ {A = ℕ} (cond (not d.up && is_at a b d) 1 0) 0 = ap (λ u. cond (not u && is_at a b d) 1 0) up.0 in
+    let all = sum_by-cons (λ x. cond (not x.up && is_at a b x) 1 0) d ds in omega (arith, rest, one, all)
+
+each_rises : (steps : GrantSteps) → takes_nothing steps ≡ true → (r : Relation) → only_rise (steps_of r steps) ≡ true
+each_rises steps e r = by r
   where
-    settled_count : (r : Relation) → count r (settle t) a b ≡ count r t a b
-    settled_count Dial = refl
-    settled_count Bind = refl
-    settled_count IdentityRouter = refl
-    settled_count ServiceRouter = refl
+    parts : (only_rise steps.dial.items ≡ true) × ((only_rise steps.bind.items && (only_rise steps.identity_router.items && only_rise steps.service_router.items)) ≡ true)
+    parts = and_parts (only_rise steps.dial.items) _ e
+
+    more : (only_rise steps.bind.items ≡ true) × ((only_rise steps.identity_router.items && only_rise steps.service_router.items) ≡ true)
+    more = and_parts (only_rise steps.bind.items) _ parts.1
+
+    by : (r : Relation) → only_rise (steps_of r steps) ≡ true
+    by Dial = parts.0
+    by Bind = more.0
+    by IdentityRouter = (and_parts (only_rise steps.identity_router.items) (only_rise steps.service_router.items) more.1).0
+    by ServiceRouter = (and_parts (only_rise steps.identity_router.items) (only_rise steps.service_router.items) more.1).1
+
+-- where what granted each circuit stood, and the steps take nothing, no grant is gone
+pub stay_granted : (granted : Bool) (s t : State) (steps : GrantSteps) → IsGranted granted s → LeadAllCounts s (settle t) steps → StayGranted (granted && takes_nothing steps) s t
+stay_granted granted s t steps is leads = λ e.
+    let both = and_parts granted (takes_nothing steps) e in (
+      AreGranted-from s (is both.0),
+      λ r a b.
+          let moved = (leads r).moves a b in
+          let none = no_downs (steps_of r steps) a b (each_rises steps both.1 r) in
+          let same = settled_count r t a b in
+          omega (arith, moved, none, same),
+    )
 
 -- what granted each circuit stands after a change, and else where it stood before
 pub granted_after : (granted : Bool) (o : Option Change) (st : Stores) → Keeps st → CanLeadBy CanChange o (state_of st) → ValidState (led_by after_change o (state_of st)) → IsGranted granted (state_of st)

@@ -1,11 +1,12 @@
 -- What settles after a change of some stores, by its numbers. Only private functions and proofs of this crate cite this file.
-use Rattle.std.specs.Prelude.{◌≡◌, ℕ, ◌+◌, Bool, true, List, [], ◌∷◌, map}
+use Rattle.std.specs.Prelude.{◌≡◌, ℕ, ◌+◌, ◌≤◌, Bool, true, false, List, [], ◌∷◌, map}
 use Rattle.ctrl_model.specs.declared.kinds.Relation.{Relation}
 use Rattle.ctrl_model.specs.declared.kinds.Relation.TheVariants.{Dial, Bind, IdentityRouter, ServiceRouter}
 use Rattle.ctrl_model.specs.Grants.{count}
 use Rattle.ctrl_model.specs.Networks.{seen}
 use Rattle.ctrl_model.specs.Numbered.{numbers}
 use Rattle.ctrl_model.specs.State.{State, start}
+use Rattle.model_laws.specs.JudgedCircuits.{AreGranted}
 use Rattle.circuits.specs.CircuitTables.{CircuitTables}
 use Rattle.circuits.specs.declared.changes.CircuitChange.TheVariants as circuit
 use Rattle.grant_denorm.specs.declared.deltas.Delta.{Delta}
@@ -62,10 +63,13 @@ StepTo before after ds = (a b : ℕ) → after a b + downs ds a b ≡ count_of b
 abbrev pub AreGrantsAfter : State → GrantsAfter → Type 0
 AreGrantsAfter s g = (r : Relation) (a b : ℕ) → counts_after r g a b ≡ count r s a b
 
--- The circuits that are looked at after a change: all, but where what granted each circuit stood before and the change leaves all grants,
--- those alone that the change makes, which is the last one, or fells.
+-- Where it is told so, what granted each circuit of a state stands, and no count is lower in the one after it.
+abbrev pub StayGranted : Bool → State → State → Type 0
+StayGranted told s t = told ≡ true → AreGranted s × ((r : Relation) (a b : ℕ) → count r s a b ≤ count r t a b)
+
+-- The circuits that are looked at after a change: all, but where what granted each circuit stood before and no count falls, the one that
+-- the change makes, which is the last one, or else those that it fells.
 abbrev pub looked_at : Bool → Change → List ℕ → ℕ → CircuitTables → List ℕ
-looked_at true (change.Link c) fallen next k = fallen
-looked_at true (change.Circuit (circuit.Remove n)) fallen next k = fallen
 looked_at true (change.Circuit (circuit.Add c)) fallen next k = next ∷ []
-looked_at granted c fallen next k = numbers k.circuits.rows
+looked_at true c fallen next k = fallen
+looked_at false c fallen next k = numbers k.circuits.rows

@@ -1,4 +1,4 @@
-ghost use Rattle.std.specs.Prelude.{◌≡◌, IfOk};
+ghost use Rattle.std.specs.Prelude.{◌≡◌, ◌&&◌, IfOk};
 ghost use Rattle.ctrl_model.specs.declared.kinds.Relation.{Relation};
 ghost use Rattle.record_tables.specs.AfterChange.{changed_by};
 ghost use Rattle.entity_store.specs.EntityChanges.{after_entity_change};
@@ -6,7 +6,7 @@ ghost use Rattle.circuit_settling.specs.FallenRecords.{Falls};
 ghost use Rattle.core_stores.specs.ChangeParts.{entity_part};
 ghost use Rattle.circuits.specs.MovedCircuits.{moves_by, ended_by};
 ghost use Rattle.fabric_graph.specs.Routers.{AreRouters, HaveGraph};
-ghost use Rattle.policy_store.specs.StepsOfRelations.{steps_of};
+ghost use Rattle.policy_store.specs.StepsOfRelations.{steps_of, takes_nothing};
 ghost use Rattle.circuit_settling.specs.OtherLinks.{way_at};
 ghost use Rattle.core_stores.specs.LeadingSteps.{LeadAllCounts};
 ghost use Rattle.core_stores.specs.StoredState.{counts_of, state_of};
@@ -14,7 +14,7 @@ ghost use Rattle.core_stores.specs.TakenSteps.{HaveRoom};
 ghost use Rattle.ctrl_core.specs.ChangedStores.{CanSettle, next_state};
 ghost use Rattle.ctrl_core.specs.KeptState.{Keeps, IsGranted};
 ghost use Rattle.ctrl_core.specs.Changes.{after_change};
-ghost use Rattle.ctrl_core.specs.SettledParts.{bare_state_of, NamesBy, Remains, AreGrantsAfter, StepTo, counts_after, looked_at};
+ghost use Rattle.ctrl_core.specs.SettledParts.{bare_state_of, NamesBy, Remains, AreGrantsAfter, StayGranted, StepTo, counts_after, looked_at};
 ghost use Rattle.ctrl_core.specs.SettledRecords.{AreJudged, AreSettled};
 
 use circuit_settling::{
@@ -95,8 +95,15 @@ fn grants_after<'a>(
     })
 }
 
-// The circuits that are looked at after a change: all, but where what granted each circuit stood before and the change leaves all grants,
-// those alone that the change makes or fells.
+// Whether it is known that no grant is gone.
+fn stays_granted(granted: bool, steps: &GrantSteps) -> bool
+    ensures { result ≡ (granted && takes_nothing steps.now) }
+{
+    granted && steps.takes_nothing()
+}
+
+// The circuits that are looked at after a change: all, but where what granted each circuit stood before and no count falls, the one that the
+// change makes, or else those that it fells.
 fn looked_at(
     alloc: Global,
     change: &Change,
@@ -107,17 +114,13 @@ fn looked_at(
 ) -> Result<Numbers, AllocError>
     ensures { IfOk result (λ ns. ns ≡ looked_at granted change.now fallen.now.circuits next circuits.now) }
 {
-    if granted {
-        match change {
-            Change::Link(_) => return fallen.circuits.copy(),
-            Change::Circuit(CircuitChange::Remove(_)) => return fallen.circuits.copy(),
-            Change::Circuit(CircuitChange::Add(_)) => {
-                return Numbers::from_slice(alloc, &[next]);
-            }
-            _ => (),
-        }
+    if !granted {
+        return circuits.numbers(alloc);
     }
-    circuits.numbers(alloc)
+    match change {
+        Change::Circuit(CircuitChange::Add(_)) => Numbers::from_slice(alloc, &[next]),
+        _ => fallen.circuits.copy(),
+    }
 }
 
 // What becomes of the circuits that do not stay as they are, beside what remains and what is granted.
@@ -134,7 +137,7 @@ fn judged_beside(
     requires falls { Falls (after_change change.now (state_of stores.now)) fallen.now.links fallen.now.terminators fallen.now.circuits }
     requires remains { Remains (changed_by after_entity_change (entity_part change.now) stores.now.entities) remaining.now }
     requires counts { AreGrantsAfter (after_change change.now (state_of stores.now)) grants.now }
-    requires granted { IsGranted granted (state_of stores.now) }
+    requires granted { StayGranted granted (state_of stores.now) (after_change change.now (state_of stores.now)) }
     ensures { IfOk result (λ p. AreJudged (after_change change.now (state_of stores.now)) p.0 p.1) }
 {
     let fabric = FabricAfter::new(&stores.fabric, change.of_links(), &fallen.links);
@@ -187,8 +190,8 @@ fn judged(
 }
 
 /// What settling makes of the state after a change, by its numbers. The steps lead the counts to those after the change; and where it is
-/// told that what granted each circuit stood before, only those circuits are looked at whose grant or path the change may take. The
-/// stores stay.
+/// told that what granted each circuit stood before, and no count falls, only those circuits are looked at whose path the change takes, or
+/// the one that it makes. The stores stay.
 pub fn settled_by(
     alloc: Global,
     stores: &Stores,
@@ -205,9 +208,8 @@ pub fn settled_by(
     let fallen = fallen_by(alloc, stores, change)?;
     let remaining = what_remains(alloc, stores, change)?;
     let grants = grants_after(alloc, &stores.grants, steps)?;
-    let (lost, judged) = judged_beside(
-        alloc, stores, change, &fallen, &remaining, &grants, granted,
-    )?;
+    let stay = stays_granted(granted, steps);
+    let (lost, judged) = judged_beside(alloc, stores, change, &fallen, &remaining, &grants, stay)?;
     Ok(Settled {
         links: fallen.links,
         terminators: fallen.terminators,

@@ -1,5 +1,6 @@
 -- The steps that grant counts take, by the relation (docs/RULES.md, "Policies and grants").
-use Rattle.std.specs.Prelude.{◌≡◌, List, []}
+use Rattle.std.specs.Prelude.{◌≡◌, Bool, ◌&&◌, List, []}
+use Rattle.std.specs.List.{list_all}
 use Rattle.ctrl_model.specs.declared.kinds.Relation.{Relation}
 use Rattle.ctrl_model.specs.declared.kinds.Relation.TheVariants.{Dial, Bind, IdentityRouter, ServiceRouter}
 use Rattle.grant_denorm.specs.declared.deltas.Delta.{Delta}
@@ -18,3 +19,11 @@ pub record HasNoSteps (steps : GrantSteps) : Type 0 where
   pub bind : steps.bind.items ≡ []
   pub identity_router : steps.identity_router.items ≡ []
   pub service_router : steps.service_router.items ≡ []
+
+-- No step goes down.
+abbrev pub only_rise : List Delta → Bool
+only_rise ds = list_all (λ d. d.up) ds
+
+-- Steps take from no count.
+abbrev pub takes_nothing : GrantSteps → Bool
+takes_nothing steps = only_rise steps.dial.items && (only_rise steps.bind.items && (only_rise steps.identity_router.items && only_rise steps.service_router.items))

@@ -19,5 +19,6 @@ pub use policies::{Policies, PolicyFault};
 pub use records::{Hand, Policy, forget_on_side};
 pub use steps::GrantSteps;
 pub use worked::{
-    changes_of_policies, names_and_numbers_of_policies, replaced_and_forgotten, sides_and_relations,
+    changes_of_policies, names_and_numbers_of_policies, replaced_and_forgotten,
+    sides_and_relations, steps_that_rise,
 };

@@ -8,6 +8,7 @@ ghost use Rattle.policy_store.specs.PolicyRules.{found, put_in, put_number};
 ghost use Rattle.ctrl_model.specs.State.{start};
 ghost use Rattle.policy_store.specs.declared.changes.PolicyChange.TheVariants as change;
 ghost use Rattle.policy_store.specs.PolicyChanges.{ruled, with_tables};
+ghost use Rattle.policy_store.specs.StepsOfRelations.{only_rise};
 ghost use Rattle.policy_store.specs.WorkedPolicies.{dial_web, bind_web, one_policy};
 
 /// The first service policy has the number 1. Each kind has names and numbers of its own, and a removed number is not given
@@ -56,4 +57,11 @@ pub fn changes_of_policies()
     ensures add { ruled (change.Add kind.ServicePolicy dial_web) start ≡ with_tables one_policy start }
     ensures replace { ruled (change.Replace kind.ServicePolicy 1 bind_web) (with_tables one_policy start) ≡ record start { service_policies = record { rows = (1, bind_web) ∷ []; next = 2 } } }
     ensures remove { ruled (change.Remove kind.ServicePolicy 1) (with_tables one_policy start) ≡ record start { service_policies = record { rows = []; next = 2 } } }
+{}
+
+/// Steps that only go up take from no count. One step down takes from one.
+pub fn steps_that_rise()
+    ensures none { only_rise [] ≡ true }
+    ensures up { only_rise (record { a = 1; b = 2; up = true } ∷ []) ≡ true }
+    ensures one_down { only_rise (record { a = 1; b = 2; up = true } ∷ record { a = 1; b = 3; up = false } ∷ []) ≡ false }
 {}
