@@ -5,6 +5,7 @@ use Rattle.std.specs.List.{All}
 use Rattle.std.specs.Option.{option_map_or}
 use Rattle.std.specs.Result.{IsErrAnd}
 use Rattle.std.specs.declared.result.Result.{Result}
+use Rattle.ctrl_model.specs.Limits.{most_terminator_cost}
 use Rattle.ctrl_model.specs.declared.kinds.RouterSeen.{RouterSeen}
 use Rattle.ctrl_model.specs.declared.refusals.Denial.{Denial}
 use Rattle.ctrl_model.specs.declared.refusals.Denial.TheVariants.{UnknownIdentity, UnknownService, NoPath, CircuitsFull}
@@ -38,11 +39,11 @@ use Rattle.circuit_rules.proofs.DecideLaws.{IsSearch, OthersFollow, entries_plac
 
 -- ---- what the search found
 
-pub exits_cheap : (w : Network) (ask : Ask) (s : ℕ) → each_passes (λ (e : Terminator). is_cost e.cost) w.terminators ≡ true → ((n : ℕ) → w.load n ≤ 16384) → All (λ (o : Exit). o.cost ≤ 81919) (exits_to w ask s)
+pub exits_cheap : (w : Network) (ask : Ask) (s : ℕ) → each_passes (λ (e : Terminator). is_cost e.cost) w.terminators ≡ true → ((n : ℕ) → w.load n ≤ 16384) → All (λ (o : Exit). o.cost ≤ most_terminator_cost) (exits_to w ask s)
 exits_cheap w ask s costs loads =
-    all_from_among (λ (o : Exit). o.cost ≤ 81919) (exits_to w ask s) (λ o m.
+    all_from_among (λ (o : Exit). o.cost ≤ most_terminator_cost) (exits_to w ask s) (λ o m.
     by_map (exit_of w) (admissible w s ask.instance) o m (λ e n is.
-    subst (λ (y : Exit). y.cost ≤ 81919) is
+    subst (λ (y : Exit). y.cost ≤ most_terminator_cost) is
     (let static = (in_bounds 0 65535 e.1.cost (list_all-among (λ (x : ℕ × Terminator). is_cost x.1.cost) w.terminators e costs (by_admissible w s ask.instance e n).present)).1 in
     let load = loads e.0 in omega (arith, static, load))))
 

@@ -4,6 +4,7 @@ use Rattle.std.specs.List.{All}
 use Rattle.std.proofs.lemmas.Bool.{and_parts, leb-true, false≢true}
 use Rattle.std.proofs.lemmas.List.Elements.{All-filter}
 use Rattle.std.proofs.lemmas.Option.{same_Some}
+use Rattle.ctrl_model.specs.Limits.{most_terminator_cost}
 use Rattle.ctrl_model.specs.Choices.{place_of}
 use Rattle.ctrl_model.specs.Claims.{no_path}
 use Rattle.ctrl_model.specs.Membership.{Among}
@@ -113,10 +114,10 @@ ready w s costs entries exits k same listed least in_entries in_exits = record {
 
 -- and so to those of the ends whose exits have one precedence
 pub within_at : (places place : ℕ) (ends : Ends) → AreWithin places ends
-    → All (λ (o : Exit). o.place < places) (exits_at place ends.exits.items) × All (λ (o : Exit). o.cost ≤ 81919) (exits_at place ends.exits.items)
+    → All (λ (o : Exit). o.place < places) (exits_at place ends.exits.items) × All (λ (o : Exit). o.cost ≤ most_terminator_cost) (exits_at place ends.exits.items)
 within_at places place ends h = (
   All-filter (λ (o : Exit). place_of o.precedence == place) (λ (o : Exit). o.place < places) ends.exits.items h.exits,
-  All-filter (λ (o : Exit). place_of o.precedence == place) (λ (o : Exit). o.cost ≤ 81919) ends.exits.items h.costs,
+  All-filter (λ (o : Exit). place_of o.precedence == place) (λ (o : Exit). o.cost ≤ most_terminator_cost) ends.exits.items h.costs,
 )
 
 -- a search of the graph of a network is one of the network

@@ -1,4 +1,5 @@
 ghost use Rattle.std.specs.Prelude.{◌≡◌, ◌<◌, ◌≤◌, ℕ, All, length, None};
+ghost use Rattle.ctrl_model.specs.Limits.{most_terminator_cost};
 ghost use Rattle.ctrl_model.specs.Claims.{no_path};
 ghost use Rattle.path_certificate.specs.Graphs.{potential};
 ghost use Rattle.path_search.specs.Visits.{costs_to};
@@ -30,7 +31,7 @@ fn is_before(choice: &Choice, other: &Choice) -> bool
 fn choice_at(costs: &[u64], exit: &Exit, entry: &Entry) -> Option<Choice>
     requires costs { AreSmall (length costs.now) costs.now }
     requires place { entry.now.place < length costs.now }
-    requires cost { exit.now.cost ≤ 81919 }
+    requires cost { exit.now.cost ≤ most_terminator_cost }
     ensures { result ≡ choice_at costs.now exit.now entry.now }
 {
     let cost = costs[entry.place as usize];
@@ -66,7 +67,7 @@ fn keep(best: Option<Choice>, other: Option<Choice>) -> Option<Choice>
 fn first_of(costs: &[u64], exit: &Exit, best: Option<Choice>, entries: &[Entry]) -> Option<Choice>
     requires costs { AreSmall (length costs.now) costs.now }
     requires places { All (λ x. x.place < length costs.now) entries.now }
-    requires cost { exit.now.cost ≤ 81919 }
+    requires cost { exit.now.cost ≤ most_terminator_cost }
     ensures { result ≡ first_of costs.now exit.now best entries.now }
 {
     let mut best = best;
@@ -87,7 +88,7 @@ pub fn first_of_all(
     requires places { All (λ x. x.place < places) entries.now }
     requires exits { All (λ o. o.place < length costs.now) exits.now }
     requires small { All (λ o. AreSmall places (costs_to costs.now o.place)) exits.now }
-    requires costs { All (λ o. o.cost ≤ 81919) exits.now }
+    requires costs { All (λ o. o.cost ≤ most_terminator_cost) exits.now }
     ensures { result ≡ first_of_all costs.now entries.now None exits.now }
 {
     let mut best = None;

@@ -1,4 +1,5 @@
 ghost use Rattle.std.specs.Prelude.{◌≡◌, ℕ, ◌<◌, ◌≤◌, All, length, option_map, IfOk, IfSome, IsErrOf};
+ghost use Rattle.ctrl_model.specs.Limits.{most_terminator_cost};
 ghost use Rattle.ctrl_model.specs.Claims.{no_path};
 ghost use Rattle.path_certificate.specs.Graphs.{potential};
 ghost use Rattle.path_search.specs.Searches.{IsLeast};
@@ -84,7 +85,7 @@ fn route_over(
     requires least { (t : ℕ) → AreCosts search.now.graph exits.now t (costs_to search.now.costs t) }
     requires entries { All (λ x. x.place < length view.now.routers.now) entries.now }
     requires exits { All (λ o. o.place < length view.now.routers.now) exits.now }
-    requires costs { All (λ o. o.cost ≤ 81919) exits.now }
+    requires costs { All (λ o. o.cost ≤ most_terminator_cost) exits.now }
     ensures { IfOk result (IsSearched (network view.now) entries.now exits.now) }
 {
     let costs = search.costs();

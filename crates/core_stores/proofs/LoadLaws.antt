@@ -1,14 +1,17 @@
 -- Laws on loads that are counted anew.
-use Rattle.std.proofs.Common.{◌≡◌, ◌≢◌, ℕ, ◌+◌, ◌<◌, ◌==◌, ◌||◌, Bool, true, false, cond, List, [], ◌∷◌, length, map, take, get_or, count_by, Option, unwrap_or, refl, sym, ◌∙◌, ap, arith, eqb-true, eq-eqb}
+use Rattle.std.proofs.Common.{◌≡◌, ◌≢◌, ℕ, ◌+◌, ◌<◌, ◌==◌, ◌||◌, Bool, true, false, cond, List, length, take, get_or, unwrap_or, refl, sym, ◌∙◌, ap, arith, eqb-true, eq-eqb}
 use Rattle.std.proofs.lemmas.Bool.{false≢true}
 use Rattle.std.proofs.lemmas.List.{take_more}
+use Rattle.std.proofs.lemmas.List.Sums.{count_by-le-length}
+use Rattle.ctrl_model.specs.declared.kinds.Kind.TheVariants as kind
+use Rattle.ctrl_model.specs.Limits.{limit}
 use Rattle.ctrl_model.specs.Networks.{open_circuits}
 use Rattle.ctrl_model.specs.Numbered.{is_present, numbers}
 use Rattle.ctrl_model.specs.Walks.{is_among}
 use Rattle.ctrl_model.proofs.NumberedLaws.{among_present, at-edit_at-other}
 use Rattle.record_tables.proofs.GoneLaws.{among-append}
 use Rattle.terminators.specs.TermTables.{TermTables, KeepsTerms, with_open, open_at}
-use Rattle.core_stores.specs.OpenCircuits.{ChangesLoads, SetsEach, CountsMore, CountsAnew}
+use Rattle.core_stores.specs.OpenCircuits.{ChangesLoads, CountsAnew, CountsMore, EndThere, SetsEach}
 use Rattle.core_stores.specs.declared.stores.Stores.{Stores}
 use Rattle.core_stores.specs.StoredState.{state_of}
 
@@ -74,6 +77,27 @@ pub counted_more : (st : Stores) (n load : ℕ) (new : TermTables) → load ≡ 
     → CountsMore n st (with_terminators new st)
 counted_more st n load new before is here = record {
   changes = only_loads st new (ap (λ (t : TermTables). t.terminators) is);
-  more = λ there. here ∙ ap (λ m. m + 1) before;
+  more = here ∙ ap (λ m. m + 1) before;
   others = λ m apart. ap (λ t. open_at t m) is ∙ ap (λ o. unwrap_or o 0) (at-edit_at-other st.terminators.loads n m (λ old. load + 1) apart);
 }
+
+-- ---- one circuit that is not counted yet
+
+-- its terminator is there
+pub ends_there : (st : Stores) (n : ℕ) → EndThere (state_of st) → open_at st.terminators n + cond (n == n) 1 0 ≡ open_circuits (state_of st) n → is_present st.terminators.terminators.rows n ≡ true
+ends_there st n ends lacks = by (is_present st.terminators.terminators.rows n) refl
+  where
+    by : (b : Bool) → is_present st.terminators.terminators.rows n ≡ b → is_present st.terminators.terminators.rows n ≡ true
+    by true is = is
+    by false is =
+        let none = ends.absent n is in
+        let itself : ◌≡◌ {A = ℕ} (cond (n == n) 1 0) 1 = ap (λ b. cond b 1 0) (eq-eqb n n refl) in
+        absurd (omega (arith, none, itself, lacks))
+
+-- and there is room for it
+pub has_room : (st : Stores) (n : ℕ) → EndThere (state_of st) → open_at st.terminators n + cond (n == n) 1 0 ≡ open_circuits (state_of st) n → open_at st.terminators n < limit kind.Circuit
+has_room st n ends lacks =
+    let few = ends.few in
+    let itself : ◌≡◌ {A = ℕ} (cond (n == n) 1 0) 1 = ap (λ b. cond b 1 0) (eq-eqb n n refl) in
+    let all = count_by-le-length (λ row. row.1.terminator == n) st.circuits.circuits.rows in
+    omega (arith, few, itself, all, lacks)

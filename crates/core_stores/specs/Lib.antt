@@ -7,7 +7,6 @@ pub mod GrantKinds
 pub mod GrantChanges
 pub mod EntitySteps
 pub mod LeadingSteps
-pub mod TakenSteps
 pub mod CarriedStates
 pub mod SettledNumbers
 pub mod ForgottenEntities

@@ -1,11 +1,12 @@
 -- That the loads of terminators are kept: at each number as many circuits are open as there are circuits to it (docs/RULES.md,
 -- "Terminators").
-use Rattle.std.specs.Prelude.{◌≡◌, ◌≢◌, ℕ, ◌+◌, ◌<◌, true, ◌&&◌, cond, ⊤, List}
+use Rattle.std.specs.Prelude.{◌≡◌, ◌≢◌, ℕ, ◌+◌, ◌≤◌, ◌==◌, false, ◌&&◌, cond, ⊤, List, length}
 use Rattle.ctrl_model.specs.declared.kinds.Kind.TheVariants as kind
 use Rattle.ctrl_model.specs.Limits.{limit}
 use Rattle.ctrl_model.specs.Matches.{is_nothing}
 use Rattle.ctrl_model.specs.Networks.{open_circuits}
 use Rattle.ctrl_model.specs.Numbered.{is_present}
+use Rattle.ctrl_model.specs.State.{State}
 use Rattle.ctrl_model.specs.Walks.{is_among}
 use Rattle.circuits.specs.declared.changes.CircuitChange.TheVariants as circuit
 use Rattle.terminators.specs.TermTables.{TermTables, open_at}
@@ -33,10 +34,10 @@ pub record CountsAnew (old new : Stores) : Type 0 where
   pub changes : ChangesLoads old new
   pub counted : (n : ℕ) → open_at new.terminators n ≡ cond (is_present old.terminators.terminators.rows n) (open_circuits (state_of old) n) 0
 
--- The load of one terminator is one higher, if it is present; those of the others stay.
+-- The load of one terminator is one higher; those of the others stay.
 pub record CountsMore (n : ℕ) (old new : Stores) : Type 0 where
   pub changes : ChangesLoads old new
-  pub more : is_present old.terminators.terminators.rows n ≡ true → open_at new.terminators n ≡ open_at old.terminators n + 1
+  pub more : open_at new.terminators n ≡ open_at old.terminators n + 1
   pub others : (m : ℕ) → m ≢ n → open_at new.terminators m ≡ open_at old.terminators m
 
 -- Of the terminators of some numbers the loads are set, and those of the others stay.
@@ -57,14 +58,13 @@ loads_by (change.Circuit (circuit.Remove n)) = loads.Any
 abbrev pub loads_after : Change → Settled → Loads
 loads_after c g = cond (is_nothing g.terminators && is_nothing g.lost) (loads_by c) loads.Any
 
--- Where a load shall be one higher, there is room for one more.
-abbrev pub HasRoomFor : Loads → Stores → Type 0
-HasRoomFor loads.Same st = ⊤
-HasRoomFor (loads.More n) st = open_at st.terminators n.0 < limit kind.Circuit
-HasRoomFor loads.Any st = ⊤
+-- Each circuit ends at a present terminator, and there are no more circuits than may be.
+pub record EndThere (s : State) : Type 0 where
+  pub absent : (n : ℕ) → is_present s.terminators.rows n ≡ false → open_circuits s n ≡ 0
+  pub few : length s.circuits.rows ≤ limit kind.Circuit
 
--- The loads are brought up to date where they change.
-abbrev pub CountsLoads : Loads → Stores → Stores → Type 0
-CountsLoads loads.Same old new = new ≡ old
-CountsLoads (loads.More n) old new = CountsMore n.0 old new
-CountsLoads loads.Any old new = CountsAnew old new
+-- The loads that are kept lack this alone of the circuits that are open: nothing, or one at a terminator. Or they may be any.
+abbrev pub CountsBut : Loads → Stores → Type 0
+CountsBut loads.Same st = CountsOpen st
+CountsBut (loads.More n) st = (m : ℕ) → open_at st.terminators m + cond (n.0 == m) 1 0 ≡ open_circuits (state_of st) m
+CountsBut loads.Any st = ⊤

@@ -5,7 +5,8 @@ ghost use Rattle.ctrl_model.specs.Membership.{Among};
 ghost use Rattle.ctrl_model.specs.Numbered.{is_present};
 ghost use Rattle.grant_denorm.specs.PairCounts.{count_of};
 ghost use Rattle.terminators.specs.TermTables.{open_at};
-ghost use Rattle.core_stores.specs.OpenCircuits.{CountsAnew, CountsMore, CountsLoads, HasRoomFor, SetsEach, loads_after};
+ghost use Rattle.core_stores.specs.OpenCircuits.{ChangesLoads, CountsAnew, CountsBut, CountsMore, CountsOpen, EndThere, SetsEach, loads_after};
+ghost use Rattle.core_stores.specs.StoredState.{state_of};
 
 use crate::changes::Change;
 use crate::settled::Settled;
@@ -38,15 +39,14 @@ fn count_open(alloc: Global, stores: &mut Stores) -> Result<(), AllocError>
     Ok(())
 }
 
-// Raises the load of one terminator by one, if it is present.
+// Raises the load of a present terminator by one.
 fn count_more(stores: &mut Stores, no: TermNo)
-    requires { open_at stores.old.terminators no.0 < limit kind.Circuit }
+    requires there { is_present stores.old.terminators.terminators.rows no.0 ≡ true }
+    requires room { open_at stores.old.terminators no.0 < limit kind.Circuit }
     ensures { CountsMore no.0 stores.old stores.new }
 {
-    if stores.terminators.seen(no).is_some() {
-        let load = stores.terminators.open_circuits(no);
-        stores.terminators.set_open(no, load + 1);
-    }
+    let load = stores.terminators.open_circuits(no);
+    stores.terminators.set_open(no, load + 1);
 }
 
 /// Where the loads of terminators change.
@@ -69,19 +69,20 @@ pub fn loads_after(change: &Change, settled: &Settled) -> Loads
         return Loads::Any;
     }
     match change {
-        Change::Entity(_) | Change::Policy(_) | Change::Link(_) | Change::Terminator(_) => {
-            Loads::Same
-        }
         Change::Circuit(CircuitChange::Add(circuit)) => Loads::More(circuit.terminator),
         Change::Circuit(CircuitChange::Remove(_)) => Loads::Any,
+        _ => Loads::Same,
     }
 }
 
-/// Brings loads up to date where they change: a circuit more is added at its own terminator, and where they change anywhere all circuits are
-/// counted. For want of memory no load changes.
+/// Brings the loads up to date: behind it each terminator has as many circuits open as there are circuits to it, and nothing else has
+/// changed. It is told where the loads that are kept are not the circuits that there are: one more is added at its own terminator, and where they
+/// may be any, all circuits are counted. For want of memory no load changes.
 pub fn count_loads(alloc: Global, stores: &mut Stores, loads: Loads) -> Result<(), AllocError>
-    requires room { HasRoomFor loads stores.old }
-    ensures ok { OnOk result (CountsLoads loads stores.old stores.new) }
+    requires ends { EndThere (state_of stores.old) }
+    requires but { CountsBut loads stores.old }
+    ensures counts { OnOk result (CountsOpen stores.new) }
+    ensures changes { OnOk result (ChangesLoads stores.old stores.new) }
     ensures err { OnErr result (stores.new ≡ stores.old) }
 {
     match loads {

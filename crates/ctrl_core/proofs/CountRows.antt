@@ -1,18 +1,16 @@
 -- The counts and the steps that are lent to make rows are those of the stores and of the plan, relation by relation.
-use Rattle.std.proofs.Common.{◌≡◌, ℕ, ◌+◌, ◌<◌, ◌≤◌, sym, subst}
+use Rattle.std.proofs.Common.{◌≡◌, sym, subst}
 use Rattle.ctrl_model.specs.declared.kinds.Relation.{Relation}
 use Rattle.ctrl_model.specs.declared.kinds.Relation.TheVariants.{Dial, Bind, IdentityRouter, ServiceRouter}
 use Rattle.ctrl_model.specs.Grants.{count}
 use Rattle.ctrl_model.specs.State.{State}
-use Rattle.grant_denorm.specs.Deltas.{ups, downs}
 use Rattle.grant_denorm.specs.MovedCounts.{AreCountsOf, Moves}
-use Rattle.grant_denorm.specs.PairCounts.{count_of}
+use Rattle.grant_denorm.specs.TakenSteps.{HaveRoom}
 use Rattle.grant_rows.specs.declared.moves.GrantMoves.{GrantMoves}
 use Rattle.grant_rows.specs.CountChanges as rows
 use Rattle.policy_store.specs.declared.steps.GrantSteps.{GrantSteps}
 use Rattle.policy_store.specs.StepsOfRelations.{steps_of}
 use Rattle.core_stores.specs.declared.stores.Stores.{Stores}
-use Rattle.core_stores.specs.TakenSteps.{HaveRoom}
 use Rattle.core_stores.specs.LeadingSteps.{LeadAllCounts}
 use Rattle.ctrl_core.specs.KeptState.{Keeps}
 use Rattle.core_stores.specs.StoredState.{counts_of, state_of}
@@ -40,13 +38,7 @@ module _ (m : GrantMoves) (st : Stores) (dial : m.dial.counted.now ≡ st.grants
   counts_each keeps r = subst (λ cs. AreCountsOf (count r (state_of st)) cs) (sym (same_counts r)) (keeps.counts r)
 
 -- what steps need of the counts
-pub least_each : (m : GrantMoves) (st : Stores) (steps : GrantSteps) → ((r : Relation) → rows.steps_of r m ≡ steps_of r steps) → ((r : Relation) → rows.counts_of r m ≡ counts_of r st.grants)
-    → ((r : Relation) → HaveRoom (counts_of r st.grants) (steps_of r steps)) → (r : Relation) (p q : ℕ) → downs (rows.steps_of r m) p q ≤ count_of (rows.counts_of r m) p q
-least_each m st steps taken same room r p q =
-    subst (λ ds. downs ds p q ≤ count_of (rows.counts_of r m) p q) (sym (taken r)) (subst (λ cs. downs (steps_of r steps) p q ≤ count_of cs p q) (sym (same r)) ((room r).least p q))
-
-pub most_each : (m : GrantMoves) (st : Stores) (steps : GrantSteps) → ((r : Relation) → rows.steps_of r m ≡ steps_of r steps) → ((r : Relation) → rows.counts_of r m ≡ counts_of r st.grants)
-    → ((r : Relation) → HaveRoom (counts_of r st.grants) (steps_of r steps)) → (r : Relation) (p q : ℕ) → count_of (rows.counts_of r m) p q + ups (rows.steps_of r m) p q < 4294967296
-most_each m st steps taken same room r p q =
-    subst (λ ds. count_of (rows.counts_of r m) p q + ups ds p q < 4294967296) (sym (taken r))
-    (subst (λ cs. count_of cs p q + ups (steps_of r steps) p q < 4294967296) (sym (same r)) ((room r).most p q))
+pub room_each : (m : GrantMoves) (st : Stores) (steps : GrantSteps) → ((r : Relation) → rows.steps_of r m ≡ steps_of r steps) → ((r : Relation) → rows.counts_of r m ≡ counts_of r st.grants)
+    → ((r : Relation) → HaveRoom (counts_of r st.grants) (steps_of r steps)) → (r : Relation) → HaveRoom (rows.counts_of r m) (rows.steps_of r m)
+room_each m st steps taken same room r =
+    subst (λ ds. HaveRoom (rows.counts_of r m) ds) (sym (taken r)) (subst (λ cs. HaveRoom cs (steps_of r steps)) (sym (same r)) (room r))

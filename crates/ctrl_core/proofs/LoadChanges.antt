@@ -11,11 +11,12 @@ use Rattle.ctrl_model.specs.Matches.{is_nothing}
 use Rattle.ctrl_model.specs.Membership.{Among}
 use Rattle.ctrl_model.specs.Networks.{network_of, open_circuits}
 use Rattle.ctrl_model.specs.Numbered.{Table, at, is_present, numbers, with_last, with_new}
-use Rattle.ctrl_model.specs.Settling.{circuit_reaches}
+use Rattle.ctrl_model.specs.Settling.{circuit_reaches, settle}
 use Rattle.ctrl_model.specs.State.{State, Terminator, Circuit}
 use Rattle.ctrl_model.specs.ValidState.{ValidState}
 use Rattle.ctrl_model.specs.Walks.{is_among}
 use Rattle.ctrl_model.proofs.NumberedLaws.{at-without-other}
+use Rattle.model_laws.specs.Plans.{CanLeadBy, led_by}
 use Rattle.model_laws.proofs.AbsentRecords.{at-without-none}
 use Rattle.record_tables.specs.AfterChange.{changed_by, without_numbers}
 use Rattle.record_tables.proofs.GoneLaws.{filter_all, gone_none}
@@ -41,11 +42,12 @@ use Rattle.core_stores.specs.CarriedStates.{Carries}
 use Rattle.core_stores.specs.ChangeParts.{term_part, circuit_part}
 use Rattle.core_stores.specs.PolicyStates.{HoldsUses}
 use Rattle.core_stores.specs.SettledNumbers.{without_settled}
-use Rattle.core_stores.specs.OpenCircuits.{CountsOpen, ChangesLoads, CountsAnew, CountsMore, CountsLoads, HasRoomFor, loads_by, loads_after}
-use Rattle.core_stores.specs.StoredState.{state_of}
+use Rattle.core_stores.specs.OpenCircuits.{ChangesLoads, CountsBut, CountsOpen, EndThere, loads_by, loads_after}
+use Rattle.core_stores.specs.StoredState.{HoldsPolicies, state_of}
 use Rattle.ctrl_core.specs.ChangedStores.{CanSettle}
-use Rattle.ctrl_core.specs.Changes.{CanChange, after_change}
+use Rattle.ctrl_core.specs.Changes.{CanChange, NamesSettled, after_change}
 use Rattle.ctrl_core.specs.SettledRecords.{AreSettled}
+use Rattle.ctrl_core.proofs.NetworkPlans.{carries_then}
 use Rattle.ctrl_core.proofs.StateParts.{parts_after, terms_then, circuits_then}
 
 -- ---- what a valid state has
@@ -79,6 +81,9 @@ none_open s v n none = none_passes (λ row. row.1.terminator == n) s.circuits.ro
     by : (x : ℕ × Circuit) → Among x s.circuits.rows → (b : Bool) → (x.1.terminator == n) ≡ b → (x.1.terminator == n) ≡ false
     by x m true e = absurd (false≢true (sym none ∙ ap (is_present s.terminators.rows) (sym (eqb-true x.1.terminator n e)) ∙ ends_there s v x m))
     by x m false e = e
+
+pub end_there : (s : State) → ValidState s → EndThere s
+end_there s v = record { absent = none_open s v; few = (v.kinds kind.Circuit).numbers.few }
 
 -- ---- the loads after a change of terminators
 
@@ -115,15 +120,7 @@ term_loads (Some (term.Remove m)) e n = by (n == m.0) refl
         apart : (a b : ℕ) → (a == b) ≡ false → a ≢ b
         apart a b e s = absurd (false≢true (sym e ∙ eq-eqb a b s))
 
--- ---- each way in which loads are brought up to date
-
--- where all are counted anew
-counted_anew : (out new : Stores) → ValidState (state_of out) → CountsAnew out new → CountsOpen new
-counted_anew out new v anew n = anew.counted n ∙ by (is_present out.terminators.terminators.rows n) refl ∙ ap (λ s. open_circuits s n) (sym anew.changes.same)
-  where
-    by : (b : Bool) → is_present out.terminators.terminators.rows n ≡ b → cond (is_present out.terminators.terminators.rows n) (open_circuits (state_of out) n) 0 ≡ open_circuits (state_of out) n
-    by true is = ap (λ b. cond b (open_circuits (state_of out) n) 0) is
-    by false is = ap (λ b. cond b (open_circuits (state_of out) n) 0) is ∙ sym (none_open (state_of out) v n is)
+-- ---- each way in which loads change
 
 -- what settles nowhere: the terminators, their loads and the circuits are those after the change
 pub record IsUnsettled (c : Change) (st out : Stores) : Type 0 where
@@ -142,51 +139,20 @@ counted_still c st out counts v still none n =
     circuits_are = still.circuits ∙ ap (λ o. (changed_by after_circuit_change o st.circuits).circuits) none
 
 -- where one circuit comes
-counted_more : (k : Circuit) (st out new : Stores) → CountsOpen st → ValidState (state_of out) → IsUnsettled (change.Circuit (circuit.Add k)) st out → CountsMore k.terminator out new → CountsOpen new
-counted_more k st out new counts v still more n = by (n == k.terminator) refl ∙ ap (λ s. open_circuits s n) (sym more.changes.same)
+lacks_one : (k : Circuit) (st out : Stores) → CountsOpen st → IsUnsettled (change.Circuit (circuit.Add k)) st out → CountsBut (loads.More (record { 0 = k.terminator })) out
+lacks_one k st out counts still m =
+    let one = sum_by-cons (λ row. cond (ends row) 1 0) (st.circuits.circuits.next, k) [] in
+    let all = sum_by-append (λ row. cond (ends row) 1 0) st.circuits.circuits.rows ((st.circuits.circuits.next, k) ∷ []) in
+    let was = ap (λ (ls : List (ℕ × ℕ)). unwrap_or (at ls m) 0) still.loads ∙ counts m in
+    let now = ap (λ (t : Table Circuit). count_by ends t.rows) still.circuits in
+    omega (arith, one, all, was, now)
   where
-    ends : ℕ → ℕ × Circuit → Bool
-    ends m row = row.1.terminator == m
-
-    -- the circuits that are open at a number then
-    then_open : (m : ℕ) → open_circuits (state_of out) m ≡ open_circuits (state_of st) m + cond (k.terminator == m) 1 0
-    then_open m =
-        let one = sum_by-cons (λ row. cond (ends m row) 1 0) (st.circuits.circuits.next, k) [] in
-        let all = sum_by-append (λ row. cond (ends m row) 1 0) st.circuits.circuits.rows ((st.circuits.circuits.next, k) ∷ []) in
-        ap (λ (t : Table Circuit). count_by (ends m) t.rows) still.circuits ∙ omega (arith, one, all)
-
-    was_open : (m : ℕ) → open_at out.terminators m ≡ open_circuits (state_of st) m
-    was_open m = ap (λ (ls : List (ℕ × ℕ)). unwrap_or (at ls m) 0) still.loads ∙ counts m
-
-    -- its terminator is there
-    there : is_present out.terminators.terminators.rows k.terminator ≡ true
-    there = ends_there (state_of out) v (st.circuits.circuits.next, k) (subst (λ (t : Table Circuit). Among (st.circuits.circuits.next, k) t.rows) (sym still.circuits) (among_last st.circuits.circuits.rows))
-      where
-        among_last : (xs : List (ℕ × Circuit)) → Among (st.circuits.circuits.next, k) (with_last xs st.circuits.circuits.next k)
-        among_last [] = inl refl
-        among_last (x ∷ xs) = inr (among_last xs)
-
-    own : open_at new.terminators k.terminator ≡ open_circuits (state_of out) k.terminator
-    own =
-        let raised = more.more there in
-        let was = was_open k.terminator in
-        let now = then_open k.terminator in
-        let itself : ◌≡◌ {A = ℕ} (cond (k.terminator == k.terminator) 1 0) 1 = ap (λ b. cond b 1 0) (eq-eqb k.terminator k.terminator refl) in
-        omega (arith, raised, was, now, itself)
-
-    by : (b : Bool) → (n == k.terminator) ≡ b → open_at new.terminators n ≡ open_circuits (state_of out) n
-    by true is = subst (λ m. open_at new.terminators m ≡ open_circuits (state_of out) m) (sym (eqb-true n k.terminator is)) own
-    by false is =
-        let apart : n ≢ k.terminator = λ e. absurd (false≢true (sym is ∙ eq-eqb n k.terminator e)) in
-        let kept = more.others n apart in
-        let was = was_open n in
-        let now = then_open n in
-        let other : ◌≡◌ {A = ℕ} (cond (k.terminator == n) 1 0) 0 = ap (λ b. cond b 1 0) (ne_eqb k.terminator n (λ e. apart (sym e))) in
-        omega (arith, kept, was, now, other)
+    ends : ℕ × Circuit → Bool
+    ends row = row.1.terminator == m
 
 -- where only loads change
-through : (st out new : Stores) (t : State) → Carries st out t → ChangesLoads out new → Carries st new t
-through st out new t carries changes = record {
+pub loads_carry : (st out new : Stores) (t : State) → Carries st out t → ChangesLoads out new → Carries st new t
+loads_carry st out new t carries changes = record {
   next = changes.same ∙ carries.next;
   held = subst (λ e. HoldsUses e new.policies) (sym changes.entities) (subst (λ p. HoldsUses out.entities p) (sym changes.policies) carries.held);
   counts = changes.counts ∙ carries.counts;
@@ -194,52 +160,22 @@ through st out new t carries changes = record {
 
 -- ---- any change
 
-still_by : (c : Change) (st out new : Stores) → CountsOpen st → ValidState (state_of out) → IsUnsettled c st out → CountsLoads (loads_by c) out new → CountsOpen new
-still_by (change.Entity e) st out new counts v still is = subst CountsOpen (sym is) (counted_still (change.Entity e) st out counts v still refl)
-still_by (change.Policy p) st out new counts v still is = subst CountsOpen (sym is) (counted_still (change.Policy p) st out counts v still refl)
-still_by (change.Link l) st out new counts v still is = subst CountsOpen (sym is) (counted_still (change.Link l) st out counts v still refl)
-still_by (change.Terminator e) st out new counts v still is = subst CountsOpen (sym is) (counted_still (change.Terminator e) st out counts v still refl)
-still_by (change.Circuit (circuit.Add k)) st out new counts v still is = counted_more k st out new counts v still is
-still_by (change.Circuit (circuit.Remove n)) st out new counts v still is = counted_anew out new v is
+lacks_by : (c : Change) (st out : Stores) → CountsOpen st → ValidState (state_of out) → IsUnsettled c st out → CountsBut (loads_by c) out
+lacks_by (change.Entity e) st out counts v still = counted_still (change.Entity e) st out counts v still refl
+lacks_by (change.Policy p) st out counts v still = counted_still (change.Policy p) st out counts v still refl
+lacks_by (change.Link l) st out counts v still = counted_still (change.Link l) st out counts v still refl
+lacks_by (change.Terminator e) st out counts v still = counted_still (change.Terminator e) st out counts v still refl
+lacks_by (change.Circuit (circuit.Add k)) st out counts v still = lacks_one k st out counts still
+lacks_by (change.Circuit (circuit.Remove n)) st out counts v still = tt
 
-abbrev nothing_goes : Settled → Bool
-nothing_goes g = is_nothing g.terminators && is_nothing g.lost
-
--- the loads are kept
-pub loads_kept : (c : Change) (st out new : Stores) (g : Settled) → CountsOpen st → ValidState (state_of out) → ((is_nothing g.terminators && is_nothing g.lost) ≡ true → IsUnsettled c st out)
-    → CountsLoads (loads_after c g) out new → CountsOpen new
-loads_kept c st out new g counts v still = by (nothing_goes g) refl
+-- the loads that are kept lack what is told
+pub loads_lack : (c : Change) (st out : Stores) (g : Settled) → CountsOpen st → ValidState (state_of out) → ((is_nothing g.terminators && is_nothing g.lost) ≡ true → IsUnsettled c st out)
+    → CountsBut (loads_after c g) out
+loads_lack c st out g counts v still = by (is_nothing g.terminators && is_nothing g.lost) refl
   where
-    by : (b : Bool) → nothing_goes g ≡ b → CountsLoads (cond b (loads_by c) loads.Any) out new → CountsOpen new
-    by true e is = still_by c st out new counts v (still e) is
-    by false e is = counted_anew out new v is
-
--- and one more has room
-pub loads_fit : (c : Change) (st out : Stores) (g : Settled) → CountsOpen st → CanChange c (state_of st) → ((is_nothing g.terminators && is_nothing g.lost) ≡ true → out.terminators.loads ≡ (terms_then c st).loads)
-    → HasRoomFor (loads_after c g) out
-loads_fit c st out g counts can same = by (nothing_goes g) refl
-  where
-    room : (c : Change) → CanChange c (state_of st) → out.terminators.loads ≡ (terms_then c st).loads → HasRoomFor (loads_by c) out
-    room (change.Entity e) can is = tt
-    room (change.Policy p) can is = tt
-    room (change.Link l) can is = tt
-    room (change.Terminator e) can is = tt
-    room (change.Circuit (circuit.Add k)) can is =
-        let load = ap (λ (ls : List (ℕ × ℕ)). unwrap_or (at ls k.terminator) 0) is ∙ counts k.terminator in
-        let all = count_by-le-length (λ (row : ℕ × Circuit). row.1.terminator == k.terminator) st.circuits.circuits.rows in
-        let few = ltb-true (length st.circuits.circuits.rows) (limit kind.Circuit) (and_parts _ _ (sym (not-not _) ∙ ap not can)).0 in
-        omega (arith, load, all, few)
-    room (change.Circuit (circuit.Remove n)) can is = tt
-
-    by : (b : Bool) → nothing_goes g ≡ b → HasRoomFor (cond b (loads_by c) loads.Any) out
-    by true e = room c can (same e)
+    by : (b : Bool) → (is_nothing g.terminators && is_nothing g.lost) ≡ b → CountsBut (cond b (loads_by c) loads.Any) out
+    by true e = lacks_by c st out counts v (still e)
     by false e = tt
-
--- what is carried out stays so
-pub counted_carries : (l : Loads) (st out new : Stores) (t : State) → Carries st out t → CountsLoads l out new → Carries st new t
-counted_carries loads.Same st out new t carries is = subst (λ (x : Stores). Carries st x t) (sym is) carries
-counted_carries (loads.More n) st out new t carries is = through st out new t carries is.changes
-counted_carries loads.Any st out new t carries is = through st out new t carries is.changes
 
 -- ---- where nothing settles
 
@@ -280,3 +216,35 @@ unsettled_taken c st mid out g can settled made made_terms taken taken_terms non
 
     moves : g.moves ≡ []
     moves = settled.judged.moves_are ∙ ap (moves_by (way_in (after_change c (state_of st)))) (none_there g.lost both.1)
+
+-- ---- a change that is carried out
+
+-- what it leaves, once what settles is taken out: all but the loads is as it shall be
+pub record LeavesLoads (o : Option Change) (c : Change) (st out : Stores) (g : Settled) : Type 0 where
+  pub carried : Carries st out (led_by after_change o (state_of st))
+  pub ends : EndThere (state_of out)
+  pub lack : CountsBut (loads_after c g) out
+
+pub leaves_loads : (o : Option Change) (c : Change) (st mid out : Stores) (g : Settled) → o ≡ Some c → CanLeadBy CanChange o (state_of st) → ValidState (state_of st)
+    → ValidState (led_by after_change o (state_of st)) → NamesSettled o (state_of st) g → HoldsPolicies st → CountsOpen st → Carries st mid (after_change c (state_of st))
+    → mid.terminators ≡ terms_then c st → Carries mid out (without_settled g (state_of mid)) → out.terminators ≡ without_terms g.terminators mid.terminators → LeavesLoads o c st out g
+leaves_loads o c st mid out g is can before valid settled held counts made made_terms taken taken_terms = record {
+  carried = subst (λ (o : Option Change). Carries st out (led_by after_change o s)) (sym is) carries;
+  ends = end_there (state_of out) then_valid;
+  lack = loads_lack c st out g counts then_valid (unsettled_taken c st mid out g settles named made made_terms taken taken_terms);
+}
+  where
+    s : State
+    s = state_of st
+
+    settles : CanSettle st c
+    settles = record { before = before; held = held; can = subst (λ (o : Option Change). CanLeadBy CanChange o s) is can; valid = subst (λ (o : Option Change). ValidState (led_by after_change o s)) is valid }
+
+    named : AreSettled (after_change c s) g
+    named = subst (λ (o : Option Change). NamesSettled o s g) is settled
+
+    carries : Carries st out (settle (after_change c s))
+    carries = carries_then c st mid out g settles named made taken
+
+    then_valid : ValidState (state_of out)
+    then_valid = subst ValidState (sym carries.next) settles.valid

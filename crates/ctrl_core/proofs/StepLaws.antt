@@ -8,6 +8,7 @@ use Rattle.ctrl_model.specs.declared.kinds.Kind.TheVariants as kind
 use Rattle.ctrl_model.specs.declared.kinds.Relation.{Relation}
 use Rattle.ctrl_model.specs.declared.kinds.Relation.TheVariants.{Dial, Bind, IdentityRouter, ServiceRouter}
 use Rattle.ctrl_model.specs.Grants.{count, policies_for}
+use Rattle.ctrl_model.specs.Limits.{limit}
 use Rattle.ctrl_model.specs.Settling.{settle}
 use Rattle.ctrl_model.specs.State.{State}
 use Rattle.ctrl_model.specs.ValidState.{ValidState}
@@ -18,7 +19,7 @@ use Rattle.ctrl_core.specs.declared.plans.Planned.{Planned}
 use Rattle.core_stores.specs.declared.stores.Grants.{Grants}
 use Rattle.core_stores.specs.declared.stores.Stores.{Stores}
 use Rattle.core_stores.specs.CarriedStates.{Carries}
-use Rattle.core_stores.specs.TakenSteps.{HaveRoom, Taken}
+use Rattle.grant_denorm.specs.TakenSteps.{HaveRoom, Taken}
 use Rattle.circuit_settling.specs.declared.granting.GrantsAfter.{GrantsAfter}
 use Rattle.grant_denorm.specs.CountsAfter.{count_after}
 use Rattle.core_stores.specs.declared.changes.Change.{Change}
@@ -28,15 +29,15 @@ use Rattle.model_laws.proofs.RevokedLaws.{AreGranted-from, revoke-settle}
 use Rattle.ctrl_core.specs.ChangedStores.{CanSettle}
 use Rattle.ctrl_core.specs.Changes.{CanChange, CanLead, after_change, led}
 use Rattle.ctrl_core.proofs.StateParts.{parts_after, terms_ascend}
-use Rattle.ctrl_core.specs.SettledParts.{AreGrantsAfter, StayGranted, StepTo, counts_after}
+use Rattle.ctrl_core.specs.SettledParts.{AreGrantsAfter, StayGranted, counts_after}
 use Rattle.core_stores.specs.LeadingSteps.{LeadAllCounts}
 use Rattle.core_stores.specs.OpenCircuits.{CountsOpen}
 use Rattle.policy_store.specs.StepsOfRelations.{only_rise, steps_of, takes_nothing}
 use Rattle.ctrl_core.specs.KeptState.{Keeps, IsGranted}
 use Rattle.core_stores.specs.StoredState.{counts_of, state_of}
 
--- a valid state has at most 512 policies of a kind
-policies_few : (r : Relation) (s : State) → ValidState s → length (policies_for r s) ≤ 512
+-- a valid state has at most as many policies of a kind as there may be service policies
+policies_few : (r : Relation) (s : State) → ValidState s → length (policies_for r s) ≤ limit kind.ServicePolicy
 policies_few Dial s valid = (valid.kinds kind.ServicePolicy).numbers.few
 policies_few Bind s valid = (valid.kinds kind.ServicePolicy).numbers.few
 policies_few IdentityRouter s valid = let few = (valid.kinds kind.EdgeRouterPolicy).numbers.few in omega (arith, few)
@@ -59,7 +60,7 @@ room_for_steps st mid t steps keeps valid leads same r =
 
 -- a state and the counts after the steps to it belong together
 pub keeps_with_steps : (st mid : Stores) (g : Grants) (t : State) (steps : GrantSteps) → Keeps st → ValidState t → LeadAllCounts (state_of st) t steps → Carries st mid t → CountsOpen mid
-    → ((r : Relation) → Taken (counts_of r mid.grants) (counts_of r g) (steps_of r steps)) → Keeps (record mid { grants = g })
+    → ((r : Relation) → Taken (counts_of r mid.grants) (count_of (counts_of r g)) (steps_of r steps)) → Keeps (record mid { grants = g })
 keeps_with_steps st mid g t steps keeps valid leads carries loads taken = record {
   valid = subst ValidState (sym carries.next) valid;
   held = carries.held;
@@ -78,13 +79,13 @@ pub steps_have_room : (st mid : Stores) (p : Planned) → Keeps st → CanLead p
 steps_have_room st mid p keeps can = room_for_steps st mid (led p (state_of st)) p.steps keeps can.valid can.counts
 
 pub keeps_after : (st mid : Stores) (g : Grants) (p : Planned) → Keeps st → CanLead p (state_of st) → Carries st mid (led p (state_of st)) → CountsOpen mid
-    → ((r : Relation) → Taken (counts_of r mid.grants) (counts_of r g) (steps_of r p.steps)) → Keeps (record mid { grants = g })
+    → ((r : Relation) → Taken (counts_of r mid.grants) (count_of (counts_of r g)) (steps_of r p.steps)) → Keeps (record mid { grants = g })
 keeps_after st mid g p keeps can = keeps_with_steps st mid g (led p (state_of st)) p.steps keeps can.valid can.counts
 
 -- counts that are told by the steps, one relation after another
-pub stepped_by_relation : (g : Grants) (after : GrantsAfter) (steps : GrantSteps) → StepTo g.dial (count_after after.dial) steps.dial.items → StepTo g.bind (count_after after.bind) steps.bind.items
-    → StepTo g.identity_router (count_after after.identity_router) steps.identity_router.items → StepTo g.service_router (count_after after.service_router) steps.service_router.items
-    → (r : Relation) → StepTo (counts_of r g) (counts_after r after) (steps_of r steps)
+pub stepped_by_relation : (g : Grants) (after : GrantsAfter) (steps : GrantSteps) → Taken g.dial (count_after after.dial) steps.dial.items → Taken g.bind (count_after after.bind) steps.bind.items
+    → Taken g.identity_router (count_after after.identity_router) steps.identity_router.items → Taken g.service_router (count_after after.service_router) steps.service_router.items
+    → (r : Relation) → Taken (counts_of r g) (counts_after r after) (steps_of r steps)
 stepped_by_relation g after steps dial bind identity_router service_router Dial = dial
 stepped_by_relation g after steps dial bind identity_router service_router Bind = bind
 stepped_by_relation g after steps dial bind identity_router service_router IdentityRouter = identity_router
@@ -99,7 +100,7 @@ settled_count ServiceRouter t a b = refl
 
 -- they are the grant counts of the state to which the steps lead
 pub grants_after_are : (st : Stores) (t : State) (steps : GrantSteps) (after : GrantsAfter) → Keeps st → LeadAllCounts (state_of st) (settle t) steps
-    → ((r : Relation) → StepTo (counts_of r st.grants) (counts_after r after) (steps_of r steps)) → AreGrantsAfter t after
+    → ((r : Relation) → Taken (counts_of r st.grants) (counts_after r after) (steps_of r steps)) → AreGrantsAfter t after
 grants_after_are st t steps after keeps leads stepped r a b =
     let moved = (leads r).moves a b in
     let before = keeps.counts r a b in

@@ -3,7 +3,6 @@ pub mod Changes
 pub mod PlannedCommands
 pub mod ChangedStores
 pub mod CompletedPlans
-pub mod WorkedChanges
 pub mod JoinedRows
 pub mod LoadedRows
 pub mod OtherCommands

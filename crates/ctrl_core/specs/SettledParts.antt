@@ -55,10 +55,6 @@ counts_after Bind g = count_after g.bind
 counts_after IdentityRouter g = count_after g.identity_router
 counts_after ServiceRouter g = count_after g.service_router
 
--- Counts will be those before with some steps taken.
-abbrev pub StepTo : List ((ℕ × ℕ) × ℕ) → (ℕ → ℕ → ℕ) → List Delta → Type 0
-StepTo before after ds = (a b : ℕ) → after a b + downs ds a b ≡ count_of before a b + ups ds a b
-
 -- These are the grant counts of a state.
 abbrev pub AreGrantsAfter : State → GrantsAfter → Type 0
 AreGrantsAfter s g = (r : Relation) (a b : ℕ) → counts_after r g a b ≡ count r s a b

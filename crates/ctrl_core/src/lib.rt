@@ -15,9 +15,7 @@ mod row_joining;
 mod settling;
 mod showing;
 mod taking;
-mod worked;
 
 pub use core_state::Core;
 pub use plans::Planned;
 pub use row_loading::CoreFault;
-pub use worked::{worked_changes, worked_starts};

@@ -10,11 +10,11 @@ ghost use Rattle.policy_store.specs.StepsOfRelations.{steps_of, takes_nothing};
 ghost use Rattle.circuit_settling.specs.OtherLinks.{way_at};
 ghost use Rattle.core_stores.specs.LeadingSteps.{LeadAllCounts};
 ghost use Rattle.core_stores.specs.StoredState.{counts_of, state_of};
-ghost use Rattle.core_stores.specs.TakenSteps.{HaveRoom};
+ghost use Rattle.grant_denorm.specs.TakenSteps.{HaveRoom, Taken};
 ghost use Rattle.ctrl_core.specs.ChangedStores.{CanSettle, next_state};
 ghost use Rattle.ctrl_core.specs.KeptState.{Keeps, IsGranted};
 ghost use Rattle.ctrl_core.specs.Changes.{after_change};
-ghost use Rattle.ctrl_core.specs.SettledParts.{bare_state_of, NamesBy, Remains, AreGrantsAfter, StayGranted, StepTo, counts_after, looked_at};
+ghost use Rattle.ctrl_core.specs.SettledParts.{bare_state_of, NamesBy, Remains, AreGrantsAfter, StayGranted, counts_after, looked_at};
 ghost use Rattle.ctrl_core.specs.SettledRecords.{AreJudged, AreSettled};
 
 use circuit_settling::{
@@ -77,7 +77,7 @@ fn grants_after<'a>(
     steps: &GrantSteps,
 ) -> Result<GrantsAfter<'a>, AllocError>
     requires { (r : Relation) → HaveRoom (counts_of r grants.now) (steps_of r steps.now) }
-    ensures { IfOk result (λ after. (r : Relation) → StepTo (counts_of r grants.now) (counts_after r after) (steps_of r steps.now)) }
+    ensures { IfOk result (λ after. (r : Relation) → Taken (counts_of r grants.now) (counts_after r after) (steps_of r steps.now)) }
 {
     Ok(GrantsAfter {
         dial: CountedAfter::new(alloc, &grants.dial, steps.dial.as_slice())?,

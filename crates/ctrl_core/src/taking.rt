@@ -16,7 +16,7 @@ ghost use Rattle.ctrl_core.specs.TakenRows.{Takes, count_flaw_of};
 use crate::new_records::{new_flaw, new_in};
 use crate::row_joining::{join_router, make_at};
 use core_stores::{Change, Stores};
-use ctrl_model::{Copies, Kind, Name, Names, Relation};
+use ctrl_model::{Copies, Kind, MOST_COST, Name, Names, Relation};
 use record_flaws::{Coming, is_sound_row, router_flaw};
 use row_codec::Row;
 use row_loading::next_in;
@@ -117,7 +117,7 @@ fn take_setting(stores: &mut Stores, cost: u32) -> Option<Flaw>
     requires kept { Keeps stores.old }
     ensures { Takes result (flaw_if (not (is_link_cost cost)) NoRecord None) stores.new (record (state_of stores.old) { least_router_cost = cost }) }
 {
-    if cost < 1 || cost > 65535 {
+    if cost < 1 || cost > MOST_COST {
         return Some(Flaw::NoRecord);
     }
     stores.fabric.set_least(cost);

@@ -2,5 +2,6 @@ pub mod PairCounts
 pub mod Deltas
 pub mod Steps
 pub mod CountsAfter
+pub mod TakenSteps
 pub mod MovedCounts
 pub mod WorkedChanges

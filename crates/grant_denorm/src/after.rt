@@ -1,7 +1,8 @@
-ghost use Rattle.std.specs.Prelude.{◌≡◌, ℕ, ◌+◌, ◌<◌, ◌≤◌, [], IfOk};
+ghost use Rattle.std.specs.Prelude.{◌≡◌, ℕ, ◌≤◌, [], IfOk};
+ghost use Rattle.ctrl_model.specs.Limits.{most_number};
 ghost use Rattle.grant_denorm.specs.CountsAfter.{count_after, goes, steps_at};
-ghost use Rattle.grant_denorm.specs.Deltas.{ups, downs};
 ghost use Rattle.grant_denorm.specs.PairCounts.{count_of};
+ghost use Rattle.grant_denorm.specs.TakenSteps.{HaveRoom, Taken};
 
 use crate::counts::Counted;
 use crate::deltas::Delta;
@@ -36,7 +37,7 @@ fn goes(up: bool, step: &Delta) -> bool
 
 // How many steps one way each pair has.
 fn tally(alloc: Global, steps: &[Delta], up: bool) -> Result<Counted, AllocError>
-    requires { (p q : ℕ) → steps_at up steps.now p q < 4294967296 }
+    requires { (p q : ℕ) → steps_at up steps.now p q ≤ most_number }
     ensures { IfOk result (λ c. (p q : ℕ) → count_of c p q ≡ steps_at up steps.now p q) }
 {
     let mut tally = Counted::new(alloc)?;
@@ -67,9 +68,8 @@ impl<'a> CountedAfter<'a> {
         counted: &'a Counted,
         steps: &[Delta],
     ) -> Result<CountedAfter<'a>, AllocError>
-        requires least { (p q : ℕ) → downs steps.now p q ≤ count_of counted.now p q }
-        requires most { (p q : ℕ) → count_of counted.now p q + ups steps.now p q < 4294967296 }
-        ensures { IfOk result (λ c. (p q : ℕ) → count_after c p q + downs steps.now p q ≡ count_of counted.now p q + ups steps.now p q) }
+        requires { HaveRoom counted.now steps.now }
+        ensures { IfOk result (λ c. Taken counted.now (count_after c) steps.now) }
     {
         let ups = tally(alloc, steps, true)?;
         let downs = tally(alloc, steps, false)?;

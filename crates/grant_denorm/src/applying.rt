@@ -1,6 +1,8 @@
-ghost use Rattle.std.specs.Prelude.{◌≡◌, ℕ, ◌+◌, ◌<◌, ◌≤◌, ◌&&◌, cond, not, true, false, OnOk};
+ghost use Rattle.std.specs.Prelude.{◌≡◌, ℕ, ◌+◌, ◌<◌, ◌&&◌, cond, not, true, false, OnOk};
+ghost use Rattle.ctrl_model.specs.Limits.{most_number};
 ghost use Rattle.grant_denorm.specs.PairCounts.{count_of};
-ghost use Rattle.grant_denorm.specs.Deltas.{is_at, ups, downs};
+ghost use Rattle.grant_denorm.specs.Deltas.{is_at};
+ghost use Rattle.grant_denorm.specs.TakenSteps.{HaveRoom, Taken};
 
 use crate::counts::Counted;
 use crate::deltas::Delta;
@@ -8,7 +10,7 @@ use std::alloc::AllocError;
 
 fn apply_change(counted: &mut Counted, change: &Delta) -> Result<(), AllocError>
     requires least { change.now.up ≡ false → 0 < count_of counted.old change.now.a change.now.b }
-    requires most { change.now.up ≡ true → count_of counted.old change.now.a change.now.b < 4294967295 }
+    requires most { change.now.up ≡ true → count_of counted.old change.now.a change.now.b < most_number }
     ensures { OnOk result ((p q : ℕ) → count_of counted.new p q + cond (not change.now.up && is_at p q change.now) 1 0
         ≡ count_of counted.old p q + cond (change.now.up && is_at p q change.now) 1 0) }
 {
@@ -24,10 +26,8 @@ fn apply_change(counted: &mut Counted, change: &Delta) -> Result<(), AllocError>
 /// 4,294,967,295; then the order does not matter. On an Err some of the steps are taken and the others are not, so the counts
 /// are of no further use.
 pub fn apply_changes(counted: &mut Counted, changes: &[Delta]) -> Result<(), AllocError>
-    requires least { (p q : ℕ) → downs changes.now p q ≤ count_of counted.old p q }
-    requires most { (p q : ℕ) → count_of counted.old p q + ups changes.now p q < 4294967296 }
-    ensures { OnOk result ((p q : ℕ) → count_of counted.new p q + downs changes.now p q
-        ≡ count_of counted.old p q + ups changes.now p q) }
+    requires { HaveRoom counted.old changes.now }
+    ensures { OnOk result (Taken counted.old (count_of counted.new) changes.now) }
 {
     'changes: for change in changes {
         apply_change(counted, change)?;

@@ -1,4 +1,5 @@
 ghost use Rattle.std.specs.Prelude.{◌≡◌, ◌<◌, ◌==◌, [], length, nat_lt, map, filter, IfOk, OnOk, OnErr, IsOk};
+ghost use Rattle.ctrl_model.specs.Limits.{most_number};
 ghost use Rattle.grant_denorm.specs.PairCounts.{count_of, AreCounts, AreThose, Raises, Lowers};
 
 use ctrl_model::Numbers;
@@ -30,7 +31,7 @@ fn count_in(counts: &BTreeMap<(u32, u32), u32>, a: u32, b: u32) -> u32
 }
 
 fn raise_in(counts: &mut BTreeMap<(u32, u32), u32>, a: u32, b: u32) -> Result<(), AllocError>
-    requires room { count_of counts.old.entries a b < 4294967295 }
+    requires room { count_of counts.old.entries a b < most_number }
     requires counts { AreCounts counts.old.entries }
     ensures ok { OnOk result (Raises counts.old.entries counts.new.entries a b) }
     ensures counts { AreCounts counts.new.entries }
@@ -106,7 +107,7 @@ impl Counted {
 
     /// Raises the count of a pair by one. Where the pair is there it takes no memory and answers Ok.
     pub fn raise(&mut self, a: u32, b: u32) -> Result<(), AllocError>
-        requires { count_of self.old a b < 4294967295 }
+        requires { count_of self.old a b < most_number }
         ensures ok { OnOk result (Raises self.old self.new a b) }
         ensures err { OnErr result (self.new ≡ self.old) }
         ensures there { 0 < count_of self.old a b → IsOk result }

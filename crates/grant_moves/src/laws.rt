@@ -1,7 +1,9 @@
-ghost use Rattle.std.specs.Prelude.{◌≡◌, ℕ, ◌+◌, ◌*◌, ◌≤◌, ◌<◌, Bool, false, List, [], Some, length};
+ghost use Rattle.std.specs.Prelude.{◌≡◌, ℕ, ◌+◌, ◌*◌, ◌≤◌, Bool, false, List, [], Some, length};
 ghost use Rattle.std.specs.declared.option.Option.{Option};
 ghost use Rattle.std.specs.Str.{bytes_eq};
 ghost use Rattle.ctrl_model.specs.declared.kinds.Relation.{Relation};
+ghost use Rattle.ctrl_model.specs.declared.kinds.Kind.TheVariants as kind;
+ghost use Rattle.ctrl_model.specs.Limits.{limit, most_number};
 ghost use Rattle.ctrl_model.specs.Numbered.{at, map_each, Between};
 ghost use Rattle.ctrl_model.specs.State.{State, Entity, Policy};
 ghost use Rattle.ctrl_model.specs.Rules.{forget_left, forget_right};
@@ -68,10 +70,11 @@ pub fn granted_pairs_are_counts()
     ensures most { (r : Relation) (s : State) → granted_pairs r s ≤ length (left_rows r s) * length (right_rows r s) }
 {}
 
-/// With at most 512 policies before and after, a count has room for all its steps up before any step down: 32 bits hold it.
+/// With no more policies before and after than there may be service policies, a count has room for all its steps up before any step down:
+/// 32 bits hold it.
 pub fn counts_have_room()
     ensures { (r : Relation) (s t : State) (ds : List Delta) → LeadCounts (count r s) (count r t) ds
-        → length (policies_for r s) ≤ 512 → length (policies_for r t) ≤ 512 → (a b : ℕ) → count r s a b + ups ds a b < 4294967296 }
+        → length (policies_for r s) ≤ limit kind.ServicePolicy → length (policies_for r t) ≤ limit kind.ServicePolicy → (a b : ℕ) → count r s a b + ups ds a b ≤ most_number }
 {}
 
 /// The entity on a side of a relation is the one that stands in the side's rows.

@@ -6,7 +6,7 @@ ghost use Rattle.ctrl_model.specs.declared.kinds.Relation.{Relation};
 ghost use Rattle.ctrl_model.specs.State.{State};
 ghost use Rattle.ctrl_model.specs.Grants.{count};
 ghost use Rattle.grant_denorm.specs.PairCounts.{count_of};
-ghost use Rattle.grant_denorm.specs.Deltas.{ups, downs};
+ghost use Rattle.grant_denorm.specs.TakenSteps.{HaveRoom};
 ghost use Rattle.grant_denorm.specs.MovedCounts.{AreCountsOf, Moves};
 ghost use Rattle.row_codec.specs.RowKeys.{key_bytes, key_in, table_number, is_long};
 ghost use Rattle.row_codec.specs.RowKeys.RowTable.{Counts};
@@ -112,8 +112,7 @@ fn push_count_changes(
     counted: &Counted,
     steps: &[Delta],
 ) -> Result<(), AllocError>
-    requires least { (p q : ℕ) → downs steps.now p q ≤ count_of counted.now p q }
-    requires most { (p q : ℕ) → count_of counted.now p q + ups steps.now p q < 4294967296 }
+    requires { HaveRoom counted.now steps.now }
     ensures { OnOk result (AddsCountChanges relation counted.now steps.now changes.old.items changes.new.items) }
 {
     let moved = take_steps(*changes.allocator(), counted, steps)?;
@@ -130,8 +129,7 @@ pub fn count_changes(
     counted: &Counted,
     steps: &[Delta],
 ) -> Result<Changes, AllocError>
-    requires least { (p q : ℕ) → downs steps.now p q ≤ count_of counted.now p q }
-    requires most { (p q : ℕ) → count_of counted.now p q + ups steps.now p q < 4294967296 }
+    requires { HaveRoom counted.now steps.now }
     ensures exact { IfOk result (AreCountChanges relation counted.now steps.now) }
     ensures covers { IfOk result (λ changes. (s t : State) → AreCountsOf (count relation s) counted.now → Moves (count relation s) (count relation t) steps.now
         → Covers (table_number (Counts relation)) (table_number (Counts relation) + 1) s t changes) }
@@ -144,8 +142,7 @@ pub fn count_changes(
 /// The changes of the rows of all grant counts: those of Dial, then of Bind, of identities and routers, and of services and
 /// routers. What holds of the counts and steps of one relation must hold of each. An Err is want of memory.
 pub fn all_count_changes(alloc: Global, moves: &GrantMoves) -> Result<Changes, AllocError>
-    requires least { (r : Relation) (p q : ℕ) → downs (steps_of r moves.now) p q ≤ count_of (counts_of r moves.now) p q }
-    requires most { (r : Relation) (p q : ℕ) → count_of (counts_of r moves.now) p q + ups (steps_of r moves.now) p q < 4294967296 }
+    requires { (r : Relation) → HaveRoom (counts_of r moves.now) (steps_of r moves.now) }
     ensures exact { IfOk result (AreGrantChanges moves.now) }
     ensures covers { IfOk result (λ changes. (s t : State) → ((r : Relation) → AreCountsOf (count r s) (counts_of r moves.now))
         → ((r : Relation) → Moves (count r s) (count r t) (steps_of r moves.now)) → Covers 12 16 s t changes) }

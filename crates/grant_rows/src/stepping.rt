@@ -1,6 +1,7 @@
-ghost use Rattle.std.specs.Prelude.{◌≡◌, ℕ, ◌+◌, ◌<◌, ◌≤◌, ◌&&◌, cond, not, true, false, IfOk, OnOk};
-ghost use Rattle.grant_denorm.specs.PairCounts.{count_of};
-ghost use Rattle.grant_denorm.specs.Deltas.{is_at, ups, downs};
+ghost use Rattle.std.specs.Prelude.{◌≡◌, ℕ, ◌+◌, ◌<◌, ◌&&◌, cond, not, true, false, IfOk, OnOk};
+ghost use Rattle.ctrl_model.specs.Limits.{most_number};
+ghost use Rattle.grant_denorm.specs.Deltas.{is_at};
+ghost use Rattle.grant_denorm.specs.TakenSteps.{HaveRoom, Taken};
 ghost use Rattle.grant_rows.specs.MovedCounts.{count_so_far};
 
 use grant_denorm::{Counted, Delta};
@@ -9,7 +10,7 @@ use std::collections::BTreeMap;
 
 fn step_count(count: u32, up: bool) -> u32
     requires least { up ≡ false → 0 < count }
-    requires most { up ≡ true → count < 4294967295 }
+    requires most { up ≡ true → count < most_number }
     ensures { result + cond (not up) 1 0 ≡ count + cond up 1 0 }
 {
     if up { count + 1 } else { count - 1 }
@@ -31,7 +32,7 @@ fn take_step(
     step: &Delta,
 ) -> Result<(), AllocError>
     requires least { step.now.up ≡ false → 0 < count_so_far moved.old.entries counted.now step.now.a step.now.b }
-    requires most { step.now.up ≡ true → count_so_far moved.old.entries counted.now step.now.a step.now.b < 4294967295 }
+    requires most { step.now.up ≡ true → count_so_far moved.old.entries counted.now step.now.a step.now.b < most_number }
     ensures { OnOk result ((p q : ℕ) → count_so_far moved.new.entries counted.now p q + cond (not step.now.up && is_at p q step.now) 1 0
         ≡ count_so_far moved.old.entries counted.now p q + cond (step.now.up && is_at p q step.now) 1 0) }
 {
@@ -46,10 +47,8 @@ pub(crate) fn take_steps(
     counted: &Counted,
     steps: &[Delta],
 ) -> Result<BTreeMap<(u32, u32), u32>, AllocError>
-    requires least { (p q : ℕ) → downs steps.now p q ≤ count_of counted.now p q }
-    requires most { (p q : ℕ) → count_of counted.now p q + ups steps.now p q < 4294967296 }
-    ensures { IfOk result (λ moved. (p q : ℕ) → count_so_far moved.entries counted.now p q + downs steps.now p q
-        ≡ count_of counted.now p q + ups steps.now p q) }
+    requires { HaveRoom counted.now steps.now }
+    ensures { IfOk result (λ moved. Taken counted.now (count_so_far moved.entries counted.now) steps.now) }
 {
     let mut moved = BTreeMap::new(alloc);
     'steps: for step in steps {

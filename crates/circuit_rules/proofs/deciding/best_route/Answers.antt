@@ -1,3 +1,4 @@
+use Rattle.ctrl_model.specs.Limits.{most_terminator_cost}
 use Rattle.std.proofs.Common.{◌≤◌, sym, subst}
 use Rattle.std.specs.List.{All}
 use Rattle.std.specs.Option.{option_map}
@@ -19,7 +20,7 @@ found_between-requires c =
       ends = record {
         entries = ends_entered w ask c.args.identity.0 c.args.service.0 k c.in_ok-ends.ends c.in_ok-ends.ensures.ends.1;
         exits = ends_left w ask c.args.identity.0 c.args.service.0 k c.in_ok-ends.ends c.in_ok-ends.ensures.ends.1;
-        costs = subst (λ os. All (λ (o : Exit). o.cost ≤ 81919) os) (sym c.in_ok-ends.ensures.ends.1.1) (exits_cheap w ask c.args.service.0 c.next-next.ensures.keeps.costs c.next-next.ensures.keeps.loads);
+        costs = subst (λ os. All (λ (o : Exit). o.cost ≤ most_terminator_cost) os) (sym c.in_ok-ends.ensures.ends.1.1) (exits_cheap w ask c.args.service.0 c.next-next.ensures.keeps.costs c.next-next.ensures.keeps.loads);
       };
     }
 

@@ -1,3 +1,4 @@
+use Rattle.ctrl_model.specs.Limits.{most_terminator_cost}
 use Rattle.std.proofs.Common.{◌<◌, ◌≤◌, length, sym, ◌∙◌, ap, subst}
 use Rattle.std.specs.List.{All}
 use Rattle.circuit_rules.specs.declared.places.Entry.{Entry}
@@ -25,5 +26,5 @@ route_over-requires c =
       least = c.in_ok-visit_exits.ensures.costs;
       entries = subst (All (λ (x : Entry). x.place < places)) (sym c.as_slice-2.ensures.value) c.requires.ends.entries;
       exits = subst (All (λ (o : Exit). o.place < places)) (sym found) within.0;
-      costs = subst (All (λ (o : Exit). o.cost ≤ 81919)) (sym found) within.1;
+      costs = subst (All (λ (o : Exit). o.cost ≤ most_terminator_cost)) (sym found) within.1;
     }

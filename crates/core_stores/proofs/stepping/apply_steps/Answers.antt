@@ -2,29 +2,17 @@ use Rattle.ctrl_model.specs.declared.kinds.Relation.TheVariants.{Dial, Bind, Ide
 use Rattle.core_stores.proofs.TakenLaws.{taken_by_relation}
 use Rattle.core_stores.proofs.stepping.apply_steps.Goals as goal
 
-pub apply_changes-requires-clause-least : goal.apply_changes-requires-clause-least
-apply_changes-requires-clause-least c = rw (c.as_slice.ensures.value) (c.requires Dial).least
+pub apply_changes-requires : goal.apply_changes-requires
+apply_changes-requires c = rw (c.as_slice.ensures.value) (c.requires Dial)
 
-pub apply_changes-requires-clause-most : goal.apply_changes-requires-clause-most
-apply_changes-requires-clause-most c = rw (c.as_slice.ensures.value) (c.requires Dial).most
+pub apply_changes-requires-2 : goal.apply_changes-requires-2
+apply_changes-requires-2 c = rw (c.as_slice-2.ensures.value) (c.requires Bind)
 
-pub apply_changes-requires-2-clause-least : goal.apply_changes-requires-2-clause-least
-apply_changes-requires-2-clause-least c = rw (c.as_slice-2.ensures.value) (c.requires Bind).least
+pub apply_changes-requires-3 : goal.apply_changes-requires-3
+apply_changes-requires-3 c = rw (c.as_slice-3.ensures.value) (c.requires IdentityRouter)
 
-pub apply_changes-requires-2-clause-most : goal.apply_changes-requires-2-clause-most
-apply_changes-requires-2-clause-most c = rw (c.as_slice-2.ensures.value) (c.requires Bind).most
-
-pub apply_changes-requires-3-clause-least : goal.apply_changes-requires-3-clause-least
-apply_changes-requires-3-clause-least c = rw (c.as_slice-3.ensures.value) (c.requires IdentityRouter).least
-
-pub apply_changes-requires-3-clause-most : goal.apply_changes-requires-3-clause-most
-apply_changes-requires-3-clause-most c = rw (c.as_slice-3.ensures.value) (c.requires IdentityRouter).most
-
-pub apply_changes-requires-4-clause-least : goal.apply_changes-requires-4-clause-least
-apply_changes-requires-4-clause-least c = rw (c.as_slice-4.ensures.value) (c.requires ServiceRouter).least
-
-pub apply_changes-requires-4-clause-most : goal.apply_changes-requires-4-clause-most
-apply_changes-requires-4-clause-most c = rw (c.as_slice-4.ensures.value) (c.requires ServiceRouter).most
+pub apply_changes-requires-4 : goal.apply_changes-requires-4
+apply_changes-requires-4 c = rw (c.as_slice-4.ensures.value) (c.requires ServiceRouter)
 
 pub returns : goal.returns
 returns c =

@@ -2,22 +2,15 @@ use Rattle.std.proofs.Common.{refl}
 use Rattle.std.proofs.lemmas.Result.{IfOk-weaker}
 use Rattle.ctrl_core.specs.ChangedStores.{next_state}
 use Rattle.core_stores.specs.StoredState.{state_of}
-use Rattle.ctrl_core.proofs.CountRows.{least_each, most_each, moves_each, counts_each, same_steps, same_counts}
+use Rattle.ctrl_core.proofs.CountRows.{room_each, moves_each, counts_each, same_steps, same_counts}
 use Rattle.ctrl_core.proofs.StepLaws.{steps_fit}
 use Rattle.ctrl_core.proofs.row_changes.count_rows.Goals as goal
 
-pub all_count_changes-requires-clause-least : goal.all_count_changes-requires-clause-least
-all_count_changes-requires-clause-least c =
+pub all_count_changes-requires : goal.all_count_changes-requires
+all_count_changes-requires c =
     let st = c.args.stores.now in
     let steps = c.args.steps.now in
-    least_each _ st steps (same_steps _ steps c.as_slice.ensures.value c.as_slice-2.ensures.value c.as_slice-3.ensures.value c.as_slice-4.ensures.value) (same_counts _ st refl refl refl refl)
-    (steps_fit st (next_state st c.args.change.now) steps c.requires.kept c.requires.can.valid c.requires.counts)
-
-pub all_count_changes-requires-clause-most : goal.all_count_changes-requires-clause-most
-all_count_changes-requires-clause-most c =
-    let st = c.args.stores.now in
-    let steps = c.args.steps.now in
-    most_each _ st steps (same_steps _ steps c.as_slice.ensures.value c.as_slice-2.ensures.value c.as_slice-3.ensures.value c.as_slice-4.ensures.value) (same_counts _ st refl refl refl refl)
+    room_each _ st steps (same_steps _ steps c.as_slice.ensures.value c.as_slice-2.ensures.value c.as_slice-3.ensures.value c.as_slice-4.ensures.value) (same_counts _ st refl refl refl refl)
     (steps_fit st (next_state st c.args.change.now) steps c.requires.kept c.requires.can.valid c.requires.counts)
 
 pub returns : goal.returns

@@ -4,29 +4,17 @@ use Rattle.grant_rows.specs.CountChanges.{AreGrantChanges}
 use Rattle.grant_rows.proofs.CoveredCounts.{joined_changes, all_covered}
 use Rattle.grant_rows.proofs.collecting.all_count_changes.Goals as goal
 
-pub push_count_changes-requires-clause-least : goal.push_count_changes-requires-clause-least
-push_count_changes-requires-clause-least c = c.requires.least Dial
+pub push_count_changes-requires : goal.push_count_changes-requires
+push_count_changes-requires c = c.requires Dial
 
-pub push_count_changes-requires-clause-most : goal.push_count_changes-requires-clause-most
-push_count_changes-requires-clause-most c = c.requires.most Dial
+pub push_count_changes-requires-2 : goal.push_count_changes-requires-2
+push_count_changes-requires-2 c = c.requires Bind
 
-pub push_count_changes-requires-2-clause-least : goal.push_count_changes-requires-2-clause-least
-push_count_changes-requires-2-clause-least c = c.requires.least Bind
+pub push_count_changes-requires-3 : goal.push_count_changes-requires-3
+push_count_changes-requires-3 c = c.requires IdentityRouter
 
-pub push_count_changes-requires-2-clause-most : goal.push_count_changes-requires-2-clause-most
-push_count_changes-requires-2-clause-most c = c.requires.most Bind
-
-pub push_count_changes-requires-3-clause-least : goal.push_count_changes-requires-3-clause-least
-push_count_changes-requires-3-clause-least c = c.requires.least IdentityRouter
-
-pub push_count_changes-requires-3-clause-most : goal.push_count_changes-requires-3-clause-most
-push_count_changes-requires-3-clause-most c = c.requires.most IdentityRouter
-
-pub push_count_changes-requires-4-clause-least : goal.push_count_changes-requires-4-clause-least
-push_count_changes-requires-4-clause-least c = c.requires.least ServiceRouter
-
-pub push_count_changes-requires-4-clause-most : goal.push_count_changes-requires-4-clause-most
-push_count_changes-requires-4-clause-most c = c.requires.most ServiceRouter
+pub push_count_changes-requires-4 : goal.push_count_changes-requires-4
+push_count_changes-requires-4 c = c.requires ServiceRouter
 
 exact : (c : goal.After-of) → AreGrantChanges c.args.moves.now c.of.result
 exact c =

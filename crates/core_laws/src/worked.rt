@@ -13,7 +13,7 @@ ghost use Rattle.fabric_graph.specs.FabricTables.{no_links};
 ghost use Rattle.policy_store.specs.PolicyTables.{no_policies};
 ghost use Rattle.circuits.specs.CircuitTables.{no_circuits};
 ghost use Rattle.terminators.specs.TermTables.{no_terminators};
-ghost use Rattle.ctrl_core.specs.WorkedChanges.{ann_dials, with_dial};
+ghost use Rattle.core_laws.specs.WorkedChanges.{ann_dials, with_dial};
 ghost use Rattle.core_stores.specs.declared.changes.Change.TheVariants.{Entity, Policy, Link};
 ghost use Rattle.entity_store.specs.declared.changes.EntityChange.TheVariants.{Add, Remove};
 ghost use Rattle.fabric_graph.specs.declared.changes.LinkChange.TheVariants.{SetLeast};

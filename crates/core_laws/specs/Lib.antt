@@ -1,0 +1,2 @@
+pub mod WorkedChanges
+pub mod WorkedSettling

@@ -1,0 +1,66 @@
+ghost use Rattle.std.specs.Prelude.{◌≡◌, [], ◌∷◌, true, false, map};
+ghost use Rattle.ctrl_model.specs.declared.kinds.Kind.TheVariants as kind;
+ghost use Rattle.ctrl_model.specs.Settling.{granted_in};
+ghost use Rattle.ctrl_model.specs.WorkedStates.{line_in_use, ungranted};
+ghost use Rattle.model_laws.specs.JudgedCircuits.{AreGranted};
+ghost use Rattle.policy_store.specs.declared.changes.PolicyChange.TheVariants as policy;
+ghost use Rattle.terminators.specs.declared.changes.TermChange.TheVariants as term;
+ghost use Rattle.circuits.specs.declared.changes.CircuitChange.TheVariants as circuit;
+ghost use Rattle.circuits.specs.WorkedCircuits.{now_over, over, two_circuits};
+ghost use Rattle.circuit_settling.specs.WorkedLines.{unsettled};
+ghost use Rattle.core_stores.specs.declared.changes.Change.TheVariants.{Policy, Terminator, Circuit};
+ghost use Rattle.core_stores.specs.declared.loads.Loads.TheVariants.{Same, More, Any};
+ghost use Rattle.core_stores.specs.OpenCircuits.{CountsBut, CountsOpen, EndThere, loads_after};
+ghost use Rattle.core_stores.specs.SettledNumbers.{SettlesNothing, without_settled};
+ghost use Rattle.core_stores.specs.StoredState.{state_of};
+ghost use Rattle.ctrl_core.specs.SettledParts.{looked_at};
+ghost use Rattle.ctrl_core.specs.SettledRecords.{AreSettled};
+ghost use Rattle.core_laws.specs.WorkedSettling.{nothing, counting, without_the_middle, without_the_end};
+
+/// A circuit over links 1 and 2, of which link 2 is down, goes on over link 3. One that nothing grants ends. With the router in the middle
+/// both links go and the circuit ends; with the router at the end its own link, its terminator and the circuit. Else nothing settles.
+pub fn what_settles()
+    ensures nothing_named { SettlesNothing nothing }
+    ensures granted { AreSettled line_in_use nothing }
+    ensures link_down { AreSettled unsettled (record nothing { lost = 1 ∷ []; moves = now_over 1 (3 ∷ []) ∷ [] }) }
+    ensures ungranted { AreSettled ungranted (record nothing { lost = 1 ∷ []; ended = 1 ∷ [] }) }
+    ensures middle { AreSettled without_the_middle (record nothing { links = 1 ∷ 2 ∷ []; lost = 1 ∷ []; ended = 1 ∷ [] }) }
+    ensures end { AreSettled without_the_end (record nothing { links = 2 ∷ []; terminators = 1 ∷ []; lost = 1 ∷ []; ended = 1 ∷ [] }) }
+    ensures taken_out { (without_settled (record nothing { links = 1 ∷ 2 ∷ []; lost = 1 ∷ []; ended = 1 ∷ [] }) without_the_middle).circuits.rows ≡ [] }
+{}
+
+/// The circuit of the line is granted, and without the policy that granted it it is not.
+pub fn granted_circuits()
+    ensures granted { map (granted_in line_in_use) line_in_use.circuits.rows ≡ true ∷ [] }
+    ensures not_granted { AreGranted ungranted → ⊥ }
+{}
+
+/// Where no grant is known to stand all circuits are looked at; else the new one, or those that fall.
+pub fn circuits_that_are_looked_at()
+    ensures all { looked_at false (Policy (policy.Remove kind.ServicePolicy 1)) [] 3 two_circuits ≡ 1 ∷ 2 ∷ [] }
+    ensures none { looked_at true (Policy (policy.Remove kind.ServicePolicy 1)) [] 3 two_circuits ≡ [] }
+    ensures fallen { looked_at true (Terminator (term.Remove (record { 0 = 1 }))) (2 ∷ []) 3 two_circuits ≡ 2 ∷ [] }
+    ensures fresh { looked_at true (Circuit (circuit.Add (over []))) [] 3 two_circuits ≡ 3 ∷ [] }
+{}
+
+/// Loads change where a circuit comes, at its terminator, or anywhere where one goes, or where a terminator or a circuit settles.
+pub fn where_loads_change()
+    ensures policy { loads_after (Policy (policy.Remove kind.ServicePolicy 1)) nothing ≡ Same }
+    ensures terminator { loads_after (Terminator (term.Remove (record { 0 = 1 }))) nothing ≡ Same }
+    ensures comes { loads_after (Circuit (circuit.Add (over []))) nothing ≡ More (record { 0 = 1 }) }
+    ensures goes { loads_after (Circuit (circuit.Remove (record { 0 = 1 }))) nothing ≡ Any }
+    ensures terminators { loads_after (Policy (policy.Remove kind.ServicePolicy 1)) (record nothing { terminators = 1 ∷ [] }) ≡ Any }
+    ensures circuits { loads_after (Circuit (circuit.Add (over []))) (record nothing { lost = 1 ∷ []; moves = now_over 1 [] ∷ [] }) ≡ Any }
+{}
+
+/// Of two circuits to terminator 1 all are counted where its load is 2, and one is not yet where it is 1.
+pub fn kept_loads()
+    ensures ends { EndThere (state_of (counting 2)) }
+    ensures both { CountsOpen (counting 2) }
+    ensures one { CountsOpen (counting 1) → ⊥ }
+    ensures but_none { CountsBut Same (counting 2) }
+    ensures but_one { CountsBut (More (record { 0 = 1 })) (counting 1) }
+    ensures but_two { CountsBut (More (record { 0 = 1 })) (counting 0) → ⊥ }
+    ensures another { CountsBut (More (record { 0 = 2 })) (counting 1) → ⊥ }
+    ensures whatever { CountsBut Any (counting 7) }
+{}
