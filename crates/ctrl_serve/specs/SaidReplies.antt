@@ -1,8 +1,7 @@
 -- What was said of some replies, and of those to the events of an input (docs/PROMISES.md, "The headline").
 use Rattle.std.specs.Prelude.{◌≡◌, ℕ, false, List, [], ◌∷◌, ◌++◌}
 use Rattle.std.specs.List.{flat_map, list_any}
-use Rattle.std.specs.declared.option.Option.{Option}
-use Rattle.ziti_outside.specs.Told.{Took, IsFront}
+use Rattle.ziti_outside.specs.Told.{IsFront}
 use Rattle.channel_frame.specs.declared.frames.Frame.{Frame}
 use Rattle.row_store.specs.declared.bounds.StoreBounds.{StoreBounds}
 use Rattle.ctrl_keep.specs.KeptMachine.{Machine}
@@ -35,14 +34,6 @@ pub record AreCut (said : List ℕ) (all : List (List ℕ)) : Type 0 where
   pub front : List ℕ
   pub is_front : IsFront front next
   pub same : said ≡ joined done ++ front
-
--- A desk took whole replies.
-abbrev pub TookWhole : Option (List ℕ) → Option (List ℕ) → List (List ℕ) → Type 0
-TookWhole before now all = (said : List ℕ) × AreWhole said all × Took before now said
-
--- A desk took whole replies and a front of the next one.
-abbrev pub TookCut : Option (List ℕ) → Option (List ℕ) → List (List ℕ) → Type 0
-TookCut before now all = (said : List ℕ) × AreCut said all × Took before now said
 
 -- ---- the replies to the events of an input
 

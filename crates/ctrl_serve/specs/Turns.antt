@@ -158,10 +158,3 @@ pub record AnswersSome (cut : Cut) (form : Form) (bounds : StoreBounds) (m : Mac
   pub took : Took said_before said_now said
   pub says : SaysCut cut form bounds m said answered unanswered
   pub noted_is : NotesMore failed failed_now (fault_lines answered) noted noted_now faults faults_now
-
--- What comes of the used bytes.
-abbrev pub AnswersUsed : Result Status Cut → Form → StoreBounds → Machine → List ℕ → End → Option (List ℕ) → Option (List ℕ) → (failed failed_now : Bool) → Option (List ℕ) → Option (List ℕ) → ℕ → ℕ → Type 0
-AnswersUsed (Ok status) form bounds m used end said_before said_now failed failed_now noted noted_now faults faults_now =
-    AnswersAll form bounds m used end status said_before said_now failed failed_now noted noted_now faults faults_now
-AnswersUsed (Err cut) form bounds m used end said_before said_now failed failed_now noted noted_now faults faults_now =
-    AnswersSome cut form bounds m used said_before said_now failed failed_now noted noted_now faults faults_now

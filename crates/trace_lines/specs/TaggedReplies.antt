@@ -5,7 +5,6 @@ use Rattle.std.specs.declared.result.Result.{Result}
 use Rattle.channel_frame.specs.declared.frames.Frame.{Frame}
 use Rattle.channel_frame.specs.declared.frames.Front.{Front}
 use Rattle.channel_frame.specs.declared.frames.Front.TheVariants as front
-use Rattle.channel_frame.specs.FrameSpelling.{spelling}
 use Rattle.channel_frame.specs.StreamReading.{front}
 use Rattle.frame_lines.specs.declared.told.TellCause.{TellCause}
 use Rattle.frame_lines.specs.declared.told.DecodeCause.TheVariants.{Untold, Bad, Unfinished}
@@ -15,10 +14,6 @@ use Rattle.trace_lines.specs.declared.fronts.ReplyFront.{ReplyFront}
 use Rattle.trace_lines.specs.declared.fronts.ReplyFront.TheVariants as reply
 use Rattle.trace_lines.specs.declared.replies.ReplyFault.{ReplyFault}
 use Rattle.trace_lines.specs.declared.replies.ReplyFault.TheVariants.{InFrame, NoTag}
-
--- The bytes of a reply with its session: a byte 4, the session, and the frame.
-abbrev pub tagged : ℕ × Frame → List ℕ
-tagged r = 4 ∷ r.0 ∷ spelling r.1
 
 -- What stands behind a byte 4 and a session.
 abbrev pub behind_tag : ℕ → Front → ReplyFront
