@@ -279,9 +279,9 @@ def believed_part(listing, _):
     main = list(specs.cited(CRATES / 'zitictl/src/main.rt'))
     by_runs, found = specs.reached([headline]), specs.reached([headline, *traits, *main])
     total = sum(len(m.own) for m in specs.modules.values())
-    out = [f'Of the {total:,} definitions in `specs/`, `Runs` reaches {len(by_runs)}. With those that the traits `Source` and `Desk` and the calls of `zitictl`',
-           f'cite, these are the {len(found)} that stand below. The other {total - len(found):,} say what calls below the run promise, what is private, what worked',
-           'examples are made of, and what proofs need: a wrong one of these makes no other claim of a run.', '']
+    out = [*wrapped(f'Of the {total:,} definitions in `specs/`, `Runs` reaches {len(by_runs)}. With those that the traits `Source` and `Desk` and the calls '
+                    f'of `zitictl` cite, these are the {len(found)} that stand below. The other {total - len(found):,} say what calls below the run promise, '
+                    'what is private, what worked examples are made of, and what proofs need: a wrong one of these makes no other claim of a run.', ''), '']
     order = [c for _, _, crates in listing.rooms for c in crates] + listing.homeless
     for crate in [c for c in order if any(k[0] == c for k in found)]:
         own = [d for k, d in found.items() if k[0] == crate]
