@@ -1,2 +1,3 @@
 pub mod WorkedChanges
 pub mod WorkedSettling
+pub mod WorkedRows

@@ -1,9 +1,11 @@
 -- What settles, and stores with a load, for worked examples.
-use Rattle.std.specs.Prelude.{ℕ, [], ◌∷◌, None}
+use Rattle.std.specs.Prelude.{ℕ, [], ◌∷◌, codes, None}
+use Rattle.ctrl_model.specs.declared.commands.Command.TheVariants.{CreateService}
 use Rattle.ctrl_model.specs.declared.kinds.Precedence.TheVariants.{Normal}
+use Rattle.ctrl_model.specs.declared.kinds.Relation.TheVariants.{Dial}
 use Rattle.ctrl_model.specs.Numbered.{with_removed}
 use Rattle.ctrl_model.specs.State.{State, Terminator}
-use Rattle.ctrl_model.specs.WorkedStates.{line_in_use}
+use Rattle.ctrl_model.specs.WorkedStates.{after, everyone, line_in_use, service_policy}
 use Rattle.entity_store.specs.EntityTables.{no_entities}
 use Rattle.fabric_graph.specs.FabricTables.{no_links}
 use Rattle.policy_store.specs.PolicyTables.{no_policies}
@@ -37,3 +39,11 @@ without_the_middle = record line_in_use { routers = with_removed 2 line_in_use.r
 -- The same where the router at its end is gone, and the terminator there with it.
 abbrev pub without_the_end : State
 without_the_end = record line_in_use { routers = with_removed 3 line_in_use.routers }
+
+-- The line in use, with a second service, mail, that everyone may dial, and whose circuit is one to mail: its terminator is present, and is
+-- one of web. No run comes to it from the start, but it is valid, and a folder may have it.
+abbrev pub with_another_service : State
+with_another_service =
+    record (after (CreateService (codes "mail") [] ∷ service_policy (codes "mails") Dial everyone everyone ∷ []) line_in_use) {
+      circuits = record { rows = (1, record { identity = 1; service = 2; terminator = 1; ingress = 1; links = 1 ∷ 2 ∷ [] }) ∷ []; next = 2 };
+    }

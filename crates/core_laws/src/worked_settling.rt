@@ -1,7 +1,8 @@
-ghost use Rattle.std.specs.Prelude.{◌≡◌, [], ◌∷◌, true, false, map};
+ghost use Rattle.std.specs.Prelude.{◌≡◌, [], ◌∷◌, codes, true, false, map};
+ghost use Rattle.ctrl_model.specs.declared.commands.Command.TheVariants.{DeleteCircuit, ReportLatency, ShowCircuit};
 ghost use Rattle.ctrl_model.specs.declared.kinds.Kind.TheVariants as kind;
-ghost use Rattle.ctrl_model.specs.Settling.{granted_in};
-ghost use Rattle.ctrl_model.specs.WorkedStates.{line_in_use, ungranted};
+ghost use Rattle.ctrl_model.specs.Settling.{granted_in, stays_in};
+ghost use Rattle.ctrl_model.specs.WorkedStates.{after, line_in_use, ungranted};
 ghost use Rattle.model_laws.specs.JudgedCircuits.{AreGranted};
 ghost use Rattle.policy_store.specs.declared.changes.PolicyChange.TheVariants as policy;
 ghost use Rattle.terminators.specs.declared.changes.TermChange.TheVariants as term;
@@ -15,7 +16,7 @@ ghost use Rattle.core_stores.specs.SettledNumbers.{SettlesNothing, without_settl
 ghost use Rattle.core_stores.specs.StoredState.{state_of};
 ghost use Rattle.ctrl_core.specs.SettledParts.{looked_at};
 ghost use Rattle.ctrl_core.specs.SettledRecords.{AreSettled};
-ghost use Rattle.core_laws.specs.WorkedSettling.{nothing, counting, without_the_middle, without_the_end};
+ghost use Rattle.core_laws.specs.WorkedSettling.{nothing, counting, with_another_service, without_the_middle, without_the_end};
 
 /// A circuit over links 1 and 2, of which link 2 is down, goes on over link 3. One that nothing grants ends. With the router in the middle
 /// both links go and the circuit ends; with the router at the end its own link, its terminator and the circuit. Else nothing settles.
@@ -33,6 +34,17 @@ pub fn what_settles()
 pub fn granted_circuits()
     ensures granted { map (granted_in line_in_use) line_in_use.circuits.rows ≡ true ∷ [] }
     ensures not_granted { AreGranted ungranted → ⊥ }
+{}
+
+/// A circuit whose terminator is of another service than its own, which is present: its path holds, and nothing grants it. What only
+/// shows leaves it, and what is refused does; the first effect, as a latency that is reported, ends it.
+pub fn circuits_of_another_service()
+    ensures reaches { map (stays_in with_another_service) with_another_service.circuits.rows ≡ true ∷ [] }
+    ensures not_granted { map (granted_in with_another_service) with_another_service.circuits.rows ≡ false ∷ [] }
+    ensures shown { after (ShowCircuit 1 ∷ []) with_another_service ≡ with_another_service }
+    ensures refused { after (DeleteCircuit 2 ∷ []) with_another_service ≡ with_another_service }
+    ensures first_effect { (after (ReportLatency (codes "l1") (codes "r1") 6 ∷ []) with_another_service).circuits.rows ≡ [] }
+    ensures effect_without { (after (ReportLatency (codes "l1") (codes "r1") 6 ∷ []) line_in_use).circuits ≡ line_in_use.circuits }
 {}
 
 /// Where no grant is known to stand all circuits are looked at; else the new one, or those that fall.

@@ -71,10 +71,15 @@ pub fn worked_refusals()
     ensures full { reply_body (reply.Refused (refusal.Full kind.Identity)) ≡ codes "{\"code\":24,\"kind\":\"identity\",\"name\":\"Full\"}" }
 {}
 
-/// The frame of the first reply, which makes record 1 at request 7; and the flags of success.
+/// The frame of the first reply, which makes record 1 at request 7; one whose two sequence numbers are the greatest; and the flags
+/// of success.
 pub fn worked_frame()
     ensures bytes { spelling (reply_frame 0 7 (reply.Made 1)) ≡ reply_bytes }
     ensures count { length (spelling (reply_frame 0 7 (reply.Made 1))) ≡ 49 }
+    ensures greatest { spelling (reply_frame 4_294_967_295 4_294_967_295 reply.Empty)
+        ≡ 3 ∷ 6 ∷ 9 ∷ 12 ∷ 2 ∷ 0 ∷ 0 ∷ 0 ∷ 255 ∷ 255 ∷ 255 ∷ 255 ∷ 21 ∷ 0 ∷ 0 ∷ 0 ∷ 0 ∷ 0 ∷ 0 ∷ 0
+        ∷ 1 ∷ 0 ∷ 0 ∷ 0 ∷ 4 ∷ 0 ∷ 0 ∷ 0 ∷ 255 ∷ 255 ∷ 255 ∷ 255
+        ∷ 2 ∷ 0 ∷ 0 ∷ 0 ∷ 1 ∷ 0 ∷ 0 ∷ 0 ∷ 1 ∷ [] }
     ensures success { success_flag reply.Empty ≡ 1 }
     ensures refused { success_flag (reply.Refused refusal.Exists) ≡ 0 }
 {}

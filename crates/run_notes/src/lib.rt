@@ -15,4 +15,4 @@ pub use notes::{Notes, note_fault, note_lines};
 pub use sessions::Sessions;
 pub use status::Status;
 pub use telling::{tell_cut, tell_cut_behind, tell_damage, tell_ending, tell_full};
-pub use worked::{worked_endings, worked_notes, worked_traces};
+pub use worked::{worked_counts, worked_endings, worked_notes, worked_statuses, worked_traces};

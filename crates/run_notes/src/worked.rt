@@ -1,14 +1,32 @@
-ghost use Rattle.std.specs.Prelude.{◌≡◌, [], ◌∷◌, ◌++◌, codes, take, true, false};
+ghost use Rattle.std.specs.Prelude.{◌≡◌, [], ◌∷◌, ◌++◌, codes, map, take, true, false};
 ghost use Rattle.channel_frame.specs.WorkedFrames.{ann_bytes, cut_bytes, unmarked_bytes, longer_body, short_header};
 ghost use Rattle.session_mux.specs.declared.sessions.Form.TheVariants.{Plain, Trace};
 ghost use Rattle.session_mux.specs.WorkedTraces.{two_sessions, kind_five, cut_data, one_faulty, closed_within};
 ghost use Rattle.ziti_outside.specs.declared.desk.Part.TheVariants.{Zero};
 ghost use Rattle.run_notes.specs.declared.ends.Full.TheVariants as full;
 ghost use Rattle.run_notes.specs.declared.status.Status.TheVariants as status;
-ghost use Rattle.run_notes.specs.Endings.{ending};
+ghost use Rattle.run_notes.specs.Endings.{ending, is_cut, is_kept};
 ghost use Rattle.run_notes.specs.Inputs.{events_in};
+ghost use Rattle.run_notes.specs.KnownSessions.{count_at, counted};
 ghost use Rattle.run_notes.specs.Notes.{damaged_note, full_note, notes_of, session_note, usage_note};
-ghost use Rattle.run_notes.specs.WorkedNotes.{plain_notes, trace_notes, two_and_faulty};
+ghost use Rattle.run_notes.specs.Statuses.{number_of};
+ghost use Rattle.run_notes.specs.WorkedNotes.{all_statuses, plain_notes, trace_notes, two_and_faulty};
+
+/// Of the eleven statuses, in the order of their numbers: the numbers; which cut a run short, ReadFault, WriteFault, DiskFault and
+/// NoMemory; and at which all that was answered is kept, Done, BadInput, Truncated, ReadFault and InputTooLong.
+pub fn worked_statuses()
+    ensures numbers { map number_of all_statuses ≡ 0 ∷ 1 ∷ 2 ∷ 3 ∷ 4 ∷ 5 ∷ 6 ∷ 7 ∷ 8 ∷ 9 ∷ 10 ∷ [] }
+    ensures cut { map is_cut all_statuses ≡ false ∷ false ∷ false ∷ false ∷ true ∷ true ∷ true ∷ false ∷ true ∷ false ∷ false ∷ [] }
+    ensures kept { map is_kept all_statuses ≡ true ∷ false ∷ true ∷ true ∷ true ∷ false ∷ false ∷ false ∷ false ∷ true ∷ false ∷ [] }
+{}
+
+/// How many replies a session got goes up by one, of that session alone; behind 4,294,967,295 comes 0.
+pub fn worked_counts()
+    ensures second { counted (0 ∷ 5 ∷ 7 ∷ []) 1 ≡ 0 ∷ 6 ∷ 7 ∷ [] }
+    ensures greatest { counted (4_294_967_294 ∷ 5 ∷ []) 0 ≡ 4_294_967_295 ∷ 5 ∷ [] }
+    ensures behind_the_greatest { counted (4_294_967_295 ∷ 5 ∷ []) 0 ≡ 0 ∷ 5 ∷ [] }
+    ensures asked { count_at (0 ∷ 4_294_967_295 ∷ []) 1 ≡ 4_294_967_295 }
+{}
 
 /// How whole, cut and faulty inputs end, as long as they may be and longer: a fault comes before a longer input, and this before the
 /// rest of a frame.
