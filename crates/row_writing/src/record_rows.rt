@@ -31,12 +31,12 @@ pub trait ChangedRows {
 }
 
 // The value of a row, if there is one.
-fn value_if_some(alloc: Global, row: Option<Row>) -> Result<Option<Bytes>, AllocError>
-    requires { IfSome row (λ r. is_row r ≡ true) }
-    ensures { IfOk result (λ value. value ≡ option_map value_of row) }
+fn value_if_some(alloc: Global, row: &Option<Row>) -> Result<Option<Bytes>, AllocError>
+    requires { IfSome row.now (λ r. is_row r ≡ true) }
+    ensures { IfOk result (λ value. value ≡ option_map value_of row.now) }
 {
     match row {
-        Some(row) => Ok(Some(value_of(alloc, &row)?)),
+        Some(row) => Ok(Some(value_of(alloc, row)?)),
         None => Ok(None),
     }
 }
@@ -55,9 +55,11 @@ pub fn row_change(
     requires after { IfSome after (λ r. is_row r ≡ true) }
     ensures { IfOk result (λ change. change ≡ change_of kind number (option_map value_of before) (option_map value_of after)) }
 {
-    let before = value_if_some(alloc, before)?;
-    let after = value_if_some(alloc, after)?;
-    change_of(alloc, kind, number, before, after)
+    let value_before = value_if_some(alloc, &before);
+    drop(before);
+    let value_after = value_if_some(alloc, &after);
+    drop(after);
+    change_of(alloc, kind, number, value_before?, value_after?)
 }
 
 // The changes of the rows of a kind's records at some numbers.
