@@ -20,7 +20,7 @@ pub use fields::{
     split_text,
 };
 pub use keys::{record_key, write_key};
-pub use lists::{past_each_long, past_names, past_side};
+pub use lists::{past_each_long, past_names};
 pub use rows::Row;
 pub use worked::{worked_differences, worked_rows};
 pub use writing::{push_long, push_text};

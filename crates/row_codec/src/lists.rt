@@ -1,8 +1,7 @@
 ghost use Rattle.std.specs.Prelude.{◌≡◌};
 ghost use Rattle.std.specs.Option.{option_map};
-ghost use Rattle.row_codec.specs.FieldReading.{behind, front_long, front_name, front_names, front_each, front_side};
+ghost use Rattle.row_codec.specs.FieldReading.{behind, front_long, front_name, front_names, front_each};
 
-use crate::codes::split_flag;
 use crate::fields::{split_byte, split_long, split_name};
 
 fn past_each_name(count: u8, bytes: &[u8]) -> Option<&[u8]>
@@ -25,15 +24,6 @@ pub fn past_names(bytes: &[u8]) -> Option<&[u8]>
         return None;
     }
     past_each_name(count, rest)
-}
-
-/// What follows a side.
-pub fn past_side(bytes: &[u8]) -> Option<&[u8]>
-    ensures { option_map (λ r. r.now) result ≡ behind (front_side bytes.now) }
-{
-    let (_, rest) = split_flag(bytes)?;
-    let rest = past_names(rest)?;
-    past_names(rest)
 }
 
 /// What follows so many numbers.

@@ -1,15 +1,14 @@
 ghost use Rattle.std.specs.Prelude.{◌≡◌};
 ghost use Rattle.std.specs.Option.{option_map, option_and_then, is_some};
 ghost use Rattle.row_codec.specs.RowForm.{is_positive};
-ghost use Rattle.row_codec.specs.FieldReading.{behind, is_end, alone, kept, both, at_end, front_byte, front_long, front_number};
+ghost use Rattle.row_codec.specs.FieldReading.{behind, is_end, alone, kept, both, at_end, front_byte, front_long, front_number, front_side};
 ghost use Rattle.row_reading.specs.RowReading.{is_kind, is_next, is_setting, front_entity, front_router, front_costs, front_link, front_sides, front_service_policy, front_router_policy, front_place, front_terminator, front_circuit, is_value, is_row_in, table_seen, row_of};
 
 use crate::tables::{Table, table_of};
 use ctrl_model::Kind;
 use row_codec::{
-    past_each_long, past_names, past_side, split_byte, split_flag, split_instance, split_long,
-    split_marks, split_name, split_number, split_precedence, split_relation, split_semantic,
-    split_short,
+    past_each_long, past_names, split_byte, split_flag, split_instance, split_long, split_marks,
+    split_name, split_number, split_precedence, split_relation, split_semantic, split_short,
 };
 
 /// A number of four bytes, and nothing behind it.
@@ -119,6 +118,15 @@ fn past_link(bytes: &[u8]) -> Option<&[u8]>
     let (_, rest) = split_name(bytes)?;
     let rest = past_two_long(rest)?;
     past_costs(rest)
+}
+
+// What follows a side.
+fn past_side(bytes: &[u8]) -> Option<&[u8]>
+    ensures { option_map (λ r. r.now) result ≡ behind (front_side bytes.now) }
+{
+    let (_, rest) = split_flag(bytes)?;
+    let rest = past_names(rest)?;
+    past_names(rest)
 }
 
 fn past_sides(bytes: &[u8]) -> Option<&[u8]>
