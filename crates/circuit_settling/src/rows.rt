@@ -8,7 +8,7 @@ ghost use Rattle.row_codec.specs.CoveredTables.{Covers};
 ghost use Rattle.row_codec.specs.RowForm.{is_row, value_of};
 ghost use Rattle.row_codec.specs.RowValues.{record_value};
 ghost use Rattle.row_laws.specs.FittingRecords.{fits};
-ghost use Rattle.row_spelling.specs.RecordChanges.{value_at};
+ghost use Rattle.row_writing.specs.RecordChanges.{value_at};
 ghost use Rattle.circuits.specs.CircuitChanges.{circuits_after};
 ghost use Rattle.circuits.specs.MovedCircuits.{moved_numbers, with_moves};
 ghost use Rattle.circuit_settling.specs.CircuitRows.{HaveRows};
@@ -17,7 +17,7 @@ use circuits::{CircuitChange, CircuitView, Circuits, CircuitsAfter, Moves};
 use ctrl_model::{CircuitNo, Kind, Numbers};
 use record_tables::changed_number;
 use row_codec::{Changes, Row};
-use row_spelling::{ChangedRows, touched_changes};
+use row_writing::{ChangedRows, touched_changes};
 use std::alloc::{AllocError, Global};
 
 // The row of a circuit under a number, if there is one.

@@ -2,9 +2,11 @@ ghost use Rattle.std.specs.Prelude.{◌≡◌, true, IfSome};
 ghost use Rattle.row_codec.specs.Batches.{IsBatch};
 ghost use Rattle.row_codec.specs.RowForm.{is_row};
 
+use batch_codec::{batch_of, read_batch, write_batch};
 use ctrl_model::Bytes;
-use row_codec::{Batch, Change, Changes, Op, Row, RowFault, batch_of, read_batch, write_batch};
-use row_spelling::{read_row, write_row};
+use row_codec::{Batch, Change, Changes, Op, Row, RowFault};
+use row_reading::read_row;
+use row_writing::write_row;
 use std::alloc::Global;
 use std::test::Fail;
 

@@ -5,7 +5,7 @@ use Rattle.ctrl_model.specs.State.{State}
 use Rattle.ctrl_model.specs.Tables.{table}
 use Rattle.ctrl_model.specs.ValidState.{ValidState}
 use Rattle.row_codec.specs.declared.changes.Change as row
-use Rattle.row_spelling.specs.RecordChanges.{next_change_of}
+use Rattle.row_writing.specs.RecordChanges.{next_change_of}
 use Rattle.core_stores.specs.declared.changes.Change.{Change}
 use Rattle.core_stores.specs.declared.settled.Settled.{Settled}
 use Rattle.core_stores.specs.declared.stores.Stores.{Stores}

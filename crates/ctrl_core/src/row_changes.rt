@@ -4,12 +4,13 @@ ghost use Rattle.ctrl_model.specs.Tables.{table};
 ghost use Rattle.row_codec.specs.Batches.{batch_between};
 ghost use Rattle.row_codec.specs.CoveredTables.{Covers};
 ghost use Rattle.row_codec.specs.RowKeys.{kind_number};
-ghost use Rattle.row_spelling.specs.RecordChanges.{setting_change_of};
+ghost use Rattle.row_writing.specs.RecordChanges.{setting_change_of};
 ghost use Rattle.ctrl_core.specs.ChangedStores.{CanSettle, KnowsSettled, next_change_in, next_state};
 ghost use Rattle.core_stores.specs.LeadingSteps.{LeadAllCounts};
 ghost use Rattle.ctrl_core.specs.KeptState.{Keeps};
 ghost use Rattle.core_stores.specs.StoredState.{state_of};
 
+use batch_codec::batch_of;
 use circuit_settling::circuit_changes;
 use core_stores::{Change, KINDS, Settled, Stores, adds, forgotten, least_after, next_if, next_of};
 use ctrl_model::Kind;
@@ -18,8 +19,8 @@ use grant_rows::{CountMoves, GrantMoves, all_count_changes};
 use link_commands::link_changes;
 use policy_rows::{forgotten_changes, policy_changes};
 use policy_store::GrantSteps;
-use row_codec::{Batch, Change as RowChange, Changes, batch_of};
-use row_spelling::{next_change, setting_change};
+use row_codec::{Batch, Change as RowChange, Changes};
+use row_writing::{next_change, setting_change};
 use std::alloc::{AllocError, Global};
 use terminator_commands::term_changes;
 

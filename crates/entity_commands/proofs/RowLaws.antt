@@ -25,7 +25,7 @@ use Rattle.row_laws.specs.FittingRecords.{fits}
 use Rattle.row_laws.proofs.Covers.{Covers-append, Covers-same_records}
 use Rattle.row_laws.proofs.SpelledChanges.{row_at-record}
 use Rattle.row_laws.proofs.TouchedKeys.{Covers-records}
-use Rattle.row_spelling.specs.RecordChanges.{change_of, value_at}
+use Rattle.row_writing.specs.RecordChanges.{change_of, value_at}
 use Rattle.entity_commands.specs.EntityChanges.{CanChangeEntities}
 use Rattle.entity_commands.specs.EntityRows.{AreFit, Has, plain_after, router_after, row_change, touched_kind, touched_number}
 

@@ -10,14 +10,14 @@ ghost use Rattle.row_codec.specs.CoveredTables.{Covers};
 ghost use Rattle.row_codec.specs.RowKeys.{is_long};
 ghost use Rattle.row_codec.specs.RowValues.{entity_value, router_value};
 ghost use Rattle.row_laws.specs.FittingRecords.{fits};
-ghost use Rattle.row_spelling.specs.RecordChanges.{change_of};
+ghost use Rattle.row_writing.specs.RecordChanges.{change_of};
 ghost use Rattle.entity_commands.specs.EntityChanges.{CanChangeEntities};
 ghost use Rattle.entity_commands.specs.EntityRows.{AreFit, Has, plain_after, router_after, row_change, touched_kind, touched_number};
 
 use ctrl_model::{Bytes, Copies, IdentityNo, Kind, RouterNo};
 use entity_store::{Entities, EntityChange, EntityView, RouterView};
 use row_codec::{Change, Changes, Row};
-use row_spelling::{change_of, value_of};
+use row_writing::{change_of, value_of};
 use std::alloc::{AllocError, Global};
 
 // The value of the row of an identity or a service under a number: those of both kinds are spelled alike.

@@ -1,5 +1,6 @@
+use batch_codec::read_batch;
 use ctrl_model::Copies;
-use row_codec::{Op, RowFault, read_batch};
+use row_codec::{Op, RowFault};
 use row_loading::{CoreFault, Flaw, read_rows};
 use std::alloc::Global;
 use std::process::Abort;

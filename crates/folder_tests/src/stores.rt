@@ -5,7 +5,8 @@ ghost use Rattle.folder_tests.specs.ReadyStores.{IsReady};
 
 use crate::checks::{are_bytes, is_fault};
 use crate::desks::{BATCH_OF_ANN, BATCH_OF_BOB, empty_desk};
-use row_codec::{RowFault, read_batch};
+use batch_codec::read_batch;
+use row_codec::RowFault;
 use row_store::{Store, StoreBounds, StoreFault, worked_rows};
 use std::alloc::Global;
 use std::process::Abort;

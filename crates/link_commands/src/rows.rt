@@ -7,7 +7,7 @@ ghost use Rattle.row_codec.specs.CoveredTables.{Covers};
 ghost use Rattle.row_codec.specs.RowForm.{is_row, value_of};
 ghost use Rattle.row_codec.specs.RowValues.{record_value};
 ghost use Rattle.row_laws.specs.FittingRecords.{fits};
-ghost use Rattle.row_spelling.specs.RecordChanges.{value_at};
+ghost use Rattle.row_writing.specs.RecordChanges.{value_at};
 ghost use Rattle.fabric_graph.specs.FabricChanges.{fabric_after};
 ghost use Rattle.link_commands.specs.LinkRows.{HaveRows};
 
@@ -15,7 +15,7 @@ use ctrl_model::{Copies, Kind, LinkNo, Numbers};
 use fabric_graph::{Fabric, FabricAfter, LinkChange, LinkView};
 use record_tables::changed_number;
 use row_codec::{Changes, Row};
-use row_spelling::{ChangedRows, touched_changes};
+use row_writing::{ChangedRows, touched_changes};
 use std::alloc::{AllocError, Global};
 
 // The row of a link under a number, if there is one.

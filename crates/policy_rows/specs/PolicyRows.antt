@@ -10,7 +10,7 @@ use Rattle.ctrl_model.specs.ValidState.{ValidState}
 use Rattle.row_codec.specs.declared.changes.Change.{Change}
 use Rattle.row_codec.specs.RowValues.{service_policy_value, router_policy_value}
 use Rattle.row_laws.specs.FittingRecords.{fits}
-use Rattle.row_spelling.specs.RecordChanges.{change_of}
+use Rattle.row_writing.specs.RecordChanges.{change_of}
 use Rattle.policy_store.specs.declared.changes.PolicyChange.{PolicyChange}
 use Rattle.policy_store.specs.declared.changes.PolicyChange.TheVariants as change
 use Rattle.policy_store.specs.declared.records.Hand.{Hand}

@@ -17,7 +17,7 @@ ghost use Rattle.policy_store.specs.Stores.{forget_on};
 use ctrl_model::{Kind, Name, PolicyNo};
 use policy_store::{Hand, Policies, Policy, PolicyChange, copy_policy, forget_on_side};
 use row_codec::{Change, Changes, Row};
-use row_spelling::row_change;
+use row_writing::row_change;
 use std::alloc::{AllocError, Global};
 
 // The row of a policy of a kind.

@@ -1,2 +1,3 @@
 pub mod FieldLaws
+mod SkipLaws
 pub mod BatchLaws

@@ -6,6 +6,12 @@ use Rattle.std.specs.Int.{w16, w32, from_le_bytes, from_be_bytes}
 use Rattle.ctrl_model.specs.NameForm.{is_name, is_instance}
 use Rattle.ctrl_model.specs.Limits.{most_entries}
 use Rattle.ctrl_model.specs.declared.kinds.Side.{Side}
+use Rattle.ctrl_model.specs.declared.kinds.Semantic.{Semantic}
+use Rattle.ctrl_model.specs.declared.kinds.Semantic.TheVariants.{AnyOf, AllOf}
+use Rattle.ctrl_model.specs.declared.kinds.Relation.{Relation}
+use Rattle.ctrl_model.specs.declared.kinds.Relation.TheVariants as relation
+use Rattle.ctrl_model.specs.declared.kinds.Precedence.{Precedence}
+use Rattle.ctrl_model.specs.declared.kinds.Precedence.TheVariants.{Required, Normal, Failed}
 
 -- What is read at the front, and the bytes that follow it; none where nothing of the kind stands there.
 abbrev pub Front : Type 0 → Type 0
@@ -107,3 +113,20 @@ side_of x = record { all = x.0; ids = x.1.0; attributes = x.1.1 }
 -- A side.
 abbrev pub front_side : List ℕ → Front Side
 front_side bytes = mapped side_of (both front_flag (both front_names front_names)) bytes
+
+-- The relation of a service policy that a byte means.
+abbrev pub relation_meant : ℕ → Option Relation
+relation_meant n = cond (n == 1) (Some relation.Dial) (cond (n == 2) (Some relation.Bind) None)
+
+-- The semantic that a byte means.
+abbrev pub semantic_meant : ℕ → Option Semantic
+semantic_meant n = cond (n == 1) (Some AnyOf) (cond (n == 2) (Some AllOf) None)
+
+-- The precedence that a byte means.
+abbrev pub precedence_meant : ℕ → Option Precedence
+precedence_meant n = cond (n == 1) (Some Required) (cond (n == 2) (Some Normal) (cond (n == 3) (Some Failed) None))
+
+-- Whether a path may pass through a router, and whether it is connected, as its marks say.
+abbrev pub marks_meant : ℕ → Option (Bool × Bool)
+marks_meant n =
+    cond (n == 0) (Some (true, false)) (cond (n == 1) (Some (false, false)) (cond (n == 2) (Some (true, true)) (cond (n == 3) (Some (false, true)) None)))

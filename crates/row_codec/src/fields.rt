@@ -1,6 +1,8 @@
 ghost use Rattle.std.specs.Prelude.{◌≡◌};
 ghost use Rattle.std.specs.Option.{option_map};
-ghost use Rattle.row_codec.specs.FieldReading.{front_byte, front_part, front_long, front_text};
+ghost use Rattle.row_codec.specs.FieldReading.{front_byte, front_part, front_long, front_short, front_number, front_text, front_name, front_instance};
+
+use crate::name_forms::{has_instance_form, has_name_form};
 
 /// The first byte, and what follows it.
 pub fn split_byte(bytes: &[u8]) -> Option<(u8, &[u8])>
@@ -40,4 +42,50 @@ pub fn split_text(bytes: &[u8]) -> Option<(&[u8], &[u8])>
 {
     let (len, rest) = split_byte(bytes)?;
     split_part(rest, len as usize)
+}
+
+/// A number of two bytes, and what follows it.
+pub fn split_short(bytes: &[u8]) -> Option<(u32, &[u8])>
+    ensures { option_map (λ p. (p.0, p.1.now)) result ≡ front_short bytes.now }
+{
+    if bytes.len() < 2 {
+        return None;
+    }
+    let (part, rest) = bytes.split_at(2);
+    let number = u16::from_le_bytes([part[0], part[1]]);
+    Some((u32::from(number), rest))
+}
+
+/// A number of a key, and what follows it.
+pub fn split_number(bytes: &[u8]) -> Option<(u32, &[u8])>
+    ensures { option_map (λ p. (p.0, p.1.now)) result ≡ front_number bytes.now }
+{
+    if bytes.len() < 4 {
+        return None;
+    }
+    let (part, rest) = bytes.split_at(4);
+    let number = u32::from_be_bytes([part[0], part[1], part[2], part[3]]);
+    Some((number, rest))
+}
+
+/// A name, and what follows it.
+pub fn split_name(bytes: &[u8]) -> Option<(&[u8], &[u8])>
+    ensures { option_map (λ p. (p.0.now, p.1.now)) result ≡ front_name bytes.now }
+{
+    let (name, rest) = split_text(bytes)?;
+    if !has_name_form(name) {
+        return None;
+    }
+    Some((name, rest))
+}
+
+/// An instance, and what follows it.
+pub fn split_instance(bytes: &[u8]) -> Option<(&[u8], &[u8])>
+    ensures { option_map (λ p. (p.0.now, p.1.now)) result ≡ front_instance bytes.now }
+{
+    let (instance, rest) = split_text(bytes)?;
+    if !has_instance_form(instance) {
+        return None;
+    }
+    Some((instance, rest))
 }

@@ -1,22 +1,26 @@
-//! The rows of a state and their changes, in definitions; batches of changes and their spelling (docs/FORMATS.md, "Rows", "Batches").
+//! The rows of a state and their changes, in definitions; the keys and the fields of rows as bytes (docs/FORMATS.md, "Rows").
 #![tactic(auto)]
 
-mod batch_examples;
-mod batches;
 mod changes;
+mod codes;
 mod faults;
 mod fields;
-mod laws;
+mod keys;
+mod lists;
+mod name_forms;
 mod rows;
 mod worked;
 mod writing;
 
-pub use batch_examples::{worked_batches, worked_changes, worked_no_batches};
-pub use batches::{batch_of, read_batch, write_batch};
 pub use changes::{Batch, Change, Changes, Op};
+pub use codes::{split_flag, split_marks, split_precedence, split_relation, split_semantic};
 pub use faults::RowFault;
-pub use fields::{split_byte, split_long, split_part, split_text};
-pub use laws::{batches_of_changes, one_batch};
+pub use fields::{
+    split_byte, split_instance, split_long, split_name, split_number, split_part, split_short,
+    split_text,
+};
+pub use keys::{record_key, write_key};
+pub use lists::{past_each_long, past_names};
 pub use rows::Row;
 pub use worked::{worked_differences, worked_rows};
 pub use writing::{push_long, push_text};

@@ -10,7 +10,7 @@ ghost use Rattle.row_loading.specs.RefusedRows.{AreUnread};
 
 use crate::faults::CoreFault;
 use row_codec::{Op, Row, RowFault};
-use row_spelling::read_row;
+use row_reading::read_row;
 use state_building::Flaw;
 use std::alloc::Global;
 

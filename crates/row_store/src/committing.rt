@@ -10,8 +10,9 @@ ghost use Rattle.row_store.specs.Faults.{disk_failure, KeepFails, IsKept};
 
 use crate::changing::{Rows, change_all};
 use crate::faults::StoreFault;
+use batch_codec::write_batch;
 use journal_core::{JournalFault, Packed, append};
-use row_codec::{Batch, Op, write_batch};
+use row_codec::{Batch, Op};
 use std::alloc::{AllocError, Global};
 use ziti_outside::{Desk, Part};
 

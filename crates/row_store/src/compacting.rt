@@ -10,9 +10,9 @@ use crate::changing::Rows;
 use crate::faults::StoreFault;
 use crate::scanning::puts;
 use crate::sizing::has_room_for_all;
+use batch_codec::write_batch;
 use ctrl_model::Bytes;
 use journal_core::{HEADER, empty_slot};
-use row_codec::write_batch;
 use std::alloc::{AllocError, Global};
 
 /// The gate of a record.

@@ -11,9 +11,10 @@ ghost use Rattle.row_store.specs.Faults.{disk_failure};
 
 use crate::changing::{Rows, change_all, is_true_difference};
 use crate::faults::StoreFault;
+use batch_codec::read_batch;
 use ctrl_model::Bytes;
 use journal_core::{HEADER, JournalFault, next_record};
-use row_codec::{Op, RowFault, read_batch};
+use row_codec::{Op, RowFault};
 use std::alloc::{AllocError, Global};
 use ziti_outside::{Desk, Part};
 

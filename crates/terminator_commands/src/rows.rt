@@ -7,14 +7,14 @@ ghost use Rattle.row_codec.specs.CoveredTables.{Covers};
 ghost use Rattle.row_codec.specs.RowForm.{is_row, value_of};
 ghost use Rattle.row_codec.specs.RowValues.{record_value};
 ghost use Rattle.row_laws.specs.FittingRecords.{fits};
-ghost use Rattle.row_spelling.specs.RecordChanges.{value_at};
+ghost use Rattle.row_writing.specs.RecordChanges.{value_at};
 ghost use Rattle.terminators.specs.TermChanges.{terms_after};
 ghost use Rattle.terminator_commands.specs.TermRows.{AreFit};
 
 use ctrl_model::{Copies, Kind, Numbers, TermNo};
 use record_tables::changed_number;
 use row_codec::{Changes, Row};
-use row_spelling::{ChangedRows, touched_changes};
+use row_writing::{ChangedRows, touched_changes};
 use std::alloc::{AllocError, Global};
 use terminators::{TermChange, TermView, Terminators, TerminatorsAfter};
 

@@ -3,7 +3,7 @@ use Rattle.std.specs.Option.{option_map}
 use Rattle.ctrl_model.specs.declared.kinds.Kind.TheVariants as kind
 use Rattle.record_tables.specs.AfterChange.{touched_numbers}
 use Rattle.record_tables.specs.Turns.{turned_number}
-use Rattle.row_spelling.proofs.CoverLaws.{Covers-made}
+use Rattle.row_writing.proofs.CoverLaws.{Covers-made}
 use Rattle.circuits.specs.ChangedCircuits.{turn_of}
 use Rattle.circuits.specs.CircuitChanges.{circuits_after}
 use Rattle.circuits.specs.CircuitTables.{CircuitTables}

@@ -1,6 +1,6 @@
 use Rattle.std.proofs.Common.{sym, ◌∙◌}
 use Rattle.std.proofs.lemmas.Result.{IfOk-weaker}
-use Rattle.row_spelling.specs.RecordChanges.{setting_change_of}
+use Rattle.row_writing.specs.RecordChanges.{setting_change_of}
 use Rattle.core_stores.specs.ChangeParts.{least_after}
 use Rattle.ctrl_core.proofs.RowEnds.{least_end, least_then}
 use Rattle.ctrl_core.proofs.row_changes.setting_row.Goals as goal

@@ -4,7 +4,7 @@ use Rattle.ctrl_model.specs.declared.kinds.Kind.TheVariants as kind
 use Rattle.record_tables.specs.AfterChange.{changed_by, touched_numbers}
 use Rattle.record_tables.specs.Turns.{turned_number}
 use Rattle.row_laws.proofs.TouchedKeys.{Covers-turned}
-use Rattle.row_spelling.proofs.CoverLaws.{Covers-made}
+use Rattle.row_writing.proofs.CoverLaws.{Covers-made}
 use Rattle.fabric_graph.specs.ChangedLinks.{turn_of, set_by}
 use Rattle.fabric_graph.specs.FabricChanges.{after_link_change, fabric_after}
 use Rattle.fabric_graph.specs.FabricTables.{FabricSeen}

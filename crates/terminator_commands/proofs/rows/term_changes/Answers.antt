@@ -4,7 +4,7 @@ use Rattle.ctrl_model.specs.declared.kinds.Kind.TheVariants as kind
 use Rattle.record_tables.specs.AfterChange.{changed_by, touched_numbers}
 use Rattle.record_tables.specs.Turns.{turned_number}
 use Rattle.row_laws.proofs.TouchedKeys.{Covers-turned}
-use Rattle.row_spelling.proofs.CoverLaws.{Covers-made}
+use Rattle.row_writing.proofs.CoverLaws.{Covers-made}
 use Rattle.terminators.specs.ChangedTerms.{turn_of, set_by}
 use Rattle.terminators.specs.TermChanges.{after_term_change, terms_after}
 use Rattle.terminators.specs.TermTables.{TermTables}

@@ -1,5 +1,0 @@
-use Rattle.row_codec.proofs.BatchLaws as batches
-use Rattle.row_codec.proofs.laws.one_batch.Goals as goal
-
-pub returns : goal.returns
-returns c = batches.one_batch

@@ -1,0 +1,4 @@
+mod FormLaws
+mod ValueLaws
+mod RowLaws
+mod LoopLaws

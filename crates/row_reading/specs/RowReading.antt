@@ -1,0 +1,174 @@
+-- Rows as they are read: the parts of a key behind its table, and those of a value (docs/FORMATS.md, "Rows").
+use Rattle.std.specs.Prelude.{◌≡◌, ℕ, Bool, true, false, not, cond, nat_lt, nat_le, ◌==◌, ◌&&◌, List, length, find, None, Some, Ok, Err}
+use Rattle.std.specs.declared.option.Option.{Option}
+use Rattle.std.specs.declared.result.Result.{Result}
+use Rattle.std.specs.Option.{option_map, option_and_then, is_some}
+use Rattle.ctrl_model.specs.declared.kinds.Kind.{Kind}
+use Rattle.ctrl_model.specs.declared.kinds.Kind.TheVariants as kind
+use Rattle.ctrl_model.specs.declared.kinds.Side.{Side}
+use Rattle.ctrl_model.specs.declared.kinds.Semantic.{Semantic}
+use Rattle.ctrl_model.specs.declared.kinds.Relation.{Relation}
+use Rattle.ctrl_model.specs.declared.kinds.Relation.TheVariants as relation
+use Rattle.ctrl_model.specs.declared.kinds.Precedence.{Precedence}
+use Rattle.ctrl_model.specs.State.{start}
+use Rattle.row_codec.specs.declared.faults.RowFault.{RowFault}
+use Rattle.row_codec.specs.declared.faults.RowFault.TheVariants.{BadRow, BadBatch, NoMemory}
+use Rattle.row_codec.specs.declared.rows.Row.{Row}
+use Rattle.row_codec.specs.declared.rows.Row.TheVariants as row
+use Rattle.row_reading.specs.declared.tables.Table.{Table}
+use Rattle.row_reading.specs.declared.tables.Table.TheVariants as table
+use Rattle.row_codec.specs.RowForm.{is_positive}
+use Rattle.row_codec.specs.RowKeys.{RowTable, is_long, table_number, tables}
+use Rattle.row_codec.specs.RowKeys.RowTable.{Next, Setting, Records, Counts}
+use Rattle.row_codec.specs.FieldReading.{Front, front_byte, front_code, front_flag, front_instance, front_list, front_long, front_name, front_names, front_number, front_short, front_side, kept, both, mapped, alone, behind, is_end, relation_meant, semantic_meant, precedence_meant, marks_meant}
+use Rattle.ctrl_model.specs.Limits.{longest_path}
+
+-- The host that a number names, none for 0.
+abbrev pub host_named : ℕ → Option ℕ
+host_named n = cond (n == 0) None (Some n)
+
+-- The number of a kind in a key.
+abbrev pub is_kind : ℕ → Bool
+is_kind k = nat_le 1 k && nat_le k 9
+
+-- A next number that has a row.
+abbrev pub is_next : ℕ → Bool
+is_next n = nat_lt 1 n && is_long n
+
+-- A least router cost that has a row.
+abbrev pub is_setting : ℕ → Bool
+is_setting cost = not (cost == start.least_router_cost) && is_long cost
+
+-- A name and attributes.
+abbrev pub front_entity : List ℕ → Front (List ℕ × List (List ℕ))
+front_entity bytes = both front_name front_names bytes
+
+-- A name, attributes, a cost and marks.
+abbrev pub front_router : List ℕ → Front (List ℕ × (List (List ℕ) × (ℕ × (Bool × Bool))))
+front_router bytes = both front_name (both front_names (both front_short (front_code marks_meant))) bytes
+
+-- The cost of a link, the latencies of its ends, and whether it is up.
+abbrev pub front_costs : List ℕ → Front (ℕ × (ℕ × (ℕ × Bool)))
+front_costs bytes = both front_short (both front_short (both front_short front_flag)) bytes
+
+-- A name, two routers, and what a link costs.
+abbrev pub front_link : List ℕ → Front (List ℕ × (ℕ × (ℕ × (ℕ × (ℕ × (ℕ × Bool))))))
+front_link bytes = both front_name (both front_long (both front_long front_costs)) bytes
+
+-- A semantic and two sides.
+abbrev pub front_sides : List ℕ → Front (Semantic × (Side × Side))
+front_sides bytes = both (front_code semantic_meant) (both front_side front_side) bytes
+
+-- A name, a relation, and the rest of a policy.
+abbrev pub front_service_policy : List ℕ → Front (List ℕ × (Relation × (Semantic × (Side × Side))))
+front_service_policy bytes = both front_name (both (front_code relation_meant) front_sides) bytes
+
+-- A name, and the rest of a policy.
+abbrev pub front_router_policy : List ℕ → Front (List ℕ × (Semantic × (Side × Side)))
+front_router_policy bytes = both front_name front_sides bytes
+
+-- An instance, a cost and a precedence.
+abbrev pub front_place : List ℕ → Front (List ℕ × (ℕ × Precedence))
+front_place bytes = both front_instance (both front_short (front_code precedence_meant)) bytes
+
+-- A service, a router, a host, and the rest of a terminator.
+abbrev pub front_terminator : List ℕ → Front (ℕ × (ℕ × (Option ℕ × (List ℕ × (ℕ × Precedence)))))
+front_terminator bytes = both front_long (both front_long (both (mapped host_named front_long) front_place)) bytes
+
+-- An identity, a service, a terminator, an ingress, and links.
+abbrev pub front_circuit : List ℕ → Front (ℕ × (ℕ × (ℕ × (ℕ × List ℕ))))
+front_circuit bytes = both front_long (both front_long (both front_long (both front_long (front_list longest_path front_long)))) bytes
+
+-- A row whose key, behind its table, is read by one rule and whose value by another.
+abbrev pub row_read : {K V : Type 0} → (List ℕ → Front K) → (List ℕ → Front V) → (K → V → Row) → List ℕ → List ℕ → Option Row
+row_read key_front value_front make rest value = option_and_then (λ k. option_map (λ v. make k v) (alone value_front value)) (alone key_front rest)
+
+-- Nothing.
+abbrev pub front_nothing : List ℕ → Front (Unit {0})
+front_nothing bytes = Some (tt, bytes)
+
+-- The rows of counts.
+abbrev pub count_read : Relation → List ℕ → List ℕ → Option Row
+count_read relation.Dial rest value =
+    row_read (both front_number front_number) (kept is_positive front_long) (λ k n. row.Dial (record { 0 = k.0 }) (record { 0 = k.1 }) n) rest value
+count_read relation.Bind rest value =
+    row_read (both front_number front_number) (kept is_positive front_long) (λ k n. row.Bind (record { 0 = k.0 }) (record { 0 = k.1 }) n) rest value
+count_read relation.IdentityRouter rest value =
+    row_read (both front_number front_number) (kept is_positive front_long) (λ k n. row.IdentityRouter (record { 0 = k.0 }) (record { 0 = k.1 }) n) rest value
+count_read relation.ServiceRouter rest value =
+    row_read (both front_number front_number) (kept is_positive front_long) (λ k n. row.ServiceRouter (record { 0 = k.0 }) (record { 0 = k.1 }) n) rest value
+
+-- The rows of records.
+abbrev pub record_read : Kind → List ℕ → List ℕ → Option Row
+record_read kind.Identity rest value = row_read front_number front_entity (λ n v. row.Identity (record { 0 = n }) v.0 v.1) rest value
+record_read kind.Service rest value = row_read front_number front_entity (λ n v. row.Service (record { 0 = n }) v.0 v.1) rest value
+record_read kind.Router rest value =
+    row_read front_number front_router (λ n v. row.Router (record { 0 = n }) v.0 v.1.0 v.1.1.0 v.1.1.1.0 v.1.1.1.1) rest value
+record_read kind.Link rest value =
+    row_read front_number front_link (λ n v. row.Link (record { 0 = n }) v.0 (record { 0 = v.1.0 }) (record { 0 = v.1.1.0 }) v.1.1.1.0 v.1.1.1.1.0 v.1.1.1.1.1.0 v.1.1.1.1.1.1) rest value
+record_read kind.ServicePolicy rest value =
+    row_read front_number front_service_policy (λ n v. row.ServicePolicy (record { 0 = n }) v.0 v.1.0 v.1.1.0 v.1.1.1.0 v.1.1.1.1) rest value
+record_read kind.EdgeRouterPolicy rest value =
+    row_read front_number front_router_policy (λ n v. row.EdgeRouterPolicy (record { 0 = n }) v.0 v.1.0 v.1.1.0 v.1.1.1) rest value
+record_read kind.ServiceEdgeRouterPolicy rest value =
+    row_read front_number front_router_policy (λ n v. row.ServiceEdgeRouterPolicy (record { 0 = n }) v.0 v.1.0 v.1.1.0 v.1.1.1) rest value
+record_read kind.Terminator rest value =
+    row_read front_number front_terminator
+    (λ n v. row.Terminator (record { 0 = n }) (record { 0 = v.0 }) (record { 0 = v.1.0 }) (option_map (λ h. record { 0 = h }) v.1.1.0) v.1.1.1.0 v.1.1.1.1.0 v.1.1.1.1.1) rest value
+record_read kind.Circuit rest value =
+    row_read front_number front_circuit
+    (λ n v. row.Circuit (record { 0 = n }) (record { 0 = v.0 }) (record { 0 = v.1.0 }) (record { 0 = v.1.1.0 }) (record { 0 = v.1.1.1.0 }) v.1.1.1.1) rest value
+record_read kind.Attribute rest value = None
+
+-- The rows of a table: what follows the table in a key, and a value.
+abbrev pub table_read : RowTable → List ℕ → List ℕ → Option Row
+table_read Next rest value = row_read (kept is_kind front_byte) (kept is_next front_long) (λ k n. row.Next k n) rest value
+table_read Setting rest value = row_read front_nothing (kept is_setting front_long) (λ u n. row.Setting n) rest value
+table_read (Records k) rest value = record_read k rest value
+table_read (Counts r) rest value = count_read r rest value
+
+-- The table of a number.
+abbrev pub table_of : ℕ → Option RowTable
+table_of number = find (λ t. table_number t == number) tables
+
+-- A table as the code sees it.
+abbrev pub table_seen : Table → RowTable
+table_seen table.Next = Next
+table_seen table.Setting = Setting
+table_seen (table.Records k) = Records k
+table_seen (table.Counts r) = Counts r
+
+-- The row that a key and a value are read as.
+abbrev pub row_of : List ℕ → List ℕ → Option Row
+row_of key value = option_and_then (λ t. option_and_then (λ found. table_read found t.1 value) (table_of t.0)) (front_byte key)
+
+-- Whether a value is that of a record of a kind.
+abbrev pub is_value : Kind → List ℕ → Bool
+is_value kind.Identity value = is_end (behind (front_entity value))
+is_value kind.Service value = is_end (behind (front_entity value))
+is_value kind.Router value = is_end (behind (front_router value))
+is_value kind.Link value = is_end (behind (front_link value))
+is_value kind.ServicePolicy value = is_end (behind (front_service_policy value))
+is_value kind.EdgeRouterPolicy value = is_end (behind (front_router_policy value))
+is_value kind.ServiceEdgeRouterPolicy value = is_end (behind (front_router_policy value))
+is_value kind.Terminator value = is_end (behind (front_terminator value))
+is_value kind.Circuit value = is_end (behind (front_circuit value))
+is_value kind.Attribute value = false
+
+-- Whether what follows a table in a key, and a value, are those of a row in the table.
+abbrev pub is_row_in : RowTable → List ℕ → List ℕ → Bool
+is_row_in Next rest value = is_some (alone (kept is_kind front_byte) rest) && is_some (alone (kept is_next front_long) value)
+is_row_in Setting rest value = (length rest == 0) && is_some (alone (kept is_setting front_long) value)
+is_row_in (Records k) rest value = is_some (alone front_number rest) && is_value k value
+is_row_in (Counts r) rest value = is_some (alone (both front_number front_number) rest) && is_some (alone (kept is_positive front_long) value)
+
+-- A fault says that nothing is read, unless memory was wanting.
+abbrev pub Fails : {Y : Type 0} → RowFault → Option Y → Type 0
+Fails BadRow read = read ≡ None
+Fails BadBatch read = ⊥
+Fails NoMemory read = Unit {0}
+
+-- What a function returned, seen by `view`, is what is read, unless memory was wanting.
+abbrev pub Gives : {X Y : Type 0} → (X → Y) → Result X RowFault → Option Y → Type 0
+Gives view (Ok x) read = read ≡ Some (view x)
+Gives view (Err e) read = Fails e read

@@ -1,0 +1,15 @@
+//! Rows read: of a key and a value the one row that they spell, or that they spell none (docs/FORMATS.md, "Rows").
+#![tactic(auto)]
+
+mod checking;
+mod laws;
+mod naming;
+mod reading;
+mod row_building;
+mod spelling;
+mod tables;
+mod worked_spellings;
+
+pub use laws::one_row;
+pub use spelling::read_row;
+pub use worked_spellings::worked_no_rows;

@@ -1,0 +1,245 @@
+ghost use Rattle.std.specs.Prelude.{◌≡◌, ℕ, List, Some};
+ghost use Rattle.ctrl_model.specs.declared.kinds.Kind.TheVariants as kind;
+ghost use Rattle.row_codec.specs.RowKeys.RowTable.{Next, Setting, Counts};
+ghost use Rattle.row_codec.specs.FieldReading.{alone, front_number};
+ghost use Rattle.row_reading.specs.RowReading.{Gives, record_read, count_read, table_read, table_seen, row_of};
+
+use crate::checking::{lone_count, lone_kind, lone_next, lone_number, lone_pair, lone_setting};
+use crate::reading::{
+    read_circuit, read_entity, read_link, read_router, read_router_policy, read_service_policy,
+    read_terminator,
+};
+use crate::tables::{Table, table_of};
+use ctrl_model::{
+    CircuitNo, IdentityNo, Kind, LinkNo, PolicyNo, Relation, RouterNo, ServiceNo, TermNo,
+};
+use row_codec::{Row, RowFault, split_byte};
+use std::alloc::Global;
+
+fn identity_row(alloc: Global, no: u32, value: &[u8]) -> Result<Row, RowFault>
+    ensures { (rest : List ℕ) → alone front_number rest ≡ Some no → Gives (λ r. r) result (record_read kind.Identity rest value.now) }
+{
+    let (name, attributes) = read_entity(alloc, value)?;
+    Ok(Row::Identity {
+        no: IdentityNo(no),
+        name,
+        attributes,
+    })
+}
+
+fn service_row(alloc: Global, no: u32, value: &[u8]) -> Result<Row, RowFault>
+    ensures { (rest : List ℕ) → alone front_number rest ≡ Some no → Gives (λ r. r) result (record_read kind.Service rest value.now) }
+{
+    let (name, attributes) = read_entity(alloc, value)?;
+    Ok(Row::Service {
+        no: ServiceNo(no),
+        name,
+        attributes,
+    })
+}
+
+fn router_row(alloc: Global, no: u32, value: &[u8]) -> Result<Row, RowFault>
+    ensures { (rest : List ℕ) → alone front_number rest ≡ Some no → Gives (λ r. r) result (record_read kind.Router rest value.now) }
+{
+    let (name, (attributes, (cost, (through, connected)))) = read_router(alloc, value)?;
+    Ok(Row::Router {
+        no: RouterNo(no),
+        name,
+        attributes,
+        cost,
+        through,
+        connected,
+    })
+}
+
+fn link_row(alloc: Global, no: u32, value: &[u8]) -> Result<Row, RowFault>
+    ensures { (rest : List ℕ) → alone front_number rest ≡ Some no → Gives (λ r. r) result (record_read kind.Link rest value.now) }
+{
+    let (name, (a, (b, (cost, (latency_a, (latency_b, up)))))) = read_link(alloc, value)?;
+    Ok(Row::Link {
+        no: LinkNo(no),
+        name,
+        a: RouterNo(a),
+        b: RouterNo(b),
+        cost,
+        latency_a,
+        latency_b,
+        up,
+    })
+}
+
+fn service_policy_row(alloc: Global, no: u32, value: &[u8]) -> Result<Row, RowFault>
+    ensures { (rest : List ℕ) → alone front_number rest ≡ Some no → Gives (λ r. r) result (record_read kind.ServicePolicy rest value.now) }
+{
+    let (name, (relation, (semantic, (identities, services)))) = read_service_policy(alloc, value)?;
+    Ok(Row::ServicePolicy {
+        no: PolicyNo(no),
+        name,
+        relation,
+        semantic,
+        identities,
+        services,
+    })
+}
+
+fn edge_router_policy_row(alloc: Global, no: u32, value: &[u8]) -> Result<Row, RowFault>
+    ensures { (rest : List ℕ) → alone front_number rest ≡ Some no → Gives (λ r. r) result (record_read kind.EdgeRouterPolicy rest value.now) }
+{
+    let (name, (semantic, (identities, routers))) = read_router_policy(alloc, value)?;
+    Ok(Row::EdgeRouterPolicy {
+        no: PolicyNo(no),
+        name,
+        semantic,
+        identities,
+        routers,
+    })
+}
+
+fn service_edge_router_policy_row(alloc: Global, no: u32, value: &[u8]) -> Result<Row, RowFault>
+    ensures { (rest : List ℕ) → alone front_number rest ≡ Some no → Gives (λ r. r) result (record_read kind.ServiceEdgeRouterPolicy rest value.now) }
+{
+    let (name, (semantic, (services, routers))) = read_router_policy(alloc, value)?;
+    Ok(Row::ServiceEdgeRouterPolicy {
+        no: PolicyNo(no),
+        name,
+        semantic,
+        services,
+        routers,
+    })
+}
+
+fn terminator_row(alloc: Global, no: u32, value: &[u8]) -> Result<Row, RowFault>
+    ensures { (rest : List ℕ) → alone front_number rest ≡ Some no → Gives (λ r. r) result (record_read kind.Terminator rest value.now) }
+{
+    let (service, (router, (host, (instance, (cost, precedence))))) = read_terminator(
+        alloc, value,
+    )?;
+    Ok(Row::Terminator {
+        no: TermNo(no),
+        service: ServiceNo(service),
+        router: RouterNo(router),
+        host,
+        instance,
+        cost,
+        precedence,
+    })
+}
+
+fn circuit_row(alloc: Global, no: u32, value: &[u8]) -> Result<Row, RowFault>
+    ensures { (rest : List ℕ) → alone front_number rest ≡ Some no → Gives (λ r. r) result (record_read kind.Circuit rest value.now) }
+{
+    let (identity, (service, (terminator, (ingress, links)))) = read_circuit(alloc, value)?;
+    Ok(Row::Circuit {
+        no: CircuitNo(no),
+        identity: IdentityNo(identity),
+        service: ServiceNo(service),
+        terminator: TermNo(terminator),
+        ingress: RouterNo(ingress),
+        links,
+    })
+}
+
+fn record_row(alloc: Global, kind: Kind, rest: &[u8], value: &[u8]) -> Result<Row, RowFault>
+    ensures { Gives (λ r. r) result (record_read kind rest.now value.now) }
+{
+    let Some(no) = lone_number(rest) else {
+        return Err(RowFault::BadRow);
+    };
+    match kind {
+        Kind::Identity => identity_row(alloc, no, value),
+        Kind::Service => service_row(alloc, no, value),
+        Kind::Router => router_row(alloc, no, value),
+        Kind::Link => link_row(alloc, no, value),
+        Kind::ServicePolicy => service_policy_row(alloc, no, value),
+        Kind::EdgeRouterPolicy => edge_router_policy_row(alloc, no, value),
+        Kind::ServiceEdgeRouterPolicy => service_edge_router_policy_row(alloc, no, value),
+        Kind::Terminator => terminator_row(alloc, no, value),
+        Kind::Circuit => circuit_row(alloc, no, value),
+        Kind::Attribute => Err(RowFault::BadRow),
+    }
+}
+
+fn count_row(relation: Relation, rest: &[u8], value: &[u8]) -> Result<Row, RowFault>
+    ensures { Gives (λ r. r) result (count_read relation rest.now value.now) }
+{
+    let Some((first, second)) = lone_pair(rest) else {
+        return Err(RowFault::BadRow);
+    };
+    let Some(count) = lone_count(value) else {
+        return Err(RowFault::BadRow);
+    };
+    match relation {
+        Relation::Dial => Ok(Row::Dial {
+            identity: IdentityNo(first),
+            service: ServiceNo(second),
+            count,
+        }),
+        Relation::Bind => Ok(Row::Bind {
+            identity: IdentityNo(first),
+            service: ServiceNo(second),
+            count,
+        }),
+        Relation::IdentityRouter => {
+            Ok(Row::IdentityRouter {
+                identity: IdentityNo(first),
+                router: RouterNo(second),
+                count,
+            })
+        }
+        Relation::ServiceRouter => {
+            Ok(Row::ServiceRouter {
+                service: ServiceNo(first),
+                router: RouterNo(second),
+                count,
+            })
+        }
+    }
+}
+
+fn next_row(rest: &[u8], value: &[u8]) -> Result<Row, RowFault>
+    ensures { Gives (λ r. r) result (table_read Next rest.now value.now) }
+{
+    let Some(kind) = lone_kind(rest) else {
+        return Err(RowFault::BadRow);
+    };
+    let Some(next) = lone_next(value) else {
+        return Err(RowFault::BadRow);
+    };
+    Ok(Row::Next { kind, next })
+}
+
+fn setting_row(rest: &[u8], value: &[u8]) -> Result<Row, RowFault>
+    ensures { Gives (λ r. r) result (table_read Setting rest.now value.now) }
+{
+    if !rest.is_empty() {
+        return Err(RowFault::BadRow);
+    }
+    let Some(cost) = lone_setting(value) else {
+        return Err(RowFault::BadRow);
+    };
+    Ok(Row::Setting { cost })
+}
+
+fn row_in(alloc: Global, table: Table, rest: &[u8], value: &[u8]) -> Result<Row, RowFault>
+    ensures { Gives (λ r. r) result (table_read (table_seen table) rest.now value.now) }
+{
+    match table {
+        Table::Next => next_row(rest, value),
+        Table::Setting => setting_row(rest, value),
+        Table::Records(kind) => record_row(alloc, kind, rest, value),
+        Table::Counts(relation) => count_row(relation, rest, value),
+    }
+}
+
+/// The row that a key and a value are read as.
+pub(crate) fn build_row(alloc: Global, key: &[u8], value: &[u8]) -> Result<Row, RowFault>
+    ensures { Gives (λ r. r) result (row_of key.now value.now) }
+{
+    let Some((number, rest)) = split_byte(key) else {
+        return Err(RowFault::BadRow);
+    };
+    match table_of(number) {
+        None => Err(RowFault::BadRow),
+        Some(table) => row_in(alloc, table, rest, value),
+    }
+}

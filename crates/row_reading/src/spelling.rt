@@ -1,0 +1,20 @@
+ghost use Rattle.std.specs.Prelude.{◌≡◌, ◌↔◌, IfOk, IsErrOf};
+ghost use Rattle.row_codec.specs.declared.rows.Row.{Row};
+ghost use Rattle.row_codec.specs.RowForm.{SpellsRow};
+
+use crate::checking::is_spelled;
+use crate::row_building::build_row;
+use row_codec::{Row, RowFault};
+use std::alloc::Global;
+
+/// The row that a key and a value spell. `BadRow` comes exactly where they spell none; `BadBatch` never comes.
+pub fn read_row(alloc: Global, key: &[u8], value: &[u8]) -> Result<Row, RowFault>
+    ensures read { IfOk result (λ row. SpellsRow key.now value.now row) }
+    ensures bad { IsErrOf result RowFault.BadRow ↔ ((row : Row) → SpellsRow key.now value.now row → ⊥) }
+    ensures never { IsErrOf result RowFault.BadBatch → ⊥ }
+{
+    if !is_spelled(key, value) {
+        return Err(RowFault::BadRow);
+    }
+    build_row(alloc, key, value)
+}

@@ -1,5 +1,0 @@
-use Rattle.row_spelling.proofs.RowLaws as rows
-use Rattle.row_spelling.proofs.laws.one_row.Goals as goal
-
-pub returns : goal.returns
-returns c = rows.one_row

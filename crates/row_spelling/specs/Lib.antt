@@ -1,4 +1,0 @@
-pub mod RowReading
-pub mod WorkedRows
-pub mod RecordChanges
-pub mod TableValues

@@ -1,0 +1,2 @@
+mod SpellingLaws
+pub mod CoverLaws

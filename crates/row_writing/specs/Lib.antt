@@ -1,0 +1,3 @@
+pub mod WorkedRows
+pub mod RecordChanges
+pub mod TableValues
