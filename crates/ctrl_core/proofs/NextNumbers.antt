@@ -40,7 +40,7 @@ use Rattle.terminators.specs.TermTables.{TermTables}
 use Rattle.core_stores.specs.declared.changes.Change.{Change}
 use Rattle.core_stores.specs.declared.changes.Change.TheVariants as change
 use Rattle.core_stores.specs.declared.stores.Stores.{Stores}
-use Rattle.core_stores.specs.ForgottenEntities.{forgetting_by}
+use Rattle.policy_commands.specs.ForgottenEntities.{forgetting_by}
 use Rattle.core_stores.specs.ChangeParts.{entity_part, policy_part, link_part, term_part, circuit_part, adds, adds_entity, adds_policy, adds_link, adds_term, adds_circuit}
 use Rattle.ctrl_core.specs.ChangedStores.{CanSettle, next_change_in, next_state}
 use Rattle.core_stores.specs.StoredState.{state_of}

@@ -1,4 +1,4 @@
-ghost use Rattle.std.specs.Prelude.{◌≡◌, true, IfOk, option_map};
+ghost use Rattle.std.specs.Prelude.{◌≡◌, true, false, IfOk, MatchOption, option_map};
 ghost use Rattle.ctrl_model.specs.CommandForm.{is_spelled};
 ghost use Rattle.ctrl_model.specs.Controller.{carry};
 ghost use Rattle.ctrl_model.specs.State.{State};
@@ -7,21 +7,20 @@ ghost use Rattle.model_laws.specs.Plans as family;
 ghost use Rattle.model_laws.specs.Plans.{CanLeadBy};
 ghost use Rattle.core_stores.specs.declared.changes.Change.TheVariants.{Entity, Policy};
 ghost use Rattle.core_stores.specs.StoredState.{state_of};
+ghost use Rattle.show_commands.specs.ShownCommands.{is_grant_command};
 ghost use Rattle.ctrl_core.specs.Changes.{CanChange, after_change};
 ghost use Rattle.ctrl_core.specs.KeptState.{Keeps};
 ghost use Rattle.ctrl_core.specs.OtherCommands.{reply_alone};
 ghost use Rattle.ctrl_core.specs.PlannedCommands.{Plans};
 
 use crate::counting::change_steps;
-use crate::showing::shown_by;
 use circuit_rules::{Parts, plan_circuit_command};
-use core_stores::{
-    Change, Draft, Stores, circuit_change, link_change, plan_policy_command, term_change,
-};
+use core_stores::{Change, Draft, Stores, circuit_change, link_change, term_change};
 use ctrl_model::{Command, Reply};
 use entity_commands::{EntityChange, plan_entity_command};
 use link_commands::plan_link_command;
-use policy_store::PolicyChange;
+use policy_commands::{PolicyChange, plan_policy_command};
+use show_commands::{Shown, shown_by};
 use std::alloc::{AllocError, Global};
 use terminator_commands::plan_terminator_command;
 
@@ -72,6 +71,25 @@ fn reply_alone(command: &Command) -> Reply
     }
 }
 
+// The reply to a command that shows grants or counts of some stores. None is another command.
+fn shown_in(alloc: Global, stores: &Stores, command: &Command) -> Result<Option<Reply>, AllocError>
+    requires { Keeps stores.now }
+    ensures { IfOk result (λ o. MatchOption o (is_grant_command command.now ≡ false) (λ r. carry command.now (state_of stores.now) ≡ (r, state_of stores.now))) }
+{
+    let shown = Shown {
+        entities: &stores.entities,
+        policies: &stores.policies,
+        fabric: &stores.fabric,
+        terminators: &stores.terminators,
+        circuits: &stores.circuits,
+        dial: &stores.grants.dial,
+        bind: &stores.grants.bind,
+        identity_router: &stores.grants.identity_router,
+        service_router: &stores.grants.service_router,
+    };
+    shown_by(alloc, &shown, command)
+}
+
 /// Plans the answer to a command over the state of some stores: it is planned by the family that it belongs to, and what belongs to
 /// none, Hello or Compact, changes nothing.
 pub fn plan_command(alloc: Global, stores: &Stores, command: &Command) -> Result<Draft, AllocError>
@@ -106,7 +124,7 @@ pub fn plan_command(alloc: Global, stores: &Stores, command: &Command) -> Result
     if let Some(plan) = plan_circuit_command(alloc, &parts, command)? {
         return drafted(alloc, stores, plan.reply, circuit_change(plan.change));
     }
-    if let Some(reply) = shown_by(alloc, stores, command)? {
+    if let Some(reply) = shown_in(alloc, stores, command)? {
         return Ok(Draft::shown(alloc, reply));
     }
     Ok(Draft::shown(alloc, reply_alone(command)))

@@ -6,7 +6,7 @@ ghost use Rattle.row_codec.specs.CoveredTables.{Covers};
 ghost use Rattle.row_codec.specs.RowKeys.{kind_number};
 ghost use Rattle.row_spelling.specs.RecordChanges.{setting_change_of};
 ghost use Rattle.ctrl_core.specs.ChangedStores.{CanSettle, KnowsSettled, next_change_in, next_state};
-ghost use Rattle.core_stores.specs.LeadingSteps.{LeadAllCounts};
+ghost use Rattle.grant_steps.specs.LeadingSteps.{LeadAllCounts};
 ghost use Rattle.ctrl_core.specs.KeptState.{Keeps};
 ghost use Rattle.core_stores.specs.StoredState.{state_of};
 
@@ -16,7 +16,7 @@ use ctrl_model::Kind;
 use entity_commands::entity_changes;
 use grant_rows::{CountMoves, GrantMoves, all_count_changes};
 use link_commands::link_changes;
-use policy_rows::{forgotten_changes, policy_changes};
+use policy_commands::{forgotten_changes, policy_changes};
 use policy_store::GrantSteps;
 use row_codec::{Batch, Change as RowChange, Changes, batch_of};
 use row_spelling::{next_change, setting_change};
