@@ -4,3 +4,4 @@ pub mod Drafts
 pub mod CarriedStates
 pub mod SettledNumbers
 pub mod OpenCircuits
+pub mod NextNumbers

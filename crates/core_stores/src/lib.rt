@@ -6,14 +6,18 @@ mod adding;
 mod change_parts;
 mod changes;
 mod loads;
+mod next_rows;
 mod settled;
 mod skipping;
 mod stepping;
 mod stores;
 
-pub use adding::{KINDS, adds, forgotten, least_after, next_if, next_of};
-pub use changes::{Change, Draft, circuit_change, link_change, term_change};
+pub use adding::{KINDS, forgotten};
+pub use changes::{
+    Change, Draft, circuit_change, entity_change, link_change, policy_change, term_change,
+};
 pub use loads::{Loads, count_loads, loads_after};
+pub use next_rows::{least_change, next_changes};
 pub use settled::{Settled, take_out};
 pub use skipping::skip;
 pub use stepping::apply_steps;

@@ -1,11 +1,10 @@
-ghost use Rattle.std.specs.Prelude.{◌≡◌, true, false, IfOk, MatchOption, option_map};
+ghost use Rattle.std.specs.Prelude.{◌≡◌, true, false, IfOk, MatchOption};
 ghost use Rattle.ctrl_model.specs.CommandForm.{is_spelled};
 ghost use Rattle.ctrl_model.specs.Controller.{carry};
 ghost use Rattle.ctrl_model.specs.State.{State};
 ghost use Rattle.ctrl_model.specs.declared.replies.Reply.{Reply};
 ghost use Rattle.model_laws.specs.Plans as family;
 ghost use Rattle.model_laws.specs.Plans.{CanLeadBy};
-ghost use Rattle.core_stores.specs.declared.changes.Change.TheVariants.{Entity, Policy};
 ghost use Rattle.core_stores.specs.StoredState.{state_of};
 ghost use Rattle.show_commands.specs.ShownCommands.{is_grant_command};
 ghost use Rattle.ctrl_core.specs.Changes.{CanChange, after_change};
@@ -15,28 +14,16 @@ ghost use Rattle.ctrl_core.specs.PlannedCommands.{Plans};
 
 use crate::counting::change_steps;
 use circuit_rules::{Parts, plan_circuit_command};
-use core_stores::{Change, Draft, Stores, circuit_change, link_change, term_change};
+use core_stores::{
+    Change, Draft, Stores, circuit_change, entity_change, link_change, policy_change, term_change,
+};
 use ctrl_model::{Command, Reply};
-use entity_commands::{EntityChange, plan_entity_command};
+use entity_commands::plan_entity_command;
 use link_commands::plan_link_command;
-use policy_commands::{PolicyChange, plan_policy_command};
+use policy_commands::plan_policy_command;
 use show_commands::{Shown, shown_by};
 use std::alloc::{AllocError, Global};
 use terminator_commands::plan_terminator_command;
-
-// A change of the entities, as one of the core.
-fn entity_change(change: Option<EntityChange>) -> Option<Change>
-    ensures { result ≡ option_map Entity change }
-{
-    change.map(|change| Change::Entity(change))
-}
-
-// A change of the policies, as one of the core.
-fn policy_change(change: Option<PolicyChange>) -> Option<Change>
-    ensures { result ≡ option_map Policy change }
-{
-    change.map(|change| Change::Policy(change))
-}
 
 // The draft of a plan: its change, if there is one, with the steps that the counts take.
 fn drafted(
