@@ -21,6 +21,7 @@ use ctrl_model::{Command, Reply};
 use entity_commands::plan_entity_command;
 use link_commands::plan_link_command;
 use policy_commands::plan_policy_command;
+use policy_store::count_all_policies;
 use show_commands::{Shown, shown_by};
 use std::alloc::{AllocError, Global};
 use terminator_commands::plan_terminator_command;
@@ -65,14 +66,14 @@ fn shown_in(alloc: Global, stores: &Stores, command: &Command) -> Result<Option<
 {
     let shown = Shown {
         entities: &stores.entities,
-        policies: &stores.policies,
-        fabric: &stores.fabric,
-        terminators: &stores.terminators,
-        circuits: &stores.circuits,
         dial: &stores.grants.dial,
         bind: &stores.grants.bind,
         identity_router: &stores.grants.identity_router,
         service_router: &stores.grants.service_router,
+        circuits: stores.circuits.count() as u32,
+        links: stores.fabric.count() as u32,
+        policies: count_all_policies(&stores.policies),
+        terminators: stores.terminators.count() as u32,
     };
     shown_by(alloc, &shown, command)
 }

@@ -4,7 +4,6 @@ use Rattle.std.proofs.lemmas.Simd.{map-map}
 use Rattle.std.specs.Option.{unwrap_or}
 use Rattle.std.specs.List.{filter}
 use Rattle.ctrl_model.specs.declared.kinds.Kind.TheVariants as kind
-use Rattle.ctrl_model.specs.declared.kinds.Relation.TheVariants.{Dial, Bind, IdentityRouter}
 use Rattle.ctrl_model.specs.declared.refusals.Field.TheVariants as field
 use Rattle.ctrl_model.specs.declared.refusals.Refusal.TheVariants.{Unknown}
 use Rattle.ctrl_model.specs.declared.replies.Reply.{Reply}
@@ -38,13 +37,13 @@ pub grants_said : (p : Shown) (s : State) (n : ℕ) (bind dial routers : List Ta
     → dial ≡ tallies (count_of p.dial.now n) p.entities.now.services.rows → routers ≡ tallies (count_of p.identity_router.now n) (entities kind.Router p.entities.now)
     → reply.Grants bind dial routers ≡ grants_of n (with_shown p s)
 grants_said p s n bind dial routers shows bound dialled routed = λ i.
-    reply.Grants ((bound ∙ (λ j. tallies (λ b. shows.counts Bind n b j) p.entities.now.services.rows)) i)
-    ((dialled ∙ (λ j. tallies (λ b. shows.counts Dial n b j) p.entities.now.services.rows)) i)
-    ((routed ∙ (λ j. tallies (λ b. shows.counts IdentityRouter n b j) (entities kind.Router p.entities.now))) i)
+    reply.Grants ((bound ∙ (λ j. tallies (λ b. shows.bind n b j) p.entities.now.services.rows)) i)
+    ((dialled ∙ (λ j. tallies (λ b. shows.dial n b j) p.entities.now.services.rows)) i)
+    ((routed ∙ (λ j. tallies (λ b. shows.identity_router n b j) (entities kind.Router p.entities.now))) i)
 
 pub services_said : (p : Shown) (s : State) (n : ℕ) (names : List (List ℕ)) (dialled : List Tally) → Shows p s → names ≡ map (λ (t : Tally). t.name) dialled
     → dialled ≡ tallies (count_of p.dial.now n) p.entities.now.services.rows → reply.Services names ≡ services_of n (with_shown p s)
 services_said p s n names dialled shows told dials = ap reply.Services
     (told ∙ ap (map (λ (t : Tally). t.name)) dials
     ∙ map-map (λ (t : Tally). t.name) (tally_of (count_of p.dial.now n)) (filter (λ row. nat_lt 0 (count_of p.dial.now n row.0)) p.entities.now.services.rows)
-    ∙ (λ i. map (λ (row : ℕ × Entity). row.1.name) (filter (λ row. nat_lt 0 (shows.counts Dial n row.0 i)) p.entities.now.services.rows)))
+    ∙ (λ i. map (λ (row : ℕ × Entity). row.1.name) (filter (λ row. nat_lt 0 (shows.dial n row.0 i)) p.entities.now.services.rows)))

@@ -11,7 +11,6 @@ use crate::shown_parts::Shown;
 use crate::tallying::{names_of, tallies};
 use ctrl_model::{Command, Field, Kind, Name, Names, Refusal, Reply, Tallies};
 use entity_store::Entities;
-use policy_store::count_all_policies;
 use std::alloc::{AllocError, Global};
 
 // The reply where nothing has the name of the identity.
@@ -81,18 +80,18 @@ fn shown_counts(shown: &Shown) -> Reply
 {
     let entities = shown.entities;
     Reply::Counts {
-        circuits: shown.circuits.count() as u32,
+        circuits: shown.circuits,
         grants: count_grants(shown),
         identities: entities.count(Kind::Identity) as u32,
-        links: shown.fabric.count() as u32,
-        policies: count_all_policies(shown.policies),
+        links: shown.links,
+        policies: shown.policies,
         routers: entities.count(Kind::Router) as u32,
         services: entities.count(Kind::Service) as u32,
-        terminators: shown.terminators.count() as u32,
+        terminators: shown.terminators,
     }
 }
 
-/// The reply to a command that shows grants or counts: in every state with these records and these grant counts it is the controller's
+/// The reply to a command that shows grants or counts: in every state with these entities, grant counts and numbers of records it is the controller's
 /// (docs/RULES.md, "The controller"). None is another command. An `Err` is want of memory.
 pub fn shown_by(
     alloc: Global,
