@@ -1,16 +1,4 @@
-pub mod MemberLaws
-pub mod TurnLaws
-pub mod OrderedSides
-pub mod PolicyCounts
-pub mod StepsInState
-pub mod PolicySteps
 pub mod TakenLaws
-pub mod Arounds
-pub mod PolicyUses
-pub mod SpelledPolicies
-pub mod RefusedPolicies
-pub mod PolicyPlans
-pub mod PolicyApplyLaws
 pub mod LaterNumbers
 pub mod SettledLaws
 pub mod LoadLaws

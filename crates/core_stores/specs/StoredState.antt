@@ -3,7 +3,7 @@ use Rattle.std.specs.Prelude.{ℕ, List}
 use Rattle.ctrl_model.specs.declared.kinds.Relation.{Relation}
 use Rattle.ctrl_model.specs.declared.kinds.Relation.TheVariants.{Dial, Bind, IdentityRouter, ServiceRouter}
 use Rattle.ctrl_model.specs.State.{State}
-use Rattle.core_stores.specs.PolicyStates.{HoldsUses}
+use Rattle.entity_store.specs.HeldUses as held_uses
 use Rattle.core_stores.specs.declared.stores.Grants.{Grants}
 use Rattle.core_stores.specs.declared.stores.Stores.{Stores}
 
@@ -31,4 +31,4 @@ counts_of ServiceRouter g = g.service_router
 
 -- The uses that are held beside those of entities are those of policies.
 abbrev pub HoldsPolicies : Stores → Type 0
-HoldsPolicies st = HoldsUses st.entities st.policies
+HoldsPolicies st = held_uses.HoldsPolicies st.entities (state_of st)

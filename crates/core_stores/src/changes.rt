@@ -1,7 +1,7 @@
 ghost use Rattle.std.specs.Prelude.{◌≡◌, None, option_map};
 ghost use Rattle.std.specs.declared.option.Option.{Option};
 ghost use Rattle.ctrl_model.specs.declared.replies.Reply.TheVariants.{Refused};
-ghost use Rattle.core_stores.specs.declared.changes.Change.TheVariants.{Link, Terminator, Circuit};
+ghost use Rattle.core_stores.specs.declared.changes.Change.TheVariants.{Entity, Policy, Link, Terminator, Circuit};
 ghost use Rattle.core_stores.specs.Drafts.{IsShown, IsUncounted};
 
 use circuits::CircuitChange;
@@ -61,6 +61,20 @@ impl Draft {
     {
         Draft::shown(alloc, Reply::Refused(refusal))
     }
+}
+
+/// The change of entities that a plan has, as one of the core.
+pub fn entity_change(change: Option<EntityChange>) -> Option<Change>
+    ensures { result ≡ option_map Entity change }
+{
+    change.map(|change| Change::Entity(change))
+}
+
+/// The change of policies that a plan has, as one of the core.
+pub fn policy_change(change: Option<PolicyChange>) -> Option<Change>
+    ensures { result ≡ option_map Policy change }
+{
+    change.map(|change| Change::Policy(change))
 }
 
 /// The change of links that a plan has, as one of the core.

@@ -1,4 +1,4 @@
--- What applying a change of an entity has to show: that the stores stand for the state after it.
+-- What applying a change of entities or policies has to show: that the stores stand for the state after it.
 use Rattle.std.proofs.Common.{◌≡◌, ◌≢◌, ℕ, ◌+◌, ◌==◌, Bool, true, false, cond, not, List, [], ◌∷◌, ◌++◌, refl, sym, ◌∙◌, ap, arith, eq-eqb, ne_eqb}
 use Rattle.std.proofs.Math.Bool.{not-not}
 use Rattle.std.proofs.lemmas.Bool.{cond-false, false≢true}
@@ -22,10 +22,13 @@ use Rattle.entity_store.specs.declared.changes.EntityChange.TheVariants as chang
 use Rattle.entity_commands.specs.EntityChanges.{CanEnter, is_plain_kind, with_plain, with_described, with_described_router, without_named, entered, after_entity_change}
 use Rattle.entity_commands.proofs.ApplyLaws.{marked}
 use Rattle.policy_store.specs.PolicyTables.{PolicyTables, forgetting}
+use Rattle.policy_store.specs.PolicyChanges.{after_policy_change, ruled}
+use Rattle.policy_store.specs.declared.changes.PolicyChange.{PolicyChange}
+use Rattle.policy_commands.specs.RuledPolicies.{Rules}
 use Rattle.core_stores.specs.declared.stores.Stores.{Stores}
-use Rattle.core_stores.proofs.PolicyApplyLaws.{attributes_of}
+use Rattle.policy_commands.proofs.PolicyApplyLaws.{attributes_of}
 use Rattle.core_stores.specs.CarriedStates.{Carries}
-use Rattle.core_stores.specs.ForgottenEntities.{ForgetsEntity, forgetting_by}
+use Rattle.policy_commands.specs.ForgottenEntities.{ForgetsEntity, forgetting_by}
 use Rattle.core_stores.specs.StoredState.{HoldsPolicies}
 use Rattle.core_stores.specs.StoredState.{state_of}
 
@@ -141,3 +144,14 @@ carried_entity (change.Remove k n name) st can valid held = carried_removed k n 
 pub forgets_entity : (c : EntityChange) (s : State) → CanEnter c s → ForgetsEntity c
 forgets_entity (change.Remove k n name) s can = can.0
 forgets_entity _ s can = tt
+
+-- ---- a change of the policies
+
+pub carried_rules : (c : PolicyChange) (st : Stores) (t : Tables) (p : PolicyTables) → Rules c st.entities t st.policies p
+    → Carries st (record st { entities = t; policies = p }) (ruled c (state_of st))
+carried_rules c st t p rules = record {
+  next = ap (λ (q : PolicyTables). state_of (record st { entities = t; policies = q })) rules.policies_are
+      ∙ ap (λ (e : Tables). state_of (record st { entities = e; policies = after_policy_change c st.policies })) rules.entities_stay;
+  held = rules.held;
+  counts = refl;
+}

@@ -11,7 +11,7 @@ use Rattle.grant_rows.specs.CountChanges as rows
 use Rattle.policy_store.specs.declared.steps.GrantSteps.{GrantSteps}
 use Rattle.policy_store.specs.StepsOfRelations.{steps_of}
 use Rattle.core_stores.specs.declared.stores.Stores.{Stores}
-use Rattle.core_stores.specs.LeadingSteps.{LeadAllCounts}
+use Rattle.grant_steps.specs.LeadingSteps.{LeadAllCounts}
 use Rattle.ctrl_core.specs.KeptState.{Keeps}
 use Rattle.core_stores.specs.StoredState.{counts_of, state_of}
 

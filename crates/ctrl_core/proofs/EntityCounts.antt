@@ -25,7 +25,7 @@ use Rattle.grant_moves.proofs.LeadingCounts.{leads_on, unchanged_leads}
 use Rattle.policy_store.specs.declared.steps.GrantSteps.{GrantSteps}
 use Rattle.entity_commands.specs.EntityChanges.{is_plain_kind, with_plain, with_described, without_named}
 use Rattle.policy_store.specs.StepsOfRelations.{HasNoSteps, steps_of}
-use Rattle.core_stores.specs.GrantChanges.{MovedEntity, StepsOfEntity}
+use Rattle.grant_steps.specs.GrantChanges.{MovedEntity, StepsOfEntity}
 
 -- ---- one entity that differs
 

@@ -2,8 +2,6 @@ pub mod PlanLaws
 pub mod EntityCounts
 pub mod ApplyLaws
 pub mod StepLaws
-pub mod ShowLaws
-pub mod ShownPlans
 pub mod NetworkPlans
 pub mod CountedChanges
 pub mod FoundPlans

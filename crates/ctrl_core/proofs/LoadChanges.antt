@@ -40,7 +40,7 @@ use Rattle.core_stores.specs.declared.settled.Settled.{Settled}
 use Rattle.core_stores.specs.declared.stores.Stores.{Stores}
 use Rattle.core_stores.specs.CarriedStates.{Carries}
 use Rattle.core_stores.specs.ChangeParts.{term_part, circuit_part}
-use Rattle.core_stores.specs.PolicyStates.{HoldsUses}
+use Rattle.policy_commands.specs.PolicyStates.{HoldsUses}
 use Rattle.core_stores.specs.SettledNumbers.{without_settled}
 use Rattle.core_stores.specs.OpenCircuits.{ChangesLoads, CountsBut, CountsOpen, EndThere, loads_by, loads_after}
 use Rattle.core_stores.specs.StoredState.{HoldsPolicies, state_of}

@@ -17,7 +17,7 @@ use Rattle.core_stores.specs.declared.stores.Stores.{Stores}
 use Rattle.core_stores.specs.CarriedStates.{Carries}
 use Rattle.core_stores.specs.StoredState.{state_of}
 use Rattle.ctrl_core.specs.Changes.{CanChange, after_change}
-use Rattle.core_stores.specs.LeadingSteps.{LeadAllCounts}
+use Rattle.grant_steps.specs.LeadingSteps.{LeadAllCounts}
 use Rattle.ctrl_core.specs.ChangedStores.{CanSettle}
 use Rattle.core_stores.specs.SettledNumbers.{without_settled}
 use Rattle.ctrl_core.specs.SettledRecords.{AreSettled}

@@ -40,8 +40,10 @@ use Rattle.terminators.specs.TermTables.{TermTables}
 use Rattle.core_stores.specs.declared.changes.Change.{Change}
 use Rattle.core_stores.specs.declared.changes.Change.TheVariants as change
 use Rattle.core_stores.specs.declared.stores.Stores.{Stores}
-use Rattle.core_stores.specs.ForgottenEntities.{forgetting_by}
+use Rattle.policy_commands.specs.ForgottenEntities.{forgetting_by}
 use Rattle.core_stores.specs.ChangeParts.{entity_part, policy_part, link_part, term_part, circuit_part, adds, adds_entity, adds_policy, adds_link, adds_term, adds_circuit}
+use Rattle.core_stores.specs.NextNumbers.{next_change_by}
+use Rattle.row_writing.specs.RecordChanges.{next_change_of}
 use Rattle.ctrl_core.specs.ChangedStores.{CanSettle, next_change_in, next_state}
 use Rattle.core_stores.specs.StoredState.{state_of}
 use Rattle.ctrl_core.proofs.StateParts.{parts_after, state_then, policies_then}
@@ -202,6 +204,11 @@ among_kinds kind.ServiceEdgeRouterPolicy h = absurd (h (inr (inr (inr (inr (inr 
 among_kinds kind.Terminator h = absurd (h (inr (inr (inr (inr (inr (inr (inr (inl refl)))))))))
 among_kinds kind.Circuit h = absurd (h (inr (inr (inr (inr (inr (inr (inr (inr (inl refl))))))))))
 among_kinds kind.Attribute h = refl
+
+-- the changes that are made are those between the two states
+pub next_so : (c : Change) (st : Stores) → CanSettle st c → map (next_change_by c st) kinds ≡ map (next_change_in (state_of st) (next_state st c)) kinds
+next_so c st can = pointwise (next_change_by c st) (next_change_in (state_of st) (next_state st c)) kinds (λ k m.
+    ap (next_change_of k (table k (state_of st)).next) (sym (next_is k c st can (list_all-among (λ j. nat_le 1 (kind_number j)) kinds k refl m))))
 
 pub next_covered : (s t : State) → Covers 1 2 s t (map (next_change_in s t) kinds)
 next_covered s t =

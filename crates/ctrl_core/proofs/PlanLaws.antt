@@ -20,9 +20,10 @@ use Rattle.grant_moves.specs.CountMoves.{LeadCounts}
 use Rattle.grant_moves.proofs.LeadingCounts.{unchanged_leads}
 use Rattle.entity_commands.specs.EntityPlans.{is_entity_command}
 use Rattle.link_commands.specs.LinkPlans.{is_link_command}
-use Rattle.core_stores.specs.PolicyPlans.{is_policy_command}
+use Rattle.policy_commands.specs.PolicyPlans.{is_policy_command}
 use Rattle.terminator_commands.specs.TermPlans.{is_terminator_command}
-use Rattle.ctrl_core.specs.OtherCommands.{is_grant_command, reply_alone}
+use Rattle.ctrl_core.specs.OtherCommands.{reply_alone}
+use Rattle.show_commands.specs.ShownCommands.{is_grant_command}
 use Rattle.circuit_rules.specs.CircuitPlans.{is_circuit_command}
 use Rattle.core_stores.specs.declared.changes.Change.{Change}
 use Rattle.policy_store.specs.declared.steps.GrantSteps.{GrantSteps}

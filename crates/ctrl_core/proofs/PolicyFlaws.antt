@@ -17,7 +17,7 @@ use Rattle.entity_store.specs.EntityTables.{number_of}
 use Rattle.entity_store.proofs.InUseLaws.{room_in_state}
 use Rattle.policy_store.specs.PolicyTables.{policies, next_of}
 use Rattle.policy_store.specs.PolicyTables as tables
-use Rattle.core_stores.proofs.PolicyUses.{names_of, policy_added}
+use Rattle.policy_commands.proofs.PolicyUses.{names_of, policy_added}
 use Rattle.state_building.specs.declared.flaws.Flaw.TheVariants.{NoRecord, OutOfOrder, NameTaken, Hanging, TooMany}
 use Rattle.state_building.specs.JoinedRecords.{skipped, joined, is_sound_policy, flaw_if, unsupported}
 use Rattle.core_stores.specs.declared.stores.Stores.{Stores}

@@ -34,7 +34,7 @@ use Rattle.fabric_graph.specs.FabricChanges.{after_link_change, fabric_after}
 use Rattle.link_commands.specs.LinkRows as link_rows
 use Rattle.policy_store.specs.declared.changes.PolicyChange.{PolicyChange}
 use Rattle.policy_store.specs.PolicyChanges.{CanChangePolicies, after_policy_change, tables_of}
-use Rattle.policy_rows.specs.PolicyRows.{AreValid}
+use Rattle.policy_commands.specs.PolicyRows.{AreValid}
 use Rattle.policy_store.specs.PolicyTables.{PolicyTables, forgetting}
 use Rattle.terminators.specs.declared.changes.TermChange.{TermChange}
 use Rattle.terminators.specs.TermChanges.{terms_after}

@@ -30,7 +30,7 @@ use Rattle.core_stores.specs.declared.changes.Change.{Change}
 use Rattle.core_stores.specs.declared.changes.Change.TheVariants as change
 use Rattle.core_stores.specs.declared.settled.Settled.{Settled}
 use Rattle.core_stores.specs.declared.stores.Stores.{Stores}
-use Rattle.core_stores.specs.ForgottenEntities.{forgetting_by}
+use Rattle.policy_commands.specs.ForgottenEntities.{forgetting_by}
 use Rattle.core_stores.specs.ChangeParts.{entity_part, link_part, term_part, circuit_part}
 use Rattle.ctrl_core.specs.ChangedStores.{CanSettle}
 use Rattle.ctrl_core.specs.Changes.{after_change}

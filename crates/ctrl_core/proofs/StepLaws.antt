@@ -30,7 +30,7 @@ use Rattle.ctrl_core.specs.ChangedStores.{CanSettle}
 use Rattle.ctrl_core.specs.Changes.{CanChange, CanLead, after_change, led}
 use Rattle.ctrl_core.proofs.StateParts.{parts_after, terms_ascend}
 use Rattle.ctrl_core.specs.SettledParts.{AreGrantsAfter, StayGranted, counts_after}
-use Rattle.core_stores.specs.LeadingSteps.{LeadAllCounts}
+use Rattle.grant_steps.specs.LeadingSteps.{LeadAllCounts}
 use Rattle.core_stores.specs.OpenCircuits.{CountsOpen}
 use Rattle.policy_store.specs.StepsOfRelations.{only_rise, steps_of, takes_nothing}
 use Rattle.ctrl_core.specs.KeptState.{Keeps, IsGranted}

@@ -103,13 +103,3 @@ is_cost_so cost low high = and_from (nat_le 1 cost) (nat_le cost 65535) (le-leb 
 pub count_kept : (st : Stores) (r : Relation) (pairs : List ((ℕ × ℕ) × ℕ)) (a b n : ℕ) → Keeps st → pairs ≡ counts_of r st.grants → n ≡ count_of pairs a b
     → n ≡ count r (state_of st) a b
 count_kept st r pairs a b n k is e = e ∙ ap (λ ps. count_of ps a b) is ∙ k.counts r a b
-
-pub judged_wrong : (n told m : ℕ) → n ≡ m → (n ≡ told → ⊥) → Some WrongCount ≡ flaw_if (not (m == told)) WrongCount None
-judged_wrong n told m is differs = by (m == told) refl
-  where
-    by : (c : Bool) → (m == told) ≡ c → Some WrongCount ≡ flaw_if (not c) WrongCount None
-    by true e = absurd (differs (is ∙ eqb-true m told e))
-    by false e = refl
-
-pub judged_right : (n told m : ℕ) → n ≡ m → n ≡ told → None ≡ flaw_if (not (m == told)) WrongCount None
-judged_right n told m is same = ap (λ c. flaw_if (not c) WrongCount None) (sym (eq-eqb m told (sym is ∙ same)))

@@ -14,7 +14,7 @@ use Rattle.terminator_commands.specs.TermChanges.{CanOffer, offered}
 use Rattle.circuit_rules.specs.CircuitPlans.{CanRoute, routed}
 use Rattle.core_stores.specs.declared.changes.Change.{Change}
 use Rattle.core_stores.specs.declared.changes.Change.TheVariants as change
-use Rattle.core_stores.specs.LeadingSteps.{LeadAllCounts}
+use Rattle.grant_steps.specs.LeadingSteps.{LeadAllCounts}
 use Rattle.ctrl_core.specs.declared.plans.Planned.{Planned}
 use Rattle.core_stores.specs.declared.settled.Settled.{Settled}
 use Rattle.core_stores.specs.SettledNumbers.{SettlesNothing}

@@ -13,7 +13,7 @@ use Rattle.core_stores.specs.declared.settled.Settled.{Settled}
 use Rattle.core_stores.specs.declared.stores.Stores.{Stores}
 use Rattle.ctrl_core.specs.ChangedStores.{next_state}
 use Rattle.ctrl_core.specs.Changes.{CanChange, NamesSettled, after_change}
-use Rattle.core_stores.specs.LeadingSteps.{LeadAllCounts}
+use Rattle.grant_steps.specs.LeadingSteps.{LeadAllCounts}
 use Rattle.ctrl_core.specs.KeptState.{Keeps}
 use Rattle.core_stores.specs.StoredState.{state_of}
 use Rattle.core_stores.specs.SettledNumbers.{SettlesNothing}

@@ -4,7 +4,7 @@ use Rattle.ctrl_model.specs.declared.replies.Reply.{Reply}
 use Rattle.ctrl_model.specs.State.{State}
 use Rattle.model_laws.specs.Plans.{CanLeadBy, led_by, tells_change}
 use Rattle.core_stores.specs.declared.changes.Draft.{Draft}
-use Rattle.core_stores.specs.LeadingSteps.{LeadAllCounts}
+use Rattle.grant_steps.specs.LeadingSteps.{LeadAllCounts}
 use Rattle.ctrl_core.specs.Changes.{CanChange, IsStill, after_change}
 
 -- The plan of an answer: its reply, that it leads to the answer's state, that its steps lead to that state's counts, and that it

@@ -9,14 +9,14 @@ ghost use Rattle.terminators.specs.TermChanges.{after_term_change};
 ghost use Rattle.core_stores.specs.ChangeParts.{term_part};
 ghost use Rattle.core_stores.specs.OpenCircuits.{CountsOpen};
 ghost use Rattle.core_stores.specs.StoredState.{HoldsPolicies, state_of};
-ghost use Rattle.core_stores.specs.CarriedStates.{Carries, LetsPolicyGo};
+ghost use Rattle.core_stores.specs.CarriedStates.{Carries};
+ghost use Rattle.policy_store.specs.PolicyChanges.{CanRule, ruled};
 
 use circuits::apply_circuit_change;
-use core_stores::{
-    Change, Settled, Stores, apply_policy, count_loads, forget_by, loads_after, take_out,
-};
+use core_stores::{Change, Settled, Stores, count_loads, loads_after, take_out};
 use entity_commands::{EntityChange, apply_entity_change};
 use link_commands::apply_link_change;
+use policy_commands::{PolicyChange, apply_policy_change, forget_by};
 use std::alloc::{AllocError, Global};
 use terminator_commands::apply_term_change;
 
@@ -30,6 +30,17 @@ fn apply_entity(stores: &mut Stores, change: &EntityChange) -> Result<(), AllocE
     apply_entity_change(&mut stores.entities, change)?;
     forget_by(&mut stores.policies, change);
     Ok(())
+}
+
+fn apply_policy(alloc: Global, stores: &mut Stores, change: PolicyChange) -> Result<(), AllocError>
+    requires can { CanRule change (state_of stores.old) }
+    requires before { ValidState (state_of stores.old) }
+    requires valid { ValidState (settle (ruled change (state_of stores.old))) }
+    requires held { HoldsPolicies stores.old }
+    ensures carried { OnOk result (Carries stores.old stores.new (ruled change (state_of stores.old))) }
+    ensures terminators { OnOk result (stores.new.terminators ≡ stores.old.terminators) }
+{
+    apply_policy_change(alloc, &mut stores.entities, &mut stores.policies, change)
 }
 
 /// Makes a change that leads, once settled, from a valid state to a valid one. Of a change that fails for want of memory nothing is

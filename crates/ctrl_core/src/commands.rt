@@ -1,43 +1,30 @@
-ghost use Rattle.std.specs.Prelude.{◌≡◌, true, IfOk, option_map};
+ghost use Rattle.std.specs.Prelude.{◌≡◌, true, false, IfOk, MatchOption};
 ghost use Rattle.ctrl_model.specs.CommandForm.{is_spelled};
 ghost use Rattle.ctrl_model.specs.Controller.{carry};
 ghost use Rattle.ctrl_model.specs.State.{State};
 ghost use Rattle.ctrl_model.specs.declared.replies.Reply.{Reply};
 ghost use Rattle.model_laws.specs.Plans as family;
 ghost use Rattle.model_laws.specs.Plans.{CanLeadBy};
-ghost use Rattle.core_stores.specs.declared.changes.Change.TheVariants.{Entity, Policy};
 ghost use Rattle.core_stores.specs.StoredState.{state_of};
+ghost use Rattle.show_commands.specs.ShownCommands.{is_grant_command};
 ghost use Rattle.ctrl_core.specs.Changes.{CanChange, after_change};
 ghost use Rattle.ctrl_core.specs.KeptState.{Keeps};
 ghost use Rattle.ctrl_core.specs.OtherCommands.{reply_alone};
 ghost use Rattle.ctrl_core.specs.PlannedCommands.{Plans};
 
 use crate::counting::change_steps;
-use crate::showing::shown_by;
 use circuit_rules::{Parts, plan_circuit_command};
 use core_stores::{
-    Change, Draft, Stores, circuit_change, link_change, plan_policy_command, term_change,
+    Change, Draft, Stores, circuit_change, entity_change, link_change, policy_change, term_change,
 };
 use ctrl_model::{Command, Reply};
-use entity_commands::{EntityChange, plan_entity_command};
+use entity_commands::plan_entity_command;
 use link_commands::plan_link_command;
-use policy_store::PolicyChange;
+use policy_commands::plan_policy_command;
+use policy_store::count_all_policies;
+use show_commands::{Shown, shown_by};
 use std::alloc::{AllocError, Global};
 use terminator_commands::plan_terminator_command;
-
-// A change of the entities, as one of the core.
-fn entity_change(change: Option<EntityChange>) -> Option<Change>
-    ensures { result ≡ option_map Entity change }
-{
-    change.map(|change| Change::Entity(change))
-}
-
-// A change of the policies, as one of the core.
-fn policy_change(change: Option<PolicyChange>) -> Option<Change>
-    ensures { result ≡ option_map Policy change }
-{
-    change.map(|change| Change::Policy(change))
-}
 
 // The draft of a plan: its change, if there is one, with the steps that the counts take.
 fn drafted(
@@ -70,6 +57,25 @@ fn reply_alone(command: &Command) -> Reply
         Command::Compact => Reply::Done,
         _ => Reply::Empty,
     }
+}
+
+// The reply to a command that shows grants or counts of some stores. None is another command.
+fn shown_in(alloc: Global, stores: &Stores, command: &Command) -> Result<Option<Reply>, AllocError>
+    requires { Keeps stores.now }
+    ensures { IfOk result (λ o. MatchOption o (is_grant_command command.now ≡ false) (λ r. carry command.now (state_of stores.now) ≡ (r, state_of stores.now))) }
+{
+    let shown = Shown {
+        entities: &stores.entities,
+        dial: &stores.grants.dial,
+        bind: &stores.grants.bind,
+        identity_router: &stores.grants.identity_router,
+        service_router: &stores.grants.service_router,
+        circuits: stores.circuits.count() as u32,
+        links: stores.fabric.count() as u32,
+        policies: count_all_policies(&stores.policies),
+        terminators: stores.terminators.count() as u32,
+    };
+    shown_by(alloc, &shown, command)
 }
 
 /// Plans the answer to a command over the state of some stores: it is planned by the family that it belongs to, and what belongs to
@@ -106,7 +112,7 @@ pub fn plan_command(alloc: Global, stores: &Stores, command: &Command) -> Result
     if let Some(plan) = plan_circuit_command(alloc, &parts, command)? {
         return drafted(alloc, stores, plan.reply, circuit_change(plan.change));
     }
-    if let Some(reply) = shown_by(alloc, stores, command)? {
+    if let Some(reply) = shown_in(alloc, stores, command)? {
         return Ok(Draft::shown(alloc, reply));
     }
     Ok(Draft::shown(alloc, reply_alone(command)))

@@ -13,7 +13,6 @@ mod row_changes;
 mod row_flaws;
 mod row_joining;
 mod settling;
-mod showing;
 mod taking;
 
 pub use core_state::Core;

@@ -1,92 +1,29 @@
-ghost use Rattle.std.specs.Prelude.{◌≡◌, ◌++◌, nat_le, true, map, IfOk, OnOk};
-ghost use Rattle.std.specs.List.{list_all};
-ghost use Rattle.ctrl_model.specs.Tables.{table};
+ghost use Rattle.std.specs.Prelude.{◌≡◌, ◌++◌, IfOk, OnOk};
 ghost use Rattle.row_codec.specs.Batches.{batch_between};
 ghost use Rattle.row_codec.specs.CoveredTables.{Covers};
-ghost use Rattle.row_codec.specs.RowKeys.{kind_number};
-ghost use Rattle.row_writing.specs.RecordChanges.{setting_change_of};
-ghost use Rattle.ctrl_core.specs.ChangedStores.{CanSettle, KnowsSettled, next_change_in, next_state};
-ghost use Rattle.core_stores.specs.LeadingSteps.{LeadAllCounts};
+ghost use Rattle.ctrl_core.specs.ChangedStores.{CanSettle, KnowsSettled, next_state};
+ghost use Rattle.grant_steps.specs.LeadingSteps.{LeadAllCounts};
 ghost use Rattle.ctrl_core.specs.KeptState.{Keeps};
 ghost use Rattle.core_stores.specs.StoredState.{state_of};
 
 use batch_codec::batch_of;
 use circuit_settling::circuit_changes;
-use core_stores::{Change, KINDS, Settled, Stores, adds, forgotten, least_after, next_if, next_of};
-use ctrl_model::Kind;
+use core_stores::{Change, Settled, Stores, forgotten, least_change, next_changes};
 use entity_commands::entity_changes;
 use grant_rows::{CountMoves, GrantMoves, all_count_changes};
 use link_commands::link_changes;
-use policy_rows::{forgotten_changes, policy_changes};
+use policy_commands::{forgotten_changes, policy_changes};
 use policy_store::GrantSteps;
 use row_codec::{Batch, Change as RowChange, Changes};
-use row_writing::{next_change, setting_change};
 use std::alloc::{AllocError, Global};
 use terminator_commands::term_changes;
 
-// The next number of a kind after a change.
-fn next_after(stores: &Stores, change: &Change, kind: Kind) -> u32
-    requires kind { nat_le 1 (kind_number kind) ≡ true }
-    requires can { CanSettle stores.now change.now }
-    ensures { result ≡ (table kind (next_state stores.now change.now)).next }
-{
-    next_if(adds(change, kind), next_of(stores, kind))
-}
-
-// The change of the next number of a kind.
-fn next_change_at(
-    alloc: Global,
-    stores: &Stores,
-    change: &Change,
-    kind: Kind,
-) -> Result<RowChange, AllocError>
-    requires kind { nat_le 1 (kind_number kind) ≡ true }
-    requires can { CanSettle stores.now change.now }
-    ensures { IfOk result (λ c. c ≡ next_change_in (state_of stores.now) (next_state stores.now change.now) kind) }
-{
-    let before = next_of(stores, kind);
-    let after = next_after(stores, change, kind);
-    next_change(alloc, kind, before, after)
-}
-
-// The changes of the next numbers of some kinds.
-fn next_changes_of(
-    alloc: Global,
-    stores: &Stores,
-    change: &Change,
-    kinds: &[Kind],
-) -> Result<Vec<RowChange>, AllocError>
-    requires numbered { list_all (λ k. nat_le 1 (kind_number k)) kinds.now ≡ true }
-    requires can { CanSettle stores.now change.now }
-    ensures { IfOk result (λ v. v.items ≡ map (next_change_in (state_of stores.now) (next_state stores.now change.now)) kinds.now) }
-{
-    let mut changes = Vec::new(alloc);
-    'kinds: for kind in kinds {
-        changes.push(next_change_at(alloc, stores, change, *kind)?)?;
-    }
-    Ok(changes)
-}
-
 // The changes of the next numbers.
-fn next_changes(
-    alloc: Global,
-    stores: &Stores,
-    change: &Change,
-) -> Result<Vec<RowChange>, AllocError>
+fn next_rows(alloc: Global, stores: &Stores, change: &Change) -> Result<Vec<RowChange>, AllocError>
     requires { CanSettle stores.now change.now }
     ensures { IfOk result (λ v. Covers 1 2 (state_of stores.now) (next_state stores.now change.now) v.items) }
 {
-    next_changes_of(alloc, stores, change, &KINDS)
-}
-
-// The change of the least router cost.
-fn setting_row(alloc: Global, stores: &Stores, change: &Change) -> Result<RowChange, AllocError>
-    requires { CanSettle stores.now change.now }
-    ensures { IfOk result (λ c. c ≡ setting_change_of stores.now.fabric.least (next_state stores.now change.now).least_router_cost) }
-{
-    let before = stores.fabric.least();
-    let after = least_after(change.of_links(), before);
-    setting_change(alloc, before, after)
+    next_changes(alloc, stores, change)
 }
 
 // Adds the change of the least router cost.
@@ -100,7 +37,7 @@ fn push_setting(
     requires covers { Covers 1 2 (state_of stores.now) (next_state stores.now change.now) changes.old.items }
     ensures { OnOk result (Covers 1 3 (state_of stores.now) (next_state stores.now change.now) changes.new.items) }
 {
-    changes.push(setting_row(alloc, stores, change)?)?;
+    changes.push(least_change(alloc, stores, change)?)?;
     Ok(())
 }
 
@@ -129,7 +66,7 @@ fn entity_tables(
     requires { CanSettle stores.now change.now }
     ensures { IfOk result (λ v. Covers 1 6 (state_of stores.now) (next_state stores.now change.now) v.items) }
 {
-    let mut changes = next_changes(alloc, stores, change)?;
+    let mut changes = next_rows(alloc, stores, change)?;
     push_setting(alloc, &mut changes, stores, change)?;
     append(&mut changes, entity_rows(alloc, stores, change)?)?;
     Ok(changes)

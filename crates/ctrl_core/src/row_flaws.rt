@@ -13,10 +13,11 @@ ghost use Rattle.ctrl_core.specs.NewRecords.{plain_flaw_of, policy_flaw_of};
 
 use circuit_settling::{Standing, stays_here};
 use circuits::Circuit;
-use core_stores::{Stores, left_kind, right_kind};
+use core_stores::Stores;
 use ctrl_model::{Kind, Name, Names, Side, limit};
 use entity_store::Entities;
 use fabric_graph::LinkRow;
+use policy_commands::{left_kind, right_kind};
 use policy_store::{Policy, policy_names};
 use record_flaws::{Coming, Findings, link_flaw, plain_flaw, term_flaw};
 use state_building::Flaw;

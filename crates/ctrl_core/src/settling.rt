@@ -8,7 +8,7 @@ ghost use Rattle.circuits.specs.MovedCircuits.{moves_by, ended_by};
 ghost use Rattle.fabric_graph.specs.Routers.{AreRouters, HaveGraph};
 ghost use Rattle.policy_store.specs.StepsOfRelations.{steps_of, takes_nothing};
 ghost use Rattle.circuit_settling.specs.OtherLinks.{way_at};
-ghost use Rattle.core_stores.specs.LeadingSteps.{LeadAllCounts};
+ghost use Rattle.grant_steps.specs.LeadingSteps.{LeadAllCounts};
 ghost use Rattle.core_stores.specs.StoredState.{counts_of, state_of};
 ghost use Rattle.grant_denorm.specs.TakenSteps.{HaveRoom, Taken};
 ghost use Rattle.ctrl_core.specs.ChangedStores.{CanSettle, next_state};

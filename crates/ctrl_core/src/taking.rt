@@ -19,7 +19,7 @@ use core_stores::{Change, Stores};
 use ctrl_model::{Copies, Kind, MOST_COST, Name, Names, Relation};
 use record_flaws::{Coming, is_sound_row, router_flaw};
 use row_codec::Row;
-use row_loading::next_in;
+use row_loading::{count_flaw, next_in};
 use state_building::Flaw;
 use std::alloc::{AllocError, Global};
 
@@ -129,10 +129,7 @@ fn judge_count(stores: &Stores, relation: Relation, a: u32, b: u32, told: u32) -
     requires kept { Keeps stores.now }
     ensures { result ≡ flaw_if (not (count relation (state_of stores.now) a b == told)) WrongCount None }
 {
-    if stores.grants.counted(relation).count(a, b) != told {
-        return Some(Flaw::WrongCount);
-    }
-    None
+    count_flaw(stores.grants.counted(relation), a, b, told)
 }
 
 // Compares the count that a row tells with the one that is kept. Other rows tell none.

@@ -9,3 +9,4 @@ pub mod GrantedTable
 pub mod GrantedPairs
 pub mod EntityMoves
 pub mod PolicyMoves
+pub mod OrderedSides

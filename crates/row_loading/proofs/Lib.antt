@@ -15,3 +15,4 @@ pub mod RisingParts
 pub mod RowThings
 pub mod SoundRows
 pub mod ThingsAtKeys
+pub mod JudgedCounts

@@ -1,16 +1,19 @@
-ghost use Rattle.std.specs.Prelude.{◌≡◌, ◌<◌, ℕ, true, false, count_by};
+ghost use Rattle.std.specs.Prelude.{◌≡◌, ◌==◌, ◌<◌, ℕ, not, true, false, None, count_by};
 ghost use Rattle.std.specs.List.{list_all};
 ghost use Rattle.grant_denorm.specs.PairCounts.{count_of};
 ghost use Rattle.row_codec.specs.RowForm.{is_row};
 ghost use Rattle.row_codec.specs.RowKeys.{key_cmp};
 ghost use Rattle.row_codec.specs.RowDifference.{Rises};
 ghost use Rattle.state_building.specs.BuiltStates.{count_in};
+ghost use Rattle.state_building.specs.JoinedRecords.{flaw_if};
+ghost use Rattle.state_building.specs.declared.flaws.Flaw.TheVariants.{WrongCount};
 ghost use Rattle.row_loading.specs.CountRows.{is_count_of};
 ghost use Rattle.row_loading.specs.LoadedRows.{keyed};
 
 use ctrl_model::Relation;
 use grant_denorm::Counted;
 use row_codec::Row;
+use state_building::Flaw;
 
 // Whether a row is a count of a relation.
 fn is_count_of(row: &Row, relation: Relation) -> bool
@@ -40,4 +43,14 @@ pub fn lacks_counts(rows: &[Row], relation: Relation, counted: &Counted) -> bool
     ensures lacks { result ≡ true → (a : ℕ) × (b : ℕ) × (count_in rows.now relation a b ≡ 0) × (0 < count_of counted.now a b) }
 {
     counts_in(rows, relation) < counted.pairs()
+}
+
+/// Why a count that a row tells of a pair cannot be: it is not the one that is kept.
+pub fn count_flaw(counted: &Counted, a: u32, b: u32, told: u32) -> Option<Flaw>
+    ensures { result ≡ flaw_if (not (count_of counted.now a b == told)) WrongCount None }
+{
+    if counted.count(a, b) != told {
+        return Some(Flaw::WrongCount);
+    }
+    None
 }

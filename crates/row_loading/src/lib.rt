@@ -8,7 +8,7 @@ mod loading;
 mod nexts;
 mod told_counts;
 
-pub use counting::lacks_counts;
+pub use counting::{count_flaw, lacks_counts};
 pub use faults::CoreFault;
 pub use laws::{
     loaded_rows_are_those_of_their_state, next_numbers_in_rows, refused_rows_are_of_no_state,

@@ -1,7 +1,8 @@
 use crate::making::{names, two};
-use core_stores::{may_put, members};
 use ctrl_model::{Kind, Name, Names, PolicyNo, Relation, Semantic, Side};
 use entity_store::Entities;
+use grant_steps::members;
+use policy_commands::may_put;
 use policy_store::{Policies, Policy};
 use std::alloc::Global;
 use std::process::Abort;

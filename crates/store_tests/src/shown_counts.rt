@@ -5,7 +5,7 @@ use entity_store::Entities;
 use fabric_graph::Fabric;
 use grant_denorm::Counted;
 use policy_store::{Policies, count_all_policies};
-use shown_records::{names_of, tallies};
+use show_commands::{names_of, tallies};
 use std::alloc::{AllocError, Global};
 use std::process::Abort;
 use std::test::Fail;

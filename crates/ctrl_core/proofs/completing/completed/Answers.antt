@@ -3,7 +3,7 @@ use Rattle.model_laws.specs.Plans.{led_by}
 use Rattle.row_codec.specs.Batches.{batch_between}
 use Rattle.row_laws.proofs.StateBatches.{batch_between-same}
 use Rattle.core_stores.specs.declared.changes.Change.{Change}
-use Rattle.core_stores.specs.LeadingSteps.{LeadAllCounts}
+use Rattle.grant_steps.specs.LeadingSteps.{LeadAllCounts}
 use Rattle.ctrl_core.specs.Changes.{NamesSettled, after_change}
 use Rattle.core_stores.specs.StoredState.{state_of}
 use Rattle.ctrl_core.proofs.completing.completed.Goals as goal

@@ -2,7 +2,7 @@ use Rattle.std.proofs.Common.{sym, subst}
 use Rattle.std.proofs.lemmas.Result.{IfOk-weaker}
 use Rattle.entity_store.specs.declared.changes.EntityChange.{EntityChange}
 use Rattle.entity_commands.specs.EntityChanges.{CanEnter, entered}
-use Rattle.core_stores.specs.LeadingSteps.{LeadAllCounts}
+use Rattle.grant_steps.specs.LeadingSteps.{LeadAllCounts}
 use Rattle.core_stores.specs.StoredState.{state_of}
 use Rattle.ctrl_core.proofs.CountedChanges.{plain_comes, router_comes, plain_described, router_described, router_marked, entity_goes, plain_is_there, plain_is_entity, named_is_there}
 use Rattle.ctrl_core.proofs.counting.entity_change_steps.Goals as goal

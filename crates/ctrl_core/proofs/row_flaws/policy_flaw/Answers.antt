@@ -6,7 +6,7 @@ use Rattle.entity_store.specs.AttributeUses.{has_attribute_room}
 use Rattle.entity_store.specs.EntityTables.{number_of}
 use Rattle.policy_store.specs.PolicyTables.{policies}
 use Rattle.policy_store.specs.PolicyTables as tables
-use Rattle.core_stores.proofs.PolicyUses.{names_of}
+use Rattle.policy_commands.proofs.PolicyUses.{names_of}
 use Rattle.ctrl_core.proofs.PolicyFlaws.{told_policy, found_ok, both_then, both_else, many_then, many_else}
 use Rattle.ctrl_core.proofs.row_flaws.policy_flaw.Goals.{then-are_found, else-are_found, then-count-limit, else-count-limit}
 use Rattle.ctrl_core.proofs.row_flaws.policy_flaw.Goals as goal

@@ -1,0 +1,18 @@
+use Rattle.policy_commands.proofs.Arounds.{around}
+use Rattle.policy_commands.proofs.PolicyApplyLaws.{can_put_fresh, room_to_put, ruled_with}
+use Rattle.policy_commands.proofs.applying.add_policy.Goals as goal
+
+pub hold-requires : goal.hold-requires
+hold-requires c =
+    rw (c.in_ok-names.ensures)
+    (room_to_put c.args.kind c.args.policy (around c.args.entities.now c.args.policies.now c.requires.leads.rest) c.requires.kind c.requires.held c.requires.leads.after)
+
+pub put-requires-clause-can : goal.put-requires-clause-can
+put-requires-clause-can c =
+    can_put_fresh c.args.kind c.args.policy (around c.args.entities.now c.args.policies.now c.requires.leads.rest) c.requires.kind c.requires.leads.after
+
+pub returns : goal.returns
+returns c =
+    rw (c.in_ok-put.ensures.ok.1)
+    (ruled_with c.args.kind c.args.policy (around c.args.entities.now c.args.policies.now c.requires.leads.rest) c.hold.new.self c.requires.kind c.requires.held
+    (rw c.in_ok-names.ensures at c.in_ok-hold.ensures.ok))

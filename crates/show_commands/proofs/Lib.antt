@@ -1,0 +1,3 @@
+mod TallyLaws
+pub mod ShowLaws
+pub mod ShownPlans

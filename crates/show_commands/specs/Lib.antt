@@ -1,0 +1,2 @@
+pub mod ShownParts
+pub mod ShownCommands
