@@ -14,7 +14,7 @@ use Rattle.slot_files.specs.FolderImage.{StandsAsBefore}
 use Rattle.ctrl_keep.specs.declared.faults.KeepFault.{KeepFault}
 use Rattle.ctrl_keep.specs.declared.faults.KeepFault.TheVariants as keep
 use Rattle.ctrl_keep.specs.Faults.{disk_failure, OpenFails}
-use Rattle.ctrl_keep.specs.OpenedStates.{IsStateless}
+use Rattle.row_store.specs.OpenedStates.{IsStateless}
 use Rattle.run_notes.specs.declared.status.Status.{Status}
 use Rattle.run_notes.specs.declared.status.Status.TheVariants.{ReadFault, WriteFault, DiskFault, Damaged, NoMemory}
 use Rattle.run_notes.specs.NotedLines.{FindsNoMore, NotesLines, TellsDamage}

@@ -7,8 +7,8 @@ use Rattle.ziti_outside.specs.Moments.{Elapses}
 use Rattle.ctrl_model.specs.State.{State}
 use Rattle.row_store.specs.declared.bounds.StoreBounds.{StoreBounds}
 use Rattle.ctrl_keep.specs.KeptMachine.{Machine}
-use Rattle.ctrl_keep.specs.OpenedStates.{OpensToState}
-use Rattle.ctrl_keep.proofs.OneStates.{one_state, stateless_opens}
+use Rattle.row_store.specs.OpenedStates.{OpensToState}
+use Rattle.row_store.proofs.OneStates.{one_state, stateless_opens}
 use Rattle.session_mux.specs.declared.sessions.Form.{Form}
 use Rattle.run_notes.specs.declared.status.Status.{Status}
 use Rattle.run_notes.specs.declared.status.Status.TheVariants.{Done, Usage, BadInput, Truncated, ReadFault, WriteFault, DiskFault, Damaged, NoMemory, InputTooLong, FolderFull}

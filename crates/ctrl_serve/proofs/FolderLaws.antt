@@ -26,7 +26,7 @@ use Rattle.row_store.specs.CompactedStores.{compacted, compacted_size, IsCompact
 use Rattle.row_store.specs.StoredRows.{ReadsAs}
 use Rattle.ctrl_keep.specs.declared.faults.KeepFault.{KeepFault}
 use Rattle.ctrl_keep.specs.declared.faults.KeepFault.TheVariants.{Disk, Damaged, Spent, NoMemory}
-use Rattle.ctrl_keep.specs.OpenedStates.{byte_rows_of, OpensToState}
+use Rattle.row_store.specs.OpenedStates.{byte_rows_of, OpensToState}
 use Rattle.ctrl_keep.specs.KeptMachine.{Machine, compacted_place, is_compact}
 use Rattle.ctrl_keep.specs.KeptBatches.{mark_at}
 use Rattle.ctrl_keep.specs.KeptController.{Controlled, HoldsRows, machine_of, place_of}

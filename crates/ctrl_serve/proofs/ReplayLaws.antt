@@ -11,7 +11,7 @@ use Rattle.slot_files.specs.OpenedSlots.{Opens}
 use Rattle.row_store.specs.StoredRows.{ReadsAs}
 use Rattle.ctrl_model.specs.State.{start}
 use Rattle.ctrl_core.specs.KeptState.{Cored}
-use Rattle.ctrl_keep.specs.OpenedStates.{OpensToState}
+use Rattle.row_store.specs.OpenedStates.{OpensToState}
 use Rattle.row_store.specs.declared.bounds.StoreBounds.{StoreBounds}
 use Rattle.ctrl_keep.specs.KeptMachine.{Machine}
 use Rattle.ctrl_keep.specs.KeptController.{Controlled, HoldsRows, machine_of}

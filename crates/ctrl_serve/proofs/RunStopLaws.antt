@@ -11,7 +11,7 @@ use Rattle.ctrl_model.specs.declared.kinds.Who.{Who}
 use Rattle.ctrl_model.specs.State.{State}
 use Rattle.slot_files.specs.FolderImage.{StandsAsBefore}
 use Rattle.row_store.specs.declared.bounds.StoreBounds.{StoreBounds}
-use Rattle.ctrl_keep.specs.OpenedStates.{OpensToState}
+use Rattle.row_store.specs.OpenedStates.{OpensToState}
 use Rattle.ctrl_keep.specs.KeptMachine.{Machine}
 use Rattle.session_mux.specs.declared.events.Event.{Event}
 use Rattle.session_mux.specs.declared.events.Event.TheVariants as event

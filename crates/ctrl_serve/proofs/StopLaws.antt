@@ -11,7 +11,7 @@ use Rattle.ctrl_model.specs.State.{State}
 use Rattle.row_store.specs.BatchRows.{ByteRows}
 use Rattle.row_store.specs.OpenedRows.{OpensTo}
 use Rattle.row_store.proofs.CommitLaws.{reads_opens}
-use Rattle.ctrl_keep.specs.OpenedStates.{OpensToState}
+use Rattle.row_store.specs.OpenedStates.{OpensToState}
 use Rattle.ctrl_serve.specs.declared.controller.Controller.{Controller}
 use Rattle.ctrl_serve.specs.declared.controller.Controller.TheVariants.{Alone, Kept}
 use Rattle.channel_frame.specs.declared.frames.Frame.{Frame}

@@ -15,7 +15,7 @@ use Rattle.ctrl_model.specs.ValidState.{ValidState}
 use Rattle.slot_files.specs.FolderImage.{slot_of, Stands, StandsAsBefore}
 use Rattle.row_store.specs.declared.bounds.StoreBounds.{StoreBounds}
 use Rattle.row_store.specs.CompactedStores.{compacted}
-use Rattle.ctrl_keep.specs.OpenedStates.{byte_rows_of, OpensToState}
+use Rattle.row_store.specs.OpenedStates.{byte_rows_of, OpensToState}
 use Rattle.ctrl_keep.specs.KeptMachine.{Machine, Place, step}
 use Rattle.run_notes.specs.declared.ends.Full.{Full}
 use Rattle.run_notes.specs.declared.ends.Full.TheVariants as full
