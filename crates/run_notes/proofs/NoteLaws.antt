@@ -12,7 +12,7 @@ use Rattle.std.specs.declared.option.Option.{Option}
 use Rattle.std.specs.declared.result.Result.{Result}
 use Rattle.ziti_outside.specs.declared.failed.Failed.{Failed}
 use Rattle.ziti_outside.specs.Causes.{HasCause, Rose}
-use Rattle.ziti_outside.specs.Told.{Hands}
+use Rattle.ziti_outside.specs.Told.{Hands, Took, TookFront}
 use Rattle.ziti_outside.proofs.Moves.{Took-none, Took-then, IsFront-none, IsFront-all, IsFront-then, IsFront-longer}
 use Rattle.run_notes.specs.declared.status.Status.{Status}
 use Rattle.run_notes.specs.declared.status.Status.TheVariants.{Done, Usage, BadInput, Truncated, ReadFault, WriteFault, DiskFault, Damaged, NoMemory, InputTooLong, FolderFull}
@@ -35,6 +35,13 @@ notes_lines (Err e) lines a b taken cause = record { part = taken; whole = λ ca
 -- Nothing was noted where there was nothing to note.
 pub notes_none : (a : Seen) → NotesLines [] a a
 notes_none a = record { part = ([], IsFront-none [], Took-none a.noted); whole = λ _. Took-none a.noted }
+
+-- What was noted since a desk that had noted the same.
+pub notes_from : (lines : List ℕ) (a b c : Seen) → b.noted ≡ a.noted → b.note_faults ≡ a.note_faults → NotesLines lines b c → NotesLines lines a c
+notes_from lines a b c q r noted = record {
+  part = subst (λ (x : Option (List ℕ)). TookFront x c.noted lines) q noted.part;
+  whole = λ calm. subst (λ (x : Option (List ℕ)). Took x c.noted lines) q (noted.whole (λ rose. calm (subst (λ (n : ℕ). Rose n c.note_faults) r rose)));
+}
 
 -- ---- what a run noted so far
 
@@ -68,9 +75,13 @@ noted_still true lines o a b q r noted = (
   subst (λ (k : ℕ). RisesOnce o.note_faults k) (sym r) noted.2,
 )
 
+-- These lines still are, where the notes are as they were behind them.
+pub more_still : (f g : Bool) (lines : List ℕ) (a b c : Seen) → c.noted ≡ b.noted → c.note_faults ≡ b.note_faults → NotesMore f g lines a b → NotesMore f g lines a c
+more_still f g lines a b c q r more = λ before o noted. noted_still g (before ++ lines) o b c q r (more before o noted)
+
 -- Where the desk and what is known of it were left, too.
 pub more_left : (f g : Bool) (a b : Seen) → g ≡ f → b.noted ≡ a.noted → b.note_faults ≡ a.note_faults → NotesMore f g [] a b
-more_left f g a b p q r = λ before o noted. rw p (noted_still f (before ++ []) o a b q r (more_none f a before o noted))
+more_left f g a b p q r = rw p (more_still f f [] a a b q r (more_none f a))
 
 -- Once a note failed, no lines are noted.
 pub more_failed : (lines : List ℕ) (a : Seen) → NotesMore true true lines a a
