@@ -1,10 +1,11 @@
 -- A plan that is kept and carried out: what the folder opens to meanwhile, what is kept behind it, and why it was not done.
-use Rattle.std.proofs.Common.{◌≡◌, ◌⊎◌, inl, inr, ℕ, suc, ◌≤◌, ◌<◌, ◌==◌, Bool, true, false, List, [], ◌∷◌, length, Err, Option, refl, sym, ap, ◌∙◌, subst, true≢false, arith}
+use Rattle.std.proofs.Common.{◌≡◌, ◌⊎◌, inl, inr, ℕ, suc, ◌≤◌, ◌<◌, ◌==◌, Bool, true, false, List, [], ◌∷◌, length, Err, refl, sym, ap, ◌∙◌, subst, true≢false, arith}
 use Rattle.std.proofs.lemmas.Bool.Decides.{nat_tests}
 use Rattle.std.specs.declared.result.Result.{Result}
 use Rattle.ziti_outside.specs.Images.{Image}
 use Rattle.ziti_outside.specs.Moments.{Leaves}
 use Rattle.ziti_outside.proofs.MomentLaws.{Leaves-none, Leaves-weaker}
+use Rattle.ziti_outside.specs.Views.{Seen, Stopped}
 use Rattle.ctrl_model.specs.declared.commands.Command.{Command}
 use Rattle.ctrl_model.specs.declared.kinds.Who.{Who}
 use Rattle.ctrl_model.specs.declared.refusals.Refusal.TheVariants.{JournalFull}
@@ -24,7 +25,7 @@ use Rattle.ctrl_core.specs.Changes.{CanLead, LeadsFrom, led}
 use Rattle.ctrl_core.specs.KeptState.{Cored}
 use Rattle.ctrl_keep.specs.declared.faults.KeepFault.{KeepFault}
 use Rattle.ctrl_keep.specs.declared.faults.KeepFault.TheVariants.{Disk, Damaged, Spent, NoMemory}
-use Rattle.ctrl_keep.specs.OpenedStates.{OpensToState}
+use Rattle.row_store.specs.OpenedStates.{OpensToState}
 use Rattle.ctrl_keep.specs.KeptMachine.{Machine, is_compact, step}
 use Rattle.ctrl_keep.specs.KeptController.{Controlled, machine_with, machine_of, made_of, Keeps, IsPlanned}
 use Rattle.ctrl_keep.specs.Faults.{KeepFails, AdvanceFails, SubmitFails}
@@ -179,10 +180,10 @@ submit_fails old new core coming stored later_stored before spent desk later fau
 -- ---- what a folder opens to where nothing was done, and behind the append
 
 -- Nothing was done to the desk.
-pub quiet_stops : {D : Type 0} {moment : D → ℕ} {since : D → ℕ → Image → List ℕ → Type 0} {may_leave : D → Image → Type 0} {said : D → Option (List ℕ)} (desk later : D) (X : Image → Type 0)
-    → later ≡ desk → ((image : Image) → may_leave desk image → X image) → Leaves moment since may_leave said desk later X
+pub quiet_stops : {D : Type 0} {seen : D → Seen} {stopped : D → Stopped} (desk later : D) (X : Image → Type 0)
+    → later ≡ desk → ((image : Image) → (stopped desk).images image → X image) → Leaves seen stopped desk later X
 quiet_stops {D} {moment} {since} {may_leave} {said} desk later X e x =
-    subst (λ (d : D). Leaves moment since may_leave said desk d X) (sym e) (Leaves-weaker X (Leaves-none desk) x)
+    subst (λ (d : D). Leaves seen stopped desk d X) (sym e) (Leaves-weaker X (Leaves-none desk) x)
 
 -- Where the store has the batch, every image opens to the state after it.
 pub behind_kept : (p : Planned) (core : Cored) (stored later : Stored) (reads : Image) (images : Image → Type 0) → CanAdvance p core stored → size_with stored p.batch ≤ stored.bounds.slot

@@ -20,12 +20,12 @@ use Rattle.row_store.specs.CompactedStores.{compacted_of, IsCompacted, MayCompac
 use Rattle.ctrl_core.specs.KeptState.{Cored}
 use Rattle.ctrl_keep.specs.declared.faults.KeepFault.{KeepFault}
 use Rattle.ctrl_keep.specs.declared.faults.KeepFault.TheVariants.{NoMemory}
-use Rattle.ctrl_keep.specs.OpenedStates.{OpensToState}
+use Rattle.row_store.specs.OpenedStates.{OpensToState}
 use Rattle.ctrl_keep.specs.KeptMachine.{Machine, is_compact, compacted_at, step}
 use Rattle.ctrl_keep.specs.KeptController.{Controlled, place_of, machine_with, machine_of, Keeps}
 use Rattle.ctrl_keep.specs.CompactionReplies.{compaction_reply}
 use Rattle.ctrl_keep.specs.Faults.{disk_failure, AdvanceFails}
-use Rattle.ctrl_keep.proofs.KeptStates.{opens_state}
+use Rattle.row_store.proofs.StateRows.{opens_state}
 use Rattle.ctrl_keep.proofs.MachineSteps.{step_compacts, compacted_done, compacted_full, compacted_mark}
 
 -- A flag is not both.

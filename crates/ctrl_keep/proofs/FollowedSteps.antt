@@ -2,9 +2,9 @@
 use Rattle.std.specs.Prelude.{⊤, OnOk, IfErr}
 use Rattle.std.proofs.Common.{◌≡◌, ◌⊎◌, inl, inr, ℕ, ◌+◌, ◌==◌, if◌then◌else◌, Bool, true, false, List, [], ◌∷◌, ◌++◌, length, Some, Ok, Err, refl, sym, ap, ◌∙◌, subst, arith}
 use Rattle.std.specs.declared.result.Result.{Result}
-use Rattle.std.specs.declared.option.Option.{Option}
 use Rattle.std.proofs.lemmas.Bool.Decides.{nat_tests}
 use Rattle.ziti_outside.specs.Images.{Image}
+use Rattle.ziti_outside.specs.Views.{Seen}
 use Rattle.slot_files.specs.FolderImage.{Stands}
 use Rattle.ctrl_model.specs.State.{State}
 use Rattle.row_codec.specs.declared.changes.Op.{Op}
@@ -17,7 +17,7 @@ use Rattle.row_store.specs.StoredRows.{Stored, with_ops}
 use Rattle.row_store.specs.CompactedStores.{compacted, compacted_of, IsCompacted}
 use Rattle.ctrl_core.specs.KeptState.{Cored}
 use Rattle.ctrl_keep.specs.declared.faults.KeepFault.{KeepFault}
-use Rattle.ctrl_keep.specs.OpenedStates.{byte_rows_of}
+use Rattle.row_store.specs.OpenedStates.{byte_rows_of}
 use Rattle.ctrl_keep.specs.KeptMachine.{Place, Machine}
 use Rattle.ctrl_keep.specs.KeptBatches.{end_at, mark_at, batches_next, GoesOnBehind, Follows}
 use Rattle.ctrl_keep.specs.KeptController.{Controlled, machine_with, machine_of}
@@ -101,18 +101,18 @@ came_still core old new desk later (Err store_fault.Spent) c = tt
 came_still core old new desk later (Err store_fault.NoMemory) c = tt
 
 -- The folder follows the machine.
-pub came_follows : {D : Type 0} (reads : D → Image) (tells : Type 0) (core : Cored) (old new : Stored) (desk later : D) (r : Result ⊤ StoreFault) → CameTo core old new desk later r
-    → OnOk r (tells → IsCompacted old (reads desk) (reads later))
-    → OnOk (compaction_reply r) (tells → Follows (machine_with core.state old) (machine_with core.state new) (reads desk) (reads later))
-came_follows reads tells core old new desk later (Ok x) c folder = λ told. follows_compacted core.state old new (reads desk) (reads later) c.keeps.rows c.done.1 (folder told)
-came_follows reads tells core old new desk later (Err store_fault.Disk) c folder = tt
-came_follows reads tells core old new desk later (Err store_fault.Full) c folder = λ told.
-    follows_still _ _ (reads desk) (reads later) (ap (machine_with core.state) c.fault.2.0) (ap reads c.fault.2.1)
-came_follows reads tells core old new desk later (Err (store_fault.Damaged part at)) c folder = tt
-came_follows reads tells core old new desk later (Err store_fault.MarkFull) c folder = λ told.
-    follows_still _ _ (reads desk) (reads later) (ap (machine_with core.state) c.fault.3.0) (ap reads c.fault.3.1)
-came_follows reads tells core old new desk later (Err store_fault.Spent) c folder = tt
-came_follows reads tells core old new desk later (Err store_fault.NoMemory) c folder = tt
+pub came_follows : {D : Type 0} (seen : D → Seen) (tells : Type 0) (core : Cored) (old new : Stored) (desk later : D) (r : Result ⊤ StoreFault) → CameTo core old new desk later r
+    → OnOk r (tells → IsCompacted old (seen desk).reads (seen later).reads)
+    → OnOk (compaction_reply r) (tells → Follows (machine_with core.state old) (machine_with core.state new) (seen desk).reads (seen later).reads)
+came_follows seen tells core old new desk later (Ok x) c folder = λ told. follows_compacted core.state old new (seen desk).reads (seen later).reads c.keeps.rows c.done.1 (folder told)
+came_follows seen tells core old new desk later (Err store_fault.Disk) c folder = tt
+came_follows seen tells core old new desk later (Err store_fault.Full) c folder = λ told.
+    follows_still _ _ (seen desk).reads (seen later).reads (ap (machine_with core.state) c.fault.2.0) (ap (λ d. (seen d).reads) c.fault.2.1)
+came_follows seen tells core old new desk later (Err (store_fault.Damaged part at)) c folder = tt
+came_follows seen tells core old new desk later (Err store_fault.MarkFull) c folder = λ told.
+    follows_still _ _ (seen desk).reads (seen later).reads (ap (machine_with core.state) c.fault.3.0) (ap (λ d. (seen d).reads) c.fault.3.1)
+came_follows seen tells core old new desk later (Err store_fault.Spent) c folder = tt
+came_follows seen tells core old new desk later (Err store_fault.NoMemory) c folder = tt
 
 -- ---- the whole controller
 

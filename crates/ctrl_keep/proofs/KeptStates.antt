@@ -12,8 +12,9 @@ use Rattle.row_store.specs.BatchRows.{ByteRows, rows_after}
 use Rattle.row_store.specs.OpenedRows.{OpensTo}
 use Rattle.row_store.specs.StoredRows.{Stored, ReadsAs}
 use Rattle.row_store.proofs.CommitLaws.{reads_opens}
+use Rattle.row_store.proofs.StateRows.{opens_state}
 use Rattle.ctrl_core.specs.KeptState.{Cored}
-use Rattle.ctrl_keep.specs.OpenedStates.{byte_rows_of, OpensToState}
+use Rattle.row_store.specs.OpenedStates.{byte_rows_of, OpensToState}
 use Rattle.ctrl_keep.specs.KeptController.{Keeps}
 
 -- The rows after the batch are those of the next state.
@@ -33,10 +34,7 @@ batch_changes s t rows ops v w e f some =
     (subst (λ (o : List Op). IsTrueDifference bytes_cmp (byte_rows_of s) (entries_of o)) (sym f)
     (batch_is_true s t v w (λ same. some (f ∙ ap (batch_between s) (sym same) ∙ batch_between-same s v))))
 
--- What opens to the rows opens to the state, and what opens to the rows after the batch to the next state.
-pub opens_state : (image : Image) (s : State) (rows : ByteRows) → ValidState s → rows ≡ byte_rows_of s → OpensTo image rows → OpensToState image s
-opens_state image s rows v e p = record { valid = v; rows = subst (OpensTo image) e p }
-
+-- What opens to the rows after the batch opens to the next state.
 pub opens_next : (image : Image) (s t : State) (rows : ByteRows) (ops : List Op) → ValidState s → ValidState t → rows ≡ byte_rows_of s → ops ≡ batch_between s t
     → OpensTo image (rows_after rows ops) → OpensToState image t
 opens_next image s t rows ops v w e f p = opens_state image t (rows_after rows ops) w (rows_lead s t rows ops v w e f) p

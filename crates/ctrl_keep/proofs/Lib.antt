@@ -1,7 +1,6 @@
 pub mod KeptStates
 pub mod MachineSteps
 pub mod OpenedFolders
-pub mod OneStates
 pub mod AdvancedPlans
 pub mod SubmittedCommands
 mod CompactedStates

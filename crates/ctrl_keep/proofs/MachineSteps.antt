@@ -20,7 +20,7 @@ use Rattle.row_store.specs.CompactedStores.{compacted, compacted_size, compacted
 use Rattle.journal_core.specs.Slots.{slot_end}
 use Rattle.ctrl_core.specs.declared.plans.Planned.{Planned}
 use Rattle.ctrl_core.specs.Changes.{LeadsFrom, led}
-use Rattle.ctrl_keep.specs.OpenedStates.{byte_rows_of}
+use Rattle.row_store.specs.OpenedStates.{byte_rows_of}
 use Rattle.ctrl_keep.specs.KeptMachine.{Machine, kept, is_compact, compacted_at, answered, step}
 use Rattle.ctrl_keep.specs.KeptController.{place_of, machine_with, made_of}
 

@@ -2,8 +2,6 @@
 use Rattle.std.specs.Prelude.{◌≡◌, ◌⊎◌, ◌≤◌, ◌<◌, ⊤, Bool, true, false, IsTrue, List, Ok, Err}
 use Rattle.std.specs.declared.result.Result.{Result}
 use Rattle.ziti_outside.specs.Images.{Image}
-use Rattle.ctrl_model.specs.State.{State}
-use Rattle.ctrl_model.specs.ValidState.{ValidState}
 use Rattle.ctrl_core.specs.KeptState.{Cored}
 use Rattle.row_codec.specs.declared.changes.Op.{Op}
 use Rattle.row_store.specs.declared.faults.StoreFault.{StoreFault}
@@ -11,7 +9,7 @@ use Rattle.row_store.specs.declared.faults.StoreFault.TheVariants as store_fault
 use Rattle.row_store.specs.StoredRows.{Stored, size_with, with_ops, spent_of, spent_with}
 use Rattle.ctrl_keep.specs.declared.faults.KeepFault.{KeepFault}
 use Rattle.ctrl_keep.specs.declared.faults.KeepFault.TheVariants.{Disk, Damaged, Spent, NoMemory}
-use Rattle.ctrl_keep.specs.OpenedStates.{byte_rows_of, IsStateless}
+use Rattle.row_store.specs.OpenedStates.{IsStateless, IsOfNoState}
 use Rattle.ctrl_keep.specs.KeptController.{Controlled}
 
 -- The failure of a call on the disk, if that is how a call ended.
@@ -34,8 +32,7 @@ opening_fault store_fault.NoMemory = NoMemory
 -- Why the rows of a store gave no controller: they are those of no valid state, which is told at the store's end, or there is no memory.
 abbrev pub LoadFails : Stored → KeepFault → Type 0
 LoadFails stored Disk = ⊥
-LoadFails stored (Damaged part at) =
-    (part ≡ stored.part) × (at ≡ stored.end) × ((s : State) → ValidState s → stored.rows ≡ byte_rows_of s → ⊥)
+LoadFails stored (Damaged part at) = IsOfNoState stored part at
 LoadFails stored Spent = ⊥
 LoadFails stored NoMemory = ⊤
 

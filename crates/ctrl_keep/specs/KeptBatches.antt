@@ -5,7 +5,7 @@ use Rattle.ziti_outside.specs.Images.{Image}
 use Rattle.slot_files.specs.FolderImage.{Stands}
 use Rattle.row_codec.specs.Batches.{batch_between, batch_bytes}
 use Rattle.row_store.specs.CompactedStores.{compacted}
-use Rattle.ctrl_keep.specs.OpenedStates.{byte_rows_of}
+use Rattle.row_store.specs.OpenedStates.{byte_rows_of}
 use Rattle.ctrl_keep.specs.KeptMachine.{Place, Machine}
 
 -- The place of the gate at which a machine's journal goes on. Without a folder there is none, and this is 0.

@@ -8,7 +8,7 @@ use Rattle.ctrl_core.specs.declared.plans.Planned.{Planned}
 use Rattle.ctrl_core.specs.Changes.{CanLead, led}
 use Rattle.ctrl_core.specs.KeptState.{Cored}
 use Rattle.row_store.specs.StoredRows.{Stored}
-use Rattle.ctrl_keep.specs.OpenedStates.{byte_rows_of}
+use Rattle.row_store.specs.OpenedStates.{byte_rows_of}
 use Rattle.ctrl_keep.specs.KeptMachine.{Place, Machine, kept}
 
 -- A kept controller: its state, its store, and whether it is spent.

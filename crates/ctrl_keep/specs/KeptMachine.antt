@@ -16,7 +16,7 @@ use Rattle.row_codec.specs.declared.changes.Op.{Op}
 use Rattle.row_codec.specs.Batches.{batch_between, batch_bytes}
 use Rattle.row_store.specs.declared.bounds.StoreBounds.{StoreBounds}
 use Rattle.row_store.specs.CompactedStores.{compacted, compacted_size}
-use Rattle.ctrl_keep.specs.OpenedStates.{byte_rows_of}
+use Rattle.row_store.specs.OpenedStates.{byte_rows_of}
 
 -- Where the journal goes on: the place of the closed gate of the slot that stands, and the length of the mark.
 pub record Place : Type 0 where

@@ -1,4 +1,3 @@
-pub mod OpenedStates
 pub mod KeptMachine
 pub mod KeptBatches
 pub mod KeptController

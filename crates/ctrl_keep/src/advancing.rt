@@ -10,7 +10,7 @@ ghost use Rattle.row_store.specs.AddedBatches.{AddsBatch};
 ghost use Rattle.row_store.specs.BatchRows.{rows_after};
 ghost use Rattle.row_store.specs.OpenedRows.{OpensTo};
 ghost use Rattle.row_store.specs.StoredRows.{ReadsAs};
-ghost use Rattle.ctrl_keep.specs.OpenedStates.{OpensToState};
+ghost use Rattle.row_store.specs.OpenedStates.{OpensToState};
 ghost use Rattle.ctrl_keep.specs.KeptBatches.{Follows};
 ghost use Rattle.ctrl_keep.specs.KeptController.{machine_with, made_of, Keeps, IsPlanned};
 ghost use Rattle.ctrl_keep.specs.Faults.{disk_failure, KeptOrFull, KeepFails, AdvanceFails};
@@ -28,22 +28,22 @@ fn keep<D: Desk>(store: &mut Store, desk: &mut D, batch: &Batch) -> Result<bool,
     requires unspent { store.old.spent ≡ false }
     requires batch { IsBatch batch.now }
     requires changes { IsTrueDifference bytes_cmp store.old.rows (entries_of batch.now) }
-    requires stands { IsTrue D.tells → ReadsAs store.old (D.reads desk.old) (D.may_leave desk.old) }
+    requires stands { IsTrue D.tells → ReadsAs store.old (D.seen desk.old).reads (D.stopped desk.old).images }
 
     ensures kept { IfOk result (λ kept. KeptOrFull batch.now store.old store.new desk.old desk.new kept) }
-    ensures added { IfOk result (λ kept. kept ≡ true → IsTrue D.tells → AddsBatch batch.now (D.reads desk.old) (D.reads desk.new)) }
+    ensures added { IfOk result (λ kept. kept ≡ true → IsTrue D.tells → AddsBatch batch.now (D.seen desk.old).reads (D.seen desk.new).reads) }
     ensures fault { IfErr result (λ fault. KeepFails batch.now store.old store.new desk.old desk.new fault) }
-    ensures stands { store.new.spent ≡ false → IsTrue D.tells → ReadsAs store.new (D.reads desk.new) (D.may_leave desk.new) }
+    ensures stands { store.new.spent ≡ false → IsTrue D.tells → ReadsAs store.new (D.seen desk.new).reads (D.stopped desk.new).images }
     ensures behind { IsErrOf result KeepFault.NoMemory → store.new.spent ≡ true → IsTrue D.tells → (image : Image)
-        → D.may_leave desk.new image → OpensTo image (rows_after store.old.rows batch.now) }
-    ensures cause { HasCause (D.disk_faults desk.old) (D.disk_faults desk.new) (disk_failure result) }
-    ensures others { OnlyDisk D.said D.noted D.say_faults D.note_faults desk.old desk.new }
-    ensures quiet { Leaves D.moment D.since D.may_leave D.said desk.old desk.new (λ image. ⊤) }
-    ensures stops { IsTrue D.tells → Leaves D.moment D.since D.may_leave D.said desk.old desk.new
+        → (D.stopped desk.new).images image → OpensTo image (rows_after store.old.rows batch.now) }
+    ensures cause { HasCause (D.seen desk.old).disk_faults (D.seen desk.new).disk_faults (disk_failure result) }
+    ensures others { OnlyDisk D.seen desk.old desk.new }
+    ensures quiet { Leaves D.seen D.stopped desk.old desk.new (λ image. ⊤) }
+    ensures stops { IsTrue D.tells → Leaves D.seen D.stopped desk.old desk.new
         (λ image. OpensTo image store.old.rows ⊎ OpensTo image (rows_after store.old.rows batch.now)) }
-    ensures remembers { Remembers (D.moment desk.old) (D.since desk.old) (D.since desk.new) }
-    ensures room { IsTrue D.tells → KeepsRoom store.old.bounds.slot (D.reads desk.old) (D.reads desk.new) }
-    ensures images { LeavesRoom store.old.bounds.slot D.may_leave desk.old desk.new }
+    ensures remembers { Remembers (D.stopped desk.old) (D.stopped desk.new) }
+    ensures room { IsTrue D.tells → KeepsRoom store.old.bounds.slot (D.seen desk.old).reads (D.seen desk.new).reads }
+    ensures images { LeavesRoom store.old.bounds.slot D.stopped desk.old desk.new }
 {
     match store.commit(desk, batch) {
         Ok(()) => Ok(true),
@@ -66,25 +66,25 @@ pub(crate) fn advance<D: Desk>(
 ) -> Result<Reply, KeepFault>
     requires planned { IsPlanned planned core.old store.old }
     requires unspent { spent.old ≡ false }
-    requires stands { IsTrue D.tells → ReadsAs store.old (D.reads desk.old) (D.may_leave desk.old) }
+    requires stands { IsTrue D.tells → ReadsAs store.old (D.seen desk.old).reads (D.stopped desk.old).images }
 
     ensures step { IfOk result (λ reply. (reply, machine_with core.new.state store.new) ≡ made_of planned core.old.state store.old) }
     ensures still { OnOk result (machine_with core.new.state store.new ≡ machine_with core.old.state store.old → desk.new ≡ desk.old) }
-    ensures follows { OnOk result (IsTrue D.tells → Follows (machine_with core.old.state store.old) (machine_with core.new.state store.new) (D.reads desk.old) (D.reads desk.new)) }
+    ensures follows { OnOk result (IsTrue D.tells → Follows (machine_with core.old.state store.old) (machine_with core.new.state store.new) (D.seen desk.old).reads (D.seen desk.new).reads) }
     ensures unspent { OnOk result ((spent.new ≡ false) × (store.new.bounds ≡ store.old.bounds)) }
     ensures keeps { spent.new ≡ false → Keeps core.new store.new }
     ensures fault { IfErr result (λ fault. AdvanceFails core.old core.new store.old store.new spent.new desk.old desk.new fault) }
-    ensures stands { spent.new ≡ false → IsTrue D.tells → ReadsAs store.new (D.reads desk.new) (D.may_leave desk.new) }
+    ensures stands { spent.new ≡ false → IsTrue D.tells → ReadsAs store.new (D.seen desk.new).reads (D.stopped desk.new).images }
     ensures behind { IsErrOf result KeepFault.NoMemory → spent.new ≡ true → IsTrue D.tells → (image : Image)
-        → D.may_leave desk.new image → OpensToState image (made_of planned core.old.state store.old).1.state }
-    ensures cause { HasCause (D.disk_faults desk.old) (D.disk_faults desk.new) (disk_failure result) }
-    ensures others { OnlyDisk D.said D.noted D.say_faults D.note_faults desk.old desk.new }
-    ensures quiet { Leaves D.moment D.since D.may_leave D.said desk.old desk.new (λ image. ⊤) }
-    ensures stops { IsTrue D.tells → Leaves D.moment D.since D.may_leave D.said desk.old desk.new
+        → (D.stopped desk.new).images image → OpensToState image (made_of planned core.old.state store.old).1.state }
+    ensures cause { HasCause (D.seen desk.old).disk_faults (D.seen desk.new).disk_faults (disk_failure result) }
+    ensures others { OnlyDisk D.seen desk.old desk.new }
+    ensures quiet { Leaves D.seen D.stopped desk.old desk.new (λ image. ⊤) }
+    ensures stops { IsTrue D.tells → Leaves D.seen D.stopped desk.old desk.new
         (λ image. OpensToState image core.old.state ⊎ OpensToState image (made_of planned core.old.state store.old).1.state) }
-    ensures remembers { Remembers (D.moment desk.old) (D.since desk.old) (D.since desk.new) }
-    ensures room { IsTrue D.tells → KeepsRoom store.old.bounds.slot (D.reads desk.old) (D.reads desk.new) }
-    ensures images { LeavesRoom store.old.bounds.slot D.may_leave desk.old desk.new }
+    ensures remembers { Remembers (D.stopped desk.old) (D.stopped desk.new) }
+    ensures room { IsTrue D.tells → KeepsRoom store.old.bounds.slot (D.seen desk.old).reads (D.seen desk.new).reads }
+    ensures images { LeavesRoom store.old.bounds.slot D.stopped desk.old desk.new }
 {
     if planned.batch.as_slice().is_empty() {
         return Ok(planned.reply);

@@ -5,7 +5,7 @@ ghost use Rattle.ziti_outside.specs.Untouched.{OnlyDisk};
 ghost use Rattle.journal_core.specs.Room.{KeepsRoom, LeavesRoom};
 ghost use Rattle.row_store.specs.StoredRows.{ReadsAs};
 ghost use Rattle.row_store.specs.CompactedStores.{IsCompacted};
-ghost use Rattle.ctrl_keep.specs.OpenedStates.{OpensToState};
+ghost use Rattle.row_store.specs.OpenedStates.{OpensToState};
 ghost use Rattle.ctrl_keep.specs.KeptMachine.{is_compact, compacted_at};
 ghost use Rattle.ctrl_keep.specs.KeptBatches.{Follows};
 ghost use Rattle.ctrl_keep.specs.KeptController.{place_of, machine_with, Keeps};
@@ -50,25 +50,25 @@ pub(crate) fn compact<D: Desk>(
 ) -> Result<Reply, KeepFault>
     requires keeps { Keeps core.now store.old }
     requires unspent { spent.old ≡ false }
-    requires stands { IsTrue D.tells → ReadsAs store.old (D.reads desk.old) (D.may_leave desk.old) }
+    requires stands { IsTrue D.tells → ReadsAs store.old (D.seen desk.old).reads (D.stopped desk.old).images }
 
     ensures step { IfOk result (λ reply. (reply, machine_with core.now.state store.new) ≡ compacted_at store.old.bounds core.now.state (place_of store.old)) }
     ensures still { OnOk result (machine_with core.now.state store.new ≡ machine_with core.now.state store.old → desk.new ≡ desk.old) }
-    ensures follows { OnOk result (IsTrue D.tells → Follows (machine_with core.now.state store.old) (machine_with core.now.state store.new) (D.reads desk.old) (D.reads desk.new)) }
+    ensures follows { OnOk result (IsTrue D.tells → Follows (machine_with core.now.state store.old) (machine_with core.now.state store.new) (D.seen desk.old).reads (D.seen desk.new).reads) }
     ensures unspent { OnOk result ((spent.new ≡ false) × (store.new.bounds ≡ store.old.bounds)) }
-    ensures folder { IfOk result (λ reply. reply ≡ Done → IsTrue D.tells → IsCompacted store.old (D.reads desk.old) (D.reads desk.new)) }
+    ensures folder { IfOk result (λ reply. reply ≡ Done → IsTrue D.tells → IsCompacted store.old (D.seen desk.old).reads (D.seen desk.new).reads) }
     ensures keeps { spent.new ≡ false → Keeps core.now store.new }
     ensures fault { IfErr result (λ fault. AdvanceFails core.now core.now store.old store.new spent.new desk.old desk.new fault) }
     ensures fits { OnErr result ((compacted_at store.old.bounds core.now.state (place_of store.old)).0 ≡ Done) }
     ensures memory { IsErrOf result KeepFault.NoMemory → spent.new ≡ false }
-    ensures stands { spent.new ≡ false → IsTrue D.tells → ReadsAs store.new (D.reads desk.new) (D.may_leave desk.new) }
-    ensures cause { HasCause (D.disk_faults desk.old) (D.disk_faults desk.new) (disk_failure result) }
-    ensures others { OnlyDisk D.said D.noted D.say_faults D.note_faults desk.old desk.new }
-    ensures quiet { Leaves D.moment D.since D.may_leave D.said desk.old desk.new (λ image. ⊤) }
-    ensures stops { IsTrue D.tells → Leaves D.moment D.since D.may_leave D.said desk.old desk.new (λ image. OpensToState image core.now.state) }
-    ensures remembers { Remembers (D.moment desk.old) (D.since desk.old) (D.since desk.new) }
-    ensures room { IsTrue D.tells → OnOk (disk_failure result) (KeepsRoom store.old.bounds.slot (D.reads desk.old) (D.reads desk.new)) }
-    ensures images { LeavesRoom store.old.bounds.slot D.may_leave desk.old desk.new }
+    ensures stands { spent.new ≡ false → IsTrue D.tells → ReadsAs store.new (D.seen desk.new).reads (D.stopped desk.new).images }
+    ensures cause { HasCause (D.seen desk.old).disk_faults (D.seen desk.new).disk_faults (disk_failure result) }
+    ensures others { OnlyDisk D.seen desk.old desk.new }
+    ensures quiet { Leaves D.seen D.stopped desk.old desk.new (λ image. ⊤) }
+    ensures stops { IsTrue D.tells → Leaves D.seen D.stopped desk.old desk.new (λ image. OpensToState image core.now.state) }
+    ensures remembers { Remembers (D.stopped desk.old) (D.stopped desk.new) }
+    ensures room { IsTrue D.tells → OnOk (disk_failure result) (KeepsRoom store.old.bounds.slot (D.seen desk.old).reads (D.seen desk.new).reads) }
+    ensures images { LeavesRoom store.old.bounds.slot D.stopped desk.old desk.new }
 {
     let compacted = store.compact(desk);
     *spent = store.is_spent();

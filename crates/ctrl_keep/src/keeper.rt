@@ -10,7 +10,7 @@ ghost use Rattle.slot_files.specs.OpenedSlots.{Opens};
 ghost use Rattle.ctrl_model.specs.CommandForm.{is_spelled};
 ghost use Rattle.ctrl_model.specs.ValidState.{ValidState};
 ghost use Rattle.row_store.specs.StoredRows.{ReadsAs};
-ghost use Rattle.ctrl_keep.specs.OpenedStates.{byte_rows_of, OpensToState};
+ghost use Rattle.row_store.specs.OpenedStates.{byte_rows_of, OpensToState};
 ghost use Rattle.ctrl_keep.specs.KeptMachine.{step, is_compact};
 ghost use Rattle.ctrl_model.specs.declared.replies.Reply.TheVariants.{Done};
 ghost use Rattle.row_store.specs.CompactedStores.{IsCompacted};
@@ -61,31 +61,31 @@ impl Kept {
         bounds: StoreBounds,
     ) -> Result<Kept, KeepFault>
         requires { bounds.slot ≤ 2 ^ 30 }
-        ensures opens { IfOk result (λ kept. IsTrue D.tells → OpensToState (D.reads desk.old) kept.state) }
-        ensures stands { IfOk result (λ kept. IsTrue D.tells → ReadsAs kept.stored (D.reads desk.new) (D.may_leave desk.new)) }
+        ensures opens { IfOk result (λ kept. IsTrue D.tells → OpensToState (D.seen desk.old).reads kept.state) }
+        ensures stands { IfOk result (λ kept. IsTrue D.tells → ReadsAs kept.stored (D.seen desk.new).reads (D.stopped desk.new).images) }
         ensures holds { IfOk result HoldsRows }
         ensures opened { IfOk result (λ kept. (kept.stored.bounds ≡ bounds) × (kept.spent ≡ false)) }
-        ensures created { OnOk result (IsTrue D.tells → Opens (length (D.reads desk.old Mark)) (D.reads desk.old) (D.reads desk.new)) }
+        ensures created { OnOk result (IsTrue D.tells → Opens (length ((D.seen desk.old).reads Mark)) (D.seen desk.old).reads (D.seen desk.new).reads) }
 
         // A folder whose mark is not empty reads as before, whatever comes of the call; and the second slot always does.
-        ensures kept { IsTrue D.tells → 0 < length (D.reads desk.old Mark) → D.reads desk.new ≡ D.reads desk.old }
-        ensures second { D.reads desk.new One ≡ D.reads desk.old One }
+        ensures kept { IsTrue D.tells → 0 < length ((D.seen desk.old).reads Mark) → (D.seen desk.new).reads ≡ (D.seen desk.old).reads }
+        ensures second { (D.seen desk.new).reads One ≡ (D.seen desk.old).reads One }
 
         // Nor does a stop leave anything else of such a folder: each image, at every moment of the call and after it, is one that a stop
         // might have left before.
-        ensures unwritten { IsTrue D.tells → 0 < length (D.reads desk.old Mark) → Leaves D.moment D.since D.may_leave D.said desk.old desk.new (D.may_leave desk.old) }
+        ensures unwritten { IsTrue D.tells → 0 < length ((D.seen desk.old).reads Mark) → Leaves D.seen D.stopped desk.old desk.new (D.stopped desk.old).images }
 
-        ensures fault { IfErr result (λ fault. OpenFails D.tells (D.reads desk.old) fault) }
-        ensures cause { HasCause (D.disk_faults desk.old) (D.disk_faults desk.new) (disk_failure result) }
-        ensures others { OnlyDisk D.said D.noted D.say_faults D.note_faults desk.old desk.new }
-        ensures quiet { Leaves D.moment D.since D.may_leave D.said desk.old desk.new (λ image. ⊤) }
-        ensures stops { IsTrue D.tells → Leaves D.moment D.since D.may_leave D.said desk.old desk.new (After StandsAsBefore (D.may_leave desk.old)) }
-        ensures remembers { Remembers (D.moment desk.old) (D.since desk.old) (D.since desk.new) }
+        ensures fault { IfErr result (λ fault. OpenFails D.tells (D.seen desk.old).reads fault) }
+        ensures cause { HasCause (D.seen desk.old).disk_faults (D.seen desk.new).disk_faults (disk_failure result) }
+        ensures others { OnlyDisk D.seen desk.old desk.new }
+        ensures quiet { Leaves D.seen D.stopped desk.old desk.new (λ image. ⊤) }
+        ensures stops { IsTrue D.tells → Leaves D.seen D.stopped desk.old desk.new (After StandsAsBefore (D.stopped desk.old).images) }
+        ensures remembers { Remembers (D.stopped desk.old) (D.stopped desk.new) }
 
         // No slot grows past the size of one without a record, neither in what a stop leaves nor, where no call on the disk failed, as
         // the desk reads.
-        ensures room { IsTrue D.tells → OnOk (disk_failure result) (KeepsRoom empty_size (D.reads desk.old) (D.reads desk.new)) }
-        ensures images { LeavesRoom empty_size D.may_leave desk.old desk.new }
+        ensures room { IsTrue D.tells → OnOk (disk_failure result) (KeepsRoom empty_size (D.seen desk.old).reads (D.seen desk.new).reads) }
+        ensures images { LeavesRoom empty_size D.stopped desk.old desk.new }
     {
         match Store::open(alloc, desk, bounds) {
             Ok(store) => Kept::load(alloc, store),
@@ -126,35 +126,35 @@ impl Kept {
         command: &Command,
     ) -> Result<Reply, KeepFault>
         requires spelled { is_spelled command.now ≡ true }
-        requires stands { self.old.spent ≡ false → IsTrue D.tells → ReadsAs self.old.stored (D.reads desk.old) (D.may_leave desk.old) }
+        requires stands { self.old.spent ≡ false → IsTrue D.tells → ReadsAs self.old.stored (D.seen desk.old).reads (D.stopped desk.old).images }
 
         ensures step { IfOk result (λ reply. (reply, machine_of self.new) ≡ step self.old.stored.bounds who.now command.now (machine_of self.old)) }
         // Where that leaves the machine, as it does where the command is refused, has no room, shows or changes nothing, it leaves the desk,
         // whole. Any other command adds to the folder exactly the one batch of its changes, or compacts it.
         ensures still { OnOk result (machine_of self.new ≡ machine_of self.old → desk.new ≡ desk.old) }
-        ensures follows { OnOk result (IsTrue D.tells → Follows (machine_of self.old) (machine_of self.new) (D.reads desk.old) (D.reads desk.new)) }
+        ensures follows { OnOk result (IsTrue D.tells → Follows (machine_of self.old) (machine_of self.new) (D.seen desk.old).reads (D.seen desk.new).reads) }
 
         ensures unspent { OnOk result ((self.old.spent ≡ false) × (self.new.spent ≡ false) × (self.new.stored.bounds ≡ self.old.stored.bounds)) }
         ensures holds { self.new.spent ≡ false → HoldsRows self.new }
         ensures compacted { IfOk result (λ reply. is_compact command.now ≡ true → reply ≡ Done → IsTrue D.tells
-            → IsCompacted self.old.stored (D.reads desk.old) (D.reads desk.new)) }
+            → IsCompacted self.old.stored (D.seen desk.old).reads (D.seen desk.new).reads) }
         ensures fault { IfErr result (λ fault. SubmitFails self.old self.new desk.old desk.new fault) }
         ensures fits { OnErr result (self.old.spent ≡ false → is_compact command.now ≡ true
             → (step self.old.stored.bounds who.now command.now (machine_of self.old)).0 ≡ Done) }
-        ensures stands { self.new.spent ≡ false → IsTrue D.tells → ReadsAs self.new.stored (D.reads desk.new) (D.may_leave desk.new) }
+        ensures stands { self.new.spent ≡ false → IsTrue D.tells → ReadsAs self.new.stored (D.seen desk.new).reads (D.stopped desk.new).images }
         ensures behind { IsErrOf result KeepFault.NoMemory → self.old.spent ≡ false → self.new.spent ≡ true → IsTrue D.tells → (image : Image)
-            → D.may_leave desk.new image → OpensToState image (step self.old.stored.bounds who.now command.now (machine_of self.old)).1.state }
-        ensures cause { HasCause (D.disk_faults desk.old) (D.disk_faults desk.new) (disk_failure result) }
-        ensures others { OnlyDisk D.said D.noted D.say_faults D.note_faults desk.old desk.new }
-        ensures quiet { Leaves D.moment D.since D.may_leave D.said desk.old desk.new (λ image. ⊤) }
-        ensures stops { self.old.spent ≡ false → IsTrue D.tells → Leaves D.moment D.since D.may_leave D.said desk.old desk.new
+            → (D.stopped desk.new).images image → OpensToState image (step self.old.stored.bounds who.now command.now (machine_of self.old)).1.state }
+        ensures cause { HasCause (D.seen desk.old).disk_faults (D.seen desk.new).disk_faults (disk_failure result) }
+        ensures others { OnlyDisk D.seen desk.old desk.new }
+        ensures quiet { Leaves D.seen D.stopped desk.old desk.new (λ image. ⊤) }
+        ensures stops { self.old.spent ≡ false → IsTrue D.tells → Leaves D.seen D.stopped desk.old desk.new
             (λ image. OpensToState image self.old.state ⊎ OpensToState image (step self.old.stored.bounds who.now command.now (machine_of self.old)).1.state) }
-        ensures remembers { Remembers (D.moment desk.old) (D.since desk.old) (D.since desk.new) }
+        ensures remembers { Remembers (D.stopped desk.old) (D.stopped desk.new) }
 
         // No slot grows past its bound, neither in what a stop leaves nor, but for a Compact that failed on the disk, as the desk reads.
-        ensures room { IsTrue D.tells → OnOk (disk_failure result) (KeepsRoom self.old.stored.bounds.slot (D.reads desk.old) (D.reads desk.new)) }
-        ensures appended { is_compact command.now ≡ false → IsTrue D.tells → KeepsRoom self.old.stored.bounds.slot (D.reads desk.old) (D.reads desk.new) }
-        ensures images { LeavesRoom self.old.stored.bounds.slot D.may_leave desk.old desk.new }
+        ensures room { IsTrue D.tells → OnOk (disk_failure result) (KeepsRoom self.old.stored.bounds.slot (D.seen desk.old).reads (D.seen desk.new).reads) }
+        ensures appended { is_compact command.now ≡ false → IsTrue D.tells → KeepsRoom self.old.stored.bounds.slot (D.seen desk.old).reads (D.seen desk.new).reads }
+        ensures images { LeavesRoom self.old.stored.bounds.slot D.stopped desk.old desk.new }
     {
         if self.spent {
             return Err(KeepFault::Spent);

@@ -6,12 +6,10 @@ mod advancing;
 mod compacting;
 mod faults;
 mod keeper;
-mod laws;
 mod loading;
 mod worked;
 
 pub use faults::KeepFault;
 pub use keeper::Kept;
-pub use laws::one_state;
 pub use loading::peek;
 pub use worked::{worked_batches, worked_compactions, worked_machine};

@@ -2,7 +2,7 @@ ghost use Rattle.std.specs.Prelude.{◌≡◌, true, IsTrue, IfOk, IfErr};
 ghost use Rattle.ziti_outside.specs.Causes.{HasCause};
 ghost use Rattle.ziti_outside.specs.Untouched.{OnlyReads};
 ghost use Rattle.ctrl_model.specs.ValidState.{ValidState};
-ghost use Rattle.ctrl_keep.specs.OpenedStates.{byte_rows_of, OpensToState};
+ghost use Rattle.row_store.specs.OpenedStates.{byte_rows_of, OpensToState};
 ghost use Rattle.ctrl_keep.specs.Faults.{disk_failure, OpenFails, LoadFails};
 
 use crate::faults::{KeepFault, fault_of};
@@ -35,12 +35,12 @@ pub(crate) fn core_of(alloc: Global, store: &Store) -> Result<Core, KeepFault>
 /// `Damaged` comes exactly where the folder opens to no state, with the first place at which it is damaged. At every moment of the
 /// call a stop leaves an image that it might have left before. `Spent` never comes.
 pub fn peek<D: Desk>(alloc: Global, desk: &mut D) -> Result<Core, KeepFault>
-    ensures opens { IfOk result (λ core. IsTrue D.tells → OpensToState (D.reads desk.old) core.state) }
+    ensures opens { IfOk result (λ core. IsTrue D.tells → OpensToState (D.seen desk.old).reads core.state) }
     ensures valid { IfOk result (λ core. ValidState core.state) }
     ensures live { IfOk result (λ core. core.live ≡ true) }
-    ensures fault { IfErr result (λ fault. OpenFails D.tells (D.reads desk.old) fault) }
-    ensures cause { HasCause (D.disk_faults desk.old) (D.disk_faults desk.new) (disk_failure result) }
-    ensures reads { OnlyReads D.reads D.said D.noted D.say_faults D.note_faults D.moment D.since D.may_leave desk.old desk.new }
+    ensures fault { IfErr result (λ fault. OpenFails D.tells (D.seen desk.old).reads fault) }
+    ensures cause { HasCause (D.seen desk.old).disk_faults (D.seen desk.new).disk_faults (disk_failure result) }
+    ensures reads { OnlyReads D.seen D.stopped desk.old desk.new }
 {
     match Store::peek(alloc, desk) {
         Ok(store) => core_of(alloc, &store),

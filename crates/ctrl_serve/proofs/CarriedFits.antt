@@ -20,7 +20,7 @@ use Rattle.row_codec.specs.declared.changes.Op.{Op}
 use Rattle.row_codec.specs.Batches.{batch_between}
 use Rattle.row_store.specs.declared.bounds.StoreBounds.{StoreBounds}
 use Rattle.ctrl_keep.specs.KeptMachine.{Place, Machine, slot_with, behind, kept, is_compact, compacted_place, compacted_at, answered, step}
-use Rattle.ctrl_keep.specs.OpenedStates.{byte_rows_of}
+use Rattle.row_store.specs.OpenedStates.{byte_rows_of}
 use Rattle.row_store.specs.CompactedStores.{compacted_size}
 use Rattle.ctrl_model.specs.State.{State, Entity, as_entity, entity_named, link_named}
 use Rattle.ctrl_model.specs.Rules.{carried_out, shown, unknown_if_absent}

@@ -10,7 +10,7 @@ use Rattle.ctrl_model.specs.declared.replies.Reply.{Reply}
 use Rattle.row_store.specs.StoredRows.{Stored, ReadsAs}
 use Rattle.ctrl_keep.specs.KeptController.{Controlled, machine_of}
 use Rattle.ctrl_keep.specs.KeptMachine.{Machine, step}
-use Rattle.ctrl_keep.specs.OpenedStates.{OpensToState}
+use Rattle.row_store.specs.OpenedStates.{OpensToState}
 use Rattle.reply_codec.specs.ReplyLimits.{keeps_limits}
 use Rattle.ctrl_serve.specs.declared.controller.Controller.{Controller}
 use Rattle.ctrl_serve.specs.declared.controller.Controller.TheVariants.{Kept}
@@ -20,6 +20,7 @@ use Rattle.ctrl_serve.specs.ControllerViews.{serving_of}
 use Rattle.ctrl_serve.specs.Headline.{IsLeftAlone, OnlySaysAndNotes}
 use Rattle.ziti_outside.specs.Untouched.{OnlyNotes, OnlySays}
 use Rattle.ziti_outside.proofs.MomentLaws.{Elapses-none, Elapses-then, Elapses-weaker}
+use Rattle.ziti_outside.specs.Views.{Seen, Stopped}
 use Rattle.ctrl_serve.proofs.CarriedFits.{step_fits}
 
 -- What a kept controller that can answer has: it is not spent.
@@ -38,13 +39,13 @@ kept_limits x k tells reads images reply next who c is ready e =
     ap (λ (p : Reply × Machine). keeps_limits p.0) e ∙ step_fits k.stored.bounds who c (machine_of k) held.0.valid
 
 -- And a stop within its answer leaves what the machine of the controller says.
-pub kept_stops : {D : Type 0} {moment : D → ℕ} {since : D → ℕ → Image → List ℕ → Type 0} {may_leave : D → Image → Type 0} {said : D → Option (List ℕ)} {old new : D}
+pub kept_stops : {D : Type 0} {seen : D → Seen} {stopped : D → Stopped} {old new : D}
     (x : Controller) (k : Controlled) (who : Who) (c : Command) → x ≡ Kept k
-    → Leaves moment since may_leave said old new (λ image. OpensToState image k.state ⊎ OpensToState image (step k.stored.bounds who c (machine_of k)).1.state)
-    → Leaves moment since may_leave said old new (λ image. OpensToState image (serving_of x).machine.state ⊎ OpensToState image (step (serving_of x).bounds who c (serving_of x).machine).1.state)
-kept_stops {moment = moment} {since = since} {may_leave = may_leave} {said = said} {old = old} {new = new} x k who c is stops =
+    → Leaves seen stopped old new (λ image. OpensToState image k.state ⊎ OpensToState image (step k.stored.bounds who c (machine_of k)).1.state)
+    → Leaves seen stopped old new (λ image. OpensToState image (serving_of x).machine.state ⊎ OpensToState image (step (serving_of x).bounds who c (serving_of x).machine).1.state)
+kept_stops {stopped = stopped} {seen = seen} {old = old} {new = new} x k who c is stops =
     subst
-    (λ (y : Controller). Leaves moment since may_leave said old new (λ image. OpensToState image (serving_of y).machine.state ⊎ OpensToState image (step (serving_of y).bounds who c (serving_of y).machine).1.state))
+    (λ (y : Controller). Leaves seen stopped old new (λ image. OpensToState image (serving_of y).machine.state ⊎ OpensToState image (step (serving_of y).bounds who c (serving_of y).machine).1.state))
     (sym is) stops
 
 -- A controller that goes on twice goes on.
@@ -73,71 +74,71 @@ still_alone old None kind none = refl
 still_alone old (Some k) kind none = absurd (false≢true (sym (kind ∙ ap is_some none)))
 
 -- Notes that are left twice are left.
-pub LeavesNotes-then : {D : Type 0} {noted : D → Option (List ℕ)} {note_faults : D → ℕ} {old mid new : D}
-    → LeavesNotes noted note_faults old mid → LeavesNotes noted note_faults mid new → LeavesNotes noted note_faults old new
+pub LeavesNotes-then : {D : Type 0} {seen : D → Seen} {old mid new : D}
+    → LeavesNotes seen old mid → LeavesNotes seen mid new → LeavesNotes seen old new
 LeavesNotes-then first second = record { notes = second.notes ∙ first.notes; failed_notes = second.failed_notes ∙ first.failed_notes }
 
 -- A folder that was left alone twice was left alone.
-pub LeftAlone-then : {D : Type 0} {reads : D → Image} {moment : D → ℕ} {since : D → ℕ → Image → List ℕ → Type 0} {may_leave : D → Image → Type 0} {old mid new : D}
-    → IsLeftAlone reads moment since may_leave old mid → IsLeftAlone reads moment since may_leave mid new → IsLeftAlone reads moment since may_leave old new
-LeftAlone-then {may_leave = may_leave} {old = old} first second = record {
+pub LeftAlone-then : {D : Type 0} {seen : D → Seen} {stopped : D → Stopped} {old mid new : D}
+    → IsLeftAlone seen stopped old mid → IsLeftAlone seen stopped mid new → IsLeftAlone seen stopped old new
+LeftAlone-then {stopped = stopped} {old = old} first second = record {
   parts = second.parts ∙ first.parts;
   found = λ image left. first.found image (second.found image left);
-  stops = Elapses-then (λ image taken. may_leave old image) first.stops second.stops (λ i w p. p) (λ i w p. first.found i p);
+  stops = Elapses-then (λ image taken. (stopped old).images image) first.stops second.stops (λ i w p. p) (λ i w p. first.found i p);
 }
 
-pub LeftAlone-none : {D : Type 0} {reads : D → Image} {moment : D → ℕ} {since : D → ℕ → Image → List ℕ → Type 0} {may_leave : D → Image → Type 0} (desk : D) → IsLeftAlone reads moment since may_leave desk desk
-LeftAlone-none desk = record { parts = refl; found = λ image left. left; stops = Elapses-none _ _ _ }
+pub LeftAlone-none : {D : Type 0} {seen : D → Seen} {stopped : D → Stopped} (desk : D) → IsLeftAlone seen stopped desk desk
+LeftAlone-none desk = record { parts = refl; found = λ image left. left; stops = Elapses-none _ _ }
 
 -- Notes leave it alone.
-pub noted_alone : {D : Type 0} {said : D → Option (List ℕ)} {say_faults : D → ℕ} {reads : D → Image} {moment : D → ℕ} {since : D → ℕ → Image → List ℕ → Type 0} {may_leave : D → Image → Type 0} {disk_faults : D → ℕ} {old new : D}
-    → OnlyNotes said say_faults reads may_leave disk_faults old new → FindsNoMore moment since old new → IsLeftAlone reads moment since may_leave old new
-noted_alone {may_leave = may_leave} {old = old} notes more = record {
+pub noted_alone : {D : Type 0} {seen : D → Seen} {stopped : D → Stopped} {old new : D}
+    → OnlyNotes seen stopped old new → FindsNoMore stopped old new → IsLeftAlone seen stopped old new
+noted_alone {stopped = stopped} {old = old} notes more = record {
   parts = notes.parts;
   found = notes.found;
-  stops = Elapses-weaker (λ image taken. may_leave old image) more (λ i w none. absurd none);
+  stops = Elapses-weaker (λ image taken. (stopped old).images image) more (λ i w none. absurd none);
 }
 
 -- And so does a say.
-said_alone : {D : Type 0} {noted : D → Option (List ℕ)} {note_faults : D → ℕ} {reads : D → Image} {moment : D → ℕ} {since : D → ℕ → Image → List ℕ → Type 0} {may_leave : D → Image → Type 0} {disk_faults : D → ℕ} {old new : D} (said : Option (List ℕ)) (bytes : List ℕ)
-    → OnlySays noted note_faults reads may_leave disk_faults old new → Elapses (moment old) (moment new) (since old) (since new) (Saying (may_leave old) said bytes) → IsLeftAlone reads moment since may_leave old new
-said_alone {may_leave = may_leave} {old = old} said bytes says stops = record {
+said_alone : {D : Type 0} {seen : D → Seen} {stopped : D → Stopped} {old new : D} (said : Option (List ℕ)) (bytes : List ℕ)
+    → OnlySays seen stopped old new → Elapses (stopped old) (stopped new) (Saying (stopped old).images said bytes) → IsLeftAlone seen stopped old new
+said_alone {stopped = stopped} {old = old} said bytes says stops = record {
   parts = says.parts;
   found = says.found;
-  stops = Elapses-weaker (λ image taken. may_leave old image) stops (λ i w p. p.found);
+  stops = Elapses-weaker (λ image taken. (stopped old).images image) stops (λ i w p. p.found);
 }
 
 -- Replies and notes that came twice.
-pub OnlySaysAndNotes-then : {D : Type 0} {reads : D → Image} {moment : D → ℕ} {since : D → ℕ → Image → List ℕ → Type 0} {may_leave : D → Image → Type 0} {disk_faults : D → ℕ} {old mid new : D}
-    → OnlySaysAndNotes reads moment since may_leave disk_faults old mid → OnlySaysAndNotes reads moment since may_leave disk_faults mid new → OnlySaysAndNotes reads moment since may_leave disk_faults old new
+pub OnlySaysAndNotes-then : {D : Type 0} {seen : D → Seen} {stopped : D → Stopped} {old mid new : D}
+    → OnlySaysAndNotes seen stopped old mid → OnlySaysAndNotes seen stopped mid new → OnlySaysAndNotes seen stopped old new
 OnlySaysAndNotes-then first second = record { folder = LeftAlone-then first.folder second.folder; failed_calls = second.failed_calls ∙ first.failed_calls }
 
-pub OnlySaysAndNotes-none : {D : Type 0} {reads : D → Image} {moment : D → ℕ} {since : D → ℕ → Image → List ℕ → Type 0} {may_leave : D → Image → Type 0} {disk_faults : D → ℕ} (desk : D) → OnlySaysAndNotes reads moment since may_leave disk_faults desk desk
+pub OnlySaysAndNotes-none : {D : Type 0} {seen : D → Seen} {stopped : D → Stopped} (desk : D) → OnlySaysAndNotes seen stopped desk desk
 OnlySaysAndNotes-none desk = record { folder = LeftAlone-none desk; failed_calls = refl }
 
 -- Replies alone, and notes alone.
-pub says_alone : {D : Type 0} {noted : D → Option (List ℕ)} {note_faults : D → ℕ} {reads : D → Image} {moment : D → ℕ} {since : D → ℕ → Image → List ℕ → Type 0} {may_leave : D → Image → Type 0} {disk_faults : D → ℕ} {old new : D} (said : Option (List ℕ)) (bytes : List ℕ)
-    → OnlySays noted note_faults reads may_leave disk_faults old new → Elapses (moment old) (moment new) (since old) (since new) (Saying (may_leave old) said bytes) → OnlySaysAndNotes reads moment since may_leave disk_faults old new
+pub says_alone : {D : Type 0} {seen : D → Seen} {stopped : D → Stopped} {old new : D} (said : Option (List ℕ)) (bytes : List ℕ)
+    → OnlySays seen stopped old new → Elapses (stopped old) (stopped new) (Saying (stopped old).images said bytes) → OnlySaysAndNotes seen stopped old new
 says_alone said bytes says stops = record { folder = said_alone said bytes says stops; failed_calls = says.failed_calls }
 
-pub notes_alone : {D : Type 0} {said : D → Option (List ℕ)} {say_faults : D → ℕ} {reads : D → Image} {moment : D → ℕ} {since : D → ℕ → Image → List ℕ → Type 0} {may_leave : D → Image → Type 0} {disk_faults : D → ℕ} {old new : D}
-    → OnlyNotes said say_faults reads may_leave disk_faults old new → FindsNoMore moment since old new → OnlySaysAndNotes reads moment since may_leave disk_faults old new
+pub notes_alone : {D : Type 0} {seen : D → Seen} {stopped : D → Stopped} {old new : D}
+    → OnlyNotes seen stopped old new → FindsNoMore stopped old new → OnlySaysAndNotes seen stopped old new
 notes_alone notes more = record { folder = noted_alone notes more; failed_calls = notes.failed_calls }
 
 -- A say on a desk that was left as it was, and that desk.
-pub says_behind : {D : Type 0} {noted : D → Option (List ℕ)} {note_faults : D → ℕ} {reads : D → Image} {moment : D → ℕ} {since : D → ℕ → Image → List ℕ → Type 0} {may_leave : D → Image → Type 0} {disk_faults : D → ℕ} {old mid new : D} (said : Option (List ℕ)) (bytes : List ℕ)
-    → mid ≡ old → OnlySays noted note_faults reads may_leave disk_faults mid new → Elapses (moment mid) (moment new) (since mid) (since new) (Saying (may_leave mid) said bytes)
-    → OnlySaysAndNotes reads moment since may_leave disk_faults old new
-says_behind {reads = reads} {moment = moment} {since = since} {may_leave = may_leave} {disk_faults = disk_faults} {new = new} said bytes same says stops =
-    subst (λ desk. OnlySaysAndNotes reads moment since may_leave disk_faults desk new) same (says_alone said bytes says stops)
+pub says_behind : {D : Type 0} {seen : D → Seen} {stopped : D → Stopped} {old mid new : D} (said : Option (List ℕ)) (bytes : List ℕ)
+    → mid ≡ old → OnlySays seen stopped mid new → Elapses (stopped mid) (stopped new) (Saying (stopped mid).images said bytes)
+    → OnlySaysAndNotes seen stopped old new
+says_behind {seen = seen} {stopped = stopped} {new = new} said bytes same says stops =
+    subst (λ desk. OnlySaysAndNotes seen stopped desk new) same (says_alone said bytes says stops)
 
-pub desk_behind : {D : Type 0} {reads : D → Image} {moment : D → ℕ} {since : D → ℕ → Image → List ℕ → Type 0} {may_leave : D → Image → Type 0} {disk_faults : D → ℕ} {old new : D} → new ≡ old
-    → OnlySaysAndNotes reads moment since may_leave disk_faults old new
-desk_behind {reads = reads} {moment = moment} {since = since} {may_leave = may_leave} {disk_faults = disk_faults} {old = old} same =
-    subst (λ desk. OnlySaysAndNotes reads moment since may_leave disk_faults old desk) (sym same) (OnlySaysAndNotes-none old)
+pub desk_behind : {D : Type 0} {seen : D → Seen} {stopped : D → Stopped} {old new : D} → new ≡ old
+    → OnlySaysAndNotes seen stopped old new
+desk_behind {seen = seen} {stopped = stopped} {old = old} same =
+    subst (λ desk. OnlySaysAndNotes seen stopped old desk) (sym same) (OnlySaysAndNotes-none old)
 
 -- Notes behind both.
-pub notes_behind : {D : Type 0} {said : D → Option (List ℕ)} {say_faults : D → ℕ} {reads : D → Image} {moment : D → ℕ} {since : D → ℕ → Image → List ℕ → Type 0} {may_leave : D → Image → Type 0} {disk_faults : D → ℕ} {old mid new : D}
-    → OnlySaysAndNotes reads moment since may_leave disk_faults old mid → OnlyNotes said say_faults reads may_leave disk_faults mid new → FindsNoMore moment since mid new
-    → OnlySaysAndNotes reads moment since may_leave disk_faults old new
+pub notes_behind : {D : Type 0} {seen : D → Seen} {stopped : D → Stopped} {old mid new : D}
+    → OnlySaysAndNotes seen stopped old mid → OnlyNotes seen stopped mid new → FindsNoMore stopped mid new
+    → OnlySaysAndNotes seen stopped old new
 notes_behind first notes more = OnlySaysAndNotes-then first (notes_alone notes more)

@@ -14,25 +14,26 @@ use Rattle.run_notes.specs.Inputs.{events_in}
 use Rattle.run_notes.specs.NotedLines.{NotesLines}
 use Rattle.run_notes.specs.Notes.{status_lines}
 use Rattle.run_notes.proofs.PlainInputs.{plain_calm}
-use Rattle.ctrl_serve.specs.Headline.{Serves}
+use Rattle.ctrl_serve.specs.Headline.{Serves, taking_of}
 use Rattle.ctrl_serve.proofs.EndingLaws.{no_fault_lines}
+use Rattle.ziti_outside.specs.Views.{Seen}
 
 calm_before : (used : List ℕ) (es later unanswered : List Event) (e : Event) → es ++ unanswered ≡ events_in Plain used → unanswered ≡ e ∷ later → list_any is_fault es ≡ false
 calm_before used es later unanswered e split first = plain_calm used es later e (ap (λ (us : List Event). es ++ us) (sym first) ∙ split)
 
-pub unsaid_notes : (bounds : StoreBounds) (m : Machine) (most : ℕ) (l r a b c d : Option (List ℕ)) (x y : ℕ) → Serves Plain bounds m most l r a b c d x y WriteFault
-    → NotesLines (status_lines [] WriteFault) c d x y
-unsaid_notes bounds m most l r a b c d x y s =
+pub unsaid_notes : (bounds : StoreBounds) (m : Machine) (most : ℕ) (l r : Option (List ℕ)) (c d : Seen) → Serves (taking_of Plain most) bounds m l r c d WriteFault
+    → NotesLines (status_lines [] WriteFault) c d
+unsaid_notes bounds m most l r c d s =
     let calm = calm_before (take most s.taken) s.answered s.says.later s.unanswered (Arrived s.says.session s.says.frame) s.split s.says.first in
-    subst (λ (lines : List ℕ). NotesLines lines c d x y) (ap (λ (first : List ℕ). first ++ status_lines [] WriteFault) (no_fault_lines s.answered calm)) s.notes
+    subst (λ (lines : List ℕ). NotesLines lines c d) (ap (λ (first : List ℕ). first ++ status_lines [] WriteFault) (no_fault_lines s.answered calm)) s.notes
 
-pub disk_notes : (bounds : StoreBounds) (m : Machine) (most : ℕ) (l r a b c d : Option (List ℕ)) (x y : ℕ) → Serves Plain bounds m most l r a b c d x y DiskFault
-    → NotesLines (status_lines [] DiskFault) c d x y
-disk_notes bounds m most l r a b c d x y s =
+pub disk_notes : (bounds : StoreBounds) (m : Machine) (most : ℕ) (l r : Option (List ℕ)) (c d : Seen) → Serves (taking_of Plain most) bounds m l r c d DiskFault
+    → NotesLines (status_lines [] DiskFault) c d
+disk_notes bounds m most l r c d s =
     let calm = calm_before (take most s.taken) s.answered s.says.later s.unanswered (Arrived s.says.session s.says.frame) s.split s.says.first in
-    subst (λ (lines : List ℕ). NotesLines lines c d x y) (ap (λ (first : List ℕ). first ++ status_lines [] DiskFault) (no_fault_lines s.answered calm)) s.notes
+    subst (λ (lines : List ℕ). NotesLines lines c d) (ap (λ (first : List ℕ). first ++ status_lines [] DiskFault) (no_fault_lines s.answered calm)) s.notes
 
-pub memory_notes : (bounds : StoreBounds) (m : Machine) (most : ℕ) (l r a b c d : Option (List ℕ)) (x y : ℕ) → Serves Plain bounds m most l r a b c d x y NoMemory
-    → NotesLines (status_lines [] NoMemory) c d x y
-memory_notes bounds m most l r a b c d x y s =
-    subst (λ (lines : List ℕ). NotesLines lines c d x y) (ap (λ (first : List ℕ). first ++ status_lines [] NoMemory) (no_fault_lines s.answered (s.says.calm refl))) s.notes
+pub memory_notes : (bounds : StoreBounds) (m : Machine) (most : ℕ) (l r : Option (List ℕ)) (c d : Seen) → Serves (taking_of Plain most) bounds m l r c d NoMemory
+    → NotesLines (status_lines [] NoMemory) c d
+memory_notes bounds m most l r c d s =
+    subst (λ (lines : List ℕ). NotesLines lines c d) (ap (λ (first : List ℕ). first ++ status_lines [] NoMemory) (no_fault_lines s.answered (s.says.calm refl))) s.notes

@@ -25,7 +25,7 @@ use Rattle.ctrl_serve.specs.SaidReplies.{Says, SaysAll, joined}
 use Rattle.run_notes.specs.NotedLines.{NotesLines, RisesOnce}
 use Rattle.ctrl_serve.specs.Controllers.{Serving}
 use Rattle.ctrl_serve.specs.FrameAnswer.{replies_to}
-use Rattle.ctrl_serve.specs.Headline.{Serves}
+use Rattle.ctrl_serve.specs.Headline.{Serves, taking_of}
 use Rattle.ctrl_serve.specs.Pieces.{CutsInput, EndsInput, EndsSo, HasFault, IsReadCaused}
 use Rattle.ctrl_serve.specs.Reading.{is_decided}
 use Rattle.run_notes.specs.Inputs.{events_in, is_bad_input, has_rest}
@@ -35,6 +35,7 @@ use Rattle.ctrl_serve.specs.Runs.{IsWriteCaused, IsDiskCaused}
 use Rattle.ctrl_serve.specs.Turns.{AnswersAll, AnswersSome, SaysCut, unsaid, unkept}
 use Rattle.run_notes.proofs.NoteLaws.{noted_none, noted_lines, more_then}
 use Rattle.ctrl_serve.proofs.PieceLaws.{decided_bad, near_none}
+use Rattle.ziti_outside.specs.Views.{Seen}
 
 -- ---- the status of an input and of how the taking ended
 
@@ -82,9 +83,9 @@ read_caused bad rest Fault status before now is faulty = record { calm = λ e. a
 -- ---- what answering the used bytes said and noted
 
 -- Such a status is no fault of the desk.
-pub all_no_fault : (form : Form) (bounds : StoreBounds) (m : Machine) (used : List ℕ) (end : End) (status : Status) (a b c d : Option (List ℕ)) (f g : Bool) (x y : ℕ)
-    → AnswersAll form bounds m used end status a b f g c d x y → (status ≡ WriteFault → ⊥) × (status ≡ DiskFault → ⊥)
-all_no_fault form bounds m used end status a b c d f g x y told =
+pub all_no_fault : (form : Form) (bounds : StoreBounds) (m : Machine) (used : List ℕ) (end : End) (status : Status) (a b : Option (List ℕ)) (c d : Seen) (f g : Bool)
+    → AnswersAll form bounds m used end status a b f g c d → (status ≡ WriteFault → ⊥) × (status ≡ DiskFault → ⊥)
+all_no_fault form bounds m used end status a b c d f g told =
     (λ w. no_write_fault (is_bad_input form used) (has_rest form used) end (sym told.ends ∙ w), λ w. no_disk_fault (is_bad_input form used) (has_rest form used) end (sym told.ends ∙ w))
 
 -- Where the answering was cut short, and that was told.
@@ -179,9 +180,9 @@ ended most More now bytes bad rest decided is so = record { ends = λ _. ap (end
 ended most Fault now bytes bad rest decided is so = record { ends = λ e. absurd cc; read_on = λ e going. absurd cc }
 
 -- A run that answered all events of the used bytes serves its input.
-abbrev pub input_serves : (form : Form) (c : Serving) (most : ℕ) (m : Machine) (l r a b n n1 : Option (List ℕ)) (g : Bool) (x y : ℕ) (tells : Bool) (elapses : (Image → List ℕ → Type 0) → Type 0) (status : Status)
-    → EndsInput status form c most m l r a b false g n n1 x y tells elapses → Serves form c.bounds c.machine most l r a b n n1 x y status
-input_serves form c most m l r a b n n1 g x y tells elapses status told =
+abbrev pub input_serves : (form : Form) (c : Serving) (most : ℕ) (m : Machine) (l r : Option (List ℕ)) (n n1 : Seen) (g : Bool) (tells : Bool) (elapses : (Image → List ℕ → Type 0) → Type 0) (status : Status)
+    → EndsInput status form c most m l r n.said n1.said false g n n1 tells elapses → Serves (taking_of form most) c.bounds c.machine l r n n1 status
+input_serves form c most m l r n n1 g tells elapses status told =
     let first : List ℕ = take most told.takes.taken in
     let events : List Event = events_in form first in
     let bad : Bool = is_bad_input form first in
@@ -202,29 +203,29 @@ input_serves form c most m l r a b n n1 g x y tells elapses status told =
       ends = λ e. is ∙ so.ends (sym (ap is_cut is) ∙ e);
       read_on = λ e going. so.read_on (sym (ap is_cut is) ∙ e) going;
       near = told.near;
-      notes = (noted_lines g (notes_of form events first status) n n1 x y (told.all.noted_is [] n x (noted_none n x))).0;
+      notes = (noted_lines g (notes_of form events first status) n n1 (told.all.noted_is [] n (noted_none n))).0;
     }
 
 -- A failed note was the only one.
-pub input_counted : (form : Form) (c : Serving) (most : ℕ) (m : Machine) (l r a b n n1 : Option (List ℕ)) (g : Bool) (x y : ℕ) (tells : Bool) (elapses : (Image → List ℕ → Type 0) → Type 0) (status : Status)
-    → EndsInput status form c most m l r a b false g n n1 x y tells elapses → RisesOnce x y
-input_counted form c most m l r a b n n1 g x y tells elapses status told =
+pub input_counted : (form : Form) (c : Serving) (most : ℕ) (m : Machine) (l r a b : Option (List ℕ)) (n n1 : Seen) (g : Bool) (tells : Bool) (elapses : (Image → List ℕ → Type 0) → Type 0) (status : Status)
+    → EndsInput status form c most m l r a b false g n n1 tells elapses → RisesOnce n.note_faults n1.note_faults
+input_counted form c most m l r a b n n1 g tells elapses status told =
     let first : List ℕ = take most told.takes.taken in
-    (noted_lines g (notes_of form (events_in form first) first status) n n1 x y (told.all.noted_is [] n x (noted_none n x))).1
+    (noted_lines g (notes_of form (events_in form first) first status) n n1 (told.all.noted_is [] n (noted_none n))).1
 
 -- What was noted where it was cut short, and that was told.
-pub some_noted : (by : Cut) (form : Form) (bounds : StoreBounds) (m : Machine) (used : List ℕ) (a b n n1 n2 : Option (List ℕ)) (g h : Bool) (x y z : ℕ)
-    → (told : AnswersSome by form bounds m used a b false g n n1 x y) → NotesMore g h (status_lines [] (status_of_cut by)) n1 n2 y z
-    → NotesLines (fault_lines told.answered ++ status_lines [] (status_of_cut by)) n n2 x z × RisesOnce x z
-some_noted by form bounds m used a b n n1 n2 g h x y z told more =
-    noted_lines h (fault_lines told.answered ++ status_lines [] (status_of_cut by)) n n2 x z
-    (more_then false g h (fault_lines told.answered) (status_lines [] (status_of_cut by)) n n1 n2 x y z told.noted_is more [] n x (noted_none n x))
+pub some_noted : (by : Cut) (form : Form) (bounds : StoreBounds) (m : Machine) (used : List ℕ) (a b : Option (List ℕ)) (n n1 n2 : Seen) (g h : Bool)
+    → (told : AnswersSome by form bounds m used a b false g n n1) → NotesMore g h (status_lines [] (status_of_cut by)) n1 n2
+    → NotesLines (fault_lines told.answered ++ status_lines [] (status_of_cut by)) n n2 × RisesOnce n.note_faults n2.note_faults
+some_noted by form bounds m used a b n n1 n2 g h told more =
+    noted_lines h (fault_lines told.answered ++ status_lines [] (status_of_cut by)) n n2
+    (more_then false g h (fault_lines told.answered) (status_lines [] (status_of_cut by)) n n1 n2 told.noted_is more [] n (noted_none n))
 
 -- So does one that was cut short.
-abbrev pub cut_serves : (by : Cut) (form : Form) (c : Serving) (most : ℕ) (l r a b b2 n n1 n2 : Option (List ℕ)) (g h : Bool) (x y z : ℕ) (tells : Bool) (elapses : (Image → List ℕ → Type 0) → Type 0)
-    → CutsInput by form c most l r a b false g n n1 x y tells elapses → b2 ≡ b → NotesMore g h (status_lines [] (status_of_cut by)) n1 n2 y z
-    → Serves form c.bounds c.machine most l r a b2 n n2 x z (status_of_cut by)
-cut_serves by form c most l r a b b2 n n1 n2 g h x y z tells elapses told still more =
+abbrev pub cut_serves : (by : Cut) (form : Form) (c : Serving) (most : ℕ) (l r : Option (List ℕ)) (n n1 n2 : Seen) (g h : Bool) (tells : Bool) (elapses : (Image → List ℕ → Type 0) → Type 0)
+    → CutsInput by form c most l r n.said n1.said false g n n1 tells elapses → n2.said ≡ n1.said → NotesMore g h (status_lines [] (status_of_cut by)) n1 n2
+    → Serves (taking_of form most) c.bounds c.machine l r n n2 (status_of_cut by)
+cut_serves by form c most l r n n1 n2 g h tells elapses told still more =
     let first : List ℕ = take most told.takes.taken in
     record {
       taken = told.takes.taken;
@@ -235,23 +236,23 @@ cut_serves by form c most l r a b b2 n n1 n2 g h x y z tells elapses told still 
       split = told.some.split;
       all = cut_all by told.some.unanswered;
       said = told.some.said;
-      took = subst (λ (u : Option (List ℕ)). Took a u told.some.said) (sym still) told.some.took;
+      took = subst (λ (u : Option (List ℕ)). Took n.said u told.some.said) (sym still) told.some.took;
       says = cut_says_so by form c.bounds c.machine told.some.said told.some.answered told.some.unanswered told.some.says;
       ends = λ e. absurd (cut_is_cut by e);
       read_on = λ e going. absurd (cut_is_cut by e);
       near = told.near;
-      notes = subst (λ (lines : List ℕ). NotesLines lines n n2 x z) (cut_notes by form told.some.answered first) (some_noted by form c.bounds c.machine first a b n n1 n2 g h x y z told.some more).0;
+      notes = subst (λ (lines : List ℕ). NotesLines lines n n2) (cut_notes by form told.some.answered first) (some_noted by form c.bounds c.machine first n.said n1.said n n1 n2 g h told.some more).0;
     }
 
-pub cut_counted : (by : Cut) (form : Form) (c : Serving) (most : ℕ) (l r a b n n1 n2 : Option (List ℕ)) (g h : Bool) (x y z : ℕ) (tells : Bool) (elapses : (Image → List ℕ → Type 0) → Type 0)
-    → CutsInput by form c most l r a b false g n n1 x y tells elapses → NotesMore g h (status_lines [] (status_of_cut by)) n1 n2 y z → RisesOnce x z
-cut_counted by form c most l r a b n n1 n2 g h x y z tells elapses told more =
-    (some_noted by form c.bounds c.machine (take most told.takes.taken) a b n n1 n2 g h x y z told.some more).1
+pub cut_counted : (by : Cut) (form : Form) (c : Serving) (most : ℕ) (l r a b : Option (List ℕ)) (n n1 n2 : Seen) (g h : Bool) (tells : Bool) (elapses : (Image → List ℕ → Type 0) → Type 0)
+    → CutsInput by form c most l r a b false g n n1 tells elapses → NotesMore g h (status_lines [] (status_of_cut by)) n1 n2 → RisesOnce n.note_faults n2.note_faults
+cut_counted by form c most l r a b n n1 n2 g h tells elapses told more =
+    (some_noted by form c.bounds c.machine (take most told.takes.taken) a b n n1 n2 g h told.some more).1
 
 -- So does a run for which memory was wanting before it took its input.
-starved_serves : (form : Form) (bounds : StoreBounds) (machine : Machine) (most : ℕ) (l a b c d : Option (List ℕ)) (x y : ℕ) → b ≡ a → NotesLines (status_lines [] NoMemory) c d x y
-    → Serves form bounds machine most l l a b c d x y NoMemory
-starved_serves form bounds machine most l a b c d x y still noted = record {
+starved_serves : (form : Form) (bounds : StoreBounds) (machine : Machine) (most : ℕ) (l : Option (List ℕ)) (n n1 : Seen) → n1.said ≡ n.said → NotesLines (status_lines [] NoMemory) n n1
+    → Serves (taking_of form most) bounds machine l l n n1 NoMemory
+starved_serves form bounds machine most l n n1 still noted = record {
   taken = [];
   gave = Gave-none l;
   few = omega arith;
@@ -260,7 +261,7 @@ starved_serves form bounds machine most l a b c d x y still noted = record {
   split = refl;
   all = λ e. absurd cc;
   said = [];
-  took = subst (λ (o : Option (List ℕ)). Took a o []) (sym still) (Took-none a);
+  took = subst (λ (o : Option (List ℕ)). Took n.said o []) (sym still) (Took-none n.said);
   says = record { same = refl; calm = λ _. refl };
   ends = λ e. absurd cc;
   read_on = λ e going. absurd cc;
@@ -268,8 +269,8 @@ starved_serves form bounds machine most l a b c d x y still noted = record {
   notes = noted;
 }
 
-pub none_serves : (form : Form) (bounds : StoreBounds) (machine : Machine) (most : ℕ) (l a b c d : Option (List ℕ)) (x y : ℕ) (status : Status) → status ≡ NoMemory → b ≡ a
-    → NotesLines (status_lines [] status) c d x y → Serves form bounds machine most l l a b c d x y status
-none_serves form bounds machine most l a b c d x y status same still noted =
-    subst (λ (u : Status). Serves form bounds machine most l l a b c d x y u) (sym same)
-    (starved_serves form bounds machine most l a b c d x y still (subst (λ (u : Status). NotesLines (status_lines [] u) c d x y) same noted))
+pub none_serves : (form : Form) (bounds : StoreBounds) (machine : Machine) (most : ℕ) (l : Option (List ℕ)) (n n1 : Seen) (status : Status) → status ≡ NoMemory → n1.said ≡ n.said
+    → NotesLines (status_lines [] status) n n1 → Serves (taking_of form most) bounds machine l l n n1 status
+none_serves form bounds machine most l n n1 status same still noted =
+    subst (λ (u : Status). Serves (taking_of form most) bounds machine l l n n1 u) (sym same)
+    (starved_serves form bounds machine most l n n1 still (subst (λ (u : Status). NotesLines (status_lines [] u) n n1) same noted))

@@ -10,10 +10,11 @@ use Rattle.session_mux.specs.declared.sessions.Form.{Form}
 use Rattle.run_notes.specs.Inputs.{events_in}
 use Rattle.run_notes.specs.declared.status.Status.TheVariants.{WriteFault}
 use Rattle.ctrl_serve.specs.FrameAnswer.{replies_to}
-use Rattle.ctrl_serve.specs.Headline.{Serves}
+use Rattle.ctrl_serve.specs.Headline.{Serves, taking_of}
 use Rattle.ctrl_serve.specs.Reading.{StaysNear}
 use Rattle.ctrl_serve.specs.SaidReplies.{SaysFront, joined}
 use Rattle.ctrl_serve.proofs.SaidLaws.{later_replies, replies_parted}
+use Rattle.ziti_outside.specs.Views.{Seen}
 
 -- What is near some first events is near more of them.
 near_more : (form : Form) (most : ℕ) (taken : List ℕ) (answered later all : List Event) → answered ++ later ≡ all → StaysNear form most taken answered → StaysNear form most taken all
@@ -73,9 +74,9 @@ no_more_said form bounds m said xs us answered unanswered says other long =
     ∙ ap (λ (l : List ℕ). joined before ++ l) (append_assoc other.reply (joined more) says.front) in
     whole_front other.front other.is_front.0 other.reply (joined more ++ says.front) other.is_front.1 (append_cancel_left (joined before) _ _ same)
 
-pub near_said : (form : Form) (bounds : StoreBounds) (m : Machine) (most : ℕ) (a b c d e f : Option (List ℕ)) (x y : ℕ) (s : Serves form bounds m most a b c d e f x y WriteFault) (answered unanswered : List Event)
+pub near_said : (form : Form) (bounds : StoreBounds) (m : Machine) (most : ℕ) (a b : Option (List ℕ)) (c d : Seen) (s : Serves (taking_of form most) bounds m a b c d WriteFault) (answered unanswered : List Event)
     → answered ++ unanswered ≡ events_in form (take most s.taken) → (says : SaysFront form bounds m s.said answered unanswered) → (says.front ≡ says.reply → ⊥) → StaysNear form most s.taken answered
-near_said form bounds m most a b c d e f x y s answered unanswered split says cut =
+near_said form bounds m most a b c d s answered unanswered split says cut =
     elim (two_splits s.answered answered s.unanswered unanswered (s.split ∙ sym split)) as (λ _. StaysNear form most s.taken answered) [
       | inl more ↦ near_more form most s.taken s.answered more.0 answered more.1 s.near
       | inr long ↦ absurd (cut (no_more_said form bounds m s.said s.answered s.unanswered answered unanswered s.says says long))

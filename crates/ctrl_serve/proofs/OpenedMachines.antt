@@ -19,8 +19,8 @@ use Rattle.ctrl_model.proofs.TableLaws.{valid-none}
 use Rattle.row_laws.proofs.SameStates.{same_from_spelled}
 use Rattle.row_store.specs.BatchRows.{ByteRows, Give}
 use Rattle.row_store.specs.StoredRows.{ReadsAs}
-use Rattle.ctrl_keep.specs.OpenedStates.{OpensToState, HasNoState, IsStateless, byte_rows_of}
-use Rattle.ctrl_keep.proofs.OneStates.{one_state}
+use Rattle.row_store.specs.OpenedStates.{OpensToState, HasNoState, IsStateless, byte_rows_of}
+use Rattle.row_store.proofs.OneStates.{one_state}
 use Rattle.ctrl_keep.specs.KeptMachine.{Machine, Place}
 use Rattle.ctrl_keep.specs.KeptController.{Controlled, HoldsRows, machine_of}
 use Rattle.ctrl_serve.specs.declared.controller.Controller.{Controller}

@@ -12,6 +12,7 @@ use Rattle.ziti_outside.specs.Moments.{Elapses}
 use Rattle.ziti_outside.specs.Told.{Gave, Took}
 use Rattle.ziti_outside.proofs.Moves.{Gave-none, Gave-then, Took-then}
 use Rattle.ziti_outside.proofs.MomentLaws.{Elapses-none, Elapses-then, Elapses-weaker}
+use Rattle.ziti_outside.specs.Views.{Stopped, Seen}
 use Rattle.row_store.specs.declared.bounds.StoreBounds.{StoreBounds}
 use Rattle.ctrl_keep.specs.KeptMachine.{Machine}
 use Rattle.session_mux.specs.declared.events.Event.{Event}
@@ -65,9 +66,9 @@ goes_fed old new es more goes = record {
 }
 
 -- What was answered so far was answered of the input with more of it.
-abbrev pub answers_fed : (form : Form) (bounds : StoreBounds) (k k1 : Known) (m m1 : Machine) (st st1 : Standing) (a b : Option (List ℕ)) (f g : Bool) (n n1 : Option (List ℕ)) (x x1 : ℕ) (more : List ℕ)
-    → Answers form bounds k k1 m m1 st st1 a b f g n n1 x x1 → Answers form bounds k k1 m m1 (fed st more) (fed st1 more) a b f g n n1 x x1
-answers_fed form bounds k k1 m m1 st st1 a b f g n n1 x x1 more told = record {
+abbrev pub answers_fed : (form : Form) (bounds : StoreBounds) (k k1 : Known) (m m1 : Machine) (st st1 : Standing) (a b : Option (List ℕ)) (f g : Bool) (n n1 : Seen) (more : List ℕ)
+    → Answers form bounds k k1 m m1 st st1 a b f g n n1 → Answers form bounds k k1 m m1 (fed st more) (fed st1 more) a b f g n n1
+answers_fed form bounds k k1 m m1 st st1 a b f g n n1 more told = record {
   answered = told.answered;
   goes = goes_fed st st1 told.answered more told.goes;
   known_is = told.known_is;
@@ -95,10 +96,10 @@ later_said form bounds here es later k k1 m m1 a b c within known same first sec
     (subst (λ (y : StoreBounds). Took b c (joined (replies_along form y later k1 m1))) within second)) in
     subst (λ (l : List ℕ). Took a c l) (sym (two_replies form bounds es later k m)) (Took-then a b c (joined (replies_along form bounds es k m)) _ first at)
 
-abbrev pub answers_then : (form : Form) (bounds here : StoreBounds) (k k1 k2 : Known) (m m1 m2 : Machine) (st st1 st2 : Standing) (a b c : Option (List ℕ)) (f g h : Bool) (n n1 n2 : Option (List ℕ)) (x x1 x2 : ℕ)
-    → here ≡ bounds → Answers form bounds k k1 m m1 st st1 a b f g n n1 x x1 → Answers form here k1 k2 m1 m2 st1 st2 b c g h n1 n2 x1 x2
-    → Answers form bounds k k2 m m2 st st2 a c f h n n2 x x2
-answers_then form bounds here k k1 k2 m m1 m2 st st1 st2 a b c f g h n n1 n2 x x1 x2 within first later =
+abbrev pub answers_then : (form : Form) (bounds here : StoreBounds) (k k1 k2 : Known) (m m1 m2 : Machine) (st st1 st2 : Standing) (a b c : Option (List ℕ)) (f g h : Bool) (n n1 n2 : Seen)
+    → here ≡ bounds → Answers form bounds k k1 m m1 st st1 a b f g n n1 → Answers form here k1 k2 m1 m2 st1 st2 b c g h n1 n2
+    → Answers form bounds k k2 m m2 st st2 a c f h n n2
+answers_then form bounds here k k1 k2 m m1 m2 st st1 st2 a b c f g h n n1 n2 within first later =
     let es : List Event = first.answered in
     let fs : List Event = later.answered in
     record {
@@ -113,19 +114,19 @@ answers_then form bounds here k k1 k2 m m1 m2 st st1 st2 a b c f g h n n1 n2 x x
           ∙ sym (machine_then bounds es fs k m);
       said = later_said form bounds here es fs k k1 m m1 a b c within first.known_is first.machine_is first.said later.said;
       noted_is =
-          subst (λ (l : List ℕ). NotesMore f h l n n2 x x2) (sym (flat_map-append event_lines es fs))
-          (more_then f g h (fault_lines es) (fault_lines fs) n n1 n2 x x1 x2 first.noted_is later.noted_is);
+          subst (λ (l : List ℕ). NotesMore f h l n n2) (sym (flat_map-append event_lines es fs))
+          (more_then f g h (fault_lines es) (fault_lines fs) n n1 n2 first.noted_is later.noted_is);
     }
 
 -- Where the later ones were cut short.
-abbrev pub cut_behind : (cut : Cut) (form : Form) (bounds : StoreBounds) (k k1 : Known) (m m1 : Machine) (st st1 : Standing) (a b c : Option (List ℕ)) (f g h : Bool) (n n1 n2 : Option (List ℕ)) (x x1 x2 : ℕ)
-    → Answers form bounds k k1 m m1 st st1 a b f g n n1 x x1 → IsCutShort cut form bounds k1 m1 st1 b c g h n1 n2 x1 x2 → IsCutShort cut form bounds k m st a c f h n n2 x x2
-cut_behind cut form bounds k k1 m m1 st st1 a b c f g h n n1 n2 x x1 x2 first cuts = record {
+abbrev pub cut_behind : (cut : Cut) (form : Form) (bounds : StoreBounds) (k k1 : Known) (m m1 : Machine) (st st1 : Standing) (a b c : Option (List ℕ)) (f g h : Bool) (n n1 n2 : Seen)
+    → Answers form bounds k k1 m m1 st st1 a b f g n n1 → IsCutShort cut form bounds k1 m1 st1 b c g h n1 n2 → IsCutShort cut form bounds k m st a c f h n n2
+cut_behind cut form bounds k k1 m m1 st st1 a b c f g h n n1 n2 first cuts = record {
   known_mid = cuts.known_mid;
   machine_mid = cuts.machine_mid;
   st_mid = cuts.st_mid;
   said_mid = cuts.said_mid;
-  first = answers_then form bounds bounds k k1 cuts.known_mid m m1 cuts.machine_mid st st1 cuts.st_mid a b cuts.said_mid f g h n n1 n2 x x1 x2 refl first cuts.first;
+  first = answers_then form bounds bounds k k1 cuts.known_mid m m1 cuts.machine_mid st st1 cuts.st_mid a b cuts.said_mid f g h n n1 n2 refl first cuts.first;
   cuts = cuts.cuts;
 }
 
@@ -148,9 +149,9 @@ stop_fed form bounds k m st more said image taken stop = record {
 }
 
 -- A stop within the later events.
-stop_behind : (form : Form) (bounds here : StoreBounds) (k k1 : Known) (m m1 : Machine) (st st1 : Standing) (a b : Option (List ℕ)) (f g : Bool) (n n1 : Option (List ℕ)) (x x1 : ℕ)
-    → here ≡ bounds → Answers form bounds k k1 m m1 st st1 a b f g n n1 x x1 → (image : Image) (taken : List ℕ) → StopsAlong form here k1 m1 st1 b image taken → StopsAlong form bounds k m st a image taken
-stop_behind form bounds here k k1 m m1 st st1 a b f g n n1 x x1 within first image taken later =
+stop_behind : (form : Form) (bounds here : StoreBounds) (k k1 : Known) (m m1 : Machine) (st st1 : Standing) (a b : Option (List ℕ)) (f g : Bool) (n n1 : Seen)
+    → here ≡ bounds → Answers form bounds k k1 m m1 st st1 a b f g n n1 → (image : Image) (taken : List ℕ) → StopsAlong form here k1 m1 st1 b image taken → StopsAlong form bounds k m st a image taken
+stop_behind form bounds here k k1 m m1 st st1 a b f g n n1 within first image taken later =
     let stop = subst (λ (y : StoreBounds). StopsAlong form y k1 m1 st1 b image taken) within later in
     let es : List Event = first.answered in
     let fs : List Event = stop.answered in
@@ -173,15 +174,15 @@ stop_behind form bounds here k k1 m m1 st st1 a b f g n n1 x x1 within first ima
           (subst (λ (y : Known). StopsEvent form bounds arrived y (machine_along bounds fs k1 m1) stop.said_mid image taken) known stop.turn);
     }
 
-pub stops_fed : {i j : ℕ} {past since : ℕ → Image → List ℕ → Type 0} (form : Form) (bounds : StoreBounds) (k : Known) (m : Machine) (st : Standing) (more : List ℕ) (said : Option (List ℕ))
-    → Elapses i j past since (StopsAlong form bounds k m st said) → Elapses i j past since (StopsAlong form bounds k m (fed st more) said)
+pub stops_fed : {i j : Stopped} (form : Form) (bounds : StoreBounds) (k : Known) (m : Machine) (st : Standing) (more : List ℕ) (said : Option (List ℕ))
+    → Elapses i j (StopsAlong form bounds k m st said) → Elapses i j (StopsAlong form bounds k m (fed st more) said)
 stops_fed form bounds k m st more said stops = Elapses-weaker (StopsAlong form bounds k m (fed st more) said) stops (stop_fed form bounds k m st more said)
 
-pub stops_behind : {i j l : ℕ} {past mid since : ℕ → Image → List ℕ → Type 0} (form : Form) (bounds here : StoreBounds) (k k1 : Known) (m m1 : Machine) (st st1 : Standing) (a b : Option (List ℕ)) (f g : Bool) (n n1 : Option (List ℕ)) (x x1 : ℕ)
-    → here ≡ bounds → Answers form bounds k k1 m m1 st st1 a b f g n n1 x x1 → Elapses i j past mid (StopsAlong form bounds k m st a) → Elapses j l mid since (StopsAlong form here k1 m1 st1 b)
-    → Elapses i l past since (StopsAlong form bounds k m st a)
-stops_behind form bounds here k k1 m m1 st st1 a b f g n n1 x x1 within first before later =
-    Elapses-then (StopsAlong form bounds k m st a) before later (λ image taken stop. stop) (stop_behind form bounds here k k1 m m1 st st1 a b f g n n1 x x1 within first)
+pub stops_behind : {i j l : Stopped} (form : Form) (bounds here : StoreBounds) (k k1 : Known) (m m1 : Machine) (st st1 : Standing) (a b : Option (List ℕ)) (f g : Bool) (n n1 : Seen)
+    → here ≡ bounds → Answers form bounds k k1 m m1 st st1 a b f g n n1 → Elapses i j (StopsAlong form bounds k m st a) → Elapses j l (StopsAlong form here k1 m1 st1 b)
+    → Elapses i l (StopsAlong form bounds k m st a)
+stops_behind form bounds here k k1 m m1 st st1 a b f g n n1 within first before later =
+    Elapses-then (StopsAlong form bounds k m st a) before later (λ image taken stop. stop) (stop_behind form bounds here k k1 m m1 st st1 a b f g n n1 within first)
 
 -- ---- the start of an input
 
@@ -276,9 +277,9 @@ came_so form used st es goes = sym (end_came st) ∙ ap came (end_so form used s
 -- ---- the pieces
 
 -- What was answered from a standing to another was answered from the same one to the same.
-abbrev answers_from : (form : Form) (bounds : StoreBounds) (k k1 : Known) (m m1 : Machine) (st st0 st1 st2 : Standing) (a b : Option (List ℕ)) (f g : Bool) (n n1 : Option (List ℕ)) (x x1 : ℕ)
-    → st0 ≡ st → st2 ≡ st1 → Answers form bounds k k1 m m1 st st1 a b f g n n1 x x1 → Answers form bounds k k1 m m1 st0 st2 a b f g n n1 x x1
-answers_from form bounds k k1 m m1 st st0 st1 st2 a b f g n n1 x x1 same same_now told = record {
+abbrev answers_from : (form : Form) (bounds : StoreBounds) (k k1 : Known) (m m1 : Machine) (st st0 st1 st2 : Standing) (a b : Option (List ℕ)) (f g : Bool) (n n1 : Seen)
+    → st0 ≡ st → st2 ≡ st1 → Answers form bounds k k1 m m1 st st1 a b f g n n1 → Answers form bounds k k1 m m1 st0 st2 a b f g n n1
+answers_from form bounds k k1 m m1 st st0 st1 st2 a b f g n n1 same same_now told = record {
   answered = told.answered;
   goes = subst (λ (y : Standing). GoesTo y st2 told.answered) (sym same) (subst (λ (y : Standing). GoesTo st y told.answered) (sym same_now) told.goes);
   known_is = told.known_is;
@@ -303,22 +304,22 @@ near_none form most = record {
 }
 
 -- Before any of them, nothing was taken and answered.
-abbrev pub pieces_start : {i : ℕ} {past : ℕ → Image → List ℕ → Type 0} (form : Form) (c : Serving) (most : ℕ) (k : Known) (st : Standing) (l a : Option (List ℕ)) (f : Bool) (n : Option (List ℕ)) (x : ℕ) (tells : Bool)
-    → k ≡ known_in form → st ≡ start_of form → AnswersPieces form c most k c.machine st l l a a f f n n x x tells (Elapses i i past past) 0
-pieces_start {i} {past} form c most k st l a f n x tells known start = record {
-  takes = record { taken = []; gave = Gave-none l; few = omega arith; stops = λ some told. Elapses-none i past (StopsAlong form c.bounds (known_in form) c.machine (at_start form (take most [])) a) };
+abbrev pub pieces_start : {i : Stopped} (form : Form) (c : Serving) (most : ℕ) (k : Known) (st : Standing) (l a : Option (List ℕ)) (f : Bool) (n : Seen) (tells : Bool)
+    → k ≡ known_in form → st ≡ start_of form → AnswersPieces form c most k c.machine st l l a a f f n n tells (Elapses i i) 0
+pieces_start {i} form c most k st l a f n tells known start = record {
+  takes = record { taken = []; gave = Gave-none l; few = omega arith; stops = λ some told. Elapses-none i (StopsAlong form c.bounds (known_in form) c.machine (at_start form (take most [])) a) };
   counted = refl;
-  answers = answers_from form c.bounds (known_in form) k c.machine c.machine st (at_start form (take most [])) st st a a f f n n x x (no_bytes_used form most ∙ sym start) refl
-      (answers_start form c.bounds (known_in form) k c.machine st a f n x known);
+  answers = answers_from form c.bounds (known_in form) k c.machine c.machine st (at_start form (take most [])) st st a a f f n n (no_bytes_used form most ∙ sym start) refl
+      (answers_start form c.bounds (known_in form) k c.machine st a f n known);
   undecided = undecided_start form most;
 }
 
 -- Nothing was answered, and memory was wanting.
-pub pieces_none : {i : ℕ} {past : ℕ → Image → List ℕ → Type 0} (form : Form) (c : Serving) (most : ℕ) (l a : Option (List ℕ)) (f : Bool) (n : Option (List ℕ)) (x : ℕ) (tells : Bool)
-    → CutsInput NoMemory form c most l l a a f f n n x x tells (Elapses i i past past)
-pieces_none {i} {past} form c most l a f n x tells = record {
-  takes = record { taken = []; gave = Gave-none l; few = omega arith; stops = λ some told. Elapses-none i past (StopsAlong form c.bounds (known_in form) c.machine (at_start form (take most [])) a) };
-  some = used_none form c.bounds c.machine (take most []) a f n x;
+pub pieces_none : {i : Stopped} (form : Form) (c : Serving) (most : ℕ) (l a : Option (List ℕ)) (f : Bool) (n : Seen) (tells : Bool)
+    → CutsInput NoMemory form c most l l a a f f n n tells (Elapses i i)
+pieces_none {i} form c most l a f n tells = record {
+  takes = record { taken = []; gave = Gave-none l; few = omega arith; stops = λ some told. Elapses-none i (StopsAlong form c.bounds (known_in form) c.machine (at_start form (take most [])) a) };
+  some = used_none form c.bounds c.machine (take most []) a f n;
   near = near_none form most;
 }
 
@@ -337,11 +338,11 @@ pub short_piece : (count : ℕ) (buf : List ℕ) → length buf ≤ 65536 → le
 short_piece count buf few = omega (arith, length-take count buf, few)
 
 -- A piece came, and none of it was answered yet.
-pub record FedPieces (form : Form) (c : Serving) (most : ℕ) (k : Known) (m : Machine) (st : Standing) (l r a b : Option (List ℕ)) (f g : Bool) (n n1 : Option (List ℕ)) (x x1 : ℕ)
+pub record FedPieces (form : Form) (c : Serving) (most : ℕ) (k : Known) (m : Machine) (st : Standing) (l r a b : Option (List ℕ)) (f g : Bool) (n n1 : Seen)
     (tells : Bool) (elapses : (Image → List ℕ → Type 0) → Type 0) (size : ℕ) : Type 0 where
   pub takes : TakesPieces form c most l r a tells elapses
   pub counted : length takes.taken ≡ size
-  pub answers : Answers form c.bounds (known_in form) k c.machine m (at_start form (take most takes.taken)) st a b f g n n1 x x1
+  pub answers : Answers form c.bounds (known_in form) k c.machine m (at_start form (take most takes.taken)) st a b f g n n1
   pub near : (later : List Event) → StaysNear form most takes.taken (answers.answered ++ later)
   pub calm : form ≡ Plain → list_any is_fault answers.answered ≡ false
 
@@ -350,10 +351,10 @@ pub undecided_calm : (form : Form) (used : List ℕ) (es : List Event) → is_de
 undecided_calm Plain used es going all is = ap (list_any is_fault) all ∙ going
 undecided_calm Trace used es going all is = absurd cc
 
-abbrev pub pieces_fed : {i j : ℕ} {past since : ℕ → Image → List ℕ → Type 0} {form : Form} {c : Serving} {most : ℕ} {k : Known} {m : Machine} {st st2 : Standing} {l r r2 a b : Option (List ℕ)} {f g : Bool} {n n1 : Option (List ℕ)} {x x1 : ℕ} {tells : Bool} {count : ℕ} (piece : List ℕ) {part : List ℕ}
-    → AnswersPieces form c most k m st l r a b f g n n1 x x1 tells (Elapses i j past since) count → events_of st ≡ [] → count ≤ most → Gave r r2 piece → length piece ≤ 65536 → part ≡ take (most - count) piece → st2 ≡ fed st part
-    → FedPieces form c most k m st2 l r2 a b f g n n1 x x1 tells (Elapses i j past since) (count + length piece)
-pieces_fed {i} {j} {past} {since} {form} {c} {most} {k} {m} {st} {st2} {l} {r} {r2} {a} {b} {f} {g} {n} {n1} {x} {x1} {tells} {count} piece {part} held none le gave few is now =
+abbrev pub pieces_fed : {i j : Stopped} {form : Form} {c : Serving} {most : ℕ} {k : Known} {m : Machine} {st st2 : Standing} {l r r2 a b : Option (List ℕ)} {f g : Bool} {n n1 : Seen} {tells : Bool} {count : ℕ} (piece : List ℕ) {part : List ℕ}
+    → AnswersPieces form c most k m st l r a b f g n n1 tells (Elapses i j) count → events_of st ≡ [] → count ≤ most → Gave r r2 piece → length piece ≤ 65536 → part ≡ take (most - count) piece → st2 ≡ fed st part
+    → FedPieces form c most k m st2 l r2 a b f g n n1 tells (Elapses i j) (count + length piece)
+pieces_fed {i} {j} {form} {c} {most} {k} {m} {st} {st2} {l} {r} {r2} {a} {b} {f} {g} {n} {n1} {tells} {count} piece {part} held none le gave few is now =
     let taken : List ℕ = held.takes.taken in
     let used : List ℕ = take most taken in
     let start : at_start form (take most (taken ++ piece)) ≡ fed (at_start form used) part =
@@ -365,20 +366,20 @@ pieces_fed {i} {j} {past} {since} {form} {c} {most} {k} {m} {st} {st2} {l} {r} {
         taken = taken ++ piece;
         gave = Gave-then l r r2 taken piece held.takes.gave gave;
         few = omega (arith, length-append taken piece, held.counted, le, few);
-        stops = λ some told. subst (λ (y : Standing). Elapses i j past since (StopsAlong form c.bounds (known_in form) c.machine y a)) (sym start)
+        stops = λ some told. subst (λ (y : Standing). Elapses i j (StopsAlong form c.bounds (known_in form) c.machine y a)) (sym start)
             (stops_fed form c.bounds (known_in form) c.machine (at_start form used) part a (held.takes.stops some told));
       };
       counted = omega (arith, length-append taken piece, held.counted);
-      answers = answers_from form c.bounds (known_in form) k c.machine m (fed (at_start form used) part) (at_start form (take most (taken ++ piece))) (fed st part) st2 a b f g n n1 x x1 start now
-          (answers_fed form c.bounds (known_in form) k c.machine m (at_start form used) st a b f g n n1 x x1 part held.answers);
+      answers = answers_from form c.bounds (known_in form) k c.machine m (fed (at_start form used) part) (at_start form (take most (taken ++ piece))) (fed st part) st2 a b f g n n1 start now
+          (answers_fed form c.bounds (known_in form) k c.machine m (at_start form used) st a b f g n n1 part held.answers);
       near = λ later. record { first = taken; last = piece; split = refl; piece = few; more = later; before = ap (λ (first : List Event). first ++ later) (sym all); undecided = held.undecided };
       calm = undecided_calm form used es held.undecided all;
     }
 
 -- No memory was left to hold it.
-pub fed_starved : {elapses : (Image → List ℕ → Type 0) → Type 0} {form : Form} {c : Serving} {most : ℕ} {k : Known} {m : Machine} {st : Standing} {l r a b : Option (List ℕ)} {f g : Bool} {n n1 : Option (List ℕ)} {x x1 : ℕ} {tells : Bool} {size : ℕ}
-    → FedPieces form c most k m st l r a b f g n n1 x x1 tells elapses size → CutsInput NoMemory form c most l r a b f g n n1 x x1 tells elapses
-fed_starved {elapses} {form} {c} {most} {k} {m} {st} {l} {r} {a} {b} {f} {g} {n} {n1} {x} {x1} {tells} {size} fed =
+pub fed_starved : {elapses : (Image → List ℕ → Type 0) → Type 0} {form : Form} {c : Serving} {most : ℕ} {k : Known} {m : Machine} {st : Standing} {l r a b : Option (List ℕ)} {f g : Bool} {n n1 : Seen} {tells : Bool} {size : ℕ}
+    → FedPieces form c most k m st l r a b f g n n1 tells elapses size → CutsInput NoMemory form c most l r a b f g n n1 tells elapses
+fed_starved {elapses} {form} {c} {most} {k} {m} {st} {l} {r} {a} {b} {f} {g} {n} {n1} {tells} {size} fed =
     let es : List Event = fed.answers.answered in
     record {
       takes = fed.takes;
@@ -395,72 +396,72 @@ fed_starved {elapses} {form} {c} {most} {k} {m} {st} {l} {r} {a} {b} {f} {g} {n}
     }
 
 -- What a stop finds while its events are answered.
-abbrev takes_on : {i j o : ℕ} {past mid since : ℕ → Image → List ℕ → Type 0} (form : Form) (c : Serving) (here : StoreBounds) (most : ℕ) (k : Known) (m : Machine) (st : Standing) (l r a b : Option (List ℕ)) (f g : Bool) (n n1 : Option (List ℕ)) (x x1 : ℕ) (tells : Bool) (size : ℕ)
-    → FedPieces form c most k m st l r a b f g n n1 x x1 tells (Elapses i j past mid) size → here ≡ c.bounds
-    → (IsSome c.kept → IsTrue tells → Elapses j o mid since (StopsAlong form here k m st b)) → TakesPieces form c most l r a tells (Elapses i o past since)
-takes_on form c here most k m st l r a b f g n n1 x x1 tells size fed within stops = record {
+abbrev takes_on : {i j o : Stopped} (form : Form) (c : Serving) (here : StoreBounds) (most : ℕ) (k : Known) (m : Machine) (st : Standing) (l r a b : Option (List ℕ)) (f g : Bool) (n n1 : Seen) (tells : Bool) (size : ℕ)
+    → FedPieces form c most k m st l r a b f g n n1 tells (Elapses i j) size → here ≡ c.bounds
+    → (IsSome c.kept → IsTrue tells → Elapses j o (StopsAlong form here k m st b)) → TakesPieces form c most l r a tells (Elapses i o)
+takes_on form c here most k m st l r a b f g n n1 tells size fed within stops = record {
   taken = fed.takes.taken;
   gave = fed.takes.gave;
   few = fed.takes.few;
-  stops = λ some told. stops_behind form c.bounds here (known_in form) k c.machine m (at_start form (take most fed.takes.taken)) st a b f g n n1 x x1 within fed.answers (fed.takes.stops some told) (stops some told);
+  stops = λ some told. stops_behind form c.bounds here (known_in form) k c.machine m (at_start form (take most fed.takes.taken)) st a b f g n n1 within fed.answers (fed.takes.stops some told) (stops some told);
 }
 
 -- The answering of its events was cut short.
-pub fed_cut : {i j o : ℕ} {past mid since : ℕ → Image → List ℕ → Type 0} {by : Cut} {form : Form} {c : Serving} {here : StoreBounds} {most : ℕ} {k : Known} {m : Machine} {st : Standing} {l r a b d : Option (List ℕ)} {f g h : Bool} {n n1 n2 : Option (List ℕ)} {x x1 x2 : ℕ} {tells : Bool} {size : ℕ}
-    → FedPieces form c most k m st l r a b f g n n1 x x1 tells (Elapses i j past mid) size → here ≡ c.bounds → IsCutShort by form here k m st b d g h n1 n2 x1 x2
-    → (IsSome c.kept → IsTrue tells → Elapses j o mid since (StopsAlong form here k m st b)) → CutsInput by form c most l r a d f h n n2 x x2 tells (Elapses i o past since)
-fed_cut {i} {j} {o} {past} {mid} {since} {by} {form} {c} {here} {most} {k} {m} {st} {l} {r} {a} {b} {d} {f} {g} {h} {n} {n1} {n2} {x} {x1} {x2} {tells} {size} fed within short stops =
+pub fed_cut : {i j o : Stopped} {by : Cut} {form : Form} {c : Serving} {here : StoreBounds} {most : ℕ} {k : Known} {m : Machine} {st : Standing} {l r a b d : Option (List ℕ)} {f g h : Bool} {n n1 n2 : Seen} {tells : Bool} {size : ℕ}
+    → FedPieces form c most k m st l r a b f g n n1 tells (Elapses i j) size → here ≡ c.bounds → IsCutShort by form here k m st b d g h n1 n2
+    → (IsSome c.kept → IsTrue tells → Elapses j o (StopsAlong form here k m st b)) → CutsInput by form c most l r a d f h n n2 tells (Elapses i o)
+fed_cut {i} {j} {o} {by} {form} {c} {here} {most} {k} {m} {st} {l} {r} {a} {b} {d} {f} {g} {h} {n} {n1} {n2} {tells} {size} fed within short stops =
     let used : List ℕ = take most fed.takes.taken in
-    let cuts = subst (λ (y : StoreBounds). IsCutShort by form y k m st b d g h n1 n2 x1 x2) within short in
+    let cuts = subst (λ (y : StoreBounds). IsCutShort by form y k m st b d g h n1 n2) within short in
     record {
-      takes = takes_on form c here most k m st l r a b f g n n1 x x1 tells size fed within stops;
-      some = used_cut by form c.bounds c.machine used a d f h n n2 x x2
-          (cut_behind by form c.bounds (known_in form) k c.machine m (at_start form used) st a b d f g h n n1 n2 x x1 x2 fed.answers cuts);
+      takes = takes_on form c here most k m st l r a b f g n n1 tells size fed within stops;
+      some = used_cut by form c.bounds c.machine used a d f h n n2
+          (cut_behind by form c.bounds (known_in form) k c.machine m (at_start form used) st a b d f g h n n1 n2 fed.answers cuts);
       near = fed.near cuts.first.answered;
     }
 
 -- All its events were answered: the input is not decided and goes on, or it is.
-abbrev pub fed_more : {i j o : ℕ} {past mid since : ℕ → Image → List ℕ → Type 0} {form : Form} {c : Serving} {here : StoreBounds} {most : ℕ} {k k1 : Known} {m m1 : Machine} {st st1 : Standing} {l r a b d : Option (List ℕ)} {f g h : Bool} {n n1 n2 : Option (List ℕ)} {x x1 x2 : ℕ} {tells : Bool} (bad : Option ℕ) {size count : ℕ}
-    → FedPieces form c most k m st l r a b f g n n1 x x1 tells (Elapses i j past mid) size → here ≡ c.bounds → Answers form here k k1 m m1 st st1 b d g h n1 n2 x1 x2
-    → (IsSome c.kept → IsTrue tells → Elapses j o mid since (StopsAlong form here k m st b)) → ComesToEnd st1 bad → decided_by form bad k1.faulty ≡ false → size ≡ count
-    → AnswersPieces form c most k1 m1 st1 l r a d f h n n2 x x2 tells (Elapses i o past since) count
-fed_more {i} {j} {o} {past} {mid} {since} {form} {c} {here} {most} {k} {k1} {m} {m1} {st} {st1} {l} {r} {a} {b} {d} {f} {g} {h} {n} {n1} {n2} {x} {x1} {x2} {tells} bad {size} {count} fed within later stops end going same =
+abbrev pub fed_more : {i j o : Stopped} {form : Form} {c : Serving} {here : StoreBounds} {most : ℕ} {k k1 : Known} {m m1 : Machine} {st st1 : Standing} {l r a b d : Option (List ℕ)} {f g h : Bool} {n n1 n2 : Seen} {tells : Bool} (bad : Option ℕ) {size count : ℕ}
+    → FedPieces form c most k m st l r a b f g n n1 tells (Elapses i j) size → here ≡ c.bounds → Answers form here k k1 m m1 st st1 b d g h n1 n2
+    → (IsSome c.kept → IsTrue tells → Elapses j o (StopsAlong form here k m st b)) → ComesToEnd st1 bad → decided_by form bad k1.faulty ≡ false → size ≡ count
+    → AnswersPieces form c most k1 m1 st1 l r a d f h n n2 tells (Elapses i o) count
+fed_more {i} {j} {o} {form} {c} {here} {most} {k} {k1} {m} {m1} {st} {st1} {l} {r} {a} {b} {d} {f} {g} {h} {n} {n1} {n2} {tells} bad {size} {count} fed within later stops end going same =
     let used : List ℕ = take most fed.takes.taken in
-    let told = answers_then form c.bounds here (known_in form) k k1 c.machine m m1 (at_start form used) st st1 a b d f g h n n1 n2 x x1 x2 within fed.answers later in
+    let told = answers_then form c.bounds here (known_in form) k k1 c.machine m m1 (at_start form used) st st1 a b d f g h n n1 n2 within fed.answers later in
     let all : told.answered ≡ events_in form used = all_so form used st1 told.answered told.goes (none_left st1 bad end) in
     record {
-      takes = takes_on form c here most k m st l r a b f g n n1 x x1 tells size fed within stops;
+      takes = takes_on form c here most k m st l r a b f g n n1 tells size fed within stops;
       counted = fed.counted ∙ same;
       answers = told;
       undecided = sym (decided_so form used st1 k1 told.answered bad told.known_is all (end_so form used st1 told.answered told.goes) end) ∙ going;
     }
 
-abbrev pub fed_decided : {i j o : ℕ} {past mid since : ℕ → Image → List ℕ → Type 0} {form : Form} {c : Serving} {here : StoreBounds} {most : ℕ} {k k1 : Known} {m m1 : Machine} {st st1 : Standing} {l r a b d : Option (List ℕ)} {f g h : Bool} {n n1 n2 : Option (List ℕ)} {x x1 x2 : ℕ} {tells : Bool} (bad : Option ℕ) {size : ℕ}
-    → FedPieces form c most k m st l r a b f g n n1 x x1 tells (Elapses i j past mid) size → here ≡ c.bounds → Answers form here k k1 m m1 st st1 b d g h n1 n2 x1 x2
-    → (IsSome c.kept → IsTrue tells → Elapses j o mid since (StopsAlong form here k m st b)) → ComesToEnd st1 bad → decided_by form bad k1.faulty ≡ true
-    → EndsPieces form c most k1 m1 st1 l r a d f h n n2 x x2 tells (Elapses i o past since) Whole
-fed_decided {i} {j} {o} {past} {mid} {since} {form} {c} {here} {most} {k} {k1} {m} {m1} {st} {st1} {l} {r} {a} {b} {d} {f} {g} {h} {n} {n1} {n2} {x} {x1} {x2} {tells} bad {size} fed within later stops end decided =
+abbrev pub fed_decided : {i j o : Stopped} {form : Form} {c : Serving} {here : StoreBounds} {most : ℕ} {k k1 : Known} {m m1 : Machine} {st st1 : Standing} {l r a b d : Option (List ℕ)} {f g h : Bool} {n n1 n2 : Seen} {tells : Bool} (bad : Option ℕ) {size : ℕ}
+    → FedPieces form c most k m st l r a b f g n n1 tells (Elapses i j) size → here ≡ c.bounds → Answers form here k k1 m m1 st st1 b d g h n1 n2
+    → (IsSome c.kept → IsTrue tells → Elapses j o (StopsAlong form here k m st b)) → ComesToEnd st1 bad → decided_by form bad k1.faulty ≡ true
+    → EndsPieces form c most k1 m1 st1 l r a d f h n n2 tells (Elapses i o) Whole
+fed_decided {i} {j} {o} {form} {c} {here} {most} {k} {k1} {m} {m1} {st} {st1} {l} {r} {a} {b} {d} {f} {g} {h} {n} {n1} {n2} {tells} bad {size} fed within later stops end decided =
     let used : List ℕ = take most fed.takes.taken in
-    let told = answers_then form c.bounds here (known_in form) k k1 c.machine m m1 (at_start form used) st st1 a b d f g h n n1 n2 x x1 x2 within fed.answers later in
+    let told = answers_then form c.bounds here (known_in form) k k1 c.machine m m1 (at_start form used) st st1 a b d f g h n n1 n2 within fed.answers later in
     let all : told.answered ≡ events_in form used = all_so form used st1 told.answered told.goes (none_left st1 bad end) in
     record {
-      takes = takes_on form c here most k m st l r a b f g n n1 x x1 tells size fed within stops;
+      takes = takes_on form c here most k m st l r a b f g n n1 tells size fed within stops;
       answers = told;
       near = subst (λ (answered : List Event). StaysNear form most fed.takes.taken answered) all (fed.near later.answered);
       ends = inl (sym (decided_so form used st1 k1 told.answered bad told.known_is all (end_so form used st1 told.answered told.goes) end) ∙ decided);
     }
 
 -- Where it goes on, all was given.
-pub more_given : {elapses : (Image → List ℕ → Type 0) → Type 0} {form : Form} {c : Serving} {most : ℕ} {k : Known} {m : Machine} {st : Standing} {l r a b : Option (List ℕ)} {f g : Bool} {n n1 : Option (List ℕ)} {x x1 : ℕ} {tells : Bool} (bad : Option ℕ) {count : ℕ}
-    → AnswersPieces form c most k m st l r a b f g n n1 x x1 tells elapses count → ComesToEnd st bad → decided_by form bad k.faulty ≡ false → IsAllGiven st
-more_given {elapses} {form} {c} {most} {k} {m} {st} {l} {r} {a} {b} {f} {g} {n} {n1} {x} {x1} {tells} bad {count} held end going =
+pub more_given : {elapses : (Image → List ℕ → Type 0) → Type 0} {form : Form} {c : Serving} {most : ℕ} {k : Known} {m : Machine} {st : Standing} {l r a b : Option (List ℕ)} {f g : Bool} {n n1 : Seen} {tells : Bool} (bad : Option ℕ) {count : ℕ}
+    → AnswersPieces form c most k m st l r a b f g n n1 tells elapses count → ComesToEnd st bad → decided_by form bad k.faulty ≡ false → IsAllGiven st
+more_given {elapses} {form} {c} {most} {k} {m} {st} {l} {r} {a} {b} {f} {g} {n} {n1} {tells} bad {count} held end going =
     let used : List ℕ = take most held.takes.taken in
     undecided_given form used st bad k.faulty (end_so form used st held.answers.answered held.answers.goes) end going
 
 -- No more bytes came than are used.
-pub came_few : {elapses : (Image → List ℕ → Type 0) → Type 0} {form : Form} {c : Serving} {most : ℕ} {k : Known} {m : Machine} {st : Standing} {l r a b : Option (List ℕ)} {f g : Bool} {n n1 : Option (List ℕ)} {x x1 : ℕ} {tells : Bool} {count : ℕ}
-    → AnswersPieces form c most k m st l r a b f g n n1 x x1 tells elapses count → st.before + length st.input ≤ count
-came_few {elapses} {form} {c} {most} {k} {m} {st} {l} {r} {a} {b} {f} {g} {n} {n1} {x} {x1} {tells} {count} held =
+pub came_few : {elapses : (Image → List ℕ → Type 0) → Type 0} {form : Form} {c : Serving} {most : ℕ} {k : Known} {m : Machine} {st : Standing} {l r a b : Option (List ℕ)} {f g : Bool} {n n1 : Seen} {tells : Bool} {count : ℕ}
+    → AnswersPieces form c most k m st l r a b f g n n1 tells elapses count → st.before + length st.input ≤ count
+came_few {elapses} {form} {c} {most} {k} {m} {st} {l} {r} {a} {b} {f} {g} {n} {n1} {tells} {count} held =
     let taken : List ℕ = held.takes.taken in
     let used : List ℕ = take most taken in
     let all = came_so form used st held.answers.answered held.answers.goes in
@@ -468,10 +469,10 @@ came_few {elapses} {form} {c} {most} {k} {m} {st} {l} {r} {a} {b} {f} {g} {n} {n
     omega (arith, all, few, held.counted)
 
 -- No more of it was taken.
-abbrev pub pieces_end : {elapses : (Image → List ℕ → Type 0) → Type 0} {end : End} {form : Form} {c : Serving} {most : ℕ} {k : Known} {m : Machine} {st : Standing} {l r r2 a b : Option (List ℕ)} {f g : Bool} {n n1 : Option (List ℕ)} {x x1 : ℕ} {tells : Bool} {count : ℕ}
-    → (held : AnswersPieces form c most k m st l r a b f g n n1 x x1 tells elapses count) → Gave l r2 held.takes.taken → EndsSo end most r2 held.takes.taken (is_decided form (take most held.takes.taken))
-    → EndsPieces form c most k m st l r2 a b f g n n1 x x1 tells elapses end
-pieces_end {elapses} {end} {form} {c} {most} {k} {m} {st} {l} {r} {r2} {a} {b} {f} {g} {n} {n1} {x} {x1} {tells} {count} held gave ends = record {
+abbrev pub pieces_end : {elapses : (Image → List ℕ → Type 0) → Type 0} {end : End} {form : Form} {c : Serving} {most : ℕ} {k : Known} {m : Machine} {st : Standing} {l r r2 a b : Option (List ℕ)} {f g : Bool} {n n1 : Seen} {tells : Bool} {count : ℕ}
+    → (held : AnswersPieces form c most k m st l r a b f g n n1 tells elapses count) → Gave l r2 held.takes.taken → EndsSo end most r2 held.takes.taken (is_decided form (take most held.takes.taken))
+    → EndsPieces form c most k m st l r2 a b f g n n1 tells elapses end
+pieces_end {elapses} {end} {form} {c} {most} {k} {m} {st} {l} {r} {r2} {a} {b} {f} {g} {n} {n1} {tells} {count} held gave ends = record {
   takes = record { taken = held.takes.taken; gave = gave; few = held.takes.few; stops = held.takes.stops };
   answers = held.answers;
   near = record {
@@ -489,8 +490,8 @@ pieces_end {elapses} {end} {form} {c} {most} {k} {m} {st} {l} {r} {r2} {a} {b} {
 -- ---- the ending is told
 
 -- The notes behind the answering leave a stop nothing more to find.
-abbrev takes_still : {i j o : ℕ} {past mid since : ℕ → Image → List ℕ → Type 0} (form : Form) (c : Serving) (most : ℕ) (l r a : Option (List ℕ)) (tells : Bool)
-    → TakesPieces form c most l r a tells (Elapses i j past mid) → Elapses j o mid since (λ image taken. ⊥) → TakesPieces form c most l r a tells (Elapses i o past since)
+abbrev takes_still : {i j o : Stopped} (form : Form) (c : Serving) (most : ℕ) (l r a : Option (List ℕ)) (tells : Bool)
+    → TakesPieces form c most l r a tells (Elapses i j) → Elapses j o (λ image taken. ⊥) → TakesPieces form c most l r a tells (Elapses i o)
 takes_still form c most l r a tells takes noted = record {
   taken = takes.taken;
   gave = takes.gave;
@@ -499,32 +500,32 @@ takes_still form c most l r a tells takes noted = record {
 }
 
 -- Where all events were answered, and the ending was told.
-abbrev pub input_ends : {i j o : ℕ} {past mid since : ℕ → Image → List ℕ → Type 0} (end : End) (form : Form) (c : Serving) (most : ℕ) (k : Known) (m : Machine) (st : Standing) (l r a b b2 : Option (List ℕ)) (f g h : Bool) (n n1 n2 : Option (List ℕ)) (x x1 x2 : ℕ) (tells : Bool) (bad : Option ℕ) (status : Status)
-    → EndsPieces form c most k m st l r a b f g n n1 x x1 tells (Elapses i j past mid) end → ComesToEnd st bad → Elapses j o mid since (λ image taken. ⊥) → b2 ≡ b
-    → status ≡ status_at (k.faulty || begins_bad (end_of st)) (leaves_some (end_of st) k.closed) end → NotesMore g h (ending_lines (end_of st) k.closed status) n1 n2 x1 x2
-    → EndsInput status form c most m l r a b2 f h n n2 x x2 tells (Elapses i o past since)
-input_ends end form c most k m st l r a b b2 f g h n n1 n2 x x1 x2 tells bad status told comes quiet still is noted =
+abbrev pub input_ends : {i j o : Stopped} (end : End) (form : Form) (c : Serving) (most : ℕ) (k : Known) (m : Machine) (st : Standing) (l r a b b2 : Option (List ℕ)) (f g h : Bool) (n n1 n2 : Seen) (tells : Bool) (bad : Option ℕ) (status : Status)
+    → EndsPieces form c most k m st l r a b f g n n1 tells (Elapses i j) end → ComesToEnd st bad → Elapses j o (λ image taken. ⊥) → b2 ≡ b
+    → status ≡ status_at (k.faulty || begins_bad (end_of st)) (leaves_some (end_of st) k.closed) end → NotesMore g h (ending_lines (end_of st) k.closed status) n1 n2
+    → EndsInput status form c most m l r a b2 f h n n2 tells (Elapses i o)
+input_ends end form c most k m st l r a b b2 f g h n n1 n2 tells bad status told comes quiet still is noted =
     let used : List ℕ = take most told.takes.taken in
     let none : events_of st ≡ [] = none_left st bad comes in
     record {
       takes = takes_still form c most l r a tells told.takes quiet;
       end = end;
-      all = used_answered form c.bounds c.machine m used end status k st a b b2 f g h n n1 n2 x x1 x2 told.answers none still is noted;
+      all = used_answered form c.bounds c.machine m used end status k st a b b2 f g h n n1 n2 told.answers none still is noted;
       near = told.near;
       ends = told.ends;
-      last = used_last form c.bounds c.machine m used k st a b f g n n1 x x1 told.answers none;
+      last = used_last form c.bounds c.machine m used k st a b f g n n1 told.answers none;
     }
 
 -- Where memory was wanting to tell it.
-pub input_starved : {i j o : ℕ} {past mid since : ℕ → Image → List ℕ → Type 0} (end : End) (form : Form) (c : Serving) (most : ℕ) (k : Known) (m : Machine) (st : Standing) (l r a b b2 : Option (List ℕ)) (f g h : Bool) (n n1 n2 : Option (List ℕ)) (x x1 x2 : ℕ) (tells : Bool) (bad : Option ℕ)
-    → EndsPieces form c most k m st l r a b f g n n1 x x1 tells (Elapses i j past mid) end → ComesToEnd st bad → Elapses j o mid since (λ image taken. ⊥)
-    → (begins_bad (end_of st) ≡ true) ⊎ (status_at k.faulty (leaves_some (end_of st) k.closed) end ≡ Truncated) → b2 ≡ b → h ≡ g → n2 ≡ n1 → x2 ≡ x1
-    → CutsInput NoMemory form c most l r a b2 f h n n2 x x2 tells (Elapses i o past since)
-input_starved end form c most k m st l r a b b2 f g h n n1 n2 x x1 x2 tells bad told comes quiet why still p q u =
+pub input_starved : {i j o : Stopped} (end : End) (form : Form) (c : Serving) (most : ℕ) (k : Known) (m : Machine) (st : Standing) (l r a b b2 : Option (List ℕ)) (f g h : Bool) (n n1 n2 : Seen) (tells : Bool) (bad : Option ℕ)
+    → EndsPieces form c most k m st l r a b f g n n1 tells (Elapses i j) end → ComesToEnd st bad → Elapses j o (λ image taken. ⊥)
+    → (begins_bad (end_of st) ≡ true) ⊎ (status_at k.faulty (leaves_some (end_of st) k.closed) end ≡ Truncated) → b2 ≡ b → h ≡ g → n2.noted ≡ n1.noted → n2.note_faults ≡ n1.note_faults
+    → CutsInput NoMemory form c most l r a b2 f h n n2 tells (Elapses i o)
+input_starved end form c most k m st l r a b b2 f g h n n1 n2 tells bad told comes quiet why still p q u =
     let used : List ℕ = take most told.takes.taken in
     let all : told.answers.answered ≡ events_in form used = all_so form used st told.answers.answered told.answers.goes (none_left st bad comes) in
     rw (p, q, u) (record {
       takes = takes_still form c most l r a tells told.takes quiet;
-      some = used_starved form c.bounds c.machine m used end k st a b b2 f g n n1 x x1 told.answers why still;
+      some = used_starved form c.bounds c.machine m used end k st a b b2 f g n n1 told.answers why still;
       near = subst (λ (answered : List Event). StaysNear form most told.takes.taken answered) (sym all) told.near;
     })

@@ -3,15 +3,17 @@ use Rattle.std.specs.Prelude.{true, false, Bool, IsTrue, IsSome}
 use Rattle.std.proofs.Common.{◌≡◌, ℕ, ◌⊎◌, List, [], length, take, refl, sym, ap, ◌∙◌, subst, arith}
 use Rattle.std.specs.declared.option.Option.{Option}
 use Rattle.ziti_outside.specs.Images.{Image, After}
-use Rattle.ziti_outside.specs.Moments.{Elapses, Leaves, Now}
+use Rattle.ziti_outside.specs.Moments.{Elapses, Leaves}
+use Rattle.ziti_outside.specs.Told.{Took}
 use Rattle.ziti_outside.specs.declared.desk.Part.TheVariants.{Mark}
 use Rattle.ziti_outside.specs.Untouched.{OnlyDisk, OnlyNotes}
+use Rattle.ziti_outside.specs.Views.{Outside, Seen, Stopped}
 use Rattle.slot_files.specs.FolderImage.{StandsAsBefore}
 use Rattle.slot_files.specs.OpenedSlots.{Opens}
 use Rattle.row_store.specs.StoredRows.{ReadsAs}
 use Rattle.ctrl_model.specs.State.{start}
 use Rattle.ctrl_core.specs.KeptState.{Cored}
-use Rattle.ctrl_keep.specs.OpenedStates.{OpensToState}
+use Rattle.row_store.specs.OpenedStates.{OpensToState}
 use Rattle.row_store.specs.declared.bounds.StoreBounds.{StoreBounds}
 use Rattle.ctrl_keep.specs.KeptMachine.{Machine}
 use Rattle.ctrl_keep.specs.KeptController.{Controlled, HoldsRows, machine_of}
@@ -26,29 +28,27 @@ use Rattle.ctrl_serve.specs.ControllerViews.{serving_of}
 use Rattle.ctrl_serve.specs.OpenedFolders.{Keeps}
 use Rattle.ctrl_serve.specs.FollowedFolders.{FollowsInput}
 use Rattle.ctrl_serve.specs.FrameAnswer.{no_bounds, alone, last_machine}
-use Rattle.session_mux.specs.declared.events.Event.{Event}
 use Rattle.session_mux.specs.declared.sessions.Form.{Form}
 use Rattle.session_mux.specs.declared.sessions.Form.TheVariants.{Plain}
 use Rattle.run_notes.specs.Inputs.{events_in}
 use Rattle.run_notes.specs.Endings.{is_cut, is_kept, status_of_cut}
-use Rattle.run_notes.specs.NotedLines.{RisesOnce}
+use Rattle.run_notes.specs.NotedLines.{FindsNoMore, RisesOnce}
 use Rattle.ctrl_serve.specs.Failures.{TakesUntilFailure}
 use Rattle.ctrl_serve.specs.Pieces.{CutsInput, EndsInput, IsReadCaused}
-use Rattle.ctrl_serve.specs.Turns.{StopsAlong}
-use Rattle.ctrl_serve.specs.RunStops.{AllOpenTo, StopFinds}
 use Rattle.session_mux.specs.Completion.{completed}
-use Rattle.ctrl_serve.specs.Headline.{Serves, Replays}
+use Rattle.ctrl_serve.specs.Headline.{Serves, Replays, Taking, taking_of}
 use Rattle.ctrl_serve.proofs.GrantedRuns.{behind-granted}
 use Rattle.run_notes.specs.Notes.{status_lines}
 use Rattle.run_notes.specs.NotesSoFar.{NotesMore}
 use Rattle.run_notes.specs.KnownSessions.{known_in}
+use Rattle.run_notes.proofs.NoteLaws.{notes_from}
 use Rattle.ctrl_serve.specs.Runs.{IsWriteCaused, IsDiskCaused, KeepsUsed, RunsOn, CountsFaults}
 use Rattle.ctrl_serve.proofs.FailureLaws.{takes_none}
 use Rattle.ctrl_serve.proofs.FollowedRuns.{opened_stands_for, opened_still}
 use Rattle.ctrl_serve.proofs.IntakeLaws.{write_calm, disk_calm, input_serves, input_counted, cut_serves, cut_counted}
 use Rattle.ctrl_serve.proofs.UsedLaws.{at_start}
 use Rattle.ctrl_serve.proofs.OpenedMachines.{ready_keeps, opens_by}
-use Rattle.ctrl_serve.proofs.RunStopLaws.{opened_stops, later_stops}
+use Rattle.ctrl_serve.proofs.RunStopLaws.{no_more_behind, opened_stops, later_stops, used_stops}
 
 -- ---- what the folder keeps behind the frames
 
@@ -79,10 +79,10 @@ cut_undisked cut.Unsaid result is other w = cc
 -- ---- the counts of faults
 
 -- Where all events of the input were answered.
-pub input_counts : {S D : Type 0} {left : S → Option (List ℕ)} {faults : S → ℕ} {say_faults note_faults disk_faults : D → ℕ} (source source_now : S) (desk desk_now : D) (status : Status)
+pub input_counts : {S D : Type 0} {left : S → Option (List ℕ)} {faults : S → ℕ} {seen : D → Seen} (source source_now : S) (desk desk_now : D) (status : Status)
     → IsReadCaused (faults source) (faults source_now) status → RisesOnce (faults source) (faults source_now) → TakesUntilFailure left faults source source_now
-    → IsWriteCaused (say_faults desk) (say_faults desk_now) status → IsDiskCaused (disk_faults desk) (disk_faults desk_now) status → RisesOnce (note_faults desk) (note_faults desk_now)
-    → CountsFaults left faults say_faults note_faults disk_faults source source_now desk desk_now status
+    → IsWriteCaused (seen desk).say_faults (seen desk_now).say_faults status → IsDiskCaused (seen desk).disk_faults (seen desk_now).disk_faults status → RisesOnce (seen desk).note_faults (seen desk_now).note_faults
+    → CountsFaults left faults seen source source_now desk desk_now status
 input_counts source source_now desk desk_now status read once until write disk noted = record {
   read_fault = read.rose;
   failed_take = read.calm;
@@ -103,10 +103,10 @@ pub cut_is_read : (by : Cut) (before now : ℕ) (status : Status) → status ≡
 cut_is_read by before now status is = subst (λ (u : Status). IsReadCaused before now u) (sym is) (cut_read by before now)
 
 -- Where memory was wanting, and that was told.
-pub cut_counts : {S D : Type 0} {left : S → Option (List ℕ)} {faults : S → ℕ} {said : D → Option (List ℕ)} {say_faults note_faults : D → ℕ} {reads : D → Image} {may_leave : D → Image → Type 0} {disk_faults : D → ℕ}
+pub cut_counts : {S D : Type 0} {left : S → Option (List ℕ)} {faults : S → ℕ} {seen : D → Seen} {stopped : D → Stopped}
     (source source_now : S) (desk desk_now : D) (status : Status) → status ≡ NoMemory → RisesOnce (faults source) (faults source_now) → TakesUntilFailure left faults source source_now
-    → OnlyNotes said say_faults reads may_leave disk_faults desk desk_now → RisesOnce (note_faults desk) (note_faults desk_now)
-    → CountsFaults left faults say_faults note_faults disk_faults source source_now desk desk_now status
+    → OnlyNotes seen stopped desk desk_now → RisesOnce (seen desk).note_faults (seen desk_now).note_faults
+    → CountsFaults left faults seen source source_now desk desk_now status
 cut_counts source source_now desk desk_now status is once until notes noted = record {
   read_fault = λ r. cc;
   failed_take = λ e. absurd (let c = ap is_cut is in cc);
@@ -118,137 +118,143 @@ cut_counts source source_now desk desk_now status is once until notes noted = re
 }
 
 -- Where the folder was not opened.
-pub closed_counts : {S D : Type 0} {left : S → Option (List ℕ)} {faults : S → ℕ} {said noted : D → Option (List ℕ)} {say_faults note_faults : D → ℕ} {reads : D → Image} {may_leave : D → Image → Type 0} {disk_faults : D → ℕ}
-    (source : S) (desk mid now : D) (status : Status) → OnlyDisk said noted say_faults note_faults desk mid → OnlyNotes said say_faults reads may_leave disk_faults mid now
-    → RisesOnce (note_faults mid) (note_faults now) → IsDiskCaused (disk_faults desk) (disk_faults now) status → (status ≡ ReadFault → ⊥) → (status ≡ WriteFault → ⊥)
-    → CountsFaults left faults say_faults note_faults disk_faults source source desk now status
-closed_counts {note_faults = note_faults} source desk mid now status calls notes noted disk read write = record {
+pub closed_counts : {S D : Type 0} {left : S → Option (List ℕ)} {faults : S → ℕ} {seen : D → Seen} {stopped : D → Stopped}
+    (source : S) (desk mid now : D) (status : Status) → OnlyDisk seen desk mid → OnlyNotes seen stopped mid now
+    → RisesOnce (seen mid).note_faults (seen now).note_faults → IsDiskCaused (seen desk).disk_faults (seen now).disk_faults status → (status ≡ ReadFault → ⊥) → (status ≡ WriteFault → ⊥)
+    → CountsFaults left faults seen source source desk now status
+closed_counts {seen = seen} source desk mid now status calls notes seen disk read write = record {
   read_fault = λ r. absurd (read r);
   failed_take = λ _. refl;
   write = write_calm _ _ status (notes.failed_says ∙ calls.failed_says) write;
   disk = disk;
   read_faults_once = record { later = omega arith; once = omega arith };
-  note_faults_once = subst (λ (n : ℕ). RisesOnce n (note_faults now)) calls.failed_notes noted;
+  note_faults_once = subst (λ (n : ℕ). RisesOnce n (seen now).note_faults) calls.failed_notes seen;
   takes_until_failure = takes_none source;
 }
 
 -- Where it was opened before the run.
-pub opened_counts : {S D : Type 0} {left : S → Option (List ℕ)} {faults : S → ℕ} {said noted : D → Option (List ℕ)} {say_faults note_faults disk_faults : D → ℕ}
-    (source source_now : S) (desk mid now : D) (status : Status) → OnlyDisk said noted say_faults note_faults desk mid → disk_faults mid ≡ disk_faults desk
-    → CountsFaults left faults say_faults note_faults disk_faults source source_now mid now status → CountsFaults left faults say_faults note_faults disk_faults source source_now desk now status
-opened_counts {say_faults = say_faults} {note_faults = note_faults} {disk_faults = disk_faults} source source_now desk mid now status calls calm counts = record {
+pub opened_counts : {S D : Type 0} {left : S → Option (List ℕ)} {faults : S → ℕ} {seen : D → Seen}
+    (source source_now : S) (desk mid now : D) (status : Status) → OnlyDisk seen desk mid → (seen mid).disk_faults ≡ (seen desk).disk_faults
+    → CountsFaults left faults seen source source_now mid now status → CountsFaults left faults seen source source_now desk now status
+opened_counts {seen = seen} source source_now desk mid now status calls calm counts = record {
   read_fault = counts.read_fault;
   failed_take = counts.failed_take;
-  write = subst (λ (n : ℕ). IsWriteCaused n (say_faults now) status) calls.failed_says counts.write;
-  disk = subst (λ (n : ℕ). IsDiskCaused n (disk_faults now) status) calm counts.disk;
+  write = subst (λ (n : ℕ). IsWriteCaused n (seen now).say_faults status) calls.failed_says counts.write;
+  disk = subst (λ (n : ℕ). IsDiskCaused n (seen now).disk_faults status) calm counts.disk;
   read_faults_once = counts.read_faults_once;
-  note_faults_once = subst (λ (n : ℕ). RisesOnce n (note_faults now)) calls.failed_notes counts.note_faults_once;
+  note_faults_once = subst (λ (n : ℕ). RisesOnce n (seen now).note_faults) calls.failed_notes counts.note_faults_once;
   takes_until_failure = counts.takes_until_failure;
 }
 
 -- ---- the run from a controller on
 
 -- Where all events of the input were answered.
-pub input_runs : (form : Form) (c : Serving) (most : ℕ) (new : Controller) (l r a b d e : Option (List ℕ)) (f g : Bool) (x y : ℕ) (tells : Bool) (before now : Image) (images : Image → Type 0) (elapses : (Image → List ℕ → Type 0) → Type 0) (status : Status)
-    → f ≡ false → (answered : EndsInput status form c most (serving_of new).machine l r a b f g d e x y tells elapses)
-    → (IsSome c.kept → IsTrue tells → FollowsInput form c.bounds c.machine before now (take most answered.takes.taken)) → GoesOn c (serving_of new) → IsReady tells (serving_of new).kept now images
-    → ((used : List ℕ) → elapses (StopsAlong form c.bounds (known_in form) c.machine (at_start form used) a) → elapses (StopFinds form c.bounds c.machine (events_in form used) a))
-    → RunsOn form c most l r a b d e x y tells before now images elapses status
-input_runs form c most new l r a b d e f g x y tells before now images elapses status calm answered follows on ready found =
-    let both = subst (λ (u : Bool). (told : EndsInput status form c most (serving_of new).machine l r a b u g d e x y tells elapses) × (IsSome c.kept → IsTrue tells → FollowsInput form c.bounds c.machine before now (take most told.takes.taken)))
+pub input_runs : {S D : Type 0} (o : Outside S D) (form : Form) (c : Serving) (most : ℕ) (new : Controller) (source source_now : S) (desk desk_now : D) (f g : Bool) (status : Status)
+    → f ≡ false
+    → (answered : EndsInput status form c most (serving_of new).machine (o.left source) (o.left source_now) (o.seen desk).said (o.seen desk_now).said f g (o.seen desk) (o.seen desk_now) o.tells (Elapses (o.stopped desk) (o.stopped desk_now)))
+    → (IsSome c.kept → IsTrue o.tells → FollowsInput form c.bounds c.machine (o.seen desk).reads (o.seen desk_now).reads (take most answered.takes.taken))
+    → GoesOn c (serving_of new) → IsReady o.tells (serving_of new).kept (o.seen desk_now).reads (o.stopped desk_now).images
+    → RunsOn (taking_of form most) c o source source_now desk desk_now status
+input_runs o form c most new source source_now desk desk_now f g status calm answered follows on ready =
+    let both = subst (λ (u : Bool). (told : EndsInput status form c most (serving_of new).machine (o.left source) (o.left source_now) (o.seen desk).said (o.seen desk_now).said u g (o.seen desk) (o.seen desk_now) o.tells (Elapses (o.stopped desk) (o.stopped desk_now)))
+    × (IsSome c.kept → IsTrue o.tells → FollowsInput form c.bounds c.machine (o.seen desk).reads (o.seen desk_now).reads (take most told.takes.taken)))
     calm (answered, follows) in
     let told = both.0 in
     let used : List ℕ = take most told.takes.taken in
     record {
-      serves = input_serves form c most (serving_of new).machine l r a b d e g x y tells elapses status told;
-      keeps = served_keeps form c new used used tells now images status refl told.last on ready;
+      serves = input_serves form c most (serving_of new).machine (o.left source) (o.left source_now) (o.seen desk) (o.seen desk_now) g o.tells (Elapses (o.stopped desk) (o.stopped desk_now)) status told;
+      keeps = served_keeps form c new used used o.tells (o.seen desk_now).reads (o.stopped desk_now).images status refl told.last on ready;
       follows = λ some kept tell. both.1 some tell;
-      stops = λ some tell. found used (told.takes.stops some tell);
+      stops = λ some tell. used_stops form c.bounds c.machine used (known_in form) (at_start form used) (o.seen desk).said refl refl (told.takes.stops some tell);
     }
 
 -- And where it was cut short, and that was told.
-cut_runs_by : (by : Cut) (form : Form) (c : Serving) (most : ℕ) (l r a b b2 d d1 d2 : Option (List ℕ)) (g h : Bool) (x y z : ℕ) (tells : Bool) (read now : Image) (images : Image → Type 0) (before elapses : (Image → List ℕ → Type 0) → Type 0)
-    → CutsInput by form c most l r a b false g d d1 x y tells before → b2 ≡ b → NotesMore g h (status_lines [] (status_of_cut by)) d1 d2 y z
-    → ((used : List ℕ) → before (StopsAlong form c.bounds (known_in form) c.machine (at_start form used) a) → elapses (StopFinds form c.bounds c.machine (events_in form used) a))
-    → RunsOn form c most l r a b2 d d2 x z tells read now images elapses (status_of_cut by)
-cut_runs_by by form c most l r a b b2 d d1 d2 g h x y z tells read now images before elapses told still more found =
+cut_runs_by : {S D : Type 0} (o : Outside S D) (by : Cut) (form : Form) (c : Serving) (most : ℕ) (source source_now : S) (desk mid now : D) (g h : Bool)
+    → CutsInput by form c most (o.left source) (o.left source_now) (o.seen desk).said (o.seen mid).said false g (o.seen desk) (o.seen mid) o.tells (Elapses (o.stopped desk) (o.stopped mid))
+    → OnlyNotes o.seen o.stopped mid now → FindsNoMore o.stopped mid now → NotesMore g h (status_lines [] (status_of_cut by)) (o.seen mid) (o.seen now)
+    → RunsOn (taking_of form most) c o source source_now desk now (status_of_cut by)
+cut_runs_by o by form c most source source_now desk mid now g h told others no_more more =
     let used : List ℕ = take most told.takes.taken in
     record {
-      serves = cut_serves by form c most l r a b b2 d d1 d2 g h x y z tells before told still more;
-      keeps = cut_keeps form c used tells now images by (status_of_cut by) refl;
+      serves = cut_serves by form c most (o.left source) (o.left source_now) (o.seen desk) (o.seen mid) (o.seen now) g h o.tells (Elapses (o.stopped desk) (o.stopped mid)) told others.replies more;
+      keeps = cut_keeps form c used o.tells (o.seen now).reads (o.stopped now).images by (status_of_cut by) refl;
       follows = λ some kept tell. absurd (not_kept by kept);
-      stops = λ some tell. found used (told.takes.stops some tell);
+      stops = λ some tell. used_stops form c.bounds c.machine used (known_in form) (at_start form used) (o.seen desk).said refl refl (no_more_behind _ (told.takes.stops some tell) no_more);
     }
 
-pub cut_runs : (by : Cut) (form : Form) (c : Serving) (most : ℕ) (l r a b b2 d d1 d2 : Option (List ℕ)) (f g h : Bool) (x y z : ℕ) (tells : Bool) (read now : Image) (images : Image → Type 0) (before elapses : (Image → List ℕ → Type 0) → Type 0) (status : Status)
-    → status ≡ status_of_cut by → f ≡ false → CutsInput by form c most l r a b f g d d1 x y tells before → b2 ≡ b → NotesMore g h (status_lines [] status) d1 d2 y z
-    → ((used : List ℕ) → before (StopsAlong form c.bounds (known_in form) c.machine (at_start form used) a) → elapses (StopFinds form c.bounds c.machine (events_in form used) a))
-    → RunsOn form c most l r a b2 d d2 x z tells read now images elapses status
-cut_runs by form c most l r a b b2 d d1 d2 f g h x y z tells read now images before elapses status is calm cuts still more found =
-    let told = subst (λ (u : Bool). CutsInput by form c most l r a b u g d d1 x y tells before) calm cuts in
-    let behind = subst (λ (u : Status). NotesMore g h (status_lines [] u) d1 d2 y z) is more in
-    subst (λ (u : Status). RunsOn form c most l r a b2 d d2 x z tells read now images elapses u) (sym is)
-    (cut_runs_by by form c most l r a b b2 d d1 d2 g h x y z tells read now images before elapses told still behind found)
+pub cut_runs : {S D : Type 0} (o : Outside S D) (by : Cut) (form : Form) (c : Serving) (most : ℕ) (source source_now : S) (desk mid now : D) (f g h : Bool) (status : Status) → status ≡ status_of_cut by → f ≡ false
+    → CutsInput by form c most (o.left source) (o.left source_now) (o.seen desk).said (o.seen mid).said f g (o.seen desk) (o.seen mid) o.tells (Elapses (o.stopped desk) (o.stopped mid))
+    → OnlyNotes o.seen o.stopped mid now → FindsNoMore o.stopped mid now → NotesMore g h (status_lines [] status) (o.seen mid) (o.seen now)
+    → RunsOn (taking_of form most) c o source source_now desk now status
+cut_runs o by form c most source source_now desk mid now f g h status is calm cuts others no_more more =
+    let told = subst (λ (u : Bool). CutsInput by form c most (o.left source) (o.left source_now) (o.seen desk).said (o.seen mid).said u g (o.seen desk) (o.seen mid) o.tells (Elapses (o.stopped desk) (o.stopped mid))) calm cuts in
+    let behind = subst (λ (u : Status). NotesMore g h (status_lines [] u) (o.seen mid) (o.seen now)) is more in
+    subst (λ (u : Status). RunsOn (taking_of form most) c o source source_now desk now u) (sym is) (cut_runs_by o by form c most source source_now desk mid now g h told others no_more behind)
 
 -- The notes of such a run failed once at most.
-pub cut_run_counted : (by : Cut) (form : Form) (c : Serving) (most : ℕ) (l r a b d d1 d2 : Option (List ℕ)) (f g h : Bool) (x y z : ℕ) (tells : Bool) (before : (Image → List ℕ → Type 0) → Type 0) (status : Status)
-    → status ≡ status_of_cut by → f ≡ false → CutsInput by form c most l r a b f g d d1 x y tells before → NotesMore g h (status_lines [] status) d1 d2 y z → RisesOnce x z
-cut_run_counted by form c most l r a b d d1 d2 f g h x y z tells before status is calm cuts more =
-    let told = subst (λ (u : Bool). CutsInput by form c most l r a b u g d d1 x y tells before) calm cuts in
-    let behind = subst (λ (u : Status). NotesMore g h (status_lines [] u) d1 d2 y z) is more in
-    cut_counted by form c most l r a b d d1 d2 g h x y z tells before told behind
+pub cut_run_counted : (by : Cut) (form : Form) (c : Serving) (most : ℕ) (l r a b : Option (List ℕ)) (d d1 d2 : Seen) (f g h : Bool) (tells : Bool) (before : (Image → List ℕ → Type 0) → Type 0) (status : Status)
+    → status ≡ status_of_cut by → f ≡ false → CutsInput by form c most l r a b f g d d1 tells before → NotesMore g h (status_lines [] status) d1 d2 → RisesOnce d.note_faults d2.note_faults
+cut_run_counted by form c most l r a b d d1 d2 f g h tells before status is calm cuts more =
+    let told = subst (λ (u : Bool). CutsInput by form c most l r a b u g d d1 tells before) calm cuts in
+    let behind = subst (λ (u : Status). NotesMore g h (status_lines [] u) d1 d2) is more in
+    cut_counted by form c most l r a b d d1 d2 g h tells before told behind
 
-pub input_run_counted : (form : Form) (c : Serving) (most : ℕ) (m : Machine) (l r a b d e : Option (List ℕ)) (f g : Bool) (x y : ℕ) (tells : Bool) (elapses : (Image → List ℕ → Type 0) → Type 0) (status : Status)
-    → f ≡ false → EndsInput status form c most m l r a b f g d e x y tells elapses → RisesOnce x y
-input_run_counted form c most m l r a b d e f g x y tells elapses status calm told =
-    input_counted form c most m l r a b d e g x y tells elapses status (subst (λ (u : Bool). EndsInput status form c most m l r a b u g d e x y tells elapses) calm told)
+pub input_run_counted : (form : Form) (c : Serving) (most : ℕ) (m : Machine) (l r a b : Option (List ℕ)) (d e : Seen) (f g : Bool) (tells : Bool) (elapses : (Image → List ℕ → Type 0) → Type 0) (status : Status)
+    → f ≡ false → EndsInput status form c most m l r a b f g d e tells elapses → RisesOnce d.note_faults e.note_faults
+input_run_counted form c most m l r a b d e f g tells elapses status calm told =
+    input_counted form c most m l r a b d e g tells elapses status (subst (λ (u : Bool). EndsInput status form c most m l r a b u g d e tells elapses) calm told)
 
 -- A run without a folder begins at the start.
-pub started_serves : (core : Cored) (most : ℕ) (l m a b d e : Option (List ℕ)) (x y : ℕ) (status : Status) → core ≡ record { state = start; live = true }
-    → Serves Plain no_bounds (alone core.state) most l m a b d e x y status → Serves Plain no_bounds (alone start) most l m a b d e x y status
-started_serves core most l m a b d e x y status is s =
-    subst (λ (k : Cored). Serves Plain no_bounds (alone k.state) most l m a b d e x y status) is s
+pub started_serves : (core : Cored) (most : ℕ) (l m : Option (List ℕ)) (d e : Seen) (status : Status) → core ≡ record { state = start; live = true }
+    → Serves (taking_of Plain most) no_bounds (alone core.state) l m d e status → Serves (taking_of Plain most) no_bounds (alone start) l m d e status
+started_serves core most l m d e status is s =
+    subst (λ (k : Cored). Serves (taking_of Plain most) no_bounds (alone k.state) l m d e status) is s
 
 -- ---- the run on the folder
 
--- From what was opened, where this is what a stop finds.
-opened_replays : (form : Form) (bounds : StoreBounds) (most : ℕ) (k : Controlled) (l m a b c d : Option (List ℕ)) (x y : ℕ) (tells : Bool) (before mid now : Image) (first images later : Image → Type 0)
-    (behind elapses : (Image → List ℕ → Type 0) → Type 0) (status : Status)
-    → (IsTrue tells → OpensToState before k.state) → (IsTrue tells → ReadsAs k.stored mid images) → HoldsRows k → k.stored.bounds ≡ bounds
-    → (IsTrue tells → Opens (length (before Mark)) before mid) → RunsOn form (serving_of (Kept k)) most l m a b c d x y tells mid now later behind status
-    → ((events : List Event) → IsTrue tells → behind (StopFinds form k.stored.bounds (machine_of k) events a) → AllOpenTo first k.state → elapses (StopFinds form k.stored.bounds (machine_of k) events a))
-    → ((events : List Event) → IsTrue tells → behind (StopFinds form k.stored.bounds (machine_of k) events a)
-    → elapses (λ image taken. StopFinds form k.stored.bounds (machine_of k) events a image taken ⊎ Now (After StandsAsBefore first) a image taken))
-    → Replays form bounds most l m a b c d x y tells before now first later elapses status
-opened_replays form bounds most k l m a b c d x y tells before mid now first images later behind elapses status opens stands holds same made runs stops stops_later =
-    subst (λ (n : StoreBounds). Replays form n most l m a b c d x y tells before now first later elapses status) same (record {
+-- What was said and noted since a desk that had said and noted the same.
+serves_from : {taking : Taking} {bounds : StoreBounds} {m : Machine} {l r : Option (List ℕ)} {mid now : Seen} {status : Status} (desk : Seen)
+    → mid.said ≡ desk.said → mid.noted ≡ desk.noted → mid.note_faults ≡ desk.note_faults → Serves taking bounds m l r mid now status → Serves taking bounds m l r desk now status
+serves_from {mid = mid} {now = now} desk replies noted failed s = record {
+  taken = s.taken;
+  gave = s.gave;
+  few = s.few;
+  answered = s.answered;
+  unanswered = s.unanswered;
+  split = s.split;
+  all = s.all;
+  said = s.said;
+  took = subst (λ (x : Option (List ℕ)). Took x now.said s.said) replies s.took;
+  says = s.says;
+  ends = s.ends;
+  read_on = s.read_on;
+  near = s.near;
+  notes = notes_from _ desk mid now noted failed s.notes;
+}
+
+-- From what was opened on. Opening the folder said and noted nothing.
+pub replays_on : {S D : Type 0} (o : Outside S D) (form : Form) (bounds : StoreBounds) (most : ℕ) (k : Controlled) (source source_now : S) (desk mid now : D) (status : Status)
+    → (IsTrue o.tells → OpensToState (o.seen desk).reads k.state) → (IsTrue o.tells → ReadsAs k.stored (o.seen mid).reads (o.stopped mid).images) → HoldsRows k → k.stored.bounds ≡ bounds
+    → (IsTrue o.tells → Opens (length ((o.seen desk).reads Mark)) (o.seen desk).reads (o.seen mid).reads) → OnlyDisk o.seen desk mid
+    → (IsTrue o.tells → Leaves o.seen o.stopped desk mid (After StandsAsBefore (o.stopped desk).images))
+    → RunsOn (taking_of form most) (serving_of (Kept k)) o source source_now mid now status
+    → Replays (taking_of form most) bounds o source source_now desk now status
+replays_on o form bounds most k source source_now desk mid now status opens stands holds same made calls opening runs =
+    let before = (o.seen desk).reads in
+    let middle = (o.seen mid).reads in
+    let after = (o.seen now).reads in
+    let used : List ℕ = take most runs.serves.taken in
+    subst (λ (n : StoreBounds). Replays (taking_of form most) n o source source_now desk now status) same (record {
       machine = machine_of k;
       valid = holds.valid;
       placed = refl;
-      opens = λ told. opens_by (length (before Mark)) before mid images k refl (opens told) holds (stands told) (made told);
-      serves = runs.serves;
+      opens = λ told. opens_by (length (before Mark)) before middle (o.stopped mid).images k refl (opens told) holds (stands told) (made told);
+      serves = serves_from (o.seen desk) calls.replies calls.notes calls.failed_notes runs.serves;
       keeps = λ kept told. (runs.keeps refl kept told).0;
       found = λ kept told. (runs.keeps refl kept told).1;
-      stands = λ kept told batches. opened_stands_for form k.stored.bounds (machine_of k) before mid now (take most runs.serves.taken) batches (made told) (runs.follows refl kept told);
-      still = λ kept told. opened_still form k.stored.bounds (machine_of k) before mid now (take most runs.serves.taken) (made told) (runs.follows refl kept told);
+      stands = λ kept told batches. opened_stands_for form k.stored.bounds (machine_of k) before middle after used batches (made told) (runs.follows refl kept told);
+      still = λ kept told. opened_still form k.stored.bounds (machine_of k) before middle after used (made told) (runs.follows refl kept told);
       granted = λ stand n. behind-granted k.stored.bounds (machine_of k) (completed form (take n runs.serves.taken)) holds.valid stand;
-      stops = λ told all. stops (events_in form (take most runs.serves.taken)) told (runs.stops refl told) all;
-      stops_later = λ told. stops_later (events_in form (take most runs.serves.taken)) told (runs.stops refl told);
+      stops = λ told all. opened_stops form k.stored.bounds (machine_of k) (events_in form used) (opening told) (runs.stops refl told) all;
+      stops_later = λ told. later_stops form k.stored.bounds (machine_of k) (events_in form used) (opening told) (runs.stops refl told);
     })
-
--- Opening the folder said and noted nothing.
-pub replays_on : {D : Type 0} {said noted : D → Option (List ℕ)} {say_faults note_faults moment : D → ℕ} {since : D → ℕ → Image → List ℕ → Type 0} (reads : D → Image) (may_leave : D → Image → Type 0)
-    (form : Form) (bounds : StoreBounds) (most : ℕ) (k : Controlled) (l m : Option (List ℕ)) (tells : Bool) (desk mid now : D) (status : Status)
-    → (IsTrue tells → OpensToState (reads desk) k.state) → (IsTrue tells → ReadsAs k.stored (reads mid) (may_leave mid)) → HoldsRows k → k.stored.bounds ≡ bounds
-    → (IsTrue tells → Opens (length (reads desk Mark)) (reads desk) (reads mid)) → OnlyDisk said noted say_faults note_faults desk mid
-    → (IsTrue tells → Leaves moment since may_leave said desk mid (After StandsAsBefore (may_leave desk)))
-    → RunsOn form (serving_of (Kept k)) most l m (said mid) (said now) (noted mid) (noted now) (note_faults mid) (note_faults now) tells (reads mid) (reads now) (may_leave now)
-    (Elapses (moment mid) (moment now) (since mid) (since now)) status
-    → Replays form bounds most l m (said desk) (said now) (noted desk) (noted now) (note_faults desk) (note_faults now) tells (reads desk) (reads now) (may_leave desk) (may_leave now)
-    (Elapses (moment desk) (moment now) (since desk) (since now)) status
-replays_on {D} {said} {noted} {say_faults} {note_faults} {moment} {since} reads may_leave form bounds most k l m tells desk mid now status opens stands holds same made calls opening runs =
-    rw (sym calls.replies) (rw (sym calls.notes) (rw (sym calls.failed_notes)
-    (opened_replays form bounds most k l m (said mid) (said now) (noted mid) (noted now) (note_faults mid) (note_faults now) tells (reads desk) (reads mid) (reads now) (may_leave desk) (may_leave mid) (may_leave now)
-    (Elapses (moment mid) (moment now) (since mid) (since now)) (Elapses (moment desk) (moment now) (since desk) (since now)) status opens stands holds same made runs
-    (λ events told serving all. rw calls.replies (opened_stops form k.stored.bounds (machine_of k) events (opening told) serving all))
-    (λ events told serving. rw calls.replies (later_stops form k.stored.bounds (machine_of k) events (opening told) serving)))))

@@ -5,14 +5,14 @@ use Rattle.std.proofs.Math.Dec.{ltb}
 use Rattle.std.proofs.lemmas.Bool.{false≢true}
 use Rattle.std.specs.declared.option.Option.{Option}
 use Rattle.std.specs.Io.KnownBytes.{IsAtEnd}
-use Rattle.ziti_outside.specs.Images.{Image}
-use Rattle.ziti_outside.specs.Moments.{Elapses}
 use Rattle.ziti_outside.specs.Told.{Took}
 use Rattle.ziti_outside.specs.Untouched.{OnlyNotes}
+use Rattle.ziti_outside.specs.Views.{Outside, Seen, Stopped}
 use Rattle.journal_core.specs.Room.{LeavesRoom}
 use Rattle.ctrl_model.specs.State.{start}
 use Rattle.row_store.specs.declared.bounds.StoreBounds.{StoreBounds}
 use Rattle.ctrl_keep.specs.KeptMachine.{Machine}
+use Rattle.ctrl_serve.specs.declared.bounds.Bounds.{Bounds}
 use Rattle.ctrl_serve.specs.declared.command_line.Form as command
 use Rattle.session_mux.specs.declared.sessions.Form.{Form}
 use Rattle.session_mux.specs.declared.sessions.Form.TheVariants.{Plain}
@@ -25,7 +25,7 @@ use Rattle.ctrl_serve.specs.SaidReplies.{SaysAll}
 use Rattle.run_notes.specs.Inputs.{is_bad_input, has_rest}
 use Rattle.run_notes.specs.NotedLines.{FindsNoMore, RisesOnce, NotesLines}
 use Rattle.ctrl_serve.specs.FrameAnswer.{no_bounds, alone, replies}
-use Rattle.ctrl_serve.specs.Headline.{OnlySaysAndNotes, Serves, IsComplete, IsLeftAlone, IsUnopened, StaysClosed, Refuses, Replays, Runs}
+use Rattle.ctrl_serve.specs.Headline.{OnlySaysAndNotes, folder_bounds, taking_of, Serves, IsComplete, IsLeftAlone, IsUnopened, StaysClosed, Refuses, Replays, Runs}
 use Rattle.ctrl_serve.specs.FolderWords.{Audits, Compacts, EndsCompaction}
 use Rattle.ctrl_serve.specs.Loads.{counts_line, state_of_load, SaysOneLine, IsSaid}
 use Rattle.run_notes.specs.Notes.{usage_note}
@@ -39,39 +39,39 @@ use Rattle.ctrl_serve.proofs.PieceLaws.{good_undecided}
 -- ---- a run that serves its input
 
 -- Where all events were answered all replies were said.
-all_said : (form : Form) (status : Status) (bounds : StoreBounds) (m : Machine) (most : ℕ) (a b c d e f : Option (List ℕ)) (x y : ℕ) (s : Serves form bounds m most a b c d e f x y status)
-    → is_kept status ≡ true → SaysAll form bounds m s.said s.answered → Took c d (replies form bounds m (take most s.taken))
-all_said form status bounds m most a b c d e f x y s kept says =
-    subst (λ (l : List ℕ). Took c d l) (all_replies form bounds m (take most s.taken) s.said s.answered s.unanswered s.split (s.all kept) says) s.took
+all_said : (form : Form) (status : Status) (bounds : StoreBounds) (m : Machine) (most : ℕ) (a b : Option (List ℕ)) (c d : Seen) (s : Serves (taking_of form most) bounds m a b c d status)
+    → is_kept status ≡ true → SaysAll form bounds m s.said s.answered → Took c.said d.said (replies form bounds m (take most s.taken))
+all_said form status bounds m most a b c d s kept says =
+    subst (λ (l : List ℕ). Took c.said d.said l) (all_replies form bounds m (take most s.taken) s.said s.answered s.unanswered s.split (s.all kept) says) s.took
 
 -- Where no call failed it is complete, unless memory was wanting.
-pub serves_completely : (form : Form) (status : Status) (bounds : StoreBounds) (m : Machine) (most : ℕ) (a b c d e f : Option (List ℕ)) (x y : ℕ)
-    → Serves form bounds m most a b c d e f x y status → (status ≡ ReadFault → ⊥) → (status ≡ WriteFault → ⊥) → (status ≡ DiskFault → ⊥) → IsComplete form bounds m most a b c d status
-serves_completely form Done bounds m most a b c d e f x y s read write disk = inr (record { taken = s.taken; gave = s.gave; ends = s.ends refl; said = all_said form Done bounds m most a b c d e f x y s refl s.says; read_on = s.read_on refl })
-serves_completely form Usage bounds m most a b c d e f x y s read write disk = absurd s.says
-serves_completely form BadInput bounds m most a b c d e f x y s read write disk = inr (record { taken = s.taken; gave = s.gave; ends = s.ends refl; said = all_said form BadInput bounds m most a b c d e f x y s refl s.says; read_on = s.read_on refl })
-serves_completely form Truncated bounds m most a b c d e f x y s read write disk = inr (record { taken = s.taken; gave = s.gave; ends = s.ends refl; said = all_said form Truncated bounds m most a b c d e f x y s refl s.says; read_on = s.read_on refl })
-serves_completely form ReadFault bounds m most a b c d e f x y s read write disk = absurd (read refl)
-serves_completely form WriteFault bounds m most a b c d e f x y s read write disk = absurd (write refl)
-serves_completely form DiskFault bounds m most a b c d e f x y s read write disk = absurd (disk refl)
-serves_completely form Damaged bounds m most a b c d e f x y s read write disk = absurd s.says
-serves_completely form NoMemory bounds m most a b c d e f x y s read write disk = inl refl
-serves_completely form InputTooLong bounds m most a b c d e f x y s read write disk = inr (record { taken = s.taken; gave = s.gave; ends = s.ends refl; said = all_said form InputTooLong bounds m most a b c d e f x y s refl s.says; read_on = s.read_on refl })
-serves_completely form FolderFull bounds m most a b c d e f x y s read write disk = absurd s.says
+pub serves_completely : (form : Form) (status : Status) (bounds : StoreBounds) (m : Machine) (most : ℕ) (a b : Option (List ℕ)) (c d : Seen)
+    → Serves (taking_of form most) bounds m a b c d status → (status ≡ ReadFault → ⊥) → (status ≡ WriteFault → ⊥) → (status ≡ DiskFault → ⊥) → IsComplete (taking_of form most) bounds m a b c d status
+serves_completely form Done bounds m most a b c d s read write disk = inr (record { taken = s.taken; gave = s.gave; ends = s.ends refl; said = all_said form Done bounds m most a b c d s refl s.says; read_on = s.read_on refl })
+serves_completely form Usage bounds m most a b c d s read write disk = absurd s.says
+serves_completely form BadInput bounds m most a b c d s read write disk = inr (record { taken = s.taken; gave = s.gave; ends = s.ends refl; said = all_said form BadInput bounds m most a b c d s refl s.says; read_on = s.read_on refl })
+serves_completely form Truncated bounds m most a b c d s read write disk = inr (record { taken = s.taken; gave = s.gave; ends = s.ends refl; said = all_said form Truncated bounds m most a b c d s refl s.says; read_on = s.read_on refl })
+serves_completely form ReadFault bounds m most a b c d s read write disk = absurd (read refl)
+serves_completely form WriteFault bounds m most a b c d s read write disk = absurd (write refl)
+serves_completely form DiskFault bounds m most a b c d s read write disk = absurd (disk refl)
+serves_completely form Damaged bounds m most a b c d s read write disk = absurd s.says
+serves_completely form NoMemory bounds m most a b c d s read write disk = inl refl
+serves_completely form InputTooLong bounds m most a b c d s read write disk = inr (record { taken = s.taken; gave = s.gave; ends = s.ends refl; said = all_said form InputTooLong bounds m most a b c d s refl s.says; read_on = s.read_on refl })
+serves_completely form FolderFull bounds m most a b c d s read write disk = absurd s.says
 
 -- It does not end with Usage.
-serves_no_usage : (form : Form) (status : Status) (bounds : StoreBounds) (m : Machine) (most : ℕ) (a b c d e f : Option (List ℕ)) (x y : ℕ) → Serves form bounds m most a b c d e f x y status → status ≡ Usage → ⊥
-serves_no_usage form status bounds m most a b c d e f x y s is = (subst (λ (u : Status). Serves form bounds m most a b c d e f x y u) is s).says
+serves_no_usage : (form : Form) (status : Status) (bounds : StoreBounds) (m : Machine) (most : ℕ) (a b : Option (List ℕ)) (c d : Seen) → Serves (taking_of form most) bounds m a b c d status → status ≡ Usage → ⊥
+serves_no_usage form status bounds m most a b c d s is = (subst (λ (u : Status). Serves (taking_of form most) bounds m a b c d u) is s).says
 
 -- Where it is done it read its input to the end.
-done_at_end : (form : Form) (bounds : StoreBounds) (m : Machine) (most : ℕ) (a b c d e f : Option (List ℕ)) (x y : ℕ) → Serves form bounds m most a b c d e f x y Done → IsAtEnd b
-done_at_end form bounds m most a b c d e f x y s =
+done_at_end : (form : Form) (bounds : StoreBounds) (m : Machine) (most : ℕ) (a b : Option (List ℕ)) (c d : Seen) → Serves (taking_of form most) bounds m a b c d Done → IsAtEnd b
+done_at_end form bounds m most a b c d s =
     let first : List ℕ = take most s.taken in
     let is = done_is (is_bad_input form first) (has_rest form first) (ltb most (length s.taken)) (s.ends refl) in
     at_end most b s.taken is.whole (s.read_on refl (good_undecided form first is.good))
 
-serves_to_end : (form : Form) (status : Status) (bounds : StoreBounds) (m : Machine) (most : ℕ) (a b c d e f : Option (List ℕ)) (x y : ℕ) → Serves form bounds m most a b c d e f x y status → status ≡ Done → IsAtEnd b
-serves_to_end form status bounds m most a b c d e f x y s is = done_at_end form bounds m most a b c d e f x y (subst (λ (u : Status). Serves form bounds m most a b c d e f x y u) is s)
+serves_to_end : (form : Form) (status : Status) (bounds : StoreBounds) (m : Machine) (most : ℕ) (a b : Option (List ℕ)) (c d : Seen) → Serves (taking_of form most) bounds m a b c d status → status ≡ Done → IsAtEnd b
+serves_to_end form status bounds m most a b c d s is = done_at_end form bounds m most a b c d (subst (λ (u : Status). Serves (taking_of form most) bounds m a b c d u) is s)
 
 -- ---- a run as it was asked for
 
@@ -98,14 +98,13 @@ reads_nothing form word asked none is e reads =
     false≢true (sym none ∙ ap reads_input same ∙ reads)
 
 -- A run without a folder.
-pub dry_runs : {S D : Type 0} {left : S → Option (List ℕ)} {faults : S → ℕ} {said noted : D → Option (List ℕ)} {say_faults note_faults : D → ℕ} {reads : D → Image} {moment : D → ℕ} {since : D → ℕ → Image → List ℕ → Type 0} {may_leave : D → Image → Type 0} {disk_faults : D → ℕ}
-    (tells : Bool) (bounds : StoreBounds) (most : ℕ) (form : Option command.Form) (source source_now : S) (desk desk_now : D) (status : Status) → form ≡ Some Dry
-    → Serves Plain no_bounds (alone start) most (left source) (left source_now) (said desk) (said desk_now) (noted desk) (noted desk_now) (note_faults desk) (note_faults desk_now) status
-    → CountsFaults left faults say_faults note_faults disk_faults source source_now desk desk_now status
-    → (status ≡ DiskFault → ⊥) → OnlySaysAndNotes reads moment since may_leave disk_faults desk desk_now
-    → Runs left faults said noted say_faults note_faults reads moment since may_leave disk_faults tells bounds most form source source_now desk desk_now status
-dry_runs {S} {D} {left} {faults} {said} {noted} {say_faults} {note_faults} {reads} tells bounds most form source source_now desk desk_now status is serves counts calm others = record {
-  usage = (λ u. absurd (serves_no_usage Plain status _ _ most _ _ _ _ _ _ _ _ serves u), λ n. cc);
+pub dry_runs : {S D : Type 0} (o : Outside S D) (bounds : Bounds) (form : Option command.Form) (source source_now : S) (desk desk_now : D) (status : Status) → form ≡ Some Dry
+    → Serves (taking_of Plain bounds.input) no_bounds (alone start) (o.left source) (o.left source_now) (o.seen desk) (o.seen desk_now) status
+    → CountsFaults o.left o.faults o.seen source source_now desk desk_now status
+    → (status ≡ DiskFault → ⊥) → OnlySaysAndNotes o.seen o.stopped desk desk_now
+    → Runs o bounds form source source_now desk desk_now status
+dry_runs o bounds form source source_now desk desk_now status is serves counts calm others = record {
+  usage = (λ u. absurd (serves_no_usage Plain status _ _ bounds.input _ _ _ _ serves u), λ n. cc);
   usage_takes_nothing = λ n. cc;
   usage_notes_alone = λ n. cc;
   usage_changes_nothing = λ n. cc;
@@ -123,8 +122,8 @@ dry_runs {S} {D} {left} {faults} {said} {noted} {say_faults} {note_faults} {read
   takes_until_failure = counts.takes_until_failure;
   dry = λ _. serves;
   dry_says_and_notes_alone = λ _. others;
-  complete = λ _ read say. serves_completely Plain status _ _ most _ _ _ _ _ _ _ _ serves (λ r. read (counts.read_fault r)) (λ w. say (counts.write.rose w)) calm;
-  read_to_the_end = λ asked e reads done. serves_to_end Plain status _ _ most _ _ _ _ _ _ _ _ serves done;
+  complete = λ _ read say. serves_completely Plain status _ _ bounds.input _ _ _ _ serves (λ r. read (counts.read_fault r)) (λ w. say (counts.write.rose w)) calm;
+  read_to_the_end = λ asked e reads done. serves_to_end Plain status _ _ bounds.input _ _ _ _ serves done;
   replay = λ of e. cc;
   load = λ number e. cc;
   load_takes_nothing = λ number e. cc;
@@ -136,44 +135,42 @@ dry_runs {S} {D} {left} {faults} {said} {noted} {say_faults} {note_faults} {read
   compact = λ e. cc;
   compact_takes_nothing = λ e. cc;
   compact_says_nothing = λ e. cc;
-  room = λ told start. still_room reads bounds.slot others.folder.parts;
+  room = λ told start. still_room o.seen (folder_bounds bounds).slot others.folder.parts;
 }
 
 -- Where a folder was not opened the run ends with none of these.
-closed_status : (tells : Bool) (before now : Image) (c d : Option (List ℕ)) (x y : ℕ) (status : Status) → StaysClosed tells before now c d x y status
+closed_status : (tells : Bool) (before now : Seen) (status : Status) → StaysClosed tells before now status
     → (status ≡ Usage → ⊥) × (status ≡ Done → ⊥) × (status ≡ ReadFault → ⊥) × (status ≡ WriteFault → ⊥)
-closed_status tells before now c d x y Done why = absurd why
-closed_status tells before now c d x y Usage why = absurd why
-closed_status tells before now c d x y BadInput why = absurd why
-closed_status tells before now c d x y Truncated why = absurd why
-closed_status tells before now c d x y ReadFault why = absurd why
-closed_status tells before now c d x y WriteFault why = absurd why
-closed_status tells before now c d x y DiskFault why = (λ e. cc, λ e. cc, λ e. cc, λ e. cc)
-closed_status tells before now c d x y Damaged why = (λ e. cc, λ e. cc, λ e. cc, λ e. cc)
-closed_status tells before now c d x y NoMemory why = (λ e. cc, λ e. cc, λ e. cc, λ e. cc)
-closed_status tells before now c d x y InputTooLong why = absurd why
-closed_status tells before now c d x y FolderFull why = absurd why
+closed_status tells before now Done why = absurd why
+closed_status tells before now Usage why = absurd why
+closed_status tells before now BadInput why = absurd why
+closed_status tells before now Truncated why = absurd why
+closed_status tells before now ReadFault why = absurd why
+closed_status tells before now WriteFault why = absurd why
+closed_status tells before now DiskFault why = (λ e. cc, λ e. cc, λ e. cc, λ e. cc)
+closed_status tells before now Damaged why = (λ e. cc, λ e. cc, λ e. cc, λ e. cc)
+closed_status tells before now NoMemory why = (λ e. cc, λ e. cc, λ e. cc, λ e. cc)
+closed_status tells before now InputTooLong why = absurd why
+closed_status tells before now FolderFull why = absurd why
 
 -- A run on the folder, which was not opened or from which the run went on.
-replays_status : {S D : Type 0} {said noted : D → Option (List ℕ)} {note_faults : D → ℕ} {reads : D → Image} (left : S → Option (List ℕ)) (moment : D → ℕ) (since : D → ℕ → Image → List ℕ → Type 0) (may_leave : D → Image → Type 0)
-    (of : Form) (tells : Bool) (bounds : StoreBounds) (most : ℕ) (source source_now : S) (desk desk_now : D) (status : Status)
-    → Refuses said noted note_faults tells reads moment since may_leave source source_now desk desk_now status
-    ⊎ Replays of bounds most (left source) (left source_now) (said desk) (said desk_now) (noted desk) (noted desk_now) (note_faults desk) (note_faults desk_now) tells (reads desk) (reads desk_now) (may_leave desk) (may_leave desk_now) (Elapses (moment desk) (moment desk_now) (since desk) (since desk_now)) status
-    → (status ≡ Usage → ⊥) × (status ≡ Done → IsAtEnd (left source_now))
-replays_status left moment since may_leave of tells bounds most source source_now desk desk_now status (inl closed) =
-    let none = closed_status tells _ _ _ _ _ _ status closed.unopened.why in (none.0, λ done. absurd (none.1 done))
-replays_status left moment since may_leave of tells bounds most source source_now desk desk_now status (inr on) =
-    (serves_no_usage of status bounds on.machine most _ _ _ _ _ _ _ _ on.serves, serves_to_end of status bounds on.machine most _ _ _ _ _ _ _ _ on.serves)
+replays_status : {S D : Type 0} (o : Outside S D) (of : Form) (bounds : StoreBounds) (most : ℕ) (source source_now : S) (desk desk_now : D) (status : Status)
+    → Refuses o.tells o.seen o.stopped source source_now desk desk_now status
+    ⊎ Replays (taking_of of most) bounds o source source_now desk desk_now status
+    → (status ≡ Usage → ⊥) × (status ≡ Done → IsAtEnd (o.left source_now))
+replays_status o of bounds most source source_now desk desk_now status (inl closed) =
+    let none = closed_status o.tells _ _ status closed.unopened.why in (none.0, λ done. absurd (none.1 done))
+replays_status o of bounds most source source_now desk desk_now status (inr on) =
+    (serves_no_usage of status bounds on.machine most _ _ _ _ on.serves, serves_to_end of status bounds on.machine most _ _ _ _ on.serves)
 
-pub replay_runs : {S D : Type 0} {left : S → Option (List ℕ)} {faults : S → ℕ} {said noted : D → Option (List ℕ)} {say_faults note_faults : D → ℕ} {reads : D → Image} {moment : D → ℕ} {since : D → ℕ → Image → List ℕ → Type 0} {may_leave : D → Image → Type 0} {disk_faults : D → ℕ}
-    (of : Form) (tells : Bool) (bounds : StoreBounds) (most : ℕ) (form : Option command.Form) (source source_now : S) (desk desk_now : D) (status : Status) → form ≡ Some (Replay of)
-    → Refuses said noted note_faults tells reads moment since may_leave source source_now desk desk_now status
-    ⊎ Replays of bounds most (left source) (left source_now) (said desk) (said desk_now) (noted desk) (noted desk_now) (note_faults desk) (note_faults desk_now) tells (reads desk) (reads desk_now) (may_leave desk) (may_leave desk_now) (Elapses (moment desk) (moment desk_now) (since desk) (since desk_now)) status
-    → CountsFaults left faults say_faults note_faults disk_faults source source_now desk desk_now status
-    → LeavesRoom bounds.slot may_leave desk desk_now → (IsTrue tells → may_leave desk_now (reads desk_now))
-    → Runs left faults said noted say_faults note_faults reads moment since may_leave disk_faults tells bounds most form source source_now desk desk_now status
-replay_runs {S} {D} {left} {faults} {said} {noted} {say_faults} {note_faults} {reads} {moment} {since} {may_leave} of tells bounds most form source source_now desk desk_now status is replays counts left_room own =
-    let at : (status ≡ Usage → ⊥) × (status ≡ Done → IsAtEnd (left source_now)) = replays_status {said = said} {noted = noted} {note_faults = note_faults} {reads = reads} left moment since may_leave of tells bounds most source source_now desk desk_now status replays in
+pub replay_runs : {S D : Type 0} (o : Outside S D) (of : Form) (bounds : Bounds) (form : Option command.Form) (source source_now : S) (desk desk_now : D) (status : Status) → form ≡ Some (Replay of)
+    → Refuses o.tells o.seen o.stopped source source_now desk desk_now status
+    ⊎ Replays (taking_of of bounds.input) (folder_bounds bounds) o source source_now desk desk_now status
+    → CountsFaults o.left o.faults o.seen source source_now desk desk_now status
+    → LeavesRoom (folder_bounds bounds).slot o.stopped desk desk_now → (IsTrue o.tells → (o.stopped desk_now).images (o.seen desk_now).reads)
+    → Runs o bounds form source source_now desk desk_now status
+replay_runs o of bounds form source source_now desk desk_now status is replays counts left_room own =
+    let at : (status ≡ Usage → ⊥) × (status ≡ Done → IsAtEnd (o.left source_now)) = replays_status o of (folder_bounds bounds) bounds.input source source_now desk desk_now status replays in
     record {
       usage = (λ u. absurd (at.0 u), λ n. cc);
       usage_takes_nothing = λ n. cc;
@@ -195,8 +192,8 @@ replay_runs {S} {D} {left} {faults} {said} {noted} {say_faults} {note_faults} {r
       dry_says_and_notes_alone = λ e. cc;
       complete = λ e. cc;
       read_to_the_end = λ asked e reads. at.1;
-      replay = λ other asked. subst (λ (o : Form). Refuses said noted note_faults tells reads moment since may_leave source source_now desk desk_now status
-          ⊎ Replays o bounds most (left source) (left source_now) (said desk) (said desk_now) (noted desk) (noted desk_now) (note_faults desk) (note_faults desk_now) tells (reads desk) (reads desk_now) (may_leave desk) (may_leave desk_now) (Elapses (moment desk) (moment desk_now) (since desk) (since desk_now)) status)
+      replay = λ other asked. subst (λ (f : Form). Refuses o.tells o.seen o.stopped source source_now desk desk_now status
+          ⊎ Replays (taking_of f bounds.input) (folder_bounds bounds) o source source_now desk desk_now status)
           (same_form of other (sym is ∙ asked)) replays;
       load = λ number e. cc;
       load_takes_nothing = λ number e. cc;
@@ -208,15 +205,14 @@ replay_runs {S} {D} {left} {faults} {said} {noted} {say_faults} {note_faults} {r
       compact = λ e. cc;
       compact_takes_nothing = λ e. cc;
       compact_says_nothing = λ e. cc;
-      room = λ told start. room_here reads left_room (own told) start;
+      room = λ told start. room_here o.seen left_room (own told) start;
     }
 
 -- A run that only wrote the usage note, where the words are no line of the table.
-pub usage_runs : {S D : Type 0} {left : S → Option (List ℕ)} {faults : S → ℕ} {said noted : D → Option (List ℕ)} {say_faults note_faults : D → ℕ} {reads : D → Image} {moment : D → ℕ} {since : D → ℕ → Image → List ℕ → Type 0} {may_leave : D → Image → Type 0} {disk_faults : D → ℕ}
-    (tells : Bool) (bounds : StoreBounds) (most : ℕ) (form : Option command.Form) (source : S) (desk desk_now : D) → form ≡ None → OnlyNotes said say_faults reads may_leave disk_faults desk desk_now → FindsNoMore moment since desk desk_now
-    → NotesLines usage_note (noted desk) (noted desk_now) (note_faults desk) (note_faults desk_now) → RisesOnce (note_faults desk) (note_faults desk_now)
-    → Runs left faults said noted say_faults note_faults reads moment since may_leave disk_faults tells bounds most form source source desk desk_now Usage
-usage_runs {reads = reads} tells bounds most form source desk desk_now is others more note counted = record {
+pub usage_runs : {S D : Type 0} (o : Outside S D) (bounds : Bounds) (form : Option command.Form) (source : S) (desk desk_now : D) → form ≡ None → OnlyNotes o.seen o.stopped desk desk_now → FindsNoMore o.stopped desk desk_now
+    → NotesLines usage_note (o.seen desk) (o.seen desk_now) → RisesOnce (o.seen desk).note_faults (o.seen desk_now).note_faults
+    → Runs o bounds form source source desk desk_now Usage
+usage_runs o bounds form source desk desk_now is others more note counted = record {
   usage = (λ _. is, λ _. refl);
   usage_takes_nothing = λ _. refl;
   usage_notes_alone = λ _. others;
@@ -248,51 +244,50 @@ usage_runs {reads = reads} tells bounds most form source desk desk_now is others
   compact = λ e. cc;
   compact_takes_nothing = λ e. cc;
   compact_says_nothing = λ e. cc;
-  room = λ told start. still_room reads bounds.slot others.parts;
+  room = λ told start. still_room o.seen (folder_bounds bounds).slot others.parts;
 }
 
 -- ---- a run of a generated load
 
 -- It ends with none of these.
-pub line_statuses : (status : Status) (line : List ℕ) (a b c d : Option (List ℕ)) (x y : ℕ) → SaysOneLine line a b c d x y status
+pub line_statuses : (status : Status) (line : List ℕ) (a b : Seen) → SaysOneLine line a b status
     → (status ≡ Usage → ⊥) × (status ≡ ReadFault → ⊥) × (status ≡ DiskFault → ⊥)
-line_statuses Done line a b c d x y s = (λ e. cc, λ e. cc, λ e. cc)
-line_statuses Usage line a b c d x y s = absurd s.says
-line_statuses BadInput line a b c d x y s = absurd s.says
-line_statuses Truncated line a b c d x y s = absurd s.says
-line_statuses ReadFault line a b c d x y s = absurd s.says
-line_statuses WriteFault line a b c d x y s = (λ e. cc, λ e. cc, λ e. cc)
-line_statuses DiskFault line a b c d x y s = absurd s.says
-line_statuses Damaged line a b c d x y s = absurd s.says
-line_statuses NoMemory line a b c d x y s = (λ e. cc, λ e. cc, λ e. cc)
-line_statuses InputTooLong line a b c d x y s = absurd s.says
-line_statuses FolderFull line a b c d x y s = absurd s.says
+line_statuses Done line a b s = (λ e. cc, λ e. cc, λ e. cc)
+line_statuses Usage line a b s = absurd s.says
+line_statuses BadInput line a b s = absurd s.says
+line_statuses Truncated line a b s = absurd s.says
+line_statuses ReadFault line a b s = absurd s.says
+line_statuses WriteFault line a b s = (λ e. cc, λ e. cc, λ e. cc)
+line_statuses DiskFault line a b s = absurd s.says
+line_statuses Damaged line a b s = absurd s.says
+line_statuses NoMemory line a b s = (λ e. cc, λ e. cc, λ e. cc)
+line_statuses InputTooLong line a b s = absurd s.says
+line_statuses FolderFull line a b s = absurd s.says
 
 -- Where no say failed the line was said, unless memory was wanting.
-pub line_said : (status : Status) (line : List ℕ) (a b c d : Option (List ℕ)) (x y : ℕ) → SaysOneLine line a b c d x y status → (status ≡ WriteFault → ⊥) → IsSaid line a b status
-line_said Done line a b c d x y s write = inr (refl, subst (λ (l : List ℕ). Took a b l) s.says s.took)
-line_said Usage line a b c d x y s write = absurd s.says
-line_said BadInput line a b c d x y s write = absurd s.says
-line_said Truncated line a b c d x y s write = absurd s.says
-line_said ReadFault line a b c d x y s write = absurd s.says
-line_said WriteFault line a b c d x y s write = absurd (write refl)
-line_said DiskFault line a b c d x y s write = absurd s.says
-line_said Damaged line a b c d x y s write = absurd s.says
-line_said NoMemory line a b c d x y s write = inl refl
-line_said InputTooLong line a b c d x y s write = absurd s.says
-line_said FolderFull line a b c d x y s write = absurd s.says
+pub line_said : (status : Status) (line : List ℕ) (a b : Seen) → SaysOneLine line a b status → (status ≡ WriteFault → ⊥) → IsSaid line a.said b.said status
+line_said Done line a b s write = inr (refl, subst (λ (l : List ℕ). Took a.said b.said l) s.says s.took)
+line_said Usage line a b s write = absurd s.says
+line_said BadInput line a b s write = absurd s.says
+line_said Truncated line a b s write = absurd s.says
+line_said ReadFault line a b s write = absurd s.says
+line_said WriteFault line a b s write = absurd (write refl)
+line_said DiskFault line a b s write = absurd s.says
+line_said Damaged line a b s write = absurd s.says
+line_said NoMemory line a b s write = inl refl
+line_said InputTooLong line a b s write = absurd s.says
+line_said FolderFull line a b s write = absurd s.says
 
 -- A load is the load of one number.
 one_load : (form : Option command.Form) (m n : ℕ) → form ≡ Some (Load m) → form ≡ Some (Load n) → m ≡ n
 one_load form m n is e = cc
 
-pub load_runs : {S D : Type 0} {left : S → Option (List ℕ)} {faults : S → ℕ} {said noted : D → Option (List ℕ)} {say_faults note_faults : D → ℕ} {reads : D → Image} {moment : D → ℕ} {since : D → ℕ → Image → List ℕ → Type 0} {may_leave : D → Image → Type 0} {disk_faults : D → ℕ}
-    (tells : Bool) (bounds : StoreBounds) (most : ℕ) (form : Option command.Form) (number : ℕ) (source : S) (desk desk_now : D) (status : Status) → form ≡ Some (Load number)
-    → SaysOneLine (counts_line (state_of_load number)) (said desk) (said desk_now) (noted desk) (noted desk_now) (note_faults desk) (note_faults desk_now) status
-    → IsWriteCaused (say_faults desk) (say_faults desk_now) status → RisesOnce (note_faults desk) (note_faults desk_now) → OnlySaysAndNotes reads moment since may_leave disk_faults desk desk_now
-    → Runs left faults said noted say_faults note_faults reads moment since may_leave disk_faults tells bounds most form source source desk desk_now status
-load_runs {said = said} {noted = noted} {note_faults = note_faults} {reads = reads} tells bounds most form number source desk desk_now status is says write counted others =
-    let not = line_statuses status _ _ _ _ _ _ _ says in
+pub load_runs : {S D : Type 0} (o : Outside S D) (bounds : Bounds) (form : Option command.Form) (number : ℕ) (source : S) (desk desk_now : D) (status : Status) → form ≡ Some (Load number)
+    → SaysOneLine (counts_line (state_of_load number)) (o.seen desk) (o.seen desk_now) status
+    → IsWriteCaused (o.seen desk).say_faults (o.seen desk_now).say_faults status → RisesOnce (o.seen desk).note_faults (o.seen desk_now).note_faults → OnlySaysAndNotes o.seen o.stopped desk desk_now
+    → Runs o bounds form source source desk desk_now status
+load_runs o bounds form number source desk desk_now status is says write counted others =
+    let not = line_statuses status _ _ _ says in
     let same : (other : ℕ) → form ≡ Some (Load other) → number ≡ other = λ other e. one_load form number other is e in
     record {
       usage = (λ u. absurd (not.0 u), λ n. cc);
@@ -316,39 +311,38 @@ load_runs {said = said} {noted = noted} {note_faults = note_faults} {reads = rea
       complete = λ e. cc;
       read_to_the_end = λ asked e reads. absurd (reads_nothing form (Load number) asked refl is e reads);
       replay = λ of e. cc;
-      load = λ other e. subst (λ (n : ℕ). SaysOneLine (counts_line (state_of_load n)) (said desk) (said desk_now) (noted desk) (noted desk_now) (note_faults desk) (note_faults desk_now) status) (same other e) says;
+      load = λ other e. subst (λ (n : ℕ). SaysOneLine (counts_line (state_of_load n)) (o.seen desk) (o.seen desk_now) status) (same other e) says;
       load_takes_nothing = λ other e. refl;
       load_says_and_notes_alone = λ other e. others;
-      load_complete = λ other e calm. subst (λ (n : ℕ). IsSaid (counts_line (state_of_load n)) (said desk) (said desk_now) status) (same other e) (line_said status _ _ _ _ _ _ _ says (λ w. calm (write.rose w)));
+      load_complete = λ other e calm. subst (λ (n : ℕ). IsSaid (counts_line (state_of_load n)) (o.seen desk).said (o.seen desk_now).said status) (same other e) (line_said status _ _ _ says (λ w. calm (write.rose w)));
       audit = λ e. cc;
       audit_takes_nothing = λ e. cc;
       audit_changes_nothing = λ e. cc;
       compact = λ e. cc;
       compact_takes_nothing = λ e. cc;
       compact_says_nothing = λ e. cc;
-      room = λ told start. still_room reads bounds.slot others.folder.parts;
+      room = λ told start. still_room o.seen (folder_bounds bounds).slot others.folder.parts;
     }
 
 -- ---- a look at a folder
 
 -- A run of `audit` ends with none of these.
-audit_statuses : {D : Type 0} {said noted : D → Option (List ℕ)} {note_faults : D → ℕ} {reads : D → Image} {moment : D → ℕ} {since : D → ℕ → Image → List ℕ → Type 0} {may_leave : D → Image → Type 0}
-    (tells : Bool) (desk desk_now : D) (status : Status) → IsUnopened said noted note_faults tells reads moment since may_leave desk desk_now status
-    ⊎ Audits (said desk) (said desk_now) (noted desk) (noted desk_now) (note_faults desk) (note_faults desk_now) tells (reads desk) status
+audit_statuses : {D : Type 0} {seen : D → Seen} {stopped : D → Stopped}
+    (tells : Bool) (desk desk_now : D) (status : Status) → IsUnopened tells seen stopped desk desk_now status
+    ⊎ Audits tells (seen desk) (seen desk_now) status
     → (status ≡ Usage → ⊥) × (status ≡ ReadFault → ⊥)
-audit_statuses tells desk desk_now status (inl closed) = let not = closed_status tells _ _ _ _ _ _ status closed.why in (not.0, not.2)
-audit_statuses tells desk desk_now status (inr on) = let not = line_statuses status _ _ _ _ _ _ _ on.says in (not.0, not.1)
+audit_statuses tells desk desk_now status (inl closed) = let not = closed_status tells _ _ status closed.why in (not.0, not.2)
+audit_statuses tells desk desk_now status (inr on) = let not = line_statuses status _ _ _ on.says in (not.0, not.1)
 
-pub audit_runs : {S D : Type 0} {left : S → Option (List ℕ)} {faults : S → ℕ} {said noted : D → Option (List ℕ)} {say_faults note_faults : D → ℕ} {reads : D → Image} {moment : D → ℕ} {since : D → ℕ → Image → List ℕ → Type 0} {may_leave : D → Image → Type 0} {disk_faults : D → ℕ}
-    (tells : Bool) (bounds : StoreBounds) (most : ℕ) (form : Option command.Form) (source : S) (desk desk_now : D) (status : Status) → form ≡ Some Audit
-    → IsUnopened said noted note_faults tells reads moment since may_leave desk desk_now status
-    ⊎ Audits (said desk) (said desk_now) (noted desk) (noted desk_now) (note_faults desk) (note_faults desk_now) tells (reads desk) status
-    → IsLeftAlone reads moment since may_leave desk desk_now → IsWriteCaused (say_faults desk) (say_faults desk_now) status → IsDiskCaused (disk_faults desk) (disk_faults desk_now) status
-    → RisesOnce (note_faults desk) (note_faults desk_now)
-    → Runs left faults said noted say_faults note_faults reads moment since may_leave disk_faults tells bounds most form source source desk desk_now status
-audit_runs {said = said} {noted = noted} {note_faults = note_faults} {reads = reads} {moment = moment} {since = since} {may_leave = may_leave} tells bounds most form source desk desk_now status is audits alone write disk counted =
+pub audit_runs : {S D : Type 0} (o : Outside S D) (bounds : Bounds) (form : Option command.Form) (source : S) (desk desk_now : D) (status : Status) → form ≡ Some Audit
+    → IsUnopened o.tells o.seen o.stopped desk desk_now status
+    ⊎ Audits o.tells (o.seen desk) (o.seen desk_now) status
+    → IsLeftAlone o.seen o.stopped desk desk_now → IsWriteCaused (o.seen desk).say_faults (o.seen desk_now).say_faults status → IsDiskCaused (o.seen desk).disk_faults (o.seen desk_now).disk_faults status
+    → RisesOnce (o.seen desk).note_faults (o.seen desk_now).note_faults
+    → Runs o bounds form source source desk desk_now status
+audit_runs o bounds form source desk desk_now status is audits alone write disk counted =
     let not : (status ≡ Usage → ⊥) × (status ≡ ReadFault → ⊥) =
-    audit_statuses {said = said} {noted = noted} {note_faults = note_faults} {reads = reads} {moment = moment} {since = since} {may_leave = may_leave} tells desk desk_now status audits in
+    audit_statuses {seen = o.seen} {stopped = o.stopped} o.tells desk desk_now status audits in
     record {
       usage = (λ u. absurd (not.0 u), λ n. cc);
       usage_takes_nothing = λ n. cc;
@@ -381,45 +375,42 @@ audit_runs {said = said} {noted = noted} {note_faults = note_faults} {reads = re
       compact = λ e. cc;
       compact_takes_nothing = λ e. cc;
       compact_says_nothing = λ e. cc;
-      room = λ told start. still_room reads bounds.slot alone.parts;
+      room = λ told start. still_room o.seen (folder_bounds bounds).slot alone.parts;
     }
 
 -- ---- the compaction of a folder
 
 -- It ends with none of these.
-ends_statuses : (status : Status) (bounds : StoreBounds) (m : Machine) (a b : Option (List ℕ)) (x y : ℕ) (tells : Bool) (now : Image) → EndsCompaction status bounds m a b x y tells now
+ends_statuses : (status : Status) (bounds : StoreBounds) (m : Machine) (tells : Bool) (before now : Seen) → EndsCompaction status bounds m tells before now
     → (status ≡ Usage → ⊥) × (status ≡ ReadFault → ⊥) × (status ≡ WriteFault → ⊥)
-ends_statuses Done bounds m a b x y tells now e = (λ u. cc, λ u. cc, λ u. cc)
-ends_statuses Usage bounds m a b x y tells now e = absurd e
-ends_statuses BadInput bounds m a b x y tells now e = absurd e
-ends_statuses Truncated bounds m a b x y tells now e = absurd e
-ends_statuses ReadFault bounds m a b x y tells now e = absurd e
-ends_statuses WriteFault bounds m a b x y tells now e = absurd e
-ends_statuses DiskFault bounds m a b x y tells now e = (λ u. cc, λ u. cc, λ u. cc)
-ends_statuses Damaged bounds m a b x y tells now e = absurd e
-ends_statuses NoMemory bounds m a b x y tells now e = (λ u. cc, λ u. cc, λ u. cc)
-ends_statuses InputTooLong bounds m a b x y tells now e = absurd e
-ends_statuses FolderFull bounds m a b x y tells now e = (λ u. cc, λ u. cc, λ u. cc)
+ends_statuses Done bounds m tells before now e = (λ u. cc, λ u. cc, λ u. cc)
+ends_statuses Usage bounds m tells before now e = absurd e
+ends_statuses BadInput bounds m tells before now e = absurd e
+ends_statuses Truncated bounds m tells before now e = absurd e
+ends_statuses ReadFault bounds m tells before now e = absurd e
+ends_statuses WriteFault bounds m tells before now e = absurd e
+ends_statuses DiskFault bounds m tells before now e = (λ u. cc, λ u. cc, λ u. cc)
+ends_statuses Damaged bounds m tells before now e = absurd e
+ends_statuses NoMemory bounds m tells before now e = (λ u. cc, λ u. cc, λ u. cc)
+ends_statuses InputTooLong bounds m tells before now e = absurd e
+ends_statuses FolderFull bounds m tells before now e = (λ u. cc, λ u. cc, λ u. cc)
 
-compact_statuses : {D : Type 0} {said noted : D → Option (List ℕ)} {note_faults : D → ℕ} {reads : D → Image} {moment : D → ℕ} {since : D → ℕ → Image → List ℕ → Type 0} {may_leave : D → Image → Type 0}
-    (tells : Bool) (bounds : StoreBounds) (desk desk_now : D) (status : Status) → IsUnopened said noted note_faults tells reads moment since may_leave desk desk_now status
-    ⊎ Compacts bounds (said desk) (noted desk) (noted desk_now) (note_faults desk) (note_faults desk_now) tells (reads desk) (reads desk_now) (may_leave desk) (may_leave desk_now)
-    (Elapses (moment desk) (moment desk_now) (since desk) (since desk_now)) status
+compact_statuses : {D : Type 0} {seen : D → Seen} {stopped : D → Stopped}
+    (tells : Bool) (bounds : StoreBounds) (desk desk_now : D) (status : Status) → IsUnopened tells seen stopped desk desk_now status
+    ⊎ Compacts bounds tells (seen desk) (seen desk_now) (stopped desk) (stopped desk_now) status
     → (status ≡ Usage → ⊥) × (status ≡ ReadFault → ⊥) × (status ≡ WriteFault → ⊥)
-compact_statuses tells bounds desk desk_now status (inl closed) = let not = closed_status tells _ _ _ _ _ _ status closed.why in (not.0, not.2, not.3)
-compact_statuses tells bounds desk desk_now status (inr on) = ends_statuses status bounds on.machine _ _ _ _ tells _ on.ends
+compact_statuses tells bounds desk desk_now status (inl closed) = let not = closed_status tells _ _ status closed.why in (not.0, not.2, not.3)
+compact_statuses tells bounds desk desk_now status (inr on) = ends_statuses status bounds on.machine tells _ _ on.ends
 
-pub compact_runs : {S D : Type 0} {left : S → Option (List ℕ)} {faults : S → ℕ} {said noted : D → Option (List ℕ)} {say_faults note_faults : D → ℕ} {reads : D → Image} {moment : D → ℕ} {since : D → ℕ → Image → List ℕ → Type 0} {may_leave : D → Image → Type 0} {disk_faults : D → ℕ}
-    (tells : Bool) (bounds : StoreBounds) (most : ℕ) (form : Option command.Form) (source : S) (desk desk_now : D) (status : Status) → form ≡ Some Compact
-    → IsUnopened said noted note_faults tells reads moment since may_leave desk desk_now status
-    ⊎ Compacts bounds (said desk) (noted desk) (noted desk_now) (note_faults desk) (note_faults desk_now) tells (reads desk) (reads desk_now) (may_leave desk) (may_leave desk_now)
-    (Elapses (moment desk) (moment desk_now) (since desk) (since desk_now)) status
-    → said desk_now ≡ said desk → say_faults desk_now ≡ say_faults desk → IsDiskCaused (disk_faults desk) (disk_faults desk_now) status → RisesOnce (note_faults desk) (note_faults desk_now)
-    → LeavesRoom bounds.slot may_leave desk desk_now → (IsTrue tells → may_leave desk_now (reads desk_now))
-    → Runs left faults said noted say_faults note_faults reads moment since may_leave disk_faults tells bounds most form source source desk desk_now status
-compact_runs {said = said} {noted = noted} {note_faults = note_faults} {reads = reads} {moment = moment} {since = since} {may_leave = may_leave} tells bounds most form source desk desk_now status is compacts quiet says disk counted left_room own =
+pub compact_runs : {S D : Type 0} (o : Outside S D) (bounds : Bounds) (form : Option command.Form) (source : S) (desk desk_now : D) (status : Status) → form ≡ Some Compact
+    → IsUnopened o.tells o.seen o.stopped desk desk_now status
+    ⊎ Compacts (folder_bounds bounds) o.tells (o.seen desk) (o.seen desk_now) (o.stopped desk) (o.stopped desk_now) status
+    → (o.seen desk_now).said ≡ (o.seen desk).said → (o.seen desk_now).say_faults ≡ (o.seen desk).say_faults → IsDiskCaused (o.seen desk).disk_faults (o.seen desk_now).disk_faults status → RisesOnce (o.seen desk).note_faults (o.seen desk_now).note_faults
+    → LeavesRoom (folder_bounds bounds).slot o.stopped desk desk_now → (IsTrue o.tells → (o.stopped desk_now).images (o.seen desk_now).reads)
+    → Runs o bounds form source source desk desk_now status
+compact_runs o bounds form source desk desk_now status is compacts quiet says disk counted left_room own =
     let not : (status ≡ Usage → ⊥) × (status ≡ ReadFault → ⊥) × (status ≡ WriteFault → ⊥) =
-    compact_statuses {said = said} {noted = noted} {note_faults = note_faults} {reads = reads} {moment = moment} {since = since} {may_leave = may_leave} tells bounds desk desk_now status compacts in
+    compact_statuses {seen = o.seen} {stopped = o.stopped} o.tells (folder_bounds bounds) desk desk_now status compacts in
     record {
       usage = (λ u. absurd (not.0 u), λ n. cc);
       usage_takes_nothing = λ n. cc;
@@ -452,5 +443,5 @@ compact_runs {said = said} {noted = noted} {note_faults = note_faults} {reads = 
       compact = λ _. compacts;
       compact_takes_nothing = λ _. refl;
       compact_says_nothing = λ _. quiet;
-      room = λ told start. room_here reads left_room (own told) start;
+      room = λ told start. room_here o.seen left_room (own told) start;
     }

@@ -6,12 +6,13 @@ use Rattle.ziti_outside.specs.Images.{Image, After}
 use Rattle.ziti_outside.specs.Moments.{Now, Elapses, Leaves}
 use Rattle.ziti_outside.proofs.Moves.{Took-taken, Took-then}
 use Rattle.ziti_outside.proofs.MomentLaws.{Elapses-then, Elapses-weaker}
+use Rattle.ziti_outside.specs.Views.{Seen, Stopped}
 use Rattle.channel_frame.specs.declared.frames.Frame.{Frame}
 use Rattle.ctrl_model.specs.declared.kinds.Who.{Who}
 use Rattle.ctrl_model.specs.State.{State}
 use Rattle.slot_files.specs.FolderImage.{StandsAsBefore}
 use Rattle.row_store.specs.declared.bounds.StoreBounds.{StoreBounds}
-use Rattle.ctrl_keep.specs.OpenedStates.{OpensToState}
+use Rattle.row_store.specs.OpenedStates.{OpensToState}
 use Rattle.ctrl_keep.specs.KeptMachine.{Machine}
 use Rattle.session_mux.specs.declared.events.Event.{Event}
 use Rattle.session_mux.specs.declared.events.Event.TheVariants as event
@@ -33,30 +34,30 @@ use Rattle.ctrl_serve.proofs.UsedLaws.{at_start, split_so, next_first, next_repl
 -- ---- an event
 
 -- A turn of a frame that arrived is one of its event.
-pub arrived_stops : {a b : ℕ} {past since : ℕ → Image → List ℕ → Type 0} (form : Form) (bounds : StoreBounds) (s n : ℕ) (f : Frame) (k : Known) (m : Machine) (who : Who) (said : Option (List ℕ))
+pub arrived_stops : {a b : Stopped} (form : Form) (bounds : StoreBounds) (s n : ℕ) (f : Frame) (k : Known) (m : Machine) (who : Who) (said : Option (List ℕ))
     → n ≡ count_at k.replied s → who ≡ sender_at k s
-    → Elapses a b past since (Turn m.state (frame_answer bounds who f m).1.state (reply_to_frame bounds (record { form = form; session = s; sequence = n }) who f m) said)
-    → Elapses a b past since (StopsEvent form bounds (Arrived s f) k m said)
-arrived_stops {a} {b} {past} {since} form bounds s n f k m who said count sender stops =
-    subst (λ (w : Who). Elapses a b past since (Turn m.state (frame_answer bounds w f m).1.state (reply_to_frame bounds (address_at form s k) w f m) said)) sender
-    (subst (λ (i : ℕ). Elapses a b past since (Turn m.state (frame_answer bounds who f m).1.state (reply_to_frame bounds (record { form = form; session = s; sequence = i }) who f m) said)) count stops)
+    → Elapses a b (Turn m.state (frame_answer bounds who f m).1.state (reply_to_frame bounds (record { form = form; session = s; sequence = n }) who f m) said)
+    → Elapses a b (StopsEvent form bounds (Arrived s f) k m said)
+arrived_stops {a} {b} form bounds s n f k m who said count sender stops =
+    subst (λ (w : Who). Elapses a b (Turn m.state (frame_answer bounds w f m).1.state (reply_to_frame bounds (address_at form s k) w f m) said)) sender
+    (subst (λ (i : ℕ). Elapses a b (Turn m.state (frame_answer bounds who f m).1.state (reply_to_frame bounds (record { form = form; session = s; sequence = i }) who f m) said)) count stops)
 
 -- A call after which a stop finds no more finds none of these pairs more.
-pub finds_no_more : {a b : ℕ} {past since : ℕ → Image → List ℕ → Type 0} (X : Image → List ℕ → Type 0) → Elapses a b past since (λ image taken. ⊥) → Elapses a b past since X
+pub finds_no_more : {a b : Stopped} (X : Image → List ℕ → Type 0) → Elapses a b (λ image taken. ⊥) → Elapses a b X
 finds_no_more X stops = Elapses-weaker X stops (λ image taken none. absurd none)
 
 -- Nor does it behind others.
-pub no_more_behind : {a b c : ℕ} {past mid since : ℕ → Image → List ℕ → Type 0} (X : Image → List ℕ → Type 0) → Elapses a b past mid X → Elapses b c mid since (λ image taken. ⊥) → Elapses a c past since X
+pub no_more_behind : {a b c : Stopped} (X : Image → List ℕ → Type 0) → Elapses a b X → Elapses b c (λ image taken. ⊥) → Elapses a c X
 no_more_behind X first stops = Elapses-then X first stops (λ image taken p. p) (λ image taken none. absurd none)
 
 -- ---- the loop
 
 -- A stop within the event behind the answered ones is one within the loop.
-pub stops_next : (form : Form) (bounds here : StoreBounds) (e : Event) (k k1 : Known) (m m1 : Machine) (st st1 later : Standing) (a b : Option (List ℕ)) (f g : Bool) (n n1 : Option (List ℕ)) (x x1 : ℕ)
-    → here ≡ bounds → Answers form bounds k k1 m m1 st st1 a b f g n n1 x x1 → GoesTo st1 later (e ∷ [])
+pub stops_next : (form : Form) (bounds here : StoreBounds) (e : Event) (k k1 : Known) (m m1 : Machine) (st st1 later : Standing) (a b : Option (List ℕ)) (f g : Bool) (n n1 : Seen)
+    → here ≡ bounds → Answers form bounds k k1 m m1 st st1 a b f g n n1 → GoesTo st1 later (e ∷ [])
     → (image : Image) (taken : List ℕ) → StopsEvent form here e k1 m1 b image taken → StopsAlong form bounds k m st a image taken
-stops_next form bounds here (event.Opened s who) k k1 m m1 st st1 later a b f g n n1 x x1 within told goes image taken stop = absurd stop
-stops_next form bounds here (event.Arrived s frame) k k1 m m1 st st1 later a b f g n n1 x x1 within told goes image taken stop =
+stops_next form bounds here (event.Opened s who) k k1 m m1 st st1 later a b f g n n1 within told goes image taken stop = absurd stop
+stops_next form bounds here (event.Arrived s frame) k k1 m m1 st st1 later a b f g n n1 within told goes image taken stop =
     let es : List Event = told.answered in
     let arrived : Event = event.Arrived s frame in
     record {
@@ -73,16 +74,16 @@ stops_next form bounds here (event.Arrived s frame) k k1 m m1 st st1 later a b f
           (subst (λ (y : Known). StopsEvent form bounds arrived y m1 b image taken) told.known_is
           (subst (λ (y : StoreBounds). StopsEvent form y arrived k1 m1 b image taken) within stop));
     }
-stops_next form bounds here (event.Ended s fault at) k k1 m m1 st st1 later a b f g n n1 x x1 within told goes image taken stop = absurd stop
-stops_next form bounds here (event.Closed s rest) k k1 m m1 st st1 later a b f g n n1 x x1 within told goes image taken stop = absurd stop
+stops_next form bounds here (event.Ended s fault at) k k1 m m1 st st1 later a b f g n n1 within told goes image taken stop = absurd stop
+stops_next form bounds here (event.Closed s rest) k k1 m m1 st st1 later a b f g n n1 within told goes image taken stop = absurd stop
 
 -- The loop with one event more.
-pub stops_more : {i j l : ℕ} {past mid since : ℕ → Image → List ℕ → Type 0} {form : Form} {bounds here : StoreBounds} {e : Event} {k k1 : Known} {m m1 : Machine} {st st1 later : Standing} {a b : Option (List ℕ)} {f g : Bool} {n n1 : Option (List ℕ)} {x x1 : ℕ}
-    → here ≡ bounds → Answers form bounds k k1 m m1 st st1 a b f g n n1 x x1 → GoesTo st1 later (e ∷ [])
-    → Elapses i j past mid (StopsAlong form bounds k m st a) → Elapses j l mid since (StopsEvent form here e k1 m1 b) → Elapses i l past since (StopsAlong form bounds k m st a)
-stops_more {i} {j} {l} {past} {mid} {since} {form} {bounds} {here} {e} {k} {k1} {m} {m1} {st} {st1} {later} {a} {b} {f} {g} {n} {n1} {x} {x1} within told goes before turn =
+pub stops_more : {i j l : Stopped} {form : Form} {bounds here : StoreBounds} {e : Event} {k k1 : Known} {m m1 : Machine} {st st1 later : Standing} {a b : Option (List ℕ)} {f g : Bool} {n n1 : Seen}
+    → here ≡ bounds → Answers form bounds k k1 m m1 st st1 a b f g n n1 → GoesTo st1 later (e ∷ [])
+    → Elapses i j (StopsAlong form bounds k m st a) → Elapses j l (StopsEvent form here e k1 m1 b) → Elapses i l (StopsAlong form bounds k m st a)
+stops_more {i} {j} {l} {form} {bounds} {here} {e} {k} {k1} {m} {m1} {st} {st1} {later} {a} {b} {f} {g} {n} {n1} within told goes before turn =
     Elapses-then (StopsAlong form bounds k m st a) before turn (λ image taken stop. stop)
-    (stops_next form bounds here e k k1 m m1 st st1 later a b f g n n1 x x1 within told goes)
+    (stops_next form bounds here e k k1 m m1 st st1 later a b f g n n1 within told goes)
 
 -- ---- the used bytes
 
@@ -138,15 +139,15 @@ stop_found form bounds m used k0 st0 said known start image taken stop =
     (subst (λ (y : Known). StopsAlong form bounds y m (at_start form used) said image taken) known
     (subst (λ (y : Standing). StopsAlong form bounds k0 m y said image taken) start stop))
 
-pub used_stops : {a b : ℕ} {past since : ℕ → Image → List ℕ → Type 0} (form : Form) (bounds : StoreBounds) (m : Machine) (used : List ℕ) (k0 : Known) (st0 : Standing) (said : Option (List ℕ))
-    → k0 ≡ known_in form → st0 ≡ at_start form used → Elapses a b past since (StopsAlong form bounds k0 m st0 said) → Elapses a b past since (StopFinds form bounds m (events_in form used) said)
+pub used_stops : {a b : Stopped} (form : Form) (bounds : StoreBounds) (m : Machine) (used : List ℕ) (k0 : Known) (st0 : Standing) (said : Option (List ℕ))
+    → k0 ≡ known_in form → st0 ≡ at_start form used → Elapses a b (StopsAlong form bounds k0 m st0 said) → Elapses a b (StopFinds form bounds m (events_in form used) said)
 used_stops form bounds m used k0 st0 said known start stops =
     Elapses-weaker (StopFinds form bounds m (events_in form used) said) stops (stop_found form bounds m used k0 st0 said known start)
 
 -- The used bytes, told otherwise.
-pub same_used : {a b : ℕ} {past since : ℕ → Image → List ℕ → Type 0} (form : Form) (bounds : StoreBounds) (m : Machine) (used first : List ℕ) (said : Option (List ℕ)) → used ≡ first
-    → Elapses a b past since (StopFinds form bounds m (events_in form used) said) → Elapses a b past since (StopFinds form bounds m (events_in form first) said)
-same_used {a} {b} {past} {since} form bounds m used first said same stops = subst (λ (u : List ℕ). Elapses a b past since (StopFinds form bounds m (events_in form u) said)) same stops
+pub same_used : {a b : Stopped} (form : Form) (bounds : StoreBounds) (m : Machine) (used first : List ℕ) (said : Option (List ℕ)) → used ≡ first
+    → Elapses a b (StopFinds form bounds m (events_in form used) said) → Elapses a b (StopFinds form bounds m (events_in form first) said)
+same_used {a} {b} form bounds m used first said same stops = subst (λ (u : List ℕ). Elapses a b (StopFinds form bounds m (events_in form u) said)) same stops
 
 -- ---- the opening of the folder before
 
@@ -172,21 +173,21 @@ all_stand : (images : Image → Type 0) (s : State) → AllOpenTo images s → A
 all_stand images s opens image after = stands_open after.from image s after.by (opens after.from after.was)
 
 -- A stop within the opening or within the run behind it, where all that a stop might have left before opens to the state.
-pub opened_stops : {D : Type 0} {moment : D → ℕ} {since : D → ℕ → Image → List ℕ → Type 0} {may_leave : D → Image → Type 0} {said : D → Option (List ℕ)} {desk mid now : D}
-    (form : Form) (bounds : StoreBounds) (m : Machine) (events : List Event) → Leaves moment since may_leave said desk mid (After StandsAsBefore (may_leave desk))
-    → Elapses (moment mid) (moment now) (since mid) (since now) (StopFinds form bounds m events (said mid)) → AllOpenTo (may_leave desk) m.state
-    → Elapses (moment desk) (moment now) (since desk) (since now) (StopFinds form bounds m events (said desk))
-opened_stops {may_leave = may_leave} {said = said} {desk = desk} form bounds m events opening serving opens =
-    Elapses-then (StopFinds form bounds m events (said desk)) opening.time serving
-    (λ image taken found. start_found form bounds m events (said desk) (After StandsAsBefore (may_leave desk)) image taken (all_stand (may_leave desk) m.state opens) found)
+pub opened_stops : {D : Type 0} {seen : D → Seen} {stopped : D → Stopped} {desk mid now : D}
+    (form : Form) (bounds : StoreBounds) (m : Machine) (events : List Event) → Leaves seen stopped desk mid (After StandsAsBefore (stopped desk).images)
+    → Elapses (stopped mid) (stopped now) (StopFinds form bounds m events (seen mid).said) → AllOpenTo (stopped desk).images m.state
+    → Elapses (stopped desk) (stopped now) (StopFinds form bounds m events (seen desk).said)
+opened_stops {stopped = stopped} {seen = seen} {desk = desk} form bounds m events opening serving opens =
+    Elapses-then (StopFinds form bounds m events (seen desk).said) opening.time serving
+    (λ image taken found. start_found form bounds m events (seen desk).said (After StandsAsBefore (stopped desk).images) image taken (all_stand (stopped desk).images m.state opens) found)
     (λ image taken found. subst (λ (x : Option (List ℕ)). StopFinds form bounds m events x image taken) opening.quiet found)
 
 -- And whatever it might have left before.
-pub later_stops : {D : Type 0} {moment : D → ℕ} {since : D → ℕ → Image → List ℕ → Type 0} {may_leave : D → Image → Type 0} {said : D → Option (List ℕ)} {desk mid now : D}
-    (form : Form) (bounds : StoreBounds) (m : Machine) (events : List Event) → Leaves moment since may_leave said desk mid (After StandsAsBefore (may_leave desk))
-    → Elapses (moment mid) (moment now) (since mid) (since now) (StopFinds form bounds m events (said mid))
-    → Elapses (moment desk) (moment now) (since desk) (since now) (λ image taken. StopFinds form bounds m events (said desk) image taken ⊎ Now (After StandsAsBefore (may_leave desk)) (said desk) image taken)
-later_stops {may_leave = may_leave} {said = said} {desk = desk} form bounds m events opening serving =
-    Elapses-then (λ image taken. StopFinds form bounds m events (said desk) image taken ⊎ Now (After StandsAsBefore (may_leave desk)) (said desk) image taken) opening.time serving
+pub later_stops : {D : Type 0} {seen : D → Seen} {stopped : D → Stopped} {desk mid now : D}
+    (form : Form) (bounds : StoreBounds) (m : Machine) (events : List Event) → Leaves seen stopped desk mid (After StandsAsBefore (stopped desk).images)
+    → Elapses (stopped mid) (stopped now) (StopFinds form bounds m events (seen mid).said)
+    → Elapses (stopped desk) (stopped now) (λ image taken. StopFinds form bounds m events (seen desk).said image taken ⊎ Now (After StandsAsBefore (stopped desk).images) (seen desk).said image taken)
+later_stops {stopped = stopped} {seen = seen} {desk = desk} form bounds m events opening serving =
+    Elapses-then (λ image taken. StopFinds form bounds m events (seen desk).said image taken ⊎ Now (After StandsAsBefore (stopped desk).images) (seen desk).said image taken) opening.time serving
     (λ image taken found. inr found)
     (λ image taken found. inl (subst (λ (x : Option (List ℕ)). StopFinds form bounds m events x image taken) opening.quiet found))

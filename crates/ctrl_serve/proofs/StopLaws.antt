@@ -7,11 +7,12 @@ use Rattle.ziti_outside.specs.Images.{Image}
 use Rattle.ziti_outside.specs.Moments.{Now, Saying, Elapses, Leaves}
 use Rattle.ziti_outside.proofs.Moves.{Took-taken, IsFront-none}
 use Rattle.ziti_outside.proofs.MomentLaws.{Elapses-then, Elapses-weaker, Leaves-none, Leaves-weaker}
+use Rattle.ziti_outside.specs.Views.{Seen, Stopped}
 use Rattle.ctrl_model.specs.State.{State}
 use Rattle.row_store.specs.BatchRows.{ByteRows}
 use Rattle.row_store.specs.OpenedRows.{OpensTo}
 use Rattle.row_store.proofs.CommitLaws.{reads_opens}
-use Rattle.ctrl_keep.specs.OpenedStates.{OpensToState}
+use Rattle.row_store.specs.OpenedStates.{OpensToState}
 use Rattle.ctrl_serve.specs.declared.controller.Controller.{Controller}
 use Rattle.ctrl_serve.specs.declared.controller.Controller.TheVariants.{Alone, Kept}
 use Rattle.channel_frame.specs.declared.frames.Frame.{Frame}
@@ -58,32 +59,32 @@ stop_saying before next bytes said images image taken opens now = record {
 }
 
 -- A turn that ended before its reply was said.
-pub turn_stops_short : {D : Type 0} {moment : D → ℕ} {since : D → ℕ → Image → List ℕ → Type 0} {may_leave : D → Image → Type 0} {said : D → Option (List ℕ)} {old new : D}
-    (before next : State) (reply : List ℕ) → Leaves moment since may_leave said old new (λ i. OpensToState i before ⊎ OpensToState i next)
-    → Elapses (moment old) (moment new) (since old) (since new) (Turn before next reply (said old))
-turn_stops_short {said = said} {old = old} before next reply answering =
-    Elapses-weaker (Turn before next reply (said old)) answering.time (λ i w now. stop_answering before next reply (said old) i w now)
+pub turn_stops_short : {D : Type 0} {seen : D → Seen} {stopped : D → Stopped} {old new : D}
+    (before next : State) (reply : List ℕ) → Leaves seen stopped old new (λ i. OpensToState i before ⊎ OpensToState i next)
+    → Elapses (stopped old) (stopped new) (Turn before next reply (seen old).said)
+turn_stops_short {seen = seen} {old = old} before next reply answering =
+    Elapses-weaker (Turn before next reply (seen old).said) answering.time (λ i w now. stop_answering before next reply (seen old).said i w now)
 
 -- A turn with the saying of its reply.
-pub turn_stops : {D : Type 0} {moment : D → ℕ} {since : D → ℕ → Image → List ℕ → Type 0} {may_leave : D → Image → Type 0} {said : D → Option (List ℕ)} {old mid new : D}
-    (before next : State) (reply bytes : List ℕ) → Leaves moment since may_leave said old mid (λ i. OpensToState i before ⊎ OpensToState i next) → bytes ≡ reply
-    → ((i : Image) → may_leave mid i → OpensToState i next)
-    → Elapses (moment mid) (moment new) (since mid) (since new) (Saying (may_leave mid) (said mid) bytes)
-    → Elapses (moment old) (moment new) (since old) (since new) (Turn before next reply (said old))
-turn_stops {may_leave = may_leave} {said = said} {old = old} {mid = mid} before next reply bytes answering same opens saying =
-    Elapses-then (Turn before next reply (said old)) answering.time saying
-    (λ i w now. stop_answering before next reply (said old) i w now)
+pub turn_stops : {D : Type 0} {seen : D → Seen} {stopped : D → Stopped} {old mid new : D}
+    (before next : State) (reply bytes : List ℕ) → Leaves seen stopped old mid (λ i. OpensToState i before ⊎ OpensToState i next) → bytes ≡ reply
+    → ((i : Image) → (stopped mid).images i → OpensToState i next)
+    → Elapses (stopped mid) (stopped new) (Saying (stopped mid).images (seen mid).said bytes)
+    → Elapses (stopped old) (stopped new) (Turn before next reply (seen old).said)
+turn_stops {stopped = stopped} {seen = seen} {old = old} {mid = mid} before next reply bytes answering same opens saying =
+    Elapses-then (Turn before next reply (seen old).said) answering.time saying
+    (λ i w now. stop_answering before next reply (seen old).said i w now)
     (λ i w now.
     subst (λ (x : Option (List ℕ)). Turn before next reply x i w) answering.quiet
-    (subst (λ (x : List ℕ). Turn before next x (said mid) i w) same (stop_saying before next bytes (said mid) (may_leave mid) i w opens now)))
+    (subst (λ (x : List ℕ). Turn before next x (seen mid).said i w) same (stop_saying before next bytes (seen mid).said (stopped mid).images i w opens now)))
 
 -- Where nothing was done, every image opens to the state before.
-pub refused_stops : {D : Type 0} {moment : D → ℕ} {since : D → ℕ → Image → List ℕ → Type 0} {may_leave : D → Image → Type 0} {said : D → Option (List ℕ)}
-    (desk : D) (c : Controller) (next : State) (tells : Bool) (reads : Image) → IsSome (serving_of c).kept → IsReady tells (serving_of c).kept reads (may_leave desk) → IsTrue tells
-    → Leaves moment since may_leave said desk desk (λ i. OpensToState i (serving_of c).machine.state ⊎ OpensToState i next)
-refused_stops {may_leave = may_leave} desk c next tells reads some ready told =
+pub refused_stops : {D : Type 0} {seen : D → Seen} {stopped : D → Stopped}
+    (desk : D) (c : Controller) (next : State) (tells : Bool) (reads : Image) → IsSome (serving_of c).kept → IsReady tells (serving_of c).kept reads (stopped desk).images → IsTrue tells
+    → Leaves seen stopped desk desk (λ i. OpensToState i (serving_of c).machine.state ⊎ OpensToState i next)
+refused_stops {stopped = stopped} desk c next tells reads some ready told =
     Leaves-weaker (λ i. OpensToState i (serving_of c).machine.state ⊎ OpensToState i next) (Leaves-none desk)
-    (λ i p. inl (ready_opens c tells reads (may_leave desk) some ready told i p))
+    (λ i p. inl (ready_opens c tells reads (stopped desk).images some ready told i p))
 
 -- The answer to a frame that spells a command is the machine's step on it.
 pub carried_answer : (bounds : StoreBounds) (who : Who) (f : Frame) (body : List ℕ) (m : Machine) (c : Command) → body ≡ f.body → meaning f.content body ≡ Ok c → step bounds who c m ≡ frame_answer bounds who f m
@@ -95,10 +96,10 @@ carried_so (Ok x) bounds who f body m next c same e is = is ∙ carried_answer b
 carried_so (Err cut) bounds who f body m next c same e is = tt
 
 -- A stop within the carrying out of the command that a frame spells is one within the answering of the frame.
-pub carried_stops : {D : Type 0} {moment : D → ℕ} {since : D → ℕ → Image → List ℕ → Type 0} {may_leave : D → Image → Type 0} {said : D → Option (List ℕ)} {old new : D}
+pub carried_stops : {D : Type 0} {seen : D → Seen} {stopped : D → Stopped} {old new : D}
     (bounds : StoreBounds) (who : Who) (f : Frame) (body : List ℕ) (m : Machine) (c : Command) → body ≡ f.body → meaning f.content body ≡ Ok c
-    → Leaves moment since may_leave said old new (λ i. OpensToState i m.state ⊎ OpensToState i (step bounds who c m).1.state)
-    → Leaves moment since may_leave said old new (λ i. OpensToState i m.state ⊎ OpensToState i (frame_answer bounds who f m).1.state)
+    → Leaves seen stopped old new (λ i. OpensToState i m.state ⊎ OpensToState i (step bounds who c m).1.state)
+    → Leaves seen stopped old new (λ i. OpensToState i m.state ⊎ OpensToState i (frame_answer bounds who f m).1.state)
 carried_stops bounds who f body m c same e stops =
     Leaves-weaker (λ i. OpensToState i m.state ⊎ OpensToState i (frame_answer bounds who f m).1.state) stops
     (λ i p. subst (λ (a : Reply × Machine). OpensToState i m.state ⊎ OpensToState i a.1.state) (carried_answer bounds who f body m c same e) p)
@@ -117,16 +118,16 @@ pub answered_bytes : (bounds : StoreBounds) (at : Address) (who : Who) (f : Fram
 answered_bytes bounds at who f m next reply bytes e h = h ∙ ap (λ (a : Reply × Machine). reply_text at.form at.session at.sequence f.sequence a.0) e
 
 -- A stop within a turn whose reply was said, all of it or a front.
-pub served_stops : {D : Type 0} {moment : D → ℕ} {since : D → ℕ → Image → List ℕ → Type 0} {may_leave : D → Image → Type 0} {said : D → Option (List ℕ)} {old mid new : D}
+pub served_stops : {D : Type 0} {seen : D → Seen} {stopped : D → Stopped} {old mid new : D}
     (x y : Controller) (at : Address) (who : Who) (f : Frame) (reply : Reply) (bytes : List ℕ) (tells : Bool) (reads : Image)
-    → Leaves moment since may_leave said old mid (λ i. OpensToState i (serving_of x).machine.state ⊎ OpensToState i (frame_answer (serving_of x).bounds who f (serving_of x).machine).1.state)
+    → Leaves seen stopped old mid (λ i. OpensToState i (serving_of x).machine.state ⊎ OpensToState i (frame_answer (serving_of x).bounds who f (serving_of x).machine).1.state)
     → (reply, (serving_of y).machine) ≡ frame_answer (serving_of x).bounds who f (serving_of x).machine → bytes ≡ reply_text at.form at.session at.sequence f.sequence reply
-    → is_some (serving_of y).kept ≡ is_some (serving_of x).kept → IsSome (serving_of x).kept → IsReady tells (serving_of y).kept reads (may_leave mid) → IsTrue tells
-    → Elapses (moment mid) (moment new) (since mid) (since new) (Saying (may_leave mid) (said mid) bytes)
-    → Elapses (moment old) (moment new) (since old) (since new) (Turn (serving_of x).machine.state (frame_answer (serving_of x).bounds who f (serving_of x).machine).1.state
-    (reply_to_frame (serving_of x).bounds at who f (serving_of x).machine) (said old))
-served_stops {may_leave = may_leave} {mid = mid} x y at who f reply bytes tells reads answering e h kind some ready told saying =
+    → is_some (serving_of y).kept ≡ is_some (serving_of x).kept → IsSome (serving_of x).kept → IsReady tells (serving_of y).kept reads (stopped mid).images → IsTrue tells
+    → Elapses (stopped mid) (stopped new) (Saying (stopped mid).images (seen mid).said bytes)
+    → Elapses (stopped old) (stopped new) (Turn (serving_of x).machine.state (frame_answer (serving_of x).bounds who f (serving_of x).machine).1.state
+    (reply_to_frame (serving_of x).bounds at who f (serving_of x).machine) (seen old).said)
+served_stops {stopped = stopped} {mid = mid} x y at who f reply bytes tells reads answering e h kind some ready told saying =
     turn_stops (serving_of x).machine.state (frame_answer (serving_of x).bounds who f (serving_of x).machine).1.state
     (reply_to_frame (serving_of x).bounds at who f (serving_of x).machine) bytes answering
     (answered_bytes (serving_of x).bounds at who f (serving_of x).machine (serving_of y).machine reply bytes e h)
-    (answered_opens x y who f reply tells reads (may_leave mid) e kind some ready told) saying
+    (answered_opens x y who f reply tells reads (stopped mid).images e kind some ready told) saying

@@ -30,7 +30,8 @@ use Rattle.ctrl_serve.specs.Turns.{TakesTurn, CutsTurn, TakesEvent, CutsEvent, C
 use Rattle.run_notes.specs.Endings.{IsAllGiven, IsStuckAt, ComesToEnd}
 use Rattle.run_notes.proofs.KnownLaws.{known_then}
 use Rattle.ctrl_serve.proofs.KnownLaws.{machine_then, replies_then}
-use Rattle.run_notes.proofs.NoteLaws.{more_none, more_then}
+use Rattle.run_notes.proofs.NoteLaws.{more_none, more_then, more_still}
+use Rattle.ziti_outside.specs.Views.{Seen}
 
 -- ---- a frame
 
@@ -108,15 +109,15 @@ pub goes_nowhere : (st : Standing) → GoesTo st st []
 goes_nowhere st = record { events = λ more. refl; ends = λ more. refl }
 
 -- Nothing was answered at the start.
-abbrev pub answers_start : (form : Form) (bounds : StoreBounds) (first k : Known) (m : Machine) (st : Standing) (a : Option (List ℕ)) (f : Bool) (n : Option (List ℕ)) (x : ℕ)
-    → k ≡ first → Answers form bounds first k m m st st a a f f n n x x
-answers_start form bounds first k m st a f n x known = record {
+abbrev pub answers_start : (form : Form) (bounds : StoreBounds) (first k : Known) (m : Machine) (st : Standing) (a : Option (List ℕ)) (f : Bool) (n : Seen)
+    → k ≡ first → Answers form bounds first k m m st st a a f f n n
+answers_start form bounds first k m st a f n known = record {
   answered = [];
   goes = goes_nowhere st;
   known_is = known;
   machine_is = refl;
   said = Took-none a;
-  noted_is = more_none f n x;
+  noted_is = more_none f n;
 }
 
 -- The replies behind one event more.
@@ -134,10 +135,10 @@ pub one_more_lines : (es : List Event) (e : Event) → fault_lines es ++ event_l
 one_more_lines es e = ap (λ (l : List ℕ). fault_lines es ++ l) (sym (append-nil (event_lines e))) ∙ sym (flat_map-append event_lines es (e ∷ []))
 
 -- One more event, within the same bounds.
-abbrev pub answers_more : {form : Form} {bounds here : StoreBounds} {e : Event} {k k1 k2 : Known} {m m1 m2 : Machine} {st st1 st2 : Standing} {a b c : Option (List ℕ)} {f g h : Bool} {n n1 n2 : Option (List ℕ)} {x x1 x2 : ℕ}
-    → here ≡ bounds → Answers form bounds k k1 m m1 st st1 a b f g n n1 x x1 → GoesTo st1 st2 (e ∷ []) → TakesEvent form here e k1 k2 m1 m2 b c
-    → NotesMore g h (event_lines e) n1 n2 x1 x2 → Answers form bounds k k2 m m2 st st2 a c f h n n2 x x2
-answers_more {form} {bounds} {here} {e} {k} {k1} {k2} {m} {m1} {m2} {st} {st1} {st2} {a} {b} {c} {f} {g} {h} {n} {n1} {n2} {x} {x1} {x2} within told goes took noted =
+abbrev pub answers_more : {form : Form} {bounds here : StoreBounds} {e : Event} {k k1 k2 : Known} {m m1 m2 : Machine} {st st1 st2 : Standing} {a b c : Option (List ℕ)} {f g h : Bool} {n n1 n2 : Seen}
+    → here ≡ bounds → Answers form bounds k k1 m m1 st st1 a b f g n n1 → GoesTo st1 st2 (e ∷ []) → TakesEvent form here e k1 k2 m1 m2 b c
+    → NotesMore g h (event_lines e) n1 n2 → Answers form bounds k k2 m m2 st st2 a c f h n n2
+answers_more {form} {bounds} {here} {e} {k} {k1} {k2} {m} {m1} {m2} {st} {st1} {st2} {a} {b} {c} {f} {g} {h} {n} {n1} {n2} within told goes took noted =
     let turn = subst (λ (y : StoreBounds). TakesEvent form y e k1 k2 m1 m2 b c) within took in
     let es : List Event = told.answered in
     let said : Took b c (joined (replies_by form bounds e (known_along es k) (machine_along bounds es k m))) =
@@ -153,13 +154,13 @@ answers_more {form} {bounds} {here} {e} {k} {k1} {k2} {m} {m1} {m2} {st} {st1} {
       said =
           subst (λ (l : List ℕ). Took a c l) (sym (one_more_replies form bounds es e k m))
           (Took-then a b c (joined (replies_along form bounds es k m)) _ told.said said);
-      noted_is = subst (λ (l : List ℕ). NotesMore f h l n n2 x x2) (one_more_lines es e) (more_then f g h (fault_lines es) (event_lines e) n n1 n2 x x1 x2 told.noted_is noted);
+      noted_is = subst (λ (l : List ℕ). NotesMore f h l n n2) (one_more_lines es e) (more_then f g h (fault_lines es) (event_lines e) n n1 n2 told.noted_is noted);
     }
 
 -- The standing went on, and gave no event.
-abbrev pub answers_still : {form : Form} {bounds : StoreBounds} {k k1 : Known} {m m1 : Machine} {st st1 st2 : Standing} {a b : Option (List ℕ)} {f g : Bool} {n n1 : Option (List ℕ)} {x x1 : ℕ}
-    → Answers form bounds k k1 m m1 st st1 a b f g n n1 x x1 → GoesTo st1 st2 [] → Answers form bounds k k1 m m1 st st2 a b f g n n1 x x1
-answers_still {form} {bounds} {k} {k1} {m} {m1} {st} {st1} {st2} {a} {b} {f} {g} {n} {n1} {x} {x1} told goes = record {
+abbrev pub answers_still : {form : Form} {bounds : StoreBounds} {k k1 : Known} {m m1 : Machine} {st st1 st2 : Standing} {a b : Option (List ℕ)} {f g : Bool} {n n1 : Seen}
+    → Answers form bounds k k1 m m1 st st1 a b f g n n1 → GoesTo st1 st2 [] → Answers form bounds k k1 m m1 st st2 a b f g n n1
+answers_still {form} {bounds} {k} {k1} {m} {m1} {st} {st1} {st2} {a} {b} {f} {g} {n} {n1} told goes = record {
   answered = told.answered;
   goes = subst (λ (es : List Event). GoesTo st st2 es) (append-nil told.answered) (goes_then st st1 st2 told.answered [] told.goes goes);
   known_is = told.known_is;
@@ -222,22 +223,29 @@ next_cut Disk form bounds e k m st later a b goes cuts =
 next_cut Unsaid form bounds e k m st later a b goes cuts =
     (cuts.0, cuts.1, later, subst (λ (x : Event). GoesTo st later (x ∷ [])) cuts.2 goes, cuts.3)
 
-pub cut_answers : {cut : Cut} {form : Form} {bounds here : StoreBounds} {e : Event} {k k1 : Known} {m m1 : Machine} {st st1 later : Standing} {a b c : Option (List ℕ)} {f g h : Bool} {n n1 n2 : Option (List ℕ)} {x x1 x2 : ℕ}
-    → here ≡ bounds → Answers form bounds k k1 m m1 st st1 a b f g n n1 x x1 → GoesTo st1 later (e ∷ []) → CutsEvent cut form here e k1 m1 b c → h ≡ g → n2 ≡ n1 → x2 ≡ x1
-    → IsCutShort cut form bounds k m st a c f h n n2 x x2
-cut_answers {cut} {form} {bounds} {here} {e} {k} {k1} {m} {m1} {st} {st1} {later} {a} {b} {c} {f} {g} {h} {n} {n1} {n2} {x} {x1} {x2} within told goes cuts p q r = rw (p, q, r) (record {
+pub cut_answers : {cut : Cut} {form : Form} {bounds here : StoreBounds} {e : Event} {k k1 : Known} {m m1 : Machine} {st st1 later : Standing} {a b c : Option (List ℕ)} {f g h : Bool} {n n1 n2 : Seen}
+    → here ≡ bounds → Answers form bounds k k1 m m1 st st1 a b f g n n1 → GoesTo st1 later (e ∷ []) → CutsEvent cut form here e k1 m1 b c → h ≡ g → n2.noted ≡ n1.noted → n2.note_faults ≡ n1.note_faults
+    → IsCutShort cut form bounds k m st a c f h n n2
+cut_answers {cut} {form} {bounds} {here} {e} {k} {k1} {m} {m1} {st} {st1} {later} {a} {b} {c} {f} {g} {h} {n} {n1} {n2} within told goes cuts p q r = rw p (record {
   known_mid = k1;
   machine_mid = m1;
   st_mid = st1;
   said_mid = b;
-  first = told;
+  first = record {
+    answered = told.answered;
+    goes = told.goes;
+    known_is = told.known_is;
+    machine_is = told.machine_is;
+    said = told.said;
+    noted_is = more_still f g (fault_lines told.answered) n n1 n2 q r told.noted_is;
+  };
   cuts = next_cut cut form bounds e k1 m1 st1 later b c goes (subst (λ (y : StoreBounds). CutsEvent cut form y e k1 m1 b c) within cuts);
 })
 
 -- For want of memory, before an event was found.
-pub starved_answers : {form : Form} {bounds : StoreBounds} {k k1 : Known} {m m1 : Machine} {st st1 : Standing} {a b : Option (List ℕ)} {f g : Bool} {n n1 : Option (List ℕ)} {x x1 : ℕ}
-    → Answers form bounds k k1 m m1 st st1 a b f g n n1 x x1 → MayWantMemory st1 → IsCutShort NoMemory form bounds k m st a b f g n n1 x x1
-starved_answers {form} {bounds} {k} {k1} {m} {m1} {st} {st1} {a} {b} {f} {g} {n} {n1} {x} {x1} told may = record {
+pub starved_answers : {form : Form} {bounds : StoreBounds} {k k1 : Known} {m m1 : Machine} {st st1 : Standing} {a b : Option (List ℕ)} {f g : Bool} {n n1 : Seen}
+    → Answers form bounds k k1 m m1 st st1 a b f g n n1 → MayWantMemory st1 → IsCutShort NoMemory form bounds k m st a b f g n n1
+starved_answers {form} {bounds} {k} {k1} {m} {m1} {st} {st1} {a} {b} {f} {g} {n} {n1} told may = record {
   known_mid = k1;
   machine_mid = m1;
   st_mid = st1;

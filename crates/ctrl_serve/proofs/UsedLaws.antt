@@ -35,6 +35,7 @@ use Rattle.run_notes.specs.Endings.{status_at}
 use Rattle.ctrl_serve.proofs.KnownLaws.{replies_then, replies_from_start, machine_from_start}
 use Rattle.run_notes.proofs.KnownLaws.{along_closed, along_faulty}
 use Rattle.run_notes.proofs.NoteLaws.{more_none, more_then}
+use Rattle.ziti_outside.specs.Views.{Seen}
 
 -- The used bytes before any event.
 abbrev pub at_start : Form → List ℕ → Standing
@@ -80,11 +81,11 @@ all_lines form used st k es status known all ends =
     ∙ ap (λ (l : List ℕ). fault_lines (events_in form used) ++ ending_lines (end_in form used) l status) closed
 
 -- The events of the input were answered, and its ending was told.
-pub used_answered : (form : Form) (bounds : StoreBounds) (m m1 : Machine) (used : List ℕ) (end : End) (status : Status) (k : Known) (st : Standing) (a b c : Option (List ℕ)) (f g h : Bool) (n n1 n2 : Option (List ℕ)) (x x1 x2 : ℕ)
-    → Answers form bounds (known_in form) k m m1 (at_start form used) st a b f g n n1 x x1 → events_of st ≡ [] → c ≡ b
-    → status ≡ status_at (k.faulty || begins_bad (end_of st)) (leaves_some (end_of st) k.closed) end → NotesMore g h (ending_lines (end_of st) k.closed status) n1 n2 x1 x2
-    → AnswersAll form bounds m used end status a c f h n n2 x x2
-used_answered form bounds m m1 used end status k st a b c f g h n n1 n2 x x1 x2 told none still ended noted =
+pub used_answered : (form : Form) (bounds : StoreBounds) (m m1 : Machine) (used : List ℕ) (end : End) (status : Status) (k : Known) (st : Standing) (a b c : Option (List ℕ)) (f g h : Bool) (n n1 n2 : Seen)
+    → Answers form bounds (known_in form) k m m1 (at_start form used) st a b f g n n1 → events_of st ≡ [] → c ≡ b
+    → status ≡ status_at (k.faulty || begins_bad (end_of st)) (leaves_some (end_of st) k.closed) end → NotesMore g h (ending_lines (end_of st) k.closed status) n1 n2
+    → AnswersAll form bounds m used end status a c f h n n2
+used_answered form bounds m m1 used end status k st a b c f g h n n1 n2 told none still ended noted =
     let es : List Event = told.answered in
     let all : es ≡ events_in form used = all_so form used st es told.goes none in
     let ends : end_of st ≡ end_in form used = end_so form used st es told.goes in
@@ -94,14 +95,14 @@ used_answered form bounds m m1 used end status k st a b c f g h n n1 n2 x x1 x2 
           (subst (λ (l : List ℕ). Took a b l) (all_said form bounds m used es all) told.said);
       ends = ended ∙ all_ends form used st k es end told.known_is all ends;
       noted_is =
-          subst (λ (l : List ℕ). NotesMore f h l n n2 x x2) (all_lines form used st k es status told.known_is all ends)
-          (more_then f g h (fault_lines es) (ending_lines (end_of st) k.closed status) n n1 n2 x x1 x2 told.noted_is noted);
+          subst (λ (l : List ℕ). NotesMore f h l n n2) (all_lines form used st k es status told.known_is all ends)
+          (more_then f g h (fault_lines es) (ending_lines (end_of st) k.closed status) n n1 n2 told.noted_is noted);
     }
 
 -- And the machine is the last one.
-pub used_last : (form : Form) (bounds : StoreBounds) (m m1 : Machine) (used : List ℕ) (k : Known) (st : Standing) (a b : Option (List ℕ)) (f g : Bool) (n n1 : Option (List ℕ)) (x x1 : ℕ)
-    → Answers form bounds (known_in form) k m m1 (at_start form used) st a b f g n n1 x x1 → events_of st ≡ [] → m1 ≡ last_machine form bounds m used
-used_last form bounds m m1 used k st a b f g n n1 x x1 told none =
+pub used_last : (form : Form) (bounds : StoreBounds) (m m1 : Machine) (used : List ℕ) (k : Known) (st : Standing) (a b : Option (List ℕ)) (f g : Bool) (n n1 : Seen)
+    → Answers form bounds (known_in form) k m m1 (at_start form used) st a b f g n n1 → events_of st ≡ [] → m1 ≡ last_machine form bounds m used
+used_last form bounds m m1 used k st a b f g n n1 told none =
     told.machine_is ∙ machine_from_start form bounds told.answered m
     ∙ ap (λ (l : List Event). machine_behind bounds m (frames_in form l)) (all_so form used st told.answered told.goes none)
 
@@ -127,15 +128,15 @@ pub so_calm : (form : Form) (used : List ℕ) (st : Standing) (es : List Event) 
 so_calm form used st es goes why is = starved_calm used st es (subst (λ (f : Form). GoesTo (at_start f used) st es) is goes) why
 
 -- Nothing was answered.
-abbrev pub used_none : (form : Form) (bounds : StoreBounds) (m : Machine) (used : List ℕ) (a : Option (List ℕ)) (f : Bool) (n : Option (List ℕ)) (x : ℕ) → AnswersSome NoMemory form bounds m used a a f f n n x x
-used_none form bounds m used a f n x = record {
+abbrev pub used_none : (form : Form) (bounds : StoreBounds) (m : Machine) (used : List ℕ) (a : Option (List ℕ)) (f : Bool) (n : Seen) → AnswersSome NoMemory form bounds m used a a f f n n
+used_none form bounds m used a f n = record {
   answered = [];
   unanswered = events_in form used;
   split = refl;
   said = [];
   took = Took-none a;
   says = record { same = refl; calm = λ _. refl };
-  noted_is = more_none f n x;
+  noted_is = more_none f n;
 }
 
 -- What was said of the next reply.
@@ -192,9 +193,9 @@ says_so Unsaid form bounds m m1 used k es st a b c goes known same took cuts =
     }
 
 -- The next event was cut short.
-abbrev pub used_cut : (cut : Cut) (form : Form) (bounds : StoreBounds) (m : Machine) (used : List ℕ) (a c : Option (List ℕ)) (f g : Bool) (n n1 : Option (List ℕ)) (x x1 : ℕ)
-    → IsCutShort cut form bounds (known_in form) m (at_start form used) a c f g n n1 x x1 → AnswersSome cut form bounds m used a c f g n n1 x x1
-used_cut cut form bounds m used a c f g n n1 x x1 told =
+abbrev pub used_cut : (cut : Cut) (form : Form) (bounds : StoreBounds) (m : Machine) (used : List ℕ) (a c : Option (List ℕ)) (f g : Bool) (n n1 : Seen)
+    → IsCutShort cut form bounds (known_in form) m (at_start form used) a c f g n n1 → AnswersSome cut form bounds m used a c f g n n1
+used_cut cut form bounds m used a c f g n n1 told =
     let es : List Event = told.first.answered in
     let says = says_so cut form bounds m told.machine_mid used told.known_mid es told.st_mid a told.said_mid c told.first.goes told.first.known_is told.first.machine_is told.first.said told.cuts in
     record {
@@ -227,10 +228,10 @@ told_calm form used st k es end goes known why is =
     ending_calm used st k es end (subst (λ (f : Form). GoesTo (at_start f used) st es) is goes) (subst (λ (f : Form). k ≡ known_along es (known_in f)) is known) why
 
 -- For want of memory behind them, to tell how the run ended, where nothing more was said.
-abbrev pub used_starved : (form : Form) (bounds : StoreBounds) (m m1 : Machine) (used : List ℕ) (end : End) (k : Known) (st : Standing) (a b c : Option (List ℕ)) (f g : Bool) (n n1 : Option (List ℕ)) (x x1 : ℕ)
-    → Answers form bounds (known_in form) k m m1 (at_start form used) st a b f g n n1 x x1
-    → (begins_bad (end_of st) ≡ true) ⊎ (status_at k.faulty (leaves_some (end_of st) k.closed) end ≡ Truncated) → c ≡ b → AnswersSome NoMemory form bounds m used a c f g n n1 x x1
-used_starved form bounds m m1 used end k st a b c f g n n1 x x1 told why still = record {
+abbrev pub used_starved : (form : Form) (bounds : StoreBounds) (m m1 : Machine) (used : List ℕ) (end : End) (k : Known) (st : Standing) (a b c : Option (List ℕ)) (f g : Bool) (n n1 : Seen)
+    → Answers form bounds (known_in form) k m m1 (at_start form used) st a b f g n n1
+    → (begins_bad (end_of st) ≡ true) ⊎ (status_at k.faulty (leaves_some (end_of st) k.closed) end ≡ Truncated) → c ≡ b → AnswersSome NoMemory form bounds m used a c f g n n1
+used_starved form bounds m m1 used end k st a b c f g n n1 told why still = record {
   answered = told.answered;
   unanswered = events_of st;
   split = split_so form used st told.answered told.goes;

@@ -3,26 +3,26 @@ use Rattle.std.specs.Prelude.{◌≡◌, ◌⊎◌, ℕ, List}
 use Rattle.std.specs.declared.option.Option.{Option}
 use Rattle.ziti_outside.specs.Causes.{Rose}
 use Rattle.ziti_outside.specs.Images.{Image}
+use Rattle.ziti_outside.specs.Views.{Seen}
 use Rattle.ctrl_model.specs.declared.replies.Reply.TheVariants as reply
 use Rattle.ctrl_model.specs.State.{State}
 use Rattle.row_store.specs.declared.bounds.StoreBounds.{StoreBounds}
 use Rattle.ctrl_keep.specs.KeptMachine.{Machine}
-use Rattle.session_mux.specs.declared.sessions.Form.{Form}
 use Rattle.run_notes.specs.declared.ends.Full.{Full}
 use Rattle.run_notes.specs.declared.status.Status.{Status}
 use Rattle.run_notes.specs.declared.status.Status.TheVariants.{Done, FolderFull}
 use Rattle.ctrl_serve.specs.OpenedFolders.{OpensTo}
 use Rattle.ctrl_serve.specs.FolderWords.{compaction, refusal_of}
-use Rattle.ctrl_serve.specs.Headline.{Completes}
+use Rattle.ctrl_serve.specs.Headline.{Completes, Taking}
 
 -- No call of a kind failed: the count of its faults did not rise.
 abbrev pub IsCalm : (before now : ℕ) → Type 0
 IsCalm before now = Rose before now → ⊥
 
 -- A run over an input on a folder with a state is complete: it is so from the machine to which the folder opens, which has that state.
-abbrev pub CompletesFrom : State → Image → Form → StoreBounds → ℕ → (left_before left_now said_before said_now : Option (List ℕ)) → Status → Type 0
-CompletesFrom s reads form bounds most left left_now said said_now status =
-    (m : Machine) × OpensTo reads m × (m.state ≡ s) × Completes form bounds m most left left_now said said_now status
+abbrev pub CompletesFrom : State → Taking → StoreBounds → (left_before left_now : Option (List ℕ)) (before now : Seen) → Status → Type 0
+CompletesFrom s taking bounds left left_now before now status =
+    (m : Machine) × OpensTo before.reads m × (m.state ≡ s) × Completes taking bounds m left left_now before now status
 
 -- A compaction came out as the machine's step does: it was done, or refused since a part has no room.
 abbrev pub ComesOut : StoreBounds → Machine → Status → Type 0

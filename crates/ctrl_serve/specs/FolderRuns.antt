@@ -2,6 +2,7 @@
 use Rattle.std.specs.Prelude.{◌≡◌, ℕ, List, [], None, Some, Ok, Err}
 use Rattle.std.specs.declared.option.Option.{Option}
 use Rattle.std.specs.declared.result.Result.{Result}
+use Rattle.ziti_outside.specs.Views.{Seen}
 use Rattle.ctrl_model.specs.declared.refusals.Refusal.TheVariants.{JournalFull, MarkFull}
 use Rattle.ctrl_model.specs.declared.replies.Reply.{Reply}
 use Rattle.ctrl_model.specs.declared.replies.Reply.TheVariants.{Refused}
@@ -15,15 +16,15 @@ use Rattle.run_notes.specs.NotedLines.{NotesLines, TellsDamage}
 use Rattle.run_notes.specs.Notes.{full_note, status_lines}
 
 -- A run ended at one status, and these lines were noted.
-abbrev pub TellsEnd : (is : Status) → (lines : List ℕ) → (status : Status) → (noted_before noted_now : Option (List ℕ)) (note_faults_before note_faults_now : ℕ) → Type 0
-TellsEnd is lines status noted noted_now faults faults_now = (status ≡ is) × NotesLines lines noted noted_now faults faults_now
+abbrev pub TellsEnd : (is : Status) → (lines : List ℕ) → (status : Status) → (before now : Seen) → Type 0
+TellsEnd is lines status before now = (status ≡ is) × NotesLines lines before now
 
 -- What was told of a folder that was not opened, by the fault of its opening, which is never Spent.
-abbrev pub TellsClosed : KeepFault → (status : Status) → (noted_before noted_now : Option (List ℕ)) (note_faults_before note_faults_now : ℕ) → Type 0
-TellsClosed Disk status noted noted_now faults faults_now = TellsEnd ending.DiskFault (status_lines [] ending.DiskFault) status noted noted_now faults faults_now
-TellsClosed (Damaged part at) status noted noted_now faults faults_now = TellsDamage part at status noted noted_now faults faults_now
-TellsClosed Spent status noted noted_now faults faults_now = ⊥
-TellsClosed NoMemory status noted noted_now faults faults_now = TellsEnd ending.NoMemory (status_lines [] ending.NoMemory) status noted noted_now faults faults_now
+abbrev pub TellsClosed : KeepFault → (status : Status) → (before now : Seen) → Type 0
+TellsClosed Disk status before now = TellsEnd ending.DiskFault (status_lines [] ending.DiskFault) status before now
+TellsClosed (Damaged part at) status before now = TellsDamage part at status before now
+TellsClosed Spent status before now = ⊥
+TellsClosed NoMemory status before now = TellsEnd ending.NoMemory (status_lines [] ending.NoMemory) status before now
 
 -- The part without room, if that is why a reply refuses.
 abbrev pub full_in : Reply → Option Full
@@ -32,12 +33,12 @@ full_in (Refused MarkFull) = Some full.Mark
 full_in _ = None
 
 -- What was told of a part without room: nothing where there is none.
-abbrev pub TellsRoom : Option Full → (status : Status) → (noted_before noted_now : Option (List ℕ)) (note_faults_before note_faults_now : ℕ) → Type 0
-TellsRoom None status noted noted_now faults faults_now = TellsEnd ending.Done [] status noted noted_now faults faults_now
-TellsRoom (Some part) status noted noted_now faults faults_now = TellsEnd ending.FolderFull (full_note part) status noted noted_now faults faults_now
+abbrev pub TellsRoom : Option Full → (status : Status) → (before now : Seen) → Type 0
+TellsRoom None status before now = TellsEnd ending.Done [] status before now
+TellsRoom (Some part) status before now = TellsEnd ending.FolderFull (full_note part) status before now
 
 -- What was told of a compaction, by its reply or its fault, which is of the disk or want of memory.
-abbrev pub TellsCompaction : Result Reply KeepFault → (status : Status) → (noted_before noted_now : Option (List ℕ)) (note_faults_before note_faults_now : ℕ) → Type 0
-TellsCompaction (Ok reply) status noted noted_now faults faults_now = TellsRoom (full_in reply) status noted noted_now faults faults_now
-TellsCompaction (Err Disk) status noted noted_now faults faults_now = TellsEnd ending.DiskFault (status_lines [] ending.DiskFault) status noted noted_now faults faults_now
-TellsCompaction (Err fault) status noted noted_now faults faults_now = TellsEnd ending.NoMemory (status_lines [] ending.NoMemory) status noted noted_now faults faults_now
+abbrev pub TellsCompaction : Result Reply KeepFault → (status : Status) → (before now : Seen) → Type 0
+TellsCompaction (Ok reply) status before now = TellsRoom (full_in reply) status before now
+TellsCompaction (Err Disk) status before now = TellsEnd ending.DiskFault (status_lines [] ending.DiskFault) status before now
+TellsCompaction (Err fault) status before now = TellsEnd ending.NoMemory (status_lines [] ending.NoMemory) status before now

@@ -1,9 +1,10 @@
 -- What the words `audit` and `compact` do with a folder (docs/PROMISES.md, "The headline").
 use Rattle.std.specs.Prelude.{◌≡◌, ℕ, ◌<◌, Bool, true, IsTrue, List, [], length, Some, is_some}
-use Rattle.std.specs.declared.option.Option.{Option}
 use Rattle.ziti_outside.specs.declared.desk.Part.TheVariants.{Mark}
 use Rattle.ziti_outside.specs.Images.{Image}
+use Rattle.ziti_outside.specs.Moments.{Elapses}
 use Rattle.ziti_outside.specs.Told.{AreTaken}
+use Rattle.ziti_outside.specs.Views.{Seen, Stopped}
 use Rattle.ctrl_model.specs.declared.commands.Command.TheVariants.{Compact}
 use Rattle.ctrl_model.specs.declared.kinds.Who.TheVariants.{Admin}
 use Rattle.ctrl_model.specs.declared.refusals.Refusal.{Refusal}
@@ -15,7 +16,7 @@ use Rattle.ctrl_model.specs.ValidState.{ValidState}
 use Rattle.slot_files.specs.FolderImage.{slot_of, Stands, StandsAsBefore}
 use Rattle.row_store.specs.declared.bounds.StoreBounds.{StoreBounds}
 use Rattle.row_store.specs.CompactedStores.{compacted}
-use Rattle.ctrl_keep.specs.OpenedStates.{byte_rows_of, OpensToState}
+use Rattle.row_store.specs.OpenedStates.{byte_rows_of, OpensToState}
 use Rattle.ctrl_keep.specs.KeptMachine.{Machine, Place, step}
 use Rattle.run_notes.specs.declared.ends.Full.{Full}
 use Rattle.run_notes.specs.declared.ends.Full.TheVariants as full
@@ -30,11 +31,11 @@ use Rattle.ctrl_serve.specs.RunStops.{AllOpenTo}
 -- ---- audit
 
 -- A run of `audit` on a folder that opens to a state, which is valid: it says the counts line of that state.
-pub record Audits (said_before said_now noted_before noted_now : Option (List ℕ)) (note_faults_before note_faults_now : ℕ) (tells : Bool) (reads : Image) (status : Status) : Type 0 where
+pub record Audits (tells : Bool) (before now : Seen) (status : Status) : Type 0 where
   pub state : State
   pub valid : ValidState state
-  pub opens : IsTrue tells → OpensToState reads state
-  pub says : SaysOneLine (counts_line state) said_before said_now noted_before noted_now note_faults_before note_faults_now status
+  pub opens : IsTrue tells → OpensToState before.reads state
+  pub says : SaysOneLine (counts_line state) before now status
 
 -- ---- compact
 
@@ -56,35 +57,32 @@ pub record IsCompacted (bounds : StoreBounds) (m : Machine) (reads_now : Image) 
 
 -- A compaction was refused for want of room: the machine's step says so, the note tells the part without room, and the folder keeps the
 -- machine as it was.
-pub record HasNoRoom (bounds : StoreBounds) (m : Machine) (noted_before noted_now : Option (List ℕ)) (note_faults_before note_faults_now : ℕ) (tells : Bool) (reads_now : Image) : Type 0 where
+pub record HasNoRoom (bounds : StoreBounds) (m : Machine) (tells : Bool) (before now : Seen) : Type 0 where
   pub full : Full
   pub refused : (compaction bounds m).0 ≡ Refused (refusal_of full)
-  pub notes : NotesLines (full_note full) noted_before noted_now note_faults_before note_faults_now
-  pub keeps : IsTrue tells → Keeps reads_now m
+  pub notes : NotesLines (full_note full) before now
+  pub keeps : IsTrue tells → Keeps now.reads m
 
 -- How a run of `compact` on a folder ended, at a status. A failed call on the disk and want of memory come only where the compaction is not
 -- refused. The other statuses never come.
-abbrev pub EndsCompaction : Status → (bounds : StoreBounds) (m : Machine) (noted_before noted_now : Option (List ℕ)) (note_faults_before note_faults_now : ℕ) (tells : Bool) (reads_now : Image) → Type 0
-EndsCompaction ending.Done bounds m noted noted_now faults faults_now tells reads_now =
-    ((compaction bounds m).0 ≡ Done) × NotesLines [] noted noted_now faults faults_now × (IsTrue tells → IsCompacted bounds m reads_now)
-EndsCompaction ending.FolderFull bounds m noted noted_now faults faults_now tells reads_now = HasNoRoom bounds m noted noted_now faults faults_now tells reads_now
-EndsCompaction ending.DiskFault bounds m noted noted_now faults faults_now tells reads_now =
-    ((compaction bounds m).0 ≡ Done) × NotesLines (status_lines [] ending.DiskFault) noted noted_now faults faults_now
-EndsCompaction ending.NoMemory bounds m noted noted_now faults faults_now tells reads_now =
-    ((compaction bounds m).0 ≡ Done) × NotesLines (status_lines [] ending.NoMemory) noted noted_now faults faults_now
-EndsCompaction _ bounds m noted noted_now faults faults_now tells reads_now = ⊥
+abbrev pub EndsCompaction : Status → (bounds : StoreBounds) (m : Machine) (tells : Bool) (before now : Seen) → Type 0
+EndsCompaction ending.Done bounds m tells before now = ((compaction bounds m).0 ≡ Done) × NotesLines [] before now × (IsTrue tells → IsCompacted bounds m now.reads)
+EndsCompaction ending.FolderFull bounds m tells before now = HasNoRoom bounds m tells before now
+EndsCompaction ending.DiskFault bounds m tells before now = ((compaction bounds m).0 ≡ Done) × NotesLines (status_lines [] ending.DiskFault) before now
+EndsCompaction ending.NoMemory bounds m tells before now = ((compaction bounds m).0 ≡ Done) × NotesLines (status_lines [] ending.NoMemory) before now
+EndsCompaction _ bounds m tells before now = ⊥
 
 -- A run of `compact` on a folder that opens to a machine, in a valid state and with a place. However it ends, each image that a stop may
 -- leave, at any moment and at the end, opens to the state that stood, and no reply byte is taken. Where the compaction is refused for want of
 -- room the folder stands for what it stood for, and where its mark is not empty every part reads as before.
-pub record Compacts (bounds : StoreBounds) (said_before noted_before noted_now : Option (List ℕ)) (note_faults_before note_faults_now : ℕ) (tells : Bool) (reads_before reads_now : Image) (may_leave_before may_leave_now : Image → Type 0) (elapses : (Image → List ℕ → Type 0) → Type 0) (status : Status) : Type 0 where
+pub record Compacts (bounds : StoreBounds) (tells : Bool) (before now : Seen) (stopped stopped_now : Stopped) (status : Status) : Type 0 where
   pub machine : Machine
   pub valid : ValidState machine.state
   pub placed : is_some machine.place ≡ true
-  pub opens : IsTrue tells → OpensTo reads_before machine
-  pub ends : EndsCompaction status bounds machine noted_before noted_now note_faults_before note_faults_now tells reads_now
-  pub refused_stands : IsTrue tells → status ≡ ending.FolderFull → StandsAsBefore reads_before reads_now
-  pub refused_still : IsTrue tells → status ≡ ending.FolderFull → 0 < length (reads_before Mark) → reads_now ≡ reads_before
-  pub stops : IsTrue tells → AllOpenTo may_leave_before machine.state → elapses (λ image taken. OpensToState image machine.state)
-  pub found : IsTrue tells → AllOpenTo may_leave_now machine.state
-  pub unsaid : elapses (λ image taken. AreTaken said_before taken)
+  pub opens : IsTrue tells → OpensTo before.reads machine
+  pub ends : EndsCompaction status bounds machine tells before now
+  pub refused_stands : IsTrue tells → status ≡ ending.FolderFull → StandsAsBefore before.reads now.reads
+  pub refused_still : IsTrue tells → status ≡ ending.FolderFull → 0 < length (before.reads Mark) → now.reads ≡ before.reads
+  pub stops : IsTrue tells → AllOpenTo stopped.images machine.state → Elapses stopped stopped_now (λ image taken. OpensToState image machine.state)
+  pub found : IsTrue tells → AllOpenTo stopped_now.images machine.state
+  pub unsaid : Elapses stopped stopped_now (λ image taken. AreTaken before.said taken)

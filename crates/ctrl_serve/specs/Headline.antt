@@ -9,12 +9,13 @@ use Rattle.ziti_outside.specs.Moments.{Now, Elapses}
 use Rattle.ziti_outside.specs.Untouched.{OnlyNotes}
 use Rattle.ziti_outside.specs.declared.desk.Part.{Part}
 use Rattle.ziti_outside.specs.declared.desk.Part.TheVariants.{Mark}
+use Rattle.ziti_outside.specs.Views.{Outside, Seen, Stopped}
 use Rattle.journal_core.specs.Room.{KeepsRoom}
 use Rattle.ctrl_model.specs.State.{start}
 use Rattle.ctrl_model.specs.ValidState.{ValidState}
 use Rattle.model_laws.specs.JudgedCircuits.{AreGranted}
 use Rattle.slot_files.specs.FolderImage.{Stands, StandsAsBefore}
-use Rattle.ctrl_keep.specs.OpenedStates.{IsStateless, OpensToState}
+use Rattle.row_store.specs.OpenedStates.{IsStateless, OpensToState}
 use Rattle.row_store.specs.declared.bounds.StoreBounds.{StoreBounds}
 use Rattle.ctrl_keep.specs.KeptMachine.{Machine}
 use Rattle.ctrl_serve.specs.OpenedFolders.{Keeps, OpensTo}
@@ -51,22 +52,30 @@ pub record AreBounds (b : Bounds) : Type 0 where
 abbrev pub folder_bounds : Bounds → StoreBounds
 folder_bounds b = record { slot = b.slot; mark = b.mark }
 
--- Those of the program: 2^30 bytes of a slot, and 2^20 of the mark.
-abbrev pub program_bounds : StoreBounds
-program_bounds = record { slot = 2 ^ 30; mark = 2 ^ 20 }
+-- The bounds of the program: 2^32 bytes of input, 2^30 of a slot, and 2^20 of the mark.
+abbrev pub program_bounds : Bounds
+program_bounds = record { input = 2 ^ 32; slot = 2 ^ 30; mark = 2 ^ 20 }
 
 -- A folder was left alone: every part reads as before, and a stop leaves no image that it did not leave before, at any moment and at the
 -- end.
-pub record IsLeftAlone {D : Type 0} (reads : D → Image) (moment : D → ℕ) (since : D → ℕ → Image → List ℕ → Type 0) (may_leave : D → Image → Type 0) (desk desk_now : D) : Type 0 where
-  pub parts : reads desk_now ≡ reads desk
-  pub found : (image : Image) → may_leave desk_now image → may_leave desk image
-  pub stops : Elapses (moment desk) (moment desk_now) (since desk) (since desk_now) (λ image taken. may_leave desk image)
+pub record IsLeftAlone {D : Type 0} (seen : D → Seen) (stopped : D → Stopped) (desk desk_now : D) : Type 0 where
+  pub parts : (seen desk_now).reads ≡ (seen desk).reads
+  pub found : (image : Image) → (stopped desk_now).images image → (stopped desk).images image
+  pub stops : Elapses (stopped desk) (stopped desk_now) (λ image taken. (stopped desk).images image)
 
 -- Replies were said and notes were written, and nothing else was done on a desk: the folder was left alone, and no fault of its calls was
 -- counted.
-pub record OnlySaysAndNotes {D : Type 0} (reads : D → Image) (moment : D → ℕ) (since : D → ℕ → Image → List ℕ → Type 0) (may_leave : D → Image → Type 0) (disk_faults : D → ℕ) (old new : D) : Type 0 where
-  pub folder : IsLeftAlone reads moment since may_leave old new
-  pub failed_calls : disk_faults new ≡ disk_faults old
+pub record OnlySaysAndNotes {D : Type 0} (seen : D → Seen) (stopped : D → Stopped) (old new : D) : Type 0 where
+  pub folder : IsLeftAlone seen stopped old new
+  pub failed_calls : (seen new).disk_faults ≡ (seen old).disk_faults
+
+-- How an input is taken: its form, and how many bytes of it are used at most.
+pub record Taking : Type 0 where
+  pub form : Form
+  pub most : ℕ
+
+abbrev pub taking_of : Form → ℕ → Taking
+taking_of form most = record { form = form; most = most }
 
 -- A run over an input of a form from a machine on, within the bounds of its folder. Of what the source gave, the first `most` bytes
 -- are used. Of their events the run answered the first ones, and all of them unless memory was wanting, the disk failed or a say. What was
@@ -74,60 +83,59 @@ pub record OnlySaysAndNotes {D : Type 0} (reads : D → Image) (moment : D → �
 -- the next one beside them. A run that was not cut short ends as the bytes decide, and only once they decide the input, nothing is left or more
 -- than `most` bytes were given. At most a piece was taken past the byte at which the run ended. What was noted are the faults among the answered events, in the order in which the bytes decide them, and then how the run ended.
 -- A call on the disk fails only while a frame is answered, and memory is not wanting once the fault of plain input was noted.
-pub record Serves (form : Form) (bounds : StoreBounds) (machine : Machine) (most : ℕ) (left_before left_now said_before said_now noted_before noted_now : Option (List ℕ)) (note_faults_before note_faults_now : ℕ) (status : Status) : Type 0 where
+pub record Serves (taking : Taking) (bounds : StoreBounds) (machine : Machine) (left_before left_now : Option (List ℕ)) (before now : Seen) (status : Status) : Type 0 where
   pub taken : List ℕ
   pub gave : Gave left_before left_now taken
-  pub few : length taken ≤ most + 65536
+  pub few : length taken ≤ taking.most + 65536
   pub answered : List Event
   pub unanswered : List Event
-  pub split : answered ++ unanswered ≡ events_in form (take most taken)
+  pub split : answered ++ unanswered ≡ events_in taking.form (take taking.most taken)
   pub all : is_kept status ≡ true → unanswered ≡ []
   pub said : List ℕ
-  pub took : Took said_before said_now said
-  pub says : Says form bounds machine status said answered unanswered
-  pub ends : is_cut status ≡ false → status ≡ ending form (take most taken) (nat_lt most (length taken))
-  pub read_on : is_cut status ≡ false → is_decided form (take most taken) ≡ false → IsAtEnd left_now ⊎ (most < length taken)
-  pub near : StaysNear form most taken answered
-  pub notes : NotesLines (notes_of form answered (take most taken) status) noted_before noted_now note_faults_before note_faults_now
+  pub took : Took before.said now.said said
+  pub says : Says taking.form bounds machine status said answered unanswered
+  pub ends : is_cut status ≡ false → status ≡ ending taking.form (take taking.most taken) (nat_lt taking.most (length taken))
+  pub read_on : is_cut status ≡ false → is_decided taking.form (take taking.most taken) ≡ false → IsAtEnd left_now ⊎ (taking.most < length taken)
+  pub near : StaysNear taking.form taking.most taken answered
+  pub notes : NotesLines (notes_of taking.form answered (take taking.most taken) status) before now
 
 -- A complete run: it ended as the used bytes decide, all replies to their whole frames were said, and they decide the input, nothing is left
 -- or more than `most` bytes were given.
-pub record Completes (form : Form) (bounds : StoreBounds) (machine : Machine) (most : ℕ) (left_before left_now said_before said_now : Option (List ℕ)) (status : Status) : Type 0 where
+pub record Completes (taking : Taking) (bounds : StoreBounds) (machine : Machine) (left_before left_now : Option (List ℕ)) (before now : Seen) (status : Status) : Type 0 where
   pub taken : List ℕ
   pub gave : Gave left_before left_now taken
-  pub ends : status ≡ ending form (take most taken) (nat_lt most (length taken))
-  pub said : Took said_before said_now (replies form bounds machine (take most taken))
-  pub read_on : is_decided form (take most taken) ≡ false → IsAtEnd left_now ⊎ (most < length taken)
+  pub ends : status ≡ ending taking.form (take taking.most taken) (nat_lt taking.most (length taken))
+  pub said : Took before.said now.said (replies taking.form bounds machine (take taking.most taken))
+  pub read_on : is_decided taking.form (take taking.most taken) ≡ false → IsAtEnd left_now ⊎ (taking.most < length taken)
 
 -- A run without faults is complete, unless memory was wanting.
-abbrev pub IsComplete : Form → StoreBounds → Machine → ℕ → Option (List ℕ) → Option (List ℕ) → Option (List ℕ) → Option (List ℕ) → Status → Type 0
-IsComplete form bounds machine most left_before left_now said_before said_now status =
-    (status ≡ NoMemory) ⊎ Completes form bounds machine most left_before left_now said_before said_now status
+abbrev pub IsComplete : Taking → StoreBounds → Machine → (left_before left_now : Option (List ℕ)) (before now : Seen) → Status → Type 0
+IsComplete taking bounds machine left_before left_now before now status = (status ≡ NoMemory) ⊎ Completes taking bounds machine left_before left_now before now status
 
 -- Why the folder was not opened, at a status, and what was noted: a call on the disk failed; it opens to no state, and then it reads as
 -- before and the place of the damage is told; or memory was wanting. The other statuses never come.
-abbrev pub StaysClosed : (tells : Bool) → (reads_before reads_now : Image) → (noted_before noted_now : Option (List ℕ)) → (note_faults_before note_faults_now : ℕ) → Status → Type 0
-StaysClosed tells reads_before reads_now noted_before noted_now faults faults_now DiskFault = NotesLines (status_lines [] DiskFault) noted_before noted_now faults faults_now
-StaysClosed tells reads_before reads_now noted_before noted_now faults faults_now Damaged =
-    (part : Part) × (at : ℕ) × (IsTrue tells → IsStateless reads_before part at) × (IsTrue tells → reads_now ≡ reads_before)
-    × NotesLines (damaged_note part at) noted_before noted_now faults faults_now
-StaysClosed tells reads_before reads_now noted_before noted_now faults faults_now NoMemory = NotesLines (status_lines [] NoMemory) noted_before noted_now faults faults_now
-StaysClosed tells reads_before reads_now noted_before noted_now faults faults_now _ = ⊥
+abbrev pub StaysClosed : (tells : Bool) → (before now : Seen) → Status → Type 0
+StaysClosed tells before now DiskFault = NotesLines (status_lines [] DiskFault) before now
+StaysClosed tells before now Damaged =
+    (part : Part) × (at : ℕ) × (IsTrue tells → IsStateless before.reads part at) × (IsTrue tells → now.reads ≡ before.reads)
+    × NotesLines (damaged_note part at) before now
+StaysClosed tells before now NoMemory = NotesLines (status_lines [] NoMemory) before now
+StaysClosed tells before now _ = ⊥
 
 -- A folder that was not opened: nothing was said. A folder whose mark is not empty was left alone, whether it is damaged or not. Each image
 -- that a stop may leave, at any moment and at the end, stands for what one of the start stood for, and no reply byte was taken at any moment.
-pub record IsUnopened {D : Type 0} (said noted : D → Option (List ℕ)) (note_faults : D → ℕ) (tells : Bool) (reads : D → Image) (moment : D → ℕ) (since : D → ℕ → Image → List ℕ → Type 0) (may_leave : D → Image → Type 0) (desk desk_now : D) (status : Status) : Type 0 where
-  pub says_nothing : said desk_now ≡ said desk
-  pub alone : IsTrue tells → 0 < length (reads desk Mark) → IsLeftAlone reads moment since may_leave desk desk_now
-  pub why : StaysClosed tells (reads desk) (reads desk_now) (noted desk) (noted desk_now) (note_faults desk) (note_faults desk_now) status
-  pub stops : IsTrue tells → Elapses (moment desk) (moment desk_now) (since desk) (since desk_now) (Now (After StandsAsBefore (may_leave desk)) (said desk))
-  pub stands : IsTrue tells → (image : Image) → may_leave desk_now image → After StandsAsBefore (may_leave desk) image
-  pub unsaid : Elapses (moment desk) (moment desk_now) (since desk) (since desk_now) (λ image taken. AreTaken (said desk) taken)
+pub record IsUnopened {D : Type 0} (tells : Bool) (seen : D → Seen) (stopped : D → Stopped) (desk desk_now : D) (status : Status) : Type 0 where
+  pub says_nothing : (seen desk_now).said ≡ (seen desk).said
+  pub alone : IsTrue tells → 0 < length ((seen desk).reads Mark) → IsLeftAlone seen stopped desk desk_now
+  pub why : StaysClosed tells (seen desk) (seen desk_now) status
+  pub stops : IsTrue tells → Elapses (stopped desk) (stopped desk_now) (Now (After StandsAsBefore (stopped desk).images) (seen desk).said)
+  pub stands : IsTrue tells → (image : Image) → (stopped desk_now).images image → After StandsAsBefore (stopped desk).images image
+  pub unsaid : Elapses (stopped desk) (stopped desk_now) (λ image taken. AreTaken (seen desk).said taken)
 
 -- A run over an input whose folder was not opened: nothing was taken besides.
-pub record Refuses {S D : Type 0} (said noted : D → Option (List ℕ)) (note_faults : D → ℕ) (tells : Bool) (reads : D → Image) (moment : D → ℕ) (since : D → ℕ → Image → List ℕ → Type 0) (may_leave : D → Image → Type 0) (source source_now : S) (desk desk_now : D) (status : Status) : Type 0 where
+pub record Refuses {S D : Type 0} (tells : Bool) (seen : D → Seen) (stopped : D → Stopped) (source source_now : S) (desk desk_now : D) (status : Status) : Type 0 where
   pub takes_nothing : source_now ≡ source
-  pub unopened : IsUnopened said noted note_faults tells reads moment since may_leave desk desk_now status
+  pub unopened : IsUnopened tells seen stopped desk desk_now status
 
 -- A run over an input of a form on the folder: the folder opens to a machine in a valid state and with a place, from which the run goes on.
 -- Where it ended with all kept, the folder keeps the machine behind all frames of the used bytes: exactly the rows of its state, and its
@@ -139,20 +147,24 @@ pub record Refuses {S D : Type 0} (said noted : D → Option (List ℕ)) (note_f
 -- A stop at any moment of the run finds the replies to the first frames, and the folder open to the state behind them, as `StopFinds`
 -- says, where all that a stop might have left before the run opens to the machine's state. Whatever it might have left, it finds that or
 -- an image which stands for what one of the start stood for, with no reply byte taken.
-pub record Replays (form : Form) (bounds : StoreBounds) (most : ℕ) (left_before left_now said_before said_now noted_before noted_now : Option (List ℕ)) (note_faults_before note_faults_now : ℕ) (tells : Bool) (reads_before reads_now : Image) (may_leave_before may_leave_now : Image → Type 0) (elapses : (Image → List ℕ → Type 0) → Type 0) (status : Status) : Type 0 where
+pub record Replays {S D : Type 0} (taking : Taking) (bounds : StoreBounds) (o : Outside S D) (source source_now : S) (desk desk_now : D) (status : Status) : Type 0 where
   pub machine : Machine
   pub valid : ValidState machine.state
   pub placed : is_some machine.place ≡ true
-  pub opens : IsTrue tells → OpensTo reads_before machine
-  pub serves : Serves form bounds machine most left_before left_now said_before said_now noted_before noted_now note_faults_before note_faults_now status
-  pub keeps : is_kept status ≡ true → IsTrue tells → Keeps reads_now (last_machine form bounds machine (take most serves.taken))
-  pub found : is_kept status ≡ true → IsTrue tells → (image : Image) → may_leave_now image → OpensToState image (last_machine form bounds machine (take most serves.taken)).state
-  pub stands : is_kept status ≡ true → IsTrue tells → (batches : List (List ℕ)) → Stands reads_before batches → Stands reads_now (last_batches form bounds machine (take most serves.taken) batches)
-  pub still : is_kept status ≡ true → IsTrue tells → 0 < length (reads_before Mark) → last_machine form bounds machine (take most serves.taken) ≡ machine → reads_now ≡ reads_before
-  pub granted : AreGranted machine.state → (n : ℕ) → AreGranted (last_machine form bounds machine (take n serves.taken)).state
-  pub stops : IsTrue tells → AllOpenTo may_leave_before machine.state → elapses (StopFinds form bounds machine (events_in form (take most serves.taken)) said_before)
-  pub stops_later : IsTrue tells → elapses (λ image taken. StopFinds form bounds machine (events_in form (take most serves.taken)) said_before image taken
-      ⊎ Now (After StandsAsBefore may_leave_before) said_before image taken)
+  pub opens : IsTrue o.tells → OpensTo (o.seen desk).reads machine
+  pub serves : Serves taking bounds machine (o.left source) (o.left source_now) (o.seen desk) (o.seen desk_now) status
+  pub keeps : is_kept status ≡ true → IsTrue o.tells → Keeps (o.seen desk_now).reads (last_machine taking.form bounds machine (take taking.most serves.taken))
+  pub found : is_kept status ≡ true → IsTrue o.tells → AllOpenTo (o.stopped desk_now).images (last_machine taking.form bounds machine (take taking.most serves.taken)).state
+  pub stands : is_kept status ≡ true → IsTrue o.tells → (batches : List (List ℕ)) → Stands (o.seen desk).reads batches
+      → Stands (o.seen desk_now).reads (last_batches taking.form bounds machine (take taking.most serves.taken) batches)
+  pub still : is_kept status ≡ true → IsTrue o.tells → 0 < length ((o.seen desk).reads Mark) → last_machine taking.form bounds machine (take taking.most serves.taken) ≡ machine
+      → (o.seen desk_now).reads ≡ (o.seen desk).reads
+  pub granted : AreGranted machine.state → (n : ℕ) → AreGranted (last_machine taking.form bounds machine (take n serves.taken)).state
+  pub stops : IsTrue o.tells → AllOpenTo (o.stopped desk).images machine.state
+      → Elapses (o.stopped desk) (o.stopped desk_now) (StopFinds taking.form bounds machine (events_in taking.form (take taking.most serves.taken)) (o.seen desk).said)
+  pub stops_later : IsTrue o.tells → Elapses (o.stopped desk) (o.stopped desk_now)
+      (λ image taken. StopFinds taking.form bounds machine (events_in taking.form (take taking.most serves.taken)) (o.seen desk).said image taken
+      ⊎ Now (After StandsAsBefore (o.stopped desk).images) (o.seen desk).said image taken)
 
 -- A run that was asked for a line of the table of words, or for none of its lines.
 --
@@ -179,45 +191,43 @@ pub record Replays (form : Form) (bounds : StoreBounds) (most : ℕ) (left_befor
 --
 -- Under all words no slot reads longer at the end than the bound, unless it read longer at the start; then it reads no longer than that. This
 -- is said of a start from which no stop might have left a slot that passes both, as none might where nothing is pending.
-pub record Runs {S D : Type 0} (left : S → Option (List ℕ)) (faults : S → ℕ) (said noted : D → Option (List ℕ)) (say_faults note_faults : D → ℕ) (reads : D → Image) (moment : D → ℕ) (since : D → ℕ → Image → List ℕ → Type 0) (may_leave : D → Image → Type 0) (disk_faults : D → ℕ) (tells : Bool) (bounds : StoreBounds) (most : ℕ) (form : Option command.Form) (source source_now : S) (desk desk_now : D) (status : Status) : Type 0 where
+pub record Runs {S D : Type 0} (o : Outside S D) (bounds : Bounds) (form : Option command.Form) (source source_now : S) (desk desk_now : D) (status : Status) : Type 0 where
   pub usage : (status ≡ Usage) ↔ (form ≡ None)
   pub usage_takes_nothing : form ≡ None → source_now ≡ source
-  pub usage_notes_alone : form ≡ None → OnlyNotes said say_faults reads may_leave disk_faults desk desk_now
-  pub usage_changes_nothing : form ≡ None → IsLeftAlone reads moment since may_leave desk desk_now
-  pub usage_note : form ≡ None → NotesLines usage_note (noted desk) (noted desk_now) (note_faults desk) (note_faults desk_now)
-  pub read_fault : status ≡ ReadFault → Rose (faults source) (faults source_now)
-  pub write_fault : status ≡ WriteFault → Rose (say_faults desk) (say_faults desk_now)
-  pub failed_take : is_cut status ≡ false → faults source_now ≡ faults source
-  pub failed_say : (status ≡ WriteFault → ⊥) → say_faults desk_now ≡ say_faults desk
-  pub read_faults_once : RisesOnce (faults source) (faults source_now)
-  pub say_faults_once : RisesOnce (say_faults desk) (say_faults desk_now)
-  pub disk_fault : status ≡ DiskFault → Rose (disk_faults desk) (disk_faults desk_now)
-  pub failed_disk : (status ≡ DiskFault → ⊥) → disk_faults desk_now ≡ disk_faults desk
-  pub disk_faults_once : RisesOnce (disk_faults desk) (disk_faults desk_now)
-  pub note_faults_once : RisesOnce (note_faults desk) (note_faults desk_now)
-  pub takes_until_failure : TakesUntilFailure left faults source source_now
-  pub dry : form ≡ Some Dry → Serves Plain no_bounds (alone start) most (left source) (left source_now) (said desk) (said desk_now) (noted desk) (noted desk_now) (note_faults desk) (note_faults desk_now) status
-  pub dry_says_and_notes_alone : form ≡ Some Dry → OnlySaysAndNotes reads moment since may_leave disk_faults desk desk_now
-  pub complete : form ≡ Some Dry → (Rose (faults source) (faults source_now) → ⊥) → (Rose (say_faults desk) (say_faults desk_now) → ⊥)
-      → IsComplete Plain no_bounds (alone start) most (left source) (left source_now) (said desk) (said desk_now) status
-  pub read_to_the_end : (asked : command.Form) → form ≡ Some asked → reads_input asked ≡ true → status ≡ Done → IsAtEnd (left source_now)
+  pub usage_notes_alone : form ≡ None → OnlyNotes o.seen o.stopped desk desk_now
+  pub usage_changes_nothing : form ≡ None → IsLeftAlone o.seen o.stopped desk desk_now
+  pub usage_note : form ≡ None → NotesLines usage_note (o.seen desk) (o.seen desk_now)
+  pub read_fault : status ≡ ReadFault → Rose (o.faults source) (o.faults source_now)
+  pub write_fault : status ≡ WriteFault → Rose (o.seen desk).say_faults (o.seen desk_now).say_faults
+  pub failed_take : is_cut status ≡ false → o.faults source_now ≡ o.faults source
+  pub failed_say : (status ≡ WriteFault → ⊥) → (o.seen desk_now).say_faults ≡ (o.seen desk).say_faults
+  pub read_faults_once : RisesOnce (o.faults source) (o.faults source_now)
+  pub say_faults_once : RisesOnce (o.seen desk).say_faults (o.seen desk_now).say_faults
+  pub disk_fault : status ≡ DiskFault → Rose (o.seen desk).disk_faults (o.seen desk_now).disk_faults
+  pub failed_disk : (status ≡ DiskFault → ⊥) → (o.seen desk_now).disk_faults ≡ (o.seen desk).disk_faults
+  pub disk_faults_once : RisesOnce (o.seen desk).disk_faults (o.seen desk_now).disk_faults
+  pub note_faults_once : RisesOnce (o.seen desk).note_faults (o.seen desk_now).note_faults
+  pub takes_until_failure : TakesUntilFailure o.left o.faults source source_now
+  pub dry : form ≡ Some Dry → Serves (taking_of Plain bounds.input) no_bounds (alone start) (o.left source) (o.left source_now) (o.seen desk) (o.seen desk_now) status
+  pub dry_says_and_notes_alone : form ≡ Some Dry → OnlySaysAndNotes o.seen o.stopped desk desk_now
+  pub complete : form ≡ Some Dry → (Rose (o.faults source) (o.faults source_now) → ⊥) → (Rose (o.seen desk).say_faults (o.seen desk_now).say_faults → ⊥)
+      → IsComplete (taking_of Plain bounds.input) no_bounds (alone start) (o.left source) (o.left source_now) (o.seen desk) (o.seen desk_now) status
+  pub read_to_the_end : (asked : command.Form) → form ≡ Some asked → reads_input asked ≡ true → status ≡ Done → IsAtEnd (o.left source_now)
   pub replay : (of : Form) → form ≡ Some (Replay of)
-      → Refuses said noted note_faults tells reads moment since may_leave source source_now desk desk_now status
-      ⊎ Replays of bounds most (left source) (left source_now) (said desk) (said desk_now) (noted desk) (noted desk_now) (note_faults desk) (note_faults desk_now) tells (reads desk) (reads desk_now) (may_leave desk) (may_leave desk_now)
-      (Elapses (moment desk) (moment desk_now) (since desk) (since desk_now)) status
-  pub load : (number : ℕ) → form ≡ Some (Load number) → SaysOneLine (counts_line (state_of_load number)) (said desk) (said desk_now) (noted desk) (noted desk_now) (note_faults desk) (note_faults desk_now) status
+      → Refuses o.tells o.seen o.stopped source source_now desk desk_now status
+      ⊎ Replays (taking_of of bounds.input) (folder_bounds bounds) o source source_now desk desk_now status
+  pub load : (number : ℕ) → form ≡ Some (Load number) → SaysOneLine (counts_line (state_of_load number)) (o.seen desk) (o.seen desk_now) status
   pub load_takes_nothing : (number : ℕ) → form ≡ Some (Load number) → source_now ≡ source
-  pub load_says_and_notes_alone : (number : ℕ) → form ≡ Some (Load number) → OnlySaysAndNotes reads moment since may_leave disk_faults desk desk_now
-  pub load_complete : (number : ℕ) → form ≡ Some (Load number) → (Rose (say_faults desk) (say_faults desk_now) → ⊥) → IsSaid (counts_line (state_of_load number)) (said desk) (said desk_now) status
+  pub load_says_and_notes_alone : (number : ℕ) → form ≡ Some (Load number) → OnlySaysAndNotes o.seen o.stopped desk desk_now
+  pub load_complete : (number : ℕ) → form ≡ Some (Load number) → (Rose (o.seen desk).say_faults (o.seen desk_now).say_faults → ⊥) → IsSaid (counts_line (state_of_load number)) (o.seen desk).said (o.seen desk_now).said status
   pub audit : form ≡ Some Audit
-      → IsUnopened said noted note_faults tells reads moment since may_leave desk desk_now status
-      ⊎ Audits (said desk) (said desk_now) (noted desk) (noted desk_now) (note_faults desk) (note_faults desk_now) tells (reads desk) status
+      → IsUnopened o.tells o.seen o.stopped desk desk_now status
+      ⊎ Audits o.tells (o.seen desk) (o.seen desk_now) status
   pub audit_takes_nothing : form ≡ Some Audit → source_now ≡ source
-  pub audit_changes_nothing : form ≡ Some Audit → IsLeftAlone reads moment since may_leave desk desk_now
+  pub audit_changes_nothing : form ≡ Some Audit → IsLeftAlone o.seen o.stopped desk desk_now
   pub compact : form ≡ Some Compact
-      → IsUnopened said noted note_faults tells reads moment since may_leave desk desk_now status
-      ⊎ Compacts bounds (said desk) (noted desk) (noted desk_now) (note_faults desk) (note_faults desk_now) tells (reads desk) (reads desk_now) (may_leave desk) (may_leave desk_now)
-      (Elapses (moment desk) (moment desk_now) (since desk) (since desk_now)) status
+      → IsUnopened o.tells o.seen o.stopped desk desk_now status
+      ⊎ Compacts (folder_bounds bounds) o.tells (o.seen desk) (o.seen desk_now) (o.stopped desk) (o.stopped desk_now) status
   pub compact_takes_nothing : form ≡ Some Compact → source_now ≡ source
-  pub compact_says_nothing : form ≡ Some Compact → said desk_now ≡ said desk
-  pub room : IsTrue tells → ((image : Image) → may_leave desk image → KeepsRoom bounds.slot (reads desk) image) → KeepsRoom bounds.slot (reads desk) (reads desk_now)
+  pub compact_says_nothing : form ≡ Some Compact → (o.seen desk_now).said ≡ (o.seen desk).said
+  pub room : IsTrue o.tells → ((image : Image) → (o.stopped desk).images image → KeepsRoom (folder_bounds bounds).slot (o.seen desk).reads image) → KeepsRoom (folder_bounds bounds).slot (o.seen desk).reads (o.seen desk_now).reads

@@ -2,6 +2,7 @@
 use Rattle.std.specs.Prelude.{◌≡◌, ◌⊎◌, ℕ, List, [], ◌++◌, codes}
 use Rattle.std.specs.declared.option.Option.{Option}
 use Rattle.ziti_outside.specs.Told.{Took, IsFront}
+use Rattle.ziti_outside.specs.Views.{Seen}
 use Rattle.ctrl_model.specs.declared.kinds.Who.TheVariants.{Admin}
 use Rattle.ctrl_model.specs.State.{State, start}
 use Rattle.ctrl_model.specs.ShowCommands.{counts_of}
@@ -31,11 +32,11 @@ SaysLine _ said line = ⊥
 
 -- A run that says one line, at its end: the line was said, but a front of it where it was not taken, and nothing where memory was
 -- wanting. What was noted are the lines of the status.
-pub record SaysOneLine (line : List ℕ) (said_before said_now noted_before noted_now : Option (List ℕ)) (note_faults_before note_faults_now : ℕ) (status : Status) : Type 0 where
+pub record SaysOneLine (line : List ℕ) (before now : Seen) (status : Status) : Type 0 where
   pub said : List ℕ
-  pub took : Took said_before said_now said
+  pub took : Took before.said now.said said
   pub says : SaysLine status said line
-  pub notes : NotesLines (status_lines [] status) noted_before noted_now note_faults_before note_faults_now
+  pub notes : NotesLines (status_lines [] status) before now
 
 -- Such a run is done with its line said, unless memory was wanting.
 abbrev pub IsSaid : List ℕ → Option (List ℕ) → Option (List ℕ) → Status → Type 0

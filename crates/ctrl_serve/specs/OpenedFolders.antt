@@ -7,7 +7,7 @@ use Rattle.ctrl_model.specs.ValidState.{ValidState}
 use Rattle.journal_core.specs.Slots.{slot_end}
 use Rattle.slot_files.specs.FolderImage.{Stands}
 use Rattle.row_store.specs.BatchRows.{Give}
-use Rattle.ctrl_keep.specs.OpenedStates.{byte_rows_of}
+use Rattle.row_store.specs.OpenedStates.{byte_rows_of}
 use Rattle.ctrl_keep.specs.KeptMachine.{Machine}
 
 -- A folder keeps a machine: it stands for batches that give exactly the rows of the machine's state, which is valid, and the machine's

@@ -22,6 +22,7 @@ use Rattle.ctrl_serve.specs.Controllers.{Serving}
 use Rattle.ctrl_serve.specs.FrameAnswer.{last_machine}
 use Rattle.ctrl_serve.specs.Reading.{is_decided, StaysNear}
 use Rattle.ctrl_serve.specs.Turns.{Answers, AnswersAll, AnswersSome, StopsAlong}
+use Rattle.ziti_outside.specs.Views.{Seen}
 
 -- Whether the answered bytes are decided, by the bad record that comes behind them, and by whether a session had a fault.
 abbrev pub decided_by : Form → (bad : Option ℕ) → (faulty : Bool) → Bool
@@ -55,42 +56,42 @@ pub record TakesPieces (form : Form) (c : Serving) (most : ℕ) (left_before lef
 
 -- The events of all used bytes so far were answered, and these did not decide the input.
 pub record AnswersPieces (form : Form) (c : Serving) (most : ℕ) (known : Known) (now : Machine) (st : Standing) (left_before left_now said_before said_now : Option (List ℕ))
-    (failed failed_now : Bool) (noted noted_now : Option (List ℕ)) (faults faults_now : ℕ) (tells : Bool) (elapses : (Image → List ℕ → Type 0) → Type 0) (count : ℕ) : Type 0 where
+    (failed failed_now : Bool) (desk desk_now : Seen) (tells : Bool) (elapses : (Image → List ℕ → Type 0) → Type 0) (count : ℕ) : Type 0 where
   pub takes : TakesPieces form c most left_before left_now said_before tells elapses
   pub counted : length takes.taken ≡ count
-  pub answers : Answers form c.bounds (known_in form) known c.machine now (fed (start_of form) (take most takes.taken)) st said_before said_now failed failed_now noted noted_now faults faults_now
+  pub answers : Answers form c.bounds (known_in form) known c.machine now (fed (start_of form) (take most takes.taken)) st said_before said_now failed failed_now desk desk_now
   pub undecided : is_decided form (take most takes.taken) ≡ false
 
 -- The taking ended so, and the events of all used bytes were answered.
 pub record EndsPieces (form : Form) (c : Serving) (most : ℕ) (known : Known) (now : Machine) (st : Standing) (left_before left_now said_before said_now : Option (List ℕ))
-    (failed failed_now : Bool) (noted noted_now : Option (List ℕ)) (faults faults_now : ℕ) (tells : Bool) (elapses : (Image → List ℕ → Type 0) → Type 0) (end : End) : Type 0 where
+    (failed failed_now : Bool) (desk desk_now : Seen) (tells : Bool) (elapses : (Image → List ℕ → Type 0) → Type 0) (end : End) : Type 0 where
   pub takes : TakesPieces form c most left_before left_now said_before tells elapses
-  pub answers : Answers form c.bounds (known_in form) known c.machine now (fed (start_of form) (take most takes.taken)) st said_before said_now failed failed_now noted noted_now faults faults_now
+  pub answers : Answers form c.bounds (known_in form) known c.machine now (fed (start_of form) (take most takes.taken)) st said_before said_now failed failed_now desk desk_now
   pub near : StaysNear form most takes.taken (events_in form (take most takes.taken))
   pub ends : EndsSo end most left_now takes.taken (is_decided form (take most takes.taken))
 
 -- The answering was cut short behind some events of the used bytes.
 pub record CutsInput (cut : Cut) (form : Form) (c : Serving) (most : ℕ) (left_before left_now said_before said_now : Option (List ℕ))
-    (failed failed_now : Bool) (noted noted_now : Option (List ℕ)) (faults faults_now : ℕ) (tells : Bool) (elapses : (Image → List ℕ → Type 0) → Type 0) : Type 0 where
+    (failed failed_now : Bool) (desk desk_now : Seen) (tells : Bool) (elapses : (Image → List ℕ → Type 0) → Type 0) : Type 0 where
   pub takes : TakesPieces form c most left_before left_now said_before tells elapses
-  pub some : AnswersSome cut form c.bounds c.machine (take most takes.taken) said_before said_now failed failed_now noted noted_now faults faults_now
+  pub some : AnswersSome cut form c.bounds c.machine (take most takes.taken) said_before said_now failed failed_now desk desk_now
   pub near : StaysNear form most takes.taken some.answered
 
 -- All events of the used bytes were answered, and the ending was told; the machine is the last one.
 pub record EndsInput (status : Status) (form : Form) (c : Serving) (most : ℕ) (now : Machine) (left_before left_now said_before said_now : Option (List ℕ))
-    (failed failed_now : Bool) (noted noted_now : Option (List ℕ)) (faults faults_now : ℕ) (tells : Bool) (elapses : (Image → List ℕ → Type 0) → Type 0) : Type 0 where
+    (failed failed_now : Bool) (desk desk_now : Seen) (tells : Bool) (elapses : (Image → List ℕ → Type 0) → Type 0) : Type 0 where
   pub takes : TakesPieces form c most left_before left_now said_before tells elapses
   pub end : End
-  pub all : AnswersAll form c.bounds c.machine (take most takes.taken) end status said_before said_now failed failed_now noted noted_now faults faults_now
+  pub all : AnswersAll form c.bounds c.machine (take most takes.taken) end status said_before said_now failed failed_now desk desk_now
   pub near : StaysNear form most takes.taken (events_in form (take most takes.taken))
   pub ends : EndsSo end most left_now takes.taken (is_decided form (take most takes.taken))
   pub last : now ≡ last_machine form c.bounds c.machine (take most takes.taken)
 
 -- What comes of the input, and what is so of its used bytes where all their events were answered.
 abbrev pub AnswersInput : Result Status Cut → (form : Form) (c : Serving) (most : ℕ) (now : Machine) (left_before left_now said_before said_now : Option (List ℕ))
-    (failed failed_now : Bool) (noted noted_now : Option (List ℕ)) (faults faults_now : ℕ) (tells : Bool) (elapses : (Image → List ℕ → Type 0) → Type 0) (follows : List ℕ → Type 0) → Type 0
-AnswersInput (Ok status) form c most now left_before left_now said_before said_now failed failed_now noted noted_now faults faults_now tells elapses follows =
-    (ends : EndsInput status form c most now left_before left_now said_before said_now failed failed_now noted noted_now faults faults_now tells elapses)
+    (failed failed_now : Bool) (desk desk_now : Seen) (tells : Bool) (elapses : (Image → List ℕ → Type 0) → Type 0) (follows : List ℕ → Type 0) → Type 0
+AnswersInput (Ok status) form c most now left_before left_now said_before said_now failed failed_now desk desk_now tells elapses follows =
+    (ends : EndsInput status form c most now left_before left_now said_before said_now failed failed_now desk desk_now tells elapses)
     × follows (take most ends.takes.taken)
-AnswersInput (Err cut) form c most now left_before left_now said_before said_now failed failed_now noted noted_now faults faults_now tells elapses follows =
-    CutsInput cut form c most left_before left_now said_before said_now failed failed_now noted noted_now faults faults_now tells elapses
+AnswersInput (Err cut) form c most now left_before left_now said_before said_now failed failed_now desk desk_now tells elapses follows =
+    CutsInput cut form c most left_before left_now said_before said_now failed failed_now desk desk_now tells elapses

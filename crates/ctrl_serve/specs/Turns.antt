@@ -28,6 +28,7 @@ use Rattle.run_notes.specs.KnownSessions.{Known, sender_at, known_after, known_a
 use Rattle.ctrl_serve.specs.KnownReplies.{machine_after, machine_along, reply_by, replies_by, replies_along}
 use Rattle.run_notes.specs.Notes.{fault_lines, notes_of}
 use Rattle.run_notes.specs.NotesSoFar.{NotesMore}
+use Rattle.ziti_outside.specs.Views.{Seen}
 
 -- ---- a frame
 
@@ -89,13 +90,13 @@ StopsEvent form bounds (event.Closed s rest) known before said image taken = ⊥
 -- So far: the answered events are the first ones, and what is known, the machine, the replies that were said and the faults that were noted
 -- are those behind them.
 pub record Answers (form : Form) (bounds : StoreBounds) (known known_now : Known) (before now : Machine) (st st_now : Standing) (said_before said_now : Option (List ℕ))
-    (failed failed_now : Bool) (noted noted_now : Option (List ℕ)) (faults faults_now : ℕ) : Type 0 where
+    (failed failed_now : Bool) (desk desk_now : Seen) : Type 0 where
   pub answered : List Event
   pub goes : GoesTo st st_now answered
   pub known_is : known_now ≡ known_along answered known
   pub machine_is : now ≡ machine_along bounds answered known before
   pub said : Took said_before said_now (joined (replies_along form bounds answered known before))
-  pub noted_is : NotesMore failed failed_now (fault_lines answered) noted noted_now faults faults_now
+  pub noted_is : NotesMore failed failed_now (fault_lines answered) desk desk_now
 
 -- An event is next.
 abbrev pub HasNext : Standing → Type 0
@@ -112,12 +113,12 @@ CutsNext Unsaid form bounds known before st said_before said_now =
 
 -- The events were answered so far, and the next one was cut short.
 pub record IsCutShort (cut : Cut) (form : Form) (bounds : StoreBounds) (known : Known) (before : Machine) (st : Standing) (said_before said_now : Option (List ℕ))
-    (failed failed_now : Bool) (noted noted_now : Option (List ℕ)) (faults faults_now : ℕ) : Type 0 where
+    (failed failed_now : Bool) (desk desk_now : Seen) : Type 0 where
   pub known_mid : Known
   pub machine_mid : Machine
   pub st_mid : Standing
   pub said_mid : Option (List ℕ)
-  pub first : Answers form bounds known known_mid before machine_mid st st_mid said_before said_mid failed failed_now noted noted_now faults faults_now
+  pub first : Answers form bounds known known_mid before machine_mid st st_mid said_before said_mid failed failed_now desk desk_now
   pub cuts : CutsNext cut form bounds known_mid machine_mid st_mid said_mid said_now
 
 -- What a stop within the loop finds: it fell within the turn of the frame that arrives behind some answered events.
@@ -143,18 +144,18 @@ SaysCut Unsaid form bounds m said answered unanswered = SaysFront form bounds m 
 
 -- All events of the used bytes were answered, and the ending was told.
 pub record AnswersAll (form : Form) (bounds : StoreBounds) (m : Machine) (used : List ℕ) (end : End) (status : Status) (said_before said_now : Option (List ℕ))
-    (failed failed_now : Bool) (noted noted_now : Option (List ℕ)) (faults faults_now : ℕ) : Type 0 where
+    (failed failed_now : Bool) (desk desk_now : Seen) : Type 0 where
   pub said : Took said_before said_now (joined (replies_to form bounds m (events_in form used)))
   pub ends : status ≡ status_at (is_bad_input form used) (has_rest form used) end
-  pub noted_is : NotesMore failed failed_now (notes_of form (events_in form used) used status) noted noted_now faults faults_now
+  pub noted_is : NotesMore failed failed_now (notes_of form (events_in form used) used status) desk desk_now
 
 -- Or the answering was cut short behind some of them.
 pub record AnswersSome (cut : Cut) (form : Form) (bounds : StoreBounds) (m : Machine) (used : List ℕ) (said_before said_now : Option (List ℕ))
-    (failed failed_now : Bool) (noted noted_now : Option (List ℕ)) (faults faults_now : ℕ) : Type 0 where
+    (failed failed_now : Bool) (desk desk_now : Seen) : Type 0 where
   pub answered : List Event
   pub unanswered : List Event
   pub split : answered ++ unanswered ≡ events_in form used
   pub said : List ℕ
   pub took : Took said_before said_now said
   pub says : SaysCut cut form bounds m said answered unanswered
-  pub noted_is : NotesMore failed failed_now (fault_lines answered) noted noted_now faults faults_now
+  pub noted_is : NotesMore failed failed_now (fault_lines answered) desk desk_now

@@ -1,7 +1,7 @@
 ghost use Rattle.std.specs.Prelude.{◌≡◌, ◌⊎◌, ◌≢◌, true, None, IsTrue, IsSome, OnOk, IfOk, IfErr, IsErrOf, Ok, Err};
 ghost use Rattle.ctrl_keep.specs.KeptBatches.{Follows};
 ghost use Rattle.ctrl_keep.specs.KeptMachine.{step};
-ghost use Rattle.ctrl_keep.specs.OpenedStates.{OpensToState};
+ghost use Rattle.row_store.specs.OpenedStates.{OpensToState};
 ghost use Rattle.ctrl_model.specs.CommandForm.{is_spelled};
 ghost use Rattle.ctrl_model.specs.Controller.{answer, carry};
 ghost use Rattle.journal_core.specs.Room.{LeavesRoom};
@@ -82,22 +82,22 @@ impl Controller {
         command: &Command,
     ) -> Result<Reply, Cut>
         requires able { (serving_of self.old).able ≡ true }
-        requires ready { IsReady D.tells (serving_of self.old).kept (D.reads desk.old) (D.may_leave desk.old) }
+        requires ready { IsReady D.tells (serving_of self.old).kept (D.seen desk.old).reads (D.stopped desk.old).images }
         requires spelled { is_spelled command.now ≡ true }
         ensures ok { IfOk result (λ r. (r, (serving_of self.new).machine) ≡ step (serving_of self.old).bounds who.now command.now (serving_of self.old).machine) }
         ensures on { OnOk result (GoesOn (serving_of self.old) (serving_of self.new)) }
-        ensures follows { OnOk result (IsSome (serving_of self.old).kept → IsTrue D.tells → Follows (serving_of self.old).machine (serving_of self.new).machine (D.reads desk.old) (D.reads desk.new)) }
-        ensures ready { (serving_of self.new).able ≡ true → IsReady D.tells (serving_of self.new).kept (D.reads desk.new) (D.may_leave desk.new) }
+        ensures follows { OnOk result (IsSome (serving_of self.old).kept → IsTrue D.tells → Follows (serving_of self.old).machine (serving_of self.new).machine (D.seen desk.old).reads (D.seen desk.new).reads) }
+        ensures ready { (serving_of self.new).able ≡ true → IsReady D.tells (serving_of self.new).kept (D.seen desk.new).reads (D.stopped desk.new).images }
         ensures limits { IfOk result (λ r. keeps_limits r ≡ true) }
         ensures cut { IfErr result (λ c. c ≢ Cut.Unsaid) }
-        ensures cause { HasCause (D.disk_faults desk.old) (D.disk_faults desk.new) (unkept result) }
+        ensures cause { HasCause (D.seen desk.old).disk_faults (D.seen desk.new).disk_faults (unkept result) }
         ensures undisked { (serving_of self.old).kept ≡ None → IsErrOf result Cut.Disk → ⊥ }
         ensures alone { (serving_of self.old).kept ≡ None → desk.new ≡ desk.old }
-        ensures others { OnlyDisk D.said D.noted D.say_faults D.note_faults desk.old desk.new }
-        ensures stops { IsSome (serving_of self.old).kept → IsTrue D.tells → Leaves D.moment D.since D.may_leave D.said desk.old desk.new
+        ensures others { OnlyDisk D.seen desk.old desk.new }
+        ensures stops { IsSome (serving_of self.old).kept → IsTrue D.tells → Leaves D.seen D.stopped desk.old desk.new
             (λ image. OpensToState image (serving_of self.old).machine.state ⊎ OpensToState image (step (serving_of self.old).bounds who.now command.now (serving_of self.old).machine).1.state) }
-        ensures images { LeavesRoom (serving_of self.old).bounds.slot D.may_leave desk.old desk.new }
-        ensures remembers { Remembers (D.moment desk.old) (D.since desk.old) (D.since desk.new) }
+        ensures images { LeavesRoom (serving_of self.old).bounds.slot D.stopped desk.old desk.new }
+        ensures remembers { Remembers (D.stopped desk.old) (D.stopped desk.new) }
     {
         match self {
             Controller::Alone(core) => Ok(carry_alone(core, who, command)?),

@@ -4,7 +4,7 @@ ghost use Rattle.ziti_outside.specs.Untouched.{OnlyNotes};
 ghost use Rattle.journal_core.specs.Room.{empty_size, LeavesRoom};
 ghost use Rattle.row_store.specs.StoredRows.{ReadsAs};
 ghost use Rattle.ctrl_keep.specs.KeptController.{HoldsRows, machine_of};
-ghost use Rattle.ctrl_keep.specs.OpenedStates.{OpensToState};
+ghost use Rattle.row_store.specs.OpenedStates.{OpensToState};
 ghost use Rattle.run_notes.specs.NotedLines.{FindsNoMore, RisesOnce};
 ghost use Rattle.ctrl_serve.specs.FolderRuns.{TellsClosed, TellsCompaction, TellsRoom, full_in};
 ghost use Rattle.ctrl_serve.specs.FolderWords.{Audits, Compacts, EndsCompaction};
@@ -25,10 +25,10 @@ use ziti_outside::Desk;
 /// Notes why the folder was not opened, and answers that status; for want of memory that one.
 pub(crate) fn tell_closed<D: Desk>(alloc: Global, fault: KeepFault, desk: &mut D) -> Status
     requires { fault ≢ KeepFault.Spent }
-    ensures told { TellsClosed fault result (D.noted desk.old) (D.noted desk.new) (D.note_faults desk.old) (D.note_faults desk.new) }
-    ensures counted { RisesOnce (D.note_faults desk.old) (D.note_faults desk.new) }
-    ensures others { OnlyNotes D.said D.say_faults D.reads D.may_leave D.disk_faults desk.old desk.new }
-    ensures stops { FindsNoMore D.moment D.since desk.old desk.new }
+    ensures told { TellsClosed fault result (D.seen desk.old) (D.seen desk.new) }
+    ensures counted { RisesOnce (D.seen desk.old).note_faults (D.seen desk.new).note_faults }
+    ensures others { OnlyNotes D.seen D.stopped desk.old desk.new }
+    ensures stops { FindsNoMore D.stopped desk.old desk.new }
 {
     match fault {
         KeepFault::Disk => tell_cut(Cut::Disk, desk),
@@ -41,10 +41,10 @@ pub(crate) fn tell_closed<D: Desk>(alloc: Global, fault: KeepFault, desk: &mut D
 // Says the counts line of a core. The core is dropped before the line is said.
 fn say_counts<D: Desk>(alloc: Global, core: Core, desk: &mut D) -> Status
     requires live { core.live ≡ true }
-    ensures says { SaysOneLine (line_of_counts core.state) (D.said desk.old) (D.said desk.new) (D.noted desk.old) (D.noted desk.new) (D.note_faults desk.old) (D.note_faults desk.new) result }
-    ensures write_cause { IsWriteCaused (D.say_faults desk.old) (D.say_faults desk.new) result }
-    ensures counted { RisesOnce (D.note_faults desk.old) (D.note_faults desk.new) }
-    ensures others { OnlySaysAndNotes D.reads D.moment D.since D.may_leave D.disk_faults desk.old desk.new }
+    ensures says { SaysOneLine (line_of_counts core.state) (D.seen desk.old) (D.seen desk.new) result }
+    ensures write_cause { IsWriteCaused (D.seen desk.old).say_faults (D.seen desk.new).say_faults result }
+    ensures counted { RisesOnce (D.seen desk.old).note_faults (D.seen desk.new).note_faults }
+    ensures others { OnlySaysAndNotes D.seen D.stopped desk.old desk.new }
 {
     let mut core = core;
     let line = counts_line(alloc, &mut core);
@@ -55,12 +55,12 @@ fn say_counts<D: Desk>(alloc: Global, core: Core, desk: &mut D) -> Status
 /// Says the counts line of the state to which the folder opens, by reading it alone: it is left as it is. Where it opens to none, that
 /// is noted and nothing is said.
 pub fn run_audit<D: Desk>(alloc: Global, desk: &mut D) -> Status
-    ensures audits { IsUnopened D.said D.noted D.note_faults D.tells D.reads D.moment D.since D.may_leave desk.old desk.new result
-        ⊎ Audits (D.said desk.old) (D.said desk.new) (D.noted desk.old) (D.noted desk.new) (D.note_faults desk.old) (D.note_faults desk.new) D.tells (D.reads desk.old) result }
-    ensures alone { IsLeftAlone D.reads D.moment D.since D.may_leave desk.old desk.new }
-    ensures write_cause { IsWriteCaused (D.say_faults desk.old) (D.say_faults desk.new) result }
-    ensures disk_cause { IsDiskCaused (D.disk_faults desk.old) (D.disk_faults desk.new) result }
-    ensures counted { RisesOnce (D.note_faults desk.old) (D.note_faults desk.new) }
+    ensures audits { IsUnopened D.tells D.seen D.stopped desk.old desk.new result
+        ⊎ Audits D.tells (D.seen desk.old) (D.seen desk.new) result }
+    ensures alone { IsLeftAlone D.seen D.stopped desk.old desk.new }
+    ensures write_cause { IsWriteCaused (D.seen desk.old).say_faults (D.seen desk.new).say_faults result }
+    ensures disk_cause { IsDiskCaused (D.seen desk.old).disk_faults (D.seen desk.new).disk_faults result }
+    ensures counted { RisesOnce (D.seen desk.old).note_faults (D.seen desk.new).note_faults }
 {
     match peek(alloc, desk) {
         Ok(core) => say_counts(alloc, core, desk),
@@ -81,10 +81,10 @@ fn full_of(reply: &Reply) -> Option<Full>
 
 // Notes which part of the folder has no room, if one has none, and answers how the run ended.
 fn tell_room<D: Desk>(full: Option<Full>, desk: &mut D) -> Status
-    ensures told { TellsRoom full result (D.noted desk.old) (D.noted desk.new) (D.note_faults desk.old) (D.note_faults desk.new) }
-    ensures counted { RisesOnce (D.note_faults desk.old) (D.note_faults desk.new) }
-    ensures others { OnlyNotes D.said D.say_faults D.reads D.may_leave D.disk_faults desk.old desk.new }
-    ensures stops { FindsNoMore D.moment D.since desk.old desk.new }
+    ensures told { TellsRoom full result (D.seen desk.old) (D.seen desk.new) }
+    ensures counted { RisesOnce (D.seen desk.old).note_faults (D.seen desk.new).note_faults }
+    ensures others { OnlyNotes D.seen D.stopped desk.old desk.new }
+    ensures stops { FindsNoMore D.stopped desk.old desk.new }
 {
     match full {
         Some(full) => tell_full(full, desk),
@@ -94,10 +94,10 @@ fn tell_room<D: Desk>(full: Option<Full>, desk: &mut D) -> Status
 
 // Notes what came of a compaction, unless it was done, and answers how the run ended.
 fn tell_compaction<D: Desk>(compacted: Result<Reply, KeepFault>, desk: &mut D) -> Status
-    ensures told { TellsCompaction compacted result (D.noted desk.old) (D.noted desk.new) (D.note_faults desk.old) (D.note_faults desk.new) }
-    ensures counted { RisesOnce (D.note_faults desk.old) (D.note_faults desk.new) }
-    ensures others { OnlyNotes D.said D.say_faults D.reads D.may_leave D.disk_faults desk.old desk.new }
-    ensures stops { FindsNoMore D.moment D.since desk.old desk.new }
+    ensures told { TellsCompaction compacted result (D.seen desk.old) (D.seen desk.new) }
+    ensures counted { RisesOnce (D.seen desk.old).note_faults (D.seen desk.new).note_faults }
+    ensures others { OnlyNotes D.seen D.stopped desk.old desk.new }
+    ensures stops { FindsNoMore D.stopped desk.old desk.new }
 {
     match compacted {
         Ok(reply) => tell_room(full_of(&reply), desk),
@@ -110,15 +110,15 @@ fn tell_compaction<D: Desk>(compacted: Result<Reply, KeepFault>, desk: &mut D) -
 fn compact_opened<D: Desk>(kept: Kept, desk: &mut D) -> Status
     requires unspent { kept.spent ≡ false }
     requires holds { HoldsRows kept }
-    requires stands { IsTrue D.tells → ReadsAs kept.stored (D.reads desk.old) (D.may_leave desk.old) }
-    ensures ends { EndsCompaction result kept.stored.bounds (machine_of kept) (D.noted desk.old) (D.noted desk.new) (D.note_faults desk.old) (D.note_faults desk.new) D.tells (D.reads desk.new) }
-    ensures still { result ≡ Status.FolderFull → D.reads desk.new ≡ D.reads desk.old }
-    ensures failed_says { D.say_faults desk.new ≡ D.say_faults desk.old }
-    ensures disk_cause { IsDiskCaused (D.disk_faults desk.old) (D.disk_faults desk.new) result }
-    ensures counted { RisesOnce (D.note_faults desk.old) (D.note_faults desk.new) }
-    ensures quiet { Leaves D.moment D.since D.may_leave D.said desk.old desk.new (λ image. ⊤) }
-    ensures stops { IsTrue D.tells → Leaves D.moment D.since D.may_leave D.said desk.old desk.new (λ image. OpensToState image kept.state) }
-    ensures images { LeavesRoom kept.stored.bounds.slot D.may_leave desk.old desk.new }
+    requires stands { IsTrue D.tells → ReadsAs kept.stored (D.seen desk.old).reads (D.stopped desk.old).images }
+    ensures ends { EndsCompaction result kept.stored.bounds (machine_of kept) D.tells (D.seen desk.old) (D.seen desk.new) }
+    ensures still { result ≡ Status.FolderFull → (D.seen desk.new).reads ≡ (D.seen desk.old).reads }
+    ensures failed_says { (D.seen desk.new).say_faults ≡ (D.seen desk.old).say_faults }
+    ensures disk_cause { IsDiskCaused (D.seen desk.old).disk_faults (D.seen desk.new).disk_faults result }
+    ensures counted { RisesOnce (D.seen desk.old).note_faults (D.seen desk.new).note_faults }
+    ensures quiet { Leaves D.seen D.stopped desk.old desk.new (λ image. ⊤) }
+    ensures stops { IsTrue D.tells → Leaves D.seen D.stopped desk.old desk.new (λ image. OpensToState image kept.state) }
+    ensures images { LeavesRoom kept.stored.bounds.slot D.stopped desk.old desk.new }
 {
     let mut kept = kept;
     let compacted = kept.submit(desk, &Who::Admin, &Command::Compact);
@@ -130,14 +130,13 @@ fn compact_opened<D: Desk>(kept: Kept, desk: &mut D) -> Status
 /// said. No slot grows past the bound, where that has room for a slot without a record.
 pub fn run_compact<D: Desk>(alloc: Global, bounds: StoreBounds, desk: &mut D) -> Status
     requires { bounds.slot ≤ 2 ^ 30 }
-    ensures compacts { IsUnopened D.said D.noted D.note_faults D.tells D.reads D.moment D.since D.may_leave desk.old desk.new result
-        ⊎ Compacts bounds (D.said desk.old) (D.noted desk.old) (D.noted desk.new) (D.note_faults desk.old) (D.note_faults desk.new) D.tells (D.reads desk.old) (D.reads desk.new) (D.may_leave desk.old) (D.may_leave desk.new)
-        (Elapses (D.moment desk.old) (D.moment desk.new) (D.since desk.old) (D.since desk.new)) result }
-    ensures says_nothing { D.said desk.new ≡ D.said desk.old }
-    ensures failed_says { D.say_faults desk.new ≡ D.say_faults desk.old }
-    ensures disk_cause { IsDiskCaused (D.disk_faults desk.old) (D.disk_faults desk.new) result }
-    ensures counted { RisesOnce (D.note_faults desk.old) (D.note_faults desk.new) }
-    ensures images { empty_size ≤ bounds.slot → LeavesRoom bounds.slot D.may_leave desk.old desk.new }
+    ensures compacts { IsUnopened D.tells D.seen D.stopped desk.old desk.new result
+        ⊎ Compacts bounds D.tells (D.seen desk.old) (D.seen desk.new) (D.stopped desk.old) (D.stopped desk.new) result }
+    ensures says_nothing { (D.seen desk.new).said ≡ (D.seen desk.old).said }
+    ensures failed_says { (D.seen desk.new).say_faults ≡ (D.seen desk.old).say_faults }
+    ensures disk_cause { IsDiskCaused (D.seen desk.old).disk_faults (D.seen desk.new).disk_faults result }
+    ensures counted { RisesOnce (D.seen desk.old).note_faults (D.seen desk.new).note_faults }
+    ensures images { empty_size ≤ bounds.slot → LeavesRoom bounds.slot D.stopped desk.old desk.new }
 {
     match Kept::open(alloc, desk, bounds) {
         Ok(kept) => compact_opened(kept, desk),

@@ -5,7 +5,7 @@ ghost use Rattle.channel_frame.specs.StreamReading.{Reads, fault_of, frames_of, 
 ghost use Rattle.ctrl_model.specs.declared.kinds.Who.TheVariants.{Admin};
 ghost use Rattle.ctrl_model.specs.State.{State};
 ghost use Rattle.ctrl_keep.specs.KeptMachine.{Machine};
-ghost use Rattle.ctrl_keep.specs.OpenedStates.{OpensToState, IsStateless};
+ghost use Rattle.row_store.specs.OpenedStates.{OpensToState, IsStateless};
 ghost use Rattle.row_store.specs.declared.bounds.StoreBounds.{StoreBounds};
 ghost use Rattle.session_mux.specs.declared.events.Event.{Event};
 ghost use Rattle.session_mux.specs.declared.sessions.Form.{Form};
@@ -24,13 +24,15 @@ ghost use Rattle.run_notes.specs.Inputs.{events_in};
 ghost use Rattle.ctrl_serve.specs.Reading.{is_decided, StaysNear};
 ghost use Rattle.run_notes.specs.Notes.{session_note, status_lines};
 ghost use Rattle.run_notes.specs.NotedLines.{NotesLines};
-ghost use Rattle.ctrl_serve.specs.Headline.{Serves, Runs};
+ghost use Rattle.ctrl_serve.specs.Headline.{Serves, Runs, taking_of, folder_bounds};
 ghost use Rattle.ctrl_serve.specs.Loads.{counts_line, IsSaid, SaysOneLine};
 ghost use Rattle.ctrl_serve.specs.RunStops.{StopFinds, HoldsFirst};
 ghost use Rattle.ctrl_serve.specs.OpenedFolders.{OpensTo};
 ghost use Rattle.ctrl_serve.specs.CommandLine.{number_of_word};
 ghost use Rattle.ctrl_serve.specs.declared.command_line.Form.TheVariants.{Replay, Audit, Compact};
 ghost use Rattle.ctrl_serve.specs.CompleteRuns.{IsCalm, CompletesFrom, ComesOutFrom};
+ghost use Rattle.ziti_outside.specs.Views.{Seen};
+ghost use Rattle.ctrl_serve.specs.declared.bounds.Bounds.{Bounds};
 
 use ziti_outside::{Desk, Source};
 
@@ -56,8 +58,8 @@ pub fn a_decided_input_decides_its_events()
 /// replies to the first ones and no more than a part of the next one, all that was taken but at most a piece did not decide the input, and
 /// brought none but those first events. So nothing hangs on which split a run names.
 pub fn nearness_hangs_on_what_was_said()
-    ensures near { (form : Form) (bounds : StoreBounds) (machine : Machine) (most : ℕ) (left left_after said said_after noted noted_after : Option (List ℕ)) (faults faults_now : ℕ)
-        → (serves : Serves form bounds machine most left left_after said said_after noted noted_after faults faults_now WriteFault) → (answered unanswered : List Event)
+    ensures near { (form : Form) (bounds : StoreBounds) (machine : Machine) (most : ℕ) (left left_after : Option (List ℕ)) (before now : Seen)
+        → (serves : Serves (taking_of form most) bounds machine left left_after before now WriteFault) → (answered unanswered : List Event)
         → answered ++ unanswered ≡ events_in form (take most serves.taken) → (says : SaysFront form bounds machine serves.said answered unanswered) → says.front ≢ says.reply
         → StaysNear form most serves.taken answered }
 {}
@@ -66,31 +68,31 @@ pub fn nearness_hangs_on_what_was_said()
 /// tail, and exactly the machine's replies were said. Where it is the spellings of some frames, these are the replies to
 /// those frames. Nothing was noted.
 pub fn done_says_all()
-    ensures read { (bounds : StoreBounds) (machine : Machine) (most : ℕ) (bytes before : List ℕ) (left after noted_before noted_after : Option (List ℕ)) (faults faults_now : ℕ)
-        → Serves Plain bounds machine most (Some bytes) left (Some before) after noted_before noted_after faults faults_now Done → (left ≡ Some []) × (length bytes ≤ most) }
-    ensures whole { (bounds : StoreBounds) (machine : Machine) (most : ℕ) (bytes before : List ℕ) (left after noted_before noted_after : Option (List ℕ)) (faults faults_now : ℕ)
-        → Serves Plain bounds machine most (Some bytes) left (Some before) after noted_before noted_after faults faults_now Done → rest_of bytes ≡ [] }
-    ensures said { (bounds : StoreBounds) (machine : Machine) (most : ℕ) (bytes before : List ℕ) (left after noted_before noted_after : Option (List ℕ)) (faults faults_now : ℕ)
-        → Serves Plain bounds machine most (Some bytes) left (Some before) after noted_before noted_after faults faults_now Done → after ≡ Some (before ++ replies Plain bounds machine bytes) }
-    ensures frames { (bounds : StoreBounds) (machine : Machine) (most : ℕ) (bytes before : List ℕ) (left after noted_before noted_after : Option (List ℕ)) (faults faults_now : ℕ) (frames : List Frame)
-        → Serves Plain bounds machine most (Some bytes) left (Some before) after noted_before noted_after faults faults_now Done → Reads bytes frames [] → after ≡ Some (before ++ answers bounds Admin 0 machine frames) }
-    ensures noted { (bounds : StoreBounds) (machine : Machine) (most : ℕ) (bytes before : List ℕ) (left after noted_before noted_after : Option (List ℕ)) (faults faults_now : ℕ)
-        → Serves Plain bounds machine most (Some bytes) left (Some before) after noted_before noted_after faults faults_now Done → Took noted_before noted_after [] }
+    ensures read { (bounds : StoreBounds) (machine : Machine) (most : ℕ) (bytes : List ℕ) (left : Option (List ℕ)) (before now : Seen)
+        → Serves (taking_of Plain most) bounds machine (Some bytes) left before now Done → (left ≡ Some []) × (length bytes ≤ most) }
+    ensures whole { (bounds : StoreBounds) (machine : Machine) (most : ℕ) (bytes : List ℕ) (left : Option (List ℕ)) (before now : Seen)
+        → Serves (taking_of Plain most) bounds machine (Some bytes) left before now Done → rest_of bytes ≡ [] }
+    ensures said { (bounds : StoreBounds) (machine : Machine) (most : ℕ) (bytes said : List ℕ) (left : Option (List ℕ)) (before now : Seen)
+        → before.said ≡ Some said → Serves (taking_of Plain most) bounds machine (Some bytes) left before now Done → now.said ≡ Some (said ++ replies Plain bounds machine bytes) }
+    ensures frames { (bounds : StoreBounds) (machine : Machine) (most : ℕ) (bytes said : List ℕ) (left : Option (List ℕ)) (before now : Seen) (frames : List Frame)
+        → before.said ≡ Some said → Serves (taking_of Plain most) bounds machine (Some bytes) left before now Done → Reads bytes frames [] → now.said ≡ Some (said ++ answers bounds Admin 0 machine frames) }
+    ensures noted { (bounds : StoreBounds) (machine : Machine) (most : ℕ) (bytes : List ℕ) (left : Option (List ℕ)) (before now : Seen)
+        → Serves (taking_of Plain most) bounds machine (Some bytes) left before now Done → Took before.noted now.noted [] }
 {}
 
 /// What `Truncated` says of a told plain input, in plain words: it was read to its end and is no longer than the bound, and exactly the
 /// machine's replies were said. Behind the frames stands no fault but the rest of an unfinished frame, which is not empty;
 /// and the note, where no note failed, counts its bytes.
 pub fn truncated_says_all()
-    ensures read { (bounds : StoreBounds) (machine : Machine) (most : ℕ) (bytes before : List ℕ) (left after noted_before noted_after : Option (List ℕ)) (faults faults_now : ℕ)
-        → Serves Plain bounds machine most (Some bytes) left (Some before) after noted_before noted_after faults faults_now Truncated → (left ≡ Some []) × (length bytes ≤ most) }
-    ensures rest { (bounds : StoreBounds) (machine : Machine) (most : ℕ) (bytes before : List ℕ) (left after noted_before noted_after : Option (List ℕ)) (faults faults_now : ℕ)
-        → Serves Plain bounds machine most (Some bytes) left (Some before) after noted_before noted_after faults faults_now Truncated → (fault_of bytes ≡ None) × (rest_of bytes ≢ []) }
-    ensures said { (bounds : StoreBounds) (machine : Machine) (most : ℕ) (bytes before : List ℕ) (left after noted_before noted_after : Option (List ℕ)) (faults faults_now : ℕ)
-        → Serves Plain bounds machine most (Some bytes) left (Some before) after noted_before noted_after faults faults_now Truncated → after ≡ Some (before ++ replies Plain bounds machine bytes) }
-    ensures noted { (bounds : StoreBounds) (machine : Machine) (most : ℕ) (bytes before : List ℕ) (left after noted_before noted_after : Option (List ℕ)) (faults faults_now : ℕ)
-        → Serves Plain bounds machine most (Some bytes) left (Some before) after noted_before noted_after faults faults_now Truncated → (Rose faults faults_now → ⊥)
-        → Took noted_before noted_after (session_note 0 (decimal (length (rest_of bytes)) ++ codes " bytes left")) }
+    ensures read { (bounds : StoreBounds) (machine : Machine) (most : ℕ) (bytes : List ℕ) (left : Option (List ℕ)) (before now : Seen)
+        → Serves (taking_of Plain most) bounds machine (Some bytes) left before now Truncated → (left ≡ Some []) × (length bytes ≤ most) }
+    ensures rest { (bounds : StoreBounds) (machine : Machine) (most : ℕ) (bytes : List ℕ) (left : Option (List ℕ)) (before now : Seen)
+        → Serves (taking_of Plain most) bounds machine (Some bytes) left before now Truncated → (fault_of bytes ≡ None) × (rest_of bytes ≢ []) }
+    ensures said { (bounds : StoreBounds) (machine : Machine) (most : ℕ) (bytes said : List ℕ) (left : Option (List ℕ)) (before now : Seen)
+        → before.said ≡ Some said → Serves (taking_of Plain most) bounds machine (Some bytes) left before now Truncated → now.said ≡ Some (said ++ replies Plain bounds machine bytes) }
+    ensures noted { (bounds : StoreBounds) (machine : Machine) (most : ℕ) (bytes : List ℕ) (left : Option (List ℕ)) (before now : Seen)
+        → Serves (taking_of Plain most) bounds machine (Some bytes) left before now Truncated → (Rose before.note_faults now.note_faults → ⊥)
+        → Took before.noted now.noted (session_note 0 (decimal (length (rest_of bytes)) ++ codes " bytes left")) }
 {}
 
 /// What was said of the replies where a run was cut short are whole replies, and where one was not taken a front of the next one beside
@@ -107,24 +109,22 @@ pub fn cut_runs_say_fronts()
 /// What was noted where a run over plain input was cut short: the one line of its status, or a front of it. No fault stands before it, since the
 /// fault of plain input is its last event.
 pub fn cut_plain_runs_note_one_line()
-    ensures unsaid { (bounds : StoreBounds) (machine : Machine) (most : ℕ) (left left_after said after noted_before noted_after : Option (List ℕ)) (faults faults_now : ℕ)
-        → Serves Plain bounds machine most left left_after said after noted_before noted_after faults faults_now WriteFault
-        → NotesLines (status_lines [] WriteFault) noted_before noted_after faults faults_now }
-    ensures disk { (bounds : StoreBounds) (machine : Machine) (most : ℕ) (left left_after said after noted_before noted_after : Option (List ℕ)) (faults faults_now : ℕ)
-        → Serves Plain bounds machine most left left_after said after noted_before noted_after faults faults_now DiskFault
-        → NotesLines (status_lines [] DiskFault) noted_before noted_after faults faults_now }
-    ensures memory { (bounds : StoreBounds) (machine : Machine) (most : ℕ) (left left_after said after noted_before noted_after : Option (List ℕ)) (faults faults_now : ℕ)
-        → Serves Plain bounds machine most left left_after said after noted_before noted_after faults faults_now NoMemory
-        → NotesLines (status_lines [] NoMemory) noted_before noted_after faults faults_now }
+    ensures unsaid { (bounds : StoreBounds) (machine : Machine) (most : ℕ) (left left_after : Option (List ℕ)) (before now : Seen)
+        → Serves (taking_of Plain most) bounds machine left left_after before now WriteFault
+        → NotesLines (status_lines [] WriteFault) before now }
+    ensures disk { (bounds : StoreBounds) (machine : Machine) (most : ℕ) (left left_after : Option (List ℕ)) (before now : Seen)
+        → Serves (taking_of Plain most) bounds machine left left_after before now DiskFault
+        → NotesLines (status_lines [] DiskFault) before now }
+    ensures memory { (bounds : StoreBounds) (machine : Machine) (most : ℕ) (left left_after : Option (List ℕ)) (before now : Seen)
+        → Serves (taking_of Plain most) bounds machine left left_after before now NoMemory
+        → NotesLines (status_lines [] NoMemory) before now }
 {}
 
 /// What `Done` says of a run that says one line to a told desk, as of a generated load or of a folder: exactly the line was said, and nothing was
 /// noted.
 pub fn done_says_the_line()
-    ensures said { (line before : List ℕ) (after noted_before noted_after : Option (List ℕ)) (faults faults_now : ℕ)
-        → SaysOneLine line (Some before) after noted_before noted_after faults faults_now Done → after ≡ Some (before ++ line) }
-    ensures noted { (line before : List ℕ) (after noted_before noted_after : Option (List ℕ)) (faults faults_now : ℕ)
-        → SaysOneLine line (Some before) after noted_before noted_after faults faults_now Done → Took noted_before noted_after [] }
+    ensures said { (line said : List ℕ) (before now : Seen) → before.said ≡ Some said → SaysOneLine line before now Done → now.said ≡ Some (said ++ line) }
+    ensures noted { (line : List ℕ) (before now : Seen) → SaysOneLine line before now Done → Took before.noted now.noted [] }
 {}
 
 /// The words that have a number are the decimal texts of the numbers below 2^32, each of its own.
@@ -155,16 +155,16 @@ pub fn a_run_goes_on_from_a_stop()
 /// decide, and all replies were said; `audit` is done, and said the counts line of that state; and `compact` was done, or was refused for want of room where
 /// the machine's step refuses it.
 pub fn runs_are_complete<S: Source, D: Desk>()
-    ensures replay { (bounds : StoreBounds) (most : ℕ) (form : Form) (source source_now : S) (desk desk_now : D) (status : Status) (s : State)
-        → Runs S.left S.faults D.said D.noted D.say_faults D.note_faults D.reads D.moment D.since D.may_leave D.disk_faults D.tells bounds most (Some (Replay form)) source source_now desk desk_now status
-        → IsTrue D.tells → OpensToState (D.reads desk) s → IsCalm (S.faults source) (S.faults source_now) → IsCalm (D.say_faults desk) (D.say_faults desk_now) → IsCalm (D.disk_faults desk) (D.disk_faults desk_now)
-        → (status ≡ NoMemory) ⊎ CompletesFrom s (D.reads desk) form bounds most (S.left source) (S.left source_now) (D.said desk) (D.said desk_now) status }
-    ensures audit { (bounds : StoreBounds) (most : ℕ) (source source_now : S) (desk desk_now : D) (status : Status) (s : State)
-        → Runs S.left S.faults D.said D.noted D.say_faults D.note_faults D.reads D.moment D.since D.may_leave D.disk_faults D.tells bounds most (Some Audit) source source_now desk desk_now status
-        → IsTrue D.tells → OpensToState (D.reads desk) s → IsCalm (D.say_faults desk) (D.say_faults desk_now) → IsCalm (D.disk_faults desk) (D.disk_faults desk_now)
-        → IsSaid (counts_line s) (D.said desk) (D.said desk_now) status }
-    ensures compact { (bounds : StoreBounds) (most : ℕ) (source source_now : S) (desk desk_now : D) (status : Status) (s : State)
-        → Runs S.left S.faults D.said D.noted D.say_faults D.note_faults D.reads D.moment D.since D.may_leave D.disk_faults D.tells bounds most (Some Compact) source source_now desk desk_now status
-        → IsTrue D.tells → OpensToState (D.reads desk) s → IsCalm (D.disk_faults desk) (D.disk_faults desk_now)
-        → (status ≡ NoMemory) ⊎ ComesOutFrom s (D.reads desk) bounds status }
+    ensures replay { (bounds : Bounds) (form : Form) (source source_now : S) (desk desk_now : D) (status : Status) (s : State)
+        → Runs (record { left = S.left; faults = S.faults; tells = D.tells; seen = D.seen; stopped = D.stopped }) bounds (Some (Replay form)) source source_now desk desk_now status
+        → IsTrue D.tells → OpensToState (D.seen desk).reads s → IsCalm (S.faults source) (S.faults source_now) → IsCalm (D.seen desk).say_faults (D.seen desk_now).say_faults → IsCalm (D.seen desk).disk_faults (D.seen desk_now).disk_faults
+        → (status ≡ NoMemory) ⊎ CompletesFrom s (taking_of form bounds.input) (folder_bounds bounds) (S.left source) (S.left source_now) (D.seen desk) (D.seen desk_now) status }
+    ensures audit { (bounds : Bounds) (source source_now : S) (desk desk_now : D) (status : Status) (s : State)
+        → Runs (record { left = S.left; faults = S.faults; tells = D.tells; seen = D.seen; stopped = D.stopped }) bounds (Some Audit) source source_now desk desk_now status
+        → IsTrue D.tells → OpensToState (D.seen desk).reads s → IsCalm (D.seen desk).say_faults (D.seen desk_now).say_faults → IsCalm (D.seen desk).disk_faults (D.seen desk_now).disk_faults
+        → IsSaid (counts_line s) (D.seen desk).said (D.seen desk_now).said status }
+    ensures compact { (bounds : Bounds) (source source_now : S) (desk desk_now : D) (status : Status) (s : State)
+        → Runs (record { left = S.left; faults = S.faults; tells = D.tells; seen = D.seen; stopped = D.stopped }) bounds (Some Compact) source source_now desk desk_now status
+        → IsTrue D.tells → OpensToState (D.seen desk).reads s → IsCalm (D.seen desk).disk_faults (D.seen desk_now).disk_faults
+        → (status ≡ NoMemory) ⊎ ComesOutFrom s (D.seen desk).reads (folder_bounds bounds) status }
 {}

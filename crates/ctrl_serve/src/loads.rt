@@ -104,10 +104,10 @@ fn line_of_load(alloc: Global, number: u32) -> Result<Vec<u8>, AllocError>
 
 // Says a line as the last that is done, and answers how the run ended.
 fn say_made<D: Desk>(line: &[u8], desk: &mut D) -> Status
-    ensures says { SaysOneLine line.now (D.said desk.old) (D.said desk.new) (D.noted desk.old) (D.noted desk.new) (D.note_faults desk.old) (D.note_faults desk.new) result }
-    ensures write_cause { IsWriteCaused (D.say_faults desk.old) (D.say_faults desk.new) result }
-    ensures counted { RisesOnce (D.note_faults desk.old) (D.note_faults desk.new) }
-    ensures others { OnlySaysAndNotes D.reads D.moment D.since D.may_leave D.disk_faults desk.old desk.new }
+    ensures says { SaysOneLine line.now (D.seen desk.old) (D.seen desk.new) result }
+    ensures write_cause { IsWriteCaused (D.seen desk.old).say_faults (D.seen desk.new).say_faults result }
+    ensures counted { RisesOnce (D.seen desk.old).note_faults (D.seen desk.new).note_faults }
+    ensures others { OnlySaysAndNotes D.seen D.stopped desk.old desk.new }
 {
     match desk.say(line) {
         Ok(()) => Status::Done,
@@ -118,10 +118,10 @@ fn say_made<D: Desk>(line: &[u8], desk: &mut D) -> Status
 /// Says a line as the last that is done, unless there was no memory to make it, and answers how the run ended.
 pub(crate) fn say_line<D: Desk>(line: Result<Vec<u8>, AllocError>, desk: &mut D) -> Status
     ensures says { (wanted : List ℕ) → IfOk line (λ v. v.items ≡ wanted)
-        → SaysOneLine wanted (D.said desk.old) (D.said desk.new) (D.noted desk.old) (D.noted desk.new) (D.note_faults desk.old) (D.note_faults desk.new) result }
-    ensures write_cause { IsWriteCaused (D.say_faults desk.old) (D.say_faults desk.new) result }
-    ensures counted { RisesOnce (D.note_faults desk.old) (D.note_faults desk.new) }
-    ensures others { OnlySaysAndNotes D.reads D.moment D.since D.may_leave D.disk_faults desk.old desk.new }
+        → SaysOneLine wanted (D.seen desk.old) (D.seen desk.new) result }
+    ensures write_cause { IsWriteCaused (D.seen desk.old).say_faults (D.seen desk.new).say_faults result }
+    ensures counted { RisesOnce (D.seen desk.old).note_faults (D.seen desk.new).note_faults }
+    ensures others { OnlySaysAndNotes D.seen D.stopped desk.old desk.new }
 {
     match line {
         Ok(line) => say_made(line.as_slice(), desk),
@@ -132,10 +132,10 @@ pub(crate) fn say_line<D: Desk>(line: Result<Vec<u8>, AllocError>, desk: &mut D)
 /// Answers the frames of the load of a number from the start, without a folder and without saying a reply, and then says the counts
 /// line of the state behind them, in one call.
 pub fn run_load<D: Desk>(alloc: Global, number: u32, desk: &mut D) -> Status
-    ensures says { SaysOneLine (counts_line (state_of_load number)) (D.said desk.old) (D.said desk.new) (D.noted desk.old) (D.noted desk.new) (D.note_faults desk.old) (D.note_faults desk.new) result }
-    ensures write_cause { IsWriteCaused (D.say_faults desk.old) (D.say_faults desk.new) result }
-    ensures counted { RisesOnce (D.note_faults desk.old) (D.note_faults desk.new) }
-    ensures others { OnlySaysAndNotes D.reads D.moment D.since D.may_leave D.disk_faults desk.old desk.new }
+    ensures says { SaysOneLine (counts_line (state_of_load number)) (D.seen desk.old) (D.seen desk.new) result }
+    ensures write_cause { IsWriteCaused (D.seen desk.old).say_faults (D.seen desk.new).say_faults result }
+    ensures counted { RisesOnce (D.seen desk.old).note_faults (D.seen desk.new).note_faults }
+    ensures others { OnlySaysAndNotes D.seen D.stopped desk.old desk.new }
 {
     say_line(line_of_load(alloc, number), desk)
 }

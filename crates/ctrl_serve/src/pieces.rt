@@ -84,23 +84,23 @@ fn serve_pieces<S: Source, D: Desk>(
     requires start { mux.old ≡ start_of form }
     requires known { sessions.old ≡ known_in form }
     requires able { (serving_of controller.old).able ≡ true }
-    requires ready { IsReady D.tells (serving_of controller.old).kept (D.reads desk.old) (D.may_leave desk.old) }
-    ensures ok { IfOk result (λ stop. (ends : EndsPieces form (serving_of controller.old) most sessions.new (serving_of controller.new).machine mux.new (S.left source.old) (S.left source.new) (D.said desk.old) (D.said desk.new)
-        notes.old.failed notes.new.failed (D.noted desk.old) (D.noted desk.new) (D.note_faults desk.old) (D.note_faults desk.new) D.tells (Elapses (D.moment desk.old) (D.moment desk.new) (D.since desk.old) (D.since desk.new)) stop.end)
-        × (IsSome (serving_of controller.old).kept → IsTrue D.tells → FollowsEvents (serving_of controller.old).bounds ends.answers.answered (known_in form) (serving_of controller.old).machine (D.reads desk.old) (D.reads desk.new))) }
+    requires ready { IsReady D.tells (serving_of controller.old).kept (D.seen desk.old).reads (D.stopped desk.old).images }
+    ensures ok { IfOk result (λ stop. (ends : EndsPieces form (serving_of controller.old) most sessions.new (serving_of controller.new).machine mux.new (S.left source.old) (S.left source.new) (D.seen desk.old).said (D.seen desk.new).said
+        notes.old.failed notes.new.failed (D.seen desk.old) (D.seen desk.new) D.tells (Elapses (D.stopped desk.old) (D.stopped desk.new)) stop.end)
+        × (IsSome (serving_of controller.old).kept → IsTrue D.tells → FollowsEvents (serving_of controller.old).bounds ends.answers.answered (known_in form) (serving_of controller.old).machine (D.seen desk.old).reads (D.seen desk.new).reads)) }
     ensures end { IfOk result (λ stop. ComesToEnd mux.new stop.bad) }
     ensures fault { IfOk result (λ stop. HasFault stop.end (S.faults source.old) (S.faults source.new)) }
     ensures on { OnOk result (GoesOn (serving_of controller.old) (serving_of controller.new)) }
-    ensures ready { OnOk result (IsReady D.tells (serving_of controller.new).kept (D.reads desk.new) (D.may_leave desk.new)) }
-    ensures cut { IfErr result (λ c. CutsInput c form (serving_of controller.old) most (S.left source.old) (S.left source.new) (D.said desk.old) (D.said desk.new)
-        notes.old.failed notes.new.failed (D.noted desk.old) (D.noted desk.new) (D.note_faults desk.old) (D.note_faults desk.new) D.tells (Elapses (D.moment desk.old) (D.moment desk.new) (D.since desk.old) (D.since desk.new))) }
+    ensures ready { OnOk result (IsReady D.tells (serving_of controller.new).kept (D.seen desk.new).reads (D.stopped desk.new).images) }
+    ensures cut { IfErr result (λ c. CutsInput c form (serving_of controller.old) most (S.left source.old) (S.left source.new) (D.seen desk.old).said (D.seen desk.new).said
+        notes.old.failed notes.new.failed (D.seen desk.old) (D.seen desk.new) D.tells (Elapses (D.stopped desk.old) (D.stopped desk.new))) }
     ensures counted { RisesOnce (S.faults source.old) (S.faults source.new) }
     ensures until_failure { TakesUntilFailure S.left S.faults source.old source.new }
-    ensures say_cause { HasCause (D.say_faults desk.old) (D.say_faults desk.new) (unsaid result) }
-    ensures disk_cause { HasCause (D.disk_faults desk.old) (D.disk_faults desk.new) (unkept result) }
+    ensures say_cause { HasCause (D.seen desk.old).say_faults (D.seen desk.new).say_faults (unsaid result) }
+    ensures disk_cause { HasCause (D.seen desk.old).disk_faults (D.seen desk.new).disk_faults (unkept result) }
     ensures undisked { (serving_of controller.old).kept ≡ None → IsErrOf result Cut.Disk → ⊥ }
-    ensures alone { (serving_of controller.old).kept ≡ None → OnlySaysAndNotes D.reads D.moment D.since D.may_leave D.disk_faults desk.old desk.new }
-    ensures images { LeavesRoom (serving_of controller.old).bounds.slot D.may_leave desk.old desk.new }
+    ensures alone { (serving_of controller.old).kept ≡ None → OnlySaysAndNotes D.seen D.stopped desk.old desk.new }
+    ensures images { LeavesRoom (serving_of controller.old).bounds.slot D.stopped desk.old desk.new }
 {
     let mut room = zeros(alloc, PIECE)?;
     let piece = room.as_mut_slice();
@@ -147,20 +147,20 @@ pub fn serve_input<S: Source, D: Desk>(
 ) -> Result<Status, Cut>
     requires most { most ≤ 2 ^ 32 }
     requires able { (serving_of controller.old).able ≡ true }
-    requires ready { IsReady D.tells (serving_of controller.old).kept (D.reads desk.old) (D.may_leave desk.old) }
-    ensures answers { AnswersInput result form (serving_of controller.old) most (serving_of controller.new).machine (S.left source.old) (S.left source.new) (D.said desk.old) (D.said desk.new)
-        notes.old.failed notes.new.failed (D.noted desk.old) (D.noted desk.new) (D.note_faults desk.old) (D.note_faults desk.new) D.tells (Elapses (D.moment desk.old) (D.moment desk.new) (D.since desk.old) (D.since desk.new))
-        (λ used. IsSome (serving_of controller.old).kept → IsTrue D.tells → FollowsInput form (serving_of controller.old).bounds (serving_of controller.old).machine (D.reads desk.old) (D.reads desk.new) used) }
+    requires ready { IsReady D.tells (serving_of controller.old).kept (D.seen desk.old).reads (D.stopped desk.old).images }
+    ensures answers { AnswersInput result form (serving_of controller.old) most (serving_of controller.new).machine (S.left source.old) (S.left source.new) (D.seen desk.old).said (D.seen desk.new).said
+        notes.old.failed notes.new.failed (D.seen desk.old) (D.seen desk.new) D.tells (Elapses (D.stopped desk.old) (D.stopped desk.new))
+        (λ used. IsSome (serving_of controller.old).kept → IsTrue D.tells → FollowsInput form (serving_of controller.old).bounds (serving_of controller.old).machine (D.seen desk.old).reads (D.seen desk.new).reads used) }
     ensures read { IfOk result (λ status. IsReadCaused (S.faults source.old) (S.faults source.new) status) }
     ensures on { OnOk result (GoesOn (serving_of controller.old) (serving_of controller.new)) }
-    ensures ready { OnOk result (IsReady D.tells (serving_of controller.new).kept (D.reads desk.new) (D.may_leave desk.new)) }
+    ensures ready { OnOk result (IsReady D.tells (serving_of controller.new).kept (D.seen desk.new).reads (D.stopped desk.new).images) }
     ensures counted { RisesOnce (S.faults source.old) (S.faults source.new) }
     ensures until_failure { TakesUntilFailure S.left S.faults source.old source.new }
-    ensures say_cause { HasCause (D.say_faults desk.old) (D.say_faults desk.new) (unsaid result) }
-    ensures disk_cause { HasCause (D.disk_faults desk.old) (D.disk_faults desk.new) (unkept result) }
+    ensures say_cause { HasCause (D.seen desk.old).say_faults (D.seen desk.new).say_faults (unsaid result) }
+    ensures disk_cause { HasCause (D.seen desk.old).disk_faults (D.seen desk.new).disk_faults (unkept result) }
     ensures undisked { (serving_of controller.old).kept ≡ None → IsErrOf result Cut.Disk → ⊥ }
-    ensures alone { (serving_of controller.old).kept ≡ None → OnlySaysAndNotes D.reads D.moment D.since D.may_leave D.disk_faults desk.old desk.new }
-    ensures images { LeavesRoom (serving_of controller.old).bounds.slot D.may_leave desk.old desk.new }
+    ensures alone { (serving_of controller.old).kept ≡ None → OnlySaysAndNotes D.seen D.stopped desk.old desk.new }
+    ensures images { LeavesRoom (serving_of controller.old).bounds.slot D.stopped desk.old desk.new }
 {
     let mut mux = mux_of(alloc, form)?;
     let mut sessions = Sessions::new(alloc)?;

@@ -1,7 +1,7 @@
 ghost use Rattle.std.specs.Prelude.{◌≡◌, ◌⊎◌, ◌≢◌, true, IsTrue, IsSome, IfOk, IfErr, IsErrOf, None, OnOk, OnErr};
 ghost use Rattle.channel_frame.specs.declared.frames.Frame.{Frame};
 ghost use Rattle.ctrl_keep.specs.KeptBatches.{Follows};
-ghost use Rattle.ctrl_keep.specs.OpenedStates.{OpensToState};
+ghost use Rattle.row_store.specs.OpenedStates.{OpensToState};
 ghost use Rattle.journal_core.specs.Room.{LeavesRoom};
 ghost use Rattle.reply_codec.specs.ReplyLimits.{keeps_limits};
 ghost use Rattle.session_mux.specs.declared.events.Event.TheVariants.{Arrived};
@@ -58,22 +58,22 @@ fn answer_frame<D: Desk>(
     frame: &Frame,
 ) -> Result<Reply, Cut>
     requires able { (serving_of controller.old).able ≡ true }
-    requires ready { IsReady D.tells (serving_of controller.old).kept (D.reads desk.old) (D.may_leave desk.old) }
+    requires ready { IsReady D.tells (serving_of controller.old).kept (D.seen desk.old).reads (D.stopped desk.old).images }
     ensures ok { IfOk result (λ r. (r, (serving_of controller.new).machine) ≡ frame_answer (serving_of controller.old).bounds who.now frame.now (serving_of controller.old).machine) }
     ensures on { OnOk result (GoesOn (serving_of controller.old) (serving_of controller.new)) }
-    ensures follows { OnOk result (IsSome (serving_of controller.old).kept → IsTrue D.tells → Follows (serving_of controller.old).machine (serving_of controller.new).machine (D.reads desk.old) (D.reads desk.new)) }
-    ensures ready { OnOk result (IsReady D.tells (serving_of controller.new).kept (D.reads desk.new) (D.may_leave desk.new)) }
+    ensures follows { OnOk result (IsSome (serving_of controller.old).kept → IsTrue D.tells → Follows (serving_of controller.old).machine (serving_of controller.new).machine (D.seen desk.old).reads (D.seen desk.new).reads) }
+    ensures ready { OnOk result (IsReady D.tells (serving_of controller.new).kept (D.seen desk.new).reads (D.stopped desk.new).images) }
     ensures limits { IfOk result (λ r. keeps_limits r ≡ true) }
     ensures cut { IfErr result (λ c. c ≢ Cut.Unsaid) }
-    ensures cause { HasCause (D.disk_faults desk.old) (D.disk_faults desk.new) (unkept result) }
+    ensures cause { HasCause (D.seen desk.old).disk_faults (D.seen desk.new).disk_faults (unkept result) }
     ensures undisked { (serving_of controller.old).kept ≡ None → IsErrOf result Cut.Disk → ⊥ }
     ensures alone { (serving_of controller.old).kept ≡ None → desk.new ≡ desk.old }
-    ensures images { LeavesRoom (serving_of controller.old).bounds.slot D.may_leave desk.old desk.new }
-    ensures others { OnlyDisk D.said D.noted D.say_faults D.note_faults desk.old desk.new }
-    ensures stops { IsSome (serving_of controller.old).kept → IsTrue D.tells → Leaves D.moment D.since D.may_leave D.said desk.old desk.new
+    ensures images { LeavesRoom (serving_of controller.old).bounds.slot D.stopped desk.old desk.new }
+    ensures others { OnlyDisk D.seen desk.old desk.new }
+    ensures stops { IsSome (serving_of controller.old).kept → IsTrue D.tells → Leaves D.seen D.stopped desk.old desk.new
         (λ image. OpensToState image (serving_of controller.old).machine.state
         ⊎ OpensToState image (frame_answer (serving_of controller.old).bounds who.now frame.now (serving_of controller.old).machine).1.state) }
-    ensures remembers { Remembers (D.moment desk.old) (D.since desk.old) (D.since desk.new) }
+    ensures remembers { Remembers (D.stopped desk.old) (D.stopped desk.new) }
 {
     match read(alloc, frame.content, frame.body.as_slice()) {
         Ok(command) => {
@@ -121,22 +121,22 @@ fn serve_frame<D: Desk>(
     frame: &Frame,
 ) -> Result<(), Cut>
     requires able { (serving_of controller.old).able ≡ true }
-    requires ready { IsReady D.tells (serving_of controller.old).kept (D.reads desk.old) (D.may_leave desk.old) }
-    ensures ok { OnOk result (TakesTurn (serving_of controller.old).bounds address who.now frame.now (serving_of controller.old).machine (serving_of controller.new).machine (D.said desk.old) (D.said desk.new)) }
+    requires ready { IsReady D.tells (serving_of controller.old).kept (D.seen desk.old).reads (D.stopped desk.old).images }
+    ensures ok { OnOk result (TakesTurn (serving_of controller.old).bounds address who.now frame.now (serving_of controller.old).machine (serving_of controller.new).machine (D.seen desk.old).said (D.seen desk.new).said) }
     ensures on { OnOk result (GoesOn (serving_of controller.old) (serving_of controller.new)) }
-    ensures follows { OnOk result (IsSome (serving_of controller.old).kept → IsTrue D.tells → Follows (serving_of controller.old).machine (serving_of controller.new).machine (D.reads desk.old) (D.reads desk.new)) }
-    ensures ready { OnOk result (IsReady D.tells (serving_of controller.new).kept (D.reads desk.new) (D.may_leave desk.new)) }
-    ensures cut { IfErr result (λ c. CutsTurn c (serving_of controller.old).bounds address who.now frame.now (serving_of controller.old).machine (D.said desk.old) (D.said desk.new)) }
-    ensures say_cause { HasCause (D.say_faults desk.old) (D.say_faults desk.new) (unsaid result) }
-    ensures disk_cause { HasCause (D.disk_faults desk.old) (D.disk_faults desk.new) (unkept result) }
-    ensures notes { LeavesNotes D.noted D.note_faults desk.old desk.new }
+    ensures follows { OnOk result (IsSome (serving_of controller.old).kept → IsTrue D.tells → Follows (serving_of controller.old).machine (serving_of controller.new).machine (D.seen desk.old).reads (D.seen desk.new).reads) }
+    ensures ready { OnOk result (IsReady D.tells (serving_of controller.new).kept (D.seen desk.new).reads (D.stopped desk.new).images) }
+    ensures cut { IfErr result (λ c. CutsTurn c (serving_of controller.old).bounds address who.now frame.now (serving_of controller.old).machine (D.seen desk.old).said (D.seen desk.new).said) }
+    ensures say_cause { HasCause (D.seen desk.old).say_faults (D.seen desk.new).say_faults (unsaid result) }
+    ensures disk_cause { HasCause (D.seen desk.old).disk_faults (D.seen desk.new).disk_faults (unkept result) }
+    ensures notes { LeavesNotes D.seen desk.old desk.new }
     ensures undisked { (serving_of controller.old).kept ≡ None → IsErrOf result Cut.Disk → ⊥ }
-    ensures alone { (serving_of controller.old).kept ≡ None → OnlySaysAndNotes D.reads D.moment D.since D.may_leave D.disk_faults desk.old desk.new }
-    ensures images { LeavesRoom (serving_of controller.old).bounds.slot D.may_leave desk.old desk.new }
-    ensures stops { IsSome (serving_of controller.old).kept → IsTrue D.tells → Elapses (D.moment desk.old) (D.moment desk.new) (D.since desk.old) (D.since desk.new)
+    ensures alone { (serving_of controller.old).kept ≡ None → OnlySaysAndNotes D.seen D.stopped desk.old desk.new }
+    ensures images { LeavesRoom (serving_of controller.old).bounds.slot D.stopped desk.old desk.new }
+    ensures stops { IsSome (serving_of controller.old).kept → IsTrue D.tells → Elapses (D.stopped desk.old) (D.stopped desk.new)
         (Turn (serving_of controller.old).machine.state
         (frame_answer (serving_of controller.old).bounds who.now frame.now (serving_of controller.old).machine).1.state
-        (reply_to_frame (serving_of controller.old).bounds address who.now frame.now (serving_of controller.old).machine) (D.said desk.old)) }
+        (reply_to_frame (serving_of controller.old).bounds address who.now frame.now (serving_of controller.old).machine) (D.seen desk.old).said) }
 {
     let reply = answer_frame(alloc, desk, controller, who, frame)?;
     let bytes = reply_bytes(alloc, address, frame.sequence, &reply)?;
@@ -157,20 +157,20 @@ fn serve_arrived<D: Desk>(
     frame: &Frame,
 ) -> Result<(), Cut>
     requires able { (serving_of controller.old).able ≡ true }
-    requires ready { IsReady D.tells (serving_of controller.old).kept (D.reads desk.old) (D.may_leave desk.old) }
-    ensures ok { OnOk result (TakesEvent form (serving_of controller.old).bounds (Arrived session frame.now) sessions.old sessions.new (serving_of controller.old).machine (serving_of controller.new).machine (D.said desk.old) (D.said desk.new)) }
+    requires ready { IsReady D.tells (serving_of controller.old).kept (D.seen desk.old).reads (D.stopped desk.old).images }
+    ensures ok { OnOk result (TakesEvent form (serving_of controller.old).bounds (Arrived session frame.now) sessions.old sessions.new (serving_of controller.old).machine (serving_of controller.new).machine (D.seen desk.old).said (D.seen desk.new).said) }
     ensures on { OnOk result (GoesOn (serving_of controller.old) (serving_of controller.new)) }
-    ensures follows { OnOk result (IsSome (serving_of controller.old).kept → IsTrue D.tells → Follows (serving_of controller.old).machine (serving_of controller.new).machine (D.reads desk.old) (D.reads desk.new)) }
-    ensures ready { OnOk result (IsReady D.tells (serving_of controller.new).kept (D.reads desk.new) (D.may_leave desk.new)) }
-    ensures cut { IfErr result (λ c. CutsEvent c form (serving_of controller.old).bounds (Arrived session frame.now) sessions.old (serving_of controller.old).machine (D.said desk.old) (D.said desk.new)) }
-    ensures say_cause { HasCause (D.say_faults desk.old) (D.say_faults desk.new) (unsaid result) }
-    ensures disk_cause { HasCause (D.disk_faults desk.old) (D.disk_faults desk.new) (unkept result) }
-    ensures notes { LeavesNotes D.noted D.note_faults desk.old desk.new }
+    ensures follows { OnOk result (IsSome (serving_of controller.old).kept → IsTrue D.tells → Follows (serving_of controller.old).machine (serving_of controller.new).machine (D.seen desk.old).reads (D.seen desk.new).reads) }
+    ensures ready { OnOk result (IsReady D.tells (serving_of controller.new).kept (D.seen desk.new).reads (D.stopped desk.new).images) }
+    ensures cut { IfErr result (λ c. CutsEvent c form (serving_of controller.old).bounds (Arrived session frame.now) sessions.old (serving_of controller.old).machine (D.seen desk.old).said (D.seen desk.new).said) }
+    ensures say_cause { HasCause (D.seen desk.old).say_faults (D.seen desk.new).say_faults (unsaid result) }
+    ensures disk_cause { HasCause (D.seen desk.old).disk_faults (D.seen desk.new).disk_faults (unkept result) }
+    ensures notes { LeavesNotes D.seen desk.old desk.new }
     ensures undisked { (serving_of controller.old).kept ≡ None → IsErrOf result Cut.Disk → ⊥ }
-    ensures alone { (serving_of controller.old).kept ≡ None → OnlySaysAndNotes D.reads D.moment D.since D.may_leave D.disk_faults desk.old desk.new }
-    ensures images { LeavesRoom (serving_of controller.old).bounds.slot D.may_leave desk.old desk.new }
-    ensures stops { IsSome (serving_of controller.old).kept → IsTrue D.tells → Elapses (D.moment desk.old) (D.moment desk.new) (D.since desk.old) (D.since desk.new)
-        (StopsEvent form (serving_of controller.old).bounds (Arrived session frame.now) sessions.old (serving_of controller.old).machine (D.said desk.old)) }
+    ensures alone { (serving_of controller.old).kept ≡ None → OnlySaysAndNotes D.seen D.stopped desk.old desk.new }
+    ensures images { LeavesRoom (serving_of controller.old).bounds.slot D.stopped desk.old desk.new }
+    ensures stops { IsSome (serving_of controller.old).kept → IsTrue D.tells → Elapses (D.stopped desk.old) (D.stopped desk.new)
+        (StopsEvent form (serving_of controller.old).bounds (Arrived session frame.now) sessions.old (serving_of controller.old).machine (D.seen desk.old).said) }
 {
     let address = Address {
         form,
@@ -200,21 +200,21 @@ fn serve_event<D: Desk>(
     event: Event,
 ) -> Result<(), Cut>
     requires able { (serving_of controller.old).able ≡ true }
-    requires ready { IsReady D.tells (serving_of controller.old).kept (D.reads desk.old) (D.may_leave desk.old) }
-    ensures ok { OnOk result (TakesEvent form (serving_of controller.old).bounds event sessions.old sessions.new (serving_of controller.old).machine (serving_of controller.new).machine (D.said desk.old) (D.said desk.new)) }
+    requires ready { IsReady D.tells (serving_of controller.old).kept (D.seen desk.old).reads (D.stopped desk.old).images }
+    ensures ok { OnOk result (TakesEvent form (serving_of controller.old).bounds event sessions.old sessions.new (serving_of controller.old).machine (serving_of controller.new).machine (D.seen desk.old).said (D.seen desk.new).said) }
     ensures on { OnOk result (GoesOn (serving_of controller.old) (serving_of controller.new)) }
-    ensures follows { OnOk result (IsSome (serving_of controller.old).kept → IsTrue D.tells → Follows (serving_of controller.old).machine (serving_of controller.new).machine (D.reads desk.old) (D.reads desk.new)) }
-    ensures ready { OnOk result (IsReady D.tells (serving_of controller.new).kept (D.reads desk.new) (D.may_leave desk.new)) }
-    ensures cut { IfErr result (λ c. CutsEvent c form (serving_of controller.old).bounds event sessions.old (serving_of controller.old).machine (D.said desk.old) (D.said desk.new)) }
-    ensures say_cause { HasCause (D.say_faults desk.old) (D.say_faults desk.new) (unsaid result) }
-    ensures disk_cause { HasCause (D.disk_faults desk.old) (D.disk_faults desk.new) (unkept result) }
-    ensures noted { OnOk result (NotesMore notes.old.failed notes.new.failed (event_lines event) (D.noted desk.old) (D.noted desk.new) (D.note_faults desk.old) (D.note_faults desk.new)) }
-    ensures unnoted { OnErr result ((notes.new ≡ notes.old) × LeavesNotes D.noted D.note_faults desk.old desk.new) }
+    ensures follows { OnOk result (IsSome (serving_of controller.old).kept → IsTrue D.tells → Follows (serving_of controller.old).machine (serving_of controller.new).machine (D.seen desk.old).reads (D.seen desk.new).reads) }
+    ensures ready { OnOk result (IsReady D.tells (serving_of controller.new).kept (D.seen desk.new).reads (D.stopped desk.new).images) }
+    ensures cut { IfErr result (λ c. CutsEvent c form (serving_of controller.old).bounds event sessions.old (serving_of controller.old).machine (D.seen desk.old).said (D.seen desk.new).said) }
+    ensures say_cause { HasCause (D.seen desk.old).say_faults (D.seen desk.new).say_faults (unsaid result) }
+    ensures disk_cause { HasCause (D.seen desk.old).disk_faults (D.seen desk.new).disk_faults (unkept result) }
+    ensures noted { OnOk result (NotesMore notes.old.failed notes.new.failed (event_lines event) (D.seen desk.old) (D.seen desk.new)) }
+    ensures unnoted { OnErr result ((notes.new ≡ notes.old) × LeavesNotes D.seen desk.old desk.new) }
     ensures undisked { (serving_of controller.old).kept ≡ None → IsErrOf result Cut.Disk → ⊥ }
-    ensures alone { (serving_of controller.old).kept ≡ None → OnlySaysAndNotes D.reads D.moment D.since D.may_leave D.disk_faults desk.old desk.new }
-    ensures images { LeavesRoom (serving_of controller.old).bounds.slot D.may_leave desk.old desk.new }
-    ensures stops { IsSome (serving_of controller.old).kept → IsTrue D.tells → Elapses (D.moment desk.old) (D.moment desk.new) (D.since desk.old) (D.since desk.new)
-        (StopsEvent form (serving_of controller.old).bounds event sessions.old (serving_of controller.old).machine (D.said desk.old)) }
+    ensures alone { (serving_of controller.old).kept ≡ None → OnlySaysAndNotes D.seen D.stopped desk.old desk.new }
+    ensures images { LeavesRoom (serving_of controller.old).bounds.slot D.stopped desk.old desk.new }
+    ensures stops { IsSome (serving_of controller.old).kept → IsTrue D.tells → Elapses (D.stopped desk.old) (D.stopped desk.new)
+        (StopsEvent form (serving_of controller.old).bounds event sessions.old (serving_of controller.old).machine (D.seen desk.old).said) }
 {
     match event {
         Event::Opened { session, who } => {
@@ -247,22 +247,22 @@ pub fn serve_events<D: Desk>(
     notes: &mut Notes,
 ) -> Result<Option<u64>, Cut>
     requires able { (serving_of controller.old).able ≡ true }
-    requires ready { IsReady D.tells (serving_of controller.old).kept (D.reads desk.old) (D.may_leave desk.old) }
-    ensures ok { OnOk result ((told : Answers form (serving_of controller.old).bounds sessions.old sessions.new (serving_of controller.old).machine (serving_of controller.new).machine mux.old mux.new (D.said desk.old) (D.said desk.new)
-        notes.old.failed notes.new.failed (D.noted desk.old) (D.noted desk.new) (D.note_faults desk.old) (D.note_faults desk.new))
-        × (IsSome (serving_of controller.old).kept → IsTrue D.tells → FollowsEvents (serving_of controller.old).bounds told.answered sessions.old (serving_of controller.old).machine (D.reads desk.old) (D.reads desk.new))) }
+    requires ready { IsReady D.tells (serving_of controller.old).kept (D.seen desk.old).reads (D.stopped desk.old).images }
+    ensures ok { OnOk result ((told : Answers form (serving_of controller.old).bounds sessions.old sessions.new (serving_of controller.old).machine (serving_of controller.new).machine mux.old mux.new (D.seen desk.old).said (D.seen desk.new).said
+        notes.old.failed notes.new.failed (D.seen desk.old) (D.seen desk.new))
+        × (IsSome (serving_of controller.old).kept → IsTrue D.tells → FollowsEvents (serving_of controller.old).bounds told.answered sessions.old (serving_of controller.old).machine (D.seen desk.old).reads (D.seen desk.new).reads)) }
     ensures end { IfOk result (λ bad. ComesToEnd mux.new bad) }
     ensures on { OnOk result (GoesOn (serving_of controller.old) (serving_of controller.new)) }
-    ensures ready { OnOk result (IsReady D.tells (serving_of controller.new).kept (D.reads desk.new) (D.may_leave desk.new)) }
-    ensures cut { IfErr result (λ c. IsCutShort c form (serving_of controller.old).bounds sessions.old (serving_of controller.old).machine mux.old (D.said desk.old) (D.said desk.new)
-        notes.old.failed notes.new.failed (D.noted desk.old) (D.noted desk.new) (D.note_faults desk.old) (D.note_faults desk.new)) }
-    ensures say_cause { HasCause (D.say_faults desk.old) (D.say_faults desk.new) (unsaid result) }
-    ensures disk_cause { HasCause (D.disk_faults desk.old) (D.disk_faults desk.new) (unkept result) }
+    ensures ready { OnOk result (IsReady D.tells (serving_of controller.new).kept (D.seen desk.new).reads (D.stopped desk.new).images) }
+    ensures cut { IfErr result (λ c. IsCutShort c form (serving_of controller.old).bounds sessions.old (serving_of controller.old).machine mux.old (D.seen desk.old).said (D.seen desk.new).said
+        notes.old.failed notes.new.failed (D.seen desk.old) (D.seen desk.new)) }
+    ensures say_cause { HasCause (D.seen desk.old).say_faults (D.seen desk.new).say_faults (unsaid result) }
+    ensures disk_cause { HasCause (D.seen desk.old).disk_faults (D.seen desk.new).disk_faults (unkept result) }
     ensures undisked { (serving_of controller.old).kept ≡ None → IsErrOf result Cut.Disk → ⊥ }
-    ensures alone { (serving_of controller.old).kept ≡ None → OnlySaysAndNotes D.reads D.moment D.since D.may_leave D.disk_faults desk.old desk.new }
-    ensures images { LeavesRoom (serving_of controller.old).bounds.slot D.may_leave desk.old desk.new }
-    ensures stops { IsSome (serving_of controller.old).kept → IsTrue D.tells → Elapses (D.moment desk.old) (D.moment desk.new) (D.since desk.old) (D.since desk.new)
-        (StopsAlong form (serving_of controller.old).bounds sessions.old (serving_of controller.old).machine mux.old (D.said desk.old)) }
+    ensures alone { (serving_of controller.old).kept ≡ None → OnlySaysAndNotes D.seen D.stopped desk.old desk.new }
+    ensures images { LeavesRoom (serving_of controller.old).bounds.slot D.stopped desk.old desk.new }
+    ensures stops { IsSome (serving_of controller.old).kept → IsTrue D.tells → Elapses (D.stopped desk.old) (D.stopped desk.new)
+        (StopsAlong form (serving_of controller.old).bounds sessions.old (serving_of controller.old).machine mux.old (D.seen desk.old).said) }
 {
     'events: loop {
         match mux.next() {

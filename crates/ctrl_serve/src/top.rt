@@ -7,8 +7,7 @@ ghost use Rattle.ctrl_serve.specs.Controllers.{IsReady};
 ghost use Rattle.ctrl_serve.specs.FrameAnswer.{no_bounds, alone};
 ghost use Rattle.ctrl_serve.specs.CommandLine.{form_of, texts};
 ghost use Rattle.ctrl_serve.specs.Runs.{CountsFaults, RunsOn};
-ghost use Rattle.ctrl_serve.specs.Headline.{folder_bounds, program_bounds, AreBounds, OnlySaysAndNotes, Refuses, Replays, Serves, Runs};
-ghost use Rattle.ziti_outside.specs.Moments.{Elapses};
+ghost use Rattle.ctrl_serve.specs.Headline.{folder_bounds, program_bounds, taking_of, AreBounds, OnlySaysAndNotes, Refuses, Replays, Serves, Runs};
 
 use crate::bounds::Bounds;
 use crate::command_line::{Form, form_of};
@@ -34,13 +33,14 @@ fn run_on<S: Source, D: Desk>(
 ) -> Status
     requires most { most ≤ 2 ^ 32 }
     requires able { (serving_of controller.old).able ≡ true }
-    requires ready { IsReady D.tells (serving_of controller.old).kept (D.reads desk.old) (D.may_leave desk.old) }
-    ensures runs { RunsOn form (serving_of controller.old) most (S.left source.old) (S.left source.new) (D.said desk.old) (D.said desk.new) (D.noted desk.old) (D.noted desk.new) (D.note_faults desk.old) (D.note_faults desk.new) D.tells (D.reads desk.old) (D.reads desk.new) (D.may_leave desk.new)
-        (Elapses (D.moment desk.old) (D.moment desk.new) (D.since desk.old) (D.since desk.new)) result }
-    ensures counts { CountsFaults S.left S.faults D.say_faults D.note_faults D.disk_faults source.old source.new desk.old desk.new result }
+    requires ready { IsReady D.tells (serving_of controller.old).kept (D.seen desk.old).reads (D.stopped desk.old).images }
+    ensures runs { RunsOn (taking_of form most) (serving_of controller.old)
+        (record { left = S.left; faults = S.faults; tells = D.tells; seen = D.seen; stopped = D.stopped })
+        source.old source.new desk.old desk.new result }
+    ensures counts { CountsFaults S.left S.faults D.seen source.old source.new desk.old desk.new result }
     ensures undisked { (serving_of controller.old).kept ≡ None → result ≢ Status.DiskFault }
-    ensures alone { (serving_of controller.old).kept ≡ None → OnlySaysAndNotes D.reads D.moment D.since D.may_leave D.disk_faults desk.old desk.new }
-    ensures images { LeavesRoom (serving_of controller.old).bounds.slot D.may_leave desk.old desk.new }
+    ensures alone { (serving_of controller.old).kept ≡ None → OnlySaysAndNotes D.seen D.stopped desk.old desk.new }
+    ensures images { LeavesRoom (serving_of controller.old).bounds.slot D.stopped desk.old desk.new }
 {
     let mut notes = Notes::new();
     match serve_input(alloc, most, form, controller, source, &mut notes, desk) {
@@ -53,10 +53,10 @@ fn run_on<S: Source, D: Desk>(
 // structs and drops it at its end gets no verdict.
 fn run_dry<S: Source, D: Desk>(alloc: Global, most: u64, source: &mut S, desk: &mut D) -> Status
     requires { most ≤ 2 ^ 32 }
-    ensures serves { Serves Plain no_bounds (alone start) most (S.left source.old) (S.left source.new) (D.said desk.old) (D.said desk.new) (D.noted desk.old) (D.noted desk.new) (D.note_faults desk.old) (D.note_faults desk.new) result }
-    ensures counts { CountsFaults S.left S.faults D.say_faults D.note_faults D.disk_faults source.old source.new desk.old desk.new result }
+    ensures serves { Serves (taking_of Plain most) no_bounds (alone start) (S.left source.old) (S.left source.new) (D.seen desk.old) (D.seen desk.new) result }
+    ensures counts { CountsFaults S.left S.faults D.seen source.old source.new desk.old desk.new result }
     ensures undisked { result ≢ Status.DiskFault }
-    ensures others { OnlySaysAndNotes D.reads D.moment D.since D.may_leave D.disk_faults desk.old desk.new }
+    ensures others { OnlySaysAndNotes D.seen D.stopped desk.old desk.new }
 {
     match Core::empty(alloc) {
         Ok(core) => {
@@ -89,11 +89,12 @@ fn run_replay<S: Source, D: Desk>(
     desk: &mut D,
 ) -> Status
     requires { AreBounds bounds }
-    ensures replays { Refuses D.said D.noted D.note_faults D.tells D.reads D.moment D.since D.may_leave source.old source.new desk.old desk.new result
-        ⊎ Replays form (folder_bounds bounds) bounds.input (S.left source.old) (S.left source.new) (D.said desk.old) (D.said desk.new) (D.noted desk.old) (D.noted desk.new) (D.note_faults desk.old) (D.note_faults desk.new) D.tells (D.reads desk.old) (D.reads desk.new) (D.may_leave desk.old) (D.may_leave desk.new)
-        (Elapses (D.moment desk.old) (D.moment desk.new) (D.since desk.old) (D.since desk.new)) result }
-    ensures counts { CountsFaults S.left S.faults D.say_faults D.note_faults D.disk_faults source.old source.new desk.old desk.new result }
-    ensures images { LeavesRoom (folder_bounds bounds).slot D.may_leave desk.old desk.new }
+    ensures replays { Refuses D.tells D.seen D.stopped source.old source.new desk.old desk.new result
+        ⊎ Replays (taking_of form bounds.input) (folder_bounds bounds)
+        (record { left = S.left; faults = S.faults; tells = D.tells; seen = D.seen; stopped = D.stopped })
+        source.old source.new desk.old desk.new result }
+    ensures counts { CountsFaults S.left S.faults D.seen source.old source.new desk.old desk.new result }
+    ensures images { LeavesRoom (folder_bounds bounds).slot D.stopped desk.old desk.new }
 {
     match Kept::open(alloc, desk, store_bounds(bounds)) {
         Ok(kept) => {
@@ -125,8 +126,8 @@ pub fn run_within<S: Source, D: Desk>(
     desk: &mut D,
 ) -> Status
     requires { AreBounds bounds }
-    ensures runs { Runs S.left S.faults D.said D.noted D.say_faults D.note_faults D.reads D.moment D.since D.may_leave D.disk_faults
-        D.tells (folder_bounds bounds) bounds.input (form_of (texts words.now.items)) source.old source.new desk.old desk.new result }
+    ensures runs { Runs (record { left = S.left; faults = S.faults; tells = D.tells; seen = D.seen; stopped = D.stopped })
+        bounds (form_of (texts words.now.items)) source.old source.new desk.old desk.new result }
 {
     match form_of(words.as_slice()) {
         Some(Form::Dry) => run_dry(alloc, bounds.input, source, desk),
@@ -148,8 +149,8 @@ pub fn run<S: Source, D: Desk>(
     source: &mut S,
     desk: &mut D,
 ) -> Status
-    ensures runs { Runs S.left S.faults D.said D.noted D.say_faults D.note_faults D.reads D.moment D.since D.may_leave D.disk_faults
-        D.tells program_bounds 4294967296 (form_of (texts words.now.items)) source.old source.new desk.old desk.new result }
+    ensures runs { Runs (record { left = S.left; faults = S.faults; tells = D.tells; seen = D.seen; stopped = D.stopped })
+        program_bounds (form_of (texts words.now.items)) source.old source.new desk.old desk.new result }
 {
     run_within(alloc, words, Bounds::PROGRAM, source, desk)
 }

@@ -8,7 +8,7 @@ ghost use Rattle.ctrl_model.specs.declared.refusals.Reason.TheVariants as reason
 ghost use Rattle.ctrl_model.specs.declared.refusals.Refusal.TheVariants as refusal;
 ghost use Rattle.ctrl_model.specs.declared.replies.Reply.TheVariants as reply;
 ghost use Rattle.ctrl_model.specs.State.{start};
-ghost use Rattle.ctrl_keep.specs.OpenedStates.{OpensToState};
+ghost use Rattle.row_store.specs.OpenedStates.{OpensToState};
 ghost use Rattle.ctrl_keep.specs.WorkedMachines.{at_most, machine_at};
 ghost use Rattle.ctrl_serve.specs.CommandLine.{form_of, number_of_word};
 ghost use Rattle.ctrl_serve.specs.declared.command_line.Form.TheVariants.{Dry, Replay, Audit, Compact, Load};

@@ -1,8 +1,8 @@
 -- How what several calls make of the lengths of the slots joins up. A crate above joins its calls by these.
-use Rattle.std.proofs.Common.{ℕ, ◌≤◌, List, arith}
-use Rattle.std.specs.declared.option.Option.{Option}
+use Rattle.std.proofs.Common.{ℕ, ◌≤◌, arith}
 use Rattle.ziti_outside.specs.Images.{Image}
 use Rattle.ziti_outside.specs.Untouched.{OnlyReads}
+use Rattle.ziti_outside.specs.Views.{Seen, Stopped}
 use Rattle.journal_core.specs.Room.{KeepsRoom, LeavesRoom}
 
 -- Nothing was done.
@@ -26,12 +26,12 @@ room_within most le room =
     record { zero = omega arith; one = omega arith }
 
 -- A stop finds no other image than before.
-pub left_none : {D : Type 0} {may_leave : D → Image → Type 0} {old new : D} (most : ℕ) → ((image : Image) → may_leave new image → may_leave old image) → LeavesRoom most may_leave old new
+pub left_none : {D : Type 0} {stopped : D → Stopped} {old new : D} (most : ℕ) → ((image : Image) → (stopped new).images image → (stopped old).images image) → LeavesRoom most stopped old new
 left_none most fewer = record { found = λ image p. record { from = image; was = fewer image p; by = room_none most image } }
 
 -- One call after another.
-pub left_then : {D : Type 0} {may_leave : D → Image → Type 0} {old mid new : D} {most : ℕ} → LeavesRoom most may_leave old mid → LeavesRoom most may_leave mid new
-    → LeavesRoom most may_leave old new
+pub left_then : {D : Type 0} {stopped : D → Stopped} {old mid new : D} {most : ℕ} → LeavesRoom most stopped old mid → LeavesRoom most stopped mid new
+    → LeavesRoom most stopped old new
 left_then first second = record {
   found = λ image p.
       let later = second.found image p in
@@ -40,12 +40,12 @@ left_then first second = record {
 }
 
 -- What leaves room within a bound leaves it within a greater one.
-pub left_within : {D : Type 0} {may_leave : D → Image → Type 0} {old new : D} {less : ℕ} (most : ℕ) → less ≤ most → LeavesRoom less may_leave old new → LeavesRoom most may_leave old new
+pub left_within : {D : Type 0} {stopped : D → Stopped} {old new : D} {less : ℕ} (most : ℕ) → less ≤ most → LeavesRoom less stopped old new → LeavesRoom most stopped old new
 left_within most le left = record {
   found = λ image p. let before = left.found image p in record { from = before.from; was = before.was; by = room_within most le before.by };
 }
 
 -- The folder was read alone.
-pub left_reads : {D : Type 0} {reads : D → Image} {said noted : D → Option (List ℕ)} {say_faults note_faults moment : D → ℕ} {since : D → ℕ → Image → List ℕ → Type 0}
-    {may_leave : D → Image → Type 0} {old new : D} (most : ℕ) → OnlyReads reads said noted say_faults note_faults moment since may_leave old new → LeavesRoom most may_leave old new
+pub left_reads : {D : Type 0} {seen : D → Seen} {stopped : D → Stopped}
+    {old new : D} (most : ℕ) → OnlyReads seen stopped old new → LeavesRoom most stopped old new
 left_reads most call = left_none most call.stops.found

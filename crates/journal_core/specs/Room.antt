@@ -2,6 +2,7 @@
 use Rattle.std.specs.Prelude.{ℕ, ◌≤◌, max, List, length}
 use Rattle.ziti_outside.specs.declared.desk.Part.TheVariants.{Zero, One}
 use Rattle.ziti_outside.specs.Images.{Image, After}
+use Rattle.ziti_outside.specs.Views.{Stopped}
 
 -- How many bytes a slot has without a record.
 abbrev pub empty_size : ℕ
@@ -22,5 +23,5 @@ pub record KeepsRoom (most : ℕ) (old new : Image) : Type 0 where
   pub one : GrowsTo most (old One) (new One)
 
 -- What a stop may leave now comes from what one might have left before, with slots that kept room.
-pub record LeavesRoom {D : Type 0} (most : ℕ) (may_leave : D → Image → Type 0) (old new : D) : Type 0 where
-  pub found : (image : Image) → may_leave new image → After (KeepsRoom most) (may_leave old) image
+pub record LeavesRoom {D : Type 0} (most : ℕ) (stopped : D → Stopped) (old new : D) : Type 0 where
+  pub found : (image : Image) → (stopped new).images image → After (KeepsRoom most) (stopped old).images image

@@ -16,17 +16,17 @@ use ziti_outside::{Desk, Failed, Part};
 ///
 /// Until then a stop may find any bytes in their range.
 pub fn put_down<D: Desk>(desk: &mut D, part: Part, at: u64, bytes: &[u8]) -> Result<(), Failed>
-    requires within { IsTrue D.tells → at ≤ length (D.reads desk.old part) }
-    ensures written { OnOk result (IsTrue D.tells → Holds at bytes.now (D.reads desk.old part) (D.reads desk.new part)) }
-    ensures stable { OnOk result (IsStable part (D.reads desk.new) (D.may_leave desk.new)) }
-    ensures elsewhere { Else part (D.reads desk.old) (D.reads desk.new) }
-    ensures cause { HasCause (D.disk_faults desk.old) (D.disk_faults desk.new) result }
-    ensures others { OnlyDisk D.said D.noted D.say_faults D.note_faults desk.old desk.new }
-    ensures stops { Leaves D.moment D.since D.may_leave D.said desk.old desk.new
-        (After (OnPart part (Torn at (length bytes.now))) (D.may_leave desk.old)) }
-    ensures room { OnOk result (IsTrue D.tells → KeepsRoom (at + length bytes.now) (D.reads desk.old) (D.reads desk.new)) }
-    ensures images { LeavesRoom (at + length bytes.now) D.may_leave desk.old desk.new }
-    ensures remembers { Remembers (D.moment desk.old) (D.since desk.old) (D.since desk.new) }
+    requires within { IsTrue D.tells → at ≤ length ((D.seen desk.old).reads part) }
+    ensures written { OnOk result (IsTrue D.tells → Holds at bytes.now ((D.seen desk.old).reads part) ((D.seen desk.new).reads part)) }
+    ensures stable { OnOk result (IsStable part (D.seen desk.new).reads (D.stopped desk.new).images) }
+    ensures elsewhere { Else part (D.seen desk.old).reads (D.seen desk.new).reads }
+    ensures cause { HasCause (D.seen desk.old).disk_faults (D.seen desk.new).disk_faults result }
+    ensures others { OnlyDisk D.seen desk.old desk.new }
+    ensures stops { Leaves D.seen D.stopped desk.old desk.new
+        (After (OnPart part (Torn at (length bytes.now))) (D.stopped desk.old).images) }
+    ensures room { OnOk result (IsTrue D.tells → KeepsRoom (at + length bytes.now) (D.seen desk.old).reads (D.seen desk.new).reads) }
+    ensures images { LeavesRoom (at + length bytes.now) D.stopped desk.old desk.new }
+    ensures remembers { Remembers (D.stopped desk.old) (D.stopped desk.new) }
 {
     desk.write_at(part, at, bytes)?;
     desk.sync(part)
@@ -41,20 +41,20 @@ fn fits(at: u64, len: usize, most: u64) -> bool
 
 // Writes a text behind a closed gate, and then opens the gate.
 fn add_text<D: Desk>(desk: &mut D, part: Part, at: u64, text: &[u8]) -> Result<(), Failed>
-    requires closed { IsTrue D.tells → IsClosed at (D.reads desk.old part) }
-    requires stable { IsTrue D.tells → IsStable part (D.reads desk.old) (D.may_leave desk.old) }
+    requires closed { IsTrue D.tells → IsClosed at ((D.seen desk.old).reads part) }
+    requires stable { IsTrue D.tells → IsStable part (D.seen desk.old).reads (D.stopped desk.old).images }
     requires within { at + 1 + length text.now < 2 ^ 64 }
-    ensures added { OnOk result (IsTrue D.tells → D.reads desk.new part ≡ added at text.now (D.reads desk.old part)) }
-    ensures stable { OnOk result (IsStable part (D.reads desk.new) (D.may_leave desk.new)) }
-    ensures elsewhere { Else part (D.reads desk.old) (D.reads desk.new) }
-    ensures cause { HasCause (D.disk_faults desk.old) (D.disk_faults desk.new) result }
-    ensures others { OnlyDisk D.said D.noted D.say_faults D.note_faults desk.old desk.new }
-    ensures quiet { Leaves D.moment D.since D.may_leave D.said desk.old desk.new (λ image. ⊤) }
-    ensures stops { IsTrue D.tells → Leaves D.moment D.since D.may_leave D.said desk.old desk.new
-        (After (OnPart part (ShutOrAdded at text.now)) (D.may_leave desk.old)) }
-    ensures room { IsTrue D.tells → KeepsRoom (at + 1 + length text.now) (D.reads desk.old) (D.reads desk.new) }
-    ensures images { LeavesRoom (at + 1 + length text.now) D.may_leave desk.old desk.new }
-    ensures remembers { Remembers (D.moment desk.old) (D.since desk.old) (D.since desk.new) }
+    ensures added { OnOk result (IsTrue D.tells → (D.seen desk.new).reads part ≡ added at text.now ((D.seen desk.old).reads part)) }
+    ensures stable { OnOk result (IsStable part (D.seen desk.new).reads (D.stopped desk.new).images) }
+    ensures elsewhere { Else part (D.seen desk.old).reads (D.seen desk.new).reads }
+    ensures cause { HasCause (D.seen desk.old).disk_faults (D.seen desk.new).disk_faults result }
+    ensures others { OnlyDisk D.seen desk.old desk.new }
+    ensures quiet { Leaves D.seen D.stopped desk.old desk.new (λ image. ⊤) }
+    ensures stops { IsTrue D.tells → Leaves D.seen D.stopped desk.old desk.new
+        (After (OnPart part (ShutOrAdded at text.now)) (D.stopped desk.old).images) }
+    ensures room { IsTrue D.tells → KeepsRoom (at + 1 + length text.now) (D.seen desk.old).reads (D.seen desk.new).reads }
+    ensures images { LeavesRoom (at + 1 + length text.now) D.stopped desk.old desk.new }
+    ensures remembers { Remembers (D.stopped desk.old) (D.stopped desk.new) }
 {
     put_down(desk, part, at + 1, text)?;
     put_down(desk, part, at, &[OPEN])
@@ -72,24 +72,24 @@ pub fn append<D: Desk>(
     packed: &Packed,
     most: u64,
 ) -> Result<u64, JournalFault>
-    requires closed { IsTrue D.tells → IsClosed at (D.reads desk.old part) }
-    requires stable { IsTrue D.tells → IsStable part (D.reads desk.old) (D.may_leave desk.old) }
+    requires closed { IsTrue D.tells → IsClosed at ((D.seen desk.old).reads part) }
+    requires stable { IsTrue D.tells → IsStable part (D.seen desk.old).reads (D.stopped desk.old).images }
 
     // The part then has that record and no other change, nothing is pending in it, and a closed gate stands at the answer.
     ensures next { IfOk result (λ next. (next ≡ at + 5 + length packed.now) × (next < most)) }
-    ensures added { OnOk result (IsTrue D.tells → D.reads desk.new part ≡ added at (text_of packed.now) (D.reads desk.old part)) }
-    ensures closed { IfOk result (λ next. IsTrue D.tells → IsClosed next (D.reads desk.new part)) }
-    ensures stable { OnOk result (IsStable part (D.reads desk.new) (D.may_leave desk.new)) }
+    ensures added { OnOk result (IsTrue D.tells → (D.seen desk.new).reads part ≡ added at (text_of packed.now) ((D.seen desk.old).reads part)) }
+    ensures closed { IfOk result (λ next. IsTrue D.tells → IsClosed next ((D.seen desk.new).reads part)) }
+    ensures stable { OnOk result (IsStable part (D.seen desk.new).reads (D.stopped desk.new).images) }
 
     // Full comes exactly where the record would pass the bound, and then nothing was done. Disk has its cause, and else nothing
     // is told.
     ensures fault { IfErr result (λ fault. AppendFails (at + 6 + length packed.now) most fault) }
     ensures full { most < at + 6 + length packed.now → desk.new ≡ desk.old }
-    ensures cause { HasCause (D.disk_faults desk.old) (D.disk_faults desk.new) (disk_failure result) }
+    ensures cause { HasCause (D.seen desk.old).disk_faults (D.seen desk.new).disk_faults (disk_failure result) }
 
     // Whatever comes of it, a stop at any moment leaves in the part nothing added or the record whole, and all else as it was. Nor
     // does it make a slot longer than the bound, neither as the desk reads nor in what a stop leaves.
-    ensures alone { OnlyAppends D.tells D.reads D.said D.noted D.say_faults D.note_faults D.moment D.since D.may_leave part at (text_of packed.now) most desk.old desk.new }
+    ensures alone { OnlyAppends D.tells D.seen D.stopped part (ShutOrAdded at (text_of packed.now)) most desk.old desk.new }
 {
     let text = packed.text();
     if !fits(at, text.len(), most) {

@@ -46,8 +46,8 @@ pub fn room_is_kept<D: Desk>()
     ensures within { (most : ℕ) (old new : Image) → IsWithin most old → KeepsRoom most old new → IsWithin most new }
     ensures next { (most : ℕ) (old mid new : Image) → KeepsRoom most old mid → KeepsRoom most mid new → KeepsRoom most old new }
     ensures wider { (less most : ℕ) (old new : Image) → less ≤ most → KeepsRoom less old new → KeepsRoom most old new }
-    ensures left_within { (most : ℕ) (old new : D) → ((image : Image) → D.may_leave old image → IsWithin most image) → LeavesRoom most D.may_leave old new
-        → (image : Image) → D.may_leave new image → IsWithin most image }
-    ensures left_next { (most : ℕ) (old mid new : D) → LeavesRoom most D.may_leave old mid → LeavesRoom most D.may_leave mid new → LeavesRoom most D.may_leave old new }
-    ensures left_wider { (less most : ℕ) (old new : D) → less ≤ most → LeavesRoom less D.may_leave old new → LeavesRoom most D.may_leave old new }
+    ensures left_within { (most : ℕ) (old new : D) → ((image : Image) → (D.stopped old).images image → IsWithin most image) → LeavesRoom most D.stopped old new
+        → (image : Image) → (D.stopped new).images image → IsWithin most image }
+    ensures left_next { (most : ℕ) (old mid new : D) → LeavesRoom most D.stopped old mid → LeavesRoom most D.stopped mid new → LeavesRoom most D.stopped old new }
+    ensures left_wider { (less most : ℕ) (old new : D) → less ≤ most → LeavesRoom less D.stopped old new → LeavesRoom most D.stopped old new }
 {}

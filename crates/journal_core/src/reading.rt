@@ -18,9 +18,9 @@ const HEAD: u64 = 5;
 
 // The byte at a place.
 fn byte_at<D: Desk>(desk: &mut D, part: Part, at: u64) -> Result<u8, Failed>
-    ensures byte { IfOk result (λ byte. IsTrue D.tells → StandAt at (byte ∷ []) (D.reads desk.old part)) }
-    ensures cause { HasCause (D.disk_faults desk.old) (D.disk_faults desk.new) result }
-    ensures reads { OnlyReads D.reads D.said D.noted D.say_faults D.note_faults D.moment D.since D.may_leave desk.old desk.new }
+    ensures byte { IfOk result (λ byte. IsTrue D.tells → StandAt at (byte ∷ []) ((D.seen desk.old).reads part)) }
+    ensures cause { HasCause (D.seen desk.old).disk_faults (D.seen desk.new).disk_faults result }
+    ensures reads { OnlyReads D.seen D.stopped desk.old desk.new }
 {
     let mut bytes = [0u8; 1];
     desk.read_at(part, at, &mut bytes)?;
@@ -37,9 +37,9 @@ fn number_of(first: u8, second: u8, third: u8, fourth: u8) -> u32
 
 // The number that the four bytes from a place on are, the least first.
 fn number_at<D: Desk>(desk: &mut D, part: Part, at: u64) -> Result<u32, Failed>
-    ensures number { IfOk result (λ number. (number < 2 ^ 32) × (IsTrue D.tells → StandAt at (to_le_bytes w32 number) (D.reads desk.old part))) }
-    ensures cause { HasCause (D.disk_faults desk.old) (D.disk_faults desk.new) result }
-    ensures reads { OnlyReads D.reads D.said D.noted D.say_faults D.note_faults D.moment D.since D.may_leave desk.old desk.new }
+    ensures number { IfOk result (λ number. (number < 2 ^ 32) × (IsTrue D.tells → StandAt at (to_le_bytes w32 number) ((D.seen desk.old).reads part))) }
+    ensures cause { HasCause (D.seen desk.old).disk_faults (D.seen desk.new).disk_faults result }
+    ensures reads { OnlyReads D.seen D.stopped desk.old desk.new }
 {
     let mut bytes = [0u8; 4];
     desk.read_at(part, at, &mut bytes)?;
@@ -54,10 +54,10 @@ fn bytes_at<D: Desk>(
     at: u64,
     len: u32,
 ) -> Result<Bytes, JournalFault>
-    ensures bytes { IfOk result (λ bytes. (length bytes ≡ len) × (IsTrue D.tells → StandAt at bytes (D.reads desk.old part))) }
+    ensures bytes { IfOk result (λ bytes. (length bytes ≡ len) × (IsTrue D.tells → StandAt at bytes ((D.seen desk.old).reads part))) }
     ensures fault { IfErr result (λ fault. (fault ≡ JournalFault.Disk) ⊎ (fault ≡ JournalFault.NoMemory)) }
-    ensures cause { HasCause (D.disk_faults desk.old) (D.disk_faults desk.new) (disk_failure result) }
-    ensures reads { OnlyReads D.reads D.said D.noted D.say_faults D.note_faults D.moment D.since D.may_leave desk.old desk.new }
+    ensures cause { HasCause (D.seen desk.old).disk_faults (D.seen desk.new).disk_faults (disk_failure result) }
+    ensures reads { OnlyReads D.seen D.stopped desk.old desk.new }
 {
     let mut bytes = vec![in alloc; 0u8; len as usize]?;
     desk.read_at(part, at, bytes.as_mut_slice())?;
@@ -71,11 +71,11 @@ fn len_behind<D: Desk>(
     at: u64,
     end: u64,
 ) -> Result<Option<u32>, JournalFault>
-    requires end { IsTrue D.tells → end ≡ length (D.reads desk.old part) }
-    ensures found { IfOk result (λ found. IsHead D.tells at end (D.reads desk.old part) found) }
-    ensures fault { IfErr result (λ fault. ReadFails D.tells at (D.reads desk.old part) fault) }
-    ensures cause { HasCause (D.disk_faults desk.old) (D.disk_faults desk.new) (disk_failure result) }
-    ensures reads { OnlyReads D.reads D.said D.noted D.say_faults D.note_faults D.moment D.since D.may_leave desk.old desk.new }
+    requires end { IsTrue D.tells → end ≡ length ((D.seen desk.old).reads part) }
+    ensures found { IfOk result (λ found. IsHead D.tells at end ((D.seen desk.old).reads part) found) }
+    ensures fault { IfErr result (λ fault. ReadFails D.tells at ((D.seen desk.old).reads part) fault) }
+    ensures cause { HasCause (D.seen desk.old).disk_faults (D.seen desk.new).disk_faults (disk_failure result) }
+    ensures reads { OnlyReads D.seen D.stopped desk.old desk.new }
 {
     if end <= at {
         return Err(JournalFault::Damaged { at });
@@ -103,10 +103,10 @@ pub fn next_record<D: Desk>(
     part: Part,
     at: u64,
 ) -> Result<Option<Bytes>, JournalFault>
-    ensures found { IfOk result (λ found. IsTrue D.tells → GateGives at (D.reads desk.old part) found) }
-    ensures fault { IfErr result (λ fault. ReadFails D.tells at (D.reads desk.old part) fault) }
-    ensures cause { HasCause (D.disk_faults desk.old) (D.disk_faults desk.new) (disk_failure result) }
-    ensures reads { OnlyReads D.reads D.said D.noted D.say_faults D.note_faults D.moment D.since D.may_leave desk.old desk.new }
+    ensures found { IfOk result (λ found. IsTrue D.tells → GateGives at ((D.seen desk.old).reads part) found) }
+    ensures fault { IfErr result (λ fault. ReadFails D.tells at ((D.seen desk.old).reads part) fault) }
+    ensures cause { HasCause (D.seen desk.old).disk_faults (D.seen desk.new).disk_faults (disk_failure result) }
+    ensures reads { OnlyReads D.seen D.stopped desk.old desk.new }
 {
     let end = desk.len(part)?;
     match len_behind(desk, part, at, end)? {

@@ -3,6 +3,7 @@ pub mod AddedBatches
 pub mod Changes
 pub mod OpenedRows
 pub mod StoredRows
+pub mod OpenedStates
 pub mod SlotReading
 pub mod Faults
 pub mod CompactedStores

@@ -2,7 +2,7 @@ ghost use Rattle.std.specs.Prelude.{◌≡◌, ◌+◌, ◌^◌, ◌<◌, ◌≤
 ghost use Rattle.ziti_outside.specs.Causes.{HasCause};
 ghost use Rattle.ziti_outside.specs.Images.{IsStable};
 ghost use Rattle.journal_core.specs.AppendedRecords.{OnlyAppends};
-ghost use Rattle.journal_core.specs.Slots.{IsClosed, text_of, added};
+ghost use Rattle.journal_core.specs.Slots.{IsClosed, ShutOrAdded, text_of, added};
 ghost use Rattle.row_codec.specs.RowDifference.{Rises};
 ghost use Rattle.row_codec.specs.Batches.{bytes_cmp, IsBatch, batch_bytes};
 ghost use Rattle.row_store.specs.BatchRows.{rows_in, rows_after};
@@ -36,14 +36,14 @@ fn append_within<D: Desk>(
     most: u64,
 ) -> Result<u64, StoreFault>
     requires room { end + 6 + length packed.now ≤ most }
-    requires closed { IsTrue D.tells → IsClosed end (D.reads desk.old part) }
-    requires stable { IsTrue D.tells → IsStable part (D.reads desk.old) (D.may_leave desk.old) }
+    requires closed { IsTrue D.tells → IsClosed end ((D.seen desk.old).reads part) }
+    requires stable { IsTrue D.tells → IsStable part (D.seen desk.old).reads (D.stopped desk.old).images }
     ensures next { IfOk result (λ next. next ≡ end + 5 + length packed.now) }
-    ensures added { OnOk result (IsTrue D.tells → D.reads desk.new part ≡ added end (text_of packed.now) (D.reads desk.old part)) }
-    ensures stable { OnOk result (IsStable part (D.reads desk.new) (D.may_leave desk.new)) }
+    ensures added { OnOk result (IsTrue D.tells → (D.seen desk.new).reads part ≡ added end (text_of packed.now) ((D.seen desk.old).reads part)) }
+    ensures stable { OnOk result (IsStable part (D.seen desk.new).reads (D.stopped desk.new).images) }
     ensures fault { IfErr result (λ fault. fault ≡ StoreFault.Disk) }
-    ensures cause { HasCause (D.disk_faults desk.old) (D.disk_faults desk.new) (disk_failure result) }
-    ensures alone { OnlyAppends D.tells D.reads D.said D.noted D.say_faults D.note_faults D.moment D.since D.may_leave part end (text_of packed.now) most desk.old desk.new }
+    ensures cause { HasCause (D.seen desk.old).disk_faults (D.seen desk.new).disk_faults (disk_failure result) }
+    ensures alone { OnlyAppends D.tells D.seen D.stopped part (ShutOrAdded end (text_of packed.now)) most desk.old desk.new }
 {
     match append(desk, part, end, packed, most) {
         Ok(next) => Ok(next),
@@ -67,17 +67,17 @@ pub(crate) fn keep<D: Desk>(
     ops: &[Op],
 ) -> Result<u64, StoreFault>
     requires room { end + 6 + length packed.now ≤ most }
-    requires closed { IsTrue D.tells → IsClosed end (D.reads desk.old part) }
-    requires stable { IsTrue D.tells → IsStable part (D.reads desk.old) (D.may_leave desk.old) }
+    requires closed { IsTrue D.tells → IsClosed end ((D.seen desk.old).reads part) }
+    requires stable { IsTrue D.tells → IsStable part (D.seen desk.old).reads (D.stopped desk.old).images }
     requires rises { Rises bytes_cmp (rows_in rows.old.entries) }
     ensures next { IfOk result (λ next. next ≡ end + 5 + length packed.now) }
     ensures rows { OnOk result (rows_in rows.new.entries ≡ rows_after (rows_in rows.old.entries) ops.now) }
     ensures rises { Rises bytes_cmp (rows_in rows.new.entries) }
-    ensures added { IsKept result → IsTrue D.tells → D.reads desk.new part ≡ added end (text_of packed.now) (D.reads desk.old part) }
-    ensures stable { IsKept result → IsStable part (D.reads desk.new) (D.may_leave desk.new) }
+    ensures added { IsKept result → IsTrue D.tells → (D.seen desk.new).reads part ≡ added end (text_of packed.now) ((D.seen desk.old).reads part) }
+    ensures stable { IsKept result → IsStable part (D.seen desk.new).reads (D.stopped desk.new).images }
     ensures fault { IfErr result (λ fault. KeepFails (rows_in rows.old.entries) (rows_in rows.new.entries) fault) }
-    ensures cause { HasCause (D.disk_faults desk.old) (D.disk_faults desk.new) (disk_failure result) }
-    ensures alone { OnlyAppends D.tells D.reads D.said D.noted D.say_faults D.note_faults D.moment D.since D.may_leave part end (text_of packed.now) most desk.old desk.new }
+    ensures cause { HasCause (D.seen desk.old).disk_faults (D.seen desk.new).disk_faults (disk_failure result) }
+    ensures alone { OnlyAppends D.tells D.seen D.stopped part (ShutOrAdded end (text_of packed.now)) most desk.old desk.new }
 {
     let place = append_within(desk, part, end, packed, most)?;
     change_all(alloc, rows, ops)?;

@@ -1,9 +1,13 @@
-ghost use Rattle.std.specs.Prelude.{◌≡◌, ℕ};
+ghost use Rattle.std.specs.Prelude.{◌≡◌, ℕ, length};
 ghost use Rattle.ziti_outside.specs.declared.desk.Part.{Part};
+ghost use Rattle.ziti_outside.specs.declared.desk.Part.TheVariants.{Mark};
 ghost use Rattle.ziti_outside.specs.Images.{Image, After};
+ghost use Rattle.ctrl_model.specs.State.{State};
 ghost use Rattle.slot_files.specs.FolderImage.{StandsAsBefore};
+ghost use Rattle.slot_files.specs.OpenedSlots.{Opens};
 ghost use Rattle.row_store.specs.BatchRows.{ByteRows};
 ghost use Rattle.row_store.specs.OpenedRows.{OpensTo, IsDamagedAt};
+ghost use Rattle.row_store.specs.OpenedStates.{OpensToState, IsOfNoState, IsStateless};
 ghost use Rattle.row_store.specs.StoredRows.{Stored, IsStoreOf, ReadsAs};
 
 use ziti_outside::Desk;
@@ -25,10 +29,26 @@ pub fn own_store()
 /// through calls that leave its bytes, as those that say, note and read. And what every image of a moment opens to, the images
 /// open to that stand for the same.
 pub fn reading_stands<D: Desk>()
-    ensures opens { (stored : Stored) (desk : D) (image : Image) → ReadsAs stored (D.reads desk) (D.may_leave desk) → D.may_leave desk image
+    ensures opens { (stored : Stored) (desk : D) (image : Image) → ReadsAs stored (D.seen desk).reads (D.stopped desk).images → (D.stopped desk).images image
         → OpensTo image stored.rows }
-    ensures later { (stored : Stored) (old new : D) → ReadsAs stored (D.reads old) (D.may_leave old) → D.reads new ≡ D.reads old
-        → ((image : Image) → D.may_leave new image → D.may_leave old image) → ReadsAs stored (D.reads new) (D.may_leave new) }
-    ensures opening { (desk : D) (image : Image) (rows : ByteRows) → ((first : Image) → D.may_leave desk first → OpensTo first rows)
-        → After StandsAsBefore (D.may_leave desk) image → OpensTo image rows }
+    ensures later { (stored : Stored) (old new : D) → ReadsAs stored (D.seen old).reads (D.stopped old).images → (D.seen new).reads ≡ (D.seen old).reads
+        → ((image : Image) → (D.stopped new).images image → (D.stopped old).images image) → ReadsAs stored (D.seen new).reads (D.stopped new).images }
+    ensures opening { (desk : D) (image : Image) (rows : ByteRows) → ((first : Image) → (D.stopped desk).images first → OpensTo first rows)
+        → After StandsAsBefore (D.stopped desk).images image → OpensTo image rows }
+{}
+
+/// An image opens to at most one state. It has no state at one place at most, and then it opens to none.
+pub fn one_state()
+    ensures state { (image : Image) (s t : State) → OpensToState image s → OpensToState image t → s ≡ t }
+    ensures none { (image : Image) (part : Part) (at : ℕ) (s : State) → IsStateless image part at → OpensToState image s → ⊥ }
+    ensures place { (image : Image) (part other : Part) (at place : ℕ) → IsStateless image part at → IsStateless image other place
+        → (part ≡ other) × (at ≡ place) }
+{}
+
+/// A folder whose store has the rows of no state opens to none, and is damaged at the store's end: one that was looked at, and one that
+/// was opened.
+pub fn opened_states()
+    ensures looked_at { (image : Image) (stored : Stored) (part : Part) (at : ℕ) → IsStoreOf image stored → IsOfNoState stored part at → IsStateless image part at }
+    ensures opened { (old new : Image) (stored : Stored) (part : Part) (at : ℕ) → Opens (length (old Mark)) old new → OpensTo old stored.rows → IsStoreOf new stored
+        → IsOfNoState stored part at → IsStateless old part at }
 {}

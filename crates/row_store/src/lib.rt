@@ -18,7 +18,7 @@ mod worked;
 
 pub use bounds::StoreBounds;
 pub use faults::StoreFault;
-pub use laws::{one_opening, own_store, reading_stands};
+pub use laws::{one_opening, one_state, opened_states, own_store, reading_stands};
 pub use store::Store;
 pub use worked::{
     worked_commands, worked_commits, worked_compactions, worked_damage, worked_folders, worked_rows,

@@ -30,20 +30,20 @@ fn other_of(part: Part) -> Part
 fn let_stand<D: Desk>(desk: &mut D, standing: Standing, most: u64) -> Result<Standing, StoreFault>
     requires named { IsNamed standing }
     requires room { standing.mark < most }
-    requires ready { IsTrue D.tells → IsReady standing.mark (D.reads desk.old) (D.may_leave desk.old) }
+    requires ready { IsTrue D.tells → IsReady standing.mark (D.seen desk.old).reads (D.stopped desk.old).images }
     ensures switched { IfOk result (λ now. IsSwitched standing now) }
-    ensures opened { IfOk result (λ now. IsTrue D.tells → IsOpened now (D.reads desk.new) (D.may_leave desk.new)) }
-    ensures mark { OnOk result (IsTrue D.tells → D.reads desk.new Mark ≡ D.reads desk.old Mark ++ 0 ∷ []) }
-    ensures elsewhere { Else Mark (D.reads desk.old) (D.reads desk.new) }
+    ensures opened { IfOk result (λ now. IsTrue D.tells → IsOpened now (D.seen desk.new).reads (D.stopped desk.new).images) }
+    ensures mark { OnOk result (IsTrue D.tells → (D.seen desk.new).reads Mark ≡ (D.seen desk.old).reads Mark ++ 0 ∷ []) }
+    ensures elsewhere { Else Mark (D.seen desk.old).reads (D.seen desk.new).reads }
     ensures fault { IfErr result (λ fault. fault ≡ StoreFault.Disk) }
-    ensures cause { HasCause (D.disk_faults desk.old) (D.disk_faults desk.new) (disk_failure result) }
-    ensures others { OnlyDisk D.said D.noted D.say_faults D.note_faults desk.old desk.new }
-    ensures quiet { Leaves D.moment D.since D.may_leave D.said desk.old desk.new (λ image. ⊤) }
-    ensures stops { IsTrue D.tells → Leaves D.moment D.since D.may_leave D.said desk.old desk.new
-        (After (StandsByEither standing.mark (D.reads desk.old)) (D.may_leave desk.old)) }
-    ensures remembers { Remembers (D.moment desk.old) (D.since desk.old) (D.since desk.new) }
-    ensures slots { IsTrue D.tells → KeepsRoom 0 (D.reads desk.old) (D.reads desk.new) }
-    ensures images { LeavesRoom 0 D.may_leave desk.old desk.new }
+    ensures cause { HasCause (D.seen desk.old).disk_faults (D.seen desk.new).disk_faults (disk_failure result) }
+    ensures others { OnlyDisk D.seen desk.old desk.new }
+    ensures quiet { Leaves D.seen D.stopped desk.old desk.new (λ image. ⊤) }
+    ensures stops { IsTrue D.tells → Leaves D.seen D.stopped desk.old desk.new
+        (After (StandsByEither standing.mark (D.seen desk.old).reads) (D.stopped desk.old).images) }
+    ensures remembers { Remembers (D.stopped desk.old) (D.stopped desk.new) }
+    ensures slots { IsTrue D.tells → KeepsRoom 0 (D.seen desk.old).reads (D.seen desk.new).reads }
+    ensures images { LeavesRoom 0 D.stopped desk.old desk.new }
 {
     match switch(desk, standing, most) {
         Ok(now) => Ok(now),
@@ -57,21 +57,21 @@ fn let_stand<D: Desk>(desk: &mut D, standing: Standing, most: u64) -> Result<Sta
 fn stand_alone<D: Desk>(desk: &mut D, standing: Standing, most: u64) -> Result<Standing, StoreFault>
     requires named { IsNamed standing }
     requires room { standing.mark < most }
-    requires ready { IsTrue D.tells → IsReady standing.mark (D.reads desk.old) (D.may_leave desk.old) }
+    requires ready { IsTrue D.tells → IsReady standing.mark (D.seen desk.old).reads (D.stopped desk.old).images }
     ensures switched { IfOk result (λ now. IsSwitched standing now) }
-    ensures opened { IfOk result (λ now. IsTrue D.tells → IsOpened now (D.reads desk.new) (D.may_leave desk.new)) }
-    ensures mark { OnOk result (IsTrue D.tells → D.reads desk.new Mark ≡ D.reads desk.old Mark ++ 0 ∷ []) }
-    ensures other { OnOk result (D.reads desk.new (other_slot standing.mark) ≡ D.reads desk.old (other_slot standing.mark)) }
-    ensures cut { OnOk result (IsTrue D.tells → D.reads desk.new standing.part ≡ []) }
+    ensures opened { IfOk result (λ now. IsTrue D.tells → IsOpened now (D.seen desk.new).reads (D.stopped desk.new).images) }
+    ensures mark { OnOk result (IsTrue D.tells → (D.seen desk.new).reads Mark ≡ (D.seen desk.old).reads Mark ++ 0 ∷ []) }
+    ensures other { OnOk result ((D.seen desk.new).reads (other_slot standing.mark) ≡ (D.seen desk.old).reads (other_slot standing.mark)) }
+    ensures cut { OnOk result (IsTrue D.tells → (D.seen desk.new).reads standing.part ≡ []) }
     ensures fault { IfErr result (λ fault. fault ≡ StoreFault.Disk) }
-    ensures cause { HasCause (D.disk_faults desk.old) (D.disk_faults desk.new) (disk_failure result) }
-    ensures others { OnlyDisk D.said D.noted D.say_faults D.note_faults desk.old desk.new }
-    ensures quiet { Leaves D.moment D.since D.may_leave D.said desk.old desk.new (λ image. ⊤) }
-    ensures stops { IsTrue D.tells → Leaves D.moment D.since D.may_leave D.said desk.old desk.new
-        (After (StandsByEither standing.mark (D.reads desk.old)) (D.may_leave desk.old)) }
-    ensures remembers { Remembers (D.moment desk.old) (D.since desk.old) (D.since desk.new) }
-    ensures slots { OnOk result (IsTrue D.tells → KeepsRoom 0 (D.reads desk.old) (D.reads desk.new)) }
-    ensures images { LeavesRoom 0 D.may_leave desk.old desk.new }
+    ensures cause { HasCause (D.seen desk.old).disk_faults (D.seen desk.new).disk_faults (disk_failure result) }
+    ensures others { OnlyDisk D.seen desk.old desk.new }
+    ensures quiet { Leaves D.seen D.stopped desk.old desk.new (λ image. ⊤) }
+    ensures stops { IsTrue D.tells → Leaves D.seen D.stopped desk.old desk.new
+        (After (StandsByEither standing.mark (D.seen desk.old).reads) (D.stopped desk.old).images) }
+    ensures remembers { Remembers (D.stopped desk.old) (D.stopped desk.new) }
+    ensures slots { OnOk result (IsTrue D.tells → KeepsRoom 0 (D.seen desk.old).reads (D.seen desk.new).reads) }
+    ensures images { LeavesRoom 0 D.stopped desk.old desk.new }
 {
     let now = let_stand(desk, standing, most)?;
     desk.cut(standing.part, 0)?;
@@ -90,19 +90,19 @@ pub(crate) fn move_to<D: Desk>(
     requires named { IsNamed standing }
     requires room { standing.mark < most }
     requires whole { IsSlot slot.now }
-    requires opened { IsTrue D.tells → IsOpened standing (D.reads desk.old) (D.may_leave desk.old) }
+    requires opened { IsTrue D.tells → IsOpened standing (D.seen desk.old).reads (D.stopped desk.old).images }
     ensures switched { IfOk result (λ now. IsSwitched standing now) }
-    ensures opened { IfOk result (λ now. IsTrue D.tells → IsOpened now (D.reads desk.new) (D.may_leave desk.new)) }
-    ensures moved { OnOk result (IsTrue D.tells → IsMoved standing slot.now (D.reads desk.old) (D.reads desk.new)) }
+    ensures opened { IfOk result (λ now. IsTrue D.tells → IsOpened now (D.seen desk.new).reads (D.stopped desk.new).images) }
+    ensures moved { OnOk result (IsTrue D.tells → IsMoved standing slot.now (D.seen desk.old).reads (D.seen desk.new).reads) }
     ensures fault { IfErr result (λ fault. fault ≡ StoreFault.Disk) }
-    ensures cause { HasCause (D.disk_faults desk.old) (D.disk_faults desk.new) (disk_failure result) }
-    ensures others { OnlyDisk D.said D.noted D.say_faults D.note_faults desk.old desk.new }
-    ensures quiet { Leaves D.moment D.since D.may_leave D.said desk.old desk.new (λ image. ⊤) }
-    ensures stops { IsTrue D.tells → Leaves D.moment D.since D.may_leave D.said desk.old desk.new
-        (StandsByOne (D.reads desk.old standing.part) slot.now) }
-    ensures remembers { Remembers (D.moment desk.old) (D.since desk.old) (D.since desk.new) }
-    ensures slots { OnOk result (IsTrue D.tells → KeepsRoom (length slot.now) (D.reads desk.old) (D.reads desk.new)) }
-    ensures images { LeavesRoom (length slot.now) D.may_leave desk.old desk.new }
+    ensures cause { HasCause (D.seen desk.old).disk_faults (D.seen desk.new).disk_faults (disk_failure result) }
+    ensures others { OnlyDisk D.seen desk.old desk.new }
+    ensures quiet { Leaves D.seen D.stopped desk.old desk.new (λ image. ⊤) }
+    ensures stops { IsTrue D.tells → Leaves D.seen D.stopped desk.old desk.new
+        (StandsByOne ((D.seen desk.old).reads standing.part) slot.now) }
+    ensures remembers { Remembers (D.stopped desk.old) (D.stopped desk.new) }
+    ensures slots { OnOk result (IsTrue D.tells → KeepsRoom (length slot.now) (D.seen desk.old).reads (D.seen desk.new).reads) }
+    ensures images { LeavesRoom (length slot.now) D.stopped desk.old desk.new }
 {
     put_down(desk, other_of(standing.part), 0, slot)?;
     stand_alone(desk, standing, most)

@@ -22,12 +22,12 @@ use ziti_outside::{Desk, Part};
 // Finds the slot that stands, makes it stable, and creates it where the mark is empty.
 pub(crate) fn settle<D: Desk>(desk: &mut D) -> Result<Standing, StoreFault>
     ensures named { IfOk result IsNamed }
-    ensures opened { IfOk result (λ standing. IsTrue D.tells → IsOpened standing (D.reads desk.new) (D.may_leave desk.new)) }
-    ensures opens { OnOk result (IsTrue D.tells → Opens (length (D.reads desk.old Mark)) (D.reads desk.old) (D.reads desk.new)) }
-    ensures alone { OnlyOpens D.tells D.reads D.said D.noted D.say_faults D.note_faults D.moment D.since D.may_leave desk.old desk.new }
-    ensures fault { IfErr result (λ fault. OpenFails D.tells (D.reads desk.old) fault) }
-    ensures cause { HasCause (D.disk_faults desk.old) (D.disk_faults desk.new) (disk_failure result) }
-    ensures room { IsTrue D.tells → OnOk (disk_failure result) (KeepsRoom empty_size (D.reads desk.old) (D.reads desk.new)) }
+    ensures opened { IfOk result (λ standing. IsTrue D.tells → IsOpened standing (D.seen desk.new).reads (D.stopped desk.new).images) }
+    ensures opens { OnOk result (IsTrue D.tells → Opens (length ((D.seen desk.old).reads Mark)) (D.seen desk.old).reads (D.seen desk.new).reads) }
+    ensures alone { OnlyOpens D.tells D.seen D.stopped desk.old desk.new }
+    ensures fault { IfErr result (λ fault. OpenFails D.tells (D.seen desk.old).reads fault) }
+    ensures cause { HasCause (D.seen desk.old).disk_faults (D.seen desk.new).disk_faults (disk_failure result) }
+    ensures room { IsTrue D.tells → OnOk (disk_failure result) (KeepsRoom empty_size (D.seen desk.old).reads (D.seen desk.new).reads) }
 {
     match slot_files::open(desk) {
         Ok(standing) => Ok(standing),
@@ -39,11 +39,11 @@ pub(crate) fn settle<D: Desk>(desk: &mut D) -> Result<Standing, StoreFault>
 
 // Finds the slot that stands, or none where the mark is empty.
 pub(crate) fn look<D: Desk>(desk: &mut D) -> Result<Option<Standing>, StoreFault>
-    ensures found { IfOk result (λ found. IsTrue D.tells → Finds (D.reads desk.old) found) }
+    ensures found { IfOk result (λ found. IsTrue D.tells → Finds (D.seen desk.old).reads found) }
     ensures named { IfOk result (λ found. IfSome found IsNamed) }
-    ensures fault { IfErr result (λ fault. OpenFails D.tells (D.reads desk.old) fault) }
-    ensures cause { HasCause (D.disk_faults desk.old) (D.disk_faults desk.new) (disk_failure result) }
-    ensures reads { OnlyReads D.reads D.said D.noted D.say_faults D.note_faults D.moment D.since D.may_leave desk.old desk.new }
+    ensures fault { IfErr result (λ fault. OpenFails D.tells (D.seen desk.old).reads fault) }
+    ensures cause { HasCause (D.seen desk.old).disk_faults (D.seen desk.new).disk_faults (disk_failure result) }
+    ensures reads { OnlyReads D.seen D.stopped desk.old desk.new }
 {
     match slot_files::peek(desk) {
         Ok(found) => Ok(found),
@@ -59,13 +59,13 @@ pub(crate) fn load<D: Desk>(
     desk: &mut D,
     part: Part,
 ) -> Result<(Rows, u64), StoreFault>
-    requires { IsTrue D.tells → IsFront header (D.reads desk.old part) }
-    ensures whole { IfOk result (λ read. IsTrue D.tells → IsReadWhole (D.reads desk.old part) read.1 (rows_in read.0.entries)) }
+    requires { IsTrue D.tells → IsFront header ((D.seen desk.old).reads part) }
+    ensures whole { IfOk result (λ read. IsTrue D.tells → IsReadWhole ((D.seen desk.old).reads part) read.1 (rows_in read.0.entries)) }
     ensures rises { IfOk result (λ read. Rises bytes_cmp (rows_in read.0.entries)) }
     ensures puttable { IfOk result (λ read. ArePuttable (rows_in read.0.entries)) }
-    ensures fault { IfErr result (λ fault. SlotFails D.tells part (D.reads desk.old part) fault) }
-    ensures cause { HasCause (D.disk_faults desk.old) (D.disk_faults desk.new) (disk_failure result) }
-    ensures reads { OnlyReads D.reads D.said D.noted D.say_faults D.note_faults D.moment D.since D.may_leave desk.old desk.new }
+    ensures fault { IfErr result (λ fault. SlotFails D.tells part ((D.seen desk.old).reads part) fault) }
+    ensures cause { HasCause (D.seen desk.old).disk_faults (D.seen desk.new).disk_faults (disk_failure result) }
+    ensures reads { OnlyReads D.seen D.stopped desk.old desk.new }
 {
     let mut rows = Rows::new(alloc);
     let end = read_slot(alloc, desk, part, &mut rows)?;

@@ -28,10 +28,10 @@ fn record_at<D: Desk>(
     part: Part,
     at: u64,
 ) -> Result<Option<Bytes>, StoreFault>
-    ensures found { IfOk result (λ found. IsTrue D.tells → GateGives at (D.reads desk.old part) found) }
-    ensures fault { IfErr result (λ fault. RecordFails D.tells part at (D.reads desk.old part) fault) }
-    ensures cause { HasCause (D.disk_faults desk.old) (D.disk_faults desk.new) (disk_failure result) }
-    ensures reads { OnlyReads D.reads D.said D.noted D.say_faults D.note_faults D.moment D.since D.may_leave desk.old desk.new }
+    ensures found { IfOk result (λ found. IsTrue D.tells → GateGives at ((D.seen desk.old).reads part) found) }
+    ensures fault { IfErr result (λ fault. RecordFails D.tells part at ((D.seen desk.old).reads part) fault) }
+    ensures cause { HasCause (D.seen desk.old).disk_faults (D.seen desk.new).disk_faults (disk_failure result) }
+    ensures reads { OnlyReads D.seen D.stopped desk.old desk.new }
 {
     match next_record(alloc, desk, part, at) {
         Ok(found) => Ok(found),
@@ -78,13 +78,13 @@ fn step<D: Desk>(
     rows: &mut Rows,
 ) -> Result<Option<u64>, StoreFault>
     requires { Rises bytes_cmp (rows_in rows.old.entries) }
-    ensures made { IfOk result (λ next. IsTrue D.tells → StepsTo (D.reads desk.old part) at (rows_in rows.old.entries) (rows_in rows.new.entries) next) }
+    ensures made { IfOk result (λ next. IsTrue D.tells → StepsTo ((D.seen desk.old).reads part) at (rows_in rows.old.entries) (rows_in rows.new.entries) next) }
     ensures further { IfOk result (λ next. IfSome next (λ place. min (at + 1) (2 ^ 64 - 1) ≤ place)) }
-    ensures fault { IfErr result (λ fault. StepFails D.tells part at (D.reads desk.old part) (rows_in rows.old.entries) fault) }
+    ensures fault { IfErr result (λ fault. StepFails D.tells part at ((D.seen desk.old).reads part) (rows_in rows.old.entries) fault) }
     ensures rises { Rises bytes_cmp (rows_in rows.new.entries) }
     ensures puttable { OnOk result (ArePuttable (rows_in rows.old.entries) → ArePuttable (rows_in rows.new.entries)) }
-    ensures cause { HasCause (D.disk_faults desk.old) (D.disk_faults desk.new) (disk_failure result) }
-    ensures reads { OnlyReads D.reads D.said D.noted D.say_faults D.note_faults D.moment D.since D.may_leave desk.old desk.new }
+    ensures cause { HasCause (D.seen desk.old).disk_faults (D.seen desk.new).disk_faults (disk_failure result) }
+    ensures reads { OnlyReads D.seen D.stopped desk.old desk.new }
 {
     match record_at(alloc, desk, part, at)? {
         None => Ok(None),
@@ -106,13 +106,13 @@ pub(crate) fn read_slot<D: Desk>(
     rows: &mut Rows,
 ) -> Result<u64, StoreFault>
     requires none { rows_in rows.old.entries ≡ [] }
-    requires header { IsTrue D.tells → IsFront header (D.reads desk.old part) }
-    ensures whole { IfOk result (λ end. IsTrue D.tells → IsReadWhole (D.reads desk.old part) end (rows_in rows.new.entries)) }
-    ensures fault { IfErr result (λ fault. SlotFails D.tells part (D.reads desk.old part) fault) }
+    requires header { IsTrue D.tells → IsFront header ((D.seen desk.old).reads part) }
+    ensures whole { IfOk result (λ end. IsTrue D.tells → IsReadWhole ((D.seen desk.old).reads part) end (rows_in rows.new.entries)) }
+    ensures fault { IfErr result (λ fault. SlotFails D.tells part ((D.seen desk.old).reads part) fault) }
     ensures rises { Rises bytes_cmp (rows_in rows.new.entries) }
     ensures puttable { OnOk result (ArePuttable (rows_in rows.new.entries)) }
-    ensures cause { HasCause (D.disk_faults desk.old) (D.disk_faults desk.new) (disk_failure result) }
-    ensures reads { OnlyReads D.reads D.said D.noted D.say_faults D.note_faults D.moment D.since D.may_leave desk.old desk.new }
+    ensures cause { HasCause (D.seen desk.old).disk_faults (D.seen desk.new).disk_faults (disk_failure result) }
+    ensures reads { OnlyReads D.seen D.stopped desk.old desk.new }
 {
     let end = desk.len(part)?;
     let mut at = HEADER.len() as u64;

@@ -82,30 +82,30 @@ impl Store {
         bounds: StoreBounds,
     ) -> Result<Store, StoreFault>
         requires { bounds.slot ≤ 2 ^ 30 }
-        ensures opens { IfOk result (λ store. IsTrue D.tells → OpensTo (D.reads desk.old) store.rows) }
-        ensures stands { IfOk result (λ store. IsTrue D.tells → ReadsAs store (D.reads desk.new) (D.may_leave desk.new)) }
+        ensures opens { IfOk result (λ store. IsTrue D.tells → OpensTo (D.seen desk.old).reads store.rows) }
+        ensures stands { IfOk result (λ store. IsTrue D.tells → ReadsAs store (D.seen desk.new).reads (D.stopped desk.new).images) }
         ensures opened { IfOk result (λ store. (store.bounds ≡ bounds) × (store.opened ≡ true) × (store.spent ≡ false)) }
-        ensures created { OnOk result (IsTrue D.tells → Opens (length (D.reads desk.old Mark)) (D.reads desk.old) (D.reads desk.new)) }
+        ensures created { OnOk result (IsTrue D.tells → Opens (length ((D.seen desk.old).reads Mark)) (D.seen desk.old).reads (D.seen desk.new).reads) }
 
         // A folder whose mark is not empty reads as before, whatever comes of the call; and the second slot always does.
-        ensures kept { IsTrue D.tells → 0 < length (D.reads desk.old Mark) → D.reads desk.new ≡ D.reads desk.old }
-        ensures second { D.reads desk.new One ≡ D.reads desk.old One }
+        ensures kept { IsTrue D.tells → 0 < length ((D.seen desk.old).reads Mark) → (D.seen desk.new).reads ≡ (D.seen desk.old).reads }
+        ensures second { (D.seen desk.new).reads One ≡ (D.seen desk.old).reads One }
 
         // Nor does a stop leave anything else of such a folder: each image, at every moment of the call and after it, is one that a stop
         // might have left before.
-        ensures unwritten { IsTrue D.tells → 0 < length (D.reads desk.old Mark) → Leaves D.moment D.since D.may_leave D.said desk.old desk.new (D.may_leave desk.old) }
+        ensures unwritten { IsTrue D.tells → 0 < length ((D.seen desk.old).reads Mark) → Leaves D.seen D.stopped desk.old desk.new (D.stopped desk.old).images }
 
-        ensures fault { IfErr result (λ fault. OpenFails D.tells (D.reads desk.old) fault) }
-        ensures cause { HasCause (D.disk_faults desk.old) (D.disk_faults desk.new) (disk_failure result) }
-        ensures others { OnlyDisk D.said D.noted D.say_faults D.note_faults desk.old desk.new }
-        ensures quiet { Leaves D.moment D.since D.may_leave D.said desk.old desk.new (λ image. ⊤) }
-        ensures stops { IsTrue D.tells → Leaves D.moment D.since D.may_leave D.said desk.old desk.new (After StandsAsBefore (D.may_leave desk.old)) }
-        ensures remembers { Remembers (D.moment desk.old) (D.since desk.old) (D.since desk.new) }
+        ensures fault { IfErr result (λ fault. OpenFails D.tells (D.seen desk.old).reads fault) }
+        ensures cause { HasCause (D.seen desk.old).disk_faults (D.seen desk.new).disk_faults (disk_failure result) }
+        ensures others { OnlyDisk D.seen desk.old desk.new }
+        ensures quiet { Leaves D.seen D.stopped desk.old desk.new (λ image. ⊤) }
+        ensures stops { IsTrue D.tells → Leaves D.seen D.stopped desk.old desk.new (After StandsAsBefore (D.stopped desk.old).images) }
+        ensures remembers { Remembers (D.stopped desk.old) (D.stopped desk.new) }
 
         // No slot grows past the size of one without a record, neither in what a stop leaves nor, where no call on the disk failed, as
         // the desk reads.
-        ensures room { IsTrue D.tells → OnOk (disk_failure result) (KeepsRoom empty_size (D.reads desk.old) (D.reads desk.new)) }
-        ensures images { LeavesRoom empty_size D.may_leave desk.old desk.new }
+        ensures room { IsTrue D.tells → OnOk (disk_failure result) (KeepsRoom empty_size (D.seen desk.old).reads (D.seen desk.new).reads) }
+        ensures images { LeavesRoom empty_size D.stopped desk.old desk.new }
     {
         let standing = settle(desk)?;
         let (rows, end) = load(alloc, desk, standing.part)?;
@@ -127,11 +127,11 @@ impl Store {
     /// `Damaged` comes exactly where the folder opens to no rows, with the first place at which it is damaged. `Full`, `MarkFull` and
     /// `Spent` never come.
     pub fn peek<D: Desk>(alloc: Global, desk: &mut D) -> Result<Store, StoreFault>
-        ensures opens { IfOk result (λ store. IsTrue D.tells → IsStoreOf (D.reads desk.old) store) }
+        ensures opens { IfOk result (λ store. IsTrue D.tells → IsStoreOf (D.seen desk.old).reads store) }
         ensures peeked { IfOk result (λ store. (store.opened ≡ false) × (store.spent ≡ false)) }
-        ensures fault { IfErr result (λ fault. OpenFails D.tells (D.reads desk.old) fault) }
-        ensures cause { HasCause (D.disk_faults desk.old) (D.disk_faults desk.new) (disk_failure result) }
-        ensures reads { OnlyReads D.reads D.said D.noted D.say_faults D.note_faults D.moment D.since D.may_leave desk.old desk.new }
+        ensures fault { IfErr result (λ fault. OpenFails D.tells (D.seen desk.old).reads fault) }
+        ensures cause { HasCause (D.seen desk.old).disk_faults (D.seen desk.new).disk_faults (disk_failure result) }
+        ensures reads { OnlyReads D.seen D.stopped desk.old desk.new }
     {
         match look(desk)? {
             None => Ok(Store::without_rows(alloc)),
@@ -215,24 +215,24 @@ impl Store {
         requires opened { self.old.opened ≡ true }
         requires batch { IsBatch batch.now }
         requires changes { self.old.spent ≡ false → IsTrueDifference bytes_cmp self.old.rows (entries_of batch.now) }
-        requires stands { self.old.spent ≡ false → IsTrue D.tells → ReadsAs self.old (D.reads desk.old) (D.may_leave desk.old) }
+        requires stands { self.old.spent ≡ false → IsTrue D.tells → ReadsAs self.old (D.seen desk.old).reads (D.stopped desk.old).images }
 
         ensures kept { OnOk result (MayCommit self.old batch.now × (self.new ≡ with_ops self.old batch.now)) }
-        ensures added { OnOk result (IsTrue D.tells → AddsBatch batch.now (D.reads desk.old) (D.reads desk.new)) }
+        ensures added { OnOk result (IsTrue D.tells → AddsBatch batch.now (D.seen desk.old).reads (D.seen desk.new).reads) }
         ensures fault { IfErr result (λ fault. CommitFails batch.now self.old self.new desk.old desk.new fault) }
-        ensures stands { self.new.spent ≡ false → IsTrue D.tells → ReadsAs self.new (D.reads desk.new) (D.may_leave desk.new) }
+        ensures stands { self.new.spent ≡ false → IsTrue D.tells → ReadsAs self.new (D.seen desk.new).reads (D.stopped desk.new).images }
         ensures behind { IsErrOf result StoreFault.NoMemory → self.old.spent ≡ false → self.new.spent ≡ true → IsTrue D.tells → (image : Image)
-            → D.may_leave desk.new image → OpensTo image (rows_after self.old.rows batch.now) }
-        ensures cause { HasCause (D.disk_faults desk.old) (D.disk_faults desk.new) (disk_failure result) }
-        ensures others { OnlyDisk D.said D.noted D.say_faults D.note_faults desk.old desk.new }
-        ensures quiet { Leaves D.moment D.since D.may_leave D.said desk.old desk.new (λ image. ⊤) }
-        ensures stops { self.old.spent ≡ false → IsTrue D.tells → Leaves D.moment D.since D.may_leave D.said desk.old desk.new
+            → (D.stopped desk.new).images image → OpensTo image (rows_after self.old.rows batch.now) }
+        ensures cause { HasCause (D.seen desk.old).disk_faults (D.seen desk.new).disk_faults (disk_failure result) }
+        ensures others { OnlyDisk D.seen desk.old desk.new }
+        ensures quiet { Leaves D.seen D.stopped desk.old desk.new (λ image. ⊤) }
+        ensures stops { self.old.spent ≡ false → IsTrue D.tells → Leaves D.seen D.stopped desk.old desk.new
             (λ image. OpensTo image self.old.rows ⊎ OpensTo image (rows_after self.old.rows batch.now)) }
-        ensures remembers { Remembers (D.moment desk.old) (D.since desk.old) (D.since desk.new) }
+        ensures remembers { Remembers (D.stopped desk.old) (D.stopped desk.new) }
 
         // No slot grows past its bound, neither as the desk reads nor in what a stop leaves.
-        ensures room { IsTrue D.tells → KeepsRoom self.old.bounds.slot (D.reads desk.old) (D.reads desk.new) }
-        ensures images { LeavesRoom self.old.bounds.slot D.may_leave desk.old desk.new }
+        ensures room { IsTrue D.tells → KeepsRoom self.old.bounds.slot (D.seen desk.old).reads (D.seen desk.new).reads }
+        ensures images { LeavesRoom self.old.bounds.slot D.stopped desk.old desk.new }
     {
         if self.spent {
             return Err(StoreFault::Spent);
@@ -267,22 +267,22 @@ impl Store {
     /// cut. `Damaged` never comes.
     pub fn compact<D: Desk>(&mut self, desk: &mut D) -> Result<(), StoreFault>
         requires opened { self.old.opened ≡ true }
-        requires stands { self.old.spent ≡ false → IsTrue D.tells → ReadsAs self.old (D.reads desk.old) (D.may_leave desk.old) }
+        requires stands { self.old.spent ≡ false → IsTrue D.tells → ReadsAs self.old (D.seen desk.old).reads (D.stopped desk.old).images }
 
         ensures compacted { OnOk result (MayCompact self.old × (self.new ≡ compacted_of self.old)) }
-        ensures folder { OnOk result (IsTrue D.tells → IsCompacted self.old (D.reads desk.old) (D.reads desk.new)) }
+        ensures folder { OnOk result (IsTrue D.tells → IsCompacted self.old (D.seen desk.old).reads (D.seen desk.new).reads) }
         ensures fault { IfErr result (λ fault. CompactFails self.old self.new desk.old desk.new fault) }
-        ensures stands { self.new.spent ≡ false → IsTrue D.tells → ReadsAs self.new (D.reads desk.new) (D.may_leave desk.new) }
-        ensures cause { HasCause (D.disk_faults desk.old) (D.disk_faults desk.new) (disk_failure result) }
-        ensures others { OnlyDisk D.said D.noted D.say_faults D.note_faults desk.old desk.new }
-        ensures quiet { Leaves D.moment D.since D.may_leave D.said desk.old desk.new (λ image. ⊤) }
-        ensures stops { self.old.spent ≡ false → IsTrue D.tells → Leaves D.moment D.since D.may_leave D.said desk.old desk.new
+        ensures stands { self.new.spent ≡ false → IsTrue D.tells → ReadsAs self.new (D.seen desk.new).reads (D.stopped desk.new).images }
+        ensures cause { HasCause (D.seen desk.old).disk_faults (D.seen desk.new).disk_faults (disk_failure result) }
+        ensures others { OnlyDisk D.seen desk.old desk.new }
+        ensures quiet { Leaves D.seen D.stopped desk.old desk.new (λ image. ⊤) }
+        ensures stops { self.old.spent ≡ false → IsTrue D.tells → Leaves D.seen D.stopped desk.old desk.new
             (λ image. OpensTo image self.old.rows) }
-        ensures remembers { Remembers (D.moment desk.old) (D.since desk.old) (D.since desk.new) }
+        ensures remembers { Remembers (D.stopped desk.old) (D.stopped desk.new) }
 
         // No slot grows past its bound, neither in what a stop leaves nor, where no call on the disk failed, as the desk reads.
-        ensures room { IsTrue D.tells → OnOk (disk_failure result) (KeepsRoom self.old.bounds.slot (D.reads desk.old) (D.reads desk.new)) }
-        ensures images { LeavesRoom self.old.bounds.slot D.may_leave desk.old desk.new }
+        ensures room { IsTrue D.tells → OnOk (disk_failure result) (KeepsRoom self.old.bounds.slot (D.seen desk.old).reads (D.seen desk.new).reads) }
+        ensures images { LeavesRoom self.old.bounds.slot D.stopped desk.old desk.new }
     {
         if self.spent {
             return Err(StoreFault::Spent);

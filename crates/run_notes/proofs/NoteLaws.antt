@@ -12,13 +12,12 @@ use Rattle.std.specs.declared.option.Option.{Option}
 use Rattle.std.specs.declared.result.Result.{Result}
 use Rattle.ziti_outside.specs.declared.failed.Failed.{Failed}
 use Rattle.ziti_outside.specs.Causes.{HasCause, Rose}
-use Rattle.ziti_outside.specs.Told.{Hands}
+use Rattle.ziti_outside.specs.Told.{Hands, Took, TookFront}
 use Rattle.ziti_outside.proofs.Moves.{Took-none, Took-then, IsFront-none, IsFront-all, IsFront-then, IsFront-longer}
 use Rattle.run_notes.specs.declared.status.Status.{Status}
 use Rattle.run_notes.specs.declared.status.Status.TheVariants.{Done, Usage, BadInput, Truncated, ReadFault, WriteFault, DiskFault, Damaged, NoMemory, InputTooLong, FolderFull}
 use Rattle.run_notes.specs.declared.ends.End.{End}
 use Rattle.run_notes.specs.declared.ends.End.TheVariants.{Whole, More, Fault}
-use Rattle.ziti_outside.specs.Images.{Image}
 use Rattle.ziti_outside.specs.Untouched.{OnlyNotes}
 use Rattle.std.specs.declared.alloc.AllocError.{AllocError}
 use Rattle.run_notes.specs.Endings.{IsStuckAt, status_at}
@@ -26,59 +25,80 @@ use Rattle.run_notes.specs.NotedLines.{RisesOnce, NotesLines, TellsDamage, IsNot
 use Rattle.run_notes.specs.Notes.{note_of, damaged_note, bad_lines, ending_lines, status_lines, session_note, session_rest_lines, trace_note, trace_rest_lines}
 use Rattle.run_notes.specs.NotesSoFar.{IsNoted, NotesMore}
 use Rattle.ziti_outside.specs.declared.desk.Part.{Part}
+use Rattle.ziti_outside.specs.Views.{Seen, Stopped}
 
 -- A note writes its lines whole, or fails.
-pub notes_lines : (r : Result ⊤ Failed) (lines : List ℕ) (a b : Option (List ℕ)) (x y : ℕ) → Hands a b r lines → HasCause x y r → NotesLines lines a b x y
-notes_lines (Ok u) lines a b x y taken cause = record { part = (lines, IsFront-all lines, taken); whole = λ _. taken }
-notes_lines (Err e) lines a b x y taken cause = record { part = taken; whole = λ calm. absurd (calm cause.failed) }
+pub notes_lines : (r : Result ⊤ Failed) (lines : List ℕ) (a b : Seen) → Hands a.noted b.noted r lines → HasCause a.note_faults b.note_faults r → NotesLines lines a b
+notes_lines (Ok u) lines a b taken cause = record { part = (lines, IsFront-all lines, taken); whole = λ _. taken }
+notes_lines (Err e) lines a b taken cause = record { part = taken; whole = λ calm. absurd (calm cause.failed) }
 
 -- Nothing was noted where there was nothing to note.
-pub notes_none : (a : Option (List ℕ)) (x : ℕ) → NotesLines [] a a x x
-notes_none a x = record { part = ([], IsFront-none [], Took-none a); whole = λ _. Took-none a }
+pub notes_none : (a : Seen) → NotesLines [] a a
+notes_none a = record { part = ([], IsFront-none [], Took-none a.noted); whole = λ _. Took-none a.noted }
+
+-- What was noted since a desk that had noted the same.
+pub notes_from : (lines : List ℕ) (a b c : Seen) → b.noted ≡ a.noted → b.note_faults ≡ a.note_faults → NotesLines lines b c → NotesLines lines a c
+notes_from lines a b c q r noted = record {
+  part = subst (λ (x : Option (List ℕ)). TookFront x c.noted lines) q noted.part;
+  whole = λ calm. subst (λ (x : Option (List ℕ)). Took x c.noted lines) q (noted.whole (λ rose. calm (subst (λ (n : ℕ). Rose n c.note_faults) r rose)));
+}
 
 -- ---- what a run noted so far
 
 -- Nothing at first.
-pub noted_none : (a : Option (List ℕ)) (x : ℕ) → IsNoted false [] a a x x
-noted_none a x = (Took-none a, refl)
+pub noted_none : (a : Seen) → IsNoted false [] a a
+noted_none a = (Took-none a.noted, refl)
 
 -- What was noted so far, as lines.
-pub noted_lines : (failed : Bool) (lines : List ℕ) (a b : Option (List ℕ)) (x y : ℕ) → IsNoted failed lines a b x y → NotesLines lines a b x y × RisesOnce x y
-noted_lines false lines a b x y noted = (
+pub noted_lines : (failed : Bool) (lines : List ℕ) (a b : Seen) → IsNoted failed lines a b → NotesLines lines a b × RisesOnce a.note_faults b.note_faults
+noted_lines false lines a b noted = (
   record { part = (lines, IsFront-all lines, noted.0); whole = λ _. noted.0 },
   record { later = omega (arith, noted.1); once = omega (arith, noted.1) },
 )
-noted_lines true lines a b x y noted = (record { part = noted.0; whole = λ calm. absurd (calm noted.1) }, noted.2)
+noted_lines true lines a b noted = (record { part = noted.0; whole = λ calm. absurd (calm noted.1) }, noted.2)
 
 -- Lines behind lines.
-pub more_then : (f g h : Bool) (first last : List ℕ) (a b c : Option (List ℕ)) (x y z : ℕ) → NotesMore f g first a b x y → NotesMore g h last b c y z → NotesMore f h (first ++ last) a c x z
-more_then f g h first last a b c x y z p q = λ before o n noted.
-    subst (λ (l : List ℕ). IsNoted h l o c n z) (append_assoc before first last) (q (before ++ first) o n (p before o n noted))
+pub more_then : (f g h : Bool) (first last : List ℕ) (a b c : Seen) → NotesMore f g first a b → NotesMore g h last b c → NotesMore f h (first ++ last) a c
+more_then f g h first last a b c p q = λ before o noted.
+    subst (λ (l : List ℕ). IsNoted h l o c) (append_assoc before first last) (q (before ++ first) o (p before o noted))
 
 -- No lines leave what was noted.
-pub more_none : (f : Bool) (a : Option (List ℕ)) (x : ℕ) → NotesMore f f [] a a x x
-more_none f a x = λ before o n noted. subst (λ (l : List ℕ). IsNoted f l o a n x) (sym (append-nil before)) noted
+pub more_none : (f : Bool) (a : Seen) → NotesMore f f [] a a
+more_none f a = λ before o noted. subst (λ (l : List ℕ). IsNoted f l o a) (sym (append-nil before)) noted
+
+-- So it was noted still, where the notes are as they were.
+noted_still : (f : Bool) (lines : List ℕ) (o a b : Seen) → b.noted ≡ a.noted → b.note_faults ≡ a.note_faults → IsNoted f lines o a → IsNoted f lines o b
+noted_still false lines o a b q r noted = (subst (λ (x : Option (List ℕ)). Took o.noted x lines) (sym q) noted.0, r ∙ noted.1)
+noted_still true lines o a b q r noted = (
+  subst (λ (x : Option (List ℕ)). TookFront o.noted x lines) (sym q) noted.0,
+  subst (λ (k : ℕ). Rose o.note_faults k) (sym r) noted.1,
+  subst (λ (k : ℕ). RisesOnce o.note_faults k) (sym r) noted.2,
+)
+
+-- These lines still are, where the notes are as they were behind them.
+pub more_still : (f g : Bool) (lines : List ℕ) (a b c : Seen) → c.noted ≡ b.noted → c.note_faults ≡ b.note_faults → NotesMore f g lines a b → NotesMore f g lines a c
+more_still f g lines a b c q r more = λ before o noted. noted_still g (before ++ lines) o b c q r (more before o noted)
 
 -- Where the desk and what is known of it were left, too.
-pub more_left : (f g : Bool) (a b : Option (List ℕ)) (x y : ℕ) → g ≡ f → b ≡ a → y ≡ x → NotesMore f g [] a b x y
-more_left f g a b x y p q r = rw (p, q, r) (more_none f a x)
+pub more_left : (f g : Bool) (a b : Seen) → g ≡ f → b.noted ≡ a.noted → b.note_faults ≡ a.note_faults → NotesMore f g [] a b
+more_left f g a b p q r = rw p (more_still f f [] a a b q r (more_none f a))
 
 -- Once a note failed, no lines are noted.
-pub more_failed : (lines : List ℕ) (a : Option (List ℕ)) (x : ℕ) → NotesMore true true lines a a x x
-more_failed lines a x = λ before o n noted.
+pub more_failed : (lines : List ℕ) (a : Seen) → NotesMore true true lines a a
+more_failed lines a = λ before o noted.
     ((noted.0.0, IsFront-longer noted.0.0 before lines (before ++ lines) noted.0.1 refl, noted.0.2), noted.1, noted.2)
 
 -- Where none failed, the lines are noted, or this note fails.
-pub more_noted : (failed : Bool) (told : Bool) (lines : List ℕ) (a b : Option (List ℕ)) (x y : ℕ) → failed ≡ not told → NotesLines lines a b x y → IsNoteCaused lines a b x y told → RisesOnce x y
-    → NotesMore false failed lines a b x y
-more_noted failed true lines a b x y is noted caused once =
-    subst (λ (f : Bool). NotesMore false f lines a b x y) (sym is) (λ before o n so. (Took-then o a b before lines so.0 caused.0, caused.1 ∙ so.1))
-more_noted failed false lines a b x y is noted caused once =
-    subst (λ (f : Bool). NotesMore false f lines a b x y) (sym is)
-    (λ before o n so. (
-      (before ++ noted.part.0, IsFront-then before noted.part.0 lines (before ++ lines) noted.part.1 refl, Took-then o a b before noted.part.0 so.0 noted.part.2),
-      subst (λ (k : ℕ). Rose k y) so.1 caused,
-      subst (λ (k : ℕ). RisesOnce k y) so.1 once,
+pub more_noted : (failed : Bool) (told : Bool) (lines : List ℕ) (a b : Seen) → failed ≡ not told → NotesLines lines a b → IsNoteCaused lines a b told → RisesOnce a.note_faults b.note_faults
+    → NotesMore false failed lines a b
+more_noted failed true lines a b is noted caused once =
+    subst (λ (f : Bool). NotesMore false f lines a b) (sym is) (λ before o so. (Took-then o.noted a.noted b.noted before lines so.0 caused.0, caused.1 ∙ so.1))
+more_noted failed false lines a b is noted caused once =
+    subst (λ (f : Bool). NotesMore false f lines a b) (sym is)
+    (λ before o so. (
+      (before ++ noted.part.0, IsFront-then before noted.part.0 lines (before ++ lines) noted.part.1 refl, Took-then o.noted a.noted b.noted before noted.part.0 so.0 noted.part.2),
+      subst (λ (k : ℕ). Rose k b.note_faults) so.1 caused,
+      subst (λ (k : ℕ). RisesOnce k b.note_faults) so.1 once,
     ))
 
 -- The parts of a session's note, in a row.
@@ -110,10 +130,10 @@ damage_text file at =
     ap (λ (l : List ℕ). codes "zitictl: damaged: file " ++ l) (sym (append_assoc file (codes " at " ++ at) (codes "\n")))
 
 -- A damaged folder's line was noted, or a front of it.
-pub damage_told : (part : Part) (at : ℕ) (lines : List ℕ) (a b : Option (List ℕ)) (x y : ℕ) → lines ≡ damaged_note part at → NotesLines lines a b x y → RisesOnce x y → TellsDamage part at Damaged a b x y
-damage_told part at lines a b x y is noted counted = record {
+pub damage_told : (part : Part) (at : ℕ) (lines : List ℕ) (a b : Seen) → lines ≡ damaged_note part at → NotesLines lines a b → RisesOnce a.note_faults b.note_faults → TellsDamage part at Damaged a b
+damage_told part at lines a b is noted counted = record {
   same = inl refl;
-  damaged = λ _. subst (λ (l : List ℕ). NotesLines l a b x y) is noted;
+  damaged = λ _. subst (λ (l : List ℕ). NotesLines l a b) is noted;
   memory = λ e. cc;
   counted = counted;
 }
@@ -147,8 +167,8 @@ some_held (suc n) closed some = refl
 -- ---- how a run ended
 
 -- Only notes were written, twice.
-pub OnlyNotes-then : {D : Type 0} {said : D → Option (List ℕ)} {say_faults : D → ℕ} {reads : D → Image} {may_leave : D → Image → Type 0} {disk_faults : D → ℕ} {old mid new : D}
-    → OnlyNotes said say_faults reads may_leave disk_faults old mid → OnlyNotes said say_faults reads may_leave disk_faults mid new → OnlyNotes said say_faults reads may_leave disk_faults old new
+pub OnlyNotes-then : {D : Type 0} {seen : D → Seen} {stopped : D → Stopped} {old mid new : D}
+    → OnlyNotes seen stopped old mid → OnlyNotes seen stopped mid new → OnlyNotes seen stopped old new
 OnlyNotes-then first second = record {
   replies = second.replies ∙ first.replies;
   failed_says = second.failed_says ∙ first.failed_says;
@@ -185,10 +205,10 @@ stuck_lines st at closed Whole stuck = ap (λ (l : List ℕ). l ++ []) (sym (stu
 stuck_lines st at closed More stuck = ap (λ (l : List ℕ). l ++ []) (sym (stuck_line st at stuck))
 stuck_lines st at closed Fault stuck = ap (λ (l : List ℕ). l ++ status_lines [] ReadFault) (sym (stuck_line st at stuck))
 
-pub stuck_told : (r : Result Status AllocError) (st : Standing) (at : ℕ) (closed : List ℕ) (end : End) (f g : Bool) (a b : Option (List ℕ)) (x y : ℕ) → IsStuckAt st at
-    → IfOk r (λ s. s ≡ status_at true false end) → IfOk r (λ s. NotesMore f g (bad_line_at at ++ status_lines [] s) a b x y) → IfOk r (λ s. NotesMore f g (ending_lines (end_of st) closed s) a b x y)
-stuck_told (Ok s) st at closed end f g a b x y stuck is noted =
-    subst (λ (u : Status). NotesMore f g (ending_lines (end_of st) closed u) a b x y) (sym is)
-    (subst (λ (l : List ℕ). NotesMore f g l a b x y) (stuck_lines st at closed end stuck)
-    (subst (λ (u : Status). NotesMore f g (bad_line_at at ++ status_lines [] u) a b x y) is noted))
-stuck_told (Err e) st at closed end f g a b x y stuck is noted = tt
+pub stuck_told : (r : Result Status AllocError) (st : Standing) (at : ℕ) (closed : List ℕ) (end : End) (f g : Bool) (a b : Seen) → IsStuckAt st at
+    → IfOk r (λ s. s ≡ status_at true false end) → IfOk r (λ s. NotesMore f g (bad_line_at at ++ status_lines [] s) a b) → IfOk r (λ s. NotesMore f g (ending_lines (end_of st) closed s) a b)
+stuck_told (Ok s) st at closed end f g a b stuck is noted =
+    subst (λ (u : Status). NotesMore f g (ending_lines (end_of st) closed u) a b) (sym is)
+    (subst (λ (l : List ℕ). NotesMore f g l a b) (stuck_lines st at closed end stuck)
+    (subst (λ (u : Status). NotesMore f g (bad_line_at at ++ status_lines [] u) a b) is noted))
+stuck_told (Err e) st at closed end f g a b stuck is noted = tt

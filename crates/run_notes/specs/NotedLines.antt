@@ -1,11 +1,10 @@
 -- What was noted of some lines, and what failed notes leave (docs/PROMISES.md, "The headline").
 use Rattle.std.specs.Prelude.{◌≡◌, ◌⊎◌, ℕ, ◌+◌, ◌≤◌, Bool, true, false, List, []}
-use Rattle.std.specs.declared.option.Option.{Option}
 use Rattle.ziti_outside.specs.Causes.{Rose}
-use Rattle.ziti_outside.specs.Images.{Image}
 use Rattle.ziti_outside.specs.Moments.{Elapses}
 use Rattle.ziti_outside.specs.Told.{Took, TookFront}
 use Rattle.ziti_outside.specs.declared.desk.Part.{Part}
+use Rattle.ziti_outside.specs.Views.{Seen, Stopped}
 use Rattle.run_notes.specs.declared.status.Status.{Status}
 use Rattle.run_notes.specs.declared.status.Status.TheVariants.{Damaged, NoMemory}
 use Rattle.run_notes.specs.Notes.{damaged_note, status_lines}
@@ -16,27 +15,27 @@ pub record RisesOnce (before now : ℕ) : Type 0 where
   pub once : now ≤ before + 1
 
 -- These lines were noted: all of them where the count of failed notes did not rise, else a front of them.
-pub record NotesLines (lines : List ℕ) (noted_before noted_now : Option (List ℕ)) (faults_before faults_now : ℕ) : Type 0 where
-  pub part : TookFront noted_before noted_now lines
-  pub whole : (Rose faults_before faults_now → ⊥) → Took noted_before noted_now lines
+pub record NotesLines (lines : List ℕ) (before now : Seen) : Type 0 where
+  pub part : TookFront before.noted now.noted lines
+  pub whole : (Rose before.note_faults now.note_faults → ⊥) → Took before.noted now.noted lines
 
 -- The notes are as they were, and no fault of theirs was counted.
-pub record LeavesNotes {D : Type 0} (noted : D → Option (List ℕ)) (note_faults : D → ℕ) (old new : D) : Type 0 where
-  pub notes : noted new ≡ noted old
-  pub failed_notes : note_faults new ≡ note_faults old
+pub record LeavesNotes {D : Type 0} (seen : D → Seen) (old new : D) : Type 0 where
+  pub notes : (seen new).noted ≡ (seen old).noted
+  pub failed_notes : (seen new).note_faults ≡ (seen old).note_faults
 
 -- Time went on, and a stop at a moment between leaves no image and no reply bytes that one might not have left before.
-abbrev pub FindsNoMore : {D : Type 0} → (D → ℕ) → (D → ℕ → Image → List ℕ → Type 0) → (old new : D) → Type 0
-FindsNoMore moment since old new = Elapses (moment old) (moment new) (since old) (since new) (λ image taken. ⊥)
+abbrev pub FindsNoMore : {D : Type 0} → (D → Stopped) → (old new : D) → Type 0
+FindsNoMore stopped old new = Elapses (stopped old) (stopped new) (λ image taken. ⊥)
 
 -- The lines were noted whole where no note failed, and the count of failed notes rose where one did.
-abbrev pub IsNoteCaused : List ℕ → Option (List ℕ) → Option (List ℕ) → ℕ → ℕ → Bool → Type 0
-IsNoteCaused lines noted_before noted_now before now true = Took noted_before noted_now lines × (now ≡ before)
-IsNoteCaused lines noted_before noted_now before now false = Rose before now
+abbrev pub IsNoteCaused : List ℕ → (before now : Seen) → Bool → Type 0
+IsNoteCaused lines before now true = Took before.noted now.noted lines × (now.note_faults ≡ before.note_faults)
+IsNoteCaused lines before now false = Rose before.note_faults now.note_faults
 
 -- What the telling of a damaged folder answers, that status or want of memory, and what it noted.
-pub record TellsDamage (part : Part) (at : ℕ) (result : Status) (noted_before noted_now : Option (List ℕ)) (before now : ℕ) : Type 0 where
+pub record TellsDamage (part : Part) (at : ℕ) (result : Status) (before now : Seen) : Type 0 where
   pub same : (result ≡ Damaged) ⊎ (result ≡ NoMemory)
-  pub damaged : result ≡ Damaged → NotesLines (damaged_note part at) noted_before noted_now before now
-  pub memory : result ≡ NoMemory → NotesLines (status_lines [] NoMemory) noted_before noted_now before now
-  pub counted : RisesOnce before now
+  pub damaged : result ≡ Damaged → NotesLines (damaged_note part at) before now
+  pub memory : result ≡ NoMemory → NotesLines (status_lines [] NoMemory) before now
+  pub counted : RisesOnce before.note_faults now.note_faults

@@ -16,11 +16,11 @@ pub struct Notes {
 
 /// Notes the lines, if there are any. Answers whether no note failed.
 pub fn note_lines<D: Desk>(lines: &[u8], desk: &mut D) -> bool
-    ensures noted { NotesLines lines.now (D.noted desk.old) (D.noted desk.new) (D.note_faults desk.old) (D.note_faults desk.new) }
-    ensures cause { IsNoteCaused lines.now (D.noted desk.old) (D.noted desk.new) (D.note_faults desk.old) (D.note_faults desk.new) result }
-    ensures counted { RisesOnce (D.note_faults desk.old) (D.note_faults desk.new) }
-    ensures others { OnlyNotes D.said D.say_faults D.reads D.may_leave D.disk_faults desk.old desk.new }
-    ensures stops { FindsNoMore D.moment D.since desk.old desk.new }
+    ensures noted { NotesLines lines.now (D.seen desk.old) (D.seen desk.new) }
+    ensures cause { IsNoteCaused lines.now (D.seen desk.old) (D.seen desk.new) result }
+    ensures counted { RisesOnce (D.seen desk.old).note_faults (D.seen desk.new).note_faults }
+    ensures others { OnlyNotes D.seen D.stopped desk.old desk.new }
+    ensures stops { FindsNoMore D.stopped desk.old desk.new }
 {
     lines.is_empty() || desk.note(lines).is_ok()
 }
@@ -35,9 +35,9 @@ impl Notes {
 
     /// Notes the lines, unless a note failed before.
     pub fn write<D: Desk>(&mut self, lines: &[u8], desk: &mut D)
-        ensures noted { NotesMore self.old.failed self.new.failed lines.now (D.noted desk.old) (D.noted desk.new) (D.note_faults desk.old) (D.note_faults desk.new) }
-        ensures others { OnlyNotes D.said D.say_faults D.reads D.may_leave D.disk_faults desk.old desk.new }
-        ensures stops { FindsNoMore D.moment D.since desk.old desk.new }
+        ensures noted { NotesMore self.old.failed self.new.failed lines.now (D.seen desk.old) (D.seen desk.new) }
+        ensures others { OnlyNotes D.seen D.stopped desk.old desk.new }
+        ensures stops { FindsNoMore D.stopped desk.old desk.new }
     {
         if !self.failed {
             self.failed = !note_lines(lines, desk);
@@ -54,10 +54,10 @@ pub fn note_fault<D: Desk>(
     notes: &mut Notes,
     desk: &mut D,
 ) -> Result<(), AllocError>
-    ensures noted { OnOk result (NotesMore notes.old.failed notes.new.failed (session_note session (word_of_fault fault ++ (codes " at " ++ decimal at))) (D.noted desk.old) (D.noted desk.new) (D.note_faults desk.old) (D.note_faults desk.new)) }
-    ensures unnoted { OnErr result ((notes.new ≡ notes.old) × LeavesNotes D.noted D.note_faults desk.old desk.new) }
-    ensures others { OnlyNotes D.said D.say_faults D.reads D.may_leave D.disk_faults desk.old desk.new }
-    ensures stops { FindsNoMore D.moment D.since desk.old desk.new }
+    ensures noted { OnOk result (NotesMore notes.old.failed notes.new.failed (session_note session (word_of_fault fault ++ (codes " at " ++ decimal at))) (D.seen desk.old) (D.seen desk.new)) }
+    ensures unnoted { OnErr result ((notes.new ≡ notes.old) × LeavesNotes D.seen desk.old desk.new) }
+    ensures others { OnlyNotes D.seen D.stopped desk.old desk.new }
+    ensures stops { FindsNoMore D.stopped desk.old desk.new }
 {
     let line = fault_line(alloc, session, fault_word(fault), at)?;
     notes.write(line.as_bytes(), desk);

@@ -125,10 +125,10 @@ fn tell_bad_record<D: Desk>(
     desk: &mut D,
 ) -> Result<Status, AllocError>
     ensures status { IfOk result (λ s. s ≡ status_at true false end) }
-    ensures noted { IfOk result (λ s. NotesMore notes.old.failed notes.new.failed (trace_note (codes "BadRecord at " ++ decimal at) ++ status_lines [] s) (D.noted desk.old) (D.noted desk.new) (D.note_faults desk.old) (D.note_faults desk.new)) }
-    ensures unnoted { OnErr result ((notes.new ≡ notes.old) × LeavesNotes D.noted D.note_faults desk.old desk.new) }
-    ensures others { OnlyNotes D.said D.say_faults D.reads D.may_leave D.disk_faults desk.old desk.new }
-    ensures stops { FindsNoMore D.moment D.since desk.old desk.new }
+    ensures noted { IfOk result (λ s. NotesMore notes.old.failed notes.new.failed (trace_note (codes "BadRecord at " ++ decimal at) ++ status_lines [] s) (D.seen desk.old) (D.seen desk.new)) }
+    ensures unnoted { OnErr result ((notes.new ≡ notes.old) × LeavesNotes D.seen desk.old desk.new) }
+    ensures others { OnlyNotes D.seen D.stopped desk.old desk.new }
+    ensures stops { FindsNoMore D.stopped desk.old desk.new }
 {
     let status = status_of(true, false, end);
     let line = bad_line(alloc, at)?;
@@ -148,11 +148,11 @@ fn tell_rests<D: Desk>(
 ) -> Result<Status, AllocError>
     requires given { IsAllGiven mux.now }
     ensures status { IfOk result (λ s. s ≡ status_at sessions.now.faulty (leaves_some (end_of mux.now) sessions.now.closed) end) }
-    ensures noted { IfOk result (λ s. NotesMore notes.old.failed notes.new.failed (status_lines (rest_lines (end_of mux.now) sessions.now.closed) s) (D.noted desk.old) (D.noted desk.new) (D.note_faults desk.old) (D.note_faults desk.new)) }
-    ensures unnoted { OnErr result ((notes.new ≡ notes.old) × LeavesNotes D.noted D.note_faults desk.old desk.new) }
+    ensures noted { IfOk result (λ s. NotesMore notes.old.failed notes.new.failed (status_lines (rest_lines (end_of mux.now) sessions.now.closed) s) (D.seen desk.old) (D.seen desk.new)) }
+    ensures unnoted { OnErr result ((notes.new ≡ notes.old) × LeavesNotes D.seen desk.old desk.new) }
     ensures memory { OnErr result (status_at sessions.now.faulty (leaves_some (end_of mux.now) sessions.now.closed) end ≡ Status.Truncated) }
-    ensures others { OnlyNotes D.said D.say_faults D.reads D.may_leave D.disk_faults desk.old desk.new }
-    ensures stops { FindsNoMore D.moment D.since desk.old desk.new }
+    ensures others { OnlyNotes D.seen D.stopped desk.old desk.new }
+    ensures stops { FindsNoMore D.stopped desk.old desk.new }
 {
     let status = status_of(sessions.faulty(), has_rest(mux, sessions), end);
     let lines = rests_of(alloc, mux, sessions, status)?;
@@ -174,11 +174,11 @@ pub fn tell_ending<D: Desk>(
 ) -> Result<Status, AllocError>
     requires end { ComesToEnd mux.now bad }
     ensures status { IfOk result (λ s. s ≡ status_at (sessions.now.faulty || begins_bad (end_of mux.now)) (leaves_some (end_of mux.now) sessions.now.closed) end) }
-    ensures noted { IfOk result (λ s. NotesMore notes.old.failed notes.new.failed (ending_lines (end_of mux.now) sessions.now.closed s) (D.noted desk.old) (D.noted desk.new) (D.note_faults desk.old) (D.note_faults desk.new)) }
-    ensures unnoted { OnErr result ((notes.new ≡ notes.old) × LeavesNotes D.noted D.note_faults desk.old desk.new) }
+    ensures noted { IfOk result (λ s. NotesMore notes.old.failed notes.new.failed (ending_lines (end_of mux.now) sessions.now.closed s) (D.seen desk.old) (D.seen desk.new)) }
+    ensures unnoted { OnErr result ((notes.new ≡ notes.old) × LeavesNotes D.seen desk.old desk.new) }
     ensures memory { OnErr result ((begins_bad (end_of mux.now) ≡ true) ⊎ (status_at sessions.now.faulty (leaves_some (end_of mux.now) sessions.now.closed) end ≡ Status.Truncated)) }
-    ensures others { OnlyNotes D.said D.say_faults D.reads D.may_leave D.disk_faults desk.old desk.new }
-    ensures stops { FindsNoMore D.moment D.since desk.old desk.new }
+    ensures others { OnlyNotes D.seen D.stopped desk.old desk.new }
+    ensures stops { FindsNoMore D.stopped desk.old desk.new }
 {
     match bad {
         Some(at) => tell_bad_record(alloc, at, end, notes, desk),
@@ -200,9 +200,9 @@ fn status_by(cut: Cut) -> Status
 /// Notes what cut a run short behind what it noted, and answers its status.
 pub fn tell_cut_behind<D: Desk>(cut: Cut, notes: &mut Notes, desk: &mut D) -> Status
     ensures status { result ≡ status_of_cut cut }
-    ensures noted { NotesMore notes.old.failed notes.new.failed (status_lines [] result) (D.noted desk.old) (D.noted desk.new) (D.note_faults desk.old) (D.note_faults desk.new) }
-    ensures others { OnlyNotes D.said D.say_faults D.reads D.may_leave D.disk_faults desk.old desk.new }
-    ensures stops { FindsNoMore D.moment D.since desk.old desk.new }
+    ensures noted { NotesMore notes.old.failed notes.new.failed (status_lines [] result) (D.seen desk.old) (D.seen desk.new) }
+    ensures others { OnlyNotes D.seen D.stopped desk.old desk.new }
+    ensures stops { FindsNoMore D.stopped desk.old desk.new }
 {
     let status = status_by(cut);
     notes.write(status_line(status), desk);
@@ -212,10 +212,10 @@ pub fn tell_cut_behind<D: Desk>(cut: Cut, notes: &mut Notes, desk: &mut D) -> St
 /// Notes what cut a run short, and answers its status.
 pub fn tell_cut<D: Desk>(cut: Cut, desk: &mut D) -> Status
     ensures status { result ≡ status_of_cut cut }
-    ensures told { NotesLines (status_lines [] result) (D.noted desk.old) (D.noted desk.new) (D.note_faults desk.old) (D.note_faults desk.new) }
-    ensures counted { RisesOnce (D.note_faults desk.old) (D.note_faults desk.new) }
-    ensures others { OnlyNotes D.said D.say_faults D.reads D.may_leave D.disk_faults desk.old desk.new }
-    ensures stops { FindsNoMore D.moment D.since desk.old desk.new }
+    ensures told { NotesLines (status_lines [] result) (D.seen desk.old) (D.seen desk.new) }
+    ensures counted { RisesOnce (D.seen desk.old).note_faults (D.seen desk.new).note_faults }
+    ensures others { OnlyNotes D.seen D.stopped desk.old desk.new }
+    ensures stops { FindsNoMore D.stopped desk.old desk.new }
 {
     let status = status_by(cut);
     note_lines(status_line(status), desk);
@@ -224,9 +224,9 @@ pub fn tell_cut<D: Desk>(cut: Cut, desk: &mut D) -> Status
 
 /// Notes that the folder opens to no state, and answers that status; for want of memory that one is noted.
 pub fn tell_damage<D: Desk>(alloc: Global, part: Part, at: u64, desk: &mut D) -> Status
-    ensures told { TellsDamage part at result (D.noted desk.old) (D.noted desk.new) (D.note_faults desk.old) (D.note_faults desk.new) }
-    ensures others { OnlyNotes D.said D.say_faults D.reads D.may_leave D.disk_faults desk.old desk.new }
-    ensures stops { FindsNoMore D.moment D.since desk.old desk.new }
+    ensures told { TellsDamage part at result (D.seen desk.old) (D.seen desk.new) }
+    ensures others { OnlyNotes D.seen D.stopped desk.old desk.new }
+    ensures stops { FindsNoMore D.stopped desk.old desk.new }
 {
     match damaged_line(alloc, part, at) {
         Ok(line) => {
@@ -240,10 +240,10 @@ pub fn tell_damage<D: Desk>(alloc: Global, part: Part, at: u64, desk: &mut D) ->
 /// Notes what of the folder has no room for a compaction, and answers that status.
 pub fn tell_full<D: Desk>(full: Full, desk: &mut D) -> Status
     ensures status { result ≡ Status.FolderFull }
-    ensures told { NotesLines (full_note full) (D.noted desk.old) (D.noted desk.new) (D.note_faults desk.old) (D.note_faults desk.new) }
-    ensures counted { RisesOnce (D.note_faults desk.old) (D.note_faults desk.new) }
-    ensures others { OnlyNotes D.said D.say_faults D.reads D.may_leave D.disk_faults desk.old desk.new }
-    ensures stops { FindsNoMore D.moment D.since desk.old desk.new }
+    ensures told { NotesLines (full_note full) (D.seen desk.old) (D.seen desk.new) }
+    ensures counted { RisesOnce (D.seen desk.old).note_faults (D.seen desk.new).note_faults }
+    ensures others { OnlyNotes D.seen D.stopped desk.old desk.new }
+    ensures stops { FindsNoMore D.stopped desk.old desk.new }
 {
     note_lines(full_line(full), desk);
     Status::FolderFull

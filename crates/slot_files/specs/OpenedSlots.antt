@@ -1,11 +1,12 @@
 -- What is found in a folder, and what opening it makes of it (docs/PROMISES.md, "The slots of the folder").
-use Rattle.std.specs.Prelude.{◌≡◌, ℕ, zero, suc, ◌<◌, Bool, ⊤, IsTrue, List, [], ◌∷◌, ◌++◌, length, drop, None, Some}
+use Rattle.std.specs.Prelude.{◌≡◌, ℕ, zero, suc, ◌<◌, Bool, ⊤, IsTrue, [], ◌∷◌, ◌++◌, length, drop, None, Some}
 use Rattle.std.specs.declared.option.Option.{Option}
 use Rattle.ziti_outside.specs.declared.desk.Part.TheVariants.{Zero, One, Mark}
 use Rattle.ziti_outside.specs.Told.{IsFront}
 use Rattle.ziti_outside.specs.Images.{Image, After, IsStable}
 use Rattle.ziti_outside.specs.Moments.{Remembers, Leaves}
 use Rattle.ziti_outside.specs.Untouched.{OnlyDisk}
+use Rattle.ziti_outside.specs.Views.{Seen, Stopped}
 use Rattle.journal_core.specs.Room.{empty_size, LeavesRoom}
 use Rattle.journal_core.specs.Slots.{header, slot_bytes}
 use Rattle.slot_files.specs.declared.standing.Standing.{Standing}
@@ -46,12 +47,12 @@ Opens (suc turn) old new = new ≡ old
 -- The folder was opened alone, whatever came of it. Where its mark was not empty it reads as before, and a stop at any moment leaves
 -- no image that it did not leave before; the second slot always reads as before. Of any folder a stop leaves images that stand for
 -- what those before stood for, with slots that grew no longer than one without a record, and takes no reply byte.
-pub record OnlyOpens {D : Type 0} (tells : Bool) (reads : D → Image) (said noted : D → Option (List ℕ)) (say_faults note_faults moment : D → ℕ) (since : D → ℕ → Image → List ℕ → Type 0) (may_leave : D → Image → Type 0) (old new : D) : Type 0 where
-  pub kept : IsTrue tells → 0 < length (reads old Mark) → reads new ≡ reads old
-  pub second : reads new One ≡ reads old One
-  pub unwritten : IsTrue tells → 0 < length (reads old Mark) → Leaves moment since may_leave said old new (may_leave old)
-  pub others : OnlyDisk said noted say_faults note_faults old new
-  pub quiet : Leaves moment since may_leave said old new (λ image. ⊤)
-  pub stops : IsTrue tells → Leaves moment since may_leave said old new (After StandsAsBefore (may_leave old))
-  pub remembers : Remembers (moment old) (since old) (since new)
-  pub images : LeavesRoom empty_size may_leave old new
+pub record OnlyOpens {D : Type 0} (tells : Bool) (seen : D → Seen) (stopped : D → Stopped) (old new : D) : Type 0 where
+  pub kept : IsTrue tells → 0 < length ((seen old).reads Mark) → (seen new).reads ≡ (seen old).reads
+  pub second : (seen new).reads One ≡ (seen old).reads One
+  pub unwritten : IsTrue tells → 0 < length ((seen old).reads Mark) → Leaves seen stopped old new (stopped old).images
+  pub others : OnlyDisk seen old new
+  pub quiet : Leaves seen stopped old new (λ image. ⊤)
+  pub stops : IsTrue tells → Leaves seen stopped old new (After StandsAsBefore (stopped old).images)
+  pub remembers : Remembers (stopped old) (stopped new)
+  pub images : LeavesRoom empty_size stopped old new

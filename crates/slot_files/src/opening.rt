@@ -16,19 +16,19 @@ use ziti_outside::{Desk, Failed, Part};
 
 // Creates a folder in which the mark is empty: the first slot, and then the mark.
 fn create<D: Desk>(desk: &mut D) -> Result<Standing, Failed>
-    requires empty { IsTrue D.tells → D.reads desk.old Mark ≡ [] }
-    requires stable { IsStable Mark (D.reads desk.old) (D.may_leave desk.old) }
+    requires empty { IsTrue D.tells → (D.seen desk.old).reads Mark ≡ [] }
+    requires stable { IsStable Mark (D.seen desk.old).reads (D.stopped desk.old).images }
     ensures named { IfOk result IsNamed }
-    ensures opened { IfOk result (λ standing. IsTrue D.tells → IsOpened standing (D.reads desk.new) (D.may_leave desk.new)) }
-    ensures created { OnOk result (IsTrue D.tells → IsCreated (D.reads desk.old) (D.reads desk.new)) }
-    ensures second { D.reads desk.new One ≡ D.reads desk.old One }
-    ensures cause { HasCause (D.disk_faults desk.old) (D.disk_faults desk.new) result }
-    ensures others { OnlyDisk D.said D.noted D.say_faults D.note_faults desk.old desk.new }
-    ensures quiet { Leaves D.moment D.since D.may_leave D.said desk.old desk.new (λ image. ⊤) }
-    ensures stops { IsTrue D.tells → Leaves D.moment D.since D.may_leave D.said desk.old desk.new (After StandsAsBefore (D.may_leave desk.old)) }
-    ensures remembers { Remembers (D.moment desk.old) (D.since desk.old) (D.since desk.new) }
-    ensures room { OnOk result (IsTrue D.tells → KeepsRoom empty_size (D.reads desk.old) (D.reads desk.new)) }
-    ensures images { LeavesRoom empty_size D.may_leave desk.old desk.new }
+    ensures opened { IfOk result (λ standing. IsTrue D.tells → IsOpened standing (D.seen desk.new).reads (D.stopped desk.new).images) }
+    ensures created { OnOk result (IsTrue D.tells → IsCreated (D.seen desk.old).reads (D.seen desk.new).reads) }
+    ensures second { (D.seen desk.new).reads One ≡ (D.seen desk.old).reads One }
+    ensures cause { HasCause (D.seen desk.old).disk_faults (D.seen desk.new).disk_faults result }
+    ensures others { OnlyDisk D.seen desk.old desk.new }
+    ensures quiet { Leaves D.seen D.stopped desk.old desk.new (λ image. ⊤) }
+    ensures stops { IsTrue D.tells → Leaves D.seen D.stopped desk.old desk.new (After StandsAsBefore (D.stopped desk.old).images) }
+    ensures remembers { Remembers (D.stopped desk.old) (D.stopped desk.new) }
+    ensures room { OnOk result (IsTrue D.tells → KeepsRoom empty_size (D.seen desk.old).reads (D.seen desk.new).reads) }
+    ensures images { LeavesRoom empty_size D.stopped desk.old desk.new }
 {
     put_down(desk, Part::Zero, 0, &empty_slot())?;
     put_down(desk, Part::Mark, 0, &[0])?;
@@ -46,12 +46,12 @@ fn create<D: Desk>(desk: &mut D) -> Result<Standing, Failed>
 /// never comes.
 pub fn open<D: Desk>(desk: &mut D) -> Result<Standing, SlotFault>
     ensures named { IfOk result IsNamed }
-    ensures opened { IfOk result (λ standing. IsTrue D.tells → IsOpened standing (D.reads desk.new) (D.may_leave desk.new)) }
-    ensures opens { OnOk result (IsTrue D.tells → Opens (length (D.reads desk.old Mark)) (D.reads desk.old) (D.reads desk.new)) }
-    ensures alone { OnlyOpens D.tells D.reads D.said D.noted D.say_faults D.note_faults D.moment D.since D.may_leave desk.old desk.new }
-    ensures fault { IfErr result (λ fault. FindFails D.tells (D.reads desk.old) fault) }
-    ensures cause { HasCause (D.disk_faults desk.old) (D.disk_faults desk.new) (disk_failure result) }
-    ensures room { IsTrue D.tells → OnOk (disk_failure result) (KeepsRoom empty_size (D.reads desk.old) (D.reads desk.new)) }
+    ensures opened { IfOk result (λ standing. IsTrue D.tells → IsOpened standing (D.seen desk.new).reads (D.stopped desk.new).images) }
+    ensures opens { OnOk result (IsTrue D.tells → Opens (length ((D.seen desk.old).reads Mark)) (D.seen desk.old).reads (D.seen desk.new).reads) }
+    ensures alone { OnlyOpens D.tells D.seen D.stopped desk.old desk.new }
+    ensures fault { IfErr result (λ fault. FindFails D.tells (D.seen desk.old).reads fault) }
+    ensures cause { HasCause (D.seen desk.old).disk_faults (D.seen desk.new).disk_faults (disk_failure result) }
+    ensures room { IsTrue D.tells → OnOk (disk_failure result) (KeepsRoom empty_size (D.seen desk.old).reads (D.seen desk.new).reads) }
 {
     desk.sync(Part::Mark)?;
     match peek(desk)? {

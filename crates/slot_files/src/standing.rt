@@ -34,9 +34,9 @@ pub fn slot_of(mark: u64) -> Part
 
 // Whether a part begins with the header of a slot.
 fn has_header<D: Desk>(desk: &mut D, part: Part) -> Result<bool, Failed>
-    ensures header { IfOk result (λ found. IsTrue D.tells → (IsTrue found ↔ IsFront header (D.reads desk.old part))) }
-    ensures cause { HasCause (D.disk_faults desk.old) (D.disk_faults desk.new) result }
-    ensures reads { OnlyReads D.reads D.said D.noted D.say_faults D.note_faults D.moment D.since D.may_leave desk.old desk.new }
+    ensures header { IfOk result (λ found. IsTrue D.tells → (IsTrue found ↔ IsFront header ((D.seen desk.old).reads part))) }
+    ensures cause { HasCause (D.seen desk.old).disk_faults (D.seen desk.new).disk_faults result }
+    ensures reads { OnlyReads D.seen D.stopped desk.old desk.new }
 {
     if desk.len(part)? < HEADER.len() as u64 {
         return Ok(false);
@@ -51,11 +51,11 @@ fn has_header<D: Desk>(desk: &mut D, part: Part) -> Result<bool, Failed>
 /// `Damaged` names the slot and the place 0, and comes exactly where the mark is not empty and the slot that it names does not
 /// begin with the header. `MarkFull` never comes.
 pub fn peek<D: Desk>(desk: &mut D) -> Result<Option<Standing>, SlotFault>
-    ensures found { IfOk result (λ found. IsTrue D.tells → Finds (D.reads desk.old) found) }
+    ensures found { IfOk result (λ found. IsTrue D.tells → Finds (D.seen desk.old).reads found) }
     ensures named { IfOk result (λ found. IfSome found IsNamed) }
-    ensures fault { IfErr result (λ fault. FindFails D.tells (D.reads desk.old) fault) }
-    ensures cause { HasCause (D.disk_faults desk.old) (D.disk_faults desk.new) (disk_failure result) }
-    ensures reads { OnlyReads D.reads D.said D.noted D.say_faults D.note_faults D.moment D.since D.may_leave desk.old desk.new }
+    ensures fault { IfErr result (λ fault. FindFails D.tells (D.seen desk.old).reads fault) }
+    ensures cause { HasCause (D.seen desk.old).disk_faults (D.seen desk.new).disk_faults (disk_failure result) }
+    ensures reads { OnlyReads D.seen D.stopped desk.old desk.new }
 {
     let mark = desk.len(Part::Mark)?;
     if mark == 0 {

@@ -20,23 +20,23 @@ use ziti_outside::{Desk, Part};
 /// after it, an image that a stop may leave stands for what an image of its start stood for, or for what the other slot does.
 pub fn switch<D: Desk>(desk: &mut D, standing: Standing, most: u64) -> Result<Standing, SlotFault>
     requires named { IsNamed standing }
-    requires ready { IsTrue D.tells → IsReady standing.mark (D.reads desk.old) (D.may_leave desk.old) }
+    requires ready { IsTrue D.tells → IsReady standing.mark (D.seen desk.old).reads (D.stopped desk.old).images }
     ensures room { OnOk result (standing.mark < most) }
     ensures switched { IfOk result (λ now. IsSwitched standing now) }
-    ensures opened { IfOk result (λ now. IsTrue D.tells → IsOpened now (D.reads desk.new) (D.may_leave desk.new)) }
-    ensures mark { OnOk result (IsTrue D.tells → D.reads desk.new Mark ≡ D.reads desk.old Mark ++ 0 ∷ []) }
-    ensures elsewhere { Else Mark (D.reads desk.old) (D.reads desk.new) }
+    ensures opened { IfOk result (λ now. IsTrue D.tells → IsOpened now (D.seen desk.new).reads (D.stopped desk.new).images) }
+    ensures mark { OnOk result (IsTrue D.tells → (D.seen desk.new).reads Mark ≡ (D.seen desk.old).reads Mark ++ 0 ∷ []) }
+    ensures elsewhere { Else Mark (D.seen desk.old).reads (D.seen desk.new).reads }
     ensures fault { IfErr result (λ fault. SwitchFails standing.mark most desk.old desk.new fault) }
-    ensures cause { HasCause (D.disk_faults desk.old) (D.disk_faults desk.new) (disk_failure result) }
-    ensures others { OnlyDisk D.said D.noted D.say_faults D.note_faults desk.old desk.new }
-    ensures quiet { Leaves D.moment D.since D.may_leave D.said desk.old desk.new (λ image. ⊤) }
-    ensures stops { IsTrue D.tells → Leaves D.moment D.since D.may_leave D.said desk.old desk.new
-        (After (StandsByEither standing.mark (D.reads desk.old)) (D.may_leave desk.old)) }
-    ensures remembers { Remembers (D.moment desk.old) (D.since desk.old) (D.since desk.new) }
+    ensures cause { HasCause (D.seen desk.old).disk_faults (D.seen desk.new).disk_faults (disk_failure result) }
+    ensures others { OnlyDisk D.seen desk.old desk.new }
+    ensures quiet { Leaves D.seen D.stopped desk.old desk.new (λ image. ⊤) }
+    ensures stops { IsTrue D.tells → Leaves D.seen D.stopped desk.old desk.new
+        (After (StandsByEither standing.mark (D.seen desk.old).reads) (D.stopped desk.old).images) }
+    ensures remembers { Remembers (D.stopped desk.old) (D.stopped desk.new) }
 
     // No slot grows, neither as the desk reads nor in what a stop leaves.
-    ensures slots { IsTrue D.tells → KeepsRoom 0 (D.reads desk.old) (D.reads desk.new) }
-    ensures images { LeavesRoom 0 D.may_leave desk.old desk.new }
+    ensures slots { IsTrue D.tells → KeepsRoom 0 (D.seen desk.old).reads (D.seen desk.new).reads }
+    ensures images { LeavesRoom 0 D.stopped desk.old desk.new }
 {
     if standing.mark >= most {
         return Err(SlotFault::MarkFull);

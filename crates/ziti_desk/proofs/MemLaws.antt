@@ -6,7 +6,7 @@ use Rattle.ziti_outside.specs.Moments.{Elapses, Remembers}
 use Rattle.ziti_outside.proofs.Moves.{IsFront-none}
 use Rattle.ziti_desk.specs.declared.mem_log.Call.{Call}
 use Rattle.ziti_desk.specs.declared.mem_log.Call.TheVariants.{Said, Wrote, Cut, Synced}
-use Rattle.ziti_desk.specs.MemEvents.{events, said_count, written_count, Event, Saying, Writing, Cutting, Syncing, reads_by, said_by, may_by, reads_after, said_after, MayAfter, Within, Pairs, Leaving, Since}
+use Rattle.ziti_desk.specs.MemEvents.{events, said_count, written_count, Event, Saying, Writing, Cutting, Syncing, reads_by, said_by, may_by, reads_after, said_after, MayAfter, Within, Pairs, Leaving, Since, stopped_by}
 
 pub reads_push : (r : Image) (es : List Event) (e : Event) → reads_after r (es ++ e ∷ []) ≡ reads_by e (reads_after r es)
 reads_push r [] e = refl
@@ -55,7 +55,7 @@ pairs_keep r may s (x ∷ es) e (suc t) c w le p = pairs_keep (reads_by x r) (ma
 pub step_elapses : (first : Image) (es more : List Event) (e : Event) (X : Image → List ℕ → Type 0) → more ≡ es ++ e ∷ []
     → ((c : Image) (w : List ℕ) → Leaving first es c → Within e (said_after [] es) w → X c w)
     → ((c : Image) (w : List ℕ) → may_by e (reads_after first es) (λ i. Leaving first es i) c → w ≡ said_by e (said_after [] es) → X c w)
-    → Elapses (length es) (length more) (Since first es) (Since first more) X
+    → Elapses (stopped_by first es) (stopped_by first more) X
 step_elapses first es more e X same within behind = rw same (record {
   later = omega (arith, length-append es (e ∷ []));
   nothing_else = λ t c w le s. elim (pairs_push first (λ i. i ≡ first) [] es e t c w le s) as (λ _. Since first es t c w ⊎ X c w) [
@@ -64,7 +64,7 @@ step_elapses first es more e X same within behind = rw same (record {
   ];
 })
 
-pub step_remembers : (first : Image) (es more : List Event) (e : Event) → more ≡ es ++ e ∷ [] → Remembers (length es) (Since first es) (Since first more)
+pub step_remembers : (first : Image) (es more : List Event) (e : Event) → more ≡ es ++ e ∷ [] → Remembers (stopped_by first es) (stopped_by first more)
 step_remembers first es more e same = rw same (record { still = λ t c w le p. pairs_keep first (λ i. i ≡ first) [] es e t c w le p })
 
 -- Calls that a log has, and one more, with the bytes of each.

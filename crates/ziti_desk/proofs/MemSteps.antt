@@ -15,7 +15,7 @@ use Rattle.ziti_desk.specs.declared.mem_log.Call.TheVariants.{Said, Wrote, Cut, 
 use Rattle.ziti_desk.specs.declared.mem_log.Log.{Log}
 use Rattle.ziti_desk.specs.declared.mem_parts.Images.{Images}
 use Rattle.ziti_desk.specs.MemEvents as of
-use Rattle.ziti_desk.specs.MemEvents.{Event, Writing, Cutting, Syncing, events, said_count, written_count, reads_by, said_by, may_by, reads_after, said_after, Within, Leaving, Since, Replayed, LogsCall, IsDone, IsPending, image_of, with_part, written_over, logged}
+use Rattle.ziti_desk.specs.MemEvents.{Event, Writing, Cutting, Syncing, events, said_count, written_count, reads_by, said_by, may_by, reads_after, said_after, Within, Leaving, Since, Replayed, LogsCall, IsDone, IsPending, image_of, with_part, written_over, logged, stopped_by}
 use Rattle.ziti_desk.specs.MemStops.{unchanged, with_part_here, with_part_else}
 use Rattle.ziti_desk.proofs.MemLaws.{reads_push, said_push, may_push, events_push, said_count_push, written_count_push, step_elapses, step_remembers}
 
@@ -65,15 +65,15 @@ quiet_said (Syncing part) s quiet = refl
 -- these images.
 pub record Outcome (first now : Image) (log new : Log) (said : List ℕ) (X : Image → Type 0) : Type 0 where
   pub replayed : Replayed first now new.calls.items said new.written.items
-  pub time : Elapses (length (logged log said)) (length (logged new said)) (Since first (logged log said)) (Since first (logged new said)) (Now X (Some said))
+  pub time : Elapses (stopped_by first (logged log said)) (stopped_by first (logged new said)) (Now X (Some said))
   pub found : (c : Image) → Leaving first (logged new said) c → X c
-  pub remembers : Remembers (length (logged log said)) (Since first (logged log said)) (Since first (logged new said))
+  pub remembers : Remembers (stopped_by first (logged log said)) (stopped_by first (logged new said))
 
 -- Nothing was done.
 pub outcome_none : (first held now : Image) (log new : Log) (said : List ℕ) (X : Image → Type 0) → Replayed first held log.calls.items said log.written.items
     → new ≡ log → now ≡ held → ((c : Image) → Leaving first (logged log said) c → X c) → Outcome first now log new said X
 outcome_none first held now log new said X old same reads within =
-    rw same (rw reads (record { replayed = old; time = Elapses-none _ _ _; found = within; remembers = record { still = λ t c w le p. p } }))
+    rw same (rw reads (record { replayed = old; time = Elapses-none _ _; found = within; remembers = record { still = λ t c w le p. p } }))
 
 -- One call was logged.
 pub outcome_more : (first held now : Image) (log new : Log) (said text : List ℕ) (X : Image → Type 0) (call : Call) (e : Event) → Replayed first held log.calls.items said log.written.items → LogsCall call text log new
@@ -159,9 +159,9 @@ sync_stable (Ok u) first held log new said part old logs =
 -- A say, done or failed.
 pub record SayOutcome (first : Image) (held : Images) (log new : Log) (said said_now bytes : List ℕ) : Type 0 where
   pub replayed : Replayed first (image_of held) new.calls.items said_now new.written.items
-  pub time : Elapses (length (logged log said)) (length (logged new said_now)) (Since first (logged log said)) (Since first (logged new said_now)) (Saying (λ i. Leaving first (logged log said) i) (Some said) bytes)
+  pub time : Elapses (stopped_by first (logged log said)) (stopped_by first (logged new said_now)) (Saying (λ i. Leaving first (logged log said) i) (Some said) bytes)
   pub found : (c : Image) → Leaving first (logged new said_now) c → Leaving first (logged log said) c
-  pub remembers : Remembers (length (logged log said)) (Since first (logged log said)) (Since first (logged new said_now))
+  pub remembers : Remembers (stopped_by first (logged log said)) (stopped_by first (logged new said_now))
 
 say_done : (first : Image) (held : Images) (log new : Log) (said said_now bytes : List ℕ) → Replayed first (image_of held) log.calls.items said log.written.items
     → LogsCall (Said (length bytes)) [] log new → said_now ≡ said ++ bytes → SayOutcome first held log new said said_now bytes
@@ -183,7 +183,7 @@ pub say_outcome : (r : Result ⊤ Failed) (first : Image) (held : Images) (log n
     → OnOk r (LogsCall (Said (length bytes)) [] log new × (said_now ≡ said ++ bytes)) → OnErr r ((said_now ≡ said) × (new ≡ log)) → SayOutcome first held log new said said_now bytes
 say_outcome (Ok u) first held log new said said_now bytes old ok err = say_done first held log new said said_now bytes old ok.0 ok.1
 say_outcome (Err e) first held log new said said_now bytes old ok err =
-    rw err.0 (rw err.1 (record { replayed = old; time = Elapses-none _ _ _; found = λ c m. m; remembers = record { still = λ t c w le p. p } }))
+    rw err.0 (rw err.1 (record { replayed = old; time = Elapses-none _ _; found = λ c m. m; remembers = record { still = λ t c w le p. p } }))
 
 -- What was written is read.
 pub written_holds : (r : Result ⊤ Failed) (held now : Images) (log new : Log) (part : Part) (at : ℕ) (bytes : List ℕ)

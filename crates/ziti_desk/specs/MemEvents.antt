@@ -5,6 +5,7 @@ use Rattle.ziti_outside.specs.declared.desk.Part.{Part}
 use Rattle.ziti_outside.specs.declared.desk.Part.TheVariants.{Zero, One, Mark}
 use Rattle.ziti_outside.specs.Images.{Image, Torn, CutShort, OnPart, After}
 use Rattle.ziti_outside.specs.Told.{IsFront}
+use Rattle.ziti_outside.specs.Views.{Stopped}
 use Rattle.ziti_desk.specs.declared.mem_log.Call.{Call}
 use Rattle.ziti_desk.specs.declared.mem_log.Call.TheVariants.{Said, Wrote, Cut, Synced}
 use Rattle.ziti_desk.specs.declared.mem_log.Log.{Log}
@@ -123,6 +124,10 @@ Leaving first events image = MayAfter first (λ i. i ≡ first) events image
 -- The pairs of such a desk, of which nothing had been said at first.
 abbrev pub Since : Image → List Event → ℕ → Image → List ℕ → Type 0
 Since first events time image taken = Pairs first (λ i. i ≡ first) [] events time image taken
+
+-- What a stop may leave of such a desk behind these calls.
+abbrev pub stopped_by : Image → List Event → Stopped
+stopped_by first events = record { moment = length events; images = λ image. Leaving first events image; since = λ time image taken. Since first events time image taken }
 
 -- The log of a desk tells how its parts came from those that it had first, and all that was said; it has each byte that was said
 -- or written.

@@ -71,23 +71,20 @@ impl<'r, R: Files, O: Outlet, E: Outlet> Desk for FileDesk<'r, R, O, E> {
 
     ghost tells = { false };
 
-    ghost reads = { λ d part. [] };
+    ghost seen = { λ d. record {
+        said = O.contents d.replies;
+        noted = E.contents d.notes;
+        say_faults = O.failures d.replies;
+        note_faults = E.failures d.notes;
+        disk_faults = d.disk_faults;
+        reads = λ part. [];
+    } };
 
-    ghost said = { λ d. O.contents d.replies };
-
-    ghost noted = { λ d. E.contents d.notes };
-
-    ghost may_leave = { λ d image. ⊥ };
-
-    ghost moment = { λ d. 0 };
-
-    ghost since = { λ d time image taken. ⊥ };
-
-    ghost say_faults = { λ d. O.failures d.replies };
-
-    ghost note_faults = { λ d. E.failures d.notes };
-
-    ghost disk_faults = { λ d. d.disk_faults };
+    ghost stopped = { λ d. record {
+        moment = 0;
+        images = λ image. ⊥;
+        since = λ time image taken. ⊥;
+    } };
 
     ghost counts_now = { λ d time image taken early leaves replies. leaves };
 

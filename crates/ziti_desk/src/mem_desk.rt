@@ -52,14 +52,14 @@ impl MemDesk {
         room: Room,
         failing: Vec<u32>,
     ) -> Result<MemDesk, AllocError>
-        ensures said { IfOk result (λ d. ⟦<MemDesk as Desk>⟧.said d ≡ Some []) }
-        ensures noted { IfOk result (λ d. ⟦<MemDesk as Desk>⟧.noted d ≡ Some []) }
-        ensures say_faults { IfOk result (λ d. ⟦<MemDesk as Desk>⟧.say_faults d ≡ 0) }
-        ensures note_faults { IfOk result (λ d. ⟦<MemDesk as Desk>⟧.note_faults d ≡ 0) }
-        ensures disk_faults { IfOk result (λ d. ⟦<MemDesk as Desk>⟧.disk_faults d ≡ 0) }
-        ensures reads { IfOk result (λ d. ⟦<MemDesk as Desk>⟧.reads d ≡ image_of images) }
-        ensures moment { IfOk result (λ d. ⟦<MemDesk as Desk>⟧.moment d ≡ 0) }
-        ensures nothing_pending { IfOk result (λ d. (image : Image) → ⟦<MemDesk as Desk>⟧.may_leave d image → image ≡ image_of images) }
+        ensures said { IfOk result (λ d. (⟦<MemDesk as Desk>⟧.seen d).said ≡ Some []) }
+        ensures noted { IfOk result (λ d. (⟦<MemDesk as Desk>⟧.seen d).noted ≡ Some []) }
+        ensures say_faults { IfOk result (λ d. (⟦<MemDesk as Desk>⟧.seen d).say_faults ≡ 0) }
+        ensures note_faults { IfOk result (λ d. (⟦<MemDesk as Desk>⟧.seen d).note_faults ≡ 0) }
+        ensures disk_faults { IfOk result (λ d. (⟦<MemDesk as Desk>⟧.seen d).disk_faults ≡ 0) }
+        ensures reads { IfOk result (λ d. (⟦<MemDesk as Desk>⟧.seen d).reads ≡ image_of images) }
+        ensures moment { IfOk result (λ d. (⟦<MemDesk as Desk>⟧.stopped d).moment ≡ 0) }
+        ensures nothing_pending { IfOk result (λ d. (image : Image) → (⟦<MemDesk as Desk>⟧.stopped d).images image → image ≡ image_of images) }
     {
         let first = images.copy(alloc)?;
         let mut held = images;
@@ -81,28 +81,28 @@ impl MemDesk {
 
     /// How many calls were made that matter to a stop: the clock of the desk.
     pub fn moments(&self) -> u64
-        ensures { result ≡ ⟦<MemDesk as Desk>⟧.moment self.now }
+        ensures { result ≡ (⟦<MemDesk as Desk>⟧.stopped self.now).moment }
     {
         self.log.calls.len() as u64
     }
 
     /// The reply bytes that were taken.
     pub fn said(&self) -> &[u8]
-        ensures { ⟦<MemDesk as Desk>⟧.said self.now ≡ Some result.now }
+        ensures { (⟦<MemDesk as Desk>⟧.seen self.now).said ≡ Some result.now }
     {
         self.said.as_slice()
     }
 
     /// The notes that were taken.
     pub fn noted(&self) -> &[u8]
-        ensures { ⟦<MemDesk as Desk>⟧.noted self.now ≡ Some result.now }
+        ensures { (⟦<MemDesk as Desk>⟧.seen self.now).noted ≡ Some result.now }
     {
         self.noted.as_slice()
     }
 
     /// What a part reads.
     pub fn part(&self, part: Part) -> &[u8]
-        ensures { result.now ≡ ⟦<MemDesk as Desk>⟧.reads self.now part }
+        ensures { result.now ≡ (⟦<MemDesk as Desk>⟧.seen self.now).reads part }
     {
         self.held.part(part).as_slice()
     }
@@ -126,9 +126,9 @@ impl MemDesk {
         moment: u64,
         choice: u64,
     ) -> Result<(Images, Vec<u8>), AllocError>
-        requires { moment ≤ ⟦<MemDesk as Desk>⟧.moment self.now }
+        requires { moment ≤ (⟦<MemDesk as Desk>⟧.stopped self.now).moment }
         ensures found { IfOk result (λ stop. StopsAt self.now moment (image_of stop.0) stop.1.items) }
-        ensures since { IfOk result (λ stop. (early : ℕ) → early ≤ moment → ⟦<MemDesk as Desk>⟧.since self.now early (image_of stop.0) stop.1.items) }
+        ensures since { IfOk result (λ stop. (early : ℕ) → early ≤ moment → (⟦<MemDesk as Desk>⟧.stopped self.now).since early (image_of stop.0) stop.1.items) }
         ensures nothing { choice ≡ 0 → IfOk result (λ stop. KeepsNothingAt self.now moment (image_of stop.0) stop.1.items) }
         ensures all { choice ≡ 1 → IfOk result (λ stop. KeepsAllAt self.now moment (image_of stop.0) stop.1.items) }
     {
@@ -307,30 +307,23 @@ fn sync_part(log: &mut Log, part: Part, fails: bool) -> Result<(), Failed>
 }
 
 impl Desk for MemDesk {
-    ghost use Rattle.std.specs.Prelude.{true, Some, [], length};
+    ghost use Rattle.std.specs.Prelude.{true, Some, []};
     ghost use Rattle.std.proofs.Common.{◌∙◌};
-    ghost use Rattle.ziti_desk.specs.MemEvents.{image_of, logged, Leaving, Since};
+    ghost use Rattle.ziti_desk.specs.MemEvents.{image_of, logged, stopped_by};
     ghost use Rattle.ziti_desk.specs.MemStops.{counts, now_only, own_image};
 
     ghost tells = { true };
 
-    ghost reads = { λ d. image_of d.held };
+    ghost seen = { λ d. record {
+        said = Some d.said.items;
+        noted = Some d.noted.items;
+        say_faults = d.say_faults;
+        note_faults = d.note_faults;
+        disk_faults = d.disk_faults;
+        reads = image_of d.held;
+    } };
 
-    ghost said = { λ d. Some d.said.items };
-
-    ghost noted = { λ d. Some d.noted.items };
-
-    ghost may_leave = { λ d image. Leaving (image_of d.first) (logged d.log d.said.items) image };
-
-    ghost moment = { λ d. length (logged d.log d.said.items) };
-
-    ghost since = { λ d time image taken. Since (image_of d.first) (logged d.log d.said.items) time image taken };
-
-    ghost say_faults = { λ d. d.say_faults };
-
-    ghost note_faults = { λ d. d.note_faults };
-
-    ghost disk_faults = { λ d. d.disk_faults };
+    ghost stopped = { λ d. stopped_by (image_of d.first) (logged d.log d.said.items) };
 
     ghost counts_now = { λ d time image taken early leaves replies.
         counts (image_of d.first) (λ i. i ≡ image_of d.first) [] (logged d.log d.said.items) time image taken leaves (replies ∙ d.replayed.taken) };

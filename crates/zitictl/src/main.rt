@@ -30,11 +30,11 @@ fn run_stored<S: Source, D: Desk>(
     source: &mut S,
     desk: &mut D,
 ) -> Status
-    ensures stored { IfOk stored (λ words. Runs S.left S.faults D.said D.noted D.say_faults D.note_faults D.reads D.moment D.since D.may_leave D.disk_faults
-        D.tells program_bounds 4294967296 (form_of (texts words.items)) source.old source.new desk.old desk.new result) }
+    ensures stored { IfOk stored (λ words. Runs (record { left = S.left; faults = S.faults; tells = D.tells; seen = D.seen; stopped = D.stopped })
+        program_bounds (form_of (texts words.items)) source.old source.new desk.old desk.new result) }
     ensures no_text { IfErr stored (λ error. error_kind error ≢ ErrorKind.OutOfMemory
-        → Runs S.left S.faults D.said D.noted D.say_faults D.note_faults D.reads D.moment D.since D.may_leave D.disk_faults
-        D.tells program_bounds 4294967296 None source.old source.new desk.old desk.new result) }
+        → Runs (record { left = S.left; faults = S.faults; tells = D.tells; seen = D.seen; stopped = D.stopped })
+        program_bounds None source.old source.new desk.old desk.new result) }
     ensures no_memory { IfErr stored (λ error. error_kind error ≡ ErrorKind.OutOfMemory
         → (result ≡ Status.NoMemory) × (source.new ≡ source.old) × (desk.new ≡ desk.old)) }
 {

@@ -4,6 +4,7 @@ use Rattle.std.specs.declared.option.Option.{Option}
 use Rattle.std.specs.Io.KnownBytes.{IsAtEnd}
 use Rattle.ziti_outside.specs.Told.{Gave, Took}
 use Rattle.ziti_outside.specs.Causes.{Rose}
+use Rattle.ziti_outside.specs.Views.{Seen}
 use Rattle.zitiline.specs.declared.words.Form.{Form}
 use Rattle.zitiline.specs.declared.status.Status.TheVariants.{Done, BadInput}
 use Rattle.zitiline.specs.Answers.{said_of, fault_of, status_for}
@@ -25,31 +26,31 @@ no_text : (fault : Option (List ℕ)) → status_for fault ≡ Done → fault �
 no_text None is = refl
 no_text (Some text) is = cc
 
-pub done_read : (form : Form) (input before : List ℕ) (left after a b : Option (List ℕ)) (x y : ℕ) → Answers form (Some input) left (Some before) after a b x y Done → left ≡ Some []
-done_read form input before left after a b x y s = (given input s.input left s.gave s.says.0).0
+pub done_read : (form : Form) (input : List ℕ) (left : Option (List ℕ)) (a b : Seen) → Answers form (Some input) left a b Done → left ≡ Some []
+done_read form input left a b s = (given input s.input left s.gave s.says.0).0
 
-pub done_said : (form : Form) (input before : List ℕ) (left after a b : Option (List ℕ)) (x y : ℕ) → Answers form (Some input) left (Some before) after a b x y Done → after ≡ Some (before ++ said_of form input)
-done_said form input before left after a b x y s =
-    taken_by before (said_of form s.input) after s.says.1 ∙ ap (λ (l : List ℕ). Some (before ++ said_of form l)) (given input s.input left s.gave s.says.0).1
+pub done_said : (form : Form) (input before : List ℕ) (left : Option (List ℕ)) (a b : Seen) → a.said ≡ Some before → Answers form (Some input) left a b Done → b.said ≡ Some (before ++ said_of form input)
+done_said form input before left a b told s =
+    taken_by before (said_of form s.input) b.said (subst (λ (x : Option (List ℕ)). Took x b.said (said_of form s.input)) told s.says.1) ∙ ap (λ (l : List ℕ). Some (before ++ said_of form l)) (given input s.input left s.gave s.says.0).1
 
-pub done_faultless : (form : Form) (input before : List ℕ) (left after a b : Option (List ℕ)) (x y : ℕ) → Answers form (Some input) left (Some before) after a b x y Done → fault_of form input ≡ None
-done_faultless form input before left after a b x y s =
+pub done_faultless : (form : Form) (input : List ℕ) (left : Option (List ℕ)) (a b : Seen) → Answers form (Some input) left a b Done → fault_of form input ≡ None
+done_faultless form input left a b s =
     ap (fault_of form) (sym (given input s.input left s.gave s.says.0).1) ∙ no_text (fault_of form s.input) s.says.2
 
-pub bad_read : (form : Form) (input before : List ℕ) (left after a b : Option (List ℕ)) (x y : ℕ) → Answers form (Some input) left (Some before) after a b x y BadInput → left ≡ Some []
-bad_read form input before left after a b x y s = (given input s.input left s.gave s.says.0).0
+pub bad_read : (form : Form) (input : List ℕ) (left : Option (List ℕ)) (a b : Seen) → Answers form (Some input) left a b BadInput → left ≡ Some []
+bad_read form input left a b s = (given input s.input left s.gave s.says.0).0
 
-pub bad_said : (form : Form) (input before : List ℕ) (left after a b : Option (List ℕ)) (x y : ℕ) → Answers form (Some input) left (Some before) after a b x y BadInput → after ≡ Some (before ++ said_of form input)
-bad_said form input before left after a b x y s =
-    taken_by before (said_of form s.input) after s.says.1 ∙ ap (λ (l : List ℕ). Some (before ++ said_of form l)) (given input s.input left s.gave s.says.0).1
+pub bad_said : (form : Form) (input before : List ℕ) (left : Option (List ℕ)) (a b : Seen) → a.said ≡ Some before → Answers form (Some input) left a b BadInput → b.said ≡ Some (before ++ said_of form input)
+bad_said form input before left a b told s =
+    taken_by before (said_of form s.input) b.said (subst (λ (x : Option (List ℕ)). Took x b.said (said_of form s.input)) told s.says.1) ∙ ap (λ (l : List ℕ). Some (before ++ said_of form l)) (given input s.input left s.gave s.says.0).1
 
 fault_at : (form : Form) (input : List ℕ) (fault : Option (List ℕ)) (a b : Option (List ℕ)) → fault_of form input ≡ fault → status_for fault ≡ BadInput → Took a b (fault_note fault)
     → HasFault form input (λ text. Took a b (note_of text))
 fault_at form input None a b is bad took = cc
 fault_at form input (Some text) a b is bad took = record { text = text; is = is; holds = took }
 
-pub bad_noted : (form : Form) (input before : List ℕ) (left after a b : Option (List ℕ)) (x y : ℕ) → Answers form (Some input) left (Some before) after a b x y BadInput → (Rose x y → ⊥)
-    → HasFault form input (λ text. Took a b (note_of text))
-bad_noted form input before left after a b x y s calm =
-    subst (λ (l : List ℕ). HasFault form l (λ text. Took a b (note_of text))) (given input s.input left s.gave s.says.0).1
-    (fault_at form s.input (fault_of form s.input) a b refl s.says.2 (s.notes.whole calm))
+pub bad_noted : (form : Form) (input : List ℕ) (left : Option (List ℕ)) (a b : Seen) → Answers form (Some input) left a b BadInput → (Rose a.note_faults b.note_faults → ⊥)
+    → HasFault form input (λ text. Took a.noted b.noted (note_of text))
+bad_noted form input left a b s calm =
+    subst (λ (l : List ℕ). HasFault form l (λ text. Took a.noted b.noted (note_of text))) (given input s.input left s.gave s.says.0).1
+    (fault_at form s.input (fault_of form s.input) a.noted b.noted refl s.says.2 (s.notes.whole calm))

@@ -3,6 +3,7 @@ use Rattle.std.specs.Prelude.{ℕ, List, [], ◌++◌, codes, None, Some}
 use Rattle.std.specs.declared.option.Option.{Option}
 use Rattle.ziti_outside.specs.Causes.{Rose}
 use Rattle.ziti_outside.specs.Told.{Took, TookFront}
+use Rattle.ziti_outside.specs.Views.{Seen}
 use Rattle.zitiline.specs.declared.status.Status.{Status}
 use Rattle.zitiline.specs.declared.status.Status.TheVariants.{Done, Usage, BadInput, ReadFault, WriteFault, NoMemory}
 
@@ -25,6 +26,6 @@ notes_of fault WriteFault = note_of (codes "write fault")
 notes_of fault NoMemory = note_of (codes "no memory")
 
 -- These lines were noted: all of them where the count of failed notes did not rise, else a front of them.
-pub record NotesLines (lines : List ℕ) (noted_before noted_now : Option (List ℕ)) (faults_before faults_now : ℕ) : Type 0 where
-  pub part : TookFront noted_before noted_now lines
-  pub whole : (Rose faults_before faults_now → ⊥) → Took noted_before noted_now lines
+pub record NotesLines (lines : List ℕ) (before now : Seen) : Type 0 where
+  pub part : TookFront before.noted now.noted lines
+  pub whole : (Rose before.note_faults now.note_faults → ⊥) → Took before.noted now.noted lines

@@ -6,6 +6,7 @@ use Rattle.std.specs.String.{string_bytes}
 use Rattle.ziti_outside.specs.Told.{Took, TookFront}
 use Rattle.ziti_outside.specs.Causes.{Rose}
 use Rattle.ziti_outside.specs.Images.{Image}
+use Rattle.ziti_outside.specs.Views.{Seen, Stopped}
 use Rattle.frame_lines.specs.FaultTexts.{line_text, frame_text}
 use Rattle.trace_lines.specs.TraceTexts.{trace_text, reply_text}
 use Rattle.zitiline.specs.declared.words.Form.{Form}
@@ -68,7 +69,7 @@ pub record IsWriteCaused (before now : ℕ) (status : Status) : Type 0 where
   pub rose : status ≡ WriteFault → Rose before now
 
 -- The folder was left alone.
-pub record LeavesFolder {D : Type 0} (reads : D → Image) (may_leave : D → Image → Type 0) (disk_faults : D → ℕ) (old new : D) : Type 0 where
-  pub parts : reads new ≡ reads old
-  pub found : (image : Image) → may_leave new image → may_leave old image
-  pub failed_calls : disk_faults new ≡ disk_faults old
+pub record LeavesFolder {D : Type 0} (seen : D → Seen) (stopped : D → Stopped) (old new : D) : Type 0 where
+  pub parts : (seen new).reads ≡ (seen old).reads
+  pub found : (image : Image) → (stopped new).images image → (stopped old).images image
+  pub failed_calls : (seen new).disk_faults ≡ (seen old).disk_faults

@@ -2,6 +2,7 @@ ghost use Rattle.std.specs.Prelude.{◌≡◌, ℕ, List, [], ◌++◌, None, So
 ghost use Rattle.std.specs.declared.option.Option.{Option};
 ghost use Rattle.ziti_outside.specs.Told.{Took};
 ghost use Rattle.ziti_outside.specs.Causes.{Rose};
+ghost use Rattle.ziti_outside.specs.Views.{Seen};
 ghost use Rattle.zitiline.specs.declared.words.Form.{Form};
 ghost use Rattle.zitiline.specs.declared.status.Status.TheVariants.{Done, BadInput};
 ghost use Rattle.zitiline.specs.Answers.{said_of, fault_of};
@@ -12,22 +13,22 @@ ghost use Rattle.zitiline.specs.SaidAll.{HasFault};
 /// What `Done` says of a told input, in plain words: it was read to its end, it has no fault, exactly what is to be said of it was said,
 /// and nothing was noted.
 pub fn done_says_all()
-    ensures read { (form : Form) (input before : List ℕ) (left after noted_before noted_after : Option (List ℕ)) (faults faults_now : ℕ)
-        → Answers form (Some input) left (Some before) after noted_before noted_after faults faults_now Done → left ≡ Some [] }
-    ensures said { (form : Form) (input before : List ℕ) (left after noted_before noted_after : Option (List ℕ)) (faults faults_now : ℕ)
-        → Answers form (Some input) left (Some before) after noted_before noted_after faults faults_now Done → after ≡ Some (before ++ said_of form input) }
-    ensures no_fault { (form : Form) (input before : List ℕ) (left after noted_before noted_after : Option (List ℕ)) (faults faults_now : ℕ)
-        → Answers form (Some input) left (Some before) after noted_before noted_after faults faults_now Done → fault_of form input ≡ None }
+    ensures read { (form : Form) (input : List ℕ) (left : Option (List ℕ)) (before now : Seen)
+        → Answers form (Some input) left before now Done → left ≡ Some [] }
+    ensures said { (form : Form) (input said : List ℕ) (left : Option (List ℕ)) (before now : Seen)
+        → before.said ≡ Some said → Answers form (Some input) left before now Done → now.said ≡ Some (said ++ said_of form input) }
+    ensures no_fault { (form : Form) (input : List ℕ) (left : Option (List ℕ)) (before now : Seen)
+        → Answers form (Some input) left before now Done → fault_of form input ≡ None }
 {}
 
 /// What `BadInput` says of a told input: it was read to its end, exactly what stands before its fault was said, and its fault was noted where no
 /// note failed.
 pub fn bad_input_says_what_stands_before()
-    ensures read { (form : Form) (input before : List ℕ) (left after noted_before noted_after : Option (List ℕ)) (faults faults_now : ℕ)
-        → Answers form (Some input) left (Some before) after noted_before noted_after faults faults_now BadInput → left ≡ Some [] }
-    ensures said { (form : Form) (input before : List ℕ) (left after noted_before noted_after : Option (List ℕ)) (faults faults_now : ℕ)
-        → Answers form (Some input) left (Some before) after noted_before noted_after faults faults_now BadInput → after ≡ Some (before ++ said_of form input) }
-    ensures noted { (form : Form) (input before : List ℕ) (left after noted_before noted_after : Option (List ℕ)) (faults faults_now : ℕ)
-        → Answers form (Some input) left (Some before) after noted_before noted_after faults faults_now BadInput → (Rose faults faults_now → ⊥)
-        → HasFault form input (λ text. Took noted_before noted_after (note_of text)) }
+    ensures read { (form : Form) (input : List ℕ) (left : Option (List ℕ)) (before now : Seen)
+        → Answers form (Some input) left before now BadInput → left ≡ Some [] }
+    ensures said { (form : Form) (input said : List ℕ) (left : Option (List ℕ)) (before now : Seen)
+        → before.said ≡ Some said → Answers form (Some input) left before now BadInput → now.said ≡ Some (said ++ said_of form input) }
+    ensures noted { (form : Form) (input : List ℕ) (left : Option (List ℕ)) (before now : Seen)
+        → Answers form (Some input) left before now BadInput → (Rose before.note_faults now.note_faults → ⊥)
+        → HasFault form input (λ text. Took before.noted now.noted (note_of text)) }
 {}

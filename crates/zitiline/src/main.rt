@@ -41,10 +41,10 @@ fn run_stored<S: Source, D: Desk>(
     source: &mut S,
     desk: &mut D,
 ) -> Status
-    ensures stored { IfOk stored (λ words. Runs S.left S.faults D.said D.noted D.say_faults D.note_faults D.reads D.may_leave D.disk_faults
+    ensures stored { IfOk stored (λ words. Runs (record { left = S.left; faults = S.faults; tells = D.tells; seen = D.seen; stopped = D.stopped })
         (form_of (map string_bytes words.items)) source.old source.new desk.old desk.new result) }
     ensures no_text { IfErr stored (λ error. error_kind error ≢ ErrorKind.OutOfMemory
-        → Runs S.left S.faults D.said D.noted D.say_faults D.note_faults D.reads D.may_leave D.disk_faults
+        → Runs (record { left = S.left; faults = S.faults; tells = D.tells; seen = D.seen; stopped = D.stopped })
         None source.old source.new desk.old desk.new result) }
     ensures no_memory { IfErr stored (λ error. error_kind error ≡ ErrorKind.OutOfMemory
         → (result ≡ Status.NoMemory) × (source.new ≡ source.old) × (desk.new ≡ desk.old)) }

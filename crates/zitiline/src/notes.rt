@@ -29,8 +29,8 @@ pub fn fault_note(alloc: Global, text: &str) -> Result<String, AllocError>
 
 /// Notes the lines, if there are any.
 pub fn note_lines<D: Desk>(lines: &[u8], desk: &mut D)
-    ensures noted { NotesLines lines.now (D.noted desk.old) (D.noted desk.new) (D.note_faults desk.old) (D.note_faults desk.new) }
-    ensures others { OnlyNotes D.said D.say_faults D.reads D.may_leave D.disk_faults desk.old desk.new }
+    ensures noted { NotesLines lines.now (D.seen desk.old) (D.seen desk.new) }
+    ensures others { OnlyNotes D.seen D.stopped desk.old desk.new }
 {
     if !lines.is_empty() {
         let _ = desk.note(lines);

@@ -19,8 +19,8 @@ use ziti_outside::{Desk, Failed, Source};
 // Notes a status that no input decides, and answers it.
 fn end_with<D: Desk>(status: Status, desk: &mut D) -> Status
     ensures status { result ≡ status }
-    ensures noted { NotesLines (notes_of None status) (D.noted desk.old) (D.noted desk.new) (D.note_faults desk.old) (D.note_faults desk.new) }
-    ensures others { OnlyNotes D.said D.say_faults D.reads D.may_leave D.disk_faults desk.old desk.new }
+    ensures noted { NotesLines (notes_of None status) (D.seen desk.old) (D.seen desk.new) }
+    ensures others { OnlyNotes D.seen D.stopped desk.old desk.new }
 {
     note_lines(status_note(status), desk);
     status
@@ -29,8 +29,8 @@ fn end_with<D: Desk>(status: Status, desk: &mut D) -> Status
 // Notes the fault of an input, if there is one, and answers the status that it decides.
 fn end_by<D: Desk>(note: &Option<String>, desk: &mut D) -> Status
     ensures status { result ≡ status_for (option_map string_bytes note.now) }
-    ensures noted { NotesLines (note_bytes (option_map string_bytes note.now)) (D.noted desk.old) (D.noted desk.new) (D.note_faults desk.old) (D.note_faults desk.new) }
-    ensures others { OnlyNotes D.said D.say_faults D.reads D.may_leave D.disk_faults desk.old desk.new }
+    ensures noted { NotesLines (note_bytes (option_map string_bytes note.now)) (D.seen desk.old) (D.seen desk.new) }
+    ensures others { OnlyNotes D.seen D.stopped desk.old desk.new }
 {
     match note {
         Some(line) => {
@@ -45,10 +45,10 @@ fn end_by<D: Desk>(note: &Option<String>, desk: &mut D) -> Status
 }
 
 fn say_answer<D: Desk>(answer: &Answer, desk: &mut D) -> Status
-    ensures says { SaysAnswer result answer.now (D.said desk.old) (D.said desk.new) }
-    ensures noted { NotesLines (answer_notes answer.now result) (D.noted desk.old) (D.noted desk.new) (D.note_faults desk.old) (D.note_faults desk.new) }
-    ensures cause { IsWriteCaused (D.say_faults desk.old) (D.say_faults desk.new) result }
-    ensures folder { LeavesFolder D.reads D.may_leave D.disk_faults desk.old desk.new }
+    ensures says { SaysAnswer result answer.now (D.seen desk.old).said (D.seen desk.new).said }
+    ensures noted { NotesLines (answer_notes answer.now result) (D.seen desk.old) (D.seen desk.new) }
+    ensures cause { IsWriteCaused (D.seen desk.old).say_faults (D.seen desk.new).say_faults result }
+    ensures folder { LeavesFolder D.seen D.stopped desk.old desk.new }
 {
     match desk.say(answer.said.as_slice()) {
         Ok(()) => end_by(&answer.note, desk),
@@ -57,10 +57,10 @@ fn say_answer<D: Desk>(answer: &Answer, desk: &mut D) -> Status
 }
 
 fn answer_input<D: Desk>(alloc: Global, form: Form, input: &[u8], desk: &mut D) -> Status
-    ensures says { SaysInput result form input.now (D.said desk.old) (D.said desk.new) }
-    ensures noted { NotesLines (notes_of (fault_of form input.now) result) (D.noted desk.old) (D.noted desk.new) (D.note_faults desk.old) (D.note_faults desk.new) }
-    ensures cause { IsWriteCaused (D.say_faults desk.old) (D.say_faults desk.new) result }
-    ensures folder { LeavesFolder D.reads D.may_leave D.disk_faults desk.old desk.new }
+    ensures says { SaysInput result form input.now (D.seen desk.old).said (D.seen desk.new).said }
+    ensures noted { NotesLines (notes_of (fault_of form input.now) result) (D.seen desk.old) (D.seen desk.new) }
+    ensures cause { IsWriteCaused (D.seen desk.old).say_faults (D.seen desk.new).say_faults result }
+    ensures folder { LeavesFolder D.seen D.stopped desk.old desk.new }
 {
     match answer_to(alloc, form, input) {
         Ok(answer) => say_answer(&answer, desk),
@@ -69,7 +69,7 @@ fn answer_input<D: Desk>(alloc: Global, form: Form, input: &[u8], desk: &mut D) 
 }
 
 fn run_form<S: Source, D: Desk>(alloc: Global, form: Form, source: &mut S, desk: &mut D) -> Status
-    ensures runs { Runs S.left S.faults D.said D.noted D.say_faults D.note_faults D.reads D.may_leave D.disk_faults
+    ensures runs { Runs (record { left = S.left; faults = S.faults; tells = D.tells; seen = D.seen; stopped = D.stopped })
         (Some form) source.old source.new desk.old desk.new result }
 {
     match take_all(alloc, source) {
@@ -86,7 +86,7 @@ pub fn run<S: Source, D: Desk>(
     source: &mut S,
     desk: &mut D,
 ) -> Status
-    ensures runs { Runs S.left S.faults D.said D.noted D.say_faults D.note_faults D.reads D.may_leave D.disk_faults
+    ensures runs { Runs (record { left = S.left; faults = S.faults; tells = D.tells; seen = D.seen; stopped = D.stopped })
         (form_of (map string_bytes words.now)) source.old source.new desk.old desk.new result }
 {
     match form_of(words) {

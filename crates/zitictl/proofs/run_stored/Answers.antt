@@ -20,7 +20,7 @@ returns-then-eq-clause-no_memory c d = of_err _ _ d.in-Err.error d.in-Err.is (λ
 
 pub returns-else-eq-clause-no_text : goal.returns-else-eq-clause-no_text
 returns-else-eq-clause-no_text c d =
-    let RunsOf : Option Form → Type 0 = λ form. Runs {S = c.row.S.Denot} {D = c.row.D.Denot} c.S.Source.left c.S.Source.faults c.D.Desk.said c.D.Desk.noted
-    c.D.Desk.say_faults c.D.Desk.note_faults c.D.Desk.reads c.D.Desk.moment c.D.Desk.since c.D.Desk.may_leave c.D.Desk.disk_faults c.D.Desk.tells program_bounds 4294967296 form
+    let RunsOf : Option Form → Type 0 = λ form. Runs {S = c.row.S.Denot} {D = c.row.D.Denot}
+    (record { left = c.S.Source.left; faults = c.S.Source.faults; tells = c.D.Desk.tells; seen = c.D.Desk.seen; stopped = c.D.Desk.stopped }) program_bounds form
     d.args.source.now d.run-else-eq.new.source d.args.desk.now d.run-else-eq.new.desk d.run-else-eq.result in
     of_err _ _ d.in-Err.error d.in-Err.is (λ other. subst RunsOf (ap (λ ws. form_of (texts ws)) d.new.ensures.items) d.run-else-eq.ensures.runs)

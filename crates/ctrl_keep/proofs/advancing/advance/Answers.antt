@@ -24,7 +24,7 @@ keep-kept-requires-clause-changes g c =
 pub returns-in_err-reply-in-Ok-true-clause-behind : goal.returns-in_err-reply-in-Ok-true-clause-behind
 returns-in_err-reply-in-Ok-true-clause-behind g c = λ none spent told image m.
     let kept = subst (λ (b : Bool). KeptOrFull c.args.planned.batch c.args.store.now c.keep-kept.new.store c.args.desk.now c.keep-kept.new.desk b) c.in-Ok-true.field-0-test c.in-Ok-true.ensures.kept in
-    behind_kept c.args.planned c.args.core.now c.args.store.now c.keep-kept.new.store (g.D.Desk.reads c.keep-kept.new.desk) (g.D.Desk.may_leave c.keep-kept.new.desk)
+    behind_kept c.args.planned c.args.core.now c.args.store.now c.keep-kept.new.store (g.D.Desk.seen c.keep-kept.new.desk).reads (g.D.Desk.stopped c.keep-kept.new.desk).images
     (can_advance c.args.planned c.args.core.now c.args.store.now c.as_slice.result.now c.is_empty.result c.requires.planned c.as_slice.ensures c.is_empty.ensures c.if-is_empty.false) kept.0 kept.1 (λ fresh. c.keep-kept.ensures.stands fresh told) image m
 
 pub returns-in_err-reply-in-Ok-true-clause-stops : goal.returns-in_err-reply-in-Ok-true-clause-stops
@@ -91,7 +91,7 @@ pub returns-in-Ok-false-clause-stops : goal.returns-in-Ok-false-clause-stops
 returns-in-Ok-false-clause-stops g c = λ told.
     let full = subst (λ (b : Bool). KeptOrFull c.args.planned.batch c.args.store.now c.keep-kept.new.store c.args.desk.now c.keep-kept.new.desk b) c.in-Ok-false.field-0-test c.in-Ok-false.ensures.kept in
     quiet_stops c.args.desk.now c.keep-kept.new.desk _ full.2
-    (λ (image : Image) m. inl (still_opens c.args.core.now c.args.store.now (g.D.Desk.reads c.args.desk.now) (g.D.Desk.may_leave c.args.desk.now) c.requires.planned.keeps (c.requires.stands told) image m))
+    (λ (image : Image) m. inl (still_opens c.args.core.now c.args.store.now (g.D.Desk.seen c.args.desk.now).reads (g.D.Desk.stopped c.args.desk.now).images c.requires.planned.keeps (c.requires.stands told) image m))
 
 pub returns-then-is_empty-clause-step : goal.returns-then-is_empty-clause-step
 returns-then-is_empty-clause-step g c =
@@ -100,7 +100,7 @@ returns-then-is_empty-clause-step g c =
 pub returns-then-is_empty-clause-stops : goal.returns-then-is_empty-clause-stops
 returns-then-is_empty-clause-stops g c = λ told.
     quiet_stops c.args.desk.now c.args.desk.now _ refl
-    (λ (image : Image) m. inl (still_opens c.args.core.now c.args.store.now (g.D.Desk.reads c.args.desk.now) (g.D.Desk.may_leave c.args.desk.now) c.requires.planned.keeps (c.requires.stands told) image m))
+    (λ (image : Image) m. inl (still_opens c.args.core.now c.args.store.now (g.D.Desk.seen c.args.desk.now).reads (g.D.Desk.stopped c.args.desk.now).images c.requires.planned.keeps (c.requires.stands told) image m))
 
 pub returns-in-Ok-false-clause-still : goal.returns-in-Ok-false-clause-still
 returns-in-Ok-false-clause-still g c = λ same.
@@ -110,7 +110,7 @@ returns-in-Ok-false-clause-still g c = λ same.
 pub returns-in-Ok-false-clause-follows : goal.returns-in-Ok-false-clause-follows
 returns-in-Ok-false-clause-follows g c = λ told.
     let full = subst (λ (b : Bool). KeptOrFull c.args.planned.batch c.args.store.now c.keep-kept.new.store c.args.desk.now c.keep-kept.new.desk b) c.in-Ok-false.field-0-test c.in-Ok-false.ensures.kept in
-    follows_still _ _ _ _ (ap (machine_with c.args.core.now.state) full.1) (ap g.D.Desk.reads full.2)
+    follows_still _ _ _ _ (ap (machine_with c.args.core.now.state) full.1) (ap (λ d. (g.D.Desk.seen d).reads) full.2)
 
 pub returns-then-is_empty-clause-follows : goal.returns-then-is_empty-clause-follows
 returns-then-is_empty-clause-follows g c = λ told. follows_still _ _ _ _ refl refl

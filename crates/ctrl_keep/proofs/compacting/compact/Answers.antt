@@ -20,12 +20,12 @@ returns-clause-still g c =
 
 pub returns-clause-follows : goal.returns-clause-follows
 returns-clause-follows g c =
-    rw c.reply_of.ensures (came_follows g.D.Desk.reads (IsTrue g.D.Desk.tells) c.args.core.now c.args.store.now c.compact-compacted.new.self c.args.desk.now c.compact-compacted.new.desk c.compact-compacted.result (came_of c.requires.keeps c.compact-compacted.ensures.compacted c.compact-compacted.ensures.fault)
+    rw c.reply_of.ensures (came_follows g.D.Desk.seen (IsTrue g.D.Desk.tells) c.args.core.now c.args.store.now c.compact-compacted.new.self c.args.desk.now c.compact-compacted.new.desk c.compact-compacted.result (came_of c.requires.keeps c.compact-compacted.ensures.compacted c.compact-compacted.ensures.fault)
     c.compact-compacted.ensures.folder)
 
 pub returns-clause-folder : goal.returns-clause-folder
 returns-clause-folder g c =
-    rw c.reply_of.ensures (came_done (IsTrue g.D.Desk.tells → IsCompacted c.args.store.now (g.D.Desk.reads c.args.desk.now) (g.D.Desk.reads c.compact-compacted.new.desk))
+    rw c.reply_of.ensures (came_done (IsTrue g.D.Desk.tells → IsCompacted c.args.store.now (g.D.Desk.seen c.args.desk.now).reads (g.D.Desk.seen c.compact-compacted.new.desk).reads)
     c.compact-compacted.result c.compact-compacted.ensures.folder)
 
 pub returns-clause-keeps : goal.returns-clause-keeps

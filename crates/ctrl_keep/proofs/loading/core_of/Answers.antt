@@ -1,7 +1,8 @@
 use Rattle.std.proofs.Common.{IsErrOf, sym, ◌∙◌, subst}
 use Rattle.row_loading.specs.declared.faults.CoreFault.{CoreFault}
 use Rattle.row_loading.specs.LoadedRows.{AreOfNoState}
-use Rattle.ctrl_keep.proofs.OpenedFolders.{rows_are, no_rows}
+use Rattle.row_store.proofs.StateRows.{rows_are}
+use Rattle.ctrl_keep.proofs.OpenedFolders.{no_rows}
 use Rattle.ctrl_keep.proofs.loading.core_of.Goals as goal
 
 pub returns-in-Ok-clause-rows : goal.returns-in-Ok-clause-rows

@@ -8,7 +8,7 @@ pub returns-clause-ends : goal.returns-clause-ends
 returns-clause-ends g c =
     let e = c.submit-compacted.ensures in
     let t = c.tell_compaction.ensures in
-    let came : Submitted g.D.Desk.tells g.D.Desk.reads g.D.Desk.may_leave c.args.kept c.submit-compacted.new.self c.args.desk.now c.submit-compacted.new.desk c.submit-compacted.result = record {
+    let came : Submitted g.D.Desk.tells g.D.Desk.seen g.D.Desk.stopped c.args.kept c.submit-compacted.new.self c.args.desk.now c.submit-compacted.new.desk c.submit-compacted.result = record {
       fresh = c.requires.unspent;
       holds = c.requires.holds;
       stands = c.requires.stands;
@@ -20,14 +20,14 @@ returns-clause-ends g c =
       fits = e.fits;
       stood = e.stands;
     } in
-    compaction_ends g.D.Desk.tells c.args.kept c.submit-compacted.new.self c.args.desk.now c.submit-compacted.new.desk (g.D.Desk.reads c.tell_compaction.new.desk) c.submit-compacted.result _ _ _ _ _ _ c.tell_compaction.result
-    came t.others.parts e.others.notes e.others.failed_notes t.told
+    compaction_ends g.D.Desk.tells c.args.kept c.submit-compacted.new.self c.args.desk.now c.submit-compacted.new.desk c.tell_compaction.new.desk c.submit-compacted.result c.tell_compaction.result
+    came e.others t.others.parts t.told
 
 pub returns-clause-still : goal.returns-clause-still
 returns-clause-still g c =
     let e = c.submit-compacted.ensures in
     let t = c.tell_compaction.ensures in
-    let came : Submitted g.D.Desk.tells g.D.Desk.reads g.D.Desk.may_leave c.args.kept c.submit-compacted.new.self c.args.desk.now c.submit-compacted.new.desk c.submit-compacted.result = record {
+    let came : Submitted g.D.Desk.tells g.D.Desk.seen g.D.Desk.stopped c.args.kept c.submit-compacted.new.self c.args.desk.now c.submit-compacted.new.desk c.submit-compacted.result = record {
       fresh = c.requires.unspent;
       holds = c.requires.holds;
       stands = c.requires.stands;
@@ -39,7 +39,7 @@ returns-clause-still g c =
       fits = e.fits;
       stood = e.stands;
     } in
-    full_reads g.D.Desk.tells c.args.kept c.submit-compacted.new.self c.args.desk.now c.submit-compacted.new.desk (g.D.Desk.reads c.tell_compaction.new.desk) c.submit-compacted.result _ _ _ _ c.tell_compaction.result
+    full_reads g.D.Desk.tells c.args.kept c.submit-compacted.new.self c.args.desk.now c.submit-compacted.new.desk (g.D.Desk.seen c.tell_compaction.new.desk).reads c.submit-compacted.result _ _ c.tell_compaction.result
     came e.still t.others.parts t.told
 
 pub returns-clause-failed_says : goal.returns-clause-failed_says
@@ -47,11 +47,11 @@ returns-clause-failed_says g c = c.tell_compaction.ensures.others.failed_says �
 
 pub returns-clause-disk_cause : goal.returns-clause-disk_cause
 returns-clause-disk_cause g c =
-    compaction_disk _ _ _ c.submit-compacted.result c.tell_compaction.result _ _ _ _ c.submit-compacted.ensures.cause c.tell_compaction.ensures.others.failed_calls c.tell_compaction.ensures.told
+    compaction_disk _ _ _ c.submit-compacted.result c.tell_compaction.result _ _ c.submit-compacted.ensures.cause c.tell_compaction.ensures.others.failed_calls c.tell_compaction.ensures.told
 
 pub returns-clause-counted : goal.returns-clause-counted
 returns-clause-counted g c =
-    subst (λ (n : ℕ). RisesOnce n (g.D.Desk.note_faults c.tell_compaction.new.desk)) c.submit-compacted.ensures.others.failed_notes c.tell_compaction.ensures.counted
+    subst (λ (n : ℕ). RisesOnce n (g.D.Desk.seen c.tell_compaction.new.desk).note_faults) c.submit-compacted.ensures.others.failed_notes c.tell_compaction.ensures.counted
 
 pub returns-clause-quiet : goal.returns-clause-quiet
 returns-clause-quiet g c = notes_leave c.submit-compacted.ensures.quiet c.tell_compaction.ensures.others c.tell_compaction.ensures.stops

@@ -11,23 +11,23 @@ use Rattle.ctrl_serve.proofs.folder.run_audit.Goals as goal
 
 pub returns-in-Ok-clause-audits : goal.returns-in-Ok-clause-audits
 returns-in-Ok-clause-audits g c =
-    inr (audited g.D.Desk.reads g.D.Desk.tells c.in-Ok.core.state c.args.desk.now c.peek.new.desk c.say_counts.new.desk c.say_counts.result c.peek.ensures.reads.others c.in-Ok.ensures.valid c.in-Ok.ensures.opens c.say_counts.ensures.says)
+    inr (audited {seen = g.D.Desk.seen} g.D.Desk.tells c.in-Ok.core.state c.args.desk.now c.peek.new.desk c.say_counts.new.desk c.say_counts.result c.peek.ensures.reads.others c.in-Ok.ensures.valid c.in-Ok.ensures.opens c.say_counts.ensures.says)
 
 pub returns-in-Ok-clause-alone : goal.returns-in-Ok-clause-alone
 returns-in-Ok-clause-alone g c = LeftAlone-then (looked_alone c.peek.ensures.reads) c.say_counts.ensures.others.folder
 
 pub returns-in-Ok-clause-write_cause : goal.returns-in-Ok-clause-write_cause
 returns-in-Ok-clause-write_cause g c =
-    subst (λ (n : ℕ). IsWriteCaused n (g.D.Desk.say_faults c.say_counts.new.desk) c.say_counts.result) c.peek.ensures.reads.others.failed_says c.say_counts.ensures.write_cause
+    subst (λ (n : ℕ). IsWriteCaused n (g.D.Desk.seen c.say_counts.new.desk).say_faults c.say_counts.result) c.peek.ensures.reads.others.failed_says c.say_counts.ensures.write_cause
 
 pub returns-in-Ok-clause-disk_cause : goal.returns-in-Ok-clause-disk_cause
 returns-in-Ok-clause-disk_cause g c =
     let s = c.say_counts.ensures in
-    disk_calm _ _ c.say_counts.result (s.others.failed_calls ∙ c.in-Ok.ensures.cause.calm) (line_statuses c.say_counts.result _ _ _ _ _ _ _ s.says).2
+    disk_calm _ _ c.say_counts.result (s.others.failed_calls ∙ c.in-Ok.ensures.cause.calm) (line_statuses c.say_counts.result _ _ _ s.says).2
 
 pub returns-in-Ok-clause-counted : goal.returns-in-Ok-clause-counted
 returns-in-Ok-clause-counted g c =
-    subst (λ (n : ℕ). RisesOnce n (g.D.Desk.note_faults c.say_counts.new.desk)) c.peek.ensures.reads.others.failed_notes c.say_counts.ensures.counted
+    subst (λ (n : ℕ). RisesOnce n (g.D.Desk.seen c.say_counts.new.desk).note_faults) c.peek.ensures.reads.others.failed_notes c.say_counts.ensures.counted
 
 pub returns-in-Err-clause-audits : goal.returns-in-Err-clause-audits
 returns-in-Err-clause-audits g c =
@@ -40,16 +40,16 @@ returns-in-Err-clause-alone g c = LeftAlone-then (looked_alone c.peek.ensures.re
 pub returns-in-Err-clause-write_cause : goal.returns-in-Err-clause-write_cause
 returns-in-Err-clause-write_cause g c =
     let t = c.tell_closed.ensures in
-    write_calm _ _ c.tell_closed.result (t.others.failed_says ∙ c.peek.ensures.reads.others.failed_says) (closed_calm c.in-Err.fault c.tell_closed.result _ _ _ _ t.told).1
+    write_calm _ _ c.tell_closed.result (t.others.failed_says ∙ c.peek.ensures.reads.others.failed_says) (closed_calm c.in-Err.fault c.tell_closed.result _ _ t.told).1
 
 pub returns-in-Err-clause-disk_cause : goal.returns-in-Err-clause-disk_cause
 returns-in-Err-clause-disk_cause g c =
     let t = c.tell_closed.ensures in
-    closed_disk Cored _ _ _ c.in-Err.fault c.tell_closed.result _ _ _ _ c.in-Err.ensures.cause t.others.failed_calls t.told
+    closed_disk Cored _ _ _ c.in-Err.fault c.tell_closed.result _ _ c.in-Err.ensures.cause t.others.failed_calls t.told
 
 pub returns-in-Err-clause-counted : goal.returns-in-Err-clause-counted
 returns-in-Err-clause-counted g c =
-    subst (λ (n : ℕ). RisesOnce n (g.D.Desk.note_faults c.tell_closed.new.desk)) c.peek.ensures.reads.others.failed_notes c.tell_closed.ensures.counted
+    subst (λ (n : ℕ). RisesOnce n (g.D.Desk.seen c.tell_closed.new.desk).note_faults) c.peek.ensures.reads.others.failed_notes c.tell_closed.ensures.counted
 
 pub tell_closed-requires : goal.tell_closed-requires
 tell_closed-requires g c = never_spent g.D.Desk.tells _ c.in-Err.fault c.in-Err.ensures.fault

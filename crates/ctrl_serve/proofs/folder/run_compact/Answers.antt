@@ -12,7 +12,7 @@ returns-in-Ok-clause-compacts g c =
     let e = c.in-Ok.ensures in
     let o = c.open.ensures in
     let t = c.compact_opened.ensures in
-    inr (compacted_opened g.D.Desk.reads g.D.Desk.may_leave c.args.bounds c.in-Ok.kept g.D.Desk.tells c.args.desk.now c.open.new.desk c.compact_opened.new.desk c.compact_opened.result
+    inr (compacted_opened {seen = g.D.Desk.seen} {stopped = g.D.Desk.stopped} c.args.bounds c.in-Ok.kept g.D.Desk.tells c.args.desk.now c.open.new.desk c.compact_opened.new.desk c.compact_opened.result
     e.opens e.stands e.holds e.opened.0 e.created o.others o.quiet o.stops t.ends t.still t.quiet t.stops)
 
 pub returns-in-Ok-clause-says_nothing : goal.returns-in-Ok-clause-says_nothing
@@ -23,11 +23,11 @@ returns-in-Ok-clause-failed_says g c = c.compact_opened.ensures.failed_says ∙ 
 
 pub returns-in-Ok-clause-disk_cause : goal.returns-in-Ok-clause-disk_cause
 returns-in-Ok-clause-disk_cause g c =
-    subst (λ (n : ℕ). IsDiskCaused n (g.D.Desk.disk_faults c.compact_opened.new.desk) c.compact_opened.result) c.in-Ok.ensures.cause.calm c.compact_opened.ensures.disk_cause
+    subst (λ (n : ℕ). IsDiskCaused n (g.D.Desk.seen c.compact_opened.new.desk).disk_faults c.compact_opened.result) c.in-Ok.ensures.cause.calm c.compact_opened.ensures.disk_cause
 
 pub returns-in-Ok-clause-counted : goal.returns-in-Ok-clause-counted
 returns-in-Ok-clause-counted g c =
-    subst (λ (n : ℕ). RisesOnce n (g.D.Desk.note_faults c.compact_opened.new.desk)) c.open.ensures.others.failed_notes c.compact_opened.ensures.counted
+    subst (λ (n : ℕ). RisesOnce n (g.D.Desk.seen c.compact_opened.new.desk).note_faults) c.open.ensures.others.failed_notes c.compact_opened.ensures.counted
 
 pub returns-in-Err-clause-compacts : goal.returns-in-Err-clause-compacts
 returns-in-Err-clause-compacts g c =
@@ -44,11 +44,11 @@ returns-in-Err-clause-failed_says g c = c.tell_closed.ensures.others.failed_says
 pub returns-in-Err-clause-disk_cause : goal.returns-in-Err-clause-disk_cause
 returns-in-Err-clause-disk_cause g c =
     let t = c.tell_closed.ensures in
-    closed_disk Controlled _ _ _ c.in-Err.fault c.tell_closed.result _ _ _ _ c.in-Err.ensures.cause t.others.failed_calls t.told
+    closed_disk Controlled _ _ _ c.in-Err.fault c.tell_closed.result _ _ c.in-Err.ensures.cause t.others.failed_calls t.told
 
 pub returns-in-Err-clause-counted : goal.returns-in-Err-clause-counted
 returns-in-Err-clause-counted g c =
-    subst (λ (n : ℕ). RisesOnce n (g.D.Desk.note_faults c.tell_closed.new.desk)) c.open.ensures.others.failed_notes c.tell_closed.ensures.counted
+    subst (λ (n : ℕ). RisesOnce n (g.D.Desk.seen c.tell_closed.new.desk).note_faults) c.open.ensures.others.failed_notes c.tell_closed.ensures.counted
 
 pub tell_closed-requires : goal.tell_closed-requires
 tell_closed-requires g c = never_spent g.D.Desk.tells _ c.in-Err.fault c.in-Err.ensures.fault

@@ -1,4 +1,4 @@
-use Rattle.ctrl_keep.proofs.OneStates.{stateless_opens}
+use Rattle.row_store.proofs.OneStates.{stateless_opens}
 use Rattle.ctrl_serve.proofs.OpenedMachines.{one_machine_state}
 use Rattle.ctrl_serve.proofs.laws.a_run_goes_on_from_a_stop.Goals as goal
 

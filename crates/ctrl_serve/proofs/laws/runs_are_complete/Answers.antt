@@ -2,13 +2,13 @@ use Rattle.ctrl_serve.proofs.CompleteRunLaws.{replay_is_complete, audit_is_compl
 use Rattle.ctrl_serve.proofs.laws.runs_are_complete.Goals as goal
 
 pub returns-clause-replay : goal.returns-clause-replay
-returns-clause-replay g c bounds most form source source_now desk desk_now status s runs told opens takes says disk =
-    replay_is_complete g.D.Desk.tells bounds most form source source_now desk desk_now status s runs told opens takes says disk
+returns-clause-replay g c bounds form source source_now desk desk_now status s runs told opens takes says disk =
+    replay_is_complete (record { left = g.S.Source.left; faults = g.S.Source.faults; tells = g.D.Desk.tells; seen = g.D.Desk.seen; stopped = g.D.Desk.stopped }) bounds form source source_now desk desk_now status s runs told opens takes says disk
 
 pub returns-clause-audit : goal.returns-clause-audit
-returns-clause-audit g c bounds most source source_now desk desk_now status s runs told opens says disk =
-    audit_is_complete g.D.Desk.tells bounds most source source_now desk desk_now status s runs told opens says disk
+returns-clause-audit g c bounds source source_now desk desk_now status s runs told opens says disk =
+    audit_is_complete (record { left = g.S.Source.left; faults = g.S.Source.faults; tells = g.D.Desk.tells; seen = g.D.Desk.seen; stopped = g.D.Desk.stopped }) bounds source source_now desk desk_now status s runs told opens says disk
 
 pub returns-clause-compact : goal.returns-clause-compact
-returns-clause-compact g c bounds most source source_now desk desk_now status s runs told opens disk =
-    compact_is_complete g.D.Desk.tells bounds most source source_now desk desk_now status s runs told opens disk
+returns-clause-compact g c bounds source source_now desk desk_now status s runs told opens disk =
+    compact_is_complete (record { left = g.S.Source.left; faults = g.S.Source.faults; tells = g.D.Desk.tells; seen = g.D.Desk.seen; stopped = g.D.Desk.stopped }) bounds source source_now desk desk_now status s runs told opens disk

@@ -3,13 +3,13 @@ use Rattle.ctrl_serve.proofs.EndingLaws.{truncated_read, truncated_rest, truncat
 use Rattle.ctrl_serve.proofs.laws.truncated_says_all.Goals as goal
 
 pub returns-clause-read : goal.returns-clause-read
-returns-clause-read c bounds m most bytes before left after noted_before noted_after x y s = truncated_read Plain bounds m most bytes left _ _ _ _ x y s
+returns-clause-read c bounds m most bytes left before now s = truncated_read Plain bounds m most bytes left before now s
 
 pub returns-clause-rest : goal.returns-clause-rest
-returns-clause-rest c bounds m most bytes before left after noted_before noted_after x y s = truncated_rest bounds m most bytes left _ _ _ _ x y s
+returns-clause-rest c bounds m most bytes left before now s = truncated_rest bounds m most bytes left before now s
 
 pub returns-clause-said : goal.returns-clause-said
-returns-clause-said c bounds m most bytes before left after noted_before noted_after x y s = truncated_said Plain bounds m most bytes before left after _ _ x y s
+returns-clause-said c bounds m most bytes said left before now told s = truncated_said Plain bounds m most bytes said left before now told s
 
 pub returns-clause-noted : goal.returns-clause-noted
-returns-clause-noted c bounds m most bytes before left after noted_before noted_after x y s calm = truncated_noted bounds m most bytes left _ _ _ _ x y s calm
+returns-clause-noted c bounds m most bytes left before now s calm = truncated_noted bounds m most bytes left before now s calm

@@ -20,8 +20,8 @@ pieces-init g c =
     record {
       on = record { able = c.requires.able; bounds = refl; kind = refl };
       ready = c.requires.ready;
-      answers = pieces_start c.args.form k c.args.most c.args.sessions.now c.args.mux.now (g.S.Source.left c.args.source.now) (g.D.Desk.said desk) c.args.notes.now.failed (g.D.Desk.noted desk) (g.D.Desk.note_faults desk) g.D.Desk.tells c.requires.known c.requires.start;
-      follows = λ some told. follows_start k.bounds (known_in c.args.form) k.machine (g.D.Desk.reads desk);
+      answers = pieces_start c.args.form k c.args.most c.args.sessions.now c.args.mux.now (g.S.Source.left c.args.source.now) (g.D.Desk.seen desk).said c.args.notes.now.failed (g.D.Desk.seen desk) g.D.Desk.tells c.requires.known c.requires.start;
+      follows = λ some told. follows_start k.bounds (known_in c.args.form) k.machine (g.D.Desk.seen desk).reads;
       given = subst IsAllGiven (sym c.requires.start) (start_given c.args.form);
       few = omega arith;
       calm = refl;
@@ -70,7 +70,7 @@ pub returns-in_err-room-clause-cut : goal.returns-in_err-room-clause-cut
 returns-in_err-room-clause-cut g c =
     let desk = c.args.desk.now in
     let p = err_from_is_err_and c.from_residual.result c.from_residual.ensures.1 in
-    rw p.1 (rw p.2 (pieces_none c.args.form (serving_of c.args.controller.now) c.args.most (g.S.Source.left c.args.source.now) (g.D.Desk.said desk) c.args.notes.now.failed (g.D.Desk.noted desk) (g.D.Desk.note_faults desk) g.D.Desk.tells))
+    rw p.1 (rw p.2 (pieces_none c.args.form (serving_of c.args.controller.now) c.args.most (g.S.Source.left c.args.source.now) (g.D.Desk.seen desk).said c.args.notes.now.failed (g.D.Desk.seen desk) g.D.Desk.tells))
 
 pub returns-in_err-room-clause-until_failure : goal.returns-in_err-room-clause-until_failure
 returns-in_err-room-clause-until_failure g c = takes_none _

@@ -15,19 +15,19 @@ use Rattle.ctrl_serve.proofs.pieces.serve_pieces.Given as goal
 abbrev pub invariant-pieces : goal.invariant-pieces
 invariant-pieces g l = record {
   on : GoesOn (serving_of l.fn.controller) (serving_of l.controller);
-  ready : IsReady g.D.Desk.tells (serving_of l.controller).kept (g.D.Desk.reads l.desk) (g.D.Desk.may_leave l.desk);
-  answers : AnswersPieces l.form (serving_of l.fn.controller) l.most l.sessions (serving_of l.controller).machine l.mux (g.S.Source.left l.fn.source) (g.S.Source.left l.source) (g.D.Desk.said l.fn.desk) (g.D.Desk.said l.desk)
-      l.fn.notes.failed l.notes.failed (g.D.Desk.noted l.fn.desk) (g.D.Desk.noted l.desk) (g.D.Desk.note_faults l.fn.desk) (g.D.Desk.note_faults l.desk) g.D.Desk.tells
-      (Elapses (g.D.Desk.moment l.fn.desk) (g.D.Desk.moment l.desk) (g.D.Desk.since l.fn.desk) (g.D.Desk.since l.desk)) l.taken;
+  ready : IsReady g.D.Desk.tells (serving_of l.controller).kept (g.D.Desk.seen l.desk).reads (g.D.Desk.stopped l.desk).images;
+  answers : AnswersPieces l.form (serving_of l.fn.controller) l.most l.sessions (serving_of l.controller).machine l.mux (g.S.Source.left l.fn.source) (g.S.Source.left l.source) (g.D.Desk.seen l.fn.desk).said (g.D.Desk.seen l.desk).said
+      l.fn.notes.failed l.notes.failed (g.D.Desk.seen l.fn.desk) (g.D.Desk.seen l.desk) g.D.Desk.tells
+      (Elapses (g.D.Desk.stopped l.fn.desk) (g.D.Desk.stopped l.desk)) l.taken;
   follows : IsSome (serving_of l.fn.controller).kept → IsTrue g.D.Desk.tells
-      → FollowsEvents (serving_of l.fn.controller).bounds answers.answers.answered (known_in l.form) (serving_of l.fn.controller).machine (g.D.Desk.reads l.fn.desk) (g.D.Desk.reads l.desk);
+      → FollowsEvents (serving_of l.fn.controller).bounds answers.answers.answered (known_in l.form) (serving_of l.fn.controller).machine (g.D.Desk.seen l.fn.desk).reads (g.D.Desk.seen l.desk).reads;
   given : IsAllGiven l.mux;
   few : l.taken ≤ l.most + 65536;
   calm : g.S.Source.faults l.source ≡ g.S.Source.faults l.fn.source;
-  calm_say : g.D.Desk.say_faults l.desk ≡ g.D.Desk.say_faults l.fn.desk;
-  calm_disk : g.D.Desk.disk_faults l.desk ≡ g.D.Desk.disk_faults l.fn.desk;
-  alone : (serving_of l.fn.controller).kept ≡ None → OnlySaysAndNotes g.D.Desk.reads g.D.Desk.moment g.D.Desk.since g.D.Desk.may_leave g.D.Desk.disk_faults l.fn.desk l.desk;
-  images : LeavesRoom (serving_of l.fn.controller).bounds.slot g.D.Desk.may_leave l.fn.desk l.desk;
+  calm_say : (g.D.Desk.seen l.desk).say_faults ≡ (g.D.Desk.seen l.fn.desk).say_faults;
+  calm_disk : (g.D.Desk.seen l.desk).disk_faults ≡ (g.D.Desk.seen l.fn.desk).disk_faults;
+  alone : (serving_of l.fn.controller).kept ≡ None → OnlySaysAndNotes g.D.Desk.seen g.D.Desk.stopped l.fn.desk l.desk;
+  images : LeavesRoom (serving_of l.fn.controller).bounds.slot g.D.Desk.stopped l.fn.desk l.desk;
 }
 
 abbrev pub decreases-pieces : goal.decreases-pieces

@@ -20,13 +20,13 @@ events-init g c =
     record {
       on = record { able = c.requires.able; bounds = refl; kind = refl };
       ready = c.requires.ready;
-      answers = answers_start c.args.form k.bounds c.args.sessions.now c.args.sessions.now k.machine c.args.mux.now (g.D.Desk.said desk) c.args.notes.now.failed (g.D.Desk.noted desk) (g.D.Desk.note_faults desk) refl;
-      follows = λ some told. follows_start k.bounds c.args.sessions.now k.machine (g.D.Desk.reads desk);
+      answers = answers_start c.args.form k.bounds c.args.sessions.now c.args.sessions.now k.machine c.args.mux.now (g.D.Desk.seen desk).said c.args.notes.now.failed (g.D.Desk.seen desk) refl;
+      follows = λ some told. follows_start k.bounds c.args.sessions.now k.machine (g.D.Desk.seen desk).reads;
       calm = refl;
       calm_disk = refl;
       alone = λ none. OnlySaysAndNotes-none desk;
       images = room_calm _ desk;
-      stops = λ some told. Elapses-none _ _ _;
+      stops = λ some told. Elapses-none _ _;
     }
 
 pub events-smaller : goal.events-smaller

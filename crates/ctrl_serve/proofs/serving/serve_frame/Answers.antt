@@ -20,13 +20,13 @@ returns-in_err-bytes-clause-stops g c = λ some told. turn_stops_short _ _ _ (c.
 
 pub returns-in-Ok-clause-stops : goal.returns-in-Ok-clause-stops
 returns-in-Ok-clause-stops g c = λ some told.
-    served_stops c.args.controller.now c.answer_frame.new.controller c.args.address c.args.who.now c.args.frame.now c.in_ok-reply.reply c.as_slice.result.now g.D.Desk.tells (g.D.Desk.reads c.answer_frame.new.desk)
+    served_stops c.args.controller.now c.answer_frame.new.controller c.args.address c.args.who.now c.args.frame.now c.in_ok-reply.reply c.as_slice.result.now g.D.Desk.tells (g.D.Desk.seen c.answer_frame.new.desk).reads
     (c.answer_frame.ensures.stops some told) c.in_ok-reply.ensures.ok (c.as_slice.ensures.value ∙ c.in_ok-bytes.ensures) c.in_ok-reply.ensures.on.kind some c.in_ok-reply.ensures.ready told
     c.say.ensures.stops
 
 pub returns-clause-stops : goal.returns-clause-stops
 returns-clause-stops g c = λ some told.
-    served_stops c.args.controller.now c.answer_frame.new.controller c.args.address c.args.who.now c.args.frame.now c.in_ok-reply.reply c.as_slice.result.now g.D.Desk.tells (g.D.Desk.reads c.answer_frame.new.desk)
+    served_stops c.args.controller.now c.answer_frame.new.controller c.args.address c.args.who.now c.args.frame.now c.in_ok-reply.reply c.as_slice.result.now g.D.Desk.tells (g.D.Desk.seen c.answer_frame.new.desk).reads
     (c.answer_frame.ensures.stops some told) c.in_ok-reply.ensures.ok (c.as_slice.ensures.value ∙ c.in_ok-bytes.ensures) c.in_ok-reply.ensures.on.kind some c.in_ok-reply.ensures.ready told
     c.say.ensures.stops
 
@@ -34,7 +34,7 @@ pub returns-clause-cut : goal.returns-clause-cut
 returns-clause-cut g c =
     let old = serving_of c.args.controller.now in
     turn_cut old.bounds c.args.address c.args.who.now c.args.frame.now old.machine (serving_of c.answer_frame.new.controller).machine c.in_ok-reply.reply c.as_slice.result.now
-    (g.D.Desk.said c.args.desk.now) (g.D.Desk.said c.answer_frame.new.desk) (g.D.Desk.said c.say.new.self)
+    (g.D.Desk.seen c.args.desk.now).said (g.D.Desk.seen c.answer_frame.new.desk).said (g.D.Desk.seen c.say.new.self).said
     c.in_ok-reply.ensures.ok (c.as_slice.ensures.value ∙ c.in_ok-bytes.ensures) c.answer_frame.ensures.others.replies c.in-Err.ensures.taken
 
 pub returns-in-Ok-clause-images : goal.returns-in-Ok-clause-images

@@ -7,11 +7,11 @@ use Rattle.ctrl_serve.proofs.ReplayLaws.{started_serves, cut_counts}
 use Rattle.ctrl_serve.proofs.top.run_dry.Goals as goal
 
 pub returns-in-Ok-clause-serves : goal.returns-in-Ok-clause-serves
-returns-in-Ok-clause-serves g c = started_serves c.in-Ok.core c.args.most _ _ _ _ _ _ _ _ c.run_on-status.result c.in-Ok.ensures c.run_on-status.ensures.runs.serves
+returns-in-Ok-clause-serves g c = started_serves c.in-Ok.core c.args.most _ _ _ _ c.run_on-status.result c.in-Ok.ensures c.run_on-status.ensures.runs.serves
 
 pub returns-in-Err-clause-serves : goal.returns-in-Err-clause-serves
 returns-in-Err-clause-serves g c =
-    none_serves Plain _ _ c.args.most _ _ _ _ _ _ _ c.tell_cut.result c.tell_cut.ensures.status c.tell_cut.ensures.others.replies c.tell_cut.ensures.told
+    none_serves Plain _ _ c.args.most _ _ _ c.tell_cut.result c.tell_cut.ensures.status c.tell_cut.ensures.others.replies c.tell_cut.ensures.told
 
 pub returns-in-Ok-clause-undisked : goal.returns-in-Ok-clause-undisked
 returns-in-Ok-clause-undisked g c = c.run_on-status.ensures.undisked refl

@@ -9,7 +9,8 @@ use Rattle.ctrl_serve.proofs.top.run_replay.Goals as goal
 pub returns-in-Ok-clause-replays : goal.returns-in-Ok-clause-replays
 returns-in-Ok-clause-replays g c =
     let e = c.in-Ok.ensures in
-    inr (replays_on g.D.Desk.reads g.D.Desk.may_leave c.args.form (folder_bounds c.args.bounds) c.args.bounds.input c.in-Ok.kept _ _ g.D.Desk.tells c.args.desk.now c.open.new.desk c.run_on-status.new.desk c.run_on-status.result
+    inr (replays_on (record { left = g.S.Source.left; faults = g.S.Source.faults; tells = g.D.Desk.tells; seen = g.D.Desk.seen; stopped = g.D.Desk.stopped })
+    c.args.form (folder_bounds c.args.bounds) c.args.bounds.input c.in-Ok.kept c.args.source.now c.run_on-status.new.source c.args.desk.now c.open.new.desk c.run_on-status.new.desk c.run_on-status.result
     e.opens e.stands e.holds (e.opened.0 ∙ c.store_bounds.ensures) e.created c.open.ensures.others c.open.ensures.stops c.run_on-status.ensures.runs)
 
 pub returns-in-Ok-clause-counts : goal.returns-in-Ok-clause-counts
@@ -28,9 +29,9 @@ returns-in-Err-clause-replays g c =
 pub returns-in-Err-clause-counts : goal.returns-in-Err-clause-counts
 returns-in-Err-clause-counts g c =
     let t = c.tell_closed.ensures in
-    let not = closed_calm c.in-Err.fault c.tell_closed.result _ _ _ _ t.told in
+    let not = closed_calm c.in-Err.fault c.tell_closed.result _ _ t.told in
     closed_counts _ c.args.desk.now c.open.new.desk c.tell_closed.new.desk c.tell_closed.result c.open.ensures.others t.others t.counted
-    (closed_disk Controlled _ _ _ c.in-Err.fault c.tell_closed.result _ _ _ _ c.in-Err.ensures.cause t.others.failed_calls t.told) not.0 not.1
+    (closed_disk Controlled _ _ _ c.in-Err.fault c.tell_closed.result _ _ c.in-Err.ensures.cause t.others.failed_calls t.told) not.0 not.1
 
 pub tell_closed-requires : goal.tell_closed-requires
 tell_closed-requires g c = never_spent g.D.Desk.tells _ c.in-Err.fault c.in-Err.ensures.fault

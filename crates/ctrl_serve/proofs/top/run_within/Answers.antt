@@ -1,7 +1,6 @@
 use Rattle.std.proofs.Common.{List, ℕ, Some, arith, sym, ap, subst, ◌∙◌}
 use Rattle.journal_core.specs.Room.{LeavesRoom}
 use Rattle.row_store.specs.declared.bounds.StoreBounds.{StoreBounds}
-use Rattle.ctrl_serve.specs.Headline.{folder_bounds}
 use Rattle.ctrl_serve.specs.declared.command_line.Form.{Form}
 use Rattle.ctrl_serve.specs.CommandLine.{form_of, texts}
 use Rattle.run_notes.specs.NotedLines.{NotesLines}
@@ -12,30 +11,30 @@ pub returns-in-Some-Dry : goal.returns-in-Some-Dry
 returns-in-Some-Dry g c =
     let e = c.run_dry.ensures in
     let form = ap (λ ws. form_of (texts ws)) (sym c.as_slice.ensures.value) ∙ sym c.form_of.ensures ∙ c.in-Some-Dry.is ∙ ap (λ (f : Form). Some f) c.in-Some-Dry.field-0-is in
-    record { runs = dry_runs g.D.Desk.tells (folder_bounds c.args.bounds) c.args.bounds.input _ _ _ _ _ _ form e.serves e.counts e.undisked e.others }
+    record { runs = dry_runs (record { left = g.S.Source.left; faults = g.S.Source.faults; tells = g.D.Desk.tells; seen = g.D.Desk.seen; stopped = g.D.Desk.stopped }) c.args.bounds _ _ _ _ _ _ form e.serves e.counts e.undisked e.others }
 
 pub returns-in-Some-Replay : goal.returns-in-Some-Replay
 returns-in-Some-Replay g c =
     let e = c.run_replay.ensures in
     let form = ap (λ ws. form_of (texts ws)) (sym c.as_slice.ensures.value) ∙ sym c.form_of.ensures ∙ c.in-Some-Replay.is ∙ ap (λ (f : Form). Some f) c.in-Some-Replay.field-0-is in
-    record { runs = replay_runs c.in-Some-Replay.form g.D.Desk.tells (folder_bounds c.args.bounds) c.args.bounds.input _ _ _ _ _ _ form e.replays e.counts e.images (λ told. g.met.D.Desk.is_own _ told) }
+    record { runs = replay_runs (record { left = g.S.Source.left; faults = g.S.Source.faults; tells = g.D.Desk.tells; seen = g.D.Desk.seen; stopped = g.D.Desk.stopped }) c.in-Some-Replay.form c.args.bounds _ _ _ _ _ _ form e.replays e.counts e.images (λ told. g.met.D.Desk.is_own _ told) }
 
 pub returns-in-None : goal.returns-in-None
 returns-in-None g c =
     let e = c.note_lines.ensures in
-    record { runs = usage_runs g.D.Desk.tells (folder_bounds c.args.bounds) c.args.bounds.input _ _ _ _ (ap (λ ws. form_of (texts ws)) (sym c.as_slice.ensures.value) ∙ sym c.form_of.ensures ∙ c.in-None.is) e.others e.stops (subst (λ (l : List ℕ). NotesLines l (g.D.Desk.noted c.args.desk.now) (g.D.Desk.noted c.note_lines.new.desk) (g.D.Desk.note_faults c.args.desk.now) (g.D.Desk.note_faults c.note_lines.new.desk)) c.status_line.ensures e.noted) e.counted }
+    record { runs = usage_runs (record { left = g.S.Source.left; faults = g.S.Source.faults; tells = g.D.Desk.tells; seen = g.D.Desk.seen; stopped = g.D.Desk.stopped }) c.args.bounds _ _ _ _ (ap (λ ws. form_of (texts ws)) (sym c.as_slice.ensures.value) ∙ sym c.form_of.ensures ∙ c.in-None.is) e.others e.stops (subst (λ (l : List ℕ). NotesLines l (g.D.Desk.seen c.args.desk.now) (g.D.Desk.seen c.note_lines.new.desk)) c.status_line.ensures e.noted) e.counted }
 
 pub returns-in-Some-Load : goal.returns-in-Some-Load
 returns-in-Some-Load g c =
     let e = c.run_load.ensures in
     let form = ap (λ ws. form_of (texts ws)) (sym c.as_slice.ensures.value) ∙ sym c.form_of.ensures ∙ c.in-Some-Load.is ∙ ap (λ (f : Form). Some f) c.in-Some-Load.field-0-is in
-    record { runs = load_runs g.D.Desk.tells (folder_bounds c.args.bounds) c.args.bounds.input _ c.in-Some-Load.number _ _ _ _ form e.says e.write_cause e.counted e.others }
+    record { runs = load_runs (record { left = g.S.Source.left; faults = g.S.Source.faults; tells = g.D.Desk.tells; seen = g.D.Desk.seen; stopped = g.D.Desk.stopped }) c.args.bounds _ c.in-Some-Load.number _ _ _ _ form e.says e.write_cause e.counted e.others }
 
 pub returns-in-Some-Audit : goal.returns-in-Some-Audit
 returns-in-Some-Audit g c =
     let e = c.run_audit.ensures in
     let form = ap (λ ws. form_of (texts ws)) (sym c.as_slice.ensures.value) ∙ sym c.form_of.ensures ∙ c.in-Some-Audit.is ∙ ap (λ (f : Form). Some f) c.in-Some-Audit.field-0-is in
-    record { runs = audit_runs g.D.Desk.tells (folder_bounds c.args.bounds) c.args.bounds.input _ _ _ _ _ form e.audits e.alone e.write_cause e.disk_cause e.counted }
+    record { runs = audit_runs (record { left = g.S.Source.left; faults = g.S.Source.faults; tells = g.D.Desk.tells; seen = g.D.Desk.seen; stopped = g.D.Desk.stopped }) c.args.bounds _ _ _ _ _ form e.audits e.alone e.write_cause e.disk_cause e.counted }
 
 pub returns-in-Some-Compact : goal.returns-in-Some-Compact
 returns-in-Some-Compact g c =
@@ -44,6 +43,6 @@ returns-in-Some-Compact g c =
     let slot = ap (λ (b : StoreBounds). b.slot) c.store_bounds.ensures in
     let images = e.images (omega (arith, c.requires.slot_low, slot)) in
     record {
-      runs = compact_runs g.D.Desk.tells (folder_bounds c.args.bounds) c.args.bounds.input _ _ _ _ _ form (rw (sym c.store_bounds.ensures) e.compacts) e.says_nothing e.failed_says e.disk_cause e.counted
-          (subst (λ (n : ℕ). LeavesRoom n g.D.Desk.may_leave c.args.desk.now c.run_compact.new.desk) slot images) (λ told. g.met.D.Desk.is_own _ told);
+      runs = compact_runs (record { left = g.S.Source.left; faults = g.S.Source.faults; tells = g.D.Desk.tells; seen = g.D.Desk.seen; stopped = g.D.Desk.stopped }) c.args.bounds _ _ _ _ _ form (rw (sym c.store_bounds.ensures) e.compacts) e.says_nothing e.failed_says e.disk_cause e.counted
+          (subst (λ (n : ℕ). LeavesRoom n g.D.Desk.stopped c.args.desk.now c.run_compact.new.desk) slot images) (λ told. g.met.D.Desk.is_own _ told);
     }

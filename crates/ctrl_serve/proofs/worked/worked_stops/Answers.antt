@@ -7,9 +7,9 @@ use Rattle.ziti_outside.specs.Told.{Took, IsFront}
 use Rattle.channel_frame.specs.WorkedFrames.{ann_frame, ann_bytes, reply_bytes}
 use Rattle.ctrl_model.specs.State.{State, start}
 use Rattle.row_store.specs.declared.bounds.StoreBounds.{StoreBounds}
-use Rattle.ctrl_keep.specs.OpenedStates.{OpensToState}
+use Rattle.row_store.specs.OpenedStates.{OpensToState}
 use Rattle.ctrl_keep.specs.WorkedMachines.{at_most, machine_at}
-use Rattle.ctrl_keep.proofs.OneStates.{one_state}
+use Rattle.row_store.proofs.OneStates.{one_state}
 use Rattle.session_mux.specs.declared.events.Event.{Event}
 use Rattle.session_mux.specs.declared.events.Event.TheVariants.{Arrived}
 use Rattle.session_mux.specs.declared.sessions.Form.TheVariants.{Plain}

@@ -9,7 +9,7 @@ pub returns-in_err-bytes_at-in-Some-clause-fault : goal.returns-in_err-bytes_at-
 returns-in_err-bytes_at-in-Some-clause-fault g c =
     let p = err_from_is_err_and c.from_residual-in_err-bytes_at-in-Some.result c.from_residual-in_err-bytes_at-in-Some.ensures.1 in
     let same = c.in_ok-end.ensures.parts in
-    rw p.1 (record_fails g.D.Desk.tells c.args.at (g.D.Desk.reads c.args.desk.now c.args.part) p.0 (rw p.2 c.in_err-bytes_at-in-Some.ensures.fault) (λ told.
+    rw p.1 (record_fails g.D.Desk.tells c.args.at ((g.D.Desk.seen c.args.desk.now).reads c.args.part) p.0 (rw p.2 c.in_err-bytes_at-in-Some.ensures.fault) (λ told.
     subst (λ image. (payload : List ℕ) × IsRecord c.args.at payload (image c.args.part)) same
     (head_there g.D.Desk.tells c.args.at c.in_ok-end.end c.in-Some.len _ c.in_ok-len_behind.field-0 c.in-Some.is c.in_ok-len_behind.ensures.found told
     (c.in_ok-end.ensures.length told ∙ ap (λ image. length (image c.args.part)) (sym same)))))

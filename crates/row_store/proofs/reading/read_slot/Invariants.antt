@@ -11,10 +11,10 @@ abbrev pub invariant-records : goal.invariant-records
 invariant-records g l = record {
   rises : Rises bytes_cmp (rows_in l.rows.entries);
   puttable : ArePuttable (rows_in l.rows.entries);
-  read : IsTrue g.D.Desk.tells → IsReadTo (g.D.Desk.reads l.fn.desk l.part) l.at (rows_in l.rows.entries);
-  calm : g.D.Desk.disk_faults l.desk ≡ g.D.Desk.disk_faults l.fn.desk;
-  end : IsTrue g.D.Desk.tells → l.end ≡ length (g.D.Desk.reads l.fn.desk l.part);
-  only : OnlyReads g.D.Desk.reads g.D.Desk.said g.D.Desk.noted g.D.Desk.say_faults g.D.Desk.note_faults g.D.Desk.moment g.D.Desk.since g.D.Desk.may_leave l.fn.desk l.desk;
+  read : IsTrue g.D.Desk.tells → IsReadTo ((g.D.Desk.seen l.fn.desk).reads l.part) l.at (rows_in l.rows.entries);
+  calm : (g.D.Desk.seen l.desk).disk_faults ≡ (g.D.Desk.seen l.fn.desk).disk_faults;
+  end : IsTrue g.D.Desk.tells → l.end ≡ length ((g.D.Desk.seen l.fn.desk).reads l.part);
+  only : OnlyReads g.D.Desk.seen g.D.Desk.stopped l.fn.desk l.desk;
 }
 
 abbrev pub decreases-records : goal.decreases-records

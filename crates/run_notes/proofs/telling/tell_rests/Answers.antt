@@ -10,14 +10,13 @@ pub returns-clause-noted : goal.returns-clause-noted
 returns-clause-noted g c =
     let rests : List ℕ = rest_lines (end_of c.args.mux.now) c.args.sessions.now.closed in
     let status = c.status_of-status.result in
-    let noted = g.D.Desk.noted in
-    let faults = g.D.Desk.note_faults in
-    let last = subst (λ (l : List ℕ). NotesMore c.write.new.self.failed c.write-2.new.self.failed l (noted c.write.new.desk) (noted c.write-2.new.desk) (faults c.write.new.desk) (faults c.write-2.new.desk))
+    let seen = g.D.Desk.seen in
+    let last = subst (λ (l : List ℕ). NotesMore c.write.new.self.failed c.write-2.new.self.failed l (seen c.write.new.desk) (seen c.write-2.new.desk))
     c.status_line.ensures c.write-2.ensures.noted in
     let both = more_then c.args.notes.now.failed c.write.new.self.failed c.write-2.new.self.failed c.as_bytes.result.now (status_lines [] status)
-    (noted c.args.desk.now) (noted c.write.new.desk) (noted c.write-2.new.desk) (faults c.args.desk.now) (faults c.write.new.desk) (faults c.write-2.new.desk) c.write.ensures.noted last in
+    (seen c.args.desk.now) (seen c.write.new.desk) (seen c.write-2.new.desk) c.write.ensures.noted last in
     let lines = c.as_bytes.ensures.value in
-    subst (λ (l : List ℕ). NotesMore c.args.notes.now.failed c.write-2.new.self.failed l (noted c.args.desk.now) (noted c.write-2.new.desk) (faults c.args.desk.now) (faults c.write-2.new.desk))
+    subst (λ (l : List ℕ). NotesMore c.args.notes.now.failed c.write-2.new.self.failed l (seen c.args.desk.now) (seen c.write-2.new.desk))
     (told_lines status rests c.as_bytes.result.now (λ e. lines ∙ c.in_ok-lines.ensures.lines.0 e) (λ e. lines ∙ c.in_ok-lines.ensures.lines.1 e)) both
 
 pub returns-clause-others : goal.returns-clause-others

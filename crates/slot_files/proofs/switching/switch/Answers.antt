@@ -5,11 +5,11 @@ use Rattle.slot_files.proofs.switching.switch.Goals as goal
 
 pub returns-in_err-put_down-clause-stops : goal.returns-in_err-put_down-clause-stops
 returns-in_err-put_down-clause-stops g c = λ told.
-    Leaves-weaker _ c.put_down.ensures.stops (images_switched c.args.standing (g.D.Desk.reads c.args.desk.now) c.requires.named (c.requires.ready told))
+    Leaves-weaker _ c.put_down.ensures.stops (images_switched c.args.standing (g.D.Desk.seen c.args.desk.now).reads c.requires.named (c.requires.ready told))
 
 pub returns-clause-stops : goal.returns-clause-stops
 returns-clause-stops g c = λ told.
-    Leaves-weaker _ c.put_down.ensures.stops (images_switched c.args.standing (g.D.Desk.reads c.args.desk.now) c.requires.named (c.requires.ready told))
+    Leaves-weaker _ c.put_down.ensures.stops (images_switched c.args.standing (g.D.Desk.seen c.args.desk.now).reads c.requires.named (c.requires.ready told))
 
 pub returns-clause-room : goal.returns-clause-room
 returns-clause-room g c = search rules

@@ -8,17 +8,17 @@ use Rattle.zitiline.proofs.running.say_answer.Goals as goal
 pub returns-in-Ok-clause-says : goal.returns-in-Ok-clause-says
 returns-in-Ok-clause-says g c =
     let answer = c.args.answer.now in
-    let before = g.D.Desk.said c.args.desk.now in
-    let mid = g.D.Desk.said c.say.new.self in
+    let before = (g.D.Desk.seen c.args.desk.now).said in
+    let mid = (g.D.Desk.seen c.say.new.self).said in
     let took = subst (λ (bytes : List ℕ). Took before mid bytes) c.as_slice.ensures c.in-Ok.ensures.taken in
-    says_by answer (note_in answer) c.end_by.result before (g.D.Desk.said c.end_by.new.desk) refl c.end_by.ensures.status
+    says_by answer (note_in answer) c.end_by.result before (g.D.Desk.seen c.end_by.new.desk).said refl c.end_by.ensures.status
     (subst (λ (now : Option (List ℕ)). Took before now answer.said) (sym c.end_by.ensures.others.replies) took)
 
 pub returns-in-Err-clause-says : goal.returns-in-Err-clause-says
 returns-in-Err-clause-says g c =
     let answer = c.args.answer.now in
-    let before = g.D.Desk.said c.args.desk.now in
-    let mid = g.D.Desk.said c.say.new.self in
+    let before = (g.D.Desk.seen c.args.desk.now).said in
+    let mid = (g.D.Desk.seen c.say.new.self).said in
     let took = subst (λ (bytes : List ℕ). TookFront before mid bytes) c.as_slice.ensures c.in-Err.ensures.taken in
-    says_cut answer c.end_with.result before (g.D.Desk.said c.end_with.new.desk) c.end_with.ensures.status
+    says_cut answer c.end_with.result before (g.D.Desk.seen c.end_with.new.desk).said c.end_with.ensures.status
     (subst (λ (now : Option (List ℕ)). TookFront before now answer.said) (sym c.end_with.ensures.others.replies) took)

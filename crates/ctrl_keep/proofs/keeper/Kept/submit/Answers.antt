@@ -6,7 +6,7 @@ use Rattle.ziti_outside.proofs.MomentLaws.{Leaves-weaker}
 use Rattle.ctrl_model.specs.declared.replies.Reply.{Reply}
 use Rattle.ctrl_model.specs.Controller.{carry}
 use Rattle.row_store.specs.StoredRows.{ReadsAs}
-use Rattle.ctrl_keep.specs.OpenedStates.{OpensToState}
+use Rattle.row_store.specs.OpenedStates.{OpensToState}
 use Rattle.ctrl_keep.specs.KeptMachine.{Machine, step}
 use Rattle.ctrl_keep.specs.KeptController.{Controlled, machine_with, machine_of, made_of}
 use Rattle.ctrl_keep.proofs.AdvancedPlans.{is_planned, step_is, submit_fails, quiet_stops}
@@ -23,13 +23,13 @@ returns-then-not-permitted-clause-step g c =
 pub returns-then-not-permitted-clause-stops : goal.returns-then-not-permitted-clause-stops
 returns-then-not-permitted-clause-stops g c = λ fresh told.
     quiet_stops c.args.desk.now c.args.desk.now _ refl (λ (image : Image) m. inl
-    (still_state c.args.self.now c.self.inside.core c.self.inside.store c.self.inside.spent (g.D.Desk.reads c.args.desk.now) (g.D.Desk.may_leave c.args.desk.now)
+    (still_state c.args.self.now c.self.inside.core c.self.inside.store c.self.inside.spent (g.D.Desk.seen c.args.desk.now).reads (g.D.Desk.stopped c.args.desk.now).images
     c.self.view_is (c.self.invariant c.if-self.false) (c.requires.stands fresh told) image m))
 
 pub returns-in_err-planned-clause-stops : goal.returns-in_err-planned-clause-stops
 returns-in_err-planned-clause-stops g c = λ fresh told.
     quiet_stops c.args.desk.now c.args.desk.now _ refl (λ (image : Image) m. inl
-    (still_state c.args.self.now c.self.inside.core c.self.inside.store c.self.inside.spent (g.D.Desk.reads c.args.desk.now) (g.D.Desk.may_leave c.args.desk.now)
+    (still_state c.args.self.now c.self.inside.core c.self.inside.store c.self.inside.spent (g.D.Desk.seen c.args.desk.now).reads (g.D.Desk.stopped c.args.desk.now).images
     c.self.view_is (c.self.invariant c.if-self.false) (c.requires.stands fresh told) image m))
 
 pub advance-requires-clause-planned : goal.advance-requires-clause-planned
@@ -39,7 +39,7 @@ advance-requires-clause-planned g c =
 
 pub advance-requires-clause-stands : goal.advance-requires-clause-stands
 advance-requires-clause-stands g c = λ told.
-    subst (λ (k : Controlled). ReadsAs k.stored (g.D.Desk.reads c.args.desk.now) (g.D.Desk.may_leave c.args.desk.now)) (sym c.self.view_is)
+    subst (λ (k : Controlled). ReadsAs k.stored (g.D.Desk.seen c.args.desk.now).reads (g.D.Desk.stopped c.args.desk.now).images) (sym c.self.view_is)
     (c.requires.stands (sym (ap (λ (k : Controlled). k.spent) c.self.view_is) ∙ c.if-self.false) told)
 
 pub returns-clause-step : goal.returns-clause-step
@@ -96,13 +96,13 @@ compact-requires-clause-keeps g c = c.self.invariant c.if-self.false
 
 pub compact-requires-clause-stands : goal.compact-requires-clause-stands
 compact-requires-clause-stands g c = λ told.
-    subst (λ (k : Controlled). ReadsAs k.stored (g.D.Desk.reads c.args.desk.now) (g.D.Desk.may_leave c.args.desk.now)) (sym c.self.view_is)
+    subst (λ (k : Controlled). ReadsAs k.stored (g.D.Desk.seen c.args.desk.now).reads (g.D.Desk.stopped c.args.desk.now).images) (sym c.self.view_is)
     (c.requires.stands (sym (ap (λ (k : Controlled). k.spent) c.self.view_is) ∙ c.if-self.false) told)
 
 pub returns-then-is_compact-clause-compacted : goal.returns-then-is_compact-clause-compacted
 returns-then-is_compact-clause-compacted g c =
     folder_of_all c.compact.result c.args.command.now c.args.self.now c.self.inside.core c.self.inside.store c.self.inside.spent (IsTrue g.D.Desk.tells)
-    (g.D.Desk.reads c.args.desk.now) (g.D.Desk.reads c.compact.new.desk) c.self.view_is c.compact.ensures.folder
+    (g.D.Desk.seen c.args.desk.now).reads (g.D.Desk.seen c.compact.new.desk).reads c.self.view_is c.compact.ensures.folder
 
 pub returns-clause-compacted : goal.returns-clause-compacted
 returns-clause-compacted g c = never_compacts c.advance.result c.args.command.now _ (sym c.is_compact.ensures ∙ c.if-is_compact.false)
@@ -126,7 +126,7 @@ returns-then-is_compact-clause-still g c =
 pub returns-then-is_compact-clause-follows : goal.returns-then-is_compact-clause-follows
 returns-then-is_compact-clause-follows g c =
     follows_of_all c.compact.result c.args.self.now c.self.inside.core c.self.inside.store c.self.inside.spent (machine_with c.self.inside.core.state c.compact.new.store)
-    (IsTrue g.D.Desk.tells) (g.D.Desk.reads c.args.desk.now) (g.D.Desk.reads c.compact.new.desk) c.self.view_is c.compact.ensures.follows
+    (IsTrue g.D.Desk.tells) (g.D.Desk.seen c.args.desk.now).reads (g.D.Desk.seen c.compact.new.desk).reads c.self.view_is c.compact.ensures.follows
 
 pub returns-clause-still : goal.returns-clause-still
 returns-clause-still g c =
@@ -136,7 +136,7 @@ returns-clause-still g c =
 pub returns-clause-follows : goal.returns-clause-follows
 returns-clause-follows g c =
     follows_of_all c.advance.result c.args.self.now c.self.inside.core c.self.inside.store c.self.inside.spent (machine_with c.advance.new.core.state c.advance.new.store)
-    (IsTrue g.D.Desk.tells) (g.D.Desk.reads c.args.desk.now) (g.D.Desk.reads c.advance.new.desk) c.self.view_is c.advance.ensures.follows
+    (IsTrue g.D.Desk.tells) (g.D.Desk.seen c.args.desk.now).reads (g.D.Desk.seen c.advance.new.desk).reads c.self.view_is c.advance.ensures.follows
 
 pub returns-then-not-permitted-clause-still : goal.returns-then-not-permitted-clause-still
 returns-then-not-permitted-clause-still g c = λ _. refl

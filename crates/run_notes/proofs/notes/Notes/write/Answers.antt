@@ -8,8 +8,6 @@ pub returns-then-not-self-clause-noted : goal.returns-then-not-self-clause-noted
 returns-then-not-self-clause-noted g c =
     let e = c.note_lines.ensures in
     let told : Bool = c.note_lines.result in
-    let noted = g.D.Desk.noted in
-    let faults = g.D.Desk.note_faults in
-    subst (λ (f : Bool). NotesMore f (not told) c.args.lines.now (noted c.args.desk.now) (noted c.note_lines.new.desk) (faults c.args.desk.now) (faults c.note_lines.new.desk))
+    subst (λ (f : Bool). NotesMore f (not told) c.args.lines.now (g.D.Desk.seen c.args.desk.now) (g.D.Desk.seen c.note_lines.new.desk))
     (sym c.if-not-self.true)
-    (more_noted (not told) told c.args.lines.now _ _ _ _ refl e.noted e.cause e.counted)
+    (more_noted (not told) told c.args.lines.now _ _ refl e.noted e.cause e.counted)

@@ -8,7 +8,7 @@ use Rattle.slot_files.proofs.StandLaws.{one_stands}
 use Rattle.row_laws.proofs.SameStates.{same_from_spelled}
 use Rattle.row_store.specs.OpenedRows.{OpensTo}
 use Rattle.row_store.proofs.OpeningLaws.{one_opens, damaged_opens, one_damage}
-use Rattle.ctrl_keep.specs.OpenedStates.{byte_rows_of, OpensToState, HasNoState, IsStateless}
+use Rattle.row_store.specs.OpenedStates.{byte_rows_of, OpensToState, HasNoState, IsStateless}
 
 pub one_state : (image : Image) (s t : State) → OpensToState image s → OpensToState image t → s ≡ t
 one_state image s t p q = same_from_spelled s t p.valid q.valid (one_opens image (byte_rows_of s) (byte_rows_of t) p.rows q.rows)

@@ -11,6 +11,7 @@ use Rattle.row_codec.specs.StateRows.{rows_of}
 use Rattle.row_codec.specs.Batches.{spelled_rows}
 use Rattle.row_store.specs.BatchRows.{ByteRows, Give}
 use Rattle.row_store.specs.OpenedRows.{OpensTo, IsDamagedAt}
+use Rattle.row_store.specs.StoredRows.{Stored}
 
 -- The rows of a state, as bytes.
 abbrev pub byte_rows_of : State → ByteRows
@@ -35,3 +36,7 @@ pub record HasNoState (image : Image) (part : Part) (at : ℕ) : Type 0 where
 -- no valid state.
 abbrev pub IsStateless : Image → Part → ℕ → Type 0
 IsStateless image part at = IsDamagedAt image part at ⊎ HasNoState image part at
+
+-- The rows of a store are those of no valid state, which is told at the store's end.
+abbrev pub IsOfNoState : Stored → Part → ℕ → Type 0
+IsOfNoState stored part at = (part ≡ stored.part) × (at ≡ stored.end) × ((s : State) → ValidState s → stored.rows ≡ byte_rows_of s → ⊥)

@@ -1,5 +1,5 @@
-use Rattle.ctrl_keep.proofs.OneStates.{one_state, stateless_opens, one_place}
-use Rattle.ctrl_keep.proofs.laws.one_state.Goals as goal
+use Rattle.row_store.proofs.OneStates.{one_state, stateless_opens, one_place}
+use Rattle.row_store.proofs.laws.one_state.Goals as goal
 
 pub returns-clause-state : goal.returns-clause-state
 returns-clause-state c = one_state
