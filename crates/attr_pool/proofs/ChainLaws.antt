@@ -2,7 +2,7 @@
 use Rattle.std.proofs.Common.{◌≡◌, ◌≢◌, ℕ, zero, suc, ◌+◌, ◌-◌, ◌<◌, ◌≤◌, min, Bool, true, false, not, ◌&&◌, ◌⊎◌, cond, List, [], ◌∷◌, length, get_or, set, replicate, All, Option, Some, None, position, eqb, ltb, refl, sym, ◌∙◌, ap, subst, inl, inr, arith, eq-eqb, ne_eqb}
 use Rattle.std.proofs.lemmas.Bool.{eqb-true, ltb-true, ltb-false, both_ways, and_parts, and_from}
 use Rattle.std.proofs.lemmas.Bool.Decides.{eqb_tells}
-use Rattle.std.proofs.lemmas.List.{get_or-set_same, get_or-set_other, length-set, length-replicate, get_or-replicate}
+use Rattle.std.proofs.lemmas.List.{get_or_read, get_or-set_same, get_or-set_other, length-set, length-replicate, get_or-replicate}
 use Rattle.std.proofs.lemmas.List.Elements.{All-tail}
 use Rattle.std.proofs.lemmas.List.Quantifiers.{position-Some}
 use Rattle.std.proofs.lemmas.List.Sums.{sum_by-cons, sum_by-set}
@@ -471,3 +471,22 @@ first_free q xs n e free = elim (number_cases (slot_of q xs) (position is_free x
   | inl t ↦ absurd (both_ways (is_free (slot_at xs n)) (held_used q (slot_at xs n) (number_within q xs n t).1) free)
   | inr t ↦ t.1
 ]
+
+-- a step along a chain, of which the numbers and the slot are read
+pub link_on : (xs : List Slot) (links : List ℕ) → AreLinked xs links → (c n place tested read link : ℕ) → c < most_slots → n < most_slots → IsLinkTo xs c n place
+    → tested ≡ get_or links place tested → tested < n → read ≡ get_or links place read → link ≡ read → IsLinkTo xs c n (most_slots + link) × (n - get_or links (most_slots + link) 0 < n - get_or links place 0)
+link_on xs links linked c n place tested read link small most at is less same link_is =
+    let within = place_within xs links linked c n place small (omega (arith, most)) at in
+    let first = get_or_read links place tested within is 0 in
+    let there : link ≡ get_or links place 0 = link_is ∙ get_or_read links place read within same 0 in
+    let under : get_or links place 0 < n = omega (arith, first, less) in
+    let further = link_further xs links linked c n place small (omega (arith, most)) at under in
+    subst (λ l. IsLinkTo xs c n (most_slots + l) × (n - get_or links (most_slots + l) 0 < n - get_or links place 0)) (sym there)
+    (link_after xs links linked c n place small (omega (arith, most)) at under, omega (arith, further, under))
+
+pub look_on : (xs : List Slot) (links : List ℕ) → AreLinked xs links → (q : List ℕ) (chain number read link : ℕ) (s : Slot) (held : Bool) → chain ≡ chain_of q → chain < most_slots → Looking xs q number → number < most_slots
+    → s ≡ get_or xs number s → held ≡ holds q s → held ≡ false → read ≡ get_or links (most_slots + number) read → link ≡ read → Looking xs q link × (number < link)
+look_on xs links linked q chain number read link s held named small at l here tested other same link_is =
+    let there = link_is ∙ get_or_read links (most_slots + number) read (omega (arith, l, linked.links_long)) same 0 in
+    let not_here = sym (ap (holds q) (get_or_read xs number s (omega (arith, l, linked.slots_long)) here free_slot)) ∙ sym tested ∙ other in
+    subst (λ m. Looking xs q m × (number < m)) (sym there) (look_next xs links linked q (subst (λ k. k < most_slots) named small) number at l not_here)

@@ -1,4 +1,4 @@
-use Rattle.std.proofs.Common.{◌≡◌, get_or, arith}
+use Rattle.std.proofs.Common.{arith}
 use Rattle.std.proofs.lemmas.List.{get_or_read}
 use Rattle.attr_pool.proofs.ChainLaws.{place_within, linked_with}
 use Rattle.attr_pool.proofs.chains.hold_at.Goals as goal

@@ -1,8 +1,7 @@
-use Rattle.std.proofs.Common.{◌≡◌, ◌<◌, ◌+◌, ◌-◌, false, get_or, length, sym, subst, ap, ◌∙◌, arith}
+use Rattle.std.proofs.Common.{◌≡◌, ◌<◌, get_or, length, sym, subst, ap, ◌∙◌, arith}
 use Rattle.std.proofs.lemmas.List.{get_or_read}
-use Rattle.attr_pool.specs.Slots.{free_slot, holds, slot_at}
-use Rattle.attr_pool.specs.Chains.{chain_of}
-use Rattle.attr_pool.proofs.ChainLaws.{Looking, look_first, look_next, position_is, position_is_none}
+use Rattle.attr_pool.specs.Slots.{free_slot, holds}
+use Rattle.attr_pool.proofs.ChainLaws.{Looking, look_first, look_on, position_is, position_is_none}
 use Rattle.attr_pool.proofs.chains.slot_in.Goals as goal
 
 pub chain-init : goal.chain-init
@@ -23,30 +22,12 @@ returns-then-holds c =
 
 pub chain-smaller : goal.chain-smaller
 chain-smaller c =
-    let slots = c.args.chained.now.slots.items in
-    let links = c.args.chained.now.links.items in
-    let small = subst (λ k. k < 4096) c.chain_of.ensures.chain c.chain_of.ensures.small in
-    let within : c.chain.number < length slots = omega (arith, c.requires.slots_long) in
-    let here = get_or_read slots c.chain.number c.index-in-chain.result.now within c.index-in-chain.ensures free_slot in
-    let other : holds c.args.name.now (slot_at slots c.chain.number) ≡ false = sym (ap (holds c.args.name.now) here) ∙ sym c.holds.ensures ∙ c.if-holds.false in
-    let reach : 4096 + c.chain.number < length links = omega (arith, c.requires.links_long) in
-    let read : c.from-number-in-chain.result ≡ get_or links (4096 + c.chain.number) 0 = c.from-number-in-chain.ensures ∙ get_or_read links (4096 + c.chain.number) c.index-in-chain-2.result.now reach c.index-in-chain-2.ensures 0 in
-    let next = look_next slots links c.requires c.args.name.now small c.chain.number c.chain.invariant (omega arith) other in
-    let further : c.chain.number < c.from-number-in-chain.result = omega (arith, next.1, read) in
-    omega (arith, further)
+    let on = look_on c.args.chained.now.slots.items c.args.chained.now.links.items c.requires c.args.name.now c.chain_of.result c.chain.number c.index-in-chain-2.result.now c.from-number-in-chain.result c.index-in-chain.result.now c.holds.result c.chain_of.ensures.chain c.chain_of.ensures.small c.chain.invariant (omega arith) c.index-in-chain.ensures c.holds.ensures c.if-holds.false c.index-in-chain-2.ensures c.from-number-in-chain.ensures in
+    omega (arith, on.1)
 
 pub chain-preserved : goal.chain-preserved
 chain-preserved c =
-    let slots = c.args.chained.now.slots.items in
-    let links = c.args.chained.now.links.items in
-    let small = subst (λ k. k < 4096) c.chain_of.ensures.chain c.chain_of.ensures.small in
-    let within : c.chain.number < length slots = omega (arith, c.requires.slots_long) in
-    let here = get_or_read slots c.chain.number c.index-in-chain.result.now within c.index-in-chain.ensures free_slot in
-    let other : holds c.args.name.now (slot_at slots c.chain.number) ≡ false = sym (ap (holds c.args.name.now) here) ∙ sym c.holds.ensures ∙ c.if-holds.false in
-    let reach : 4096 + c.chain.number < length links = omega (arith, c.requires.links_long) in
-    let read : c.from-number-in-chain.result ≡ get_or links (4096 + c.chain.number) 0 = c.from-number-in-chain.ensures ∙ get_or_read links (4096 + c.chain.number) c.index-in-chain-2.result.now reach c.index-in-chain-2.ensures 0 in
-    let next = look_next slots links c.requires c.args.name.now small c.chain.number c.chain.invariant (omega arith) other in
-    subst (Looking slots c.args.name.now) (sym read) next.0
+    (look_on c.args.chained.now.slots.items c.args.chained.now.links.items c.requires c.args.name.now c.chain_of.result c.chain.number c.index-in-chain-2.result.now c.from-number-in-chain.result c.index-in-chain.result.now c.holds.result c.chain_of.ensures.chain c.chain_of.ensures.small c.chain.invariant (omega arith) c.index-in-chain.ensures c.holds.ensures c.if-holds.false c.index-in-chain-2.ensures c.from-number-in-chain.ensures).0
 
 pub returns : goal.returns
 returns c = sym (position_is_none (holds c.args.name.now) c.args.chained.now.slots.items (λ k l. c.chain.invariant.passed k (omega (arith, l, c.requires.slots_long))))
