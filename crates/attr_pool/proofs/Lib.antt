@@ -4,3 +4,4 @@ pub mod UseLaws
 pub mod RoomLaws
 pub mod SlotKeeping
 pub mod WorkedRows
+pub mod ChainLaws

@@ -12,7 +12,7 @@ use Rattle.std.proofs.lemmas.Slice.Eq.{bytes_eq-Decides}
 use Rattle.ctrl_model.specs.NameForm.{is_name, is_name_byte}
 use Rattle.attr_pool.specs.Slots.{Slot, slot_with, free_slot, is_free, holds, slot_at, slot_of, or_else, number_for, held_count, most_slots, with_use, without_use, row_bit, IsPool}
 
-false_where : (b : Bool) → (b ≡ true → ⊥) → b ≡ false
+pub false_where : (b : Bool) → (b ≡ true → ⊥) → b ≡ false
 false_where true f = absurd (f refl)
 false_where false f = refl
 
@@ -37,7 +37,7 @@ none_means : (b : Bool) (n : ℕ) → cond b (Some n) None ≡ None → b ≡ fa
 none_means true n e = absurd (cc)
 none_means false n e = refl
 
-position_none : (p : Slot → Bool) (xs : List Slot) → position p xs ≡ None → (k : ℕ) → k < length xs → p (slot_at xs k) ≡ false
+pub position_none : (p : Slot → Bool) (xs : List Slot) → position p xs ≡ None → (k : ℕ) → k < length xs → p (slot_at xs k) ≡ false
 position_none p xs e k h =
     let least : length xs ≤ position_or_len p xs = ltb-false (position_or_len p xs) (length xs) (none_means (ltb (position_or_len p xs) (length xs)) (position_or_len p xs) e) in
     fails_before_first p xs k free_slot (omega arith)

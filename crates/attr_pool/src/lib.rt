@@ -1,6 +1,8 @@
 //! The numbers of the attributes in use: a slot for each, and a row of bits for a list of them.
 #![tactic(auto)]
 
+mod chains;
+mod kept_slots;
 mod names;
 mod pool;
 mod room;

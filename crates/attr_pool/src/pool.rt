@@ -4,9 +4,9 @@ ghost use Rattle.bit_lanes.specs.Lanes.{bit_of};
 ghost use Rattle.attr_pool.specs.Slots.{free_slot, holds, slot_of, slot_at, held_count, most_slots, most_uses, without_use, row_bit, Interned, IsPool};
 ghost use Rattle.attr_pool.specs.Uses.{times, uses_of, has_slots, can_be_counted, AreInUse, KeepsSlots};
 
+use crate::kept_slots::KeptSlots;
 use crate::room::has_slots;
 use crate::rows::{Row, empty_row, set_bit};
-use crate::slots::{KeptSlot, let_go_at, slot_of};
 use crate::uses::{can_count, intern_each, intern_in, release_each};
 use ctrl_model::{MOST_ATTRIBUTES, Name, Names};
 use std::alloc::{AllocError, Global};
@@ -27,7 +27,7 @@ pub enum PoolFault {
 /// The attributes in use, each with a slot. Contracts see the slots, with the name and the uses of each.
 #[derive(Drop)]
 pub struct Pool {
-    slots: Vec<KeptSlot>,
+    slots: KeptSlots,
 }
 
 impl Model for Pool {
@@ -36,36 +36,24 @@ impl Model for Pool {
 
     ghost Value = { List Slot };
 
-    ghost view = { λ p. p.slots.items };
+    ghost view = { λ p. p.slots };
 
-    ghost invariant = { λ p. IsPool p.slots.items };
-}
-
-// As many free slots as there may be attributes.
-fn free_slots(alloc: Global) -> Result<Vec<KeptSlot>, AllocError>
-    ensures long { IfOk result (λ slots. length slots.items ≡ most_slots) }
-    ensures free { IfOk result (λ slots. All (λ slot. slot ≡ free_slot) slots.items) }
-{
-    let mut slots = Vec::with_capacity(alloc, MOST_ATTRIBUTES)?;
-    'slots: while slots.len() < MOST_ATTRIBUTES {
-        slots.push(KeptSlot::free())?;
-    }
-    Ok(slots)
+    ghost invariant = { λ p. IsPool p.slots };
 }
 
 // Sets the bit of a name in a row, where a slot holds it.
-fn add_bit(slots: &[KeptSlot], name: &Name, row: &mut Row)
+fn add_bit(slots: &KeptSlots, name: &Name, row: &mut Row)
     requires { IsPool slots.now }
     ensures { (n : ℕ) → bit_of row.new n ≡ cond (holds name.now (slot_at slots.now n)) 1 (bit_of row.old n) }
 {
-    match slot_of(slots, name) {
+    match slots.slot_of(name) {
         Some(number) => set_bit(row, number),
         None => (),
     }
 }
 
 // The row of some names.
-fn row_of(slots: &[KeptSlot], names: &[Name]) -> Row
+fn row_of(slots: &KeptSlots, names: &[Name]) -> Row
     requires { IsPool slots.now }
     ensures { (n : ℕ) → bit_of result n ≡ row_bit slots.now names.now n }
 {
@@ -82,7 +70,7 @@ impl Pool {
         ensures long { IfOk result (λ pool. length pool ≡ most_slots) }
         ensures free { IfOk result (λ pool. All (λ slot. slot ≡ free_slot) pool) }
     {
-        let slots = free_slots(alloc)?;
+        let slots = KeptSlots::free(alloc)?;
         Ok(Pool { slots })
     }
 
@@ -97,7 +85,7 @@ impl Pool {
         ensures memory { IsErrOf result PoolFault.NoMemory ↔ (uses_of name.now self.old ≡ most_uses) }
         ensures uses { OnOk result ((q : List ℕ) → uses_of q self.new ≡ uses_of q self.old + cond (bytes_eq name.now q) 1 0) }
     {
-        intern_in(self.slots.as_mut_slice(), name)
+        intern_in(&mut self.slots, name)
     }
 
     /// Takes one use away from a held slot. The slot is free without one.
@@ -105,14 +93,14 @@ impl Pool {
         requires { 0 < (slot_at self.old slot).uses }
         ensures { self.new ≡ slice_set self.old slot (without_use (slot_at self.old slot)) }
     {
-        let_go_at(self.slots.as_mut_slice(), usize::from(slot));
+        self.slots.let_go_at(usize::from(slot));
     }
 
     /// The row of some names: exactly the bits of the slots that hold one of them are set. A name that is not held has none.
     pub fn row_of(&self, names: &Names) -> Row
         ensures { (n : ℕ) → bit_of result n ≡ row_bit self.now names.now n }
     {
-        row_of(self.slots.as_slice(), names.as_slice())
+        row_of(&self.slots, names.as_slice())
     }
 
     /// The slot of a name. None exactly where it is not held. No other slot holds it.
@@ -121,7 +109,7 @@ impl Pool {
         ensures small { IfSome result (λ n. n < most_slots) }
         ensures alone { (n : ℕ) → n < most_slots → holds name.now (slot_at self.now n) ≡ true → result ≡ Some n }
     {
-        match slot_of(self.slots.as_slice(), name) {
+        match self.slots.slot_of(name) {
             Some(number) => Some(number as u16),
             None => None,
         }
@@ -131,7 +119,7 @@ impl Pool {
     pub fn can_count(&self, names: &Names) -> bool
         ensures { result ≡ can_be_counted self.now names.now }
     {
-        can_count(self.slots.as_slice(), names.as_slice())
+        can_count(&self.slots, names.as_slice())
     }
 
     /// Whether there would be a slot for each name that is held once a use of each entry of `gone` is taken away, and one of each
@@ -140,7 +128,7 @@ impl Pool {
         requires { AreInUse self.now gone.now }
         ensures { result ≡ has_slots self.now gone.now fresh.now }
     {
-        has_slots(self.slots.as_slice(), gone.as_slice(), fresh.as_slice())
+        has_slots(&self.slots, gone.as_slice(), fresh.as_slice())
     }
 
     /// Adds one use of each name. A name that has uses before keeps its slot.
@@ -150,7 +138,7 @@ impl Pool {
         ensures uses { (q : List ℕ) → uses_of q self.new ≡ uses_of q self.old + times q names.now }
         ensures slots { KeepsSlots self.old self.new }
     {
-        intern_each(self.slots.as_mut_slice(), names.as_slice());
+        intern_each(&mut self.slots, names.as_slice());
     }
 
     /// Takes one use of each name away. A name that still has uses keeps its slot.
@@ -159,6 +147,6 @@ impl Pool {
         ensures uses { (q : List ℕ) → uses_of q self.new + times q names.now ≡ uses_of q self.old }
         ensures slots { KeepsSlots self.old self.new }
     {
-        release_each(self.slots.as_mut_slice(), names.as_slice());
+        release_each(&mut self.slots, names.as_slice());
     }
 }

@@ -7,13 +7,13 @@ ghost use Rattle.attr_pool.specs.Slots.{held_count, IsPool};
 ghost use Rattle.attr_pool.specs.Uses.{has_slots, AreInUse};
 ghost use Rattle.attr_pool.specs.Moving.{is_new, leaves};
 
+use crate::kept_slots::KeptSlots;
 use crate::names::{has_name, times};
-use crate::slots::{KeptSlot, held_count};
 use crate::uses::uses_in;
 use ctrl_model::{MOST_ATTRIBUTES, Name};
 
 // Whether a name has no use.
-fn is_new(slots: &[KeptSlot], name: &Name) -> bool
+fn is_new(slots: &KeptSlots, name: &Name) -> bool
     requires { IsPool slots.now }
     ensures { result ≡ is_new slots.now name.now }
 {
@@ -21,7 +21,7 @@ fn is_new(slots: &[KeptSlot], name: &Name) -> bool
 }
 
 // Whether all uses of a name go and none comes.
-fn leaves(slots: &[KeptSlot], gone: &[Name], fresh: &[Name], name: &Name) -> bool
+fn leaves(slots: &KeptSlots, gone: &[Name], fresh: &[Name], name: &Name) -> bool
     requires { IsPool slots.now }
     ensures { result ≡ leaves slots.now gone.now fresh.now name.now }
 {
@@ -29,7 +29,7 @@ fn leaves(slots: &[KeptSlot], gone: &[Name], fresh: &[Name], name: &Name) -> boo
 }
 
 // Whether a name is new and does not stand among the rest.
-fn is_last_new(slots: &[KeptSlot], name: &Name, rest: &[Name]) -> bool
+fn is_last_new(slots: &KeptSlots, name: &Name, rest: &[Name]) -> bool
     requires { IsPool slots.now }
     ensures { result ≡ (not (has_name rest.now name.now) && is_new slots.now name.now) }
 {
@@ -38,7 +38,7 @@ fn is_last_new(slots: &[KeptSlot], name: &Name, rest: &[Name]) -> bool
 
 // Whether a name leaves and does not stand among the rest.
 fn is_last_to_leave(
-    slots: &[KeptSlot],
+    slots: &KeptSlots,
     gone: &[Name],
     fresh: &[Name],
     name: &Name,
@@ -51,7 +51,7 @@ fn is_last_to_leave(
 }
 
 // How many different names of some are new.
-fn new_count(slots: &[KeptSlot], fresh: &[Name]) -> usize
+fn new_count(slots: &KeptSlots, fresh: &[Name]) -> usize
     requires { IsPool slots.now }
     ensures count { result ≡ distinct_count bytes_eq (filter (is_new slots.now) fresh.now) }
     ensures few { result ≤ length fresh.now }
@@ -66,7 +66,7 @@ fn new_count(slots: &[KeptSlot], fresh: &[Name]) -> usize
 }
 
 // How many different names of some leave.
-fn left_count(slots: &[KeptSlot], gone: &[Name], fresh: &[Name]) -> usize
+fn left_count(slots: &KeptSlots, gone: &[Name], fresh: &[Name]) -> usize
     requires { IsPool slots.now }
     ensures count { result ≡ distinct_count bytes_eq (filter (leaves slots.now gone.now fresh.now) gone.now) }
     ensures few { result ≤ length gone.now }
@@ -81,10 +81,10 @@ fn left_count(slots: &[KeptSlot], gone: &[Name], fresh: &[Name]) -> usize
 }
 
 /// Whether there would be a slot for each name that is held once some uses go and some come.
-pub fn has_slots(slots: &[KeptSlot], gone: &[Name], fresh: &[Name]) -> bool
+pub fn has_slots(slots: &KeptSlots, gone: &[Name], fresh: &[Name]) -> bool
     requires pool { IsPool slots.now }
     requires used { AreInUse slots.now gone.now }
     ensures { result ≡ has_slots slots.now gone.now fresh.now }
 {
-    held_count(slots) + new_count(slots, fresh) <= MOST_ATTRIBUTES + left_count(slots, gone, fresh)
+    slots.held_count() + new_count(slots, fresh) <= MOST_ATTRIBUTES + left_count(slots, gone, fresh)
 }

@@ -3,24 +3,24 @@ ghost use Rattle.std.specs.Str.{bytes_eq};
 ghost use Rattle.attr_pool.specs.Slots.{slot_of, held_count, most_slots, most_uses, Interned, IsPool};
 ghost use Rattle.attr_pool.specs.Uses.{times, uses_of, has_slots, can_be_counted, AreInUse, KeepsSlots};
 
+use crate::kept_slots::KeptSlots;
 use crate::names::times;
 use crate::pool::PoolFault;
-use crate::slots::{KeptSlot, let_go_at, number_for, slot_of, use_at, uses_at};
 use ctrl_model::Name;
 
 /// How many uses of a name are counted.
-pub fn uses_in(slots: &[KeptSlot], name: &Name) -> u64
+pub fn uses_in(slots: &KeptSlots, name: &Name) -> u64
     requires { IsPool slots.now }
     ensures { result ≡ uses_of name.now slots.now }
 {
-    match slot_of(slots, name) {
-        Some(number) => uses_at(slots, number),
+    match slots.slot_of(name) {
+        Some(number) => slots.uses_at(number),
         None => 0,
     }
 }
 
 // Whether as many uses more of a name can be counted as it stands among some.
-fn can_count_one(slots: &[KeptSlot], names: &[Name], name: &Name) -> bool
+fn can_count_one(slots: &KeptSlots, names: &[Name], name: &Name) -> bool
     requires { IsPool slots.now }
     ensures { result ≡ nat_le (uses_of name.now slots.now + times name.now names.now) most_uses }
 {
@@ -29,7 +29,7 @@ fn can_count_one(slots: &[KeptSlot], names: &[Name], name: &Name) -> bool
 }
 
 /// Whether a use more of each name can be counted.
-pub fn can_count(slots: &[KeptSlot], names: &[Name]) -> bool
+pub fn can_count(slots: &KeptSlots, names: &[Name]) -> bool
     requires { IsPool slots.now }
     ensures { result ≡ can_be_counted slots.now names.now }
 {
@@ -37,7 +37,7 @@ pub fn can_count(slots: &[KeptSlot], names: &[Name]) -> bool
 }
 
 /// Adds one use of a name in its slot, or else in the first free one, and answers the slot.
-pub fn intern_in(slots: &mut [KeptSlot], name: &Name) -> Result<u16, PoolFault>
+pub fn intern_in(slots: &mut KeptSlots, name: &Name) -> Result<u16, PoolFault>
     requires { IsPool slots.old }
     ensures ok { IfOk result (λ n. Interned name.now n slots.old slots.new) }
     ensures err { OnErr result (slots.new ≡ slots.old) }
@@ -47,11 +47,11 @@ pub fn intern_in(slots: &mut [KeptSlot], name: &Name) -> Result<u16, PoolFault>
     ensures slots { OnOk result (KeepsSlots slots.old slots.new) }
     ensures pool { IsPool slots.new }
 {
-    let number = match number_for(slots, name) {
+    let number = match slots.number_for(name) {
         Some(number) => number,
         None => return Err(PoolFault::Full),
     };
-    if use_at(slots, number, name) {
+    if slots.use_at(number, name) {
         Ok(number as u16)
     } else {
         Err(PoolFault::NoMemory)
@@ -59,7 +59,7 @@ pub fn intern_in(slots: &mut [KeptSlot], name: &Name) -> Result<u16, PoolFault>
 }
 
 /// Adds one use of each name.
-pub fn intern_each(slots: &mut [KeptSlot], names: &[Name])
+pub fn intern_each(slots: &mut KeptSlots, names: &[Name])
     requires pool { IsPool slots.old }
     requires room { has_slots slots.old [] names.now ≡ true }
     requires counted { can_be_counted slots.old names.now ≡ true }
@@ -76,19 +76,19 @@ pub fn intern_each(slots: &mut [KeptSlot], names: &[Name])
 }
 
 // Takes one use of a name away.
-fn release_in(slots: &mut [KeptSlot], name: &Name)
+fn release_in(slots: &mut KeptSlots, name: &Name)
     requires pool { IsPool slots.old }
     requires used { 0 < uses_of name.now slots.old }
     ensures uses { (q : List ℕ) → uses_of q slots.new + cond (bytes_eq name.now q) 1 0 ≡ uses_of q slots.old }
     ensures slots { KeepsSlots slots.old slots.new }
     ensures pool { IsPool slots.new }
 {
-    let number = slot_of(slots, name).unwrap();
-    let_go_at(slots, number);
+    let number = slots.slot_of(name).unwrap();
+    slots.let_go_at(number);
 }
 
 /// Takes one use of each name away.
-pub fn release_each(slots: &mut [KeptSlot], names: &[Name])
+pub fn release_each(slots: &mut KeptSlots, names: &[Name])
     requires pool { IsPool slots.old }
     requires used { AreInUse slots.old names.now }
     ensures uses { (q : List ℕ) → uses_of q slots.new + times q names.now ≡ uses_of q slots.old }

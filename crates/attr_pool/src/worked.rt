@@ -20,7 +20,7 @@ pub fn worked_slots()
     ensures interned { Interned (codes "green") 1 four_slots (slot_with (codes "red") 2 ∷ slot_with (codes "green") 1 ∷ slot_with (codes "blue") 1 ∷ free_slot ∷ []) }
     ensures not_its_slot { Interned (codes "blue") 1 four_slots (slot_with (codes "red") 2 ∷ slot_with (codes "blue") 1 ∷ slot_with (codes "blue") 1 ∷ free_slot ∷ []) → ⊥ }
     ensures pool { IsPool (replicate most_slots free_slot) }
-    ensures held_twice { IsPool (slot_with (codes "red") 1 ∷ slot_with (codes "red") 1 ∷ replicate 1022 free_slot) → ⊥ }
+    ensures held_twice { IsPool (slot_with (codes "red") 1 ∷ slot_with (codes "red") 1 ∷ replicate 4094 free_slot) → ⊥ }
     ensures too_few { IsPool four_slots → ⊥ }
 {}
 

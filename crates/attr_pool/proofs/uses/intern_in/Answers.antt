@@ -42,9 +42,6 @@ returns-in-None-clause-memory c =
     let none = uses-none c.args.name.now c.args.slots.now (none_holds c.args.name.now c.args.slots.now full.0) in
     neither _ _ full_is_not_memory (λ all. absurd (omega (arith, none, all)))
 
-pub use_at-requires-clause-fits : goal.use_at-requires-clause-fits
-use_at-requires-clause-fits c = (number_fits c.args.name.now c.args.slots.now c.in-Some.number (sym c.in-Some.ensures)).1
-
 pub returns-then-use_at-clause-full : goal.returns-then-use_at-clause-full
 returns-then-use_at-clause-full c =
     neither _ _ (ok_is_no_err c.in-Some.number Full) (number_some c.args.name.now c.args.slots.now c.in-Some.number c.requires.long (sym c.in-Some.ensures))
@@ -57,17 +54,17 @@ returns-then-use_at-clause-memory c =
 pub returns-then-use_at-clause-uses : goal.returns-then-use_at-clause-uses
 returns-then-use_at-clause-uses c = λ q.
     let fits = number_fits c.args.name.now c.args.slots.now c.in-Some.number (sym c.in-Some.ensures) in
-    ap (uses_of q) (taken c.use_at.new.slots (set c.args.slots.now c.in-Some.number (with_use c.args.name.now (slot_at c.args.slots.now c.in-Some.number))) c.args.slots.now c.use_at.result c.if-use_at.true c.use_at.ensures.value)
+    ap (uses_of q) (taken c.use_at.new.self (set c.args.slots.now c.in-Some.number (with_use c.args.name.now (slot_at c.args.slots.now c.in-Some.number))) c.args.slots.now c.use_at.result c.if-use_at.true c.use_at.ensures.value)
     ∙ uses-with_use q c.args.name.now c.args.slots.now c.in-Some.number fits.0 fits.1
 
 pub returns-then-use_at-clause-slots : goal.returns-then-use_at-clause-slots
 returns-then-use_at-clause-slots c =
-    kept-interned c.args.name.now c.args.slots.now c.use_at.new.slots c.in-Some.number c.requires (sym c.in-Some.ensures)
-    (taken c.use_at.new.slots (set c.args.slots.now c.in-Some.number (with_use c.args.name.now (slot_at c.args.slots.now c.in-Some.number))) c.args.slots.now c.use_at.result c.if-use_at.true c.use_at.ensures.value)
+    kept-interned c.args.name.now c.args.slots.now c.use_at.new.self c.in-Some.number c.requires (sym c.in-Some.ensures)
+    (taken c.use_at.new.self (set c.args.slots.now c.in-Some.number (with_use c.args.name.now (slot_at c.args.slots.now c.in-Some.number))) c.args.slots.now c.use_at.result c.if-use_at.true c.use_at.ensures.value)
 
 pub returns-then-use_at-clause-pool : goal.returns-then-use_at-clause-pool
 returns-then-use_at-clause-pool c =
-    IsPool-used c.args.name.now c.args.slots.now c.use_at.new.slots c.in-Some.number c.use_at.result c.requires (sym c.in-Some.ensures) c.use_at.ensures.value
+    IsPool-used c.args.name.now c.args.slots.now c.use_at.new.self c.in-Some.number c.use_at.result c.requires (sym c.in-Some.ensures) c.use_at.ensures.value
 
 pub returns-else-use_at-clause-full : goal.returns-else-use_at-clause-full
 returns-else-use_at-clause-full c =

@@ -8,20 +8,20 @@ use Rattle.attr_pool.proofs.uses.release_in.Goals as goal
 pub unwrap-number-requires : goal.unwrap-number-requires
 unwrap-number-requires c = used_number c.args.name.now c.args.slots.now c.slot_of.result c.requires.used c.slot_of.ensures
 
-pub let_go_at-requires-clause-used : goal.let_go_at-requires-clause-used
-let_go_at-requires-clause-used c =
+pub let_go_at-requires : goal.let_go_at-requires
+let_go_at-requires c =
     let found : slot_of c.args.name.now c.args.slots.now ≡ Some c.unwrap-number.result = search rules in
     (uses_at_number c.args.name.now c.args.slots.now c.unwrap-number.result c.requires.pool found c.requires.used).0
 
 pub returns-clause-uses : goal.returns-clause-uses
 returns-clause-uses c = λ q.
     let found : slot_of c.args.name.now c.args.slots.now ≡ Some c.unwrap-number.result = search rules in
-    released q c.args.name.now c.args.slots.now c.let_go_at.new.slots c.unwrap-number.result c.requires.pool found c.requires.used c.let_go_at.ensures
+    released q c.args.name.now c.args.slots.now c.let_go_at.new.self c.unwrap-number.result c.requires.pool found c.requires.used c.let_go_at.ensures
 
 pub returns-clause-slots : goal.returns-clause-slots
 returns-clause-slots c =
     let found : slot_of c.args.name.now c.args.slots.now ≡ Some c.unwrap-number.result = search rules in
-    kept-released c.args.name.now c.args.slots.now c.let_go_at.new.slots c.unwrap-number.result c.requires.pool found c.requires.used c.let_go_at.ensures
+    kept-released c.args.name.now c.args.slots.now c.let_go_at.new.self c.unwrap-number.result c.requires.pool found c.requires.used c.let_go_at.ensures
 
 pub returns-clause-pool : goal.returns-clause-pool
 returns-clause-pool c =

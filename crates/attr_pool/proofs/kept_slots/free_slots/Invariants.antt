@@ -1,6 +1,6 @@
 use Rattle.std.proofs.Common.{◌≡◌, ◌≤◌, ◌-◌, length, All}
 use Rattle.attr_pool.specs.Slots.{free_slot}
-use Rattle.attr_pool.proofs.pool.free_slots.Given as goal
+use Rattle.attr_pool.proofs.kept_slots.free_slots.Given as goal
 
 abbrev pub invariant-slots : goal.invariant-slots
 invariant-slots l = (length l.slots.items ≤ 4096) × All (λ slot. slot ≡ free_slot) l.slots.items
