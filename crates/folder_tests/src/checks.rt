@@ -28,7 +28,7 @@ pub(crate) fn is_refused(rt: &impl Abort, answer: Result<(), Failed>) {
 
 /// A part has so many bytes.
 pub fn has_len<D: Desk>(rt: &impl Abort, desk: &mut D, part: Part, wanted: u64)
-    ensures { IsTrue D.tells → length (D.reads desk.new part) ≡ wanted }
+    ensures { IsTrue D.tells → length ((D.seen desk.new).reads part) ≡ wanted }
 {
     assert_eq!(rt; desk.len(part), Ok(wanted));
 }

@@ -35,7 +35,7 @@ const ROWS: [Row; 3] = [
 // Opens a store with these bounds.
 fn open(alloc: Global, desk: &mut MemDesk, bounds: StoreBounds) -> Result<Store, StoreFault>
     requires { bounds.slot ≤ 2 ^ 30 }
-    ensures { IfOk result (λ store. IsReady store store.rows (⟦<MemDesk as Desk>⟧.reads desk.new) (⟦<MemDesk as Desk>⟧.may_leave desk.new)) }
+    ensures { IfOk result (λ store. IsReady store store.rows (⟦<MemDesk as Desk>⟧.seen desk.new).reads (⟦<MemDesk as Desk>⟧.stopped desk.new).images) }
 {
     Store::open(alloc, desk, bounds)
 }
@@ -76,7 +76,7 @@ fn compacts(
     store: &mut Store,
     slot: &[u8],
 ) -> Result<(), StoreFault>
-    requires { IsReady store.old store.old.rows (⟦<MemDesk as Desk>⟧.reads desk.old) (⟦<MemDesk as Desk>⟧.may_leave desk.old) }
+    requires { IsReady store.old store.old.rows (⟦<MemDesk as Desk>⟧.seen desk.old).reads (⟦<MemDesk as Desk>⟧.stopped desk.old).images }
 {
     store.compact(desk)?;
     are_parts(rt, desk, &[], slot, &[0, 0]);
@@ -112,7 +112,7 @@ fn compacts_no_rows(rt: HostRuntime) -> Result<(), Fail> {
 
 // Why a store is not compacted.
 fn fault_of(desk: &mut MemDesk, store: &mut Store) -> Option<StoreFault>
-    requires { IsReady store.old store.old.rows (⟦<MemDesk as Desk>⟧.reads desk.old) (⟦<MemDesk as Desk>⟧.may_leave desk.old) }
+    requires { IsReady store.old store.old.rows (⟦<MemDesk as Desk>⟧.seen desk.old).reads (⟦<MemDesk as Desk>⟧.stopped desk.old).images }
 {
     store.compact(desk).err()
 }
@@ -181,7 +181,7 @@ fn keeps_the_rows_through_stops(rt: HostRuntime) -> Result<(), Fail> {
 
 // Compacts a store, or fails on the disk, which spends it.
 fn tries(rt: &impl Abort, desk: &mut MemDesk, store: &mut Store)
-    requires { IsReady store.old store.old.rows (⟦<MemDesk as Desk>⟧.reads desk.old) (⟦<MemDesk as Desk>⟧.may_leave desk.old) }
+    requires { IsReady store.old store.old.rows (⟦<MemDesk as Desk>⟧.seen desk.old).reads (⟦<MemDesk as Desk>⟧.stopped desk.old).images }
 {
     match store.compact(desk) {
         Ok(()) => assert!(rt; !store.is_spent()),

@@ -30,7 +30,7 @@ pub const HEADER_OF_SLOT: [u8; 8] = [0x5A, 0x43, 0x54, 0x4C, 1, 0, 0, 0];
 
 /// A desk with an empty folder.
 pub fn empty_desk(alloc: Global) -> Result<MemDesk, AllocError>
-    ensures { IfOk result (λ desk. ⟦<MemDesk as Desk>⟧.reads desk Mark ≡ []) }
+    ensures { IfOk result (λ desk. (⟦<MemDesk as Desk>⟧.seen desk).reads Mark ≡ []) }
 {
     MemDesk::new(alloc, Images::empty(alloc), ROOM, Vec::new(alloc))
 }

@@ -22,8 +22,8 @@ const SLOT_OF_ANN: [u8; 42] = [
 
 // Opens a store on a folder without a mark, with room for one of the two batches.
 fn open(alloc: Global, desk: &mut MemDesk) -> Result<Store, StoreFault>
-    requires { ⟦<MemDesk as Desk>⟧.reads desk.old Mark ≡ [] }
-    ensures { IfOk result (λ store. IsReady store [] (⟦<MemDesk as Desk>⟧.reads desk.new) (⟦<MemDesk as Desk>⟧.may_leave desk.new)) }
+    requires { (⟦<MemDesk as Desk>⟧.seen desk.old).reads Mark ≡ [] }
+    ensures { IfOk result (λ store. IsReady store [] (⟦<MemDesk as Desk>⟧.seen desk.new).reads (⟦<MemDesk as Desk>⟧.stopped desk.new).images) }
 {
     let bounds = StoreBounds { slot: 64, mark: 1 };
     Store::open(alloc, desk, bounds)
@@ -31,8 +31,8 @@ fn open(alloc: Global, desk: &mut MemDesk) -> Result<Store, StoreFault>
 
 // Keeps the first batch.
 fn keep_ann(alloc: Global, desk: &mut MemDesk, store: &mut Store) -> Result<(), Fail>
-    requires { IsReady store.old [] (⟦<MemDesk as Desk>⟧.reads desk.old) (⟦<MemDesk as Desk>⟧.may_leave desk.old) }
-    ensures { OnOk result (IsReady store.new rows_of_ann (⟦<MemDesk as Desk>⟧.reads desk.new) (⟦<MemDesk as Desk>⟧.may_leave desk.new)) }
+    requires { IsReady store.old [] (⟦<MemDesk as Desk>⟧.seen desk.old).reads (⟦<MemDesk as Desk>⟧.stopped desk.old).images }
+    ensures { OnOk result (IsReady store.new rows_of_ann (⟦<MemDesk as Desk>⟧.seen desk.new).reads (⟦<MemDesk as Desk>⟧.stopped desk.new).images) }
 {
     worked_rows();
     let batch = read_batch(alloc, &BATCH_OF_ANN)?;
@@ -46,7 +46,7 @@ fn fault_of_bob(
     desk: &mut MemDesk,
     store: &mut Store,
 ) -> Result<Option<StoreFault>, RowFault>
-    requires { IsReady store.old rows_of_ann (⟦<MemDesk as Desk>⟧.reads desk.old) (⟦<MemDesk as Desk>⟧.may_leave desk.old) }
+    requires { IsReady store.old rows_of_ann (⟦<MemDesk as Desk>⟧.seen desk.old).reads (⟦<MemDesk as Desk>⟧.stopped desk.old).images }
 {
     let batch = read_batch(alloc, &BATCH_OF_BOB)?;
     Ok(store.commit(desk, &batch).err())
@@ -58,7 +58,7 @@ fn refuses_bob(
     desk: &mut MemDesk,
     store: &mut Store,
 ) -> Result<(), RowFault>
-    requires { IsReady store.old rows_of_ann (⟦<MemDesk as Desk>⟧.reads desk.old) (⟦<MemDesk as Desk>⟧.may_leave desk.old) }
+    requires { IsReady store.old rows_of_ann (⟦<MemDesk as Desk>⟧.seen desk.old).reads (⟦<MemDesk as Desk>⟧.stopped desk.old).images }
 {
     let fault = fault_of_bob(alloc, desk, store)?;
     is_fault(rt, fault, Some(StoreFault::Full));
@@ -80,7 +80,7 @@ fn have_ann(rt: &impl Abort, desk: &MemDesk, store: &Store) {
 
 // The first batch is kept, and the second has no room: all is then as before.
 fn keeps(rt: &impl Abort, alloc: Global, desk: &mut MemDesk, store: &mut Store) -> Result<(), Fail>
-    requires { IsReady store.old [] (⟦<MemDesk as Desk>⟧.reads desk.old) (⟦<MemDesk as Desk>⟧.may_leave desk.old) }
+    requires { IsReady store.old [] (⟦<MemDesk as Desk>⟧.seen desk.old).reads (⟦<MemDesk as Desk>⟧.stopped desk.old).images }
 {
     keep_ann(alloc, desk, store)?;
     have_ann(rt, desk, store);
@@ -90,7 +90,7 @@ fn keeps(rt: &impl Abort, alloc: Global, desk: &mut MemDesk, store: &mut Store) 
 }
 
 fn creates(rt: &impl Abort, alloc: Global, desk: &mut MemDesk) -> Result<(), Fail>
-    requires { ⟦<MemDesk as Desk>⟧.reads desk.old Mark ≡ [] }
+    requires { (⟦<MemDesk as Desk>⟧.seen desk.old).reads Mark ≡ [] }
 {
     let mut store = open(alloc, desk)?;
     are_slots(rt, desk, &[0x5A, 0x43, 0x54, 0x4C, 1, 0, 0, 0, 0], &[]);
