@@ -316,25 +316,37 @@ def code_of(path):
     return text
 
 
+def files_of(crate):
+    return [p for p in (CRATES / crate).rglob('*') if p.suffix in ('.rt', '.antt', '.edit') and 'out' not in p.relative_to(CRATES).parts]
+
+
+def defined_in(path):
+    """The names that a file defines: of a file of specs/ its definitions, of one of code its public functions but laws, whose body is empty."""
+    code = code_of(path)
+    if path.suffix == '.rt':
+        calls = re.finditer(r'pub (?:const )?fn (\w+)', code)
+        bodies = [(c[1], re.search(r'\n\s*(\{\}?)\s*\n', code[c.end():] + '\n')) for c in calls]
+        return [name for name, body in bodies if body is None or body[1] == '{']
+    if path.parent.name != 'specs':
+        return []
+    heads = re.findall(r"^(?:abbrev )?(?:pub )?(?:record |data )?([A-Za-z_][\w'-]*)(?=[\s:])", code, flags=re.M)
+    return [h for h in heads if h not in ('pub', 'abbrev', 'infixl', 'infixr', 'infix', 'unfoldable')]
+
+
 def unused(listing):
-    """Libraries that a crate lists and no file of it names, and definitions that no file names."""
-    names, defined, found = {}, {}, []
+    """Libraries that a crate lists and no file of it names, and definitions and calls that nothing names but where they stand."""
+    names, places, found = {}, {}, []
     for crate in listing.uses:
-        files = [p for p in (CRATES / crate).rglob('*') if p.suffix in ('.rt', '.antt', '.edit') and 'out' not in p.relative_to(CRATES).parts]
+        files = files_of(crate)
         whole = '\n'.join(text_of(p) for p in files)
         found += [f'crates.txt: {crate} lists {d} and names it nowhere' for d in listing.uses[crate] if not re.search(rf'\b{d}\b', whole)]
         for path in files:
-            words = re.findall(r"[A-Za-z_][\w'-]*", code_of(path))
-            for word in words:
+            for word in re.findall(r"[A-Za-z_][\w'-]*", code_of(path)):
                 names[word] = names.get(word, 0) + 1
-            if path.parent.name == 'specs' and path.suffix == '.antt':
-                heads = re.findall(r"^(?:abbrev )?(?:pub )?(?:record |data )?([A-Za-z_][\w'-]*)(?=[\s:])", code_of(path), flags=re.M)
-                for name in heads:
-                    defined.setdefault(name, []).append(path)
-    for name, places in sorted(defined.items()):
-        if names[name] <= len(places) and name not in ('pub', 'abbrev', 'infixl', 'infixr', 'infix', 'unfoldable'):
-            found.append(f'{places[0].relative_to(TOP)}: nothing names the definition {name}')
-    return found
+            for name in defined_in(path):
+                places.setdefault(name, []).append(path)
+    lonely = sorted(name for name, where in places.items() if names[name] <= len(where))
+    return found + [f'{places[name][0].relative_to(TOP)}: nothing names {name}' for name in lonely]
 
 
 # ---- pages

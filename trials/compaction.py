@@ -8,25 +8,13 @@ command in another, and left alone in a third; the rest of the lines must get th
 """
 
 import os
-import re
 import shutil
 import sys
 import tempfile
 
 import frames
 
-TOP = os.path.join(os.path.dirname(os.path.abspath(__file__)), "..")
 FILES = ("ziti.0", "ziti.1", "ziti.mark")
-
-
-def requests():
-    """The frames of the example's lines."""
-    with open(os.path.join(TOP, "docs", "FORMATS.md"), encoding="utf-8") as file:
-        types = {name: int(number) for number, name in re.findall(r"^\| (\d+) \| (\w+) \|", file.read(), re.M)}
-    with open(os.path.join(TOP, "examples", "realistic.lines"), encoding="utf-8") as file:
-        lines = [line.rstrip("\n") for line in file if line.strip() and not line.lstrip().startswith("#")]
-    parts = [line.partition(" ") for line in lines]
-    return [frames.frame(types[name], body.encode(), i + 1) for i, (name, _, body) in enumerate(parts)]
 
 
 def sizes(folder):
@@ -54,7 +42,7 @@ def trial(program, all_requests, count):
 
 
 def main():
-    all_requests = requests()
+    all_requests, _ = frames.realistic()
     for tenth in range(11):
         trial(sys.argv[1], all_requests, len(all_requests) * tenth // 10)
 

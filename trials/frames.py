@@ -1,15 +1,19 @@
 """Frames, traces and runs of the built program, for the trials of this folder (docs/TRIALS.md)."""
 
 import json
+import os
+import re
 import struct
 import subprocess
+
+TOP = os.path.join(os.path.dirname(os.path.abspath(__file__)), "..")
 
 MARKER = bytes.fromhex("0306090c")
 REPLY = 2
 CREATE_IDENTITY, DELETE_IDENTITY = 1000, 1002
 CREATE_SERVICE, DELETE_SERVICE = 1010, 1012
 CREATE_ROUTER, CONNECT_ROUTER = 1020, 1023
-CREATE_SERVICE_POLICY = 1100
+CREATE_SERVICE_POLICY, DELETE_SERVICE_POLICY = 1100, 1102
 CREATE_EDGE_ROUTER_POLICY = 1110
 CREATE_SERVICE_EDGE_ROUTER_POLICY = 1120
 CREATE_TERMINATOR = 1300
@@ -59,6 +63,18 @@ def data_record(session, data):
 def closed(session):
     """A record that closes a session."""
     return bytes([3, session])
+
+
+def realistic():
+    """The frames of the lines of examples/realistic.lines, and the bodies of the replies to them."""
+    with open(os.path.join(TOP, "docs", "FORMATS.md"), encoding="utf-8") as file:
+        types = {name: int(number) for number, name in re.findall(r"^\| (\d+) \| (\w+) \|", file.read(), re.M)}
+    with open(os.path.join(TOP, "examples", "realistic.lines"), encoding="utf-8") as file:
+        lines = [line.rstrip("\n") for line in file if line.strip() and not line.lstrip().startswith("#")]
+    with open(os.path.join(TOP, "examples", "realistic.replies"), encoding="utf-8") as file:
+        bodies = [line.rstrip("\n").split(" ", 2)[2].encode() for line in file]
+    parts = [line.partition(" ") for line in lines]
+    return [frame(types[name], body.encode(), i + 1) for i, (name, _, body) in enumerate(parts)], bodies
 
 
 def run(program, words, stdin, folder, seconds=60, limit=None):

@@ -25,6 +25,19 @@ COUNTS = frames.frame(frames.SHOW_COUNTS, {}, 12)
 COMPACT = frames.frame(frames.COMPACT, {}, 13)
 TRACE = frames.opened(0) + frames.data_record(0, ANN) + frames.opened(1, 2, "ann") + frames.data_record(1, COUNTS) + frames.data_record(0, BOB) + frames.data_record(0, WEB[:30])
 
+# A frame whose headers part is too long, one whose header passes its end, and a trace that opens a session twice: refused.
+LONG_HEADERS = bytes.fromhex("0306090c e8030000 07000000 01000100 00000000")
+ENDLESS_HEADER = bytes.fromhex("0306090c e8030000 07000000 08000000 00000000 05000000 ffffffff")
+OPENED_TWICE = frames.opened(0) + frames.opened(0)
+
+# A Hello with the longest header, a body of lists in lists, and costs that are no whole numbers from 0 to 65,535: answered.
+LONGEST_HEADER = bytes.fromhex("0306090c 00000000 07000000 00000100 00000000 09000000 f8ff0000") + b"a" * 65528
+NESTED = frames.frame(frames.CREATE_IDENTITY, b"[" * 200 + b"]" * 200, 7)
+COSTS = [frames.frame(frames.CREATE_ROUTER, b'{"name":"r1","cost":' + cost + b"}") for cost in (b"1.0", b"1e3", b"-1", b"65536", b"null")]
+
+# The frames of a line of routers with a circuit, as the gate runs them.
+LINE = os.path.join(HERE, "..", "crates", "zitictl", "stdin")
+
 # At most so many runs a row: where there are more allocations, every second one is refused, or every third, and so on.
 MOST = 1000
 
@@ -43,7 +56,19 @@ ROWS = [
     ("compact", b"", True),
     ("compact", b"", False),
     ("no such words", b"", False),
-]
+    ("dry", LONG_HEADERS, False),
+    ("dry", ENDLESS_HEADER, False),
+    ("replay --sessions", OPENED_TWICE, False),
+    ("dry", LONGEST_HEADER, False),
+    ("dry", NESTED, False),
+] + [("dry", cost, False) for cost in COSTS]
+
+
+def rows():
+    """All rows: those above, and the line under `dry` and under `replay`."""
+    with open(LINE, "rb") as file:
+        line = file.read()
+    return ROWS + [("dry", line, False), ("replay", line, False)]
 
 
 def refused_run(program, library, words, stdin, before, number):
@@ -83,7 +108,7 @@ def main():
         os.mkdir(empty)
         os.mkdir(ann)
         assert frames.run(program, "replay", ANN, ann)[0] == 0
-        runs = sum(trial(program, library, words, stdin, ann if has_folder else empty) for words, stdin, has_folder in ROWS)
+        runs = sum(trial(program, library, words, stdin, ann if has_folder else empty) for words, stdin, has_folder in rows())
     print(f"{runs} runs with one allocation refused")
 
 

@@ -44,7 +44,6 @@ pub fn circuits_of_another_service()
     ensures shown { after (ShowCircuit 1 ∷ []) with_another_service ≡ with_another_service }
     ensures refused { after (DeleteCircuit 2 ∷ []) with_another_service ≡ with_another_service }
     ensures first_effect { (after (ReportLatency (codes "l1") (codes "r1") 6 ∷ []) with_another_service).circuits.rows ≡ [] }
-    ensures effect_without { (after (ReportLatency (codes "l1") (codes "r1") 6 ∷ []) line_in_use).circuits ≡ line_in_use.circuits }
 {}
 
 /// Where no grant is known to stand all circuits are looked at; else the new one, or those that fall.

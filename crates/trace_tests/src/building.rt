@@ -42,10 +42,18 @@ pub(crate) fn empty_desk(alloc: Global) -> Result<MemDesk, AllocError> {
     desk_of(alloc, room, [b"", b"", b""], &[])
 }
 
+/// Bounds in which all has room.
+const BOUNDS: Bounds = Bounds {
+    input: 65_536,
+    slot: 8_192,
+    mark: 1,
+};
+
 /// Runs these words on the desk.
-fn run_on(
+pub(crate) fn run_on(
     alloc: Global,
     words: &[&str],
+    bounds: Bounds,
     source: &mut MemSource,
     desk: &mut MemDesk,
 ) -> Result<Status, AllocError> {
@@ -53,11 +61,6 @@ fn run_on(
     for word in words {
         line.push(String::from_str(alloc, word)?)?;
     }
-    let bounds = Bounds {
-        input: 65_536,
-        slot: 8_192,
-        mark: 1,
-    };
     Ok(run_within(alloc, &line, bounds, source, desk))
 }
 
@@ -68,7 +71,7 @@ pub(crate) fn replay_plain(
     desk: &mut MemDesk,
 ) -> Result<Status, AllocError> {
     let mut source = source_of(alloc, input, 4_096, &[])?;
-    run_on(alloc, &["replay"], &mut source, desk)
+    run_on(alloc, &["replay"], BOUNDS, &mut source, desk)
 }
 
 /// Replays a trace on the desk, given in pieces of so many bytes by a source that fails at these calls, counted from 0.
@@ -80,7 +83,7 @@ pub(crate) fn replay_failing(
     desk: &mut MemDesk,
 ) -> Result<Status, AllocError> {
     let mut source = source_of(alloc, trace, piece, failing)?;
-    run_on(alloc, &["replay", "--sessions"], &mut source, desk)
+    run_on(alloc, &["replay", "--sessions"], BOUNDS, &mut source, desk)
 }
 
 /// Replays a trace on the desk, given in pieces of so many bytes.

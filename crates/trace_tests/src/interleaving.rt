@@ -47,6 +47,10 @@ const LINE: [Request; 14] = [
 /// The route over both links, and the refusal where ann may not dial.
 const GRANTED: &str = r#"{"circuit":1,"ingress":"r1","links":[1,2],"terminator":1,"total":42}"#;
 
+/// The same beside that circuit, which makes the terminator dearer by one.
+const GRANTED_BESIDE: &str =
+    r#"{"circuit":2,"ingress":"r1","links":[1,2],"terminator":1,"total":43}"#;
+
 const NO_DIAL: &str = r#"{"code":33,"name":"NoDial"}"#;
 
 const NOT_PERMITTED: &str = r#"{"code":12,"name":"NotPermitted"}"#;
@@ -135,6 +139,25 @@ fn grants_what_ends_before_a_deletion(rt: HostRuntime) -> Result<(), Fail> {
     let mut wanted = Vec::new(rt.alloc());
     push_tagged(&mut wanted, 1, 0, GRANTED)?;
     push_tagged(&mut wanted, 0, 0, "{}")?;
+    let mut desk = desk_with_line(&rt, rt.alloc())?;
+    check_replies(&rt, rt.alloc(), &mut desk, &trace, &wanted)
+}
+
+/// A trace in which session 1 asks for two circuits.
+fn asks_twice(alloc: Global) -> Result<Vec<u8>, AllocError> {
+    let asks = request(alloc, 1400, r#"{"identity":"ann","service":"web"}"#)?;
+    let mut trace = Vec::from_slice(alloc, OPENS)?;
+    push_data(&mut trace, 1, &asks)?;
+    push_data(&mut trace, 1, &asks)?;
+    Ok(trace)
+}
+
+#[test]
+fn counts_an_open_circuit(rt: HostRuntime) -> Result<(), Fail> {
+    let trace = asks_twice(rt.alloc())?;
+    let mut wanted = Vec::new(rt.alloc());
+    push_tagged(&mut wanted, 1, 0, GRANTED)?;
+    push_tagged(&mut wanted, 1, 1, GRANTED_BESIDE)?;
     let mut desk = desk_with_line(&rt, rt.alloc())?;
     check_replies(&rt, rt.alloc(), &mut desk, &trace, &wanted)
 }
