@@ -7,9 +7,7 @@ use crate::folders::{
 };
 use crate::frames::ANN_EXISTS;
 use ctrl_serve::Status;
-use sample_runs::{
-    ANN_KEPT, ANN_MADE, BOB_KEPT, BOB_MADE, FIRST, Row, WEB_KEPT, parts_of, slot_of,
-};
+use sample_runs::{ANN_KEPT, BOB_KEPT, BOB_MADE, FIRST, Row, WEB_KEPT, parts_of, slot_of};
 use std::alloc::Global;
 use std::process::Abort;
 use std::test::Fail;
@@ -66,15 +64,6 @@ fn puts_the_rows_in_the_other_slot(rt: HostRuntime) -> Result<(), Fail> {
         check_trial(&rt, rt.alloc(), trial)?;
     }
     Ok(())
-}
-
-// A folder of two records becomes one of one record.
-#[test]
-fn puts_all_rows_in_one_record(rt: HostRuntime) -> Result<(), Fail> {
-    let slot = slot_of(rt.alloc(), &[ANN_KEPT, BOB_KEPT])?;
-    let before = [slot.as_slice(), b"".as_slice(), FIRST];
-    let after = [b"".as_slice(), BOTH_SLOT, SECOND];
-    compacts(&rt, rt.alloc(), before, (64, 2), SILENT, after)
 }
 
 /// The ends of a compaction for which a slot has no room, and the mark.
@@ -163,14 +152,6 @@ fn goes_on_with_the_same_replies(rt: HostRuntime) -> Result<(), Fail> {
     goes_on_behind(&rt, rt.alloc(), 0, ANN_FOLDER)?;
     goes_on_behind(&rt, rt.alloc(), 1, [b"", ANN_SLOT, SECOND])?;
     goes_on_behind(&rt, rt.alloc(), 2, [ANN_SLOT, b"", THIRD])
-}
-
-// Ann is made in an empty folder that was compacted, whose second slot stands.
-#[test]
-fn goes_on_from_nothing(rt: HostRuntime) -> Result<(), Fail> {
-    let desk = answers(&rt, rt.alloc(), [b"", BARE_SLOT, SECOND], &[ANN_MADE])?;
-    has_parts(&rt, &desk, [b"", ANN_SLOT, SECOND]);
-    Ok(())
 }
 
 // A folder that is damaged is not compacted, which is noted.

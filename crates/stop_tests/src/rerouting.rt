@@ -20,8 +20,8 @@ const BEFORE: [Row; 2] = [ON_LINE, SECOND_ON_LINK];
 
 const BEHIND: [Row; 2] = [ON_DEAR_LINK, SECOND_GONE];
 
-// A desk whose folder keeps both circuits.
-fn network(rt: &impl Abort, alloc: Global) -> Result<MemDesk, Fail> {
+/// A desk whose folder keeps both circuits.
+pub(crate) fn network(rt: &impl Abort, alloc: Global) -> Result<MemDesk, Fail> {
     let rows = joined(alloc, &[&PAIR, &ENTRY, &LINE, &TWO_CIRCUITS])?;
     answers(rt, alloc, EMPTY, rows.as_slice())
 }

@@ -17,8 +17,6 @@ type Trial = (&'static [Row], &'static [u8]);
 /// The choices of a stop: of what is pending it keeps nothing, all, or a part.
 pub(crate) const CHOICES: [u64; 3] = [0, 1, 2];
 
-const ANN_ALONE: Trial = (&[ANN_MADE], ANN_SLOT);
-
 const BOTH: Trial = (&[ANN_MADE, BOB_MADE], BOTH_SLOT);
 
 // The folder that a stop leaves keeps as many identities as replies were taken whole, or one more. With the frames that were not
@@ -78,11 +76,6 @@ fn check_trial(rt: &impl Abort, alloc: Global, trial: &Trial) -> Result<(), Fail
         stops_by(rt, alloc, &desk, choice, trial)?;
     }
     Ok(())
-}
-
-#[test]
-fn keeps_ann_whatever_is_kept_of_what_is_pending(rt: HostRuntime) -> Result<(), Fail> {
-    check_trial(&rt, rt.alloc(), &ANN_ALONE)
 }
 
 #[test]
