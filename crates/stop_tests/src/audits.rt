@@ -2,7 +2,7 @@
 
 use crate::desks::EMPTY;
 use crate::folders::{
-    AMPLE, ANN_ALONE, ANN_FOLDER, ANN_SLOT, BARE_SLOT, BOTH_SLOT, Ended, NOTHING, SECOND,
+    AMPLE, ANN_ALONE, ANN_FOLDER, ANN_SLOT, BARE_SLOT, BOTH, BOTH_SLOT, Ended, NOTHING, SECOND,
     has_parts, ran,
 };
 use crate::rerouting::network;
@@ -15,10 +15,7 @@ use std::test::Fail;
 use ziti_desk::{FileDesk, Paths, Writes};
 use ziti_outside::Desk;
 
-/// The lines of folders that keep both identities, and a network with two circuits.
-const BOTH: &[u8] =
-    b"{\"circuits\":0,\"grants\":0,\"identities\":2,\"links\":0,\"policies\":0,\"routers\":0,\"services\":0,\"terminators\":0}\n";
-
+/// The line of a folder that keeps a network with two circuits.
 const NETWORK: &[u8] =
     b"{\"circuits\":2,\"grants\":5,\"identities\":1,\"links\":3,\"policies\":3,\"routers\":3,\"services\":1,\"terminators\":2}\n";
 

@@ -5,7 +5,6 @@ use crate::folders::{
     AMPLE, ANN_FOLDER, ANN_SLOT, BARE_SLOT, BOTH_SLOT, Ended, SECOND, SILENT, THIRD, answers,
     has_parts, ran, run_input,
 };
-use crate::frames::ANN_EXISTS;
 use ctrl_serve::Status;
 use sample_runs::{ANN_KEPT, BOB_KEPT, BOB_MADE, FIRST, Row, WEB_KEPT, parts_of, slot_of};
 use std::alloc::Global;
@@ -111,6 +110,9 @@ fn tells_a_full_slot(rt: HostRuntime) -> Result<(), Fail> {
 /// The slot that has the rows of ann, bob and web in one record.
 const BOTH_SLOT_AND_WEB: &[u8] =
     b"ZCTL\x01\0\0\0\x01\x48\0\0\0\x01\x02\x01\x01\x04\0\0\0\x03\0\0\0\x01\x02\x01\x02\x04\0\0\0\x02\0\0\0\x01\x05\x03\0\0\0\x01\x05\0\0\0\x03ann\0\x01\x05\x03\0\0\0\x02\x05\0\0\0\x03bob\0\x01\x05\x04\0\0\0\x01\x05\0\0\0\x03web\0\0";
+
+/// A second request to create ann.
+const ANN_EXISTS: Row = (1000, r#"{"name":"ann"}"#, r#"{"code":20,"name":"Exists"}"#);
 
 /// What a folder is asked, and what it answers, whether or not it was compacted.
 const ASKED: [Row; 5] = [

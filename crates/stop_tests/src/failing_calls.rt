@@ -100,16 +100,11 @@ fn outcome(alloc: Global, trial: &Trial, failing: &[u32]) -> Result<(MemDesk, St
     Ok((desk, status))
 }
 
-// At a fault that is so noted nothing is said.
-fn is_cut(rt: &impl Abort, desk: &MemDesk, noted: &str) {
-    has_told(rt, desk, b"", noted);
-}
-
-// What is said and noted at a status.
+// What is said and noted at a status: at a fault nothing is said.
 fn check_told(rt: &impl Abort, desk: &MemDesk, status: Status, said: &[u8]) {
     match status {
-        Status::DiskFault => is_cut(rt, desk, "zitictl: disk fault\n"),
-        Status::WriteFault => is_cut(rt, desk, "zitictl: write fault\n"),
+        Status::DiskFault => has_told(rt, desk, b"", "zitictl: disk fault\n"),
+        Status::WriteFault => has_told(rt, desk, b"", "zitictl: write fault\n"),
         _ => has_told(rt, desk, said, ""),
     }
 }
