@@ -1,6 +1,9 @@
-use frame_lines::LineCause;
+//! Texts that say traces, and tagged replies told as lines.
+
+use std::alloc::{AllocError, Global};
+use std::process::Abort;
 use std::test::Fail;
-use trace_lines::{ReplyFault, TraceCause, TraceFault, tell_replies, trace};
+use trace_lines::{ReplyFault, TraceFault, tell_replies, trace};
 
 // Session 0 is opened by an administrator, sends a frame of 34 bytes and is closed.
 const ANN: [u8; 44] = [
@@ -14,25 +17,56 @@ const REPLY: [u8; 51] = [
     0, 0, 0, 2, 0, 0, 0, 1, 0, 0, 0, 1, 123, 34, 110, 111, 34, 58, 49, 125,
 ];
 
-/// The second line opens no session.
-const BAD_ROLE: &[u8] = b"2 open router r1\n0 open admin x\n2 close\n";
+// What is said of a fault, and nothing where there is none.
+fn words_of(alloc: Global, fault: Option<TraceFault>) -> Result<String, AllocError> {
+    match fault {
+        Some(fault) => fault.text(alloc),
+        None => Ok(String::new(alloc)),
+    }
+}
 
-#[test]
-fn a_text_is_traced(rt: HostRuntime) -> Result<(), Fail> {
-    let text = b"# ann\n0 open admin\r\n0 7 CreateIdentity {\"name\":\"ann\"}\n\n0 close\n";
-    let traced = trace(rt.alloc(), text)?;
-    assert_eq!(rt; traced.fault, None);
-    assert_eq!(rt; traced.bytes.as_slice(), ANN.as_slice());
+// A text says the records with these bytes, up to a line of which that is said.
+fn says(
+    rt: &impl Abort,
+    alloc: Global,
+    text: &[u8],
+    bytes: &[u8],
+    words: &str,
+) -> Result<(), Fail> {
+    let traced = trace(alloc, text)?;
+    assert_eq!(rt; traced.bytes.as_slice(), bytes);
+    let found = words_of(alloc, traced.fault)?;
+    assert_eq!(rt; found.as_str(), words);
     Ok(())
 }
 
 #[test]
-fn the_records_before_a_fault_are_traced(rt: HostRuntime) -> Result<(), Fail> {
-    let traced = trace(rt.alloc(), BAD_ROLE)?;
-    assert_eq!(rt; traced.bytes.as_slice(), [1, 2, 1, 2, 114, 49].as_slice());
-    let fault = traced.fault.ok_or("the second line has a fault")?;
-    let words = fault.text(rt.alloc())?;
-    assert_eq!(rt; words.as_str(), "line 2: bad role");
+fn texts_say_traces(rt: HostRuntime) -> Result<(), Fail> {
+    let rows = [
+        (
+            b"# ann\n0 open admin\r\n0 7 CreateIdentity {\"name\":\"ann\"}\n\n0 close\n".as_slice(),
+            ANN.as_slice(),
+            "",
+        ),
+        (
+            b"2 open router r1\n0 open admin x\n2 close\n".as_slice(),
+            b"\x01\x02\x01\x02r1".as_slice(),
+            "line 2: bad role",
+        ),
+        (
+            b"7 open identity ann\n7 close\n7 Hello\n".as_slice(),
+            b"\x01\x07\x02\x03ann\x03\x07".as_slice(),
+            "line 3: session not open",
+        ),
+        (
+            b"7 open admin\n7 Helo\n".as_slice(),
+            b"\x01\x07\0\0".as_slice(),
+            "line 2: unknown type",
+        ),
+    ];
+    for (text, bytes, words) in rows {
+        says(&rt, rt.alloc(), text, bytes, words)?;
+    }
     Ok(())
 }
 
@@ -41,7 +75,6 @@ fn a_long_frame_is_cut_into_pieces(rt: HostRuntime) -> Result<(), Fail> {
     let mut text = b"0 open admin\n0 Hello ".to_vec(rt.alloc())?;
     text.resize(text.len() + 65_520, b'x')?;
     let traced = trace(rt.alloc(), text.as_slice())?;
-    assert_eq!(rt; traced.fault, None);
     let bytes = traced.bytes.as_slice();
     assert_eq!(rt; bytes.len(), 4 + 4 + 65_535 + 4 + 5);
     assert_eq!(rt; &bytes[4..8], [2, 0, 255, 255].as_slice());
@@ -52,38 +85,42 @@ fn a_long_frame_is_cut_into_pieces(rt: HostRuntime) -> Result<(), Fail> {
     Ok(())
 }
 
-#[test]
-fn the_first_line_at_fault_is_told(rt: HostRuntime) -> Result<(), Fail> {
-    let not_open = b"7 open identity ann\n7 close\n7 Hello\n".as_slice();
-    let unknown = b"7 open admin\n7 Helo\n".as_slice();
-    let rows = [
-        (BAD_ROLE, 2, TraceCause::BadRole),
-        (not_open, 3, TraceCause::NotOpen),
-        (unknown, 2, TraceCause::NoFrame(LineCause::UnknownType)),
-    ];
-    for (text, line, cause) in rows {
-        let traced = trace(rt.alloc(), text)?;
-        assert_eq!(rt; traced.fault, Some(TraceFault { line, cause }));
+fn reply_words_of(alloc: Global, fault: Option<ReplyFault>) -> Result<String, AllocError> {
+    match fault {
+        Some(fault) => fault.text(alloc),
+        None => Ok(String::new(alloc)),
     }
+}
+
+// Two stretches of bytes are told by this text, up to a reply of which that is said.
+fn tells(
+    rt: &impl Abort,
+    alloc: Global,
+    parts: [&[u8]; 2],
+    text: &str,
+    words: &str,
+) -> Result<(), Fail> {
+    let mut bytes = Vec::from_slice(alloc, parts[0])?;
+    bytes.extend_from_slice(parts[1])?;
+    let told = tell_replies(alloc, bytes.as_slice())?;
+    assert_eq!(rt; told.text.as_slice(), text.as_bytes());
+    let found = reply_words_of(alloc, told.fault)?;
+    assert_eq!(rt; found.as_str(), words);
     Ok(())
 }
 
 #[test]
 fn tagged_replies_are_told(rt: HostRuntime) -> Result<(), Fail> {
-    let mut bytes = REPLY.to_vec(rt.alloc())?;
-    bytes.extend_from_slice(&REPLY[..50])?;
-    let told = tell_replies(rt.alloc(), bytes.as_slice())?;
-    assert_eq!(rt; told.text.as_slice(), b"3 7 ok {\"no\":1}\n".as_slice());
-    let fault = told.fault.ok_or("the second reply is cut")?;
-    let words = fault.text(rt.alloc())?;
-    assert_eq!(rt; words.as_str(), "frame 2: unfinished at 51");
-    Ok(())
-}
-
-#[test]
-fn a_frame_without_a_tag_is_a_fault(rt: HostRuntime) -> Result<(), Fail> {
-    let told = tell_replies(rt.alloc(), &REPLY[2..])?;
-    assert_eq!(rt; told.text.len(), 0);
-    assert_eq!(rt; told.fault, Some(ReplyFault::NoTag(1, 0)));
+    let rows = [
+        (
+            [REPLY.as_slice(), &REPLY[..50]],
+            "3 7 ok {\"no\":1}\n",
+            "frame 2: unfinished at 51",
+        ),
+        ([&REPLY[2..], b"".as_slice()], "", "frame 1: no tag at 0"),
+    ];
+    for (parts, text, words) in rows {
+        tells(&rt, rt.alloc(), parts, text, words)?;
+    }
     Ok(())
 }

@@ -37,19 +37,9 @@ fn answers(rt: &impl Abort, alloc: Global, desk: &mut MemDesk, rows: &[Row]) -> 
 }
 
 #[test]
-fn compacts_into_the_other_slot(rt: HostRuntime) -> Result<(), Fail> {
-    let alloc = rt.alloc();
-    let mut desk = desk_with(alloc, &[ANN_KEPT], &[])?;
-    answers(&rt, alloc, &mut desk, &[COMPACTED])?;
-    let slot = slot_of(alloc, &[ANN_KEPT])?;
-    has_parts(&rt, &desk, [b"", slot.as_slice(), SECOND]);
-    Ok(())
-}
-
-#[test]
 fn goes_on_in_the_other_slot(rt: HostRuntime) -> Result<(), Fail> {
     let alloc = rt.alloc();
-    let mut desk = desk_with(alloc, &[], &[])?;
+    let mut desk = desk_with(alloc, &[])?;
     answers(
         &rt,
         alloc,

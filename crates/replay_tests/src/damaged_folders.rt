@@ -1,16 +1,15 @@
 //! Folders with a byte changed, cut off or made up: where they are damaged, and to what the others open.
 
-use crate::desks::{desk_of, source_of};
-use crate::folders::{GRANT_KEPT, has_parts, has_slot, has_told, replay, run_word};
+use crate::desks::desk_of;
+use crate::folders::{GRANT_KEPT, has_parts, has_slot, has_told, replay};
 use crate::replays::answers;
 use ctrl_serve::Status;
 use sample_runs::{
-    ANN, ANN_KEPT, ANN_MADE, BOB_KEPT, BOB_MADE, DONE, FIRST, MADE, Row, WEB_KEPT, slot_of,
+    ANN, ANN_KEPT, ANN_MADE, BOB_KEPT, BOB_MADE, DONE, FIRST, Row, WEB_KEPT, slot_of,
 };
 use std::alloc::{AllocError, Global};
 use std::process::Abort;
 use std::test::Fail;
-use ziti_desk::{MemDesk, MemSource};
 
 /// How a byte is changed: it goes up by one, all its bits are turned, or its last one is.
 #[derive(Clone, Copy, Debug)]
@@ -138,7 +137,7 @@ fn note_of(letter: u8) -> &'static str {
 
 // A folder whose first slot has these bytes is damaged where that is noted, or opens, and reads as before. Nothing is said.
 fn check_slot(rt: &impl Abort, alloc: Global, slot: &[u8], noted: &str) -> Result<(), Fail> {
-    let mut desk = desk_of(alloc, [slot, b"", FIRST], &[])?;
+    let mut desk = desk_of(alloc, [slot, b"", FIRST])?;
     let status = replay(alloc, b"", 4_096, &mut desk)?;
     assert_eq!(rt; status == Status::Done, noted.is_empty());
     assert_eq!(rt; status == Status::Damaged, !noted.is_empty());
@@ -182,7 +181,7 @@ fn finds_each_changed_byte(rt: HostRuntime) -> Result<(), Fail> {
 fn check_opened(rt: &impl Abort, alloc: Global, place: usize, row: Row) -> Result<(), Fail> {
     let whole = whole_slot(alloc)?;
     let slot = changed(alloc, whole.as_slice(), place, Change::Rises)?;
-    let mut desk = desk_of(alloc, [slot.as_slice(), b"", FIRST], &[])?;
+    let mut desk = desk_of(alloc, [slot.as_slice(), b"", FIRST])?;
     answers(rt, alloc, &mut desk, 4_096, &[row])
 }
 
@@ -191,22 +190,6 @@ fn opens_to_what_other_bytes_say(rt: HostRuntime) -> Result<(), Fail> {
     for (place, row) in &OPENED {
         check_opened(&rt, rt.alloc(), *place, *row)?;
     }
-    Ok(())
-}
-
-// The second gate is closed, so whatever byte stands behind it the folder opens.
-#[test]
-fn passes_over_what_stands_behind_a_closed_gate(rt: HostRuntime) -> Result<(), Fail> {
-    let whole = whole_slot(rt.alloc())?;
-    let slot = changed(rt.alloc(), whole.as_slice(), 41, Change::Rises)?;
-    check_stretch(
-        &rt,
-        rt.alloc(),
-        slot.as_slice(),
-        42,
-        Change::Turns,
-        &[b'.'; 90],
-    )?;
     Ok(())
 }
 
@@ -235,29 +218,19 @@ fn finds_each_cut(rt: HostRuntime) -> Result<(), Fail> {
     Ok(())
 }
 
-// The source still gives all of ann's frame.
-fn is_untaken(rt: &impl Abort, alloc: Global, source: &mut MemSource) -> Result<(), Fail> {
-    let mut desk = desk_of(alloc, [b"", b"", b""], &[])?;
-    let status = run_word(alloc, "dry", 64, 64, source, &mut desk)?;
-    assert_eq!(rt; status, Status::Done);
-    has_told(rt, &desk, MADE, "");
-    Ok(())
-}
-
-/// A folder is damaged, which is so noted: nothing is taken of the input and nothing said, and it reads as before.
+/// A folder is damaged, which is so noted: nothing is said, and it reads as before.
 pub(crate) fn refuses(
     rt: &impl Abort,
     alloc: Global,
     parts: [&[u8]; 3],
     noted: &str,
 ) -> Result<(), Fail> {
-    let mut desk = desk_of(alloc, parts, &[])?;
-    let mut source = source_of(alloc, [ANN, b""], &[])?;
-    let status = run_word(alloc, "replay", 64, 4_096, &mut source, &mut desk)?;
+    let mut desk = desk_of(alloc, parts)?;
+    let status = replay(alloc, ANN, 4_096, &mut desk)?;
     assert_eq!(rt; status, Status::Damaged);
     has_told(rt, &desk, b"", noted);
     has_parts(rt, &desk, parts);
-    is_untaken(rt, alloc, &mut source)
+    Ok(())
 }
 
 /// What is noted of a slot whose rows are those of no valid state, if it is the second one.
@@ -278,9 +251,6 @@ fn tells_a_wrong_count_in_either_slot(rt: HostRuntime) -> Result<(), Fail> {
     )
 }
 
-/// The first 20 bytes of ann's slot.
-const CUT: &[u8] = b"ZCTL\x01\0\0\0\x01\x1c\0\0\0\x01\x02\x01\x01\x04\0\0";
-
 /// The header, an open gate, and a length of 2^32 - 1.
 const LONGEST: &[u8] = b"ZCTL\x01\0\0\0\x01\xff\xff\xff\xff";
 
@@ -290,8 +260,6 @@ const BOB_GOES: &[u8] = b"\x01\x07\0\0\0\x02\x05\x03\0\0\0\x02";
 #[test]
 fn tells_slots_that_were_made_up(rt: HostRuntime) -> Result<(), Fail> {
     let slot = slot_of(rt.alloc(), &[ANN_KEPT, BOB_GOES])?;
-    refuses(&rt, rt.alloc(), [b"", b"", FIRST], note_of(b'0'))?;
-    refuses(&rt, rt.alloc(), [CUT, b"", FIRST], note_of(b'1'))?;
     refuses(&rt, rt.alloc(), [LONGEST, b"", FIRST], note_of(b'1'))?;
     refuses(
         &rt,
@@ -309,7 +277,7 @@ fn goes_on(
     row: Row,
     after: [&[u8]; 3],
 ) -> Result<(), Fail> {
-    let mut desk = desk_of(alloc, before, &[])?;
+    let mut desk = desk_of(alloc, before)?;
     answers(rt, alloc, &mut desk, 75, &[row])?;
     has_parts(rt, &desk, after);
     Ok(())

@@ -11,13 +11,9 @@ const ROOM: Room = Room {
     log_bytes: 1_048_576,
 };
 
-/// A desk whose folder has these parts, and which fails at these calls, counted from 0.
-pub(crate) fn desk_of(
-    alloc: Global,
-    parts: [&[u8]; 3],
-    failing: &[u32],
-) -> Result<MemDesk, AllocError> {
-    sample_runs::desk_of(alloc, ROOM, parts, failing)
+/// A desk whose folder has these parts.
+pub(crate) fn desk_of(alloc: Global, parts: [&[u8]; 3]) -> Result<MemDesk, AllocError> {
+    sample_runs::desk_of(alloc, ROOM, parts, &[])
 }
 
 /// The source of these bytes in two pieces, which fails at these calls, counted from 0.

@@ -11,17 +11,13 @@ use ziti_desk::{MemDesk, MemSource};
 pub(crate) const GRANT_KEPT: &[u8] =
     b"\x01\x34\0\0\0\x01\x02\x01\x05\x04\0\0\0\x02\0\0\0\x01\x05\x07\0\0\0\x01\x0a\0\0\0\x01p\x01\x01\x01\0\0\x01\0\0\x01\x09\x0c\0\0\0\x01\0\0\0\x01\x04\0\0\0\x01\0\0\0";
 
-/// A desk whose first slot has these records and stands, or, with none, whose folder is empty. It fails at these calls, counted from 0.
-pub(crate) fn desk_with(
-    alloc: Global,
-    records: &[&[u8]],
-    failing: &[u32],
-) -> Result<MemDesk, AllocError> {
+/// A desk whose first slot has these records and stands, or, with none, whose folder is empty.
+pub(crate) fn desk_with(alloc: Global, records: &[&[u8]]) -> Result<MemDesk, AllocError> {
     if records.is_empty() {
-        return desk_of(alloc, [b"", b"", b""], failing);
+        return desk_of(alloc, [b"", b"", b""]);
     }
     let slot = slot_of(alloc, records)?;
-    desk_of(alloc, [slot.as_slice(), b"", FIRST], failing)
+    desk_of(alloc, [slot.as_slice(), b"", FIRST])
 }
 
 /// Runs a word on a source and a desk. So many bytes of the input are used, and a slot may have so many.

@@ -1,5 +1,5 @@
-//! Tests of runs on a folder: what is kept from run to run, where folders are damaged, what failing calls leave, circuits that
-//! go over another path, and a realistic network.
+//! Tests of runs on a folder: what is kept from run to run, where folders are damaged, circuits that go over another path, and a
+//! realistic network.
 #![tactic(auto)]
 
 #[cfg(test)]
@@ -8,8 +8,6 @@ mod compactions;
 mod damaged_folders;
 #[cfg(test)]
 mod desks;
-#[cfg(test)]
-mod failing_disks;
 #[cfg(test)]
 mod folders;
 #[cfg(test)]

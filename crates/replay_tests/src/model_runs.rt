@@ -209,7 +209,7 @@ fn ends_with(rt: &impl Abort, alloc: Global, said: &[u8], sequence: u32) -> Resu
 fn answers_a_realistic_network(rt: HostRuntime) -> Result<(), Fail> {
     let input = model(rt.alloc())?;
     let mut source = source_of(rt.alloc(), [input.as_slice(), b""], &[])?;
-    let mut desk = desk_of(rt.alloc(), [b"", b"", b""], &[])?;
+    let mut desk = desk_of(rt.alloc(), [b"", b"", b""])?;
     let status = run_word(rt.alloc(), "dry", 1_048_576, 64, &mut source, &mut desk)?;
     assert_eq!(rt; status, Status::Done);
     has_replies(&rt, rt.alloc(), desk.said())
@@ -254,7 +254,7 @@ fn shows_model(rt: &impl Abort, alloc: Global, desk: &mut MemDesk) -> Result<(),
 #[test]
 fn keeps_a_realistic_network(rt: HostRuntime) -> Result<(), Fail> {
     let alloc = rt.alloc();
-    let mut desk = desk_of(alloc, [b"", b"", b""], &[])?;
+    let mut desk = desk_of(alloc, [b"", b"", b""])?;
     let input = model(alloc)?;
     keeps_model(&rt, alloc, &mut desk, input.as_slice())?;
     has_replies(&rt, alloc, desk.said())?;

@@ -154,7 +154,7 @@ fn keeps(rt: &impl Abort, alloc: Global, desk: &mut MemDesk, kept: &[&[u8]]) -> 
 
 fn check_keeping(rt: &impl Abort, alloc: Global, keeping: &Keeping) -> Result<(), Fail> {
     let (before, most, rows, after) = *keeping;
-    let mut desk = desk_with(alloc, before, &[])?;
+    let mut desk = desk_with(alloc, before)?;
     answers(rt, alloc, &mut desk, most, rows)?;
     keeps(rt, alloc, &mut desk, after)
 }
@@ -178,7 +178,7 @@ fn ends(rt: &impl Abort, alloc: Global, desk: &mut MemDesk, ending: &Ending) -> 
 }
 
 fn check_ending(rt: &impl Abort, alloc: Global, ending: &Ending) -> Result<(), Fail> {
-    let mut desk = desk_of(alloc, [b"", b"", b""], &[])?;
+    let mut desk = desk_of(alloc, [b"", b"", b""])?;
     ends(rt, alloc, &mut desk, ending)?;
     keeps(rt, alloc, &mut desk, &[ANN_KEPT])
 }

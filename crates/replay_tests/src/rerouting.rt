@@ -52,7 +52,7 @@ const STEPS: [Step; 5] = [
 // A desk whose folder keeps the circuit on the line, and the dear link.
 fn network(rt: &impl Abort, alloc: Global) -> Result<MemDesk, Fail> {
     let rows = joined(alloc, &[&PAIR, &ENTRY, &LINE, &[OVER_LINE, DEAR_LINK]])?;
-    let mut desk = desk_of(alloc, [b"", b"", b""], &[])?;
+    let mut desk = desk_of(alloc, [b"", b"", b""])?;
     answers(rt, alloc, &mut desk, 4_096, rows.as_slice())?;
     Ok(desk)
 }
@@ -73,7 +73,7 @@ fn with_record(alloc: Global, desk: &MemDesk, record: &[u8]) -> Result<Vec<u8>, 
 fn steps(rt: &impl Abort, alloc: Global, desk: &mut MemDesk, step: &Step) -> Result<(), Fail> {
     let (rows, record) = *step;
     let slot = with_record(alloc, desk, record)?;
-    let mut next = desk_of(alloc, parts_of(desk), &[])?;
+    let mut next = desk_of(alloc, parts_of(desk))?;
     answers(rt, alloc, &mut next, 4_096, rows)?;
     has_slot(rt, &next, slot.as_slice());
     *desk = next;

@@ -61,8 +61,9 @@ const PATHS: [Row; 9] = [
     (1401, r#"{"no":2}"#, UNKNOWN_NUMBER),
 ];
 
-/// A required terminator without a path, a default one that is dear, and a failed one that is cheap.
-const PRECEDENCES: [Row; 9] = [
+/// A required terminator without a path, a default one that is dear, and a failed one that is cheap. The explanation has an entry for
+/// the routers of the first two, to the first of which no path leads.
+const PRECEDENCES: [Row; 10] = [
     (1302, r#"{"no":1}"#, DONE),
     (1020, r#"{"name":"r4"}"#, r#"{"no":4}"#),
     (
@@ -81,6 +82,11 @@ const PRECEDENCES: [Row; 9] = [
         r#"{"no":4}"#,
     ),
     (1023, r#"{"name":"r4"}"#, DONE),
+    (
+        1402,
+        ASK,
+        r#"{"ingress":"r1","links":[1,2],"potentials":[{"router":3,"values":[42,21,0,null]},{"router":4,"values":[null,null,null,0]}],"routers":[1,2,3,4],"terminator":3,"total":542}"#,
+    ),
     (
         1400,
         ASK,

@@ -214,6 +214,27 @@ const BODIES: [Row; 6] = [
     ),
 ];
 
+/// Bodies that make no router, by what is no whole number from 0 to 65,535 and by what is no truth value; and as many roles as may be sent.
+const VALUES: [Row; 7] = [
+    (1020, r#"{"name":"r1","cost":1.0}"#, NO_COST),
+    (1020, r#"{"name":"r1","cost":1e3}"#, NO_COST),
+    (1020, r#"{"name":"r1","cost":-1}"#, NO_COST),
+    (1020, r#"{"name":"r1","cost":65536}"#, NO_COST),
+    (1020, r#"{"name":"r1","cost":null}"#, NO_COST),
+    (
+        1020,
+        r#"{"name":"r1","no_traversal":0}"#,
+        r#"{"code":11,"field":"no_traversal","name":"BadBody","reason":"WrongKind"}"#,
+    ),
+    (
+        1100,
+        r##"{"name":"p","type":"Bind","semantic":"AllOf","identity_roles":["#a1","#a2","#a3","#a4","#a5","#a6","#a7","#a8","#a9","#a10","#a11","#a12","#a13","#a14","#a15","#a16","#a17","#a18","#a19","#a20","#a21","#a22","#a23","#a24","#a25","#a26","#a27","#a28","#a29","#a30","#a31","#a32","#a33","#a34","#a35","#a36","#a37","#a38","#a39","#a40","#a41","#a42","#a43","#a44","#a45","#a46","#a47","#a48","#a49","#a50","#a51","#a52","#a53","#a54","#a55","#a56","#a57","#a58","#a59","#a60","#a61","#a62","#a63","#a64"],"service_roles":["@web"]}"##,
+        r#"{"code":23,"field":"service_roles","name":"UnknownRef","ref":"web"}"#,
+    ),
+];
+
+const NO_COST: &str = r#"{"code":11,"field":"cost","name":"BadBody","reason":"WrongKind"}"#;
+
 /// How many identities there may be.
 const MOST_IDENTITIES: u32 = 2_048;
 
@@ -356,7 +377,7 @@ fn answers_commands_on_policies(rt: HostRuntime) -> Result<(), Fail> {
 
 #[test]
 fn makes_identities_up_to_the_limits(rt: HostRuntime) -> Result<(), Fail> {
-    check_tables(&rt, rt.alloc(), &[&BODIES])?;
+    check_tables(&rt, rt.alloc(), &[&BODIES, &VALUES])?;
     let frames = crowd(rt.alloc())?;
     let wanted = numbered(rt.alloc())?;
     check_frames(&rt, rt.alloc(), &frames, &wanted)

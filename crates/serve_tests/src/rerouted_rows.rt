@@ -217,6 +217,18 @@ const ENDS_GONE: [Row; 9] = [
     ),
 ];
 
+/// A circuit goes with its service, and so does the terminator.
+const SERVICE_GONE: [Row; 4] = [
+    OVER_LINE,
+    (1012, r#"{"name":"web"}"#, DONE),
+    GONE,
+    (
+        1502,
+        "{}",
+        r#"{"circuits":0,"grants":1,"identities":1,"links":2,"policies":3,"routers":3,"services":0,"terminators":0}"#,
+    ),
+];
+
 /// Two circuits of one path move together.
 const TWO_TOGETHER: [Row; 7] = [
     OVER_LINE,
@@ -265,6 +277,7 @@ fn ends_where_no_path_is_left(rt: HostRuntime) -> Result<(), Fail> {
         INGRESS_OFF.as_slice(),
         LINE_OFF.as_slice(),
         ENDS_GONE.as_slice(),
+        SERVICE_GONE.as_slice(),
     ] {
         check_tables(&rt, rt.alloc(), &[&PAIR, &ENTRY, &LINE, table])?;
     }

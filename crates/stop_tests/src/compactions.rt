@@ -5,11 +5,8 @@ use crate::folders::{
     AMPLE, ANN_FOLDER, ANN_SLOT, BARE_SLOT, BOTH_SLOT, Ended, SECOND, SILENT, THIRD, answers,
     has_parts, ran, run_input,
 };
-use crate::frames::ANN_EXISTS;
 use ctrl_serve::Status;
-use sample_runs::{
-    ANN_KEPT, ANN_MADE, BOB_KEPT, BOB_MADE, FIRST, Row, WEB_KEPT, parts_of, slot_of,
-};
+use sample_runs::{ANN_KEPT, BOB_KEPT, BOB_MADE, FIRST, Row, WEB_KEPT, parts_of, slot_of};
 use std::alloc::Global;
 use std::process::Abort;
 use std::test::Fail;
@@ -68,15 +65,6 @@ fn puts_the_rows_in_the_other_slot(rt: HostRuntime) -> Result<(), Fail> {
     Ok(())
 }
 
-// A folder of two records becomes one of one record.
-#[test]
-fn puts_all_rows_in_one_record(rt: HostRuntime) -> Result<(), Fail> {
-    let slot = slot_of(rt.alloc(), &[ANN_KEPT, BOB_KEPT])?;
-    let before = [slot.as_slice(), b"".as_slice(), FIRST];
-    let after = [b"".as_slice(), BOTH_SLOT, SECOND];
-    compacts(&rt, rt.alloc(), before, (64, 2), SILENT, after)
-}
-
 /// The ends of a compaction for which a slot has no room, and the mark.
 const SLOT_FULL: Ended<'static> = (Status::FolderFull, b"", "zitictl: journal full\n");
 
@@ -123,6 +111,9 @@ fn tells_a_full_slot(rt: HostRuntime) -> Result<(), Fail> {
 const BOTH_SLOT_AND_WEB: &[u8] =
     b"ZCTL\x01\0\0\0\x01\x48\0\0\0\x01\x02\x01\x01\x04\0\0\0\x03\0\0\0\x01\x02\x01\x02\x04\0\0\0\x02\0\0\0\x01\x05\x03\0\0\0\x01\x05\0\0\0\x03ann\0\x01\x05\x03\0\0\0\x02\x05\0\0\0\x03bob\0\x01\x05\x04\0\0\0\x01\x05\0\0\0\x03web\0\0";
 
+/// A second request to create ann.
+const ANN_EXISTS: Row = (1000, r#"{"name":"ann"}"#, r#"{"code":20,"name":"Exists"}"#);
+
 /// What a folder is asked, and what it answers, whether or not it was compacted.
 const ASKED: [Row; 5] = [
     ANN_EXISTS,
@@ -163,14 +154,6 @@ fn goes_on_with_the_same_replies(rt: HostRuntime) -> Result<(), Fail> {
     goes_on_behind(&rt, rt.alloc(), 0, ANN_FOLDER)?;
     goes_on_behind(&rt, rt.alloc(), 1, [b"", ANN_SLOT, SECOND])?;
     goes_on_behind(&rt, rt.alloc(), 2, [ANN_SLOT, b"", THIRD])
-}
-
-// Ann is made in an empty folder that was compacted, whose second slot stands.
-#[test]
-fn goes_on_from_nothing(rt: HostRuntime) -> Result<(), Fail> {
-    let desk = answers(&rt, rt.alloc(), [b"", BARE_SLOT, SECOND], &[ANN_MADE])?;
-    has_parts(&rt, &desk, [b"", ANN_SLOT, SECOND]);
-    Ok(())
 }
 
 // A folder that is damaged is not compacted, which is noted.

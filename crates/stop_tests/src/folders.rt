@@ -30,12 +30,15 @@ pub(crate) const ANN_FOLDER: [&[u8]; 3] = [ANN_SLOT, b"", FIRST];
 /// How many bytes a slot and the mark may have, where neither bound is met.
 pub(crate) const AMPLE: (u64, u64) = (2_048, 8);
 
-/// The lines of folders that keep nothing, and ann alone.
+/// The lines of folders that keep nothing, ann alone, and both identities.
 pub(crate) const NOTHING: &[u8] =
     b"{\"circuits\":0,\"grants\":0,\"identities\":0,\"links\":0,\"policies\":0,\"routers\":0,\"services\":0,\"terminators\":0}\n";
 
 pub(crate) const ANN_ALONE: &[u8] =
     b"{\"circuits\":0,\"grants\":0,\"identities\":1,\"links\":0,\"policies\":0,\"routers\":0,\"services\":0,\"terminators\":0}\n";
+
+pub(crate) const BOTH: &[u8] =
+    b"{\"circuits\":0,\"grants\":0,\"identities\":2,\"links\":0,\"policies\":0,\"routers\":0,\"services\":0,\"terminators\":0}\n";
 
 /// How a run ends: its status, what is said, and what is noted.
 pub(crate) type Ended<'b> = (Status, &'b [u8], &'b str);
@@ -100,13 +103,6 @@ pub(crate) fn has_told(rt: &impl Abort, desk: &MemDesk, said: &[u8], noted: &str
     assert_eq!(rt; desk.noted(), noted.as_bytes());
 }
 
-// A run ended so.
-fn has_ended(rt: &impl Abort, desk: &MemDesk, status: Status, ended: Ended<'_>) {
-    let (wanted, said, noted) = ended;
-    assert_eq!(rt; status, wanted);
-    has_told(rt, desk, said, noted);
-}
-
 /// Runs words on an input and a folder of these parts, of which a slot may have so many bytes, and the mark so many. It ends so.
 /// Answers the desk.
 pub(crate) fn ran(
@@ -120,7 +116,9 @@ pub(crate) fn ran(
 ) -> Result<MemDesk, Fail> {
     let mut desk = desk_of(alloc, parts, &[])?;
     let status = run_input(alloc, words, input, most, &mut desk)?;
-    has_ended(rt, &desk, status, ended);
+    let (wanted, said, noted) = ended;
+    assert_eq!(rt; status, wanted);
+    has_told(rt, &desk, said, noted);
     Ok(desk)
 }
 
@@ -145,23 +143,15 @@ pub(crate) fn answers(
     )
 }
 
-/// The line of a folder that keeps so many identities and nothing else.
-fn identities_line(alloc: Global, identities: usize) -> Result<String, AllocError> {
-    format!(in alloc;
-        "{{\"circuits\":0,\"grants\":0,\"identities\":{identities},\"links\":0,\"policies\":0,\"routers\":0,\"services\":0,\"terminators\":0}}\n"
-    )
-}
-
 // How many identities are counted by what was said, from none to two.
-fn counted(rt: &impl Abort, alloc: Global, said: &[u8]) -> Result<usize, Fail> {
-    for count in 0usize..3 {
-        let line = identities_line(alloc, count)?;
-        if said == line.as_bytes() {
-            return Ok(count);
+fn counted(rt: &impl Abort, said: &[u8]) -> usize {
+    for (count, line) in [(0usize, NOTHING), (1, ANN_ALONE), (2, BOTH)] {
+        if said == line {
+            return count;
         }
     }
     assert!(rt; false, "other counts");
-    Ok(0)
+    0
 }
 
 /// How many identities a folder of these parts keeps, from none to two, and nothing else. It is not damaged.
@@ -174,7 +164,7 @@ pub(crate) fn identities_in(
     let status = audit(alloc, &mut desk)?;
     assert_eq!(rt; status, Status::Done);
     assert_eq!(rt; desk.noted().len(), 0);
-    counted(rt, alloc, desk.said())
+    Ok(counted(rt, desk.said()))
 }
 
 // The slot that stands, by the length of the mark.

@@ -12,8 +12,6 @@ mod failing_calls;
 #[cfg(test)]
 mod folders;
 #[cfg(test)]
-mod frames;
-#[cfg(test)]
 mod hostile;
 #[cfg(test)]
 mod rerouting;

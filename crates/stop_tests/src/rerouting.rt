@@ -2,7 +2,6 @@
 
 use crate::desks::{EMPTY, desk_of};
 use crate::folders::{AMPLE, SILENT, answers, has_rows, parts_in, ran, run_input};
-use crate::frames::whole_replies;
 use crate::stops::CHOICES;
 use ctrl_serve::Status;
 use sample_runs::{
@@ -20,8 +19,8 @@ const BEFORE: [Row; 2] = [ON_LINE, SECOND_ON_LINK];
 
 const BEHIND: [Row; 2] = [ON_DEAR_LINK, SECOND_GONE];
 
-// A desk whose folder keeps both circuits.
-fn network(rt: &impl Abort, alloc: Global) -> Result<MemDesk, Fail> {
+/// A desk whose folder keeps both circuits.
+pub(crate) fn network(rt: &impl Abort, alloc: Global) -> Result<MemDesk, Fail> {
     let rows = joined(alloc, &[&PAIR, &ENTRY, &LINE, &TWO_CIRCUITS])?;
     answers(rt, alloc, EMPTY, rows.as_slice())
 }
@@ -61,9 +60,10 @@ fn stops_at(
 ) -> Result<bool, Fail> {
     assert!(rt; moment <= desk.moments());
     let (images, taken) = desk.stopped(alloc, moment, choice)?;
-    let answered = whole_replies(rt, alloc, taken.as_slice())?;
+    assert!(rt; desk.said().starts_with(taken.as_slice()));
+    let answered = taken.len() == desk.said().len();
     let behind = is_behind(rt, alloc, parts_in(&images))?;
-    assert!(rt; behind || answered == 0, "{moment}");
+    assert!(rt; behind || !answered, "{moment}");
     assert!(rt; moment > 0 || !behind);
     let [before, after] = slots;
     let slot = if behind { after } else { before };

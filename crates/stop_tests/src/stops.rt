@@ -2,27 +2,51 @@
 
 use crate::desks::EMPTY;
 use crate::folders::{
-    AMPLE, ANN_FOLDER, ANN_SLOT, BOTH_SLOT, SILENT, answers, has_rows, identities_in, parts_in, ran,
+    AMPLE, ANN_FOLDER, BOTH_SLOT, answers, has_rows, identities_in, parts_in, ran,
 };
-use crate::frames::{ANN_EXISTS, whole_replies};
-use sample_runs::{ANN_MADE, BOB_MADE, Row, parts_of};
+use ctrl_serve::Status;
+use sample_runs::{ANN_MADE, BOB_MADE, Row, parts_of, replies, requests};
 use std::alloc::Global;
 use std::process::Abort;
 use std::test::Fail;
 use ziti_desk::MemDesk;
 
-/// The requests of a run on an empty folder, each of which makes an identity, and the slot that has their rows in one record.
-type Trial = (&'static [Row], &'static [u8]);
+/// A run on a folder that keeps ann, both identities or none. Both are there in the end, ann first.
+#[derive(Clone, Copy)]
+struct Trial {
+    words: &'static [&'static str],
+    parts: [&'static [u8]; 3],
+    /// How many identities the folder keeps before the run, and the requests of the run, each of which makes one.
+    kept: usize,
+    rows: &'static [Row],
+}
 
 /// The choices of a stop: of what is pending it keeps nothing, all, or a part.
 pub(crate) const CHOICES: [u64; 3] = [0, 1, 2];
 
-const ANN_ALONE: Trial = (&[ANN_MADE], ANN_SLOT);
+/// Both identities, and how many bytes each of their replies has.
+const BOTH: [Row; 2] = [ANN_MADE, BOB_MADE];
 
-const BOTH: Trial = (&[ANN_MADE, BOB_MADE], BOTH_SLOT);
+const REPLY: usize = 49;
 
-// The folder that a stop leaves keeps as many identities as replies were taken whole, or one more. With the frames that were not
-// stored, which are answered as in the whole run, it has the rows of the whole run.
+/// Both are made on an empty folder.
+const MAKES: Trial = Trial {
+    words: &["replay"],
+    parts: EMPTY,
+    kept: 0,
+    rows: &BOTH,
+};
+
+/// Ann's folder is compacted: the other slot is written and synced, the mark too, and the slot that stood is cut.
+const COMPACTS: Trial = Trial {
+    words: &["compact"],
+    parts: ANN_FOLDER,
+    kept: 1,
+    rows: &[],
+};
+
+// The folder that a stop leaves keeps as many identities as before the run and as replies were taken whole, or one more that the run
+// makes. With those that are not kept, which are answered as in a whole run, it has the rows of both.
 fn goes_on(
     rt: &impl Abort,
     alloc: Global,
@@ -30,14 +54,15 @@ fn goes_on(
     answered: usize,
     trial: &Trial,
 ) -> Result<(), Fail> {
-    let (rows, slot) = *trial;
     let kept = identities_in(rt, alloc, parts)?;
+    let known = trial.kept.saturating_add(answered);
+    let most = trial.kept.saturating_add(trial.rows.len());
     assert!(rt;
-        kept == answered || kept == answered.saturating_add(1),
-        "{answered} {kept}"
+        kept == known || kept == known.saturating_add(1) && kept <= most,
+        "{known} {kept}"
     );
-    let desk = answers(rt, alloc, parts, rows.get(kept..).unwrap_or(&[]))?;
-    has_rows(rt, alloc, parts_of(&desk), slot)
+    let desk = answers(rt, alloc, parts, BOTH.get(kept..).unwrap_or(&[]))?;
+    has_rows(rt, alloc, parts_of(&desk), BOTH_SLOT)
 }
 
 // What is said up to a stop is a front of what the whole run says.
@@ -52,7 +77,7 @@ fn stops_at(
     assert!(rt; moment <= desk.moments());
     let (images, taken) = desk.stopped(alloc, moment, choice)?;
     assert!(rt; desk.said().starts_with(taken.as_slice()));
-    let answered = whole_replies(rt, alloc, taken.as_slice())?;
+    let answered = taken.len() / REPLY;
     goes_on(rt, alloc, parts_in(&images), answered, trial)
 }
 
@@ -69,11 +94,26 @@ fn stops_by(
     Ok(())
 }
 
+// The whole run.
+fn runs(rt: &impl Abort, alloc: Global, trial: &Trial) -> Result<MemDesk, Fail> {
+    let input = requests(alloc, trial.rows)?;
+    let said = replies(alloc, trial.rows)?;
+    let ended = (Status::Done, said.as_slice(), "");
+    ran(
+        rt,
+        alloc,
+        trial.words,
+        input.as_slice(),
+        trial.parts,
+        AMPLE,
+        ended,
+    )
+}
+
 // Makes a run and stops it at each moment, by each choice: each record takes two writes and two syncs, and each reply one say.
-fn check_trial(rt: &impl Abort, alloc: Global, trial: &Trial) -> Result<(), Fail> {
-    let (rows, _) = *trial;
-    let desk = answers(rt, alloc, EMPTY, rows)?;
-    assert!(rt; desk.moments() >= rows.len().saturating_mul(5) as u64);
+fn check_trial(rt: &impl Abort, alloc: Global, trial: &Trial, least: u64) -> Result<(), Fail> {
+    let desk = runs(rt, alloc, trial)?;
+    assert!(rt; desk.moments() >= least);
     for choice in CHOICES {
         stops_by(rt, alloc, &desk, choice, trial)?;
     }
@@ -81,61 +121,11 @@ fn check_trial(rt: &impl Abort, alloc: Global, trial: &Trial) -> Result<(), Fail
 }
 
 #[test]
-fn keeps_ann_whatever_is_kept_of_what_is_pending(rt: HostRuntime) -> Result<(), Fail> {
-    check_trial(&rt, rt.alloc(), &ANN_ALONE)
-}
-
-#[test]
 fn keeps_both_whatever_is_kept_of_what_is_pending(rt: HostRuntime) -> Result<(), Fail> {
-    check_trial(&rt, rt.alloc(), &BOTH)
-}
-
-// The folder that a stop of a compaction leaves keeps ann, answers as before, and has ann's rows.
-fn still_keeps_ann(rt: &impl Abort, alloc: Global, parts: [&[u8]; 3]) -> Result<(), Fail> {
-    let kept = identities_in(rt, alloc, parts)?;
-    assert_eq!(rt; kept, 1);
-    has_rows(rt, alloc, parts, ANN_SLOT)?;
-    let desk = answers(rt, alloc, parts, &[ANN_EXISTS, BOB_MADE])?;
-    has_rows(rt, alloc, parts_of(&desk), BOTH_SLOT)
-}
-
-fn stops_compacting_at(
-    rt: &impl Abort,
-    alloc: Global,
-    desk: &MemDesk,
-    moment: u64,
-    choice: u64,
-) -> Result<(), Fail> {
-    assert!(rt; moment <= desk.moments());
-    let (images, taken) = desk.stopped(alloc, moment, choice)?;
-    assert!(rt; taken.is_empty());
-    still_keeps_ann(rt, alloc, parts_in(&images))
-}
-
-fn stops_compacting_by(
-    rt: &impl Abort,
-    alloc: Global,
-    desk: &MemDesk,
-    choice: u64,
-) -> Result<(), Fail> {
-    for moment in 0u64..desk.moments().saturating_add(1) {
-        stops_compacting_at(rt, alloc, desk, moment, choice)?;
-    }
-    Ok(())
-}
-
-// Compacts ann's folder and stops that at each moment, by each choice: the other slot is written and synced, the mark too, and the slot
-// that stood is cut.
-fn check_compaction(rt: &impl Abort, alloc: Global) -> Result<(), Fail> {
-    let desk = ran(rt, alloc, &["compact"], b"", ANN_FOLDER, AMPLE, SILENT)?;
-    assert!(rt; desk.moments() >= 5);
-    for choice in CHOICES {
-        stops_compacting_by(rt, alloc, &desk, choice)?;
-    }
-    Ok(())
+    check_trial(&rt, rt.alloc(), &MAKES, 10)
 }
 
 #[test]
 fn compacts_whatever_is_kept_of_what_is_pending(rt: HostRuntime) -> Result<(), Fail> {
-    check_compaction(&rt, rt.alloc())
+    check_trial(&rt, rt.alloc(), &COMPACTS, 5)
 }

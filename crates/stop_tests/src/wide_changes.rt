@@ -2,7 +2,6 @@
 
 use crate::desks::wide_desk;
 use crate::folders::{audit, run_words};
-use crate::frames::whole_replies;
 use ctrl_serve::Status;
 use sample_runs::{FIRST, HEADER, Row, replies, requests, source_of};
 use std::alloc::{AllocError, Global};
@@ -144,9 +143,10 @@ fn finds(
 ) -> Result<(), Fail> {
     assert!(rt; moment <= desk.moments());
     let (images, taken) = desk.stopped(alloc, moment, choice)?;
-    let answered = whole_replies(rt, alloc, taken.as_slice())?;
+    assert!(rt; desk.said().starts_with(taken.as_slice()));
+    let answered = taken.len() == desk.said().len();
     let all = has_all(rt, alloc, &images, last)?;
-    assert!(rt; all || answered == 0, "{moment}");
+    assert!(rt; all || !answered, "{moment}");
     assert!(rt; moment > 0 || !all);
     *last = Found { images, all };
     Ok(())

@@ -1,20 +1,12 @@
-//! Tests of the stores: entities, policies, counted pairs and terminators, what is shown of them, and commands on links and terminators,
-//! planned and applied.
+//! Tests of the stores where no run of the other crates of tests makes the call: their copies, lists of numbers, and a request where
+//! circuits are full. What a run asks of them is shown by its replies.
 #![tactic(auto)]
 
 #[cfg(test)]
-mod counted_pairs;
+mod copies;
 #[cfg(test)]
-mod entities;
+mod decisions;
 #[cfg(test)]
-mod linking;
+mod lines;
 #[cfg(test)]
-mod making;
-#[cfg(test)]
-mod offering;
-#[cfg(test)]
-mod offers;
-#[cfg(test)]
-mod policies;
-#[cfg(test)]
-mod shown_counts;
+mod numbers;

@@ -1,9 +1,10 @@
-//! A request along the row of three routers: it is decided and explained over one view.
+//! A request where there may be no more circuits: it is denied for that where there is a path, and else for want of one.
 
-use crate::decisions::decides;
-use crate::explanations::explains;
-use crate::lines::{asked, granted, line, offered, router};
-use circuit_rules::{Ask, View};
+ghost use Rattle.fabric_graph.specs.Routers.{AreRouters};
+
+use crate::lines::{asked, closed, granted, line, offered, router};
+use circuit_rules::{Ask, DecideFault, View, decide};
+use ctrl_model::Denial;
 use fabric_graph::Fabric;
 use grant_denorm::Counted;
 use std::alloc::Global;
@@ -11,7 +12,21 @@ use std::process::Abort;
 use std::test::Fail;
 use terminators::Terminators;
 
-fn answers(
+fn is_denied(
+    rt: &impl Abort,
+    alloc: Global,
+    view: &View,
+    ask: &Ask,
+    denial: Denial,
+) -> Result<(), Fail>
+    requires { AreRouters view.now.routers.now }
+{
+    let denied = decide(alloc, view, ask).err();
+    assert_eq!(rt; denied, Some(DecideFault::Denied(denial)));
+    Ok(())
+}
+
+fn denies(
     rt: &impl Abort,
     alloc: Global,
     grants: &Counted,
@@ -19,7 +34,7 @@ fn answers(
     terminators: &Terminators,
     ask: &Ask,
 ) -> Result<(), Fail> {
-    let view = View {
+    let full = View {
         dial: grants,
         bind: grants,
         identity_router: grants,
@@ -27,10 +42,14 @@ fn answers(
         routers: &[router(1, 0), router(2, 0), router(3, 0)],
         fabric,
         terminators,
-        circuits_full: false,
+        circuits_full: true,
     };
-    decides(rt, alloc, &view, ask)?;
-    explains(rt, alloc, &view, ask)
+    is_denied(rt, alloc, &full, ask, Denial::CircuitsFull)?;
+    let cut = View {
+        routers: &[router(1, 0), closed(2), router(3, 0)],
+        ..full
+    };
+    is_denied(rt, alloc, &cut, ask, Denial::NoPath)
 }
 
 // Each function owns one value, and lends it to the next.
@@ -42,7 +61,7 @@ fn with_request(
     terminators: &Terminators,
 ) -> Result<(), Fail> {
     let ask = asked(alloc)?;
-    answers(rt, alloc, grants, fabric, terminators, &ask)
+    denies(rt, alloc, grants, fabric, terminators, &ask)
 }
 
 fn with_offers(
@@ -61,7 +80,7 @@ fn with_links(rt: &impl Abort, alloc: Global, grants: &Counted) -> Result<(), Fa
 }
 
 #[test]
-fn answers_along_a_row(rt: HostRuntime) -> Result<(), Fail> {
+fn denies_where_circuits_are_full(rt: HostRuntime) -> Result<(), Fail> {
     let grants = granted(rt.alloc())?;
     with_links(&rt, rt.alloc(), &grants)
 }
