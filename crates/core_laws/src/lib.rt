@@ -6,5 +6,5 @@ mod worked_settling;
 
 pub use worked::{worked_changes, worked_starts};
 pub use worked_settling::{
-    circuits_that_are_looked_at, granted_circuits, kept_loads, what_settles, where_loads_change,
+    circuits_that_go, granted_circuits, kept_loads, what_settles, where_loads_change,
 };

@@ -1,4 +1,4 @@
-ghost use Rattle.std.specs.Prelude.{◌≡◌, ℕ, ◌||◌, true, false, is_some, IfOk, IsErrOf, OnErr};
+ghost use Rattle.std.specs.Prelude.{◌≡◌, ℕ, ◌||◌, true, false, is_some, IfOk, IsErrOf, OnOk, OnErr};
 ghost use Rattle.ctrl_model.specs.State.{start};
 ghost use Rattle.ctrl_model.specs.CommandForm.{is_spelled};
 ghost use Rattle.ctrl_model.specs.Controller.{carry};
@@ -13,12 +13,12 @@ ghost use Rattle.row_loading.specs.LoadedRows.{AreOfNoState};
 ghost use Rattle.row_loading.specs.RefusedRows.{RefusesRows};
 ghost use Rattle.ctrl_core.specs.Changes.{CanLead, IsStill, LeadsFrom, led};
 
-use crate::applying::carry_out;
+use crate::applying::move_stores;
 use crate::commands::plan_command;
-use crate::completing::completed;
+use crate::completing::{completed, settled_after};
 use crate::loading::load;
 use crate::plans::Planned;
-use core_stores::{Change, Stores, apply_steps};
+use core_stores::{Change, Draft, Stores};
 use ctrl_model::{Command, Relation, Reply};
 use grant_denorm::Counted;
 use row_codec::Batch;
@@ -134,8 +134,31 @@ impl Core {
         } = planned;
         self.live = false;
         self.granted = is_granted_then(self.granted, &change);
-        carry_out(self.alloc, &mut self.stores, change, settled)?;
-        apply_steps(&mut self.stores.grants, &steps)?;
+        move_stores(self.alloc, &mut self.stores, change, settled, &steps)?;
+        self.live = true;
+        Ok(reply)
+    }
+
+    /// Answers a command that some body spells, and moves the state to the next one, as a plan of it that is applied at once. No batch is
+    /// made. Where memory is wanting the core stays, or it is given up.
+    pub fn answer(&mut self, command: &Command) -> Result<Reply, AllocError>
+        requires live { self.old.live ≡ true }
+        requires spelled { is_spelled command.now ≡ true }
+        ensures answered { IfOk result (λ r. (r, self.new.state) ≡ carry command.now self.old.state) }
+        ensures live { OnOk result (self.new.live ≡ true) }
+        ensures valid { ValidState self.old.state }
+        ensures err { OnErr result (self.new.live ≡ true → self.new ≡ self.old) }
+    {
+        let draft = plan_command(self.alloc, &self.stores, command)?;
+        let settled = settled_after(self.alloc, &self.stores, &draft, self.granted)?;
+        let Draft {
+            reply,
+            change,
+            steps,
+        } = draft;
+        self.live = false;
+        self.granted = is_granted_then(self.granted, &change);
+        move_stores(self.alloc, &mut self.stores, change, settled, &steps)?;
         self.live = true;
         Ok(reply)
     }
