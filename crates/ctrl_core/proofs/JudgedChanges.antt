@@ -1,5 +1,5 @@
 -- What is present after a change, as circuits need it, and what becomes of circuits beside it.
-use Rattle.std.proofs.Common.{◌≡◌, ℕ, Bool, true, ◌&&◌, cond, List, [], IfOk, Option, None, option_and_then, Result, Ok, Err, refl, sym, ◌∙◌, ap, subst}
+use Rattle.std.proofs.Common.{◌≡◌, ℕ, Bool, true, ◌&&◌, cond, List, [], IfOk, Option, None, option_and_then, Result, Ok, Err, sym, ◌∙◌, ap, subst}
 use Rattle.std.specs.Option.{option_map_or}
 use Rattle.ctrl_model.specs.declared.kinds.RouterSeen.{RouterSeen}
 use Rattle.ctrl_model.specs.Numbered.{at, numbers}
@@ -29,6 +29,7 @@ use Rattle.circuit_settling.specs.declared.judging.Judged.{Judged}
 use Rattle.circuit_settling.specs.PresentRecords.{network, stays}
 use Rattle.circuit_settling.specs.OtherLinks.{other_links, way_in}
 use Rattle.core_stores.specs.declared.changes.Change.{Change}
+use Rattle.core_stores.specs.declared.settled.Settled.{Settled}
 use Rattle.core_stores.specs.declared.stores.Stores.{Stores}
 use Rattle.core_stores.specs.ChangeParts.{link_part, term_part, circuit_part}
 use Rattle.core_stores.specs.StoredState.{state_of}
@@ -66,14 +67,14 @@ module _ (c : Change) (st : Stores) (g : Fallen) (can : CanSettle st c) (falls :
 
   -- where each circuit stays as it is, the links and the terminators that fall are all that settles
   pub settled_alone : (told : Bool) → told ≡ true → Stands c (state_of st) → StayGranted told (state_of st) (after_change c (state_of st)) → g.circuits ≡ []
-      → AreSettled (after_change c (state_of st)) (record { links = g.links; terminators = g.terminators; lost = []; ended = []; moves = [] })
-  settled_alone told is stands known none = subst (λ s. AreSettled s (record { links = g.links; terminators = g.terminators; lost = []; ended = []; moves = [] })) (sym (parts_after c st can)) (record {
-    links_are = falls_then.links_are;
-    terms_are = falls_then.terms_are;
+      → (out : Settled) → out.links ≡ g.links → out.terminators ≡ g.terminators → out.lost ≡ [] → out.ended ≡ [] → out.moves ≡ [] → AreSettled (after_change c (state_of st)) out
+  settled_alone told is stands known none out links terms lost ended moves = subst (λ s. AreSettled s out) (sym (parts_after c st can)) (record {
+    links_are = links ∙ falls_then.links_are;
+    terms_are = terms ∙ falls_then.terms_are;
     judged = record {
-      lost_are = sym none ∙ going_is true c st g can falls_then stands (subst (λ b. StayGranted b (state_of st) (after_change c (state_of st))) is known);
-      ended_are = refl;
-      moves_are = refl;
+      lost_are = lost ∙ sym none ∙ going_is true c st g can falls_then stands (subst (λ b. StayGranted b (state_of st) (after_change c (state_of st))) is known);
+      ended_are = ended ∙ sym (ap (ended_by (way_in t)) lost);
+      moves_are = moves ∙ sym (ap (moves_by (way_in t)) lost);
     };
   })
 

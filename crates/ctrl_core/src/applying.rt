@@ -100,5 +100,6 @@ pub fn move_stores(
     ensures next { OnOk result (state_of stores.new ≡ led_by after_change change (state_of stores.old)) }
 {
     carry_out(alloc, stores, change, settled)?;
-    apply_steps(&mut stores.grants, steps)
+    apply_steps(&mut stores.grants, steps)?;
+    Ok(())
 }

@@ -4,23 +4,25 @@ ghost use Rattle.ctrl_model.specs.CommandForm.{is_spelled};
 ghost use Rattle.ctrl_model.specs.Controller.{carry};
 ghost use Rattle.ctrl_model.specs.Grants.{count};
 ghost use Rattle.ctrl_model.specs.ValidState.{ValidState};
-ghost use Rattle.model_laws.specs.Plans.{tells_change};
+ghost use Rattle.model_laws.specs.Plans.{CanLeadBy, led_by, tells_change};
 ghost use Rattle.grant_denorm.specs.MovedCounts.{AreCountsOf};
 ghost use Rattle.row_codec.specs.Batches.{batch_between};
 ghost use Rattle.state_building.specs.declared.flaws.Flaw.{Flaw};
 ghost use Rattle.row_loading.specs.declared.faults.CoreFault.TheVariants.{NotAState};
 ghost use Rattle.row_loading.specs.LoadedRows.{AreOfNoState};
 ghost use Rattle.row_loading.specs.RefusedRows.{RefusesRows};
-ghost use Rattle.ctrl_core.specs.Changes.{CanLead, IsStill, LeadsFrom, led};
+ghost use Rattle.core_stores.specs.LeadingSteps.{LeadAllCounts};
+ghost use Rattle.ctrl_core.specs.Changes.{CanChange, CanLead, IsStill, LeadsFrom, NamesSettled, after_change, led};
 
 use crate::applying::move_stores;
 use crate::commands::plan_command;
 use crate::completing::{completed, settled_after};
 use crate::loading::load;
 use crate::plans::Planned;
-use core_stores::{Change, Draft, Stores};
+use core_stores::{Change, Draft, Settled, Stores};
 use ctrl_model::{Command, Relation, Reply};
 use grant_denorm::Counted;
+use policy_store::GrantSteps;
 use row_codec::Batch;
 use row_loading::{CoreFault, read_rows};
 use std::alloc::{AllocError, Global};
@@ -132,11 +134,7 @@ impl Core {
             steps,
             ..
         } = planned;
-        self.live = false;
-        self.granted = is_granted_then(self.granted, &change);
-        move_stores(self.alloc, &mut self.stores, change, settled, &steps)?;
-        self.live = true;
-        Ok(reply)
+        self.go_on(reply, change, settled, &steps)
     }
 
     /// Answers a command that some body spells, and moves the state to the next one, as a plan of it that is applied at once. No batch is
@@ -156,9 +154,30 @@ impl Core {
             change,
             steps,
         } = draft;
+        let reply = self.go_on(reply, change, settled, &steps)?;
+        Ok(reply)
+    }
+
+    // Makes a change that leads to a valid state, if there is one, and answers a reply. After want of memory the core is given up.
+    fn go_on(
+        &mut self,
+        reply: Reply,
+        change: Option<Change>,
+        settled: Settled,
+        steps: &GrantSteps,
+    ) -> Result<Reply, AllocError>
+        requires live { self.old.live ≡ true }
+        requires can { CanLeadBy CanChange change self.old.state }
+        requires valid { ValidState (led_by after_change change self.old.state) }
+        requires settled { NamesSettled change self.old.state settled }
+        requires counts { LeadAllCounts self.old.state (led_by after_change change self.old.state) steps.now }
+        ensures reply { IfOk result (λ r. r ≡ reply) }
+        ensures next { IfOk result (λ r. self.new ≡ record { state = led_by after_change change self.old.state; live = true }) }
+        ensures err { OnErr result (self.new.live ≡ false) }
+    {
         self.live = false;
         self.granted = is_granted_then(self.granted, &change);
-        move_stores(self.alloc, &mut self.stores, change, settled, &steps)?;
+        move_stores(self.alloc, &mut self.stores, change, settled, steps)?;
         self.live = true;
         Ok(reply)
     }

@@ -120,10 +120,9 @@ fn going_after(
     }
     let all = circuits.numbers(alloc)?;
     if pathless.is_empty() {
-        revoked_among(alloc, circuits, present, grants, &all)
-    } else {
-        going_among(alloc, circuits, present, grants, &all)
+        return revoked_among(alloc, circuits, present, grants, &all);
     }
+    going_among(alloc, circuits, present, grants, &all)
 }
 
 // What becomes of the circuits that do not stay as they are, beside what remains and what is granted.
@@ -187,7 +186,11 @@ fn judged(
 
 // What falls with a change by which each circuit stays as it is.
 fn without_circuits(alloc: Global, fallen: Fallen) -> Settled
-    ensures { result ≡ record { links = fallen.links; terminators = fallen.terminators; lost = []; ended = []; moves = [] } }
+    ensures links { result.links ≡ fallen.links }
+    ensures terminators { result.terminators ≡ fallen.terminators }
+    ensures lost { result.lost ≡ [] }
+    ensures ended { result.ended ≡ [] }
+    ensures moves { result.moves ≡ [] }
 {
     Settled {
         links: fallen.links,
