@@ -8,6 +8,7 @@ CREATE_IDENTITY, UPDATE_IDENTITY, DELETE_IDENTITY = 1000, 1001, 1002
 CREATE_SERVICE = 1010
 CREATE_ROUTER, CONNECT_ROUTER = 1020, 1023
 CREATE_SERVICE_POLICY, CREATE_EDGE_ROUTER_POLICY, CREATE_SERVICE_EDGE_ROUTER_POLICY = 1100, 1110, 1120
+DELETE_SERVICE_POLICY = 1102
 CREATE_LINK, REPORT_LATENCY, REPORT_STATE, DELETE_LINK = 1200, 1202, 1203, 1204
 CREATE_TERMINATOR = 1300
 CREATE_CIRCUIT, EXPLAIN, VERIFY_ROUTE = 1400, 1402, 1403
@@ -136,6 +137,29 @@ def ring_moves():
         link = {"link": ("l7", "l200")[i % 2], "router": ("r7", "r200")[i % 2]}
         made += [(REPORT_STATE, {**link, "up": False}), (REPORT_STATE, {**link, "up": True})]
     return made
+
+
+def ring_circuits(count):
+    """Circuits round a ring of 16 routers, to two terminators."""
+    made = network(16, [(i, (i + 1) % 16) for i in range(16)]) + granted() + [terminator(r) for r in (0, 8)]
+    return made + [(CREATE_CIRCUIT, request(i * 5 % 16)) for i in range(count)]
+
+
+def revocation():
+    """2,000 circuits, and then 200 times a policy that grants what another grants too is made and deleted: no circuit ends."""
+    roles = {"type": "Dial", "semantic": "AnyOf", "identity_roles": ["#all"], "service_roles": ["#all"]}
+    return ring_circuits(2000) + [named(CREATE_SERVICE_POLICY, "x", **roles), named(DELETE_SERVICE_POLICY, "x")] * 200
+
+
+def full_table():
+    """16,384 circuits, and then 1,000 changes beside them: an identity with grants and no circuit is made and deleted, a link goes down and up
+    that no circuit needs, and latencies are reported."""
+    changes = []
+    for i in range(200):
+        changes += [named(CREATE_IDENTITY, "guest"), named(DELETE_IDENTITY, "guest")]
+        changes += [(REPORT_STATE, {"link": "spare", "router": "r0", "up": up}) for up in (False, True)]
+        changes += [(REPORT_LATENCY, {"link": "l7", "router": "r7", "latency": i})]
+    return ring_circuits(16_384) + [named(CREATE_LINK, "spare", a="r0", b="r8", cost=60_000)] + changes
 
 
 def explained():

@@ -49,6 +49,8 @@ INPUTS = {
     "mesh_filled": lambda program: networks.mesh_circuits(16_384),
     "mesh_losses": lambda program: networks.mesh_losses(),
     "line_circuits": lambda program: networks.line_circuits(),
+    "revocation": lambda program: networks.revocation(),
+    "full_table": lambda program: networks.full_table(),
     "ring_moves": lambda program: networks.ring_moves(),
     "claims": claims,
     "load": lambda program: None,

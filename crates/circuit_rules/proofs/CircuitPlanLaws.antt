@@ -6,6 +6,7 @@ use Rattle.std.specs.Prelude.{map}
 use Rattle.std.specs.Option.{option_map_or}
 use Rattle.ctrl_model.specs.declared.claims.Explanation.{Explanation}
 use Rattle.ctrl_model.specs.declared.claims.Reach.{Reach}
+use Rattle.ctrl_model.specs.declared.kinds.Kind.TheVariants as kind
 use Rattle.ctrl_model.specs.declared.numbering.IdentityNo.{IdentityNo}
 use Rattle.ctrl_model.specs.declared.numbering.ServiceNo.{ServiceNo}
 use Rattle.ctrl_model.specs.declared.refusals.Denial.{Denial}
@@ -34,6 +35,7 @@ use Rattle.circuit_rules.specs.declared.circuit_parts.Parts.{Parts}
 use Rattle.circuit_rules.specs.CircuitParts.{with_parts, AreGrants}
 use Rattle.circuit_rules.specs.CircuitPlans.{PlansCircuits}
 use Rattle.circuit_rules.specs.PlannedCircuits.{Answers, with_entities, ask_at, router_at, network_in}
+use Rattle.circuit_rules.proofs.StandingGrants.{best_stands}
 
 -- the network of these parts is that of the state
 network_is : (p : Parts) (s : State) → AreGrants p (with_parts p s) → network_of (with_parts p s) ≡ network_in p
@@ -103,7 +105,8 @@ grant_planned p ask r identity service who what g = λ s valid grants.
     (sym (granted_so p ask c s (creates ask S) (λ d. (Refused (Denied d), S)) grants g.passes g.is_best))
     (record {
       reply = refl;
-      can = ((first_rule-none (network_in p) ask).0 g.passes).room;
+      can = (((first_rule-none (network_in p) ask).0 g.passes).room, best_stands S ask c identity.0 service.0 S.terminators.next (valid.kinds kind.Terminator).numbers.ordered who what
+          (ap (λ w. first_rule w ask) (network_is p s grants) ∙ g.passes) (ap (λ w. best w ask) (network_is p s grants) ∙ g.is_best));
       next = λ i. settle (record S {
         circuits = with_new (record {
           identity = unwrap_or (sym who i) 0;

@@ -16,3 +16,4 @@ pub mod PresentLaws
 pub mod CircuitPlanLaws
 pub mod CheckLaws
 pub mod VisitLaws
+pub mod StandingGrants

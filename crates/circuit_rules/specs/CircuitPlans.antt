@@ -1,12 +1,14 @@
 -- What a plan of a command on circuits is. Only private functions and proofs of this crate cite this file.
-use Rattle.std.specs.Prelude.{Bool, true, false, ◌||◌}
+use Rattle.std.specs.Prelude.{◌≡◌, ⊤, Bool, true, false, ◌||◌}
 use Rattle.ctrl_model.specs.declared.commands.Command.{Command}
 use Rattle.ctrl_model.specs.declared.commands.Command.TheVariants as command
 use Rattle.ctrl_model.specs.declared.replies.Reply.{Reply}
+use Rattle.ctrl_model.specs.Settling.{granted_in, stays_in}
 use Rattle.ctrl_model.specs.State.{State}
 use Rattle.model_laws.specs.declared.plans.Plan.{Plan}
 use Rattle.model_laws.specs.Plans.{Plans}
 use Rattle.circuits.specs.declared.changes.CircuitChange.{CircuitChange}
+use Rattle.circuits.specs.declared.changes.CircuitChange.TheVariants as change
 use Rattle.circuits.specs.CircuitChanges.{circuits_of, after_circuit_change, CanChangeCircuits}
 use Rattle.circuit_rules.specs.CircuitParts.{with_circuits}
 
@@ -35,6 +37,16 @@ routed c s = with_circuits (after_circuit_change c (circuits_of s)) s
 abbrev pub CanRoute : CircuitChange → State → Type 0
 CanRoute c s = CanChangeCircuits c (circuits_of s)
 
+-- A circuit that a change adds stands in a state: its identity, its service and its terminator are granted to it there, and its links
+-- are a path.
+abbrev pub StandsIn : CircuitChange → State → Type 0
+StandsIn (change.Add c) s = (granted_in s (0, c) ≡ true) × (stays_in s (0, c) ≡ true)
+StandsIn (change.Remove n) s = ⊤
+
+-- What a planned change has of a state: it can be made there, and a circuit that it adds stands there.
+abbrev pub CanGrant : CircuitChange → State → Type 0
+CanGrant c s = CanRoute c s × StandsIn c s
+
 -- The plan of an answer by a change of circuits.
 abbrev pub PlansCircuits : Plan CircuitChange → Reply × State → State → Type 0
-PlansCircuits p answered s = Plans routed CanRoute p answered s
+PlansCircuits p answered s = Plans routed CanGrant p answered s

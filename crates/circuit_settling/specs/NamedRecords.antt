@@ -1,10 +1,8 @@
 -- What stands before a change, and what settles after it by its numbers (docs/PROMISES.md, "Commands on circuits").
 use Rattle.std.specs.Prelude.{◌≡◌, ℕ, Bool, cond, List, [], ◌∷◌, None, Some}
 use Rattle.ctrl_model.specs.Numbered.{at}
-use Rattle.ctrl_model.specs.Settling.{link_stays, terminator_stays, stays_in}
+use Rattle.ctrl_model.specs.Settling.{link_stays, terminator_stays}
 use Rattle.ctrl_model.specs.State.{State, Router, start}
-use Rattle.circuits.specs.declared.changes.CircuitChange.{CircuitChange}
-use Rattle.circuits.specs.declared.changes.CircuitChange.TheVariants as circuit
 use Rattle.entity_store.specs.declared.changes.EntityChange.{EntityChange}
 use Rattle.entity_store.specs.declared.changes.EntityChange.TheVariants as entity
 use Rattle.fabric_graph.specs.declared.changes.LinkChange.{LinkChange}
@@ -60,8 +58,3 @@ abbrev pub NamesByTerm : TermChange → State → Fallen → Type 0
 NamesByTerm (term.Add e) s g = Names [] (number_unless (terminator_stays s (0, e)) s.terminators.next) [] g
 NamesByTerm (term.Set n cost precedence) s g = Names [] [] [] g
 NamesByTerm (term.Remove n) s g = Names [] [] (circuits_on None [] (n.0 ∷ []) s) g
-
--- What settles after a change of circuits: a new one that does not stay.
-abbrev pub NamesByCircuit : CircuitChange → State → Fallen → Type 0
-NamesByCircuit (circuit.Add c) s g = Names [] [] (number_unless (stays_in s (0, c)) s.circuits.next) g
-NamesByCircuit (circuit.Remove n) s g = Names [] [] [] g

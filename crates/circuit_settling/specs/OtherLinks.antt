@@ -32,6 +32,10 @@ way_beside p g c = cond (granted_beside p g c) (other_links_beside p c) None
 abbrev pub way_at : Present → GrantsAfter → List (ℕ × Circuit) → ℕ → Option (List ℕ)
 way_at p g rows n = option_and_then (way_beside p g) (at rows n)
 
+-- Whether what granted the circuit at a number stands beside what is present, if one is there.
+abbrev pub granted_at : Present → GrantsAfter → List (ℕ × Circuit) → ℕ → Bool
+granted_at p g rows n = option_map_or (granted_beside p g) (at rows n) true
+
 -- Whether a circuit stays as it is beside what is present: what granted it stands, and so does its path.
 abbrev pub keeps_beside : Present → GrantsAfter → Circuit → Bool
 keeps_beside p g c = granted_beside p g c && stays_beside p c

@@ -4,10 +4,10 @@ ghost use Rattle.ctrl_model.specs.declared.kinds.Kind.TheVariants as kind;
 ghost use Rattle.ctrl_model.specs.Numbered.{at, is_present};
 ghost use Rattle.ctrl_model.specs.Settling.{link_stays, terminator_stays, stays_in};
 ghost use Rattle.circuit_settling.specs.FallenRecords.{links_at, links_of, ends_on, circuits_on, circuits_through, marked_circuits};
-ghost use Rattle.circuit_settling.specs.NamedRecords.{state_of, Names, number_unless, marks_of, NamesByEntity, NamesByLink, NamesByTerm, NamesByCircuit};
+ghost use Rattle.circuit_settling.specs.NamedRecords.{state_of, Names, number_unless, marks_of, NamesByEntity, NamesByLink, NamesByTerm};
 
 use crate::alone::would_stay;
-use circuits::{Circuit, CircuitChange, Circuits, Loss};
+use circuits::{Circuit, Circuits, Loss};
 use ctrl_model::{IdentityNo, Kind, LinkNo, Numbers, RouterNo, TermNo};
 use entity_store::{Entities, EntityChange};
 use fabric_graph::{Fabric, FabricAfter, LinkChange, LinkRow};
@@ -367,32 +367,5 @@ pub fn settled_by_term(
         TermChange::Add(term) => settled_with_term(alloc, standing, term),
         TermChange::Set { .. } => Ok(nothing(alloc)),
         TermChange::Remove(no) => settled_without_term(alloc, standing, *no),
-    }
-}
-
-// What settles after a circuit comes: itself, where it does not stay.
-fn settled_with_circuit(
-    alloc: Global,
-    standing: &Standing,
-    circuit: &Circuit,
-) -> Result<Fallen, AllocError>
-    ensures { IfOk result (Names [] [] (number_unless (stays_in (state_of standing.now) (0, circuit.now)) (state_of standing.now).circuits.next)) }
-{
-    let stays = stays_here(alloc, standing, circuit)?;
-    let circuits = number_unless(alloc, stays, standing.circuits.next())?;
-    Ok(circuits_alone(alloc, circuits))
-}
-
-/// What settles after a change of the circuits of a valid state: a new one that does not stay.
-pub fn settled_by_circuit(
-    alloc: Global,
-    standing: &Standing,
-    change: &CircuitChange,
-) -> Result<Fallen, AllocError>
-    ensures { IfOk result (NamesByCircuit change.now (state_of standing.now)) }
-{
-    match change {
-        CircuitChange::Add(circuit) => settled_with_circuit(alloc, standing, circuit),
-        CircuitChange::Remove(_) => Ok(nothing(alloc)),
     }
 }

@@ -18,14 +18,13 @@ mod worked;
 pub use alone::would_stay;
 pub use endings::{what_ends_with_a_change, what_ends_with_nothing};
 pub use falling::{
-    Fallen, Standing, nothing, settled_by_circuit, settled_by_entity, settled_by_link,
-    settled_by_term, stays_here,
+    Fallen, Standing, nothing, settled_by_entity, settled_by_link, settled_by_term, stays_here,
 };
 pub use granting::{GrantsAfter, is_granted};
 pub use judging::{Judged, judge};
 pub use laws::{as_a_state_settles, what_becomes_of_circuits, where_circuits_differ};
 pub use rerouting::{least_path, search_of};
 pub use rows::circuit_changes;
-pub use settling::{going_among, settle};
+pub use settling::{going_among, revoked_among, settle};
 pub use staying::Present;
 pub use worked::{circuits_on_a_line, circuits_that_go_on};

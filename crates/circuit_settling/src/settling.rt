@@ -1,7 +1,7 @@
 ghost use Rattle.std.specs.Prelude.{◌≡◌, not, filter, IfOk};
 ghost use Rattle.circuits.specs.MovedCircuits.{moves_by, ended_by};
 ghost use Rattle.fabric_graph.specs.Routers.{AreRouters, HaveGraph};
-ghost use Rattle.circuit_settling.specs.OtherLinks.{keeps_beside, keeps_at, way_at, going_beside};
+ghost use Rattle.circuit_settling.specs.OtherLinks.{granted_at, keeps_beside, keeps_at, way_at, going_beside};
 
 use crate::granting::{GrantsAfter, is_granted};
 use crate::judging::{Judged, judge};
@@ -70,6 +70,40 @@ pub fn going_among(
 {
     let going = going(alloc, circuits, present, grants, numbers.as_slice())?;
     Ok(Numbers::of(going))
+}
+
+// Whether what granted the circuit stands that will have a number, if one will have it.
+fn will_be_granted(
+    circuits: &CircuitsAfter,
+    present: &Present,
+    grants: &GrantsAfter,
+    no: CircuitNo,
+) -> bool
+    ensures { result ≡ granted_at present.now grants.now circuits.now.circuits.rows no.0 }
+{
+    match circuits.get(no) {
+        Some(circuit) => is_granted(present, grants, &circuit),
+        None => true,
+    }
+}
+
+/// Those of some numbers whose circuit, if one has the number, has lost what granted it. No path is walked.
+pub fn revoked_among(
+    alloc: Global,
+    circuits: &CircuitsAfter,
+    present: &Present,
+    grants: &GrantsAfter,
+    numbers: &Numbers,
+) -> Result<Numbers, AllocError>
+    ensures { IfOk result (λ ns. ns ≡ filter (λ n. not (granted_at present.now grants.now circuits.now.circuits.rows n)) numbers.now) }
+{
+    let revoked = numbers
+        .as_slice()
+        .iter()
+        .copied()
+        .filter(|number| !will_be_granted(circuits, present, grants, CircuitNo(*number)))
+        .collect(alloc)?;
+    Ok(Numbers::of(revoked))
 }
 
 // The numbers of the circuits that do not stay as they are.

@@ -1,4 +1,4 @@
-ghost use Rattle.std.specs.Prelude.{◌≡◌, [], ◌∷◌, codes, true, false, map};
+ghost use Rattle.std.specs.Prelude.{◌≡◌, ◌==◌, [], ◌∷◌, codes, true, false, map};
 ghost use Rattle.ctrl_model.specs.declared.commands.Command.TheVariants.{DeleteCircuit, ReportLatency, ShowCircuit};
 ghost use Rattle.ctrl_model.specs.declared.kinds.Kind.TheVariants as kind;
 ghost use Rattle.ctrl_model.specs.Settling.{granted_in, stays_in};
@@ -7,14 +7,14 @@ ghost use Rattle.model_laws.specs.JudgedCircuits.{AreGranted};
 ghost use Rattle.policy_store.specs.declared.changes.PolicyChange.TheVariants as policy;
 ghost use Rattle.terminators.specs.declared.changes.TermChange.TheVariants as term;
 ghost use Rattle.circuits.specs.declared.changes.CircuitChange.TheVariants as circuit;
-ghost use Rattle.circuits.specs.WorkedCircuits.{now_over, over, two_circuits};
+ghost use Rattle.circuits.specs.WorkedCircuits.{now_over, over};
 ghost use Rattle.circuit_settling.specs.WorkedLines.{unsettled};
 ghost use Rattle.core_stores.specs.declared.changes.Change.TheVariants.{Policy, Terminator, Circuit};
 ghost use Rattle.core_stores.specs.declared.loads.Loads.TheVariants.{Same, More, Any};
 ghost use Rattle.core_stores.specs.OpenCircuits.{CountsBut, CountsOpen, EndThere, loads_after};
 ghost use Rattle.core_stores.specs.SettledNumbers.{SettlesNothing, without_settled};
 ghost use Rattle.core_stores.specs.StoredState.{state_of};
-ghost use Rattle.ctrl_core.specs.SettledParts.{looked_at};
+ghost use Rattle.ctrl_core.specs.SettledParts.{going_after};
 ghost use Rattle.ctrl_core.specs.SettledRecords.{AreSettled};
 ghost use Rattle.core_laws.specs.WorkedSettling.{nothing, counting, with_another_service, without_the_middle, without_the_end};
 
@@ -46,12 +46,13 @@ pub fn circuits_of_another_service()
     ensures first_effect { (after (ReportLatency (codes "l1") (codes "r1") 6 ∷ []) with_another_service).circuits.rows ≡ [] }
 {}
 
-/// Where no grant is known to stand all circuits are looked at; else the new one, or those that fall.
-pub fn circuits_that_are_looked_at()
-    ensures all { looked_at false (Policy (policy.Remove kind.ServicePolicy 1)) [] 3 two_circuits ≡ 1 ∷ 2 ∷ [] }
-    ensures none { looked_at true (Policy (policy.Remove kind.ServicePolicy 1)) [] 3 two_circuits ≡ [] }
-    ensures fallen { looked_at true (Terminator (term.Remove (record { 0 = 1 }))) (2 ∷ []) 3 two_circuits ≡ 2 ∷ [] }
-    ensures fresh { looked_at true (Circuit (circuit.Add (over []))) [] 3 two_circuits ≡ 3 ∷ [] }
+/// Of circuits 1, 2 and 3, where circuit 1 is granted and circuit 2 has its path: where each grant is known to stand those go whose path
+/// is taken; where no path is taken those whose grant is gone; and else those that do not stay.
+pub fn circuits_that_go()
+    ensures pathless { going_after true (2 ∷ []) (1 ∷ 2 ∷ 3 ∷ []) (λ n. n == 1) (λ n. n == 2) ≡ 2 ∷ [] }
+    ensures none { going_after true [] (1 ∷ 2 ∷ 3 ∷ []) (λ n. n == 1) (λ n. n == 2) ≡ [] }
+    ensures revoked { going_after false [] (1 ∷ 2 ∷ 3 ∷ []) (λ n. n == 1) (λ n. n == 2) ≡ 2 ∷ 3 ∷ [] }
+    ensures both { going_after false (3 ∷ []) (1 ∷ 2 ∷ 3 ∷ []) (λ n. n == 1) (λ n. n == 2) ≡ 1 ∷ 3 ∷ [] }
 {}
 
 /// Loads change where a circuit comes, at its terminator, or anywhere where one goes, or where a terminator or a circuit settles.

@@ -1,9 +1,8 @@
 -- What is present after a change, as circuits need it, and what becomes of circuits beside it.
-use Rattle.std.proofs.Common.{◌≡◌, ℕ, Bool, true, ◌&&◌, not, cond, List, [], IfOk, Option, None, option_and_then, Result, Ok, Err, sym, ◌∙◌, ap, subst}
-use Rattle.std.specs.List.{filter}
+use Rattle.std.proofs.Common.{◌≡◌, ℕ, Bool, true, ◌&&◌, cond, List, [], IfOk, Option, None, option_and_then, Result, Ok, Err, sym, ◌∙◌, ap, subst}
 use Rattle.std.specs.Option.{option_map_or}
 use Rattle.ctrl_model.specs.declared.kinds.RouterSeen.{RouterSeen}
-use Rattle.ctrl_model.specs.Numbered.{at}
+use Rattle.ctrl_model.specs.Numbered.{at, numbers}
 use Rattle.ctrl_model.specs.declared.kinds.Relation.TheVariants.{Dial, Bind, IdentityRouter, ServiceRouter}
 use Rattle.ctrl_model.specs.Settling.{circuit_granted, granted_in, settle}
 use Rattle.ctrl_model.specs.State.{State, Circuit}
@@ -30,15 +29,17 @@ use Rattle.circuit_settling.specs.declared.judging.Judged.{Judged}
 use Rattle.circuit_settling.specs.PresentRecords.{network, stays}
 use Rattle.circuit_settling.specs.OtherLinks.{other_links, way_in}
 use Rattle.core_stores.specs.declared.changes.Change.{Change}
+use Rattle.core_stores.specs.declared.settled.Settled.{Settled}
 use Rattle.core_stores.specs.declared.stores.Stores.{Stores}
 use Rattle.core_stores.specs.ChangeParts.{link_part, term_part, circuit_part}
 use Rattle.core_stores.specs.StoredState.{state_of}
 use Rattle.ctrl_core.specs.ChangedStores.{CanSettle}
 use Rattle.ctrl_core.specs.Changes.{after_change}
 use Rattle.ctrl_core.specs.declared.settling.Remaining.{Remaining}
-use Rattle.ctrl_core.specs.SettledParts.{Remains, AreGrantsAfter, StayGranted, looked_at}
-use Rattle.ctrl_core.specs.SettledRecords.{AreJudged, before_circuits}
-use Rattle.ctrl_core.proofs.LookedCircuits.{goes, looked_is}
+use Rattle.ctrl_core.specs.SettledParts.{Remains, AreGrantsAfter, StayGranted, going_after}
+use Rattle.ctrl_core.specs.PlannedCommands.{Stands}
+use Rattle.ctrl_core.specs.SettledRecords.{AreJudged, AreSettled, before_circuits}
+use Rattle.ctrl_core.proofs.LookedCircuits.{going_is, granted_then, keeps_then}
 use Rattle.circuit_settling.proofs.GrantedCircuits.{granted-before}
 use Rattle.ctrl_core.proofs.SettledChanges.{FallAs}
 use Rattle.ctrl_core.proofs.StateParts.{parts_after, state_then, entities_then, links_then, circuits_then, terms_ordered, links_left, terms_left}
@@ -64,6 +65,19 @@ module _ (c : Change) (st : Stores) (g : Fallen) (can : CanSettle st c) (falls :
   pub links_have_graph : (o : Option LinkChange) → o ≡ link_part c → HaveGraph (fabric_after o g.links st.fabric)
   links_have_graph o e = subst HaveGraph (sym (links_are o e)) (have_graph (settle t) valid_then)
 
+  -- where each circuit stays as it is, the links and the terminators that fall are all that settles
+  pub settled_alone : (told : Bool) → told ≡ true → Stands c (state_of st) → StayGranted told (state_of st) (after_change c (state_of st)) → g.circuits ≡ []
+      → (out : Settled) → out.links ≡ g.links → out.terminators ≡ g.terminators → out.lost ≡ [] → out.ended ≡ [] → out.moves ≡ [] → AreSettled (after_change c (state_of st)) out
+  settled_alone told is stands known none out links terms lost ended moves = subst (λ s. AreSettled s out) (sym (parts_after c st can)) (record {
+    links_are = links ∙ falls_then.links_are;
+    terms_are = terms ∙ falls_then.terms_are;
+    judged = record {
+      lost_are = lost ∙ sym none ∙ going_is true c st g can falls_then stands (subst (λ b. StayGranted b (state_of st) (after_change c (state_of st))) is known);
+      ended_are = ended ∙ sym (ap (ended_by (way_in t)) lost);
+      moves_are = moves ∙ sym (ap (moves_by (way_in t)) lost);
+    };
+  })
+
   -- no circuit is gone or moved yet
   pub circuits_stand : (o : Option CircuitChange) (moves : List Move) (gone : List ℕ) → o ≡ circuit_part c → moves ≡ [] → gone ≡ []
       → (with_moves moves (circuits_after o gone st.circuits)).circuits ≡ (circuits_then c st).circuits
@@ -83,6 +97,9 @@ module _ (c : Change) (st : Stores) (g : Fallen) (can : CanSettle st c) (falls :
 
       abbrev pub stays_there : FabricSeen → TermTables → List RouterSeen → CircuitTables → ℕ → Bool
       stays_there f e routers k n = option_map_or (λ x. granted_there f e routers x && stays (network e f routers) r.identities r.services x) (at k.circuits.rows n) true
+
+      abbrev pub grants_there : FabricSeen → TermTables → List RouterSeen → CircuitTables → ℕ → Bool
+      grants_there f e routers k n = option_map_or (granted_there f e routers) (at k.circuits.rows n) true
 
       abbrev pub way_there : FabricSeen → TermTables → List RouterSeen → CircuitTables → ℕ → Option (List ℕ)
       way_there f e routers k n = option_and_then (λ x. cond (granted_there f e routers x) (other_links (network e f routers) r.identities r.services x) None) (at k.circuits.rows n)
@@ -110,17 +127,21 @@ module _ (c : Change) (st : Stores) (g : Fallen) (can : CanSettle st c) (falls :
           let all = is.seen_are ∙ remains.routers_are in
           (λ i. option_and_then (λ x. cond (same_granted f e routers k is n x i) (other_links (network (record { terminators = is.terms i; loads = [] }) (is.fabric i) (all i)) (remains.identities_are i) (remains.services_are i) x) None) (at (is.circuits i).rows n))
 
-      same_stays : (f : FabricSeen) (e : TermTables) (routers : List RouterSeen) (k : CircuitTables) → IsThere f e routers k → (n : ℕ) → not (stays_there f e routers k n) ≡ goes c st g can falls_then n
+      same_grants : (f : FabricSeen) (e : TermTables) (routers : List RouterSeen) (k : CircuitTables) → IsThere f e routers k → (n : ℕ) → grants_there f e routers k n ≡ granted_then c st g can falls_then n
+      same_grants f e routers k is n = (λ i. option_map_or (λ x. same_granted f e routers k is n x i) (at (is.circuits i).rows n) true)
+
+      same_stays : (f : FabricSeen) (e : TermTables) (routers : List RouterSeen) (k : CircuitTables) → IsThere f e routers k → (n : ℕ) → stays_there f e routers k n ≡ keeps_then c st g can falls_then n
       same_stays f e routers k is n =
           let all = is.seen_are ∙ remains.routers_are in
-          (λ i. not (option_map_or (λ x. same_granted f e routers k is n x i && stays (network (record { terminators = is.terms i; loads = [] }) (is.fabric i) (all i)) (remains.identities_are i) (remains.services_are i) x) (at (is.circuits i).rows n) true))
+          (λ i. option_map_or (λ x. same_granted f e routers k is n x i && stays (network (record { terminators = is.terms i; loads = [] }) (is.fabric i) (all i)) (remains.identities_are i) (remains.services_are i) x) (at (is.circuits i).rows n) true)
 
-      pub judged_so : (granted : Bool) → StayGranted granted (state_of st) (after_change c (state_of st)) → (f : FabricSeen) (e : TermTables) (routers : List RouterSeen) (k : CircuitTables) (looked going : List ℕ) (j : Judged) → IsThere f e routers k
-          → looked ≡ looked_at granted c g.circuits st.circuits.circuits.next (circuits_then c st)
-          → going ≡ filter (λ n. not (stays_there f e routers k n)) looked → j.ended ≡ ended_by (way_there f e routers k) going → j.moves ≡ moves_by (way_there f e routers k) going
+      pub judged_so : (granted : Bool) → Stands c (state_of st) → StayGranted granted (state_of st) (after_change c (state_of st)) → (f : FabricSeen) (e : TermTables) (routers : List RouterSeen) (k : CircuitTables) (going : List ℕ) (j : Judged) → IsThere f e routers k
+          → going ≡ going_after granted g.circuits (numbers k.circuits.rows) (grants_there f e routers k) (stays_there f e routers k) → j.ended ≡ ended_by (way_there f e routers k) going → j.moves ≡ moves_by (way_there f e routers k) going
           → AreJudged (after_change c (state_of st)) going j
-      judged_so granted known f e routers k looked going j is looked_are going_are ended moves = subst (λ s. AreJudged s going j) (sym (parts_after c st can)) (record {
-        lost_are = going_are ∙ (λ i. filter (λ n. same_stays f e routers k is n i) (looked_are i)) ∙ looked_is granted c st g can falls_then known;
+      judged_so granted stands known f e routers k going j is going_are ended moves = subst (λ s. AreJudged s going j) (sym (parts_after c st can)) (record {
+        lost_are =
+            going_are ∙ (λ i. going_after granted g.circuits (numbers (is.circuits i).rows) (λ n. same_grants f e routers k is n i) (λ n. same_stays f e routers k is n i))
+            ∙ going_is granted c st g can falls_then stands known;
         ended_are = ended ∙ (λ i. ended_by (λ n. same_way f e routers k is n i) going);
         moves_are = moves ∙ (λ i. moves_by (λ n. same_way f e routers k is n i) going);
       })

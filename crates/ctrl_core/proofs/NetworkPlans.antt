@@ -16,14 +16,14 @@ use Rattle.core_stores.specs.declared.changes.Draft.{Draft}
 use Rattle.core_stores.specs.declared.stores.Stores.{Stores}
 use Rattle.core_stores.specs.CarriedStates.{Carries}
 use Rattle.core_stores.specs.StoredState.{state_of}
-use Rattle.ctrl_core.specs.Changes.{CanChange, after_change}
+use Rattle.ctrl_core.specs.Changes.{after_change}
 use Rattle.grant_steps.specs.LeadingSteps.{LeadAllCounts}
 use Rattle.ctrl_core.specs.ChangedStores.{CanSettle}
 use Rattle.core_stores.specs.SettledNumbers.{without_settled}
 use Rattle.ctrl_core.specs.SettledRecords.{AreSettled}
 use Rattle.core_stores.specs.declared.settled.Settled.{Settled}
 use Rattle.ctrl_core.proofs.StateParts.{without_is_settled}
-use Rattle.ctrl_core.specs.PlannedCommands.{Plans}
+use Rattle.ctrl_core.specs.PlannedCommands.{CanPlan, Plans}
 use Rattle.core_stores.specs.Drafts.{IsShown}
 use Rattle.ctrl_core.proofs.PlanLaws.{no_steps_lead, settled_lead}
 
@@ -41,8 +41,8 @@ carries_then c st mid new g can are made taken = record {
 -- ---- the plans of a family
 
 module _ {C : Type 0} (after : C → State → State) (can_be : C → State → Type 0) (embed : C → Change) (s : State)
-    (same : (c : C) → after_change (embed c) s ≡ after c s) (allows : (c : C) → can_be c s → CanChange (embed c) s) where
-  can_lead : (o : Option C) → plans.CanLeadBy can_be o s → plans.CanLeadBy CanChange (option_map embed o) s
+    (same : (c : C) → after_change (embed c) s ≡ after c s) (allows : (c : C) → can_be c s → CanPlan (embed c) s) where
+  can_lead : (o : Option C) → plans.CanLeadBy can_be o s → plans.CanLeadBy CanPlan (option_map embed o) s
   can_lead None can = tt
   can_lead (Some c) can = allows c can
 
@@ -52,20 +52,20 @@ module _ {C : Type 0} (after : C → State → State) (can_be : C → State → 
 
   -- a plan of a family, as one of the core
   pub planned_so : (made : Plan C) (change : Option Change) (answered : Reply × State) → change ≡ option_map embed made.change → plans.Plans after can_be made answered s
-      → plans.Plans after_change CanChange (record { reply = made.reply; change = change }) answered s
+      → plans.Plans after_change CanPlan (record { reply = made.reply; change = change }) answered s
   planned_so made change answered is planned = record {
     reply = planned.reply;
-    can = subst (λ (o : Option Change). plans.CanLeadBy CanChange o s) (sym is) (can_lead made.change planned.can);
+    can = subst (λ (o : Option Change). plans.CanLeadBy CanPlan o s) (sym is) (can_lead made.change planned.can);
     next = ap (λ (o : Option Change). plans.led_by after_change o s) is ∙ leads made.change ∙ planned.next;
     still = λ tells. is ∙ ap (option_map embed) (planned.still tells);
   }
 
 -- the draft of a plan, with steps to the counts of the state that it leads to
-drafted_planned : (made : Plan Change) (p : Draft) (answered : Reply × State) (s : State) → plans.Plans after_change CanChange made answered s → p.reply ≡ made.reply
+drafted_planned : (made : Plan Change) (p : Draft) (answered : Reply × State) (s : State) → plans.Plans after_change CanPlan made answered s → p.reply ≡ made.reply
     → p.change ≡ made.change → (made.change ≡ None → HasNoSteps p.steps) → LeadAllCounts s (plans.led_by after_change made.change s) p.steps → Plans p answered s
 drafted_planned made p answered s planned reply_is change_is none counted = record {
   reply = reply_is ∙ planned.reply;
-  can = subst (λ (o : Option Change). plans.CanLeadBy CanChange o s) (sym change_is) planned.can;
+  can = subst (λ (o : Option Change). plans.CanLeadBy CanPlan o s) (sym change_is) planned.can;
   next = ap (λ (o : Option Change). plans.led_by after_change o s) change_is ∙ planned.next;
   still = λ tells. record { change_is = change_is ∙ planned.still tells; no_steps = none (planned.still tells) };
   counts = subst (λ t. LeadAllCounts s t p.steps) planned.next counted;
@@ -73,14 +73,14 @@ drafted_planned made p answered s planned reply_is change_is none counted = reco
 
 -- the draft of a plan without a change
 pub shown_planned : (made : Plan Change) (p : Draft) (answered : Reply × State) (s : State) → made.change ≡ None → IsShown made.reply p
-    → plans.Plans after_change CanChange made answered s → Plans p answered s
+    → plans.Plans after_change CanPlan made answered s → Plans p answered s
 shown_planned made p answered s none is planned =
     drafted_planned made p answered s planned is.reply_is (is.change_is ∙ sym none) (λ e. is.no_steps)
     (λ r. subst (λ o. LeadCounts (count r s) (count r (plans.led_by after_change o s)) (steps_of r p.steps)) (sym none) (no_steps_lead s p.steps is.no_steps r))
 
 -- the draft of a plan with a change, whose steps are known
 pub changed_planned : (made : Plan Change) (c : Change) (steps : GrantSteps) (answered : Reply × State) (s : State) → made.change ≡ Some c → LeadAllCounts s (after_change c s) steps
-    → plans.Plans after_change CanChange made answered s → Plans (record { reply = made.reply; change = Some c; steps = steps }) answered s
+    → plans.Plans after_change CanPlan made answered s → Plans (record { reply = made.reply; change = Some c; steps = steps }) answered s
 changed_planned made c steps answered s some leading planned =
     drafted_planned made (record { reply = made.reply; change = Some c; steps = steps }) answered s planned refl (sym some) (λ e. absurd (none-some c (sym e ∙ some)))
     (λ r. subst (λ o. LeadCounts (count r s) (count r (plans.led_by after_change o s)) (steps_of r steps)) (sym some) (settled_lead r s (after_change c s) (steps_of r steps) (leading r)))

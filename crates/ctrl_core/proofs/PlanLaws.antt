@@ -1,5 +1,5 @@
 -- What a plan has to show: of a reply that changes nothing, of a refusal, and of a change that is carried out.
-use Rattle.std.proofs.Common.{◌≡◌, true, false, ◌||◌, List, Option, refl, sym, ◌∙◌, ap, subst}
+use Rattle.std.proofs.Common.{◌≡◌, true, false, ◌||◌, List, Option, None, Some, refl, sym, ◌∙◌, ap, subst}
 use Rattle.std.proofs.lemmas.Bool.{true≢false}
 use Rattle.ctrl_model.specs.declared.commands.Command.{Command}
 use Rattle.ctrl_model.specs.declared.commands.Command.TheVariants as command
@@ -35,7 +35,7 @@ use Rattle.core_stores.specs.StoredState.{state_of}
 use Rattle.ctrl_core.specs.declared.plans.Planned.{Planned}
 use Rattle.core_stores.specs.declared.stores.Stores.{Stores}
 use Rattle.policy_store.specs.StepsOfRelations.{HasNoSteps, steps_of}
-use Rattle.ctrl_core.specs.PlannedCommands.{Plans}
+use Rattle.ctrl_core.specs.PlannedCommands.{CanPlan, Plans}
 use Rattle.core_stores.specs.Drafts.{IsShown}
 
 -- no steps lead from the counts of a state to themselves
@@ -51,7 +51,7 @@ no_steps_lead s steps none ServiceRouter =
 pub plans_reply : (p : Draft) (reply : Reply) (s : State) → IsShown reply p → Plans p (reply, s) s
 plans_reply p reply s is = record {
   reply = is.reply_is;
-  can = subst (λ (o : Option Change). CanLeadBy CanChange o s) (sym is.change_is) tt;
+  can = subst (λ (o : Option Change). CanLeadBy CanPlan o s) (sym is.change_is) tt;
   next = ap (λ (o : Option Change). led_by after_change o s) is.change_is;
   still = λ tells. record { change_is = is.change_is; no_steps = is.no_steps };
   counts = no_steps_lead s p.steps is.no_steps;
@@ -73,11 +73,16 @@ can_complete st d c keeps spelled plans = record {
   counts = λ r. subst (λ t. LeadCounts (count r (state_of st)) (count r t) (steps_of r d.steps)) (sym plans.next) (plans.counts r);
 }
 
+-- a planned change can be made
+pub can_be_made : (o : Option Change) (s : State) → CanLeadBy CanPlan o s → CanLeadBy CanChange o s
+can_be_made None s can = tt
+can_be_made (Some c) s can = can.0
+
 -- a plan that completes a draft of a command leads to the controller's next state
 pub leads_from : (st : Stores) (d : Draft) (p : Planned) (c : Command) → CanComplete st d → Plans d (carry c (state_of st)) (state_of st) → Completes st d p → LeadsFrom p (state_of st) (carry c (state_of st)).1
 leads_from st d p c can plans made = record {
   can = record {
-    can = subst (λ o. CanLeadBy CanChange o (state_of st)) (sym made.change_is) can.can;
+    can = subst (λ o. CanLeadBy CanChange o (state_of st)) (sym made.change_is) (can_be_made d.change (state_of st) can.can);
     valid = subst (λ o. ValidState (led_by after_change o (state_of st))) (sym made.change_is) can.valid;
     settled = subst (λ o. NamesSettled o (state_of st) p.settled) (sym made.change_is) made.settled;
     counts = λ r. subst (λ o. LeadCounts (count r (state_of st)) (count r (led_by after_change o (state_of st))) (steps_of r p.steps)) (sym made.change_is)

@@ -5,13 +5,13 @@ use Rattle.ctrl_model.specs.declared.kinds.Kind.{Kind}
 use Rattle.ctrl_model.specs.declared.kinds.Kind.TheVariants as kind
 use Rattle.ctrl_model.specs.EntityCommands.{new_router}
 use Rattle.ctrl_model.specs.Numbered.{at}
-use Rattle.ctrl_model.specs.Settling.{link_stays, terminator_stays, stays_in}
+use Rattle.ctrl_model.specs.Settling.{link_stays, terminator_stays}
 use Rattle.ctrl_model.specs.State.{State, Router}
 use Rattle.ctrl_model.specs.Tables.{is_entity_kind}
 use Rattle.ctrl_model.specs.ValidState.{ValidState}
 use Rattle.circuits.specs.declared.changes.CircuitChange.{CircuitChange}
 use Rattle.circuits.specs.declared.changes.CircuitChange.TheVariants as circuit
-use Rattle.circuit_rules.specs.CircuitPlans.{routed}
+use Rattle.circuit_rules.specs.CircuitPlans.{StandsIn, routed}
 use Rattle.entity_store.specs.declared.changes.EntityChange.{EntityChange}
 use Rattle.entity_store.specs.declared.changes.EntityChange.TheVariants as entity
 use Rattle.entity_commands.specs.EntityChanges.{CanEnter, is_plain_kind, with_plain, with_described, without_named, entered}
@@ -33,7 +33,8 @@ use Rattle.core_stores.specs.declared.stores.Stores.{Stores}
 use Rattle.core_stores.specs.StoredState.{state_of}
 use Rattle.ctrl_core.specs.Changes.{CanChange, after_change}
 use Rattle.circuit_settling.specs.declared.falling.Fallen.{Fallen}
-use Rattle.circuit_settling.specs.NamedRecords.{Names, number_unless, NamesByEntity, NamesByLink, NamesByTerm, NamesByCircuit}
+use Rattle.circuit_settling.specs.NamedRecords.{Names, number_unless, NamesByEntity, NamesByLink, NamesByTerm}
+use Rattle.ctrl_core.specs.PlannedCommands.{Stands}
 use Rattle.ctrl_core.specs.SettledParts.{bare_state_of, NamesBy}
 
 -- these fall
@@ -114,14 +115,16 @@ module _ (st : Stores) (v : ValidState (state_of st)) where
       settled_from (offered (term.Set m cost precedence) s) [] [] [] g (term_set s v m.0 (λ e. record e { cost = cost; precedence = precedence }) (λ e. (refl, refl, refl))) n
   term_settles (term.Remove m) g n = settled_from (offered (term.Remove m) s) [] [] (circuits_on None [] (m.0 ∷ []) b) g (term_removed s v m.0) n
 
-  circuit_settles : (c : CircuitChange) (g : Fallen) → NamesByCircuit c b g → FallAs (routed c s) g
-  circuit_settles (circuit.Add c) g n = settled_from (routed (circuit.Add c) s) [] [] (number_unless (stays_in b (0, c)) b.circuits.next) g (circuit_more s v c) n
-  circuit_settles (circuit.Remove m) g n = settled_from (routed (circuit.Remove m) s) [] [] [] g (circuit_removed s v m.0) n
+  circuit_settles : (c : CircuitChange) → StandsIn c s → (g : Fallen) → Names [] [] [] g → FallAs (routed c s) g
+  circuit_settles (circuit.Add c) stands g n =
+      settled_from (routed (circuit.Add c) s) [] [] [] g
+      (subst (λ (stays : Bool). Falls (routed (circuit.Add c) s) [] [] (number_unless stays s.circuits.next)) stands.1 (circuit_more s v c)) n
+  circuit_settles (circuit.Remove m) stands g n = settled_from (routed (circuit.Remove m) s) [] [] [] g (circuit_removed s v m.0) n
 
-  pub settles : (c : Change) → CanChange c s → (g : Fallen) → NamesBy c b g → FallAs (after_change c s) g
-  settles (change.Entity c) can g n = entity_settles c can g n
-  settles (change.Policy c) can g n =
+  pub settles : (c : Change) → CanChange c s → Stands c s → (g : Fallen) → NamesBy c b g → FallAs (after_change c s) g
+  settles (change.Entity c) can stands g n = entity_settles c can g n
+  settles (change.Policy c) can stands g n =
       let t = ruled c s in settled_from t [] [] [] g (policies_changed s v t.service_policies t.edge_router_policies t.service_edge_router_policies) n
-  settles (change.Link c) can g n = link_settles c g n
-  settles (change.Terminator c) can g n = term_settles c g n
-  settles (change.Circuit c) can g n = circuit_settles c g n
+  settles (change.Link c) can stands g n = link_settles c g n
+  settles (change.Terminator c) can stands g n = term_settles c g n
+  settles (change.Circuit c) can stands g n = circuit_settles c stands g n

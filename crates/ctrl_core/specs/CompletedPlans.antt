@@ -12,17 +12,18 @@ use Rattle.ctrl_core.specs.declared.plans.Planned.{Planned}
 use Rattle.core_stores.specs.declared.settled.Settled.{Settled}
 use Rattle.core_stores.specs.declared.stores.Stores.{Stores}
 use Rattle.ctrl_core.specs.ChangedStores.{next_state}
-use Rattle.ctrl_core.specs.Changes.{CanChange, NamesSettled, after_change}
+use Rattle.ctrl_core.specs.Changes.{NamesSettled, after_change}
 use Rattle.grant_steps.specs.LeadingSteps.{LeadAllCounts}
 use Rattle.ctrl_core.specs.KeptState.{Keeps}
 use Rattle.core_stores.specs.StoredState.{state_of}
 use Rattle.core_stores.specs.SettledNumbers.{SettlesNothing}
+use Rattle.ctrl_core.specs.PlannedCommands.{CanPlan}
 use Rattle.ctrl_core.specs.SettledRecords.{AreSettled}
 
 -- A draft that can be carried out in the state of some stores, and leads to a valid state by its change and its steps.
 pub record CanComplete (st : Stores) (d : Draft) : Type 0 where
   pub kept : Keeps st
-  pub can : CanLeadBy CanChange d.change (state_of st)
+  pub can : CanLeadBy CanPlan d.change (state_of st)
   pub valid : ValidState (led_by after_change d.change (state_of st))
   pub counts : LeadAllCounts (state_of st) (led_by after_change d.change (state_of st)) d.steps
 

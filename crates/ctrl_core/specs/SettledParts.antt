@@ -1,5 +1,5 @@
 -- What settles after a change of some stores, by its numbers. Only private functions and proofs of this crate cite this file.
-use Rattle.std.specs.Prelude.{◌≡◌, ℕ, ◌+◌, ◌≤◌, Bool, true, false, List, [], ◌∷◌, map}
+use Rattle.std.specs.Prelude.{◌≡◌, ℕ, ◌+◌, ◌≤◌, Bool, true, false, not, List, [], ◌∷◌, map, filter}
 use Rattle.ctrl_model.specs.declared.kinds.Relation.{Relation}
 use Rattle.ctrl_model.specs.declared.kinds.Relation.TheVariants.{Dial, Bind, IdentityRouter, ServiceRouter}
 use Rattle.ctrl_model.specs.Grants.{count}
@@ -7,15 +7,13 @@ use Rattle.ctrl_model.specs.Networks.{seen}
 use Rattle.ctrl_model.specs.Numbered.{numbers}
 use Rattle.ctrl_model.specs.State.{State, start}
 use Rattle.model_laws.specs.JudgedCircuits.{AreGranted}
-use Rattle.circuits.specs.CircuitTables.{CircuitTables}
-use Rattle.circuits.specs.declared.changes.CircuitChange.TheVariants as circuit
 use Rattle.grant_denorm.specs.declared.deltas.Delta.{Delta}
 use Rattle.grant_denorm.specs.CountsAfter.{count_after}
 use Rattle.grant_denorm.specs.Deltas.{ups, downs}
 use Rattle.grant_denorm.specs.PairCounts.{count_of}
 use Rattle.circuit_settling.specs.declared.granting.GrantsAfter.{GrantsAfter}
 use Rattle.circuit_settling.specs.declared.falling.Fallen.{Fallen}
-use Rattle.circuit_settling.specs.NamedRecords.{Names, NamesByEntity, NamesByLink, NamesByTerm, NamesByCircuit}
+use Rattle.circuit_settling.specs.NamedRecords.{Names, NamesByEntity, NamesByLink, NamesByTerm}
 use Rattle.core_stores.specs.declared.changes.Change.{Change}
 use Rattle.core_stores.specs.declared.changes.Change.TheVariants as change
 use Rattle.core_stores.specs.declared.stores.Stores.{Stores}
@@ -34,13 +32,13 @@ bare_state_of st = record start {
   least_router_cost = st.fabric.least;
 }
 
--- What settles after a change.
+-- What settles after a change. A circuit that is added stands.
 abbrev pub NamesBy : Change → State → Fallen → Type 0
 NamesBy (change.Entity c) s g = NamesByEntity c s g
 NamesBy (change.Policy c) s g = Names [] [] [] g
 NamesBy (change.Link c) s g = NamesByLink c s g
 NamesBy (change.Terminator c) s g = NamesByTerm c s g
-NamesBy (change.Circuit c) s g = NamesByCircuit c s g
+NamesBy (change.Circuit c) s g = Names [] [] [] g
 
 -- Of these entities there remain the identities and services by their numbers, and the routers as routes see them.
 pub record Remains (t : Tables) (r : Remaining) : Type 0 where
@@ -63,9 +61,10 @@ AreGrantsAfter s g = (r : Relation) (a b : ℕ) → counts_after r g a b ≡ cou
 abbrev pub StayGranted : Bool → State → State → Type 0
 StayGranted told s t = told ≡ true → AreGranted s × ((r : Relation) (a b : ℕ) → count r s a b ≤ count r t a b)
 
--- The circuits that are looked at after a change: all, but where what granted each circuit stood before and no count falls, the one that
--- the change makes, which is the last one, or else those that it fells.
-abbrev pub looked_at : Bool → Change → List ℕ → ℕ → CircuitTables → List ℕ
-looked_at true (change.Circuit (circuit.Add c)) fallen next k = next ∷ []
-looked_at true c fallen next k = fallen
-looked_at false c fallen next k = numbers k.circuits.rows
+-- The numbers of the circuits that do not stay as they are after a change, of all and of those whose path the change takes: these alone,
+-- where what granted each circuit stood before and no count falls; those whose grant is gone, where no path is taken; and else those
+-- that do not stay.
+abbrev pub going_after : Bool → List ℕ → List ℕ → (ℕ → Bool) → (ℕ → Bool) → List ℕ
+going_after true pathless all granted keeps = pathless
+going_after false [] all granted keeps = filter (λ n. not (granted n)) all
+going_after false (x ∷ xs) all granted keeps = filter (λ n. not (keeps n)) all

@@ -10,13 +10,16 @@ ghost use Rattle.core_stores.specs.ChangeParts.{term_part};
 ghost use Rattle.core_stores.specs.OpenCircuits.{CountsOpen};
 ghost use Rattle.core_stores.specs.StoredState.{HoldsPolicies, state_of};
 ghost use Rattle.core_stores.specs.CarriedStates.{Carries};
+ghost use Rattle.grant_steps.specs.LeadingSteps.{LeadAllCounts};
 ghost use Rattle.policy_store.specs.PolicyChanges.{CanRule, ruled};
+ghost use Rattle.ctrl_core.specs.KeptState.{Keeps};
 
 use circuits::apply_circuit_change;
-use core_stores::{Change, Settled, Stores, count_loads, loads_after, take_out};
+use core_stores::{Change, Settled, Stores, apply_steps, count_loads, loads_after, take_out};
 use entity_commands::{EntityChange, apply_entity_change};
 use link_commands::apply_link_change;
 use policy_commands::{PolicyChange, apply_policy_change, forget_by};
+use policy_store::GrantSteps;
 use std::alloc::{AllocError, Global};
 use terminator_commands::apply_term_change;
 
@@ -87,4 +90,26 @@ pub fn carry_out(
     apply_change(alloc, stores, change)?;
     take_out(stores, settled);
     count_loads(alloc, stores, loads)
+}
+
+/// Carries a change out that leads from a valid state to a valid one, and takes the steps of the counts, so that the stores are kept as they
+/// were before. Where there is no change they stay. Of a change that fails for want of memory nothing is said.
+pub fn move_stores(
+    alloc: Global,
+    stores: &mut Stores,
+    change: Option<Change>,
+    settled: Settled,
+    steps: &GrantSteps,
+) -> Result<(), AllocError>
+    requires kept { Keeps stores.old }
+    requires can { CanLeadBy CanChange change (state_of stores.old) }
+    requires valid { ValidState (led_by after_change change (state_of stores.old)) }
+    requires settled { NamesSettled change (state_of stores.old) settled }
+    requires counts { LeadAllCounts (state_of stores.old) (led_by after_change change (state_of stores.old)) steps.now }
+    ensures kept { OnOk result (Keeps stores.new) }
+    ensures next { OnOk result (state_of stores.new ≡ led_by after_change change (state_of stores.old)) }
+{
+    carry_out(alloc, stores, change, settled)?;
+    apply_steps(&mut stores.grants, steps)?;
+    Ok(())
 }

@@ -7,10 +7,10 @@ ghost use Rattle.model_laws.specs.Plans as family;
 ghost use Rattle.model_laws.specs.Plans.{CanLeadBy};
 ghost use Rattle.core_stores.specs.StoredState.{state_of};
 ghost use Rattle.show_commands.specs.ShownCommands.{is_grant_command};
-ghost use Rattle.ctrl_core.specs.Changes.{CanChange, after_change};
+ghost use Rattle.ctrl_core.specs.Changes.{after_change};
 ghost use Rattle.ctrl_core.specs.KeptState.{Keeps};
 ghost use Rattle.ctrl_core.specs.OtherCommands.{reply_alone};
-ghost use Rattle.ctrl_core.specs.PlannedCommands.{Plans};
+ghost use Rattle.ctrl_core.specs.PlannedCommands.{CanPlan, Plans};
 
 use crate::counting::change_steps;
 use circuit_rules::{Parts, plan_circuit_command};
@@ -34,8 +34,8 @@ fn drafted(
     change: Option<Change>,
 ) -> Result<Draft, AllocError>
     requires kept { Keeps stores.now }
-    requires can { CanLeadBy CanChange change (state_of stores.now) }
-    ensures { IfOk result (λ p. (answered : Reply × State) → family.Plans after_change CanChange (record { reply = reply; change = change }) answered (state_of stores.now)
+    requires can { CanLeadBy CanPlan change (state_of stores.now) }
+    ensures { IfOk result (λ p. (answered : Reply × State) → family.Plans after_change CanPlan (record { reply = reply; change = change }) answered (state_of stores.now)
         → Plans p answered (state_of stores.now)) }
 {
     let Some(change) = change else {

@@ -3,6 +3,8 @@ ghost use Rattle.grant_steps.specs.LeadingSteps.{LeadAllCounts};
 ghost use Rattle.ctrl_core.specs.ChangedStores.{CanSettle, next_state};
 ghost use Rattle.ctrl_core.specs.KeptState.{Keeps, IsGranted};
 ghost use Rattle.core_stores.specs.StoredState.{state_of};
+ghost use Rattle.ctrl_core.specs.Changes.{NamesSettled};
+ghost use Rattle.ctrl_core.specs.PlannedCommands.{Stands};
 ghost use Rattle.ctrl_core.specs.CompletedPlans.{Completes, CanComplete, SettlesAs};
 
 use crate::plans::Planned;
@@ -24,6 +26,7 @@ fn settled_rows(
     requires kept { Keeps stores.now }
     requires granted { IsGranted granted (state_of stores.now) }
     requires can { CanSettle stores.now change.now }
+    requires stands { Stands change.now (state_of stores.now) }
     requires counts { LeadAllCounts (state_of stores.now) (next_state stores.now change.now) steps.now }
     ensures { IfOk result (λ p. SettlesAs stores.now change.now p.0 p.1) }
 {
@@ -42,6 +45,23 @@ fn with_settled(draft: Draft, settled: Settled, batch: Batch) -> Planned
         change: draft.change,
         settled,
         steps: draft.steps,
+    }
+}
+
+/// What settles after the change of a draft; nothing, where it has none.
+pub fn settled_after(
+    alloc: Global,
+    stores: &Stores,
+    draft: &Draft,
+    granted: bool,
+) -> Result<Settled, AllocError>
+    requires can { CanComplete stores.now draft.now }
+    requires granted { IsGranted granted (state_of stores.now) }
+    ensures { IfOk result (NamesSettled draft.now.change (state_of stores.now)) }
+{
+    match &draft.change {
+        Some(change) => settled_by(alloc, stores, change, &draft.steps, granted),
+        None => Ok(Settled::nothing(alloc)),
     }
 }
 

@@ -1,26 +1,28 @@
-ghost use Rattle.std.specs.Prelude.{◌≡◌, ℕ, ◌||◌, true, false, is_some, IfOk, IsErrOf, OnErr};
+ghost use Rattle.std.specs.Prelude.{◌≡◌, ℕ, ◌||◌, true, false, is_some, IfOk, IsErrOf, OnOk, OnErr};
 ghost use Rattle.ctrl_model.specs.State.{start};
 ghost use Rattle.ctrl_model.specs.CommandForm.{is_spelled};
 ghost use Rattle.ctrl_model.specs.Controller.{carry};
 ghost use Rattle.ctrl_model.specs.Grants.{count};
 ghost use Rattle.ctrl_model.specs.ValidState.{ValidState};
-ghost use Rattle.model_laws.specs.Plans.{tells_change};
+ghost use Rattle.model_laws.specs.Plans.{CanLeadBy, led_by, tells_change};
 ghost use Rattle.grant_denorm.specs.MovedCounts.{AreCountsOf};
 ghost use Rattle.row_codec.specs.Batches.{batch_between};
 ghost use Rattle.state_building.specs.declared.flaws.Flaw.{Flaw};
 ghost use Rattle.row_loading.specs.declared.faults.CoreFault.TheVariants.{NotAState};
 ghost use Rattle.row_loading.specs.LoadedRows.{AreOfNoState};
 ghost use Rattle.row_loading.specs.RefusedRows.{RefusesRows};
-ghost use Rattle.ctrl_core.specs.Changes.{CanLead, IsStill, LeadsFrom, led};
+ghost use Rattle.core_stores.specs.LeadingSteps.{LeadAllCounts};
+ghost use Rattle.ctrl_core.specs.Changes.{CanChange, CanLead, IsStill, LeadsFrom, NamesSettled, after_change, led};
 
-use crate::applying::carry_out;
+use crate::applying::move_stores;
 use crate::commands::plan_command;
-use crate::completing::completed;
+use crate::completing::{completed, settled_after};
 use crate::loading::load;
 use crate::plans::Planned;
-use core_stores::{Change, Stores, apply_steps};
+use core_stores::{Change, Draft, Settled, Stores};
 use ctrl_model::{Command, Relation, Reply};
 use grant_denorm::Counted;
+use policy_store::GrantSteps;
 use row_codec::Batch;
 use row_loading::{CoreFault, read_rows};
 use std::alloc::{AllocError, Global};
@@ -132,10 +134,50 @@ impl Core {
             steps,
             ..
         } = planned;
+        self.go_on(reply, change, settled, &steps)
+    }
+
+    /// Answers a command that some body spells, and moves the state to the next one, as a plan of it that is applied at once. No batch is
+    /// made. Where memory is wanting the core stays, or it is given up.
+    pub fn answer(&mut self, command: &Command) -> Result<Reply, AllocError>
+        requires live { self.old.live ≡ true }
+        requires spelled { is_spelled command.now ≡ true }
+        ensures answered { IfOk result (λ r. (r, self.new.state) ≡ carry command.now self.old.state) }
+        ensures live { OnOk result (self.new.live ≡ true) }
+        ensures valid { ValidState self.old.state }
+        ensures err { OnErr result (self.new.live ≡ true → self.new ≡ self.old) }
+    {
+        let draft = plan_command(self.alloc, &self.stores, command)?;
+        let settled = settled_after(self.alloc, &self.stores, &draft, self.granted)?;
+        let Draft {
+            reply,
+            change,
+            steps,
+        } = draft;
+        let reply = self.go_on(reply, change, settled, &steps)?;
+        Ok(reply)
+    }
+
+    // Makes a change that leads to a valid state, if there is one, and answers a reply. After want of memory the core is given up.
+    fn go_on(
+        &mut self,
+        reply: Reply,
+        change: Option<Change>,
+        settled: Settled,
+        steps: &GrantSteps,
+    ) -> Result<Reply, AllocError>
+        requires live { self.old.live ≡ true }
+        requires can { CanLeadBy CanChange change self.old.state }
+        requires valid { ValidState (led_by after_change change self.old.state) }
+        requires settled { NamesSettled change self.old.state settled }
+        requires counts { LeadAllCounts self.old.state (led_by after_change change self.old.state) steps.now }
+        ensures reply { IfOk result (λ r. r ≡ reply) }
+        ensures next { IfOk result (λ r. self.new ≡ record { state = led_by after_change change self.old.state; live = true }) }
+        ensures err { OnErr result (self.new.live ≡ false) }
+    {
         self.live = false;
         self.granted = is_granted_then(self.granted, &change);
-        carry_out(self.alloc, &mut self.stores, change, settled)?;
-        apply_steps(&mut self.stores.grants, &steps)?;
+        move_stores(self.alloc, &mut self.stores, change, settled, steps)?;
         self.live = true;
         Ok(reply)
     }

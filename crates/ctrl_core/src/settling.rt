@@ -1,5 +1,6 @@
-ghost use Rattle.std.specs.Prelude.{◌≡◌, ◌&&◌, IfOk};
+ghost use Rattle.std.specs.Prelude.{◌≡◌, ◌&&◌, [], IfOk};
 ghost use Rattle.ctrl_model.specs.declared.kinds.Relation.{Relation};
+ghost use Rattle.ctrl_model.specs.Numbered.{numbers};
 ghost use Rattle.record_tables.specs.AfterChange.{changed_by};
 ghost use Rattle.entity_store.specs.EntityChanges.{after_entity_change};
 ghost use Rattle.circuit_settling.specs.FallenRecords.{Falls};
@@ -7,21 +8,22 @@ ghost use Rattle.core_stores.specs.ChangeParts.{entity_part};
 ghost use Rattle.circuits.specs.MovedCircuits.{moves_by, ended_by};
 ghost use Rattle.fabric_graph.specs.Routers.{AreRouters, HaveGraph};
 ghost use Rattle.policy_store.specs.StepsOfRelations.{steps_of, takes_nothing};
-ghost use Rattle.circuit_settling.specs.OtherLinks.{way_at};
+ghost use Rattle.circuit_settling.specs.OtherLinks.{granted_at, keeps_at, way_at};
 ghost use Rattle.grant_steps.specs.LeadingSteps.{LeadAllCounts};
 ghost use Rattle.core_stores.specs.StoredState.{counts_of, state_of};
 ghost use Rattle.grant_denorm.specs.TakenSteps.{HaveRoom, Taken};
 ghost use Rattle.ctrl_core.specs.ChangedStores.{CanSettle, next_state};
 ghost use Rattle.ctrl_core.specs.KeptState.{Keeps, IsGranted};
 ghost use Rattle.ctrl_core.specs.Changes.{after_change};
-ghost use Rattle.ctrl_core.specs.SettledParts.{bare_state_of, NamesBy, Remains, AreGrantsAfter, StayGranted, counts_after, looked_at};
+ghost use Rattle.ctrl_core.specs.SettledParts.{bare_state_of, NamesBy, Remains, AreGrantsAfter, StayGranted, counts_after, going_after};
+ghost use Rattle.ctrl_core.specs.PlannedCommands.{Stands};
 ghost use Rattle.ctrl_core.specs.SettledRecords.{AreJudged, AreSettled};
 
 use circuit_settling::{
-    Fallen, GrantsAfter, Judged, Present, Standing, going_among, judge, nothing, search_of,
-    settled_by_circuit, settled_by_entity, settled_by_link, settled_by_term,
+    Fallen, GrantsAfter, Judged, Present, Standing, going_among, judge, nothing, revoked_among,
+    search_of, settled_by_entity, settled_by_link, settled_by_term,
 };
-use circuits::{CircuitChange, CircuitsAfter, Moves};
+use circuits::{CircuitsAfter, Moves};
 use core_stores::{Change, Grants, Settled, Stores};
 use ctrl_model::{Kind, Numbers, RouterSeen};
 use entity_store::EntitiesAfter;
@@ -43,10 +45,9 @@ fn fallen_by(alloc: Global, stores: &Stores, change: &Change) -> Result<Fallen, 
     };
     match change {
         Change::Entity(change) => settled_by_entity(alloc, &standing, change),
-        Change::Policy(_) => Ok(nothing(alloc)),
+        Change::Policy(_) | Change::Circuit(_) => Ok(nothing(alloc)),
         Change::Link(change) => settled_by_link(alloc, &standing, change),
         Change::Terminator(change) => settled_by_term(alloc, &standing, change),
-        Change::Circuit(change) => settled_by_circuit(alloc, &standing, change),
     }
 }
 
@@ -102,25 +103,26 @@ fn stays_granted(granted: bool, steps: &GrantSteps) -> bool
     granted && steps.takes_nothing()
 }
 
-// The circuits that are looked at after a change: all, but where what granted each circuit stood before and no count falls, the one that the
-// change makes, or else those that it fells.
-fn looked_at(
+// The circuits that do not stay as they are after a change: where what granted each circuit stood before and no count falls, those whose
+// path the change takes.
+fn going_after(
     alloc: Global,
-    change: &Change,
     circuits: &CircuitsAfter,
-    next: u32,
-    fallen: &Fallen,
+    present: &Present,
+    grants: &GrantsAfter,
+    pathless: &Numbers,
     granted: bool,
 ) -> Result<Numbers, AllocError>
-    ensures { IfOk result (λ ns. ns ≡ looked_at granted change.now fallen.now.circuits next circuits.now) }
+    ensures { IfOk result (λ ns. ns ≡ going_after granted pathless.now (numbers circuits.now.circuits.rows) (granted_at present.now grants.now circuits.now.circuits.rows) (keeps_at present.now grants.now circuits.now.circuits.rows)) }
 {
-    if !granted {
-        return circuits.numbers(alloc);
+    if granted {
+        return pathless.copy();
     }
-    match change {
-        Change::Circuit(CircuitChange::Add(_)) => Numbers::from_slice(alloc, &[next]),
-        _ => fallen.circuits.copy(),
+    let all = circuits.numbers(alloc)?;
+    if pathless.is_empty() {
+        return revoked_among(alloc, circuits, present, grants, &all);
     }
+    going_among(alloc, circuits, present, grants, &all)
 }
 
 // What becomes of the circuits that do not stay as they are, beside what remains and what is granted.
@@ -138,6 +140,7 @@ fn judged_beside(
     requires remains { Remains (changed_by after_entity_change (entity_part change.now) stores.now.entities) remaining.now }
     requires counts { AreGrantsAfter (after_change change.now (state_of stores.now)) grants.now }
     requires granted { StayGranted granted (state_of stores.now) (after_change change.now (state_of stores.now)) }
+    requires stands { Stands change.now (state_of stores.now) }
     ensures { IfOk result (λ p. AreJudged (after_change change.now (state_of stores.now)) p.0 p.1) }
 {
     let fabric = FabricAfter::new(&stores.fabric, change.of_links(), &fallen.links);
@@ -153,15 +156,7 @@ fn judged_beside(
     let none = Numbers::of(Vec::new(alloc));
     let stay = Moves::of(Vec::new(alloc));
     let circuits = CircuitsAfter::new(&stores.circuits, change.of_circuits(), &none, &stay);
-    let looked = looked_at(
-        alloc,
-        change,
-        &circuits,
-        stores.circuits.next(),
-        fallen,
-        granted,
-    )?;
-    let going = going_among(alloc, &circuits, &present, grants, &looked)?;
+    let going = going_after(alloc, &circuits, &present, grants, &fallen.circuits, granted)?;
     let judged = judged(alloc, &present, grants, &circuits, &going)?;
     Ok((going, judged))
 }
@@ -189,9 +184,56 @@ fn judged(
     judge(alloc, present, grants, &mut search, circuits, going)
 }
 
-/// What settling makes of the state after a change, by its numbers. The steps lead the counts to those after the change; and where it is
-/// told that what granted each circuit stood before, and no count falls, only those circuits are looked at whose path the change takes, or
-/// the one that it makes. The stores stay.
+// What falls with a change by which each circuit stays as it is.
+fn without_circuits(alloc: Global, fallen: Fallen) -> Settled
+    ensures links { result.links ≡ fallen.links }
+    ensures terminators { result.terminators ≡ fallen.terminators }
+    ensures lost { result.lost ≡ [] }
+    ensures ended { result.ended ≡ [] }
+    ensures moves { result.moves ≡ [] }
+{
+    Settled {
+        links: fallen.links,
+        terminators: fallen.terminators,
+        lost: Numbers::of(Vec::new(alloc)),
+        ended: Numbers::of(Vec::new(alloc)),
+        moves: Moves::of(Vec::new(alloc)),
+    }
+}
+
+// What settles after a change by which these fall, with what becomes of the circuits.
+fn with_circuits(
+    alloc: Global,
+    stores: &Stores,
+    change: &Change,
+    steps: &GrantSteps,
+    fallen: Fallen,
+    granted: bool,
+) -> Result<Settled, AllocError>
+    requires kept { Keeps stores.now }
+    requires can { CanSettle stores.now change.now }
+    requires falls { Falls (after_change change.now (state_of stores.now)) fallen.links fallen.terminators fallen.circuits }
+    requires counts { LeadAllCounts (state_of stores.now) (next_state stores.now change.now) steps.now }
+    requires granted { StayGranted granted (state_of stores.now) (after_change change.now (state_of stores.now)) }
+    requires stands { Stands change.now (state_of stores.now) }
+    ensures { IfOk result (AreSettled (after_change change.now (state_of stores.now))) }
+{
+    let remaining = what_remains(alloc, stores, change)?;
+    let grants = grants_after(alloc, &stores.grants, steps)?;
+    let (lost, judged) =
+        judged_beside(alloc, stores, change, &fallen, &remaining, &grants, granted)?;
+    Ok(Settled {
+        links: fallen.links,
+        terminators: fallen.terminators,
+        lost,
+        ended: judged.ended,
+        moves: judged.moves,
+    })
+}
+
+/// What settling makes of the state after a change, by its numbers. The steps lead the counts to those after the change; a circuit that
+/// is added stands; and where it is told that what granted each circuit stood before, and no count falls, only those circuits are looked
+/// at whose path the change takes: where it takes none, no entity is listed and no count is looked up. The stores stay.
 pub fn settled_by(
     alloc: Global,
     stores: &Stores,
@@ -203,18 +245,13 @@ pub fn settled_by(
     requires can { CanSettle stores.now change.now }
     requires counts { LeadAllCounts (state_of stores.now) (next_state stores.now change.now) steps.now }
     requires granted { IsGranted granted (state_of stores.now) }
+    requires stands { Stands change.now (state_of stores.now) }
     ensures { IfOk result (AreSettled (after_change change.now (state_of stores.now))) }
 {
     let fallen = fallen_by(alloc, stores, change)?;
-    let remaining = what_remains(alloc, stores, change)?;
-    let grants = grants_after(alloc, &stores.grants, steps)?;
     let stay = stays_granted(granted, steps);
-    let (lost, judged) = judged_beside(alloc, stores, change, &fallen, &remaining, &grants, stay)?;
-    Ok(Settled {
-        links: fallen.links,
-        terminators: fallen.terminators,
-        lost,
-        ended: judged.ended,
-        moves: judged.moves,
-    })
+    if stay && fallen.circuits.is_empty() {
+        return Ok(without_circuits(alloc, fallen));
+    }
+    with_circuits(alloc, stores, change, steps, fallen, stay)
 }

@@ -38,8 +38,7 @@ fn carry_permitted(core: &mut Core, command: &Command) -> Result<Reply, AllocErr
     ensures live { OnOk result (core.new.live ≡ true) }
     ensures limits { IfOk result (λ r. keeps_limits r ≡ true) }
 {
-    let planned = core.plan(command)?;
-    core.apply(planned)
+    core.answer(command)
 }
 
 /// Carries a command of a sender out without a folder, unless the sender may not send it.

@@ -6,7 +6,7 @@ use Rattle.entity_commands.specs.EntityChanges.{CanEnter, entered}
 use Rattle.policy_store.specs.PolicyChanges.{CanRule, ruled}
 use Rattle.link_commands.specs.LinkChanges.{CanLink, linked}
 use Rattle.terminator_commands.specs.TermChanges.{CanOffer, offered}
-use Rattle.circuit_rules.specs.CircuitPlans.{CanRoute, routed}
+use Rattle.circuit_rules.specs.CircuitPlans.{CanGrant, routed}
 use Rattle.core_stores.specs.declared.changes.Change.TheVariants as change
 use Rattle.core_stores.specs.StoredState.{state_of}
 use Rattle.ctrl_core.specs.PlannedCommands.{Plans}
@@ -17,46 +17,46 @@ use Rattle.ctrl_core.proofs.commands.plan_command.Goals as goal
 
 pub drafted-requires-clause-can : goal.drafted-requires-clause-can
 drafted-requires-clause-can c =
-    (planned_so entered CanEnter change.Entity (state_of c.args.stores.now) (λ x. refl) (λ x can. can) c.in-Some.plan c.entity_change.result (carry c.args.command.now (state_of c.args.stores.now)) c.entity_change.ensures
+    (planned_so entered CanEnter change.Entity (state_of c.args.stores.now) (λ x. refl) (λ x can. (can, tt)) c.in-Some.plan c.entity_change.result (carry c.args.command.now (state_of c.args.stores.now)) c.entity_change.ensures
     (found_plan _ _ c.in_ok-plan.field-0 c.in-Some.plan c.in-Some.is c.in_ok-plan.ensures (state_of c.args.stores.now) c.requires.kept.valid c.requires.kept.held)).can
 
 pub returns-in-Some : goal.returns-in-Some
 returns-in-Some c =
     IfOk-weaker c.drafted.result _ _ (λ p plans. plans (carry c.args.command.now (state_of c.args.stores.now))
-    (planned_so entered CanEnter change.Entity (state_of c.args.stores.now) (λ x. refl) (λ x can. can) c.in-Some.plan c.entity_change.result (carry c.args.command.now (state_of c.args.stores.now)) c.entity_change.ensures
+    (planned_so entered CanEnter change.Entity (state_of c.args.stores.now) (λ x. refl) (λ x can. (can, tt)) c.in-Some.plan c.entity_change.result (carry c.args.command.now (state_of c.args.stores.now)) c.entity_change.ensures
     (found_plan _ _ c.in_ok-plan.field-0 c.in-Some.plan c.in-Some.is c.in_ok-plan.ensures (state_of c.args.stores.now) c.requires.kept.valid c.requires.kept.held))) c.drafted.ensures
 
 pub drafted-requires-in-Some-2-clause-can : goal.drafted-requires-in-Some-2-clause-can
 drafted-requires-in-Some-2-clause-can c =
-    (planned_so ruled CanRule change.Policy (state_of c.args.stores.now) (λ x. refl) (λ x can. can) c.in-Some-2.plan c.policy_change.result (carry c.args.command.now (state_of c.args.stores.now)) c.policy_change.ensures
+    (planned_so ruled CanRule change.Policy (state_of c.args.stores.now) (λ x. refl) (λ x can. (can, tt)) c.in-Some-2.plan c.policy_change.result (carry c.args.command.now (state_of c.args.stores.now)) c.policy_change.ensures
     (found_plan _ _ c.in_ok-plan-2.field-0 c.in-Some-2.plan c.in-Some-2.is c.in_ok-plan-2.ensures (state_of c.args.stores.now) c.requires.kept.valid)).can
 
 pub returns-in-Some-2 : goal.returns-in-Some-2
 returns-in-Some-2 c =
     IfOk-weaker c.drafted-in-Some-2.result _ _ (λ p plans. plans (carry c.args.command.now (state_of c.args.stores.now))
-    (planned_so ruled CanRule change.Policy (state_of c.args.stores.now) (λ x. refl) (λ x can. can) c.in-Some-2.plan c.policy_change.result (carry c.args.command.now (state_of c.args.stores.now)) c.policy_change.ensures
+    (planned_so ruled CanRule change.Policy (state_of c.args.stores.now) (λ x. refl) (λ x can. (can, tt)) c.in-Some-2.plan c.policy_change.result (carry c.args.command.now (state_of c.args.stores.now)) c.policy_change.ensures
     (found_plan _ _ c.in_ok-plan-2.field-0 c.in-Some-2.plan c.in-Some-2.is c.in_ok-plan-2.ensures (state_of c.args.stores.now) c.requires.kept.valid))) c.drafted-in-Some-2.ensures
 
 pub drafted-requires-in-Some-3-clause-can : goal.drafted-requires-in-Some-3-clause-can
 drafted-requires-in-Some-3-clause-can c =
-    (planned_so linked CanLink change.Link (state_of c.args.stores.now) (λ x. refl) (λ x can. can) c.in-Some-3.plan c.link_change.result (carry c.args.command.now (state_of c.args.stores.now)) c.link_change.ensures
+    (planned_so linked CanLink change.Link (state_of c.args.stores.now) (λ x. refl) (λ x can. (can, tt)) c.in-Some-3.plan c.link_change.result (carry c.args.command.now (state_of c.args.stores.now)) c.link_change.ensures
     (found_plan _ _ c.in_ok-plan-3.field-0 c.in-Some-3.plan c.in-Some-3.is c.in_ok-plan-3.ensures (state_of c.args.stores.now) c.requires.kept.valid)).can
 
 pub returns-in-Some-3 : goal.returns-in-Some-3
 returns-in-Some-3 c =
     IfOk-weaker c.drafted-in-Some-3.result _ _ (λ p plans. plans (carry c.args.command.now (state_of c.args.stores.now))
-    (planned_so linked CanLink change.Link (state_of c.args.stores.now) (λ x. refl) (λ x can. can) c.in-Some-3.plan c.link_change.result (carry c.args.command.now (state_of c.args.stores.now)) c.link_change.ensures
+    (planned_so linked CanLink change.Link (state_of c.args.stores.now) (λ x. refl) (λ x can. (can, tt)) c.in-Some-3.plan c.link_change.result (carry c.args.command.now (state_of c.args.stores.now)) c.link_change.ensures
     (found_plan _ _ c.in_ok-plan-3.field-0 c.in-Some-3.plan c.in-Some-3.is c.in_ok-plan-3.ensures (state_of c.args.stores.now) c.requires.kept.valid))) c.drafted-in-Some-3.ensures
 
 pub drafted-requires-in-Some-4-clause-can : goal.drafted-requires-in-Some-4-clause-can
 drafted-requires-in-Some-4-clause-can c =
-    (planned_so offered CanOffer change.Terminator (state_of c.args.stores.now) (λ x. refl) (λ x can. can) c.in-Some-4.plan c.term_change.result (carry c.args.command.now (state_of c.args.stores.now)) c.term_change.ensures
+    (planned_so offered CanOffer change.Terminator (state_of c.args.stores.now) (λ x. refl) (λ x can. (can, tt)) c.in-Some-4.plan c.term_change.result (carry c.args.command.now (state_of c.args.stores.now)) c.term_change.ensures
     (found_plan _ _ c.in_ok-plan-4.field-0 c.in-Some-4.plan c.in-Some-4.is c.in_ok-plan-4.ensures (state_of c.args.stores.now) (c.requires.kept.counts Bind))).can
 
 pub returns-in-Some-4 : goal.returns-in-Some-4
 returns-in-Some-4 c =
     IfOk-weaker c.drafted-in-Some-4.result _ _ (λ p plans. plans (carry c.args.command.now (state_of c.args.stores.now))
-    (planned_so offered CanOffer change.Terminator (state_of c.args.stores.now) (λ x. refl) (λ x can. can) c.in-Some-4.plan c.term_change.result (carry c.args.command.now (state_of c.args.stores.now)) c.term_change.ensures
+    (planned_so offered CanOffer change.Terminator (state_of c.args.stores.now) (λ x. refl) (λ x can. (can, tt)) c.in-Some-4.plan c.term_change.result (carry c.args.command.now (state_of c.args.stores.now)) c.term_change.ensures
     (found_plan _ _ c.in_ok-plan-4.field-0 c.in-Some-4.plan c.in-Some-4.is c.in_ok-plan-4.ensures (state_of c.args.stores.now) (c.requires.kept.counts Bind)))) c.drafted-in-Some-4.ensures
 
 pub plan_circuit_command-requires : goal.plan_circuit_command-requires
@@ -74,13 +74,13 @@ plan_circuit_command-requires c = record {
 
 pub drafted-requires-in-Some-5-clause-can : goal.drafted-requires-in-Some-5-clause-can
 drafted-requires-in-Some-5-clause-can c =
-    (planned_so routed CanRoute change.Circuit (state_of c.args.stores.now) (λ x. refl) (λ x can. can) c.in-Some-5.plan c.circuit_change.result (carry c.args.command.now (state_of c.args.stores.now)) c.circuit_change.ensures
+    (planned_so routed CanGrant change.Circuit (state_of c.args.stores.now) (λ x. refl) (λ x can. can) c.in-Some-5.plan c.circuit_change.result (carry c.args.command.now (state_of c.args.stores.now)) c.circuit_change.ensures
     (found_plan _ _ c.in_ok-plan-5.field-0 c.in-Some-5.plan c.in-Some-5.is c.in_ok-plan-5.ensures (state_of c.args.stores.now) c.requires.kept.valid (record { dial = c.requires.kept.counts Dial; bind = c.requires.kept.counts Bind; identity_router = c.requires.kept.counts IdentityRouter; service_router = c.requires.kept.counts ServiceRouter; load = c.requires.kept.loads }))).can
 
 pub returns-in-Some-5 : goal.returns-in-Some-5
 returns-in-Some-5 c =
     IfOk-weaker c.drafted-in-Some-5.result _ _ (λ p plans. plans (carry c.args.command.now (state_of c.args.stores.now))
-    (planned_so routed CanRoute change.Circuit (state_of c.args.stores.now) (λ x. refl) (λ x can. can) c.in-Some-5.plan c.circuit_change.result (carry c.args.command.now (state_of c.args.stores.now)) c.circuit_change.ensures
+    (planned_so routed CanGrant change.Circuit (state_of c.args.stores.now) (λ x. refl) (λ x can. can) c.in-Some-5.plan c.circuit_change.result (carry c.args.command.now (state_of c.args.stores.now)) c.circuit_change.ensures
     (found_plan _ _ c.in_ok-plan-5.field-0 c.in-Some-5.plan c.in-Some-5.is c.in_ok-plan-5.ensures (state_of c.args.stores.now) c.requires.kept.valid (record { dial = c.requires.kept.counts Dial; bind = c.requires.kept.counts Bind; identity_router = c.requires.kept.counts IdentityRouter; service_router = c.requires.kept.counts ServiceRouter; load = c.requires.kept.loads })))) c.drafted-in-Some-5.ensures
 
 pub returns : goal.returns

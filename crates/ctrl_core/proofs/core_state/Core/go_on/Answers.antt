@@ -1,0 +1,21 @@
+use Rattle.std.proofs.Common.{◌||◌, is_some, sym, ◌∙◌, ap, subst}
+use Rattle.ctrl_model.specs.ValidState.{ValidState}
+use Rattle.model_laws.specs.Plans.{CanLeadBy, led_by}
+use Rattle.core_stores.specs.StoredState.{state_of}
+use Rattle.ctrl_core.specs.Changes.{CanChange, after_change}
+use Rattle.ctrl_core.specs.KeptState.{Cored, IsGranted}
+use Rattle.ctrl_core.proofs.StepLaws.{granted_after}
+use Rattle.ctrl_core.proofs.core_state.Core.go_on.Goals as goal
+
+pub move_stores-requires-clause-kept : goal.move_stores-requires-clause-kept
+move_stores-requires-clause-kept c = (c.self.invariant (ap (λ (v : Cored). v.live) c.self.view_is ∙ c.requires.live)).0
+
+pub invariant_of-self-2 : goal.invariant_of-self-2
+invariant_of-self-2 c = λ _.
+    let kept = c.self.invariant (ap (λ (v : Cored). v.live) c.self.view_is ∙ c.requires.live) in
+    let can = subst (λ (v : Cored). CanLeadBy CanChange c.args.change v.state) (sym c.self.view_is) c.requires.can in
+    let valid = subst (λ (v : Cored). ValidState (led_by after_change c.args.change v.state)) (sym c.self.view_is) c.requires.valid in (
+      c.in_ok-move_stores.ensures.kept,
+      subst (λ b. IsGranted b (state_of c.move_stores.new.stores)) (sym c.is_granted_then-self-inside.ensures)
+          (subst (IsGranted (c.self.inside.granted || is_some c.args.change)) (sym c.in_ok-move_stores.ensures.next) (granted_after c.self.inside.granted c.args.change c.self.inside.stores kept.0 can valid kept.1)),
+    )
