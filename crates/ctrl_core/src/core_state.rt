@@ -11,7 +11,7 @@ ghost use Rattle.state_building.specs.declared.flaws.Flaw.{Flaw};
 ghost use Rattle.row_loading.specs.declared.faults.CoreFault.TheVariants.{NotAState};
 ghost use Rattle.row_loading.specs.LoadedRows.{AreOfNoState};
 ghost use Rattle.row_loading.specs.RefusedRows.{RefusesRows};
-ghost use Rattle.core_stores.specs.LeadingSteps.{LeadAllCounts};
+ghost use Rattle.grant_steps.specs.LeadingSteps.{LeadAllCounts};
 ghost use Rattle.ctrl_core.specs.Changes.{CanChange, CanLead, IsStill, LeadsFrom, NamesSettled, after_change, led};
 
 use crate::applying::move_stores;

@@ -156,7 +156,14 @@ fn judged_beside(
     let none = Numbers::of(Vec::new(alloc));
     let stay = Moves::of(Vec::new(alloc));
     let circuits = CircuitsAfter::new(&stores.circuits, change.of_circuits(), &none, &stay);
-    let going = going_after(alloc, &circuits, &present, grants, &fallen.circuits, granted)?;
+    let going = going_after(
+        alloc,
+        &circuits,
+        &present,
+        grants,
+        &fallen.circuits,
+        granted,
+    )?;
     let judged = judged(alloc, &present, grants, &circuits, &going)?;
     Ok((going, judged))
 }
@@ -220,8 +227,9 @@ fn with_circuits(
 {
     let remaining = what_remains(alloc, stores, change)?;
     let grants = grants_after(alloc, &stores.grants, steps)?;
-    let (lost, judged) =
-        judged_beside(alloc, stores, change, &fallen, &remaining, &grants, granted)?;
+    let (lost, judged) = judged_beside(
+        alloc, stores, change, &fallen, &remaining, &grants, granted,
+    )?;
     Ok(Settled {
         links: fallen.links,
         terminators: fallen.terminators,
