@@ -13,13 +13,14 @@ use Rattle.path_certificate.specs.declared.graph.Step.{Step}
 use Rattle.path_certificate.specs.Graphs.{GraphSeen, potential}
 use Rattle.path_search.specs.Searches.{IsLeast, AreFew, greatest_cost}
 use Rattle.fabric_graph.specs.Routers.{costs_at_most, IsGraphOf}
-use Rattle.circuit_rules.specs.declared.choosing.Choice.{Choice}
+use Rattle.path_search.specs.declared.choosing.Choice.{Choice}
 use Rattle.circuit_rules.specs.declared.deciding.Ends.{Ends}
 use Rattle.circuit_rules.specs.FoundRoutes.{AreWithin}
-use Rattle.circuit_rules.specs.declared.places.Exit.{Exit}
-use Rattle.circuit_rules.specs.declared.places.Entry.{Entry}
+use Rattle.path_search.specs.declared.choosing.Exit.{Exit}
+use Rattle.path_search.specs.declared.choosing.Entry.{Entry}
 use Rattle.path_search.specs.Visits.{costs_to, SearchSeen}
-use Rattle.circuit_rules.specs.Searched.{most_step_cost, is_exit_at, AreCosts, AreSmall, choice_at, first_of_all, IsSearchOf, exits_at, IsFound, IsSearched}
+use Rattle.circuit_rules.specs.Searched.{most_step_cost, IsSearchOf, exits_at, IsFound, IsSearched}
+use Rattle.path_search.specs.RouteChoices.{is_exit_at, AreCosts, AreSmall, choice_at, first_of_all}
 use Rattle.circuit_rules.specs.declared.views.Route.{Route}
 use Rattle.ctrl_model.specs.Networks.{Network}
 use Rattle.circuit_rules.proofs.ChoiceLaws.{IsChosen, chosen}

@@ -10,8 +10,8 @@ use Rattle.circuit_rules.specs.declared.views.Route.{Route}
 use Rattle.circuit_rules.specs.declared.views.DecideFault.{DecideFault}
 use Rattle.circuit_rules.specs.declared.deciding.Ends.{Ends}
 use Rattle.circuit_rules.specs.declared.deciding.Found.{Found}
-use Rattle.circuit_rules.specs.declared.places.Entry.{Entry}
-use Rattle.circuit_rules.specs.declared.places.Exit.{Exit}
+use Rattle.path_search.specs.declared.choosing.Entry.{Entry}
+use Rattle.path_search.specs.declared.choosing.Exit.{Exit}
 use Rattle.circuit_rules.specs.Searched.{entries_to, exits_to, exits_at, IsSearched}
 use Rattle.ctrl_model.specs.Limits.{most_terminator_cost}
 

@@ -2,31 +2,28 @@
 use Rattle.std.specs.Prelude.{◌≡◌, ℕ, suc, ◌+◌, ◌<◌, ◌≤◌, ◌==◌, Bool, true, false, cond, ⊤, List, [], ◌∷◌, ◌++◌, map, filter, length, None, Some, Ok, Err}
 use Rattle.std.specs.declared.option.Option.{Option}
 use Rattle.std.specs.declared.result.Result.{Result}
-use Rattle.std.specs.Cmp.Lexicographic.{slice_cmp}
-use Rattle.std.specs.Ordering.{nat_cmp, is_lt}
 use Rattle.std.specs.Option.{option_map_or}
-use Rattle.std.specs.List.{list_any}
 use Rattle.ctrl_model.specs.declared.kinds.RouterSeen.{RouterSeen}
 use Rattle.ctrl_model.specs.declared.refusals.Denial.{Denial}
 use Rattle.ctrl_model.specs.declared.refusals.Denial.TheVariants.{UnknownRouter, NoDial, NoSharedRouter, SharedRoutersOffline, NoTerminators, NoAdmissibleTerminator, NoPath, CircuitsFull}
 use Rattle.ctrl_model.specs.State.{Terminator}
-use Rattle.ctrl_model.specs.Claims.{no_path}
 use Rattle.ctrl_model.specs.Matches.{is_nothing}
 use Rattle.ctrl_model.specs.Numbered.{at}
 use Rattle.ctrl_model.specs.Networks.{Network, is_counted, counted, admissible}
 use Rattle.ctrl_model.specs.Choices.{Ask, Wanted, Candidate, IsBest, is_absent, place_of, shared, ingresses, candidates_for, first_denial}
-use Rattle.path_certificate.specs.Graphs.{GraphSeen, potential}
+use Rattle.path_certificate.specs.Graphs.{GraphSeen}
 use Rattle.path_search.specs.Searches.{IsFirst}
-use Rattle.path_search.specs.Visits.{SearchSeen, costs_to, IsKnown}
+use Rattle.path_search.specs.RouteChoices.{AreCosts, first_of_all}
+use Rattle.path_search.specs.Visits.{SearchSeen, costs_to}
 use Rattle.fabric_graph.specs.Routers.{costs_at_most, IsGraphOf}
 use Rattle.circuit_rules.specs.declared.views.Route.{Route}
 use Rattle.circuit_rules.specs.declared.views.DecideFault.{DecideFault}
 use Rattle.circuit_rules.specs.declared.views.DecideFault.TheVariants as fault
 use Rattle.circuit_rules.specs.Decisions.{route_of}
-use Rattle.circuit_rules.specs.declared.choosing.Choice.{Choice}
+use Rattle.path_search.specs.declared.choosing.Choice.{Choice}
 use Rattle.circuit_rules.specs.declared.offers.Offer.{Offer}
-use Rattle.circuit_rules.specs.declared.places.Entry.{Entry}
-use Rattle.circuit_rules.specs.declared.places.Exit.{Exit}
+use Rattle.path_search.specs.declared.choosing.Entry.{Entry}
+use Rattle.path_search.specs.declared.choosing.Exit.{Exit}
 use Rattle.circuit_rules.specs.Offers.{offer_of}
 
 -- ---- rules, a part of them at a time
@@ -93,58 +90,6 @@ entries_to w ask i s = map (entry_of w.routers) (ingresses w ask.ingress i s)
 -- The exits of a request.
 abbrev pub exits_to : Network → Ask → ℕ → List Exit
 exits_to w ask s = map (exit_of w) (admissible w s ask.instance)
-
--- ---- least costs
-
--- Whether one of the exits stands at a place.
-abbrev pub is_exit_at : List Exit → ℕ → Bool
-is_exit_at exits place = list_any (λ o. o.place == place) exits
-
--- The least costs of paths to a place, if it has an exit.
-abbrev pub AreCosts : GraphSeen → List Exit → ℕ → List ℕ → Type 0
-AreCosts g exits place p = is_exit_at exits place ≡ true → IsKnown g place p
-
--- Least costs, of which each is small.
-pub record AreSmall (places : ℕ) (p : List ℕ) : Type 0 where
-  pub places_are : length p ≡ places
-  pub small : (v : ℕ) → v < places → potential p v < no_path → potential p v ≤ 64022850
-
--- ---- choices
-
--- What choices are compared by, from left to right.
-abbrev pub key : Choice → List ℕ
-key c = place_of c.precedence ∷ c.total ∷ c.terminator ∷ c.ingress ∷ c.from ∷ c.to ∷ []
-
--- Whether one choice comes before another.
-abbrev pub is_before : Choice → Choice → Bool
-is_before c d = is_lt (slice_cmp nat_cmp (key c) (key d))
-
--- The choice of an exit and an entry, if there is a path between them.
-abbrev pub choice_at : List ℕ → Exit → Entry → Option Choice
-choice_at p o x = cond (potential p x.place == no_path) None (Some (record {
-  precedence = o.precedence;
-  total = o.cost + potential p x.place;
-  terminator = o.terminator.0;
-  ingress = x.router.0;
-  from = x.place;
-  to = o.place;
-}))
-
--- The first of two choices that may be there.
-abbrev pub keep : Option Choice → Option Choice → Option Choice
-keep best None = best
-keep None (Some c) = Some c
-keep (Some b) (Some c) = Some (cond (is_before c b) c b)
-
--- The first of a choice and those of one exit.
-abbrev pub first_of : List ℕ → Exit → Option Choice → List Entry → Option Choice
-first_of p o best [] = best
-first_of p o best (x ∷ xs) = first_of p o (keep best (choice_at p o x)) xs
-
--- The first of a choice and those of some exits.
-abbrev pub first_of_all : List (List ℕ) → List Entry → Option Choice → List Exit → Option Choice
-first_of_all costs entries best [] = best
-first_of_all costs entries best (o ∷ exits) = first_of_all costs entries (first_of (costs_to costs o.place) o best entries) exits
 
 -- ---- the search
 

@@ -7,18 +7,17 @@ ghost use Rattle.fabric_graph.specs.Routers.{AreRouters};
 ghost use Rattle.circuit_rules.specs.Views.{network, asked};
 ghost use Rattle.circuit_rules.specs.Decisions.{Decides, MayWantMemory};
 ghost use Rattle.path_search.specs.Visits.{costs_to};
-ghost use Rattle.circuit_rules.specs.Searched.{Passes, PassesAtOnce, end_rules, GoesFirst, IsSearched, IsBestWay, IsSearchOf, AreCosts, exits_at};
+ghost use Rattle.circuit_rules.specs.Searched.{Passes, PassesAtOnce, end_rules, GoesFirst, IsSearched, IsBestWay, IsSearchOf, exits_at};
+ghost use Rattle.path_search.specs.RouteChoices.{AreCosts};
 ghost use Rattle.circuit_rules.specs.FoundRoutes.{AreWithin, IsFoundFirst, AreEnds, route_found};
 
-use crate::choosing::{Choice, first_of_all};
 use crate::ingresses::allowed_ingresses;
 use crate::offers::{allowed_offers, place_of};
-use crate::places::{Entry, Exit, entries, exits};
-use crate::searching::visit_exits;
+use crate::places::{entries, exits};
 use crate::views::{Ask, DecideFault, Route, View};
 use ctrl_model::{Denial, IdentityNo, Potentials, Precedence, RouterNo, ServiceNo, TermNo};
 use path_certificate::Graph;
-use path_search::{CostSearch, walk};
+use path_search::{Choice, CostSearch, Entry, Exit, first_of_all, visit_exits, walk};
 use std::alloc::{AllocError, Global};
 
 /// Where a circuit may enter and end.

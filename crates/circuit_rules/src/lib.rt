@@ -3,7 +3,6 @@
 #![tactic(auto)]
 
 mod beating;
-mod choosing;
 mod circuit_asking;
 mod circuit_names;
 mod circuit_parts;
@@ -15,7 +14,6 @@ mod numbers;
 mod offers;
 mod places;
 mod reaching;
-mod searching;
 mod settling;
 mod tight;
 mod values;

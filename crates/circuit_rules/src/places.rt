@@ -2,24 +2,9 @@ ghost use Rattle.std.specs.Prelude.{◌≡◌, ◌≤◌, length, map, IfOk};
 ghost use Rattle.circuit_rules.specs.Searched.{place_in, entry_of, exit_from};
 
 use crate::offers::Offer;
-use ctrl_model::{Precedence, RouterNo, RouterSeen, TermNo};
+use ctrl_model::{RouterNo, RouterSeen};
+use path_search::{Entry, Exit};
 use std::alloc::{AllocError, Global};
-
-/// A router where a circuit may enter, and its place.
-#[derive(Clone, Copy, Debug, PartialEq, Eq)]
-pub struct Entry {
-    pub place: u16,
-    pub router: RouterNo,
-}
-
-/// A terminator where a circuit may end, and the place of its router.
-#[derive(Clone, Copy, Debug, PartialEq, Eq)]
-pub struct Exit {
-    pub place: u16,
-    pub terminator: TermNo,
-    pub cost: u32,
-    pub precedence: Precedence,
-}
 
 /// The place of the router of a number: how many stand before it.
 pub fn place_in(routers: &[RouterSeen], router: RouterNo) -> usize

@@ -2,3 +2,4 @@ pub mod Searches
 pub mod Supports
 pub mod Visits
 pub mod MirroredSearches
+pub mod RouteChoices

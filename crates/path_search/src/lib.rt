@@ -1,15 +1,20 @@
-//! The search for least paths in a graph: the least cost from each place to a target, and the first of the least paths.
+//! The search for least paths in a graph: the least cost from each place to a target, the first of the least paths, and the first of
+//! all choices of where a path begins and ends.
 #![tactic(auto)]
 
+mod choosing;
 mod laws;
 mod relaxing;
+mod searching;
 mod visiting;
 mod waiting;
 mod walking;
 mod worked;
 
+pub use choosing::{Choice, Entry, Exit, first_of_all};
 pub use laws::least_paths_of_a_network;
 pub use relaxing::{arrivals, least, least_over};
+pub use searching::visit_exits;
 pub use visiting::CostSearch;
 pub use walking::walk;
 pub use worked::{bound_of_three, least_costs_of_a_row, lesser_links_first};

@@ -1,9 +1,9 @@
 ghost use Rattle.std.specs.Prelude.{◌≡◌, ◌<◌, ℕ, All, length, OnOk};
 ghost use Rattle.path_search.specs.Visits.{costs_to};
-ghost use Rattle.circuit_rules.specs.Searched.{AreCosts};
+ghost use Rattle.path_search.specs.RouteChoices.{AreCosts};
 
-use crate::places::Exit;
-use path_search::CostSearch;
+use crate::choosing::Exit;
+use crate::visiting::CostSearch;
 use std::alloc::{AllocError, Global};
 
 /// Searches the least costs to the place of each exit.

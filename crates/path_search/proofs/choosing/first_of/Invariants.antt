@@ -1,6 +1,6 @@
 use Rattle.std.proofs.Common.{◌≡◌, drop}
-use Rattle.circuit_rules.specs.Searched.{first_of}
-use Rattle.circuit_rules.proofs.choosing.first_of.Given as goal
+use Rattle.path_search.specs.RouteChoices.{first_of}
+use Rattle.path_search.proofs.choosing.first_of.Given as goal
 
 -- the first of those so far and those that are left
 abbrev pub invariant-entries : goal.invariant-entries

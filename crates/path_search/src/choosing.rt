@@ -3,10 +3,25 @@ ghost use Rattle.ctrl_model.specs.Limits.{most_terminator_cost};
 ghost use Rattle.ctrl_model.specs.Claims.{no_path};
 ghost use Rattle.path_certificate.specs.Graphs.{potential};
 ghost use Rattle.path_search.specs.Visits.{costs_to};
-ghost use Rattle.circuit_rules.specs.Searched.{AreSmall, is_before, choice_at, keep, first_of, first_of_all};
+ghost use Rattle.path_search.specs.RouteChoices.{AreSmall, is_before, choice_at, keep, first_of, first_of_all};
 
-use crate::places::{Entry, Exit};
-use ctrl_model::{Potentials, Precedence};
+use ctrl_model::{Potentials, Precedence, RouterNo, TermNo};
+
+/// A router where a circuit may enter, and its place.
+#[derive(Clone, Copy, Debug, PartialEq, Eq)]
+pub struct Entry {
+    pub place: u16,
+    pub router: RouterNo,
+}
+
+/// A terminator where a circuit may end, and the place of its router.
+#[derive(Clone, Copy, Debug, PartialEq, Eq)]
+pub struct Exit {
+    pub place: u16,
+    pub terminator: TermNo,
+    pub cost: u32,
+    pub precedence: Precedence,
+}
 
 /// A terminator and an ingress with a path between them, which costs this much in all. The fields stand in the order in which
 /// choices are compared; the last two, the places of ingress and terminator, only go with the two before.

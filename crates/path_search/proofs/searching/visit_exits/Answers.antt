@@ -1,6 +1,6 @@
 use Rattle.std.proofs.Common.{◌∙◌}
 use Rattle.circuit_rules.proofs.VisitLaws.{visited_more, visited_all}
-use Rattle.circuit_rules.proofs.searching.visit_exits.Goals as goal
+use Rattle.path_search.proofs.searching.visit_exits.Goals as goal
 
 pub exits-preserved : goal.exits-preserved
 exits-preserved c = record {

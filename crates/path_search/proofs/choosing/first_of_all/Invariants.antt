@@ -1,6 +1,6 @@
 use Rattle.std.proofs.Common.{◌≡◌, drop, None}
-use Rattle.circuit_rules.specs.Searched.{first_of_all}
-use Rattle.circuit_rules.proofs.choosing.first_of_all.Given as goal
+use Rattle.path_search.specs.RouteChoices.{first_of_all}
+use Rattle.path_search.proofs.choosing.first_of_all.Given as goal
 
 -- the first of those so far and those that are left
 abbrev pub invariant-exits : goal.invariant-exits
