@@ -15,5 +15,4 @@ pub mod BestClaimLaws
 pub mod PresentLaws
 pub mod CircuitPlanLaws
 pub mod CheckLaws
-pub mod VisitLaws
 pub mod StandingGrants

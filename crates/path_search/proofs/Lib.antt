@@ -6,3 +6,4 @@ pub mod WorkedCosts
 pub mod WaitingPlaces
 pub mod KnownCosts
 pub mod NetworkPaths
+pub mod VisitLaws

@@ -1,5 +1,5 @@
 use Rattle.std.proofs.Common.{◌∙◌}
-use Rattle.circuit_rules.proofs.VisitLaws.{visited_more, visited_all}
+use Rattle.path_search.proofs.VisitLaws.{visited_more, visited_all}
 use Rattle.path_search.proofs.searching.visit_exits.Goals as goal
 
 pub exits-preserved : goal.exits-preserved
