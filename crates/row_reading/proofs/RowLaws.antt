@@ -17,8 +17,8 @@ use Rattle.row_codec.specs.declared.rows.Row.TheVariants as row
 use Rattle.row_codec.specs.RowForm.{is_row, key_of, value_of, SpellsRow, is_positive}
 use Rattle.row_codec.specs.RowKeys.{RowTable, is_long, key_bytes, table_number, tables}
 use Rattle.row_codec.specs.RowKeys.RowTable.{Next, Setting, Records, Counts}
-use Rattle.row_codec.specs.FieldReading.{Front, both, alone}
-use Rattle.row_reading.specs.RowReading.{row_read, count_read, record_read, table_read, table_of, row_of, Gives}
+use Rattle.row_codec.specs.FieldReading.{Front, front_number, both, alone}
+use Rattle.row_reading.specs.RowReading.{row_read, count_read, record_read, table_read, table_of, row_of, Fails, Gives}
 use Rattle.row_codec.proofs.FieldLaws.{AreBytes, some_is, bind_some, map_some, and_left, and_right}
 use Rattle.row_reading.proofs.FormLaws.{IsForm, and_both, and_regrouped, alone_again, alone_takes}
 use Rattle.row_reading.proofs.ValueLaws.{number_form, entity_form, router_form, link_form, service_policy_form, router_policy_form, terminator_form, circuit_form, count_form, next_form, setting_form, kind_form, nothing_form, pair_form}
@@ -189,3 +189,15 @@ reads_row key value (Err faults.NoMemory) fk fv gives = record {
   bad = (λ h. absurd cc, λ none. absurd (some_spelled key value fk fv gives none));
   never = λ h. cc;
 }
+
+-- ---- a fault of a value is one of its row
+
+is_some-made : {V : Type 0} (make : V → Row) (o : Option V) → is_some o ≡ true → is_some (option_map make o) ≡ true
+is_some-made make (Some v) e = refl
+is_some-made make None e = absurd cc
+
+pub fails_too : {V : Type 0} (fault : RowFault) (g : List ℕ → Front V) (make : ℕ → V → Row) (rest value : List ℕ) (n : ℕ)
+    → alone front_number rest ≡ Some n → Fails fault (alone g value) → Fails fault (row_read front_number g make rest value)
+fails_too faults.BadRow g make rest value n e h = rw (e, h) refl
+fails_too faults.BadBatch g make rest value n e h = h
+fails_too faults.NoMemory g make rest value n e h = rw e (is_some-made (λ v. make n v) (alone g value) h)

@@ -2,7 +2,7 @@ ghost use Rattle.std.specs.Prelude.{◌≡◌, ℕ, List, Some};
 ghost use Rattle.ctrl_model.specs.declared.kinds.Kind.TheVariants as kind;
 ghost use Rattle.row_codec.specs.RowKeys.RowTable.{Next, Setting, Counts};
 ghost use Rattle.row_codec.specs.FieldReading.{alone, front_number};
-ghost use Rattle.row_reading.specs.RowReading.{Gives, record_read, count_read, table_read, table_seen, row_of};
+ghost use Rattle.row_reading.specs.RowReading.{Gives, front_entity, front_router_policy, record_read, count_read, table_read, table_seen, row_of};
 
 use crate::lists::{links_of, names_of, side_of};
 use crate::lone_fields::{lone_count, lone_kind, lone_next, lone_number, lone_pair, lone_setting};
@@ -12,19 +12,44 @@ use crate::values::{
     circuit_at, entity_at, link_at, router_at, router_policy_at, service_policy_at, terminator_at,
 };
 use ctrl_model::{
-    CircuitNo, IdentityNo, Kind, LinkNo, PolicyNo, Relation, RouterNo, ServiceNo, TermNo,
+    CircuitNo, IdentityNo, Kind, LinkNo, Name, Names, PolicyNo, Relation, RouterNo, Semantic,
+    ServiceNo, Side, TermNo,
 };
 use row_codec::{Row, RowFault, split_byte};
 use std::alloc::Global;
 
-fn identity_row(alloc: Global, no: u32, value: &[u8]) -> Result<Row, RowFault>
-    ensures { (rest : List ℕ) → alone front_number rest ≡ Some no → Gives (λ r. r) result (record_read kind.Identity rest value.now) }
+// The name and the attributes of an identity or a service.
+fn entity_of(alloc: Global, value: &[u8]) -> Result<(Name, Names), RowFault>
+    ensures { Gives (λ x. (x.0, x.1)) result (alone front_entity value.now) }
 {
     let Some((name, attributes)) = entity_at(value) else {
         return Err(RowFault::BadRow);
     };
     let name = named(alloc, name)?;
     let attributes = names_of(alloc, attributes)?;
+    Ok((name, attributes))
+}
+
+// The name of a policy of a kind that has no relation, its semantic and its two sides.
+fn router_policy_of(
+    alloc: Global,
+    value: &[u8],
+) -> Result<(Name, (Semantic, (Side, Side))), RowFault>
+    ensures { Gives (λ x. (x.0, x.1)) result (alone front_router_policy value.now) }
+{
+    let Some((name, (semantic, (left, right)))) = router_policy_at(value) else {
+        return Err(RowFault::BadRow);
+    };
+    let name = named(alloc, name)?;
+    let left = side_of(alloc, left)?;
+    let right = side_of(alloc, right)?;
+    Ok((name, (semantic, (left, right))))
+}
+
+fn identity_row(alloc: Global, no: u32, value: &[u8]) -> Result<Row, RowFault>
+    ensures { (rest : List ℕ) → alone front_number rest ≡ Some no → Gives (λ r. r) result (record_read kind.Identity rest value.now) }
+{
+    let (name, attributes) = entity_of(alloc, value)?;
     Ok(Row::Identity {
         no: IdentityNo(no),
         name,
@@ -35,11 +60,7 @@ fn identity_row(alloc: Global, no: u32, value: &[u8]) -> Result<Row, RowFault>
 fn service_row(alloc: Global, no: u32, value: &[u8]) -> Result<Row, RowFault>
     ensures { (rest : List ℕ) → alone front_number rest ≡ Some no → Gives (λ r. r) result (record_read kind.Service rest value.now) }
 {
-    let Some((name, attributes)) = entity_at(value) else {
-        return Err(RowFault::BadRow);
-    };
-    let name = named(alloc, name)?;
-    let attributes = names_of(alloc, attributes)?;
+    let (name, attributes) = entity_of(alloc, value)?;
     Ok(Row::Service {
         no: ServiceNo(no),
         name,
@@ -107,12 +128,7 @@ fn service_policy_row(alloc: Global, no: u32, value: &[u8]) -> Result<Row, RowFa
 fn edge_router_policy_row(alloc: Global, no: u32, value: &[u8]) -> Result<Row, RowFault>
     ensures { (rest : List ℕ) → alone front_number rest ≡ Some no → Gives (λ r. r) result (record_read kind.EdgeRouterPolicy rest value.now) }
 {
-    let Some((name, (semantic, (identities, routers)))) = router_policy_at(value) else {
-        return Err(RowFault::BadRow);
-    };
-    let name = named(alloc, name)?;
-    let identities = side_of(alloc, identities)?;
-    let routers = side_of(alloc, routers)?;
+    let (name, (semantic, (identities, routers))) = router_policy_of(alloc, value)?;
     Ok(Row::EdgeRouterPolicy {
         no: PolicyNo(no),
         name,
@@ -125,12 +141,7 @@ fn edge_router_policy_row(alloc: Global, no: u32, value: &[u8]) -> Result<Row, R
 fn service_edge_router_policy_row(alloc: Global, no: u32, value: &[u8]) -> Result<Row, RowFault>
     ensures { (rest : List ℕ) → alone front_number rest ≡ Some no → Gives (λ r. r) result (record_read kind.ServiceEdgeRouterPolicy rest value.now) }
 {
-    let Some((name, (semantic, (services, routers)))) = router_policy_at(value) else {
-        return Err(RowFault::BadRow);
-    };
-    let name = named(alloc, name)?;
-    let services = side_of(alloc, services)?;
-    let routers = side_of(alloc, routers)?;
+    let (name, (semantic, (services, routers))) = router_policy_of(alloc, value)?;
     Ok(Row::ServiceEdgeRouterPolicy {
         no: PolicyNo(no),
         name,
