@@ -1,7 +1,7 @@
 -- Things that stand one behind the other: as a loop takes them, and those of a list.
-use Rattle.std.proofs.Common.{◌≡◌, ℕ, zero, suc, ◌-◌, ◌+◌, ◌≤◌, ◌<◌, Bool, true, false, cond, leb, List, [], ◌∷◌, ◌++◌, Option, Some, None, refl, sym, ap, ◌∙◌, append_assoc, append-nil, arith}
+use Rattle.std.proofs.Common.{◌≡◌, ℕ, zero, suc, ◌-◌, ◌+◌, ◌≤◌, ◌<◌, Bool, true, false, leb, List, [], ◌∷◌, ◌++◌, Option, Some, None, refl, sym, ap, ◌∙◌, append_assoc, append-nil, arith}
 use Rattle.std.specs.Option.{option_map}
-use Rattle.row_codec.specs.FieldReading.{Front, front_byte, front_each, front_list, behind}
+use Rattle.row_codec.specs.FieldReading.{Front, front_each, front_list, behind}
 use Rattle.row_codec.proofs.FieldLaws.{some_is}
 use Rattle.row_reading.specs.RowReading.{things_in, things_of}
 

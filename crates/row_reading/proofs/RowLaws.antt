@@ -1,10 +1,10 @@
 -- Rows: what is written is read again, what is read is what was written, and a key and a value spell one row.
-use Rattle.std.proofs.Common.{◌≡◌, ℕ, suc, Bool, true, false, ne_eqb, ◌&&◌, ◌==◌, List, [], ◌∷◌, length, Option, Some, None, refl, sym, ap, subst, ◌∙◌, arith}
+use Rattle.std.proofs.Common.{◌≡◌, ℕ, suc, Bool, true, false, ◌&&◌, ◌==◌, List, [], ◌∷◌, Option, Some, None, refl, sym, ap, subst, ◌∙◌}
 use Rattle.std.specs.Prelude.{Ok, Err, IfOk, IsErrOf, ◌↔◌}
 use Rattle.std.specs.declared.result.Result.{Result}
 use Rattle.row_codec.specs.declared.faults.RowFault.{RowFault}
 use Rattle.row_codec.specs.declared.faults.RowFault.TheVariants as faults
-use Rattle.std.specs.Option.{option_map, option_and_then, is_some}
+use Rattle.std.specs.Option.{option_map, is_some}
 use Rattle.std.proofs.lemmas.Bool.{eqb-true}
 use Rattle.ctrl_model.proofs.Members.{find_passes}
 use Rattle.ctrl_model.specs.declared.kinds.Kind.{Kind}
@@ -17,7 +17,7 @@ use Rattle.row_codec.specs.declared.rows.Row.TheVariants as row
 use Rattle.row_codec.specs.RowForm.{is_row, key_of, value_of, SpellsRow, is_positive}
 use Rattle.row_codec.specs.RowKeys.{RowTable, is_long, key_bytes, table_number, tables}
 use Rattle.row_codec.specs.RowKeys.RowTable.{Next, Setting, Records, Counts}
-use Rattle.row_codec.specs.FieldReading.{Front, front_number, both, alone}
+use Rattle.row_codec.specs.FieldReading.{Front, front_number, alone}
 use Rattle.row_reading.specs.RowReading.{row_read, count_read, record_read, table_read, table_of, row_of, Fails, Gives}
 use Rattle.row_codec.proofs.FieldLaws.{AreBytes, some_is, bind_some, map_some, and_left, and_right}
 use Rattle.row_reading.proofs.FormLaws.{IsForm, and_both, and_regrouped, alone_again, alone_takes}

@@ -1,5 +1,5 @@
 -- Rows as they are read: the parts of a key behind its table, and those of a value (docs/FORMATS.md, "Rows").
-use Rattle.std.specs.Prelude.{◌≡◌, ℕ, zero, suc, Bool, true, false, not, cond, nat_lt, nat_le, ◌==◌, ◌&&◌, List, [], ◌∷◌, find, None, Some, Ok, Err}
+use Rattle.std.specs.Prelude.{◌≡◌, ℕ, zero, suc, Bool, true, not, cond, nat_lt, nat_le, ◌==◌, ◌&&◌, List, [], ◌∷◌, find, None, Some, Ok, Err}
 use Rattle.std.specs.declared.option.Option.{Option}
 use Rattle.std.specs.declared.result.Result.{Result}
 use Rattle.std.specs.Option.{option_map, option_map_or, option_and_then, is_some}
