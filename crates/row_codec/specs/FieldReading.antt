@@ -71,12 +71,6 @@ front_list most front bytes = option_and_then (λ n. cond (nat_le n.0 most) (fro
 abbrev pub behind : {A : Type 0} → Front A → Option (List ℕ)
 behind front = option_map (λ x. x.1) front
 
--- Whether there is a rest, and it is empty.
-abbrev pub is_end : Option (List ℕ) → Bool
-is_end None = false
-is_end (Some []) = true
-is_end (Some (b ∷ rest)) = false
-
 -- What is left, where nothing follows.
 abbrev pub at_end : {A : Type 0} → A → List ℕ → Option A
 at_end x [] = Some x

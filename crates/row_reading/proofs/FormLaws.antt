@@ -1,5 +1,5 @@
 -- Forms: a rule by which things are read, with the spelling that it reads and the test that they pass.
-use Rattle.std.proofs.Common.{◌≡◌, ℕ, zero, suc, Bool, true, false, cond, leb, ◌&&◌, List, [], ◌∷◌, ◌++◌, length, Option, Some, None, refl, sym, ap, subst, ◌∙◌, append_assoc}
+use Rattle.std.proofs.Common.{◌≡◌, ℕ, zero, suc, ◌≤◌, Bool, true, false, cond, leb, ◌&&◌, List, [], ◌∷◌, ◌++◌, length, Option, Some, None, refl, sym, ap, subst, ◌∙◌, append_assoc, arith}
 use Rattle.std.specs.List.{flat_map, list_all}
 use Rattle.std.specs.Option.{option_map}
 use Rattle.std.proofs.lemmas.List.{append-nil}
@@ -182,3 +182,15 @@ alone_takes {A = A} f s p F bytes a fits e =
     let t = F.takes bytes x.0 fits x.1 in
     let d = ended x.0.0 x.0.1 a x.2 in
     subst (λ (b : A). (bytes ≡ s b) × (p b ≡ true)) d.1 (t.0.parts ∙ ap (λ (r : List ℕ). s x.0.0 ++ r) d.0 ∙ append-nil (s x.0.0), t.1)
+
+-- ---- what is read in parts
+
+pub both_read : {A B : Type 0} (f : List ℕ → Front A) (g : List ℕ → Front B) (bytes : List ℕ) (a : A) (rest : List ℕ) (b : B) (more : List ℕ)
+    → Some (a, rest) ≡ f bytes → Some (b, more) ≡ g rest → Some ((a, b), more) ≡ both f g bytes
+both_read f g bytes a rest b more e h = rw (sym e, sym h) refl
+
+-- two things with something behind them do not stand alone
+pub not_alone : {A B : Type 0} (f : List ℕ → Front A) (g : List ℕ → Front B) (bytes : List ℕ) (a : A) (rest : List ℕ) (b : B) (more : List ℕ)
+    → Some (a, rest) ≡ f bytes → Some (b, more) ≡ g rest → 1 ≤ length more → None ≡ alone (both f g) bytes
+not_alone f g bytes a rest b [] e h l = absurd (omega (arith, l))
+not_alone f g bytes a rest b (x ∷ more) e h l = rw (sym e, sym h) refl

@@ -1,10 +1,10 @@
 -- Rows: what is written is read again, what is read is what was written, and a key and a value spell one row.
-use Rattle.std.proofs.Common.{◌≡◌, ℕ, suc, Bool, true, false, ne_eqb, ◌&&◌, ◌==◌, List, [], ◌∷◌, length, Option, Some, None, refl, sym, ap, subst, ◌∙◌, arith}
+use Rattle.std.proofs.Common.{◌≡◌, ℕ, suc, Bool, true, false, ◌&&◌, ◌==◌, List, [], ◌∷◌, Option, Some, None, refl, sym, ap, subst, ◌∙◌}
 use Rattle.std.specs.Prelude.{Ok, Err, IfOk, IsErrOf, ◌↔◌}
 use Rattle.std.specs.declared.result.Result.{Result}
 use Rattle.row_codec.specs.declared.faults.RowFault.{RowFault}
 use Rattle.row_codec.specs.declared.faults.RowFault.TheVariants as faults
-use Rattle.std.specs.Option.{option_map, option_and_then, is_some}
+use Rattle.std.specs.Option.{option_map, is_some}
 use Rattle.std.proofs.lemmas.Bool.{eqb-true}
 use Rattle.ctrl_model.proofs.Members.{find_passes}
 use Rattle.ctrl_model.specs.declared.kinds.Kind.{Kind}
@@ -17,8 +17,8 @@ use Rattle.row_codec.specs.declared.rows.Row.TheVariants as row
 use Rattle.row_codec.specs.RowForm.{is_row, key_of, value_of, SpellsRow, is_positive}
 use Rattle.row_codec.specs.RowKeys.{RowTable, is_long, key_bytes, table_number, tables}
 use Rattle.row_codec.specs.RowKeys.RowTable.{Next, Setting, Records, Counts}
-use Rattle.row_codec.specs.FieldReading.{Front, front_byte, front_long, front_number, kept, both, alone, behind, is_end, at_end}
-use Rattle.row_reading.specs.RowReading.{is_kind, is_next, is_setting, front_entity, front_router, front_link, front_service_policy, front_router_policy, front_terminator, front_circuit, row_read, count_read, record_read, table_read, table_of, is_row_in, row_of, Gives}
+use Rattle.row_codec.specs.FieldReading.{Front, front_number, alone}
+use Rattle.row_reading.specs.RowReading.{row_read, count_read, record_read, table_read, table_of, row_of, Fails, Gives}
 use Rattle.row_codec.proofs.FieldLaws.{AreBytes, some_is, bind_some, map_some, and_left, and_right}
 use Rattle.row_reading.proofs.FormLaws.{IsForm, and_both, and_regrouped, alone_again, alone_takes}
 use Rattle.row_reading.proofs.ValueLaws.{number_form, entity_form, router_form, link_form, service_policy_form, router_policy_form, terminator_form, circuit_form, count_form, next_form, setting_form, kind_form, nothing_form, pair_form}
@@ -147,63 +147,6 @@ row_again_from (row.ServiceRouter service router count) e =
 pub row_again : (key value : List ℕ) (r : Row) → SpellsRow key value r → row_of key value ≡ Some r
 row_again key value r s = rw (s.key_is, s.value_is) (row_again_from r s.form)
 
--- ---- whether a row is there
-
-is_end-alone : {A : Type 0} (o : Front A) → is_end (behind o) ≡ is_some (option_and_then (λ x. at_end x.0 x.1) o)
-is_end-alone None = refl
-is_end-alone (Some x) = by x.1
-  where
-    by : (rest : List ℕ) → is_end (Some rest) ≡ is_some (at_end x.0 rest)
-    by [] = refl
-    by (b ∷ rest) = refl
-
-is_some-read : {K V : Type 0} (make : K → V → Row) (k : Option K) (v : Option V) → (is_some k && is_some v) ≡ is_some (option_and_then (λ x. option_map (λ y. make x y) v) k)
-is_some-read make None v = refl
-is_some-read make (Some k) None = refl
-is_some-read make (Some k) (Some v) = refl
-
-record_there : {V : Type 0} (g : List ℕ → Front V) (make : ℕ → V → Row) (rest value : List ℕ) → (is_some (alone front_number rest) && is_end (behind (g value))) ≡ is_some (row_read front_number g make rest value)
-record_there g make rest value = rw (is_end-alone (g value)) (is_some-read make (alone front_number rest) (alone g value))
-
-and_false : (b : Bool) → (b && false) ≡ false
-and_false true = refl
-and_false false = refl
-
-records_there : (k : Kind) (rest value : List ℕ) → is_row_in (Records k) rest value ≡ is_some (record_read k rest value)
-records_there kind.Identity rest value = record_there front_entity _ rest value
-records_there kind.Service rest value = record_there front_entity _ rest value
-records_there kind.Router rest value = record_there front_router _ rest value
-records_there kind.Link rest value = record_there front_link _ rest value
-records_there kind.ServicePolicy rest value = record_there front_service_policy _ rest value
-records_there kind.EdgeRouterPolicy rest value = record_there front_router_policy _ rest value
-records_there kind.ServiceEdgeRouterPolicy rest value = record_there front_router_policy _ rest value
-records_there kind.Terminator rest value = record_there front_terminator _ rest value
-records_there kind.Circuit rest value = record_there front_circuit _ rest value
-records_there kind.Attribute rest value = and_false (is_some (alone front_number rest))
-
-counts_there : (c : Relation) (rest value : List ℕ) → is_row_in (Counts c) rest value ≡ is_some (count_read c rest value)
-counts_there relation.Dial rest value = is_some-read _ (alone (both front_number front_number) rest) (alone (kept is_positive front_long) value)
-counts_there relation.Bind rest value = is_some-read _ (alone (both front_number front_number) rest) (alone (kept is_positive front_long) value)
-counts_there relation.IdentityRouter rest value = is_some-read _ (alone (both front_number front_number) rest) (alone (kept is_positive front_long) value)
-counts_there relation.ServiceRouter rest value = is_some-read _ (alone (both front_number front_number) rest) (alone (kept is_positive front_long) value)
-
-setting_there : (rest : List ℕ) (v : Option ℕ) → ((length rest == 0) && is_some v) ≡ is_some (option_and_then (λ u. option_map (λ n. row.Setting n) v) (at_end {A = Unit {0}} tt rest))
-setting_there [] None = refl
-setting_there [] (Some n) = refl
-setting_there (b ∷ rest) v =
-    let no : (length (b ∷ rest) == 0) ≡ false = ne_eqb _ _ (λ e. omega (arith, e)) in
-    rw no refl
-
-pub rows_there : (t : RowTable) (rest value : List ℕ) → is_row_in t rest value ≡ is_some (table_read t rest value)
-rows_there Next rest value = is_some-read _ (alone (kept is_kind front_byte) rest) (alone (kept is_next front_long) value)
-rows_there Setting rest value = setting_there rest (alone (kept is_setting front_long) value)
-rows_there (Records k) rest value = records_there k rest value
-rows_there (Counts c) rest value = counts_there c rest value
-
--- the row that is read, where the table is known
-pub row_of_parts : (key value rest : List ℕ) (n : ℕ) (t : RowTable) → front_byte key ≡ Some (n, rest) → table_of n ≡ Some t → row_of key value ≡ table_read t rest value
-row_of_parts key value rest n t e f = rw (e, f) refl
-
 -- a key and a value spell at most one row
 pub one_row : (key value : List ℕ) (a b : Row) → SpellsRow key value a → SpellsRow key value b → a ≡ b
 one_row key value a b s t = some_is a b (sym (row_again key value a s) ∙ row_again key value b t)
@@ -223,26 +166,38 @@ none_spelled key value e r s =
 some_spelled : (key value : List ℕ) → AreBytes key → AreBytes value → is_some (row_of key value) ≡ true → ((r : Row) → SpellsRow key value r → ⊥) → ⊥
 some_spelled key value fk fv e none = by_some (row_of key value) e (λ r is. none r (row_takes key value r fk fv is))
 
--- what is answered where a row is there
+-- what is answered
 pub record ReadsRow (key value : List ℕ) (result : Result Row RowFault) : Type 0 where
   pub read : IfOk result (λ r. SpellsRow key value r)
   pub bad : IsErrOf result faults.BadRow ↔ ((r : Row) → SpellsRow key value r → ⊥)
   pub never : IsErrOf result faults.BadBatch → ⊥
 
-pub reads_row : (key value : List ℕ) (result : Result Row RowFault) → AreBytes key → AreBytes value → is_some (row_of key value) ≡ true → Gives (λ r. r) result (row_of key value) → ReadsRow key value result
-reads_row key value (Ok r) fk fv e gives = record {
+pub reads_row : (key value : List ℕ) (result : Result Row RowFault) → AreBytes key → AreBytes value → Gives (λ r. r) result (row_of key value) → ReadsRow key value result
+reads_row key value (Ok r) fk fv gives = record {
   read = row_takes key value r fk fv gives;
-  bad = (λ h. absurd cc, λ none. absurd (some_spelled key value fk fv e none));
+  bad = (λ h. absurd cc, λ none. absurd (none r (row_takes key value r fk fv gives)));
   never = λ h. cc;
 }
-reads_row key value (Err faults.BadRow) fk fv e gives = absurd (none_there (row_of key value) e gives)
-  where
-    none_there : (o : Option Row) → is_some o ≡ true → o ≡ None → ⊥
-    none_there None e h = cc
-    none_there (Some r) e h = cc
-reads_row key value (Err faults.BadBatch) fk fv e gives = absurd gives
-reads_row key value (Err faults.NoMemory) fk fv e gives = record {
+reads_row key value (Err faults.BadRow) fk fv gives = record {
   read = tt;
-  bad = (λ h. absurd cc, λ none. absurd (some_spelled key value fk fv e none));
+  bad = (λ h. none_spelled key value (ap is_some gives), λ none. refl);
   never = λ h. cc;
 }
+reads_row key value (Err faults.BadBatch) fk fv gives = absurd gives
+reads_row key value (Err faults.NoMemory) fk fv gives = record {
+  read = tt;
+  bad = (λ h. absurd cc, λ none. absurd (some_spelled key value fk fv gives none));
+  never = λ h. cc;
+}
+
+-- ---- a fault of a value is one of its row
+
+is_some-made : {V : Type 0} (make : V → Row) (o : Option V) → is_some o ≡ true → is_some (option_map make o) ≡ true
+is_some-made make (Some v) e = refl
+is_some-made make None e = absurd cc
+
+pub fails_too : {V : Type 0} (fault : RowFault) (g : List ℕ → Front V) (make : ℕ → V → Row) (rest value : List ℕ) (n : ℕ)
+    → alone front_number rest ≡ Some n → Fails fault (alone g value) → Fails fault (row_read front_number g make rest value)
+fails_too faults.BadRow g make rest value n e h = rw (e, h) refl
+fails_too faults.BadBatch g make rest value n e h = h
+fails_too faults.NoMemory g make rest value n e h = rw e (is_some-made (λ v. make n v) (alone g value) h)

@@ -1,8 +1,8 @@
 -- Rows as they are read: the parts of a key behind its table, and those of a value (docs/FORMATS.md, "Rows").
-use Rattle.std.specs.Prelude.{◌≡◌, ℕ, Bool, true, false, not, cond, nat_lt, nat_le, ◌==◌, ◌&&◌, List, length, find, None, Some, Ok, Err}
+use Rattle.std.specs.Prelude.{◌≡◌, ℕ, zero, suc, Bool, true, not, cond, nat_lt, nat_le, ◌==◌, ◌&&◌, List, [], ◌∷◌, find, None, Some, Ok, Err}
 use Rattle.std.specs.declared.option.Option.{Option}
 use Rattle.std.specs.declared.result.Result.{Result}
-use Rattle.std.specs.Option.{option_map, option_and_then, is_some}
+use Rattle.std.specs.Option.{option_map, option_map_or, option_and_then, is_some}
 use Rattle.ctrl_model.specs.declared.kinds.Kind.{Kind}
 use Rattle.ctrl_model.specs.declared.kinds.Kind.TheVariants as kind
 use Rattle.ctrl_model.specs.declared.kinds.Side.{Side}
@@ -20,7 +20,7 @@ use Rattle.row_reading.specs.declared.tables.Table.TheVariants as table
 use Rattle.row_codec.specs.RowForm.{is_positive}
 use Rattle.row_codec.specs.RowKeys.{RowTable, is_long, table_number, tables}
 use Rattle.row_codec.specs.RowKeys.RowTable.{Next, Setting, Records, Counts}
-use Rattle.row_codec.specs.FieldReading.{Front, front_byte, front_code, front_flag, front_instance, front_list, front_long, front_name, front_names, front_number, front_short, front_side, kept, both, mapped, alone, behind, is_end, relation_meant, semantic_meant, precedence_meant, marks_meant}
+use Rattle.row_codec.specs.FieldReading.{Front, front_byte, front_code, front_flag, front_instance, front_list, front_long, front_name, front_names, front_number, front_short, front_side, kept, both, mapped, alone, relation_meant, semantic_meant, precedence_meant, marks_meant}
 use Rattle.ctrl_model.specs.Limits.{longest_path}
 
 -- The host that a number names, none for 0.
@@ -38,6 +38,23 @@ is_next n = nat_lt 1 n && is_long n
 -- A least router cost that has a row.
 abbrev pub is_setting : ℕ → Bool
 is_setting cost = not (cost == start.least_router_cost) && is_long cost
+
+-- The things that stand one behind the other at the front, so many at most.
+abbrev pub things_in : {A : Type 0} → (List ℕ → Front A) → ℕ → List ℕ → List A
+things_in front zero bytes = []
+things_in front (suc n) bytes = option_map_or (λ x. x.0 ∷ things_in front n x.1) (front bytes) []
+
+-- The things of the list that begins some bytes: how many there are as one byte, and the things.
+abbrev pub things_of : {A : Type 0} → (List ℕ → Front A) → List ℕ → List A
+things_of front bytes = option_map_or (λ n. things_in front n.0 n.1) (front_byte bytes) []
+
+-- The names of the list that begins some bytes.
+abbrev pub names_of : List ℕ → List (List ℕ)
+names_of bytes = things_of front_name bytes
+
+-- The links of the list that begins some bytes.
+abbrev pub links_of : List ℕ → List ℕ
+links_of bytes = things_of front_long bytes
 
 -- A name and attributes.
 abbrev pub front_entity : List ℕ → Front (List ℕ × List (List ℕ))
@@ -142,31 +159,11 @@ table_seen (table.Counts r) = Counts r
 abbrev pub row_of : List ℕ → List ℕ → Option Row
 row_of key value = option_and_then (λ t. option_and_then (λ found. table_read found t.1 value) (table_of t.0)) (front_byte key)
 
--- Whether a value is that of a record of a kind.
-abbrev pub is_value : Kind → List ℕ → Bool
-is_value kind.Identity value = is_end (behind (front_entity value))
-is_value kind.Service value = is_end (behind (front_entity value))
-is_value kind.Router value = is_end (behind (front_router value))
-is_value kind.Link value = is_end (behind (front_link value))
-is_value kind.ServicePolicy value = is_end (behind (front_service_policy value))
-is_value kind.EdgeRouterPolicy value = is_end (behind (front_router_policy value))
-is_value kind.ServiceEdgeRouterPolicy value = is_end (behind (front_router_policy value))
-is_value kind.Terminator value = is_end (behind (front_terminator value))
-is_value kind.Circuit value = is_end (behind (front_circuit value))
-is_value kind.Attribute value = false
-
--- Whether what follows a table in a key, and a value, are those of a row in the table.
-abbrev pub is_row_in : RowTable → List ℕ → List ℕ → Bool
-is_row_in Next rest value = is_some (alone (kept is_kind front_byte) rest) && is_some (alone (kept is_next front_long) value)
-is_row_in Setting rest value = (length rest == 0) && is_some (alone (kept is_setting front_long) value)
-is_row_in (Records k) rest value = is_some (alone front_number rest) && is_value k value
-is_row_in (Counts r) rest value = is_some (alone (both front_number front_number) rest) && is_some (alone (kept is_positive front_long) value)
-
--- A fault says that nothing is read, unless memory was wanting.
+-- A fault says that nothing is read; where memory was wanting, something is.
 abbrev pub Fails : {Y : Type 0} → RowFault → Option Y → Type 0
 Fails BadRow read = read ≡ None
 Fails BadBatch read = ⊥
-Fails NoMemory read = Unit {0}
+Fails NoMemory read = is_some read ≡ true
 
 -- What a function returned, seen by `view`, is what is read, unless memory was wanting.
 abbrev pub Gives : {X Y : Type 0} → (X → Y) → Result X RowFault → Option Y → Type 0

@@ -1,13 +1,14 @@
 //! Rows read: of a key and a value the one row that they spell, or that they spell none (docs/FORMATS.md, "Rows").
 #![tactic(auto)]
 
-mod checking;
 mod laws;
+mod lists;
+mod lone_fields;
 mod naming;
-mod reading;
 mod row_building;
 mod spelling;
 mod tables;
+mod values;
 mod worked_spellings;
 
 pub use laws::one_row;

@@ -2,24 +2,54 @@ ghost use Rattle.std.specs.Prelude.{◌≡◌, ℕ, List, Some};
 ghost use Rattle.ctrl_model.specs.declared.kinds.Kind.TheVariants as kind;
 ghost use Rattle.row_codec.specs.RowKeys.RowTable.{Next, Setting, Counts};
 ghost use Rattle.row_codec.specs.FieldReading.{alone, front_number};
-ghost use Rattle.row_reading.specs.RowReading.{Gives, record_read, count_read, table_read, table_seen, row_of};
+ghost use Rattle.row_reading.specs.RowReading.{Gives, front_entity, front_router_policy, record_read, count_read, table_read, table_seen, row_of};
 
-use crate::checking::{lone_count, lone_kind, lone_next, lone_number, lone_pair, lone_setting};
-use crate::reading::{
-    read_circuit, read_entity, read_link, read_router, read_router_policy, read_service_policy,
-    read_terminator,
-};
+use crate::lists::{links_of, names_of, side_of};
+use crate::lone_fields::{lone_count, lone_kind, lone_next, lone_number, lone_pair, lone_setting};
+use crate::naming::{instance_named, named};
 use crate::tables::{Table, table_of};
+use crate::values::{
+    circuit_at, entity_at, link_at, router_at, router_policy_at, service_policy_at, terminator_at,
+};
 use ctrl_model::{
-    CircuitNo, IdentityNo, Kind, LinkNo, PolicyNo, Relation, RouterNo, ServiceNo, TermNo,
+    CircuitNo, IdentityNo, Kind, LinkNo, Name, Names, PolicyNo, Relation, RouterNo, Semantic,
+    ServiceNo, Side, TermNo,
 };
 use row_codec::{Row, RowFault, split_byte};
 use std::alloc::Global;
 
+// The name and the attributes of an identity or a service.
+fn entity_of(alloc: Global, value: &[u8]) -> Result<(Name, Names), RowFault>
+    ensures { Gives (λ x. (x.0, x.1)) result (alone front_entity value.now) }
+{
+    let Some((name, attributes)) = entity_at(value) else {
+        return Err(RowFault::BadRow);
+    };
+    let name = named(alloc, name)?;
+    let attributes = names_of(alloc, attributes)?;
+    Ok((name, attributes))
+}
+
+// The name of a policy of a kind that has no relation, its semantic and its two sides.
+fn router_policy_of(
+    alloc: Global,
+    value: &[u8],
+) -> Result<(Name, (Semantic, (Side, Side))), RowFault>
+    ensures { Gives (λ x. (x.0, x.1)) result (alone front_router_policy value.now) }
+{
+    let Some((name, (semantic, (left, right)))) = router_policy_at(value) else {
+        return Err(RowFault::BadRow);
+    };
+    let name = named(alloc, name)?;
+    let left = side_of(alloc, left)?;
+    let right = side_of(alloc, right)?;
+    Ok((name, (semantic, (left, right))))
+}
+
 fn identity_row(alloc: Global, no: u32, value: &[u8]) -> Result<Row, RowFault>
     ensures { (rest : List ℕ) → alone front_number rest ≡ Some no → Gives (λ r. r) result (record_read kind.Identity rest value.now) }
 {
-    let (name, attributes) = read_entity(alloc, value)?;
+    let (name, attributes) = entity_of(alloc, value)?;
     Ok(Row::Identity {
         no: IdentityNo(no),
         name,
@@ -30,7 +60,7 @@ fn identity_row(alloc: Global, no: u32, value: &[u8]) -> Result<Row, RowFault>
 fn service_row(alloc: Global, no: u32, value: &[u8]) -> Result<Row, RowFault>
     ensures { (rest : List ℕ) → alone front_number rest ≡ Some no → Gives (λ r. r) result (record_read kind.Service rest value.now) }
 {
-    let (name, attributes) = read_entity(alloc, value)?;
+    let (name, attributes) = entity_of(alloc, value)?;
     Ok(Row::Service {
         no: ServiceNo(no),
         name,
@@ -41,7 +71,11 @@ fn service_row(alloc: Global, no: u32, value: &[u8]) -> Result<Row, RowFault>
 fn router_row(alloc: Global, no: u32, value: &[u8]) -> Result<Row, RowFault>
     ensures { (rest : List ℕ) → alone front_number rest ≡ Some no → Gives (λ r. r) result (record_read kind.Router rest value.now) }
 {
-    let (name, (attributes, (cost, (through, connected)))) = read_router(alloc, value)?;
+    let Some((name, (attributes, (cost, (through, connected))))) = router_at(value) else {
+        return Err(RowFault::BadRow);
+    };
+    let name = named(alloc, name)?;
+    let attributes = names_of(alloc, attributes)?;
     Ok(Row::Router {
         no: RouterNo(no),
         name,
@@ -55,7 +89,10 @@ fn router_row(alloc: Global, no: u32, value: &[u8]) -> Result<Row, RowFault>
 fn link_row(alloc: Global, no: u32, value: &[u8]) -> Result<Row, RowFault>
     ensures { (rest : List ℕ) → alone front_number rest ≡ Some no → Gives (λ r. r) result (record_read kind.Link rest value.now) }
 {
-    let (name, (a, (b, (cost, (latency_a, (latency_b, up)))))) = read_link(alloc, value)?;
+    let Some((name, (a, (b, (cost, (latency_a, (latency_b, up))))))) = link_at(value) else {
+        return Err(RowFault::BadRow);
+    };
+    let name = named(alloc, name)?;
     Ok(Row::Link {
         no: LinkNo(no),
         name,
@@ -71,7 +108,13 @@ fn link_row(alloc: Global, no: u32, value: &[u8]) -> Result<Row, RowFault>
 fn service_policy_row(alloc: Global, no: u32, value: &[u8]) -> Result<Row, RowFault>
     ensures { (rest : List ℕ) → alone front_number rest ≡ Some no → Gives (λ r. r) result (record_read kind.ServicePolicy rest value.now) }
 {
-    let (name, (relation, (semantic, (identities, services)))) = read_service_policy(alloc, value)?;
+    let Some((name, (relation, (semantic, (identities, services))))) = service_policy_at(value)
+    else {
+        return Err(RowFault::BadRow);
+    };
+    let name = named(alloc, name)?;
+    let identities = side_of(alloc, identities)?;
+    let services = side_of(alloc, services)?;
     Ok(Row::ServicePolicy {
         no: PolicyNo(no),
         name,
@@ -85,7 +128,7 @@ fn service_policy_row(alloc: Global, no: u32, value: &[u8]) -> Result<Row, RowFa
 fn edge_router_policy_row(alloc: Global, no: u32, value: &[u8]) -> Result<Row, RowFault>
     ensures { (rest : List ℕ) → alone front_number rest ≡ Some no → Gives (λ r. r) result (record_read kind.EdgeRouterPolicy rest value.now) }
 {
-    let (name, (semantic, (identities, routers))) = read_router_policy(alloc, value)?;
+    let (name, (semantic, (identities, routers))) = router_policy_of(alloc, value)?;
     Ok(Row::EdgeRouterPolicy {
         no: PolicyNo(no),
         name,
@@ -98,7 +141,7 @@ fn edge_router_policy_row(alloc: Global, no: u32, value: &[u8]) -> Result<Row, R
 fn service_edge_router_policy_row(alloc: Global, no: u32, value: &[u8]) -> Result<Row, RowFault>
     ensures { (rest : List ℕ) → alone front_number rest ≡ Some no → Gives (λ r. r) result (record_read kind.ServiceEdgeRouterPolicy rest value.now) }
 {
-    let (name, (semantic, (services, routers))) = read_router_policy(alloc, value)?;
+    let (name, (semantic, (services, routers))) = router_policy_of(alloc, value)?;
     Ok(Row::ServiceEdgeRouterPolicy {
         no: PolicyNo(no),
         name,
@@ -111,9 +154,11 @@ fn service_edge_router_policy_row(alloc: Global, no: u32, value: &[u8]) -> Resul
 fn terminator_row(alloc: Global, no: u32, value: &[u8]) -> Result<Row, RowFault>
     ensures { (rest : List ℕ) → alone front_number rest ≡ Some no → Gives (λ r. r) result (record_read kind.Terminator rest value.now) }
 {
-    let (service, (router, (host, (instance, (cost, precedence))))) = read_terminator(
-        alloc, value,
-    )?;
+    let Some((service, (router, (host, (instance, (cost, precedence)))))) = terminator_at(value)
+    else {
+        return Err(RowFault::BadRow);
+    };
+    let instance = instance_named(alloc, instance)?;
     Ok(Row::Terminator {
         no: TermNo(no),
         service: ServiceNo(service),
@@ -128,7 +173,10 @@ fn terminator_row(alloc: Global, no: u32, value: &[u8]) -> Result<Row, RowFault>
 fn circuit_row(alloc: Global, no: u32, value: &[u8]) -> Result<Row, RowFault>
     ensures { (rest : List ℕ) → alone front_number rest ≡ Some no → Gives (λ r. r) result (record_read kind.Circuit rest value.now) }
 {
-    let (identity, (service, (terminator, (ingress, links)))) = read_circuit(alloc, value)?;
+    let Some((identity, (service, (terminator, (ingress, links))))) = circuit_at(value) else {
+        return Err(RowFault::BadRow);
+    };
+    let links = links_of(alloc, links)?;
     Ok(Row::Circuit {
         no: CircuitNo(no),
         identity: IdentityNo(identity),

@@ -2,7 +2,6 @@ ghost use Rattle.std.specs.Prelude.{◌≡◌, ◌↔◌, IfOk, IsErrOf};
 ghost use Rattle.row_codec.specs.declared.rows.Row.{Row};
 ghost use Rattle.row_codec.specs.RowForm.{SpellsRow};
 
-use crate::checking::is_spelled;
 use crate::row_building::build_row;
 use row_codec::{Row, RowFault};
 use std::alloc::Global;
@@ -13,8 +12,5 @@ pub fn read_row(alloc: Global, key: &[u8], value: &[u8]) -> Result<Row, RowFault
     ensures bad { IsErrOf result RowFault.BadRow ↔ ((row : Row) → SpellsRow key.now value.now row → ⊥) }
     ensures never { IsErrOf result RowFault.BadBatch → ⊥ }
 {
-    if !is_spelled(key, value) {
-        return Err(RowFault::BadRow);
-    }
     build_row(alloc, key, value)
 }
