@@ -1,8 +1,9 @@
 use Rattle.std.proofs.Common.{◌||◌, is_some, sym, ◌∙◌, ap, subst}
 use Rattle.ctrl_model.specs.ValidState.{ValidState}
 use Rattle.model_laws.specs.Plans.{CanLeadBy, led_by}
+use Rattle.core_stores.specs.LeadingSteps.{LeadAllCounts}
 use Rattle.core_stores.specs.StoredState.{state_of}
-use Rattle.ctrl_core.specs.Changes.{CanChange, after_change}
+use Rattle.ctrl_core.specs.Changes.{CanChange, NamesSettled, after_change}
 use Rattle.ctrl_core.specs.KeptState.{Cored, IsGranted}
 use Rattle.ctrl_core.proofs.StepLaws.{granted_after}
 use Rattle.ctrl_core.proofs.core_state.Core.go_on.Goals as goal
@@ -19,3 +20,15 @@ invariant_of-self-2 c = λ _.
       subst (λ b. IsGranted b (state_of c.move_stores.new.stores)) (sym c.is_granted_then-self-inside.ensures)
           (subst (IsGranted (c.self.inside.granted || is_some c.args.change)) (sym c.in_ok-move_stores.ensures.next) (granted_after c.self.inside.granted c.args.change c.self.inside.stores kept.0 can valid kept.1)),
     )
+
+pub move_stores-requires-clause-can : goal.move_stores-requires-clause-can
+move_stores-requires-clause-can c = subst (λ (v : Cored). CanLeadBy CanChange c.args.change v.state) (sym c.self.view_is) c.requires.can
+
+pub move_stores-requires-clause-valid : goal.move_stores-requires-clause-valid
+move_stores-requires-clause-valid c = subst (λ (v : Cored). ValidState (led_by after_change c.args.change v.state)) (sym c.self.view_is) c.requires.valid
+
+pub move_stores-requires-clause-settled : goal.move_stores-requires-clause-settled
+move_stores-requires-clause-settled c = subst (λ (v : Cored). NamesSettled c.args.change v.state c.args.settled) (sym c.self.view_is) c.requires.settled
+
+pub move_stores-requires-clause-counts : goal.move_stores-requires-clause-counts
+move_stores-requires-clause-counts c = subst (λ (v : Cored). LeadAllCounts v.state (led_by after_change c.args.change v.state) c.args.steps.now) (sym c.self.view_is) c.requires.counts
