@@ -25,7 +25,7 @@ struct Trial {
 pub(crate) const CHOICES: [u64; 3] = [0, 1, 2];
 
 /// Both identities, and how many bytes each of their replies has.
-const BOTH: [Row; 2] = [ANN_MADE, BOB_MADE];
+const BOTH: &[Row] = &[ANN_MADE, BOB_MADE];
 
 const REPLY: usize = 49;
 
@@ -34,7 +34,7 @@ const MAKES: Trial = Trial {
     words: &["replay"],
     parts: EMPTY,
     kept: 0,
-    rows: &BOTH,
+    rows: BOTH,
 };
 
 /// Ann's folder is compacted: the other slot is written and synced, the mark too, and the slot that stood is cut.
@@ -61,7 +61,8 @@ fn goes_on(
         kept == known || kept == known.saturating_add(1) && kept <= most,
         "{known} {kept}"
     );
-    let desk = answers(rt, alloc, parts, BOTH.get(kept..).unwrap_or(&[]))?;
+    let rows = BOTH;
+    let desk = answers(rt, alloc, parts, rows.get(kept..).unwrap_or(&[]))?;
     has_rows(rt, alloc, parts_of(&desk), BOTH_SLOT)
 }
 
