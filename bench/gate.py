@@ -1,7 +1,7 @@
 """What `rt ci` costs, crate by crate, in processor seconds.
 
     python3 bench/gate.py run RECORDS [NAME..]                    starts `rt ci NAME..`, watches it, and prints the table
-    python3 bench/gate.py watch RECORDS                           watches each `rt ci` that runs or begins, until none runs
+    python3 bench/gate.py watch RECORDS                           watches each `rt ci` that begins within an hour, until none runs, and does so too
     python3 bench/gate.py table RECORDS [--last N] [--paid]       prints the table of what was watched
 
 RECORDS is a file that grows by a line for each check that ended and for each run, so that several runs, with names or without, go into one table:
@@ -9,7 +9,7 @@ of each part of a crate the newest run that did it counts. With `--last` only th
 that they did. A part is the proof, the tests, the base of the wrong bodies (with its second check once they are tried), or a wrong body.
 
 Seconds are those of a check and of all that it started, as they stood at most a third of a second before it ended. What is left of a run's own count
-is 'the rest': compilers, linkers, programs and tests that ran, and those last moments."""
+is 'the rest': compilers, linkers, programs and tests that ran, those last moments, and what ended before the watching began."""
 
 import collections
 import json
@@ -214,6 +214,7 @@ def main(words):
         return started.wait()
     if verb == "watch":
         watch(records)
+        table(records)
     elif verb == "table":
         table(records, int(rest[rest.index("--last") + 1]) if "--last" in rest else 0, "--paid" in rest)
     else:

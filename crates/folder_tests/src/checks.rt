@@ -2,17 +2,11 @@
 
 ghost use Rattle.std.specs.Prelude.{◌≡◌, IsTrue, length};
 
-use row_store::StoreFault;
 use std::process::Abort;
 use ziti_outside::{Desk, Failed, Part};
 
 /// Bytes are the wanted ones.
 pub(crate) fn are_bytes(rt: &impl Abort, found: &[u8], wanted: &[u8]) {
-    assert_eq!(rt; found, wanted);
-}
-
-/// A fault is the wanted one, or there is none where none is wanted.
-pub(crate) fn is_fault(rt: &impl Abort, found: Option<StoreFault>, wanted: Option<StoreFault>) {
     assert_eq!(rt; found, wanted);
 }
 

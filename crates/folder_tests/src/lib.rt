@@ -1,20 +1,10 @@
-//! Tests of the desks over real files and over memory, of stops of the latter, and of folders: what a store keeps in them, and where
-//! hostile ones are damaged.
+//! Tests of the desks over real files and over memory, and of stops of the latter. What a store keeps in a folder, and where hostile ones
+//! are damaged, is shown by runs.
 #![tactic(auto)]
 
 #[cfg(test)]
 mod checks;
 #[cfg(test)]
-mod compactions;
-#[cfg(test)]
-mod damage;
-#[cfg(test)]
-mod desks;
-#[cfg(test)]
 mod folders;
 #[cfg(test)]
-mod row_reading;
-#[cfg(test)]
 mod stops;
-#[cfg(test)]
-mod stores;

@@ -19,13 +19,15 @@ struct Trial {
     /// How many identities the folder keeps before the run, and the requests of the run, each of which makes one.
     kept: usize,
     rows: &'static [Row],
+    /// The requests that make both identities.
+    both: &'static [Row],
 }
 
 /// The choices of a stop: of what is pending it keeps nothing, all, or a part.
 pub(crate) const CHOICES: [u64; 3] = [0, 1, 2];
 
 /// Both identities, and how many bytes each of their replies has.
-const BOTH: [Row; 2] = [ANN_MADE, BOB_MADE];
+const BOTH: &[Row] = &[ANN_MADE, BOB_MADE];
 
 const REPLY: usize = 49;
 
@@ -34,7 +36,8 @@ const MAKES: Trial = Trial {
     words: &["replay"],
     parts: EMPTY,
     kept: 0,
-    rows: &BOTH,
+    rows: BOTH,
+    both: BOTH,
 };
 
 /// Ann's folder is compacted: the other slot is written and synced, the mark too, and the slot that stood is cut.
@@ -43,6 +46,7 @@ const COMPACTS: Trial = Trial {
     parts: ANN_FOLDER,
     kept: 1,
     rows: &[],
+    both: BOTH,
 };
 
 // The folder that a stop leaves keeps as many identities as before the run and as replies were taken whole, or one more that the run
@@ -61,7 +65,8 @@ fn goes_on(
         kept == known || kept == known.saturating_add(1) && kept <= most,
         "{known} {kept}"
     );
-    let desk = answers(rt, alloc, parts, BOTH.get(kept..).unwrap_or(&[]))?;
+    let both = trial.both;
+    let desk = answers(rt, alloc, parts, both.get(kept..).unwrap_or(&[]))?;
     has_rows(rt, alloc, parts_of(&desk), BOTH_SLOT)
 }
 

@@ -39,15 +39,15 @@ fn everyone(alloc: Global) -> Side {
     }
 }
 
-// A policy by which all may dial all.
-fn policy(alloc: Global) -> Result<Policy, Fail> {
-    Ok(Policy {
-        name: Name::of(alloc, b"p")?,
+// The policy of this name by which all may dial all.
+fn policy(alloc: Global, name: Name) -> Policy {
+    Policy {
+        name,
         relation: Relation::Dial,
         semantic: Semantic::AnyOf,
         left: everyone(alloc),
         right: everyone(alloc),
-    })
+    }
 }
 
 // Puts a policy as a caller has to: its name is free, and there is room.
@@ -62,7 +62,8 @@ fn put(store: &mut Policies, policy: Policy) -> Result<(), AllocError> {
 #[test]
 fn lists_the_numbers_of_policies(rt: HostRuntime) -> Result<(), Fail> {
     let mut store = Policies::new(rt.alloc())?;
-    put(&mut store, policy(rt.alloc())?)?;
+    let name = Name::of(rt.alloc(), b"p")?;
+    put(&mut store, policy(rt.alloc(), name))?;
     let numbers = store.numbers(rt.alloc(), Kind::ServicePolicy)?;
     assert_eq!(rt; numbers.as_slice(), [1].as_slice());
     Ok(())
