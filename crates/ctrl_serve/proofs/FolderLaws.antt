@@ -197,7 +197,7 @@ done_ends {seen = seen} {stopped = stopped} tells k next desk mid reply c d stat
       done,
       end.1,
       λ yes. subst (λ (i : Image). IsCompacted k.stored.bounds (machine_of k) i) (sym same)
-      (folder_compacted k next (seen desk).reads (seen mid).reads (stopped desk).images (stopped mid).images s.holds (s.stands yes) (s.held s.unspent.1) (s.stood s.unspent.1 yes) goes (s.made refl is yes)),
+          (folder_compacted k next (seen desk).reads (seen mid).reads (stopped desk).images (stopped mid).images s.holds (s.stands yes) (s.held s.unspent.1) (s.stood s.unspent.1 yes) goes (s.made refl is yes)),
     )
 
 -- It was refused.

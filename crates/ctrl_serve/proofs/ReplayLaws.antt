@@ -213,7 +213,7 @@ started_serves core most l m d e status is s =
 -- ---- the run on the folder
 
 -- What was said and noted since a desk that had said and noted the same.
-serves_from : {taking : Taking} {bounds : StoreBounds} {m : Machine} {l r : Option (List ℕ)} {mid now : Seen} {status : Status} (desk : Seen)
+abbrev serves_from : {taking : Taking} {bounds : StoreBounds} {m : Machine} {l r : Option (List ℕ)} {mid now : Seen} {status : Status} (desk : Seen)
     → mid.said ≡ desk.said → mid.noted ≡ desk.noted → mid.note_faults ≡ desk.note_faults → Serves taking bounds m l r mid now status → Serves taking bounds m l r desk now status
 serves_from {mid = mid} {now = now} desk replies noted failed s = record {
   taken = s.taken;
