@@ -32,4 +32,4 @@ pub returns-in-Arrived-clause-follows : goal.returns-in-Arrived-clause-follows
 returns-in-Arrived-clause-follows g c = c.serve_arrived.ensures.follows
 
 pub returns-in-Arrived-clause-noted : goal.returns-in-Arrived-clause-noted
-returns-in-Arrived-clause-noted g c = let notes = c.serve_arrived.ensures.notes in arrived_noted c.serve_arrived.result c.args.notes.now.failed _ _ notes.notes notes.failed_notes
+returns-in-Arrived-clause-noted g c = let notes = c.serve_arrived.ensures.notes in arrived_noted c.serve_arrived.result c.args.notes.now.failed (g.D.Desk.seen c.args.desk.now) (g.D.Desk.seen c.serve_arrived.new.desk) notes.notes notes.failed_notes
