@@ -182,7 +182,7 @@ submit_fails old new core coming stored later_stored before spent desk later fau
 -- Nothing was done to the desk.
 pub quiet_stops : {D : Type 0} {seen : D → Seen} {stopped : D → Stopped} (desk later : D) (X : Image → Type 0)
     → later ≡ desk → ((image : Image) → (stopped desk).images image → X image) → Leaves seen stopped desk later X
-quiet_stops {D} {moment} {since} {may_leave} {said} desk later X e x =
+quiet_stops {D} {seen} {stopped} desk later X e x =
     subst (λ (d : D). Leaves seen stopped desk d X) (sym e) (Leaves-weaker X (Leaves-none desk) x)
 
 -- Where the store has the batch, every image opens to the state after it.

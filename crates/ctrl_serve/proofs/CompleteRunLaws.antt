@@ -51,9 +51,9 @@ replayed : {S D : Type 0} (o : Outside S D) (bounds : StoreBounds) (most : ℕ) 
     → IsTrue o.tells → OpensToState (o.seen desk).reads s → (status ≡ ReadFault → ⊥) → (status ≡ WriteFault → ⊥) → (status ≡ DiskFault → ⊥)
     → (status ≡ NoMemory) ⊎ CompletesFrom s (taking_of form most) bounds (o.left source) (o.left source_now) (o.seen desk) (o.seen desk_now) status
 replayed o bounds most form source source_now desk desk_now status s (inl closed) told opens read write disk =
-    inl (starved o.tells _ _ status s closed.unopened.why told opens disk)
+    inl (starved o.tells (o.seen desk) (o.seen desk_now) status s closed.unopened.why told opens disk)
 replayed o bounds most form source source_now desk desk_now status s (inr on) told opens read write disk =
-    from_machine s (taking_of form most) bounds on.machine _ _ _ _ status (on.opens told) (one_machine_state (o.seen desk).reads s on.machine opens (on.opens told))
+    from_machine s (taking_of form most) bounds on.machine (o.left source) (o.left source_now) (o.seen desk) (o.seen desk_now) status (on.opens told) (one_machine_state (o.seen desk).reads s on.machine opens (on.opens told))
     (serves_completely form status bounds on.machine most _ _ _ _ on.serves read write disk)
 
 pub replay_is_complete : {S D : Type 0} (o : Outside S D) (bounds : Bounds) (form : Form) (source source_now : S) (desk desk_now : D) (status : Status) (s : State)
@@ -71,7 +71,7 @@ audited : {D : Type 0} {seen : D → Seen} {stopped : D → Stopped}
     (tells : Bool) (desk desk_now : D) (status : Status) (s : State) → IsUnopened tells seen stopped desk desk_now status
     ⊎ Audits tells (seen desk) (seen desk_now) status
     → IsTrue tells → OpensToState (seen desk).reads s → (status ≡ WriteFault → ⊥) → (status ≡ DiskFault → ⊥) → IsSaid (counts_line s) (seen desk).said (seen desk_now).said status
-audited tells desk desk_now status s (inl closed) told opens write disk = inl (starved tells _ _ status s closed.why told opens disk)
+audited {seen = seen} tells desk desk_now status s (inl closed) told opens write disk = inl (starved tells (seen desk) (seen desk_now) status s closed.why told opens disk)
 audited {seen = seen} tells desk desk_now status s (inr on) told opens write disk =
     subst (λ (t : State). IsSaid (counts_line t) (seen desk).said (seen desk_now).said status) (one_state (seen desk).reads on.state s (on.opens told) opens) (line_said status _ _ _ on.says write)
 
@@ -109,7 +109,7 @@ compacts_from : {D : Type 0} {seen : D → Seen} {stopped : D → Stopped}
     (tells : Bool) (bounds : StoreBounds) (desk desk_now : D) (status : Status) (s : State) → IsUnopened tells seen stopped desk desk_now status
     ⊎ Compacts bounds tells (seen desk) (seen desk_now) (stopped desk) (stopped desk_now) status
     → IsTrue tells → OpensToState (seen desk).reads s → (status ≡ DiskFault → ⊥) → (status ≡ NoMemory) ⊎ ComesOutFrom s (seen desk).reads bounds status
-compacts_from tells bounds desk desk_now status s (inl closed) told opens disk = inl (starved tells _ _ status s closed.why told opens disk)
+compacts_from {seen = seen} tells bounds desk desk_now status s (inl closed) told opens disk = inl (starved tells (seen desk) (seen desk_now) status s closed.why told opens disk)
 compacts_from {seen = seen} tells bounds desk desk_now status s (inr on) told opens disk =
     out_from s (seen desk).reads bounds on.machine status (on.opens told) (one_machine_state (seen desk).reads s on.machine opens (on.opens told)) (comes_out status bounds on.machine tells _ _ on.ends disk)
 

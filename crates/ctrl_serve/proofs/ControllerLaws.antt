@@ -43,7 +43,7 @@ pub kept_stops : {D : Type 0} {seen : D → Seen} {stopped : D → Stopped} {old
     (x : Controller) (k : Controlled) (who : Who) (c : Command) → x ≡ Kept k
     → Leaves seen stopped old new (λ image. OpensToState image k.state ⊎ OpensToState image (step k.stored.bounds who c (machine_of k)).1.state)
     → Leaves seen stopped old new (λ image. OpensToState image (serving_of x).machine.state ⊎ OpensToState image (step (serving_of x).bounds who c (serving_of x).machine).1.state)
-kept_stops {stopped = stopped} {seen = seen} {old = old} {new = new} x k who c is stops =
+kept_stops {seen = seen} {stopped = stopped} {old = old} {new = new} x k who c is stops =
     subst
     (λ (y : Controller). Leaves seen stopped old new (λ image. OpensToState image (serving_of y).machine.state ⊎ OpensToState image (step (serving_of y).bounds who c (serving_of y).machine).1.state))
     (sym is) stops

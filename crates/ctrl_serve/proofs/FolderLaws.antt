@@ -197,7 +197,7 @@ done_ends {seen = seen} {stopped = stopped} tells k next desk mid reply c d stat
       done,
       end.1,
       λ yes. subst (λ (i : Image). IsCompacted k.stored.bounds (machine_of k) i) (sym same)
-      (folder_compacted k next (seen desk).reads (seen mid).reads (stopped desk).images (stopped mid).images s.holds (s.stands yes) (s.held s.unspent.1) (s.stood s.unspent.1 yes) goes (s.made refl is yes)),
+          (folder_compacted k next (seen desk).reads (seen mid).reads (stopped desk).images (stopped mid).images s.holds (s.stands yes) (s.held s.unspent.1) (s.stood s.unspent.1 yes) goes (s.made refl is yes)),
     )
 
 -- It was refused.
@@ -234,7 +234,7 @@ ends_submitted tells k next desk mid (Err NoMemory) c d status s same told =
 -- Where it has no room nothing was done.
 full_still : {D : Type 0} {seen : D → Seen} {stopped : D → Stopped} (tells : Bool) (k next : Controlled) (desk mid : D) (r : Result Reply KeepFault) (c d : Seen) (status : Status)
     → Submitted tells seen stopped k next desk mid r → OnOk r (machine_of next ≡ machine_of k → mid ≡ desk) → TellsCompaction r status c d → status ≡ ending.FolderFull → mid ≡ desk
-full_still tells k next desk mid (Ok reply) c d x y status s still told is =
+full_still tells k next desk mid (Ok reply) c d status s still told is =
     elim (compaction_answers k) as (λ _. mid ≡ desk) [
       | inl done ↦
           let same : reply ≡ Done = ap (λ (a : Reply × Machine). a.0) s.step ∙ done in
@@ -243,14 +243,14 @@ full_still tells k next desk mid (Ok reply) c d x y status s still told is =
           absurd cc
       | inr refused ↦ still (ap (λ (a : Reply × Machine). a.1) s.step ∙ refused.same)
     ]
-full_still tells k next desk mid (Err Disk) c d x y status s still told is = let was = told.0 in absurd cc
-full_still tells k next desk mid (Err (Damaged part at)) c d x y status s still told is = absurd s.fault
-full_still tells k next desk mid (Err Spent) c d x y status s still told is = absurd (true≢false (sym s.fault.0 ∙ s.fresh))
-full_still tells k next desk mid (Err NoMemory) c d x y status s still told is = let was = told.0 in absurd cc
+full_still tells k next desk mid (Err Disk) c d status s still told is = let was = told.0 in absurd cc
+full_still tells k next desk mid (Err (Damaged part at)) c d status s still told is = absurd s.fault
+full_still tells k next desk mid (Err Spent) c d status s still told is = absurd (true≢false (sym s.fault.0 ∙ s.fresh))
+full_still tells k next desk mid (Err NoMemory) c d status s still told is = let was = told.0 in absurd cc
 
 pub full_reads : {D : Type 0} {seen : D → Seen} {stopped : D → Stopped} (tells : Bool) (k next : Controlled) (desk mid : D) (now : Image) (r : Result Reply KeepFault) (c d : Seen) (status : Status)
     → Submitted tells seen stopped k next desk mid r → OnOk r (machine_of next ≡ machine_of k → mid ≡ desk) → now ≡ (seen mid).reads → TellsCompaction r status c d → status ≡ ending.FolderFull → now ≡ (seen desk).reads
-full_reads {seen = seen} tells k next desk mid now r c d x y status s still same told is = same ∙ ap (λ d. (seen d).reads) (full_still tells k next desk mid r c d x y status s still told is)
+full_reads {seen = seen} tells k next desk mid now r c d status s still same told is = same ∙ ap (λ d. (seen d).reads) (full_still tells k next desk mid r c d status s still told is)
 
 -- And once that was noted.
 pub compaction_ends : {D : Type 0} {seen : D → Seen} {stopped : D → Stopped} (tells : Bool) (k next : Controlled) (desk mid now : D) (r : Result Reply KeepFault) (status : Status)

@@ -27,3 +27,4 @@ pub mod AcknowledgedLaws
 pub mod CompleteRunLaws
 pub mod DecidedInputs
 pub mod NearLaws
+pub mod LineLaws

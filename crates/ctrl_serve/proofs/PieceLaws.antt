@@ -32,7 +32,7 @@ use Rattle.run_notes.specs.KnownSessions.{Known, known_in, known_along}
 use Rattle.run_notes.specs.Notes.{ending_lines, event_lines, fault_lines}
 use Rattle.run_notes.specs.NotesSoFar.{NotesMore}
 use Rattle.run_notes.proofs.KnownLaws.{known_then, along_faulty}
-use Rattle.run_notes.proofs.NoteLaws.{more_then}
+use Rattle.run_notes.proofs.NoteLaws.{more_then, more_still}
 use Rattle.ctrl_serve.specs.KnownReplies.{machine_along, replies_along}
 use Rattle.ctrl_serve.specs.SaidReplies.{joined}
 use Rattle.ctrl_serve.specs.Reading.{is_decided, StaysNear}
@@ -524,8 +524,17 @@ pub input_starved : {i j o : Stopped} (end : End) (form : Form) (c : Serving) (m
 input_starved end form c most k m st l r a b b2 f g h n n1 n2 tells bad told comes quiet why still p q u =
     let used : List ℕ = take most told.takes.taken in
     let all : told.answers.answered ≡ events_in form used = all_so form used st told.answers.answered told.answers.goes (none_left st bad comes) in
-    rw (p, q, u) (record {
+    let some = used_starved form c.bounds c.machine m used end k st a b b2 f g n n1 told.answers why still in
+    rw p (record {
       takes = takes_still form c most l r a tells told.takes quiet;
-      some = used_starved form c.bounds c.machine m used end k st a b b2 f g n n1 told.answers why still;
+      some = record {
+        answered = some.answered;
+        unanswered = some.unanswered;
+        split = some.split;
+        said = some.said;
+        took = some.took;
+        says = some.says;
+        noted_is = more_still f g (fault_lines some.answered) n n1 n2 q u some.noted_is;
+      };
       near = subst (λ (answered : List Event). StaysNear form most told.takes.taken answered) (sym all) told.near;
     })

@@ -122,13 +122,13 @@ pub closed_counts : {S D : Type 0} {left : S → Option (List ℕ)} {faults : S 
     (source : S) (desk mid now : D) (status : Status) → OnlyDisk seen desk mid → OnlyNotes seen stopped mid now
     → RisesOnce (seen mid).note_faults (seen now).note_faults → IsDiskCaused (seen desk).disk_faults (seen now).disk_faults status → (status ≡ ReadFault → ⊥) → (status ≡ WriteFault → ⊥)
     → CountsFaults left faults seen source source desk now status
-closed_counts {seen = seen} source desk mid now status calls notes seen disk read write = record {
+closed_counts {seen = seen} source desk mid now status calls notes counted disk read write = record {
   read_fault = λ r. absurd (read r);
   failed_take = λ _. refl;
   write = write_calm _ _ status (notes.failed_says ∙ calls.failed_says) write;
   disk = disk;
   read_faults_once = record { later = omega arith; once = omega arith };
-  note_faults_once = subst (λ (n : ℕ). RisesOnce n (seen now).note_faults) calls.failed_notes seen;
+  note_faults_once = subst (λ (n : ℕ). RisesOnce n (seen now).note_faults) calls.failed_notes counted;
   takes_until_failure = takes_none source;
 }
 
@@ -213,7 +213,7 @@ started_serves core most l m d e status is s =
 -- ---- the run on the folder
 
 -- What was said and noted since a desk that had said and noted the same.
-serves_from : {taking : Taking} {bounds : StoreBounds} {m : Machine} {l r : Option (List ℕ)} {mid now : Seen} {status : Status} (desk : Seen)
+abbrev serves_from : {taking : Taking} {bounds : StoreBounds} {m : Machine} {l r : Option (List ℕ)} {mid now : Seen} {status : Status} (desk : Seen)
     → mid.said ≡ desk.said → mid.noted ≡ desk.noted → mid.note_faults ≡ desk.note_faults → Serves taking bounds m l r mid now status → Serves taking bounds m l r desk now status
 serves_from {mid = mid} {now = now} desk replies noted failed s = record {
   taken = s.taken;

@@ -37,7 +37,7 @@ pub closed_room : {D : Type 0} {stopped : D → Stopped} {old mid new : D} (boun
 closed_room bounds enough before fewer = left_then (left_within bounds.slot enough before) (left_none bounds.slot fewer)
 
 -- The slots read no longer than the bound at the end, where no image that a stop might have left at the start passes that.
-pub room_here : {D : Type 0} (seen : D → Seen) (stopped : D → Stopped) {old new : D} {most : ℕ} → LeavesRoom most stopped old new → (stopped new).images (seen new).reads
+pub room_here : {D : Type 0} (seen : D → Seen) {stopped : D → Stopped} {old new : D} {most : ℕ} → LeavesRoom most stopped old new → (stopped new).images (seen new).reads
     → ((image : Image) → (stopped old).images image → KeepsRoom most (seen old).reads image) → KeepsRoom most (seen old).reads (seen new).reads
 room_here seen {new = new} left own calm =
     let last = left.found (seen new).reads own in

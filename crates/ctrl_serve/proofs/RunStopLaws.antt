@@ -177,7 +177,7 @@ pub opened_stops : {D : Type 0} {seen : D → Seen} {stopped : D → Stopped} {d
     (form : Form) (bounds : StoreBounds) (m : Machine) (events : List Event) → Leaves seen stopped desk mid (After StandsAsBefore (stopped desk).images)
     → Elapses (stopped mid) (stopped now) (StopFinds form bounds m events (seen mid).said) → AllOpenTo (stopped desk).images m.state
     → Elapses (stopped desk) (stopped now) (StopFinds form bounds m events (seen desk).said)
-opened_stops {stopped = stopped} {seen = seen} {desk = desk} form bounds m events opening serving opens =
+opened_stops {seen = seen} {stopped = stopped} {desk = desk} form bounds m events opening serving opens =
     Elapses-then (StopFinds form bounds m events (seen desk).said) opening.time serving
     (λ image taken found. start_found form bounds m events (seen desk).said (After StandsAsBefore (stopped desk).images) image taken (all_stand (stopped desk).images m.state opens) found)
     (λ image taken found. subst (λ (x : Option (List ℕ)). StopFinds form bounds m events x image taken) opening.quiet found)
@@ -187,7 +187,7 @@ pub later_stops : {D : Type 0} {seen : D → Seen} {stopped : D → Stopped} {de
     (form : Form) (bounds : StoreBounds) (m : Machine) (events : List Event) → Leaves seen stopped desk mid (After StandsAsBefore (stopped desk).images)
     → Elapses (stopped mid) (stopped now) (StopFinds form bounds m events (seen mid).said)
     → Elapses (stopped desk) (stopped now) (λ image taken. StopFinds form bounds m events (seen desk).said image taken ⊎ Now (After StandsAsBefore (stopped desk).images) (seen desk).said image taken)
-later_stops {stopped = stopped} {seen = seen} {desk = desk} form bounds m events opening serving =
+later_stops {seen = seen} {stopped = stopped} {desk = desk} form bounds m events opening serving =
     Elapses-then (λ image taken. StopFinds form bounds m events (seen desk).said image taken ⊎ Now (After StandsAsBefore (stopped desk).images) (seen desk).said image taken) opening.time serving
     (λ image taken found. inr found)
     (λ image taken found. inl (subst (λ (x : Option (List ℕ)). StopFinds form bounds m events x image taken) opening.quiet found))

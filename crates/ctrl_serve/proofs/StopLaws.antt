@@ -71,7 +71,7 @@ pub turn_stops : {D : Type 0} {seen : D → Seen} {stopped : D → Stopped} {old
     → ((i : Image) → (stopped mid).images i → OpensToState i next)
     → Elapses (stopped mid) (stopped new) (Saying (stopped mid).images (seen mid).said bytes)
     → Elapses (stopped old) (stopped new) (Turn before next reply (seen old).said)
-turn_stops {stopped = stopped} {seen = seen} {old = old} {mid = mid} before next reply bytes answering same opens saying =
+turn_stops {seen = seen} {stopped = stopped} {old = old} {mid = mid} before next reply bytes answering same opens saying =
     Elapses-then (Turn before next reply (seen old).said) answering.time saying
     (λ i w now. stop_answering before next reply (seen old).said i w now)
     (λ i w now.

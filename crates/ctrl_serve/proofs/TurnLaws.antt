@@ -1,5 +1,6 @@
 -- How the turns of the serving loop make up what comes of the events of an input.
-use Rattle.std.specs.Prelude.{Bool, MatchOption}
+use Rattle.std.specs.Prelude.{Bool, MatchOption, OnOk, Ok, Err}
+use Rattle.std.specs.declared.result.Result.{Result}
 use Rattle.std.proofs.Common.{◌≡◌, inl, inr, ℕ, ◌<◌, ◌++◌, List, [], ◌∷◌, length, None, Some, refl, sym, ap, ◌∙◌, subst, append-nil, arith}
 use Rattle.std.specs.declared.option.Option.{Option}
 use Rattle.std.proofs.lemmas.Grind.{flat_map-append}
@@ -30,7 +31,7 @@ use Rattle.ctrl_serve.specs.Turns.{TakesTurn, CutsTurn, TakesEvent, CutsEvent, C
 use Rattle.run_notes.specs.Endings.{IsAllGiven, IsStuckAt, ComesToEnd}
 use Rattle.run_notes.proofs.KnownLaws.{known_then}
 use Rattle.ctrl_serve.proofs.KnownLaws.{machine_then, replies_then}
-use Rattle.run_notes.proofs.NoteLaws.{more_none, more_then, more_still}
+use Rattle.run_notes.proofs.NoteLaws.{more_none, more_then, more_still, more_left}
 use Rattle.ziti_outside.specs.Views.{Seen}
 
 -- ---- a frame
@@ -92,6 +93,11 @@ arrived_cut cut form bounds s n f k m who a b count sender cuts =
     arrived_unsaid cut form bounds s f k m a b
     (subst (λ (w : Who). CutsTurn cut bounds (address_at form s k) w f m a b) sender
     (subst (λ (i : ℕ). CutsTurn cut bounds (record { form = form; session = s; sequence = i }) who f m a b) count cuts))
+
+-- A frame that arrived has no note of its own.
+pub arrived_noted : {T E : Type 0} (r : Result T E) (f : Bool) (a b : Seen) → b.noted ≡ a.noted → b.note_faults ≡ a.note_faults → OnOk r (NotesMore f f [] a b)
+arrived_noted (Ok x) f a b q r = more_left f f a b refl q r
+arrived_noted (Err e) f a b q r = tt
 
 -- An event without a reply.
 pub quiet_taken : (form : Form) (bounds : StoreBounds) (e : Event) (k next : Known) (m m' : Machine) (a b : Option (List ℕ)) → replies_by form bounds e k m ≡ [] → next ≡ known_after e k

@@ -74,6 +74,7 @@ pub record Taking : Type 0 where
   pub form : Form
   pub most : ℕ
 
+-- The taking of an input of this form, of so many bytes at most.
 abbrev pub taking_of : Form → ℕ → Taking
 taking_of form most = record { form = form; most = most }
 

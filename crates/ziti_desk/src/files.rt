@@ -72,18 +72,18 @@ impl<'r, R: Files, O: Outlet, E: Outlet> Desk for FileDesk<'r, R, O, E> {
     ghost tells = { false };
 
     ghost seen = { λ d. record {
-        said = O.contents d.replies;
-        noted = E.contents d.notes;
-        say_faults = O.failures d.replies;
-        note_faults = E.failures d.notes;
-        disk_faults = d.disk_faults;
-        reads = λ part. [];
+      said = O.contents d.replies;
+      noted = E.contents d.notes;
+      say_faults = O.failures d.replies;
+      note_faults = E.failures d.notes;
+      disk_faults = d.disk_faults;
+      reads = λ part. [];
     } };
 
     ghost stopped = { λ d. record {
-        moment = 0;
-        images = λ image. ⊥;
-        since = λ time image taken. ⊥;
+      moment = 0;
+      images = λ image. ⊥;
+      since = λ time image taken. ⊥;
     } };
 
     ghost counts_now = { λ d time image taken early leaves replies. leaves };

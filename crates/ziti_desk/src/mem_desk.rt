@@ -315,12 +315,12 @@ impl Desk for MemDesk {
     ghost tells = { true };
 
     ghost seen = { λ d. record {
-        said = Some d.said.items;
-        noted = Some d.noted.items;
-        say_faults = d.say_faults;
-        note_faults = d.note_faults;
-        disk_faults = d.disk_faults;
-        reads = image_of d.held;
+      said = Some d.said.items;
+      noted = Some d.noted.items;
+      say_faults = d.say_faults;
+      note_faults = d.note_faults;
+      disk_faults = d.disk_faults;
+      reads = image_of d.held;
     } };
 
     ghost stopped = { λ d. stopped_by (image_of d.first) (logged d.log d.said.items) };

@@ -1,19 +1,21 @@
 -- What the answer to an input is, and what saying it did.
 use Rattle.std.specs.Prelude.{MatchOption, IsSomeAnd}
-use Rattle.std.proofs.Common.{◌≡◌, ℕ, List, None, Some, Result, IfOk, sym, ap, ◌∙◌, subst}
+use Rattle.std.proofs.Common.{◌≡◌, ℕ, List, [], None, Some, Result, IfOk, sym, ap, ◌∙◌, subst}
 use Rattle.std.proofs.lemmas.Result.{IfOk-weaker}
 use Rattle.std.specs.declared.alloc.AllocError.{AllocError}
 use Rattle.std.specs.declared.option.Option.{Option}
 use Rattle.std.specs.Option.{option_map}
+use Rattle.ziti_outside.specs.Causes.{Rose}
 use Rattle.ziti_outside.specs.Told.{Took, TookFront}
+use Rattle.ziti_outside.specs.Views.{Seen}
 use Rattle.zitiline.specs.declared.answers.Answer.{Answer}
 use Rattle.zitiline.specs.declared.answers.Fault.{Fault}
 use Rattle.zitiline.specs.declared.status.Status.{Status}
 use Rattle.zitiline.specs.declared.status.Status.TheVariants.{WriteFault}
 use Rattle.zitiline.specs.declared.words.Form.{Form}
 use Rattle.zitiline.specs.Answers.{said_of, fault_of, status_for}
-use Rattle.zitiline.specs.Notes.{note_of, fault_note}
-use Rattle.zitiline.specs.Steps.{fault_text, note_bytes, note_in, IsAnswer, SaysAnswer}
+use Rattle.zitiline.specs.Notes.{note_of, notes_of, fault_note, NotesLines}
+use Rattle.zitiline.specs.Steps.{fault_text, note_bytes, note_in, answer_notes, IsAnswer, SaysAnswer}
 
 -- A fault of a form is one of all forms.
 one_of_all : {F : Type 0} (of : F → Fault) (fault : Option F) (told : Option Fault) → MatchOption fault (told ≡ None) (λ f. IsSomeAnd told (λ g. g ≡ of f)) → told ≡ option_map of fault
@@ -49,3 +51,25 @@ says_by a (Some text) status before now is ends took = subst (λ (s : Status). S
 -- An answer of which a front was taken.
 pub says_cut : (a : Answer) (status : Status) (before now : Option (List ℕ)) → status ≡ WriteFault → TookFront before now a.said → SaysAnswer status a before now
 says_cut a status before now ends took = subst (λ (s : Status). SaysAnswer s a before now) (sym ends) took
+
+-- What was noted since a desk that had noted the same.
+notes_from : (lines : List ℕ) (a b c : Seen) → b.noted ≡ a.noted → b.note_faults ≡ a.note_faults → NotesLines lines b c → NotesLines lines a c
+notes_from lines a b c q r noted = record {
+  part = subst (λ (x : Option (List ℕ)). TookFront x c.noted lines) q noted.part;
+  whole = λ calm. subst (λ (x : Option (List ℕ)). Took x c.noted lines) q (noted.whole (λ rose. calm (subst (λ (n : ℕ). Rose n c.note_faults) r rose)));
+}
+
+-- An answer that was said, and the note of its fault.
+pub noted_by : (a : Answer) (note : Option (List ℕ)) (status : Status) (old mid new : Seen) → note_in a ≡ note → status ≡ status_for note → mid.noted ≡ old.noted → mid.note_faults ≡ old.note_faults
+    → NotesLines (note_bytes note) mid new → NotesLines (answer_notes a status) old new
+noted_by a None status old mid new is ends q r noted =
+    subst (λ (s : Status). NotesLines (answer_notes a s) old new) (sym ends) (notes_from [] old mid new q r noted)
+noted_by a (Some text) status old mid new is ends q r noted =
+    subst (λ (s : Status). NotesLines (answer_notes a s) old new) (sym ends)
+    (notes_from (note_bytes (note_in a)) old mid new q r (subst (λ (n : Option (List ℕ)). NotesLines (note_bytes n) mid new) (sym is) noted))
+
+-- One of which a front was taken.
+pub noted_cut : (a : Answer) (status : Status) (old mid new : Seen) → status ≡ WriteFault → mid.noted ≡ old.noted → mid.note_faults ≡ old.note_faults
+    → NotesLines (notes_of None WriteFault) mid new → NotesLines (answer_notes a status) old new
+noted_cut a status old mid new ends q r noted =
+    subst (λ (s : Status). NotesLines (answer_notes a s) old new) (sym ends) (notes_from (notes_of None WriteFault) old mid new q r noted)

@@ -33,17 +33,17 @@ pub record Answers (form : Form) (left_before left_now : Option (List ℕ)) (bef
 --
 -- Usage comes exactly where it was asked for something else: then nothing is taken and nothing is said, and the usage line is noted.
 -- A fault comes exactly where its count rose in this run. The folder is left alone.
-pub record Runs {S D : Type 0} (o : Outside S D) (form : Option Form) (source source_now : S) (desk desk_now : D) (status : Status) : Type 0 where
+pub record Runs {S D : Type 0} (outside : Outside S D) (form : Option Form) (source source_now : S) (desk desk_now : D) (status : Status) : Type 0 where
   pub usage : (status ≡ Usage) ↔ (form ≡ None)
   pub usage_takes_nothing : form ≡ None → source_now ≡ source
-  pub usage_says_nothing : form ≡ None → (o.seen desk_now).said ≡ (o.seen desk).said
-  pub usage_note : form ≡ None → NotesLines (notes_of None Usage) (o.seen desk) (o.seen desk_now)
+  pub usage_says_nothing : form ≡ None → (outside.seen desk_now).said ≡ (outside.seen desk).said
+  pub usage_note : form ≡ None → NotesLines (notes_of None Usage) (outside.seen desk) (outside.seen desk_now)
   pub answers : (asked : Form) → form ≡ Some asked
-      → Answers asked (o.left source) (o.left source_now) (o.seen desk) (o.seen desk_now) status
-  pub read_fault : status ≡ ReadFault → Rose (o.faults source) (o.faults source_now)
-  pub no_read_fault : (status ≡ ReadFault → ⊥) → o.faults source_now ≡ o.faults source
-  pub write_fault : status ≡ WriteFault → Rose (o.seen desk).say_faults (o.seen desk_now).say_faults
-  pub no_write_fault : (status ≡ WriteFault → ⊥) → (o.seen desk_now).say_faults ≡ (o.seen desk).say_faults
-  pub parts : (o.seen desk_now).reads ≡ (o.seen desk).reads
-  pub found : (image : Image) → (o.stopped desk_now).images image → (o.stopped desk).images image
-  pub failed_calls : (o.seen desk_now).disk_faults ≡ (o.seen desk).disk_faults
+      → Answers asked (outside.left source) (outside.left source_now) (outside.seen desk) (outside.seen desk_now) status
+  pub read_fault : status ≡ ReadFault → Rose (outside.faults source) (outside.faults source_now)
+  pub no_read_fault : (status ≡ ReadFault → ⊥) → outside.faults source_now ≡ outside.faults source
+  pub write_fault : status ≡ WriteFault → Rose (outside.seen desk).say_faults (outside.seen desk_now).say_faults
+  pub no_write_fault : (status ≡ WriteFault → ⊥) → (outside.seen desk_now).say_faults ≡ (outside.seen desk).say_faults
+  pub parts : (outside.seen desk_now).reads ≡ (outside.seen desk).reads
+  pub found : (image : Image) → (outside.stopped desk_now).images image → (outside.stopped desk).images image
+  pub failed_calls : (outside.seen desk_now).disk_faults ≡ (outside.seen desk).disk_faults

@@ -1,6 +1,7 @@
 use Rattle.std.proofs.Common.{refl}
 use Rattle.ctrl_keep.proofs.FollowedSteps.{follows_still}
 use Rattle.ctrl_serve.proofs.ControllerLaws.{OnlySaysAndNotes-none, notes_alone}
+use Rattle.ctrl_serve.proofs.TurnLaws.{arrived_noted}
 use Rattle.ctrl_serve.proofs.serving.serve_event.Goals as goal
 
 pub returns-in-Opened-clause-alone : goal.returns-in-Opened-clause-alone
@@ -29,3 +30,6 @@ returns-in-Arrived-clause-alone g c = c.serve_arrived.ensures.alone
 
 pub returns-in-Arrived-clause-follows : goal.returns-in-Arrived-clause-follows
 returns-in-Arrived-clause-follows g c = c.serve_arrived.ensures.follows
+
+pub returns-in-Arrived-clause-noted : goal.returns-in-Arrived-clause-noted
+returns-in-Arrived-clause-noted g c = let notes = c.serve_arrived.ensures.notes in arrived_noted c.serve_arrived.result c.args.notes.now.failed (g.D.Desk.seen c.args.desk.now) (g.D.Desk.seen c.serve_arrived.new.desk) notes.notes notes.failed_notes
