@@ -11,7 +11,7 @@ use std::alloc::{AllocError, Global};
 use std::fs;
 use std::process::Abort;
 use std::test::Fail;
-use ziti_desk::{FileDesk, MemSource, Paths, Writes};
+use ziti_desk::{FileDesk, Folder, MemSource, Paths, Writes};
 use ziti_outside::Desk;
 
 /// The lines of folders that keep both identities, ann and web, and a network with a circuit.
@@ -224,7 +224,7 @@ fn looks_here(
 ) -> Result<(), AllocError> {
     let replies = Writes::new(said);
     let notes = Writes::new(noted);
-    let mut desk = FileDesk::new(host, Paths::WORKING_FOLDER, replies, notes);
+    let mut desk = FileDesk::new(Folder::new(host, Paths::WORKING_FOLDER), replies, notes);
     looks_at(rt, host.alloc(), &mut desk)
 }
 

@@ -6,7 +6,7 @@ use std::alloc::{AllocError, Global};
 use std::io::{self, ErrorKind, Read, Write};
 use std::process::Abort;
 use std::test::Fail;
-use ziti_desk::{FileDesk, FileSource, Paths, Writes};
+use ziti_desk::{FileDesk, FileSource, Folder, Paths, Writes};
 
 /// A writer that takes at most so many bytes a write, and fails at one of its writes, counted from 0.
 #[derive(Drop)]
@@ -78,12 +78,8 @@ fn ends_with<R: Read + Drop, W: Write>(
     noted: &mut Vec<u8>,
 ) -> Result<Status, AllocError> {
     let mut source = FileSource::new(reader);
-    let mut desk = FileDesk::new(
-        rt,
-        Paths::WORKING_FOLDER,
-        Writes::new(writer),
-        Writes::new(noted),
-    );
+    let folder = Folder::new(rt, Paths::WORKING_FOLDER);
+    let mut desk = FileDesk::new(folder, Writes::new(writer), Writes::new(noted));
     let words = dry(rt.alloc())?;
     Ok(run(rt.alloc(), &words, &mut source, &mut desk))
 }

@@ -5,19 +5,22 @@
 #![tactic(auto)]
 
 mod answers;
+mod drive;
 mod failing_calls;
 mod files;
 mod folder;
 mod laws;
 mod mem_desk;
+mod mem_drive;
 mod mem_log;
 mod mem_parts;
 mod mem_source;
 mod outlets;
 mod stopping;
 
+pub use drive::Drive;
 pub use files::{FileDesk, FileSource};
-pub use folder::Paths;
+pub use folder::{Folder, Paths};
 pub use laws::{
     nothing_or_all_is_kept, pending_until_synced, worked_choices, worked_images, worked_moments,
     worked_pieces,

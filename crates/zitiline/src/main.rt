@@ -24,7 +24,7 @@ use std::alloc::Global;
 use std::io::ErrorKind;
 use std::process::ExitCode;
 use std::{env, io};
-use ziti_desk::{FileDesk, FileSource, Paths, Writes};
+use ziti_desk::{FileDesk, FileSource, Folder, Paths, Writes};
 use ziti_outside::{Desk, Source};
 
 // The words behind the program's name, as the system gives them.
