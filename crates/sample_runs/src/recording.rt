@@ -2,14 +2,13 @@
 
 use std::alloc::{AllocError, Allocator, Global};
 use std::cell::RefCell;
-use std::fs::{Dir, File, Metadata, OpenFile, OpenOptions};
+use std::fs::{Metadata, OpenFile, OpenOptions};
 use std::io::{self, ErrorKind, Read, Seek, SeekFrom, Write};
-use std::process::Abort;
 use std::rt::Files;
 
 /// What a path names: the folder or one of its files.
 #[derive(Clone, Copy, Debug, PartialEq, Eq)]
-pub(crate) enum Name {
+pub enum Name {
     Folder,
     Zero,
     One,
@@ -19,7 +18,7 @@ pub(crate) enum Name {
 /// What was asked: to open a file for reading alone, for writing too, and to make it besides; its length; a place; bytes read, written
 /// and cut; a sync; and a piece of replies that was said meanwhile.
 #[derive(Clone, Copy, Debug, PartialEq, Eq)]
-pub(crate) enum Asked {
+pub enum Asked {
     Look(Name),
     Open(Name),
     Make(Name),
@@ -34,16 +33,17 @@ pub(crate) enum Asked {
 
 /// All that was asked, and the place of the call that fails, counted from 0.
 #[derive(Drop)]
-pub(crate) struct Calls {
+pub struct Calls {
     asked: RefCell<Vec<Asked>>,
     failing: usize,
 }
 
 /// The place of no call.
-pub(crate) const NONE_FAILS: usize = usize::MAX;
+pub const NONE_FAILS: usize = usize::MAX;
 
 impl Calls {
-    pub(crate) fn new(alloc: Global, failing: usize) -> Calls {
+    /// No call yet, and the place of the one that will fail.
+    pub fn new(alloc: Global, failing: usize) -> Calls {
         Calls {
             asked: RefCell::new(Vec::new(alloc)),
             failing,
@@ -63,8 +63,16 @@ impl Calls {
         Ok(())
     }
 
+    /// How many calls there were.
+    pub fn count(&self) -> usize {
+        match self.asked.try_borrow() {
+            Ok(asked) => asked.len(),
+            Err(_) => 0,
+        }
+    }
+
     /// All that was asked.
-    pub(crate) fn all(&self, alloc: Global) -> Result<Vec<Asked>, AllocError> {
+    pub fn all(&self, alloc: Global) -> Result<Vec<Asked>, AllocError> {
         match self.asked.try_borrow() {
             Ok(asked) => Vec::from_slice(alloc, asked.as_slice()),
             Err(_) => Ok(Vec::new(alloc)),
@@ -72,38 +80,31 @@ impl Calls {
     }
 }
 
-/// These were the calls.
-pub(crate) fn were(
-    rt: &impl Abort,
-    alloc: Global,
-    calls: &Calls,
-    wanted: &[Asked],
-) -> Result<(), AllocError> {
-    let all = calls.all(alloc)?;
-    assert_eq!(rt; all.as_slice(), wanted);
-    Ok(())
-}
-
-// What a path of the working folder names.
+// What a path names.
 fn name_of(path: &str) -> Name {
-    match path {
-        "ziti.0" => Name::Zero,
-        "ziti.1" => Name::One,
-        "ziti.mark" => Name::Mark,
-        _ => Name::Folder,
+    if path.ends_with("ziti.0") {
+        return Name::Zero;
     }
+    if path.ends_with("ziti.1") {
+        return Name::One;
+    }
+    if path.ends_with("ziti.mark") {
+        return Name::Mark;
+    }
+    Name::Folder
 }
 
 /// The files of the system, recorded.
-pub(crate) struct Recorded<'c> {
-    pub(crate) host: &'c HostRuntime,
-    pub(crate) calls: &'c Calls,
+#[derive(Drop)]
+pub struct Recorded<'c, R: Files> {
+    pub host: &'c R,
+    pub calls: &'c Calls,
 }
 
 /// One of them.
 #[derive(Drop)]
-pub(crate) struct RecordedFile<'c> {
-    file: File,
+pub struct RecordedFile<'c, F> {
+    file: F,
     name: Name,
     calls: &'c Calls,
 }
@@ -113,12 +114,12 @@ fn unsupported<T>() -> io::Result<T> {
     Err(io::Error::from(ErrorKind::Unsupported))
 }
 
-impl<'c> Files for Recorded<'c> {
-    type File = RecordedFile<'c>;
+impl<'c, R: Files> Files for Recorded<'c, R> {
+    type File = RecordedFile<'c, R::File>;
 
-    type Dir = Dir;
+    type Dir = R::Dir;
 
-    fn open_file(&self, how: &OpenOptions, path: &str) -> io::Result<RecordedFile<'c>> {
+    fn open_file(&self, how: &OpenOptions, path: &str) -> io::Result<RecordedFile<'c, R::File>> {
         let name = name_of(path);
         self.calls.record(if how.asks_create() {
             Asked::Make(name)
@@ -134,7 +135,7 @@ impl<'c> Files for Recorded<'c> {
         })
     }
 
-    fn open_dir(&self, _path: &str) -> io::Result<Dir> {
+    fn open_dir(&self, _path: &str) -> io::Result<R::Dir> {
         unsupported()
     }
 
@@ -171,14 +172,14 @@ impl<'c> Files for Recorded<'c> {
     }
 }
 
-impl Read for RecordedFile<'_> {
+impl<F: Read> Read for RecordedFile<'_, F> {
     fn read(&mut self, buf: &mut [u8]) -> io::Result<usize> {
         self.calls.record(Asked::Read(self.name))?;
         self.file.read(buf)
     }
 }
 
-impl Write for RecordedFile<'_> {
+impl<F: Write> Write for RecordedFile<'_, F> {
     fn write(&mut self, buf: &[u8]) -> io::Result<usize> {
         self.calls.record(Asked::Write(self.name, buf.len()))?;
         self.file.write(buf)
@@ -189,7 +190,7 @@ impl Write for RecordedFile<'_> {
     }
 }
 
-impl Seek for RecordedFile<'_> {
+impl<F: Seek> Seek for RecordedFile<'_, F> {
     fn seek(&mut self, to: SeekFrom) -> io::Result<u64> {
         if let SeekFrom::Start(at) = to {
             self.calls.record(Asked::Seek(self.name, at))?;
@@ -198,7 +199,7 @@ impl Seek for RecordedFile<'_> {
     }
 }
 
-impl OpenFile for RecordedFile<'_> {
+impl<F: OpenFile> OpenFile for RecordedFile<'_, F> {
     fn metadata(&self) -> io::Result<Metadata> {
         self.calls.record(Asked::Len(self.name))?;
         self.file.metadata()
@@ -221,9 +222,9 @@ impl OpenFile for RecordedFile<'_> {
 
 /// A writer of replies, which records each piece among the calls.
 #[derive(Drop)]
-pub(crate) struct Spoken<'c> {
-    pub(crate) bytes: Vec<u8>,
-    pub(crate) calls: &'c Calls,
+pub struct Spoken<'c> {
+    pub bytes: Vec<u8>,
+    pub calls: &'c Calls,
 }
 
 impl Write for Spoken<'_> {
