@@ -1,5 +1,7 @@
 //! What each call on a folder asks of its files.
 
+ghost use Rattle.std.specs.Prelude.{◌≡◌, IsTrue, length};
+
 use sample_runs::{Asked, Calls, NONE_FAILS, Name, Recorded};
 use std::alloc::{AllocError, Global};
 use std::process::Abort;
@@ -66,16 +68,24 @@ fn were(rt: &impl Abort, alloc: Global, calls: &Calls, wanted: &[Asked]) -> Resu
     Ok(())
 }
 
+// A part has so many bytes.
+fn has_len<F: Drive>(rt: &impl Abort, folder: &mut F, part: Part, wanted: u64)
+    ensures { IsTrue F.tells → length (F.reads folder.new part) ≡ wanted }
+{
+    assert_eq!(rt; folder.len(part), Ok(wanted));
+}
+
 // Writes a part that is absent, syncs it, cuts it and syncs it again.
 fn writes_a_part<F: Drive>(rt: &impl Abort, folder: &mut F, part: Part) {
     assert_eq!(rt; folder.write_at(part, 0, b"abc"), Ok(()));
     assert_eq!(rt; folder.sync(part), Ok(()));
+    has_len(rt, folder, part, 3);
     assert_eq!(rt; folder.cut(part, 2), Ok(()));
     assert_eq!(rt; folder.sync(part), Ok(()));
 }
 
 /// The file of a part is made, and its folder is synced before its first byte is written; it is synced where it is asked to be.
-const fn first_calls(name: Name) -> [Asked; 9] {
+const fn first_calls(name: Name) -> [Asked; 10] {
     [
         Asked::Open(name),
         Asked::Make(name),
@@ -84,6 +94,7 @@ const fn first_calls(name: Name) -> [Asked; 9] {
         Asked::Seek(name, 0),
         Asked::Write(name, 3),
         Asked::Sync(name),
+        Asked::Len(name),
         Asked::Cut(name, 2),
         Asked::Sync(name),
     ]
@@ -127,11 +138,11 @@ fn syncs_the_folder_of_what_it_makes(rt: HostRuntime) -> Result<(), Fail> {
 // A part of three bytes is looked at, and then synced; so is one that is absent.
 fn looks_and_syncs<F: Drive>(rt: &impl Abort, folder: &mut F) {
     let mut buf = [0u8; 2];
-    assert_eq!(rt; folder.len(Part::Zero), Ok(3));
+    has_len(rt, folder, Part::Zero, 3);
     assert_eq!(rt; folder.read_at(Part::Zero, 1, &mut buf), Ok(()));
     assert_eq!(rt; buf, *b"bc");
     assert!(rt; folder.read_at(Part::Zero, 2, &mut buf).is_err());
-    assert_eq!(rt; folder.len(Part::Mark), Ok(0));
+    has_len(rt, folder, Part::Mark, 0);
     assert_eq!(rt; folder.sync(Part::Zero), Ok(()));
     assert_eq!(rt; folder.sync(Part::Mark), Ok(()));
 }

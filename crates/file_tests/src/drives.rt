@@ -1,5 +1,7 @@
 //! The desk of the program over the drive in memory: it keeps what the one in memory keeps.
 
+ghost use Rattle.std.specs.Prelude.{◌≡◌, IsTrue, length};
+
 use sample_runs::{FIRST, desk_of};
 use std::alloc::{AllocError, Global};
 use std::process::Abort;
@@ -15,15 +17,24 @@ const ROOM: Room = Room {
     log_bytes: 4_096,
 };
 
+// A part has so many bytes.
+fn has_len<D: Desk>(rt: &impl Abort, desk: &mut D, part: Part, wanted: u64)
+    ensures { IsTrue D.tells → length (D.reads desk.new part) ≡ wanted }
+{
+    assert_eq!(rt; desk.len(part), Ok(wanted));
+}
+
 // Writes to the first slot, says, syncs and cuts.
 fn does_some<D: Desk>(rt: &impl Abort, desk: &mut D) {
     let mut buf = [0u8; 2];
+    has_len(rt, desk, Part::Zero, 3);
     assert_eq!(rt; desk.write_at(Part::Zero, 1, b"78"), Ok(()));
     assert_eq!(rt; desk.say(b"56"), Ok(()));
     assert_eq!(rt; desk.sync(Part::Zero), Ok(()));
+    has_len(rt, desk, Part::Zero, 3);
     assert_eq!(rt; desk.cut(Part::Zero, 2), Ok(()));
     assert_eq!(rt; desk.note(b"n"), Ok(()));
-    assert_eq!(rt; desk.len(Part::Zero), Ok(2));
+    has_len(rt, desk, Part::Zero, 2);
     assert_eq!(rt; desk.read_at(Part::Zero, 0, &mut buf), Ok(()));
     assert_eq!(rt; buf, *b"17");
     assert!(rt; desk.read_at(Part::One, 0, &mut buf).is_err());
