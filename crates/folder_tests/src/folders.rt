@@ -5,7 +5,7 @@ use crate::stops::{Call, does};
 use std::process::Abort;
 use std::test::Fail;
 use std::{fs, io};
-use ziti_desk::{FileDesk, Images, MemDesk, Paths, Room, Writes};
+use ziti_desk::{FileDesk, Folder, Images, MemDesk, Paths, Room, Writes};
 use ziti_outside::{Desk, Part};
 
 /// Folders in the working folder, one for each test that has files.
@@ -181,7 +181,7 @@ fn over_files(rt: &impl Abort, host: &HostRuntime, paths: Paths<'_>, deed: Deed)
     let mut noted = Vec::new(host.alloc());
     let replies = Writes::new(&mut said);
     let notes = Writes::new(&mut noted);
-    let mut desk = FileDesk::new(host, paths, replies, notes);
+    let mut desk = FileDesk::new(Folder::new(host, paths), replies, notes);
     makes(rt, host, &mut desk, deed)
 }
 

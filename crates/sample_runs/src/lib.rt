@@ -1,9 +1,11 @@
-//! What tests of whole runs share: frames of requests and replies, laid out by hand, a small network, slots of records, and sources and desks over memory.
+//! What tests of whole runs share: frames of requests and replies, laid out by hand, a small network, slots of records, sources and desks over memory,
+//! and files of the system that record what is asked of them.
 #![tactic(auto)]
 
 mod desks;
 mod frames;
 mod networks;
+mod recording;
 mod slots;
 
 pub use desks::{desk_of, parts_of, source_of};
@@ -15,4 +17,5 @@ pub use networks::{
     ASK, CLOSED, DEAR_LINK, ENTRY, GONE, LINE, ON_DEAR_LINK, ON_LINE, OPENED, OVER_LINE, PAIR,
     SECOND_GONE, SECOND_OFF, SECOND_ON_LINK, TWO_CIRCUITS, UNKNOWN_NUMBER, joined,
 };
+pub use recording::{Asked, Calls, NONE_FAILS, Name, Recorded, RecordedFile, Spoken};
 pub use slots::{ANN_KEPT, BOB_KEPT, FIRST, HEADER, WEB_KEPT, slot_of};

@@ -10,6 +10,8 @@ mod desks;
 #[cfg(test)]
 mod loads;
 #[cfg(test)]
+mod network_rows;
+#[cfg(test)]
 mod rerouted_rows;
 #[cfg(test)]
 mod revoked_rows;

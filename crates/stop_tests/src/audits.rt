@@ -12,7 +12,7 @@ use std::alloc::{AllocError, Global};
 use std::fs;
 use std::process::Abort;
 use std::test::Fail;
-use ziti_desk::{FileDesk, Paths, Writes};
+use ziti_desk::{FileDesk, Folder, Paths, Writes};
 use ziti_outside::Desk;
 
 /// The line of a folder that keeps a network with two circuits.
@@ -79,7 +79,7 @@ fn looks_here(
 ) -> Result<(), AllocError> {
     let replies = Writes::new(said);
     let notes = Writes::new(noted);
-    let mut desk = FileDesk::new(host, Paths::WORKING_FOLDER, replies, notes);
+    let mut desk = FileDesk::new(Folder::new(host, Paths::WORKING_FOLDER), replies, notes);
     looks_at(rt, host.alloc(), &mut desk)
 }
 

@@ -10,6 +10,8 @@ mod desks;
 #[cfg(test)]
 mod failing_calls;
 #[cfg(test)]
+mod files;
+#[cfg(test)]
 mod folders;
 #[cfg(test)]
 mod hostile;

@@ -1,12 +1,12 @@
 //! Runs over the adapters: full, partial and failing readers and writers.
 
 use ctrl_serve::{Status, run};
-use sample_runs::{ANN, EXISTS, MADE};
+use sample_runs::{ANN, Calls, EXISTS, MADE, NONE_FAILS, Spoken};
 use std::alloc::{AllocError, Global};
 use std::io::{self, ErrorKind, Read, Write};
 use std::process::Abort;
 use std::test::Fail;
-use ziti_desk::{FileDesk, FileSource, Paths, Writes};
+use ziti_desk::{FileDesk, FileSource, Folder, Paths, Writes};
 
 /// A writer that takes at most so many bytes a write, and fails at one of its writes, counted from 0.
 #[derive(Drop)]
@@ -78,12 +78,8 @@ fn ends_with<R: Read + Drop, W: Write>(
     noted: &mut Vec<u8>,
 ) -> Result<Status, AllocError> {
     let mut source = FileSource::new(reader);
-    let mut desk = FileDesk::new(
-        rt,
-        Paths::WORKING_FOLDER,
-        Writes::new(writer),
-        Writes::new(noted),
-    );
+    let folder = Folder::new(rt, Paths::WORKING_FOLDER);
+    let mut desk = FileDesk::new(folder, Writes::new(writer), Writes::new(noted));
     let words = dry(rt.alloc())?;
     Ok(run(rt.alloc(), &words, &mut source, &mut desk))
 }
@@ -156,5 +152,52 @@ fn ends_with_truncated_at_a_cut_frame(rt: HostRuntime) -> Result<(), Fail> {
         noted.as_slice(),
         b"zitictl: session 0: 3 bytes left\n".as_slice()
     );
+    Ok(())
+}
+
+/// A reader that gives the same bytes twice, and fails at its second read where nothing was said before.
+#[derive(Drop)]
+struct Patient<'c> {
+    bytes: &'static [u8],
+    reads: u64,
+    calls: &'c Calls,
+}
+
+impl Read for Patient<'_> {
+    fn read(&mut self, buf: &mut [u8]) -> io::Result<usize> {
+        let place = self.reads;
+        self.reads = place.saturating_add(1);
+        if place == 1 && self.calls.count() == 0 {
+            return Err(io::Error::from(ErrorKind::TimedOut));
+        }
+        let mut bytes = if place < 2 {
+            self.bytes
+        } else {
+            b"".as_slice()
+        };
+        bytes.read(buf)
+    }
+}
+
+// The sender of a frame has its reply before more is read of it.
+#[test]
+fn answers_before_it_reads_on(rt: HostRuntime) -> Result<(), Fail> {
+    let alloc = rt.alloc();
+    let calls = Calls::new(alloc, NONE_FAILS);
+    let patient = Patient {
+        bytes: ANN,
+        reads: 0,
+        calls: &calls,
+    };
+    let mut spoken = Spoken {
+        bytes: Vec::new(alloc),
+        calls: &calls,
+    };
+    let mut noted = Vec::new(alloc);
+    let status = ends_with(&rt, patient, &mut spoken, &mut noted)?;
+    let wanted = joined(alloc, MADE, EXISTS)?;
+    assert_eq!(rt; status, Status::Done);
+    assert_eq!(rt; spoken.bytes.as_slice(), wanted.as_slice());
+    assert!(rt; noted.is_empty());
     Ok(())
 }

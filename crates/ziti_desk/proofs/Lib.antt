@@ -3,3 +3,4 @@ pub mod MemSteps
 pub mod PieceLaws
 pub mod StopLaws
 pub mod KeptLaws
+pub mod StageSteps

@@ -6,3 +6,6 @@ pub mod Pieces
 pub mod StopPoints
 pub mod DeskStops
 pub mod KeptSteps
+pub mod DriveStops
+pub mod Stages
+pub mod StageLaws

@@ -1,10 +1,10 @@
-ghost use Rattle.std.specs.Prelude.{◌≡◌};
+ghost use Rattle.std.specs.Prelude.{◌≡◌, []};
 
 use crate::answers::{counted, given};
-use crate::folder::{Folder, Paths};
+use crate::drive::Drive;
 use crate::outlets::{Outlet, write_whole};
+use http_server::Log;
 use std::io::Read;
-use std::rt::Files;
 use ziti_outside::{Desk, Failed, Part, Source};
 
 /// A reader as a source. It tells what the reader tells, and counts each read that fails.
@@ -35,64 +35,74 @@ impl<R: Read> Source for FileSource<R> {
     }
 }
 
-/// An outlet for replies, one for notes, and a folder of three files as a desk.
+/// A folder on a drive, an outlet for replies and one for notes as a desk: the one of the program.
 ///
-/// Of the replies and the notes it tells what its outlets tell, and of the folder nothing. A file is opened at its first use,
-/// and an absent one is made at its first write alone; until then it has no bytes, and a `sync` of it, or a `cut` to no bytes,
-/// does nothing. Whatever the system refuses is a counted fault: a folder that is absent or may not be written, or a folder
-/// in the place of a file.
+/// It tells of the folder what its drive tells, and of the replies and the notes what its outlets tell. Its clock counts the says and
+/// the calls on the folder, and what it knows of them is a history of which a program keeps nothing: the drive and the replies at
+/// the start of each (`PairsFrom`).
 #[derive(Drop)]
-pub struct FileDesk<'r, R: Files, O, E> {
-    folder: Folder<'r, R>,
+pub struct FileDesk<F, O, E> {
+    folder: F,
     replies: O,
     notes: E,
-    disk_faults: u64,
+    history: Log<F, O>,
 }
 
-impl<'r, R: Files, O, E> FileDesk<'r, R, O, E> {
-    /// The desk over the files at these paths, of which no call has failed.
-    pub fn new(rt: &'r R, paths: Paths<'r>, replies: O, notes: E) -> FileDesk<'r, R, O, E>
+impl<F, O, E> FileDesk<F, O, E> {
+    /// The desk over a drive and two outlets, of which no call has been made.
+    pub fn new(folder: F, replies: O, notes: E) -> FileDesk<F, O, E>
+        ensures folder { result.folder ≡ folder }
         ensures replies { result.replies ≡ replies }
         ensures notes { result.notes ≡ notes }
-        ensures disk_faults { result.disk_faults ≡ 0 }
+        ensures history { result.history.items ≡ [] }
     {
         FileDesk {
-            folder: Folder::new(rt, paths),
+            folder,
             replies,
             notes,
-            disk_faults: 0,
+            history: Log::new(),
         }
+    }
+
+    /// The drive of its folder.
+    pub fn folder(&self) -> &F
+        ensures { result.now ≡ self.now.folder }
+    {
+        &self.folder
     }
 }
 
-impl<'r, R: Files, O: Outlet, E: Outlet> Desk for FileDesk<'r, R, O, E> {
-    ghost use Rattle.std.specs.Prelude.{false, []};
-    ghost use Rattle.ziti_desk.specs.Untold.{untold};
+impl<F: Drive, O: Outlet, E: Outlet> Desk for FileDesk<F, O, E> {
+    ghost use Rattle.ziti_outside.specs.Moments.{Now};
+    ghost use Rattle.ziti_desk.specs.Stages.{StopsWithin, staged};
+    ghost use Rattle.ziti_desk.specs.StageLaws.{counts_last, only_last};
 
-    ghost tells = { false };
+    ghost tells = { F.tells };
 
     ghost seen = { λ d. record {
       said = O.contents d.replies;
       noted = E.contents d.notes;
       say_faults = O.failures d.replies;
       note_faults = E.failures d.notes;
-      disk_faults = d.disk_faults;
-      reads = λ part. [];
+      disk_faults = F.faults d.folder;
+      reads = F.reads d.folder;
     } };
 
-    ghost stopped = { λ d. record {
-      moment = 0;
-      images = λ image. ⊥;
-      since = λ time image taken. ⊥;
-    } };
+    ghost stopped = { λ d. staged (StopsWithin F.moment F.since O.contents) (λ stage. Now (F.may_leave stage.0) (O.contents stage.1)) (λ stage. F.may_leave stage.0)
+        d.history.items (d.folder, d.replies) };
 
-    ghost counts_now = { λ d time image taken early leaves replies. leaves };
+    ghost counts_now = { λ d time image taken early leaves replies.
+        counts_last (StopsWithin F.moment F.since O.contents) (λ stage. Now (F.may_leave stage.0) (O.contents stage.1))
+        d.history.items (d.folder, d.replies) time image taken (record { found = leaves; replies = replies }) };
 
-    ghost only_now = { λ d image taken since. absurd since };
+    ghost only_now = { λ d image taken since.
+        only_last (StopsWithin F.moment F.since O.contents) (λ stage. Now (F.may_leave stage.0) (O.contents stage.1))
+        d.history.items (d.folder, d.replies) image taken since };
 
-    ghost is_own = { λ d tells. untold tells };
+    ghost is_own = { λ d tells. F.is_own d.folder tells };
 
     fn say(&mut self, bytes: &[u8]) -> Result<(), Failed> {
+        self.history = self.history.and(&self.folder, &self.replies);
         write_whole(&mut self.replies, bytes)
     }
 
@@ -101,27 +111,27 @@ impl<'r, R: Files, O: Outlet, E: Outlet> Desk for FileDesk<'r, R, O, E> {
     }
 
     fn len(&mut self, part: Part) -> Result<u64, Failed> {
-        let answer = self.folder.len(part);
-        counted(&mut self.disk_faults, answer)
+        self.history = self.history.and(&self.folder, &self.replies);
+        self.folder.len(part)
     }
 
     fn read_at(&mut self, part: Part, at: u64, buf: &mut [u8]) -> Result<(), Failed> {
-        let answer = self.folder.read_at(part, at, buf);
-        counted(&mut self.disk_faults, answer)
+        self.history = self.history.and(&self.folder, &self.replies);
+        self.folder.read_at(part, at, buf)
     }
 
     fn write_at(&mut self, part: Part, at: u64, bytes: &[u8]) -> Result<(), Failed> {
-        let answer = self.folder.write_at(part, at, bytes);
-        counted(&mut self.disk_faults, answer)
+        self.history = self.history.and(&self.folder, &self.replies);
+        self.folder.write_at(part, at, bytes)
     }
 
     fn cut(&mut self, part: Part, len: u64) -> Result<(), Failed> {
-        let answer = self.folder.cut(part, len);
-        counted(&mut self.disk_faults, answer)
+        self.history = self.history.and(&self.folder, &self.replies);
+        self.folder.cut(part, len)
     }
 
     fn sync(&mut self, part: Part) -> Result<(), Failed> {
-        let answer = self.folder.sync(part);
-        counted(&mut self.disk_faults, answer)
+        self.history = self.history.and(&self.folder, &self.replies);
+        self.folder.sync(part)
     }
 }

@@ -1,4 +1,4 @@
-ghost use Rattle.std.specs.Prelude.{◌≡◌, ℕ, Bool, true, false, List, [], ◌∷◌, ◌++◌, length, take, All};
+ghost use Rattle.std.specs.Prelude.{◌≡◌, ℕ, Bool, true, false, List, [], ◌∷◌, ◌++◌, length, take, All, None, Some};
 ghost use Rattle.std.specs.List.{list_any};
 ghost use Rattle.ziti_outside.specs.declared.desk.Part.{Part};
 ghost use Rattle.ziti_outside.specs.declared.desk.Part.TheVariants.{Zero, One, Mark};
@@ -6,6 +6,7 @@ ghost use Rattle.ziti_outside.specs.Images.{Image, Torn, CutShort, OnPart};
 ghost use Rattle.ziti_desk.specs.declared.mem_log.Call.TheVariants.{Wrote};
 ghost use Rattle.ziti_desk.specs.Pieces.{from_first, first, without, joined, is_listed, next_call};
 ghost use Rattle.ziti_desk.specs.StopPoints.{PairsAt, KeepsOf, event_of, said_past, written_past, syncs, as_done, synced_parts, whole_parts, KeepsNothing, KeepsAll, worked_calls};
+ghost use Rattle.ziti_desk.specs.Stages.{IsBetween, PairsFrom};
 ghost use Rattle.ziti_desk.specs.MemEvents.{Event, Saying, Writing, Cutting, Syncing, at_parts, written_over, reads_after, Leaving, Since};
 
 /// What a stop finds of a desk over memory behind a write, a cut and a sync: each image that a stop within a write or a cut
@@ -95,4 +96,17 @@ pub fn worked_moments()
     ensures said_behind_it { said_past (Wrote One 4 2 true) (5 ∷ []) ≡ 5 ∷ [] }
     ensures half_a_write_is_kept { KeepsOf (Writing Zero 0 (7 ∷ 8 ∷ []) true) (at_parts (7 ∷ 8 ∷ []) [] []) (at_parts (1 ∷ 2 ∷ []) [] []) (at_parts (7 ∷ 2 ∷ []) [] []) }
     ensures a_synced_part_is_kept { KeepsOf (Syncing Zero) (at_parts (7 ∷ 8 ∷ []) [] []) (at_parts (7 ∷ 2 ∷ []) [] []) (at_parts (7 ∷ 8 ∷ []) [] []) }
+{}
+
+/// What a stop leaves of a desk over a drive, worked by hand: replies between `1` and `1 2 3`; and of the stages 1 and 2, with 3 now, the
+/// pairs from the first call on and from the second one on, where a stop within a call finds the two stages as replies, and now the one.
+pub fn worked_stages()
+    ensures between { IsBetween (Some (1 ∷ [])) (Some (1 ∷ 2 ∷ 3 ∷ [])) (1 ∷ 2 ∷ []) }
+    ensures less_than_before { IsBetween (Some (1 ∷ [])) (Some (1 ∷ 2 ∷ 3 ∷ [])) [] → ⊥ }
+    ensures more_than_now { IsBetween (Some (1 ∷ [])) (Some (1 ∷ 2 ∷ 3 ∷ [])) (1 ∷ 2 ∷ 3 ∷ 4 ∷ []) → ⊥ }
+    ensures not_told { IsBetween None (Some []) (9 ∷ []) }
+    ensures within_the_first_call { (image : Image) → PairsFrom (λ (a : ℕ) (b : ℕ) i w. w ≡ a ∷ b ∷ []) (λ a i w. w ≡ a ∷ []) (1 ∷ 2 ∷ []) 3 0 image (1 ∷ 2 ∷ []) }
+    ensures behind_the_first_call { (image : Image) → PairsFrom (λ (a : ℕ) (b : ℕ) i w. w ≡ a ∷ b ∷ []) (λ a i w. w ≡ a ∷ []) (1 ∷ 2 ∷ []) 3 1 image (1 ∷ 2 ∷ []) → ⊥ }
+    ensures within_the_second_call { (image : Image) → PairsFrom (λ (a : ℕ) (b : ℕ) i w. w ≡ a ∷ b ∷ []) (λ a i w. w ≡ a ∷ []) (1 ∷ 2 ∷ []) 3 1 image (2 ∷ 3 ∷ []) }
+    ensures now { (image : Image) → PairsFrom (λ (a : ℕ) (b : ℕ) i w. w ≡ a ∷ b ∷ []) (λ a i w. w ≡ a ∷ []) (1 ∷ 2 ∷ []) 3 2 image (3 ∷ []) }
 {}

@@ -1,26 +1,30 @@
-//! The sources and desks that there are: over readers, writers and a folder of three files, and over memory.
+//! The sources and desks that there are: over readers, writers and a drive for the folder, and over memory.
 //!
-//! The file adapters tell of replies and notes what their writers tell, and of the folder nothing. Those over memory tell all
-//! their contents, and fail at the calls that they are told to.
+//! The desk of the program tells of replies and notes what its writers tell, and of the folder what its drive tells. The drive over
+//! the three files of a folder tells nothing; a desk over memory is a drive that tells all. What is over memory tells all its contents,
+//! and fails at the calls that it is told to.
 #![tactic(auto)]
 
 mod answers;
+mod drive;
 mod failing_calls;
 mod files;
 mod folder;
 mod laws;
 mod mem_desk;
+mod mem_drive;
 mod mem_log;
 mod mem_parts;
 mod mem_source;
 mod outlets;
 mod stopping;
 
+pub use drive::Drive;
 pub use files::{FileDesk, FileSource};
-pub use folder::Paths;
+pub use folder::{Folder, Paths};
 pub use laws::{
     nothing_or_all_is_kept, pending_until_synced, worked_choices, worked_images, worked_moments,
-    worked_pieces,
+    worked_pieces, worked_stages,
 };
 pub use mem_desk::{MemDesk, Room};
 pub use mem_parts::Images;

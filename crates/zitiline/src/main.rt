@@ -10,7 +10,7 @@ mod status;
 mod words;
 mod worked;
 
-ghost use Rattle.std.specs.Prelude.{◌≡◌, ◌≢◌, None, IfOk, IfErr, map};
+ghost use Rattle.std.specs.Prelude.{◌≡◌, ◌≢◌, None, IfOk, IfErr, map, drop};
 ghost use Rattle.std.specs.Process.{exit_status};
 ghost use Rattle.std.specs.IoError.{error_kind};
 ghost use Rattle.std.specs.String.{string_bytes};
@@ -24,33 +24,43 @@ use std::alloc::Global;
 use std::io::ErrorKind;
 use std::process::ExitCode;
 use std::{env, io};
-use ziti_desk::{FileDesk, FileSource, Paths, Writes};
+use ziti_desk::{FileDesk, FileSource, Folder, Paths, Writes};
 use ziti_outside::{Desk, Source};
 
-// The words behind the program's name, as the system gives them.
-fn stored_words(rt: &HostRuntime) -> io::Result<Vec<String>> {
-    let words = env::args(rt)?.skip(1).collect(rt.alloc())?;
+// The words that the system gives: the program's name, and those behind it.
+fn given_words(rt: &HostRuntime) -> io::Result<Vec<String>> {
+    let words = env::args(rt)?.collect(rt.alloc())?;
     Ok(words)
 }
 
-// Runs on the words that were stored. Words that are not text are words of no table. Where memory was wanting for the words,
+// The words behind the program's name.
+fn behind_name(given: &[String]) -> &[String]
+    ensures { result.now ≡ drop 1 given.now }
+{
+    match given.split_first() {
+        Some((_, words)) => words,
+        None => given,
+    }
+}
+
+// Runs on the words that the system gave. Words that are not text are words of no table. Where memory was wanting for the words,
 // nothing is done.
-fn run_stored<S: Source, D: Desk>(
+fn run_given<S: Source, D: Desk>(
     alloc: Global,
-    stored: io::Result<Vec<String>>,
+    given: io::Result<Vec<String>>,
     source: &mut S,
     desk: &mut D,
 ) -> Status
-    ensures stored { IfOk stored (λ words. Runs (record { left = S.left; faults = S.faults; tells = D.tells; seen = D.seen; stopped = D.stopped })
-        (form_of (map string_bytes words.items)) source.old source.new desk.old desk.new result) }
-    ensures no_text { IfErr stored (λ error. error_kind error ≢ ErrorKind.OutOfMemory
+    ensures words { IfOk given (λ words. Runs (record { left = S.left; faults = S.faults; tells = D.tells; seen = D.seen; stopped = D.stopped })
+        (form_of (map string_bytes (drop 1 words.items))) source.old source.new desk.old desk.new result) }
+    ensures no_text { IfErr given (λ error. error_kind error ≢ ErrorKind.OutOfMemory
         → Runs (record { left = S.left; faults = S.faults; tells = D.tells; seen = D.seen; stopped = D.stopped })
         None source.old source.new desk.old desk.new result) }
-    ensures no_memory { IfErr stored (λ error. error_kind error ≡ ErrorKind.OutOfMemory
+    ensures no_memory { IfErr given (λ error. error_kind error ≡ ErrorKind.OutOfMemory
         → (result ≡ Status.NoMemory) × (source.new ≡ source.old) × (desk.new ≡ desk.old)) }
 {
-    match stored {
-        Ok(words) => run(alloc, words.as_slice(), source, desk),
+    match given {
+        Ok(words) => run(alloc, behind_name(words.as_slice()), source, desk),
         Err(error) => {
             if error.kind() == ErrorKind::OutOfMemory {
                 Status::NoMemory
@@ -68,11 +78,30 @@ fn exit_code(status: Status) -> ExitCode
     ExitCode::from(status.number())
 }
 
+// Runs on the words that the system gave, and ends the program as the status of the run says.
+fn ends<S: Source, D: Desk>(
+    alloc: Global,
+    given: io::Result<Vec<String>>,
+    source: &mut S,
+    desk: &mut D,
+) -> ExitCode
+    ensures words { IfOk given (λ words. (status : Status) × Runs (record { left = S.left; faults = S.faults; tells = D.tells; seen = D.seen; stopped = D.stopped })
+        (form_of (map string_bytes (drop 1 words.items))) source.old source.new desk.old desk.new status × (exit_status result ≡ number_of status)) }
+    ensures no_text { IfErr given (λ error. error_kind error ≢ ErrorKind.OutOfMemory
+        → (status : Status) × Runs (record { left = S.left; faults = S.faults; tells = D.tells; seen = D.seen; stopped = D.stopped })
+        None source.old source.new desk.old desk.new status × (exit_status result ≡ number_of status)) }
+    ensures no_memory { IfErr given (λ error. error_kind error ≡ ErrorKind.OutOfMemory
+        → (exit_status result ≡ number_of Status.NoMemory) × (source.new ≡ source.old) × (desk.new ≡ desk.old)) }
+{
+    exit_code(run_given(alloc, given, source, desk))
+}
+
 fn main(rt: HostRuntime) -> ExitCode {
     let errors = rt.stderr();
     let said = Writes::new(io::writer(&rt));
     let notes = Writes::new(io::writer(&errors));
     let mut source = FileSource::new(rt.reader());
-    let mut desk = FileDesk::new(&rt, Paths::WORKING_FOLDER, said, notes);
-    exit_code(run_stored(rt.alloc(), stored_words(&rt), &mut source, &mut desk))
+    let folder = Folder::new(&rt, Paths::WORKING_FOLDER);
+    let mut desk = FileDesk::new(folder, said, notes);
+    ends(rt.alloc(), given_words(&rt), &mut source, &mut desk)
 }

@@ -3,7 +3,7 @@ use Rattle.std.specs.Result.{IfOk, IfErr}
 use Rattle.ctrl_serve.specs.declared.command_line.Form.{Form}
 use Rattle.ctrl_serve.specs.CommandLine.{form_of, texts}
 use Rattle.ctrl_serve.specs.Headline.{Runs, program_bounds}
-use Rattle.zitictl.proofs.run_stored.Goals as goal
+use Rattle.zitictl.proofs.run_given.Goals as goal
 
 -- what holds of a result that is this one
 of_ok : {A E : Type 0} (P : A → Type 0) (r : Result A E) (x : A) → r ≡ Ok x → P x → IfOk r P
@@ -12,8 +12,12 @@ of_ok P r x is p = subst (λ t. IfOk t P) (sym is) p
 of_err : {A E : Type 0} (P : E → Type 0) (r : Result A E) (e : E) → r ≡ Err e → P e → IfErr r P
 of_err P r e is p = subst (λ t. IfErr t P) (sym is) p
 
-pub returns-in-Ok-clause-stored : goal.returns-in-Ok-clause-stored
-returns-in-Ok-clause-stored c d = of_ok _ _ d.in-Ok.words d.in-Ok.is d.run.ensures.runs
+pub returns-in-Ok-clause-words : goal.returns-in-Ok-clause-words
+returns-in-Ok-clause-words c d =
+    let RunsOf : Option Form → Type 0 = λ form. Runs {S = c.row.S.Denot} {D = c.row.D.Denot} c.S.Source.left c.S.Source.faults c.D.Desk.said c.D.Desk.noted
+    c.D.Desk.say_faults c.D.Desk.note_faults c.D.Desk.reads c.D.Desk.moment c.D.Desk.since c.D.Desk.may_leave c.D.Desk.disk_faults c.D.Desk.tells program_bounds 4294967296 form
+    d.args.source.now d.run.new.source d.args.desk.now d.run.new.desk d.run.result in
+    of_ok _ _ d.in-Ok.words d.in-Ok.is (subst RunsOf (ap (λ ws. form_of (texts ws)) d.behind_name.ensures) d.run.ensures.runs)
 
 pub returns-then-eq-clause-no_memory : goal.returns-then-eq-clause-no_memory
 returns-then-eq-clause-no_memory c d = of_err _ _ d.in-Err.error d.in-Err.is (λ is. (refl, refl, refl))

@@ -1,0 +1,5 @@
+use Rattle.ziti_desk.proofs.StageSteps.{finds_of_leaves}
+use Rattle.ziti_desk.proofs.mem_drive.MemDeskDrive.read_at.Goals as goal
+
+pub returns-clause-stops : goal.returns-clause-stops
+returns-clause-stops c = finds_of_leaves c.read_at.ensures.stops c.read_at.ensures.remembers

@@ -1,0 +1,66 @@
+"""Counts what one run asks of the system on its folder: python3 calls.py PROGRAM. It wants strace, and an empty folder to run in.
+
+A run of some commands under replay, a compaction, one more run and a look. Each write or cut of a file of the folder must be followed by
+its fsync before any reply goes out, the folder itself must be synced behind each file that is made, and the look must change nothing."""
+import collections, os, re, subprocess, sys, tempfile
+from frames import frame
+
+FILES = ('ziti.0', 'ziti.1', 'ziti.mark')
+CALL = re.compile(r'^(?:\d+ +)?(\w+)\((.*)\) += (-?\d+)')
+
+
+def run(program, words, given):
+    trace = tempfile.NamedTemporaryFile(mode='r', suffix='.strace')
+    wanted = 'trace=openat,open,close,write,pwrite64,fsync,fdatasync,ftruncate'
+    done = subprocess.run(['strace', '-f', '-e', wanted, '-o', trace.name, program, *words], input=given, capture_output=True)
+    calls, names = [], {}
+    for line in trace:
+        found = CALL.match(line)
+        if not found:
+            continue
+        name, args, value = found.group(1), found.group(2), int(found.group(3))
+        if name in ('open', 'openat'):
+            path = re.search(r'"([^"]*)"', args).group(1)
+            if value >= 0:
+                names[value] = path
+            if path in FILES or path == '.':
+                calls.append(('makes' if 'O_CREAT' in args else 'opens' if 'O_RDWR' in args else 'looks', path, value))
+            continue
+        number = int(re.match(r'\d+', args).group(0))
+        target = {1: 'replies', 2: 'notes'}.get(number, names.get(number))
+        if name == 'close':
+            names.pop(number, None)
+        elif target in FILES + ('.', 'replies', 'notes'):
+            calls.append((name, target, value))
+    return done, calls
+
+
+def judge(calls, look):
+    changed = made = None
+    for name, target, value in calls:
+        if changed:
+            assert (name, target) == ('fsync', changed), (changed, name, target)
+        changed = target if target in FILES and name in ('write', 'pwrite64', 'ftruncate') else None
+        if made and name != 'looks':
+            assert (name, target) == ('fsync', '.'), (made, name, target)
+            made = None
+        if name in ('makes', 'opens') and value >= 0:
+            made = target
+        if look:
+            assert name == 'looks' and target != '.' or target == 'replies', (name, target)
+    assert not changed and not made
+
+
+def main(program):
+    program = os.path.abspath(program)
+    os.chdir(tempfile.mkdtemp())
+    first = b''.join(frame(1000, b'{"name":"i%d"}' % n) for n in range(10))
+    for words, given in ((['replay'], first), (['compact'], b''), (['replay'], frame(1000, b'{"name":"late"}')), (['audit'], b'')):
+        done, calls = run(program, words, given)
+        assert done.returncode == 0, done
+        judge(calls, words == ['audit'])
+        counts = collections.Counter(f'{name} {target}' for name, target, _ in calls)
+        print(' '.join(words) + ': ' + ', '.join(f'{counts[key]} {key}' for key in sorted(counts)))
+
+
+main(sys.argv[1])
