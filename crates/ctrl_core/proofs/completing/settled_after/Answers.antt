@@ -1,0 +1,12 @@
+use Rattle.std.proofs.Common.{Option, subst}
+use Rattle.model_laws.specs.Plans.{led_by}
+use Rattle.core_stores.specs.declared.changes.Change.{Change}
+use Rattle.core_stores.specs.LeadingSteps.{LeadAllCounts}
+use Rattle.core_stores.specs.StoredState.{state_of}
+use Rattle.ctrl_core.specs.Changes.{after_change}
+use Rattle.ctrl_core.proofs.completing.settled_after.Goals as goal
+
+pub settled_by-requires-clause-counts : goal.settled_by-requires-clause-counts
+settled_by-requires-clause-counts c =
+    let s = state_of c.args.stores.now in
+    subst (λ (o : Option Change). LeadAllCounts s (led_by after_change o s) c.args.draft.now.steps) c.in-Some.is c.requires.can.counts
