@@ -1,4 +1,7 @@
-use Rattle.std.proofs.Common.{refl}
+use Rattle.std.specs.Prelude.{OnOk}
+use Rattle.std.proofs.Common.{◌≡◌, ℕ, List, [], refl, sym, ap, subst}
+use Rattle.run_notes.specs.Notes.{event_lines}
+use Rattle.run_notes.specs.NotesSoFar.{NotesMore}
 use Rattle.ctrl_keep.proofs.FollowedSteps.{follows_still}
 use Rattle.ctrl_serve.proofs.ControllerLaws.{OnlySaysAndNotes-none, notes_alone}
 use Rattle.ctrl_serve.proofs.TurnLaws.{arrived_noted}
@@ -32,4 +35,10 @@ pub returns-in-Arrived-clause-follows : goal.returns-in-Arrived-clause-follows
 returns-in-Arrived-clause-follows g c = c.serve_arrived.ensures.follows
 
 pub returns-in-Arrived-clause-noted : goal.returns-in-Arrived-clause-noted
-returns-in-Arrived-clause-noted g c = let notes = c.serve_arrived.ensures.notes in arrived_noted c.serve_arrived.result c.args.notes.now.failed (g.D.Desk.seen c.args.desk.now) (g.D.Desk.seen c.serve_arrived.new.desk) notes.notes notes.failed_notes
+returns-in-Arrived-clause-noted g c =
+    let notes = c.serve_arrived.ensures.notes in
+    let old = g.D.Desk.seen c.args.desk.now in
+    let new = g.D.Desk.seen c.serve_arrived.new.desk in
+    let failed = c.args.notes.now.failed in
+    let none : event_lines c.args.event ≡ [] = ap event_lines c.in-Arrived.is in
+    subst (λ (l : List ℕ). OnOk c.serve_arrived.result (NotesMore failed failed l old new)) (sym none) (arrived_noted c.serve_arrived.result failed old new notes.notes notes.failed_notes)
