@@ -1,5 +1,5 @@
 -- Over which links the circuits go on whose own links fail (docs/RULES.md, "Settling").
-use Rattle.std.specs.Prelude.{ℕ, Bool, true, not, ◌&&◌, cond, List, filter, None, option_and_then}
+use Rattle.std.specs.Prelude.{ℕ, Bool, true, false, not, ◌&&◌, cond, List, [], ◌∷◌, filter, None, option_and_then}
 use Rattle.std.specs.declared.option.Option.{Option}
 use Rattle.std.specs.Option.{option_map_or}
 use Rattle.ctrl_model.specs.Networks.{Network, network_of, least_path}
@@ -47,6 +47,14 @@ keeps_at p g rows n = option_map_or (keeps_beside p g) (at rows n) true
 -- The numbers of those of some circuits that do not stay as they are, beside what is present and what is granted.
 abbrev pub going_beside : Present → GrantsAfter → List (ℕ × Circuit) → List ℕ
 going_beside p g rows = numbers (filter (λ row. not (keeps_beside p g row.1)) rows)
+
+-- The numbers of the circuits that do not stay as they are after a change, of all and of those whose path the change takes: these alone,
+-- where what granted each circuit stood before and no count falls; those whose grant is gone, where no path is taken; and else those
+-- that do not stay.
+abbrev pub going_after : Bool → List ℕ → List ℕ → (ℕ → Bool) → (ℕ → Bool) → List ℕ
+going_after true pathless all granted keeps = pathless
+going_after false [] all granted keeps = filter (λ n. not (granted n)) all
+going_after false (x ∷ xs) all granted keeps = filter (λ n. not (keeps n)) all
 
 -- The state in which the circuits of a state are judged: its links and terminators are settled.
 abbrev pub before_circuits : State → State

@@ -52,3 +52,9 @@ stays_beside p c = stays (network_in p) p.identities.now p.services.now c
 -- A circuit stays beside these entities, links and terminators.
 abbrev pub stays_with : Tables → FabricSeen → TermTables → ℕ × Circuit → Bool
 stays_with t f e row = stays (network e f (map seen t.routers.rows)) (numbers t.identities.rows) (numbers t.services.rows) row.1
+
+-- Of these entities there remain the identities and services by their numbers, and the routers as routes see them.
+pub record Remains (t : Tables) (r : Remaining) : Type 0 where
+  pub identities_are : r.identities ≡ numbers t.identities.rows
+  pub services_are : r.services ≡ numbers t.services.rows
+  pub routers_are : r.routers.items ≡ map seen t.routers.rows

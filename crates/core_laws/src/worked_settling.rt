@@ -14,7 +14,7 @@ ghost use Rattle.core_stores.specs.declared.loads.Loads.TheVariants.{Same, More,
 ghost use Rattle.core_stores.specs.OpenCircuits.{CountsBut, CountsOpen, EndThere, loads_after};
 ghost use Rattle.core_stores.specs.SettledNumbers.{SettlesNothing, without_settled};
 ghost use Rattle.core_stores.specs.StoredState.{state_of};
-ghost use Rattle.ctrl_core.specs.SettledParts.{going_after};
+ghost use Rattle.circuit_settling.specs.OtherLinks.{going_after};
 ghost use Rattle.ctrl_core.specs.SettledRecords.{AreSettled};
 ghost use Rattle.core_laws.specs.WorkedSettling.{nothing, counting, with_another_service, without_the_middle, without_the_end};
 

@@ -35,8 +35,10 @@ use Rattle.core_stores.specs.ChangeParts.{link_part, term_part, circuit_part}
 use Rattle.core_stores.specs.StoredState.{state_of}
 use Rattle.ctrl_core.specs.ChangedStores.{CanSettle}
 use Rattle.ctrl_core.specs.Changes.{after_change}
-use Rattle.ctrl_core.specs.declared.settling.Remaining.{Remaining}
-use Rattle.ctrl_core.specs.SettledParts.{Remains, AreGrantsAfter, StayGranted, going_after}
+use Rattle.circuit_settling.specs.declared.going.Remaining.{Remaining}
+use Rattle.circuit_settling.specs.OtherLinks.{going_after}
+use Rattle.circuit_settling.specs.PresentRecords.{Remains}
+use Rattle.ctrl_core.specs.SettledParts.{AreGrantsAfter, StayGranted}
 use Rattle.ctrl_core.specs.PlannedCommands.{Stands}
 use Rattle.ctrl_core.specs.SettledRecords.{AreJudged, AreSettled, before_circuits}
 use Rattle.ctrl_core.proofs.LookedCircuits.{going_is, granted_then, keeps_then}

@@ -24,7 +24,8 @@ use Rattle.ctrl_model.specs.Grants.{count}
 use Rattle.core_stores.specs.ChangeParts.{term_part}
 use Rattle.ctrl_core.specs.Changes.{after_change}
 use Rattle.ctrl_core.specs.PlannedCommands.{Stands}
-use Rattle.ctrl_core.specs.SettledParts.{StayGranted, going_after}
+use Rattle.circuit_settling.specs.OtherLinks.{going_after}
+use Rattle.ctrl_core.specs.SettledParts.{StayGranted}
 use Rattle.ctrl_core.proofs.SettledChanges.{FallAs}
 use Rattle.ctrl_core.proofs.StateParts.{parts_after, state_then, circuits_then, circuits_ordered, terms_ordered}
 use Rattle.ctrl_core.proofs.StillGranted.{still_granted, terms_alike}

@@ -1,10 +1,8 @@
 -- What settles after a change of some stores, by its numbers. Only private functions and proofs of this crate cite this file.
-use Rattle.std.specs.Prelude.{◌≡◌, ℕ, ◌+◌, ◌≤◌, Bool, true, false, not, List, [], ◌∷◌, map, filter}
+use Rattle.std.specs.Prelude.{◌≡◌, ℕ, ◌+◌, ◌≤◌, Bool, true, []}
 use Rattle.ctrl_model.specs.declared.kinds.Relation.{Relation}
 use Rattle.ctrl_model.specs.declared.kinds.Relation.TheVariants.{Dial, Bind, IdentityRouter, ServiceRouter}
 use Rattle.ctrl_model.specs.Grants.{count}
-use Rattle.ctrl_model.specs.Networks.{seen}
-use Rattle.ctrl_model.specs.Numbered.{numbers}
 use Rattle.ctrl_model.specs.State.{State, start}
 use Rattle.model_laws.specs.JudgedCircuits.{AreGranted}
 use Rattle.grant_denorm.specs.declared.deltas.Delta.{Delta}
@@ -17,8 +15,6 @@ use Rattle.circuit_settling.specs.NamedRecords.{Names, NamesByEntity, NamesByLin
 use Rattle.core_stores.specs.declared.changes.Change.{Change}
 use Rattle.core_stores.specs.declared.changes.Change.TheVariants as change
 use Rattle.core_stores.specs.declared.stores.Stores.{Stores}
-use Rattle.entity_store.specs.EntityTables.{Tables}
-use Rattle.ctrl_core.specs.declared.settling.Remaining.{Remaining}
 
 -- The state of some stores without policies, which settle nothing.
 abbrev pub bare_state_of : Stores → State
@@ -40,12 +36,6 @@ NamesBy (change.Link c) s g = NamesByLink c s g
 NamesBy (change.Terminator c) s g = NamesByTerm c s g
 NamesBy (change.Circuit c) s g = Names [] [] [] g
 
--- Of these entities there remain the identities and services by their numbers, and the routers as routes see them.
-pub record Remains (t : Tables) (r : Remaining) : Type 0 where
-  pub identities_are : r.identities ≡ numbers t.identities.rows
-  pub services_are : r.services ≡ numbers t.services.rows
-  pub routers_are : r.routers.items ≡ map seen t.routers.rows
-
 -- The counts of a relation, as they will be.
 abbrev pub counts_after : Relation → GrantsAfter → ℕ → ℕ → ℕ
 counts_after Dial g = count_after g.dial
@@ -60,11 +50,3 @@ AreGrantsAfter s g = (r : Relation) (a b : ℕ) → counts_after r g a b ≡ cou
 -- Where it is told so, what granted each circuit of a state stands, and no count is lower in the one after it.
 abbrev pub StayGranted : Bool → State → State → Type 0
 StayGranted told s t = told ≡ true → AreGranted s × ((r : Relation) (a b : ℕ) → count r s a b ≤ count r t a b)
-
--- The numbers of the circuits that do not stay as they are after a change, of all and of those whose path the change takes: these alone,
--- where what granted each circuit stood before and no count falls; those whose grant is gone, where no path is taken; and else those
--- that do not stay.
-abbrev pub going_after : Bool → List ℕ → List ℕ → (ℕ → Bool) → (ℕ → Bool) → List ℕ
-going_after true pathless all granted keeps = pathless
-going_after false [] all granted keeps = filter (λ n. not (granted n)) all
-going_after false (x ∷ xs) all granted keeps = filter (λ n. not (keeps n)) all

@@ -1,31 +1,28 @@
 ghost use Rattle.std.specs.Prelude.{◌≡◌, ◌&&◌, [], IfOk};
 ghost use Rattle.ctrl_model.specs.declared.kinds.Relation.{Relation};
-ghost use Rattle.ctrl_model.specs.Numbered.{numbers};
 ghost use Rattle.record_tables.specs.AfterChange.{changed_by};
 ghost use Rattle.entity_store.specs.EntityChanges.{after_entity_change};
 ghost use Rattle.circuit_settling.specs.FallenRecords.{Falls};
 ghost use Rattle.core_stores.specs.ChangeParts.{entity_part};
-ghost use Rattle.circuits.specs.MovedCircuits.{moves_by, ended_by};
-ghost use Rattle.fabric_graph.specs.Routers.{AreRouters, HaveGraph};
 ghost use Rattle.policy_store.specs.StepsOfRelations.{steps_of, takes_nothing};
-ghost use Rattle.circuit_settling.specs.OtherLinks.{granted_at, keeps_at, way_at};
+ghost use Rattle.circuit_settling.specs.PresentRecords.{Remains};
 ghost use Rattle.grant_steps.specs.LeadingSteps.{LeadAllCounts};
 ghost use Rattle.core_stores.specs.StoredState.{counts_of, state_of};
 ghost use Rattle.grant_denorm.specs.TakenSteps.{HaveRoom, Taken};
 ghost use Rattle.ctrl_core.specs.ChangedStores.{CanSettle, next_state};
 ghost use Rattle.ctrl_core.specs.KeptState.{Keeps, IsGranted};
 ghost use Rattle.ctrl_core.specs.Changes.{after_change};
-ghost use Rattle.ctrl_core.specs.SettledParts.{bare_state_of, NamesBy, Remains, AreGrantsAfter, StayGranted, counts_after, going_after};
+ghost use Rattle.ctrl_core.specs.SettledParts.{bare_state_of, NamesBy, AreGrantsAfter, StayGranted, counts_after};
 ghost use Rattle.ctrl_core.specs.PlannedCommands.{Stands};
 ghost use Rattle.ctrl_core.specs.SettledRecords.{AreJudged, AreSettled};
 
 use circuit_settling::{
-    Fallen, GrantsAfter, Judged, Present, Standing, going_among, judge, nothing, revoked_among,
-    search_of, settled_by_entity, settled_by_link, settled_by_term,
+    Fallen, GrantsAfter, Judged, Present, Remaining, Standing, going_after, judged, nothing,
+    remaining, settled_by_entity, settled_by_link, settled_by_term,
 };
 use circuits::{CircuitsAfter, Moves};
 use core_stores::{Change, Grants, Settled, Stores};
-use ctrl_model::{Kind, Numbers, RouterSeen};
+use ctrl_model::Numbers;
 use entity_store::EntitiesAfter;
 use fabric_graph::FabricAfter;
 use grant_denorm::CountedAfter;
@@ -51,24 +48,12 @@ fn fallen_by(alloc: Global, stores: &Stores, change: &Change) -> Result<Fallen, 
     }
 }
 
-// What circuits need of the entities that there will be.
-#[derive(Drop)]
-struct Remaining {
-    identities: Numbers,
-    services: Numbers,
-    routers: Vec<RouterSeen>,
-}
-
 // What circuits need of the entities that there will be after a change.
 fn what_remains(alloc: Global, stores: &Stores, change: &Change) -> Result<Remaining, AllocError>
     ensures { IfOk result (Remains (changed_by after_entity_change (entity_part change.now) stores.now.entities)) }
 {
     let entities = EntitiesAfter::new(&stores.entities, change.of_entities());
-    Ok(Remaining {
-        identities: entities.numbers(alloc, Kind::Identity)?,
-        services: entities.numbers(alloc, Kind::Service)?,
-        routers: entities.routers(alloc)?,
-    })
+    remaining(alloc, &entities)
 }
 
 // The grant counts after some steps.
@@ -101,28 +86,6 @@ fn stays_granted(granted: bool, steps: &GrantSteps) -> bool
     ensures { result ≡ (granted && takes_nothing steps.now) }
 {
     granted && steps.takes_nothing()
-}
-
-// The circuits that do not stay as they are after a change: where what granted each circuit stood before and no count falls, those whose
-// path the change takes.
-fn going_after(
-    alloc: Global,
-    circuits: &CircuitsAfter,
-    present: &Present,
-    grants: &GrantsAfter,
-    pathless: &Numbers,
-    granted: bool,
-) -> Result<Numbers, AllocError>
-    ensures { IfOk result (λ ns. ns ≡ going_after granted pathless.now (numbers circuits.now.circuits.rows) (granted_at present.now grants.now circuits.now.circuits.rows) (keeps_at present.now grants.now circuits.now.circuits.rows)) }
-{
-    if granted {
-        return pathless.copy();
-    }
-    let all = circuits.numbers(alloc)?;
-    if pathless.is_empty() {
-        return revoked_among(alloc, circuits, present, grants, &all);
-    }
-    going_among(alloc, circuits, present, grants, &all)
 }
 
 // What becomes of the circuits that do not stay as they are, beside what remains and what is granted.
@@ -166,29 +129,6 @@ fn judged_beside(
     )?;
     let judged = judged(alloc, &present, grants, &circuits, &going)?;
     Ok((going, judged))
-}
-
-// What becomes of circuits that do not stay as they are. Where there are none, nothing is searched.
-fn judged(
-    alloc: Global,
-    present: &Present,
-    grants: &GrantsAfter,
-    circuits: &CircuitsAfter,
-    going: &Numbers,
-) -> Result<Judged, AllocError>
-    requires routers { AreRouters present.now.routers.now }
-    requires links { HaveGraph present.now.fabric.now }
-    ensures ended { IfOk result (λ j. j.ended ≡ ended_by (way_at present.now grants.now circuits.now.circuits.rows) going.now) }
-    ensures moves { IfOk result (λ j. j.moves ≡ moves_by (way_at present.now grants.now circuits.now.circuits.rows) going.now) }
-{
-    if going.is_empty() {
-        return Ok(Judged {
-            ended: Numbers::of(Vec::new(alloc)),
-            moves: Moves::of(Vec::new(alloc)),
-        });
-    }
-    let mut search = search_of(alloc, present)?;
-    judge(alloc, present, grants, &mut search, circuits, going)
 }
 
 // What falls with a change by which each circuit stays as it is.

@@ -1,7 +1,7 @@
 use Rattle.std.proofs.Common.{sym, ◌∙◌, ap}
 use Rattle.circuits.specs.MovedCircuits.{moves_by, ended_by}
 use Rattle.circuit_settling.specs.OtherLinks.{way_at}
-use Rattle.ctrl_core.proofs.settling.judged.Goals as goal
+use Rattle.circuit_settling.proofs.going.judged.Goals as goal
 
 pub returns-then-is_empty-clause-ended : goal.returns-then-is_empty-clause-ended
 returns-then-is_empty-clause-ended c =
