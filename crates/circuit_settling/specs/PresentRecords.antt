@@ -1,5 +1,5 @@
 -- What is present, as settling circuits asks, and which circuits stay beside it (docs/RULES.md, "Settling").
-use Rattle.std.specs.Prelude.{ℕ, Bool, false, List, map}
+use Rattle.std.specs.Prelude.{◌≡◌, ℕ, Bool, false, List, map}
 use Rattle.ctrl_model.specs.declared.kinds.RouterSeen.{RouterSeen}
 use Rattle.ctrl_model.specs.Networks.{Network, seen}
 use Rattle.ctrl_model.specs.Numbered.{numbers}
@@ -10,6 +10,7 @@ use Rattle.grant_denorm.specs.CountsAfter.{count_after}
 use Rattle.fabric_graph.specs.FabricTables.{FabricSeen}
 use Rattle.terminators.specs.TermTables.{TermTables}
 use Rattle.circuit_settling.specs.declared.granting.GrantsAfter.{GrantsAfter}
+use Rattle.circuit_settling.specs.declared.going.Remaining.{Remaining}
 use Rattle.circuit_settling.specs.declared.staying.Present.{Present}
 
 -- The network of terminators, of links with the least router cost, and of routers. Nothing else of a network matters to whether the links

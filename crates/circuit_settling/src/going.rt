@@ -25,7 +25,7 @@ pub struct Remaining {
 }
 
 /// What circuits need of the entities that there will be after a change.
-pub fn remaining(alloc: Global, entities: &EntitiesAfter) -> Result<Remaining, AllocError>
+pub fn remaining_of(alloc: Global, entities: &EntitiesAfter) -> Result<Remaining, AllocError>
     ensures { IfOk result (Remains entities.now) }
 {
     Ok(Remaining {

@@ -21,7 +21,7 @@ pub use endings::{what_ends_with_a_change, what_ends_with_nothing};
 pub use falling::{
     Fallen, Standing, nothing, settled_by_entity, settled_by_link, settled_by_term, stays_here,
 };
-pub use going::{Remaining, going_after, judged, remaining};
+pub use going::{Remaining, going_after, judged, remaining_of};
 pub use granting::{GrantsAfter, is_granted};
 pub use judging::{Judged, judge};
 pub use laws::{as_a_state_settles, what_becomes_of_circuits, where_circuits_differ};

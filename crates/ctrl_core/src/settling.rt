@@ -18,7 +18,7 @@ ghost use Rattle.ctrl_core.specs.SettledRecords.{AreJudged, AreSettled};
 
 use circuit_settling::{
     Fallen, GrantsAfter, Judged, Present, Remaining, Standing, going_after, judged, nothing,
-    remaining, settled_by_entity, settled_by_link, settled_by_term,
+    remaining_of, settled_by_entity, settled_by_link, settled_by_term,
 };
 use circuits::{CircuitsAfter, Moves};
 use core_stores::{Change, Grants, Settled, Stores};
@@ -53,7 +53,7 @@ fn what_remains(alloc: Global, stores: &Stores, change: &Change) -> Result<Remai
     ensures { IfOk result (Remains (changed_by after_entity_change (entity_part change.now) stores.now.entities)) }
 {
     let entities = EntitiesAfter::new(&stores.entities, change.of_entities());
-    remaining(alloc, &entities)
+    remaining_of(alloc, &entities)
 }
 
 // The grant counts after some steps.
