@@ -2,6 +2,14 @@ use std::alloc::{AllocError, Global};
 use ziti_desk::{Images, MemDesk, MemSource, Room};
 use ziti_outside::Part;
 
+/// Room for some thousand replies and no folder.
+const REPLIES: Room = Room {
+    file_bytes: 0,
+    said_bytes: 262_144,
+    noted_bytes: 4_096,
+    log_bytes: 262_144,
+};
+
 // A folder whose parts have these bytes.
 fn images_of(alloc: Global, parts: [&[u8]; 3]) -> Result<Images, AllocError> {
     let mut images = Images::empty(alloc);
@@ -45,4 +53,19 @@ pub fn parts_of(desk: &MemDesk) -> [&[u8]; 3] {
         desk.part(Part::One),
         desk.part(Part::Mark),
     ]
+}
+
+/// A desk without a folder that fails at these calls, counted from 0.
+pub fn failing_desk(alloc: Global, failing: &[u32]) -> Result<MemDesk, AllocError> {
+    desk_of(alloc, REPLIES, [b"", b"", b""], failing)
+}
+
+/// A desk without a folder that does not fail.
+pub fn steady_desk(alloc: Global) -> Result<MemDesk, AllocError> {
+    failing_desk(alloc, &[])
+}
+
+/// The source of these bytes in pieces of 4,096, which does not fail.
+pub fn steady_source(alloc: Global, bytes: &[u8]) -> Result<MemSource, AllocError> {
+    source_of(alloc, bytes, 4_096, &[])
 }

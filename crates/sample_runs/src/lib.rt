@@ -8,7 +8,7 @@ mod networks;
 mod recording;
 mod slots;
 
-pub use desks::{desk_of, parts_of, source_of};
+pub use desks::{desk_of, failing_desk, parts_of, source_of, steady_desk, steady_source};
 pub use frames::{
     ANN, ANN_MADE, BOB_MADE, DONE, EXISTS, MADE, REQUEST, Row, push_reply, push_request, replies,
     reply_frame, requests,

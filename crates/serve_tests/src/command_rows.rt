@@ -1,9 +1,9 @@
 //! Rows of commands on policies, links and terminators, and of what is then shown. The rows of a table are one run, which may stand behind others.
 
-use crate::desks::{steady_desk, steady_source};
 use ctrl_serve::{Bounds, Status, run_within};
 use sample_runs::{
     DONE, PAIR, Row, UNKNOWN_NUMBER, joined, push_reply, push_request, replies, requests,
+    steady_desk, steady_source,
 };
 use std::alloc::{AllocError, Global};
 use std::process::Abort;

@@ -1,4 +1,5 @@
-//! Tests of whole runs: frames of every family over memory, the bytes that are said, and the status.
+//! Tests of whole runs over rows of commands and replies: of every family, of circuits that are rerouted and revoked, and of the small
+//! network of the README.
 #![tactic(auto)]
 
 #[cfg(test)]
@@ -6,14 +7,8 @@ mod circuit_rows;
 #[cfg(test)]
 mod command_rows;
 #[cfg(test)]
-mod desks;
-#[cfg(test)]
-mod loads;
-#[cfg(test)]
 mod network_rows;
 #[cfg(test)]
 mod rerouted_rows;
 #[cfg(test)]
 mod revoked_rows;
-#[cfg(test)]
-mod runs;

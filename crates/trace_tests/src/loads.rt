@@ -1,9 +1,8 @@
 //! Runs of generated loads over memory: the line that they say, and the words that ask for none.
 
-use crate::desks::{failing_desk, steady_desk, steady_source};
 use crate::runs::check_usage;
 use ctrl_serve::{Status, run};
-use sample_runs::ANN;
+use sample_runs::{ANN, failing_desk, steady_desk, steady_source};
 use std::alloc::{AllocError, Global};
 use std::process::Abort;
 use std::test::Fail;

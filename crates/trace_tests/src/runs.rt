@@ -1,6 +1,5 @@
-use crate::desks::{failing_desk, steady_desk, steady_source};
 use ctrl_serve::{Bounds, Status, run, run_within};
-use sample_runs::{ANN, EXISTS, MADE, source_of};
+use sample_runs::{ANN, EXISTS, MADE, failing_desk, source_of, steady_desk, steady_source};
 use std::alloc::{AllocError, Global};
 use std::process::Abort;
 use std::test::Fail;
