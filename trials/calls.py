@@ -1,7 +1,8 @@
-"""Counts what one run asks of the system on its folder: python3 calls.py PROGRAM. It wants strace, and an empty folder to run in.
+"""Counts what one run asks of the system on its folder: python3 calls.py PROGRAM. It wants strace, and runs in a folder of its own.
 
 A run of some commands under replay, a compaction, one more run and a look. Each write or cut of a file of the folder must be followed by
-its fsync before any reply goes out, the folder itself must be synced behind each file that is made, and the look must change nothing."""
+its fsync before any other call, each reply must come behind one, the folder itself must be synced behind each file that is made or opened
+for writing, and the look must change nothing."""
 import collections, os, re, subprocess, sys, tempfile
 from frames import frame
 
@@ -37,6 +38,7 @@ def run(program, words, given):
 
 def judge(calls, look):
     changed = made = None
+    synced = look
     for name, target, value in calls:
         if changed:
             assert (name, target) == ('fsync', changed), (changed, name, target)
@@ -46,6 +48,11 @@ def judge(calls, look):
             made = None
         if name in ('makes', 'opens') and value >= 0:
             made = target
+        if name == 'fsync' and target in FILES:
+            synced = True
+        if target == 'replies':
+            assert synced, 'a reply without a sync'
+            synced = look
         if look:
             assert name == 'looks' and target != '.' or target == 'replies', (name, target)
     assert not changed and not made

@@ -19,7 +19,7 @@ const ROOM: Room = Room {
 
 // A part has so many bytes.
 fn has_len<D: Desk>(rt: &impl Abort, desk: &mut D, part: Part, wanted: u64)
-    ensures { IsTrue D.tells → length (D.reads desk.new part) ≡ wanted }
+    ensures { IsTrue D.tells → length ((D.seen desk.new).reads part) ≡ wanted }
 {
     assert_eq!(rt; desk.len(part), Ok(wanted));
 }
