@@ -105,8 +105,11 @@ grant_planned p ask r identity service who what g = λ s valid grants.
     (sym (granted_so p ask c s (creates ask S) (λ d. (Refused (Denied d), S)) grants g.passes g.is_best))
     (record {
       reply = refl;
-      can = (((first_rule-none (network_in p) ask).0 g.passes).room, best_stands S ask c identity.0 service.0 S.terminators.next (valid.kinds kind.Terminator).numbers.ordered who what
-          (ap (λ w. first_rule w ask) (network_is p s grants) ∙ g.passes) (ap (λ w. best w ask) (network_is p s grants) ∙ g.is_best));
+      can = (
+        ((first_rule-none (network_in p) ask).0 g.passes).room,
+        best_stands S ask c identity.0 service.0 S.terminators.next (valid.kinds kind.Terminator).numbers.ordered who what
+            (ap (λ w. first_rule w ask) (network_is p s grants) ∙ g.passes) (ap (λ w. best w ask) (network_is p s grants) ∙ g.is_best),
+      );
       next = λ i. settle (record S {
         circuits = with_new (record {
           identity = unwrap_or (sym who i) 0;

@@ -54,9 +54,9 @@ candidate_stands s ask c high ordered k dials =
     let counts = and_parts (e.service == k.service) (bytes_eq e.instance ask.instance) k.ends.is_counted_for in
     let admitted : admits w k.service n e ≡ true = and_from (is_counted k.service e.instance (n, e)) _ (and_from (e.service == k.service) _ counts.0 (same_bytes e.instance e.instance refl)) k.ends.serves in (
       and_from _ _ present.0
-      (and_from _ _ present.1
-      (and_from _ _ (some_counted (count Dial s k.identity k.service) dials)
-      (and_from _ _ k.enters.is_shared_by_both (ap (λ o. option_map_or (admits w k.service n) o false) there ∙ admitted)))),
+          (and_from _ _ present.1
+          (and_from _ _ (some_counted (count Dial s k.identity k.service) dials)
+          (and_from _ _ k.enters.is_shared_by_both (ap (λ o. option_map_or (admits w k.service n) o false) there ∙ admitted)))),
       and_from _ _ present.0 (and_from _ _ present.1 (ap (λ o. option_map_or (circuit_reaches w (circuit_of w ask c k)) o false) there ∙ k.path)),
     )
 
