@@ -100,6 +100,11 @@ const fn first_calls(name: Name) -> [Asked; 10] {
     ]
 }
 
+fn writes_recorded<'c>(rt: &impl Abort, host: &'c HostRuntime, calls: &'c Calls, part: Part) {
+    let files = Recorded { host, calls };
+    writes_a_part(rt, &mut Folder::new(&files, MADE), part);
+}
+
 fn makes_a_part(
     rt: &impl Abort,
     host: &HostRuntime,
@@ -107,11 +112,7 @@ fn makes_a_part(
     name: Name,
 ) -> Result<(), AllocError> {
     let calls = Calls::new(host.alloc(), NONE_FAILS);
-    let files = Recorded {
-        host,
-        calls: &calls,
-    };
-    writes_a_part(rt, &mut Folder::new(&files, MADE), part);
+    writes_recorded(rt, host, &calls, part);
     were(rt, host.alloc(), &calls, &first_calls(name))
 }
 
@@ -193,14 +194,15 @@ fn refused<F: Drive>(folder: &mut F) -> u32 {
     count
 }
 
+fn refused_recorded<'c>(host: &'c HostRuntime, calls: &'c Calls) -> u32 {
+    let files = Recorded { host, calls };
+    refused(&mut Folder::new(&files, REFUSED))
+}
+
 fn fails_once(rt: &impl Abort, host: &HostRuntime, failing: usize) -> io::Result<()> {
     fs::create_dir(host, REFUSED.folder)?;
     let calls = Calls::new(host.alloc(), failing);
-    let files = Recorded {
-        host,
-        calls: &calls,
-    };
-    assert_eq!(rt; refused(&mut Folder::new(&files, REFUSED)), 1, "{failing}");
+    assert_eq!(rt; refused_recorded(host, &calls), 1, "{failing}");
     fs::remove_dir_all(host, REFUSED.folder)
 }
 

@@ -54,15 +54,23 @@ fn has_kept(rt: &impl Abort, alloc: Global, drive: &MemDesk) -> Result<(), Alloc
     Ok(())
 }
 
+fn keeps_parts(
+    rt: &impl Abort,
+    alloc: Global,
+    said: &mut Vec<u8>,
+    noted: &mut Vec<u8>,
+) -> Result<(), AllocError> {
+    let drive = desk_of(alloc, ROOM, [b"123", b"", FIRST], &[])?;
+    let mut desk = FileDesk::new(drive, Writes::new(said), Writes::new(noted));
+    does_some(rt, &mut desk);
+    has_kept(rt, alloc, desk.folder())
+}
+
 #[test]
 fn keeps_parts_on_a_drive_in_memory(rt: HostRuntime) -> Result<(), Fail> {
     let mut said = Vec::new(rt.alloc());
     let mut noted = Vec::new(rt.alloc());
-    let drive = desk_of(rt.alloc(), ROOM, [b"123", b"", FIRST], &[])?;
-    let mut desk = FileDesk::new(drive, Writes::new(&mut said), Writes::new(&mut noted));
-    does_some(&rt, &mut desk);
-    has_kept(&rt, rt.alloc(), desk.folder())?;
-    drop(desk);
+    keeps_parts(&rt, rt.alloc(), &mut said, &mut noted)?;
     assert_eq!(&rt; said.as_slice(), b"56".as_slice());
     assert_eq!(&rt; noted.as_slice(), b"n".as_slice());
     Ok(())
