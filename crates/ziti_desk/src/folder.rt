@@ -150,7 +150,13 @@ impl<'r, R: Files> Handles<'r, R> {
 
     fn len(&mut self, part: Part) -> Result<u64, Failed> {
         match self.readable(part)? {
-            Some(file) => Ok(given(file.metadata())?.len()),
+            Some(file) => {
+                let found = given(file.metadata())?;
+                if found.is_dir() {
+                    return Err(Failed);
+                }
+                Ok(found.len())
+            }
             None => Ok(0),
         }
     }

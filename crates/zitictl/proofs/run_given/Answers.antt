@@ -14,8 +14,8 @@ of_err P r e is p = subst (λ t. IfErr t P) (sym is) p
 
 pub returns-in-Ok-clause-words : goal.returns-in-Ok-clause-words
 returns-in-Ok-clause-words c d =
-    let RunsOf : Option Form → Type 0 = λ form. Runs {S = c.row.S.Denot} {D = c.row.D.Denot} c.S.Source.left c.S.Source.faults c.D.Desk.said c.D.Desk.noted
-    c.D.Desk.say_faults c.D.Desk.note_faults c.D.Desk.reads c.D.Desk.moment c.D.Desk.since c.D.Desk.may_leave c.D.Desk.disk_faults c.D.Desk.tells program_bounds 4294967296 form
+    let RunsOf : Option Form → Type 0 = λ form. Runs {S = c.row.S.Denot} {D = c.row.D.Denot}
+    (record { left = c.S.Source.left; faults = c.S.Source.faults; tells = c.D.Desk.tells; seen = c.D.Desk.seen; stopped = c.D.Desk.stopped }) program_bounds form
     d.args.source.now d.run.new.source d.args.desk.now d.run.new.desk d.run.result in
     of_ok _ _ d.in-Ok.words d.in-Ok.is (subst RunsOf (ap (λ ws. form_of (texts ws)) d.behind_name.ensures) d.run.ensures.runs)
 

@@ -1,7 +1,7 @@
 use Rattle.std.proofs.Common.{Option, subst}
 use Rattle.model_laws.specs.Plans.{led_by}
 use Rattle.core_stores.specs.declared.changes.Change.{Change}
-use Rattle.core_stores.specs.LeadingSteps.{LeadAllCounts}
+use Rattle.grant_steps.specs.LeadingSteps.{LeadAllCounts}
 use Rattle.core_stores.specs.StoredState.{state_of}
 use Rattle.ctrl_core.specs.Changes.{after_change}
 use Rattle.ctrl_core.proofs.completing.settled_after.Goals as goal

@@ -1,7 +1,7 @@
 use Rattle.std.proofs.Common.{◌||◌, is_some, sym, ◌∙◌, ap, subst}
 use Rattle.ctrl_model.specs.ValidState.{ValidState}
 use Rattle.model_laws.specs.Plans.{CanLeadBy, led_by}
-use Rattle.core_stores.specs.LeadingSteps.{LeadAllCounts}
+use Rattle.grant_steps.specs.LeadingSteps.{LeadAllCounts}
 use Rattle.core_stores.specs.StoredState.{state_of}
 use Rattle.ctrl_core.specs.Changes.{CanChange, NamesSettled, after_change}
 use Rattle.ctrl_core.specs.KeptState.{Cored, IsGranted}
