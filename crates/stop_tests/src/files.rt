@@ -56,20 +56,19 @@ fn asks(
     calls.all(host.alloc())
 }
 
-// A write or a cut is followed by a sync of its file at once, before anything is said.
-fn syncs_each_change(rt: &impl Abort, all: &[Asked]) {
-    let mut changed = None;
+// A write is followed by a sync of its file at once, before anything is said.
+fn syncs_each_write(rt: &impl Abort, all: &[Asked]) {
+    let mut written = None;
     for asked in all {
-        if let Some(name) = changed {
+        if let Some(name) = written {
             assert_eq!(rt; *asked, Asked::Sync(name));
         }
-        changed = match *asked {
+        written = match *asked {
             Asked::Write(name, _) => Some(name),
-            Asked::Cut(name, _) => Some(name),
             _ => None,
         };
     }
-    assert!(rt; changed.is_none());
+    assert!(rt; written.is_none());
 }
 
 // Nothing is opened for writing, made, written, cut or synced.
@@ -103,13 +102,15 @@ fn replays(rt: &impl Abort, host: &HostRuntime, row: Row) -> Result<(), AllocErr
     let input = requests(host.alloc(), &[row])?;
     let wanted = replies(host.alloc(), &[row])?;
     let all = asks(rt, host, "replay", input.as_slice(), wanted.as_slice())?;
-    syncs_each_change(rt, all.as_slice());
+    syncs_each_write(rt, all.as_slice());
     Ok(())
 }
 
+// The slot that stood is cut at last, which is not synced.
 fn compacts(rt: &impl Abort, host: &HostRuntime) -> Result<(), AllocError> {
     let all = asks(rt, host, "compact", b"", b"")?;
-    syncs_each_change(rt, all.as_slice());
+    syncs_each_write(rt, all.as_slice());
+    assert_eq!(rt; all.as_slice().last(), Some(&Asked::Cut(Name::Zero, 0)));
     Ok(())
 }
 
