@@ -29,6 +29,42 @@ fn runs<D: Desk>(
     Ok(())
 }
 
+// Runs a word over the files of the working folder, which are recorded beside what is said; what is noted is put behind the bytes.
+fn runs_over<'c>(
+    rt: &impl Abort,
+    host: &'c HostRuntime,
+    calls: &'c Calls,
+    word: &str,
+    input: &[u8],
+    spoken: &mut Spoken<'c>,
+    noted: &mut Vec<u8>,
+) -> Result<(), AllocError> {
+    let files = Recorded { host, calls };
+    let folder = Folder::new(&files, Paths::WORKING_FOLDER);
+    let mut desk = FileDesk::new(folder, Writes::new(spoken), Writes::new(noted));
+    runs(rt, host.alloc(), word, input, &mut desk)
+}
+
+// What is said and noted of a run of a word over recorded files: these replies, and no note.
+fn says(
+    rt: &impl Abort,
+    host: &HostRuntime,
+    calls: &Calls,
+    word: &str,
+    input: &[u8],
+    said: &[u8],
+) -> Result<(), AllocError> {
+    let mut noted = Vec::new(host.alloc());
+    let mut spoken = Spoken {
+        bytes: Vec::new(host.alloc()),
+        calls,
+    };
+    runs_over(rt, host, calls, word, input, &mut spoken, &mut noted)?;
+    assert_eq!(rt; spoken.bytes.as_slice(), said);
+    assert!(rt; noted.is_empty());
+    Ok(())
+}
+
 // Runs a word on the frames of some rows over recorded files. Their replies are said and nothing is noted. Answers what was asked.
 fn asks(
     rt: &impl Abort,
@@ -38,21 +74,7 @@ fn asks(
     said: &[u8],
 ) -> Result<Vec<Asked>, AllocError> {
     let calls = Calls::new(host.alloc(), NONE_FAILS);
-    let files = Recorded {
-        host,
-        calls: &calls,
-    };
-    let mut noted = Vec::new(host.alloc());
-    let mut spoken = Spoken {
-        bytes: Vec::new(host.alloc()),
-        calls: &calls,
-    };
-    let folder = Folder::new(&files, Paths::WORKING_FOLDER);
-    let mut desk = FileDesk::new(folder, Writes::new(&mut spoken), Writes::new(&mut noted));
-    runs(rt, host.alloc(), word, input, &mut desk)?;
-    drop(desk);
-    assert_eq!(rt; spoken.bytes.as_slice(), said);
-    assert!(rt; noted.is_empty());
+    says(rt, host, &calls, word, input, said)?;
     calls.all(host.alloc())
 }
 
