@@ -42,21 +42,22 @@ pub(crate) fn empty_desk(alloc: Global) -> Result<MemDesk, AllocError> {
     desk_of(alloc, room, [b"", b"", b""], &[])
 }
 
-/// Bounds in which all has room.
-const BOUNDS: Bounds = Bounds {
-    input: 65_536,
-    slot: 8_192,
-    mark: 1,
-};
+/// The bytes of a slot and of the mark in which all has room.
+const ROOMY: (u64, u64) = (8_192, 1);
 
-/// Runs these words on the desk.
+/// Runs these words on the desk. A slot may have so many bytes, and the mark so many.
 pub(crate) fn run_on(
     alloc: Global,
     words: &[&str],
-    bounds: Bounds,
+    most: (u64, u64),
     source: &mut MemSource,
     desk: &mut MemDesk,
 ) -> Result<Status, AllocError> {
+    let bounds = Bounds {
+        input: 65_536,
+        slot: most.0.clamp(64, 1_048_576),
+        mark: most.1.clamp(1, 1_024),
+    };
     let mut line = Vec::new(alloc);
     for word in words {
         line.push(String::from_str(alloc, word)?)?;
@@ -71,7 +72,7 @@ pub(crate) fn replay_plain(
     desk: &mut MemDesk,
 ) -> Result<Status, AllocError> {
     let mut source = source_of(alloc, input, 4_096, &[])?;
-    run_on(alloc, &["replay"], BOUNDS, &mut source, desk)
+    run_on(alloc, &["replay"], ROOMY, &mut source, desk)
 }
 
 /// Replays a trace on the desk, given in pieces of so many bytes by a source that fails at these calls, counted from 0.
@@ -83,7 +84,7 @@ pub(crate) fn replay_failing(
     desk: &mut MemDesk,
 ) -> Result<Status, AllocError> {
     let mut source = source_of(alloc, trace, piece, failing)?;
-    run_on(alloc, &["replay", "--sessions"], BOUNDS, &mut source, desk)
+    run_on(alloc, &["replay", "--sessions"], ROOMY, &mut source, desk)
 }
 
 /// Replays a trace on the desk, given in pieces of so many bytes.

@@ -1,7 +1,7 @@
 //! A slot of 64 bytes that is full, and has room again once it is compacted; and a load that says its line each time.
 
 use crate::building::{empty_desk, run_on};
-use ctrl_serve::{Bounds, Status};
+use ctrl_serve::Status;
 use sample_runs::{
     ANN_MADE, BOB_KEPT, BOB_MADE, DONE, Row, parts_of, replies, requests, slot_of, source_of,
 };
@@ -9,12 +9,8 @@ use std::alloc::Global;
 use std::process::Abort;
 use std::test::Fail;
 
-/// The least slot, and a mark for one Compact.
-const SMALL: Bounds = Bounds {
-    input: 4_096,
-    slot: 64,
-    mark: 2,
-};
+/// The bytes of the least slot, and of a mark for one Compact.
+const SMALL: (u64, u64) = (64, 2);
 
 const ANN_GONE: Row = (1002, r#"{"name":"ann"}"#, DONE);
 
