@@ -1,6 +1,6 @@
 -- The rows of small lists of names, bit for bit.
 use Rattle.std.proofs.Common.{◌≡◌, ℕ, zero, suc, ◌<◌, List, [], ◌∷◌, ◌++◌, cond, codes, length, get_or, eqb, refl, ◌∙◌, ap, arith, inl, inr, ne_eqb, subst, IsSome}
-use Rattle.bit_lanes.specs.Lanes.{bit_of, row_at}
+use Rattle.bit_lanes.specs.Lanes.{bit_of, bit_row}
 use Rattle.ctrl_model.specs.Membership.{Among}
 use Rattle.attr_pool.specs.AttributeRows.{row_words, AreRows}
 use Rattle.attr_pool.specs.Slots.{slot_of, row_bit}
@@ -35,7 +35,7 @@ held_each (suc zero) l name (inr (inl e)) = subst (λ q. IsSome (slot_of q four_
 held_each (suc zero) l name (inr (inr none)) = absurd none
 held_each (suc (suc place)) l name among = absurd (omega (arith, l))
 
-bits_each : (place : ℕ) → place < length two_lists → (n : ℕ) → bit_of (row_at (row_from 4 ++ row_from 5) row_words place) n ≡ row_bit four_slots (get_or two_lists place []) n
+bits_each : (place : ℕ) → place < length two_lists → (n : ℕ) → bit_of (bit_row (row_from 4 ++ row_from 5) row_words place) n ≡ row_bit four_slots (get_or two_lists place []) n
 bits_each zero l n = blue_bits n
 bits_each (suc zero) l n = both_bits n
 bits_each (suc (suc place)) l n = absurd (omega (arith, l))

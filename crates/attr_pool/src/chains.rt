@@ -1,6 +1,7 @@
 ghost use Rattle.std.specs.Prelude.{◌≡◌, ◌<◌, ◌≤◌, length, slice_set, get_or};
 ghost use Rattle.attr_pool.specs.Slots.{free_slot, slot_of, slot_at, with_use, most_slots};
 ghost use Rattle.attr_pool.specs.Chains.{chain_of, AreLinked, IsLinkTo};
+ghost use Rattle.ctrl_model.specs.Limits.{longest_name};
 
 use crate::slots::KeptSlot;
 use ctrl_model::MOST_ATTRIBUTES;
@@ -59,7 +60,7 @@ pub fn slot_in(chained: &ChainedSlots, name: &[u8]) -> Option<usize>
 pub fn hold_at(chained: &mut ChainedSlots, number: usize, name: &[u8])
     requires linked { AreLinked chained.old.slots.items chained.old.links.items }
     requires place { number < most_slots }
-    requires short { length name.now ≤ 64 }
+    requires short { length name.now ≤ longest_name }
     requires free { (slot_at chained.old.slots.items number).uses ≡ 0 }
     ensures slots { chained.new.slots.items ≡ slice_set chained.old.slots.items number (with_use name.now (slot_at chained.old.slots.items number)) }
     ensures linked { AreLinked chained.new.slots.items chained.new.links.items }

@@ -1,5 +1,6 @@
 ghost use Rattle.std.specs.Prelude.{◌≡◌, ◌<◌, ◌≤◌, ◌==◌, not, cond, length};
 ghost use Rattle.attr_pool.specs.Slots.{free_slot, is_free, holds, with_use, without_use, most_uses};
+ghost use Rattle.ctrl_model.specs.Limits.{longest_name};
 
 use ctrl_model::LONGEST_NAME;
 use std::marker::Model;
@@ -14,13 +15,14 @@ pub struct KeptSlot {
 
 impl Model for KeptSlot {
     ghost use Rattle.std.specs.Prelude.{◌≡◌, ◌≤◌, take, length};
+    ghost use Rattle.ctrl_model.specs.Limits.{longest_name};
     ghost use Rattle.attr_pool.specs.Slots.{Slot, slot_with};
 
     ghost Value = { Slot };
 
     ghost view = { λ s. slot_with (take s.length s.bytes) s.uses };
 
-    ghost invariant = { λ s. s.length ≤ 64 };
+    ghost invariant = { λ s. s.length ≤ longest_name };
 }
 
 impl KeptSlot {
@@ -65,7 +67,7 @@ impl KeptSlot {
 
     /// Puts a name into a free slot.
     pub fn take(&mut self, name: &[u8])
-        requires short { length name.now ≤ 64 }
+        requires short { length name.now ≤ longest_name }
         requires free { self.old.uses ≡ 0 }
         ensures { self.new ≡ with_use name.now self.old }
     {

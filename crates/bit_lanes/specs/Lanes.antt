@@ -20,8 +20,8 @@ abbrev pub Meets : Bool → List ℕ → List ℕ → Type 0
 Meets all row want = MatchBool all (AllIn row want) (AnyIn row want)
 
 -- The row at a place, of rows of one width behind each other.
-abbrev pub row_at : List ℕ → ℕ → ℕ → List ℕ
-row_at rows width place = slice_range rows (place * width) (place * width + width)
+abbrev pub bit_row : List ℕ → ℕ → ℕ → List ℕ
+bit_row rows width place = slice_range rows (place * width) (place * width + width)
 
 -- The greatest number of 64 bits, which stands for what is absent.
 abbrev pub absent : ℕ

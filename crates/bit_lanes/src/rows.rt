@@ -1,5 +1,5 @@
 ghost use Rattle.std.specs.Prelude.{◌≡◌, ◌+◌, ◌*◌, ◌≤◌, ◌<◌, ◌↔◌, ℕ, IsTrue, length, slice_index_or, false};
-ghost use Rattle.bit_lanes.specs.Lanes.{Meets, row_at};
+ghost use Rattle.bit_lanes.specs.Lanes.{Meets, bit_row};
 
 use crate::all_bits::all_in;
 use crate::any_bits::any_in;
@@ -21,7 +21,7 @@ pub fn match_rows(rows: &[u64], width: usize, want: &[u64], all: bool, out: &mut
     requires wide { 1 ≤ width }
     requires want { length want.now ≡ width }
     requires rows { length rows.now ≡ width * length out.old }
-    ensures { (place : ℕ) → place < length out.new → (IsTrue (slice_index_or out.new place false) ↔ Meets all (row_at rows.now width place) want.now) }
+    ensures { (place : ℕ) → place < length out.new → (IsTrue (slice_index_or out.new place false) ↔ Meets all (bit_row rows.now width place) want.now) }
 {
     'rows: for place in 0..out.len() {
         let at = place * width;

@@ -1,5 +1,5 @@
 ghost use Rattle.std.specs.Prelude.{◌≡◌, [], ◌∷◌, true, false};
-ghost use Rattle.bit_lanes.specs.Lanes.{bit_of, AllIn, AnyIn, Meets, row_at, absent, together, Sweeps};
+ghost use Rattle.bit_lanes.specs.Lanes.{bit_of, AllIn, AnyIn, Meets, bit_row, absent, together, Sweeps};
 
 /// A row of the words 5 and 1 has the bits 0, 2 and 64.
 pub fn worked_bits()
@@ -9,7 +9,7 @@ pub fn worked_bits()
     ensures next_word { bit_of (5 ∷ 1 ∷ []) 64 ≡ 1 }
     ensures behind { bit_of (5 ∷ 1 ∷ []) 128 ≡ 0 }
     ensures highest { bit_of (9223372036854775808 ∷ []) 63 ≡ 1 }
-    ensures second_row { row_at (1 ∷ 2 ∷ 3 ∷ 4 ∷ []) 2 1 ≡ 3 ∷ 4 ∷ [] }
+    ensures second_row { bit_row (1 ∷ 2 ∷ 3 ∷ 4 ∷ []) 2 1 ≡ 3 ∷ 4 ∷ [] }
 {}
 
 /// The bits 1 and 2 against the bits 0, 2 and 64: bit 2 is common, and bit 1 is missing. Of no bits each is there, and none is common.

@@ -38,12 +38,20 @@ head_for f = record { content = f.content; sequence = f.sequence; headers_len = 
 abbrev pub spelling : Frame → List ℕ
 spelling f = head_spelling (head_for f) ++ (headers_spelling f.headers ++ f.body)
 
--- A head within the limits: the headers part has at most 65,536 bytes, and the body at most 1,048,576.
+-- How many bytes the headers of a frame may have.
+abbrev pub longest_headers : ℕ
+longest_headers = 65536
+
+-- How many bytes the body of a frame may have.
+abbrev pub longest_body : ℕ
+longest_body = 1048576
+
+-- A head within the limits.
 pub record IsHead (h : Head) : Type 0 where
   pub content : h.content < 2 ^ 32
   pub sequence : h.sequence < 2 ^ 32
-  pub headers_len : h.headers_len ≤ 65536
-  pub body_len : h.body_len ≤ 1048576
+  pub headers_len : h.headers_len ≤ longest_headers
+  pub body_len : h.body_len ≤ longest_body
 
 -- A key fits four bytes.
 abbrev pub IsHeader : Header → Type 0
@@ -51,13 +59,13 @@ IsHeader h = h.key < 2 ^ 32
 
 -- The parts of a frame are within their limits.
 pub record KeepsLimits (f : Frame) : Type 0 where
-  pub headers_len : length (headers_spelling f.headers) ≤ 65536
-  pub body_len : length f.body ≤ 1048576
+  pub headers_len : length (headers_spelling f.headers) ≤ longest_headers
+  pub body_len : length f.body ≤ longest_body
 
 -- A frame that has a spelling: its numbers fit, and its parts are within the limits.
 pub record IsFrame (f : Frame) : Type 0 where
   pub content : f.content < 2 ^ 32
   pub sequence : f.sequence < 2 ^ 32
   pub keys : AllByRecursion IsHeader f.headers
-  pub headers_len : length (headers_spelling f.headers) ≤ 65536
-  pub body_len : length f.body ≤ 1048576
+  pub headers_len : length (headers_spelling f.headers) ≤ longest_headers
+  pub body_len : length f.body ≤ longest_body

@@ -13,7 +13,7 @@ use Rattle.channel_frame.specs.declared.frames.FrameFault.{FrameFault}
 use Rattle.channel_frame.specs.declared.frames.FrameFault.TheVariants.{BadMarker, TooLong, BadHeaders}
 use Rattle.channel_frame.specs.declared.frames.Front.{Front}
 use Rattle.channel_frame.specs.declared.frames.Front.TheVariants.{Short, Bad, Whole}
-use Rattle.channel_frame.specs.FrameSpelling.{IsFrame, head_len, spelling}
+use Rattle.channel_frame.specs.FrameSpelling.{IsFrame, head_len, spelling, longest_headers, longest_body}
 
 -- The number that four bytes from a place on spell, the least first.
 abbrev pub number_at : ℕ → List ℕ → ℕ
@@ -29,7 +29,7 @@ starts_with_marker bytes =
 abbrev pub head_of : List ℕ → Result Head FrameFault
 head_of bytes =
     if starts_with_marker bytes
-    then (if nat_lt 65536 (number_at 12 bytes) || nat_lt 1048576 (number_at 16 bytes)
+    then (if nat_lt longest_headers (number_at 12 bytes) || nat_lt longest_body (number_at 16 bytes)
     then Err TooLong
     else Ok (record { content = number_at 4 bytes; sequence = number_at 8 bytes; headers_len = number_at 12 bytes; body_len = number_at 16 bytes }))
     else Err BadMarker

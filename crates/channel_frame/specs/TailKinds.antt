@@ -3,7 +3,7 @@ use Rattle.std.specs.Prelude.{◌≡◌, ℕ, ◌^◌, ◌<◌, ◌≤◌, ◌�
 use Rattle.std.specs.List.{AllByRecursion}
 use Rattle.channel_frame.specs.declared.frames.Head.{Head}
 use Rattle.channel_frame.specs.declared.frames.Header.{Header}
-use Rattle.channel_frame.specs.FrameSpelling.{marker, head_len, head_spelling, headers_spelling, IsHead, IsHeader}
+use Rattle.channel_frame.specs.FrameSpelling.{marker, head_len, head_spelling, headers_spelling, IsHead, IsHeader, longest_headers, longest_body}
 use Rattle.channel_frame.specs.StreamReading.{frame_len}
 
 -- The bytes begin with the marker.
@@ -40,7 +40,7 @@ pub record IsUnmarked (bytes : List ℕ) : Type 0 where
 pub record IsTooLong (bytes : List ℕ) : Type 0 where
   pub head : Head
   pub headed : IsHeaded bytes head
-  pub long : (65536 < head.headers_len) ⊎ (1048576 < head.body_len)
+  pub long : (longest_headers < head.headers_len) ⊎ (longest_body < head.body_len)
 
 -- A head within the limits, with all the bytes that it announces, and no headers are spelled by its headers part.
 pub record HasBadHeaders (bytes : List ℕ) : Type 0 where

@@ -5,7 +5,9 @@ ghost use Rattle.channel_frame.specs.declared.frames.Front.TheVariants.{Bad, Who
 ghost use Rattle.channel_frame.specs.FrameSpelling.{IsFrame, IsHead, spelling, head_spelling};
 ghost use Rattle.channel_frame.specs.StreamReading.{head_of, frame_len, IsAnnounced, header_at, headers_of, front, starts_with_marker};
 
-use crate::frames::{Frame, FrameFault, HEAD, Head, Header, Headers, MARKER};
+use crate::frames::{
+    Frame, FrameFault, HEAD, Head, Header, Headers, LONGEST_BODY, LONGEST_HEADERS, MARKER,
+};
 use ctrl_model::Bytes;
 use std::alloc::Global;
 
@@ -29,7 +31,7 @@ pub fn read_head(bytes: &[u8; 20]) -> Result<Head, FrameFault>
     }
     let headers_len = u32::from_le_bytes([bytes[12], bytes[13], bytes[14], bytes[15]]);
     let body_len = u32::from_le_bytes([bytes[16], bytes[17], bytes[18], bytes[19]]);
-    if headers_len > 65_536 || body_len > 1_048_576 {
+    if headers_len > LONGEST_HEADERS || body_len > LONGEST_BODY {
         return Err(FrameFault::TooLong);
     }
     Ok(Head {

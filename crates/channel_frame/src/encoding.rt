@@ -1,5 +1,5 @@
 ghost use Rattle.std.specs.Prelude.{◌≡◌, [], ◌++◌, ◌≤◌, OnOk, OnErr, IfOk, length};
-ghost use Rattle.channel_frame.specs.FrameSpelling.{number, header_spelling, headers_spelling, head_spelling, head_for, spelling, KeepsLimits};
+ghost use Rattle.channel_frame.specs.FrameSpelling.{number, header_spelling, headers_spelling, head_spelling, head_for, spelling, KeepsLimits, longest_headers};
 
 use crate::frames::{Frame, Head, Header, MARKER};
 use ctrl_model::Bytes;
@@ -15,7 +15,7 @@ fn push_number(out: &mut Vec<u8>, n: u32) -> Result<(), AllocError>
 }
 
 fn push_header(out: &mut Vec<u8>, header: &Header) -> Result<(), AllocError>
-    requires { length header.now.value ≤ 65536 }
+    requires { length header.now.value ≤ longest_headers }
     ensures { OnOk result (out.new.items ≡ out.old.items ++ header_spelling header.now) }
 {
     push_number(out, header.key)?;
@@ -24,7 +24,7 @@ fn push_header(out: &mut Vec<u8>, header: &Header) -> Result<(), AllocError>
 }
 
 fn push_headers(out: &mut Vec<u8>, headers: &[Header]) -> Result<(), AllocError>
-    requires { length (headers_spelling headers.now) ≤ 65536 }
+    requires { length (headers_spelling headers.now) ≤ longest_headers }
     ensures { OnOk result (out.new.items ≡ out.old.items ++ headers_spelling headers.now) }
 {
     'headers: for header in headers {
@@ -44,7 +44,7 @@ fn push_head(out: &mut Vec<u8>, head: &Head) -> Result<(), AllocError>
 }
 
 fn headers_len(headers: &[Header]) -> usize
-    requires { length (headers_spelling headers.now) ≤ 65536 }
+    requires { length (headers_spelling headers.now) ≤ longest_headers }
     ensures { result ≡ length (headers_spelling headers.now) }
 {
     let mut len = 0;

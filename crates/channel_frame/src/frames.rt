@@ -53,6 +53,12 @@ pub(crate) const MARKER: [u8; 4] = [3, 6, 9, 12];
 /// How many bytes the head of a frame has.
 pub(crate) const HEAD: usize = 20;
 
+/// How many bytes the headers of a frame may have (docs/FORMATS.md, "Channel frame").
+pub const LONGEST_HEADERS: u32 = 65_536;
+
+/// How many bytes the body of a frame may have.
+pub const LONGEST_BODY: u32 = 1_048_576;
+
 /// What the first 20 bytes of a frame say: its content type, its sequence number and the lengths of its two parts.
 #[derive(Clone, Copy, Debug, PartialEq, Eq)]
 pub struct Head {

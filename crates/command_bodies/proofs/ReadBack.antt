@@ -19,7 +19,7 @@ use Rattle.ctrl_model.specs.declared.kinds.Semantic.{Semantic}
 use Rattle.ctrl_model.specs.declared.kinds.Side.{Side}
 use Rattle.ctrl_model.specs.declared.refusals.Field.{Field}
 use Rattle.ctrl_model.specs.declared.refusals.Field.TheVariants as field
-use Rattle.json_body.specs.FieldKinds.{as_name, value_of, has_only}
+use Rattle.json_body.specs.FieldKinds.{as_name, member_of, has_only}
 use Rattle.command_bodies.specs.WrittenFields.{natural, list_of, potential}
 use Rattle.command_codec.specs.BodyMeaning.{meaning}
 use Rattle.command_codec.specs.BodyObjects.{object_of_body}
@@ -54,21 +54,21 @@ body_of_text text ms form is = rw (is_utf8-from_IsUtf8 text form, is) refl
 -- ---- the fields that are written
 
 -- A name, an instance and a number in a field.
-a_name : (of_field : Field) (o : Data) (name : List ℕ) → value_of of_field o ≡ Some (string name) → is_name name ≡ true → Tells as_name of_field name o
+a_name : (of_field : Field) (o : Data) (name : List ℕ) → member_of of_field o ≡ Some (string name) → is_name name ≡ true → Tells as_name of_field name o
 a_name of_field o name there h = tells as_name of_field o (string name) name there (name_read name h)
 
-an_instance : (o : Data) (instance : List ℕ) → value_of field.Instance o ≡ Some (string instance) → is_instance instance ≡ true → MayTell as_instance [] field.Instance instance o
+an_instance : (o : Data) (instance : List ℕ) → member_of field.Instance o ≡ Some (string instance) → is_instance instance ≡ true → MayTell as_instance [] field.Instance instance o
 an_instance o instance there h = may_tell as_instance [] field.Instance o (string instance) instance there (instance_read instance h)
 
-a_side : (of_field : Field) (o : Data) (side : Side) → value_of of_field o ≡ Some (list_of (λ t. string t) (role_texts side)) → is_side side ≡ true → Tells as_side of_field side o
+a_side : (of_field : Field) (o : Data) (side : Side) → member_of of_field o ≡ Some (list_of (λ t. string t) (role_texts side)) → is_side side ≡ true → Tells as_side of_field side o
 a_side of_field o side there h = tells as_side of_field o (list_of (λ t. string t) (role_texts side)) side there (side_read side h)
 
-a_no : (of_field : Field) (o : Data) (n : ℕ) → value_of of_field o ≡ Some (natural n) → is_number n ≡ true → Tells as_no of_field n o
+a_no : (of_field : Field) (o : Data) (n : ℕ) → member_of of_field o ≡ Some (natural n) → is_number n ≡ true → Tells as_no of_field n o
 a_no of_field o n there h = tells as_no of_field o (natural n) n there (number_read 1 4294967295 n h)
 
 -- ---- the objects that are written
 
-name_back : (of_field : Field) (make : List ℕ → Command) (name : List ℕ) → value_of of_field (object_with (name_field of_field name)) ≡ Some (string name)
+name_back : (of_field : Field) (make : List ℕ → Command) (name : List ℕ) → member_of of_field (object_with (name_field of_field name)) ≡ Some (string name)
     → has_only (of_field ∷ []) (object_with (name_field of_field name)) ≡ true → is_name name ≡ true → named of_field make (object_with (name_field of_field name)) ≡ Ok (make name)
 name_back of_field make name there only h =
     let o = object_with (name_field of_field name) in shape.named_says of_field make o name (a_name of_field o name there h) only
@@ -128,8 +128,8 @@ service_policy_back make name relation semantic left right h =
     (a_side field.IdentityRoles o left refl r.0) (a_side field.ServiceRoles o right refl r.1) refl
 
 router_policy_back : (of_left : Field) (make : List ℕ → Semantic → Side → Side → Command) (name : List ℕ) (semantic : Semantic) (left right : Side) (o : Data)
-    → value_of field.Name o ≡ Some (string name) → value_of field.Semantic o ≡ Some (string (semantic_word semantic))
-    → value_of of_left o ≡ Some (list_of (λ t. string t) (role_texts left)) → value_of field.RouterRoles o ≡ Some (list_of (λ t. string t) (role_texts right))
+    → member_of field.Name o ≡ Some (string name) → member_of field.Semantic o ≡ Some (string (semantic_word semantic))
+    → member_of of_left o ≡ Some (list_of (λ t. string t) (role_texts left)) → member_of field.RouterRoles o ≡ Some (list_of (λ t. string t) (role_texts right))
     → has_only (field.Name ∷ field.Semantic ∷ of_left ∷ field.RouterRoles ∷ []) o ≡ true
     → (is_name name && (is_side left && is_side right)) ≡ true → router_policy of_left make o ≡ Ok (make name semantic left right)
 router_policy_back of_left make name semantic left right o n s l r only h =
@@ -266,9 +266,9 @@ claimed_back identity service ingress instance chosen links potentials routers t
   where
     -- The object, by whether there is an ingress, with what it says of the ingress.
     says : (ingress : Option (List ℕ)) (o : Data) → MayTell as_some_name None field.Ingress ingress o
-        → value_of field.Identity o ≡ Some (string identity) → value_of field.Service o ≡ Some (string service) → value_of field.Instance o ≡ Some (string instance)
-        → value_of field.Chosen o ≡ Some (string chosen) → value_of field.Links o ≡ Some (list_of natural links) → value_of field.Potentials o ≡ Some (list_of potential potentials)
-        → value_of field.Routers o ≡ Some (list_of natural routers) → value_of field.Terminator o ≡ Some (natural terminator) → value_of field.Total o ≡ Some (natural total)
+        → member_of field.Identity o ≡ Some (string identity) → member_of field.Service o ≡ Some (string service) → member_of field.Instance o ≡ Some (string instance)
+        → member_of field.Chosen o ≡ Some (string chosen) → member_of field.Links o ≡ Some (list_of natural links) → member_of field.Potentials o ≡ Some (list_of potential potentials)
+        → member_of field.Routers o ≡ Some (list_of natural routers) → member_of field.Terminator o ≡ Some (natural terminator) → member_of field.Total o ≡ Some (natural total)
         → has_only (field.Identity ∷ field.Service ∷ field.Ingress ∷ field.Instance ∷ field.Chosen ∷ field.Links ∷ field.Potentials ∷ field.Routers ∷ field.Terminator ∷ field.Total ∷ []) o ≡ true
         → is_name identity ≡ true → is_name service ≡ true → is_instance instance ≡ true → IsClaim chosen links potentials routers terminator total
         → claimed_route o ≡ Ok (command.VerifyRoute identity service ingress instance chosen links potentials routers terminator total)

@@ -14,7 +14,7 @@ use Rattle.ctrl_model.specs.declared.kinds.Side.{Side}
 use Rattle.ctrl_model.specs.declared.refusals.Field.{Field}
 use Rattle.ctrl_model.specs.declared.refusals.Field.TheVariants as field
 use Rattle.json_body.specs.declared.fields.FieldFault.TheVariants.{WrongKind}
-use Rattle.json_body.specs.FieldKinds.{as_name, value_of, required_from, optional_from, has_only}
+use Rattle.json_body.specs.FieldKinds.{as_name, member_of, required_from, optional_from, has_only}
 use Rattle.command_codec.specs.BodyObjects.{Reader, object_of_body, with_cause, said_by}
 use Rattle.command_codec.specs.NameLists.{as_attributes}
 use Rattle.command_codec.specs.RoleLists.{as_side}
@@ -31,14 +31,14 @@ use Rattle.command_codec.specs.SpelledBodies.{Tells, MayTell}
 
 -- ---- one field
 
-pub tells : {A : Type 0} (kind : Data → Option A) (of_field : Field) (o d : Data) (x : A) → value_of of_field o ≡ Some d → kind d ≡ Some x → Tells kind of_field x o
+pub tells : {A : Type 0} (kind : Data → Option A) (of_field : Field) (o d : Data) (x : A) → member_of of_field o ≡ Some d → kind d ≡ Some x → Tells kind of_field x o
 tells kind of_field o d x there is = ap (required_from of_field kind) there ∙ ap (λ q. ok_or q (WrongKind of_field)) is
 
-pub may_tell : {A : Type 0} (kind : Data → Option A) (otherwise : A) (of_field : Field) (o d : Data) (x : A) → value_of of_field o ≡ Some d → kind d ≡ Some x
+pub may_tell : {A : Type 0} (kind : Data → Option A) (otherwise : A) (of_field : Field) (o d : Data) (x : A) → member_of of_field o ≡ Some d → kind d ≡ Some x
     → MayTell kind otherwise of_field x o
 may_tell kind otherwise of_field o d x there is = ap (optional_from of_field kind otherwise) there ∙ ap (λ q. ok_or q (WrongKind of_field)) is
 
-pub left_out : {A : Type 0} (kind : Data → Option A) (otherwise : A) (of_field : Field) (o : Data) → value_of of_field o ≡ None → MayTell kind otherwise of_field otherwise o
+pub left_out : {A : Type 0} (kind : Data → Option A) (otherwise : A) (of_field : Field) (o : Data) → member_of of_field o ≡ None → MayTell kind otherwise of_field otherwise o
 left_out kind otherwise of_field o none = ap (optional_from of_field kind otherwise) none
 
 -- A body that is an object of which a reader says a command.

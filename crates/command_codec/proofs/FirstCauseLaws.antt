@@ -8,7 +8,7 @@ use Rattle.ctrl_model.specs.declared.commands.Command.{Command}
 use Rattle.ctrl_model.specs.declared.refusals.Field.{Field}
 use Rattle.json_body.specs.declared.fields.FieldFault.{FieldFault}
 use Rattle.json_body.specs.declared.fields.FieldFault.TheVariants.{Missing, WrongKind, Unknown}
-use Rattle.json_body.specs.FieldKinds.{value_of, required_from, required, optional_from, optional, has_only, finished}
+use Rattle.json_body.specs.FieldKinds.{member_of, required_from, required, optional_from, optional, has_only, finished}
 use Rattle.command_codec.specs.BodyObjects.{Reader, ◌>>=◌}
 use Rattle.command_codec.specs.FirstCauses.{FieldRule, needs, may_have, IsMissing, IsOfWrongKind, Breaks, Keeps, BreaksFirst, HasAnotherKey, IsFirstFault}
 
@@ -83,7 +83,7 @@ goes_on rule fields rules o r keeps tells f =
     (λ e. kept_more rule fields rules o f keeps ((tells f).0 e), λ first. (tells f).1 (kept_less rule fields rules o f keeps first))
 
 -- A value of the kind keeps the rule.
-keeps_by : {A : Type 0} (kind : Data → Option A) (needed : Bool) (of_field : Field) (o d : Data) (x : A) → value_of of_field o ≡ Some d → kind d ≡ Some x
+keeps_by : {A : Type 0} (kind : Data → Option A) (needed : Bool) (of_field : Field) (o d : Data) (x : A) → member_of of_field o ≡ Some d → kind d ≡ Some x
     → Keeps o (record { of_field = of_field; is_needed = needed; is_of_kind = λ d. is_some (kind d) })
 keeps_by kind needed of_field o d x there said f (inl b) = no_value d (sym there ∙ b.absent)
 keeps_by kind needed of_field o d x there said f (inr b) =
@@ -93,29 +93,29 @@ keeps_by kind needed of_field o d x there said f (inr b) =
 
 pub required_first : {A : Type 0} (kind : Data → Option A) (of_field : Field) (fields : List Field) (rules : List FieldRule) (o : Data) (k : A → Result Command FieldFault)
     → ((x : A) → TellsFirst fields rules o (k x)) → TellsFirst fields (needs kind of_field ∷ rules) o (required kind of_field o >>= k)
-required_first {A} kind of_field fields rules o k rest = by (value_of of_field o) refl
+required_first {A} kind of_field fields rules o k rest = by (member_of of_field o) refl
   where
-    said : (d : Data) → value_of of_field o ≡ Some d → (q : Option A) → kind d ≡ q → TellsFirst fields (needs kind of_field ∷ rules) o (ok_or q (WrongKind of_field) >>= k)
+    said : (d : Data) → member_of of_field o ≡ Some d → (q : Option A) → kind d ≡ q → TellsFirst fields (needs kind of_field ∷ rules) o (ok_or q (WrongKind of_field) >>= k)
     said d there None is = stops_here (needs kind of_field) fields rules o (WrongKind of_field) (inr (record { value = d; there = there; other = ap is_some is; told = refl }))
     said d there (Some x) is = goes_on (needs kind of_field) fields rules o (k x) (keeps_by kind true of_field o d x there is) (rest x)
 
-    by : (v : Option Data) → value_of of_field o ≡ v → TellsFirst fields (needs kind of_field ∷ rules) o (required_from of_field kind v >>= k)
+    by : (v : Option Data) → member_of of_field o ≡ v → TellsFirst fields (needs kind of_field ∷ rules) o (required_from of_field kind v >>= k)
     by None is = stops_here (needs kind of_field) fields rules o (Missing of_field) (inl (record { needed = refl; absent = is; told = refl }))
     by (Some d) is = said d is (kind d) refl
 
 pub optional_first : {A : Type 0} (kind : Data → Option A) (otherwise : A) (of_field : Field) (fields : List Field) (rules : List FieldRule) (o : Data) (k : A → Result Command FieldFault)
     → ((x : A) → TellsFirst fields rules o (k x)) → TellsFirst fields (may_have kind of_field ∷ rules) o (optional kind otherwise of_field o >>= k)
-optional_first {A} kind otherwise of_field fields rules o k rest = by (value_of of_field o) refl
+optional_first {A} kind otherwise of_field fields rules o k rest = by (member_of of_field o) refl
   where
-    said : (d : Data) → value_of of_field o ≡ Some d → (q : Option A) → kind d ≡ q → TellsFirst fields (may_have kind of_field ∷ rules) o (ok_or q (WrongKind of_field) >>= k)
+    said : (d : Data) → member_of of_field o ≡ Some d → (q : Option A) → kind d ≡ q → TellsFirst fields (may_have kind of_field ∷ rules) o (ok_or q (WrongKind of_field) >>= k)
     said d there None is = stops_here (may_have kind of_field) fields rules o (WrongKind of_field) (inr (record { value = d; there = there; other = ap is_some is; told = refl }))
     said d there (Some x) is = goes_on (may_have kind of_field) fields rules o (k x) (keeps_by kind false of_field o d x there is) (rest x)
 
-    absent : value_of of_field o ≡ None → Keeps o (may_have kind of_field)
+    absent : member_of of_field o ≡ None → Keeps o (may_have kind of_field)
     absent is f (inl b) = no_bool (sym b.needed)
     absent is f (inr b) = no_value b.value (sym b.there ∙ is)
 
-    by : (v : Option Data) → value_of of_field o ≡ v → TellsFirst fields (may_have kind of_field ∷ rules) o (optional_from of_field kind otherwise v >>= k)
+    by : (v : Option Data) → member_of of_field o ≡ v → TellsFirst fields (may_have kind of_field ∷ rules) o (optional_from of_field kind otherwise v >>= k)
     by None is = goes_on (may_have kind of_field) fields rules o (k otherwise) (absent is) (rest otherwise)
     by (Some d) is = said d is (kind d) refl
 

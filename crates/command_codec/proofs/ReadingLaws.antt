@@ -8,7 +8,7 @@ use Rattle.ctrl_model.specs.declared.commands.Command.{Command}
 use Rattle.ctrl_model.specs.declared.refusals.Field.{Field}
 use Rattle.json_body.specs.declared.fields.FieldFault.{FieldFault}
 use Rattle.json_body.specs.declared.fields.FieldFault.TheVariants.{Missing, WrongKind, Unknown, NoMemory}
-use Rattle.json_body.specs.FieldKinds.{value_of, required_from, required, optional_from, optional, has_only, finished}
+use Rattle.json_body.specs.FieldKinds.{member_of, required_from, required, optional_from, optional, has_only, finished}
 use Rattle.command_codec.specs.BodyObjects.{Reader, ◌>>=◌, with_cause, said_by}
 
 pub ok_same : {A E : Type 0} (x y : A) → ◌≡◌ {A = Result A E} (Ok x) (Ok y) → x ≡ y
@@ -18,7 +18,7 @@ ok_same x y e = cc
 
 -- Whether a field that is required is there and of its kind takes no memory.
 required-never_wanting : {A : Type 0} (kind : Data → Option A) (field : Field) (o : Data) → required kind field o ≡ Err NoMemory → ⊥
-required-never_wanting {A} kind field o e = by (value_of field o) e
+required-never_wanting {A} kind field o e = by (member_of field o) e
   where
     said : (d : Data) (x : Option A) → ◌≡◌ {A = Result A FieldFault} (ok_or x (WrongKind field)) (Err NoMemory) → ⊥
     said d None e = absurd (cc)
@@ -111,7 +111,7 @@ reads_seven make (Err f) s t u v w x fields o c e to = absurd (cc)
 -- ---- the values that fields give
 
 pub required_form : {A P : Type 0} (kind : Data → Option A) (of_field : Field) (o : Data) (x : A) → required kind of_field o ≡ Ok x → ((d : Data) → kind d ≡ Some x → P) → P
-required_form {A} {P} kind of_field o x e k = by (value_of of_field o) e
+required_form {A} {P} kind of_field o x e k = by (member_of of_field o) e
   where
     told : (d : Data) (q : Option A) → kind d ≡ q → ok_or q (WrongKind of_field) ≡ Ok x → P
     told d None is e = absurd (cc)
@@ -123,7 +123,7 @@ required_form {A} {P} kind of_field o x e k = by (value_of of_field o) e
 
 pub optional_form : {A : Type 0} (P : A → Type 0) (kind : Data → Option A) (otherwise : A) (of_field : Field) (o : Data) (x : A) → optional kind otherwise of_field o ≡ Ok x
     → P otherwise → ((d : Data) (y : A) → kind d ≡ Some y → P y) → P x
-optional_form {A} P kind otherwise of_field o x e base k = by (value_of of_field o) e
+optional_form {A} P kind otherwise of_field o x e base k = by (member_of of_field o) e
   where
     told : (d : Data) (q : Option A) → kind d ≡ q → ok_or q (WrongKind of_field) ≡ Ok x → P x
     told d None is e = absurd (cc)
@@ -136,7 +136,7 @@ optional_form {A} P kind otherwise of_field o x e base k = by (value_of of_field
 -- Where a field says nothing of a kind, it says nothing of what is read from it.
 pub required_behind : {A B : Type 0} (kind : Data → Option A) (more : A → Option B) (of_field : Field) (o : Data) (f : FieldFault)
     → required kind of_field o ≡ Err f → required (λ d. option_and_then more (kind d)) of_field o ≡ Err f
-required_behind {A} {B} kind more of_field o f e = by (value_of of_field o) e
+required_behind {A} {B} kind more of_field o f e = by (member_of of_field o) e
   where
     told : (q : Option A) → ok_or q (WrongKind of_field) ≡ Err f → ok_or (option_and_then more q) (WrongKind of_field) ≡ Err f
     told None e = let same : WrongKind of_field ≡ f = cc in ap (λ g. Err g) same

@@ -16,7 +16,7 @@ use Rattle.ctrl_model.specs.NameForm.{is_name, is_instance}
 use Rattle.ctrl_model.specs.CommandForm.{is_spelled, is_cost, is_number, is_name_or_none}
 use Rattle.json_body.specs.declared.fields.FieldFault.{FieldFault}
 use Rattle.json_body.specs.declared.fields.FieldFault.TheVariants.{WrongKind}
-use Rattle.json_body.specs.FieldKinds.{as_name, value_of, required_from, required, optional_from, optional}
+use Rattle.json_body.specs.FieldKinds.{as_name, member_of, required_from, required, optional_from, optional}
 use Rattle.command_codec.specs.FieldValues.{as_no, instance_of, as_instance, as_some_name}
 use Rattle.command_codec.specs.FieldWords.{as_precedence}
 use Rattle.command_codec.specs.BodyObjects.{object_of_body, said_by}
@@ -48,8 +48,8 @@ pub some_name_form : (of_field : Field) (o : Data) (name : Option (List ℕ)) �
 some_name_form of_field o name e = optional_form (λ n. is_name_or_none n ≡ true) as_some_name None of_field o name e refl as_some_name-form
 
 -- Where a field that is there gives no name, it gives none that may be left out.
-pub some_name_fault : (of_field : Field) (o : Data) (f : FieldFault) → is_some (value_of of_field o) ≡ true → required as_name of_field o ≡ Err f → optional as_some_name None of_field o ≡ Err f
-some_name_fault of_field o f there e = by (value_of of_field o) there e
+pub some_name_fault : (of_field : Field) (o : Data) (f : FieldFault) → is_some (member_of of_field o) ≡ true → required as_name of_field o ≡ Err f → optional as_some_name None of_field o ≡ Err f
+some_name_fault of_field o f there e = by (member_of of_field o) there e
   where
     told : (n : Option (List ℕ)) → ok_or n (WrongKind of_field) ≡ Err f → ok_or (option_map (λ m. Some m) n) (WrongKind of_field) ≡ Err f
     told None e = let same : WrongKind of_field ≡ f = cc in ap (λ g. Err g) same

@@ -11,7 +11,7 @@ use Rattle.ctrl_model.specs.declared.refusals.Field.TheVariants as field
 use Rattle.ctrl_model.specs.declared.refusals.Reason.TheVariants as reason
 use Rattle.json_body.specs.declared.fields.FieldFault.{FieldFault}
 use Rattle.json_body.specs.declared.fields.FieldFault.TheVariants.{Missing, WrongKind, Unknown}
-use Rattle.json_body.specs.FieldKinds.{as_name, value_of, has_only}
+use Rattle.json_body.specs.FieldKinds.{as_name, member_of, has_only}
 use Rattle.command_codec.specs.declared.reading.CodecFault.{CodecFault}
 use Rattle.command_codec.specs.declared.reading.CodecFault.TheVariants.{UnsupportedType, BadBody}
 use Rattle.command_codec.specs.BodyObjects.{object_of_body, cause_of}
@@ -43,13 +43,13 @@ may_have kind of_field = record { of_field = of_field; is_needed = false; is_of_
 -- An object has no value in a field that has to be there.
 pub record IsMissing (rule : FieldRule) (o : Data) (f : FieldFault) : Type 0 where
   pub needed : rule.is_needed ≡ true
-  pub absent : value_of rule.of_field o ≡ None
+  pub absent : member_of rule.of_field o ≡ None
   pub told : f ≡ Missing rule.of_field
 
 -- An object has a value in a field, and it is not of the field's kind.
 pub record IsOfWrongKind (rule : FieldRule) (o : Data) (f : FieldFault) : Type 0 where
   pub value : Data
-  pub there : value_of rule.of_field o ≡ Some value
+  pub there : member_of rule.of_field o ≡ Some value
   pub other : rule.is_of_kind value ≡ false
   pub told : f ≡ WrongKind rule.of_field
 

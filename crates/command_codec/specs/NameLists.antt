@@ -5,7 +5,8 @@ use Rattle.serde_json.specs.Data.{Data}
 use Rattle.json_body.specs.FieldKinds.{as_name}
 use Rattle.role_expr.specs.NameRepeats.{without_repeats}
 use Rattle.command_codec.specs.ItemLists.{as_each_of}
+use Rattle.ctrl_model.specs.Limits.{most_entries}
 
 -- The attributes that a value gives: a list of at most 64 names, as it was sent, and then without repeats.
 abbrev pub as_attributes : Data → Option (List (List ℕ))
-as_attributes d = option_map without_repeats (as_each_of 64 as_name d)
+as_attributes d = option_map without_repeats (as_each_of most_entries as_name d)

@@ -8,6 +8,7 @@ use Rattle.ctrl_model.specs.declared.kinds.Side.{Side}
 use Rattle.role_expr.specs.ReadRoles.{role_in}
 use Rattle.role_expr.specs.RoleSides.{is_all_beside, side_from}
 use Rattle.command_codec.specs.ItemLists.{as_each_of}
+use Rattle.ctrl_model.specs.Limits.{most_entries}
 
 -- A role entry: the one whose spelling a text is.
 abbrev pub as_role : Data → Option Role
@@ -19,4 +20,4 @@ side_of roles = if is_all_beside roles then None else Some (side_from roles)
 
 -- The side that a value gives: a list of at most 64 role entries, as it was sent. Repeats are dropped.
 abbrev pub as_side : Data → Option Side
-as_side d = option_and_then side_of (as_each_of 64 as_role d)
+as_side d = option_and_then side_of (as_each_of most_entries as_role d)

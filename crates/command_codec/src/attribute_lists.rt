@@ -6,6 +6,7 @@ ghost use Rattle.json_body.specs.FieldKinds.{as_name, as_list_of};
 ghost use Rattle.command_codec.specs.ItemLists.{each_of};
 ghost use Rattle.command_codec.specs.NameLists.{as_attributes};
 ghost use Rattle.command_codec.specs.ReadResults.{Gives};
+ghost use Rattle.ctrl_model.specs.Limits.{most_entries};
 
 use ctrl_model::{Field, MOST_ENTRIES, Names};
 use json_body::{FieldFault, Fields, as_name};
@@ -31,7 +32,7 @@ fn names_in(alloc: Global, values: &[Value]) -> Result<Option<Names>, AllocError
 pub(crate) fn attributes(alloc: Global, fields: &Fields) -> Result<Names, FieldFault>
     ensures given { Gives FieldFault.NoMemory (λ ns. ns) result (required as_attributes Field.Attributes (object_of fields.now)) }
     // Memory can be wanting only where the field is a list that is not too long.
-    ensures memory { IsErrOf result FieldFault.NoMemory → IsOk (required (as_list_of 64) Field.Attributes (object_of fields.now)) }
+    ensures memory { IsErrOf result FieldFault.NoMemory → IsOk (required (as_list_of most_entries) Field.Attributes (object_of fields.now)) }
 {
     let values = fields.list(Field::Attributes, MOST_ENTRIES)?;
     names_in(alloc, values)?.ok_or(FieldFault::WrongKind(Field::Attributes))

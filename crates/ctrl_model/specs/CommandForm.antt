@@ -11,7 +11,7 @@ use Rattle.ctrl_model.specs.declared.kinds.Relation.TheVariants.{Dial, Bind, Ide
 use Rattle.ctrl_model.specs.declared.claims.Reach.{Reach}
 use Rattle.ctrl_model.specs.NameForm.{is_name, is_instance}
 use Rattle.ctrl_model.specs.Matches.{has_name, is_nothing}
-use Rattle.ctrl_model.specs.Limits.{limit, longest_path, most_cost, most_latency, most_number}
+use Rattle.ctrl_model.specs.Limits.{limit, longest_path, most_cost, most_entries, most_latency, most_number}
 use Rattle.ctrl_model.specs.Claims.{no_path}
 use Rattle.ctrl_model.specs.declared.kinds.Kind.TheVariants as kind
 
@@ -28,15 +28,15 @@ is_distinct (n ∷ ns) = not (has_name ns n) && is_distinct ns
 abbrev pub are_names : List (List ℕ) → Bool
 are_names ns = list_all is_name ns && is_distinct ns
 
--- A list of attributes: at most 64 names without repeats.
+-- A list of attributes: names without repeats, no more than a list may have.
 abbrev pub are_attributes : List (List ℕ) → Bool
-are_attributes ns = nat_le (length ns) 64 && are_names ns
+are_attributes ns = nat_le (length ns) most_entries && are_names ns
 
--- A side as it may be stored: `#all` stands alone, and there are at most 64 entries without repeats.
+-- A side as it may be stored: `#all` stands alone, and there are no more entries than a list may have, without repeats.
 abbrev pub is_stored_side : Side → Bool
 is_stored_side side =
     (not side.all || (is_nothing side.ids && is_nothing side.attributes))
-    && (nat_le (length side.ids + length side.attributes) 64 && (are_names side.ids && are_names side.attributes))
+    && (nat_le (length side.ids + length side.attributes) most_entries && (are_names side.ids && are_names side.attributes))
 
 -- A side that a role list says: no entry refers to an attribute named `all`.
 abbrev pub is_side : Side → Bool

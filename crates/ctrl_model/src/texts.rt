@@ -61,13 +61,14 @@ fn all_of_names(bytes: &[u8]) -> bool
     bytes.iter().all(|byte| is_name_byte(*byte))
 }
 
-fn has_name_form(bytes: &[u8]) -> bool
-    ensures { result ≡ is_name bytes.now }
-{
-    !bytes.is_empty() && bytes.len() <= LONGEST_NAME && all_of_names(bytes)
-}
-
 impl Name {
+    /// Whether the bytes are a name. No memory is taken.
+    pub fn is(bytes: &[u8]) -> bool
+        ensures form { result ≡ is_name bytes.now }
+    {
+        !bytes.is_empty() && bytes.len() <= LONGEST_NAME && all_of_names(bytes)
+    }
+
     /// The name that the bytes are.
     ///
     /// `BadName` comes exactly where the bytes are no name; else only memory can be wanting.
@@ -75,7 +76,7 @@ impl Name {
         ensures named { IfOk result (λ name. (name ≡ bytes.now) × (is_name bytes.now ≡ true)) }
         ensures bad { IsErrOf result NameFault.BadName ↔ (is_name bytes.now ≡ false) }
     {
-        if !has_name_form(bytes) {
+        if !Name::is(bytes) {
             return Err(NameFault::BadName);
         }
         let bytes = Vec::from_slice(alloc, bytes)?;
@@ -117,13 +118,14 @@ impl Model for Instance {
     ghost invariant = { λ i. is_instance i.bytes.items ≡ true };
 }
 
-fn has_instance_form(bytes: &[u8]) -> bool
-    ensures { result ≡ is_instance bytes.now }
-{
-    bytes.is_empty() || has_name_form(bytes)
-}
-
 impl Instance {
+    /// Whether the bytes are an instance. No memory is taken.
+    pub fn is(bytes: &[u8]) -> bool
+        ensures form { result ≡ is_instance bytes.now }
+    {
+        bytes.is_empty() || Name::is(bytes)
+    }
+
     /// The instance that the bytes are.
     ///
     /// `BadName` comes exactly where the bytes are not empty and no name; else only memory can be wanting.
@@ -131,7 +133,7 @@ impl Instance {
         ensures named { IfOk result (λ instance. (instance ≡ bytes.now) × (is_instance bytes.now ≡ true)) }
         ensures bad { IsErrOf result NameFault.BadName ↔ (is_instance bytes.now ≡ false) }
     {
-        if !has_instance_form(bytes) {
+        if !Instance::is(bytes) {
             return Err(NameFault::BadName);
         }
         let bytes = Vec::from_slice(alloc, bytes)?;

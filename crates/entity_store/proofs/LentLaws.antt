@@ -3,7 +3,7 @@ use Rattle.std.proofs.Common.{◌≡◌, ℕ, zero, suc, ◌+◌, ◌-◌, ◌*�
 use Rattle.std.proofs.lemmas.List.{length-append, length-map, take_at}
 use Rattle.std.proofs.Math.Seq.{drop-append-add}
 use Rattle.std.specs.List.{AllZip, flat_map}
-use Rattle.bit_lanes.specs.Lanes.{bit_of, row_at}
+use Rattle.bit_lanes.specs.Lanes.{bit_of, bit_row}
 use Rattle.ctrl_model.specs.declared.kinds.Kind.{Kind}
 use Rattle.ctrl_model.specs.Membership.{Among}
 use Rattle.ctrl_model.specs.State.{Entity}
@@ -35,17 +35,17 @@ module _ (slots : List Slot) where
       let first = z.0.long in let rest = words-length known rows z.1 in let whole = length-append r (behind rows) in
       omega (arith, first, rest, whole)
 
-  row-first : (r rest : List ℕ) → length r ≡ row_words → row_at (r ++ rest) row_words 0 ≡ r
+  row-first : (r rest : List ℕ) → length r ≡ row_words → bit_row (r ++ rest) row_words 0 ≡ r
   row-first r rest long = take_at r rest row_words long
 
-  row-later : (r rest : List ℕ) (p : ℕ) → length r ≡ row_words → row_at (r ++ rest) row_words (suc p) ≡ row_at rest row_words p
+  row-later : (r rest : List ℕ) (p : ℕ) → length r ≡ row_words → bit_row (r ++ rest) row_words (suc p) ≡ bit_row rest row_words p
   row-later r rest p long =
       let past : suc p * row_words ≡ length r + p * row_words = omega (arith, long) in
       let few : (suc p * row_words + row_words) - suc p * row_words ≡ (p * row_words + row_words) - p * row_words = omega arith in
       (λ i. take (few i) (drop (past i) (r ++ rest))) ∙ ap (take ((p * row_words + row_words) - p * row_words)) (drop-append-add r rest (p * row_words))
 
   bits-at : (known : List (ℕ × Entity)) (rows : List (List ℕ)) → RowsOf known rows → (p : ℕ) → p < length known → (n : ℕ)
-      → bit_of (row_at (behind rows) row_words p) n ≡ row_bit slots (get_or (attribute_lists known) p []) n
+      → bit_of (bit_row (behind rows) row_words p) n ≡ row_bit slots (get_or (attribute_lists known) p []) n
   bits-at [] rows z p l n = absurd (omega (arith, l))
   bits-at (x ∷ known) [] z p l n = absurd z
   bits-at (x ∷ known) (r ∷ rows) z zero l n = ap (λ words. bit_of words n) (row-first r (behind rows) z.0.long) ∙ z.0.bits n

@@ -7,6 +7,7 @@ use Rattle.frame_lines.specs.declared.lines.LineCause.{LineCause}
 use Rattle.frame_lines.specs.declared.lines.LineCause.TheVariants.{BadSequence, UnknownType, TooLong}
 use Rattle.frame_lines.specs.TypeNames.{number_named}
 use Rattle.frame_lines.specs.LineWords.{first_word, behind_word, are_digits, number_in}
+use Rattle.channel_frame.specs.FrameSpelling.{longest_body}
 
 -- A name's content type, or else the number that the word writes.
 abbrev pub type_or : Option ℕ → List ℕ → Option ℕ
@@ -21,7 +22,7 @@ type_in word = type_or (number_named word) word
 abbrev pub with_type : Option ℕ → Option ℕ → List ℕ → Result Line LineCause
 with_type sequence None body = Err UnknownType
 with_type sequence (Some content) body =
-    if nat_lt 1048576 (length body) then Err TooLong else Ok (record { sequence = sequence; content = content; body = body })
+    if nat_lt longest_body (length body) then Err TooLong else Ok (record { sequence = sequence; content = content; body = body })
 
 -- What is said behind a first word of digits.
 abbrev pub with_sequence : Option ℕ → List ℕ → Result Line LineCause

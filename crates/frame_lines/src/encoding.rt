@@ -1,5 +1,5 @@
 ghost use Rattle.std.specs.Prelude.{◌≡◌, ◌++◌, ◌≤◌, OnOk, IfOk, length};
-ghost use Rattle.channel_frame.specs.FrameSpelling.{spelling};
+ghost use Rattle.channel_frame.specs.FrameSpelling.{spelling, longest_body};
 ghost use Rattle.frame_lines.specs.TextReading.{frame_of, next_after, bytes_said, fault_said};
 ghost use Rattle.frame_lines.specs.LineTurns.{TakesLine};
 
@@ -19,7 +19,7 @@ pub struct Encoded {
 
 /// Puts the frame of a line down, where this sequence number comes next. Answers the one that comes then.
 pub fn put_frame(alloc: Global, out: &mut Vec<u8>, next: u32, line: Line) -> Result<u32, AllocError>
-    requires { length line.body ≤ 1048576 }
+    requires { length line.body ≤ longest_body }
     ensures bytes { OnOk result (out.new.items ≡ out.old.items ++ spelling (frame_of next line)) }
     ensures next { IfOk result (λ n. n ≡ next_after (frame_of next line).sequence) }
 {

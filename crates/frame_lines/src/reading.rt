@@ -6,6 +6,7 @@ use crate::cutting::cut_word;
 use crate::lines::{Line, LineCause};
 use crate::types::number_named;
 use crate::words::{are_digits, number_in};
+use channel_frame::LONGEST_BODY;
 use ctrl_model::Bytes;
 use std::alloc::{AllocError, Global};
 
@@ -42,7 +43,7 @@ fn with_type(
     let Some(content) = content else {
         return Ok(Err(LineCause::UnknownType));
     };
-    if body.len() > 1_048_576 {
+    if body.len() > LONGEST_BODY as usize {
         return Ok(Err(LineCause::TooLong));
     }
     let body = Bytes::from_slice(alloc, body)?;

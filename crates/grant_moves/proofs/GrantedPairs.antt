@@ -19,7 +19,7 @@ use Rattle.grant_denorm.specs.MovedCounts.{AreCountsOf}
 use Rattle.grant_denorm.proofs.EqualCounts.{one_list}
 use Rattle.grant_moves.specs.EntitySides.{left_rows, right_rows}
 use Rattle.grant_moves.proofs.CountRules.{joined, count_joined, joined-left_absent, joined-right_absent}
-use Rattle.grant_moves.proofs.GrantedTable.{row_of, table_of, table_counts, AreCounts-table}
+use Rattle.grant_moves.proofs.GrantedTable.{row_of, grant_table, table_counts, AreCounts-table}
 
 -- ---- the numbers of a side
 
@@ -84,7 +84,7 @@ all_counted s t (suc n) e f =
 pub pairs_are_granted : (r : Relation) (s : State) (left_high right_high : ℕ) (xs : List ((ℕ × ℕ) × ℕ)) → AreCounts xs → AreCountsOf (count r s) xs
     → Between 1 left_high (left_rows r s) → Between 1 right_high (right_rows r s) → length xs ≡ granted_pairs r s
 pairs_are_granted r s left_high right_high xs counts rule left right =
-    ap (λ ys. length ys) (one_list xs (table_of (count r s) lefts rights) counts
+    ap (λ ys. length ys) (one_list xs (grant_table (count r s) lefts rights) counts
     (AreCounts-table (count r s) rights (Ascends-numbers right_high (right_rows r s) 1 right) lefts (Ascends-numbers left_high (left_rows r s) 1 left))
     (λ p q. rule p q ∙ sym (table_counts (count r s) rights p q lefts ∙ all_counted (is_among p lefts) (is_among q rights) (count r s p q)
     (λ h. is_among-from p lefts (left_present r s p q h)) (λ h. is_among-from q rights (right_present r s p q h)))))

@@ -13,8 +13,8 @@ abbrev pub row_of : (ℕ → ℕ → ℕ) → List ℕ → ℕ → List ((ℕ ×
 row_of rule rights a = map (λ b. ((a, b), rule a b)) (filter (λ b. nat_lt 0 (rule a b)) rights)
 
 -- the pairs of all left numbers
-abbrev pub table_of : (ℕ → ℕ → ℕ) → List ℕ → List ℕ → List ((ℕ × ℕ) × ℕ)
-table_of rule lefts rights = flat_map (row_of rule rights) lefts
+abbrev pub grant_table : (ℕ → ℕ → ℕ) → List ℕ → List ℕ → List ((ℕ × ℕ) × ℕ)
+grant_table rule lefts rights = flat_map (row_of rule rights) lefts
 
 -- ---- the count of each pair
 
@@ -46,10 +46,10 @@ row_counts rule a later p q (b ∷ rights) =
     by k s t g m v w l n e f h = grind (arith, common_steps)
 
 pub table_counts : (rule : ℕ → ℕ → ℕ) (rights : List ℕ) (p q : ℕ) (lefts : List ℕ)
-    → count_of (table_of rule lefts rights) p q ≡ cond (is_among p lefts && (is_among q rights && nat_lt 0 (rule p q))) (rule p q) 0
+    → count_of (grant_table rule lefts rights) p q ≡ cond (is_among p lefts && (is_among q rights && nat_lt 0 (rule p q))) (rule p q) 0
 table_counts rule rights p q [] = refl
 table_counts rule rights p q (a ∷ lefts) =
-    row_counts rule a (table_of rule lefts rights) p q rights
+    row_counts rule a (grant_table rule lefts rights) p q rights
     ∙ ap (λ n. cond ((a == p) && (is_among q rights && nat_lt 0 (rule p q))) (rule p q) n) (table_counts rule rights p q lefts)
     ∙ by (a == p) (is_among p lefts) (is_among q rights && nat_lt 0 (rule p q)) (rule p q)
   where
@@ -100,10 +100,10 @@ AreCounts-row rule a (b ∷ rights) asc = by (nat_lt 0 (rule a b)) refl (AreCoun
     )
     by false is rest = rest
 
-pub AreCounts-table : (rule : ℕ → ℕ → ℕ) (rights : List ℕ) → Ascends rights → (lefts : List ℕ) → Ascends lefts → AreCounts (table_of rule lefts rights)
+pub AreCounts-table : (rule : ℕ → ℕ → ℕ) (rights : List ℕ) → Ascends rights → (lefts : List ℕ) → Ascends lefts → AreCounts (grant_table rule lefts rights)
 AreCounts-table rule rights rises [] asc = tt
 AreCounts-table rule rights rises (a ∷ lefts) asc =
-    AreCounts-append (row_of rule rights a) (table_of rule lefts rights) (AreCounts-row rule a rights rises) (AreCounts-table rule rights rises lefts asc.1)
+    AreCounts-append (row_of rule rights a) (grant_table rule lefts rights) (AreCounts-row rule a rights rises) (AreCounts-table rule rights rises lefts asc.1)
     (λ x y m n. from_row rule rights a x m (λ b there same. by_flat_map (row_of rule rights) lefts y n (λ c among in_it. from_row rule rights c y in_it (λ d here alike.
     subst (λ (z : (ℕ × ℕ) × ℕ). precedes_pair z.0 y.0 ≡ true) same
     (subst (λ (z : (ℕ × ℕ) × ℕ). precedes_pair (a, b) z.0 ≡ true) alike (below_row a b c d (asc.0 c among)))))))

@@ -24,8 +24,8 @@ abbrev pub is_object : Data → Bool
 is_object d = is_some (as_object d)
 
 -- The value that an object has under a field's word, if it has one.
-abbrev pub value_of : Field → Data → Option Data
-value_of field o = get (word_of field) o
+abbrev pub member_of : Field → Data → Option Data
+member_of field o = get (word_of field) o
 
 -- The bytes as a name, if they are one.
 abbrev pub name_of : List ℕ → Option (List ℕ)
@@ -68,7 +68,7 @@ required_from field kind (Some d) = of_kind field kind d
 
 -- What an object says of a field that is required.
 abbrev pub required : {A : Type 0} → (Data → Option A) → Field → Data → Result A FieldFault
-required kind field o = required_from field kind (value_of field o)
+required kind field o = required_from field kind (member_of field o)
 
 -- What a field that may be left out says: a value of its own where it is absent.
 abbrev pub optional_from : {A : Type 0} → Field → (Data → Option A) → A → Option Data → Result A FieldFault
@@ -77,7 +77,7 @@ optional_from field kind otherwise (Some d) = of_kind field kind d
 
 -- What an object says of a field that may be left out.
 abbrev pub optional : {A : Type 0} → (Data → Option A) → A → Field → Data → Result A FieldFault
-optional kind otherwise field o = optional_from field kind otherwise (value_of field o)
+optional kind otherwise field o = optional_from field kind otherwise (member_of field o)
 
 -- Whether a key is the word of one of some fields.
 abbrev pub is_word_of : List Field → List ℕ → Bool

@@ -2,10 +2,10 @@ ghost use Rattle.std.specs.Prelude.{◌≡◌, ◌≢◌, IfOk, IfErr, IsOk, IsE
 ghost use Rattle.std.specs.Result.{result_map_both};
 ghost use Rattle.serde_json.specs.Find.{as_str, as_bool};
 ghost use Rattle.serde_json.specs.View.{view, items_view};
-ghost use Rattle.json_body.specs.FieldKinds.{object_of, is_object, value_of, as_name, as_number_in, as_list_of, required, finished};
+ghost use Rattle.json_body.specs.FieldKinds.{object_of, is_object, member_of, as_name, as_number_in, as_list_of, required, finished};
 
 use crate::key_words::has_only;
-use crate::value_kinds::{as_list_of, as_name, as_number_in, required, value_of};
+use crate::value_kinds::{as_list_of, as_name, as_number_in, required, member_of};
 use ctrl_model::{Field, Name};
 use serde_json::Value;
 use std::alloc::{AllocError, Global};
@@ -64,9 +64,9 @@ impl<'a> Fields<'a> {
 
     /// Whether the field is there.
     pub fn has(&self, field: Field) -> bool
-        ensures { result ≡ is_some (value_of field (object_of self.now)) }
+        ensures { result ≡ is_some (member_of field (object_of self.now)) }
     {
-        value_of(self.value, field).is_some()
+        member_of(self.value, field).is_some()
     }
 
     /// The name that the field gives. `Missing` comes exactly where the field is absent, and `WrongKind` exactly where it is

@@ -1,7 +1,7 @@
 ghost use Rattle.std.specs.Prelude.{◌≡◌, IfOk, OnErr, IsSome, Some, option_map};
 ghost use Rattle.std.specs.Result.{result_map_both};
 ghost use Rattle.serde_json.specs.View.{view, items_view};
-ghost use Rattle.json_body.specs.FieldKinds.{value_of, as_name, as_number_in, as_list_of, required, name_of, within};
+ghost use Rattle.json_body.specs.FieldKinds.{member_of, as_name, as_number_in, as_list_of, required, name_of, within};
 
 use crate::fields::FieldFault;
 use ctrl_model::{Field, Name, NameFault};
@@ -9,8 +9,8 @@ use serde_json::Value;
 use std::alloc::{AllocError, Global};
 
 // The value that the field has, if it is there.
-pub(crate) fn value_of(value: &Value, field: Field) -> Option<&Value>
-    ensures { option_map (λ v. view v.now) result ≡ value_of field (view value.now) }
+pub(crate) fn member_of(value: &Value, field: Field) -> Option<&Value>
+    ensures { option_map (λ v. view v.now) result ≡ member_of field (view value.now) }
 {
     value.get(field.word())
 }
@@ -19,7 +19,7 @@ pub(crate) fn value_of(value: &Value, field: Field) -> Option<&Value>
 pub(crate) fn required(value: &Value, field: Field) -> Result<&Value, FieldFault>
     ensures { result_map_both (λ v. view v.now) (λ e. e) result ≡ required Some field (view value.now) }
 {
-    value_of(value, field).ok_or(FieldFault::Missing(field))
+    member_of(value, field).ok_or(FieldFault::Missing(field))
 }
 
 // The name that the bytes are, if they are one.

@@ -5,7 +5,7 @@ ghost use Rattle.serde_json.specs.Read.{read};
 ghost use Rattle.serde_json.specs.View.{items_of};
 ghost use Rattle.ctrl_model.specs.declared.refusals.Field.TheVariants as field;
 ghost use Rattle.json_body.specs.declared.fields.FieldFault.TheVariants as fault;
-ghost use Rattle.json_body.specs.FieldKinds.{is_object, value_of, as_name, as_number_in, as_list_of, required, optional, finished};
+ghost use Rattle.json_body.specs.FieldKinds.{is_object, member_of, as_name, as_number_in, as_list_of, required, optional, finished};
 
 /// Fields that say something of their kind: a name, a text, numbers at the ends of their range, a truth value, a list that is
 /// as long as it may be, and one that is left out where it may be.
@@ -18,7 +18,7 @@ pub fn worked_kinds()
     ensures list { required (as_list_of 64) field.Attributes (object (member (codes "attributes") (array (items_of (replicate 64 null))) no_members)) ≡ Ok (items_of (replicate 64 null)) }
     ensures left_out { option_map (optional (as_number_in 0 65535) 7 field.Cost) (read (codes "{\"name\":\"ann\"}")) ≡ Some (Ok 7) }
     ensures given { option_map (optional (as_number_in 0 65535) 7 field.Cost) (read (codes "{\"cost\":8}")) ≡ Some (Ok 8) }
-    ensures there { option_map (λ o. is_some (value_of field.Name o)) (read (codes "{\"name\":null}")) ≡ Some true }
+    ensures there { option_map (λ o. is_some (member_of field.Name o)) (read (codes "{\"name\":null}")) ≡ Some true }
     ensures only { option_map (finished (field.Name ∷ field.Attributes ∷ [])) (read (codes "{\"name\":\"ann\"}")) ≡ Some (Ok tt) }
 {}
 

@@ -29,6 +29,7 @@ use Rattle.policy_store.specs.PolicyTables.{PolicyTables}
 use Rattle.policy_commands.specs.PutPolicies.{may_put}
 use Rattle.policy_commands.specs.PolicyStates.{HoldsUses, over}
 use Rattle.policy_commands.specs.PolicyPlans.{PlansPolicies, is_edge_router_policy_command}
+use Rattle.ctrl_model.specs.Limits.{most_entries}
 
 -- A plan of an answer in every valid state with these entities and these policies, whose uses of attributes are held.
 abbrev pub Answers : (State → Reply × State) → Tables → PolicyTables → Plan PolicyChange → Type 0
@@ -72,8 +73,8 @@ ids_of right p = cond right p.right.ids p.left.ids
 
 -- A policy whose sides are as short as a role list.
 pub record AreShort (p : Policy) : Type 0 where
-  pub left : length p.left.ids ≤ 64
-  pub right : length p.right.ids ≤ 64
+  pub left : length p.left.ids ≤ most_entries
+  pub right : length p.right.ids ≤ most_entries
 
 -- The fault of an absent `@` name tells a place of the side.
 abbrev pub IsPlaced : PolicyFault → Policy → Type 0

@@ -4,7 +4,7 @@ use Rattle.std.specs.Prelude.{⊤}
 use Rattle.std.proofs.lemmas.Option.{same_Some, none-some, slice_get-get_or}
 use Rattle.indexmap.specs.IndexMap.{set_value_at}
 use Rattle.ctrl_model.specs.Numbered.{map_each, numbers, Between}
-use Rattle.record_tables.specs.Entries.{Entry, rows_of, AreNamed}
+use Rattle.record_tables.specs.Entries.{Entry, numbered_records, AreNamed}
 
 module _ {R : Type 0} (P : R → R → Type 0) where
   -- the record of an entry is changed, and its key and its number stay
@@ -54,21 +54,21 @@ module _ {R : Type 0} (P : R → R → Type 0) where
       rw (add-one, made.2) (next_changed xs (y ∷ ys) n e made.0 h stands made.1)
 
   pub rows-changed : (f : R → R) → ((old new : R) → P old new → new ≡ f old) → (xs ys : List (Entry R)) → ChangedTo xs ys (length xs)
-      → rows_of ys ≡ map_each f (rows_of xs)
+      → numbered_records ys ≡ map_each f (numbered_records xs)
   rows-changed f does [] [] h = refl
   rows-changed f does [] (y ∷ ys) h = absurd h
   rows-changed f does (x ∷ xs) [] h = absurd h
   rows-changed f does (x ∷ xs) (y ∷ ys) h =
-      ap (λ (z : Entry R). z.1 ∷ rows_of ys) h.0.is ∙ (λ j. (x.1.0, does x.1.1 h.0.after h.0.changed j) ∷ rows-changed f does xs ys h.1 j)
+      ap (λ (z : Entry R). z.1 ∷ numbered_records ys) h.0.is ∙ (λ j. (x.1.0, does x.1.1 h.0.after h.0.changed j) ∷ rows-changed f does xs ys h.1 j)
 
-  pub numbers-changed : (xs ys : List (Entry R)) (n : ℕ) → ChangedTo xs ys n → numbers (rows_of ys) ≡ numbers (rows_of xs)
+  pub numbers-changed : (xs ys : List (Entry R)) (n : ℕ) → ChangedTo xs ys n → numbers (numbered_records ys) ≡ numbers (numbered_records xs)
   numbers-changed [] [] n h = refl
   numbers-changed [] (y ∷ ys) n h = absurd h
   numbers-changed (x ∷ xs) [] n h = absurd h
   numbers-changed (x ∷ xs) (y ∷ ys) zero h = λ j. (h.0 j).1.0 ∷ numbers-changed xs ys zero h.1 j
   numbers-changed (x ∷ xs) (y ∷ ys) (suc n) h = λ j. (h.0.is j).1.0 ∷ numbers-changed xs ys n h.1 j
 
-  pub Between-changed : (high : ℕ) (xs ys : List (Entry R)) (n low : ℕ) → ChangedTo xs ys n → Between low high (rows_of xs) → Between low high (rows_of ys)
+  pub Between-changed : (high : ℕ) (xs ys : List (Entry R)) (n low : ℕ) → ChangedTo xs ys n → Between low high (numbered_records xs) → Between low high (numbered_records ys)
   Between-changed high [] [] n low h b = tt
   Between-changed high [] (y ∷ ys) n low h b = absurd h
   Between-changed high (x ∷ xs) [] n low h b = absurd h

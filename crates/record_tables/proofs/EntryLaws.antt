@@ -11,7 +11,7 @@ use Rattle.std.specs.Str.{bytes_eq}
 use Rattle.indexmap.specs.IndexMap.{insert_entry}
 use Rattle.ctrl_model.specs.Numbered.{at, is_present, edit_at, Between}
 use Rattle.ctrl_model.proofs.NumberedLaws.{Between-more, first_where-found}
-use Rattle.record_tables.specs.Entries.{Entry, rows_of, number_named, AreNamed, AreOrdered}
+use Rattle.record_tables.specs.Entries.{Entry, numbered_records, number_named, AreNamed, AreOrdered}
 use Rattle.record_tables.specs.Changes.{IsCopied}
 use Rattle.record_tables.proofs.PlaceLaws.{edit_at-above}
 use Rattle.record_tables.proofs.NameKeys.{bytes_eq-flip}
@@ -19,38 +19,38 @@ use Rattle.record_tables.proofs.NameKeys.{bytes_eq-flip}
 module _ {R : Type 0} (name_of : R → List ℕ) where
   -- a look-up by the bytes of a name finds the record that has the name
   pub named-lookup : (es : List (Entry R)) (name : List ℕ) → AreNamed name_of es
-      → option_map (λ (row : ℕ × R). row.0) (lookup (λ k. bytes_eq name k.items) es) ≡ number_named name_of (rows_of es) name
+      → option_map (λ (row : ℕ × R). row.0) (lookup (λ k. bytes_eq name k.items) es) ≡ number_named name_of (numbered_records es) name
   named-lookup [] name h = refl
   named-lookup (e ∷ es) name h = by (bytes_eq name e.0.items) refl (named-lookup es name h.1)
     where
       by : (c : Bool) → bytes_eq name e.0.items ≡ c
-          → option_map (λ (row : ℕ × R). row.0) (lookup (λ k. bytes_eq name k.items) es) ≡ number_named name_of (rows_of es) name
+          → option_map (λ (row : ℕ × R). row.0) (lookup (λ k. bytes_eq name k.items) es) ≡ number_named name_of (numbered_records es) name
           → option_map (λ (row : ℕ × R). row.0) (cond c (Some e.1) (lookup (λ k. bytes_eq name k.items) es))
-          ≡ cond (bytes_eq (name_of e.1.1) name) (Some e.1.0) (number_named name_of (rows_of es) name)
-      by true s k = sym (ap (λ c. cond c (Some e.1.0) (number_named name_of (rows_of es) name)) (ap (λ n. bytes_eq n name) (sym h.0) ∙ bytes_eq-flip e.0.items name ∙ s))
-      by false s k = k ∙ sym (ap (λ c. cond c (Some e.1.0) (number_named name_of (rows_of es) name)) (ap (λ n. bytes_eq n name) (sym h.0) ∙ bytes_eq-flip e.0.items name ∙ s))
+          ≡ cond (bytes_eq (name_of e.1.1) name) (Some e.1.0) (number_named name_of (numbered_records es) name)
+      by true s k = sym (ap (λ c. cond c (Some e.1.0) (number_named name_of (numbered_records es) name)) (ap (λ n. bytes_eq n name) (sym h.0) ∙ bytes_eq-flip e.0.items name ∙ s))
+      by false s k = k ∙ sym (ap (λ c. cond c (Some e.1.0) (number_named name_of (numbered_records es) name)) (ap (λ n. bytes_eq n name) (sym h.0) ∙ bytes_eq-flip e.0.items name ∙ s))
 
   -- an entry at a name that none has goes last
-  pub inserted : (es : List (Entry R)) (key : Vec ℕ) (row : ℕ × R) → AreNamed name_of es → number_named name_of (rows_of es) key.items ≡ None
+  pub inserted : (es : List (Entry R)) (key : Vec ℕ) (row : ℕ × R) → AreNamed name_of es → number_named name_of (numbered_records es) key.items ≡ None
       → insert_entry (λ a b. bytes_eq a.items b.items) es key row ≡ es ++ (key, row) ∷ []
   inserted [] key row h free = refl
   inserted (e ∷ es) key row h free =
       by (bytes_eq key.items e.0.items) (bytes_eq (name_of e.1.1) key.items) (bytes_eq-flip key.items e.0.items ∙ ap (λ n. bytes_eq n key.items) h.0) free (inserted es key row h.1)
     where
-      by : (c d : Bool) → c ≡ d → cond d (Some e.1.0) (number_named name_of (rows_of es) key.items) ≡ None
-          → (number_named name_of (rows_of es) key.items ≡ None → insert_entry (λ a b. bytes_eq a.items b.items) es key row ≡ es ++ (key, row) ∷ [])
+      by : (c d : Bool) → c ≡ d → cond d (Some e.1.0) (number_named name_of (numbered_records es) key.items) ≡ None
+          → (number_named name_of (numbered_records es) key.items ≡ None → insert_entry (λ a b. bytes_eq a.items b.items) es key row ≡ es ++ (key, row) ∷ [])
           → cond c ((e.0, row) ∷ es) (e ∷ insert_entry (λ a b. bytes_eq a.items b.items) es key row) ≡ e ∷ (es ++ (key, row) ∷ [])
       by c true s f k = absurd (none-some e.1.0 (sym f))
       by true false s f k = absurd (false≢true (sym s))
       by false false s f k = ap (λ ys. e ∷ ys) (k f)
 
-pub rows_of-append : {R : Type 0} (es : List (Entry R)) (e : Entry R) → rows_of (es ++ e ∷ []) ≡ rows_of es ++ e.1 ∷ []
+pub rows_of-append : {R : Type 0} (es : List (Entry R)) (e : Entry R) → numbered_records (es ++ e ∷ []) ≡ numbered_records es ++ e.1 ∷ []
 rows_of-append es e = map-append (λ e. e.1) es (e ∷ [])
 
 -- ---- the numbers of a table are in order
 
-pub in_order : {R : Type 0} (es : List (Entry R)) (next : ℕ) → next ≤ 4294967295 → Between 1 next (rows_of es) → AreOrdered es
-in_order es next l b = Between-more next (rows_of es) 1 1 4294967295 (omega arith) l b
+pub in_order : {R : Type 0} (es : List (Entry R)) (next : ℕ) → next ≤ 4294967295 → Between 1 next (numbered_records es) → AreOrdered es
+in_order es next l b = Between-more next (numbered_records es) 1 1 4294967295 (omega arith) l b
 
 -- the value of an entry at a place
 pub value_at : {R : Type 0} (es : List (Entry R)) (i : ℕ) (e : Entry R) → slice_get es i ≡ Some e → slice_get (values_of es) i ≡ Some e.1
@@ -84,7 +84,7 @@ module _ {R : Type 0} (C : R → R → Type 0) (same : IsCopied C) where
   abbrev pub AreClones : List (Entry R) → List (Entry R) → Type 0
   AreClones es ms = AllZip (λ p q. (AllZip (λ x y. y ≡ x) p.0.items q.0.items × (vec_len q.0 ≡ vec_len p.0)) × ((q.1.0 ≡ p.1.0) × C p.1.1 q.1.1)) es ms
 
-  pub copied-rows : (es ms : List (Entry R)) → AreClones es ms → rows_of ms ≡ rows_of es
+  pub copied-rows : (es ms : List (Entry R)) → AreClones es ms → numbered_records ms ≡ numbered_records es
   copied-rows [] [] h = refl
   copied-rows [] (m ∷ ms) h = absurd h
   copied-rows (e ∷ es) [] h = absurd h

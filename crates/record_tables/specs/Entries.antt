@@ -12,8 +12,8 @@ abbrev pub Entry : Type 0 → Type 0
 Entry R = Vec ℕ × (ℕ × R)
 
 -- The records of some entries under their numbers.
-abbrev pub rows_of : {R : Type 0} → List (Entry R) → List (ℕ × R)
-rows_of es = map (λ e. e.1) es
+abbrev pub numbered_records : {R : Type 0} → List (Entry R) → List (ℕ × R)
+numbered_records es = map (λ e. e.1) es
 
 -- The number of the record that has a name, if one has it.
 abbrev pub number_named : {R : Type 0} → (R → List ℕ) → List (ℕ × R) → List ℕ → Option ℕ
@@ -38,17 +38,17 @@ abbrev pub listed : {R : Type 0} → List (ℕ × R) → ℕ → Table R
 listed rows next = record { rows = rows; next = next }
 
 -- The table of some entries and a next number.
-abbrev pub table_of : {R : Type 0} → List (Entry R) → ℕ → Table R
-table_of es next = listed (rows_of es) next
+abbrev pub table_of_entries : {R : Type 0} → List (Entry R) → ℕ → Table R
+table_of_entries es next = listed (numbered_records es) next
 
 -- Entries as a table keeps them: their numbers ascend below the next one, and each stands at its own name.
 pub record AreKept {R : Type 0} (name_of : R → List ℕ) (es : List (Entry R)) (next : ℕ) : Type 0 where
-  pub order : KeepsOrder (table_of es next)
+  pub order : KeepsOrder (table_of_entries es next)
   pub named : AreNamed name_of es
 
 -- The numbers of some entries ascend.
 abbrev pub AreOrdered : {R : Type 0} → List (Entry R) → Type 0
-AreOrdered es = Between 1 last_next (rows_of es)
+AreOrdered es = Between 1 last_next (numbered_records es)
 
 -- The entry of a number stands at a place.
 abbrev pub IsPlace : {R : Type 0} → ℕ → List (Entry R) → ℕ → Type 0

@@ -4,7 +4,7 @@ ghost use Rattle.std.specs.Option.{option_map};
 ghost use Rattle.ctrl_model.specs.Numbered.{at, is_present, with_last, without, map_each, numbers, Between};
 ghost use Rattle.indexmap.specs.IndexMap.{set_value_at};
 ghost use Rattle.record_tables.specs.Changes.{ChangesAt, Does, KeepsPart, IsCopied, one_call};
-ghost use Rattle.record_tables.specs.Entries.{Entry, rows_of, number_named, AreNamed, AreOrdered, IsPlace};
+ghost use Rattle.record_tables.specs.Entries.{Entry, numbered_records, number_named, AreNamed, AreOrdered, IsPlace};
 
 use ctrl_model::Numbers;
 use indexmap::IndexMap;
@@ -25,7 +25,7 @@ pub type Entries<R> = IndexMap<Vec<u8>, (u32, R)>;
 /// The number of the record that has the name.
 pub fn number_in<R: Named>(entries: &Entries<R>, name: &[u8]) -> Option<u32>
     requires { AreNamed R.name_of entries.now.entries }
-    ensures { result ≡ number_named R.name_of (rows_of entries.now.entries) name.now }
+    ensures { result ≡ number_named R.name_of (numbered_records entries.now.entries) name.now }
 {
     let (number, _) = entries.get(name)?;
     Some(*number)
@@ -34,8 +34,8 @@ pub fn number_in<R: Named>(entries: &Entries<R>, name: &[u8]) -> Option<u32>
 /// Adds a record behind the others, for a name that none has.
 pub fn insert_row<R: Named>(entries: &mut Entries<R>, number: u32, row: R) -> Result<(), AllocError>
     requires named { AreNamed R.name_of entries.old.entries }
-    requires free { number_named R.name_of (rows_of entries.old.entries) (R.name_of row) ≡ None }
-    ensures ok { OnOk result (rows_of entries.new.entries ≡ with_last (rows_of entries.old.entries) number row) }
+    requires free { number_named R.name_of (numbered_records entries.old.entries) (R.name_of row) ≡ None }
+    ensures ok { OnOk result (numbered_records entries.new.entries ≡ with_last (numbered_records entries.old.entries) number row) }
     ensures named { AreNamed R.name_of entries.new.entries }
     ensures err { OnErr result (entries.new.entries ≡ entries.old.entries) }
 {
@@ -48,7 +48,7 @@ pub fn insert_row<R: Named>(entries: &mut Entries<R>, number: u32, row: R) -> Re
 fn place_of<R>(entries: &Entries<R>, number: u32) -> Option<usize>
     requires { AreOrdered entries.now.entries }
     ensures found { IfSome result (λ i. IsPlace number entries.now.entries i) }
-    ensures absent { IfNone result (at (rows_of entries.now.entries) number ≡ None) }
+    ensures absent { IfNone result (at (numbered_records entries.now.entries) number ≡ None) }
 {
     entries.binary_search_by_key(&number, |_, row| row.0).ok()
 }
@@ -56,16 +56,16 @@ fn place_of<R>(entries: &Entries<R>, number: u32) -> Option<usize>
 // The place of a present record.
 fn present_place<R>(entries: &Entries<R>, number: u32) -> usize
     requires ordered { AreOrdered entries.now.entries }
-    requires there { is_present (rows_of entries.now.entries) number ≡ true }
+    requires there { is_present (numbered_records entries.now.entries) number ≡ true }
     ensures { IsPlace number entries.now.entries result }
 {
     place_of(entries, number).unwrap()
 }
 
 /// The record that has the number.
-pub fn row_at<R>(entries: &Entries<R>, number: u32) -> Option<&R>
+pub fn record_at<R>(entries: &Entries<R>, number: u32) -> Option<&R>
     requires { AreOrdered entries.now.entries }
-    ensures { option_map (λ r. r.now) result ≡ at (rows_of entries.now.entries) number }
+    ensures { option_map (λ r. r.now) result ≡ at (numbered_records entries.now.entries) number }
 {
     let place = place_of(entries, number)?;
     let (_, row) = entries.get_index(place)?;
@@ -86,10 +86,10 @@ fn change_at<R, F: FnOnce(&mut R)>(entries: &mut Entries<R>, place: usize, chang
 pub fn change_row<R: Named, F: FnOnce(&mut R)>(entries: &mut Entries<R>, number: u32, change: F)
     requires ordered { AreOrdered entries.old.entries }
     requires named { AreNamed R.name_of entries.old.entries }
-    requires there { is_present (rows_of entries.old.entries) number ≡ true }
+    requires there { is_present (numbered_records entries.old.entries) number ≡ true }
     requires callable { F.IsAlwaysCallable change }
     requires keeps { KeepsPart F.FnOnce change R.name_of }
-    ensures rows { ChangesAt F.FnOnce change number (rows_of entries.old.entries) (rows_of entries.new.entries) }
+    ensures rows { ChangesAt F.FnOnce change number (numbered_records entries.old.entries) (numbered_records entries.new.entries) }
     ensures named { AreNamed R.name_of entries.new.entries }
 {
     let place = present_place(entries, number);
@@ -100,8 +100,8 @@ pub fn change_row<R: Named, F: FnOnce(&mut R)>(entries: &mut Entries<R>, number:
 pub fn remove_row<R: Named>(entries: &mut Entries<R>, number: u32)
     requires ordered { AreOrdered entries.old.entries }
     requires named { AreNamed R.name_of entries.old.entries }
-    requires there { is_present (rows_of entries.old.entries) number ≡ true }
-    ensures rows { rows_of entries.new.entries ≡ without (rows_of entries.old.entries) number }
+    requires there { is_present (numbered_records entries.old.entries) number ≡ true }
+    ensures rows { numbered_records entries.new.entries ≡ without (numbered_records entries.old.entries) number }
     ensures named { AreNamed R.name_of entries.new.entries }
 {
     let place = present_place(entries, number);
@@ -123,9 +123,9 @@ pub fn change_each<R: Named, F: Fn(&mut R)>(entries: &mut Entries<R>, change: &F
     requires named { AreNamed R.name_of entries.old.entries }
     requires callable { F.IsAlwaysCallable change.now }
     requires keeps { KeepsPart (one_call F.Fn) change.now R.name_of }
-    ensures rows { (f : R → R) → Does (one_call F.Fn) change.now f → rows_of entries.new.entries ≡ map_each f (rows_of entries.old.entries) }
-    ensures order { (next : ℕ) → Between 1 next (rows_of entries.old.entries) → Between 1 next (rows_of entries.new.entries) }
-    ensures numbers { numbers (rows_of entries.new.entries) ≡ numbers (rows_of entries.old.entries) }
+    ensures rows { (f : R → R) → Does (one_call F.Fn) change.now f → numbered_records entries.new.entries ≡ map_each f (numbered_records entries.old.entries) }
+    ensures order { (next : ℕ) → Between 1 next (numbered_records entries.old.entries) → Between 1 next (numbered_records entries.new.entries) }
+    ensures numbers { numbers (numbered_records entries.new.entries) ≡ numbers (numbered_records entries.old.entries) }
     ensures named { AreNamed R.name_of entries.new.entries }
 {
     let count = entries.len();
@@ -136,7 +136,7 @@ pub fn change_each<R: Named, F: Fn(&mut R)>(entries: &mut Entries<R>, change: &F
 
 /// The numbers of the records, ascending.
 pub fn numbers_in<R>(alloc: Global, entries: &Entries<R>) -> Result<Numbers, AllocError>
-    ensures { IfOk result (λ ns. ns ≡ numbers (rows_of entries.now.entries)) }
+    ensures { IfOk result (λ ns. ns ≡ numbers (numbered_records entries.now.entries)) }
 {
     let mut found = Vec::new(alloc);
     'rows: for (number, _) in entries.values() {
@@ -149,7 +149,7 @@ pub fn numbers_in<R>(alloc: Global, entries: &Entries<R>) -> Result<Numbers, All
 pub fn copy_of<R: Named + Clone>(entries: &Entries<R>) -> Result<Entries<R>, AllocError>
     requires equal { IsCopied R.is_clone }
     requires named { AreNamed R.name_of entries.now.entries }
-    ensures rows { IfOk result (λ m. rows_of m.entries ≡ rows_of entries.now.entries) }
+    ensures rows { IfOk result (λ m. numbered_records m.entries ≡ numbered_records entries.now.entries) }
     ensures named { IfOk result (λ m. AreNamed R.name_of m.entries) }
 {
     let copied = entries.clone()?;

@@ -4,11 +4,11 @@ ghost use Rattle.ctrl_model.specs.Numbered.{at, is_present, numbers, no_rows, wi
 ghost use Rattle.ctrl_model.specs.Tables.{has_room};
 ghost use Rattle.record_tables.specs.AfterChange.{without_numbers};
 ghost use Rattle.record_tables.specs.Changes.{ChangesAt, Does, KeepsPart, IsCopied, one_call};
-ghost use Rattle.record_tables.specs.Entries.{rows_of, table_of, number_named, KeepsOrder, AreKept};
+ghost use Rattle.record_tables.specs.Entries.{numbered_records, table_of_entries, number_named, KeepsOrder, AreKept};
 
 use crate::entries::{
     Entries, Named, change_each, change_row, copy_of, insert_row, number_in, numbers_in,
-    remove_row, row_at,
+    remove_row, record_at,
 };
 use crate::removing::{Losing, lose_all};
 use ctrl_model::Numbers;
@@ -27,13 +27,13 @@ pub struct NamedTable<R: Named> {
 impl<R: Named> Model for NamedTable<R> {
     ghost use Rattle.ctrl_model.specs.Numbered.{Table};
     ghost use Rattle.record_tables.specs.TableCodes.{table_code};
-    ghost use Rattle.record_tables.specs.Entries.{table_of, AreKept};
+    ghost use Rattle.record_tables.specs.Entries.{table_of_entries, AreKept};
 
     ghost Value = { Table R };
 
     ghost coded = { table_code R.code };
 
-    ghost view = { λ t. table_of t.entries.entries t.next };
+    ghost view = { λ t. table_of_entries t.entries.entries t.next };
 
     ghost invariant = { λ t. AreKept R.name_of t.entries.entries t.next };
 }
@@ -41,11 +41,11 @@ impl<R: Named> Model for NamedTable<R> {
 // Adds a record under the next number.
 fn add_row<R: Named>(entries: &mut Entries<R>, next: &mut u32, row: R) -> Result<u32, AllocError>
     requires kept { AreKept R.name_of entries.old.entries next.old }
-    requires free { number_named R.name_of (rows_of entries.old.entries) (R.name_of row) ≡ None }
+    requires free { number_named R.name_of (numbered_records entries.old.entries) (R.name_of row) ≡ None }
     requires room { next.old < 4294967295 }
     ensures number { IfOk result (λ n. n ≡ next.old) }
-    ensures ok { OnOk result (table_of entries.new.entries next.new ≡ with_new row (table_of entries.old.entries next.old)) }
-    ensures err { OnErr result (table_of entries.new.entries next.new ≡ table_of entries.old.entries next.old) }
+    ensures ok { OnOk result (table_of_entries entries.new.entries next.new ≡ with_new row (table_of_entries entries.old.entries next.old)) }
+    ensures err { OnErr result (table_of_entries entries.new.entries next.new ≡ table_of_entries entries.old.entries next.old) }
     ensures kept { AreKept R.name_of entries.new.entries next.new }
 {
     let number = *next;
@@ -100,7 +100,7 @@ impl<R: Named> NamedTable<R> {
     pub fn get(&self, number: u32) -> Option<&R>
         ensures { option_map (λ r. r.now) result ≡ at self.now.rows number }
     {
-        row_at(&self.entries, number)
+        record_at(&self.entries, number)
     }
 
     /// The record at a place in the order of the numbers, under its number.

@@ -6,6 +6,7 @@ ghost use Rattle.serde_json.specs.Written.{compact_text};
 ghost use Rattle.ctrl_model.specs.declared.replies.Reply.TheVariants as reply;
 ghost use Rattle.reply_codec.specs.ReplyBody.{is_showing, reply_object, reply_body};
 ghost use Rattle.reply_codec.specs.ReplyLimits.{is_short_claim, keeps_limits};
+ghost use Rattle.channel_frame.specs.FrameSpelling.{longest_body};
 
 use crate::lists::{
     name_value, names_value, number_value, numbers_value, reaches_value, tallies_value,
@@ -17,14 +18,14 @@ use std::alloc::{AllocError, Global};
 
 fn made_value(alloc: Global, number: u32) -> Result<Value, AllocError>
     ensures value { IfOk result (λ v. Some (view v) ≡ reply_object (reply.Made number)) }
-    ensures few { IfOk result (λ _. length (reply_body (reply.Made number)) ≤ 1_048_576) }
+    ensures few { IfOk result (λ _. length (reply_body (reply.Made number)) ≤ longest_body) }
 {
     json!(in alloc; {"no": number})
 }
 
 fn verified_value(alloc: Global, certified: bool) -> Result<Value, AllocError>
     ensures value { IfOk result (λ v. Some (view v) ≡ reply_object (reply.Verified certified)) }
-    ensures few { IfOk result (λ _. length (reply_body (reply.Verified certified)) ≤ 1_048_576) }
+    ensures few { IfOk result (λ _. length (reply_body (reply.Verified certified)) ≤ longest_body) }
 {
     json!(in alloc; {"certified": certified})
 }
@@ -39,7 +40,7 @@ fn circuit_value(
 ) -> Result<Value, AllocError>
     requires { length links.now ≤ 255 }
     ensures value { IfOk result (λ v. Some (view v) ≡ reply_object (reply.Circuit circuit ingress.now links.now terminator total)) }
-    ensures few { IfOk result (λ _. length (reply_body (reply.Circuit circuit ingress.now links.now terminator total)) ≤ 1_048_576) }
+    ensures few { IfOk result (λ _. length (reply_body (reply.Circuit circuit ingress.now links.now terminator total)) ≤ longest_body) }
 {
     let no = number_value(circuit.0);
     let name = name_value(alloc, ingress)?;
@@ -52,7 +53,7 @@ fn circuit_value(
 fn explained_value(alloc: Global, ingress: &Name, claim: &Explanation) -> Result<Value, AllocError>
     requires { is_short_claim claim.now ≡ true }
     ensures value { IfOk result (λ v. Some (view v) ≡ reply_object (reply.Explained ingress.now claim.now)) }
-    ensures few { IfOk result (λ _. length (reply_body (reply.Explained ingress.now claim.now)) ≤ 1_048_576) }
+    ensures few { IfOk result (λ _. length (reply_body (reply.Explained ingress.now claim.now)) ≤ longest_body) }
 {
     let name = name_value(alloc, ingress)?;
     let path = numbers_value(alloc, &claim.links)?;
@@ -66,7 +67,7 @@ fn explained_value(alloc: Global, ingress: &Name, claim: &Explanation) -> Result
 fn services_value(alloc: Global, names: &Names) -> Result<Value, AllocError>
     requires { length names.now ≤ 512 }
     ensures value { IfOk result (λ v. Some (view v) ≡ reply_object (reply.Services names.now)) }
-    ensures few { IfOk result (λ _. length (reply_body (reply.Services names.now)) ≤ 1_048_576) }
+    ensures few { IfOk result (λ _. length (reply_body (reply.Services names.now)) ≤ longest_body) }
 {
     let services = names_value(alloc, names)?;
     json!(in alloc; {"services": services})
@@ -82,7 +83,7 @@ fn grants_value(
     requires dial { length dial.now ≤ 512 }
     requires routers { length routers.now ≤ 256 }
     ensures value { IfOk result (λ v. Some (view v) ≡ reply_object (reply.Grants bind.now dial.now routers.now)) }
-    ensures few { IfOk result (λ _. length (reply_body (reply.Grants bind.now dial.now routers.now)) ≤ 1_048_576) }
+    ensures few { IfOk result (λ _. length (reply_body (reply.Grants bind.now dial.now routers.now)) ≤ longest_body) }
 {
     let bound = tallies_value(alloc, bind)?;
     let dialed = tallies_value(alloc, dial)?;
@@ -100,7 +101,7 @@ fn shown_value(
 ) -> Result<Value, AllocError>
     requires { length links.now ≤ 255 }
     ensures value { IfOk result (λ v. Some (view v) ≡ reply_object (reply.Shown identity.now ingress.now links.now service.now terminator)) }
-    ensures few { IfOk result (λ _. length (reply_body (reply.Shown identity.now ingress.now links.now service.now terminator)) ≤ 1_048_576) }
+    ensures few { IfOk result (λ _. length (reply_body (reply.Shown identity.now ingress.now links.now service.now terminator)) ≤ longest_body) }
 {
     let who = name_value(alloc, identity)?;
     let entry = name_value(alloc, ingress)?;
@@ -122,7 +123,7 @@ fn counts_value(
     terminators: u32,
 ) -> Result<Value, AllocError>
     ensures value { IfOk result (λ v. Some (view v) ≡ reply_object (reply.Counts circuits grants identities links policies routers services terminators)) }
-    ensures few { IfOk result (λ _. length (reply_body (reply.Counts circuits grants identities links policies routers services terminators)) ≤ 1_048_576) }
+    ensures few { IfOk result (λ _. length (reply_body (reply.Counts circuits grants identities links policies routers services terminators)) ≤ longest_body) }
 {
     json!(in alloc; {
         "circuits": circuits,
@@ -140,7 +141,7 @@ fn counts_value(
 fn showing_value(alloc: Global, reply: &Reply) -> Result<Option<Value>, AllocError>
     requires { keeps_limits reply.now ≡ true }
     ensures value { IfOk result (λ o. option_map view o ≡ (if is_showing reply.now then reply_object reply.now else None)) }
-    ensures few { is_showing reply.now ≡ true → IfOk result (λ _. length (reply_body reply.now) ≤ 1_048_576) }
+    ensures few { is_showing reply.now ≡ true → IfOk result (λ _. length (reply_body reply.now) ≤ longest_body) }
 {
     let value = match reply {
         Reply::Services { names } => services_value(alloc, names)?,
@@ -187,7 +188,7 @@ fn showing_value(alloc: Global, reply: &Reply) -> Result<Option<Value>, AllocErr
 pub(crate) fn reply_value(alloc: Global, reply: &Reply) -> Result<Option<Value>, AllocError>
     requires { keeps_limits reply.now ≡ true }
     ensures value { IfOk result (λ o. option_map view o ≡ reply_object reply.now) }
-    ensures few { IfOk result (λ _. length (reply_body reply.now) ≤ 1_048_576) }
+    ensures few { IfOk result (λ _. length (reply_body reply.now) ≤ longest_body) }
 {
     let value = match reply {
         Reply::Done => json!(in alloc; {})?,

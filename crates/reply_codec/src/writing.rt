@@ -1,5 +1,5 @@
 ghost use Rattle.std.specs.Prelude.{◌≡◌, ◌∷◌, [], ◌++◌, ◌≤◌, if◌then◌else◌, IfOk, OnOk, OnErr, true, length};
-ghost use Rattle.channel_frame.specs.FrameSpelling.{number, spelling, KeepsLimits};
+ghost use Rattle.channel_frame.specs.FrameSpelling.{number, spelling, KeepsLimits, longest_body};
 ghost use Rattle.reply_codec.specs.ReplyBody.{reply_body};
 ghost use Rattle.reply_codec.specs.ReplyFrame.{is_success, reply_frame};
 ghost use Rattle.reply_codec.specs.ReplyLimits.{keeps_limits};
@@ -21,7 +21,7 @@ const SUCCESS: u32 = 2;
 fn body_bytes(alloc: Global, reply: &Reply) -> Result<Bytes, AllocError>
     requires { keeps_limits reply.now ≡ true }
     ensures value { IfOk result (λ b. b ≡ reply_body reply.now) }
-    ensures few { IfOk result (λ b. length b ≤ 1_048_576) }
+    ensures few { IfOk result (λ b. length b ≤ longest_body) }
 {
     match reply_value(alloc, reply)? {
         None => Ok(Bytes::of(Vec::new(alloc))),

@@ -2,7 +2,7 @@
 use Rattle.std.proofs.Common.{◌≡◌, ℕ, ◌*◌, ◌<◌, get_or, ◌↔◌, Bool, true, false, cond, List, [], length, Option, Some, None, IsSome, is_some, refl, sym, ◌∙◌, ap, subst, arith, bytes_eq, IsTrue}
 use Rattle.std.proofs.lemmas.Bool.{false≢true}
 use Rattle.std.specs.List.{list_any, list_all}
-use Rattle.bit_lanes.specs.Lanes.{bit_of, row_at, AllIn, AnyIn}
+use Rattle.bit_lanes.specs.Lanes.{bit_of, bit_row, AllIn, AnyIn}
 use Rattle.ctrl_model.specs.Matches.{has_name}
 use Rattle.ctrl_model.specs.Membership.{Among}
 use Rattle.ctrl_model.proofs.DistinctLaws.{same_name, same_bytes}
@@ -92,14 +92,14 @@ module _ (slots : List Slot) (lists : List (List (List ℕ))) (words : List ℕ)
   within = let whole = rows.long in omega (arith, whole, long, inside)
 
   module _ (want : List ℕ) (want_is : (n : ℕ) → bit_of want n ≡ row_bit slots wanted n) (mark : Bool) where
-    pub any_marked : IsTrue mark ↔ AnyIn (row_at words row_words place) want → mark ≡ list_any (has_name had_at) wanted
+    pub any_marked : IsTrue mark ↔ AnyIn (bit_row words row_words place) want → mark ≡ list_any (has_name had_at) wanted
     any_marked told =
-        let rule = any_told slots had_at wanted (rows.held place within) (row_at words row_words place) want (rows.bits place within) want_is in
+        let rule = any_told slots had_at wanted (rows.held place within) (bit_row words row_words place) want (rows.bits place within) want_is in
         same_test mark (list_any (has_name had_at) wanted) (λ e. rule.0 (told.0 e)) (λ e. told.1 (rule.1 e))
 
-    pub every_marked : list_all (λ name. is_some (slot_of name slots)) wanted ≡ true → IsTrue mark ↔ AllIn (row_at words row_words place) want → mark ≡ list_all (has_name had_at) wanted
+    pub every_marked : list_all (λ name. is_some (slot_of name slots)) wanted ≡ true → IsTrue mark ↔ AllIn (bit_row words row_words place) want → mark ≡ list_all (has_name had_at) wanted
     every_marked held told =
-        let rule = all_told slots had_at wanted (rows.held place within) (row_at words row_words place) want (rows.bits place within) want_is (λ b among. list_all-among (λ name. is_some (slot_of name slots)) wanted b held among) in
+        let rule = all_told slots had_at wanted (rows.held place within) (bit_row words row_words place) want (rows.bits place within) want_is (λ b among. list_all-among (λ name. is_some (slot_of name slots)) wanted b held among) in
         same_test mark (list_all (has_name had_at) wanted) (λ e. rule.0 (told.0 e)) (λ e. told.1 (rule.1 e))
 
   -- where the pool lacks one, not all are had

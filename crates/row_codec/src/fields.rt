@@ -2,7 +2,7 @@ ghost use Rattle.std.specs.Prelude.{◌≡◌};
 ghost use Rattle.std.specs.Option.{option_map};
 ghost use Rattle.row_codec.specs.FieldReading.{front_byte, front_part, front_long, front_short, front_number, front_text, front_name, front_instance};
 
-use crate::name_forms::{has_instance_form, has_name_form};
+use ctrl_model::{Instance, Name};
 
 /// The first byte, and what follows it.
 pub fn split_byte(bytes: &[u8]) -> Option<(u8, &[u8])>
@@ -73,7 +73,7 @@ pub fn split_name(bytes: &[u8]) -> Option<(&[u8], &[u8])>
     ensures { option_map (λ p. (p.0.now, p.1.now)) result ≡ front_name bytes.now }
 {
     let (name, rest) = split_text(bytes)?;
-    if !has_name_form(name) {
+    if !Name::is(name) {
         return None;
     }
     Some((name, rest))
@@ -84,7 +84,7 @@ pub fn split_instance(bytes: &[u8]) -> Option<(&[u8], &[u8])>
     ensures { option_map (λ p. (p.0.now, p.1.now)) result ≡ front_instance bytes.now }
 {
     let (instance, rest) = split_text(bytes)?;
-    if !has_instance_form(instance) {
+    if !Instance::is(instance) {
         return None;
     }
     Some((instance, rest))

@@ -7,7 +7,6 @@ mod faults;
 mod fields;
 mod keys;
 mod lists;
-mod name_forms;
 mod rows;
 mod worked;
 mod writing;

@@ -18,7 +18,7 @@ use Rattle.row_codec.specs.RowForm.{is_row, key_of, value_of, SpellsRow, is_posi
 use Rattle.row_codec.specs.RowKeys.{RowTable, is_long, key_bytes, table_number, tables}
 use Rattle.row_codec.specs.RowKeys.RowTable.{Next, Setting, Records, Counts}
 use Rattle.row_codec.specs.FieldReading.{Front, front_number, alone}
-use Rattle.row_reading.specs.RowReading.{row_read, count_read, record_read, table_read, table_of, row_of, Fails, Gives}
+use Rattle.row_reading.specs.RowReading.{row_read, count_read, record_read, table_read, row_table_of, row_of, Fails, Gives}
 use Rattle.row_codec.proofs.FieldLaws.{AreBytes, some_is, bind_some, map_some, and_left, and_right}
 use Rattle.row_reading.proofs.FormLaws.{IsForm, and_both, and_regrouped, alone_again, alone_takes}
 use Rattle.row_reading.proofs.ValueLaws.{number_form, entity_form, router_form, link_form, service_policy_form, router_policy_form, terminator_form, circuit_form, count_form, next_form, setting_form, kind_form, nothing_form, pair_form}
@@ -99,7 +99,7 @@ table_takes (Counts c) rest value r fk fv e = count_takes c rest value r fk fv e
 pub row_takes : (key value : List ℕ) (r : Row) → AreBytes key → AreBytes value → row_of key value ≡ Some r → SpellsRow key value r
 row_takes [] value r fk fv e = absurd cc
 row_takes (number ∷ rest) value r fk fv e =
-    let t = bind_some (table_of number) (λ t. table_read t rest value) r e in
+    let t = bind_some (row_table_of number) (λ t. table_read t rest value) r e in
     let is : table_number t.0 ≡ number = eqb-true (table_number t.0) number (find_passes (λ t. table_number t == number) tables t.0 t.1) in
     subst (λ (n : ℕ). SpellsRow (n ∷ rest) value r) is (table_takes t.0 rest value r (λ i. fk (suc i)) fv t.2)
 

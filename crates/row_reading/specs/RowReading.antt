@@ -145,8 +145,8 @@ table_read (Records k) rest value = record_read k rest value
 table_read (Counts r) rest value = count_read r rest value
 
 -- The table of a number.
-abbrev pub table_of : ℕ → Option RowTable
-table_of number = find (λ t. table_number t == number) tables
+abbrev pub row_table_of : ℕ → Option RowTable
+row_table_of number = find (λ t. table_number t == number) tables
 
 -- A table as the code sees it.
 abbrev pub table_seen : Table → RowTable
@@ -157,7 +157,7 @@ table_seen (table.Counts r) = Counts r
 
 -- The row that a key and a value are read as.
 abbrev pub row_of : List ℕ → List ℕ → Option Row
-row_of key value = option_and_then (λ t. option_and_then (λ found. table_read found t.1 value) (table_of t.0)) (front_byte key)
+row_of key value = option_and_then (λ t. option_and_then (λ found. table_read found t.1 value) (row_table_of t.0)) (front_byte key)
 
 -- A fault says that nothing is read; where memory was wanting, something is.
 abbrev pub Fails : {Y : Type 0} → RowFault → Option Y → Type 0

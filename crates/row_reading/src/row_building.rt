@@ -7,7 +7,7 @@ ghost use Rattle.row_reading.specs.RowReading.{Gives, front_entity, front_router
 use crate::lists::{links_of, names_of, side_of};
 use crate::lone_fields::{lone_count, lone_kind, lone_next, lone_number, lone_pair, lone_setting};
 use crate::naming::{instance_named, named};
-use crate::tables::{Table, table_of};
+use crate::tables::{Table, row_table_of};
 use crate::values::{
     circuit_at, entity_at, link_at, router_at, router_policy_at, service_policy_at, terminator_at,
 };
@@ -286,7 +286,7 @@ pub(crate) fn build_row(alloc: Global, key: &[u8], value: &[u8]) -> Result<Row, 
     let Some((number, rest)) = split_byte(key) else {
         return Err(RowFault::BadRow);
     };
-    match table_of(number) {
+    match row_table_of(number) {
         None => Err(RowFault::BadRow),
         Some(table) => row_in(alloc, table, rest, value),
     }

@@ -1,6 +1,6 @@
 ghost use Rattle.std.specs.Prelude.{◌≡◌};
 ghost use Rattle.std.specs.Option.{option_map};
-ghost use Rattle.row_reading.specs.RowReading.{table_seen, table_of};
+ghost use Rattle.row_reading.specs.RowReading.{table_seen, row_table_of};
 
 use ctrl_model::{Kind, Relation};
 
@@ -18,8 +18,8 @@ pub(crate) enum Table {
 }
 
 /// The table of a number.
-pub(crate) fn table_of(number: u8) -> Option<Table>
-    ensures { option_map (λ t. table_seen t) result ≡ table_of number }
+pub(crate) fn row_table_of(number: u8) -> Option<Table>
+    ensures { option_map (λ t. table_seen t) result ≡ row_table_of number }
 {
     match number {
         1 => Some(Table::Next),

@@ -1,7 +1,7 @@
 ghost use Rattle.std.specs.Prelude.{◌≡◌, ◌<◌, length, slice_index};
-ghost use Rattle.std.specs.List.{list_all};
-ghost use Rattle.ctrl_model.specs.NameForm.{is_name as has_name_form, is_name_byte as has_name_byte};
 ghost use Rattle.session_mux.specs.RecordSteps.{IsLook, says_role};
+
+use ctrl_model::Name;
 
 /// What stands at the front of a trace, before it is known which sessions are open.
 #[derive(Clone, Copy, Debug, PartialEq, Eq)]
@@ -18,31 +18,13 @@ pub enum Look {
     Closes { session: u8 },
 }
 
-fn is_name_byte(byte: u8) -> bool
-    ensures { result ≡ has_name_byte byte }
-{
-    byte.is_ascii_alphanumeric() || byte == b'.' || byte == b'_' || byte == b'-'
-}
-
-fn all_of_names(bytes: &[u8]) -> bool
-    ensures { result ≡ list_all has_name_byte bytes.now }
-{
-    bytes.iter().all(|byte| is_name_byte(*byte))
-}
-
-fn is_name(bytes: &[u8]) -> bool
-    ensures { result ≡ has_name_form bytes.now }
-{
-    !bytes.is_empty() && bytes.len() <= 64 && all_of_names(bytes)
-}
-
 fn is_role(role: u8, name: &[u8]) -> bool
     ensures { result ≡ says_role role name.now }
 {
     match role {
         0 => name.is_empty(),
-        1 => is_name(name),
-        2 => is_name(name),
+        1 => Name::is(name),
+        2 => Name::is(name),
         _ => false,
     }
 }

@@ -11,11 +11,12 @@ use Rattle.trace_lines.specs.declared.seats.Seat.{Seat}
 use Rattle.trace_lines.specs.SessionActs.{Act, turned, acts_from, fault_from}
 use Rattle.trace_lines.specs.ActRecords.{act_bytes}
 use Rattle.trace_lines.specs.TaggedReplies.{reply_line}
+use Rattle.channel_frame.specs.FrameSpelling.{longest_body}
 
 -- A frame's body is within its limit.
 abbrev pub HasShortBody : Said → Type 0
 HasShortBody (Opens who) = ⊤
-HasShortBody (Sends line) = length line.body ≤ 1048576
+HasShortBody (Sends line) = length line.body ≤ longest_body
 HasShortBody Closes = ⊤
 
 -- What is said of a session was put down, and leaves it there; or it is at fault, and nothing was.

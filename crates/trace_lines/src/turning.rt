@@ -1,5 +1,5 @@
 ghost use Rattle.std.specs.Prelude.{◌≡◌, ◌++◌, ◌≤◌, OnOk, IfOk, length};
-ghost use Rattle.channel_frame.specs.FrameSpelling.{spelling};
+ghost use Rattle.channel_frame.specs.FrameSpelling.{spelling, longest_body};
 ghost use Rattle.trace_lines.specs.declared.said.Said.TheVariants.{Opens, Sends, Closes};
 ghost use Rattle.trace_lines.specs.TraceTurns.{HasShortBody, TakesSaid, TakesLine};
 
@@ -38,7 +38,7 @@ fn take_frame(
     line: Line,
     seat: Seat,
 ) -> Result<Result<Seat, TraceCause>, AllocError>
-    requires { length line.body ≤ 1048576 }
+    requires { length line.body ≤ longest_body }
     ensures { IfOk result (λ turn. TakesSaid session (Sends line) seat out.old.items out.new.items turn) }
 {
     match seat {

@@ -1,6 +1,6 @@
 use Rattle.std.proofs.Common.{◌+◌, arith}
 use Rattle.ctrl_model.proofs.NumberedLaws.{Between-with_last}
-use Rattle.record_tables.specs.Entries.{rows_of}
+use Rattle.record_tables.specs.Entries.{numbered_records}
 use Rattle.record_tables.proofs.named_tables.add_row.Goals as goal
 
 pub returns-clause-ok : goal.returns-clause-ok
@@ -15,7 +15,7 @@ returns-clause-kept g c =
       order = record {
         first = omega arith;
         last = omega arith;
-        ordered = rw c.in_ok-insert_row.ensures.ok (Between-with_last c.args.next.now (rows_of c.args.entries.now.entries) 1 c.args.row first order.ordered);
+        ordered = rw c.in_ok-insert_row.ensures.ok (Between-with_last c.args.next.now (numbered_records c.args.entries.now.entries) 1 c.args.row first order.ordered);
       };
       named = c.insert_row.ensures.named;
     }

@@ -1,5 +1,5 @@
 use Rattle.std.proofs.Common.{◌∙◌}
-use Rattle.record_tables.specs.Entries.{rows_of}
+use Rattle.record_tables.specs.Entries.{numbered_records}
 use Rattle.ctrl_model.proofs.NumberedLaws.{Between-edit_at}
 use Rattle.record_tables.proofs.EntryLaws.{in_order, edit_at-value}
 use Rattle.record_tables.proofs.named_tables.NamedTable.edit.Goals as goal
@@ -15,7 +15,7 @@ invariant_of-self g c =
       order = record {
         first = order.first;
         last = order.last;
-        ordered = rw made.rows (Between-edit_at c.self.inside.next (rows_of c.self.inside.entries.entries) 1 c.args.number (λ _. made.after) order.ordered);
+        ordered = rw made.rows (Between-edit_at c.self.inside.next (numbered_records c.self.inside.entries.entries) 1 c.args.number (λ _. made.after) order.ordered);
       };
       named = c.change_row.ensures.named;
     }
@@ -26,7 +26,7 @@ returns-clause-changed g c = rw (← c.self.view_is) c.change_row.ensures.rows
 pub returns-clause-by : goal.returns-clause-by
 returns-clause-by g c = λ f does.
     let made = c.change_row.ensures.rows in
-    let rows = rows_of c.self.inside.entries.entries in
+    let rows = numbered_records c.self.inside.entries.entries in
     let value = does made.before made.after made.changed in
     rw (← c.self.view_is)
     (λ j. record {

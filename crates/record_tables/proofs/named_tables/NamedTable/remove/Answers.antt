@@ -1,5 +1,5 @@
 use Rattle.ctrl_model.proofs.NumberedLaws.{Between-without}
-use Rattle.record_tables.specs.Entries.{rows_of}
+use Rattle.record_tables.specs.Entries.{numbered_records}
 use Rattle.record_tables.proofs.EntryLaws.{in_order}
 use Rattle.record_tables.proofs.named_tables.NamedTable.remove.Goals as goal
 
@@ -13,7 +13,7 @@ invariant_of-self g c =
       order = record {
         first = order.first;
         last = order.last;
-        ordered = rw c.remove_row.ensures.rows (Between-without c.self.inside.next (rows_of c.self.inside.entries.entries) 1 c.args.number order.ordered);
+        ordered = rw c.remove_row.ensures.rows (Between-without c.self.inside.next (numbered_records c.self.inside.entries.entries) 1 c.args.number order.ordered);
       };
       named = c.remove_row.ensures.named;
     }

@@ -2,7 +2,7 @@ use Rattle.std.proofs.Common.{sym, ◌∙◌, ap}
 use Rattle.std.specs.Option.{option_map}
 use Rattle.record_tables.specs.Entries.{Entry}
 use Rattle.record_tables.proofs.PlaceLaws.{at-place}
-use Rattle.record_tables.proofs.entries.row_at.Goals as goal
+use Rattle.record_tables.proofs.entries.record_at.Goals as goal
 
 pub returns : goal.returns
 returns g c =
