@@ -5,6 +5,7 @@
 mod bounds;
 mod command_line;
 mod controller;
+mod ending;
 mod folder;
 mod laws;
 mod loads;
@@ -15,6 +16,7 @@ mod worked;
 
 pub use bounds::Bounds;
 pub use command_line::Form;
+pub use ending::ends;
 pub use laws::{
     a_decided_input_decides_its_events, a_run_goes_on_from_a_stop, cut_plain_runs_note_one_line,
     cut_runs_say_fronts, done_says_all, done_says_the_line, nearness_hangs_on_what_was_said,

@@ -20,7 +20,8 @@ ghost use Rattle.zitiline.specs.Statuses.{number_of};
 
 use crate::running::run;
 use crate::status::Status;
-use std::alloc::Global;
+use program_words::asked_words;
+use std::alloc::{AllocError, Global};
 use std::io::ErrorKind;
 use std::process::ExitCode;
 use std::{env, io};
@@ -31,16 +32,6 @@ use ziti_outside::{Desk, Source};
 fn given_words(rt: &HostRuntime) -> io::Result<Vec<String>> {
     let words = env::args(rt)?.collect(rt.alloc())?;
     Ok(words)
-}
-
-// The words behind the program's name.
-fn behind_name(given: &[String]) -> &[String]
-    ensures { result.now ≡ drop 1 given.now }
-{
-    match given.split_first() {
-        Some((_, words)) => words,
-        None => given,
-    }
 }
 
 // Runs on the words that the system gave. Words that are not text are words of no table. Where memory was wanting for the words,
@@ -59,15 +50,9 @@ fn run_given<S: Source, D: Desk>(
     ensures no_memory { IfErr given (λ error. error_kind error ≡ ErrorKind.OutOfMemory
         → (result ≡ Status.NoMemory) × (source.new ≡ source.old) × (desk.new ≡ desk.old)) }
 {
-    match given {
-        Ok(words) => run(alloc, behind_name(words.as_slice()), source, desk),
-        Err(error) => {
-            if error.kind() == ErrorKind::OutOfMemory {
-                Status::NoMemory
-            } else {
-                run(alloc, &[], source, desk)
-            }
-        }
+    match asked_words(alloc, given) {
+        Ok(words) => run(alloc, words.as_slice(), source, desk),
+        Err(AllocError) => Status::NoMemory,
     }
 }
 

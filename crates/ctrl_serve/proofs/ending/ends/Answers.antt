@@ -1,7 +1,7 @@
 use Rattle.std.proofs.Common.{◌∙◌, ap}
 use Rattle.std.proofs.lemmas.Result.{IfOk-weaker, IfErr-weaker}
-use Rattle.ctrl_serve.specs.Statuses.{number_of}
-use Rattle.zitictl.proofs.ends.Goals as goal
+use Rattle.run_notes.specs.Statuses.{number_of}
+use Rattle.ctrl_serve.proofs.ending.ends.Goals as goal
 
 pub returns-clause-words : goal.returns-clause-words
 returns-clause-words g c = IfOk-weaker c.args.given _ _ (λ words runs. (c.run_given.result, runs, c.exit_code.ensures)) c.run_given.ensures.words
