@@ -19,10 +19,13 @@ use Rattle.ctrl_model.specs.ValidState.{ValidState}
 use Rattle.ctrl_model.specs.Rules.{refuse_if}
 use Rattle.ctrl_model.specs.RecordCommands.{refusal_of_create, refusal_of_update, absent_names, roles_of}
 use Rattle.ctrl_model.specs.PolicyCommands.{replaced_by, create_service_policy, create_edge_router_policy, create_service_edge_router_policy, update_service_policy, update_edge_router_policy, update_service_edge_router_policy}
+use Rattle.ctrl_model.specs.declared.numbering.PolicyNo.{PolicyNo}
 use Rattle.model_laws.specs.declared.plans.Plan.{Plan}
+use Rattle.model_laws.specs.Plans.{refused, changed}
 use Rattle.entity_store.specs.EntityTables.{Tables}
 use Rattle.entity_store.specs.AttributeUses.{has_attribute_room}
 use Rattle.policy_store.specs.declared.changes.PolicyChange.{PolicyChange}
+use Rattle.policy_store.specs.declared.changes.PolicyChange.TheVariants as change
 use Rattle.policy_store.specs.declared.policies.PolicyFault.{PolicyFault}
 use Rattle.policy_store.specs.declared.policies.PolicyFault.TheVariants as fault
 use Rattle.policy_store.specs.PolicyTables.{PolicyTables}
@@ -101,3 +104,8 @@ refusal_to_put k p fresh gone t e = refusal_judged k p gone e (may_put k p fresh
 -- policy.
 abbrev pub router_kind : Command → Kind × Relation
 router_kind c = cond (is_edge_router_policy_command c) (kind.EdgeRouterPolicy, IdentityRouter) (kind.ServiceEdgeRouterPolicy, ServiceRouter)
+
+-- The plan of other parts of a policy, of the number that has its name or the refusal.
+abbrev pub plan_of_replaced : Kind → Policy → Result PolicyNo Refusal → Plan PolicyChange
+plan_of_replaced k p (Ok number) = changed Done (change.Replace k number.0 p)
+plan_of_replaced k p (Err refusal) = refused refusal

@@ -11,11 +11,11 @@ ghost use Rattle.entity_store.specs.EntityTables.{Tables};
 ghost use Rattle.policy_store.specs.PolicyTables.{is_policy_kind};
 ghost use Rattle.policy_commands.specs.PolicyStates.{HoldsUses, over};
 ghost use Rattle.policy_commands.specs.PolicyPlans.{is_policy_command, is_service_policy_command, is_edge_router_policy_command, is_service_edge_router_policy_command, PlansPolicies};
-ghost use Rattle.policy_commands.specs.PlannedPolicies.{Answers, AreShort, IsPlaced, ids_of, refusal_for, refusal_to_put, answer_create, answer_replace, roles_field, router_kind};
+ghost use Rattle.policy_commands.specs.PlannedPolicies.{Answers, AreShort, IsPlaced, ids_of, refusal_for, refusal_to_put, answer_create, answer_replace, plan_of_replaced, roles_field, router_kind};
 
 use crate::putting::may_put;
 use ctrl_model::{
-    Command, Copies, Field, Kind, Name, Names, Refusal, Relation, Reply, Semantic, Side,
+    Command, Copies, Field, Kind, Name, Names, PolicyNo, Refusal, Relation, Reply, Semantic, Side,
 };
 use entity_store::Entities;
 use model_laws::Plan;
@@ -147,6 +147,31 @@ fn plan_create(
     Ok(Plan::changed(Reply::Made { no: number }, change))
 }
 
+// The number of the policy that one of this name replaces, or the refusal of it.
+fn judge_replaced(
+    alloc: Global,
+    known: &Known,
+    kind: Kind,
+    policy: &Policy,
+) -> Result<Result<PolicyNo, Refusal>, AllocError>
+    requires kind { is_policy_kind kind ≡ true }
+    requires short { AreShort policy.now }
+    requires held { HoldsUses known.now.entities.now known.now.policies.now }
+    ensures { IfOk result (λ judged. Answers (answer_replace kind policy.now) known.now.entities.now known.now.policies.now (plan_of_replaced kind policy.now judged)) }
+{
+    let Ok(number) = known.policies.find(kind, &policy.name) else {
+        return Ok(Err(Refusal::Unknown { field: Field::Name }));
+    };
+    let Some(replaced) = known.policies.get(kind, number) else {
+        unreachable!()
+    };
+    let gone = policy_names(alloc, replaced)?;
+    match refusal_to_put(alloc, known, kind, policy, false, &gone)? {
+        Some(refusal) => Ok(Err(refusal)),
+        None => Ok(Ok(number)),
+    }
+}
+
 // Plans other parts of a policy.
 fn plan_replace(
     alloc: Global,
@@ -159,22 +184,18 @@ fn plan_replace(
     requires held { HoldsUses known.now.entities.now known.now.policies.now }
     ensures { IfOk result (Answers (answer_replace kind policy) known.now.entities.now known.now.policies.now) }
 {
-    let Ok(number) = known.policies.find(kind, &policy.name) else {
-        return Ok(unknown_name());
-    };
-    let Some(replaced) = known.policies.get(kind, number) else {
-        unreachable!()
-    };
-    let gone = policy_names(alloc, replaced)?;
-    if let Some(refusal) = refusal_to_put(alloc, known, kind, &policy, false, &gone)? {
-        return Ok(Plan::refused(refusal));
+    let judged = judge_replaced(alloc, known, kind, &policy)?;
+    match judged {
+        Ok(PolicyNo(number)) => {
+            let change = PolicyChange::Replace {
+                kind,
+                number,
+                policy,
+            };
+            Ok(Plan::changed(Reply::Done, change))
+        }
+        Err(refusal) => Ok(Plan::refused(refusal)),
     }
-    let change = PolicyChange::Replace {
-        kind,
-        number: number.0,
-        policy,
-    };
-    Ok(Plan::changed(Reply::Done, change))
 }
 
 // Plans that a policy goes.
