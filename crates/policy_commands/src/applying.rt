@@ -1,4 +1,5 @@
-ghost use Rattle.std.specs.Prelude.{◌≡◌, true, Some, OnOk};
+ghost use Rattle.std.specs.Prelude.{◌≡◌, true, Some, OnOk, [], ◌++◌};
+ghost use Rattle.entity_store.specs.AttributeUses.{has_attribute_room, Holds};
 ghost use Rattle.policy_store.specs.declared.changes.PolicyChange.TheVariants as change;
 ghost use Rattle.policy_store.specs.PolicyTables.{is_policy_kind, number_of};
 ghost use Rattle.policy_store.specs.PolicyRules.{is_there};
@@ -12,6 +13,19 @@ use entity_store::{Entities, EntityChange};
 use policy_store::{Policies, Policy, PolicyChange, policy_names};
 use std::alloc::{AllocError, Global};
 
+// Holds the uses that a policy's attributes have.
+fn hold_policy(
+    alloc: Global,
+    entities: &mut Entities,
+    policy: &Policy,
+) -> Result<(), AllocError>
+    requires { has_attribute_room entities.old [] (policy.now.left.attributes ++ policy.now.right.attributes) ≡ true }
+    ensures { OnOk result (Holds (policy.now.left.attributes ++ policy.now.right.attributes) entities.old entities.new) }
+{
+    let names = policy_names(alloc, policy)?;
+    entities.hold(&names)
+}
+
 fn add_policy(
     alloc: Global,
     entities: &mut Entities,
@@ -24,8 +38,7 @@ fn add_policy(
     requires held { HoldsUses entities.old policies.old }
     ensures { OnOk result (Rules (change.Add kind policy) entities.old entities.new policies.old policies.new) }
 {
-    let names = policy_names(alloc, &policy)?;
-    entities.hold(&names)?;
+    hold_policy(alloc, entities, &policy)?;
     policies.put(kind, policy, true)?;
     Ok(())
 }
@@ -65,9 +78,8 @@ fn replace_policy(
     requires held { HoldsUses entities.old policies.old }
     ensures { OnOk result (Rules (change.Replace kind number policy) entities.old entities.new policies.old policies.new) }
 {
-    let names = policy_names(alloc, &policy)?;
     let_policy_go(alloc, entities, policies, kind, number)?;
-    entities.hold(&names)?;
+    hold_policy(alloc, entities, &policy)?;
     policies.put(kind, policy, false)?;
     Ok(())
 }

@@ -7,9 +7,8 @@ let_policy_go-requires-clause-there c =
     present_before c.args.kind c.args.number c.args.policy (around c.args.entities.now c.args.policies.now c.requires.leads.rest) c.requires.kind c.requires.named
     c.requires.leads.after
 
-pub hold-requires : goal.hold-requires
-hold-requires c =
-    rw (c.in_ok-names.ensures)
+pub hold_policy-requires : goal.hold_policy-requires
+hold_policy-requires c =
     (room_to_replace c.args.kind c.args.number c.args.policy (around c.args.entities.now c.args.policies.now c.requires.leads.rest) c.let_policy_go.new.entities c.requires.kind
     c.requires.leads.after c.requires.held c.in_ok-let_policy_go.ensures)
 
@@ -19,5 +18,5 @@ put-requires-clause-can c = can_put_other c.args.kind c.args.number c.args.polic
 pub returns : goal.returns
 returns c =
     rw (c.in_ok-put.ensures.ok.1)
-    (ruled_replaced c.args.kind c.args.number c.args.policy (around c.args.entities.now c.args.policies.now c.requires.leads.rest) c.let_policy_go.new.entities c.hold.new.self
-    c.requires.kind c.requires.named c.requires.leads.after c.requires.held c.in_ok-let_policy_go.ensures (rw c.in_ok-names.ensures at c.in_ok-hold.ensures.ok))
+    (ruled_replaced c.args.kind c.args.number c.args.policy (around c.args.entities.now c.args.policies.now c.requires.leads.rest) c.let_policy_go.new.entities c.hold_policy.new.entities
+    c.requires.kind c.requires.named c.requires.leads.after c.requires.held c.in_ok-let_policy_go.ensures c.in_ok-hold_policy.ensures)
