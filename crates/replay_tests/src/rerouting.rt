@@ -32,6 +32,11 @@ const LINK_GONE_KEPT: &[u8] =
 const OFF_KEPT: &[u8] =
     b"\x01\x19\0\0\0\x01\x05\x05\0\0\0\x01\x07\0\0\0\x02r1\0\0\0\0\x02\x05\x0b\0\0\0\x01";
 
+/// That of the policy by which ann may dial web, which goes, and of its count. The circuit stays, as in a folder of a program that did not
+/// end the circuits which nothing grants any more.
+const GRANT_GONE: &[u8] =
+    b"\x01\x12\0\0\0\x02\x05\x07\0\0\0\x01\x02\x09\x0c\0\0\0\x01\0\0\0\x01";
+
 /// A run on the folder of the one before, and the record that it puts behind that one's.
 type Step = (&'static [Row], &'static [u8]);
 
@@ -102,4 +107,15 @@ fn opens_to_no_circuit_without_its_path(rt: HostRuntime) -> Result<(), Fail> {
         [slot.as_slice(), b"", FIRST],
         noted.as_str(),
     )
+}
+
+// A folder in which a circuit stands that nothing grants opens as it is: the circuit is shown, and ends with the first command that
+// changes something.
+#[test]
+fn ends_a_circuit_that_nothing_grants_at_the_first_change(rt: HostRuntime) -> Result<(), Fail> {
+    let desk = network(&rt, rt.alloc())?;
+    let slot = with_record(rt.alloc(), &desk, GRANT_GONE)?;
+    let mut next = desk_of(rt.alloc(), [slot.as_slice(), b"", FIRST])?;
+    let bob = (1000, r#"{"name":"bob"}"#, r#"{"no":2}"#);
+    answers(&rt, rt.alloc(), &mut next, 4_096, &[ON_LINE, bob, GONE])
 }
