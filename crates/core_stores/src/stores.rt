@@ -61,40 +61,56 @@ impl Grants {
     }
 }
 
-/// Tables of entities and of policies without records.
-fn new_tables(alloc: Global) -> Result<(Entities, Policies), AllocError>
-    ensures { IfOk result (λ t. t ≡ (no_entities, no_policies)) }
-{
-    Ok((Entities::new(alloc)?, Policies::new(alloc)?))
+/// The stores of entities and of policies, while the others are made.
+#[derive(Drop)]
+struct Named {
+    entities: Entities,
+    policies: Policies,
 }
 
-/// A network without links, terminators and circuits.
-fn new_network(alloc: Global) -> Result<(Fabric, Terminators, Circuits), AllocError>
-    ensures { IfOk result (λ n. n ≡ (no_links, no_terminators, no_circuits)) }
-{
-    Ok((
-        Fabric::new(alloc)?,
-        Terminators::new(alloc)?,
-        Circuits::new(alloc)?,
-    ))
+/// The stores of the network, while the others are made.
+#[derive(Drop)]
+struct Numbered {
+    fabric: Fabric,
+    terminators: Terminators,
+    circuits: Circuits,
 }
 
-/// Stores of the tables, of the network and of the grant counts.
-fn joined(
-    tables: (Entities, Policies),
-    network: (Fabric, Terminators, Circuits),
-    grants: Grants,
-) -> Stores
-    ensures { result ≡ record { entities = tables.0; policies = tables.1; fabric = network.0; terminators = network.1; circuits = network.2; grants = grants } }
+impl Named {
+    // Entities and policies without records.
+    fn new(alloc: Global) -> Result<Named, AllocError>
+        ensures { IfOk result (λ t. t ≡ record { entities = no_entities; policies = no_policies }) }
+    {
+        Ok(Named {
+            entities: Entities::new(alloc)?,
+            policies: Policies::new(alloc)?,
+        })
+    }
+}
+
+impl Numbered {
+    // A network without links, terminators and circuits.
+    fn new(alloc: Global) -> Result<Numbered, AllocError>
+        ensures { IfOk result (λ n. n ≡ record { fabric = no_links; terminators = no_terminators; circuits = no_circuits }) }
+    {
+        Ok(Numbered {
+            fabric: Fabric::new(alloc)?,
+            terminators: Terminators::new(alloc)?,
+            circuits: Circuits::new(alloc)?,
+        })
+    }
+}
+
+// The stores of the entities and policies, of the network and of the grant counts.
+fn joined(named: Named, numbered: Numbered, grants: Grants) -> Stores
+    ensures { result ≡ record { entities = named.entities; policies = named.policies; fabric = numbered.fabric; terminators = numbered.terminators; circuits = numbered.circuits; grants = grants } }
 {
-    let (entities, policies) = tables;
-    let (fabric, terminators, circuits) = network;
     Stores {
-        entities,
-        policies,
-        fabric,
-        terminators,
-        circuits,
+        entities: named.entities,
+        policies: named.policies,
+        fabric: numbered.fabric,
+        terminators: numbered.terminators,
+        circuits: numbered.circuits,
         grants,
     }
 }
@@ -104,9 +120,9 @@ impl Stores {
     pub fn new(alloc: Global) -> Result<Stores, AllocError>
         ensures { IfOk result (λ st. st ≡ record { entities = no_entities; policies = no_policies; fabric = no_links; terminators = no_terminators; circuits = no_circuits; grants = record { dial = []; bind = []; identity_router = []; service_router = [] } }) }
     {
-        let tables = new_tables(alloc)?;
-        let network = new_network(alloc)?;
         let grants = Grants::new(alloc)?;
-        Ok(joined(tables, network, grants))
+        let numbered = Numbered::new(alloc)?;
+        let named = Named::new(alloc)?;
+        Ok(joined(named, numbered, grants))
     }
 }
