@@ -1,52 +1,17 @@
 ghost use Rattle.std.specs.Prelude.{◌≡◌, IfOk};
-ghost use Rattle.grant_steps.specs.LeadingSteps.{LeadAllCounts};
-ghost use Rattle.ctrl_core.specs.ChangedStores.{CanSettle, next_state};
-ghost use Rattle.ctrl_core.specs.KeptState.{Keeps, IsGranted};
+ghost use Rattle.model_laws.specs.Plans.{led_by};
+ghost use Rattle.row_codec.specs.Batches.{batch_between};
+ghost use Rattle.ctrl_core.specs.KeptState.{IsGranted};
 ghost use Rattle.core_stores.specs.StoredState.{state_of};
-ghost use Rattle.ctrl_core.specs.Changes.{NamesSettled};
-ghost use Rattle.ctrl_core.specs.PlannedCommands.{Stands};
+ghost use Rattle.ctrl_core.specs.Changes.{NamesSettled, after_change};
 ghost use Rattle.ctrl_core.specs.CompletedPlans.{Completes, CanComplete, SettlesAs};
 
 use crate::plans::Planned;
 use crate::row_changes::batch_for;
 use crate::settling::settled_by;
-use core_stores::{Change, Draft, Settled, Stores};
-use policy_store::GrantSteps;
+use core_stores::{Draft, Settled, Stores};
 use row_codec::Batch;
 use std::alloc::{AllocError, Global};
-
-// What settles after a change, and the batch of the rows that differ.
-fn settled_rows(
-    alloc: Global,
-    stores: &Stores,
-    change: &Change,
-    steps: &GrantSteps,
-    granted: bool,
-) -> Result<(Settled, Batch), AllocError>
-    requires kept { Keeps stores.now }
-    requires granted { IsGranted granted (state_of stores.now) }
-    requires can { CanSettle stores.now change.now }
-    requires stands { Stands change.now (state_of stores.now) }
-    requires counts { LeadAllCounts (state_of stores.now) (next_state stores.now change.now) steps.now }
-    ensures { IfOk result (λ p. SettlesAs stores.now change.now p.0 p.1) }
-{
-    let settled = settled_by(alloc, stores, change, steps, granted)?;
-    let batch = batch_for(alloc, stores, change, &settled, steps)?;
-    Ok((settled, batch))
-}
-
-// A draft with what settles and the batch, as a plan.
-fn with_settled(draft: Draft, settled: Settled, batch: Batch) -> Planned
-    ensures { result ≡ record { reply = draft.reply; batch = batch; change = draft.change; settled = settled; steps = draft.steps } }
-{
-    Planned {
-        reply: draft.reply,
-        batch,
-        change: draft.change,
-        settled,
-        steps: draft.steps,
-    }
-}
 
 /// What settles after the change of a draft; nothing, where it has none.
 pub fn settled_after(
@@ -65,6 +30,39 @@ pub fn settled_after(
     }
 }
 
+// The batch of the rows that differ after the change of a draft, of which this settles; without rows, where it has none.
+fn batch_after(
+    alloc: Global,
+    stores: &Stores,
+    draft: &Draft,
+    settled: &Settled,
+) -> Result<Batch, AllocError>
+    requires can { CanComplete stores.now draft.now }
+    requires settled { NamesSettled draft.now.change (state_of stores.now) settled.now }
+    ensures { IfOk result (λ batch. batch ≡ batch_between (state_of stores.now) (led_by after_change draft.now.change (state_of stores.now))) }
+{
+    match &draft.change {
+        Some(change) => batch_for(alloc, stores, change, settled, &draft.steps),
+        None => Ok(Batch::of(Vec::new(alloc))),
+    }
+}
+
+// What settles after the change of a draft, and the batch of the rows that differ.
+fn settled_rows(
+    alloc: Global,
+    stores: &Stores,
+    draft: &Draft,
+    granted: bool,
+) -> Result<(Settled, Batch), AllocError>
+    requires can { CanComplete stores.now draft.now }
+    requires granted { IsGranted granted (state_of stores.now) }
+    ensures { IfOk result (λ p. SettlesAs stores.now draft.now p.0 p.1) }
+{
+    let settled = settled_after(alloc, stores, draft, granted)?;
+    let batch = batch_after(alloc, stores, draft, &settled)?;
+    Ok((settled, batch))
+}
+
 /// The plan of a draft: with what settles after its change, and the batch of the rows that differ.
 pub fn completed(
     alloc: Global,
@@ -76,9 +74,12 @@ pub fn completed(
     requires granted { IsGranted granted (state_of stores.now) }
     ensures { IfOk result (Completes stores.now draft) }
 {
-    let Some(change) = &draft.change else {
-        return Ok(Planned::still(alloc, draft.reply, draft.steps));
-    };
-    let (settled, batch) = settled_rows(alloc, stores, change, &draft.steps, granted)?;
-    Ok(with_settled(draft, settled, batch))
+    let (settled, batch) = settled_rows(alloc, stores, &draft, granted)?;
+    Ok(Planned {
+        reply: draft.reply,
+        batch,
+        change: draft.change,
+        settled,
+        steps: draft.steps,
+    })
 }

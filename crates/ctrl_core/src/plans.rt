@@ -1,10 +1,7 @@
-ghost use Rattle.ctrl_core.specs.CompletedPlans.{IsUnchanged};
-
 use core_stores::{Change, Settled};
 use ctrl_model::Reply;
 use policy_store::GrantSteps;
 use row_codec::Batch;
-use std::alloc::Global;
 
 /// The answer to a command, planned: the reply, the batch of the rows that differ between the state and the next one, and what is kept
 /// to carry it out: the change, if there is one, what settles after it, and the steps of the counts. A plan leads from the state in
@@ -17,19 +14,4 @@ pub struct Planned {
     pub(crate) change: Option<Change>,
     pub(crate) settled: Settled,
     pub(crate) steps: GrantSteps,
-}
-
-impl Planned {
-    /// The plan of a reply that changes nothing: no row differs.
-    pub(crate) fn still(alloc: Global, reply: Reply, steps: GrantSteps) -> Planned
-        ensures { IsUnchanged reply steps result }
-    {
-        Planned {
-            reply,
-            batch: Batch::of(Vec::new(alloc)),
-            change: None,
-            settled: Settled::nothing(alloc),
-            steps,
-        }
-    }
 }
