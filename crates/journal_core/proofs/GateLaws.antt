@@ -1,5 +1,7 @@
 -- What a write at a gate, and one behind it, do to the bytes of a slot, stopped or not.
-use Rattle.std.proofs.Common.{◌≡◌, ◌≢◌, ℕ, ◌+◌, ◌≤◌, List, [], ◌∷◌, ◌++◌, length, take, drop, inl, inr, sym, ap, ◌∙◌, subst, arith, length-append, append_assoc}
+use Rattle.std.specs.Prelude.{OnOk}
+use Rattle.std.specs.declared.result.Result.{Result}
+use Rattle.std.proofs.Common.{◌≡◌, ◌≢◌, Ok, Err, ℕ, ◌+◌, ◌≤◌, List, [], ◌∷◌, ◌++◌, length, take, drop, inl, inr, sym, ap, ◌∙◌, subst, arith, length-append, append_assoc}
 use Rattle.std.proofs.lemmas.List.{take_at, drop_at}
 use Rattle.std.proofs.lemmas.Bool.{cases_eq}
 use Rattle.std.proofs.Math.Seq.{drop-append-add}
@@ -120,6 +122,13 @@ written_gate {at} {text} {old} {mid} {new} r h =
     let rest = text ++ drop (at + 1 + length text) old in
     h ∙ ap (λ (l : List ℕ). l ++ 1 ∷ drop (at + 1) mid) (ap (λ (l : List ℕ). take at l) r.split ∙ take_at front (r.gate ∷ rest) at r.place)
     ∙ ap (λ (l : List ℕ). front ++ 1 ∷ l) (behind_gate front rest mid at r.gate r.place r.split)
+
+-- So it is where that write is the last of two calls.
+pub gate_added : {T E tells : Type 0} (at : ℕ) (text gate old mid new : List ℕ) (r : Result T E) → gate ≡ 1 ∷ [] → (tells → IsClosed at old) → (tells → Holds (at + 1) text old mid)
+    → OnOk r (tells → Holds at gate mid new) → OnOk r (tells → new ≡ added at text old)
+gate_added at text gate old mid new (Ok x) is closed behind here = λ told.
+    written_gate (written_behind (closed told) (behind told)) (subst (λ (l : List ℕ). Holds at l mid new) is (here told))
+gate_added at text gate old mid new (Err e) is closed behind here = tt
 
 -- Behind a record that was added stands a closed gate.
 closed_behind : {at : ℕ} {old new : List ℕ} (payload : List ℕ) → IsClosed at old → new ≡ added at (text_of payload) old → IsClosed (at + length (text_of payload)) new

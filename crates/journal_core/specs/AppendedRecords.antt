@@ -5,7 +5,7 @@ use Rattle.ziti_outside.specs.Images.{After, Else, OnPart}
 use Rattle.ziti_outside.specs.Moments.{Remembers, Leaves}
 use Rattle.ziti_outside.specs.Untouched.{OnlyDisk}
 use Rattle.ziti_outside.specs.Views.{Seen, Stopped}
-use Rattle.journal_core.specs.Room.{KeepsRoom, LeavesRoom}
+use Rattle.journal_core.specs.Room.{HoldsRoom}
 
 -- A part made a step, and nothing else was done, whatever came of it. At every moment a stop leaves a part that made the step; the other
 -- parts are as they were, and no reply byte is taken. No slot grew past so many bytes, neither as the folder reads nor in what a stop leaves.
@@ -15,5 +15,4 @@ pub record OnlyAppends {D : Type 0} (tells : Bool) (seen : D → Seen) (stopped 
   pub quiet : Leaves seen stopped old new (λ image. ⊤)
   pub stops : IsTrue tells → Leaves seen stopped old new (After (OnPart part step) (stopped old).images)
   pub remembers : Remembers (stopped old) (stopped new)
-  pub room : IsTrue tells → KeepsRoom most (seen old).reads (seen new).reads
-  pub images : LeavesRoom most stopped old new
+  pub room : HoldsRoom tells most seen stopped old new

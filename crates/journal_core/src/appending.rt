@@ -6,7 +6,7 @@ ghost use Rattle.ziti_outside.specs.Untouched.{OnlyDisk};
 ghost use Rattle.journal_core.specs.AppendedRecords.{OnlyAppends};
 ghost use Rattle.journal_core.specs.Slots.{IsClosed, text_of, added, ShutOrAdded};
 ghost use Rattle.journal_core.specs.Faults.{disk_failure, AppendFails};
-ghost use Rattle.journal_core.specs.Room.{KeepsRoom, LeavesRoom};
+ghost use Rattle.journal_core.specs.Room.{HoldsRoom};
 
 use crate::faults::JournalFault;
 use crate::packing::{OPEN, Packed};
@@ -18,14 +18,14 @@ use ziti_outside::{Desk, Failed, Part};
 pub fn put_down<D: Desk>(desk: &mut D, part: Part, at: u64, bytes: &[u8]) -> Result<(), Failed>
     requires within { IsTrue D.tells → at ≤ length ((D.seen desk.old).reads part) }
     ensures written { OnOk result (IsTrue D.tells → Holds at bytes.now ((D.seen desk.old).reads part) ((D.seen desk.new).reads part)) }
+    ensures torn { IsTrue D.tells → Torn at (length bytes.now) ((D.seen desk.old).reads part) ((D.seen desk.new).reads part) }
     ensures stable { OnOk result (IsStable part (D.seen desk.new).reads (D.stopped desk.new).images) }
     ensures elsewhere { Else part (D.seen desk.old).reads (D.seen desk.new).reads }
     ensures cause { HasCause (D.seen desk.old).disk_faults (D.seen desk.new).disk_faults result }
     ensures others { OnlyDisk D.seen desk.old desk.new }
     ensures stops { Leaves D.seen D.stopped desk.old desk.new
         (After (OnPart part (Torn at (length bytes.now))) (D.stopped desk.old).images) }
-    ensures room { OnOk result (IsTrue D.tells → KeepsRoom (at + length bytes.now) (D.seen desk.old).reads (D.seen desk.new).reads) }
-    ensures images { LeavesRoom (at + length bytes.now) D.stopped desk.old desk.new }
+    ensures room { HoldsRoom D.tells (at + length bytes.now) D.seen D.stopped desk.old desk.new }
     ensures remembers { Remembers (D.stopped desk.old) (D.stopped desk.new) }
 {
     desk.write_at(part, at, bytes)?;
@@ -52,8 +52,7 @@ fn add_text<D: Desk>(desk: &mut D, part: Part, at: u64, text: &[u8]) -> Result<(
     ensures quiet { Leaves D.seen D.stopped desk.old desk.new (λ image. ⊤) }
     ensures stops { IsTrue D.tells → Leaves D.seen D.stopped desk.old desk.new
         (After (OnPart part (ShutOrAdded at text.now)) (D.stopped desk.old).images) }
-    ensures room { IsTrue D.tells → KeepsRoom (at + 1 + length text.now) (D.seen desk.old).reads (D.seen desk.new).reads }
-    ensures images { LeavesRoom (at + 1 + length text.now) D.stopped desk.old desk.new }
+    ensures room { HoldsRoom D.tells (at + 1 + length text.now) D.seen D.stopped desk.old desk.new }
     ensures remembers { Remembers (D.stopped desk.old) (D.stopped desk.new) }
 {
     put_down(desk, part, at + 1, text)?;

@@ -3,7 +3,7 @@ ghost use Rattle.std.specs.declared.option.Option.{Option};
 ghost use Rattle.ziti_outside.specs.Images.{Image, Torn};
 ghost use Rattle.ziti_outside.specs.Told.{IsFront};
 ghost use Rattle.journal_core.specs.Slots.{Slot, SlotFront, IsClosed, IsRecord, IsDamaged, IsPayload, GateGives, Shut, ShutOrAdded, added, header, text_of, slot_end, slot_bytes};
-ghost use Rattle.journal_core.specs.Room.{empty_size, IsWithin, KeepsRoom, LeavesRoom};
+ghost use Rattle.journal_core.specs.Room.{empty_size, IsWithin, KeepsRoom, HoldsRoom};
 
 use ziti_outside::Desk;
 
@@ -46,8 +46,9 @@ pub fn room_is_kept<D: Desk>()
     ensures within { (most : ℕ) (old new : Image) → IsWithin most old → KeepsRoom most old new → IsWithin most new }
     ensures next { (most : ℕ) (old mid new : Image) → KeepsRoom most old mid → KeepsRoom most mid new → KeepsRoom most old new }
     ensures wider { (less most : ℕ) (old new : Image) → less ≤ most → KeepsRoom less old new → KeepsRoom most old new }
-    ensures left_within { (most : ℕ) (old new : D) → ((image : Image) → (D.stopped old).images image → IsWithin most image) → LeavesRoom most D.stopped old new
-        → (image : Image) → (D.stopped new).images image → IsWithin most image }
-    ensures left_next { (most : ℕ) (old mid new : D) → LeavesRoom most D.stopped old mid → LeavesRoom most D.stopped mid new → LeavesRoom most D.stopped old new }
-    ensures left_wider { (less most : ℕ) (old new : D) → less ≤ most → LeavesRoom less D.stopped old new → LeavesRoom most D.stopped old new }
+    ensures left_within { (most : ℕ) (old new : D) → ((image : Image) → (D.stopped old).images image → IsWithin most image)
+        → HoldsRoom D.tells most D.seen D.stopped old new → (image : Image) → (D.stopped new).images image → IsWithin most image }
+    ensures held_next { (most : ℕ) (old mid new : D) → HoldsRoom D.tells most D.seen D.stopped old mid → HoldsRoom D.tells most D.seen D.stopped mid new
+        → HoldsRoom D.tells most D.seen D.stopped old new }
+    ensures held_wider { (less most : ℕ) (old new : D) → less ≤ most → HoldsRoom D.tells less D.seen D.stopped old new → HoldsRoom D.tells most D.seen D.stopped old new }
 {}

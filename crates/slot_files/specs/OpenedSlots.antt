@@ -7,7 +7,7 @@ use Rattle.ziti_outside.specs.Images.{Image, After, IsStable}
 use Rattle.ziti_outside.specs.Moments.{Remembers, Leaves}
 use Rattle.ziti_outside.specs.Untouched.{OnlyDisk}
 use Rattle.ziti_outside.specs.Views.{Seen, Stopped}
-use Rattle.journal_core.specs.Room.{empty_size, LeavesRoom}
+use Rattle.journal_core.specs.Room.{empty_size, HoldsRoom}
 use Rattle.journal_core.specs.Slots.{header, slot_bytes}
 use Rattle.slot_files.specs.declared.standing.Standing.{Standing}
 use Rattle.slot_files.specs.FolderImage.{StandsAsBefore, slot_of}
@@ -46,7 +46,8 @@ Opens (suc turn) old new = new ≡ old
 
 -- The folder was opened alone, whatever came of it. Where its mark was not empty it reads as before, and a stop at any moment leaves
 -- no image that it did not leave before; the second slot always reads as before. Of any folder a stop leaves images that stand for
--- what those before stood for, with slots that grew no longer than one without a record, and takes no reply byte.
+-- what those before stood for, and takes no reply byte. No slot grew longer than one without a record, neither as the folder reads nor in
+-- what a stop leaves.
 pub record OnlyOpens {D : Type 0} (tells : Bool) (seen : D → Seen) (stopped : D → Stopped) (old new : D) : Type 0 where
   pub kept : IsTrue tells → 0 < length ((seen old).reads Mark) → (seen new).reads ≡ (seen old).reads
   pub second : (seen new).reads One ≡ (seen old).reads One
@@ -55,4 +56,4 @@ pub record OnlyOpens {D : Type 0} (tells : Bool) (seen : D → Seen) (stopped : 
   pub quiet : Leaves seen stopped old new (λ image. ⊤)
   pub stops : IsTrue tells → Leaves seen stopped old new (After StandsAsBefore (stopped old).images)
   pub remembers : Remembers (stopped old) (stopped new)
-  pub images : LeavesRoom empty_size stopped old new
+  pub room : HoldsRoom tells empty_size seen stopped old new

@@ -1,8 +1,12 @@
 -- The other slot of a folder, and what it takes to let it stand (docs/PROMISES.md, "The slots of the folder").
-use Rattle.std.specs.Prelude.{◌≡◌, ◌⊎◌, ℕ, ◌+◌, ◌≤◌, List, length}
+use Rattle.std.specs.Prelude.{◌≡◌, ◌⊎◌, ℕ, ◌+◌, ◌≤◌, Bool, ⊤, IsTrue, List, length}
 use Rattle.ziti_outside.specs.declared.desk.Part.{Part}
 use Rattle.ziti_outside.specs.declared.desk.Part.TheVariants.{Mark}
-use Rattle.ziti_outside.specs.Images.{Image, IsStable}
+use Rattle.ziti_outside.specs.Images.{Image, After, IsStable}
+use Rattle.ziti_outside.specs.Moments.{Remembers, Leaves}
+use Rattle.ziti_outside.specs.Untouched.{OnlyDisk}
+use Rattle.ziti_outside.specs.Views.{Seen, Stopped}
+use Rattle.journal_core.specs.Room.{HoldsRoom}
 use Rattle.journal_core.specs.Slots.{Slot}
 use Rattle.slot_files.specs.declared.faults.SlotFault.{SlotFault}
 use Rattle.slot_files.specs.declared.faults.SlotFault.TheVariants.{Damaged, MarkFull}
@@ -29,6 +33,16 @@ pub record IsSwitched (old new : Standing) : Type 0 where
 -- An image stands for what an earlier one stood for, or for what the other slot stands for.
 pub record StandsByEither (mark : ℕ) (reads : Image) (old new : Image) : Type 0 where
   pub either : (before after : List (List ℕ)) → Stands old before → Slot (reads (other_slot mark)) after → Stands new before ⊎ Stands new after
+
+-- The other slot was let stand, and nothing else was done, whatever came of it. At every moment a stop leaves an image that stands for what
+-- an earlier one stood for, or for what the other slot does; no reply byte is taken, and no slot grew, neither as the folder reads nor in what
+-- a stop leaves.
+pub record OnlySwitches {D : Type 0} (tells : Bool) (seen : D → Seen) (stopped : D → Stopped) (mark : ℕ) (old new : D) : Type 0 where
+  pub others : OnlyDisk seen old new
+  pub quiet : Leaves seen stopped old new (λ image. ⊤)
+  pub stops : IsTrue tells → Leaves seen stopped old new (After (StandsByEither mark (seen old).reads) (stopped old).images)
+  pub remembers : Remembers (stopped old) (stopped new)
+  pub room : HoldsRoom tells 0 seen stopped old new
 
 -- Why the other slot was not let stand. That the mark is full comes exactly where it has as many bytes as it may have, and then
 -- nothing was done; where it has fewer, the disk failed.

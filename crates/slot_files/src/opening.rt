@@ -4,7 +4,7 @@ ghost use Rattle.ziti_outside.specs.Causes.{HasCause};
 ghost use Rattle.ziti_outside.specs.Images.{After, IsStable};
 ghost use Rattle.ziti_outside.specs.Moments.{Remembers, Leaves};
 ghost use Rattle.ziti_outside.specs.Untouched.{OnlyDisk};
-ghost use Rattle.journal_core.specs.Room.{empty_size, KeepsRoom, LeavesRoom};
+ghost use Rattle.journal_core.specs.Room.{empty_size, HoldsRoom};
 ghost use Rattle.slot_files.specs.FolderImage.{StandsAsBefore};
 ghost use Rattle.slot_files.specs.OpenedSlots.{IsNamed, IsOpened, IsCreated, OnlyOpens, Opens};
 ghost use Rattle.slot_files.specs.Faults.{disk_failure, FindFails};
@@ -27,8 +27,7 @@ fn create<D: Desk>(desk: &mut D) -> Result<Standing, Failed>
     ensures quiet { Leaves D.seen D.stopped desk.old desk.new (λ image. ⊤) }
     ensures stops { IsTrue D.tells → Leaves D.seen D.stopped desk.old desk.new (After StandsAsBefore (D.stopped desk.old).images) }
     ensures remembers { Remembers (D.stopped desk.old) (D.stopped desk.new) }
-    ensures room { OnOk result (IsTrue D.tells → KeepsRoom empty_size (D.seen desk.old).reads (D.seen desk.new).reads) }
-    ensures images { LeavesRoom empty_size D.stopped desk.old desk.new }
+    ensures room { HoldsRoom D.tells empty_size D.seen D.stopped desk.old desk.new }
 {
     put_down(desk, Part::Zero, 0, &empty_slot())?;
     put_down(desk, Part::Mark, 0, &[0])?;
@@ -51,7 +50,6 @@ pub fn open<D: Desk>(desk: &mut D) -> Result<Standing, SlotFault>
     ensures alone { OnlyOpens D.tells D.seen D.stopped desk.old desk.new }
     ensures fault { IfErr result (λ fault. FindFails D.tells (D.seen desk.old).reads fault) }
     ensures cause { HasCause (D.seen desk.old).disk_faults (D.seen desk.new).disk_faults (disk_failure result) }
-    ensures room { IsTrue D.tells → OnOk (disk_failure result) (KeepsRoom empty_size (D.seen desk.old).reads (D.seen desk.new).reads) }
 {
     desk.sync(Part::Mark)?;
     match peek(desk)? {

@@ -1,12 +1,9 @@
-ghost use Rattle.std.specs.Prelude.{◌≡◌, ◌+◌, ◌<◌, ◌++◌, ◌∷◌, [], ⊤, IsTrue, OnOk, IfOk, IfErr};
+ghost use Rattle.std.specs.Prelude.{◌≡◌, ◌+◌, ◌<◌, ◌++◌, ◌∷◌, [], IsTrue, OnOk, IfOk, IfErr};
 ghost use Rattle.ziti_outside.specs.declared.desk.Part.TheVariants.{Mark};
 ghost use Rattle.ziti_outside.specs.Causes.{HasCause};
-ghost use Rattle.ziti_outside.specs.Images.{Else, After};
-ghost use Rattle.ziti_outside.specs.Moments.{Remembers, Leaves};
-ghost use Rattle.ziti_outside.specs.Untouched.{OnlyDisk};
-ghost use Rattle.journal_core.specs.Room.{KeepsRoom, LeavesRoom};
+ghost use Rattle.ziti_outside.specs.Images.{Else};
 ghost use Rattle.slot_files.specs.OpenedSlots.{IsNamed, IsOpened};
-ghost use Rattle.slot_files.specs.SwitchedSlots.{IsReady, IsSwitched, StandsByEither, SwitchFails};
+ghost use Rattle.slot_files.specs.SwitchedSlots.{IsReady, IsSwitched, OnlySwitches, SwitchFails};
 ghost use Rattle.slot_files.specs.Faults.{disk_failure};
 
 use crate::faults::SlotFault;
@@ -17,7 +14,7 @@ use ziti_outside::{Desk, Part};
 /// Lets the other slot stand, which is complete and stable: lengthens the mark by one byte, and makes it stable.
 ///
 /// `MarkFull` comes exactly where the mark has at least `most` bytes, and then nothing was done. At every moment of the call, and
-/// after it, an image that a stop may leave stands for what an image of its start stood for, or for what the other slot does.
+/// after it, an image that a stop may leave stands for what an image of its start stood for, or for what the other slot does. No slot grows.
 pub fn switch<D: Desk>(desk: &mut D, standing: Standing, most: u64) -> Result<Standing, SlotFault>
     requires named { IsNamed standing }
     requires ready { IsTrue D.tells → IsReady standing.mark (D.seen desk.old).reads (D.stopped desk.old).images }
@@ -28,15 +25,7 @@ pub fn switch<D: Desk>(desk: &mut D, standing: Standing, most: u64) -> Result<St
     ensures elsewhere { Else Mark (D.seen desk.old).reads (D.seen desk.new).reads }
     ensures fault { IfErr result (λ fault. SwitchFails standing.mark most desk.old desk.new fault) }
     ensures cause { HasCause (D.seen desk.old).disk_faults (D.seen desk.new).disk_faults (disk_failure result) }
-    ensures others { OnlyDisk D.seen desk.old desk.new }
-    ensures quiet { Leaves D.seen D.stopped desk.old desk.new (λ image. ⊤) }
-    ensures stops { IsTrue D.tells → Leaves D.seen D.stopped desk.old desk.new
-        (After (StandsByEither standing.mark (D.seen desk.old).reads) (D.stopped desk.old).images) }
-    ensures remembers { Remembers (D.stopped desk.old) (D.stopped desk.new) }
-
-    // No slot grows, neither as the desk reads nor in what a stop leaves.
-    ensures slots { IsTrue D.tells → KeepsRoom 0 (D.seen desk.old).reads (D.seen desk.new).reads }
-    ensures images { LeavesRoom 0 D.stopped desk.old desk.new }
+    ensures alone { OnlySwitches D.tells D.seen D.stopped standing.mark desk.old desk.new }
 {
     if standing.mark >= most {
         return Err(SlotFault::MarkFull);

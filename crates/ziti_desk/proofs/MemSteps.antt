@@ -199,6 +199,19 @@ cut_holds (Err e) held now log new part len ok = tt
 cut_holds (Ok u) held now log new part len ok = λ told.
     ap (λ (r : Image). r part) ok.reads ∙ with_part_here part _ (image_of held)
 
+-- What a write that failed left, and a cut that did: nothing was done to what the parts read.
+pub write_torn : (r : Result ⊤ Failed) (held now : Images) (log new : Log) (part : Part) (at : ℕ) (bytes : List ℕ)
+    → OnErr r (IsPending (Wrote part at (length bytes) false) bytes held now log new) → OnErr r (IsTrue true → Torn at (length bytes) (image_of held part) (image_of now part))
+write_torn (Ok u) held now log new part at bytes err = tt
+write_torn (Err e) held now log new part at bytes err = λ told.
+    subst (λ (r : Image). Torn at (length bytes) (image_of held part) (r part)) (sym err.reads) (Torn-none at (length bytes) (image_of held part))
+
+pub cut_torn : (r : Result ⊤ Failed) (held now : Images) (log new : Log) (part : Part) (len : ℕ)
+    → OnErr r (IsPending (Cut part len false) [] held now log new) → OnErr r (IsTrue true → CutShort len (image_of held part) (image_of now part))
+cut_torn (Ok u) held now log new part len err = tt
+cut_torn (Err e) held now log new part len err = λ told.
+    subst (λ (r : Image). CutShort len (image_of held part) (r part)) (sym err.reads) (CutShort-none len (image_of held part))
+
 -- No other part was changed.
 pub write_elsewhere : (r : Result ⊤ Failed) (held now : Images) (log new : Log) (part : Part) (at : ℕ) (bytes : List ℕ)
     → OnOk r (IsDone (Writing part at bytes true) (Wrote part at (length bytes) true) bytes held now log new) → OnErr r (IsPending (Wrote part at (length bytes) false) bytes held now log new) → Else part (image_of held) (image_of now)

@@ -1,4 +1,4 @@
-ghost use Rattle.std.specs.Prelude.{◌≡◌, ◌≤◌, ℕ, Bool, IsTrue, length, take, OnOk, IfOk};
+ghost use Rattle.std.specs.Prelude.{◌≡◌, ◌≤◌, ℕ, Bool, IsTrue, length, take, OnOk, OnErr, IfOk};
 ghost use Rattle.ziti_outside.specs.Causes.{HasCause};
 ghost use Rattle.ziti_outside.specs.Images.{Image, Holds, StandAt, Torn, CutShort, Else, OnPart, After, IsStable};
 ghost use Rattle.ziti_desk.specs.DriveStops.{Finds};
@@ -39,20 +39,24 @@ pub trait Drive {
 
     /// Writes the bytes at the place `at` of the part, over what is there and past its end, behind which `at` does not lie.
     ///
-    /// Until the part is synced the write is pending, and after a failed call too: a stop may find any bytes in the range.
+    /// Until the part is synced the write is pending, and after a failed call too: a stop may find any bytes in the range, and so
+    /// may a read behind a failed call.
     fn write_at(&mut self, part: Part, at: u64, bytes: &[u8]) -> Result<(), Failed>
         requires within { IsTrue tells → at ≤ length (reads self.old part) }
         ensures written { OnOk result (IsTrue tells → Holds at bytes.now (reads self.old part) (reads self.new part)) }
+        ensures torn { OnErr result (IsTrue tells → Torn at (length bytes.now) (reads self.old part) (reads self.new part)) }
         ensures elsewhere { Else part (reads self.old) (reads self.new) }
         ensures cause { HasCause (faults self.old) (faults self.new) result }
         ensures stops { Finds moment since may_leave self.old self.new (After (OnPart part (Torn at (length bytes.now))) (may_leave self.old)) };
 
     /// Cuts the part to a length of at most its own.
     ///
-    /// Until the part is synced the cut is pending, and after a failed call too: a stop may find any length between.
+    /// Until the part is synced the cut is pending, and after a failed call too: a stop may find any length between, and so may
+    /// a read behind a failed call.
     fn cut(&mut self, part: Part, len: u64) -> Result<(), Failed>
         requires within { IsTrue tells → len ≤ length (reads self.old part) }
         ensures cut { OnOk result (IsTrue tells → reads self.new part ≡ take len (reads self.old part)) }
+        ensures cut_short { OnErr result (IsTrue tells → CutShort len (reads self.old part) (reads self.new part)) }
         ensures elsewhere { Else part (reads self.old) (reads self.new) }
         ensures cause { HasCause (faults self.old) (faults self.new) result }
         ensures stops { Finds moment since may_leave self.old self.new (After (OnPart part (CutShort len)) (may_leave self.old)) };

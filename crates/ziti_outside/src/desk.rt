@@ -1,4 +1,4 @@
-ghost use Rattle.std.specs.Prelude.{◌≡◌, ◌≤◌, List, ℕ, Bool, IsTrue, length, take, OnOk, IfOk};
+ghost use Rattle.std.specs.Prelude.{◌≡◌, ◌≤◌, List, ℕ, Bool, IsTrue, length, take, OnOk, OnErr, IfOk};
 ghost use Rattle.std.specs.declared.option.Option.{Option};
 ghost use Rattle.ziti_outside.specs.declared.desk.Part.{Part};
 ghost use Rattle.ziti_outside.specs.Told.{AreTaken, Hands};
@@ -77,10 +77,12 @@ pub trait Desk {
 
     /// Writes the bytes at the place `at` of the part, over what is there and past its end, behind which `at` does not lie.
     ///
-    /// Until the part is synced the write is pending, and after a failed call too: a stop may find any bytes in the range.
+    /// Until the part is synced the write is pending, and after a failed call too: a stop may find any bytes in the range, and so
+    /// may a read behind a failed call.
     fn write_at(&mut self, part: Part, at: u64, bytes: &[u8]) -> Result<(), Failed>
         requires within { IsTrue tells → at ≤ length ((seen self.old).reads part) }
         ensures written { OnOk result (IsTrue tells → Holds at bytes.now ((seen self.old).reads part) ((seen self.new).reads part)) }
+        ensures torn { OnErr result (IsTrue tells → Torn at (length bytes.now) ((seen self.old).reads part) ((seen self.new).reads part)) }
         ensures elsewhere { Else part (seen self.old).reads (seen self.new).reads }
         ensures cause { HasCause (seen self.old).disk_faults (seen self.new).disk_faults result }
         ensures others { OnlyDisk seen self.old self.new }
@@ -90,10 +92,12 @@ pub trait Desk {
 
     /// Cuts the part to a length of at most its own.
     ///
-    /// Until the part is synced the cut is pending, and after a failed call too: a stop may find any length between.
+    /// Until the part is synced the cut is pending, and after a failed call too: a stop may find any length between, and so may
+    /// a read behind a failed call.
     fn cut(&mut self, part: Part, len: u64) -> Result<(), Failed>
         requires within { IsTrue tells → len ≤ length ((seen self.old).reads part) }
         ensures cut { OnOk result (IsTrue tells → (seen self.new).reads part ≡ take len ((seen self.old).reads part)) }
+        ensures cut_short { OnErr result (IsTrue tells → CutShort len ((seen self.old).reads part) ((seen self.new).reads part)) }
         ensures elsewhere { Else part (seen self.old).reads (seen self.new).reads }
         ensures cause { HasCause (seen self.old).disk_faults (seen self.new).disk_faults result }
         ensures others { OnlyDisk seen self.old self.new }

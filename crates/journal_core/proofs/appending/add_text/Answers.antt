@@ -1,5 +1,6 @@
+use Rattle.std.proofs.Common.{refl}
 use Rattle.ziti_outside.proofs.MomentLaws.{Leaves-weaker, Leaves-then}
-use Rattle.journal_core.proofs.GateLaws.{written_behind}
+use Rattle.journal_core.proofs.GateLaws.{gate_added, written_behind}
 use Rattle.journal_core.proofs.StopLaws.{images_behind, images_gate}
 use Rattle.journal_core.proofs.appending.add_text.Goals as goal
 
@@ -14,3 +15,6 @@ returns-clause-stops g c = λ told.
     Leaves-then _ c.put_down.ensures.stops c.put_down-2.ensures.stops
     (images_behind c.args.text.now closed stable)
     (images_gate stable (written_behind closed (c.in_ok-put_down.ensures.written told)) c.in_ok-put_down.ensures.stable c.put_down.ensures.stops.found)
+
+pub returns-clause-added : goal.returns-clause-added
+returns-clause-added g c = gate_added c.args.at c.args.text.now _ _ _ _ c.put_down-2.result refl c.requires.closed c.in_ok-put_down.ensures.written c.put_down-2.ensures.written

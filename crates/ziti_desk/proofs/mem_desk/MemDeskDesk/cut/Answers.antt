@@ -1,5 +1,5 @@
 use Rattle.std.proofs.Common.{refl}
-use Rattle.ziti_desk.proofs.MemSteps.{cut_outcome, cut_elsewhere, cut_holds}
+use Rattle.ziti_desk.proofs.MemSteps.{cut_outcome, cut_elsewhere, cut_holds, cut_torn}
 use Rattle.ziti_desk.proofs.mem_desk.MemDeskDesk.cut.Goals as goal
 
 pub invariant_of-self : goal.invariant_of-self
@@ -8,6 +8,10 @@ invariant_of-self c = let outcome = cut_outcome c.cut_part-answer.result _ c.arg
 pub returns-clause-cut : goal.returns-clause-cut
 returns-clause-cut c =
     rw c.counted.ensures.answer (cut_holds c.cut_part-answer.result c.args.self.now.held c.cut_part-answer.new.held c.args.self.now.log c.cut_part-answer.new.log c.args.part c.args.len c.cut_part-answer.ensures.ok)
+
+pub returns-clause-cut_short : goal.returns-clause-cut_short
+returns-clause-cut_short c =
+    rw c.counted.ensures.answer (cut_torn c.cut_part-answer.result c.args.self.now.held c.cut_part-answer.new.held c.args.self.now.log c.cut_part-answer.new.log c.args.part c.args.len c.cut_part-answer.ensures.err)
 
 pub returns-clause-elsewhere : goal.returns-clause-elsewhere
 returns-clause-elsewhere c =
