@@ -2,11 +2,13 @@
 use Rattle.std.specs.Prelude.{⊤, not, cond, IfOk}
 use Rattle.std.proofs.Common.{◌≡◌, ℕ, zero, suc, Bool, true, false, List, [], ◌++◌, get_or, Ok, Err, inl, codes, decimal, refl, sym, ap, ◌∙◌, subst, append_assoc, append-nil, arith}
 use Rattle.std.proofs.Math.ListN.{get_or-map}
+use Rattle.std.proofs.lemmas.Bool.{false≢true}
 use Rattle.session_mux.specs.declared.sessions.Session.{Session}
 use Rattle.session_mux.specs.declared.sessions.Session.TheVariants.{Unopened}
 use Rattle.session_mux.specs.Completion.{Standing, session_at, settled_session, end_of, rest_len}
 use Rattle.session_mux.specs.MuxSteps.{HasMoved}
 use Rattle.session_mux.proofs.EventLaws.{rest_settled}
+use Rattle.session_mux.proofs.TableLaws.{none_each}
 use Rattle.run_notes.specs.Inputs.{held_or_closed, rest_at}
 use Rattle.std.specs.declared.option.Option.{Option}
 use Rattle.std.specs.declared.result.Result.{Result}
@@ -27,35 +29,31 @@ use Rattle.run_notes.specs.NotesSoFar.{IsNoted, NotesMore}
 use Rattle.ziti_outside.specs.declared.desk.Part.{Part}
 use Rattle.ziti_outside.specs.Views.{Seen, Stopped}
 
--- A note writes its lines whole, or fails.
-pub notes_lines : (r : Result ⊤ Failed) (lines : List ℕ) (a b : Seen) → Hands a.noted b.noted r lines → HasCause a.note_faults b.note_faults r → NotesLines lines a b
-notes_lines (Ok u) lines a b taken cause = record { part = (lines, IsFront-all lines, taken); whole = λ _. taken }
-notes_lines (Err e) lines a b taken cause = record { part = taken; whole = λ calm. absurd (calm cause.failed) }
-
 -- Nothing was noted where there was nothing to note.
 pub notes_none : (a : Seen) → NotesLines [] a a
-notes_none a = record { part = ([], IsFront-none [], Took-none a.noted); whole = λ _. Took-none a.noted }
+notes_none a = record { part = ([], IsFront-none [], Took-none a.noted); whole = λ _. Took-none a.noted; none = λ _. (refl, refl) }
 
 -- What was noted since a desk that had noted the same.
 pub notes_from : (lines : List ℕ) (a b c : Seen) → b.noted ≡ a.noted → b.note_faults ≡ a.note_faults → NotesLines lines b c → NotesLines lines a c
 notes_from lines a b c q r noted = record {
   part = subst (λ (x : Option (List ℕ)). TookFront x c.noted lines) q noted.part;
   whole = λ calm. subst (λ (x : Option (List ℕ)). Took x c.noted lines) q (noted.whole (λ rose. calm (subst (λ (n : ℕ). Rose n c.note_faults) r rose)));
+  none = λ e. ((noted.none e).0 ∙ q, (noted.none e).1 ∙ r);
 }
 
 -- ---- what a run noted so far
 
 -- Nothing at first.
 pub noted_none : (a : Seen) → IsNoted false [] a a
-noted_none a = (Took-none a.noted, refl)
+noted_none a = (Took-none a.noted, refl, λ _. refl)
 
 -- What was noted so far, as lines.
 pub noted_lines : (failed : Bool) (lines : List ℕ) (a b : Seen) → IsNoted failed lines a b → NotesLines lines a b × RisesOnce a.note_faults b.note_faults
 noted_lines false lines a b noted = (
-  record { part = (lines, IsFront-all lines, noted.0); whole = λ _. noted.0 },
+  record { part = (lines, IsFront-all lines, noted.0); whole = λ _. noted.0; none = λ e. (noted.2 e, noted.1) },
   record { later = omega (arith, noted.1); once = omega (arith, noted.1) },
 )
-noted_lines true lines a b noted = (record { part = noted.0; whole = λ calm. absurd (calm noted.1) }, noted.2)
+noted_lines true lines a b noted = (record { part = noted.0; whole = λ calm. absurd (calm noted.1); none = λ e. absurd (noted.3 e) }, noted.2)
 
 -- Lines behind lines.
 pub more_then : (f g h : Bool) (first last : List ℕ) (a b c : Seen) → NotesMore f g first a b → NotesMore g h last b c → NotesMore f h (first ++ last) a c
@@ -68,11 +66,12 @@ more_none f a = λ before o noted. subst (λ (l : List ℕ). IsNoted f l o a) (s
 
 -- So it was noted still, where the notes are as they were.
 noted_still : (f : Bool) (lines : List ℕ) (o a b : Seen) → b.noted ≡ a.noted → b.note_faults ≡ a.note_faults → IsNoted f lines o a → IsNoted f lines o b
-noted_still false lines o a b q r noted = (subst (λ (x : Option (List ℕ)). Took o.noted x lines) (sym q) noted.0, r ∙ noted.1)
+noted_still false lines o a b q r noted = (subst (λ (x : Option (List ℕ)). Took o.noted x lines) (sym q) noted.0, r ∙ noted.1, λ e. q ∙ noted.2 e)
 noted_still true lines o a b q r noted = (
   subst (λ (x : Option (List ℕ)). TookFront o.noted x lines) (sym q) noted.0,
   subst (λ (k : ℕ). Rose o.note_faults k) (sym r) noted.1,
   subst (λ (k : ℕ). RisesOnce o.note_faults k) (sym r) noted.2,
+  noted.3,
 )
 
 -- These lines still are, where the notes are as they were behind them.
@@ -86,19 +85,24 @@ more_left f g a b p q r = rw p (more_still f f [] a a b q r (more_none f a))
 -- Once a note failed, no lines are noted.
 pub more_failed : (lines : List ℕ) (a : Seen) → NotesMore true true lines a a
 more_failed lines a = λ before o noted.
-    ((noted.0.0, IsFront-longer noted.0.0 before lines (before ++ lines) noted.0.1 refl, noted.0.2), noted.1, noted.2)
+    ((noted.0.0, IsFront-longer noted.0.0 before lines (before ++ lines) noted.0.1 refl, noted.0.2), noted.1, noted.2, λ e. noted.3 (none_each before lines e).0)
 
--- Where none failed, the lines are noted, or this note fails.
-pub more_noted : (failed : Bool) (told : Bool) (lines : List ℕ) (a b : Seen) → failed ≡ not told → NotesLines lines a b → IsNoteCaused lines a b told → RisesOnce a.note_faults b.note_faults
+-- Where none failed, the lines are noted, or this note fails, as none of no lines does.
+pub more_noted : (failed : Bool) (told : Bool) (lines : List ℕ) (a b : Seen) → failed ≡ not told → (lines ≡ [] → told ≡ true) → NotesLines lines a b → IsNoteCaused lines a b told → RisesOnce a.note_faults b.note_faults
     → NotesMore false failed lines a b
-more_noted failed true lines a b is noted caused once =
-    subst (λ (f : Bool). NotesMore false f lines a b) (sym is) (λ before o so. (Took-then o.noted a.noted b.noted before lines so.0 caused.0, caused.1 ∙ so.1))
-more_noted failed false lines a b is noted caused once =
+more_noted failed true lines a b is good noted caused once =
+    subst (λ (f : Bool). NotesMore false f lines a b) (sym is) (λ before o so. (
+      Took-then o.noted a.noted b.noted before lines so.0 caused.0,
+      caused.1 ∙ so.1,
+      λ e. (noted.none (none_each before lines e).1).0 ∙ so.2 (none_each before lines e).0,
+    ))
+more_noted failed false lines a b is good noted caused once =
     subst (λ (f : Bool). NotesMore false f lines a b) (sym is)
     (λ before o so. (
       (before ++ noted.part.0, IsFront-then before noted.part.0 lines (before ++ lines) noted.part.1 refl, Took-then o.noted a.noted b.noted before noted.part.0 so.0 noted.part.2),
       subst (λ (k : ℕ). Rose k b.note_faults) so.1 caused,
       subst (λ (k : ℕ). RisesOnce k b.note_faults) so.1 once,
+      λ e. false≢true (good (none_each before lines e).1),
     ))
 
 -- The parts of a session's note, in a row.

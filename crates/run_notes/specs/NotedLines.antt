@@ -14,10 +14,12 @@ pub record RisesOnce (before now : ℕ) : Type 0 where
   pub later : before ≤ now
   pub once : now ≤ before + 1
 
--- These lines were noted: all of them where the count of failed notes did not rise, else a front of them.
+-- These lines were noted: all of them where the count of failed notes did not rise, else a front of them. Where there are none, the notes and
+-- that count are as they were.
 pub record NotesLines (lines : List ℕ) (before now : Seen) : Type 0 where
   pub part : TookFront before.noted now.noted lines
   pub whole : (Rose before.note_faults now.note_faults → ⊥) → Took before.noted now.noted lines
+  pub none : lines ≡ [] → (now.noted ≡ before.noted) × (now.note_faults ≡ before.note_faults)
 
 -- The notes are as they were, and no fault of theirs was counted.
 pub record LeavesNotes {D : Type 0} (seen : D → Seen) (old new : D) : Type 0 where

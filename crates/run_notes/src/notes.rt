@@ -1,4 +1,4 @@
-ghost use Rattle.std.specs.Prelude.{◌≡◌, ◌++◌, false, OnOk, OnErr, codes, decimal};
+ghost use Rattle.std.specs.Prelude.{◌≡◌, ◌++◌, true, false, [], OnOk, OnErr, codes, decimal};
 ghost use Rattle.ziti_outside.specs.Untouched.{OnlyNotes};
 ghost use Rattle.run_notes.specs.NotedLines.{FindsNoMore, IsNoteCaused, LeavesNotes, NotesLines, RisesOnce};
 ghost use Rattle.run_notes.specs.Notes.{fault_word as word_of_fault, session_note};
@@ -14,9 +14,10 @@ pub struct Notes {
     failed: bool,
 }
 
-/// Notes the lines, if there are any. Answers whether no note failed.
+/// Notes the lines. Where there are none it makes no call on the desk. Answers whether no note failed.
 pub fn note_lines<D: Desk>(lines: &[u8], desk: &mut D) -> bool
     ensures noted { NotesLines lines.now (D.seen desk.old) (D.seen desk.new) }
+    ensures none { lines.now ≡ [] → (desk.new ≡ desk.old) × (result ≡ true) }
     ensures cause { IsNoteCaused lines.now (D.seen desk.old) (D.seen desk.new) result }
     ensures counted { RisesOnce (D.seen desk.old).note_faults (D.seen desk.new).note_faults }
     ensures others { OnlyNotes D.seen D.stopped desk.old desk.new }
@@ -33,9 +34,10 @@ impl Notes {
         Notes { failed: false }
     }
 
-    /// Notes the lines, unless a note failed before.
+    /// Notes the lines, unless a note failed before. Where there are none the desk is left as it is.
     pub fn write<D: Desk>(&mut self, lines: &[u8], desk: &mut D)
         ensures noted { NotesMore self.old.failed self.new.failed lines.now (D.seen desk.old) (D.seen desk.new) }
+        ensures none { lines.now ≡ [] → (desk.new ≡ desk.old) × (self.new.failed ≡ self.old.failed) }
         ensures others { OnlyNotes D.seen D.stopped desk.old desk.new }
         ensures stops { FindsNoMore D.stopped desk.old desk.new }
     {
