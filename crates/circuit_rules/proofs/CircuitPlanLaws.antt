@@ -57,11 +57,6 @@ pub asked_so : (answer : Ask → State → Reply × State) (a : Ask) (r : Reques
     → Answers (answer a) p plan → Answers (λ s. answer (ask_at r s) s) p plan
 asked_so answer a r p plan e h = subst (λ b. Answers (answer b) p plan) e h
 
--- a plan for a request is one for what it asks
-pub asked_as : (answer : Ask → State → Reply × State) (r : Request) (asks : State → Ask) (p : Parts) (plan : Plan CircuitChange) → ((s : State) → ask_at r s ≡ asks s)
-    → Answers (λ s. answer (ask_at r s) s) p plan → Answers (λ s. answer (asks s) s) p plan
-asked_as answer r asks p plan e h = subst (λ (f : State → Ask). Answers (λ s. answer (f s) s) p plan) (λ i s. e s i) h
-
 -- ---- denials and grants
 
 -- the answer to CreateCircuit where a candidate is granted

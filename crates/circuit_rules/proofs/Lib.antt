@@ -1,6 +1,7 @@
 pub mod OfferLaws
 pub mod ChoiceLaws
 pub mod GraphLaws
+pub mod EntryLaws
 pub mod WayLaws
 pub mod SearchLaws
 pub mod RankLaws

@@ -1,11 +1,11 @@
 -- The circuit of the best candidate stands in the state of the request: what grants it does, and its links are a path.
-use Rattle.std.proofs.Common.{◌≡◌, ℕ, ◌==◌, Bool, true, false, ◌&&◌, count_by, nat_lt, zero, suc, arith, lt-ltb, Option, None, Some, refl, sym, ◌∙◌, ap, subst}
+use Rattle.std.proofs.Common.{◌≡◌, ℕ, ◌==◌, true, false, count_by, nat_lt, zero, suc, arith, lt-ltb, Option, None, Some, refl, sym, ◌∙◌, ap, subst}
 use Rattle.std.proofs.lemmas.Bool.{and_parts, and_from, false≢true, true≢false}
 use Rattle.std.proofs.lemmas.Option.{same_Some}
 use Rattle.std.specs.Option.{option_map_or}
 use Rattle.std.specs.Str.{bytes_eq}
 use Rattle.ctrl_model.specs.declared.kinds.Relation.TheVariants.{Dial}
-use Rattle.ctrl_model.specs.Choices.{Ask, Candidate, IsCandidate, best, candidate, first_rule}
+use Rattle.ctrl_model.specs.Choices.{Ask, Candidate, IsCandidate, best, first_rule}
 use Rattle.ctrl_model.specs.Grants.{count, joins, on_both, policies_for}
 use Rattle.ctrl_model.specs.Networks.{Network, network_of, is_counted}
 use Rattle.ctrl_model.specs.Numbered.{at, numbers, Between}

@@ -4,7 +4,7 @@ use Rattle.std.specs.Prelude.{◌≡◌, ℕ, ⊤, None, Some, Ok, Err}
 use Rattle.std.specs.declared.result.Result.{Result}
 use Rattle.ctrl_model.specs.Networks.{Network}
 use Rattle.ctrl_model.specs.Choices.{Ask, Candidate, best, first_rule}
-use Rattle.model_laws.specs.Denials.{MayDial}
+use Rattle.model_laws.specs.Denials.{MayEnter}
 use Rattle.circuit_rules.specs.declared.views.Route.{Route}
 use Rattle.circuit_rules.specs.declared.views.DecideFault.{DecideFault}
 use Rattle.circuit_rules.specs.declared.views.DecideFault.TheVariants as fault
@@ -31,7 +31,8 @@ Decides w ask (Ok r) = Grants w ask r
 Decides w ask (Err (fault.Denied d)) = first_rule w ask ≡ Some d
 Decides w ask (Err fault.NoMemory) = ⊤
 
--- Memory can be wanting only for a request that the rules without need of memory pass: its identity and its service are present, it
--- names no absent ingress, and the identity is granted Dial on the service.
+-- Memory can be wanting only for a request that the rules without need of memory pass: its identity and its service are present, the
+-- identity is granted Dial on the service, and there is a router where the circuit may enter. What else denies a request is found with
+-- memory: the rules on terminators by a list of them, and those on the way, of which that of full circuits is the last, by a search.
 abbrev pub MayWantMemory : Network → Ask → Type 0
-MayWantMemory w ask = (i : ℕ) × (s : ℕ) × MayDial w ask i s
+MayWantMemory w ask = (i : ℕ) × (s : ℕ) × MayEnter w ask i s

@@ -1,5 +1,5 @@
 -- What the private functions of the search for a route find. No public contract cites it.
-use Rattle.std.specs.Prelude.{◌≡◌, ℕ, suc, ◌+◌, ◌<◌, ◌≤◌, ◌==◌, Bool, true, false, cond, ⊤, List, [], ◌∷◌, ◌++◌, map, filter, length, None, Some, Ok, Err}
+use Rattle.std.specs.Prelude.{◌≡◌, ℕ, suc, ◌<◌, ◌==◌, Bool, true, false, cond, ⊤, List, [], ◌∷◌, ◌++◌, map, filter, length, None, Some, Ok, Err}
 use Rattle.std.specs.declared.option.Option.{Option}
 use Rattle.std.specs.declared.result.Result.{Result}
 use Rattle.std.specs.Option.{option_map_or}
@@ -50,9 +50,9 @@ end_rules w ask i s = entry_rules w ask.ingress i s ++ offer_rules w s ask.insta
 abbrev pub way_rules : Network → Ask → ℕ → ℕ → List (Bool × Denial)
 way_rules w ask i s = (is_nothing (candidates_for w ask i s), NoPath) ∷ (w.full, CircuitsFull) ∷ []
 
--- A request passes the rules that take no memory: it names no absent ingress, and its identity is granted Dial on its service.
-abbrev pub PassesAtOnce : Network → Wanted → ℕ → ℕ → Type 0
-PassesAtOnce w ingress i s = (is_absent ingress ≡ false) × ((w.dial i s == 0) ≡ false)
+-- None of the rules on where a circuit enters fails.
+abbrev pub MayBeEntered : Network → Wanted → ℕ → ℕ → Type 0
+MayBeEntered w ingress i s = first_denial (entry_rules w ingress i s) ≡ None
 
 -- What comes of a part of the rules: something where none of them fails, and else the denial of the first that fails.
 abbrev pub Passes : {X : Type 0} → List (Bool × Denial) → (X → Type 0) → Result X DecideFault → Type 0

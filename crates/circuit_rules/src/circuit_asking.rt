@@ -1,7 +1,6 @@
 ghost use Rattle.std.specs.Prelude.{◌≡◌, IfOk};
-ghost use Rattle.ctrl_model.specs.CircuitCommands.{ask_of, wanted_ingress};
+ghost use Rattle.ctrl_model.specs.CircuitCommands.{wanted_ingress};
 ghost use Rattle.ctrl_model.specs.Claims.{justified};
-ghost use Rattle.ctrl_model.specs.State.{State};
 ghost use Rattle.circuit_rules.specs.Decisions.{Decides};
 ghost use Rattle.circuit_rules.specs.Views.{network, asked, wanted_of};
 ghost use Rattle.circuit_rules.specs.Explanations.{Explains};
@@ -26,25 +25,6 @@ pub struct Request<'a> {
     pub service: &'a Name,
     pub ingress: &'a Option<Name>,
     pub instance: &'a Instance,
-}
-
-impl<'a> Request<'a> {
-    /// The request of what a command names.
-    pub fn of(
-        identity: &'a Name,
-        service: &'a Name,
-        ingress: &'a Option<Name>,
-        instance: &'a Instance,
-    ) -> Request<'a>
-        ensures { (s : State) → ask_at result s ≡ ask_of identity.now service.now ingress.now instance.now s }
-    {
-        Request {
-            identity,
-            service,
-            ingress,
-            instance,
-        }
-    }
 }
 
 // The ingress that a request names, by its number.

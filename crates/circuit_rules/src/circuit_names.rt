@@ -25,5 +25,8 @@ pub fn router_name(entities: &Entities, router: RouterNo) -> Result<Name, AllocE
     requires { is_present entities.now.routers.rows router.0 ≡ true }
     ensures { IfOk result (λ name. name ≡ router_at router.0 entities.now) }
 {
-    name_at(entities, Kind::Router, router.0)
+    let Some(router) = entities.router(router) else {
+        unreachable!()
+    };
+    router.name.copy()
 }

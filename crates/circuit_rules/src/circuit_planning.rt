@@ -49,7 +49,10 @@ fn plan_grant(parts: &Parts, ask: &Ask, route: Route) -> Result<Plan<CircuitChan
         ingress: route.ingress,
         links: route.links,
     };
-    Ok(Plan::changed(reply, CircuitChange::Add(circuit)))
+    Ok(Plan {
+        reply,
+        change: Some(CircuitChange::Add(circuit)),
+    })
 }
 
 // Plans the answer to CreateCircuit.
@@ -163,7 +166,12 @@ fn plan_claim(
     else {
         return Ok(None);
     };
-    let request = Request::of(identity, service, ingress, instance);
+    let request = Request {
+        identity,
+        service,
+        ingress,
+        instance,
+    };
     let plan = plan_verify_route(
         alloc,
         parts,
@@ -215,7 +223,12 @@ fn plan_without_claim(
             ingress,
             instance,
         } => {
-            let request = Request::of(identity, service, ingress, instance);
+            let request = Request {
+                identity,
+                service,
+                ingress,
+                instance,
+            };
             Ok(Some(plan_create_circuit(alloc, parts, &request)?))
         }
         Command::DeleteCircuit { no } => Ok(Some(plan_delete_circuit(parts, CircuitNo(*no)))),
@@ -225,7 +238,12 @@ fn plan_without_claim(
             ingress,
             instance,
         } => {
-            let request = Request::of(identity, service, ingress, instance);
+            let request = Request {
+                identity,
+                service,
+                ingress,
+                instance,
+            };
             Ok(Some(plan_explain(alloc, parts, &request)?))
         }
         Command::ShowCircuit { no } => Ok(Some(plan_show_circuit(parts, CircuitNo(*no))?)),

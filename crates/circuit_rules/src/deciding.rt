@@ -7,7 +7,7 @@ ghost use Rattle.fabric_graph.specs.Routers.{AreRouters};
 ghost use Rattle.circuit_rules.specs.Views.{network, asked};
 ghost use Rattle.circuit_rules.specs.Decisions.{Decides, MayWantMemory};
 ghost use Rattle.path_search.specs.Visits.{costs_to};
-ghost use Rattle.circuit_rules.specs.Searched.{Passes, PassesAtOnce, end_rules, GoesFirst, IsSearched, IsBestWay, IsSearchOf, exits_at};
+ghost use Rattle.circuit_rules.specs.Searched.{MayBeEntered, Passes, end_rules, GoesFirst, IsSearched, IsBestWay, IsSearchOf, exits_at};
 ghost use Rattle.path_search.specs.RouteChoices.{AreCosts};
 ghost use Rattle.circuit_rules.specs.FoundRoutes.{AreWithin, IsFoundFirst, AreEnds, route_found};
 
@@ -147,7 +147,7 @@ fn ends_of(
 ) -> Result<Ends, DecideFault>
     requires routers { AreRouters view.now.routers.now }
     ensures ends { Passes (end_rules (network view.now) (asked ask.now) identity.0 service.0) (AreEnds (network view.now) (asked ask.now) identity.0 service.0) result }
-    ensures memory { IsErrOf result DecideFault.NoMemory → PassesAtOnce (network view.now) (asked ask.now).ingress identity.0 service.0 }
+    ensures memory { IsErrOf result DecideFault.NoMemory → MayBeEntered (network view.now) (asked ask.now).ingress identity.0 service.0 }
 {
     let ingresses = allowed_ingresses(alloc, view, ask.ingress, identity, service)?;
     let offers = allowed_offers(alloc, view, service, &ask.instance)?;
@@ -185,7 +185,7 @@ fn best_route(
     requires what { (asked ask.now).service ≡ Some service.0 }
     ensures best { Passes (end_rules (network view.now) (asked ask.now) identity.0 service.0) (λ o. IsBestWay (network view.now) (asked ask.now) identity.0 service.0 (option_map (λ f. f.route) o)) result }
     ensures search { IfOk result (λ o. IfSome o (λ f. IsSearchOf (network view.now) f.search)) }
-    ensures memory { IsErrOf result DecideFault.NoMemory → PassesAtOnce (network view.now) (asked ask.now).ingress identity.0 service.0 }
+    ensures memory { IsErrOf result DecideFault.NoMemory → MayBeEntered (network view.now) (asked ask.now).ingress identity.0 service.0 }
 {
     let _next = view.terminators.next();
     let ends = ends_of(alloc, view, ask, identity, service)?;

@@ -36,12 +36,19 @@ impl Settled {
     }
 }
 
-/// Takes out what goes and moves the circuits that go on over other links.
+/// Takes out what goes and moves the circuits that go on over other links. Where nothing settles no store is asked.
 pub fn take_out(stores: &mut Stores, settled: Settled)
     requires { HoldsPolicies stores.old }
     ensures carried { Carries stores.old stores.new (without_settled settled (state_of stores.old)) }
     ensures terminators { stores.new.terminators ≡ without_terms settled.terminators stores.old.terminators }
 {
+    if settled.links.is_empty()
+        && settled.terminators.is_empty()
+        && settled.ended.is_empty()
+        && settled.moves.is_empty()
+    {
+        return;
+    }
     stores.fabric.remove_each(&settled.links);
     stores.terminators.remove_each(&settled.terminators);
     stores.circuits.remove_each(&settled.ended);

@@ -1,4 +1,4 @@
-use Rattle.std.proofs.Common.{◌≡◌, sym, ◌∙◌, ap, subst, true}
+use Rattle.std.proofs.Common.{◌≡◌, sym, ap, subst, true}
 use Rattle.std.specs.Option.{option_map}
 use Rattle.ctrl_model.specs.declared.replies.Reply.TheVariants as reply
 use Rattle.ctrl_model.specs.CircuitCommands.{create_circuit}
@@ -27,8 +27,8 @@ returns c =
     let name : c.in_ok-name.name ≡ router_at r.ingress.0 p.entities.now = c.in_ok-name.ensures in
     let links : c.in_ok-links.links ≡ r.links = c.in_ok-links.ensures in
     let circuit : Granted = record { identity = c.in-Some.identity.0; service = c.in-Some-service.service.0; terminator = r.terminator.0; ingress = r.ingress.0; links = r.links } in
-    let is : c.changed.result ≡ plan_of_grant p r c.in-Some.identity c.in-Some-service.service =
-    c.changed.ensures ∙ (λ i. changed (reply.Circuit (record { 0 = number i }) (name i) (links i) r.terminator r.total) (change.Add circuit)) in
+    let is : changed (reply.Circuit (record { 0 = c.next.result }) c.in_ok-name.name c.in_ok-links.links r.terminator r.total) (change.Add circuit) ≡ plan_of_grant p r c.in-Some.identity c.in-Some-service.service =
+    λ i. changed (reply.Circuit (record { 0 = number i }) (name i) (links i) r.terminator r.total) (change.Add circuit) in
     subst (Answers (create_circuit (asked c.args.ask.now)) p) (sym is)
     (grant_planned p (asked c.args.ask.now) r c.in-Some.identity c.in-Some-service.service (ap (option_map (λ i. i.0)) c.in-Some.is) (ap (option_map (λ s. s.0)) c.in-Some-service.is)
     c.requires.granted)

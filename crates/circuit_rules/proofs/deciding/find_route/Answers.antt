@@ -1,8 +1,9 @@
 use Rattle.std.proofs.Common.{rules, ap, subst}
+use Rattle.circuit_rules.proofs.EntryLaws.{entered_wants}
 use Rattle.std.specs.Option.{option_map}
 use Rattle.circuit_rules.specs.declared.deciding.Found.{Found}
 use Rattle.circuit_rules.specs.Views.{network, asked}
-use Rattle.circuit_rules.specs.Searched.{IsBestWay}
+use Rattle.circuit_rules.specs.Searched.{IsBestWay, MayBeEntered}
 use Rattle.circuit_rules.proofs.RequestLaws.{no_path, no_room, granted, denied, handed_on}
 use Rattle.circuit_rules.proofs.deciding.find_route.Goals as goal
 
@@ -52,3 +53,10 @@ returns-in_default-clause-decides c = search rules
 
 pub returns-in_default-service-clause-decides : goal.returns-in_default-service-clause-decides
 returns-in_default-service-clause-decides c = search rules
+
+pub returns-in_err-found-clause-memory : goal.returns-in_err-found-clause-memory
+returns-in_err-found-clause-memory c = λ wants.
+    let w = network c.args.view.now in
+    let ask = asked c.args.ask.now in
+    let entered : MayBeEntered w ask.ingress c.in-Some.identity.0 c.in-Some-service.service.0 = search rules in
+    entered_wants w ask c.in-Some.identity.0 c.in-Some-service.service.0 (ap (option_map (λ n. n.0)) c.in-Some.is) (ap (option_map (λ n. n.0)) c.in-Some-service.is) entered
