@@ -1,5 +1,6 @@
 -- What stands at the front of some bytes.
 use Rattle.std.proofs.Common.{◌≡◌, ℕ, ◌+◌, ◌<◌, ◌≤◌, Bool, true, false, cond, ltb, List, [], ◌++◌, length, take, drop, Option, Some, None, Result, Ok, Err, refl, sym, ap, subst, ◌∙◌, append_assoc, arith, inl, inr}
+use Rattle.std.specs.Prelude.{is_some}
 use Rattle.std.proofs.Math.Seq.{take-add}
 use Rattle.std.proofs.lemmas.Bool.{ltb-false, le-ltb, lt-ltb, cases_lt}
 use Rattle.std.proofs.lemmas.List.{append-nil, take-append-drop, get_or-take, take_at, drop_at, drop-drop, take_all, length-append, length-drop, length-take-le, get_or_append_left, take-append-le, drop-append-le, append_cancel_left}
@@ -12,9 +13,10 @@ use Rattle.channel_frame.specs.declared.frames.Front.{Front}
 use Rattle.channel_frame.specs.declared.frames.Front.TheVariants.{Short, Bad, Whole}
 use Rattle.channel_frame.specs.FrameSpelling.{head_for, head_spelling, headers_spelling, spelling, IsHead, IsFrame, KeepsLimits}
 use Rattle.channel_frame.specs.StreamReading.{AreBytes, IsAnnounced, head_of, frame_len, headers_of, headers_part, with_headers, with_head, front}
+use Rattle.channel_frame.specs.AnnouncedFrames.{IsWholeFront}
 use Rattle.channel_frame.proofs.NumberLaws.{AreBytes-take, AreBytes-drop}
 use Rattle.channel_frame.proofs.HeadLaws.{made_head, head_again, head_takes, head_of-same}
-use Rattle.channel_frame.proofs.HeaderLaws.{headers_again, headers_take}
+use Rattle.channel_frame.proofs.HeaderLaws.{headers_again, headers_take, some_from}
 
 -- the frame of this head and these headers
 abbrev pub frame_at : Head → List Header → List ℕ → Frame
@@ -208,6 +210,16 @@ pub reads_bad : (bytes after part : List ℕ) (h : Head) → Cut bytes after par
 reads_bad bytes after part h cut are =
     let len : length bytes ≡ frame_len h = cut.whole in
     front_bad_headers bytes h (omega arith) cut.is_head (omega arith) (ap headers_of (cut_part bytes after part h cut) ∙ are)
+
+-- a frame stands whole where the headers part is a row of headers
+pub row_stands : (bytes after part : List ℕ) (h : Head) → Cut bytes after part h → is_some (headers_of part) ≡ true → IsWholeFront bytes
+row_stands bytes after part h cut is_row =
+    let some = some_from (headers_of part) is_row in
+    record {
+      frame = record { content = h.content; sequence = h.sequence; headers = some.0; body = drop h.headers_len after };
+      len = length bytes;
+      stands = reads_whole bytes after part (drop h.headers_len after) h some.0 cut some.1 refl;
+    }
 
 -- a frame that stands alone in some bytes is what they spell
 pub alone_spelled : (bytes : List ℕ) (f : Frame) → AreBytes bytes → front bytes ≡ Whole f (length bytes) → IsFrame f × (spelling f ≡ bytes)

@@ -8,6 +8,7 @@ use Rattle.channel_frame.specs.declared.frames.FrameFault.{FrameFault}
 use Rattle.channel_frame.specs.declared.frames.Front.{Front}
 use Rattle.channel_frame.specs.declared.frames.Front.TheVariants.{Short, Bad, Whole}
 use Rattle.channel_frame.specs.StreamReading.{front}
+use Rattle.channel_frame.specs.AnnouncedFrames.{IsWholeFront}
 use Rattle.channel_frame.proofs.FrontLaws.{front_stays}
 
 -- What a front part of the bytes shows whole or faulty, the bytes show.
@@ -26,7 +27,12 @@ whole_from_part bytes part n f is enough e =
 pub bad_from_part : (bytes part : List ℕ) (n : ℕ) (e : FrameFault) → part ≡ take n bytes → front part ≡ Bad e → Bad e ≡ front bytes
 bad_from_part bytes part n e is h = front_from_part bytes part n (Bad e) is h (λ s. cc)
 
--- What holds anyway holds where there is an error.
-pub at_error : {T E : Type 0} (r : Result T E) (P : Type 0) → P → OnErr r P
-at_error (Ok x) P p = tt
-at_error (Err e) P p = p
+-- A whole frame at the front of a front part stands at the front of all the bytes.
+pub stands_from_part : (bytes part : List ℕ) (n : ℕ) → part ≡ take n bytes → IsWholeFront part → IsWholeFront bytes
+stands_from_part bytes part n is w =
+    record { frame = w.frame; len = w.len; stands = sym (front_from_part bytes part n (Whole w.frame w.len) is w.stands (λ s. cc)) }
+
+-- What a cause gives holds where it is the cause of an error.
+pub at_error_weaker : {T E : Type 0} (r : Result T E) (P Q : Type 0) → (P → Q) → OnErr r P → OnErr r Q
+at_error_weaker (Ok x) P Q f p = tt
+at_error_weaker (Err e) P Q f p = f p

@@ -1,17 +1,18 @@
 -- The headers part: what is spelled is read, and what is read is spelled so.
 use Rattle.std.proofs.Common.{◌≡◌, ℕ, zero, suc, ◌+◌, ◌^◌, ◌<◌, ◌≤◌, Bool, true, false, cond, ltb, ◌||◌, List, [], ◌∷◌, ◌++◌, length, get_or, take, drop, Option, Some, None, refl, sym, ap, subst, ◌∙◌, append_assoc, arith}
+use Rattle.std.specs.Prelude.{is_some}
 use Rattle.std.specs.Option.{option_map}
 use Rattle.std.specs.List.{AllByRecursion}
 use Rattle.std.proofs.Math.Seq.{take-add}
-use Rattle.std.proofs.lemmas.Bool.{ltb-false, le-ltb}
-use Rattle.std.proofs.lemmas.List.{take-append-drop, take_at, drop_at, drop-drop, length-append, length-drop, length-take-le}
+use Rattle.std.proofs.lemmas.Bool.{ltb-false, le-ltb, lt-ltb}
+use Rattle.std.proofs.lemmas.List.{take-append-drop, take_at, drop_at, drop-drop, drop-take, append-nil, get_or-take, length-append, length-drop, length-take-le}
 use Rattle.std.proofs.lemmas.List.Folds.{length-flat_map-take}
 use Rattle.std.proofs.lemmas.Option.{same_Some}
 use Rattle.std.proofs.lemmas.Nat.{from_le_bytes-to_le_bytes_4}
 use Rattle.channel_frame.specs.declared.frames.Header.{Header}
 use Rattle.channel_frame.specs.FrameSpelling.{number, header_spelling, headers_spelling, IsHeader}
 use Rattle.channel_frame.specs.StreamReading.{AreBytes, number_at, header_at, headers_past, headers_of, and_then_headers, with_front}
-use Rattle.channel_frame.proofs.NumberLaws.{number_fits, number_takes, number_takes_at}
+use Rattle.channel_frame.proofs.NumberLaws.{number_at-same, number_fits, number_takes, number_takes_at}
 
 pub length-header_spelling : (h : Header) → length (header_spelling h) ≡ 8 + length h.value
 length-header_spelling h = omega arith
@@ -101,6 +102,92 @@ headers_step (b ∷ bytes) h lt e =
     let later : headers_past bytes (7 + length h.value) ≡ headers_of (drop (8 + length h.value) (b ∷ bytes)) = headers_past-drop bytes (7 + length h.value) ∙ ap headers_of (drop_next (length h.value) b bytes) in
     ap (λ (o : Option Header). and_then_headers o (headers_past bytes)) e ∙ ap (λ (o : Option (List Header)). option_map (λ (hs : List Header). h ∷ hs) o) later
 
+differ : (b : Bool) → b ≡ true → b ≡ false → ⊥
+differ true p q = absurd cc
+differ false p q = absurd cc
+
+-- the header that so many bytes spell
+abbrev pub cut_header : ℕ → List ℕ → Header
+cut_header len bytes = record { key = number_at 0 bytes; value = drop 8 (take len bytes) }
+
+some_kept : {A : Type 0} (b c : Bool) (x : A) → b ≡ false → c ≡ false → cond (b || c) None (Some x) ≡ Some x
+some_kept true c x p q = absurd cc
+some_kept false true x p q = absurd cc
+some_kept false false x p q = refl
+
+none_cut : {A : Type 0} (b c : Bool) (x : A) → c ≡ true → cond (b || c) None (Some x) ≡ None
+none_cut true c x q = refl
+none_cut false true x q = refl
+none_cut false false x q = absurd cc
+
+-- what the code finds at the front: none where the bytes are too few, else the header that its bytes spell
+pub header_short : (bytes : List ℕ) → length bytes < 8 → header_at bytes ≡ None
+header_short bytes lt =
+    let a : ltb (length bytes) 8 ≡ true = lt-ltb _ _ lt in
+    rw a refl
+
+pub header_cut : (bytes : List ℕ) (n : ℕ) → n ≡ number_at 4 bytes → length bytes < 8 + n → header_at bytes ≡ None
+header_cut bytes n is lt =
+    let made : Header = record { key = number_at 0 bytes; value = take (number_at 4 bytes) (drop 8 bytes) } in
+    none_cut (ltb (length bytes) 8) (ltb (length bytes) (8 + number_at 4 bytes)) made (lt-ltb _ _ (rw is at lt))
+
+pub header_there : (bytes : List ℕ) (n : ℕ) → n ≡ number_at 4 bytes → 8 ≤ length bytes → 8 + n ≤ length bytes → header_at bytes ≡ Some (cut_header (8 + n) bytes)
+header_there bytes n is eight le =
+    let made : Header = record { key = number_at 0 bytes; value = take (number_at 4 bytes) (drop 8 bytes) } in
+    let value : take (number_at 4 bytes) (drop 8 bytes) ≡ drop 8 (take (8 + n) bytes) = sym (drop-take 8 (number_at 4 bytes) bytes) ∙ ap (λ (k : ℕ). drop 8 (take (8 + k) bytes)) (sym is) in
+    some_kept (ltb (length bytes) 8) (ltb (length bytes) (8 + number_at 4 bytes)) made (le-ltb _ _ eight) (le-ltb _ _ (rw is at le))
+    ∙ ap (λ (xs : List ℕ). Some (record { key = number_at 0 bytes; value = xs })) value
+
+-- the bytes that a header takes are as many as it was cut of
+cut_len : (bytes : List ℕ) (len : ℕ) → 8 ≤ len → len ≤ length bytes → 8 + length (drop 8 (take len bytes)) ≡ len
+cut_len bytes len eight le = omega (arith, length-drop 8 (take len bytes), length-take-le len bytes le)
+
+pub header_from_cut : (bytes : List ℕ) (len : ℕ) → 8 ≤ len → cut_header len bytes ≡ record { key = number_at 0 (take len bytes); value = drop 8 (take len bytes) }
+header_from_cut bytes len eight =
+    let same = number_at-same 0 (take len bytes) bytes (get_or-take len bytes 0 0 (omega arith)) (get_or-take len bytes 1 0 (omega arith)) (get_or-take len bytes 2 0 (omega arith)) (get_or-take len bytes 3 0 (omega arith)) in
+    ap (λ (k : ℕ). record { key = k; value = drop 8 (take len bytes) }) (sym same)
+
+-- what the bytes are read as, once a header is known at their front
+pub headers_behind : (bytes : List ℕ) (len : ℕ) → 8 ≤ len → len ≤ length bytes → header_at bytes ≡ Some (cut_header len bytes)
+    → headers_of bytes ≡ option_map (λ hs. cut_header len bytes ∷ hs) (headers_of (drop len bytes))
+headers_behind bytes len eight le is =
+    headers_step bytes (cut_header len bytes) (omega arith) is
+    ∙ ap (λ (k : ℕ). option_map (λ (hs : List Header). cut_header len bytes ∷ hs) (headers_of (drop k bytes))) (cut_len bytes len eight le)
+
+is_some_mapped : {A B : Type 0} (f : A → B) (o : Option A) → is_some (option_map f o) ≡ is_some o
+is_some_mapped f None = refl
+is_some_mapped f (Some x) = refl
+
+-- whether the bytes are a row of headers goes on behind the first one, and ends where none is
+pub some_behind : (bytes : List ℕ) (len : ℕ) → 8 ≤ len → len ≤ length bytes → header_at bytes ≡ Some (cut_header len bytes)
+    → is_some (headers_of (drop len bytes)) ≡ is_some (headers_of bytes)
+some_behind bytes len eight le is =
+    sym (is_some_mapped (λ (hs : List Header). cut_header len bytes ∷ hs) (headers_of (drop len bytes))) ∙ ap is_some (sym (headers_behind bytes len eight le is))
+
+none_at_end : (bytes : List ℕ) → header_at bytes ≡ None → 0 < length bytes → is_some (headers_of bytes) ≡ false
+none_at_end [] none lt = absurd (omega arith)
+none_at_end (b ∷ bytes) none lt = ap (λ (o : Option Header). is_some (and_then_headers o (headers_past bytes))) none
+
+-- what a test of an option says
+pub none_from : {A : Type 0} (o : Option A) → is_some o ≡ false → o ≡ None
+none_from None e = refl
+none_from (Some x) e = absurd cc
+
+pub some_from : {A : Type 0} (o : Option A) → is_some o ≡ true → (x : A) × (o ≡ Some x)
+some_from None e = absurd cc
+some_from (Some x) e = (x, refl)
+
+is_some_front : (front : List Header) (o : Option (List Header)) → is_some (with_front front o) ≡ is_some o
+is_some_front front o = is_some_mapped (λ (hs : List Header). front ++ hs) o
+
+-- all the headers are read where no header is left, of bytes that are a row of headers
+pub headers_end : (bytes : List ℕ) (front : List Header) (total : Option (List Header)) → header_at bytes ≡ None → with_front front (headers_of bytes) ≡ total
+    → is_some total ≡ true → total ≡ Some front
+headers_end [] front total none so_far some = sym so_far ∙ ap (λ (xs : List Header). Some xs) (append-nil front)
+headers_end (b ∷ bytes) front total none so_far some =
+    let no : is_some (headers_of (b ∷ bytes)) ≡ false = none_at_end (b ∷ bytes) none (omega arith) in
+    absurd (differ (is_some total) some (ap is_some (sym so_far) ∙ is_some_front front (headers_of (b ∷ bytes)) ∙ no))
+
 pub headers_again : (hs : List Header) → AllByRecursion IsHeader hs → length (headers_spelling hs) < 2 ^ 32 → headers_of (headers_spelling hs) ≡ Some hs
 headers_again [] keys lt = refl
 headers_again (h ∷ hs) keys lt =
@@ -155,8 +242,7 @@ regroup : (front : List Header) (h : Header) (o : Option (List Header)) → with
 regroup front h None = refl
 regroup front h (Some hs) = ap (λ (ts : List Header). Some ts) (sym (append_assoc front (h ∷ []) hs))
 
-pub headers_go_on : (front : List Header) (rest : List ℕ) (h : Header) (total : Option (List Header)) → 0 < length rest → header_at rest ≡ Some h
-    → with_front front (headers_of rest) ≡ total → with_front (front ++ h ∷ []) (headers_of (drop (8 + length h.value) rest)) ≡ total
-headers_go_on front rest h total lt e so_far =
-    let behind : Option (List Header) = headers_of (drop (8 + length h.value) rest) in
-    sym (regroup front h behind) ∙ ap (λ (o : Option (List Header)). with_front front o) (sym (headers_step rest h lt e)) ∙ so_far
+pub headers_go_on : (front : List Header) (rest : List ℕ) (len : ℕ) (total : Option (List Header)) → 8 ≤ len → len ≤ length rest → header_at rest ≡ Some (cut_header len rest)
+    → with_front front (headers_of rest) ≡ total → with_front (front ++ cut_header len rest ∷ []) (headers_of (drop len rest)) ≡ total
+headers_go_on front rest len total eight le is so_far =
+    sym (regroup front (cut_header len rest) (headers_of (drop len rest))) ∙ ap (λ (o : Option (List Header)). with_front front o) (sym (headers_behind rest len eight le is)) ∙ so_far

@@ -1,5 +1,5 @@
 use ctrl_model::{Bytes, Copies, Items};
-use std::alloc::{AllocError, AllocFailed};
+use std::alloc::AllocError;
 use thiserror::Error;
 
 /// A header of a frame: a key and its bytes.
@@ -94,17 +94,6 @@ impl From<AllocError> for FrameFault {
     ghost from_gives = { λ _ e. e ≡ NoMemory };
 
     fn from(_error: AllocError) -> FrameFault {
-        FrameFault::NoMemory
-    }
-}
-
-impl<T: Drop> From<AllocFailed<T>> for FrameFault {
-    ghost use Rattle.std.specs.Prelude.{◌≡◌};
-    ghost use Rattle.channel_frame.specs.declared.frames.FrameFault.TheVariants.{NoMemory};
-
-    ghost from_gives = { λ _ e. e ≡ NoMemory };
-
-    fn from(_error: AllocFailed<T>) -> FrameFault {
         FrameFault::NoMemory
     }
 }

@@ -1,7 +1,7 @@
 ghost use Rattle.std.specs.Prelude.{◌≡◌, ◌≢◌, ◌≤◌, Ok, Some, IfOk, OnErr, length};
 ghost use Rattle.channel_frame.specs.declared.frames.Front.TheVariants.{Bad};
 ghost use Rattle.channel_frame.specs.StreamReading.{front, frame_len, head_of};
-ghost use Rattle.channel_frame.specs.AnnouncedFrames.{first_head, IsAnnouncedFront};
+ghost use Rattle.channel_frame.specs.AnnouncedFrames.{first_head, IsWholeFront};
 
 use crate::decoding::{read_frame_with, read_head};
 use crate::frames::{FrameFault, Front, HEAD, Head};
@@ -15,7 +15,8 @@ fn len_by(head: Head) -> usize
 }
 
 fn bad_front(fault: FrameFault) -> Result<Front, AllocError>
-    ensures { IfOk result (λ f. (fault ≢ FrameFault.NoMemory) × (f ≡ Bad fault)) }
+    ensures front { IfOk result (λ f. (fault ≢ FrameFault.NoMemory) × (f ≡ Bad fault)) }
+    ensures memory { OnErr result (fault ≡ FrameFault.NoMemory) }
 {
     match fault {
         FrameFault::NoMemory => Err(AllocError),
@@ -27,7 +28,8 @@ fn bad_front(fault: FrameFault) -> Result<Front, AllocError>
 fn whole_front(alloc: Global, head: Head, bytes: &[u8]) -> Result<Front, AllocError>
     requires head { head_of bytes.now ≡ Ok head }
     requires enough { frame_len head ≤ length bytes.now }
-    ensures { IfOk result (λ f. f ≡ front bytes.now) }
+    ensures front { IfOk result (λ f. f ≡ front bytes.now) }
+    ensures memory { OnErr result (IsWholeFront bytes.now) }
 {
     let len = len_by(head);
     let (whole, _) = bytes.split_at(len);
@@ -55,11 +57,11 @@ pub fn head_at_front(bytes: &[u8]) -> Result<Option<Head>, FrameFault>
 
 /// What stands at the front of some bytes of which the head was read, so that it is not decoded again.
 ///
-/// Memory is wanted only where all the bytes are there that it announces.
+/// Memory is wanted only where a whole frame stands there.
 pub fn front_with(alloc: Global, head: Head, bytes: &[u8]) -> Result<Front, AllocError>
     requires { first_head bytes.now ≡ Ok (Some head) }
     ensures front { IfOk result (λ f. f ≡ front bytes.now) }
-    ensures memory { OnErr result (IsAnnouncedFront bytes.now) }
+    ensures memory { OnErr result (IsWholeFront bytes.now) }
 {
     if bytes.len() < len_by(head) {
         return Ok(Front::Short);
@@ -69,10 +71,10 @@ pub fn front_with(alloc: Global, head: Head, bytes: &[u8]) -> Result<Front, Allo
 
 /// What stands at the front of some bytes: an unfinished frame, a fault, or a whole frame with how many bytes it takes.
 ///
-/// Memory is wanted only where all the bytes are there that a good head announces (docs/FORMATS.md, "Channel frame").
+/// Memory is wanted only where a whole frame stands there (docs/FORMATS.md, "Channel frame").
 pub fn front_of(alloc: Global, bytes: &[u8]) -> Result<Front, AllocError>
     ensures front { IfOk result (λ f. f ≡ front bytes.now) }
-    ensures memory { OnErr result (IsAnnouncedFront bytes.now) }
+    ensures memory { OnErr result (IsWholeFront bytes.now) }
 {
     match head_at_front(bytes) {
         Ok(None) => Ok(Front::Short),

@@ -8,7 +8,7 @@ use Rattle.channel_frame.specs.declared.frames.FrameFault.{FrameFault}
 use Rattle.channel_frame.specs.declared.frames.FrameFault.TheVariants as frame_fault
 use Rattle.channel_frame.specs.declared.frames.Front.TheVariants as front_is
 use Rattle.channel_frame.specs.StreamReading.{front}
-use Rattle.channel_frame.specs.AnnouncedFrames.{first_head, IsAnnouncedFront}
+use Rattle.channel_frame.specs.AnnouncedFrames.{first_head, IsWholeFront}
 use Rattle.channel_frame.specs.SessionBytes.{SessionBytes}
 use Rattle.frame_stream.specs.declared.faults.StreamFault.{StreamFault}
 use Rattle.frame_stream.specs.declared.faults.StreamFault.TheVariants.{Bad, NoMemory}
@@ -68,17 +68,17 @@ pub record HoldsUnfinished (old new : SessionBytes) : Type 0 where
   pub few : length new.held ≤ most_frame
   pub same : new ≡ old
 
--- No fault was met, and the bytes held begin with a good head and all that it announces: for the frame there memory is wanted.
-pub record HoldsAnnounced (b : SessionBytes) : Type 0 where
+-- No fault was met, and a whole frame stands at the front of the bytes held: for it memory is wanted.
+pub record HoldsWhole (b : SessionBytes) : Type 0 where
   pub none : b.fault ≡ None
-  pub front : IsAnnouncedFront b.held
+  pub front : IsWholeFront b.held
 
 -- The next frame, no frame as yet, a fault, or want of memory for the frame at the front: then all stays.
 abbrev pub NextGives : SessionBytes → SessionBytes → Result (Option Frame) StreamFault → Type 0
 NextGives old new (Ok (Some f)) = TakesFrame old new f
 NextGives old new (Ok None) = HoldsUnfinished old new
 NextGives old new (Err (Bad n at)) = TellsFault old new n at
-NextGives old new (Err NoMemory) = HoldsAnnounced old × (new ≡ old)
+NextGives old new (Err NoMemory) = HoldsWhole old × (new ≡ old)
 
 -- ---- what a decoder keeps beside
 

@@ -1,7 +1,7 @@
 ghost use Rattle.std.specs.Prelude.{◌≡◌, ◌+◌, ◌<◌, ◌≤◌, ◌^◌, Some, None, IfOk, OnOk, OnErr, is_some, true, length};
 ghost use Rattle.channel_frame.specs.StreamReading.{front};
 ghost use Rattle.channel_frame.specs.SessionBytes.{no_bytes, with_more};
-ghost use Rattle.channel_frame.specs.AnnouncedFrames.{first_head as head_there, IsAnnouncedFront};
+ghost use Rattle.channel_frame.specs.AnnouncedFrames.{first_head as head_there, IsWholeFront};
 ghost use Rattle.frame_stream.specs.declared.faults.StreamFault.TheVariants.{Bad};
 ghost use Rattle.frame_stream.specs.StreamSteps.{fault_number as number_of, IsFault, without_front, at_fault, NextGives};
 
@@ -93,7 +93,7 @@ impl Decoder {
     // What stands at the front of the bytes held.
     fn held_front(&mut self) -> Result<Front, AllocError>
         ensures front { IfOk result (λ f. f ≡ front self.old.held) }
-        ensures memory { OnErr result (IsAnnouncedFront self.old.held) }
+        ensures memory { OnErr result (IsWholeFront self.old.held) }
         ensures same { self.new ≡ self.old }
     {
         match self.first_head() {

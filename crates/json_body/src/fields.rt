@@ -5,7 +5,7 @@ ghost use Rattle.serde_json.specs.View.{view, items_view};
 ghost use Rattle.json_body.specs.FieldKinds.{object_of, is_object, member_of, as_name, as_number_in, as_list_of, required, finished};
 
 use crate::key_words::has_only;
-use crate::value_kinds::{as_list_of, as_name, as_number_in, required, member_of};
+use crate::value_kinds::{as_list_of, as_name, as_number_in, member_of, required};
 use ctrl_model::{Field, Name};
 use serde_json::Value;
 use std::alloc::{AllocError, Global};

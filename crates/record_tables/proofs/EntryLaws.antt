@@ -44,8 +44,8 @@ module _ {R : Type 0} (name_of : R → List ℕ) where
       by true false s f k = absurd (false≢true (sym s))
       by false false s f k = ap (λ ys. e ∷ ys) (k f)
 
-pub rows_of-append : {R : Type 0} (es : List (Entry R)) (e : Entry R) → numbered_records (es ++ e ∷ []) ≡ numbered_records es ++ e.1 ∷ []
-rows_of-append es e = map-append (λ e. e.1) es (e ∷ [])
+pub numbered_records-append : {R : Type 0} (es : List (Entry R)) (e : Entry R) → numbered_records (es ++ e ∷ []) ≡ numbered_records es ++ e.1 ∷ []
+numbered_records-append es e = map-append (λ e. e.1) es (e ∷ [])
 
 -- ---- the numbers of a table are in order
 

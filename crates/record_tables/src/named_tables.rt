@@ -7,8 +7,8 @@ ghost use Rattle.record_tables.specs.Changes.{ChangesAt, Does, KeepsPart, IsCopi
 ghost use Rattle.record_tables.specs.Entries.{numbered_records, table_of_entries, number_named, KeepsOrder, AreKept};
 
 use crate::entries::{
-    Entries, Named, change_each, change_row, copy_of, insert_row, number_in, numbers_in,
-    remove_row, record_at,
+    Entries, Named, change_each, change_row, copy_of, insert_row, number_in, numbers_in, record_at,
+    remove_row,
 };
 use crate::removing::{Losing, lose_all};
 use ctrl_model::Numbers;

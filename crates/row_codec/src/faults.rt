@@ -1,4 +1,4 @@
-use std::alloc::{AllocError, AllocFailed};
+use std::alloc::AllocError;
 use thiserror::Error;
 
 /// Why bytes are no row and no batch.
@@ -22,17 +22,6 @@ impl From<AllocError> for RowFault {
     ghost from_gives = { λ _ e. e ≡ NoMemory };
 
     fn from(_error: AllocError) -> RowFault {
-        RowFault::NoMemory
-    }
-}
-
-impl<T: Drop> From<AllocFailed<T>> for RowFault {
-    ghost use Rattle.std.specs.Prelude.{◌≡◌};
-    ghost use Rattle.row_codec.specs.declared.faults.RowFault.TheVariants.{NoMemory};
-
-    ghost from_gives = { λ _ e. e ≡ NoMemory };
-
-    fn from(_error: AllocFailed<T>) -> RowFault {
         RowFault::NoMemory
     }
 }

@@ -28,12 +28,8 @@ pub fn split_part(bytes: &[u8], len: usize) -> Option<(&[u8], &[u8])>
 pub fn split_long(bytes: &[u8]) -> Option<(u32, &[u8])>
     ensures { option_map (λ p. (p.0, p.1.now)) result ≡ front_long bytes.now }
 {
-    if bytes.len() < 4 {
-        return None;
-    }
-    let (part, rest) = bytes.split_at(4);
-    let number = u32::from_le_bytes([part[0], part[1], part[2], part[3]]);
-    Some((number, rest))
+    let (part, rest) = bytes.split_first_chunk::<4>()?;
+    Some((u32::from_le_bytes(*part), rest))
 }
 
 /// A text, and what follows it.
@@ -48,24 +44,16 @@ pub fn split_text(bytes: &[u8]) -> Option<(&[u8], &[u8])>
 pub fn split_short(bytes: &[u8]) -> Option<(u32, &[u8])>
     ensures { option_map (λ p. (p.0, p.1.now)) result ≡ front_short bytes.now }
 {
-    if bytes.len() < 2 {
-        return None;
-    }
-    let (part, rest) = bytes.split_at(2);
-    let number = u16::from_le_bytes([part[0], part[1]]);
-    Some((u32::from(number), rest))
+    let (part, rest) = bytes.split_first_chunk::<2>()?;
+    Some((u32::from(u16::from_le_bytes(*part)), rest))
 }
 
 /// A number of a key, and what follows it.
 pub fn split_number(bytes: &[u8]) -> Option<(u32, &[u8])>
     ensures { option_map (λ p. (p.0, p.1.now)) result ≡ front_number bytes.now }
 {
-    if bytes.len() < 4 {
-        return None;
-    }
-    let (part, rest) = bytes.split_at(4);
-    let number = u32::from_be_bytes([part[0], part[1], part[2], part[3]]);
-    Some((number, rest))
+    let (part, rest) = bytes.split_first_chunk::<4>()?;
+    Some((u32::from_be_bytes(*part), rest))
 }
 
 /// A name, and what follows it.

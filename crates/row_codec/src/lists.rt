@@ -3,6 +3,7 @@ ghost use Rattle.std.specs.Option.{option_map};
 ghost use Rattle.row_codec.specs.FieldReading.{behind, front_long, front_name, front_names, front_each};
 
 use crate::fields::{split_byte, split_long, split_name};
+use ctrl_model::MOST_ENTRIES;
 
 fn past_each_name(count: u8, bytes: &[u8]) -> Option<&[u8]>
     ensures { option_map (λ r. r.now) result ≡ behind (front_each front_name count bytes.now) }
@@ -20,7 +21,7 @@ pub fn past_names(bytes: &[u8]) -> Option<&[u8]>
     ensures { option_map (λ r. r.now) result ≡ behind (front_names bytes.now) }
 {
     let (count, rest) = split_byte(bytes)?;
-    if count > 64 {
+    if count as usize > MOST_ENTRIES {
         return None;
     }
     past_each_name(count, rest)

@@ -1,5 +1,5 @@
 -- Changes that put rows in the order of their keys, read one after another.
-use Rattle.std.proofs.Common.{◌≡◌, ℕ, suc, ◌+◌, ◌<◌, Bool, true, false, ◌&&◌, nat_le, List, [], ◌∷◌, ◌++◌, length, map, take, drop, get_or, Option, None, Some, Err, IsErrOf, refl, sym, ◌∙◌, ap, ap₂, subst, Less, take-append-drop}
+use Rattle.std.proofs.Common.{◌≡◌, ℕ, suc, ◌+◌, ◌<◌, Bool, true, false, cond, ◌&&◌, nat_le, List, [], ◌∷◌, ◌++◌, length, map, take, drop, get_or, Option, None, Some, Err, IsErrOf, refl, sym, ◌∙◌, ap, ap₂, subst, Less, take-append-drop}
 use Rattle.std.proofs.lemmas.Bool.{and_parts, and_from, true≢false}
 use Rattle.std.proofs.lemmas.List.{map-append, length-map, take_more}
 use Rattle.std.proofs.lemmas.List.Folds.{list_all-append}
@@ -18,8 +18,10 @@ use Rattle.row_codec.proofs.BatchLaws.{key_of_op, last_key, last_key-more, rises
 use Rattle.row_laws.proofs.KeyOrders.{bytes_order}
 use Rattle.state_building.specs.declared.flaws.Flaw.{Flaw}
 use Rattle.state_building.specs.declared.flaws.Flaw.TheVariants.{NoRecord, OutOfOrder, NameTaken, Hanging, Unsettled, TooMany, WrongCount}
+use Rattle.row_loading.specs.declared.faults.CoreFault.{CoreFault}
+use Rattle.row_loading.specs.declared.faults.CoreFault.TheVariants.{NoMemory, NotAState}
 use Rattle.row_loading.specs.LoadedRows.{put_of, keyed, Loads}
-use Rattle.row_loading.specs.NextPuts.{Puts, PutsNext, PutsNoNext}
+use Rattle.row_loading.specs.NextPuts.{Puts, PutsNext, PutsEarly, PutsNoNext}
 use Rattle.row_loading.specs.RefusedRows.{PutsNoRow, AreUnread}
 
 -- ---- a row that some state can have stands under a key
@@ -123,6 +125,34 @@ pub puts_next : (last : Option (List ℕ)) (op : Op) (x : Row) (key : List ℕ) 
 puts_next last op x key comes puts at told is = record {
   puts = puts;
   comes = ap (λ (o : Op). comes_after last (entry_of o).0) (sym puts.put) ∙ ap (comes_after last) (sym at) ∙ sym told ∙ is;
+}
+
+-- a change that puts a row, at a key that does not
+puts_early : (last : Option (List ℕ)) (op : Op) (x : Row) (key : List ℕ) (comes : Bool) → Puts op x → key ≡ (entry_of op).0 → comes ≡ comes_after last key
+    → comes ≡ false → PutsEarly last op
+puts_early last op x key comes puts at told is = record {
+  row = x;
+  puts = puts;
+  early = ap (λ (o : Op). comes_after last (entry_of o).0) (sym puts.put) ∙ ap (comes_after last) (sym at) ∙ sym told ∙ is;
+}
+
+-- what is told where memory is wanting for the row of a change
+pub record WantsNext (last : Option (List ℕ)) (op : Op) (place : ℕ) (r : Result Row CoreFault) : Type 0 where
+  pub place_is : (at : ℕ) (flaw : Flaw) → IsErrOf r (NotAState at flaw) → at ≡ place
+  pub flaw_is : (at : ℕ) (flaw : Flaw) → IsErrOf r (NotAState at flaw) → PutsNoNext flaw last op
+  pub memory : IsErrOf r NoMemory → (x : Row) × PutsNext last op x
+
+pub wants_next : (last : Option (List ℕ)) (op : Op) (x : Row) (key : List ℕ) (comes : Bool) (place : ℕ) (fault : CoreFault) → Puts op x → key ≡ (entry_of op).0
+    → comes ≡ comes_after last key → fault ≡ cond comes NoMemory (NotAState place OutOfOrder) → WantsNext last op place (Err fault)
+wants_next last op x key true place fault puts at told is = record {
+  place_is = λ p flaw e. absurd cc;
+  flaw_is = λ p flaw e. absurd cc;
+  memory = λ e. (x, puts_next last op x key true puts at told refl);
+}
+wants_next last op x key false place fault puts at told is = record {
+  place_is = λ p flaw e. cc;
+  flaw_is = λ p flaw e. let same : OutOfOrder ≡ flaw = cc in subst (λ (f : Flaw). PutsNoNext f last op) same (puts_early last op x key false puts at told refl);
+  memory = λ e. absurd cc;
 }
 
 -- ---- a change that puts no row behind them

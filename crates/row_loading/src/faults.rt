@@ -1,5 +1,5 @@
 use state_building::Flaw;
-use std::alloc::{AllocError, AllocFailed};
+use std::alloc::AllocError;
 use thiserror::Error;
 
 /// Why rows give no core.
@@ -21,17 +21,6 @@ impl From<AllocError> for CoreFault {
     ghost from_gives = { λ _ e. e ≡ NoMemory };
 
     fn from(_error: AllocError) -> CoreFault {
-        CoreFault::NoMemory
-    }
-}
-
-impl<T: Drop> From<AllocFailed<T>> for CoreFault {
-    ghost use Rattle.std.specs.Prelude.{◌≡◌};
-    ghost use Rattle.row_loading.specs.declared.faults.CoreFault.TheVariants.{NoMemory};
-
-    ghost from_gives = { λ _ e. e ≡ NoMemory };
-
-    fn from(_error: AllocFailed<T>) -> CoreFault {
         CoreFault::NoMemory
     }
 }

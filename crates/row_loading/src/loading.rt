@@ -1,9 +1,11 @@
-ghost use Rattle.std.specs.Prelude.{◌≡◌, ℕ, IfOk, IsErrOf};
+ghost use Rattle.std.specs.Prelude.{◌≡◌, ℕ, [], ◌∷◌, ◌++◌, IfOk, IsErrOf, OnOk, if◌then◌else◌};
 ghost use Rattle.std.specs.Option.{option_map};
 ghost use Rattle.row_codec.specs.Batches.{entry_of};
 ghost use Rattle.row_codec.specs.BatchReading.{comes_after};
 ghost use Rattle.state_building.specs.declared.flaws.Flaw.{Flaw};
-ghost use Rattle.row_loading.specs.declared.faults.CoreFault.TheVariants.{NotAState};
+ghost use Rattle.state_building.specs.declared.flaws.Flaw.TheVariants.{OutOfOrder};
+ghost use Rattle.row_codec.specs.declared.rows.Row.{Row};
+ghost use Rattle.row_loading.specs.declared.faults.CoreFault.TheVariants.{NoMemory, NotAState};
 ghost use Rattle.row_loading.specs.LoadedRows.{Loads};
 ghost use Rattle.row_loading.specs.NextPuts.{Puts, PutsNone, PutsNext, PutsNoNext};
 ghost use Rattle.row_loading.specs.RefusedRows.{AreUnread};
@@ -12,7 +14,7 @@ use crate::faults::CoreFault;
 use row_codec::{Op, Row, RowFault};
 use row_reading::read_row;
 use state_building::Flaw;
-use std::alloc::Global;
+use std::alloc::{AllocError, Global};
 
 // The key of a change.
 fn key_of(op: &Op) -> &[u8]
@@ -39,10 +41,25 @@ fn row_put(alloc: Global, op: &Op) -> Result<Row, RowFault>
     ensures read { IfOk result (Puts op.now) }
     ensures bad { IsErrOf result RowFault.BadRow → PutsNone op.now }
     ensures never { IsErrOf result RowFault.BadBatch → ⊥ }
+    ensures memory { IsErrOf result RowFault.NoMemory → (x : Row) × Puts op.now x }
 {
     match op {
         Op::Put { key, value } => read_row(alloc, key.as_slice(), value.as_slice()),
         Op::Delete { .. } => Err(RowFault::BadRow),
+    }
+}
+
+// What is answered where memory is wanting for the row of a change, whose key may come too early all the same.
+fn wanting(place: u64, comes: bool) -> CoreFault
+    ensures { result ≡ (if comes then NoMemory else NotAState place OutOfOrder) }
+{
+    if comes {
+        CoreFault::NoMemory
+    } else {
+        CoreFault::NotAState {
+            place,
+            flaw: Flaw::OutOfOrder,
+        }
     }
 }
 
@@ -51,10 +68,13 @@ fn next_row(alloc: Global, place: u64, last: Option<&[u8]>, op: &Op) -> Result<R
     ensures read { IfOk result (PutsNext (option_map (λ l. l.now) last.entry) op.now) }
     ensures place { (at : ℕ) (flaw : Flaw) → IsErrOf result (NotAState at flaw) → at ≡ place }
     ensures flaw { (at : ℕ) (flaw : Flaw) → IsErrOf result (NotAState at flaw) → PutsNoNext flaw (option_map (λ l. l.now) last.entry) op.now }
+    // Memory is wanted for the next row alone.
+    ensures memory { IsErrOf result NoMemory → (x : Row) × PutsNext (option_map (λ l. l.now) last.entry) op.now x }
 {
+    let comes = comes_after(last, key_of(op));
     let row = match row_put(alloc, op) {
         Ok(row) => row,
-        Err(RowFault::NoMemory) => return Err(CoreFault::NoMemory),
+        Err(RowFault::NoMemory) => return Err(wanting(place, comes)),
         Err(_) => {
             return Err(CoreFault::NotAState {
                 place,
@@ -62,13 +82,20 @@ fn next_row(alloc: Global, place: u64, last: Option<&[u8]>, op: &Op) -> Result<R
             });
         }
     };
-    if !comes_after(last, key_of(op)) {
+    if !comes {
         return Err(CoreFault::NotAState {
             place,
             flaw: Flaw::OutOfOrder,
         });
     }
     Ok(row)
+}
+
+// A row comes behind the rows.
+fn keep_row(rows: &mut Vec<Row>, row: Row) -> Result<(), AllocError>
+    ensures { OnOk result (rows.new.items ≡ rows.old.items ++ row ∷ []) }
+{
+    Ok(rows.push(row)?)
 }
 
 /// The rows that changes put, in the order of their keys. `NotAState` comes exactly where a change puts no row, or one whose key does
@@ -81,7 +108,7 @@ pub fn read_rows(alloc: Global, ops: &[Op]) -> Result<Vec<Row>, CoreFault>
     let mut last: Option<&[u8]> = None;
     'ops: for op in ops {
         let row = next_row(alloc, rows.len() as u64, last, op)?;
-        rows.push(row)?;
+        keep_row(&mut rows, row)?;
         last = Some(key_of(op));
     }
     Ok(rows)

@@ -171,23 +171,27 @@ pub record ReadsRow (key value : List ℕ) (result : Result Row RowFault) : Type
   pub read : IfOk result (λ r. SpellsRow key value r)
   pub bad : IsErrOf result faults.BadRow ↔ ((r : Row) → SpellsRow key value r → ⊥)
   pub never : IsErrOf result faults.BadBatch → ⊥
+  pub memory : IsErrOf result faults.NoMemory → (r : Row) × SpellsRow key value r
 
 pub reads_row : (key value : List ℕ) (result : Result Row RowFault) → AreBytes key → AreBytes value → Gives (λ r. r) result (row_of key value) → ReadsRow key value result
 reads_row key value (Ok r) fk fv gives = record {
   read = row_takes key value r fk fv gives;
   bad = (λ h. absurd cc, λ none. absurd (none r (row_takes key value r fk fv gives)));
   never = λ h. cc;
+  memory = λ h. absurd cc;
 }
 reads_row key value (Err faults.BadRow) fk fv gives = record {
   read = tt;
   bad = (λ h. none_spelled key value (ap is_some gives), λ none. refl);
   never = λ h. cc;
+  memory = λ h. absurd cc;
 }
 reads_row key value (Err faults.BadBatch) fk fv gives = absurd gives
 reads_row key value (Err faults.NoMemory) fk fv gives = record {
   read = tt;
   bad = (λ h. absurd cc, λ none. absurd (some_spelled key value fk fv gives none));
   never = λ h. cc;
+  memory = λ h. by_some (row_of key value) gives (λ r is. (r, row_takes key value r fk fv is));
 }
 
 -- ---- a fault of a value is one of its row

@@ -11,6 +11,8 @@ pub fn read_row(alloc: Global, key: &[u8], value: &[u8]) -> Result<Row, RowFault
     ensures read { IfOk result (λ row. SpellsRow key.now value.now row) }
     ensures bad { IsErrOf result RowFault.BadRow ↔ ((row : Row) → SpellsRow key.now value.now row → ⊥) }
     ensures never { IsErrOf result RowFault.BadBatch → ⊥ }
+    // Memory is wanted for a row alone.
+    ensures memory { IsErrOf result RowFault.NoMemory → (row : Row) × SpellsRow key.now value.now row }
 {
     build_row(alloc, key, value)
 }

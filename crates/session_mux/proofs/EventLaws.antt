@@ -5,13 +5,11 @@ use Rattle.std.proofs.lemmas.List.{append-nil, length-drop, map-append}
 use Rattle.channel_frame.specs.declared.frames.Frame.{Frame}
 use Rattle.channel_frame.specs.declared.frames.FrameFault.{FrameFault}
 use Rattle.channel_frame.specs.declared.frames.Front.{Front}
-use Rattle.channel_frame.specs.declared.frames.Head.{Head}
-use Rattle.channel_frame.specs.declared.frames.Header.{Header}
-use Rattle.channel_frame.specs.AnnouncedFrames.{IsAnnouncedFront}
+use Rattle.channel_frame.specs.AnnouncedFrames.{IsWholeFront}
 use Rattle.channel_frame.specs.declared.frames.Front.TheVariants.{Short, Bad, Whole}
-use Rattle.channel_frame.specs.StreamReading.{front, with_headers, frame_len, headers_of, headers_part}
+use Rattle.channel_frame.specs.StreamReading.{front}
 use Rattle.channel_frame.specs.SessionBytes.{SessionBytes, with_more, held_with, frames_held, left_unless, settled, fault_held}
-use Rattle.channel_frame.proofs.FrontLaws.{whole_within, front_behind}
+use Rattle.channel_frame.proofs.FrontLaws.{whole_within}
 use Rattle.channel_frame.proofs.SessionLaws.{goes_on, fault_on, FaultOn, more_twice, no_more, IsQuiet, quiet_short, met_nothing, settled_quiet, quiet_fault, gives_frame, tells_fault, short_few}
 use Rattle.session_mux.specs.declared.events.Event.{Event}
 use Rattle.session_mux.specs.declared.events.Event.TheVariants as event
@@ -19,7 +17,7 @@ use Rattle.session_mux.specs.declared.sessions.Session.{Session}
 use Rattle.session_mux.specs.declared.sessions.Session.TheVariants as session
 use Rattle.session_mux.specs.Completion.{ended, bytes_events, bytes_len, len_unless, session_events, settled_session, with_data, fault_met, stage_of, rest_len}
 use Rattle.frame_stream.specs.StreamSteps.{fault_number, TakesFrame, MeetsFault, HoldsUnfinished, TellsFault}
-use Rattle.session_mux.specs.SessionSteps.{StreamEvent, TakesBytes, HasAnnounced}
+use Rattle.session_mux.specs.SessionSteps.{StreamEvent, TakesBytes, HasWhole}
 
 -- ---- one step
 
@@ -204,25 +202,20 @@ few_of_quiet s session.Closed quiet = omega arith
 
 -- ---- memory is wanted for an event alone
 
-headers_stand : (h : Head) (bytes : List ℕ) (o : Option (List Header)) → with_headers h bytes o ≡ Short → ⊥
-headers_stand h bytes None e = cc
-headers_stand h bytes (Some hs) e = cc
+whole_stands : (bytes : List ℕ) → IsWholeFront bytes → front bytes ≡ Short → ⊥
+whole_stands bytes is short =
+    let e = sym is.stands ∙ short in
+    cc
 
-announced_stands : (bytes : List ℕ) → IsAnnouncedFront bytes → front bytes ≡ Short → ⊥
-announced_stands bytes (len, is) short =
-    let long : 20 ≤ length bytes = omega (arith, is.is_len, is.enough) in
-    let enough : frame_len is.head ≤ length bytes = omega (arith, is.is_len, is.enough) in
-    headers_stand is.head bytes (headers_of (headers_part is.head bytes)) (sym (front_behind bytes is.head long is.is_head enough) ∙ short)
+pub whole_event : (s : ℕ) (x : Session) → HasWhole x → session_events s x ≡ [] → ⊥
+whole_event s session.Unopened has quiet = has
+whole_event s (session.Open who b) has quiet = whole_stands b.held has.front (short_at s b (front b.held) has.none refl quiet)
+whole_event s session.Closed has quiet = has
 
-pub announced_event : (s : ℕ) (x : Session) → HasAnnounced x → session_events s x ≡ [] → ⊥
-announced_event s session.Unopened has quiet = has
-announced_event s (session.Open who b) has quiet = announced_stands b.held has.front (short_at s b (front b.held) has.none refl quiet)
-announced_event s session.Closed has quiet = has
-
-pub announced_unmet : (x : Session) → HasAnnounced x → fault_met x ≡ None
-announced_unmet session.Unopened has = refl
-announced_unmet (session.Open who b) has = has.none
-announced_unmet session.Closed has = refl
+pub whole_unmet : (x : Session) → HasWhole x → fault_met x ≡ None
+whole_unmet session.Unopened has = refl
+whole_unmet (session.Open who b) has = has.none
+whole_unmet session.Closed has = refl
 
 -- ---- bytes that come meet no fault
 

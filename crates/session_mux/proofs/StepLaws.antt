@@ -10,14 +10,14 @@ use Rattle.session_mux.specs.declared.sessions.Form.TheVariants.{Plain, Trace}
 use Rattle.session_mux.specs.Arrivals.{Arrival, Data, Unfinished, Bad, Whole, stage_at, within, record_front}
 use Rattle.session_mux.specs.Completion.{Standing, arrivals_in, tail_in, fed, events_of, end_of, begins_bad, session_at, stage_of, with_data, settled_session, fault_met, sessions_after, events_by, events_held, GoesTo, IsBadAt, IsUnfinished}
 use Rattle.session_mux.specs.RecordSteps.{is_opened}
-use Rattle.session_mux.specs.SessionSteps.{SessionsGive, TakesBytes, HasAnnounced, SomeHasAnnounced, IsAlone}
+use Rattle.session_mux.specs.SessionSteps.{SessionsGive, TakesBytes, HasWhole, SomeHasWhole, IsAlone}
 use Rattle.session_mux.specs.declared.muxing.Step.TheVariants.{Ended}
 use Rattle.session_mux.specs.MuxSteps.{HeldGives, StepGives, HasMoved, HoldsFew, GivesNone, GivesFault, MayWantMemory}
 use Rattle.session_mux.specs.declared.events.MuxFault.{MuxFault}
 use Rattle.session_mux.specs.declared.events.MuxFault.TheVariants.{BadRecord, NoMemory}
 use Rattle.std.specs.Prelude.{IfOk, IfErr, MatchOption, ◌-◌}
 use Rattle.session_mux.proofs.RecordLaws.{tail_within, record_step, not_open}
-use Rattle.session_mux.proofs.EventLaws.{few_of_quiet, announced_event, announced_unmet, takes_unmet, data_fault}
+use Rattle.session_mux.proofs.EventLaws.{few_of_quiet, whole_event, whole_unmet, takes_unmet, data_fault}
 use Rattle.session_mux.proofs.TableLaws.{AtMost, held_quiet, from_zero, unopened_at, set_other}
 use Rattle.session_mux.proofs.GoingLaws.{alike_at, goes_then, held_goes, trace_goes, plain_goes, plain_ends, plain_moved, trace_ends, trace_moved, trace_bad}
 
@@ -215,15 +215,15 @@ plain_wants st form more takes =
       plain = λ is. takes_unmet (session_at st.sessions 0) takes;
     }
 
-alone_unmet : (xs : List Session) (s : ℕ) → IsAlone xs → HasAnnounced (session_at xs s) → fault_met (session_at xs 0) ≡ None
-alone_unmet xs zero alone has = announced_unmet (session_at xs 0) has
-alone_unmet xs (suc s) alone has = absurd (subst HasAnnounced (alone (suc s) (λ e. cc)) has)
+alone_unmet : (xs : List Session) (s : ℕ) → IsAlone xs → HasWhole (session_at xs s) → fault_met (session_at xs 0) ≡ None
+alone_unmet xs zero alone has = whole_unmet (session_at xs 0) has
+alone_unmet xs (suc s) alone has = absurd (subst HasWhole (alone (suc s) (λ e. cc)) has)
 
 -- a session holds an event
-pub held_wants : (st : Standing) → (st.form ≡ Plain → IsAlone st.sessions) → SomeHasAnnounced st.sessions → MayWantMemory st
+pub held_wants : (st : Standing) → (st.form ≡ Plain → IsAlone st.sessions) → SomeHasWhole st.sessions → MayWantMemory st
 held_wants st alone (s, has) =
     let event : events_held 0 st.sessions ≡ [] → ⊥ =
-    λ quiet. announced_event s (session_at st.sessions s) has (sym (from_zero s (session_at st.sessions s)) ∙ held_quiet 0 st.sessions quiet s)
+    λ quiet. whole_event s (session_at st.sessions s) has (sym (from_zero s (session_at st.sessions s)) ∙ held_quiet 0 st.sessions quiet s)
     in
     record {
       some = λ none quiet. event quiet;

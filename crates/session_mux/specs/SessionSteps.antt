@@ -5,7 +5,7 @@ use Rattle.channel_frame.specs.SessionBytes.{SessionBytes, settled}
 use Rattle.session_mux.specs.declared.sessions.Session.{Session}
 use Rattle.session_mux.specs.declared.sessions.Session.TheVariants as session
 use Rattle.session_mux.specs.declared.events.Event.{Event}
-use Rattle.frame_stream.specs.StreamSteps.{HoldsAnnounced}
+use Rattle.frame_stream.specs.StreamSteps.{HoldsWhole}
 use Rattle.session_mux.specs.Completion.{bytes_events, session_events, settled_session, session_at, events_held}
 
 -- How many bytes of a session came.
@@ -43,15 +43,15 @@ TakesBytes session.Unopened = ⊥
 TakesBytes (session.Open who bytes) = bytes.fault ≡ None
 TakesBytes session.Closed = ⊥
 
--- An open session at whose front stand all the bytes that a good head announces.
-abbrev pub HasAnnounced : Session → Type 0
-HasAnnounced session.Unopened = ⊥
-HasAnnounced (session.Open who bytes) = HoldsAnnounced bytes
-HasAnnounced session.Closed = ⊥
+-- An open session at whose front a whole frame stands.
+abbrev pub HasWhole : Session → Type 0
+HasWhole session.Unopened = ⊥
+HasWhole (session.Open who bytes) = HoldsWhole bytes
+HasWhole session.Closed = ⊥
 
--- One of the sessions has.
-abbrev pub SomeHasAnnounced : List Session → Type 0
-SomeHasAnnounced sessions = (s : ℕ) × HasAnnounced (session_at sessions s)
+-- One of the sessions has one.
+abbrev pub SomeHasWhole : List Session → Type 0
+SomeHasWhole sessions = (s : ℕ) × HasWhole (session_at sessions s)
 
 -- No session but session 0 was opened, as in plain input.
 abbrev pub IsAlone : List Session → Type 0

@@ -5,8 +5,8 @@ ghost use Rattle.session_mux.specs.declared.sessions.Session.TheVariants.{Open, 
 ghost use Rattle.session_mux.specs.Arrivals.{stage_at};
 ghost use Rattle.session_mux.specs.Completion.{stage_of, bytes_len, bytes_events, held_len, rest_len, session_events, with_data};
 ghost use Rattle.session_mux.specs.RecordSteps.{is_unopened as stage_is_unopened, is_opened as stage_is_opened};
-ghost use Rattle.frame_stream.specs.StreamSteps.{HoldsAnnounced, most_frame};
-ghost use Rattle.session_mux.specs.SessionSteps.{taken, GivesEvent, StreamEvent, TakesBytes, HasAnnounced};
+ghost use Rattle.frame_stream.specs.StreamSteps.{HoldsWhole, most_frame};
+ghost use Rattle.session_mux.specs.SessionSteps.{taken, GivesEvent, StreamEvent, TakesBytes, HasWhole};
 
 use crate::events::Event;
 use ctrl_model::Who;
@@ -63,7 +63,7 @@ pub fn is_opened(stage: Stage) -> bool
 fn next_of(session: u8, bytes: &mut Decoder) -> Result<Option<Event>, AllocError>
     ensures ok { IfOk result (λ event. StreamEvent session bytes.old bytes.new event) }
     ensures err { OnErr result (bytes.new ≡ bytes.old) }
-    ensures memory { OnErr result (HoldsAnnounced bytes.old) }
+    ensures memory { OnErr result (HoldsWhole bytes.old) }
 {
     if bytes.is_at_fault() {
         return Ok(None);
@@ -123,7 +123,7 @@ impl Session {
     pub fn next_event(&mut self, session: u8) -> Result<Option<Event>, AllocError>
         ensures ok { IfOk result (λ event. GivesEvent session self.old self.new event) }
         ensures err { OnErr result (self.new ≡ self.old) }
-        ensures memory { OnErr result (HasAnnounced self.old) }
+        ensures memory { OnErr result (HasWhole self.old) }
     {
         match self {
             Session::Open { bytes, .. } => next_of(session, bytes),

@@ -5,7 +5,7 @@ ghost use Rattle.session_mux.specs.declared.sessions.Session.TheVariants.{Open, 
 ghost use Rattle.session_mux.specs.Arrivals.{stage_at};
 ghost use Rattle.session_mux.specs.Completion.{session_at, unopened, stage_of, held_len, rest_len, with_data, events_held};
 ghost use Rattle.session_mux.specs.RecordSteps.{is_unopened as stage_is_unopened, is_opened as stage_is_opened};
-ghost use Rattle.session_mux.specs.SessionSteps.{taken, SessionsGive, TakesBytes, SomeHasAnnounced};
+ghost use Rattle.session_mux.specs.SessionSteps.{taken, SessionsGive, TakesBytes, SomeHasWhole};
 
 use crate::events::Event;
 use crate::sessions::{NUMBERS, Session, Stage, is_opened, is_unopened};
@@ -132,7 +132,7 @@ impl SessionTable {
     pub fn next_event(&mut self) -> Result<Option<Event>, AllocError>
         ensures ok { IfOk result (λ event. SessionsGive self.old self.new event) }
         ensures err { OnErr result (self.new ≡ self.old) }
-        ensures memory { OnErr result (SomeHasAnnounced self.old) }
+        ensures memory { OnErr result (SomeHasWhole self.old) }
     {
         let session = self.ready;
         let event = self.all[session as usize].next_event(session)?;

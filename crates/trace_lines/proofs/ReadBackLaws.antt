@@ -1,5 +1,5 @@
 -- What is traced reads back.
-use Rattle.std.proofs.Common.{◌≡◌, ℕ, ◌<◌, ◌≤◌, Bool, true, false, cond, List, [], ◌∷◌, ◌++◌, map, set, length, None, Some, Ok, Err, refl, sym, ap, subst, ◌∙◌, append-nil}
+use Rattle.std.proofs.Common.{◌≡◌, ℕ, ◌<◌, true, false, cond, List, [], ◌∷◌, ◌++◌, map, set, Ok, Err, refl, sym, ap, subst, ◌∙◌, append-nil}
 use Rattle.std.specs.declared.result.Result.{Result}
 use Rattle.std.specs.List.{flat_map, AllByRecursion}
 use Rattle.std.proofs.lemmas.List.{map-set}
@@ -10,7 +10,7 @@ use Rattle.frame_lines.specs.TextLines.{lines_of, passes}
 use Rattle.frame_lines.specs.TextReading.{frame_of, next_after}
 use Rattle.session_mux.specs.declared.sessions.Stage.{Stage}
 use Rattle.session_mux.specs.declared.sessions.Stage.TheVariants as stage
-use Rattle.session_mux.specs.Arrivals.{Arrival, Open, Data, Close, record_bytes, no_sessions, stage_at, AreAllowed, IsRecordTail, ReadsRecords, records_of, tail_of, stages_along}
+use Rattle.session_mux.specs.Arrivals.{Arrival, Open, Data, Close, record_bytes, no_sessions, stage_at, AreAllowed, records_of, tail_of}
 use Rattle.session_mux.proofs.RecordReadings.{has_one_reading}
 use Rattle.trace_lines.specs.declared.said.Said.{Said}
 use Rattle.trace_lines.specs.declared.said.Said.TheVariants.{Opens, Sends, Closes}
@@ -20,9 +20,9 @@ use Rattle.trace_lines.specs.declared.seats.Seat.{Seat}
 use Rattle.trace_lines.specs.declared.seats.Seat.TheVariants.{Unopened, Opened, Closed}
 use Rattle.trace_lines.specs.TraceWords.{traced_by}
 use Rattle.trace_lines.specs.SessionActs.{Act, Opening, Sending, Closing, no_seats, seat_at, turned, with_seat, done_by, and_then_acts, acts_from, acts_said}
-use Rattle.trace_lines.specs.ActRecords.{pieces, data_records, records_for, records_said, bytes_traced}
+use Rattle.trace_lines.specs.ActRecords.{pieces, records_for, records_said, bytes_traced}
 use Rattle.trace_lines.proofs.PieceLaws.{IsShort, pieces_short}
-use Rattle.trace_lines.proofs.TurnLaws.{SaidFits, TraceFits, traced_fits, bytes_by_acts}
+use Rattle.trace_lines.proofs.TurnLaws.{SaidFits, traced_fits, bytes_by_acts}
 
 -- ---- where a line leads
 

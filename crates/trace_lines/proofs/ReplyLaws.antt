@@ -1,12 +1,12 @@
 -- How the turns of the telling of tagged replies make up the text.
-use Rattle.std.proofs.Common.{◌≡◌, ℕ, zero, suc, ◌+◌, ◌-◌, ◌<◌, ◌≤◌, Bool, true, false, cond, eqb, ◌++◌, List, [], ◌∷◌, length, drop, decimal, codes, None, Some, Ok, Err, refl, sym, ap, subst, ◌∙◌, append_assoc, append-nil, arith}
-use Rattle.std.specs.declared.option.Option.{Option}
+use Rattle.std.proofs.Common.{◌≡◌, ℕ, zero, suc, ◌+◌, ◌-◌, ◌≤◌, Bool, true, false, cond, eqb, ◌++◌, List, [], ◌∷◌, length, drop, decimal, codes, Some, Ok, Err, refl, sym, ap, subst, ◌∙◌, append_assoc, append-nil, arith}
 use Rattle.std.specs.declared.result.Result.{Result}
 use Rattle.channel_frame.specs.declared.frames.Frame.{Frame}
 use Rattle.channel_frame.specs.declared.frames.FrameFault.{FrameFault}
 use Rattle.channel_frame.specs.declared.frames.Front.{Front}
 use Rattle.channel_frame.specs.declared.frames.Front.TheVariants as front
 use Rattle.channel_frame.specs.StreamReading.{front}
+use Rattle.channel_frame.specs.AnnouncedFrames.{IsWholeFront}
 use Rattle.channel_frame.proofs.ReadingLaws.{drop_before}
 use Rattle.channel_frame.proofs.FrontLaws.{whole_within}
 use Rattle.frame_lines.specs.declared.told.TellCause.{TellCause}
@@ -15,12 +15,15 @@ use Rattle.frame_lines.specs.FrameTurns.{PutsLine}
 use Rattle.frame_lines.specs.TextTelling.{and_then_lines}
 use Rattle.trace_lines.specs.declared.fronts.ReplyFront.{ReplyFront}
 use Rattle.trace_lines.specs.declared.fronts.ReplyFront.TheVariants as reply
-use Rattle.trace_lines.specs.declared.replies.ReplyFault.{ReplyFault}
 use Rattle.trace_lines.specs.declared.replies.ReplyFault.TheVariants.{InFrame, NoTag}
-use Rattle.trace_lines.specs.TaggedReplies.{behind_tag, reply_front, and_then_replies, replies_past, replies_of, and_then_rest, rest_past, rest_behind, with_session, reply_line, lines_telling, replies_told, or_untold, untold_from, front_fault, tail_fault, fault_behind, replies_fault}
+use Rattle.trace_lines.specs.TaggedReplies.{behind_tag, reply_front, IsWholeReply, and_then_replies, replies_past, replies_of, and_then_rest, rest_past, rest_behind, with_session, reply_line, lines_telling, replies_told, or_untold, untold_from, front_fault, tail_fault, fault_behind, replies_fault}
 use Rattle.trace_lines.specs.TraceTurns.{PutsReply}
 
 -- ---- what stands at the front
+
+-- A whole frame behind a tag is a whole reply.
+pub whole_behind_tag : (session : ℕ) (bytes : List ℕ) → IsWholeFront bytes → IsWholeReply (4 ∷ session ∷ bytes)
+whole_behind_tag session bytes whole = record { session = session; frame = whole.frame; len = 2 + whole.len; stands = ap (behind_tag session) whole.stands }
 
 tag_within : (x : Front) (s t n k : ℕ) (f : Frame) → ((g : Frame) (m : ℕ) → x ≡ front.Whole g m → m ≤ k) → behind_tag s x ≡ reply.Whole t f n → (2 ≤ n) × (n ≤ 2 + k)
 tag_within front.Short s t n k f fits e = absurd cc

@@ -1,5 +1,5 @@
 -- Each session sends the frames of its lines.
-use Rattle.std.proofs.Common.{◌≡◌, ℕ, zero, suc, ◌<◌, ◌≤◌, ◌^◌, Bool, true, false, cond, eqb, List, [], ◌∷◌, ◌++◌, map, set, get_or, length, replicate, None, Some, Ok, Err, refl, sym, ap, subst, ◌∙◌, append_assoc, append-nil, arith}
+use Rattle.std.proofs.Common.{◌≡◌, ℕ, zero, suc, ◌<◌, ◌^◌, Bool, true, false, cond, eqb, List, [], ◌∷◌, ◌++◌, map, set, replicate, Ok, Err, refl, sym, ap, subst, ◌∙◌, append_assoc, append-nil, arith}
 use Rattle.std.specs.declared.result.Result.{Result}
 use Rattle.std.specs.List.{flat_map, AllByRecursion}
 use Rattle.std.proofs.lemmas.Grind.{flat_map-append}
@@ -21,7 +21,7 @@ use Rattle.trace_lines.specs.declared.seats.Seat.{Seat}
 use Rattle.trace_lines.specs.declared.seats.Seat.TheVariants.{Unopened, Opened, Closed}
 use Rattle.trace_lines.specs.TraceWords.{traced_by}
 use Rattle.trace_lines.specs.SessionActs.{Act, Opening, Sending, Closing, no_seats, seat_at, turned, done_by, and_then_acts, acts_from, acts_said}
-use Rattle.trace_lines.specs.ActRecords.{pieces, data_records, records_for, records_said, bytes_traced, sent_by, frames_sent}
+use Rattle.trace_lines.specs.ActRecords.{pieces, records_for, records_said, bytes_traced, sent_by, frames_sent}
 use Rattle.trace_lines.proofs.PieceLaws.{pieces_joined}
 use Rattle.trace_lines.proofs.TurnLaws.{SaidFits, traced_fits}
 use Rattle.trace_lines.proofs.ReadBackLaws.{first_of, second_of, turn_of, records_allowed, records_back}

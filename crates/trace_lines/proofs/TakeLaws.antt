@@ -1,5 +1,5 @@
 -- What is said of a session, put down.
-use Rattle.std.proofs.Common.{◌≡◌, ℕ, Bool, false, List, [], ◌∷◌, ◌++◌, set, Ok, Err, refl, sym, ap, ◌∙◌, append-nil}
+use Rattle.std.proofs.Common.{◌≡◌, ℕ, false, List, ◌++◌, set, Ok, Err, refl, sym, ap, ◌∙◌, append-nil}
 use Rattle.std.specs.declared.result.Result.{Result}
 use Rattle.std.specs.List.{flat_map}
 use Rattle.ctrl_model.specs.declared.kinds.Who.{Who}
@@ -15,7 +15,7 @@ use Rattle.trace_lines.specs.declared.said.TraceCause.TheVariants.{OpenedBefore,
 use Rattle.trace_lines.specs.declared.seats.Seat.{Seat}
 use Rattle.trace_lines.specs.declared.seats.Seat.TheVariants.{Unopened, Opened, Closed}
 use Rattle.trace_lines.specs.TraceWords.{traced_by}
-use Rattle.trace_lines.specs.SessionActs.{Act, Opening, Sending, Closing, seat_at, turned, with_seat}
+use Rattle.trace_lines.specs.SessionActs.{Act, Opening, Sending, Closing, seat_at, turned}
 use Rattle.trace_lines.specs.ActRecords.{data_records}
 use Rattle.trace_lines.specs.TraceTurns.{TakesSaid, GoesOn, EndsAt}
 use Rattle.trace_lines.proofs.TurnLaws.{does, ends, done_at}

@@ -1,5 +1,5 @@
 -- What a line of a trace says, and a turn of the reading of a text.
-use Rattle.std.proofs.Common.{◌≡◌, ℕ, ◌+◌, ◌≤◌, ◌<◌, Bool, true, false, cond, ltb, eqb, List, [], ◌∷◌, ◌++◌, length, set, None, Some, Ok, Err, refl, sym, ap, ◌∙◌, append_assoc}
+use Rattle.std.proofs.Common.{◌≡◌, ℕ, ◌+◌, ◌<◌, Bool, true, false, cond, ltb, eqb, List, [], ◌∷◌, ◌++◌, length, None, Some, Ok, Err, refl, sym, ap, ◌∙◌, append_assoc}
 use Rattle.std.specs.declared.option.Option.{Option}
 use Rattle.std.specs.declared.result.Result.{Result}
 use Rattle.std.specs.List.{flat_map}
@@ -22,8 +22,6 @@ use Rattle.trace_lines.specs.declared.said.Said.{Said}
 use Rattle.trace_lines.specs.declared.said.Said.TheVariants.{Opens, Sends, Closes}
 use Rattle.trace_lines.specs.declared.said.TraceLine.{TraceLine}
 use Rattle.trace_lines.specs.declared.said.TraceCause.{TraceCause}
-use Rattle.trace_lines.specs.declared.said.TraceCause.TheVariants.{BadSession, BadRole, NoFrame}
-use Rattle.trace_lines.specs.declared.said.TraceFault.{TraceFault}
 use Rattle.trace_lines.specs.declared.seats.Seat.{Seat}
 use Rattle.trace_lines.specs.TraceWords.{as_session, session_in, role_named, role_in, opens, sends, said_of, of_session, with_session, traced_by}
 use Rattle.trace_lines.specs.SessionActs.{Act, seat_at, turned, with_seat, done_by, and_then_acts, acts_from, or_fault, fault_from}

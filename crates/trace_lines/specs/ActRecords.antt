@@ -1,5 +1,5 @@
 -- The records of a trace that lines say (docs/FORMATS.md, "Lines of traces").
-use Rattle.std.specs.Prelude.{ℕ, zero, suc, ◌-◌, ◌==◌, if◌then◌else◌, List, [], ◌∷◌, ◌++◌, map, take}
+use Rattle.std.specs.Prelude.{ℕ, zero, suc, ◌-◌, ◌==◌, if◌then◌else◌, List, [], ◌∷◌, map, take}
 use Rattle.std.specs.List.{flat_map}
 use Rattle.channel_frame.specs.declared.frames.Frame.{Frame}
 use Rattle.channel_frame.specs.FrameSpelling.{spelling}

@@ -1,5 +1,5 @@
 -- Tagged replies read from bytes, and the lines that tell them (docs/FORMATS.md, "Traces and tagged replies", "Lines of traces").
-use Rattle.std.specs.Prelude.{ℕ, zero, suc, ◌+◌, ◌-◌, ◌==◌, if◌then◌else◌, List, [], ◌∷◌, ◌++◌, length, codes, decimal, None, Some, Ok, Err}
+use Rattle.std.specs.Prelude.{◌≡◌, ℕ, zero, suc, ◌+◌, ◌-◌, ◌==◌, if◌then◌else◌, List, [], ◌∷◌, ◌++◌, length, codes, decimal, None, Some, Ok, Err}
 use Rattle.std.specs.declared.option.Option.{Option}
 use Rattle.std.specs.declared.result.Result.{Result}
 use Rattle.channel_frame.specs.declared.frames.Frame.{Frame}
@@ -26,6 +26,13 @@ abbrev pub reply_front : List ℕ → ReplyFront
 reply_front [] = reply.Unfinished
 reply_front (b ∷ []) = if b == 4 then reply.Unfinished else reply.Untagged
 reply_front (b ∷ s ∷ bytes) = if b == 4 then behind_tag s (front bytes) else reply.Untagged
+
+-- A whole reply stands at the front of some bytes: an unfinished one, another first byte or a fault is none.
+pub record IsWholeReply (bytes : List ℕ) : Type 0 where
+  pub session : ℕ
+  pub frame : Frame
+  pub len : ℕ
+  pub stands : reply_front bytes ≡ reply.Whole session frame len
 
 -- A whole reply, and what is read behind it.
 abbrev pub and_then_replies : ReplyFront → (ℕ → List (ℕ × Frame)) → List (ℕ × Frame)

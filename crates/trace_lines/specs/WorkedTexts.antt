@@ -1,6 +1,6 @@
 -- Texts and bytes of the worked examples (docs/FORMATS.md, "Lines of traces").
 use Rattle.std.specs.Prelude.{ℕ, List, [], ◌∷◌, ◌++◌, codes}
-use Rattle.channel_frame.specs.WorkedFrames.{ann_bytes, reply_bytes}
+use Rattle.channel_frame.specs.WorkedFrames.{reply_bytes}
 
 -- An administrator's session sends a frame and is closed.
 abbrev pub one_story : List ℕ

@@ -1,5 +1,5 @@
-ghost use Rattle.std.specs.Prelude.{◌≡◌, ◌∷◌, IfOk};
-ghost use Rattle.trace_lines.specs.TaggedReplies.{reply_front};
+ghost use Rattle.std.specs.Prelude.{◌≡◌, ◌∷◌, IfOk, OnErr};
+ghost use Rattle.trace_lines.specs.TaggedReplies.{reply_front, IsWholeReply};
 
 use channel_frame::{Frame, FrameFault, Front, front_of};
 use std::alloc::{AllocError, Global};
@@ -19,7 +19,8 @@ pub enum ReplyFront {
 
 // What stands behind a byte 4 and a session.
 fn behind_tag(alloc: Global, session: u8, bytes: &[u8]) -> Result<ReplyFront, AllocError>
-    ensures { IfOk result (λ f. f ≡ reply_front (4 ∷ session ∷ bytes.now)) }
+    ensures front { IfOk result (λ f. f ≡ reply_front (4 ∷ session ∷ bytes.now)) }
+    ensures memory { OnErr result (IsWholeReply (4 ∷ session ∷ bytes.now)) }
 {
     match front_of(alloc, bytes)? {
         Front::Short => Ok(ReplyFront::Unfinished),
@@ -28,9 +29,10 @@ fn behind_tag(alloc: Global, session: u8, bytes: &[u8]) -> Result<ReplyFront, Al
     }
 }
 
-/// What stands at the front of some bytes.
+/// What stands at the front of some bytes. Memory is wanted only where a whole reply stands there.
 pub fn reply_front(alloc: Global, bytes: &[u8]) -> Result<ReplyFront, AllocError>
-    ensures { IfOk result (λ f. f ≡ reply_front bytes.now) }
+    ensures front { IfOk result (λ f. f ≡ reply_front bytes.now) }
+    ensures memory { OnErr result (IsWholeReply bytes.now) }
 {
     match bytes {
         [] => Ok(ReplyFront::Unfinished),

@@ -19,7 +19,7 @@ returns-in_err-row-clause-unread c = λ place flaw told.
 
 pub ops-preserved : goal.ops-preserved
 ops-preserved c =
-    rw (c.key_of.ensures, c.in_ok-push.ensures.items)
+    rw (c.key_of.ensures, c.in_ok-keep_row.ensures)
     (reads_next c.args.ops.now c.ops.op-index (option_map (λ l. l.now) c.ops.last) c.ops.rows.items c.op-item.result c.in_ok-row.row
     c.ops.invariant c.ops-test.true c.op-item.is c.in_ok-row.ensures.read)
 

@@ -7,7 +7,7 @@ use Rattle.trace_lines.proofs.telling.tell_replies.Goals as goal
 pub replies-preserved : goal.replies-preserved
 replies-preserved c =
     let rest = c.replies.rest.now in
-    let whole : reply_front rest ≡ Whole c.in-Whole.session c.in-Whole.frame c.in-Whole.len = sym c.in_ok-session.ensures ∙ c.in-Whole.is in
+    let whole : reply_front rest ≡ Whole c.in-Whole.session c.in-Whole.frame c.in-Whole.len = sym c.in_ok-session.ensures.front ∙ c.in-Whole.is in
     let long = (reply_within rest c.in-Whole.session c.in-Whole.len c.in-Whole.frame whole).0 in
     record {
       told = told_put c.replies.out.items c.put_reply.new.out.items c.replies.number rest c.split_at.result.1.now c.args.bytes.now c.in-Whole.session c.in-Whole.len c.in-Whole.frame
