@@ -11,7 +11,7 @@ returns-in-Ok-clause-words c d =
     let RunsOf : Option Form → Type 0 = λ form. Runs {S = c.row.S.Denot} {D = c.row.D.Denot}
     (record { left = c.S.Source.left; faults = c.S.Source.faults; tells = c.D.Desk.tells; seen = c.D.Desk.seen; stopped = c.D.Desk.stopped }) form
     d.args.source.now d.run.new.source d.args.desk.now d.run.new.desk d.run.result in
-    asked_with c.args.given d.asked_words.result _ _ _ d.in-Ok.is d.asked_words.ensures.words
+    asked_with d.args.given d.asked_words.result _ _ _ d.in-Ok.is d.asked_words.ensures.words
         (λ words same. subst RunsOf (ap (λ ws. form_of (map string_bytes ws)) same) d.run.ensures.runs)
 
 pub returns-in-Ok-clause-no_text : goal.returns-in-Ok-clause-no_text
@@ -19,14 +19,14 @@ returns-in-Ok-clause-no_text c d =
     let RunsOf : Option Form → Type 0 = λ form. Runs {S = c.row.S.Denot} {D = c.row.D.Denot}
     (record { left = c.S.Source.left; faults = c.S.Source.faults; tells = c.D.Desk.tells; seen = c.D.Desk.seen; stopped = c.D.Desk.stopped }) form
     d.args.source.now d.run.new.source d.args.desk.now d.run.new.desk d.run.result in
-    failed_with c.args.given d.asked_words.result _ _ _ _ d.in-Ok.is d.asked_words.ensures.no_text
+    failed_with d.args.given d.asked_words.result _ _ _ _ d.in-Ok.is d.asked_words.ensures.no_text
         (λ same. subst RunsOf (ap (λ ws. form_of (map string_bytes ws)) same) d.run.ensures.runs)
 
 pub returns-in-Ok-clause-no_memory : goal.returns-in-Ok-clause-no_memory
-returns-in-Ok-clause-no_memory c d = wanting_with c.args.given d.asked_words.result _ _ _ d.in-Ok.is d.asked_words.ensures.no_memory
+returns-in-Ok-clause-no_memory c d = wanting_with d.args.given d.asked_words.result _ _ _ d.in-Ok.is d.asked_words.ensures.no_memory
 
 pub returns-in-Err-clause-words : goal.returns-in-Err-clause-words
-returns-in-Err-clause-words c d = asked_without c.args.given d.asked_words.result _ _ _ d.in-Err.is d.asked_words.ensures.words
+returns-in-Err-clause-words c d = asked_without d.args.given d.asked_words.result _ _ _ d.in-Err.is d.asked_words.ensures.words
 
 pub returns-in-Err-clause-no_text : goal.returns-in-Err-clause-no_text
-returns-in-Err-clause-no_text c d = failed_without c.args.given d.asked_words.result _ _ _ _ d.in-Err.is d.asked_words.ensures.no_text
+returns-in-Err-clause-no_text c d = failed_without d.args.given d.asked_words.result _ _ _ _ d.in-Err.is d.asked_words.ensures.no_text
