@@ -1,4 +1,4 @@
-ghost use Rattle.std.specs.Prelude.{◌≡◌, IfOk};
+ghost use Rattle.std.specs.Prelude.{IfOk};
 ghost use Rattle.grant_steps.specs.LeadingSteps.{LeadAllCounts};
 ghost use Rattle.ctrl_core.specs.ChangedStores.{CanSettle, next_state};
 ghost use Rattle.ctrl_core.specs.KeptState.{Keeps, IsGranted};
@@ -35,19 +35,6 @@ fn settled_rows(
     Ok((settled, batch))
 }
 
-// A draft with what settles and the batch, as a plan.
-fn with_settled(draft: Draft, settled: Settled, batch: Batch) -> Planned
-    ensures { result ≡ record { reply = draft.reply; batch = batch; change = draft.change; settled = settled; steps = draft.steps } }
-{
-    Planned {
-        reply: draft.reply,
-        batch,
-        change: draft.change,
-        settled,
-        steps: draft.steps,
-    }
-}
-
 /// What settles after the change of a draft; nothing, where it has none.
 pub fn settled_after(
     alloc: Global,
@@ -80,5 +67,11 @@ pub fn completed(
         return Ok(Planned::still(alloc, draft.reply, draft.steps));
     };
     let (settled, batch) = settled_rows(alloc, stores, change, &draft.steps, granted)?;
-    Ok(with_settled(draft, settled, batch))
+    Ok(Planned {
+        reply: draft.reply,
+        batch,
+        change: draft.change,
+        settled,
+        steps: draft.steps,
+    })
 }
