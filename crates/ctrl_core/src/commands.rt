@@ -86,19 +86,7 @@ pub fn plan_command(alloc: Global, stores: &Stores, command: &Command) -> Result
     ensures { IfOk result (λ p. Plans p (carry command.now (state_of stores.now)) (state_of stores.now)) }
 {
     let entities = &stores.entities;
-    if let Some(plan) = plan_entity_command(alloc, entities, command)? {
-        return drafted(alloc, stores, plan.reply, entity_change(plan.change));
-    }
-    if let Some(plan) = plan_policy_command(alloc, entities, &stores.policies, command)? {
-        return drafted(alloc, stores, plan.reply, policy_change(plan.change));
-    }
-    if let Some(plan) = plan_link_command(entities, &stores.fabric, command)? {
-        return drafted(alloc, stores, plan.reply, link_change(plan.change));
-    }
     let bind = &stores.grants.bind;
-    if let Some(plan) = plan_terminator_command(entities, &stores.terminators, bind, command)? {
-        return drafted(alloc, stores, plan.reply, term_change(plan.change));
-    }
     let parts = Parts {
         entities,
         fabric: &stores.fabric,
@@ -109,8 +97,21 @@ pub fn plan_command(alloc: Global, stores: &Stores, command: &Command) -> Result
         identity_router: &stores.grants.identity_router,
         service_router: &stores.grants.service_router,
     };
+    // Circuits come and go most often, so that their family is asked first.
     if let Some(plan) = plan_circuit_command(alloc, &parts, command)? {
         return drafted(alloc, stores, plan.reply, circuit_change(plan.change));
+    }
+    if let Some(plan) = plan_entity_command(alloc, entities, command)? {
+        return drafted(alloc, stores, plan.reply, entity_change(plan.change));
+    }
+    if let Some(plan) = plan_policy_command(alloc, entities, &stores.policies, command)? {
+        return drafted(alloc, stores, plan.reply, policy_change(plan.change));
+    }
+    if let Some(plan) = plan_link_command(entities, &stores.fabric, command)? {
+        return drafted(alloc, stores, plan.reply, link_change(plan.change));
+    }
+    if let Some(plan) = plan_terminator_command(entities, &stores.terminators, bind, command)? {
+        return drafted(alloc, stores, plan.reply, term_change(plan.change));
     }
     if let Some(reply) = shown_in(alloc, stores, command)? {
         return Ok(Draft::shown(alloc, reply));

@@ -1,4 +1,4 @@
-ghost use Rattle.std.specs.Prelude.{◌≡◌, ℕ, ◌||◌, true, false, is_some, IfOk, IsErrOf, OnOk, OnErr};
+ghost use Rattle.std.specs.Prelude.{◌≡◌, ℕ, true, false, IfOk, IsErrOf, OnOk, OnErr};
 ghost use Rattle.ctrl_model.specs.State.{start};
 ghost use Rattle.ctrl_model.specs.CommandForm.{is_spelled};
 ghost use Rattle.ctrl_model.specs.Controller.{carry};
@@ -19,7 +19,7 @@ use crate::commands::plan_command;
 use crate::completing::{completed, settled_after};
 use crate::loading::load;
 use crate::plans::Planned;
-use core_stores::{Change, Draft, Settled, Stores};
+use core_stores::{Change, Settled, Stores};
 use ctrl_model::{Command, Relation, Reply};
 use grant_denorm::Counted;
 use policy_store::GrantSteps;
@@ -49,13 +49,6 @@ impl Model for Core {
     ghost view = { λ c. record { state = state_of c.stores; live = c.live } };
 
     ghost invariant = { λ c. c.live ≡ true → Keeps c.stores × IsGranted c.granted (state_of c.stores) };
-}
-
-// Whether it is known that what granted each circuit stands, after a change or none: of a state settled nothing is revoked.
-fn is_granted_then(granted: bool, change: &Option<Change>) -> bool
-    ensures { result ≡ (granted || is_some change.now) }
-{
-    granted || change.is_some()
 }
 
 impl Core {
@@ -149,12 +142,7 @@ impl Core {
     {
         let draft = plan_command(self.alloc, &self.stores, command)?;
         let settled = settled_after(self.alloc, &self.stores, &draft, self.granted)?;
-        let Draft {
-            reply,
-            change,
-            steps,
-        } = draft;
-        let reply = self.go_on(reply, change, settled, &steps)?;
+        let reply = self.go_on(draft.reply, draft.change, settled, &draft.steps)?;
         Ok(reply)
     }
 
@@ -176,7 +164,8 @@ impl Core {
         ensures err { OnErr result (self.new.live ≡ false) }
     {
         self.live = false;
-        self.granted = is_granted_then(self.granted, &change);
+        // Of a state settled nothing is revoked.
+        self.granted |= change.is_some();
         move_stores(self.alloc, &mut self.stores, change, settled, steps)?;
         self.live = true;
         Ok(reply)

@@ -17,7 +17,7 @@ invariant_of-self-2 c = λ _.
     let can = subst (λ (v : Cored). CanLeadBy CanChange c.args.change v.state) (sym c.self.view_is) c.requires.can in
     let valid = subst (λ (v : Cored). ValidState (led_by after_change c.args.change v.state)) (sym c.self.view_is) c.requires.valid in (
       c.in_ok-move_stores.ensures.kept,
-      subst (λ b. IsGranted b (state_of c.move_stores.new.stores)) (sym c.is_granted_then-self-inside.ensures)
+      subst (λ b. IsGranted (c.self.inside.granted || b) (state_of c.move_stores.new.stores)) (sym c.is_some.ensures)
           (subst (IsGranted (c.self.inside.granted || is_some c.args.change)) (sym c.in_ok-move_stores.ensures.next) (granted_after c.self.inside.granted c.args.change c.self.inside.stores kept.0 can valid kept.1)),
     )
 
