@@ -7,5 +7,5 @@ mod value_kinds;
 mod worked;
 
 pub use fields::{FieldFault, Fields};
-pub use value_kinds::{as_list_of, as_name, as_number_in};
+pub use value_kinds::{as_list_of, as_name, as_number_in, is_name};
 pub use worked::{worked_faults, worked_kinds};

@@ -1,4 +1,4 @@
-ghost use Rattle.std.specs.Prelude.{◌≡◌, IfOk, OnErr, IsSome, Some, option_map};
+ghost use Rattle.std.specs.Prelude.{◌≡◌, IfOk, OnErr, IsSome, Some, is_some, option_map};
 ghost use Rattle.std.specs.Result.{result_map_both};
 ghost use Rattle.serde_json.specs.View.{view, items_view};
 ghost use Rattle.json_body.specs.FieldKinds.{member_of, as_name, as_number_in, as_list_of, required, name_of, within};
@@ -42,6 +42,16 @@ pub fn as_name(alloc: Global, value: &Value) -> Result<Option<Name>, AllocError>
     match value.as_str() {
         Some(text) => name_of(alloc, text.as_bytes()),
         None => Ok(None),
+    }
+}
+
+/// Whether a value is a name. No memory is taken.
+pub fn is_name(value: &Value) -> bool
+    ensures { result ≡ is_some (as_name (view value.now)) }
+{
+    match value.as_str() {
+        Some(text) => Name::is(text.as_bytes()),
+        None => false,
     }
 }
 
