@@ -1,8 +1,9 @@
 -- Lists whose values are all of one kind: what one more value adds, and what such a list has.
-use Rattle.std.proofs.Common.{◌≡◌, ℕ, zero, suc, ◌≤◌, ◌<◌, nat_le, Bool, true, List, [], ◌∷◌, ◌++◌, length, get_or, Option, Some, None, refl, sym, ap, ◌∙◌, subst, arith, leb-true}
-use Rattle.std.specs.Prelude.{option_map, option_and_then}
+use Rattle.std.proofs.Common.{◌≡◌, ℕ, zero, suc, ◌+◌, ◌≤◌, ◌<◌, nat_le, Bool, true, false, List, [], ◌∷◌, ◌++◌, length, get_or, take, Option, Some, None, refl, sym, ap, ◌∙◌, subst, arith, leb-true}
+use Rattle.std.specs.Prelude.{is_some, option_map, option_and_then}
 use Rattle.std.specs.List.{list_all}
 use Rattle.std.proofs.lemmas.Bool.{and_from}
+use Rattle.std.proofs.lemmas.Grind.{take_at_read}
 use Rattle.std.proofs.lemmas.Option.{cond_some, option_and_then_some, same_Some}
 use Rattle.serde_json.specs.Data.{Data, Items, no_items, item}
 use Rattle.serde_json.specs.Find.{as_array}
@@ -50,6 +51,30 @@ each_of-none {A} kind (v ∷ vs) (suc i) d lt e = rw (each_of-none kind vs i d (
     nothing : (o : Option A) → option_and_then (λ x. option_map (λ xs. x ∷ xs) None) o ≡ None
     nothing None = refl
     nothing (Some x) = refl
+
+-- ---- whether each says something
+
+none_unsaid : {A : Type 0} (o : Option A) → is_some o ≡ false → o ≡ None
+none_unsaid None e = refl
+none_unsaid (Some x) e = absurd (cc)
+
+both_said : {A : Type 0} (a : Option (List A)) (b : Option A) → is_some a ≡ true → is_some b ≡ true → is_some (option_and_then (λ xs. option_map (λ x. xs ++ x ∷ []) b) a) ≡ true
+both_said None b e f = absurd (cc)
+both_said (Some xs) None e f = absurd (cc)
+both_said (Some xs) (Some x) e f = refl
+
+-- A value that says nothing.
+pub unsaid_at : {A : Type 0} (kind : Data → Option A) (vs : List Value) (i : ℕ) (v : Value) → i < length vs → v ≡ get_or vs i v → is_some (kind (view v)) ≡ false
+    → is_some (each_of kind (items_view vs)) ≡ false
+unsaid_at kind vs i v lt is unsaid =
+    ap is_some (each_of-none kind vs i v lt (ap (λ w. kind (view w)) (sym is) ∙ none_unsaid (kind (view v)) unsaid))
+
+-- A value behind such values that says something.
+pub said_to : {A : Type 0} (kind : Data → Option A) (vs : List Value) (i : ℕ) (v : Value) → i < length vs → v ≡ get_or vs i v → is_some (kind (view v)) ≡ true
+    → is_some (each_of kind (items_view (take i vs))) ≡ true → is_some (each_of kind (items_view (take (i + 1) vs))) ≡ true
+said_to kind vs i v lt is so so_far =
+    let more : take (i + 1) vs ≡ take i vs ++ v ∷ [] = (take_at_read vs i v lt).1 ∙ ap (λ w. take i vs ++ w ∷ []) (sym is) in
+    ap (λ ws. is_some (each_of kind (items_view ws))) more ∙ ap is_some (each_of-end kind (take i vs) v) ∙ both_said (each_of kind (items_view (take i vs))) (kind (view v)) so_far so
 
 -- ---- what such a list has
 

@@ -1,4 +1,4 @@
-ghost use Rattle.std.specs.Prelude.{◌≡◌, ◌||◌, codes, IfOk, option_map, string_bytes};
+ghost use Rattle.std.specs.Prelude.{◌≡◌, ◌||◌, codes, IfOk, IsErrOf, IsOk, IsSome, OnErr, is_some, option_map, string_bytes};
 ghost use Rattle.std.specs.List.{list_all};
 ghost use Rattle.std.specs.Str.{bytes_eq};
 ghost use Rattle.std.specs.BTreeMap.{keys};
@@ -8,7 +8,7 @@ ghost use Rattle.json_body.specs.FieldKinds.{object_of, required};
 ghost use Rattle.command_codec.specs.ReadResults.{Gives};
 ghost use Rattle.command_codec.specs.RouteClaims.{as_numbers, as_potentials, has_reach_keys, router_in, values_in};
 
-use crate::item_lists::{ListItem, each_in, list};
+use crate::item_lists::{ListItem, are_said, each_in, list};
 use ctrl_model::{Field, MOST_ROUTERS, Numbers, Potentials, Reach, Reaches, RouterNo};
 use json_body::{FieldFault, Fields, as_list_of, as_number_in};
 use serde_json::{Map, Value};
@@ -23,6 +23,10 @@ impl ListItem for u32 {
 
     ghost kind = { as_no };
 
+    fn is_said(value: &Value) -> bool {
+        as_number_in(value, 1, u32::MAX).is_some()
+    }
+
     fn said_by(_alloc: Global, value: &Value) -> Result<Option<u32>, AllocError> {
         Ok(as_number_in(value, 1, u32::MAX))
     }
@@ -33,6 +37,10 @@ impl ListItem for u64 {
     ghost use Rattle.command_codec.specs.RouteClaims.{as_value};
 
     ghost kind = { as_value };
+
+    fn is_said(value: &Value) -> bool {
+        value.is_null() || as_number_in(value, 0, u32::MAX).is_some()
+    }
 
     fn said_by(_alloc: Global, value: &Value) -> Result<Option<u64>, AllocError> {
         if value.is_null() {
@@ -47,6 +55,10 @@ impl ListItem for Reach {
     ghost use Rattle.command_codec.specs.RouteClaims.{as_reach};
 
     ghost kind = { as_reach };
+
+    fn is_said(value: &Value) -> bool {
+        has_reach_keys(value) && router_in(value).is_some() && has_values(value)
+    }
 
     fn said_by(alloc: Global, value: &Value) -> Result<Option<Reach>, AllocError> {
         if !has_reach_keys(value) {
@@ -94,9 +106,23 @@ fn router_in(value: &Value) -> Option<u32>
     as_number_in(value.get("router")?, 1, u32::MAX)
 }
 
+// Whether a potential has values.
+fn has_values(value: &Value) -> bool
+    ensures { result ≡ is_some (values_in (view value.now)) }
+{
+    let Some(values) = value.get(VALUES) else {
+        return false;
+    };
+    match as_list_of(values, MOST_ROUTERS) {
+        Some(values) => are_said::<u64>(values),
+        None => false,
+    }
+}
+
 // The values of a potential.
 fn values_in(alloc: Global, value: &Value) -> Result<Option<Vec<u64>>, AllocError>
-    ensures { IfOk result (λ vs. option_map (λ v. v.items) vs ≡ values_in (view value.now)) }
+    ensures values { IfOk result (λ vs. option_map (λ v. v.items) vs ≡ values_in (view value.now)) }
+    ensures memory { OnErr result (IsSome (values_in (view value.now))) }
 {
     let Some(values) = value.get(VALUES) else {
         return Ok(None);
@@ -114,14 +140,18 @@ pub(crate) fn numbers(
     field: Field,
     most: usize,
 ) -> Result<Numbers, FieldFault>
-    ensures { Gives FieldFault.NoMemory (λ n. n) result (required (as_numbers most) field (object_of fields.now)) }
+    ensures given { Gives FieldFault.NoMemory (λ n. n) result (required (as_numbers most) field (object_of fields.now)) }
+    // Memory can be wanting for such numbers alone.
+    ensures memory { IsErrOf result FieldFault.NoMemory → IsOk (required (as_numbers most) field (object_of fields.now)) }
 {
     Ok(Numbers::of(list(alloc, fields, field, most)?))
 }
 
 // The potentials that an object gives.
 pub(crate) fn potentials(alloc: Global, fields: &Fields) -> Result<Reaches, FieldFault>
-    ensures { Gives FieldFault.NoMemory (λ r. r) result (required as_potentials Field.Potentials (object_of fields.now)) }
+    ensures given { Gives FieldFault.NoMemory (λ r. r) result (required as_potentials Field.Potentials (object_of fields.now)) }
+    // Memory can be wanting for potentials alone.
+    ensures memory { IsErrOf result FieldFault.NoMemory → IsOk (required as_potentials Field.Potentials (object_of fields.now)) }
 {
     Ok(Reaches::of(list(alloc, fields, Field::Potentials, MOST_ROUTERS)?))
 }

@@ -1,7 +1,7 @@
 -- Lists of names without repeats: what one more name adds, and what form such a list has.
-use Rattle.std.proofs.Common.{◌≡◌, ℕ, ◌≤◌, Bool, true, false, not, cond, ◌||◌, List, [], ◌∷◌, ◌++◌, length, refl, sym, ap, ◌∙◌, bytes_eq, arith}
+use Rattle.std.proofs.Common.{◌≡◌, ℕ, ◌+◌, ◌<◌, ◌≤◌, Bool, true, false, not, cond, ◌||◌, List, [], ◌∷◌, ◌++◌, length, take, get_or, refl, sym, ap, ◌∙◌, bytes_eq, arith}
 use Rattle.std.specs.List.{filter, flat_map, list_all}
-use Rattle.std.proofs.lemmas.Grind.{flat_map-append}
+use Rattle.std.proofs.lemmas.Grind.{flat_map-append, take_at_read}
 use Rattle.std.proofs.lemmas.Bool.{and_from, and_parts, both_ways, false_from_ne_true, not_from_false}
 use Rattle.std.proofs.lemmas.List.{append-nil}
 use Rattle.std.proofs.lemmas.List.Elements.{filter-append}
@@ -95,3 +95,14 @@ pub repeats-same : {X : Type 0} (f : X → List (List ℕ)) (xs : List X) (x : X
     → without_repeats (flat_map f xs) ≡ kept → f x ≡ [] → without_repeats (flat_map f (xs ++ x ∷ [])) ≡ kept
 repeats-same f xs x kept so_far gives =
     ap without_repeats (flat_map-append f xs (x ∷ []) ∙ ap (λ l. flat_map f xs ++ (l ++ [])) gives ∙ append-nil (flat_map f xs)) ∙ so_far
+
+-- The same at an index of a list: the one there gives a name, or none.
+pub repeats-at : {X : Type 0} (f : X → List (List ℕ)) (xs : List X) (i : ℕ) (x : X) (kept : List (List ℕ)) (n : List ℕ) → i < length xs → x ≡ get_or xs i x
+    → without_repeats (flat_map f (take i xs)) ≡ kept → f x ≡ n ∷ [] → without_repeats (flat_map f (take (i + 1) xs)) ≡ with_name kept n
+repeats-at f xs i x kept n below is so_far gives =
+    ap (λ l. without_repeats (flat_map f l)) ((take_at_read xs i x below).1 ∙ ap (λ y. take i xs ++ y ∷ []) (sym is)) ∙ repeats-more f (take i xs) x kept n so_far gives
+
+pub repeats-past : {X : Type 0} (f : X → List (List ℕ)) (xs : List X) (i : ℕ) (x : X) (kept : List (List ℕ)) → i < length xs → x ≡ get_or xs i x
+    → without_repeats (flat_map f (take i xs)) ≡ kept → f x ≡ [] → without_repeats (flat_map f (take (i + 1) xs)) ≡ kept
+repeats-past f xs i x kept below is so_far gives =
+    ap (λ l. without_repeats (flat_map f l)) ((take_at_read xs i x below).1 ∙ ap (λ y. take i xs ++ y ∷ []) (sym is)) ∙ repeats-same f (take i xs) x kept so_far gives

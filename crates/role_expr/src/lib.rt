@@ -12,7 +12,7 @@ mod worked;
 pub use laws::{one_spelling_a_role, roles_are_read_by_their_spelling};
 pub use matching::matches;
 pub use names::keep_name;
-pub use roles::{RoleFault, read_role};
+pub use roles::{RoleFault, is_role, read_role};
 pub use row_matching::match_all;
 pub use sides::side_of;
 pub use worked::{worked_matches, worked_roles, worked_sides};

@@ -1,4 +1,4 @@
-ghost use Rattle.std.specs.Prelude.{◌≡◌, ◌↔◌, true, IfOk, OnErr, IsErrOf, IsSome};
+ghost use Rattle.std.specs.Prelude.{◌≡◌, ◌↔◌, true, IfOk, OnErr, IsErrOf, IsSome, is_some};
 ghost use Rattle.ctrl_model.specs.declared.kinds.Role.{Role};
 ghost use Rattle.role_expr.specs.ReadRoles.{attribute_from, name_in, role_in};
 ghost use Rattle.role_expr.specs.RoleSpelling.{is_role, role_spelling};
@@ -64,6 +64,24 @@ fn role_in(alloc: Global, bytes: &[u8]) -> Result<Option<Role>, AllocError>
         Some((b'@', name)) => Ok(name_in(alloc, name)?.map(Role::Id)),
         Some((b'#', rest)) => attribute_from(alloc, rest),
         _ => Ok(None),
+    }
+}
+
+// Whether some bytes are an entry behind `#`.
+fn is_attribute(bytes: &[u8]) -> bool
+    ensures { result ≡ is_some (attribute_from bytes.now) }
+{
+    bytes == b"all".as_slice() || Name::is(bytes)
+}
+
+/// Whether the bytes are a role entry. No memory is taken.
+pub fn is_role(bytes: &[u8]) -> bool
+    ensures { result ≡ is_some (role_in bytes.now) }
+{
+    match bytes.split_first() {
+        Some((b'@', name)) => Name::is(name),
+        Some((b'#', rest)) => is_attribute(rest),
+        _ => false,
     }
 }
 
