@@ -1,8 +1,8 @@
 """Counts what one run asks of the system on its folder: python3 calls.py PROGRAM. It wants strace, and runs in a folder of its own.
 
-A run of some commands under replay, a compaction, one more run and a look. Each write or cut of a file of the folder must be followed by
-its fsync before any other call, each reply must come behind one, the folder itself must be synced behind each file that is made or opened
-for writing, and the look must change nothing."""
+A run of some commands under replay, a compaction, one more run and a look. Each write of a file of the folder must be followed by its fsync
+before any other call, each reply must come behind one, the folder itself must be synced behind each file that is made or opened for writing,
+and the look must change nothing. The one cut, of the slot that stood, comes behind the fsync of the mark and is the last call: it needs none."""
 import collections, os, re, subprocess, sys, tempfile
 from frames import frame
 
@@ -39,10 +39,14 @@ def run(program, words, given):
 def judge(calls, look):
     changed = made = None
     synced = look
+    last = None
     for name, target, value in calls:
         if changed:
             assert (name, target) == ('fsync', changed), (changed, name, target)
-        changed = target if target in FILES and name in ('write', 'pwrite64', 'ftruncate') else None
+        changed = target if target in FILES and name in ('write', 'pwrite64') else None
+        assert last != 'ftruncate', ('a call behind the cut', name, target)
+        assert name != 'ftruncate' or last == ('fsync', 'ziti.mark'), (last, name, target)
+        last = name if name == 'ftruncate' else (name, target)
         if made and name != 'looks':
             assert (name, target) == ('fsync', '.'), (made, name, target)
             made = None

@@ -42,7 +42,7 @@ def trial(program, all_requests, count):
 
 
 def main():
-    all_requests, _ = frames.realistic()
+    all_requests, _ = frames.example("realistic")
     for tenth in range(11):
         trial(sys.argv[1], all_requests, len(all_requests) * tenth // 10)
 

@@ -65,16 +65,21 @@ def closed(session):
     return bytes([3, session])
 
 
-def realistic():
-    """The frames of the lines of examples/realistic.lines, and the bodies of the replies to them."""
+def example(name):
+    """The frames of the lines of examples/NAME.lines, and the bodies of the replies to them."""
     with open(os.path.join(TOP, "docs", "FORMATS.md"), encoding="utf-8") as file:
         types = {name: int(number) for number, name in re.findall(r"^\| (\d+) \| (\w+) \|", file.read(), re.M)}
-    with open(os.path.join(TOP, "examples", "realistic.lines"), encoding="utf-8") as file:
+    with open(os.path.join(TOP, "examples", name + ".lines"), encoding="utf-8") as file:
         lines = [line.rstrip("\n") for line in file if line.strip() and not line.lstrip().startswith("#")]
-    with open(os.path.join(TOP, "examples", "realistic.replies"), encoding="utf-8") as file:
+    with open(os.path.join(TOP, "examples", name + ".replies"), encoding="utf-8") as file:
         bodies = [line.rstrip("\n").split(" ", 2)[2].encode() for line in file]
-    parts = [line.partition(" ") for line in lines]
-    return [frame(types[name], body.encode(), i + 1) for i, (name, _, body) in enumerate(parts)], bodies
+    requests, number = [], 0
+    for line in lines:
+        first, _, rest = line.partition(" ")
+        number, line = (int(first), rest) if first.isdigit() else (number + 1, line)
+        name, _, body = line.partition(" ")
+        requests.append(frame(types[name], body.encode(), number))
+    return requests, bodies
 
 
 def run(program, words, stdin, folder, seconds=60, limit=None):

@@ -35,9 +35,6 @@ LONGEST_HEADER = bytes.fromhex("0306090c 00000000 07000000 00000100 00000000 090
 NESTED = frames.frame(frames.CREATE_IDENTITY, b"[" * 200 + b"]" * 200, 7)
 COSTS = [frames.frame(frames.CREATE_ROUTER, b'{"name":"r1","cost":' + cost + b"}") for cost in (b"1.0", b"1e3", b"-1", b"65536", b"null")]
 
-# The frames of a line of routers with a circuit, as the gate runs them.
-LINE = os.path.join(HERE, "..", "crates", "zitictl", "stdin")
-
 # At most so many runs a row: where there are more allocations, every second one is refused, or every third, and so on.
 MOST = 1000
 
@@ -65,10 +62,9 @@ ROWS = [
 
 
 def rows():
-    """All rows: those above, and the line under `dry` and under `replay`."""
-    with open(LINE, "rb") as file:
-        line = file.read()
-    return ROWS + [("dry", line, False), ("replay", line, False)]
+    """All rows: those above, and the frames of `examples/network.lines` under `dry` and under `replay`."""
+    network = b"".join(frames.example("network")[0])
+    return ROWS + [("dry", network, False), ("replay", network, False)]
 
 
 def refused_run(program, library, words, stdin, before, number):

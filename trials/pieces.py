@@ -8,7 +8,6 @@ One byte at a time, each reply must be there once the last byte of its frame was
 """
 
 import os
-import resource
 import select
 import subprocess
 import sys
@@ -57,7 +56,7 @@ def replies_in_pieces(program, stdin, size):
 
 def realistic_in_pieces(program):
     """The realistic network in pieces of 1, 7 and 4,096 bytes: the replies are those of examples/realistic.replies."""
-    requests, bodies = frames.realistic()
+    requests, bodies = frames.example("realistic")
     for size in (1, 7, 4096):
         assert replies_in_pieces(program, b"".join(requests), size) == bodies, size
     print(f"dry: {len(requests)} commands of the realistic network in pieces of 1, 7 and 4096 bytes, with their replies")
@@ -82,6 +81,12 @@ def many_frames(program, pairs):
     print(f"dry: {2 * pairs} frames in one run, each done")
 
 
+def resident(number):
+    """The peak so far of a process's resident memory, in KiB; 0 once it has ended. What its parent held when it was made is not counted."""
+    with open(f"/proc/{number}/status", encoding="ascii") as file:
+        return sum(int(line.split()[1]) for line in file if line.startswith("VmHWM:"))
+
+
 def peak_memory(program, size):
     """Runs so many MiB of frames of 1 MiB each through `dry`, and prints the peak of its resident memory."""
     body = b"x" * (2**20 - 20)
@@ -93,9 +98,10 @@ def peak_memory(program, size):
         child.stdin.close()
         os._exit(0)
     child.stdin.close()
-    said = child.stdout.read()
+    said, peak = b"", 0
+    while some := os.read(child.stdout.fileno(), 65536):
+        said, peak = said + some, max(peak, resident(child.pid))
     assert child.wait() == 0 and len(frames.whole_frames(said)) == size
-    peak = resource.getrusage(resource.RUSAGE_CHILDREN).ru_maxrss
     print(f"dry: {size} frames, {size} MiB in all: a peak of {peak / 1024:.1f} MiB of resident memory")
 
 
