@@ -1,5 +1,5 @@
 use Rattle.std.proofs.Common.{◌∙◌}
-use Rattle.journal_core.proofs.RoomLaws.{left_none, left_then}
+use Rattle.journal_core.proofs.RoomLaws.{held_none, held_then}
 use Rattle.ctrl_serve.specs.ControllerViews.{serving_of}
 use Rattle.ctrl_serve.proofs.ControllerLaws.{desk_behind, says_behind}
 use Rattle.ctrl_serve.proofs.FollowedRuns.{follows_behind}
@@ -37,11 +37,11 @@ returns-clause-cut g c =
     (g.D.Desk.seen c.args.desk.now).said (g.D.Desk.seen c.answer_frame.new.desk).said (g.D.Desk.seen c.say.new.self).said
     c.in_ok-reply.ensures.ok (c.as_slice.ensures.value ∙ c.in_ok-bytes.ensures) c.answer_frame.ensures.others.replies c.in-Err.ensures.taken
 
-pub returns-in-Ok-clause-images : goal.returns-in-Ok-clause-images
-returns-in-Ok-clause-images g c = left_then c.answer_frame.ensures.images (left_none _ c.say.ensures.others.found)
+pub returns-in-Ok-clause-room : goal.returns-in-Ok-clause-room
+returns-in-Ok-clause-room g c = held_then c.answer_frame.ensures.room (held_none _ _ c.say.ensures.others.parts c.say.ensures.others.found)
 
-pub returns-clause-images : goal.returns-clause-images
-returns-clause-images g c = left_then c.answer_frame.ensures.images (left_none _ c.say.ensures.others.found)
+pub returns-clause-room : goal.returns-clause-room
+returns-clause-room g c = held_then c.answer_frame.ensures.room (held_none _ _ c.say.ensures.others.parts c.say.ensures.others.found)
 
 pub returns-in-Ok-clause-follows : goal.returns-in-Ok-clause-follows
 returns-in-Ok-clause-follows g c = λ some told. follows_behind _ _ _ _ _ (c.in_ok-reply.ensures.follows some told) c.say.ensures.others.parts
