@@ -1,4 +1,4 @@
-ghost use Rattle.std.specs.Prelude.{◌≡◌};
+ghost use Rattle.std.specs.Prelude.{◌≡◌, []};
 
 use crate::answers::{counted, given};
 use crate::drive::Drive;
@@ -48,18 +48,13 @@ pub struct FileDesk<F, O, E> {
     history: Log<F, O>,
 }
 
-impl<F: Drive, O: Outlet, E: Outlet> FileDesk<F, O, E> {
-    /// The desk over a drive and two outlets, of which no call has been made: it reads as the drive does, and a stop now finds what it
-    /// finds of the drive.
+impl<F, O, E> FileDesk<F, O, E> {
+    /// The desk over a drive and two outlets, of which no call has been made.
     pub fn new(folder: F, replies: O, notes: E) -> FileDesk<F, O, E>
-        ensures said { (⟦<FileDesk<F, O, E> as Desk>⟧.seen result).said ≡ O.contents replies }
-        ensures noted { (⟦<FileDesk<F, O, E> as Desk>⟧.seen result).noted ≡ E.contents notes }
-        ensures say_faults { (⟦<FileDesk<F, O, E> as Desk>⟧.seen result).say_faults ≡ O.failures replies }
-        ensures note_faults { (⟦<FileDesk<F, O, E> as Desk>⟧.seen result).note_faults ≡ E.failures notes }
-        ensures disk_faults { (⟦<FileDesk<F, O, E> as Desk>⟧.seen result).disk_faults ≡ F.faults folder }
-        ensures reads { (⟦<FileDesk<F, O, E> as Desk>⟧.seen result).reads ≡ F.reads folder }
-        ensures moment { (⟦<FileDesk<F, O, E> as Desk>⟧.stopped result).moment ≡ 0 }
-        ensures images { (⟦<FileDesk<F, O, E> as Desk>⟧.stopped result).images ≡ F.may_leave folder }
+        ensures folder { result.folder ≡ folder }
+        ensures replies { result.replies ≡ replies }
+        ensures notes { result.notes ≡ notes }
+        ensures history { result.history.items ≡ [] }
     {
         FileDesk {
             folder,
@@ -68,9 +63,7 @@ impl<F: Drive, O: Outlet, E: Outlet> FileDesk<F, O, E> {
             history: Log::new(),
         }
     }
-}
 
-impl<F, O, E> FileDesk<F, O, E> {
     /// The drive of its folder.
     pub fn folder(&self) -> &F
         ensures { result.now ≡ self.now.folder }
