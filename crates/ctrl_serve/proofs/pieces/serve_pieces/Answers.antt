@@ -28,7 +28,7 @@ pieces-init g c =
       calm_say = refl;
       calm_disk = refl;
       alone = λ none. OnlySaysAndNotes-none desk;
-      images = room_calm _ desk;
+      room = room_calm _ desk;
     }
 
 pub pieces-preserved : goal.pieces-preserved

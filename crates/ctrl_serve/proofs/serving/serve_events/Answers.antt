@@ -25,7 +25,7 @@ events-init g c =
       calm = refl;
       calm_disk = refl;
       alone = λ none. OnlySaysAndNotes-none desk;
-      images = room_calm _ desk;
+      room = room_calm _ desk;
       stops = λ some told. Elapses-none _ _;
     }
 

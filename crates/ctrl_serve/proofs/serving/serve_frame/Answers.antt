@@ -1,7 +1,7 @@
 use Rattle.std.proofs.Common.{◌∙◌}
 use Rattle.journal_core.proofs.RoomLaws.{held_none, held_then}
 use Rattle.ctrl_serve.specs.ControllerViews.{serving_of}
-use Rattle.ctrl_serve.proofs.ControllerLaws.{desk_behind, says_behind}
+use Rattle.ctrl_serve.proofs.ControllerLaws.{desk_behind, says_behind, ready_behind}
 use Rattle.ctrl_serve.proofs.FollowedRuns.{follows_behind}
 use Rattle.ctrl_serve.proofs.StopLaws.{turn_stops_short, served_stops}
 use Rattle.ctrl_serve.proofs.TurnLaws.{turn_taken, turn_cut}
@@ -57,3 +57,8 @@ returns-in-Ok-clause-alone g c = λ none. says_behind _ _ (c.answer_frame.ensure
 
 pub returns-clause-alone : goal.returns-clause-alone
 returns-clause-alone g c = λ none. says_behind _ _ (c.answer_frame.ensures.alone none) c.say.ensures.others c.say.ensures.stops
+
+pub returns-in-Ok-clause-ready : goal.returns-in-Ok-clause-ready
+returns-in-Ok-clause-ready g c =
+    let others = c.say.ensures.others in
+    ready_behind (serving_of c.answer_frame.new.controller).kept g.D.Desk.tells _ _ _ _ others.parts others.found c.in_ok-reply.ensures.ready
