@@ -148,16 +148,6 @@ came_cause before now (Err store_fault.MarkFull) h = record { later = h.later; o
 came_cause before now (Err store_fault.Spent) h = record { later = h.later; once = h.once; calm = h.calm; failed = tt }
 came_cause before now (Err store_fault.NoMemory) h = record { later = h.later; once = h.once; calm = h.calm; failed = tt }
 
--- What is so where no call on the disk failed is so of the reply.
-pub came_room : (A : Type 0) (r : Result ⊤ StoreFault) → OnOk (store_failure r) A → OnOk (disk_failure (compaction_reply r)) A
-came_room A (Ok x) a = a
-came_room A (Err store_fault.Disk) a = tt
-came_room A (Err store_fault.Full) a = a
-came_room A (Err (store_fault.Damaged part at)) a = a
-came_room A (Err store_fault.MarkFull) a = a
-came_room A (Err store_fault.Spent) a = a
-came_room A (Err store_fault.NoMemory) a = a
-
 -- What opens to the rows opens to the state.
 pub opens_kept : (core : Cored) (stored : Stored) → Keeps core stored → (image : Image) → OpensTo image stored.rows → OpensToState image core.state
 opens_kept core stored k image p = opens_state image core.state stored.rows k.valid k.rows p

@@ -43,7 +43,7 @@ pub follows_still : (old new : Machine) (before now : Image) → new ≡ old →
 follows_still old new before now e f =
     subst (λ (m : Machine). Follows old m before now) (sym e)
     (subst (λ (i : Image). Follows old old before i) (sym f)
-    (record { on = inl refl; still = λ _. refl; stands = λ batches s. subst (Stands before) (sym (batches_still old batches)) s }))
+    (record { on = inl refl; still = λ _. refl; stands = λ batches s. subst (Stands before) (sym (batches_still old batches)) s; adds = λ _ past. absurd (omega arith) }))
 
 -- ---- a batch is kept
 
@@ -61,6 +61,7 @@ follows_kept s t ops stored later before now e f adds = record {
   stands = λ batches b.
       subst (λ (l : Stored). Stands now (batches_next (machine_with s stored) (machine_with t l) batches)) (sym f)
       (rw (equal stored.mark, further stored.end (length (batch_bytes ops))) (subst (λ (o : List Op). Stands now (batches ++ batch_bytes o ∷ [])) e (adds.behind batches b)));
+  adds = λ _ _. subst (λ (o : List Op). AddsBatch o before now) e adds;
 }
   where
     Moved : Stored → Type 0
@@ -82,6 +83,7 @@ follows_compacted s stored later before now rows e folder = record {
   stands = λ batches b.
       subst (λ (l : Stored). Stands now (batches_next (machine_with s stored) (machine_with s l) batches)) (sym e)
       (rw (one_more stored.mark) (subst (λ (r : ByteRows). Stands now (compacted r)) rows folder.stands));
+  adds = λ same _. let marks : stored.mark + 1 ≡ stored.mark = sym (ap (λ (l : Stored). l.mark) e) ∙ same in absurd (omega (arith, marks));
 }
   where
     Moved : Stored → Type 0

@@ -1,7 +1,9 @@
 -- What is so of the whole controller where a command is refused or is not answered, from what is so of its parts.
 use Rattle.std.proofs.Common.{◌≡◌, ◌⊎◌, inl, inr, Bool, true, false, Ok, Err, IfOk, true≢false, sym, ◌∙◌, subst}
 use Rattle.std.specs.declared.result.Result.{Result}
-use Rattle.ziti_outside.specs.Images.{Image}
+use Rattle.ziti_outside.specs.Images.{Image, Else}
+use Rattle.ziti_outside.specs.Views.{Seen, Stopped}
+use Rattle.journal_core.specs.Room.{HoldsRoom}
 use Rattle.ctrl_model.specs.declared.commands.Command.{Command}
 use Rattle.ctrl_model.specs.declared.kinds.Who.{Who}
 use Rattle.ctrl_model.specs.declared.refusals.Refusal.TheVariants.{NotPermitted}
@@ -48,3 +50,13 @@ steps_as (Err x) m a b e f = tt
 pub never_compacts : (r : Result Reply KeepFault) (c : Command) (X : Reply → Type 0) → is_compact c ≡ false → IfOk r (λ reply. is_compact c ≡ true → X reply)
 never_compacts (Ok x) c X e = λ is. absurd (true≢false (sym is ∙ e))
 never_compacts (Err x) c X e = tt
+
+-- What is so of the slots by the store is so by the whole controller.
+pub room_of_all : {D : Type 0} {tells : Bool} {seen : D → Seen} {stopped : D → Stopped} {desk later : D} (old : Controlled) (core : Cored) (stored : Stored) (spent : Bool)
+    → record { state = core.state; stored = stored; spent = spent } ≡ old → HoldsRoom tells stored.bounds.slot seen stopped desk later → HoldsRoom tells old.stored.bounds.slot seen stopped desk later
+room_of_all {tells = tells} {seen = seen} {stopped = stopped} {desk = desk} {later = later} old core stored spent view held =
+    subst (λ (k : Controlled). HoldsRoom tells k.stored.bounds.slot seen stopped desk later) view held
+
+pub else_of_all : (old : Controlled) (core : Cored) (stored : Stored) (spent : Bool) (before now : Image)
+    → record { state = core.state; stored = stored; spent = spent } ≡ old → Else stored.part before now → Else old.stored.part before now
+else_of_all old core stored spent before now view others = subst (λ (k : Controlled). Else k.stored.part before now) view others

@@ -4,6 +4,7 @@ use Rattle.std.specs.declared.option.Option.{Option}
 use Rattle.ziti_outside.specs.Images.{Image}
 use Rattle.slot_files.specs.FolderImage.{Stands}
 use Rattle.row_codec.specs.Batches.{batch_between, batch_bytes}
+use Rattle.row_store.specs.AddedBatches.{AddsBatch}
 use Rattle.row_store.specs.CompactedStores.{compacted}
 use Rattle.row_store.specs.OpenedStates.{byte_rows_of}
 use Rattle.ctrl_keep.specs.KeptMachine.{Place, Machine}
@@ -32,8 +33,10 @@ abbrev pub GoesOnBehind : Machine → Machine → Type 0
 GoesOnBehind old new = (mark_at old.place < mark_at new.place) ⊎ ((mark_at new.place ≡ mark_at old.place) × (end_at old.place < end_at new.place))
 
 -- A folder follows its machine through one step: the machine is as it was, and then every part reads as before, or its journal goes on behind;
--- and for whatever batches the folder stood, it stands for those behind the step.
+-- and for whatever batches the folder stood, it stands for those behind the step. Where its gate alone has moved on, the folder has in bytes
+-- what the one batch of the difference adds, and no other change.
 pub record Follows (old new : Machine) (before now : Image) : Type 0 where
   pub on : (new ≡ old) ⊎ GoesOnBehind old new
   pub still : new ≡ old → now ≡ before
   pub stands : (batches : List (List ℕ)) → Stands before batches → Stands now (batches_next old new batches)
+  pub adds : mark_at new.place ≡ mark_at old.place → end_at old.place < end_at new.place → AddsBatch (batch_between old.state new.state) before now

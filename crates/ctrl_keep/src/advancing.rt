@@ -1,9 +1,9 @@
 ghost use Rattle.std.specs.Prelude.{◌≡◌, ◌⊎◌, ⊤, true, false, IsTrue, OnOk, IfOk, IfErr, IsErrOf};
 ghost use Rattle.ziti_outside.specs.Causes.{HasCause};
-ghost use Rattle.ziti_outside.specs.Images.{Image};
+ghost use Rattle.ziti_outside.specs.Images.{Image, Else};
 ghost use Rattle.ziti_outside.specs.Moments.{Remembers, Leaves};
 ghost use Rattle.ziti_outside.specs.Untouched.{OnlyDisk};
-ghost use Rattle.journal_core.specs.Room.{KeepsRoom, LeavesRoom};
+ghost use Rattle.journal_core.specs.Room.{HoldsRoom};
 ghost use Rattle.row_codec.specs.RowDifference.{IsTrueDifference};
 ghost use Rattle.row_codec.specs.Batches.{bytes_cmp, entries_of, IsBatch};
 ghost use Rattle.row_store.specs.AddedBatches.{AddsBatch};
@@ -32,6 +32,7 @@ fn keep<D: Desk>(store: &mut Store, desk: &mut D, batch: &Batch) -> Result<bool,
 
     ensures kept { IfOk result (λ kept. KeptOrFull batch.now store.old store.new desk.old desk.new kept) }
     ensures added { IfOk result (λ kept. kept ≡ true → IsTrue D.tells → AddsBatch batch.now (D.seen desk.old).reads (D.seen desk.new).reads) }
+    ensures elsewhere { Else store.old.part (D.seen desk.old).reads (D.seen desk.new).reads }
     ensures fault { IfErr result (λ fault. KeepFails batch.now store.old store.new desk.old desk.new fault) }
     ensures stands { store.new.spent ≡ false → IsTrue D.tells → ReadsAs store.new (D.seen desk.new).reads (D.stopped desk.new).images }
     ensures behind { IsErrOf result KeepFault.NoMemory → store.new.spent ≡ true → IsTrue D.tells → (image : Image)
@@ -42,8 +43,7 @@ fn keep<D: Desk>(store: &mut Store, desk: &mut D, batch: &Batch) -> Result<bool,
     ensures stops { IsTrue D.tells → Leaves D.seen D.stopped desk.old desk.new
         (λ image. OpensTo image store.old.rows ⊎ OpensTo image (rows_after store.old.rows batch.now)) }
     ensures remembers { Remembers (D.stopped desk.old) (D.stopped desk.new) }
-    ensures room { IsTrue D.tells → KeepsRoom store.old.bounds.slot (D.seen desk.old).reads (D.seen desk.new).reads }
-    ensures images { LeavesRoom store.old.bounds.slot D.stopped desk.old desk.new }
+    ensures room { HoldsRoom D.tells store.old.bounds.slot D.seen D.stopped desk.old desk.new }
 {
     match store.commit(desk, batch) {
         Ok(()) => Ok(true),
@@ -73,6 +73,7 @@ pub(crate) fn advance<D: Desk>(
     ensures follows { OnOk result (IsTrue D.tells → Follows (machine_with core.old.state store.old) (machine_with core.new.state store.new) (D.seen desk.old).reads (D.seen desk.new).reads) }
     ensures unspent { OnOk result ((spent.new ≡ false) × (store.new.bounds ≡ store.old.bounds)) }
     ensures keeps { spent.new ≡ false → Keeps core.new store.new }
+    ensures elsewhere { Else store.old.part (D.seen desk.old).reads (D.seen desk.new).reads }
     ensures fault { IfErr result (λ fault. AdvanceFails core.old core.new store.old store.new spent.new desk.old desk.new fault) }
     ensures stands { spent.new ≡ false → IsTrue D.tells → ReadsAs store.new (D.seen desk.new).reads (D.stopped desk.new).images }
     ensures behind { IsErrOf result KeepFault.NoMemory → spent.new ≡ true → IsTrue D.tells → (image : Image)
@@ -83,8 +84,7 @@ pub(crate) fn advance<D: Desk>(
     ensures stops { IsTrue D.tells → Leaves D.seen D.stopped desk.old desk.new
         (λ image. OpensToState image core.old.state ⊎ OpensToState image (made_of planned core.old.state store.old).1.state) }
     ensures remembers { Remembers (D.stopped desk.old) (D.stopped desk.new) }
-    ensures room { IsTrue D.tells → KeepsRoom store.old.bounds.slot (D.seen desk.old).reads (D.seen desk.new).reads }
-    ensures images { LeavesRoom store.old.bounds.slot D.stopped desk.old desk.new }
+    ensures room { HoldsRoom D.tells store.old.bounds.slot D.seen D.stopped desk.old desk.new }
 {
     if planned.batch.as_slice().is_empty() {
         return Ok(planned.reply);

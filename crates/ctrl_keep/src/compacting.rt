@@ -2,7 +2,7 @@ ghost use Rattle.std.specs.Prelude.{◌≡◌, ⊤, true, false, IsTrue, OnOk, O
 ghost use Rattle.ziti_outside.specs.Causes.{HasCause};
 ghost use Rattle.ziti_outside.specs.Moments.{Remembers, Leaves};
 ghost use Rattle.ziti_outside.specs.Untouched.{OnlyDisk};
-ghost use Rattle.journal_core.specs.Room.{KeepsRoom, LeavesRoom};
+ghost use Rattle.journal_core.specs.Room.{HoldsRoom};
 ghost use Rattle.row_store.specs.StoredRows.{ReadsAs};
 ghost use Rattle.row_store.specs.CompactedStores.{IsCompacted};
 ghost use Rattle.row_store.specs.OpenedStates.{OpensToState};
@@ -67,8 +67,7 @@ pub(crate) fn compact<D: Desk>(
     ensures quiet { Leaves D.seen D.stopped desk.old desk.new (λ image. ⊤) }
     ensures stops { IsTrue D.tells → Leaves D.seen D.stopped desk.old desk.new (λ image. OpensToState image core.now.state) }
     ensures remembers { Remembers (D.stopped desk.old) (D.stopped desk.new) }
-    ensures room { IsTrue D.tells → OnOk (disk_failure result) (KeepsRoom store.old.bounds.slot (D.seen desk.old).reads (D.seen desk.new).reads) }
-    ensures images { LeavesRoom store.old.bounds.slot D.stopped desk.old desk.new }
+    ensures room { HoldsRoom D.tells store.old.bounds.slot D.seen D.stopped desk.old desk.new }
 {
     let compacted = store.compact(desk);
     *spent = store.is_spent();

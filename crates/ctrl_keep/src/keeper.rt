@@ -1,10 +1,10 @@
 ghost use Rattle.std.specs.Prelude.{◌≡◌, ◌⊎◌, ◌≤◌, ◌<◌, ◌^◌, ⊤, true, false, length, IsTrue, OnOk, OnErr, IfOk, IfErr, IsErrOf};
 ghost use Rattle.ziti_outside.specs.declared.desk.Part.TheVariants.{One, Mark};
 ghost use Rattle.ziti_outside.specs.Causes.{HasCause};
-ghost use Rattle.ziti_outside.specs.Images.{Image, After};
+ghost use Rattle.ziti_outside.specs.Images.{Image, Else, After};
 ghost use Rattle.ziti_outside.specs.Moments.{Remembers, Leaves};
 ghost use Rattle.ziti_outside.specs.Untouched.{OnlyDisk};
-ghost use Rattle.journal_core.specs.Room.{empty_size, KeepsRoom, LeavesRoom};
+ghost use Rattle.journal_core.specs.Room.{empty_size, HoldsRoom};
 ghost use Rattle.slot_files.specs.FolderImage.{StandsAsBefore};
 ghost use Rattle.slot_files.specs.OpenedSlots.{Opens};
 ghost use Rattle.ctrl_model.specs.CommandForm.{is_spelled};
@@ -82,10 +82,8 @@ impl Kept {
         ensures stops { IsTrue D.tells → Leaves D.seen D.stopped desk.old desk.new (After StandsAsBefore (D.stopped desk.old).images) }
         ensures remembers { Remembers (D.stopped desk.old) (D.stopped desk.new) }
 
-        // No slot grows past the size of one without a record, neither in what a stop leaves nor, where no call on the disk failed, as
-        // the desk reads.
-        ensures room { IsTrue D.tells → OnOk (disk_failure result) (KeepsRoom empty_size (D.seen desk.old).reads (D.seen desk.new).reads) }
-        ensures images { LeavesRoom empty_size D.stopped desk.old desk.new }
+        // No slot grows past the size of one without a record, neither as the desk reads nor in what a stop leaves.
+        ensures room { HoldsRoom D.tells empty_size D.seen D.stopped desk.old desk.new }
     {
         match Store::open(alloc, desk, bounds) {
             Ok(store) => Kept::load(alloc, store),
@@ -151,10 +149,10 @@ impl Kept {
             (λ image. OpensToState image self.old.state ⊎ OpensToState image (step self.old.stored.bounds who.now command.now (machine_of self.old)).1.state) }
         ensures remembers { Remembers (D.stopped desk.old) (D.stopped desk.new) }
 
-        // No slot grows past its bound, neither in what a stop leaves nor, but for a Compact that failed on the disk, as the desk reads.
-        ensures room { IsTrue D.tells → OnOk (disk_failure result) (KeepsRoom self.old.stored.bounds.slot (D.seen desk.old).reads (D.seen desk.new).reads) }
-        ensures appended { is_compact command.now ≡ false → IsTrue D.tells → KeepsRoom self.old.stored.bounds.slot (D.seen desk.old).reads (D.seen desk.new).reads }
-        ensures images { LeavesRoom self.old.stored.bounds.slot D.stopped desk.old desk.new }
+        // No slot grows past its bound, neither as the desk reads nor in what a stop leaves. But for a Compact the other slot and the mark
+        // read as before, whatever comes of the call.
+        ensures room { HoldsRoom D.tells self.old.stored.bounds.slot D.seen D.stopped desk.old desk.new }
+        ensures elsewhere { is_compact command.now ≡ false → Else self.old.stored.part (D.seen desk.old).reads (D.seen desk.new).reads }
     {
         if self.spent {
             return Err(KeepFault::Spent);

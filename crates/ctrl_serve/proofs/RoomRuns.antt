@@ -1,48 +1,38 @@
 -- How long the slots of the folder are behind a run (docs/PROMISES.md, "One slot").
-use Rattle.std.proofs.Common.{◌≡◌, ◌≤◌, ℕ, sym, subst}
+use Rattle.std.proofs.Common.{◌≡◌, ◌≤◌, ℕ, Bool, refl, sym, subst}
 use Rattle.ziti_outside.specs.Images.{Image}
 use Rattle.ziti_outside.specs.Views.{Seen, Stopped}
-use Rattle.journal_core.specs.Room.{empty_size, KeepsRoom, LeavesRoom}
-use Rattle.journal_core.proofs.RoomLaws.{room_none, room_then, left_none, left_then, left_within}
+use Rattle.journal_core.specs.Room.{empty_size, HoldsRoom}
+use Rattle.journal_core.proofs.RoomLaws.{held_none, held_then, held_within}
 use Rattle.row_store.specs.declared.bounds.StoreBounds.{StoreBounds}
 use Rattle.ctrl_keep.specs.KeptController.{Controlled}
 use Rattle.ctrl_serve.specs.declared.controller.Controller.{Controller}
 use Rattle.ctrl_serve.specs.declared.controller.Controller.TheVariants.{Kept}
 use Rattle.ctrl_serve.specs.ControllerViews.{serving_of}
 
--- A call on a kept controller leaves room within the bounds of its folder.
-pub kept_room : {D : Type 0} {stopped : D → Stopped} {old new : D} (x : Controller) (k : Controlled) → x ≡ Kept k
-    → LeavesRoom k.stored.bounds.slot stopped old new → LeavesRoom (serving_of x).bounds.slot stopped old new
-kept_room {stopped = stopped} {old = old} {new = new} x k is left =
-    subst (λ (y : Controller). LeavesRoom (serving_of y).bounds.slot stopped old new) (sym is) left
+-- A call on a kept controller holds room within the bounds of its folder.
+pub kept_room : {D : Type 0} {tells : Bool} {seen : D → Seen} {stopped : D → Stopped} {old new : D} (x : Controller) (k : Controlled) → x ≡ Kept k
+    → HoldsRoom tells k.stored.bounds.slot seen stopped old new → HoldsRoom tells (serving_of x).bounds.slot seen stopped old new
+kept_room {tells = tells} {seen = seen} {stopped = stopped} {old = old} {new = new} x k is held =
+    subst (λ (y : Controller). HoldsRoom tells (serving_of y).bounds.slot seen stopped old new) (sym is) held
 
--- Where nothing was done on the desk room is left.
-pub room_calm : {D : Type 0} {stopped : D → Stopped} (most : ℕ) (desk : D) → LeavesRoom most stopped desk desk
-room_calm most desk = left_none most (λ image left. left)
+-- Where nothing was done on the desk room is held.
+pub room_calm : {D : Type 0} {tells : Bool} {seen : D → Seen} {stopped : D → Stopped} (most : ℕ) (desk : D) → HoldsRoom tells most seen stopped desk desk
+room_calm {tells = tells} most desk = held_none tells most refl (λ image left. left)
 
 -- One call after another, within the same bounds.
-pub room_more : {D : Type 0} {stopped : D → Stopped} {old mid new : D} (first next : StoreBounds) → next ≡ first
-    → LeavesRoom first.slot stopped old mid → LeavesRoom next.slot stopped mid new → LeavesRoom first.slot stopped old new
-room_more {stopped = stopped} {mid = mid} {new = new} first next same before after =
-    left_then before (subst (λ (b : StoreBounds). LeavesRoom b.slot stopped mid new) same after)
+pub room_more : {D : Type 0} {tells : Bool} {seen : D → Seen} {stopped : D → Stopped} {old mid new : D} (first next : StoreBounds) → next ≡ first
+    → HoldsRoom tells first.slot seen stopped old mid → HoldsRoom tells next.slot seen stopped mid new → HoldsRoom tells first.slot seen stopped old new
+room_more {tells = tells} {seen = seen} {stopped = stopped} {mid = mid} {new = new} first next same before after =
+    held_then before (subst (λ (b : StoreBounds). HoldsRoom tells b.slot seen stopped mid new) same after)
 
 -- The folder was opened, and then a controller answered from it.
-pub opened_room : {D : Type 0} {stopped : D → Stopped} {old mid new : D} (bounds held : StoreBounds) → empty_size ≤ bounds.slot → held ≡ bounds
-    → LeavesRoom empty_size stopped old mid → LeavesRoom held.slot stopped mid new → LeavesRoom bounds.slot stopped old new
-opened_room bounds held enough same before after = room_more bounds held same (left_within bounds.slot enough before) after
+pub opened_room : {D : Type 0} {tells : Bool} {seen : D → Seen} {stopped : D → Stopped} {old mid new : D} (bounds held : StoreBounds) → empty_size ≤ bounds.slot → held ≡ bounds
+    → HoldsRoom tells empty_size seen stopped old mid → HoldsRoom tells held.slot seen stopped mid new → HoldsRoom tells bounds.slot seen stopped old new
+opened_room bounds held enough same before after = room_more bounds held same (held_within bounds.slot enough before) after
 
--- It was not opened, and no image came to it behind that.
-pub closed_room : {D : Type 0} {stopped : D → Stopped} {old mid new : D} (bounds : StoreBounds) → empty_size ≤ bounds.slot
-    → LeavesRoom empty_size stopped old mid → ((image : Image) → (stopped new).images image → (stopped mid).images image) → LeavesRoom bounds.slot stopped old new
-closed_room bounds enough before fewer = left_then (left_within bounds.slot enough before) (left_none bounds.slot fewer)
-
--- The slots read no longer than the bound at the end, where no image that a stop might have left at the start passes that.
-pub room_here : {D : Type 0} (seen : D → Seen) {stopped : D → Stopped} {old new : D} {most : ℕ} → LeavesRoom most stopped old new → (stopped new).images (seen new).reads
-    → ((image : Image) → (stopped old).images image → KeepsRoom most (seen old).reads image) → KeepsRoom most (seen old).reads (seen new).reads
-room_here seen {new = new} left own calm =
-    let last = left.found (seen new).reads own in
-    room_then (calm last.from last.was) last.by
-
--- A folder that reads as before keeps room.
-pub still_room : {D : Type 0} (seen : D → Seen) {old new : D} (most : ℕ) → (seen new).reads ≡ (seen old).reads → KeepsRoom most (seen old).reads (seen new).reads
-still_room seen {old = old} most same = subst (λ (image : Image). KeepsRoom most (seen old).reads image) (sym same) (room_none most (seen old).reads)
+-- It was not opened, and behind that it reads the same and no image came to it.
+pub closed_room : {D : Type 0} {tells : Bool} {seen : D → Seen} {stopped : D → Stopped} {old mid new : D} (bounds : StoreBounds) → empty_size ≤ bounds.slot
+    → HoldsRoom tells empty_size seen stopped old mid → (seen new).reads ≡ (seen mid).reads → ((image : Image) → (stopped new).images image → (stopped mid).images image)
+    → HoldsRoom tells bounds.slot seen stopped old new
+closed_room {tells = tells} bounds enough before same fewer = held_then (held_within bounds.slot enough before) (held_none tells bounds.slot same fewer)

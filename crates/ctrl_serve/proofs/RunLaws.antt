@@ -8,7 +8,8 @@ use Rattle.std.specs.Io.KnownBytes.{IsAtEnd}
 use Rattle.ziti_outside.specs.Told.{Took}
 use Rattle.ziti_outside.specs.Untouched.{OnlyNotes}
 use Rattle.ziti_outside.specs.Views.{Outside, Seen, Stopped}
-use Rattle.journal_core.specs.Room.{LeavesRoom}
+use Rattle.journal_core.specs.Room.{HoldsRoom}
+use Rattle.journal_core.proofs.RoomLaws.{held_none}
 use Rattle.ctrl_model.specs.State.{start}
 use Rattle.row_store.specs.declared.bounds.StoreBounds.{StoreBounds}
 use Rattle.ctrl_keep.specs.KeptMachine.{Machine}
@@ -33,7 +34,6 @@ use Rattle.ctrl_serve.specs.Runs.{CountsFaults, IsDiskCaused, IsWriteCaused}
 use Rattle.ctrl_serve.proofs.EndingLaws.{done_is, at_end, all_replies}
 use Rattle.ctrl_serve.proofs.ControllerLaws.{noted_alone}
 use Rattle.ctrl_serve.proofs.FailureLaws.{takes_none}
-use Rattle.ctrl_serve.proofs.RoomRuns.{room_here, still_room}
 use Rattle.ctrl_serve.proofs.PieceLaws.{good_undecided}
 
 -- ---- a run that serves its input
@@ -135,7 +135,7 @@ dry_runs o bounds form source source_now desk desk_now status is serves counts c
   compact = λ e. cc;
   compact_takes_nothing = λ e. cc;
   compact_says_nothing = λ e. cc;
-  room = λ told start. still_room o.seen (folder_bounds bounds).slot others.folder.parts;
+  room = held_none o.tells (folder_bounds bounds).slot others.folder.parts others.folder.found;
 }
 
 -- Where a folder was not opened the run ends with none of these.
@@ -167,9 +167,9 @@ pub replay_runs : {S D : Type 0} (o : Outside S D) (of : Form) (bounds : Bounds)
     → Refuses o.tells o.seen o.stopped source source_now desk desk_now status
     ⊎ Replays (taking_of of bounds.input) (folder_bounds bounds) o source source_now desk desk_now status
     → CountsFaults o.left o.faults o.seen source source_now desk desk_now status
-    → LeavesRoom (folder_bounds bounds).slot o.stopped desk desk_now → (IsTrue o.tells → (o.stopped desk_now).images (o.seen desk_now).reads)
+    → HoldsRoom o.tells (folder_bounds bounds).slot o.seen o.stopped desk desk_now
     → Runs o bounds form source source_now desk desk_now status
-replay_runs o of bounds form source source_now desk desk_now status is replays counts left_room own =
+replay_runs o of bounds form source source_now desk desk_now status is replays counts room =
     let at : (status ≡ Usage → ⊥) × (status ≡ Done → IsAtEnd (o.left source_now)) = replays_status o of (folder_bounds bounds) bounds.input source source_now desk desk_now status replays in
     record {
       usage = (λ u. absurd (at.0 u), λ n. cc);
@@ -205,7 +205,7 @@ replay_runs o of bounds form source source_now desk desk_now status is replays c
       compact = λ e. cc;
       compact_takes_nothing = λ e. cc;
       compact_says_nothing = λ e. cc;
-      room = λ told start. room_here o.seen left_room (own told) start;
+      room = room;
     }
 
 -- A run that only wrote the usage note, where the words are no line of the table.
@@ -244,7 +244,7 @@ usage_runs o bounds form source desk desk_now is others more note counted = reco
   compact = λ e. cc;
   compact_takes_nothing = λ e. cc;
   compact_says_nothing = λ e. cc;
-  room = λ told start. still_room o.seen (folder_bounds bounds).slot others.parts;
+  room = held_none o.tells (folder_bounds bounds).slot others.parts others.found;
 }
 
 -- ---- a run of a generated load
@@ -321,7 +321,7 @@ load_runs o bounds form number source desk desk_now status is says write counted
       compact = λ e. cc;
       compact_takes_nothing = λ e. cc;
       compact_says_nothing = λ e. cc;
-      room = λ told start. still_room o.seen (folder_bounds bounds).slot others.folder.parts;
+      room = held_none o.tells (folder_bounds bounds).slot others.folder.parts others.folder.found;
     }
 
 -- ---- a look at a folder
@@ -375,7 +375,7 @@ audit_runs o bounds form source desk desk_now status is audits alone write disk 
       compact = λ e. cc;
       compact_takes_nothing = λ e. cc;
       compact_says_nothing = λ e. cc;
-      room = λ told start. still_room o.seen (folder_bounds bounds).slot alone.parts;
+      room = held_none o.tells (folder_bounds bounds).slot alone.parts alone.found;
     }
 
 -- ---- the compaction of a folder
@@ -406,9 +406,9 @@ pub compact_runs : {S D : Type 0} (o : Outside S D) (bounds : Bounds) (form : Op
     → IsUnopened o.tells o.seen o.stopped desk desk_now status
     ⊎ Compacts (folder_bounds bounds) o.tells (o.seen desk) (o.seen desk_now) (o.stopped desk) (o.stopped desk_now) status
     → (o.seen desk_now).said ≡ (o.seen desk).said → (o.seen desk_now).say_faults ≡ (o.seen desk).say_faults → IsDiskCaused (o.seen desk).disk_faults (o.seen desk_now).disk_faults status → RisesOnce (o.seen desk).note_faults (o.seen desk_now).note_faults
-    → LeavesRoom (folder_bounds bounds).slot o.stopped desk desk_now → (IsTrue o.tells → (o.stopped desk_now).images (o.seen desk_now).reads)
+    → HoldsRoom o.tells (folder_bounds bounds).slot o.seen o.stopped desk desk_now
     → Runs o bounds form source source desk desk_now status
-compact_runs o bounds form source desk desk_now status is compacts quiet says disk counted left_room own =
+compact_runs o bounds form source desk desk_now status is compacts quiet says disk counted room =
     let not : (status ≡ Usage → ⊥) × (status ≡ ReadFault → ⊥) × (status ≡ WriteFault → ⊥) =
     compact_statuses {seen = o.seen} {stopped = o.stopped} o.tells (folder_bounds bounds) desk desk_now status compacts in
     record {
@@ -443,5 +443,5 @@ compact_runs o bounds form source desk desk_now status is compacts quiet says di
       compact = λ _. compacts;
       compact_takes_nothing = λ _. refl;
       compact_says_nothing = λ _. quiet;
-      room = λ told start. room_here o.seen left_room (own told) start;
+      room = room;
     }

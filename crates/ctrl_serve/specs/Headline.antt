@@ -10,7 +10,7 @@ use Rattle.ziti_outside.specs.Untouched.{OnlyNotes}
 use Rattle.ziti_outside.specs.declared.desk.Part.{Part}
 use Rattle.ziti_outside.specs.declared.desk.Part.TheVariants.{Mark}
 use Rattle.ziti_outside.specs.Views.{Outside, Seen, Stopped}
-use Rattle.journal_core.specs.Room.{KeepsRoom}
+use Rattle.journal_core.specs.Room.{HoldsRoom}
 use Rattle.ctrl_model.specs.State.{start}
 use Rattle.ctrl_model.specs.ValidState.{ValidState}
 use Rattle.model_laws.specs.JudgedCircuits.{AreGranted}
@@ -190,8 +190,8 @@ pub record Replays {S D : Type 0} (taking : Taking) (bounds : StoreBounds) (o : 
 -- Under `compact` nothing is taken and said. The folder is opened first; where it opens to a machine, it is compacted, or the compaction is
 -- refused for want of room, with the status FolderFull.
 --
--- Under all words no slot reads longer at the end than the bound, unless it read longer at the start; then it reads no longer than that. This
--- is said of a start from which no stop might have left a slot that passes both, as none might where nothing is pending.
+-- Under all words no slot reads longer at the end than the bound, unless it read longer at the start; then it reads no longer than that. So
+-- it is of what a stop may leave at the end, against what one might have left at the start.
 pub record Runs {S D : Type 0} (o : Outside S D) (bounds : Bounds) (form : Option command.Form) (source source_now : S) (desk desk_now : D) (status : Status) : Type 0 where
   pub usage : (status ≡ Usage) ↔ (form ≡ None)
   pub usage_takes_nothing : form ≡ None → source_now ≡ source
@@ -231,4 +231,4 @@ pub record Runs {S D : Type 0} (o : Outside S D) (bounds : Bounds) (form : Optio
       ⊎ Compacts (folder_bounds bounds) o.tells (o.seen desk) (o.seen desk_now) (o.stopped desk) (o.stopped desk_now) status
   pub compact_takes_nothing : form ≡ Some Compact → source_now ≡ source
   pub compact_says_nothing : form ≡ Some Compact → (o.seen desk_now).said ≡ (o.seen desk).said
-  pub room : IsTrue o.tells → ((image : Image) → (o.stopped desk).images image → KeepsRoom (folder_bounds bounds).slot (o.seen desk).reads image) → KeepsRoom (folder_bounds bounds).slot (o.seen desk).reads (o.seen desk_now).reads
+  pub room : HoldsRoom o.tells (folder_bounds bounds).slot o.seen o.stopped desk desk_now

@@ -4,7 +4,7 @@ ghost use Rattle.ctrl_keep.specs.KeptMachine.{step};
 ghost use Rattle.row_store.specs.OpenedStates.{OpensToState};
 ghost use Rattle.ctrl_model.specs.CommandForm.{is_spelled};
 ghost use Rattle.ctrl_model.specs.Controller.{answer, carry};
-ghost use Rattle.journal_core.specs.Room.{LeavesRoom};
+ghost use Rattle.journal_core.specs.Room.{HoldsRoom};
 ghost use Rattle.ctrl_serve.specs.ControllerViews.{serving_of};
 ghost use Rattle.ctrl_serve.specs.Controllers.{GoesOn, IsReady};
 ghost use Rattle.ctrl_serve.specs.Turns.{unkept};
@@ -95,7 +95,7 @@ impl Controller {
         ensures others { OnlyDisk D.seen desk.old desk.new }
         ensures stops { IsSome (serving_of self.old).kept → IsTrue D.tells → Leaves D.seen D.stopped desk.old desk.new
             (λ image. OpensToState image (serving_of self.old).machine.state ⊎ OpensToState image (step (serving_of self.old).bounds who.now command.now (serving_of self.old).machine).1.state) }
-        ensures images { LeavesRoom (serving_of self.old).bounds.slot D.stopped desk.old desk.new }
+        ensures room { HoldsRoom D.tells (serving_of self.old).bounds.slot D.seen D.stopped desk.old desk.new }
         ensures remembers { Remembers (D.stopped desk.old) (D.stopped desk.new) }
     {
         match self {

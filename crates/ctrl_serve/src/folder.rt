@@ -1,7 +1,7 @@
 ghost use Rattle.std.specs.Prelude.{◌≡◌, ◌⊎◌, ◌≢◌, ◌≤◌, ◌^◌, ⊤, true, false, IsTrue};
 ghost use Rattle.ziti_outside.specs.Moments.{Elapses, Leaves};
 ghost use Rattle.ziti_outside.specs.Untouched.{OnlyNotes};
-ghost use Rattle.journal_core.specs.Room.{empty_size, LeavesRoom};
+ghost use Rattle.journal_core.specs.Room.{empty_size, HoldsRoom};
 ghost use Rattle.row_store.specs.StoredRows.{ReadsAs};
 ghost use Rattle.ctrl_keep.specs.KeptController.{HoldsRows, machine_of};
 ghost use Rattle.row_store.specs.OpenedStates.{OpensToState};
@@ -118,7 +118,7 @@ fn compact_opened<D: Desk>(kept: Kept, desk: &mut D) -> Status
     ensures counted { RisesOnce (D.seen desk.old).note_faults (D.seen desk.new).note_faults }
     ensures quiet { Leaves D.seen D.stopped desk.old desk.new (λ image. ⊤) }
     ensures stops { IsTrue D.tells → Leaves D.seen D.stopped desk.old desk.new (λ image. OpensToState image kept.state) }
-    ensures images { LeavesRoom kept.stored.bounds.slot D.stopped desk.old desk.new }
+    ensures room { HoldsRoom D.tells kept.stored.bounds.slot D.seen D.stopped desk.old desk.new }
 {
     let mut kept = kept;
     let compacted = kept.submit(desk, &Who::Admin, &Command::Compact);
@@ -136,7 +136,7 @@ pub fn run_compact<D: Desk>(alloc: Global, bounds: StoreBounds, desk: &mut D) ->
     ensures failed_says { (D.seen desk.new).say_faults ≡ (D.seen desk.old).say_faults }
     ensures disk_cause { IsDiskCaused (D.seen desk.old).disk_faults (D.seen desk.new).disk_faults result }
     ensures counted { RisesOnce (D.seen desk.old).note_faults (D.seen desk.new).note_faults }
-    ensures images { empty_size ≤ bounds.slot → LeavesRoom bounds.slot D.stopped desk.old desk.new }
+    ensures room { empty_size ≤ bounds.slot → HoldsRoom D.tells bounds.slot D.seen D.stopped desk.old desk.new }
 {
     match Kept::open(alloc, desk, bounds) {
         Ok(kept) => compact_opened(kept, desk),

@@ -1,5 +1,5 @@
 ghost use Rattle.std.specs.Prelude.{◌≡◌, ◌≤◌, ◌^◌, true, IsTrue, IsSome, IfOk, IfErr, IsErrOf, None, OnOk, length, take};
-ghost use Rattle.journal_core.specs.Room.{LeavesRoom};
+ghost use Rattle.journal_core.specs.Room.{HoldsRoom};
 ghost use Rattle.session_mux.specs.Completion.{start_of};
 ghost use Rattle.ziti_outside.specs.Causes.{HasCause};
 ghost use Rattle.ziti_outside.specs.Moments.{Elapses};
@@ -100,7 +100,7 @@ fn serve_pieces<S: Source, D: Desk>(
     ensures disk_cause { HasCause (D.seen desk.old).disk_faults (D.seen desk.new).disk_faults (unkept result) }
     ensures undisked { (serving_of controller.old).kept ≡ None → IsErrOf result Cut.Disk → ⊥ }
     ensures alone { (serving_of controller.old).kept ≡ None → OnlySaysAndNotes D.seen D.stopped desk.old desk.new }
-    ensures images { LeavesRoom (serving_of controller.old).bounds.slot D.stopped desk.old desk.new }
+    ensures room { HoldsRoom D.tells (serving_of controller.old).bounds.slot D.seen D.stopped desk.old desk.new }
 {
     let mut room = zeros(alloc, PIECE)?;
     let piece = room.as_mut_slice();
@@ -160,7 +160,7 @@ pub fn serve_input<S: Source, D: Desk>(
     ensures disk_cause { HasCause (D.seen desk.old).disk_faults (D.seen desk.new).disk_faults (unkept result) }
     ensures undisked { (serving_of controller.old).kept ≡ None → IsErrOf result Cut.Disk → ⊥ }
     ensures alone { (serving_of controller.old).kept ≡ None → OnlySaysAndNotes D.seen D.stopped desk.old desk.new }
-    ensures images { LeavesRoom (serving_of controller.old).bounds.slot D.stopped desk.old desk.new }
+    ensures room { HoldsRoom D.tells (serving_of controller.old).bounds.slot D.seen D.stopped desk.old desk.new }
 {
     let mut mux = mux_of(alloc, form)?;
     let mut sessions = Sessions::new(alloc)?;

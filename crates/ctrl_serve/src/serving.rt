@@ -2,7 +2,7 @@ ghost use Rattle.std.specs.Prelude.{◌≡◌, ◌⊎◌, ◌≢◌, true, IsTru
 ghost use Rattle.channel_frame.specs.declared.frames.Frame.{Frame};
 ghost use Rattle.ctrl_keep.specs.KeptBatches.{Follows};
 ghost use Rattle.row_store.specs.OpenedStates.{OpensToState};
-ghost use Rattle.journal_core.specs.Room.{LeavesRoom};
+ghost use Rattle.journal_core.specs.Room.{HoldsRoom};
 ghost use Rattle.reply_codec.specs.ReplyLimits.{keeps_limits};
 ghost use Rattle.session_mux.specs.declared.events.Event.TheVariants.{Arrived};
 ghost use Rattle.ctrl_serve.specs.ControllerViews.{serving_of};
@@ -68,7 +68,7 @@ fn answer_frame<D: Desk>(
     ensures cause { HasCause (D.seen desk.old).disk_faults (D.seen desk.new).disk_faults (unkept result) }
     ensures undisked { (serving_of controller.old).kept ≡ None → IsErrOf result Cut.Disk → ⊥ }
     ensures alone { (serving_of controller.old).kept ≡ None → desk.new ≡ desk.old }
-    ensures images { LeavesRoom (serving_of controller.old).bounds.slot D.stopped desk.old desk.new }
+    ensures room { HoldsRoom D.tells (serving_of controller.old).bounds.slot D.seen D.stopped desk.old desk.new }
     ensures others { OnlyDisk D.seen desk.old desk.new }
     ensures stops { IsSome (serving_of controller.old).kept → IsTrue D.tells → Leaves D.seen D.stopped desk.old desk.new
         (λ image. OpensToState image (serving_of controller.old).machine.state
@@ -132,7 +132,7 @@ fn serve_frame<D: Desk>(
     ensures notes { LeavesNotes D.seen desk.old desk.new }
     ensures undisked { (serving_of controller.old).kept ≡ None → IsErrOf result Cut.Disk → ⊥ }
     ensures alone { (serving_of controller.old).kept ≡ None → OnlySaysAndNotes D.seen D.stopped desk.old desk.new }
-    ensures images { LeavesRoom (serving_of controller.old).bounds.slot D.stopped desk.old desk.new }
+    ensures room { HoldsRoom D.tells (serving_of controller.old).bounds.slot D.seen D.stopped desk.old desk.new }
     ensures stops { IsSome (serving_of controller.old).kept → IsTrue D.tells → Elapses (D.stopped desk.old) (D.stopped desk.new)
         (Turn (serving_of controller.old).machine.state
         (frame_answer (serving_of controller.old).bounds who.now frame.now (serving_of controller.old).machine).1.state
@@ -168,7 +168,7 @@ fn serve_arrived<D: Desk>(
     ensures notes { LeavesNotes D.seen desk.old desk.new }
     ensures undisked { (serving_of controller.old).kept ≡ None → IsErrOf result Cut.Disk → ⊥ }
     ensures alone { (serving_of controller.old).kept ≡ None → OnlySaysAndNotes D.seen D.stopped desk.old desk.new }
-    ensures images { LeavesRoom (serving_of controller.old).bounds.slot D.stopped desk.old desk.new }
+    ensures room { HoldsRoom D.tells (serving_of controller.old).bounds.slot D.seen D.stopped desk.old desk.new }
     ensures stops { IsSome (serving_of controller.old).kept → IsTrue D.tells → Elapses (D.stopped desk.old) (D.stopped desk.new)
         (StopsEvent form (serving_of controller.old).bounds (Arrived session frame.now) sessions.old (serving_of controller.old).machine (D.seen desk.old).said) }
 {
@@ -212,7 +212,7 @@ fn serve_event<D: Desk>(
     ensures unnoted { OnErr result ((notes.new ≡ notes.old) × LeavesNotes D.seen desk.old desk.new) }
     ensures undisked { (serving_of controller.old).kept ≡ None → IsErrOf result Cut.Disk → ⊥ }
     ensures alone { (serving_of controller.old).kept ≡ None → OnlySaysAndNotes D.seen D.stopped desk.old desk.new }
-    ensures images { LeavesRoom (serving_of controller.old).bounds.slot D.stopped desk.old desk.new }
+    ensures room { HoldsRoom D.tells (serving_of controller.old).bounds.slot D.seen D.stopped desk.old desk.new }
     ensures stops { IsSome (serving_of controller.old).kept → IsTrue D.tells → Elapses (D.stopped desk.old) (D.stopped desk.new)
         (StopsEvent form (serving_of controller.old).bounds event sessions.old (serving_of controller.old).machine (D.seen desk.old).said) }
 {
@@ -260,7 +260,7 @@ pub fn serve_events<D: Desk>(
     ensures disk_cause { HasCause (D.seen desk.old).disk_faults (D.seen desk.new).disk_faults (unkept result) }
     ensures undisked { (serving_of controller.old).kept ≡ None → IsErrOf result Cut.Disk → ⊥ }
     ensures alone { (serving_of controller.old).kept ≡ None → OnlySaysAndNotes D.seen D.stopped desk.old desk.new }
-    ensures images { LeavesRoom (serving_of controller.old).bounds.slot D.stopped desk.old desk.new }
+    ensures room { HoldsRoom D.tells (serving_of controller.old).bounds.slot D.seen D.stopped desk.old desk.new }
     ensures stops { IsSome (serving_of controller.old).kept → IsTrue D.tells → Elapses (D.stopped desk.old) (D.stopped desk.new)
         (StopsAlong form (serving_of controller.old).bounds sessions.old (serving_of controller.old).machine mux.old (D.seen desk.old).said) }
 {

@@ -1,5 +1,5 @@
 ghost use Rattle.std.specs.Prelude.{◌≡◌, ◌⊎◌, ◌≢◌, ◌≤◌, ◌^◌, true, None};
-ghost use Rattle.journal_core.specs.Room.{LeavesRoom};
+ghost use Rattle.journal_core.specs.Room.{HoldsRoom};
 ghost use Rattle.ctrl_model.specs.State.{start};
 ghost use Rattle.session_mux.specs.declared.sessions.Form.TheVariants.{Plain};
 ghost use Rattle.ctrl_serve.specs.ControllerViews.{serving_of};
@@ -40,7 +40,7 @@ fn run_on<S: Source, D: Desk>(
     ensures counts { CountsFaults S.left S.faults D.seen source.old source.new desk.old desk.new result }
     ensures undisked { (serving_of controller.old).kept ≡ None → result ≢ Status.DiskFault }
     ensures alone { (serving_of controller.old).kept ≡ None → OnlySaysAndNotes D.seen D.stopped desk.old desk.new }
-    ensures images { LeavesRoom (serving_of controller.old).bounds.slot D.stopped desk.old desk.new }
+    ensures room { HoldsRoom D.tells (serving_of controller.old).bounds.slot D.seen D.stopped desk.old desk.new }
 {
     let mut notes = Notes::new();
     match serve_input(alloc, most, form, controller, source, &mut notes, desk) {
@@ -94,7 +94,7 @@ fn run_replay<S: Source, D: Desk>(
         (record { left = S.left; faults = S.faults; tells = D.tells; seen = D.seen; stopped = D.stopped })
         source.old source.new desk.old desk.new result }
     ensures counts { CountsFaults S.left S.faults D.seen source.old source.new desk.old desk.new result }
-    ensures images { LeavesRoom (folder_bounds bounds).slot D.stopped desk.old desk.new }
+    ensures room { HoldsRoom D.tells (folder_bounds bounds).slot D.seen D.stopped desk.old desk.new }
 {
     match Kept::open(alloc, desk, store_bounds(bounds)) {
         Ok(kept) => {
@@ -116,8 +116,8 @@ fn run_replay<S: Source, D: Desk>(
 /// reply is said. The others take nothing. Under `audit` the folder is read alone, and the counts line of its state is said. `compact`
 /// compacts the folder, or ends with `FolderFull` where its bounds have no room. Under `load N` the generated frames of the number are answered
 /// without a folder, and the counts line is said. At the end no slot of the folder reads longer than `bounds.slot` bytes, unless it read longer at
-/// the start; then it reads no longer than that. This holds where no stop at the start might have left a slot that passes both. Want of memory
-/// may end the run early, with the status `NoMemory`; it is the one answer without a cause in the contract. docs/PROMISES.md tells what each part of the clause promises.
+/// the start; then it reads no longer than that, and so it is of what a stop may leave. Want of memory may end the run early, with the status
+/// `NoMemory`; it is the one answer without a cause in the contract. docs/PROMISES.md tells what each part of the clause promises.
 pub fn run_within<S: Source, D: Desk>(
     alloc: Global,
     words: &Vec<String>,

@@ -149,9 +149,16 @@ pub seen_adds : (stored seen : Stored) (reads new : Image) (images : Image → T
     → payload ≡ batch_bytes ops → IsPayload (batch_bytes ops) → new seen.part ≡ added seen.end (text_of payload) (reads seen.part) → Else seen.part reads new → AddsBatch ops reads new
 seen_adds stored seen reads new images ops payload e r f short added_is others =
     let own : ReadsAs seen reads images = subst (λ (s : Stored). ReadsAs s reads images) (sym e) r in
-    let longer = append_longer seen reads new images (batch_bytes ops) own short (added_is ∙ ap (λ (b : List ℕ). added seen.end (text_of b) (reads seen.part)) f) others in
+    let ops_added = added_is ∙ ap (λ (b : List ℕ). added seen.end (text_of b) (reads seen.part)) f in
+    let longer = append_longer seen reads new images (batch_bytes ops) own short ops_added others in
+    let part : seen.part ≡ slot_of (length (reads Mark)) = own.kept.part ∙ ap slot_of (sym own.kept.mark) in
+    let same : (batches : List (List ℕ)) → Stands reads batches → own.kept.batches ≡ batches = λ batches s. one_stands reads own.kept.batches batches own.kept.stands s in
     record {
-      behind = λ batches s. subst (λ (l : List (List ℕ)). Stands new (l ++ batch_bytes ops ∷ [])) (one_stands reads own.kept.batches batches own.kept.stands s) longer;
+      behind = λ batches s. subst (λ (l : List (List ℕ)). Stands new (l ++ batch_bytes ops ∷ [])) (same batches s) longer;
+      slot = λ batches s.
+          subst (λ (q : Part). new q ≡ added (slot_end batches) (text_of (batch_bytes ops)) (reads q)) part
+          (ops_added ∙ ap (λ (n : ℕ). added n (text_of (batch_bytes ops)) (reads seen.part)) (own.kept.end ∙ ap slot_end (same batches s)));
+      others = subst (λ (q : Part). Else q reads new) part others;
     }
 
 -- ---- what was kept, whatever came of the rows in memory

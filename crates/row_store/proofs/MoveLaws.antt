@@ -1,15 +1,24 @@
 -- What the images of a folder stand for while a slot is written beside the one that stands, is let stand, and the other is cut.
-use Rattle.std.proofs.Common.{◌≡◌, inl, inr, Bool, true, false, if◌then◌else◌, ◌==◌, not, ℕ, zero, suc, ◌+◌, ◌-◌, ◌%◌, ◌<◌, List, [], ◌∷◌, ◌++◌, length, drop, refl, sym, ap, ◌∙◌, subst, arith, append_assoc, Ok, Err, OnOk}
+use Rattle.std.specs.Prelude.{IsTrue}
+use Rattle.std.proofs.Common.{◌≡◌, ◌≤◌, inl, inr, Bool, true, false, if◌then◌else◌, ◌==◌, not, ℕ, zero, suc, ◌+◌, ◌-◌, ◌%◌, ◌<◌, List, [], ◌∷◌, ◌++◌, length, take, drop, refl, sym, ap, ◌∙◌, subst, arith, append_assoc, length-append, Ok, Err, OnOk}
 use Rattle.std.specs.declared.result.Result.{Result}
 use Rattle.std.proofs.Math.Nat.{suc-mod}
 use Rattle.ziti_outside.specs.declared.desk.Part.{Part}
 use Rattle.ziti_outside.specs.declared.desk.Part.TheVariants.{Zero, One, Mark}
-use Rattle.ziti_outside.specs.Images.{Image, Holds, Else, OnPart, After, IsStable}
+use Rattle.ziti_outside.specs.Images.{Image, Holds, CutShort, Else, OnPart, After, IsStable}
+use Rattle.ziti_outside.specs.Moments.{Remembers, Leaves}
+use Rattle.ziti_outside.specs.Told.{IsFront}
+use Rattle.ziti_outside.specs.Untouched.{OnlyDisk}
+use Rattle.ziti_outside.specs.Views.{Seen, Stopped}
+use Rattle.ziti_outside.proofs.ImageLaws.{CutShort-whole}
+use Rattle.ziti_outside.proofs.MomentLaws.{Leaves-then, Remembers-then, OnlyDisk-then}
+use Rattle.journal_core.specs.Room.{KeepsRoom}
+use Rattle.journal_core.proofs.RoomLaws.{held_then}
 use Rattle.journal_core.specs.Slots.{Slot, header, records_of}
 use Rattle.slot_files.specs.declared.standing.Standing.{Standing}
 use Rattle.slot_files.specs.FolderImage.{slot_of, StandsBy, Stands}
 use Rattle.slot_files.specs.OpenedSlots.{IsNamed, IsOpened}
-use Rattle.slot_files.specs.SwitchedSlots.{other_slot, IsReady, IsSwitched, StandsByEither}
+use Rattle.slot_files.specs.SwitchedSlots.{other_slot, IsReady, IsSwitched, OnlySwitches, StandsByEither}
 use Rattle.slot_files.proofs.StandLaws.{slot_no_mark}
 use Rattle.row_store.specs.MovedSlots.{IsSlot, StandsByOne, IsMoved}
 use Rattle.row_store.proofs.OpeningLaws.{by_slot}
@@ -165,3 +174,45 @@ images_cut standing now reads mid images later named switched opened others foun
       was = first.was;
       by = record { either = λ before after s t. inr (stands_at (standing.mark + 1) image (reads (other_slot standing.mark)) after (omega arith) long here t) };
     }
+
+-- Cutting a part to nothing makes no slot longer.
+front_short : (part whole : List ℕ) → IsFront part whole → length part ≤ length whole
+front_short part whole p = omega (arith, ap length p.1, length-append part p.0)
+
+cut_slots : (part : Part) (old new : Image) → Else part old new → CutShort 0 (old part) (new part) → KeepsRoom 0 old new
+cut_slots Zero old new others cut = record {
+  zero = omega (arith, front_short (new Zero) (old Zero) cut.front);
+  one = omega (arith, ap length (others.same One (λ (e : One ≡ Zero). cc)));
+}
+cut_slots One old new others cut = record {
+  zero = omega (arith, ap length (others.same Zero (λ (e : Zero ≡ One). cc)));
+  one = omega (arith, front_short (new One) (old One) cut.front);
+}
+cut_slots Mark old new others cut = record {
+  zero = omega (arith, ap length (others.same Zero (λ (e : Zero ≡ Mark). cc)));
+  one = omega (arith, ap length (others.same One (λ (e : One ≡ Mark). cc)));
+}
+
+-- Letting the other slot stand and cutting the one that stood does nothing else, whatever came of the cut.
+pub cut_alone : {D : Type 0} {seen : D → Seen} {stopped : D → Stopped} {old mid new : D} (tells : Bool) (standing now : Standing) → IsNamed standing → IsSwitched standing now
+    → (IsTrue tells → IsOpened now (seen mid).reads (stopped mid).images) → Else Mark (seen old).reads (seen mid).reads → OnlySwitches tells seen stopped standing.mark old mid
+    → OnlyDisk seen mid new → Leaves seen stopped mid new (After (OnPart standing.part (CutShort 0)) (stopped mid).images) → Remembers (stopped mid) (stopped new)
+    → Else standing.part (seen mid).reads (seen new).reads → (IsTrue tells → CutShort 0 ((seen mid).reads standing.part) ((seen new).reads standing.part))
+    → OnlySwitches tells seen stopped standing.mark old new
+cut_alone {seen = seen} {old = old} {mid = mid} {new = new} tells standing now named switched opened marked first disk cut remembers others short = record {
+  others = OnlyDisk-then first.others disk;
+  quiet = Leaves-then _ first.quiet cut (λ image p. tt) (λ image p. tt);
+  stops = λ told. Leaves-then _ (first.stops told) cut (λ image p. p)
+      (images_cut standing now (seen old).reads (seen mid).reads _ _ named switched (opened told) marked (first.stops told).found);
+  remembers = Remembers-then first.quiet.time.later first.remembers remembers;
+  room = held_then first.room (record {
+    reads = λ told. cut_slots standing.part (seen mid).reads (seen new).reads others (short told);
+    found = λ image p.
+        let before = cut.found image p in
+        record { from = before.from; was = before.was; by = cut_slots standing.part before.from image before.by.others before.by.here };
+  });
+}
+
+-- A cut that was done is one that may have been cut short.
+pub cut_done : {tells : Type 0} (len : ℕ) (old new : List ℕ) → (tells → new ≡ take len old) → tells → CutShort len old new
+cut_done len old new cut told = subst (λ (l : List ℕ). CutShort len old l) (sym (cut told)) (CutShort-whole len old)

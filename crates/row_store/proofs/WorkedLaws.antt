@@ -1,10 +1,11 @@
 -- The rows of the first identity and the slots that hold them, worked by hand.
-use Rattle.std.proofs.Common.{◌≡◌, ℕ, ◌+◌, ◌^◌, ◌<◌, List, [], ◌∷◌, ◌++◌, length, take, drop, replicate, inl, inr, refl, sym, ap, ◌∙◌, subst, arith}
+use Rattle.std.proofs.Common.{◌≡◌, ℕ, ◌+◌, ◌^◌, ◌<◌, List, [], ◌∷◌, ◌++◌, length, get_or, take, drop, replicate, inl, inr, refl, sym, ap, ◌∙◌, subst, arith}
 use Rattle.std.specs.Int.{w32, to_le_bytes, from_le_bytes}
 use Rattle.std.proofs.lemmas.List.{drop_at}
 use Rattle.std.proofs.lemmas.Nat.{from_le_bytes-to_le_bytes_4}
-use Rattle.ziti_outside.specs.declared.desk.Part.TheVariants.{Zero}
-use Rattle.journal_core.specs.Slots.{IsDamaged, record_of}
+use Rattle.ziti_outside.specs.declared.desk.Part.{Part}
+use Rattle.ziti_outside.specs.declared.desk.Part.TheVariants.{Zero, One, Mark}
+use Rattle.journal_core.specs.Slots.{IsDamaged, added, record_of, slot_end, text_of}
 use Rattle.journal_core.specs.WorkedSlots.{batch_of_ann, empty_slot, slot_of_ann}
 use Rattle.slot_files.specs.FolderImage.{Stands}
 use Rattle.slot_files.proofs.StandLaws.{one_stands}
@@ -15,7 +16,7 @@ use Rattle.row_store.specs.BatchRows.{Leads, Give}
 use Rattle.row_store.specs.AddedBatches.{AddsBatch}
 use Rattle.row_store.specs.OpenedRows.{OpensTo, IsDamagedAt}
 use Rattle.row_store.specs.CompactedStores.{IsCompacted}
-use Rattle.row_store.specs.WorkedStores.{rows_of_ann, ops_of_ann, folder_of, deletes_absent, slot_with_deletion, store_of_ann, store_of_none, second_alone, old_second}
+use Rattle.row_store.specs.WorkedStores.{rows_of_ann, ops_of_ann, folder_of, three_parts, deletes_absent, slot_with_deletion, store_of_ann, store_of_none, second_alone, old_second}
 use Rattle.row_store.proofs.BatchLaws.{Leads-of, leads_nowhere}
 use Rattle.row_store.proofs.SlotReadings.{read_past, record_within}
 
@@ -138,7 +139,34 @@ pub ann_added : AddsBatch ops_of_ann (folder_of empty_slot) (folder_of slot_of_a
 ann_added = record {
   behind = λ batches s. subst (λ (b : List (List ℕ)). Stands (folder_of slot_of_ann) (b ++ batch_of_ann ∷ []))
       (one_stands (folder_of empty_slot) [] batches created_stands s) ann_stands;
+  slot = λ batches s. subst (λ (b : List (List ℕ)). slot_of_ann ≡ added (slot_end b) (text_of batch_of_ann) empty_slot)
+      (one_stands (folder_of empty_slot) [] batches created_stands s) refl;
+  others = record { same = ann_apart };
 }
+  where
+    ann_apart : (other : Part) → (other ≡ Zero → ⊥) → folder_of slot_of_ann other ≡ folder_of empty_slot other
+    ann_apart Zero differs = absurd (differs refl)
+    ann_apart One differs = refl
+    ann_apart Mark differs = refl
+
+one_apart : One ≡ Zero → ⊥
+one_apart e = cc
+
+mark_apart : Mark ≡ Zero → ⊥
+mark_apart e = cc
+
+-- With another byte in the other slot or in the mark it was not added alone.
+pub added_beside : AddsBatch ops_of_ann (folder_of empty_slot) (three_parts slot_of_ann (7 ∷ []) (0 ∷ [])) → ⊥
+added_beside a = let e : ◌≡◌ {A = List ℕ} (7 ∷ []) [] = a.others.same One one_apart in absurd (omega (arith, ap length e))
+
+pub added_marked : AddsBatch ops_of_ann (folder_of empty_slot) (three_parts slot_of_ann [] (1 ∷ [])) → ⊥
+added_marked a =
+    let e : ◌≡◌ {A = List ℕ} (1 ∷ []) (0 ∷ []) = a.others.same Mark mark_apart in
+    let first : 1 ≡ 0 = ap (λ (l : List ℕ). get_or l 0 0) e in absurd (omega (arith, first))
+
+-- Nor with another byte in the slot behind the record.
+pub added_behind : AddsBatch ops_of_ann (folder_of empty_slot) (folder_of (slot_of_ann ++ 7 ∷ [])) → ⊥
+added_behind a = let e : slot_of_ann ++ 7 ∷ [] ≡ slot_of_ann = a.slot [] created_stands in absurd (omega (arith, ap length e))
 
 pub none_added : AddsBatch ops_of_ann (folder_of empty_slot) (folder_of empty_slot) → ⊥
 none_added a = let e = one_stands (folder_of empty_slot) [] (batch_of_ann ∷ []) created_stands (a.behind [] created_stands) in cc

@@ -38,6 +38,12 @@ folder_of bytes Zero = bytes
 folder_of bytes One = []
 folder_of bytes Mark = 0 ∷ []
 
+-- A folder of these three parts.
+abbrev pub three_parts : (first second mark : List ℕ) → Image
+three_parts first second mark Zero = first
+three_parts first second mark One = second
+three_parts first second mark Mark = mark
+
 -- A batch that deletes identity 2, which is not there.
 abbrev pub deletes_absent : List ℕ
 deletes_absent = 2 ∷ 5 ∷ 3 ∷ 0 ∷ 0 ∷ 0 ∷ 2 ∷ []

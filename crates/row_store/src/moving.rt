@@ -1,13 +1,13 @@
 ghost use Rattle.std.specs.Prelude.{◌≡◌, ℕ, ◌+◌, ◌<◌, ◌++◌, ◌∷◌, [], ⊤, length, IsTrue, OnOk, IfOk, IfErr};
 ghost use Rattle.ziti_outside.specs.declared.desk.Part.TheVariants.{Mark};
 ghost use Rattle.ziti_outside.specs.Causes.{HasCause};
-ghost use Rattle.ziti_outside.specs.Images.{Else, After};
+ghost use Rattle.ziti_outside.specs.Images.{Else};
 ghost use Rattle.ziti_outside.specs.Moments.{Remembers, Leaves};
 ghost use Rattle.ziti_outside.specs.Untouched.{OnlyDisk};
-ghost use Rattle.journal_core.specs.Room.{KeepsRoom, LeavesRoom};
+ghost use Rattle.journal_core.specs.Room.{HoldsRoom};
 ghost use Rattle.slot_files.specs.FolderImage.{slot_of};
 ghost use Rattle.slot_files.specs.OpenedSlots.{IsNamed, IsOpened};
-ghost use Rattle.slot_files.specs.SwitchedSlots.{other_slot, IsReady, IsSwitched, StandsByEither};
+ghost use Rattle.slot_files.specs.SwitchedSlots.{other_slot, IsReady, IsSwitched, OnlySwitches};
 ghost use Rattle.row_store.specs.MovedSlots.{IsSlot, StandsByOne, IsMoved};
 ghost use Rattle.row_store.specs.Faults.{disk_failure};
 
@@ -37,13 +37,7 @@ fn let_stand<D: Desk>(desk: &mut D, standing: Standing, most: u64) -> Result<Sta
     ensures elsewhere { Else Mark (D.seen desk.old).reads (D.seen desk.new).reads }
     ensures fault { IfErr result (λ fault. fault ≡ StoreFault.Disk) }
     ensures cause { HasCause (D.seen desk.old).disk_faults (D.seen desk.new).disk_faults (disk_failure result) }
-    ensures others { OnlyDisk D.seen desk.old desk.new }
-    ensures quiet { Leaves D.seen D.stopped desk.old desk.new (λ image. ⊤) }
-    ensures stops { IsTrue D.tells → Leaves D.seen D.stopped desk.old desk.new
-        (After (StandsByEither standing.mark (D.seen desk.old).reads) (D.stopped desk.old).images) }
-    ensures remembers { Remembers (D.stopped desk.old) (D.stopped desk.new) }
-    ensures slots { IsTrue D.tells → KeepsRoom 0 (D.seen desk.old).reads (D.seen desk.new).reads }
-    ensures images { LeavesRoom 0 D.stopped desk.old desk.new }
+    ensures alone { OnlySwitches D.tells D.seen D.stopped standing.mark desk.old desk.new }
 {
     match switch(desk, standing, most) {
         Ok(now) => Ok(now),
@@ -65,13 +59,7 @@ fn stand_alone<D: Desk>(desk: &mut D, standing: Standing, most: u64) -> Result<S
     ensures cut { OnOk result (IsTrue D.tells → (D.seen desk.new).reads standing.part ≡ []) }
     ensures fault { IfErr result (λ fault. fault ≡ StoreFault.Disk) }
     ensures cause { HasCause (D.seen desk.old).disk_faults (D.seen desk.new).disk_faults (disk_failure result) }
-    ensures others { OnlyDisk D.seen desk.old desk.new }
-    ensures quiet { Leaves D.seen D.stopped desk.old desk.new (λ image. ⊤) }
-    ensures stops { IsTrue D.tells → Leaves D.seen D.stopped desk.old desk.new
-        (After (StandsByEither standing.mark (D.seen desk.old).reads) (D.stopped desk.old).images) }
-    ensures remembers { Remembers (D.stopped desk.old) (D.stopped desk.new) }
-    ensures slots { OnOk result (IsTrue D.tells → KeepsRoom 0 (D.seen desk.old).reads (D.seen desk.new).reads) }
-    ensures images { LeavesRoom 0 D.stopped desk.old desk.new }
+    ensures alone { OnlySwitches D.tells D.seen D.stopped standing.mark desk.old desk.new }
 {
     let now = let_stand(desk, standing, most)?;
     desk.cut(standing.part, 0)?;
@@ -101,8 +89,7 @@ pub(crate) fn move_to<D: Desk>(
     ensures stops { IsTrue D.tells → Leaves D.seen D.stopped desk.old desk.new
         (StandsByOne ((D.seen desk.old).reads standing.part) slot.now) }
     ensures remembers { Remembers (D.stopped desk.old) (D.stopped desk.new) }
-    ensures slots { OnOk result (IsTrue D.tells → KeepsRoom (length slot.now) (D.seen desk.old).reads (D.seen desk.new).reads) }
-    ensures images { LeavesRoom (length slot.now) D.stopped desk.old desk.new }
+    ensures slots { HoldsRoom D.tells (length slot.now) D.seen D.stopped desk.old desk.new }
 {
     put_down(desk, other_of(standing.part), 0, slot)?;
     stand_alone(desk, standing, most)

@@ -4,7 +4,6 @@ ghost use Rattle.ziti_outside.specs.Told.{IsFront};
 ghost use Rattle.ziti_outside.specs.Causes.{HasCause};
 ghost use Rattle.ziti_outside.specs.Untouched.{OnlyReads};
 ghost use Rattle.journal_core.specs.Slots.{header};
-ghost use Rattle.journal_core.specs.Room.{empty_size, KeepsRoom};
 ghost use Rattle.slot_files.specs.OpenedSlots.{IsNamed, IsOpened, OnlyOpens, Opens, Finds};
 ghost use Rattle.row_codec.specs.RowDifference.{Rises};
 ghost use Rattle.row_codec.specs.Batches.{bytes_cmp};
@@ -27,7 +26,6 @@ pub(crate) fn settle<D: Desk>(desk: &mut D) -> Result<Standing, StoreFault>
     ensures alone { OnlyOpens D.tells D.seen D.stopped desk.old desk.new }
     ensures fault { IfErr result (λ fault. OpenFails D.tells (D.seen desk.old).reads fault) }
     ensures cause { HasCause (D.seen desk.old).disk_faults (D.seen desk.new).disk_faults (disk_failure result) }
-    ensures room { IsTrue D.tells → OnOk (disk_failure result) (KeepsRoom empty_size (D.seen desk.old).reads (D.seen desk.new).reads) }
 {
     match slot_files::open(desk) {
         Ok(standing) => Ok(standing),

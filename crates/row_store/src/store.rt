@@ -2,10 +2,10 @@ ghost use Rattle.std.specs.Prelude.{◌≡◌, ◌⊎◌, ◌≤◌, ◌<◌, �
 ghost use Rattle.std.specs.Option.{option_map};
 ghost use Rattle.ziti_outside.specs.declared.desk.Part.TheVariants.{One, Mark};
 ghost use Rattle.ziti_outside.specs.Causes.{HasCause};
-ghost use Rattle.ziti_outside.specs.Images.{Image, After};
+ghost use Rattle.ziti_outside.specs.Images.{Image, Else, After};
 ghost use Rattle.ziti_outside.specs.Moments.{Remembers, Leaves};
 ghost use Rattle.ziti_outside.specs.Untouched.{OnlyDisk, OnlyReads};
-ghost use Rattle.journal_core.specs.Room.{empty_size, KeepsRoom, LeavesRoom};
+ghost use Rattle.journal_core.specs.Room.{empty_size, HoldsRoom};
 ghost use Rattle.slot_files.specs.FolderImage.{StandsAsBefore};
 ghost use Rattle.slot_files.specs.OpenedSlots.{Opens};
 ghost use Rattle.row_codec.specs.RowDifference.{Rises, value_at, IsTrueDifference};
@@ -102,10 +102,8 @@ impl Store {
         ensures stops { IsTrue D.tells → Leaves D.seen D.stopped desk.old desk.new (After StandsAsBefore (D.stopped desk.old).images) }
         ensures remembers { Remembers (D.stopped desk.old) (D.stopped desk.new) }
 
-        // No slot grows past the size of one without a record, neither in what a stop leaves nor, where no call on the disk failed, as
-        // the desk reads.
-        ensures room { IsTrue D.tells → OnOk (disk_failure result) (KeepsRoom empty_size (D.seen desk.old).reads (D.seen desk.new).reads) }
-        ensures images { LeavesRoom empty_size D.stopped desk.old desk.new }
+        // No slot grows past the size of one without a record, neither as the desk reads nor in what a stop leaves.
+        ensures room { HoldsRoom D.tells empty_size D.seen D.stopped desk.old desk.new }
     {
         let standing = settle(desk)?;
         let (rows, end) = load(alloc, desk, standing.part)?;
@@ -204,7 +202,7 @@ impl Store {
     }
 
     /// Keeps a batch of changes: appends it to the slot that stands, and makes its changes in the rows. The folder stands for this one
-    /// batch more.
+    /// batch more, and of its bytes no others are changed; the other slot and the mark read as before, whatever comes of the call.
     ///
     /// Whatever comes of it, a stop at any moment of the call leaves a folder that opens to the rows before it or to those after it.
     /// Spent comes exactly where the store is spent, and Full exactly where it is not and the slot would pass its bound, before any
@@ -219,6 +217,7 @@ impl Store {
 
         ensures kept { OnOk result (MayCommit self.old batch.now × (self.new ≡ with_ops self.old batch.now)) }
         ensures added { OnOk result (IsTrue D.tells → AddsBatch batch.now (D.seen desk.old).reads (D.seen desk.new).reads) }
+        ensures elsewhere { Else self.old.part (D.seen desk.old).reads (D.seen desk.new).reads }
         ensures fault { IfErr result (λ fault. CommitFails batch.now self.old self.new desk.old desk.new fault) }
         ensures stands { self.new.spent ≡ false → IsTrue D.tells → ReadsAs self.new (D.seen desk.new).reads (D.stopped desk.new).images }
         ensures behind { IsErrOf result StoreFault.NoMemory → self.old.spent ≡ false → self.new.spent ≡ true → IsTrue D.tells → (image : Image)
@@ -231,8 +230,7 @@ impl Store {
         ensures remembers { Remembers (D.stopped desk.old) (D.stopped desk.new) }
 
         // No slot grows past its bound, neither as the desk reads nor in what a stop leaves.
-        ensures room { IsTrue D.tells → KeepsRoom self.old.bounds.slot (D.seen desk.old).reads (D.seen desk.new).reads }
-        ensures images { LeavesRoom self.old.bounds.slot D.stopped desk.old desk.new }
+        ensures room { HoldsRoom D.tells self.old.bounds.slot D.seen D.stopped desk.old desk.new }
     {
         if self.spent {
             return Err(StoreFault::Spent);
@@ -280,9 +278,8 @@ impl Store {
             (λ image. OpensTo image self.old.rows) }
         ensures remembers { Remembers (D.stopped desk.old) (D.stopped desk.new) }
 
-        // No slot grows past its bound, neither in what a stop leaves nor, where no call on the disk failed, as the desk reads.
-        ensures room { IsTrue D.tells → OnOk (disk_failure result) (KeepsRoom self.old.bounds.slot (D.seen desk.old).reads (D.seen desk.new).reads) }
-        ensures images { LeavesRoom self.old.bounds.slot D.stopped desk.old desk.new }
+        // No slot grows past its bound, neither as the desk reads nor in what a stop leaves.
+        ensures room { HoldsRoom D.tells self.old.bounds.slot D.seen D.stopped desk.old desk.new }
     {
         if self.spent {
             return Err(StoreFault::Spent);

@@ -8,7 +8,7 @@ ghost use Rattle.row_codec.specs.Batches.{batch_between, batch_bytes, Spells};
 ghost use Rattle.row_store.specs.AddedBatches.{AddsBatch};
 ghost use Rattle.row_store.specs.BatchRows.{Leads, Give, rows_after, puts_of};
 ghost use Rattle.row_store.specs.OpenedRows.{OpensTo, IsDamagedAt};
-ghost use Rattle.row_store.specs.WorkedStores.{rows_of_ann, ops_of_ann, key_of_ann, value_of_ann, folder_of, deletes_absent, slot_with_deletion, store_of_ann, store_of_none, second_alone, old_second};
+ghost use Rattle.row_store.specs.WorkedStores.{rows_of_ann, ops_of_ann, key_of_ann, value_of_ann, folder_of, three_parts, deletes_absent, slot_with_deletion, store_of_ann, store_of_none, second_alone, old_second};
 ghost use Rattle.row_store.specs.CompactedStores.{compacted, compacted_size, compacted_of, IsCompacted, HasRoom, CompactFails};
 ghost use Rattle.row_store.specs.declared.faults.StoreFault.TheVariants.{Full, MarkFull};
 ghost use Rattle.row_codec.specs.declared.changes.Op.TheVariants.{Put};
@@ -34,6 +34,9 @@ pub fn worked_folders()
 pub fn worked_commits()
     ensures added { AddsBatch ops_of_ann (folder_of empty_slot) (folder_of slot_of_ann) }
     ensures not_added { AddsBatch ops_of_ann (folder_of empty_slot) (folder_of empty_slot) → ⊥ }
+    ensures added_with_the_second_slot { AddsBatch ops_of_ann (folder_of empty_slot) (three_parts slot_of_ann (7 ∷ []) (0 ∷ [])) → ⊥ }
+    ensures added_with_the_mark { AddsBatch ops_of_ann (folder_of empty_slot) (three_parts slot_of_ann [] (1 ∷ [])) → ⊥ }
+    ensures added_with_a_byte_behind { AddsBatch ops_of_ann (folder_of empty_slot) (folder_of (slot_of_ann ++ 7 ∷ [])) → ⊥ }
     ensures added_again { AddsBatch ops_of_ann (folder_of slot_of_ann) (folder_of slot_of_ann) → ⊥ }
 {}
 

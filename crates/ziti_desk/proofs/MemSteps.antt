@@ -16,7 +16,7 @@ use Rattle.ziti_desk.specs.declared.mem_log.Log.{Log}
 use Rattle.ziti_desk.specs.declared.mem_parts.Images.{Images}
 use Rattle.ziti_desk.specs.MemEvents as of
 use Rattle.ziti_desk.specs.MemEvents.{Event, Writing, Cutting, Syncing, events, said_count, written_count, reads_by, said_by, may_by, reads_after, said_after, Within, Leaving, Since, Replayed, LogsCall, IsDone, IsPending, image_of, with_part, written_over, logged, stopped_by}
-use Rattle.ziti_desk.specs.MemStops.{unchanged, with_part_here, with_part_else}
+use Rattle.ziti_desk.specs.MemStops.{unwritten, uncut, with_part_here, with_part_else}
 use Rattle.ziti_desk.proofs.MemLaws.{reads_push, said_push, may_push, events_push, said_count_push, written_count_push, step_elapses, step_remembers}
 
 -- The log got one call more, and the parts and the replies are as behind it.
@@ -103,7 +103,7 @@ write_outcome r first held now log new said part at bytes old ok err = by r ok e
     X = After (OnPart part (Torn at (length bytes))) (λ i. Leaving first (logged log said) i)
 
     within : (c : Image) → Leaving first (logged log said) c → X c
-    within c m = unchanged part (Torn at (length bytes)) c (λ i. Leaving first (logged log said) i) (Torn-none at (length bytes) (c part)) m
+    within c m = unwritten part at (length bytes) c m
 
     whole : (done : Bool) → events (Wrote part at (length bytes) done ∷ []) [] bytes ≡ Writing part at bytes done ∷ []
     whole done = ap (λ (l : List ℕ). Writing part at l done ∷ []) (take_all (length bytes) bytes (omega arith))
@@ -126,7 +126,7 @@ cut_outcome r first held now log new said part len old ok err = by r ok err
     X = After (OnPart part (CutShort len)) (λ i. Leaving first (logged log said) i)
 
     within : (c : Image) → Leaving first (logged log said) c → X c
-    within c m = unchanged part (CutShort len) c (λ i. Leaving first (logged log said) i) (CutShort-none len (c part)) m
+    within c m = uncut part len c m
 
     by : (r : Result ⊤ Failed) → OnOk r (IsDone (Cutting part len true) (Cut part len true) [] held now log new) → OnErr r (IsPending (Cut part len false) [] held now log new) → Outcome first (image_of now) log new said X
     by (Ok u) done pending = outcome_more first (image_of held) (image_of now) log new said [] X (Cut part len true) (Cutting part len true) old done.logged tt refl refl refl done.reads within (λ c m. m)

@@ -100,11 +100,11 @@ pub record StageOutcome {S : Type 0} (within : S → S → Image → List ℕ �
   pub time : Elapses (staged within last images stages before) (staged within last images more now) X
   pub remembers : Remembers (staged within last images stages before) (staged within last images more now)
 
-pub drive_outcome : {F O : Type 0} (moment : F → ℕ) (since : F → ℕ → Image → Type 0) (may_leave : F → Image → Type 0) (contents : O → Option (List ℕ)) (stages more : List (F × O)) (old new : F) (replies : O) (X : Image → Type 0)
+pub drive_outcome : {F O : Type 0} {moment : F → ℕ} {since : F → ℕ → Image → Type 0} {may_leave : F → Image → Type 0} {stages more : List (F × O)} {old new : F} {replies : O} {X : Image → Type 0} (contents : O → Option (List ℕ))
     → ((f : F) (t : ℕ) (i : Image) → t ≤ moment f → may_leave f i → since f t i) → ((f : F) (i : Image) → since f (moment f) i → may_leave f i)
     → more ≡ stages ++ (old, replies) ∷ [] → Finds moment since may_leave old new X → ((i : Image) → may_leave old i → X i)
     → StageOutcome (StopsWithin moment since contents) (λ stage. Now (may_leave stage.0) (contents stage.1)) (λ stage. may_leave stage.0) stages more (old, replies) (new, replies) (Now X (contents replies))
-drive_outcome moment since may_leave contents stages more old new replies X counts only same finds own = record {
+drive_outcome {moment = moment} {since = since} {may_leave = may_leave} {stages = stages} {more = more} {old = old} {new = new} {replies = replies} {X = X} contents counts only same finds own = record {
   time = stage_elapses (StopsWithin moment since contents) (λ stage. Now (may_leave stage.0) (contents stage.1)) (λ stage. may_leave stage.0) stages more (old, replies) (new, replies) (Now X (contents replies)) same
       (λ i w p. record {
         found = elim (finds.nothing_else (moment old) i (omega arith) p.found) as (λ _. X i) [ inl past ↦ own i (only old i past) | inr here ↦ here ];

@@ -45,16 +45,23 @@ changed p step bytes r may by m =
     record { from = r; was = m; by = record { here = subst (λ (l : List ℕ). step (r p) l) (sym (with_part_here p bytes r)) by; others = with_part_else p bytes r } }
 
 -- So is one that was not done.
-pub unchanged : (p : Part) (step : List ℕ → List ℕ → Type 0) (r : Image) (may : Image → Type 0) → step (r p) (r p) → may r → After (OnPart p step) may r
+unchanged : (p : Part) (step : List ℕ → List ℕ → Type 0) (r : Image) (may : Image → Type 0) → step (r p) (r p) → may r → After (OnPart p step) may r
 unchanged p step r may by m = record { from = r; was = m; by = record { here = by; others = record { same = λ q differs. refl } } }
+
+-- So is a write that was not done, and a cut.
+pub unwritten : (p : Part) (at count : ℕ) {may : Image → Type 0} (i : Image) → may i → After (OnPart p (Torn at count)) may i
+unwritten p at count {may} i m = unchanged p (Torn at count) i may (Torn-none at count (i p)) m
+
+pub uncut : (p : Part) (len : ℕ) {may : Image → Type 0} (i : Image) → may i → After (OnPart p (CutShort len)) may i
+uncut p len {may} i m = unchanged p (CutShort len) i may (CutShort-none len (i p)) m
 
 -- What the parts read is one of the images that a stop may leave.
 own_by : (e : Event) (r : Image) (may : Image → Type 0) → may r → may_by e r may (reads_by e r)
 own_by (Saying bytes) r may m = m
 own_by (Writing p at bytes true) r may m = changed p (Torn at (length bytes)) (written_over at bytes (r p)) r may (Torn-whole at bytes (r p) (written_over at bytes (r p)) refl) m
-own_by (Writing p at bytes false) r may m = unchanged p (Torn at (length bytes)) r may (Torn-none at (length bytes) (r p)) m
+own_by (Writing p at bytes false) r may m = unwritten p at (length bytes) r m
 own_by (Cutting p len true) r may m = changed p (CutShort len) (take len (r p)) r may (CutShort-whole len (r p)) m
-own_by (Cutting p len false) r may m = unchanged p (CutShort len) r may (CutShort-none len (r p)) m
+own_by (Cutting p len false) r may m = uncut p len r m
 own_by (Syncing p) r may m = (m, refl)
 
 pub own : (r : Image) (may : Image → Type 0) (es : List Event) → may r → MayAfter r may es (reads_after r es)

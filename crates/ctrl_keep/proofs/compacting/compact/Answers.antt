@@ -2,7 +2,7 @@ use Rattle.std.proofs.Common.{sym, ◌∙◌}
 use Rattle.std.specs.Prelude.{IsTrue}
 use Rattle.ziti_outside.proofs.MomentLaws.{Leaves-weaker}
 use Rattle.row_store.specs.CompactedStores.{IsCompacted}
-use Rattle.ctrl_keep.proofs.CompactedStates.{came_of, came_step, came_unspent, came_done, came_keeps, came_fault, came_fits, came_memory, came_cause, opens_kept, came_room}
+use Rattle.ctrl_keep.proofs.CompactedStates.{came_of, came_step, came_unspent, came_done, came_keeps, came_fault, came_fits, came_memory, came_cause, opens_kept}
 use Rattle.ctrl_keep.proofs.FollowedSteps.{came_still, came_follows}
 use Rattle.ctrl_keep.proofs.compacting.compact.Goals as goal
 
@@ -51,7 +51,3 @@ returns-clause-cause g c =
 pub returns-clause-stops : goal.returns-clause-stops
 returns-clause-stops g c = λ told.
     Leaves-weaker _ (c.compact-compacted.ensures.stops c.requires.keeps.unspent told) (opens_kept c.args.core.now c.args.store.now c.requires.keeps)
-
-pub returns-clause-room : goal.returns-clause-room
-returns-clause-room g c = λ told.
-    rw c.reply_of.ensures (came_room _ c.compact-compacted.result (c.compact-compacted.ensures.room told))

@@ -1,5 +1,5 @@
 use Rattle.std.proofs.Common.{ℕ, subst, ◌∙◌}
-use Rattle.journal_core.proofs.RoomLaws.{left_none, left_then}
+use Rattle.journal_core.proofs.RoomLaws.{held_none, held_then}
 use Rattle.run_notes.specs.NotedLines.{RisesOnce}
 use Rattle.ctrl_serve.proofs.FolderLaws.{Submitted, compaction_disk, compaction_ends, full_reads, compaction_stops, notes_leave}
 use Rattle.ctrl_serve.proofs.folder.compact_opened.Goals as goal
@@ -60,5 +60,5 @@ pub returns-clause-stops : goal.returns-clause-stops
 returns-clause-stops g c = λ yes.
     notes_leave (compaction_stops c.args.kept (c.submit-compacted.ensures.stops c.requires.unspent yes)) c.tell_compaction.ensures.others c.tell_compaction.ensures.stops
 
-pub returns-clause-images : goal.returns-clause-images
-returns-clause-images g c = left_then c.submit-compacted.ensures.images (left_none _ c.tell_compaction.ensures.others.found)
+pub returns-clause-room : goal.returns-clause-room
+returns-clause-room g c = held_then c.submit-compacted.ensures.room (held_none _ _ c.tell_compaction.ensures.others.parts c.tell_compaction.ensures.others.found)

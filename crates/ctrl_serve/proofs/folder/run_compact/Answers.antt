@@ -53,8 +53,8 @@ returns-in-Err-clause-counted g c =
 pub tell_closed-requires : goal.tell_closed-requires
 tell_closed-requires g c = never_spent g.D.Desk.tells _ c.in-Err.fault c.in-Err.ensures.fault
 
-pub returns-in-Ok-clause-images : goal.returns-in-Ok-clause-images
-returns-in-Ok-clause-images g c = λ enough. opened_room c.args.bounds c.in-Ok.kept.stored.bounds enough c.in-Ok.ensures.opened.0 c.open.ensures.images c.compact_opened.ensures.images
+pub returns-in-Ok-clause-room : goal.returns-in-Ok-clause-room
+returns-in-Ok-clause-room g c = λ enough. opened_room c.args.bounds c.in-Ok.kept.stored.bounds enough c.in-Ok.ensures.opened.0 c.open.ensures.room c.compact_opened.ensures.room
 
-pub returns-in-Err-clause-images : goal.returns-in-Err-clause-images
-returns-in-Err-clause-images g c = λ enough. closed_room c.args.bounds enough c.open.ensures.images c.tell_closed.ensures.others.found
+pub returns-in-Err-clause-room : goal.returns-in-Err-clause-room
+returns-in-Err-clause-room g c = λ enough. closed_room c.args.bounds enough c.open.ensures.room c.tell_closed.ensures.others.parts c.tell_closed.ensures.others.found

@@ -1,6 +1,6 @@
 use Rattle.std.proofs.Common.{List, ℕ, ap, sym, subst, take}
 use Rattle.std.proofs.lemmas.Result.{err_from_is_err_and}
-use Rattle.journal_core.proofs.RoomLaws.{left_none, left_then}
+use Rattle.journal_core.proofs.RoomLaws.{held_none, held_then}
 use Rattle.ziti_outside.specs.Images.{Image}
 use Rattle.run_notes.specs.declared.notes.Notes.{Notes}
 use Rattle.run_notes.specs.KnownSessions.{known_in}
@@ -74,17 +74,17 @@ returns-clause-alone g c = λ none. notes_behind (c.serve_pieces.ensures.alone n
 pub returns-in_err-tell_ending-clause-alone : goal.returns-in_err-tell_ending-clause-alone
 returns-in_err-tell_ending-clause-alone g c = λ none. notes_behind (c.serve_pieces.ensures.alone none) c.tell_ending.ensures.others c.tell_ending.ensures.stops
 
-pub returns-in_err-mux-clause-images : goal.returns-in_err-mux-clause-images
-returns-in_err-mux-clause-images g c = room_calm _ c.args.desk.now
+pub returns-in_err-mux-clause-room : goal.returns-in_err-mux-clause-room
+returns-in_err-mux-clause-room g c = room_calm _ c.args.desk.now
 
-pub returns-in_err-sessions-clause-images : goal.returns-in_err-sessions-clause-images
-returns-in_err-sessions-clause-images g c = room_calm _ c.args.desk.now
+pub returns-in_err-sessions-clause-room : goal.returns-in_err-sessions-clause-room
+returns-in_err-sessions-clause-room g c = room_calm _ c.args.desk.now
 
-pub returns-clause-images : goal.returns-clause-images
-returns-clause-images g c = left_then c.serve_pieces.ensures.images (left_none _ c.tell_ending.ensures.others.found)
+pub returns-clause-room : goal.returns-clause-room
+returns-clause-room g c = held_then c.serve_pieces.ensures.room (held_none _ _ c.tell_ending.ensures.others.parts c.tell_ending.ensures.others.found)
 
-pub returns-in_err-tell_ending-clause-images : goal.returns-in_err-tell_ending-clause-images
-returns-in_err-tell_ending-clause-images g c = left_then c.serve_pieces.ensures.images (left_none _ c.tell_ending.ensures.others.found)
+pub returns-in_err-tell_ending-clause-room : goal.returns-in_err-tell_ending-clause-room
+returns-in_err-tell_ending-clause-room g c = held_then c.serve_pieces.ensures.room (held_none _ _ c.tell_ending.ensures.others.parts c.tell_ending.ensures.others.found)
 
 pub returns-clause-ready : goal.returns-clause-ready
 returns-clause-ready g c =

@@ -28,7 +28,7 @@ pieces-init g c =
       calm_say = refl;
       calm_disk = refl;
       alone = λ none. OnlySaysAndNotes-none desk;
-      images = room_calm _ desk;
+      room = room_calm _ desk;
     }
 
 pub pieces-preserved : goal.pieces-preserved
@@ -54,7 +54,7 @@ pieces-preserved g c =
       calm_say = e.say_cause.calm ∙ held.calm_say;
       calm_disk = e.disk_cause.calm ∙ held.calm_disk;
       alone = λ none. OnlySaysAndNotes-then (held.alone none) (c.serve_events.ensures.alone (still_alone _ _ held.on.kind none));
-      images = room_more first.bounds mid.bounds held.on.bounds held.images c.serve_events.ensures.images;
+      room = room_more first.bounds mid.bounds held.on.bounds held.room c.serve_events.ensures.room;
     }
 
 pub feed-requires : goal.feed-requires
@@ -163,18 +163,18 @@ returns-clause-ok g c =
 pub returns-clause-until_failure : goal.returns-clause-until_failure
 returns-clause-until_failure g c = let held = c.pieces.invariant in takes_so_far _ _ held.answers.takes.taken held.answers.takes.gave held.calm
 
-pub returns-in_err-room-clause-images : goal.returns-in_err-room-clause-images
-returns-in_err-room-clause-images g c = room_calm _ c.args.desk.now
+pub returns-in_err-room-clause-room : goal.returns-in_err-room-clause-room
+returns-in_err-room-clause-room g c = room_calm _ c.args.desk.now
 
-pub returns-in_err-bad-in-Ok-clause-images : goal.returns-in_err-bad-in-Ok-clause-images
-returns-in_err-bad-in-Ok-clause-images g c =
+pub returns-in_err-bad-in-Ok-clause-room : goal.returns-in_err-bad-in-Ok-clause-room
+returns-in_err-bad-in-Ok-clause-room g c =
     let held = c.pieces.invariant in
-    room_more (serving_of c.args.controller.now).bounds (serving_of c.pieces.controller).bounds held.on.bounds held.images c.serve_events.ensures.images
+    room_more (serving_of c.args.controller.now).bounds (serving_of c.pieces.controller).bounds held.on.bounds held.room c.serve_events.ensures.room
 
-pub returns-then-is_decided-clause-images : goal.returns-then-is_decided-clause-images
-returns-then-is_decided-clause-images g c =
+pub returns-then-is_decided-clause-room : goal.returns-then-is_decided-clause-room
+returns-then-is_decided-clause-room g c =
     let held = c.pieces.invariant in
-    room_more (serving_of c.args.controller.now).bounds (serving_of c.pieces.controller).bounds held.on.bounds held.images c.serve_events.ensures.images
+    room_more (serving_of c.args.controller.now).bounds (serving_of c.pieces.controller).bounds held.on.bounds held.room c.serve_events.ensures.room
 
 pub returns-in_err-room-clause-alone : goal.returns-in_err-room-clause-alone
 returns-in_err-room-clause-alone g c = λ none. OnlySaysAndNotes-none c.args.desk.now

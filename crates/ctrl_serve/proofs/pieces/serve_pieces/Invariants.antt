@@ -1,5 +1,5 @@
 use Rattle.std.proofs.Common.{◌+◌, ◌-◌, ◌≡◌, ◌≤◌, None, IsTrue, IsSome}
-use Rattle.journal_core.specs.Room.{LeavesRoom}
+use Rattle.journal_core.specs.Room.{HoldsRoom}
 use Rattle.run_notes.specs.Endings.{IsAllGiven}
 use Rattle.ziti_outside.specs.Moments.{Elapses}
 use Rattle.ctrl_serve.specs.Headline.{OnlySaysAndNotes}
@@ -27,7 +27,7 @@ invariant-pieces g l = record {
   calm_say : (g.D.Desk.seen l.desk).say_faults ≡ (g.D.Desk.seen l.fn.desk).say_faults;
   calm_disk : (g.D.Desk.seen l.desk).disk_faults ≡ (g.D.Desk.seen l.fn.desk).disk_faults;
   alone : (serving_of l.fn.controller).kept ≡ None → OnlySaysAndNotes g.D.Desk.seen g.D.Desk.stopped l.fn.desk l.desk;
-  images : LeavesRoom (serving_of l.fn.controller).bounds.slot g.D.Desk.stopped l.fn.desk l.desk;
+  room : HoldsRoom g.D.Desk.tells (serving_of l.fn.controller).bounds.slot g.D.Desk.seen g.D.Desk.stopped l.fn.desk l.desk;
 }
 
 abbrev pub decreases-pieces : goal.decreases-pieces

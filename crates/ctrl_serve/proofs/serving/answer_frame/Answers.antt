@@ -23,11 +23,11 @@ returns-in-Ok-clause-ok g c =
     carried_so c.carry_out-answered.result old.bounds c.args.who.now c.args.frame.now c.as_slice.result.now old.machine (serving_of c.carry_out-answered.new.self).machine c.in-Ok.command c.as_slice.ensures c.in-Ok.ensures.command
     c.carry_out-answered.ensures.ok
 
-pub returns-in_err-refusal_of-in-Err-clause-images : goal.returns-in_err-refusal_of-in-Err-clause-images
-returns-in_err-refusal_of-in-Err-clause-images g c = room_calm _ c.args.desk.now
+pub returns-in_err-refusal_of-in-Err-clause-room : goal.returns-in_err-refusal_of-in-Err-clause-room
+returns-in_err-refusal_of-in-Err-clause-room g c = room_calm _ c.args.desk.now
 
-pub returns-in_ok-refusal_of-in-Err-clause-images : goal.returns-in_ok-refusal_of-in-Err-clause-images
-returns-in_ok-refusal_of-in-Err-clause-images g c = room_calm _ c.args.desk.now
+pub returns-in_ok-refusal_of-in-Err-clause-room : goal.returns-in_ok-refusal_of-in-Err-clause-room
+returns-in_ok-refusal_of-in-Err-clause-room g c = room_calm _ c.args.desk.now
 
 pub returns-in_ok-refusal_of-in-Err-clause-follows : goal.returns-in_ok-refusal_of-in-Err-clause-follows
 returns-in_ok-refusal_of-in-Err-clause-follows g c = λ some told. follows_still _ _ _ _ refl refl

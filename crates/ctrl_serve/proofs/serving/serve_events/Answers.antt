@@ -25,7 +25,7 @@ events-init g c =
       calm = refl;
       calm_disk = refl;
       alone = λ none. OnlySaysAndNotes-none desk;
-      images = room_calm _ desk;
+      room = room_calm _ desk;
       stops = λ some told. Elapses-none _ _;
     }
 
@@ -51,7 +51,7 @@ events-preserved g c =
       calm = turn.say_cause.calm ∙ held.calm;
       calm_disk = turn.disk_cause.calm ∙ held.calm_disk;
       alone = λ none. OnlySaysAndNotes-then (held.alone none) (c.serve_event.ensures.alone (still_alone _ _ held.on.kind none));
-      images = room_more first.bounds mid.bounds held.on.bounds held.images c.serve_event.ensures.images;
+      room = room_more first.bounds mid.bounds held.on.bounds held.room c.serve_event.ensures.room;
       stops = λ some told. stops_more held.on.bounds held.answers goes (held.stops some told) (c.serve_event.ensures.stops (held.on.kind ∙ some) told);
     }
 
@@ -85,10 +85,10 @@ returns-in_err-serve_event-in-Ok-Some-clause-stops g c = λ some told.
     let held = c.events.invariant in
     stops_more held.on.bounds held.answers goes (held.stops some told) (c.serve_event.ensures.stops (held.on.kind ∙ some) told)
 
-pub returns-in_err-serve_event-in-Ok-Some-clause-images : goal.returns-in_err-serve_event-in-Ok-Some-clause-images
-returns-in_err-serve_event-in-Ok-Some-clause-images g c =
+pub returns-in_err-serve_event-in-Ok-Some-clause-room : goal.returns-in_err-serve_event-in-Ok-Some-clause-room
+returns-in_err-serve_event-in-Ok-Some-clause-room g c =
     let held = c.events.invariant in
-    room_more (serving_of c.args.controller.now).bounds (serving_of c.events.controller).bounds held.on.bounds held.images c.serve_event.ensures.images
+    room_more (serving_of c.args.controller.now).bounds (serving_of c.events.controller).bounds held.on.bounds held.room c.serve_event.ensures.room
 
 pub returns-in-Ok-None-clause-ok : goal.returns-in-Ok-None-clause-ok
 returns-in-Ok-None-clause-ok g c =

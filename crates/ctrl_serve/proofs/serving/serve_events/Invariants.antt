@@ -1,6 +1,6 @@
 use Rattle.std.proofs.Common.{◌≡◌, None, length, IsTrue, IsSome}
 use Rattle.ziti_outside.specs.Moments.{Elapses}
-use Rattle.journal_core.specs.Room.{LeavesRoom}
+use Rattle.journal_core.specs.Room.{HoldsRoom}
 use Rattle.session_mux.specs.Completion.{events_of}
 use Rattle.ctrl_serve.specs.Headline.{OnlySaysAndNotes}
 use Rattle.ctrl_serve.specs.Controllers.{GoesOn, IsReady}
@@ -22,7 +22,7 @@ invariant-events g l = record {
   calm : (g.D.Desk.seen l.desk).say_faults ≡ (g.D.Desk.seen l.fn.desk).say_faults;
   calm_disk : (g.D.Desk.seen l.desk).disk_faults ≡ (g.D.Desk.seen l.fn.desk).disk_faults;
   alone : (serving_of l.fn.controller).kept ≡ None → OnlySaysAndNotes g.D.Desk.seen g.D.Desk.stopped l.fn.desk l.desk;
-  images : LeavesRoom (serving_of l.fn.controller).bounds.slot g.D.Desk.stopped l.fn.desk l.desk;
+  room : HoldsRoom g.D.Desk.tells (serving_of l.fn.controller).bounds.slot g.D.Desk.seen g.D.Desk.stopped l.fn.desk l.desk;
   stops : IsSome (serving_of l.fn.controller).kept → IsTrue g.D.Desk.tells → Elapses (g.D.Desk.stopped l.fn.desk) (g.D.Desk.stopped l.desk)
       (StopsAlong l.form (serving_of l.fn.controller).bounds l.fn.sessions (serving_of l.fn.controller).machine l.fn.mux (g.D.Desk.seen l.fn.desk).said);
 }

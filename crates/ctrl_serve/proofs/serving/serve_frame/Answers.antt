@@ -1,7 +1,7 @@
 use Rattle.std.proofs.Common.{◌∙◌}
-use Rattle.journal_core.proofs.RoomLaws.{left_none, left_then}
+use Rattle.journal_core.proofs.RoomLaws.{held_none, held_then}
 use Rattle.ctrl_serve.specs.ControllerViews.{serving_of}
-use Rattle.ctrl_serve.proofs.ControllerLaws.{desk_behind, says_behind}
+use Rattle.ctrl_serve.proofs.ControllerLaws.{desk_behind, says_behind, ready_behind}
 use Rattle.ctrl_serve.proofs.FollowedRuns.{follows_behind}
 use Rattle.ctrl_serve.proofs.StopLaws.{turn_stops_short, served_stops}
 use Rattle.ctrl_serve.proofs.TurnLaws.{turn_taken, turn_cut}
@@ -37,11 +37,11 @@ returns-clause-cut g c =
     (g.D.Desk.seen c.args.desk.now).said (g.D.Desk.seen c.answer_frame.new.desk).said (g.D.Desk.seen c.say.new.self).said
     c.in_ok-reply.ensures.ok (c.as_slice.ensures.value ∙ c.in_ok-bytes.ensures) c.answer_frame.ensures.others.replies c.in-Err.ensures.taken
 
-pub returns-in-Ok-clause-images : goal.returns-in-Ok-clause-images
-returns-in-Ok-clause-images g c = left_then c.answer_frame.ensures.images (left_none _ c.say.ensures.others.found)
+pub returns-in-Ok-clause-room : goal.returns-in-Ok-clause-room
+returns-in-Ok-clause-room g c = held_then c.answer_frame.ensures.room (held_none _ _ c.say.ensures.others.parts c.say.ensures.others.found)
 
-pub returns-clause-images : goal.returns-clause-images
-returns-clause-images g c = left_then c.answer_frame.ensures.images (left_none _ c.say.ensures.others.found)
+pub returns-clause-room : goal.returns-clause-room
+returns-clause-room g c = held_then c.answer_frame.ensures.room (held_none _ _ c.say.ensures.others.parts c.say.ensures.others.found)
 
 pub returns-in-Ok-clause-follows : goal.returns-in-Ok-clause-follows
 returns-in-Ok-clause-follows g c = λ some told. follows_behind _ _ _ _ _ (c.in_ok-reply.ensures.follows some told) c.say.ensures.others.parts
@@ -57,3 +57,8 @@ returns-in-Ok-clause-alone g c = λ none. says_behind _ _ (c.answer_frame.ensure
 
 pub returns-clause-alone : goal.returns-clause-alone
 returns-clause-alone g c = λ none. says_behind _ _ (c.answer_frame.ensures.alone none) c.say.ensures.others c.say.ensures.stops
+
+pub returns-in-Ok-clause-ready : goal.returns-in-Ok-clause-ready
+returns-in-Ok-clause-ready g c =
+    let others = c.say.ensures.others in
+    ready_behind (serving_of c.answer_frame.new.controller).kept g.D.Desk.tells _ _ _ _ others.parts others.found c.in_ok-reply.ensures.ready

@@ -1,5 +1,5 @@
 use Rattle.std.proofs.Common.{Err, refl, ap, ◌∙◌}
-use Rattle.journal_core.proofs.RoomLaws.{left_none, left_then}
+use Rattle.journal_core.proofs.RoomLaws.{held_none, held_then}
 use Rattle.ctrl_serve.specs.ControllerViews.{serving_of}
 use Rattle.ctrl_serve.proofs.ControllerLaws.{notes_behind}
 use Rattle.ctrl_serve.proofs.IntakeLaws.{all_no_fault, write_calm, disk_calm, cut_write, cut_disk}
@@ -49,5 +49,5 @@ returns-in-Err-clause-undisked g c = λ none.
 pub returns-in-Err-clause-alone : goal.returns-in-Err-clause-alone
 returns-in-Err-clause-alone g c = λ none. notes_behind (c.serve_input.ensures.alone none) c.tell_cut_behind.ensures.others c.tell_cut_behind.ensures.stops
 
-pub returns-in-Err-clause-images : goal.returns-in-Err-clause-images
-returns-in-Err-clause-images g c = left_then c.serve_input.ensures.images (left_none _ c.tell_cut_behind.ensures.others.found)
+pub returns-in-Err-clause-room : goal.returns-in-Err-clause-room
+returns-in-Err-clause-room g c = held_then c.serve_input.ensures.room (held_none _ _ c.tell_cut_behind.ensures.others.parts c.tell_cut_behind.ensures.others.found)

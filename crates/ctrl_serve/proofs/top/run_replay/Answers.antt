@@ -36,9 +36,9 @@ returns-in-Err-clause-counts g c =
 pub tell_closed-requires : goal.tell_closed-requires
 tell_closed-requires g c = never_spent g.D.Desk.tells _ c.in-Err.fault c.in-Err.ensures.fault
 
-pub returns-in-Ok-clause-images : goal.returns-in-Ok-clause-images
-returns-in-Ok-clause-images g c =
-    opened_room (folder_bounds c.args.bounds) c.in-Ok.kept.stored.bounds (omega (arith, c.requires.slot_low)) (c.in-Ok.ensures.opened.0 ∙ c.store_bounds.ensures) c.open.ensures.images c.run_on-status.ensures.images
+pub returns-in-Ok-clause-room : goal.returns-in-Ok-clause-room
+returns-in-Ok-clause-room g c =
+    opened_room (folder_bounds c.args.bounds) c.in-Ok.kept.stored.bounds (omega (arith, c.requires.slot_low)) (c.in-Ok.ensures.opened.0 ∙ c.store_bounds.ensures) c.open.ensures.room c.run_on-status.ensures.room
 
-pub returns-in-Err-clause-images : goal.returns-in-Err-clause-images
-returns-in-Err-clause-images g c = closed_room (folder_bounds c.args.bounds) (omega (arith, c.requires.slot_low)) c.open.ensures.images c.tell_closed.ensures.others.found
+pub returns-in-Err-clause-room : goal.returns-in-Err-clause-room
+returns-in-Err-clause-room g c = closed_room (folder_bounds c.args.bounds) (omega (arith, c.requires.slot_low)) c.open.ensures.room c.tell_closed.ensures.others.parts c.tell_closed.ensures.others.found

@@ -1,5 +1,5 @@
 use Rattle.std.proofs.Common.{List, ℕ, Some, arith, sym, ap, subst, ◌∙◌}
-use Rattle.journal_core.specs.Room.{LeavesRoom}
+use Rattle.journal_core.specs.Room.{HoldsRoom}
 use Rattle.row_store.specs.declared.bounds.StoreBounds.{StoreBounds}
 use Rattle.ctrl_serve.specs.declared.command_line.Form.{Form}
 use Rattle.ctrl_serve.specs.CommandLine.{form_of, texts}
@@ -17,7 +17,7 @@ pub returns-in-Some-Replay : goal.returns-in-Some-Replay
 returns-in-Some-Replay g c =
     let e = c.run_replay.ensures in
     let form = ap (λ ws. form_of (texts ws)) (sym c.as_slice.ensures.value) ∙ sym c.form_of.ensures ∙ c.in-Some-Replay.is ∙ ap (λ (f : Form). Some f) c.in-Some-Replay.field-0-is in
-    record { runs = replay_runs (record { left = g.S.Source.left; faults = g.S.Source.faults; tells = g.D.Desk.tells; seen = g.D.Desk.seen; stopped = g.D.Desk.stopped }) c.in-Some-Replay.form c.args.bounds _ _ _ _ _ _ form e.replays e.counts e.images (λ told. g.met.D.Desk.is_own _ told) }
+    record { runs = replay_runs (record { left = g.S.Source.left; faults = g.S.Source.faults; tells = g.D.Desk.tells; seen = g.D.Desk.seen; stopped = g.D.Desk.stopped }) c.in-Some-Replay.form c.args.bounds _ _ _ _ _ _ form e.replays e.counts e.room }
 
 pub returns-in-None : goal.returns-in-None
 returns-in-None g c =
@@ -41,8 +41,8 @@ returns-in-Some-Compact g c =
     let e = c.run_compact.ensures in
     let form = ap (λ ws. form_of (texts ws)) (sym c.as_slice.ensures.value) ∙ sym c.form_of.ensures ∙ c.in-Some-Compact.is ∙ ap (λ (f : Form). Some f) c.in-Some-Compact.field-0-is in
     let slot = ap (λ (b : StoreBounds). b.slot) c.store_bounds.ensures in
-    let images = e.images (omega (arith, c.requires.slot_low, slot)) in
+    let room = e.room (omega (arith, c.requires.slot_low, slot)) in
     record {
       runs = compact_runs (record { left = g.S.Source.left; faults = g.S.Source.faults; tells = g.D.Desk.tells; seen = g.D.Desk.seen; stopped = g.D.Desk.stopped }) c.args.bounds _ _ _ _ _ form (rw (sym c.store_bounds.ensures) e.compacts) e.says_nothing e.failed_says e.disk_cause e.counted
-          (subst (λ (n : ℕ). LeavesRoom n g.D.Desk.stopped c.args.desk.now c.run_compact.new.desk) slot images) (λ told. g.met.D.Desk.is_own _ told);
+          (subst (λ (n : ℕ). HoldsRoom g.D.Desk.tells n g.D.Desk.seen g.D.Desk.stopped c.args.desk.now c.run_compact.new.desk) slot room);
     }

@@ -23,7 +23,7 @@ returns-clause-moved g c =
 pub returns-clause-stops : goal.returns-clause-stops
 returns-clause-stops g c = λ told.
     let other = c.other_of.ensures c.args.standing.mark c.requires.named.some c.requires.named.part in
-    Leaves-then _ c.put_down.ensures.stops (c.stand_alone.ensures.stops told)
+    Leaves-then _ c.put_down.ensures.stops (c.stand_alone.ensures.alone.stops told)
     (images_written c.args.standing c.other_of.result c.args.slot.now _ _ c.requires.named (c.requires.opened told) other)
     (images_moved c.args.standing c.other_of.result c.args.slot.now _ _ _ _ c.requires.named (c.requires.opened told) other (c.in_ok-put_down.ensures.written told)
     c.put_down.ensures.stops.found)

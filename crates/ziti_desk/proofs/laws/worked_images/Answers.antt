@@ -3,10 +3,10 @@ use Rattle.ziti_outside.specs.declared.desk.Part.TheVariants.{Zero}
 use Rattle.ziti_outside.specs.Images.{Image, Torn, CutShort, OnPart, After}
 use Rattle.ziti_outside.proofs.ImageLaws.{Torn-none, CutShort-none}
 use Rattle.ziti_desk.specs.MemEvents.{at_parts}
-use Rattle.ziti_desk.specs.MemStops.{unchanged}
+use Rattle.ziti_desk.specs.MemStops.{unwritten, uncut}
 use Rattle.ziti_desk.proofs.laws.worked_images.Goals as goal
 
 pub returns-clause-cut_before_the_write : goal.returns-clause-cut_before_the_write
 returns-clause-cut_before_the_write c =
     let first : Image = at_parts (1 ∷ 2 ∷ 3 ∷ []) [] [] in
-    unchanged Zero (CutShort 4) first (After (OnPart Zero (Torn 3 1)) (λ i. i ≡ first)) (CutShort-none 4 (first Zero)) (unchanged Zero (Torn 3 1) first (λ i. i ≡ first) (Torn-none 3 1 (first Zero)) refl)
+    uncut Zero 4 first (unwritten Zero 3 1 first refl)

@@ -1,4 +1,4 @@
-use Rattle.std.proofs.Common.{◌⊎◌, inl, refl, sym, ap, ◌∙◌, subst}
+use Rattle.std.proofs.Common.{◌⊎◌, inl, refl, sym, ap, ◌∙◌, subst, true≢false}
 use Rattle.std.proofs.lemmas.Result.{IfErr-weaker}
 use Rattle.std.specs.Prelude.{IsTrue}
 use Rattle.ziti_outside.specs.Images.{Image}
@@ -10,7 +10,7 @@ use Rattle.row_store.specs.OpenedStates.{OpensToState}
 use Rattle.ctrl_keep.specs.KeptMachine.{Machine, step}
 use Rattle.ctrl_keep.specs.KeptController.{Controlled, machine_with, machine_of, made_of}
 use Rattle.ctrl_keep.proofs.AdvancedPlans.{is_planned, step_is, submit_fails, quiet_stops}
-use Rattle.ctrl_keep.proofs.SubmittedCommands.{still_state, refused_is, either_same, steps_as, never_compacts}
+use Rattle.ctrl_keep.proofs.SubmittedCommands.{still_state, refused_is, either_same, steps_as, never_compacts, room_of_all, else_of_all}
 use Rattle.ctrl_keep.proofs.CompactedStates.{compact_is, still_before, never_spent, folder_of_all, fits_all, fits_none}
 use Rattle.ctrl_keep.proofs.FollowedSteps.{follows_still, still_of_all, follows_of_all}
 use Rattle.ctrl_keep.proofs.keeper.Kept.submit.Goals as goal
@@ -140,3 +140,17 @@ returns-clause-follows g c =
 
 pub returns-then-not-permitted-clause-still : goal.returns-then-not-permitted-clause-still
 returns-then-not-permitted-clause-still g c = λ _. refl
+
+pub returns-then-is_compact-clause-room : goal.returns-then-is_compact-clause-room
+returns-then-is_compact-clause-room g c =
+    room_of_all c.args.self.now c.self.inside.core c.self.inside.store c.self.inside.spent c.self.view_is c.compact.ensures.room
+
+pub returns-then-is_compact-clause-elsewhere : goal.returns-then-is_compact-clause-elsewhere
+returns-then-is_compact-clause-elsewhere g c = λ other. absurd (true≢false (sym (sym c.is_compact.ensures ∙ c.if-is_compact.true) ∙ other))
+
+pub returns-clause-room : goal.returns-clause-room
+returns-clause-room g c = room_of_all c.args.self.now c.self.inside.core c.self.inside.store c.self.inside.spent c.self.view_is c.advance.ensures.room
+
+pub returns-clause-elsewhere : goal.returns-clause-elsewhere
+returns-clause-elsewhere g c = λ _.
+    else_of_all c.args.self.now c.self.inside.core c.self.inside.store c.self.inside.spent _ _ c.self.view_is c.advance.ensures.elsewhere

@@ -15,11 +15,11 @@ pub returns-in-Err-clause-stops : goal.returns-in-Err-clause-stops
 returns-in-Err-clause-stops g c = λ some told.
     kept_stops c.args.self.now c.in-Kept.kept c.args.who.now c.args.command.now c.in-Kept.is (c.submit.ensures.stops (kept_able c.args.self.now c.in-Kept.kept c.in-Kept.is c.requires.able) told)
 
-pub returns-in-Ok-clause-images : goal.returns-in-Ok-clause-images
-returns-in-Ok-clause-images g c = kept_room c.args.self.now c.in-Kept.kept c.in-Kept.is c.submit.ensures.images
+pub returns-in-Ok-clause-room : goal.returns-in-Ok-clause-room
+returns-in-Ok-clause-room g c = kept_room c.args.self.now c.in-Kept.kept c.in-Kept.is c.submit.ensures.room
 
-pub returns-in-Err-clause-images : goal.returns-in-Err-clause-images
-returns-in-Err-clause-images g c = kept_room c.args.self.now c.in-Kept.kept c.in-Kept.is c.submit.ensures.images
+pub returns-in-Err-clause-room : goal.returns-in-Err-clause-room
+returns-in-Err-clause-room g c = kept_room c.args.self.now c.in-Kept.kept c.in-Kept.is c.submit.ensures.room
 
 pub returns-in-Ok-clause-follows : goal.returns-in-Ok-clause-follows
 returns-in-Ok-clause-follows g c = λ some told. kept_follows c.args.self.now c.in-Kept.kept _ _ _ c.in-Kept.is (c.in-Ok.ensures.follows told)
