@@ -14,11 +14,7 @@ use policy_store::{Policies, Policy, PolicyChange, policy_names};
 use std::alloc::{AllocError, Global};
 
 // Holds the uses that a policy's attributes have.
-fn hold_policy(
-    alloc: Global,
-    entities: &mut Entities,
-    policy: &Policy,
-) -> Result<(), AllocError>
+fn hold_policy(alloc: Global, entities: &mut Entities, policy: &Policy) -> Result<(), AllocError>
     requires { has_attribute_room entities.old [] (policy.now.left.attributes ++ policy.now.right.attributes) ≡ true }
     ensures { OnOk result (Holds (policy.now.left.attributes ++ policy.now.right.attributes) entities.old entities.new) }
 {

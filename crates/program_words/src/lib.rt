@@ -24,10 +24,7 @@ fn behind_name(given: Vec<String>) -> Vec<String>
 ///
 /// Words that are not text are a faulty command line: then there are none, which no program has as a line. An error says that memory
 /// was wanting for what the system gave, and comes in no other case.
-pub fn asked_words(
-    alloc: Global,
-    given: io::Result<Vec<String>>,
-) -> Result<Vec<String>, AllocError>
+pub fn asked_words(alloc: Global, given: io::Result<Vec<String>>) -> Result<Vec<String>, AllocError>
     ensures words { IfOk given (λ words. IsOkAnd result (λ asked. asked.items ≡ drop 1 words.items)) }
     ensures no_text { IfErr given (λ error. error_kind error ≢ ErrorKind.OutOfMemory → IsOkAnd result (λ asked. asked.items ≡ [])) }
     ensures no_memory { IfErr given (λ error. error_kind error ≡ ErrorKind.OutOfMemory → IsErr result) }

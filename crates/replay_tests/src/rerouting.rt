@@ -34,8 +34,7 @@ const OFF_KEPT: &[u8] =
 
 /// That of the policy by which ann may dial web, which goes, and of its count. The circuit stays, as in a folder of a program that did not
 /// end the circuits which nothing grants any more.
-const GRANT_GONE: &[u8] =
-    b"\x01\x12\0\0\0\x02\x05\x07\0\0\0\x01\x02\x09\x0c\0\0\0\x01\0\0\0\x01";
+const GRANT_GONE: &[u8] = b"\x01\x12\0\0\0\x02\x05\x07\0\0\0\x01\x02\x09\x0c\0\0\0\x01\0\0\0\x01";
 
 /// A run on the folder of the one before, and the record that it puts behind that one's.
 type Step = (&'static [Row], &'static [u8]);

@@ -13,7 +13,7 @@ use std::alloc::{AllocError, Global};
 use std::str;
 
 /// A number as it is: at most 10 bytes.
-pub(crate) fn number_value(number: u32) -> Value
+fn number_value(number: u32) -> Value
     ensures value { view result ≡ natural number }
     ensures few { length (compact_text (natural number)) ≤ 10 }
 {
@@ -64,7 +64,7 @@ fn tally_value(alloc: Global, tally: &Tally) -> Result<Value, AllocError>
     ensures few { IfOk result (λ _. length (compact_text (tally_array tally.now)) ≤ 399) }
 {
     let name = name_value(alloc, &tally.name)?;
-    let count = number_value(tally.count);
+    let count = tally.count;
     json!(in alloc; [name, count])
 }
 
@@ -109,7 +109,7 @@ fn reach_value(alloc: Global, reach: &Reach) -> Result<Value, AllocError>
     ensures value { IfOk result (λ v. view v ≡ reach_object reach.now) }
     ensures few { IfOk result (λ _. length (compact_text (reach_object reach.now)) ≤ 2_999) }
 {
-    let router = number_value(reach.router.0);
+    let router = reach.router.0;
     let values = costs_value(alloc, &reach.values)?;
     json!(in alloc; {"router": router, "values": values})
 }

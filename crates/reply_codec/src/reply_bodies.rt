@@ -8,9 +8,7 @@ ghost use Rattle.reply_codec.specs.ReplyBody.{is_showing, reply_object, reply_bo
 ghost use Rattle.reply_codec.specs.ReplyLimits.{is_short_claim, keeps_limits};
 ghost use Rattle.channel_frame.specs.FrameSpelling.{longest_body};
 
-use crate::lists::{
-    name_value, names_value, number_value, numbers_value, reaches_value, tallies_value,
-};
+use crate::lists::{name_value, names_value, numbers_value, reaches_value, tallies_value};
 use crate::refusal_bodies::refusal_value;
 use ctrl_model::{CircuitNo, Explanation, Name, Names, Numbers, Reply, Tallies, TermNo};
 use serde_json::{Value, json};
@@ -42,12 +40,10 @@ fn circuit_value(
     ensures value { IfOk result (λ v. Some (view v) ≡ reply_object (reply.Circuit circuit ingress.now links.now terminator total)) }
     ensures few { IfOk result (λ _. length (reply_body (reply.Circuit circuit ingress.now links.now terminator total)) ≤ longest_body) }
 {
-    let no = number_value(circuit.0);
+    let (no, end) = (circuit.0, terminator.0);
     let name = name_value(alloc, ingress)?;
     let path = numbers_value(alloc, links)?;
-    let end = number_value(terminator.0);
-    let cost = number_value(total);
-    json!(in alloc; {"circuit": no, "ingress": name, "links": path, "terminator": end, "total": cost})
+    json!(in alloc; {"circuit": no, "ingress": name, "links": path, "terminator": end, "total": total})
 }
 
 fn explained_value(alloc: Global, ingress: &Name, claim: &Explanation) -> Result<Value, AllocError>
@@ -59,9 +55,8 @@ fn explained_value(alloc: Global, ingress: &Name, claim: &Explanation) -> Result
     let path = numbers_value(alloc, &claim.links)?;
     let potentials = reaches_value(alloc, &claim.potentials)?;
     let routers = numbers_value(alloc, &claim.routers)?;
-    let end = number_value(claim.terminator.0);
-    let cost = number_value(claim.total);
-    json!(in alloc; {"ingress": name, "links": path, "potentials": potentials, "routers": routers, "terminator": end, "total": cost})
+    let (end, total) = (claim.terminator.0, claim.total);
+    json!(in alloc; {"ingress": name, "links": path, "potentials": potentials, "routers": routers, "terminator": end, "total": total})
 }
 
 fn services_value(alloc: Global, names: &Names) -> Result<Value, AllocError>
@@ -107,7 +102,7 @@ fn shown_value(
     let entry = name_value(alloc, ingress)?;
     let path = numbers_value(alloc, links)?;
     let name = name_value(alloc, service)?;
-    let end = number_value(terminator.0);
+    let end = terminator.0;
     json!(in alloc; {"identity": who, "ingress": entry, "links": path, "service": name, "terminator": end})
 }
 

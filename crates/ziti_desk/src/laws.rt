@@ -1,13 +1,10 @@
-ghost use Rattle.std.specs.Prelude.{◌≡◌, ℕ, Bool, true, false, List, [], ◌∷◌, ◌++◌, length, take, All, None, Some};
+ghost use Rattle.std.specs.Prelude.{◌≡◌, ℕ, Bool, false, List, [], ◌∷◌, ◌++◌, length, take, All};
 ghost use Rattle.std.specs.List.{list_any};
 ghost use Rattle.ziti_outside.specs.declared.desk.Part.{Part};
-ghost use Rattle.ziti_outside.specs.declared.desk.Part.TheVariants.{Zero, One, Mark};
 ghost use Rattle.ziti_outside.specs.Images.{Image, Torn, CutShort, OnPart};
-ghost use Rattle.ziti_desk.specs.declared.mem_log.Call.TheVariants.{Wrote};
-ghost use Rattle.ziti_desk.specs.Pieces.{from_first, first, without, joined, is_listed, next_call};
-ghost use Rattle.ziti_desk.specs.StopPoints.{PairsAt, KeepsOf, event_of, said_past, written_past, syncs, as_done, synced_parts, whole_parts, KeepsNothing, KeepsAll, worked_calls};
-ghost use Rattle.ziti_desk.specs.Stages.{IsBetween, PairsFrom};
-ghost use Rattle.ziti_desk.specs.MemEvents.{Event, Saying, Writing, Cutting, Syncing, at_parts, written_over, reads_after, Leaving, Since};
+ghost use Rattle.ziti_desk.specs.Pieces.{first};
+ghost use Rattle.ziti_desk.specs.StopPoints.{syncs, as_done, synced_parts, whole_parts};
+ghost use Rattle.ziti_desk.specs.MemEvents.{Event, Writing, Cutting, Syncing, written_over, reads_after, Leaving};
 
 /// What a stop finds of a desk over memory behind a write, a cut and a sync: each image that a stop within a write or a cut
 /// leaves of an earlier one is found until the part is synced, and then those alone that have in it what it reads.
@@ -35,78 +32,4 @@ pub fn nothing_or_all_is_kept()
     ensures cut_whole { (first : Image) (events : List Event) (part : Part) (len : ℕ) (done : Bool)
         → whole_parts first (events ++ Cutting part len done ∷ []) part ≡ take len (whole_parts first events part) }
     ensures synced_whole { (first : Image) (events : List Event) (part : Part) → whole_parts first (events ++ Syncing part ∷ []) part ≡ reads_after first events part }
-{}
-
-/// What a stop finds, by its choice, of a desk whose first slot was `1 2 3`: `7 8` are written at its second place, `5 6` are said, the
-/// slot is synced, a write of `9` at its start fails, and `4` is said; worked by hand.
-pub fn worked_choices()
-    ensures nothing_at_first { KeepsNothing (at_parts (1 ∷ 2 ∷ 3 ∷ []) [] []) worked_calls 0 (at_parts (1 ∷ 2 ∷ 3 ∷ []) [] []) [] }
-    ensures nothing_of_a_write { KeepsNothing (at_parts (1 ∷ 2 ∷ 3 ∷ []) [] []) worked_calls 1 (at_parts (1 ∷ 2 ∷ 3 ∷ []) [] []) [] }
-    ensures all_of_it_and_of_a_say { KeepsAll (at_parts (1 ∷ 2 ∷ 3 ∷ []) [] []) worked_calls 1 (at_parts (1 ∷ 7 ∷ 8 ∷ []) [] []) (5 ∷ 6 ∷ []) }
-    ensures nothing_until_the_sync { KeepsNothing (at_parts (1 ∷ 2 ∷ 3 ∷ []) [] []) worked_calls 2 (at_parts (1 ∷ 2 ∷ 3 ∷ []) [] []) (5 ∷ 6 ∷ []) }
-    ensures synced { KeepsNothing (at_parts (1 ∷ 2 ∷ 3 ∷ []) [] []) worked_calls 3 (at_parts (1 ∷ 7 ∷ 8 ∷ []) [] []) (5 ∷ 6 ∷ []) }
-    ensures nothing_of_a_failed_write { KeepsNothing (at_parts (1 ∷ 2 ∷ 3 ∷ []) [] []) worked_calls 4 (at_parts (1 ∷ 7 ∷ 8 ∷ []) [] []) (5 ∷ 6 ∷ []) }
-    ensures all_of_a_failed_write { KeepsAll (at_parts (1 ∷ 2 ∷ 3 ∷ []) [] []) worked_calls 4 (at_parts (9 ∷ 7 ∷ 8 ∷ []) [] []) (5 ∷ 6 ∷ 4 ∷ []) }
-    ensures all_at_the_end { KeepsAll (at_parts (1 ∷ 2 ∷ 3 ∷ []) [] []) worked_calls 5 (at_parts (9 ∷ 7 ∷ 8 ∷ []) [] []) (5 ∷ 6 ∷ 4 ∷ []) }
-    ensures no_unsynced_write { KeepsNothing (at_parts (1 ∷ 2 ∷ 3 ∷ []) [] []) worked_calls 1 (at_parts (1 ∷ 7 ∷ 8 ∷ []) [] []) [] → ⊥ }
-    ensures no_write_lost { KeepsAll (at_parts (1 ∷ 2 ∷ 3 ∷ []) [] []) worked_calls 1 (at_parts (1 ∷ 2 ∷ 3 ∷ []) [] []) (5 ∷ 6 ∷ []) → ⊥ }
-    ensures no_say_more { KeepsNothing (at_parts (1 ∷ 2 ∷ 3 ∷ []) [] []) worked_calls 1 (at_parts (1 ∷ 2 ∷ 3 ∷ []) [] []) (5 ∷ 6 ∷ []) → ⊥ }
-{}
-
-/// Images that a stop leaves of a first slot `1 2 3`, worked by hand: `7 8` are written at its second place, pending or failed, and
-/// synced; a byte is written past its end, and all but one are cut off.
-pub fn worked_images()
-    ensures torn { Leaving (at_parts (1 ∷ 2 ∷ 3 ∷ []) [] []) (Writing Zero 1 (7 ∷ 8 ∷ []) true ∷ []) (at_parts (1 ∷ 9 ∷ 8 ∷ []) [] []) }
-    ensures torn_by_a_failed_write { Leaving (at_parts (1 ∷ 2 ∷ 3 ∷ []) [] []) (Writing Zero 1 (7 ∷ 8 ∷ []) false ∷ []) (at_parts (1 ∷ 9 ∷ 8 ∷ []) [] []) }
-    ensures unsynced { Leaving (at_parts (1 ∷ 2 ∷ 3 ∷ []) [] []) (Writing Zero 1 (7 ∷ 8 ∷ []) true ∷ Syncing One ∷ []) (at_parts (1 ∷ 9 ∷ 8 ∷ []) [] []) }
-    ensures synced { (image : Image) → Leaving (at_parts (1 ∷ 2 ∷ 3 ∷ []) [] []) (Writing Zero 1 (7 ∷ 8 ∷ []) true ∷ Syncing Zero ∷ []) image → image Zero ≡ 1 ∷ 7 ∷ 8 ∷ [] }
-    ensures synced_after_a_failed_write { (image : Image) → Leaving (at_parts (1 ∷ 2 ∷ 3 ∷ []) [] []) (Writing Zero 1 (7 ∷ 8 ∷ []) false ∷ Syncing Zero ∷ []) image → image Zero ≡ 1 ∷ 2 ∷ 3 ∷ [] }
-    ensures half_cut { Leaving (at_parts (1 ∷ 2 ∷ 3 ∷ []) [] []) (Cutting Zero 1 true ∷ []) (at_parts (1 ∷ 2 ∷ []) [] []) }
-    ensures cut_before_the_write { Leaving (at_parts (1 ∷ 2 ∷ 3 ∷ []) [] []) (Writing Zero 3 (4 ∷ []) true ∷ Cutting Zero 4 true ∷ []) (at_parts (1 ∷ 2 ∷ 3 ∷ []) [] []) }
-    ensures reads { reads_after (at_parts (1 ∷ 2 ∷ 3 ∷ []) [] []) (Writing Zero 1 (7 ∷ 8 ∷ []) true ∷ Writing One 0 (5 ∷ []) false ∷ Cutting Zero 2 true ∷ []) ≡ at_parts (1 ∷ 7 ∷ []) [] [] }
-    ensures within_a_say { Since (at_parts [] [] []) (Saying (1 ∷ 2 ∷ []) ∷ []) 0 (at_parts [] [] []) (1 ∷ []) }
-    ensures behind_a_say { Since (at_parts [] [] []) (Saying (1 ∷ 2 ∷ []) ∷ []) 1 (at_parts [] [] []) (1 ∷ []) → ⊥ }
-{}
-
-/// Pieces that a source over memory gives, worked by hand: `1 2`, one without a byte, and `3`.
-pub fn worked_pieces()
-    ensures skips_a_piece_without_a_byte { from_first ([] ∷ (1 ∷ 2 ∷ []) ∷ []) ≡ (1 ∷ 2 ∷ []) ∷ [] }
-    ensures skips_none_that_has_one { from_first ((1 ∷ []) ∷ [] ∷ []) ≡ (1 ∷ []) ∷ [] ∷ [] }
-    ensures gives_the_front { take 1 (first ((1 ∷ 2 ∷ []) ∷ (3 ∷ []) ∷ [])) ≡ 1 ∷ [] }
-    ensures keeps_the_rest { without 1 ((1 ∷ 2 ∷ []) ∷ (3 ∷ []) ∷ []) ≡ (2 ∷ []) ∷ (3 ∷ []) ∷ [] }
-    ensures gives_no_more_than_the_piece { take 5 (first ((1 ∷ 2 ∷ []) ∷ (3 ∷ []) ∷ [])) ≡ 1 ∷ 2 ∷ [] }
-    ensures nothing_is_left { first [] ≡ [] }
-    ensures all_bytes { joined ((1 ∷ 2 ∷ []) ∷ [] ∷ (3 ∷ []) ∷ []) ≡ 1 ∷ 2 ∷ 3 ∷ [] }
-    ensures listed { is_listed (1 ∷ 3 ∷ []) 3 ≡ true }
-    ensures unlisted { is_listed (1 ∷ 3 ∷ []) 2 ≡ false }
-    ensures counted { next_call 4 ≡ 5 }
-    ensures counted_to_the_end { next_call 18446744073709551615 ≡ 18446744073709551615 }
-{}
-
-/// The moments of a desk over memory whose first slot was `1` and was written `7`, before `5 6` was said: worked by hand.
-pub fn worked_moments()
-    ensures before_the_write { PairsAt (at_parts (1 ∷ []) [] []) (λ i. i ≡ at_parts (1 ∷ []) [] []) [] (Writing Zero 0 (7 ∷ []) true ∷ Saying (5 ∷ 6 ∷ []) ∷ []) 0 (at_parts (1 ∷ []) [] []) [] }
-    ensures behind_the_write { PairsAt (at_parts (1 ∷ []) [] []) (λ i. i ≡ at_parts (1 ∷ []) [] []) [] (Writing Zero 0 (7 ∷ []) true ∷ Saying (5 ∷ 6 ∷ []) ∷ []) 1 (at_parts (9 ∷ []) [] []) [] }
-    ensures within_the_say { PairsAt (at_parts (1 ∷ []) [] []) (λ i. i ≡ at_parts (1 ∷ []) [] []) [] (Writing Zero 0 (7 ∷ []) true ∷ Saying (5 ∷ 6 ∷ []) ∷ []) 1 (at_parts (7 ∷ []) [] []) (5 ∷ []) }
-    ensures behind_the_say { PairsAt (at_parts (1 ∷ []) [] []) (λ i. i ≡ at_parts (1 ∷ []) [] []) [] (Writing Zero 0 (7 ∷ []) true ∷ Saying (5 ∷ 6 ∷ []) ∷ []) 2 (at_parts (7 ∷ []) [] []) (5 ∷ 6 ∷ []) }
-    ensures no_half_of_it { PairsAt (at_parts (1 ∷ []) [] []) (λ i. i ≡ at_parts (1 ∷ []) [] []) [] (Writing Zero 0 (7 ∷ []) true ∷ Saying (5 ∷ 6 ∷ []) ∷ []) 2 (at_parts (7 ∷ []) [] []) (5 ∷ []) → ⊥ }
-    ensures no_later_moment { PairsAt (at_parts (1 ∷ []) [] []) (λ i. i ≡ at_parts (1 ∷ []) [] []) [] (Writing Zero 0 (7 ∷ []) true ∷ Saying (5 ∷ 6 ∷ []) ∷ []) 3 (at_parts (7 ∷ []) [] []) (5 ∷ 6 ∷ []) → ⊥ }
-    ensures first_write { event_of (Wrote One 4 2 true) (5 ∷ []) (7 ∷ 8 ∷ 9 ∷ []) ≡ Writing One 4 (7 ∷ 8 ∷ []) true }
-    ensures written_behind_it { written_past (Wrote One 4 2 true) (7 ∷ 8 ∷ 9 ∷ []) ≡ 9 ∷ [] }
-    ensures said_behind_it { said_past (Wrote One 4 2 true) (5 ∷ []) ≡ 5 ∷ [] }
-    ensures half_a_write_is_kept { KeepsOf (Writing Zero 0 (7 ∷ 8 ∷ []) true) (at_parts (7 ∷ 8 ∷ []) [] []) (at_parts (1 ∷ 2 ∷ []) [] []) (at_parts (7 ∷ 2 ∷ []) [] []) }
-    ensures a_synced_part_is_kept { KeepsOf (Syncing Zero) (at_parts (7 ∷ 8 ∷ []) [] []) (at_parts (7 ∷ 2 ∷ []) [] []) (at_parts (7 ∷ 8 ∷ []) [] []) }
-{}
-
-/// What a stop leaves of a desk over a drive, worked by hand: replies between `1` and `1 2 3`; and of the stages 1 and 2, with 3 now, the
-/// pairs from the first call on and from the second one on, where a stop within a call finds the two stages as replies, and now the one.
-pub fn worked_stages()
-    ensures between { IsBetween (Some (1 ∷ [])) (Some (1 ∷ 2 ∷ 3 ∷ [])) (1 ∷ 2 ∷ []) }
-    ensures less_than_before { IsBetween (Some (1 ∷ [])) (Some (1 ∷ 2 ∷ 3 ∷ [])) [] → ⊥ }
-    ensures more_than_now { IsBetween (Some (1 ∷ [])) (Some (1 ∷ 2 ∷ 3 ∷ [])) (1 ∷ 2 ∷ 3 ∷ 4 ∷ []) → ⊥ }
-    ensures not_told { IsBetween None (Some []) (9 ∷ []) }
-    ensures within_the_first_call { (image : Image) → PairsFrom (λ (a : ℕ) (b : ℕ) i w. w ≡ a ∷ b ∷ []) (λ a i w. w ≡ a ∷ []) (1 ∷ 2 ∷ []) 3 0 image (1 ∷ 2 ∷ []) }
-    ensures behind_the_first_call { (image : Image) → PairsFrom (λ (a : ℕ) (b : ℕ) i w. w ≡ a ∷ b ∷ []) (λ a i w. w ≡ a ∷ []) (1 ∷ 2 ∷ []) 3 1 image (1 ∷ 2 ∷ []) → ⊥ }
-    ensures within_the_second_call { (image : Image) → PairsFrom (λ (a : ℕ) (b : ℕ) i w. w ≡ a ∷ b ∷ []) (λ a i w. w ≡ a ∷ []) (1 ∷ 2 ∷ []) 3 1 image (2 ∷ 3 ∷ []) }
-    ensures now { (image : Image) → PairsFrom (λ (a : ℕ) (b : ℕ) i w. w ≡ a ∷ b ∷ []) (λ a i w. w ≡ a ∷ []) (1 ∷ 2 ∷ []) 3 2 image (3 ∷ []) }
 {}

@@ -22,10 +22,7 @@ mod stopping;
 pub use drive::Drive;
 pub use files::{FileDesk, FileSource};
 pub use folder::{Folder, Paths};
-pub use laws::{
-    nothing_or_all_is_kept, pending_until_synced, worked_choices, worked_images, worked_moments,
-    worked_pieces, worked_stages,
-};
+pub use laws::{nothing_or_all_is_kept, pending_until_synced};
 pub use mem_desk::{MemDesk, Room};
 pub use mem_parts::Images;
 pub use mem_source::MemSource;

@@ -12,7 +12,7 @@ returns-in-Ok-clause-words c d =
     (record { left = c.S.Source.left; faults = c.S.Source.faults; tells = c.D.Desk.tells; seen = c.D.Desk.seen; stopped = c.D.Desk.stopped }) form
     d.args.source.now d.run.new.source d.args.desk.now d.run.new.desk d.run.result in
     asked_with d.args.given d.asked_words.result _ _ _ d.in-Ok.is d.asked_words.ensures.words
-        (λ words same. subst RunsOf (ap (λ ws. form_of (map string_bytes ws)) (d.as_slice.ensures.value ∙ same)) d.run.ensures.runs)
+    (λ words same. subst RunsOf (ap (λ ws. form_of (map string_bytes ws)) (d.as_slice.ensures.value ∙ same)) d.run.ensures.runs)
 
 pub returns-in-Ok-clause-no_text : goal.returns-in-Ok-clause-no_text
 returns-in-Ok-clause-no_text c d =
@@ -20,7 +20,7 @@ returns-in-Ok-clause-no_text c d =
     (record { left = c.S.Source.left; faults = c.S.Source.faults; tells = c.D.Desk.tells; seen = c.D.Desk.seen; stopped = c.D.Desk.stopped }) form
     d.args.source.now d.run.new.source d.args.desk.now d.run.new.desk d.run.result in
     failed_with d.args.given d.asked_words.result _ _ _ _ d.in-Ok.is d.asked_words.ensures.no_text
-        (λ same. subst RunsOf (ap (λ ws. form_of (map string_bytes ws)) (d.as_slice.ensures.value ∙ same)) d.run.ensures.runs)
+    (λ same. subst RunsOf (ap (λ ws. form_of (map string_bytes ws)) (d.as_slice.ensures.value ∙ same)) d.run.ensures.runs)
 
 pub returns-in-Ok-clause-no_memory : goal.returns-in-Ok-clause-no_memory
 returns-in-Ok-clause-no_memory c d = wanting_with d.args.given d.asked_words.result _ _ _ d.in-Ok.is d.asked_words.ensures.no_memory

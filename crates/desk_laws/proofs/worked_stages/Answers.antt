@@ -1,5 +1,5 @@
 use Rattle.std.proofs.Common.{◌≡◌, inl, inr, ℕ, List, [], ◌∷◌, get_or, refl, ap, arith}
-use Rattle.ziti_desk.proofs.laws.worked_stages.Goals as goal
+use Rattle.desk_laws.proofs.worked_stages.Goals as goal
 
 pub returns-clause-within_the_first_call : goal.returns-clause-within_the_first_call
 returns-clause-within_the_first_call c = λ image. inl refl

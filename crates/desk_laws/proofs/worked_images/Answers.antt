@@ -4,7 +4,7 @@ use Rattle.ziti_outside.specs.Images.{Image, Torn, CutShort, OnPart, After}
 use Rattle.ziti_outside.proofs.ImageLaws.{Torn-none, CutShort-none}
 use Rattle.ziti_desk.specs.MemEvents.{at_parts}
 use Rattle.ziti_desk.specs.MemStops.{unwritten, uncut}
-use Rattle.ziti_desk.proofs.laws.worked_images.Goals as goal
+use Rattle.desk_laws.proofs.worked_images.Goals as goal
 
 pub returns-clause-cut_before_the_write : goal.returns-clause-cut_before_the_write
 returns-clause-cut_before_the_write c =
