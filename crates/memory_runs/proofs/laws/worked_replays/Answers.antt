@@ -1,5 +1,5 @@
 use Rattle.std.specs.Prelude.{true, false}
-use Rattle.std.proofs.Common.{◌≡◌, ◌⊎◌, inl, inr, ℕ, List, [], ◌∷◌, ◌++◌, Some, refl, ◌∙◌, arith}
+use Rattle.std.proofs.Common.{◌≡◌, ◌⊎◌, inl, inr, ℕ, List, [], ◌∷◌, ◌++◌, Some, refl, ◌∙◌, append-nil, arith}
 use Rattle.ziti_outside.specs.declared.desk.Part.TheVariants.{Zero}
 use Rattle.session_mux.specs.declared.events.Event.{Event}
 use Rattle.session_mux.specs.declared.events.Event.TheVariants.{Arrived}
@@ -44,7 +44,7 @@ returns-clause-untold c n = let told : false ≡ true = n.told in cc
 
 pub returns-clause-refused : goal.returns-clause-refused
 returns-clause-refused c =
-    record { ends = refl; said = refl; lines = record { part = damaged_note Zero 0; front = ([], refl); noted = refl; whole = λ calm. refl }; same = refl }
+    record { ends = refl; said = refl; lines = record { part = damaged_note Zero 0; front = ([], append-nil (damaged_note Zero 0)); noted = refl; whole = λ calm. refl }; same = refl }
 
 pub returns-clause-refused_with_a_reply : goal.returns-clause-refused_with_a_reply
 returns-clause-refused_with_a_reply c r = let none : 1 ∷ [] ≡ [] = some_is (1 ∷ []) [] r.said in cc
