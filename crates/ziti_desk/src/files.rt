@@ -70,6 +70,20 @@ impl<F, O, E> FileDesk<F, O, E> {
     {
         &self.folder
     }
+
+    /// The outlet of its replies.
+    pub fn replies(&self) -> &O
+        ensures { result.now ≡ self.now.replies }
+    {
+        &self.replies
+    }
+
+    /// The outlet of its notes.
+    pub fn notes(&self) -> &E
+        ensures { result.now ≡ self.now.notes }
+    {
+        &self.notes
+    }
 }
 
 impl<F: Drive, O: Outlet, E: Outlet> Desk for FileDesk<F, O, E> {

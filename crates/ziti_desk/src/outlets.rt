@@ -44,6 +44,20 @@ impl<W> Writes<W> {
             failures: 0,
         }
     }
+
+    /// Its writer.
+    pub fn writer(&self) -> &W
+        ensures { result.now ≡ self.now.writer }
+    {
+        &self.writer
+    }
+
+    /// How many writes have failed.
+    pub fn failures(&self) -> u64
+        ensures { result ≡ self.now.failures }
+    {
+        self.failures
+    }
 }
 
 impl<W: Write> Outlet for Writes<W> {

@@ -1,0 +1,5 @@
+pub mod OneMachines
+pub mod UsedInputs
+pub mod WholeRuns
+pub mod SafeRuns
+pub mod SeenReplays

@@ -1,0 +1,3 @@
+pub mod WholeReplays
+pub mod Replays
+pub mod WorkedReplays
