@@ -7,13 +7,6 @@ use crate::decoding::{read_frame_with, read_head};
 use crate::frames::{FrameFault, Front, HEAD, Head};
 use std::alloc::{AllocError, Global};
 
-// How many bytes a frame with this head has.
-fn len_by(head: Head) -> usize
-    ensures { result ≡ frame_len head }
-{
-    HEAD + head.headers_len as usize + head.body_len as usize
-}
-
 fn bad_front(fault: FrameFault) -> Result<Front, AllocError>
     ensures front { IfOk result (λ f. (fault ≢ FrameFault.NoMemory) × (f ≡ Bad fault)) }
     ensures memory { OnErr result (fault ≡ FrameFault.NoMemory) }
@@ -21,21 +14,6 @@ fn bad_front(fault: FrameFault) -> Result<Front, AllocError>
     match fault {
         FrameFault::NoMemory => Err(AllocError),
         _ => Ok(Front::Bad(fault)),
-    }
-}
-
-// All the bytes are there that the head announces.
-fn whole_front(alloc: Global, head: Head, bytes: &[u8]) -> Result<Front, AllocError>
-    requires head { head_of bytes.now ≡ Ok head }
-    requires enough { frame_len head ≤ length bytes.now }
-    ensures front { IfOk result (λ f. f ≡ front bytes.now) }
-    ensures memory { OnErr result (IsWholeFront bytes.now) }
-{
-    let len = len_by(head);
-    let (whole, _) = bytes.split_at(len);
-    match read_frame_with(alloc, head, whole) {
-        Ok(frame) => Ok(Front::Whole(frame, len as u64)),
-        Err(fault) => bad_front(fault),
     }
 }
 
@@ -63,10 +41,15 @@ pub fn front_with(alloc: Global, head: Head, bytes: &[u8]) -> Result<Front, Allo
     ensures front { IfOk result (λ f. f ≡ front bytes.now) }
     ensures memory { OnErr result (IsWholeFront bytes.now) }
 {
-    if bytes.len() < len_by(head) {
+    let len = HEAD + head.headers_len as usize + head.body_len as usize;
+    if bytes.len() < len {
         return Ok(Front::Short);
     }
-    whole_front(alloc, head, bytes)
+    let (whole, _) = bytes.split_at(len);
+    match read_frame_with(alloc, head, whole) {
+        Ok(frame) => Ok(Front::Whole(frame, len as u64)),
+        Err(fault) => bad_front(fault),
+    }
 }
 
 /// What stands at the front of some bytes: an unfinished frame, a fault, or a whole frame with how many bytes it takes.
