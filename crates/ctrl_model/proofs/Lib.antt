@@ -1,5 +1,10 @@
 pub mod Tests
 pub mod Members
+pub mod CutLaws
+pub mod NumberTexts
+pub mod RangeTexts
+pub mod HostTexts
+pub mod AddressLaws
 pub mod WalkLaws
 pub mod TightLaws
 pub mod NumberedLaws

@@ -6,10 +6,13 @@ pub mod Mirrors
 pub mod Numbered
 pub mod State
 pub mod Limits
+pub mod AddressForm
+pub mod InterceptForm
 pub mod Tables
 pub mod Matches
 pub mod Grants
 pub mod Ranks
+pub mod Hits
 pub mod Networks
 pub mod PlainPaths
 pub mod Choices

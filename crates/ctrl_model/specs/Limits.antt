@@ -47,3 +47,23 @@ most_terminator_cost = most_cost + limit kind.Circuit
 -- The greatest latency that one end of a link reports.
 abbrev pub most_latency : ℕ
 most_latency = 60000
+
+-- How many bytes a host of an address may have.
+abbrev pub longest_host : ℕ
+longest_host = 253
+
+-- How many bytes a label of a host may have.
+abbrev pub longest_label : ℕ
+longest_label = 63
+
+-- How many bits an address of four numbers has.
+abbrev pub most_bits : ℕ
+most_bits = 32
+
+-- How many addresses an intercept may have, and how many ranges of ports.
+abbrev pub most_claimed : ℕ
+most_claimed = 32
+
+-- The greatest port. The least one is 1.
+abbrev pub most_port : ℕ
+most_port = 65535

@@ -2,8 +2,10 @@
 //! controller is. Every other crate cites these definitions, so they are what a reader must believe.
 #![tactic(auto)]
 
+mod addresses;
 mod claims;
 mod commands;
+mod intercepts;
 mod items;
 mod kinds;
 mod limits;
@@ -12,13 +14,15 @@ mod refusals;
 mod replies;
 mod texts;
 
+pub use addresses::{Address, AddressFault, Addresses};
 pub use claims::{Explanation, Potentials, Reach, Reaches};
 pub use commands::Command;
+pub use intercepts::{Intercept, PortRange, PortRanges};
 pub use items::{Copies, Items};
 pub use kinds::{Kind, Precedence, Relation, Role, RouterSeen, Semantic, Side, Who};
 pub use limits::{
-    LONGEST_NAME, LONGEST_PATH, MOST_ATTRIBUTES, MOST_COST, MOST_ENTRIES, MOST_LATENCY,
-    MOST_ROUTERS, limit,
+    LONGEST_HOST, LONGEST_LABEL, LONGEST_NAME, LONGEST_PATH, MOST_ATTRIBUTES, MOST_BITS, MOST_COST,
+    MOST_ENTRIES, MOST_LATENCY, MOST_ROUTERS, limit,
 };
 pub use numbering::{
     CircuitNo, IdentityNo, LinkNo, Numbers, PolicyNo, RouterNo, ServiceNo, TermNo,

@@ -15,6 +15,15 @@ pub const LONGEST_PATH: usize = 255;
 /// How many entries an attribute or role list may have.
 pub const MOST_ENTRIES: usize = 64;
 
+/// How many bytes a host of an address may have.
+pub const LONGEST_HOST: usize = 253;
+
+/// How many bytes a label of a host may have.
+pub const LONGEST_LABEL: usize = 63;
+
+/// How many bits an address of four numbers has.
+pub const MOST_BITS: u8 = 32;
+
 /// How many bytes a name may have.
 pub const LONGEST_NAME: usize = 64;
 

@@ -32,3 +32,4 @@ pub mod ValidCommands
 pub mod TouchedLaws
 pub mod RefusedStates
 pub mod NextNumbers
+pub mod HitLaws

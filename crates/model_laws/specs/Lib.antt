@@ -3,3 +3,4 @@ pub mod ClaimedRoutes
 pub mod Denials
 pub mod Plans
 pub mod JudgedCircuits
+pub mod WorkedIntercepts

@@ -2,15 +2,19 @@
 //! take a definition on trust looks at first. Of it only the plan of a command runs.
 #![tactic(auto)]
 
+mod intercept_laws;
 mod plans;
 mod route_laws;
 mod state_laws;
 mod validity;
 mod worked;
+mod worked_addresses;
+mod worked_intercepts;
 mod worked_laws;
 mod worked_requests;
 mod worked_validity;
 
+pub use intercept_laws::{addresses_are_read_back, each_hit, one_hit_a_rank, the_picked_hit};
 pub use plans::{Plan, told_changes};
 pub use route_laws::{
     claimed_route, each_path, explanations_are_justified, mirrored_walks, no_better, plain_path,
@@ -31,6 +35,10 @@ pub use worked::{
     names_and_words, new_records, no_traversal, own_and_others, permissions, precedences, ranges,
     ranges_of_claims, revoked_circuits, role_lists, settled_circuits, shown_grants, sides,
     spelled_commands, unknown_names, updates,
+};
+pub use worked_addresses::{hosts_of_bytes, ranges_of_bytes, spelled_addresses};
+pub use worked_intercepts::{
+    clashing_services, forms_of_intercepts, narrow_ranges, near_addresses, picked_hits,
 };
 pub use worked_laws::{
     lists_of_numbers, plain_paths_of_a_line, ranks_and_small_costs, records_of_no_valid_state,

@@ -1,0 +1,8 @@
+use Rattle.ctrl_model.proofs.AddressLaws.{address_given, own_spelling}
+use Rattle.model_laws.proofs.intercept_laws.addresses_are_read_back.Goals as goal
+
+pub returns-clause-given : goal.returns-clause-given
+returns-clause-given c = address_given
+
+pub returns-clause-spelled : goal.returns-clause-spelled
+returns-clause-spelled c = own_spelling
