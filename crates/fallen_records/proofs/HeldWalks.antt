@@ -6,7 +6,7 @@ use Rattle.ctrl_model.specs.Membership.{Among}
 use Rattle.ctrl_model.specs.Networks.{Network, is_on, hops}
 use Rattle.ctrl_model.specs.Walks.{Hops, is_among, where_new, goes}
 use Rattle.ctrl_model.proofs.WalkLaws.{by_goes, goes_more}
-use Rattle.circuit_settling.proofs.HeldHops.{hop-on}
+use Rattle.fallen_records.proofs.HeldHops.{hop-on}
 
 -- where a hop leads, another rule leads too, at whatever cost
 abbrev pub LeadsOn : Hops → Hops → ℕ → Type 0

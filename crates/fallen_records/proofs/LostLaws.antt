@@ -11,7 +11,7 @@ use Rattle.ctrl_model.specs.Walks.{is_among, goes}
 use Rattle.ctrl_model.proofs.Members.{by_list_any, list_any-from_among}
 use Rattle.ctrl_model.proofs.WalkLaws.{by_there}
 use Rattle.circuits.specs.LostCircuits.{goes_over}
-use Rattle.circuit_settling.proofs.HeldWalks.{LeadsOn, goes_holds, goes_breaks, goes_on_end}
+use Rattle.fallen_records.proofs.HeldWalks.{LeadsOn, goes_holds, goes_breaks, goes_on_end}
 
 -- a terminator that is gone, or is there on the same router
 pub record LeavesTerminator (is_gone : Bool) (e : Terminator) (o : Option Terminator) : Type 0 where

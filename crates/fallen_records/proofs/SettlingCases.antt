@@ -14,13 +14,13 @@ use Rattle.ctrl_model.specs.ValidState.{ValidState}
 use Rattle.ctrl_model.specs.Walks.{is_among}
 use Rattle.circuits.specs.LostCircuits.{names_entity, goes_over, needs}
 use Rattle.ctrl_model.proofs.NumberedLaws.{Between-with_last}
-use Rattle.circuit_settling.proofs.EntitiesLeft.{Left, EndsHold, left_held, link_still, no_link_falls, term_still, no_term_falls}
-use Rattle.circuit_settling.proofs.FailingRows.{last_fails}
-use Rattle.circuit_settling.specs.FallenRecords.{Falls}
-use Rattle.circuit_settling.proofs.FallenCircuits.{circuits_fall, no_circuit_falls}
-use Rattle.circuit_settling.proofs.HeldRows.{Held, AllStood, no_number, held_same, held_last, stood_same}
-use Rattle.circuit_settling.proofs.SettledRows.{each_link, each_terminator, each_circuit, same_so_far}
-use Rattle.circuit_settling.proofs.TurnedStates.{Any, RouterHolds, LinkHolds, TermHolds, Turns}
+use Rattle.fallen_records.proofs.EntitiesLeft.{Left, EndsHold, left_held, link_still, no_link_falls, term_still, no_term_falls}
+use Rattle.fallen_records.proofs.FailingRows.{last_fails}
+use Rattle.fallen_records.specs.FallenRecords.{Falls}
+use Rattle.fallen_records.proofs.FallenCircuits.{circuits_fall, no_circuit_falls}
+use Rattle.fallen_records.proofs.HeldRows.{Held, AllStood, no_number, held_same, held_last, stood_same}
+use Rattle.fallen_records.proofs.SettledRows.{each_link, each_terminator, each_circuit, same_so_far}
+use Rattle.fallen_records.proofs.TurnedStates.{Any, RouterHolds, LinkHolds, TermHolds, Turns}
 
 pub any : {R : Type 0} (r : R) → Any r r
 any r = tt

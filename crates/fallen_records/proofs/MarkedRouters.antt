@@ -6,12 +6,12 @@ use Rattle.ctrl_model.specs.declared.kinds.Kind.TheVariants as kind
 use Rattle.ctrl_model.specs.Numbered.{at, with_new, with_edit}
 use Rattle.ctrl_model.specs.State.{State, Entity, Router}
 use Rattle.ctrl_model.specs.ValidState.{ValidState}
-use Rattle.circuit_settling.specs.FallenRecords.{Falls, links_at, circuits_on, circuits_through, marked_circuits}
-use Rattle.circuit_settling.proofs.ClosedRouters.{router_closed}
-use Rattle.circuit_settling.proofs.EntityCases.{nobody_goes, router_off}
-use Rattle.circuit_settling.proofs.HeldRows.{no_number, Held, held_same, held_last, held_edit}
-use Rattle.circuit_settling.proofs.SettlingCases.{any, router_itself}
-use Rattle.circuit_settling.proofs.TurnedStates.{Any, RouterHolds}
+use Rattle.fallen_records.specs.FallenRecords.{Falls, links_at, circuits_on, circuits_through, marked_circuits}
+use Rattle.fallen_records.proofs.ClosedRouters.{router_closed}
+use Rattle.fallen_records.proofs.EntityCases.{nobody_goes, router_off}
+use Rattle.fallen_records.proofs.HeldRows.{no_number, Held, held_same, held_last, held_edit}
+use Rattle.fallen_records.proofs.SettlingCases.{any, router_itself}
+use Rattle.fallen_records.proofs.TurnedStates.{Any, RouterHolds}
 
 module _ (s : State) (v : ValidState s) where
   same_ids : Held {R = Entity} Any no_number s.identities.rows s.identities.rows

@@ -1,7 +1,7 @@
 use Rattle.std.proofs.Common.{◌≡◌, ◌++◌, not, drop}
 use Rattle.std.specs.List.{filter}
 use Rattle.circuit_settling.specs.OtherLinks.{keeps_at}
-use Rattle.circuit_settling.proofs.settling.going.Given as goal
+use Rattle.circuit_settling.proofs.settling.going_among.Given as goal
 
 abbrev pub invariant-circuits : goal.invariant-circuits
 invariant-circuits l =

@@ -9,9 +9,9 @@ use Rattle.fabric_graph.specs.declared.changes.LinkChange.{LinkChange}
 use Rattle.fabric_graph.specs.declared.changes.LinkChange.TheVariants as link
 use Rattle.terminators.specs.declared.changes.TermChange.{TermChange}
 use Rattle.terminators.specs.declared.changes.TermChange.TheVariants as term
-use Rattle.circuit_settling.specs.declared.falling.Standing.{Standing}
-use Rattle.circuit_settling.specs.declared.falling.Fallen.{Fallen}
-use Rattle.circuit_settling.specs.FallenRecords.{links_of, ends_on, circuits_on, marked_circuits}
+use Rattle.fallen_records.specs.declared.falling.Standing.{Standing}
+use Rattle.fallen_records.specs.declared.falling.Fallen.{Fallen}
+use Rattle.fallen_records.specs.FallenRecords.{links_of, ends_on, circuits_on, marked_circuits}
 
 -- The state of what stands. Of policies it has none: they settle nothing.
 abbrev pub state_of : Standing → State

@@ -10,8 +10,8 @@ use Rattle.ctrl_model.specs.State.{State, Terminator, Circuit}
 use Rattle.ctrl_model.specs.Walks.{is_among, goes}
 use Rattle.ctrl_model.proofs.Members.{by_list_any}
 use Rattle.circuits.specs.LostCircuits.{goes_over, passes_through}
-use Rattle.circuit_settling.proofs.HeldWalks.{goes_holds, goes_avoids, goes_past}
-use Rattle.circuit_settling.proofs.LostLaws.{Stands, stands, stays_by, over_none}
+use Rattle.fallen_records.proofs.HeldWalks.{goes_holds, goes_avoids, goes_past}
+use Rattle.fallen_records.proofs.LostLaws.{Stands, stands, stays_by, over_none}
 
 -- one state against another: no identity, service or terminator is gone, no router is off that was on, and each hop holds but those
 -- to one router that is not their target. Some links and terminators are those at that router.

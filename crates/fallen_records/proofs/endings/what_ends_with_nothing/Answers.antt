@@ -1,6 +1,6 @@
-use Rattle.circuit_settling.proofs.MarkedRouters.{identity_more, service_more, router_more, identity_edited, service_edited}
-use Rattle.circuit_settling.proofs.NetworkCases.{policies_changed, link_set, term_set, circuit_removed, setting_changed}
-use Rattle.circuit_settling.proofs.endings.what_ends_with_nothing.Goals as goal
+use Rattle.fallen_records.proofs.MarkedRouters.{identity_more, service_more, router_more, identity_edited, service_edited}
+use Rattle.fallen_records.proofs.NetworkCases.{policies_changed, link_set, term_set, circuit_removed, setting_changed}
+use Rattle.fallen_records.proofs.endings.what_ends_with_nothing.Goals as goal
 
 pub returns : goal.returns
 returns c = record {

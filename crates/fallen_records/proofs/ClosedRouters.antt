@@ -17,17 +17,17 @@ use Rattle.model_laws.proofs.PathLaws.{by_hops, hops_from}
 use Rattle.circuits.specs.LostCircuits.{passes_through}
 use Rattle.fabric_graph.specs.LinkEnds.{is_at}
 use Rattle.terminators.specs.NamedTerms.{stands_on}
-use Rattle.circuit_settling.proofs.ClosedLaws.{Closes}
-use Rattle.circuit_settling.proofs.EntitiesLeft.{Left, left_held, among_those, link_still, no_link_falls, term_still, no_term_falls}
-use Rattle.circuit_settling.proofs.EntityCases.{at_router}
-use Rattle.circuit_settling.proofs.FailingRows.{at-passes}
-use Rattle.circuit_settling.specs.FallenRecords.{Falls}
-use Rattle.circuit_settling.proofs.FallenCircuits.{circuits_stop}
-use Rattle.circuit_settling.proofs.HeldHops.{by_end}
-use Rattle.circuit_settling.proofs.HeldRows.{no_number, held_same, held_edit, stood_same}
-use Rattle.circuit_settling.proofs.SettlingCases.{any, ends_itself, term_itself, links_between, terms_between}
-use Rattle.circuit_settling.proofs.TurnedStates.{Any, TermHolds, find-seen, on_by}
-use Rattle.circuit_settling.proofs.EntitiesLeft.{EndsHold}
+use Rattle.fallen_records.proofs.ClosedLaws.{Closes}
+use Rattle.fallen_records.proofs.EntitiesLeft.{Left, left_held, among_those, link_still, no_link_falls, term_still, no_term_falls}
+use Rattle.fallen_records.proofs.EntityCases.{at_router}
+use Rattle.fallen_records.proofs.FailingRows.{at-passes}
+use Rattle.fallen_records.specs.FallenRecords.{Falls}
+use Rattle.fallen_records.proofs.FallenCircuits.{circuits_stop}
+use Rattle.fallen_records.proofs.HeldHops.{by_end}
+use Rattle.fallen_records.proofs.HeldRows.{no_number, held_same, held_edit, stood_same}
+use Rattle.fallen_records.proofs.SettlingCases.{any, ends_itself, term_itself, links_between, terms_between}
+use Rattle.fallen_records.proofs.TurnedStates.{Any, TermHolds, find-seen, on_by}
+use Rattle.fallen_records.proofs.EntitiesLeft.{EndsHold}
 
 -- a link with an end there leads there from elsewhere
 leads_there : (r v x : ℕ) (k : Link) → is_at r k ≡ true → v ≢ r → other_end v k ≡ Some x → x ≡ r

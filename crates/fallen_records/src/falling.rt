@@ -2,17 +2,16 @@ ghost use Rattle.std.specs.Prelude.{◌≡◌, [], ◌∷◌, ◌&&◌, true, No
 ghost use Rattle.std.specs.Option.{option_map, option_map_or};
 ghost use Rattle.ctrl_model.specs.declared.kinds.Kind.TheVariants as kind;
 ghost use Rattle.ctrl_model.specs.Numbered.{at, is_present};
-ghost use Rattle.ctrl_model.specs.Settling.{link_stays, terminator_stays, stays_in};
-ghost use Rattle.circuit_settling.specs.FallenRecords.{links_at, links_of, ends_on, circuits_on, circuits_through, marked_circuits};
-ghost use Rattle.circuit_settling.specs.NamedRecords.{state_of, Names, number_unless, marks_of, NamesByEntity, NamesByLink, NamesByTerm};
+ghost use Rattle.ctrl_model.specs.Settling.{link_stays, terminator_stays};
+ghost use Rattle.fallen_records.specs.FallenRecords.{links_at, links_of, ends_on, circuits_on, circuits_through, marked_circuits};
+ghost use Rattle.fallen_records.specs.NamedRecords.{state_of, Names, number_unless, marks_of, NamesByEntity, NamesByLink, NamesByTerm};
 
-use crate::alone::would_stay;
-use circuits::{Circuit, Circuits, Loss};
+use circuits::{Circuits, Loss};
 use ctrl_model::{IdentityNo, Kind, LinkNo, Numbers, RouterNo, TermNo};
 use entity_store::{Entities, EntityChange};
-use fabric_graph::{Fabric, FabricAfter, LinkChange, LinkRow};
+use fabric_graph::{Fabric, LinkChange, LinkRow};
 use std::alloc::{AllocError, Global};
-use terminators::{Term, TermChange, Terminators, TerminatorsAfter};
+use terminators::{Term, TermChange, Terminators};
 
 /// What stands before a change: the entities, the links, the terminators and the circuits.
 #[derive(Clone, Copy)]
@@ -290,17 +289,6 @@ fn has_places(standing: &Standing, term: &Term) -> bool
     entities.entity(Kind::Service, term.service.0).is_some()
         && has_router(entities, term.router)
         && has_host(entities, term.host)
-}
-
-/// Whether a circuit would stay beside what stands.
-pub fn stays_here(alloc: Global, standing: &Standing, circuit: &Circuit) -> Result<bool, AllocError>
-    ensures { IfOk result (λ b. b ≡ stays_in (state_of standing.now) (0, circuit.now)) }
-{
-    let links = Numbers::of(Vec::new(alloc));
-    let terms = Numbers::of(Vec::new(alloc));
-    let fabric = FabricAfter::new(standing.fabric, None, &links);
-    let terminators = TerminatorsAfter::new(standing.terminators, None, &terms);
-    would_stay(alloc, standing.entities, &fabric, &terminators, circuit)
 }
 
 // What settles after a link comes: it goes where one of its routers is absent.

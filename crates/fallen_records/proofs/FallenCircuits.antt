@@ -9,12 +9,12 @@ use Rattle.ctrl_model.specs.State.{State, Circuit}
 use Rattle.ctrl_model.specs.ValidState.{ValidState}
 use Rattle.ctrl_model.specs.Walks.{is_among}
 use Rattle.circuits.specs.LostCircuits.{goes_over, needs, passes_through}
-use Rattle.circuit_settling.proofs.ClosedLaws.{Closes, stays_unless_through}
-use Rattle.circuit_settling.proofs.FailingRows.{failing, none_fails, those_fail}
-use Rattle.circuit_settling.proofs.HeldRows.{no_number}
-use Rattle.circuit_settling.proofs.LostLaws.{stays_exactly}
-use Rattle.circuit_settling.proofs.SettledRows.{each_circuit}
-use Rattle.circuit_settling.proofs.TurnedStates.{Turns, loses}
+use Rattle.fallen_records.proofs.ClosedLaws.{Closes, stays_unless_through}
+use Rattle.fallen_records.proofs.FailingRows.{failing, none_fails, those_fail}
+use Rattle.fallen_records.proofs.HeldRows.{no_number}
+use Rattle.fallen_records.proofs.LostLaws.{stays_exactly}
+use Rattle.fallen_records.proofs.SettledRows.{each_circuit}
+use Rattle.fallen_records.proofs.TurnedStates.{Turns, loses}
 
 over_nothing : (ls : List ℕ) → list_any (λ l. is_among l []) ls ≡ false
 over_nothing [] = refl

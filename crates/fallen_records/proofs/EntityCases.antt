@@ -16,13 +16,13 @@ use Rattle.model_laws.proofs.AbsentRecords.{at-without-none}
 use Rattle.circuits.specs.LostCircuits.{names_entity, goes_over, needs}
 use Rattle.fabric_graph.specs.LinkEnds.{is_at}
 use Rattle.terminators.specs.NamedTerms.{stands_on}
-use Rattle.circuit_settling.proofs.EntitiesLeft.{Left, EndsHold, among_those, link_exactly, links_fall, no_link_falls, term_exactly, terms_fall, no_host}
-use Rattle.circuit_settling.proofs.FailingRows.{failing}
-use Rattle.circuit_settling.specs.FallenRecords.{Falls}
-use Rattle.circuit_settling.proofs.FallenCircuits.{circuits_fall}
-use Rattle.circuit_settling.proofs.HeldRows.{Held, no_number, one_number, held_same, held_edit, held_without, stood_same, present_held}
-use Rattle.circuit_settling.proofs.SettlingCases.{any, router_itself, link_itself, term_itself, ends_itself, links_between, terms_between, all_links, all_terms, nothing_falls, lost_by}
-use Rattle.circuit_settling.proofs.TurnedStates.{Any, RouterHolds, LinkHolds, TermHolds, Turns}
+use Rattle.fallen_records.proofs.EntitiesLeft.{Left, EndsHold, among_those, link_exactly, links_fall, no_link_falls, term_exactly, terms_fall, no_host}
+use Rattle.fallen_records.proofs.FailingRows.{failing}
+use Rattle.fallen_records.specs.FallenRecords.{Falls}
+use Rattle.fallen_records.proofs.FallenCircuits.{circuits_fall}
+use Rattle.fallen_records.proofs.HeldRows.{Held, no_number, one_number, held_same, held_edit, held_without, stood_same, present_held}
+use Rattle.fallen_records.proofs.SettlingCases.{any, router_itself, link_itself, term_itself, ends_itself, links_between, terms_between, all_links, all_terms, nothing_falls, lost_by}
+use Rattle.fallen_records.proofs.TurnedStates.{Any, RouterHolds, LinkHolds, TermHolds, Turns}
 
 -- numbers that are one or none of two
 or_false : (a b : Bool) → (a || b) ≡ false → (a ≡ false) × (b ≡ false)

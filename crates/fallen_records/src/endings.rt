@@ -3,7 +3,7 @@ ghost use Rattle.ctrl_model.specs.declared.kinds.Kind.TheVariants as kind;
 ghost use Rattle.ctrl_model.specs.Numbered.{Table, at, with_new, with_edit, with_removed};
 ghost use Rattle.ctrl_model.specs.State.{State, Entity, Router, Link, Policy, Terminator};
 ghost use Rattle.ctrl_model.specs.ValidState.{ValidState};
-ghost use Rattle.circuit_settling.specs.FallenRecords.{Falls, links_at, ends_on, circuits_on, marked_circuits};
+ghost use Rattle.fallen_records.specs.FallenRecords.{Falls, links_at, ends_on, circuits_on, marked_circuits};
 
 /// What settles with one change of a valid state, and that nothing else does (docs/RULES.md, "Settling"). These links and terminators go,
 /// and these circuits do not stay as they are: with an identity or a service the terminators that stand on it, and the circuits of it or

@@ -11,11 +11,11 @@ use Rattle.ctrl_model.proofs.Members.{by_filter}
 use Rattle.ctrl_model.proofs.NumberedLaws.{at-edit_at-back, Between-edit_at, Between-without}
 use Rattle.model_laws.proofs.AbsentRecords.{at-without-none}
 use Rattle.circuits.specs.LostCircuits.{needs}
-use Rattle.circuit_settling.proofs.EntitiesLeft.{EndsHold}
-use Rattle.circuit_settling.specs.FallenRecords.{Falls}
-use Rattle.circuit_settling.proofs.HeldRows.{no_number, held_edit, held_without, stood_edit, stood_without}
-use Rattle.circuit_settling.proofs.SettlingCases.{link_itself, term_itself, ends_itself, links_between, terms_between, keeps_all, all_links, all_terms, nothing_falls, lost_by}
-use Rattle.circuit_settling.proofs.TurnedStates.{LinkHolds, TermHolds}
+use Rattle.fallen_records.proofs.EntitiesLeft.{EndsHold}
+use Rattle.fallen_records.specs.FallenRecords.{Falls}
+use Rattle.fallen_records.proofs.HeldRows.{no_number, held_edit, held_without, stood_edit, stood_without}
+use Rattle.fallen_records.proofs.SettlingCases.{link_itself, term_itself, ends_itself, links_between, terms_between, keeps_all, all_links, all_terms, nothing_falls, lost_by}
+use Rattle.fallen_records.proofs.TurnedStates.{LinkHolds, TermHolds}
 
 -- ---- one number
 

@@ -12,10 +12,10 @@ use Rattle.ctrl_model.specs.Settling.{link_stays, terminator_stays, settle_links
 use Rattle.ctrl_model.specs.State.{State, Entity, Router, Link, Terminator}
 use Rattle.ctrl_model.specs.Walks.{is_among}
 use Rattle.ctrl_model.proofs.NumberedLaws.{among_present, at-filter-back}
-use Rattle.circuit_settling.proofs.FailingRows.{at-passes}
-use Rattle.circuit_settling.proofs.HeldHops.{HoldsRouter, RoutersHold, on_holds, hop_holds, hop-breaks}
-use Rattle.circuit_settling.proofs.HeldRows.{Held, present_held}
-use Rattle.circuit_settling.proofs.LostLaws.{Loses}
+use Rattle.fallen_records.proofs.FailingRows.{at-passes}
+use Rattle.fallen_records.proofs.HeldHops.{HoldsRouter, RoutersHold, on_holds, hop_holds, hop-breaks}
+use Rattle.fallen_records.proofs.HeldRows.{Held, present_held}
+use Rattle.fallen_records.proofs.LostLaws.{Loses}
 
 -- ---- what holds of a record
 

@@ -13,10 +13,10 @@ use Rattle.ctrl_model.proofs.Members.{at-row}
 use Rattle.ctrl_model.proofs.NumberedLaws.{among_present, at-filter-back, at-without-other}
 use Rattle.model_laws.proofs.AbsentRecords.{at-without-none}
 use Rattle.record_tables.proofs.NumberLoops.{at_among}
-use Rattle.circuit_settling.proofs.FailingRows.{failing, none_fails, those_fail, at-passes}
-use Rattle.circuit_settling.proofs.HeldRows.{Held, AllStood, no_number, one_number, present_held}
-use Rattle.circuit_settling.proofs.SettledRows.{each_link, each_terminator}
-use Rattle.circuit_settling.proofs.TurnedStates.{TermHolds}
+use Rattle.fallen_records.proofs.FailingRows.{failing, none_fails, those_fail, at-passes}
+use Rattle.fallen_records.proofs.HeldRows.{Held, AllStood, no_number, one_number, present_held}
+use Rattle.fallen_records.proofs.SettledRows.{each_link, each_terminator}
+use Rattle.fallen_records.proofs.TurnedStates.{TermHolds}
 
 -- of the records that were present those are gone whose numbers are
 abbrev pub Left : {R : Type 0} → (ℕ → Bool) → List (ℕ × R) → List (ℕ × R) → Type 0
