@@ -5,11 +5,11 @@ use Rattle.std.proofs.lemmas.Cmp.{tied_itself, nat_list_cmp_total}
 use Rattle.ctrl_model.specs.Membership.{Among}
 use Rattle.ctrl_model.proofs.Members.{Among-map, by_map, Among-flat_map, by_flat_map}
 use Rattle.model_laws.proofs.Orders.{not_below, below_one_way}
-use Rattle.path_search.specs.declared.choosing.Choice.{Choice}
-use Rattle.path_search.specs.declared.choosing.Exit.{Exit}
-use Rattle.path_search.specs.declared.choosing.Entry.{Entry}
+use Rattle.route_choice.specs.declared.choosing.Choice.{Choice}
+use Rattle.route_choice.specs.declared.choosing.Exit.{Exit}
+use Rattle.route_choice.specs.declared.choosing.Entry.{Entry}
 use Rattle.path_search.specs.Visits.{costs_to}
-use Rattle.path_search.specs.RouteChoices.{key, is_before, choice_at, keep, first_of, first_of_all}
+use Rattle.route_choice.specs.RouteChoices.{key, is_before, choice_at, keep, first_of, first_of_all}
 
 -- ---- the order of choices
 

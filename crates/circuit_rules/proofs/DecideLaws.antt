@@ -21,15 +21,16 @@ use Rattle.model_laws.proofs.CandidateLaws.{by_ingresses, by_admissible, candida
 use Rattle.path_certificate.specs.Graphs.{GraphSeen, potential}
 use Rattle.path_search.specs.Searches.{IsFirst}
 use Rattle.fabric_graph.specs.Routers.{AreRouters, numbered, IsGraphOf}
-use Rattle.path_search.specs.declared.choosing.Choice.{Choice}
-use Rattle.path_search.specs.declared.choosing.Exit.{Exit}
-use Rattle.path_search.specs.declared.choosing.Entry.{Entry}
+use Rattle.route_choice.specs.declared.choosing.Choice.{Choice}
+use Rattle.route_choice.specs.declared.choosing.Exit.{Exit}
+use Rattle.route_choice.specs.declared.choosing.Entry.{Entry}
 use Rattle.circuit_rules.specs.declared.views.Route.{Route}
 use Rattle.circuit_rules.specs.declared.offers.Offer.{Offer}
 use Rattle.circuit_rules.specs.Offers.{offer_of}
 use Rattle.path_search.specs.Visits.{costs_to}
-use Rattle.circuit_rules.specs.Searched.{place_in, entry_of, exit_from, exit_of, entries_to, exits_to, exits_at, IsBestRoute, GoesFirst}
-use Rattle.path_search.specs.RouteChoices.{AreCosts, is_before, choice_at, first_of_all}
+use Rattle.circuit_rules.specs.Searched.{place_in, entry_of, exit_from, exit_of, entries_to, exits_to, IsBestRoute, GoesFirst}
+use Rattle.path_search.specs.ExitCosts.{AreCosts}
+use Rattle.route_choice.specs.RouteChoices.{exits_at, is_before, choice_at, first_of_all}
 use Rattle.circuit_rules.proofs.ChoiceLaws.{IsChosen, none_chosen}
 use Rattle.circuit_rules.proofs.WayLaws.{IsWay, place_known, path_in_graph, path_in_network, path_there, same_path_cost}
 use Rattle.circuit_rules.proofs.SearchLaws.{all_from_among, choice_of, choice_told, exit_there}

@@ -52,7 +52,7 @@ pub ingresses-are : (w : Network) (ingress : Wanted) (i s : ℕ)
 ingresses-are w ingress i s = filter_both (λ (r : RouterSeen). r.connected) (is_among_shared w ingress i s) w.routers
 
 -- the first rule that fails, by what is found at the routers
-pub entry_denial-is : (w : Network) (ingress : Wanted) (i s : ℕ)
+entry_denial-is : (w : Network) (ingress : Wanted) (i s : ℕ)
     → first_denial (entry_rules w ingress i s)
     ≡ cond (is_absent ingress) (Some UnknownRouter) (cond (w.dial i s == 0) (Some NoDial)
     (cond (not (list_any (is_among_shared w ingress i s) w.routers)) (Some NoSharedRouter)
@@ -62,31 +62,13 @@ entry_denial-is w ingress i s = λ j.
     (cond (nothing_passes (is_among_shared w ingress i s) w.routers j) (Some NoSharedRouter)
     (cond ((ap is_nothing (ingresses-are w ingress i s) ∙ nothing_passes (λ (r : RouterSeen). r.connected && is_among_shared w ingress i s r) w.routers) j) (Some SharedRoutersOffline) None)))
 
--- where the named ingress is present and the identity may dial, the routers decide
-module _ (w : Network) (ingress : Wanted) (i s dials : ℕ) (named : is_absent ingress ≡ false) (told : dials ≡ w.dial i s) (dialled : dials ≡ 0 → ⊥) where
-  decided_by : (a b : Bool) → a ≡ list_any (is_among_shared w ingress i s) w.routers
-      → b ≡ list_any (λ (r : RouterSeen). r.connected && is_among_shared w ingress i s r) w.routers
-      → first_denial (entry_rules w ingress i s) ≡ cond (not a) (Some NoSharedRouter) (cond (not b) (Some SharedRoutersOffline) None)
-  decided_by a b shares connects = entry_denial-is w ingress i s ∙ (λ j.
-      cond (named j) (Some UnknownRouter) (cond ((ap (λ n. n == 0) (sym told) ∙ ne_eqb dials 0 dialled) j) (Some NoDial)
-      (cond (not (sym shares j)) (Some NoSharedRouter) (cond (not (sym connects j)) (Some SharedRoutersOffline) None))))
-
-  pub none_shared : (a : Bool) → a ≡ list_any (is_among_shared w ingress i s) w.routers → a ≡ false → first_denial (entry_rules w ingress i s) ≡ Some NoSharedRouter
-  none_shared a shares none =
-      decided_by a (list_any (λ (r : RouterSeen). r.connected && is_among_shared w ingress i s r) w.routers) shares refl
-      ∙ ap (λ x. cond (not x) (Some NoSharedRouter) (cond (not (list_any (λ (r : RouterSeen). r.connected && is_among_shared w ingress i s r) w.routers)) (Some SharedRoutersOffline) None)) none
-
-  pub none_connected : (a b : Bool) → a ≡ list_any (is_among_shared w ingress i s) w.routers → a ≡ true
-      → b ≡ list_any (λ (r : RouterSeen). r.connected && is_among_shared w ingress i s r) w.routers → b ≡ false
-      → first_denial (entry_rules w ingress i s) ≡ Some SharedRoutersOffline
-  none_connected a b shares some connects none =
-      decided_by a b shares connects ∙ (λ j. cond (not (some j)) (Some NoSharedRouter) (cond (not (none j)) (Some SharedRoutersOffline) None))
-
-  pub none_denied : (a b : Bool) → a ≡ list_any (is_among_shared w ingress i s) w.routers → a ≡ true
-      → b ≡ list_any (λ (r : RouterSeen). r.connected && is_among_shared w ingress i s r) w.routers → b ≡ true
-      → first_denial (entry_rules w ingress i s) ≡ None
-  none_denied a b shares some connects on =
-      decided_by a b shares connects ∙ (λ j. cond (not (some j)) (Some NoSharedRouter) (cond (not (on j)) (Some SharedRoutersOffline) None))
+-- and the same of these facts as they are looked up
+pub denied_first : (w : Network) (ingress : Wanted) (i s : ℕ) (absent undialled a b : Bool) → absent ≡ is_absent ingress → undialled ≡ (w.dial i s == 0)
+    → a ≡ list_any (is_among_shared w ingress i s) w.routers → b ≡ list_any (λ (r : RouterSeen). r.connected && is_among_shared w ingress i s r) w.routers
+    → first_denial ((absent, UnknownRouter) ∷ (undialled, NoDial) ∷ (not a, NoSharedRouter) ∷ (not b, SharedRoutersOffline) ∷ []) ≡ first_denial (entry_rules w ingress i s)
+denied_first w ingress i s absent undialled a b named dials shares connects =
+    (λ j. cond (named j) (Some UnknownRouter) (cond (dials j) (Some NoDial) (cond (not (shares j)) (Some NoSharedRouter) (cond (not (connects j)) (Some SharedRoutersOffline) None))))
+    ∙ sym (entry_denial-is w ingress i s)
 
 -- ---- a request that these rules pass
 

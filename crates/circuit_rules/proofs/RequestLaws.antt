@@ -22,15 +22,15 @@ use Rattle.ctrl_model.proofs.Tests.{in_bounds}
 use Rattle.ctrl_model.proofs.Members.{by_map, Among-map, Among-filter, something, list_all-among}
 use Rattle.model_laws.proofs.CandidateLaws.{by_admissible, candidates-for, candidates-are, best-is}
 use Rattle.fabric_graph.specs.Routers.{AreRouters}
-use Rattle.path_search.specs.declared.choosing.Choice.{Choice}
-use Rattle.path_search.specs.declared.choosing.Exit.{Exit}
-use Rattle.path_search.specs.declared.choosing.Entry.{Entry}
+use Rattle.route_choice.specs.declared.choosing.Choice.{Choice}
+use Rattle.route_choice.specs.declared.choosing.Exit.{Exit}
+use Rattle.route_choice.specs.declared.choosing.Entry.{Entry}
 use Rattle.circuit_rules.specs.declared.views.Route.{Route}
 use Rattle.circuit_rules.specs.Decisions.{Grants, Decides}
 use Rattle.circuit_rules.specs.declared.views.DecideFault.{DecideFault}
 use Rattle.circuit_rules.specs.declared.views.DecideFault.TheVariants as fault
-use Rattle.circuit_rules.specs.Searched.{Passes, end_rules, way_rules, exit_of, entries_to, exits_to, exits_at, IsFound, IsSearched, IsBestRoute, IsBestWay}
-use Rattle.path_search.specs.RouteChoices.{first_of_all}
+use Rattle.circuit_rules.specs.Searched.{Passes, end_rules, way_rules, exit_of, entries_to, exits_to, IsFound, IsSearched, IsBestRoute, IsBestWay}
+use Rattle.route_choice.specs.RouteChoices.{exits_at, first_of_all}
 use Rattle.circuit_rules.specs.FoundRoutes.{IsFoundFirst, AreEnds, route_found}
 use Rattle.circuit_rules.specs.declared.deciding.Ends.{Ends}
 use Rattle.circuit_rules.specs.declared.deciding.Found.{Found}

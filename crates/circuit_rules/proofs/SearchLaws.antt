@@ -13,14 +13,15 @@ use Rattle.path_certificate.specs.declared.graph.Step.{Step}
 use Rattle.path_certificate.specs.Graphs.{GraphSeen, potential}
 use Rattle.path_search.specs.Searches.{IsLeast, AreFew, greatest_cost}
 use Rattle.fabric_graph.specs.Routers.{costs_at_most, IsGraphOf}
-use Rattle.path_search.specs.declared.choosing.Choice.{Choice}
+use Rattle.route_choice.specs.declared.choosing.Choice.{Choice}
 use Rattle.circuit_rules.specs.declared.deciding.Ends.{Ends}
 use Rattle.circuit_rules.specs.FoundRoutes.{AreWithin}
-use Rattle.path_search.specs.declared.choosing.Exit.{Exit}
-use Rattle.path_search.specs.declared.choosing.Entry.{Entry}
+use Rattle.route_choice.specs.declared.choosing.Exit.{Exit}
+use Rattle.route_choice.specs.declared.choosing.Entry.{Entry}
 use Rattle.path_search.specs.Visits.{costs_to, SearchSeen}
-use Rattle.circuit_rules.specs.Searched.{most_step_cost, IsSearchOf, exits_at, IsFound, IsSearched}
-use Rattle.path_search.specs.RouteChoices.{is_exit_at, AreCosts, AreSmall, choice_at, first_of_all}
+use Rattle.circuit_rules.specs.Searched.{most_step_cost, IsSearchOf, IsFound, IsSearched}
+use Rattle.path_search.specs.ExitCosts.{is_exit_at, AreCosts}
+use Rattle.route_choice.specs.RouteChoices.{AreSmall, exits_at, choice_at, first_of_all}
 use Rattle.circuit_rules.specs.declared.views.Route.{Route}
 use Rattle.ctrl_model.specs.Networks.{Network}
 use Rattle.circuit_rules.proofs.ChoiceLaws.{IsChosen, chosen}

@@ -10,9 +10,10 @@ use Rattle.circuit_rules.specs.declared.views.Route.{Route}
 use Rattle.circuit_rules.specs.declared.views.DecideFault.{DecideFault}
 use Rattle.circuit_rules.specs.declared.deciding.Ends.{Ends}
 use Rattle.circuit_rules.specs.declared.deciding.Found.{Found}
-use Rattle.path_search.specs.declared.choosing.Entry.{Entry}
-use Rattle.path_search.specs.declared.choosing.Exit.{Exit}
-use Rattle.circuit_rules.specs.Searched.{entries_to, exits_to, exits_at, IsSearched}
+use Rattle.route_choice.specs.declared.choosing.Entry.{Entry}
+use Rattle.route_choice.specs.declared.choosing.Exit.{Exit}
+use Rattle.route_choice.specs.RouteChoices.{exits_at}
+use Rattle.circuit_rules.specs.Searched.{entries_to, exits_to, IsSearched}
 use Rattle.ctrl_model.specs.Limits.{most_terminator_cost}
 
 -- Of no precedence that stands before a place a route is found.

@@ -13,17 +13,18 @@ use Rattle.ctrl_model.specs.Networks.{Network, is_counted, counted, admissible}
 use Rattle.ctrl_model.specs.Choices.{Ask, Wanted, Candidate, IsBest, is_absent, place_of, shared, ingresses, candidates_for, first_denial}
 use Rattle.path_certificate.specs.Graphs.{GraphSeen}
 use Rattle.path_search.specs.Searches.{IsFirst}
-use Rattle.path_search.specs.RouteChoices.{AreCosts, first_of_all}
+use Rattle.path_search.specs.ExitCosts.{AreCosts}
+use Rattle.route_choice.specs.RouteChoices.{first_of_all}
 use Rattle.path_search.specs.Visits.{SearchSeen, costs_to}
 use Rattle.fabric_graph.specs.Routers.{costs_at_most, IsGraphOf}
 use Rattle.circuit_rules.specs.declared.views.Route.{Route}
 use Rattle.circuit_rules.specs.declared.views.DecideFault.{DecideFault}
 use Rattle.circuit_rules.specs.declared.views.DecideFault.TheVariants as fault
 use Rattle.circuit_rules.specs.Decisions.{route_of}
-use Rattle.path_search.specs.declared.choosing.Choice.{Choice}
+use Rattle.route_choice.specs.declared.choosing.Choice.{Choice}
 use Rattle.circuit_rules.specs.declared.offers.Offer.{Offer}
-use Rattle.path_search.specs.declared.choosing.Entry.{Entry}
-use Rattle.path_search.specs.declared.choosing.Exit.{Exit}
+use Rattle.route_choice.specs.declared.choosing.Entry.{Entry}
+use Rattle.route_choice.specs.declared.choosing.Exit.{Exit}
 use Rattle.circuit_rules.specs.Offers.{offer_of}
 
 -- ---- rules, a part of them at a time
@@ -116,10 +117,6 @@ most_step_cost = 251070
 pub record IsSearchOf (w : Network) (s : SearchSeen) : Type 0 where
   pub is_graph : IsGraphOf w s.graph
   pub most : costs_at_most most_step_cost s.graph.steps ≡ true
-
--- Those of the exits whose precedence stands at a place.
-abbrev pub exits_at : ℕ → List Exit → List Exit
-exits_at place exits = filter (λ o. place_of o.precedence == place) exits
 
 -- What a search of a network between entries and exits finds.
 pub record IsSearched (w : Network) (entries : List Entry) (exits : List Exit) (found : Option Route) : Type 0 where

@@ -4,10 +4,11 @@ ghost use Rattle.ctrl_model.specs.Claims.{is_no_better};
 ghost use Rattle.circuit_rules.specs.Views.{network};
 ghost use Rattle.circuit_rules.specs.Parts.{term_offered, unloaded};
 
-use crate::offers::{Offer, place_of};
+use crate::offers::Offer;
 use crate::values::claimed;
 use crate::views::View;
 use ctrl_model::{Explanation, RouterNo, RouterSeen};
+use route_choice::{is_at_most, place_of};
 
 // Whether the offer does not beat the claim from an ingress: one of a better precedence has no path, and one of the claim's
 // precedence has none of a lower total.
@@ -28,7 +29,7 @@ fn is_no_better(
     if value == u64::MAX {
         return true;
     }
-    own == place && u128::from(claim.total) <= u128::from(offer.cost) + u128::from(value)
+    own == place && is_at_most(claim.total, offer.cost, value)
 }
 
 // Whether no offer beats the claim from an ingress.
@@ -41,9 +42,12 @@ fn none_beats_from(
 ) -> bool
     ensures { result ≡ list_all (λ o. is_no_better (unloaded (network view.now)) claim.now place ingress.0 (term_offered o)) offers.now }
 {
-    offers
-        .iter()
-        .all(|offer| is_no_better(view, claim, place, ingress, offer))
+    'offers: for offer in offers {
+        if !is_no_better(view, claim, place, ingress, offer) {
+            return false;
+        }
+    }
+    true
 }
 
 /// Whether no offer beats the claim from any ingress.
@@ -56,5 +60,10 @@ pub fn none_beats(
 ) -> bool
     ensures { result ≡ list_all (λ r. list_all (λ o. is_no_better (unloaded (network view.now)) claim.now place r.no.0 (term_offered o)) offers.now) ingresses.now }
 {
-    ingresses.iter().all(|ingress| none_beats_from(view, claim, place, ingress.no, offers))
+    'ingresses: for ingress in ingresses {
+        if !none_beats_from(view, claim, place, ingress.no, offers) {
+            return false;
+        }
+    }
+    true
 }

@@ -1,12 +1,13 @@
 ghost use Rattle.std.specs.Prelude.{◌≡◌, true, false, IfOk, MatchOption};
-ghost use Rattle.ctrl_model.specs.CircuitCommands.{create_circuit, delete_circuit, explain, verify_route, show_circuit};
+ghost use Rattle.ctrl_model.specs.CircuitCommands.{create_circuit, delete_circuit, explain, claim_from, verify_route, show_circuit};
+ghost use Rattle.ctrl_model.specs.Claims.{justified};
 ghost use Rattle.ctrl_model.specs.Controller.{carry};
 ghost use Rattle.ctrl_model.specs.State.{State};
 ghost use Rattle.circuit_rules.specs.Decisions.{Grants};
 ghost use Rattle.circuit_rules.specs.Views.{asked};
 ghost use Rattle.circuit_rules.specs.CircuitParts.{AreParts};
 ghost use Rattle.circuit_rules.specs.CircuitPlans.{is_circuit_command, is_claim, is_unclaimed};
-ghost use Rattle.circuit_rules.specs.PlannedCircuits.{Answers, ask_at, network_in};
+ghost use Rattle.circuit_rules.specs.PlannedCircuits.{Answers, with_entities, ask_at, network_in};
 ghost use Rattle.circuit_rules.specs.Explanations.{IsExplained};
 
 use crate::circuit_asking::{Request, ask_of, decided, explained, verified};
@@ -113,6 +114,43 @@ fn plan_explain(
     }
 }
 
+// What is claimed from the ingress of a number.
+fn claim_of(
+    ingress: u32,
+    links: &Numbers,
+    potentials: &Reaches,
+    routers: &Numbers,
+    terminator: u32,
+    total: u32,
+) -> Result<Explanation, AllocError>
+    ensures { IfOk result (λ claim. claim ≡ claim_from links.now potentials.now routers.now terminator total ingress) }
+{
+    let links = links.copy()?;
+    let potentials = potentials.copy()?;
+    let routers = routers.copy()?;
+    Ok(Explanation {
+        ingress: RouterNo(ingress),
+        links,
+        potentials,
+        routers,
+        terminator: TermNo(terminator),
+        total,
+    })
+}
+
+// Whether a claimed route is justified for a request.
+fn is_certified(
+    alloc: Global,
+    parts: &Parts,
+    request: &Request,
+    claim: &Explanation,
+) -> Result<bool, AllocError>
+    ensures { IfOk result (λ yes. yes ≡ justified (network_in parts.now) (ask_at request.now (with_entities parts.now.entities.now)) claim.now) }
+{
+    let ask = ask_of(parts.entities, request)?;
+    verified(alloc, parts, &ask, claim)
+}
+
 // Plans the answer to VerifyRoute.
 fn plan_verify_route(
     alloc: Global,
@@ -130,16 +168,8 @@ fn plan_verify_route(
     let Ok(ingress) = parts.entities.find(Kind::Router, chosen) else {
         return Ok(Plan::shown(Reply::Verified { certified: false }));
     };
-    let claim = Explanation {
-        ingress: RouterNo(ingress),
-        links: links.copy()?,
-        potentials: potentials.copy()?,
-        routers: routers.copy()?,
-        terminator: TermNo(terminator),
-        total,
-    };
-    let ask = ask_of(parts.entities, request)?;
-    let certified = verified(alloc, parts, &ask, &claim)?;
+    let claim = claim_of(ingress, links, potentials, routers, terminator, total)?;
+    let certified = is_certified(alloc, parts, request, &claim)?;
     Ok(Plan::shown(Reply::Verified { certified }))
 }
 

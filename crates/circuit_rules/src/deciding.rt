@@ -7,17 +7,19 @@ ghost use Rattle.fabric_graph.specs.Routers.{AreRouters};
 ghost use Rattle.circuit_rules.specs.Views.{network, asked};
 ghost use Rattle.circuit_rules.specs.Decisions.{Decides, MayWantMemory};
 ghost use Rattle.path_search.specs.Visits.{costs_to};
-ghost use Rattle.circuit_rules.specs.Searched.{MayBeEntered, Passes, end_rules, GoesFirst, IsSearched, IsBestWay, IsSearchOf, exits_at};
-ghost use Rattle.path_search.specs.RouteChoices.{AreCosts};
+ghost use Rattle.circuit_rules.specs.Searched.{MayBeEntered, Passes, end_rules, GoesFirst, IsSearched, IsBestWay, IsSearchOf};
+ghost use Rattle.path_search.specs.ExitCosts.{AreCosts};
+ghost use Rattle.route_choice.specs.RouteChoices.{exits_at};
 ghost use Rattle.circuit_rules.specs.FoundRoutes.{AreWithin, IsFoundFirst, AreEnds, route_found};
 
 use crate::ingresses::allowed_ingresses;
-use crate::offers::{allowed_offers, place_of};
+use crate::offers::allowed_offers;
 use crate::places::{entries, exits};
 use crate::views::{Ask, DecideFault, Route, View};
 use ctrl_model::{Denial, IdentityNo, Potentials, Precedence, RouterNo, ServiceNo, TermNo};
 use path_certificate::Graph;
-use path_search::{Choice, CostSearch, Entry, Exit, first_of_all, visit_exits, walk};
+use path_search::{CostSearch, visit_exits, walk};
+use route_choice::{Choice, Entry, Exit, exits_at, first_of_all, place_of};
 use std::alloc::{AllocError, Global};
 
 /// Where a circuit may enter and end.
@@ -58,17 +60,6 @@ fn route_of(
         terminator: TermNo(choice.terminator),
         total: choice.total,
     })
-}
-
-// Those of the exits whose precedence stands at a place.
-fn exits_at(alloc: Global, exits: &[Exit], place: u8) -> Result<Vec<Exit>, AllocError>
-    ensures { IfOk result (λ v. v.items ≡ exits_at place exits.now) }
-{
-    exits
-        .iter()
-        .copied()
-        .filter(|exit| place_of(exit.precedence) == place)
-        .collect(alloc)
 }
 
 // The least route from entries to exits by a search that was at the places of the exits, if there is one.

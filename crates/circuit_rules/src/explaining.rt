@@ -12,10 +12,11 @@ ghost use Rattle.circuit_rules.specs.Searched.{IsSearchOf};
 
 use crate::deciding::{Found, find_route};
 use crate::numbers::router_numbers;
-use crate::offers::{offer_at, offers, place_of};
+use crate::offers::{offer_at, offers};
 use crate::reaching::reaches;
 use crate::views::{Ask, DecideFault, View};
 use ctrl_model::{Explanation, Instance, Numbers, Reaches, ServiceNo};
+use route_choice::place_of;
 use std::alloc::{AllocError, Global};
 
 // A route with what shows that it is the least: the least costs to each router that carries an admissible terminator of a

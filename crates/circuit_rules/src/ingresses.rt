@@ -1,12 +1,13 @@
 ghost use Rattle.std.specs.Prelude.{◌≡◌, ◌&&◌, ◌||◌, not, IfOk, IsErrOf};
 ghost use Rattle.std.specs.List.{list_any};
-ghost use Rattle.ctrl_model.specs.Choices.{is_wanted, ingresses};
+ghost use Rattle.ctrl_model.specs.Choices.{is_wanted, is_absent, ingresses, first_denial};
 ghost use Rattle.ctrl_model.specs.Networks.{is_shared};
 ghost use Rattle.circuit_rules.specs.Views.{network, wanted_of};
 ghost use Rattle.circuit_rules.specs.Searched.{MayBeEntered, Passes, entry_rules};
 
 use crate::views::{DecideFault, View, Wanted};
 use ctrl_model::{Denial, IdentityNo, RouterNo, RouterSeen, ServiceNo};
+use route_choice::first_denial;
 use std::alloc::{AllocError, Global};
 
 // Whether identity and service share the router, and the request allows it as its ingress.
@@ -60,6 +61,34 @@ pub fn ingresses(
         .collect(alloc)
 }
 
+// Whether the request names an ingress that is absent.
+fn is_absent(ingress: Wanted) -> bool
+    ensures { result ≡ is_absent (wanted_of ingress) }
+{
+    matches!(ingress, Wanted::Absent)
+}
+
+// The denial of the first rule on where a circuit enters that fails, if one does.
+fn entry_denial(
+    view: &View,
+    ingress: Wanted,
+    identity: IdentityNo,
+    service: ServiceNo,
+) -> Option<Denial>
+    ensures { result ≡ first_denial (entry_rules (network view.now) (wanted_of ingress) identity.0 service.0) }
+{
+    let absent = is_absent(ingress);
+    let count = view.dial.count(identity.0, service.0);
+    let shared = has_shared(view, ingress, identity, service, false);
+    let connected = has_shared(view, ingress, identity, service, true);
+    first_denial(&[
+        (absent, Denial::UnknownRouter),
+        (count == 0, Denial::NoDial),
+        (!shared, Denial::NoSharedRouter),
+        (!connected, Denial::SharedRoutersOffline),
+    ])
+}
+
 /// The routers where a circuit may enter: `Denied` comes where a rule on them fails, and memory can be wanting only where none does.
 pub fn allowed_ingresses(
     alloc: Global,
@@ -71,17 +100,8 @@ pub fn allowed_ingresses(
     ensures allowed { Passes (entry_rules (network view.now) (wanted_of ingress) identity.0 service.0) (λ v. v.items ≡ ingresses (network view.now) (wanted_of ingress) identity.0 service.0) result }
     ensures memory { IsErrOf result DecideFault.NoMemory → MayBeEntered (network view.now) (wanted_of ingress) identity.0 service.0 }
 {
-    if matches!(ingress, Wanted::Absent) {
-        return Err(DecideFault::Denied(Denial::UnknownRouter));
-    }
-    if view.dial.count(identity.0, service.0) == 0 {
-        return Err(DecideFault::Denied(Denial::NoDial));
-    }
-    if !has_shared(view, ingress, identity, service, false) {
-        return Err(DecideFault::Denied(Denial::NoSharedRouter));
-    }
-    if !has_shared(view, ingress, identity, service, true) {
-        return Err(DecideFault::Denied(Denial::SharedRoutersOffline));
+    if let Some(denial) = entry_denial(view, ingress, identity, service) {
+        return Err(DecideFault::Denied(denial));
     }
     Ok(ingresses(alloc, view, ingress, identity, service)?)
 }

@@ -2,7 +2,7 @@ ghost use Rattle.std.specs.Prelude.{◌≡◌, IfOk, map, filter};
 ghost use Rattle.circuit_rules.specs.Offers.{is_carried};
 
 use crate::offers::{Offer, is_carried};
-use ctrl_model::{Reach, RouterNo, RouterSeen};
+use ctrl_model::{Reach, RouterSeen};
 use std::alloc::{AllocError, Global};
 
 /// The numbers of the routers.
@@ -21,11 +21,13 @@ pub fn carrying_numbers(
 ) -> Result<Vec<u32>, AllocError>
     ensures { IfOk result (λ v. v.items ≡ filter (is_carried offers.now place) (map (λ r. r.no.0) routers.now)) }
 {
-    routers
-        .iter()
-        .map(|router| router.no.0)
-        .filter(|number| is_carried(offers, place, RouterNo(*number)))
-        .collect(alloc)
+    let mut carrying = Vec::new(alloc);
+    'routers: for router in routers {
+        if is_carried(offers, place, router.no) {
+            carrying.push(router.no.0)?;
+        }
+    }
+    Ok(carrying)
 }
 
 /// The numbers of the routers that the entries are for.

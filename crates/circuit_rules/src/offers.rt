@@ -1,6 +1,5 @@
 ghost use Rattle.std.specs.Prelude.{◌≡◌, map, not, IfOk};
 ghost use Rattle.std.specs.List.{filter_map, list_any};
-ghost use Rattle.ctrl_model.specs.Choices.{place_of};
 ghost use Rattle.ctrl_model.specs.Matches.{is_nothing};
 ghost use Rattle.ctrl_model.specs.Networks.{is_counted, counted, admissible};
 ghost use Rattle.terminators.specs.TermTables.{KeepsTerms};
@@ -10,6 +9,7 @@ ghost use Rattle.circuit_rules.specs.Searched.{Passes, offer_rules, counts};
 
 use crate::views::{DecideFault, View};
 use ctrl_model::{Denial, Instance, Precedence, RouterNo, ServiceNo, TermNo};
+use route_choice::place_of;
 use std::alloc::{AllocError, Global};
 use terminators::Term;
 
@@ -20,17 +20,6 @@ pub struct Offer {
     pub router: RouterNo,
     pub cost: u32,
     pub precedence: Precedence,
-}
-
-/// The place of a precedence: required before default before failed.
-pub fn place_of(precedence: Precedence) -> u8
-    ensures { result ≡ place_of precedence }
-{
-    match precedence {
-        Precedence::Required => 1,
-        Precedence::Normal => 2,
-        Precedence::Failed => 3,
-    }
 }
 
 /// What the terminator of a number offers, if it is present.

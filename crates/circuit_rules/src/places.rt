@@ -3,7 +3,7 @@ ghost use Rattle.circuit_rules.specs.Searched.{place_in, entry_of, exit_from};
 
 use crate::offers::Offer;
 use ctrl_model::{RouterNo, RouterSeen};
-use path_search::{Entry, Exit};
+use route_choice::{Entry, Exit};
 use std::alloc::{AllocError, Global};
 
 /// The place of the router of a number: how many stand before it.

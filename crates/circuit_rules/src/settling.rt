@@ -43,14 +43,24 @@ fn none_improves_at(
 ) -> bool
     ensures { result ≡ list_all (λ l. does_not_improve (value_at (router_numbers (network view.now)) values.now) router.0 (hops (network view.now) target.0 router.0 l)) links.now }
 {
-    links.iter().all(|link| does_not_improve(view, values, target, router, *link))
+    'links: for link in links {
+        if !does_not_improve(view, values, target, router, *link) {
+            return false;
+        }
+    }
+    true
 }
 
 // Whether no hop improves a value.
 fn none_improves(view: &View, links: &[u32], values: &[u64], target: RouterNo) -> bool
     ensures { result ≡ list_all (λ r. list_all (λ l. does_not_improve (value_at (router_numbers (network view.now)) values.now) r.no.0 (hops (network view.now) target.0 r.no.0 l)) links.now) view.now.routers.now }
 {
-    view.routers.iter().all(|router| none_improves_at(view, links, values, target, router.no))
+    'routers: for router in view.routers {
+        if !none_improves_at(view, links, values, target, router.no) {
+            return false;
+        }
+    }
+    true
 }
 
 // Whether the entry has a value for each router, 0 at its own, and no hop on the way to it improves a value.
@@ -73,7 +83,12 @@ fn are_settled_by_hops(view: &View, links: &[u32], entries: &[Reach]) -> bool
     requires { links.now ≡ numbers view.now.fabric.now.links.rows }
     ensures { result ≡ list_all (is_settled (network view.now)) entries.now }
 {
-    entries.iter().all(|entry| is_settled(view, links, entry))
+    'entries: for entry in entries {
+        if !is_settled(view, links, entry) {
+            return false;
+        }
+    }
+    true
 }
 
 // Whether the check over the graph of the links certifies the entry.
@@ -97,7 +112,12 @@ fn are_certified(view: &View, graph: &Graph, entries: &[Reach]) -> bool
     requires graph { IsGraphOf (network view.now) graph.now }
     ensures { result ≡ list_all (is_settled (network view.now)) entries.now }
 {
-    entries.iter().all(|entry| is_certified(view, graph, entry))
+    'entries: for entry in entries {
+        if !is_certified(view, graph, entry) {
+            return false;
+        }
+    }
+    true
 }
 
 // Whether the routers ascend by number.

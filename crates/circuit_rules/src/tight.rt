@@ -8,6 +8,7 @@ use crate::offers::Offer;
 use crate::values::claimed;
 use crate::views::View;
 use ctrl_model::{Explanation, LinkNo, Reach, RouterNo};
+use route_choice::is_total;
 
 // Where the link leads from the router by a tight hop: one that costs exactly what the claimed value falls.
 fn tight_next(
@@ -44,7 +45,7 @@ fn is_tight(view: &View, entries: &[Reach], target: RouterNo, from: RouterNo, li
 }
 
 // Whether the total is what the terminator costs and the value at the ingress.
-fn is_total(view: &View, claim: &Explanation, offer: Offer) -> bool
+fn has_its_total(view: &View, claim: &Explanation, offer: Offer) -> bool
     ensures { result ≡ (claim.now.total == offer.cost + claimed (network view.now) claim.now.potentials offer.router.0 claim.now.ingress.0) }
 {
     let value = claimed(
@@ -53,7 +54,7 @@ fn is_total(view: &View, claim: &Explanation, offer: Offer) -> bool
         offer.router,
         claim.ingress,
     );
-    u128::from(claim.total) == u128::from(offer.cost) + u128::from(value)
+    is_total(claim.total, offer.cost, value)
 }
 
 /// Whether the claimed links are a chain of tight hops from the ingress to the terminator's router, and the total is the
@@ -67,5 +68,5 @@ pub fn is_route(view: &View, claim: &Explanation, offer: Offer) -> bool
         offer.router,
         claim.ingress,
         claim.links.as_slice(),
-    ) && is_total(view, claim, offer)
+    ) && has_its_total(view, claim, offer)
 }

@@ -11,11 +11,12 @@ ghost use Rattle.circuit_rules.specs.Parts.{term_offered, unloaded, is_entitled_
 use crate::beating::none_beats;
 use crate::ingresses::ingresses;
 use crate::numbers::{carrying_numbers, entry_numbers, router_numbers};
-use crate::offers::{Offer, offer_at, offers, place_of};
+use crate::offers::{Offer, offer_at, offers};
 use crate::settling::are_settled;
 use crate::tight::is_route;
 use crate::views::{Ask, View};
 use ctrl_model::{Explanation, IdentityNo, RouterSeen, ServiceNo};
+use route_choice::place_of;
 use std::alloc::{AllocError, Global};
 
 // Whether the claimed ingress is one of these.

@@ -3,11 +3,11 @@ ghost use Rattle.circuit_settling.specs.PresentRecords.{stays_with};
 
 use crate::staying::{Present, stays};
 use circuits::{Circuit, CircuitView};
-use ctrl_model::Kind;
+use ctrl_model::{Kind, Numbers};
 use entity_store::Entities;
-use fabric_graph::FabricAfter;
+use fabric_graph::{Fabric, FabricAfter};
 use std::alloc::{AllocError, Global};
-use terminators::TerminatorsAfter;
+use terminators::{Terminators, TerminatorsAfter};
 
 /// Whether a circuit would stay beside some entities, links and terminators (docs/RULES.md, "Settling").
 pub fn would_stay(
@@ -30,4 +30,21 @@ pub fn would_stay(
         fabric,
     };
     stays(alloc, &present, &CircuitView::of(circuit))
+}
+
+/// Whether a circuit stays beside the entities, links and terminators that stand.
+pub fn stays_here(
+    alloc: Global,
+    entities: &Entities,
+    fabric: &Fabric,
+    terminators: &Terminators,
+    circuit: &Circuit,
+) -> Result<bool, AllocError>
+    ensures { IfOk result (λ b. b ≡ stays_with entities.now fabric.now terminators.now (0, circuit.now)) }
+{
+    let links = Numbers::of(Vec::new(alloc));
+    let terms = Numbers::of(Vec::new(alloc));
+    let present = FabricAfter::new(fabric, None, &links);
+    let offered = TerminatorsAfter::new(terminators, None, &terms);
+    would_stay(alloc, entities, &present, &offered, circuit)
 }

@@ -1,10 +1,8 @@
-//! What settles after a change of a valid state, by what the change takes away; which circuits stay beside the entities, links and
-//! terminators, and over which links others go on; and the changes of the rows of circuits.
+//! Which circuits stay beside the entities, links and terminators, by what granted them and by their path; over which links others go
+//! on; and the changes of the rows of circuits.
 #![tactic(auto)]
 
 mod alone;
-mod endings;
-mod falling;
 mod going;
 mod granting;
 mod judging;
@@ -16,11 +14,7 @@ mod settling;
 mod staying;
 mod worked;
 
-pub use alone::would_stay;
-pub use endings::{what_ends_with_a_change, what_ends_with_nothing};
-pub use falling::{
-    Fallen, Standing, nothing, settled_by_entity, settled_by_link, settled_by_term, stays_here,
-};
+pub use alone::{stays_here, would_stay};
 pub use going::{Remaining, going_after, judged, remaining_of};
 pub use granting::{GrantsAfter, is_granted};
 pub use judging::{Judged, judge};

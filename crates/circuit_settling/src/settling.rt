@@ -3,9 +3,9 @@ ghost use Rattle.circuits.specs.MovedCircuits.{moves_by, ended_by};
 ghost use Rattle.fabric_graph.specs.Routers.{AreRouters, HaveGraph};
 ghost use Rattle.circuit_settling.specs.OtherLinks.{granted_at, keeps_beside, keeps_at, way_at, going_beside};
 
+use crate::going::judged;
 use crate::granting::{GrantsAfter, is_granted};
-use crate::judging::{Judged, judge};
-use crate::rerouting::search_of;
+use crate::judging::Judged;
 use crate::staying::{Present, stays};
 use circuits::{CircuitView, CircuitsAfter};
 use ctrl_model::{CircuitNo, Numbers};
@@ -39,25 +39,6 @@ fn will_stay(
     }
 }
 
-// Those of some numbers whose circuit does not stay as it is.
-fn going(
-    alloc: Global,
-    circuits: &CircuitsAfter,
-    present: &Present,
-    grants: &GrantsAfter,
-    numbers: &[u32],
-) -> Result<Vec<u32>, AllocError>
-    ensures { IfOk result (λ v. v.items ≡ filter (λ n. not (keeps_at present.now grants.now circuits.now.circuits.rows n)) numbers.now) }
-{
-    let mut going = Vec::new(alloc);
-    'circuits: for number in numbers {
-        if !will_stay(alloc, circuits, present, grants, CircuitNo(*number))? {
-            going.push(*number)?;
-        }
-    }
-    Ok(going)
-}
-
 /// Those of some numbers whose circuit, if one has the number, does not stay as it is.
 pub fn going_among(
     alloc: Global,
@@ -68,7 +49,12 @@ pub fn going_among(
 ) -> Result<Numbers, AllocError>
     ensures { IfOk result (λ ns. ns ≡ filter (λ n. not (keeps_at present.now grants.now circuits.now.circuits.rows n)) numbers.now) }
 {
-    let going = going(alloc, circuits, present, grants, numbers.as_slice())?;
+    let mut going = Vec::new(alloc);
+    'circuits: for number in numbers.as_slice() {
+        if !will_stay(alloc, circuits, present, grants, CircuitNo(*number))? {
+            going.push(*number)?;
+        }
+    }
     Ok(Numbers::of(going))
 }
 
@@ -97,12 +83,12 @@ pub fn revoked_among(
 ) -> Result<Numbers, AllocError>
     ensures { IfOk result (λ ns. ns ≡ filter (λ n. not (granted_at present.now grants.now circuits.now.circuits.rows n)) numbers.now) }
 {
-    let revoked = numbers
-        .as_slice()
-        .iter()
-        .copied()
-        .filter(|number| !will_be_granted(circuits, present, grants, CircuitNo(*number)))
-        .collect(alloc)?;
+    let mut revoked = Vec::new(alloc);
+    'circuits: for number in numbers.as_slice() {
+        if !will_be_granted(circuits, present, grants, CircuitNo(*number)) {
+            revoked.push(*number)?;
+        }
+    }
     Ok(Numbers::of(revoked))
 }
 
@@ -134,6 +120,5 @@ pub fn settle(
     ensures moves { IfOk result (λ j. j.moves ≡ moves_by (way_at present.now grants.now circuits.now.circuits.rows) (going_beside present.now grants.now circuits.now.circuits.rows)) }
 {
     let going = going_circuits(alloc, circuits, present, grants)?;
-    let mut search = search_of(alloc, present)?;
-    judge(alloc, present, grants, &mut search, circuits, &going)
+    judged(alloc, present, grants, circuits, &going)
 }

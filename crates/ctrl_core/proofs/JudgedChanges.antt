@@ -23,7 +23,7 @@ use Rattle.grant_denorm.specs.CountsAfter.{count_after}
 use Rattle.terminators.specs.declared.changes.TermChange.{TermChange}
 use Rattle.terminators.specs.TermChanges.{terms_after}
 use Rattle.terminators.specs.TermTables.{TermTables}
-use Rattle.circuit_settling.specs.declared.falling.Fallen.{Fallen}
+use Rattle.fallen_records.specs.declared.falling.Fallen.{Fallen}
 use Rattle.circuit_settling.specs.declared.granting.GrantsAfter.{GrantsAfter}
 use Rattle.circuit_settling.specs.declared.judging.Judged.{Judged}
 use Rattle.circuit_settling.specs.PresentRecords.{network, stays}

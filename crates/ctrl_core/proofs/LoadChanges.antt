@@ -27,7 +27,7 @@ use Rattle.circuits.specs.CircuitTables.{CircuitTables, is_full}
 use Rattle.circuits.specs.declared.changes.CircuitChange.{CircuitChange}
 use Rattle.circuits.specs.declared.changes.CircuitChange.TheVariants as circuit
 use Rattle.circuit_settling.specs.OtherLinks.{way_in}
-use Rattle.circuit_settling.proofs.SettledRows.{each_circuit}
+use Rattle.fallen_records.proofs.SettledRows.{each_circuit}
 use Rattle.terminators.specs.declared.changes.TermChange.{TermChange}
 use Rattle.terminators.specs.declared.changes.TermChange.TheVariants as term
 use Rattle.terminators.specs.TermChanges.{after_term_change, without_terms}

@@ -12,7 +12,7 @@ use Rattle.record_tables.proofs.GoneLaws.{filter_among}
 use Rattle.record_tables.proofs.NumberLoops.{at_among}
 use Rattle.record_tables.proofs.TurnLaws.{numbers-filter}
 use Rattle.circuits.specs.declared.changes.CircuitChange.TheVariants as circuit
-use Rattle.circuit_settling.specs.declared.falling.Fallen.{Fallen}
+use Rattle.fallen_records.specs.declared.falling.Fallen.{Fallen}
 use Rattle.circuit_settling.specs.OtherLinks.{before_circuits, keeps_in, going_in}
 use Rattle.core_stores.specs.declared.changes.Change.{Change}
 use Rattle.core_stores.specs.declared.changes.Change.TheVariants as change

@@ -22,18 +22,18 @@ use Rattle.policy_store.specs.PolicyChanges.{ruled}
 use Rattle.terminators.specs.declared.changes.TermChange.{TermChange}
 use Rattle.terminators.specs.declared.changes.TermChange.TheVariants as term
 use Rattle.terminator_commands.specs.TermChanges.{offered}
-use Rattle.circuit_settling.specs.FallenRecords.{Falls, links_of, ends_on, circuits_on, marked_circuits}
-use Rattle.circuit_settling.proofs.EntityCases.{identity_gone, service_gone, router_gone}
-use Rattle.circuit_settling.proofs.MarkedRouters.{identity_more, service_more, router_more, identity_edited, service_edited, router_marked}
-use Rattle.circuit_settling.proofs.NetworkCases.{policies_changed, setting_changed, link_set, link_down, link_removed, term_set, term_removed, circuit_removed}
-use Rattle.circuit_settling.proofs.SettlingCases.{link_more, term_more, circuit_more}
+use Rattle.fallen_records.specs.FallenRecords.{Falls, links_of, ends_on, circuits_on, marked_circuits}
+use Rattle.fallen_records.proofs.EntityCases.{identity_gone, service_gone, router_gone}
+use Rattle.fallen_records.proofs.MarkedRouters.{identity_more, service_more, router_more, identity_edited, service_edited, router_marked}
+use Rattle.fallen_records.proofs.NetworkCases.{policies_changed, setting_changed, link_set, link_down, link_removed, term_set, term_removed, circuit_removed}
+use Rattle.fallen_records.proofs.SettlingCases.{link_more, term_more, circuit_more}
 use Rattle.core_stores.specs.declared.changes.Change.{Change}
 use Rattle.core_stores.specs.declared.changes.Change.TheVariants as change
 use Rattle.core_stores.specs.declared.stores.Stores.{Stores}
 use Rattle.core_stores.specs.StoredState.{state_of}
 use Rattle.ctrl_core.specs.Changes.{CanChange, after_change}
-use Rattle.circuit_settling.specs.declared.falling.Fallen.{Fallen}
-use Rattle.circuit_settling.specs.NamedRecords.{Names, number_unless, NamesByEntity, NamesByLink, NamesByTerm}
+use Rattle.fallen_records.specs.declared.falling.Fallen.{Fallen}
+use Rattle.fallen_records.specs.NamedRecords.{Names, number_unless, NamesByEntity, NamesByLink, NamesByTerm}
 use Rattle.ctrl_core.specs.PlannedCommands.{Stands}
 use Rattle.ctrl_core.specs.SettledParts.{bare_state_of, NamesBy}
 

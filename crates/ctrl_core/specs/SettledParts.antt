@@ -10,8 +10,8 @@ use Rattle.grant_denorm.specs.CountsAfter.{count_after}
 use Rattle.grant_denorm.specs.Deltas.{ups, downs}
 use Rattle.grant_denorm.specs.PairCounts.{count_of}
 use Rattle.circuit_settling.specs.declared.granting.GrantsAfter.{GrantsAfter}
-use Rattle.circuit_settling.specs.declared.falling.Fallen.{Fallen}
-use Rattle.circuit_settling.specs.NamedRecords.{Names, NamesByEntity, NamesByLink, NamesByTerm}
+use Rattle.fallen_records.specs.declared.falling.Fallen.{Fallen}
+use Rattle.fallen_records.specs.NamedRecords.{Names, NamesByEntity, NamesByLink, NamesByTerm}
 use Rattle.core_stores.specs.declared.changes.Change.{Change}
 use Rattle.core_stores.specs.declared.changes.Change.TheVariants as change
 use Rattle.core_stores.specs.declared.stores.Stores.{Stores}

@@ -11,7 +11,7 @@ ghost use Rattle.ctrl_core.specs.KeptState.{Keeps};
 ghost use Rattle.core_stores.specs.StoredState.{state_of};
 ghost use Rattle.ctrl_core.specs.NewRecords.{plain_flaw_of, policy_flaw_of};
 
-use circuit_settling::{Standing, stays_here};
+use circuit_settling::stays_here;
 use circuits::Circuit;
 use core_stores::Stores;
 use ctrl_model::{Kind, Name, Names, Side, limit};
@@ -117,13 +117,13 @@ pub fn policy_flaw(
 fn would_stay(alloc: Global, stores: &Stores, circuit: &Circuit) -> Result<bool, AllocError>
     ensures { IfOk result (λ b. b ≡ stays_in (state_of stores.now) (0, circuit.now)) }
 {
-    let standing = Standing {
-        entities: &stores.entities,
-        fabric: &stores.fabric,
-        terminators: &stores.terminators,
-        circuits: &stores.circuits,
-    };
-    stays_here(alloc, &standing, circuit)
+    stays_here(
+        alloc,
+        &stores.entities,
+        &stores.fabric,
+        &stores.terminators,
+        circuit,
+    )
 }
 
 /// Why a circuit cannot join, if it cannot.

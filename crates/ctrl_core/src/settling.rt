@@ -2,7 +2,7 @@ ghost use Rattle.std.specs.Prelude.{◌≡◌, ◌&&◌, [], IfOk};
 ghost use Rattle.ctrl_model.specs.declared.kinds.Relation.{Relation};
 ghost use Rattle.record_tables.specs.AfterChange.{changed_by};
 ghost use Rattle.entity_store.specs.EntityChanges.{after_entity_change};
-ghost use Rattle.circuit_settling.specs.FallenRecords.{Falls};
+ghost use Rattle.fallen_records.specs.FallenRecords.{Falls};
 ghost use Rattle.core_stores.specs.ChangeParts.{entity_part};
 ghost use Rattle.policy_store.specs.StepsOfRelations.{steps_of, takes_nothing};
 ghost use Rattle.circuit_settling.specs.PresentRecords.{Remains};
@@ -17,14 +17,16 @@ ghost use Rattle.ctrl_core.specs.PlannedCommands.{Stands};
 ghost use Rattle.ctrl_core.specs.SettledRecords.{AreJudged, AreSettled};
 
 use circuit_settling::{
-    Fallen, GrantsAfter, Judged, Present, Remaining, Standing, going_after, judged, nothing,
-    remaining_of, settled_by_entity, settled_by_link, settled_by_term,
+    GrantsAfter, Judged, Present, Remaining, going_after, judged, remaining_of,
 };
 use circuits::{CircuitsAfter, Moves};
 use core_stores::{Change, Grants, Settled, Stores};
 use ctrl_model::Numbers;
 use entity_store::EntitiesAfter;
 use fabric_graph::FabricAfter;
+use fallen_records::{
+    Fallen, Standing, nothing, settled_by_entity, settled_by_link, settled_by_term,
+};
 use grant_denorm::CountedAfter;
 use policy_store::GrantSteps;
 use std::alloc::{AllocError, Global};

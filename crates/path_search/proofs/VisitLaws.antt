@@ -5,8 +5,8 @@ use Rattle.ctrl_model.specs.Membership.{Among}
 use Rattle.ctrl_model.proofs.Members.{by_append, by_list_any}
 use Rattle.path_certificate.specs.Graphs.{GraphSeen}
 use Rattle.path_search.specs.Visits.{costs_to, IsKnown}
-use Rattle.path_search.specs.declared.choosing.Exit.{Exit}
-use Rattle.path_search.specs.RouteChoices.{AreCosts}
+use Rattle.route_choice.specs.declared.choosing.Exit.{Exit}
+use Rattle.path_search.specs.ExitCosts.{AreCosts}
 
 pub visited_more : (g k : GraphSeen) (exits : List Exit) (old new : List (List ℕ)) (i : ℕ) (d : Exit) → i < length exits
     → ((o : Exit) → Among o (take i exits) → IsKnown g o.place (costs_to old o.place))

@@ -2,4 +2,4 @@ pub mod Searches
 pub mod Supports
 pub mod Visits
 pub mod MirroredSearches
-pub mod RouteChoices
+pub mod ExitCosts

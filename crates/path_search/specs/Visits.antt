@@ -1,15 +1,11 @@
 -- What the searches of one graph, each to a place, come to know (docs/PROMISES.md, "Paths of a graph").
 use Rattle.std.specs.Prelude.{◌≡◌, ℕ, ◌<◌, ◌⊎◌, List, [], length}
-use Rattle.std.specs.List.{slice_index_or}
 use Rattle.path_certificate.specs.Graphs.{GraphSeen}
 use Rattle.path_certificate.specs.StepLists.{AreListed}
 use Rattle.path_certificate.specs.declared.graph.Step.{Step}
 use Rattle.path_certificate.specs.declared.listing.StepEnd.TheVariants as step_end
 use Rattle.path_search.specs.Searches.{IsLeast, AreFew}
-
--- The least costs to a place, of lists by place.
-abbrev pub costs_to : List (List ℕ) → ℕ → List ℕ
-costs_to costs place = slice_index_or costs place []
+pub use Rattle.route_choice.specs.RouteChoices.{costs_to}
 
 -- The least costs of paths to a place, each with its bound.
 abbrev pub IsKnown : GraphSeen → ℕ → List ℕ → Type 0

@@ -1,8 +1,6 @@
-//! The search for least paths in a graph: the least cost from each place to a target, the first of the least paths, and the first of
-//! all choices of where a path begins and ends.
+//! The search for least paths in a graph: the least cost from each place to a target, and the first of the least paths.
 #![tactic(auto)]
 
-mod choosing;
 mod laws;
 mod relaxing;
 mod searching;
@@ -11,7 +9,6 @@ mod waiting;
 mod walking;
 mod worked;
 
-pub use choosing::{Choice, Entry, Exit, first_of_all};
 pub use laws::least_paths_of_a_network;
 pub use relaxing::{arrivals, least, least_over};
 pub use searching::visit_exits;

@@ -1,9 +1,9 @@
 ghost use Rattle.std.specs.Prelude.{◌≡◌, ◌<◌, ℕ, All, length, OnOk};
 ghost use Rattle.path_search.specs.Visits.{costs_to};
-ghost use Rattle.path_search.specs.RouteChoices.{AreCosts};
+ghost use Rattle.path_search.specs.ExitCosts.{AreCosts};
 
-use crate::choosing::Exit;
 use crate::visiting::CostSearch;
+use route_choice::Exit;
 use std::alloc::{AllocError, Global};
 
 /// Searches the least costs to the place of each exit.

@@ -4,7 +4,7 @@ use Rattle.std.specs.List.{All}
 use Rattle.std.specs.Option.{option_map}
 use Rattle.model_laws.proofs.NumberLaws.{Between-none_twice}
 use Rattle.circuit_rules.specs.declared.deciding.Found.{Found}
-use Rattle.path_search.specs.declared.choosing.Exit.{Exit}
+use Rattle.route_choice.specs.declared.choosing.Exit.{Exit}
 use Rattle.circuit_rules.specs.Views.{network, asked}
 use Rattle.circuit_rules.proofs.RequestLaws.{IsRequest, exits_cheap, ends_entered, ends_left, best_way}
 use Rattle.circuit_rules.proofs.deciding.best_route.Goals as goal

@@ -1,10 +1,10 @@
 use Rattle.ctrl_model.specs.Limits.{most_terminator_cost}
 use Rattle.std.proofs.Common.{◌<◌, ◌≤◌, length, sym, ◌∙◌, ap, subst}
 use Rattle.std.specs.List.{All}
-use Rattle.path_search.specs.declared.choosing.Entry.{Entry}
-use Rattle.path_search.specs.declared.choosing.Exit.{Exit}
+use Rattle.route_choice.specs.declared.choosing.Entry.{Entry}
+use Rattle.route_choice.specs.declared.choosing.Exit.{Exit}
 use Rattle.circuit_rules.specs.Views.{network}
-use Rattle.circuit_rules.specs.Searched.{exits_at}
+use Rattle.route_choice.specs.RouteChoices.{exits_at}
 use Rattle.circuit_rules.proofs.SearchLaws.{still_search, within_at}
 use Rattle.circuit_rules.proofs.deciding.route_at.Goals as goal
 

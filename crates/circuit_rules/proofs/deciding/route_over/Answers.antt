@@ -1,6 +1,6 @@
 use Rattle.std.proofs.Common.{◌<◌, length, None, Some, sym, ◌∙◌, subst}
 use Rattle.std.specs.List.{All}
-use Rattle.path_search.specs.declared.choosing.Exit.{Exit}
+use Rattle.route_choice.specs.declared.choosing.Exit.{Exit}
 use Rattle.circuit_rules.specs.Views.{network}
 use Rattle.circuit_rules.specs.Searched.{GoesFirst, IsFound}
 use Rattle.circuit_rules.proofs.SearchLaws.{IsWalkable, ready, searched, small_costs, walkable}

@@ -1,7 +1,7 @@
 use Rattle.std.proofs.Common.{◌≡◌, take}
 use Rattle.ctrl_model.specs.Membership.{Among}
 use Rattle.path_search.specs.Visits.{costs_to, IsKnown}
-use Rattle.path_search.specs.declared.choosing.Exit.{Exit}
+use Rattle.route_choice.specs.declared.choosing.Exit.{Exit}
 use Rattle.path_search.proofs.searching.visit_exits.Given as goal
 
 -- the least costs to the places of the exits before the index are there

@@ -1,5 +1,0 @@
-use Rattle.std.proofs.Common.{rules}
-use Rattle.circuit_rules.proofs.tight.is_total.Goals as goal
-
-pub returns : goal.returns
-returns c = search rules

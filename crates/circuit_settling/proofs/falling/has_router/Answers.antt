@@ -1,5 +1,0 @@
-use Rattle.std.proofs.Common.{is_some, ◌∙◌, ap}
-use Rattle.circuit_settling.proofs.falling.has_router.Goals as goal
-
-pub returns : goal.returns
-returns c = c.is_some.ensures ∙ ap is_some c.router.ensures

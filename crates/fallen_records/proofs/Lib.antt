@@ -1,0 +1,15 @@
+pub mod FailingRows
+pub mod SettledRows
+pub mod HeldHops
+pub mod HeldWalks
+pub mod LostLaws
+pub mod ClosedLaws
+pub mod HeldRows
+pub mod TurnedStates
+pub mod EntitiesLeft
+pub mod FallenCircuits
+pub mod SettlingCases
+pub mod EntityCases
+pub mod ClosedRouters
+pub mod NetworkCases
+pub mod MarkedRouters

@@ -1,0 +1,2 @@
+pub mod FallenRecords
+pub mod NamedRecords
