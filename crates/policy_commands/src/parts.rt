@@ -48,6 +48,12 @@ impl<'a> PolicyView<'a> {
     pub fn copied(&self) -> Result<Policy, AllocError>
         ensures { IfOk result (λ p. p ≡ self.now) }
     {
-        policy_of(self.name, self.relation, self.semantic, self.left, self.right)
+        policy_of(
+            self.name,
+            self.relation,
+            self.semantic,
+            self.left,
+            self.right,
+        )
     }
 }

@@ -73,11 +73,7 @@ fn unknown_ref(
 }
 
 // The refusal that a fault of the store is.
-fn refusal_for(
-    kind: Kind,
-    policy: &PolicyView,
-    fault: PolicyFault,
-) -> Result<Refusal, AllocError>
+fn refusal_for(kind: Kind, policy: &PolicyView, fault: PolicyFault) -> Result<Refusal, AllocError>
     requires kind { is_policy_kind kind ≡ true }
     requires place { IsPlaced fault policy.now }
     ensures refusal { IfOk result (λ r. r ≡ refusal_for kind policy.now fault) }
@@ -222,8 +218,7 @@ fn plan_service_policy(
             identity_roles,
             service_roles,
         } => {
-            let policy =
-                PolicyView::of(name, *relation, *semantic, identity_roles, service_roles);
+            let policy = PolicyView::of(name, *relation, *semantic, identity_roles, service_roles);
             Ok(Some(plan_create(alloc, known, kind, &policy)?))
         }
         Command::UpdateServicePolicy {
@@ -233,8 +228,7 @@ fn plan_service_policy(
             identity_roles,
             service_roles,
         } => {
-            let policy =
-                PolicyView::of(name, *relation, *semantic, identity_roles, service_roles);
+            let policy = PolicyView::of(name, *relation, *semantic, identity_roles, service_roles);
             Ok(Some(plan_replace(alloc, known, kind, &policy)?))
         }
         Command::DeleteServicePolicy { name } => Ok(Some(plan_delete(known.policies, kind, name))),

@@ -83,8 +83,9 @@ impl Terminators {
         })
     }
 
-    /// Whether a terminator may be added, whose instance is lent: `Full` comes exactly where as many as may be are present or their numbers have run out, and else
-    /// `NotBindable` exactly where a host is named that lacks Bind on the service (docs/RULES.md, "Commands on terminators").
+    /// Whether a terminator may be added, whose instance is lent: `Full` comes exactly where as many as may be are present or their numbers
+    /// have run out, and else `NotBindable` exactly where a host is named that lacks Bind on the service (docs/RULES.md, "Commands on
+    /// terminators").
     pub fn may_add(&self, term: &TermView, bind: &Counted) -> Result<(), TermFault>
         ensures { result ≡ may_add term.now self.now bind.now }
     {
