@@ -1,11 +1,14 @@
 -- What a plan of a command on entities is (docs/PROMISES.md, "Commands on entities").
-use Rattle.std.specs.Prelude.{Bool, true, false}
+use Rattle.std.specs.Prelude.{◌≡◌, Bool, true, false}
 use Rattle.ctrl_model.specs.declared.commands.Command.{Command}
 use Rattle.ctrl_model.specs.declared.commands.Command.TheVariants as command
 use Rattle.ctrl_model.specs.declared.replies.Reply.{Reply}
 use Rattle.ctrl_model.specs.State.{State}
+use Rattle.ctrl_model.specs.ValidState.{ValidState}
+use Rattle.entity_store.specs.EntityTables.{Tables}
+use Rattle.entity_store.specs.HeldUses.{with_entities, HoldsPolicies}
 use Rattle.model_laws.specs.declared.plans.Plan.{Plan}
-use Rattle.model_laws.specs.Plans.{Plans}
+use Rattle.model_laws.specs.Plans.{Plans, tells_change}
 use Rattle.entity_store.specs.declared.changes.EntityChange.{EntityChange}
 use Rattle.entity_commands.specs.EntityChanges.{entered, CanEnter}
 
@@ -27,3 +30,7 @@ is_entity_command _ = false
 -- The plan of an answer by a change of entities.
 abbrev pub PlansEntities : Plan EntityChange → Reply × State → State → Type 0
 PlansEntities p answered s = Plans entered CanEnter p answered s
+
+-- An answer tells a change, and so is no refusal, in every valid state with these entities, of whose policies these uses are held.
+abbrev pub TellsChange : (State → Reply × State) → Tables → Type 0
+TellsChange answer t = (s : State) → ValidState (with_entities t s) → HoldsPolicies t s → tells_change (answer (with_entities t s)).0 ≡ true

@@ -1,4 +1,4 @@
-ghost use Rattle.std.specs.Prelude.{◌≡◌, true, false, IfOk, MatchOption};
+ghost use Rattle.std.specs.Prelude.{◌≡◌, true, false, IfOk, OnErr, MatchOption};
 ghost use Rattle.ctrl_model.specs.Controller.{carry};
 ghost use Rattle.ctrl_model.specs.RecordCommands.{delete};
 ghost use Rattle.ctrl_model.specs.declared.refusals.Refusal.TheVariants.{Unknown};
@@ -10,7 +10,7 @@ ghost use Rattle.entity_store.specs.EntityTables.{is_entity_kind};
 ghost use Rattle.entity_store.specs.HeldUses.{with_entities, HoldsPolicies};
 ghost use Rattle.entity_store.specs.TableRules.{is_there};
 ghost use Rattle.entity_commands.specs.EntityChanges.{is_plain_kind};
-ghost use Rattle.entity_commands.specs.EntityPlans.{is_entity_command, PlansEntities};
+ghost use Rattle.entity_commands.specs.EntityPlans.{is_entity_command, PlansEntities, TellsChange};
 ghost use Rattle.entity_commands.specs.PlannedEntities.{Answers, answer_add, answer_update, refusal_of_add, refusal_of_describe};
 
 use ctrl_model::{Command, Copies, Field, Kind, Name, Names, Refusal, Reply, RouterNo};
@@ -84,7 +84,8 @@ fn plan_add(
     attributes: &Names,
 ) -> Result<Plan<EntityChange>, AllocError>
     requires { is_plain_kind kind ≡ true }
-    ensures { IfOk result (Answers (answer_add kind name.now attributes.now) entities.now) }
+    ensures plan { IfOk result (Answers (answer_add kind name.now attributes.now) entities.now) }
+    ensures memory { OnErr result (TellsChange (answer_add kind name.now attributes.now) entities.now) }
 {
     if let Some(refusal) = refusal_of_add(alloc, entities, kind, name, attributes) {
         return Ok(Plan::refused(refusal));
@@ -109,7 +110,8 @@ fn plan_add_router(
     cost: u32,
     no_traversal: bool,
 ) -> Result<Plan<EntityChange>, AllocError>
-    ensures { IfOk result (Answers (create_router name.now attributes.now cost no_traversal) entities.now) }
+    ensures plan { IfOk result (Answers (create_router name.now attributes.now cost no_traversal) entities.now) }
+    ensures memory { OnErr result (TellsChange (create_router name.now attributes.now cost no_traversal) entities.now) }
 {
     if let Some(refusal) = refusal_of_add(alloc, entities, Kind::Router, name, attributes) {
         return Ok(Plan::refused(refusal));
@@ -134,7 +136,8 @@ fn plan_update(
     attributes: &Names,
 ) -> Result<Plan<EntityChange>, AllocError>
     requires { is_plain_kind kind ≡ true }
-    ensures { IfOk result (Answers (answer_update kind name.now attributes.now) entities.now) }
+    ensures plan { IfOk result (Answers (answer_update kind name.now attributes.now) entities.now) }
+    ensures memory { OnErr result (TellsChange (answer_update kind name.now attributes.now) entities.now) }
 {
     let Ok(number) = entities.find(kind, name) else {
         return Ok(unknown_name());
@@ -159,7 +162,8 @@ fn plan_update_router(
     cost: u32,
     no_traversal: bool,
 ) -> Result<Plan<EntityChange>, AllocError>
-    ensures { IfOk result (Answers (update_router name.now attributes.now cost no_traversal) entities.now) }
+    ensures plan { IfOk result (Answers (update_router name.now attributes.now cost no_traversal) entities.now) }
+    ensures memory { OnErr result (TellsChange (update_router name.now attributes.now cost no_traversal) entities.now) }
 {
     let Ok(number) = entities.find(Kind::Router, name) else {
         return Ok(unknown_name());
@@ -188,7 +192,8 @@ fn plan_delete(
     name: &Name,
 ) -> Result<Plan<EntityChange>, AllocError>
     requires { is_entity_kind kind ≡ true }
-    ensures { IfOk result (Answers (delete kind Field.Name name.now) entities.now) }
+    ensures plan { IfOk result (Answers (delete kind Field.Name name.now) entities.now) }
+    ensures memory { OnErr result (TellsChange (delete kind Field.Name name.now) entities.now) }
 {
     let Ok(number) = entities.find(kind, name) else {
         return Ok(unknown_name());
@@ -199,15 +204,11 @@ fn plan_delete(
 }
 
 // Plans that a router is connected, or not.
-fn plan_mark(
-    entities: &Entities,
-    name: &Name,
-    connected: bool,
-) -> Result<Plan<EntityChange>, AllocError>
-    ensures { IfOk result (Answers (mark_router name.now connected) entities.now) }
+fn plan_mark(entities: &Entities, name: &Name, connected: bool) -> Plan<EntityChange>
+    ensures { Answers (mark_router name.now connected) entities.now result }
 {
     let Ok(number) = entities.find(Kind::Router, name) else {
-        return Ok(unknown_name());
+        return unknown_name();
     };
     let Some(router) = entities.router(RouterNo(number)) else {
         unreachable!()
@@ -218,20 +219,21 @@ fn plan_mark(
         through: router.through,
         connected,
     };
-    Ok(Plan::changed(Reply::Done, change))
+    Plan::changed(Reply::Done, change)
 }
 
 /// Plans the answer to a command on identities, services or edge routers: in every valid state with these entities, of whose
 /// policies the store holds the uses of attributes, it is the controller's (docs/RULES.md, "Commands on entities"). None is a
-/// command on something else.
+/// command on something else. Memory can be wanting only where the answer tells a change: every refusal is told without.
 pub fn plan_entity_command(
     alloc: Global,
     entities: &Entities,
     command: &Command,
 ) -> Result<Option<Plan<EntityChange>>, AllocError>
-    ensures { IfOk result (λ o. MatchOption o (is_entity_command command.now ≡ false)
+    ensures plan { IfOk result (λ o. MatchOption o (is_entity_command command.now ≡ false)
         (λ p. (s : State) → ValidState (with_entities entities.now s) → HoldsPolicies entities.now s
         → PlansEntities p (carry command.now (with_entities entities.now s)) (with_entities entities.now s))) }
+    ensures memory { OnErr result ((is_entity_command command.now ≡ true) × TellsChange (carry command.now) entities.now) }
 {
     let plan = match command {
         Command::CreateIdentity { name, attributes } => {
@@ -261,8 +263,8 @@ pub fn plan_entity_command(
             no_traversal,
         } => plan_update_router(entities, name, attributes, *cost, *no_traversal)?,
         Command::DeleteRouter { name } => plan_delete(entities, Kind::Router, name)?,
-        Command::ConnectRouter { name } => plan_mark(entities, name, true)?,
-        Command::DisconnectRouter { name } => plan_mark(entities, name, false)?,
+        Command::ConnectRouter { name } => plan_mark(entities, name, true),
+        Command::DisconnectRouter { name } => plan_mark(entities, name, false),
         _ => return Ok(None),
     };
     Ok(Some(plan))

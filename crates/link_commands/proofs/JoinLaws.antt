@@ -25,8 +25,9 @@ use Rattle.fabric_graph.specs.FabricRules.{may_add, has_link_room}
 use Rattle.fabric_graph.specs.declared.changes.LinkChange.TheVariants as change
 use Rattle.fabric_graph.specs.declared.changes.LinkChange.{LinkChange}
 use Rattle.model_laws.specs.declared.plans.Plan.{Plan}
-use Rattle.model_laws.specs.Plans.{changed}
+use Rattle.model_laws.specs.Plans.{changed, tells_change}
 use Rattle.link_commands.specs.LinkChanges.{over}
+use Rattle.link_commands.specs.LinkPlans.{TellsChange}
 use Rattle.link_commands.specs.PlannedLinks.{Answers, Joins, RefusesJoin}
 use Rattle.link_commands.proofs.PlanLaws.{planned}
 
@@ -109,3 +110,10 @@ create_planned name a b cost latency_a latency_b t f from to kept n p c d e join
     linked x y = record (over t f s) {
       links = with_new (record { name = name; a = x; b = y; cost = cost; latency_a = latency_a; latency_b = latency_b; up = true }) f.links;
     }
+
+-- where two routers may be joined, the answer tells a change
+pub create_told : (name a b : List ℕ) (cost latency_a latency_b : ℕ) (t : Tables) (f : FabricSeen) (from to : RouterNo)
+    → is_link_cost cost ≡ true → is_latency latency_a ≡ true → is_latency latency_b ≡ true → Joins name a b t f from.0 to.0
+    → TellsChange (create_link name a b cost latency_a latency_b) t f
+create_told name a b cost latency_a latency_b t f from to c d e joins = λ s valid.
+    ap tells_change (sym (create_planned name a b cost latency_a latency_b t f from to name f.links.next _ c d e joins refl refl refl s valid).reply)

@@ -1,4 +1,4 @@
-ghost use Rattle.std.specs.Prelude.{◌≡◌, ◌==◌, true, false, cond, None, Some, IfOk, IfErr, MatchOption};
+ghost use Rattle.std.specs.Prelude.{◌≡◌, ◌==◌, true, false, cond, None, Some, IfOk, IfErr, OnErr, MatchOption};
 ghost use Rattle.ctrl_model.specs.CommandForm.{is_spelled, is_link_cost, is_latency};
 ghost use Rattle.ctrl_model.specs.Controller.{carry};
 ghost use Rattle.ctrl_model.specs.LinkCommands.{create_link, set_link_cost, report_latency, report_state, delete_link, set_least_router_cost};
@@ -7,7 +7,7 @@ ghost use Rattle.ctrl_model.specs.ValidState.{ValidState};
 ghost use Rattle.entity_store.specs.EntityTables.{Tables};
 ghost use Rattle.fabric_graph.specs.FabricTables.{FabricSeen};
 ghost use Rattle.link_commands.specs.LinkChanges.{over};
-ghost use Rattle.link_commands.specs.LinkPlans.{is_link_command, PlansLinks};
+ghost use Rattle.link_commands.specs.LinkPlans.{is_link_command, PlansLinks, TellsChange};
 ghost use Rattle.link_commands.specs.PlannedLinks.{Answers, Joins, RefusesJoin, IsLink, Reports, RefusesReport, end_of};
 
 use ctrl_model::{Command, Copies, Field, Kind, LinkNo, Name, Refusal, Reply, RouterNo};
@@ -75,7 +75,8 @@ fn plan_create_link(
     requires cost { is_link_cost cost ≡ true }
     requires latency_a { is_latency latency_a ≡ true }
     requires latency_b { is_latency latency_b ≡ true }
-    ensures { IfOk result (Answers (create_link name.now a.now b.now cost latency_a latency_b) entities.now fabric.now) }
+    ensures plan { IfOk result (Answers (create_link name.now a.now b.now cost latency_a latency_b) entities.now fabric.now) }
+    ensures memory { OnErr result (TellsChange (create_link name.now a.now b.now cost latency_a latency_b) entities.now fabric.now) }
 {
     let (a, b) = match joined(entities, fabric, name, a, b) {
         Ok(ends) => ends,
@@ -225,16 +226,18 @@ fn plan_set_least_router_cost(cost: u32) -> Plan<LinkChange>
 }
 
 /// Plans the answer to a command on links, or on the least router cost, that some body spells: in every valid state with these
-/// routers and these links it is the controller's (docs/RULES.md, "Commands on links"). None is a command on something else.
+/// routers and these links it is the controller's (docs/RULES.md, "Commands on links"). None is a command on something else. Memory
+/// can be wanting only where a link is made: every refusal is told without.
 pub fn plan_link_command(
     entities: &Entities,
     fabric: &Fabric,
     command: &Command,
 ) -> Result<Option<Plan<LinkChange>>, AllocError>
     requires { is_spelled command.now ≡ true }
-    ensures { IfOk result (λ o. MatchOption o (is_link_command command.now ≡ false)
+    ensures plan { IfOk result (λ o. MatchOption o (is_link_command command.now ≡ false)
         (λ p. (s : State) → ValidState (over entities.now fabric.now s)
         → PlansLinks p (carry command.now (over entities.now fabric.now s)) (over entities.now fabric.now s))) }
+    ensures memory { OnErr result ((is_link_command command.now ≡ true) × TellsChange (carry command.now) entities.now fabric.now) }
 {
     match command {
         Command::CreateLink {

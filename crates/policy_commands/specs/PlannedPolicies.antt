@@ -1,5 +1,5 @@
 -- What the private functions of planning answer. No public contract cites it.
-use Rattle.std.specs.Prelude.{ℕ, ◌<◌, ◌≤◌, ⊤, Bool, not, cond, List, [], ◌++◌, length, slice_index_or, Some, Ok, Err}
+use Rattle.std.specs.Prelude.{◌≡◌, ℕ, ◌<◌, ◌≤◌, ⊤, Bool, true, false, not, cond, List, [], ◌++◌, length, slice_index_or, None, Some, Ok, Err}
 use Rattle.std.specs.declared.result.Result.{Result}
 use Rattle.std.specs.declared.option.Option.{Option}
 use Rattle.ctrl_model.specs.declared.commands.Command.{Command}
@@ -19,13 +19,10 @@ use Rattle.ctrl_model.specs.ValidState.{ValidState}
 use Rattle.ctrl_model.specs.Rules.{refuse_if}
 use Rattle.ctrl_model.specs.RecordCommands.{refusal_of_create, refusal_of_update, absent_names, roles_of}
 use Rattle.ctrl_model.specs.PolicyCommands.{replaced_by, create_service_policy, create_edge_router_policy, create_service_edge_router_policy, update_service_policy, update_edge_router_policy, update_service_edge_router_policy}
-use Rattle.ctrl_model.specs.declared.numbering.PolicyNo.{PolicyNo}
 use Rattle.model_laws.specs.declared.plans.Plan.{Plan}
-use Rattle.model_laws.specs.Plans.{refused, changed}
 use Rattle.entity_store.specs.EntityTables.{Tables}
 use Rattle.entity_store.specs.AttributeUses.{has_attribute_room}
 use Rattle.policy_store.specs.declared.changes.PolicyChange.{PolicyChange}
-use Rattle.policy_store.specs.declared.changes.PolicyChange.TheVariants as change
 use Rattle.policy_store.specs.declared.policies.PolicyFault.{PolicyFault}
 use Rattle.policy_store.specs.declared.policies.PolicyFault.TheVariants as fault
 use Rattle.policy_store.specs.PolicyTables.{PolicyTables}
@@ -105,7 +102,13 @@ refusal_to_put k p fresh gone t e = refusal_judged k p gone e (may_put k p fresh
 abbrev pub router_kind : Command → Kind × Relation
 router_kind c = cond (is_edge_router_policy_command c) (kind.EdgeRouterPolicy, IdentityRouter) (kind.ServiceEdgeRouterPolicy, ServiceRouter)
 
--- The plan of other parts of a policy, of the number that has its name or the refusal.
-abbrev pub plan_of_replaced : Kind → Policy → Result PolicyNo Refusal → Plan PolicyChange
-plan_of_replaced k p (Ok number) = changed Done (change.Replace k number.0 p)
-plan_of_replaced k p (Err refusal) = refused refusal
+-- Whether what the store judges of a policy is told with memory: it may be put, and then it is copied, or an absent `@` name is told.
+abbrev pub needs_memory : Result ⊤ PolicyFault → Bool
+needs_memory (Ok u) = true
+needs_memory (Err (fault.UnknownRef right place)) = true
+needs_memory (Err f) = false
+
+-- What becomes of a policy, by its refusal, if there is one: an equal one is put, or that refusal is told.
+abbrev pub IsJudged : Policy → Option Refusal → Result Policy Refusal → Type 0
+IsJudged p refusal (Ok q) = (q ≡ p) × (refusal ≡ None)
+IsJudged p refusal (Err r) = refusal ≡ Some r

@@ -1,13 +1,20 @@
 -- What a plan of a command on policies is (docs/PROMISES.md, "The stores of a core").
-use Rattle.std.specs.Prelude.{Bool, true, false, ◌||◌}
+use Rattle.std.specs.Prelude.{◌≡◌, Bool, true, false, ◌||◌}
 use Rattle.ctrl_model.specs.declared.commands.Command.{Command}
 use Rattle.ctrl_model.specs.declared.commands.Command.TheVariants as command
+use Rattle.ctrl_model.specs.declared.kinds.Kind.TheVariants as kind
+use Rattle.ctrl_model.specs.declared.refusals.Refusal.TheVariants.{Full, UnknownRef}
 use Rattle.ctrl_model.specs.declared.replies.Reply.{Reply}
+use Rattle.ctrl_model.specs.declared.replies.Reply.TheVariants.{Refused}
 use Rattle.ctrl_model.specs.State.{State}
+use Rattle.ctrl_model.specs.ValidState.{ValidState}
+use Rattle.entity_store.specs.EntityTables.{Tables}
 use Rattle.model_laws.specs.declared.plans.Plan.{Plan}
-use Rattle.model_laws.specs.Plans.{Plans}
+use Rattle.model_laws.specs.Plans.{Plans, tells_change}
 use Rattle.policy_store.specs.declared.changes.PolicyChange.{PolicyChange}
 use Rattle.policy_store.specs.PolicyChanges.{ruled, CanRule}
+use Rattle.policy_store.specs.PolicyTables.{PolicyTables}
+use Rattle.policy_commands.specs.PolicyStates.{over}
 
 -- The commands on service policies.
 abbrev pub is_service_policy_command : Command → Bool
@@ -37,3 +44,14 @@ is_policy_command c = is_service_policy_command c || (is_edge_router_policy_comm
 -- The plan of an answer by a change of policies.
 abbrev pub PlansPolicies : Plan PolicyChange → Reply × State → State → Type 0
 PlansPolicies p answered s = Plans ruled CanRule p answered s
+
+-- Whether a reply takes memory: it tells a change, which owns a policy; it tells an absent `@` name; or it refuses attributes, which are
+-- listed to be counted. Every other refusal is found and told without.
+abbrev pub takes_memory : Reply → Bool
+takes_memory (Refused (UnknownRef field name)) = true
+takes_memory (Refused (Full kind.Attribute)) = true
+takes_memory r = tells_change r
+
+-- An answer takes memory in every valid state with these entities and these policies.
+abbrev pub TakesMemory : (State → Reply × State) → Tables → PolicyTables → Type 0
+TakesMemory answer t p = (s : State) → ValidState (over t p s) → takes_memory (answer (over t p s)).0 ≡ true

@@ -2,12 +2,14 @@
 #![tactic(auto)]
 
 mod applying;
+mod parts;
 mod planning;
 mod putting;
 mod rows;
 mod worked;
 
 pub use applying::{apply_policy_change, forget_by};
+pub use parts::PolicyView;
 pub use planning::plan_policy_command;
 pub use policy_store::PolicyChange;
 pub use putting::{left_kind, may_put, right_kind};

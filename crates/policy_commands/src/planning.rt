@@ -1,25 +1,25 @@
-ghost use Rattle.std.specs.Prelude.{◌≡◌, ◌<◌, ◌++◌, ◌||◌, true, false, IfOk, MatchOption, length, slice_index_or, [], Some};
+ghost use Rattle.std.specs.Prelude.{◌≡◌, ◌<◌, ◌||◌, true, false, IfOk, OnErr, Err, MatchOption, length, slice_index_or, []};
 ghost use Rattle.ctrl_model.specs.CommandForm.{is_spelled};
-ghost use Rattle.ctrl_model.specs.Controller.{carry, policy};
+ghost use Rattle.ctrl_model.specs.Controller.{carry};
 ghost use Rattle.ctrl_model.specs.RecordCommands.{delete};
 ghost use Rattle.ctrl_model.specs.State.{State};
 ghost use Rattle.ctrl_model.specs.ValidState.{ValidState};
 ghost use Rattle.ctrl_model.specs.declared.refusals.Refusal.TheVariants.{Unknown, UnknownRef};
 ghost use Rattle.model_laws.specs.Plans.{refused};
-ghost use Rattle.entity_store.specs.AttributeUses.{AreUsed, has_attribute_room};
+ghost use Rattle.entity_store.specs.AttributeUses.{AreUsed};
 ghost use Rattle.entity_store.specs.EntityTables.{Tables};
 ghost use Rattle.policy_store.specs.PolicyTables.{is_policy_kind};
 ghost use Rattle.policy_commands.specs.PolicyStates.{HoldsUses, over};
-ghost use Rattle.policy_commands.specs.PolicyPlans.{is_policy_command, is_service_policy_command, is_edge_router_policy_command, is_service_edge_router_policy_command, PlansPolicies};
-ghost use Rattle.policy_commands.specs.PlannedPolicies.{Answers, AreShort, IsPlaced, ids_of, refusal_for, refusal_to_put, answer_create, answer_replace, plan_of_replaced, roles_field, router_kind};
+ghost use Rattle.policy_commands.specs.PolicyPlans.{is_policy_command, is_service_policy_command, is_edge_router_policy_command, is_service_edge_router_policy_command, PlansPolicies, TakesMemory};
+ghost use Rattle.policy_commands.specs.PutPolicies.{may_put};
+ghost use Rattle.policy_commands.specs.PlannedPolicies.{Answers, AreShort, IsJudged, IsPlaced, ids_of, needs_memory, refusal_for, refusal_to_put, answer_create, answer_replace, roles_field, router_kind};
 
+use crate::parts::PolicyView;
 use crate::putting::may_put;
-use ctrl_model::{
-    Command, Copies, Field, Kind, Name, Names, PolicyNo, Refusal, Relation, Reply, Semantic, Side,
-};
+use ctrl_model::{Command, Copies, Field, Kind, Name, Names, Refusal, Relation, Reply};
 use entity_store::Entities;
 use model_laws::Plan;
-use policy_store::{Policies, Policy, PolicyChange, PolicyFault, policy_names, policy_of};
+use policy_store::{Policies, Policy, PolicyChange, PolicyFault, policy_names};
 use std::alloc::{AllocError, Global};
 
 // What a command on policies is judged by.
@@ -27,19 +27,6 @@ use std::alloc::{AllocError, Global};
 struct Known<'a> {
     entities: &'a Entities,
     policies: &'a Policies,
-}
-
-// The policy that a command's fields say.
-fn policy(
-    name: &Name,
-    relation: Relation,
-    semantic: Semantic,
-    left: &Side,
-    right: &Side,
-) -> Result<Policy, AllocError>
-    ensures { IfOk result (λ p. p ≡ policy name.now relation semantic left.now right.now) }
-{
-    policy_of(name, relation, semantic, left, right)
 }
 
 // The field that gives a side of a kind of policy.
@@ -56,7 +43,7 @@ fn roles_field(kind: Kind, right: bool) -> Field
 }
 
 // The `@` names of a side of a policy.
-fn ids_of(policy: &Policy, right: bool) -> &[Name]
+fn ids_of<'a>(policy: &PolicyView<'a>, right: bool) -> &'a [Name]
     ensures { result.now ≡ ids_of right policy.now }
 {
     if right {
@@ -67,7 +54,12 @@ fn ids_of(policy: &Policy, right: bool) -> &[Name]
 }
 
 // The refusal of the `@` name at a place of a policy's side, which no entity has.
-fn unknown_ref(kind: Kind, policy: &Policy, right: bool, place: u32) -> Result<Refusal, AllocError>
+fn unknown_ref(
+    kind: Kind,
+    policy: &PolicyView,
+    right: bool,
+    place: u32,
+) -> Result<Refusal, AllocError>
     requires kind { is_policy_kind kind ≡ true }
     requires place { place < length (ids_of right policy.now) }
     ensures { IfOk result (λ r. r ≡ UnknownRef (roles_field kind right) (slice_index_or (ids_of right policy.now) place [])) }
@@ -81,10 +73,11 @@ fn unknown_ref(kind: Kind, policy: &Policy, right: bool, place: u32) -> Result<R
 }
 
 // The refusal that a fault of the store is.
-fn refusal_for(kind: Kind, policy: &Policy, fault: PolicyFault) -> Result<Refusal, AllocError>
+fn refusal_for(kind: Kind, policy: &PolicyView, fault: PolicyFault) -> Result<Refusal, AllocError>
     requires kind { is_policy_kind kind ≡ true }
     requires place { IsPlaced fault policy.now }
-    ensures { IfOk result (λ r. r ≡ refusal_for kind policy.now fault) }
+    ensures refusal { IfOk result (λ r. r ≡ refusal_for kind policy.now fault) }
+    ensures memory { OnErr result (needs_memory (Err fault) ≡ true) }
 {
     match fault {
         PolicyFault::Exists => Ok(Refusal::Exists),
@@ -94,28 +87,30 @@ fn refusal_for(kind: Kind, policy: &Policy, fault: PolicyFault) -> Result<Refusa
     }
 }
 
-// The refusal of a policy that is put, where some uses of attributes go.
-fn refusal_to_put(
+// The policy that is put, where some uses of attributes go, or its refusal. It is copied once no rule refuses it that needs no memory.
+fn policy_to_put(
     alloc: Global,
     known: &Known,
     kind: Kind,
-    policy: &Policy,
+    policy: &PolicyView,
     fresh: bool,
     gone: &Names,
-) -> Result<Option<Refusal>, AllocError>
+) -> Result<Result<Policy, Refusal>, AllocError>
     requires kind { is_policy_kind kind ≡ true }
     requires used { AreUsed known.now.entities.now gone.now }
-    ensures { IfOk result (λ r. r ≡ refusal_to_put kind policy.now fresh gone.now known.now.policies.now known.now.entities.now) }
+    ensures judged { IfOk result (IsJudged policy.now (refusal_to_put kind policy.now fresh gone.now known.now.policies.now known.now.entities.now)) }
+    ensures memory { OnErr result (needs_memory (may_put kind policy.now fresh known.now.policies.now known.now.entities.now) ≡ true) }
 {
     let judged = may_put(known.policies, kind, policy, fresh, known.entities);
     if let Err(fault) = judged {
-        return Ok(Some(refusal_for(kind, policy, fault)?));
+        return Ok(Err(refusal_for(kind, policy, fault)?));
     }
-    let names = policy_names(alloc, policy)?;
+    let policy = policy.copied()?;
+    let names = policy_names(alloc, &policy)?;
     if known.entities.has_room(gone, &names) {
-        return Ok(None);
+        return Ok(Ok(policy));
     }
-    Ok(Some(Refusal::Full {
+    Ok(Err(Refusal::Full {
         kind: Kind::Attribute,
     }))
 }
@@ -132,43 +127,22 @@ fn plan_create(
     alloc: Global,
     known: &Known,
     kind: Kind,
-    policy: Policy,
+    policy: &PolicyView,
 ) -> Result<Plan<PolicyChange>, AllocError>
-    requires kind { is_policy_kind kind ≡ true }
-    requires short { AreShort policy }
-    ensures { IfOk result (Answers (answer_create kind policy) known.now.entities.now known.now.policies.now) }
-{
-    let none = Names::of(Vec::new(alloc));
-    if let Some(refusal) = refusal_to_put(alloc, known, kind, &policy, true, &none)? {
-        return Ok(Plan::refused(refusal));
-    }
-    let number = known.policies.next(kind);
-    let change = PolicyChange::Add { kind, policy };
-    Ok(Plan::changed(Reply::Made { no: number }, change))
-}
-
-// The number of the policy that one of this name replaces, or the refusal of it.
-fn judge_replaced(
-    alloc: Global,
-    known: &Known,
-    kind: Kind,
-    policy: &Policy,
-) -> Result<Result<PolicyNo, Refusal>, AllocError>
     requires kind { is_policy_kind kind ≡ true }
     requires short { AreShort policy.now }
     requires held { HoldsUses known.now.entities.now known.now.policies.now }
-    ensures { IfOk result (λ judged. Answers (answer_replace kind policy.now) known.now.entities.now known.now.policies.now (plan_of_replaced kind policy.now judged)) }
+    ensures plan { IfOk result (Answers (answer_create kind policy.now) known.now.entities.now known.now.policies.now) }
+    ensures memory { OnErr result (TakesMemory (answer_create kind policy.now) known.now.entities.now known.now.policies.now) }
 {
-    let Ok(number) = known.policies.find(kind, &policy.name) else {
-        return Ok(Err(Refusal::Unknown { field: Field::Name }));
-    };
-    let Some(replaced) = known.policies.get(kind, number) else {
-        unreachable!()
-    };
-    let gone = policy_names(alloc, replaced)?;
-    match refusal_to_put(alloc, known, kind, policy, false, &gone)? {
-        Some(refusal) => Ok(Err(refusal)),
-        None => Ok(Ok(number)),
+    let none = Names::of(Vec::new(alloc));
+    match policy_to_put(alloc, known, kind, policy, true, &none)? {
+        Ok(policy) => {
+            let number = known.policies.next(kind);
+            let change = PolicyChange::Add { kind, policy };
+            Ok(Plan::changed(Reply::Made { no: number }, change))
+        }
+        Err(refusal) => Ok(Plan::refused(refusal)),
     }
 }
 
@@ -177,19 +151,26 @@ fn plan_replace(
     alloc: Global,
     known: &Known,
     kind: Kind,
-    policy: Policy,
+    policy: &PolicyView,
 ) -> Result<Plan<PolicyChange>, AllocError>
     requires kind { is_policy_kind kind ≡ true }
-    requires short { AreShort policy }
+    requires short { AreShort policy.now }
     requires held { HoldsUses known.now.entities.now known.now.policies.now }
-    ensures { IfOk result (Answers (answer_replace kind policy) known.now.entities.now known.now.policies.now) }
+    ensures plan { IfOk result (Answers (answer_replace kind policy.now) known.now.entities.now known.now.policies.now) }
+    ensures memory { OnErr result (TakesMemory (answer_replace kind policy.now) known.now.entities.now known.now.policies.now) }
 {
-    let judged = judge_replaced(alloc, known, kind, &policy)?;
-    match judged {
-        Ok(PolicyNo(number)) => {
+    let Ok(number) = known.policies.find(kind, policy.name) else {
+        return Ok(unknown_name());
+    };
+    let Some(replaced) = known.policies.get(kind, number) else {
+        unreachable!()
+    };
+    let gone = policy_names(alloc, replaced)?;
+    match policy_to_put(alloc, known, kind, policy, false, &gone)? {
+        Ok(policy) => {
             let change = PolicyChange::Replace {
                 kind,
-                number,
+                number: number.0,
                 policy,
             };
             Ok(Plan::changed(Reply::Done, change))
@@ -223,8 +204,10 @@ fn plan_service_policy(
 ) -> Result<Option<Plan<PolicyChange>>, AllocError>
     requires spelled { is_spelled command.now ≡ true }
     requires held { HoldsUses known.now.entities.now known.now.policies.now }
-    ensures { IfOk result (λ o. MatchOption o (is_service_policy_command command.now ≡ false)
+    ensures plan { IfOk result (λ o. MatchOption o (is_service_policy_command command.now ≡ false)
         (Answers (carry command.now) known.now.entities.now known.now.policies.now)) }
+    ensures memory { OnErr result ((is_service_policy_command command.now ≡ true)
+        × TakesMemory (carry command.now) known.now.entities.now known.now.policies.now) }
 {
     let kind = Kind::ServicePolicy;
     match command {
@@ -235,8 +218,8 @@ fn plan_service_policy(
             identity_roles,
             service_roles,
         } => {
-            let policy = policy(name, *relation, *semantic, identity_roles, service_roles)?;
-            Ok(Some(plan_create(alloc, known, kind, policy)?))
+            let policy = PolicyView::of(name, *relation, *semantic, identity_roles, service_roles);
+            Ok(Some(plan_create(alloc, known, kind, &policy)?))
         }
         Command::UpdateServicePolicy {
             name,
@@ -245,8 +228,8 @@ fn plan_service_policy(
             identity_roles,
             service_roles,
         } => {
-            let policy = policy(name, *relation, *semantic, identity_roles, service_roles)?;
-            Ok(Some(plan_replace(alloc, known, kind, policy)?))
+            let policy = PolicyView::of(name, *relation, *semantic, identity_roles, service_roles);
+            Ok(Some(plan_replace(alloc, known, kind, &policy)?))
         }
         Command::DeleteServicePolicy { name } => Ok(Some(plan_delete(known.policies, kind, name))),
         _ => Ok(None),
@@ -276,8 +259,10 @@ fn plan_router_policy(
 ) -> Result<Option<Plan<PolicyChange>>, AllocError>
     requires spelled { is_spelled command.now ≡ true }
     requires held { HoldsUses known.now.entities.now known.now.policies.now }
-    ensures { IfOk result (λ o. MatchOption o ((is_edge_router_policy_command command.now || is_service_edge_router_policy_command command.now) ≡ false)
+    ensures plan { IfOk result (λ o. MatchOption o ((is_edge_router_policy_command command.now || is_service_edge_router_policy_command command.now) ≡ false)
         (Answers (carry command.now) known.now.entities.now known.now.policies.now)) }
+    ensures memory { OnErr result (((is_edge_router_policy_command command.now || is_service_edge_router_policy_command command.now) ≡ true)
+        × TakesMemory (carry command.now) known.now.entities.now known.now.policies.now) }
 {
     let (kind, relation) = router_kind(command);
     match command {
@@ -293,8 +278,8 @@ fn plan_router_policy(
             service_roles: left,
             router_roles: right,
         } => {
-            let policy = policy(name, relation, *semantic, left, right)?;
-            Ok(Some(plan_create(alloc, known, kind, policy)?))
+            let policy = PolicyView::of(name, relation, *semantic, left, right);
+            Ok(Some(plan_create(alloc, known, kind, &policy)?))
         }
         Command::UpdateEdgeRouterPolicy {
             name,
@@ -308,8 +293,8 @@ fn plan_router_policy(
             service_roles: left,
             router_roles: right,
         } => {
-            let policy = policy(name, relation, *semantic, left, right)?;
-            Ok(Some(plan_replace(alloc, known, kind, policy)?))
+            let policy = PolicyView::of(name, relation, *semantic, left, right);
+            Ok(Some(plan_replace(alloc, known, kind, &policy)?))
         }
         Command::DeleteEdgeRouterPolicy { name }
         | Command::DeleteServiceEdgeRouterPolicy { name } => {
@@ -321,7 +306,8 @@ fn plan_router_policy(
 
 /// Plans the answer to a command on policies that some body spells: in every valid state with these entities and these policies it
 /// is the controller's (docs/RULES.md, "Commands on policies"). The entities hold the uses of attributes of these policies. None is
-/// a command on something else.
+/// a command on something else. Memory can be wanting only where the answer takes memory: every refusal but that of an absent `@`
+/// name and that of too many attributes is told without.
 pub fn plan_policy_command(
     alloc: Global,
     entities: &Entities,
@@ -330,9 +316,10 @@ pub fn plan_policy_command(
 ) -> Result<Option<Plan<PolicyChange>>, AllocError>
     requires spelled { is_spelled command.now ≡ true }
     requires held { HoldsUses entities.now policies.now }
-    ensures { IfOk result (λ o. MatchOption o (is_policy_command command.now ≡ false)
+    ensures plan { IfOk result (λ o. MatchOption o (is_policy_command command.now ≡ false)
         (λ p. (s : State) → ValidState (over entities.now policies.now s)
         → PlansPolicies p (carry command.now (over entities.now policies.now s)) (over entities.now policies.now s))) }
+    ensures memory { OnErr result ((is_policy_command command.now ≡ true) × TakesMemory (carry command.now) entities.now policies.now) }
 {
     let known = Known { entities, policies };
     if let Some(plan) = plan_service_policy(alloc, &known, command)? {

@@ -5,9 +5,10 @@ ghost use Rattle.policy_store.specs.PolicyTables.{is_policy_kind, left_kind, rig
 ghost use Rattle.policy_store.specs.PolicyRules.{can_put};
 ghost use Rattle.policy_commands.specs.PutPolicies.{absent_place, absent_name, may_put};
 
+use crate::parts::PolicyView;
 use ctrl_model::{Kind, Name};
 use entity_store::Entities;
-use policy_store::{Policies, Policy, PolicyFault};
+use policy_store::{Policies, PolicyFault};
 
 /// The kind of entity that the left sides of a kind of policy name.
 pub fn left_kind(kind: Kind) -> Kind
@@ -65,7 +66,7 @@ fn absent_place(kind: Kind, names: &[Name], known: &Entities) -> Option<u32>
 }
 
 // The fault of the first `@` name of a policy that no entity has, on the left side before the right one.
-fn absent_name(kind: Kind, policy: &Policy, known: &Entities) -> Option<PolicyFault>
+fn absent_name(kind: Kind, policy: &PolicyView, known: &Entities) -> Option<PolicyFault>
     requires { is_policy_kind kind ≡ true }
     ensures { result ≡ absent_name kind policy.now known.now }
 {
@@ -87,7 +88,7 @@ fn absent_name(kind: Kind, policy: &Policy, known: &Entities) -> Option<PolicyFa
 pub fn may_put(
     kept: &Policies,
     kind: Kind,
-    policy: &Policy,
+    policy: &PolicyView,
     fresh: bool,
     known: &Entities,
 ) -> Result<(), PolicyFault>
@@ -96,7 +97,7 @@ pub fn may_put(
     // A policy that may be put can be put.
     ensures can { OnOk result (can_put kind policy.now.name fresh kept.now ≡ true) }
 {
-    let taken = kept.number_of(kind, &policy.name).is_some();
+    let taken = kept.number_of(kind, policy.name).is_some();
     if fresh && taken {
         return Err(PolicyFault::Exists);
     }

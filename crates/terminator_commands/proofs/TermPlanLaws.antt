@@ -1,6 +1,8 @@
 -- What planning for a terminator has to show: that the refusals are the controller's, and that the change leads to the
 -- controller's next state.
-use Rattle.std.proofs.Common.{◌≡◌, ℕ, Bool, true, false, cond, not, nat_lt, List, Option, None, Some, refl, sym, ◌∙◌, ap, is_none}
+use Rattle.std.proofs.Common.{◌≡◌, ℕ, Bool, true, false, cond, not, nat_lt, List, Option, None, Some, Ok, Err, refl, sym, ◌∙◌, ap, subst, is_none}
+use Rattle.std.specs.Prelude.{⊤}
+use Rattle.std.specs.declared.result.Result.{Result}
 use Rattle.std.proofs.lemmas.Option.{none-some}
 use Rattle.std.specs.Option.{option_map, option_map_or}
 use Rattle.ctrl_model.specs.declared.kinds.Kind.TheVariants as kind
@@ -21,13 +23,17 @@ use Rattle.entity_store.specs.EntityTables.{Tables}
 use Rattle.grant_denorm.specs.MovedCounts.{AreCountsOf}
 use Rattle.grant_denorm.specs.PairCounts.{count_of}
 use Rattle.terminators.specs.TermTables.{TermTables}
-use Rattle.terminators.specs.TermRules.{has_term_room, is_not_bindable}
-use Rattle.model_laws.specs.Plans.{refused, changed}
+use Rattle.terminators.specs.TermRules.{has_term_room, is_not_bindable, may_add}
+use Rattle.terminators.specs.declared.store.TermFault.{TermFault}
+use Rattle.terminators.specs.declared.store.TermFault.TheVariants as fault
+use Rattle.model_laws.specs.Plans.{refused, changed, tells_change}
+use Rattle.model_laws.specs.declared.plans.Plan.{Plan}
+use Rattle.terminators.specs.declared.changes.TermChange.{TermChange}
 use Rattle.model_laws.proofs.PlannedLaws.{plans_refused, plans_carried}
 use Rattle.terminators.specs.declared.changes.TermChange.TheVariants as change
 use Rattle.terminator_commands.specs.declared.planning.Places.{Places}
 use Rattle.terminator_commands.specs.TermChanges.{terms_of, with_terms, over, after_term_change}
-use Rattle.terminator_commands.specs.TermPlans.{PlansTerms}
+use Rattle.terminator_commands.specs.TermPlans.{PlansTerms, TellsChange}
 use Rattle.terminator_commands.specs.PlannedTerms.{unknown_place, named_host, lacks_host, plan_of_add, ArePlaced, PlansIn}
 
 -- a name that is unknown is the controller's refusal
@@ -80,3 +86,19 @@ create_planned t k bind service router host places term placed es er eh cost = �
     by s effect o false lacks is e leads = plans_refused o (Full kind.Terminator) s (Made s.terminators.next) effect e
     by s effect o true true is e leads = plans_refused o NotBindable s (Made s.terminators.next) effect e
     by s effect o true false is e leads = plans_carried (change.Add term) o s (Made s.terminators.next) effect e refl (is, cost) leads
+
+-- a terminator that may be added is planned to be
+add_told : (n : ℕ) (term : Terminator) (room lacks : Bool) → ◌≡◌ {A = Result ⊤ TermFault} (cond room (cond lacks (Err fault.NotBindable) (Ok tt)) (Err fault.Full)) (Ok tt)
+    → tells_change (cond room (cond lacks (refused NotBindable) (changed (Made n) (change.Add term))) (refused {C = TermChange} (Full kind.Terminator))).reply ≡ true
+add_told n term true false may = refl
+add_told n term true true may = absurd (cc)
+add_told n term false lacks may = absurd (cc)
+
+-- where the names are known and a terminator may be added, the answer tells a change
+pub create_told : (t : Tables) (k : TermTables) (bind : List ((ℕ × ℕ) × ℕ)) (service router : List ℕ) (host : Option (List ℕ)) (places : Places) (term : Terminator)
+    → ArePlaced t service router host places → term.service ≡ places.service.0 → term.router ≡ places.router.0 → term.host ≡ option_map (λ h. h.0) places.host → is_cost term.cost ≡ true
+    → may_add term k bind ≡ Ok tt
+    → TellsChange (create_terminator service router term.instance host term.cost term.precedence) t k bind
+create_told t k bind service router host places term placed es er eh cost may = λ s counts.
+    ap tells_change (sym (create_planned t k bind service router host places term placed es er eh cost s counts).reply)
+    ∙ add_told k.terminators.next term (has_term_room k) (is_not_bindable term bind) may

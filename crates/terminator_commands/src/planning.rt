@@ -1,4 +1,4 @@
-ghost use Rattle.std.specs.Prelude.{◌≡◌, true, false, IfOk, Some, MatchOption, MatchResult};
+ghost use Rattle.std.specs.Prelude.{◌≡◌, true, false, IfOk, OnErr, Ok, Some, MatchOption, MatchResult};
 ghost use Rattle.ctrl_model.specs.declared.kinds.Relation.TheVariants.{Bind};
 ghost use Rattle.ctrl_model.specs.CommandForm.{is_cost, is_spelled};
 ghost use Rattle.ctrl_model.specs.Controller.{carry};
@@ -7,19 +7,20 @@ ghost use Rattle.ctrl_model.specs.Numbered.{is_present};
 ghost use Rattle.ctrl_model.specs.State.{State};
 ghost use Rattle.ctrl_model.specs.TerminatorCommands.{create_terminator, update_terminator, delete_terminator};
 ghost use Rattle.grant_denorm.specs.MovedCounts.{AreCountsOf};
+ghost use Rattle.terminators.specs.TermRules.{may_add};
 ghost use Rattle.terminator_commands.specs.TermChanges.{over};
-ghost use Rattle.terminator_commands.specs.TermPlans.{is_terminator_command, PlansTerms};
+ghost use Rattle.terminator_commands.specs.TermPlans.{is_terminator_command, PlansTerms, TellsChange};
 ghost use Rattle.terminator_commands.specs.PlannedTerms.{unknown_place, plan_of_add, ArePlaced, PlansOver, PlansIn};
 
 use ctrl_model::{
-    Command, Copies, Field, IdentityNo, Instance, Kind, Name, Precedence, Refusal, Reply, RouterNo,
+    Command, Field, IdentityNo, Instance, Kind, Name, Precedence, Refusal, Reply, RouterNo,
     ServiceNo, TermNo,
 };
 use entity_store::Entities;
 use grant_denorm::Counted;
 use model_laws::Plan;
 use std::alloc::AllocError;
-use terminators::{Term, TermChange, TermFault, Terminators};
+use terminators::{TermChange, TermFault, TermView, Terminators};
 
 // What a command on terminators is judged by.
 #[derive(Drop)]
@@ -74,20 +75,26 @@ fn places_of(
     })
 }
 
-// Plans one more terminator.
-fn plan_add(terminators: &Terminators, bind: &Counted, term: Term) -> Plan<TermChange>
-    ensures { result ≡ plan_of_add term terminators.now bind.now }
+// Plans one more terminator, which is copied once it may be added.
+fn plan_add(
+    terminators: &Terminators,
+    bind: &Counted,
+    term: &TermView,
+) -> Result<Plan<TermChange>, AllocError>
+    ensures plan { IfOk result (λ p. p ≡ plan_of_add term.now terminators.now bind.now) }
+    ensures memory { OnErr result (may_add term.now terminators.now bind.now ≡ Ok tt) }
 {
-    match terminators.may_add(&term, bind) {
-        Err(TermFault::Full) => Plan::refused(Refusal::Full {
+    match terminators.may_add(term, bind) {
+        Err(TermFault::Full) => Ok(Plan::refused(Refusal::Full {
             kind: Kind::Terminator,
-        }),
-        Err(_) => Plan::refused(Refusal::NotBindable),
+        })),
+        Err(_) => Ok(Plan::refused(Refusal::NotBindable)),
         Ok(()) => {
+            let term = term.copied()?;
             let reply = Reply::Made {
                 no: terminators.next(),
             };
-            Plan::changed(reply, TermChange::Add(term))
+            Ok(Plan::changed(reply, TermChange::Add(term)))
         }
     }
 }
@@ -103,15 +110,16 @@ fn plan_create_terminator(
     precedence: Precedence,
 ) -> Result<Plan<TermChange>, AllocError>
     requires { is_cost cost ≡ true }
-    ensures { IfOk result (λ p. PlansIn p (create_terminator service.now router.now instance.now host.now cost precedence)
+    ensures plan { IfOk result (λ p. PlansIn p (create_terminator service.now router.now instance.now host.now cost precedence)
+        stores.now.entities.now stores.now.terminators.now stores.now.bind.now) }
+    ensures memory { OnErr result (TellsChange (create_terminator service.now router.now instance.now host.now cost precedence)
         stores.now.entities.now stores.now.terminators.now stores.now.bind.now) }
 {
     let places = match places_of(stores.entities, service, router, host) {
         Ok(places) => places,
         Err(field) => return Ok(Plan::refused(Refusal::Unknown { field })),
     };
-    let instance = instance.copy()?;
-    let term = Term {
+    let term = TermView {
         service: places.service,
         router: places.router,
         instance,
@@ -119,7 +127,7 @@ fn plan_create_terminator(
         cost,
         precedence,
     };
-    Ok(plan_add(stores.terminators, stores.bind, term))
+    plan_add(stores.terminators, stores.bind, &term)
 }
 
 // Plans the answer to UpdateTerminator.
@@ -155,7 +163,7 @@ fn plan_delete_terminator(terminators: &Terminators, no: TermNo) -> Plan<TermCha
 
 /// Plans the answer to a command on terminators that some body spells: in every state with these entities, these
 /// terminators and these counts of Bind it is the controller's (docs/RULES.md, "Commands on terminators"). None is a command on
-/// something else.
+/// something else. Memory can be wanting only where a terminator is made: every refusal is told without.
 pub fn plan_terminator_command(
     entities: &Entities,
     terminators: &Terminators,
@@ -163,9 +171,11 @@ pub fn plan_terminator_command(
     command: &Command,
 ) -> Result<Option<Plan<TermChange>>, AllocError>
     requires { is_spelled command.now ≡ true }
-    ensures { IfOk result (λ o. MatchOption o (is_terminator_command command.now ≡ false)
+    ensures plan { IfOk result (λ o. MatchOption o (is_terminator_command command.now ≡ false)
         (λ p. (s : State) → AreCountsOf (count Bind (over entities.now terminators.now s)) bind.now
         → PlansTerms p (carry command.now (over entities.now terminators.now s)) (over entities.now terminators.now s))) }
+    ensures memory { OnErr result ((is_terminator_command command.now ≡ true)
+        × TellsChange (carry command.now) entities.now terminators.now bind.now) }
 {
     let stores = Stores {
         entities,

@@ -1,4 +1,4 @@
-ghost use Rattle.std.specs.Prelude.{◌≡◌};
+ghost use Rattle.std.specs.Prelude.{◌≡◌, IfOk};
 ghost use Rattle.terminators.specs.TermRules.{is_not_bindable};
 
 use ctrl_model::{Copies, IdentityNo, Instance, Precedence, RouterNo, ServiceNo};
@@ -34,14 +34,7 @@ impl Clone for Term {
     ghost is_clone = { λ term copied. copied ≡ term };
 
     fn clone(&self) -> Result<Term, AllocError> {
-        Ok(Term {
-            service: self.service,
-            router: self.router,
-            instance: self.instance.copy()?,
-            host: self.host,
-            cost: self.cost,
-            precedence: self.precedence,
-        })
+        TermView::of(self).copied()
     }
 }
 
@@ -94,10 +87,24 @@ impl<'a> TermView<'a> {
             precedence,
         }
     }
+
+    /// An equal terminator that owns its instance.
+    pub fn copied(&self) -> Result<Term, AllocError>
+        ensures { IfOk result (λ t. t ≡ self.now) }
+    {
+        Ok(Term {
+            service: self.service,
+            router: self.router,
+            instance: self.instance.copy()?,
+            host: self.host,
+            cost: self.cost,
+            precedence: self.precedence,
+        })
+    }
 }
 
 /// Whether the terminator names a host that lacks Bind on its service.
-pub fn is_not_bindable(term: &Term, bind: &Counted) -> bool
+pub fn is_not_bindable(term: &TermView, bind: &Counted) -> bool
     ensures { result ≡ is_not_bindable term.now bind.now }
 {
     match term.host {

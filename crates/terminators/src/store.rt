@@ -83,9 +83,10 @@ impl Terminators {
         })
     }
 
-    /// Whether a terminator may be added: `Full` comes exactly where as many as may be are present or their numbers have run out, and else
-    /// `NotBindable` exactly where a host is named that lacks Bind on the service (docs/RULES.md, "Commands on terminators").
-    pub fn may_add(&self, term: &Term, bind: &Counted) -> Result<(), TermFault>
+    /// Whether a terminator may be added, whose instance is lent: `Full` comes exactly where as many as may be are present or their numbers
+    /// have run out, and else `NotBindable` exactly where a host is named that lacks Bind on the service (docs/RULES.md, "Commands on
+    /// terminators").
+    pub fn may_add(&self, term: &TermView, bind: &Counted) -> Result<(), TermFault>
         ensures { result ≡ may_add term.now self.now bind.now }
     {
         if !self.terms.has_room(limit(Kind::Terminator)) {

@@ -18,46 +18,46 @@ use Rattle.ctrl_core.proofs.commands.plan_command.Goals as goal
 pub drafted-requires-in-Some-2-clause-can : goal.drafted-requires-in-Some-2-clause-can
 drafted-requires-in-Some-2-clause-can c =
     (planned_so entered CanEnter change.Entity (state_of c.args.stores.now) (λ x. refl) (λ x can. (can, tt)) c.in-Some-2.plan c.entity_change.result (carry c.args.command.now (state_of c.args.stores.now)) c.entity_change.ensures
-    (found_plan _ _ c.in_ok-plan-2.field-0 c.in-Some-2.plan c.in-Some-2.is c.in_ok-plan-2.ensures (state_of c.args.stores.now) c.requires.kept.valid c.requires.kept.held)).can
+    (found_plan _ _ c.in_ok-plan-2.field-0 c.in-Some-2.plan c.in-Some-2.is c.in_ok-plan-2.ensures.plan (state_of c.args.stores.now) c.requires.kept.valid c.requires.kept.held)).can
 
 pub returns-in-Some-2 : goal.returns-in-Some-2
 returns-in-Some-2 c =
     IfOk-weaker c.drafted-in-Some-2.result _ _ (λ p plans. plans (carry c.args.command.now (state_of c.args.stores.now))
     (planned_so entered CanEnter change.Entity (state_of c.args.stores.now) (λ x. refl) (λ x can. (can, tt)) c.in-Some-2.plan c.entity_change.result (carry c.args.command.now (state_of c.args.stores.now)) c.entity_change.ensures
-    (found_plan _ _ c.in_ok-plan-2.field-0 c.in-Some-2.plan c.in-Some-2.is c.in_ok-plan-2.ensures (state_of c.args.stores.now) c.requires.kept.valid c.requires.kept.held))) c.drafted-in-Some-2.ensures
+    (found_plan _ _ c.in_ok-plan-2.field-0 c.in-Some-2.plan c.in-Some-2.is c.in_ok-plan-2.ensures.plan (state_of c.args.stores.now) c.requires.kept.valid c.requires.kept.held))) c.drafted-in-Some-2.ensures
 
 pub drafted-requires-in-Some-3-clause-can : goal.drafted-requires-in-Some-3-clause-can
 drafted-requires-in-Some-3-clause-can c =
     (planned_so ruled CanRule change.Policy (state_of c.args.stores.now) (λ x. refl) (λ x can. (can, tt)) c.in-Some-3.plan c.policy_change.result (carry c.args.command.now (state_of c.args.stores.now)) c.policy_change.ensures
-    (found_plan _ _ c.in_ok-plan-3.field-0 c.in-Some-3.plan c.in-Some-3.is c.in_ok-plan-3.ensures (state_of c.args.stores.now) c.requires.kept.valid)).can
+    (found_plan _ _ c.in_ok-plan-3.field-0 c.in-Some-3.plan c.in-Some-3.is c.in_ok-plan-3.ensures.plan (state_of c.args.stores.now) c.requires.kept.valid)).can
 
 pub returns-in-Some-3 : goal.returns-in-Some-3
 returns-in-Some-3 c =
     IfOk-weaker c.drafted-in-Some-3.result _ _ (λ p plans. plans (carry c.args.command.now (state_of c.args.stores.now))
     (planned_so ruled CanRule change.Policy (state_of c.args.stores.now) (λ x. refl) (λ x can. (can, tt)) c.in-Some-3.plan c.policy_change.result (carry c.args.command.now (state_of c.args.stores.now)) c.policy_change.ensures
-    (found_plan _ _ c.in_ok-plan-3.field-0 c.in-Some-3.plan c.in-Some-3.is c.in_ok-plan-3.ensures (state_of c.args.stores.now) c.requires.kept.valid))) c.drafted-in-Some-3.ensures
+    (found_plan _ _ c.in_ok-plan-3.field-0 c.in-Some-3.plan c.in-Some-3.is c.in_ok-plan-3.ensures.plan (state_of c.args.stores.now) c.requires.kept.valid))) c.drafted-in-Some-3.ensures
 
 pub drafted-requires-in-Some-4-clause-can : goal.drafted-requires-in-Some-4-clause-can
 drafted-requires-in-Some-4-clause-can c =
     (planned_so linked CanLink change.Link (state_of c.args.stores.now) (λ x. refl) (λ x can. (can, tt)) c.in-Some-4.plan c.link_change.result (carry c.args.command.now (state_of c.args.stores.now)) c.link_change.ensures
-    (found_plan _ _ c.in_ok-plan-4.field-0 c.in-Some-4.plan c.in-Some-4.is c.in_ok-plan-4.ensures (state_of c.args.stores.now) c.requires.kept.valid)).can
+    (found_plan _ _ c.in_ok-plan-4.field-0 c.in-Some-4.plan c.in-Some-4.is c.in_ok-plan-4.ensures.plan (state_of c.args.stores.now) c.requires.kept.valid)).can
 
 pub returns-in-Some-4 : goal.returns-in-Some-4
 returns-in-Some-4 c =
     IfOk-weaker c.drafted-in-Some-4.result _ _ (λ p plans. plans (carry c.args.command.now (state_of c.args.stores.now))
     (planned_so linked CanLink change.Link (state_of c.args.stores.now) (λ x. refl) (λ x can. (can, tt)) c.in-Some-4.plan c.link_change.result (carry c.args.command.now (state_of c.args.stores.now)) c.link_change.ensures
-    (found_plan _ _ c.in_ok-plan-4.field-0 c.in-Some-4.plan c.in-Some-4.is c.in_ok-plan-4.ensures (state_of c.args.stores.now) c.requires.kept.valid))) c.drafted-in-Some-4.ensures
+    (found_plan _ _ c.in_ok-plan-4.field-0 c.in-Some-4.plan c.in-Some-4.is c.in_ok-plan-4.ensures.plan (state_of c.args.stores.now) c.requires.kept.valid))) c.drafted-in-Some-4.ensures
 
 pub drafted-requires-in-Some-5-clause-can : goal.drafted-requires-in-Some-5-clause-can
 drafted-requires-in-Some-5-clause-can c =
     (planned_so offered CanOffer change.Terminator (state_of c.args.stores.now) (λ x. refl) (λ x can. (can, tt)) c.in-Some-5.plan c.term_change.result (carry c.args.command.now (state_of c.args.stores.now)) c.term_change.ensures
-    (found_plan _ _ c.in_ok-plan-5.field-0 c.in-Some-5.plan c.in-Some-5.is c.in_ok-plan-5.ensures (state_of c.args.stores.now) (c.requires.kept.counts Bind))).can
+    (found_plan _ _ c.in_ok-plan-5.field-0 c.in-Some-5.plan c.in-Some-5.is c.in_ok-plan-5.ensures.plan (state_of c.args.stores.now) (c.requires.kept.counts Bind))).can
 
 pub returns-in-Some-5 : goal.returns-in-Some-5
 returns-in-Some-5 c =
     IfOk-weaker c.drafted-in-Some-5.result _ _ (λ p plans. plans (carry c.args.command.now (state_of c.args.stores.now))
     (planned_so offered CanOffer change.Terminator (state_of c.args.stores.now) (λ x. refl) (λ x can. (can, tt)) c.in-Some-5.plan c.term_change.result (carry c.args.command.now (state_of c.args.stores.now)) c.term_change.ensures
-    (found_plan _ _ c.in_ok-plan-5.field-0 c.in-Some-5.plan c.in-Some-5.is c.in_ok-plan-5.ensures (state_of c.args.stores.now) (c.requires.kept.counts Bind)))) c.drafted-in-Some-5.ensures
+    (found_plan _ _ c.in_ok-plan-5.field-0 c.in-Some-5.plan c.in-Some-5.is c.in_ok-plan-5.ensures.plan (state_of c.args.stores.now) (c.requires.kept.counts Bind)))) c.drafted-in-Some-5.ensures
 
 pub plan_circuit_command-requires : goal.plan_circuit_command-requires
 plan_circuit_command-requires c = record {
@@ -88,5 +88,5 @@ returns c =
     let s = state_of c.args.stores.now in
     subst (λ answered. Plans c.shown-2.result answered s)
     (sym (alone_is c.args.command.now s c.reply_alone.result c.reply_alone.ensures
-    (no_plan _ _ c.in_ok-plan-2.field-0 c.in_default-2.is c.in_ok-plan-2.ensures) (no_plan _ _ c.in_ok-plan-3.field-0 c.in_default-3.is c.in_ok-plan-3.ensures) (no_plan _ _ c.in_ok-plan-4.field-0 c.in_default-4.is c.in_ok-plan-4.ensures) (no_plan _ _ c.in_ok-plan-5.field-0 c.in_default-5.is c.in_ok-plan-5.ensures) (no_plan _ _ c.in_ok-plan.field-0 c.in_default.is c.in_ok-plan.ensures) (no_plan _ _ c.in_ok-reply.field-0 c.in_default-6.is c.in_ok-reply.ensures)))
+    (no_plan _ _ c.in_ok-plan-2.field-0 c.in_default-2.is c.in_ok-plan-2.ensures.plan) (no_plan _ _ c.in_ok-plan-3.field-0 c.in_default-3.is c.in_ok-plan-3.ensures.plan) (no_plan _ _ c.in_ok-plan-4.field-0 c.in_default-4.is c.in_ok-plan-4.ensures.plan) (no_plan _ _ c.in_ok-plan-5.field-0 c.in_default-5.is c.in_ok-plan-5.ensures.plan) (no_plan _ _ c.in_ok-plan.field-0 c.in_default.is c.in_ok-plan.ensures) (no_plan _ _ c.in_ok-reply.field-0 c.in_default-6.is c.in_ok-reply.ensures)))
     (plans_reply c.shown-2.result c.reply_alone.result s c.shown-2.ensures)

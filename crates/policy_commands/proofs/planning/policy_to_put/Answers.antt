@@ -1,5 +1,5 @@
 use Rattle.policy_commands.proofs.RefusedPolicies.{put_placed}
-use Rattle.policy_commands.proofs.planning.refusal_to_put.Goals as goal
+use Rattle.policy_commands.proofs.planning.policy_to_put.Goals as goal
 
 pub refusal_for-requires-clause-place : goal.refusal_for-requires-clause-place
 refusal_for-requires-clause-place c =
