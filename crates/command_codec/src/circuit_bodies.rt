@@ -145,11 +145,17 @@ pub(crate) fn circuit_command(
     ensures unsupported { meaning_in circuit_table content body.now ≡ Err CodecFault.UnsupportedType → IsErrOf result CodecFault.UnsupportedType }
 {
     match content {
-        CREATE_CIRCUIT => asked_circuit(alloc, body).map(|asked| asked.created()),
-        DELETE_CIRCUIT => numbered(alloc, body).map(|no| Command::DeleteCircuit { no }),
-        EXPLAIN => asked_circuit(alloc, body).map(|asked| asked.explained()),
+        CREATE_CIRCUIT => Ok(asked_circuit(alloc, body)?.created()),
+        DELETE_CIRCUIT => {
+            let no = numbered(alloc, body)?;
+            Ok(Command::DeleteCircuit { no })
+        }
+        EXPLAIN => Ok(asked_circuit(alloc, body)?.explained()),
         VERIFY_ROUTE => claimed_route(alloc, body),
-        SHOW_CIRCUIT => numbered(alloc, body).map(|no| Command::ShowCircuit { no }),
+        SHOW_CIRCUIT => {
+            let no = numbered(alloc, body)?;
+            Ok(Command::ShowCircuit { no })
+        }
         _ => Err(CodecFault::UnsupportedType),
     }
 }

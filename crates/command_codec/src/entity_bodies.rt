@@ -104,39 +104,42 @@ pub(crate) fn entity_command(
 {
     match content {
         CREATE_IDENTITY => {
-            entity(alloc, body, true).map(|(name, attributes)| Command::CreateIdentity {
-                name,
-                attributes,
-            })
+            let (name, attributes) = entity(alloc, body, true)?;
+            Ok(Command::CreateIdentity { name, attributes })
         }
-        UPDATE_IDENTITY => entity(alloc, body, false).map(|(
-            name,
-            attributes,
-        )| Command::UpdateIdentity { name, attributes }),
+        UPDATE_IDENTITY => {
+            let (name, attributes) = entity(alloc, body, false)?;
+            Ok(Command::UpdateIdentity { name, attributes })
+        }
         DELETE_IDENTITY => {
-            named(alloc, body, Field::Name).map(|name| Command::DeleteIdentity { name })
+            let name = named(alloc, body, Field::Name)?;
+            Ok(Command::DeleteIdentity { name })
         }
         CREATE_SERVICE => {
-            entity(alloc, body, true).map(|(name, attributes)| Command::CreateService {
-                name,
-                attributes,
-            })
+            let (name, attributes) = entity(alloc, body, true)?;
+            Ok(Command::CreateService { name, attributes })
         }
-        UPDATE_SERVICE => entity(alloc, body, false).map(|(
-            name,
-            attributes,
-        )| Command::UpdateService { name, attributes }),
+        UPDATE_SERVICE => {
+            let (name, attributes) = entity(alloc, body, false)?;
+            Ok(Command::UpdateService { name, attributes })
+        }
         DELETE_SERVICE => {
-            named(alloc, body, Field::Name).map(|name| Command::DeleteService { name })
+            let name = named(alloc, body, Field::Name)?;
+            Ok(Command::DeleteService { name })
         }
         CREATE_ROUTER => made_router(alloc, body),
         UPDATE_ROUTER => updated_router(alloc, body),
-        DELETE_ROUTER => named(alloc, body, Field::Name).map(|name| Command::DeleteRouter { name }),
+        DELETE_ROUTER => {
+            let name = named(alloc, body, Field::Name)?;
+            Ok(Command::DeleteRouter { name })
+        }
         CONNECT_ROUTER => {
-            named(alloc, body, Field::Name).map(|name| Command::ConnectRouter { name })
+            let name = named(alloc, body, Field::Name)?;
+            Ok(Command::ConnectRouter { name })
         }
         DISCONNECT_ROUTER => {
-            named(alloc, body, Field::Name).map(|name| Command::DisconnectRouter { name })
+            let name = named(alloc, body, Field::Name)?;
+            Ok(Command::DisconnectRouter { name })
         }
         _ => Err(CodecFault::UnsupportedType),
     }

@@ -112,7 +112,10 @@ pub(crate) fn link_command(alloc: Global, content: u32, body: &[u8]) -> Result<C
         SET_LINK_COST => link_cost(alloc, body),
         REPORT_LATENCY => reported_latency(alloc, body),
         REPORT_STATE => reported_state(alloc, body),
-        DELETE_LINK => named(alloc, body, Field::Link).map(|link| Command::DeleteLink { link }),
+        DELETE_LINK => {
+            let link = named(alloc, body, Field::Link)?;
+            Ok(Command::DeleteLink { link })
+        }
         SET_LEAST_ROUTER_COST => least_router_cost(alloc, body),
         _ => Err(CodecFault::UnsupportedType),
     }

@@ -175,29 +175,40 @@ pub(crate) fn policy_command(
     ensures unsupported { meaning_in policy_table content body.now ≡ Err CodecFault.UnsupportedType → IsErrOf result CodecFault.UnsupportedType }
 {
     match content {
-        CREATE_SERVICE_POLICY => service_policy(alloc, body).map(|policy| policy.created()),
-        UPDATE_SERVICE_POLICY => service_policy(alloc, body).map(|policy| policy.updated()),
+        CREATE_SERVICE_POLICY => Ok(service_policy(alloc, body)?.created()),
+        UPDATE_SERVICE_POLICY => Ok(service_policy(alloc, body)?.updated()),
         DELETE_SERVICE_POLICY => {
-            named(alloc, body, Field::Name).map(|name| Command::DeleteServicePolicy { name })
+            let name = named(alloc, body, Field::Name)?;
+            Ok(Command::DeleteServicePolicy { name })
         }
-        CREATE_EDGE_ROUTER_POLICY => router_policy(alloc, body, Field::IdentityRoles).map(
-            |policy| policy.created_for_identities(),
-        ),
-        UPDATE_EDGE_ROUTER_POLICY => router_policy(alloc, body, Field::IdentityRoles).map(
-            |policy| policy.updated_for_identities(),
-        ),
+        CREATE_EDGE_ROUTER_POLICY => Ok(router_policy(
+            alloc,
+            body,
+            Field::IdentityRoles,
+        )?.created_for_identities()),
+        UPDATE_EDGE_ROUTER_POLICY => Ok(router_policy(
+            alloc,
+            body,
+            Field::IdentityRoles,
+        )?.updated_for_identities()),
         DELETE_EDGE_ROUTER_POLICY => {
-            named(alloc, body, Field::Name).map(|name| Command::DeleteEdgeRouterPolicy { name })
+            let name = named(alloc, body, Field::Name)?;
+            Ok(Command::DeleteEdgeRouterPolicy { name })
         }
-        CREATE_SERVICE_EDGE_ROUTER_POLICY => router_policy(alloc, body, Field::ServiceRoles).map(
-            |policy| policy.created_for_services(),
-        ),
-        UPDATE_SERVICE_EDGE_ROUTER_POLICY => router_policy(alloc, body, Field::ServiceRoles).map(
-            |policy| policy.updated_for_services(),
-        ),
-        DELETE_SERVICE_EDGE_ROUTER_POLICY => named(alloc, body, Field::Name).map(
-            |name| Command::DeleteServiceEdgeRouterPolicy { name },
-        ),
+        CREATE_SERVICE_EDGE_ROUTER_POLICY => Ok(router_policy(
+            alloc,
+            body,
+            Field::ServiceRoles,
+        )?.created_for_services()),
+        UPDATE_SERVICE_EDGE_ROUTER_POLICY => Ok(router_policy(
+            alloc,
+            body,
+            Field::ServiceRoles,
+        )?.updated_for_services()),
+        DELETE_SERVICE_EDGE_ROUTER_POLICY => {
+            let name = named(alloc, body, Field::Name)?;
+            Ok(Command::DeleteServiceEdgeRouterPolicy { name })
+        }
         _ => Err(CodecFault::UnsupportedType),
     }
 }

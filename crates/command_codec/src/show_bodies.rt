@@ -31,13 +31,21 @@ pub(crate) fn show_command(alloc: Global, content: u32, body: &[u8]) -> Result<C
 {
     match content {
         SHOW_GRANTS => {
-            named(alloc, body, Field::Identity).map(|identity| Command::ShowGrants { identity })
+            let identity = named(alloc, body, Field::Identity)?;
+            Ok(Command::ShowGrants { identity })
         }
         LIST_SERVICES => {
-            named(alloc, body, Field::Identity).map(|identity| Command::ListServices { identity })
+            let identity = named(alloc, body, Field::Identity)?;
+            Ok(Command::ListServices { identity })
         }
-        SHOW_COUNTS => plain(alloc, body).map(|()| Command::ShowCounts),
-        COMPACT => plain(alloc, body).map(|()| Command::Compact),
+        SHOW_COUNTS => {
+            plain(alloc, body)?;
+            Ok(Command::ShowCounts)
+        }
+        COMPACT => {
+            plain(alloc, body)?;
+            Ok(Command::Compact)
+        }
         _ => Err(CodecFault::UnsupportedType),
     }
 }

@@ -88,7 +88,10 @@ pub(crate) fn terminator_command(
     match content {
         CREATE_TERMINATOR => made_terminator(alloc, body),
         UPDATE_TERMINATOR => updated_terminator(alloc, body),
-        DELETE_TERMINATOR => numbered(alloc, body).map(|no| Command::DeleteTerminator { no }),
+        DELETE_TERMINATOR => {
+            let no = numbered(alloc, body)?;
+            Ok(Command::DeleteTerminator { no })
+        }
         _ => Err(CodecFault::UnsupportedType),
     }
 }
