@@ -9,3 +9,4 @@ pub mod WordLaws
 pub mod RoundLaws
 pub mod FullLaws
 pub mod ReplyLaws
+pub mod CheckLaws

@@ -11,3 +11,6 @@ pub mod FrameTurns
 pub mod FaultTexts
 pub mod WorkedLines
 pub mod FullLines
+pub mod NearNames
+pub mod TextFaults
+pub mod CheckTurns

@@ -36,3 +36,16 @@ longer_reply = record reply_frame { headers = reply_frame.headers ++ record { ke
 -- The frame of ann with another body.
 abbrev pub ann_with : List ℕ → Frame
 ann_with body = record ann_frame { body = body }
+
+-- A text of seven lines, of which five are at fault.
+abbrev pub seven_lines : List ℕ
+seven_lines = codes "# ann\nHelo\n07 Hello\n7 createIdentity {}\n7  Hello\nHello\nCreateAnn {}"
+
+-- The lines that tell its faults.
+abbrev pub seven_told : List ℕ
+seven_told =
+    codes "line 2: unknown type at column 1: NAME is the name of a command; near is Hello\n"
+    ++ (codes "line 3: bad sequence at column 1: SEQUENCE is 0 to 4294967295 without zeros before it\n"
+    ++ (codes "line 4: unknown type at column 3: NAME is the name of a command, or 0 to 4294967295 without zeros before it; near is CreateIdentity\n"
+    ++ (codes "line 5: unknown type at column 3: NAME is the name of a command, or 0 to 4294967295 without zeros before it\n"
+    ++ codes "line 7: unknown type at column 1: NAME is the name of a command\n")))

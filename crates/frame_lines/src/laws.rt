@@ -1,15 +1,24 @@
-ghost use Rattle.std.specs.Prelude.{◌≡◌, ◌↔◌, ◌<◌, ◌^◌, ◌++◌, ℕ, List, None, Ok, codes, decimal};
+ghost use Rattle.std.specs.Prelude.{◌≡◌, ◌↔◌, ◌+◌, ◌<◌, ◌^◌, ◌++◌, ℕ, List, [], None, Ok, codes, decimal, length};
 ghost use Rattle.std.specs.List.{flat_map, AllByRecursion};
 ghost use Rattle.channel_frame.specs.StreamReading.{AreBytes, frames_of};
 ghost use Rattle.frame_lines.specs.TextLines.{lines_of};
 ghost use Rattle.frame_lines.specs.TextReading.{frames_said, bytes_said, fault_said};
 ghost use Rattle.frame_lines.specs.FrameLines.{body_words, body_cause, line_for};
 ghost use Rattle.frame_lines.specs.TextTelling.{text_told, fault_told};
+ghost use Rattle.frame_lines.specs.TextFaults.{faults_from, faults_of, first_fault};
 ghost use Rattle.frame_lines.specs.FullLines.{full_line, reply_with, IsLine, HasToldBody, HasNoHeaders};
 
 /// A text has no fault exactly where every line that does not pass says a frame.
 pub fn faultless_where_each_line_says()
     ensures { (text : List ℕ) → ((fault_said text ≡ None) ↔ AllByRecursion IsLine (lines_of text)) }
+{}
+
+/// Of a text a fault is told exactly where `encode` ends at one, and the first is that one. Each line is judged by itself: the faults of
+/// some lines and those of the lines behind them, counted on, are the faults of all.
+pub fn each_fault_is_told_by_its_line()
+    ensures none { (text : List ℕ) → ((faults_of text ≡ []) ↔ (fault_said text ≡ None)) }
+    ensures first { (text : List ℕ) → first_fault (faults_of text) ≡ fault_said text }
+    ensures alone { (a b : List (List ℕ)) (number : ℕ) → faults_from (a ++ b) number ≡ faults_from a number ++ faults_from b (number + length a) }
 {}
 
 /// Decoding what a text says gives its lines in full, where a line can tell each body: the sequence number, the type by its name, the

@@ -1,11 +1,13 @@
 //! Frames as lines of text that people can write and read (docs/FORMATS.md, "Lines for people").
 #![tactic(auto)]
 
+mod checking;
 mod cutting;
 mod decoding;
 mod encoding;
 mod laws;
 mod lines;
+mod nearness;
 mod reading;
 mod telling;
 mod told;
@@ -13,12 +15,13 @@ mod types;
 mod words;
 mod worked;
 
+pub use checking::{Checked, check};
 pub use cutting::{cut_line, cut_word};
 pub use decoding::{Decoded, decode};
 pub use encoding::{Encoded, encode, put_frame};
 pub use laws::{
-    faultless_where_each_line_says, replies_are_told_by_their_requests,
-    what_is_said_is_told_in_full, what_is_told_is_said_again,
+    each_fault_is_told_by_its_line, faultless_where_each_line_says,
+    replies_are_told_by_their_requests, what_is_said_is_told_in_full, what_is_told_is_said_again,
 };
 pub use lines::{Line, LineCause, LineFault, line_words};
 pub use reading::{passes, read_line};
@@ -26,5 +29,6 @@ pub use telling::put_line;
 pub use told::{DecodeCause, DecodeFault, TellCause};
 pub use words::number_in;
 pub use worked::{
-    worked_cuts, worked_frames, worked_lines, worked_tellings, worked_text, worked_types,
+    worked_checks, worked_cuts, worked_frames, worked_lines, worked_tellings, worked_text,
+    worked_types,
 };

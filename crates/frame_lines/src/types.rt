@@ -45,7 +45,8 @@ static TYPES: [(u32, &str); 39] = [
     (1510, "Compact"),
 ];
 
-fn types() -> &'static [(u32, &'static str)]
+/// All rows: each content type that has a name, and the name.
+pub(crate) fn types() -> &'static [(u32, &'static str)]
     ensures { map (λ row. (row.0, row.1.now)) result.now ≡ type_names }
 {
     &TYPES

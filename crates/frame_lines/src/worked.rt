@@ -11,7 +11,9 @@ ghost use Rattle.frame_lines.specs.TextReading.{frames_said, bytes_said, fault_s
 ghost use Rattle.frame_lines.specs.FrameLines.{line_for};
 ghost use Rattle.frame_lines.specs.TextTelling.{text_told, fault_told};
 ghost use Rattle.frame_lines.specs.FaultTexts.{line_text, frame_text};
-ghost use Rattle.frame_lines.specs.WorkedLines.{ann_line, nine_lines, four_frames, four_lines, refusal_frame, longer_reply, ann_with};
+ghost use Rattle.frame_lines.specs.NearNames.{near_name};
+ghost use Rattle.frame_lines.specs.TextFaults.{faults_of, first_fault, faults_told};
+ghost use Rattle.frame_lines.specs.WorkedLines.{ann_line, nine_lines, four_frames, four_lines, refusal_frame, longer_reply, ann_with, seven_lines, seven_told};
 
 /// Names of content types and their numbers.
 pub fn worked_types()
@@ -62,6 +64,19 @@ pub fn worked_text()
     ensures ann { bytes_said ann_line ≡ ann_bytes }
     ensures no_fault { fault_said ann_line ≡ None }
     ensures words { line_text (record { line = 8; cause = UnknownType }) ≡ codes "line 8: unknown type" }
+{}
+
+/// Known names near to words, and the faults of texts.
+pub fn worked_checks()
+    ensures left_out { near_name (codes "Helo") ≡ Some (codes "Hello") }
+    ensures besides { near_name (codes "CreateRouterr") ≡ Some (codes "CreateRouter") }
+    ensures another { near_name (codes "ShowCount5") ≡ Some (codes "ShowCounts") }
+    ensures other_case { near_name (codes "hello") ≡ Some (codes "Hello") }
+    ensures two_bytes { near_name (codes "CraeteRouter") ≡ None }
+    ensures nothing { near_name [] ≡ None }
+    ensures told { faults_told seven_lines ≡ seven_told }
+    ensures first { first_fault (faults_of seven_lines) ≡ Some (record { line = 2; cause = UnknownType }) }
+    ensures faultless { faults_of ann_line ≡ [] }
 {}
 
 /// The lines of frames, and why some have none.
