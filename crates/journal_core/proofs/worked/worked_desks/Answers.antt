@@ -1,5 +1,4 @@
-use Rattle.std.specs.Prelude.{length}
-use Rattle.std.proofs.Common.{◌≡◌, ℕ, ◌≤◌, max, refl, subst, sym, arith}
+use Rattle.std.proofs.Common.{◌≡◌, ℕ, refl, subst, sym, arith}
 use Rattle.ziti_outside.specs.Images.{Image}
 use Rattle.journal_core.specs.Room.{KeepsRoom}
 use Rattle.journal_core.specs.WorkedDesks.{two_slots, first_batch}
