@@ -33,9 +33,10 @@ fresh folder = record { calls = 0; reads = folder; found = folder; before = fold
 abbrev pub behind : Image → (reads found : Image) → SmallDesk
 behind folder reads found = record { calls = 1; reads = reads; found = found; before = folder }
 
--- A folder of two slots without a record, and the same with the first batch in the first one.
+-- A folder of two slots without a record.
 abbrev pub two_slots : Image
 two_slots = folder_of empty_slot empty_slot
 
+-- The same with the first batch in the first one.
 abbrev pub first_batch : Image
 first_batch = folder_of slot_of_ann empty_slot
