@@ -1,8 +1,9 @@
-ghost use Rattle.std.specs.Prelude.{◌≡◌, ◌+◌, ◌<◌, [], ◌∷◌, ◌++◌, length, take};
+ghost use Rattle.std.specs.Prelude.{◌≡◌, ◌+◌, ◌<◌, true, false, [], ◌∷◌, ◌++◌, length, take};
 ghost use Rattle.journal_core.specs.declared.faults.JournalFault.TheVariants.{Full};
 ghost use Rattle.journal_core.specs.Slots.{Slot, IsClosed, IsRecord, IsDamaged, added, text_of, slot_end, slot_bytes};
 ghost use Rattle.journal_core.specs.Faults.{AppendFails};
-ghost use Rattle.journal_core.specs.Room.{empty_size, IsWithin, GrowsTo, KeepsRoom};
+ghost use Rattle.journal_core.specs.Room.{empty_size, IsWithin, GrowsTo, KeepsRoom, HoldsRoom};
+ghost use Rattle.journal_core.specs.WorkedDesks.{small_seen, small_stopped, fresh, behind, two_slots, first_batch};
 ghost use Rattle.journal_core.specs.WorkedSlots.{batch_of_ann, empty_slot, slot_of_ann, three_payloads, folder_of};
 
 /// Slots worked by hand: the bytes after a first batch, the places of gates, and a slot that is full.
@@ -53,4 +54,15 @@ pub fn worked_room()
     ensures first_passes { KeepsRoom 41 (folder_of empty_slot empty_slot) (folder_of slot_of_ann empty_slot) → ⊥ }
     ensures second_passes { KeepsRoom 41 (folder_of empty_slot empty_slot) (folder_of empty_slot slot_of_ann) → ⊥ }
     ensures second_stays { KeepsRoom 9 (folder_of empty_slot slot_of_ann) (folder_of [] slot_of_ann) }
+{}
+
+/// What a call may do to a desk of two slots without a record, worked by hand: the first batch makes the first slot one of 42 bytes. That
+/// counts as the folder reads, where it is told, and in what a stop leaves, told or not.
+pub fn worked_desks()
+    ensures appended { HoldsRoom true 42 small_seen small_stopped (fresh two_slots) (behind two_slots first_batch first_batch) }
+    ensures passes { HoldsRoom true 41 small_seen small_stopped (fresh two_slots) (behind two_slots first_batch two_slots) → ⊥ }
+    ensures passes_where_a_stop_keeps_it { HoldsRoom true 41 small_seen small_stopped (fresh two_slots) (behind two_slots two_slots first_batch) → ⊥ }
+    ensures passes_in_an_untold_folder { HoldsRoom false 41 small_seen small_stopped (fresh two_slots) (behind two_slots first_batch first_batch) → ⊥ }
+    ensures reads_so_untold { HoldsRoom false 41 small_seen small_stopped (fresh two_slots) (behind two_slots first_batch two_slots) }
+    ensures had_more_before { HoldsRoom true 9 small_seen small_stopped (fresh first_batch) (behind first_batch two_slots first_batch) }
 {}

@@ -25,3 +25,15 @@ abbrev pub second_stands : Image
 second_stands Zero = slot_of_ann
 second_stands One = empty_slot
 second_stands Mark = 0 ∷ 0 ∷ []
+
+-- The same without a byte in the second slot.
+abbrev pub second_is_cut : Image
+second_is_cut Zero = slot_of_ann
+second_is_cut One = []
+second_is_cut Mark = 0 ∷ 0 ∷ []
+
+-- The same with the first batch in both slots.
+abbrev pub both_have_ann : Image
+both_have_ann Zero = slot_of_ann
+both_have_ann One = slot_of_ann
+both_have_ann Mark = 0 ∷ 0 ∷ []

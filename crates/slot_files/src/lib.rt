@@ -13,4 +13,4 @@ pub use laws::{one_standing, standing_goes_on};
 pub use opening::open;
 pub use standing::{Standing, peek};
 pub use switching::switch;
-pub use worked::worked_folders;
+pub use worked::{worked_folders, worked_switches};
