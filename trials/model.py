@@ -199,7 +199,7 @@ def reply_line(reply):
 
 
 def compare_examples(program):
-    for name in ("ann", "network", "realistic"):
+    for name in ("ann", "network", "realistic", "import/network"):
         requests, lines = example(name)
         replies = model_replies(b"".join(requests))[0]
         assert [reply_line(reply) for reply in replies] == lines, name
@@ -322,7 +322,7 @@ def write_cases(folder, size, seed, each):
     dry, old, kept = (os.path.join(folder, name) for name in ("dry", "old", "folder"))
     for name in (dry, old, kept):
         os.makedirs(name)
-    for name in ("ann", "network", "realistic"):
+    for name in ("ann", "network", "realistic", "import/network"):
         requests, lines = example(name)
         replies = model_replies(b"".join(requests))[0]
         print(f"example {name}: {sum(reply_line(reply) != told for reply, told in zip(replies, lines))} of {len(lines)} lines of the file are other ones")
