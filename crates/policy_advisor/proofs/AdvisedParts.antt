@@ -1,15 +1,14 @@
 -- What is advised of parts is advised of the state whose parts they are.
-use Rattle.std.proofs.Common.{◌≡◌, ℕ, ◌==◌, ◌&&◌, Bool, true, false, cond, List, [], ◌∷◌, map, filter, Option, Some, inl, inr, refl, sym, ◌∙◌, ap, subst, eq-eqb, None}
+use Rattle.std.proofs.Common.{◌≡◌, ℕ, ◌==◌, ◌&&◌, Bool, true, false, cond, List, [], ◌∷◌, map, Option, Some, inl, inr, refl, sym, ap, subst, eq-eqb, None}
 use Rattle.std.proofs.lemmas.Bool.{and_from}
 use Rattle.std.specs.List.{list_all}
 use Rattle.std.specs.Prelude.{is_some}
-use Rattle.std.specs.Option.{option_map_or}
 use Rattle.ctrl_model.specs.declared.kinds.RouterSeen.{RouterSeen}
 use Rattle.ctrl_model.specs.Choices.{Any, is_wanted, shared, ingresses}
 use Rattle.ctrl_model.specs.Membership.{Among}
 use Rattle.ctrl_model.specs.Networks.{Network, network_of, is_shared, seen}
 use Rattle.ctrl_model.specs.Numbered.{at, is_present}
-use Rattle.ctrl_model.specs.State.{State, Router, entity_named}
+use Rattle.ctrl_model.specs.State.{State, Router}
 use Rattle.ctrl_model.proofs.Members.{by_filter, by_map}
 use Rattle.terminators.specs.TermTables.{open_at}
 use Rattle.entity_store.specs.EntityTables.{Tables}

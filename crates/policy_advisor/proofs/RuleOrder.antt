@@ -3,7 +3,7 @@ use Rattle.std.proofs.Common.{◌≡◌, ℕ, ◌==◌, ◌⊎◌, inl, inr, Boo
 use Rattle.std.specs.Option.{option_map_or}
 use Rattle.ctrl_model.specs.declared.commands.Command.TheVariants.{CreateCircuit}
 use Rattle.ctrl_model.specs.declared.refusals.Denial.{Denial}
-use Rattle.ctrl_model.specs.declared.refusals.Denial.TheVariants.{UnknownRouter, NoDial, NoSharedRouter, SharedRoutersOffline, NoTerminators, NoAdmissibleTerminator, NoPath, CircuitsFull}
+use Rattle.ctrl_model.specs.declared.refusals.Denial.TheVariants.{NoDial, NoSharedRouter, SharedRoutersOffline, NoTerminators, NoAdmissibleTerminator, NoPath, CircuitsFull}
 use Rattle.ctrl_model.specs.declared.refusals.Refusal.TheVariants.{Denied}
 use Rattle.ctrl_model.specs.declared.replies.Reply.TheVariants.{Refused}
 use Rattle.ctrl_model.specs.Choices.{Any, Candidate, best, shared, ingresses, candidates_for, first_denial, first_rule}

@@ -1,11 +1,8 @@
-use Rattle.std.proofs.Common.{◌≡◌, ℕ, List, Option, ap, ◌∙◌, option_and_then}
+use Rattle.std.proofs.Common.{ap, ◌∙◌, option_and_then}
 use Rattle.std.proofs.lemmas.Result.{IfOk-weaker}
 use Rattle.ctrl_model.specs.Numbered.{at}
-use Rattle.ctrl_model.specs.State.{State}
 use Rattle.circuit_rules.specs.Views.{network}
-use Rattle.policy_advisor.specs.declared.advised.Advice.{Advice}
-use Rattle.policy_advisor.specs.Advice.{advice_in, advice_of, advice_on, dial_marks}
-use Rattle.policy_advisor.specs.AdvisedStates.{ArePartsOf}
+use Rattle.policy_advisor.specs.Advice.{advice_on, dial_marks}
 use Rattle.policy_advisor.proofs.AdvisedParts.{advice-is, advised_there}
 use Rattle.policy_advisor.proofs.advising.advise.Goals as goal
 
