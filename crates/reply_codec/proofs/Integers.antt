@@ -13,7 +13,7 @@ use Rattle.ctrl_model.specs.declared.replies.Reply.TheVariants as reply
 use Rattle.ctrl_model.specs.declared.replies.Tally.{Tally}
 use Rattle.reply_codec.specs.ReplyBody.{natural, naturals, strings, tally_array, tally_arrays, cost_or_null, reach_object, refusal_object, reply_object, reply_body}
 
-items_plain : {X : Type 0} (f : X → Data) → ((x : X) → has_float (f x) ≡ false) → (xs : List X) → items_have_float (items_of (map f xs)) ≡ false
+pub items_plain : {X : Type 0} (f : X → Data) → ((x : X) → has_float (f x) ≡ false) → (xs : List X) → items_have_float (items_of (map f xs)) ≡ false
 items_plain f each [] = refl
 items_plain f each (x ∷ xs) = rw (each x) (items_plain f each xs)
 
@@ -24,7 +24,7 @@ cost_plain n = by (n == no_path)
     by true = refl
     by false = refl
 
-naturals_plain : (ns : List ℕ) → has_float (naturals ns) ≡ false
+pub naturals_plain : (ns : List ℕ) → has_float (naturals ns) ≡ false
 naturals_plain ns = items_plain natural (λ n. refl) ns
 
 reach_plain : (e : Reach) → has_float (reach_object e) ≡ false
@@ -33,7 +33,7 @@ reach_plain e = rw (items_plain cost_or_null cost_plain e.values)
 tallies_plain : (ts : List Tally) → has_float (tally_arrays ts) ≡ false
 tallies_plain ts = items_plain tally_array (λ t. refl) ts
 
-names_plain : (names : List (List ℕ)) → has_float (strings names) ≡ false
+pub names_plain : (names : List (List ℕ)) → has_float (strings names) ≡ false
 names_plain names = items_plain (λ s. string s) (λ s. refl) names
 
 refusal_plain : (r : Refusal) → has_float (refusal_object r) ≡ false

@@ -20,8 +20,8 @@ fn number_value(number: u32) -> Value
     Value::from(number)
 }
 
-/// A list of numbers: at most 11 bytes each, and 2.
-pub(crate) fn numbers_value(alloc: Global, numbers: &Numbers) -> Result<Value, AllocError>
+/// A list of numbers: at most 11 bytes each, and 2. An `Err` is want of memory.
+pub fn numbers_value(alloc: Global, numbers: &Numbers) -> Result<Value, AllocError>
     ensures value { IfOk result (λ v. view v ≡ naturals numbers.now) }
     ensures few { IfOk result (λ _. length (compact_text (naturals numbers.now)) ≤ 2 + 11 * length numbers.now) }
 {
@@ -39,8 +39,8 @@ fn name_text(name: &Name) -> &str
     str::from_utf8(name.bytes()).unwrap()
 }
 
-/// A name as a text.
-pub(crate) fn name_value(alloc: Global, name: &Name) -> Result<Value, AllocError>
+/// A name as a text: at most 386 bytes. An `Err` is want of memory.
+pub fn name_value(alloc: Global, name: &Name) -> Result<Value, AllocError>
     ensures value { IfOk result (λ v. view v ≡ string name.now) }
     ensures few { IfOk result (λ _. length (compact_text (string name.now)) ≤ 386) }
 {

@@ -38,7 +38,8 @@ fn reason_word(reason: Reason) -> &'static str
     }
 }
 
-fn denial_number(denial: Denial) -> u32
+/// The number of a denial (docs/FORMATS.md, "Refusals").
+pub fn denial_number(denial: Denial) -> u32
     ensures { result ≡ denial_number denial }
 {
     match denial {
