@@ -1,4 +1,4 @@
--- The notes of a run, a line each (docs/FORMATS.md, "Lines for people").
+-- The notes of a run, a line each (docs/FORMATS.md, "The words of zitiline").
 use Rattle.std.specs.Prelude.{ℕ, List, [], ◌++◌, codes, None, Some}
 use Rattle.std.specs.declared.option.Option.{Option}
 use Rattle.ziti_outside.specs.Causes.{Rose}
