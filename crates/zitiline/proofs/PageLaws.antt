@@ -3,9 +3,7 @@ use Rattle.std.proofs.Common.{◌≡◌, ℕ, List, None, Some, refl, sym, subst
 use Rattle.std.specs.declared.option.Option.{Option}
 use Rattle.ziti_outside.specs.Told.{Took, TookFront}
 use Rattle.ziti_outside.specs.Views.{Outside, Seen}
-use Rattle.zitiline.specs.declared.words.Form.{Form}
 use Rattle.zitiline.specs.declared.words.Page.{Page}
-use Rattle.zitiline.specs.declared.words.Asked.{Asked}
 use Rattle.zitiline.specs.declared.words.Asked.TheVariants.{Turn, Tell}
 use Rattle.zitiline.specs.declared.status.Status.{Status}
 use Rattle.zitiline.specs.declared.status.Status.TheVariants.{Done, Usage, BadInput, ReadFault, WriteFault, NoMemory}

@@ -1,4 +1,4 @@
-use Rattle.std.proofs.Common.{◌≡◌, Some, sym, subst}
+use Rattle.std.proofs.Common.{Some, sym, subst}
 use Rattle.zitiline.specs.declared.words.Asked.{Asked}
 use Rattle.zitiline.specs.Headline.{Runs}
 use Rattle.zitiline.proofs.PageLaws.{page_runs}
