@@ -1,7 +1,7 @@
 //! Frames told as lines, and lines that say frames. The run of `zitiline` shows where the latter end at a fault.
 
 use crate::samples::{ANN, REPLY};
-use frame_lines::{DecodeFault, decode, encode};
+use frame_lines::{DecodeFault, check, decode, encode};
 use std::alloc::{AllocError, Global};
 use std::process::Abort;
 use std::test::Fail;
@@ -68,4 +68,46 @@ fn a_text_says_frames(rt: HostRuntime) -> Result<(), Fail> {
     assert_eq!(rt; encoded.bytes.as_slice(), ANN.as_slice());
     assert_eq!(rt; encoded.fault, None);
     Ok(())
+}
+
+// All faults of a text are told so, and where there are none it is encoded.
+fn is_checked(rt: &impl Abort, alloc: Global, text: &[u8], told: &str) -> Result<(), Fail> {
+    let checked = check(alloc, text)?;
+    assert_eq!(rt; checked.told.as_slice(), told.as_bytes());
+    let encoded = encode(alloc, text)?;
+    assert_eq!(rt; checked.fault, encoded.fault);
+    Ok(())
+}
+
+#[test]
+fn all_faults_are_told(rt: HostRuntime) -> Result<(), Fail> {
+    let rows = [
+        (
+            b"# ann\n7 CreateIdentity {\"name\":\"ann\"}\n".as_slice(),
+            "",
+        ),
+        (
+            b"Helo\r\n\nHello\n007 Hello\n".as_slice(),
+            "line 1: unknown type at column 1: NAME is the name of a command; near is Hello\n\
+             line 4: bad sequence at column 1: SEQUENCE is 0 to 4294967295 without zeros before it\n",
+        ),
+        (
+            b"7 createLink {}\n12 03".as_slice(),
+            "line 1: unknown type at column 3: NAME is the name of a command, or 0 to 4294967295 without zeros before it; \
+             near is CreateLink\n\
+             line 2: unknown type at column 4: NAME is the name of a command, or 0 to 4294967295 without zeros before it\n",
+        ),
+    ];
+    for (text, told) in rows {
+        is_checked(&rt, rt.alloc(), text, told)?;
+    }
+    Ok(())
+}
+
+#[test]
+fn a_body_that_is_too_long_is_told(rt: HostRuntime) -> Result<(), Fail> {
+    let mut text = b"7 Hello ".to_vec(rt.alloc())?;
+    text.resize(text.len() + 1_048_577, b'x')?;
+    let told = "line 1: body too long at column 9: BODY has at most 1048576 bytes\n";
+    is_checked(&rt, rt.alloc(), text.as_slice(), told)
 }

@@ -53,7 +53,7 @@ pub says_cut : (a : Answer) (status : Status) (before now : Option (List ℕ)) �
 says_cut a status before now ends took = subst (λ (s : Status). SaysAnswer s a before now) (sym ends) took
 
 -- What was noted since a desk that had noted the same.
-notes_from : (lines : List ℕ) (a b c : Seen) → b.noted ≡ a.noted → b.note_faults ≡ a.note_faults → NotesLines lines b c → NotesLines lines a c
+pub notes_from : (lines : List ℕ) (a b c : Seen) → b.noted ≡ a.noted → b.note_faults ≡ a.note_faults → NotesLines lines b c → NotesLines lines a c
 notes_from lines a b c q r noted = record {
   part = subst (λ (x : Option (List ℕ)). TookFront x c.noted lines) q noted.part;
   whole = λ calm. subst (λ (x : Option (List ℕ)). Took x c.noted lines) q (noted.whole (λ rose. calm (subst (λ (n : ℕ). Rose n c.note_faults) r rose)));

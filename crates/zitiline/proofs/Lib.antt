@@ -1,2 +1,3 @@
 pub mod SaidLaws
 pub mod AnswerLaws
+pub mod PageLaws

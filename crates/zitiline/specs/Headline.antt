@@ -7,10 +7,14 @@ use Rattle.ziti_outside.specs.Causes.{Rose}
 use Rattle.ziti_outside.specs.Images.{Image}
 use Rattle.ziti_outside.specs.Views.{Outside, Seen}
 use Rattle.zitiline.specs.declared.words.Form.{Form}
+use Rattle.zitiline.specs.declared.words.Page.{Page}
+use Rattle.zitiline.specs.declared.words.Asked.{Asked}
+use Rattle.zitiline.specs.declared.words.Asked.TheVariants.{Turn, Tell}
 use Rattle.zitiline.specs.declared.status.Status.{Status}
 use Rattle.zitiline.specs.declared.status.Status.TheVariants.{Done, Usage, BadInput, ReadFault, WriteFault, NoMemory}
 use Rattle.zitiline.specs.Answers.{said_of, fault_of, status_of}
 use Rattle.zitiline.specs.Notes.{notes_of, NotesLines}
+use Rattle.zitiline.specs.Pages.{TellsPage}
 
 -- What a run that ended so has said of the input that it took: all that is to be said of it, where the input was read to its end
 -- and decides this status; a front of that where a say failed; and nothing after a read fault and where memory was wanting.
@@ -29,17 +33,20 @@ pub record Answers (form : Form) (left_before left_now : Option (List ℕ)) (bef
   pub says : Says status form input left_now before.said now.said
   pub notes : NotesLines (notes_of (fault_of form input) status) before now
 
--- A run that was asked for one of the four words alone, or for something else.
+-- A run that was asked for one of the seven words alone, or for something else.
 --
 -- Usage comes exactly where it was asked for something else: then nothing is taken and nothing is said, and the usage line is noted.
+-- Where a page about the program was asked for, nothing is taken either.
 -- A fault comes exactly where its count rose in this run. The folder is left alone.
-pub record Runs {S D : Type 0} (outside : Outside S D) (form : Option Form) (source source_now : S) (desk desk_now : D) (status : Status) : Type 0 where
-  pub usage : (status ≡ Usage) ↔ (form ≡ None)
-  pub usage_takes_nothing : form ≡ None → source_now ≡ source
-  pub usage_says_nothing : form ≡ None → (outside.seen desk_now).said ≡ (outside.seen desk).said
-  pub usage_note : form ≡ None → NotesLines (notes_of None Usage) (outside.seen desk) (outside.seen desk_now)
-  pub answers : (asked : Form) → form ≡ Some asked
-      → Answers asked (outside.left source) (outside.left source_now) (outside.seen desk) (outside.seen desk_now) status
+pub record Runs {S D : Type 0} (outside : Outside S D) (asked : Option Asked) (source source_now : S) (desk desk_now : D) (status : Status) : Type 0 where
+  pub usage : (status ≡ Usage) ↔ (asked ≡ None)
+  pub usage_takes_nothing : asked ≡ None → source_now ≡ source
+  pub usage_says_nothing : asked ≡ None → (outside.seen desk_now).said ≡ (outside.seen desk).said
+  pub usage_note : asked ≡ None → NotesLines (notes_of None Usage) (outside.seen desk) (outside.seen desk_now)
+  pub page_takes_nothing : (page : Page) → asked ≡ Some (Tell page) → source_now ≡ source
+  pub pages : (page : Page) → asked ≡ Some (Tell page) → TellsPage page (outside.seen desk) (outside.seen desk_now) status
+  pub answers : (form : Form) → asked ≡ Some (Turn form)
+      → Answers form (outside.left source) (outside.left source_now) (outside.seen desk) (outside.seen desk_now) status
   pub read_fault : status ≡ ReadFault → Rose (outside.faults source) (outside.faults source_now)
   pub no_read_fault : (status ≡ ReadFault → ⊥) → outside.faults source_now ≡ outside.faults source
   pub write_fault : status ≡ WriteFault → Rose (outside.seen desk).say_faults (outside.seen desk_now).say_faults

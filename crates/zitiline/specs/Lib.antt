@@ -3,6 +3,7 @@ pub mod Words
 pub mod Statuses
 pub mod Answers
 pub mod Notes
+pub mod Pages
 pub mod Headline
 pub mod Steps
 pub mod SaidAll

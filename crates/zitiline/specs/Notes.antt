@@ -1,4 +1,4 @@
--- The notes of a run, a line each (docs/FORMATS.md, "Lines for people").
+-- The notes of a run, a line each (docs/FORMATS.md, "The words of zitiline").
 use Rattle.std.specs.Prelude.{ℕ, List, [], ◌++◌, codes, None, Some}
 use Rattle.std.specs.declared.option.Option.{Option}
 use Rattle.ziti_outside.specs.Causes.{Rose}
@@ -19,7 +19,7 @@ fault_note (Some text) = note_of text
 -- The notes of a run that ended so, whose input has this fault or none.
 abbrev pub notes_of : Option (List ℕ) → Status → List ℕ
 notes_of fault Done = []
-notes_of fault Usage = note_of (codes "usage: zitiline encode | decode | trace | replies")
+notes_of fault Usage = note_of (codes "usage: zitiline encode | decode | trace | replies | check | help | version")
 notes_of fault BadInput = fault_note fault
 notes_of fault ReadFault = note_of (codes "read fault")
 notes_of fault WriteFault = note_of (codes "write fault")

@@ -1,19 +1,25 @@
--- The words of the command line, and what they ask for (docs/FORMATS.md, "Lines for people").
+-- The words of the command line, and what they ask for (docs/FORMATS.md, "The words of zitiline").
 use Rattle.std.specs.Prelude.{ℕ, List, [], ◌∷◌, codes, if◌then◌else◌, None, Some}
 use Rattle.std.specs.declared.option.Option.{Option}
 use Rattle.std.specs.Str.{bytes_eq}
-use Rattle.zitiline.specs.declared.words.Form.{Form}
-use Rattle.zitiline.specs.declared.words.Form.TheVariants.{Encode, Decode, Trace, Replies}
+use Rattle.zitiline.specs.declared.words.Asked.{Asked}
+use Rattle.zitiline.specs.declared.words.Asked.TheVariants.{Turn, Tell}
+use Rattle.zitiline.specs.declared.words.Form.TheVariants.{Encode, Decode, Trace, Replies, Check}
+use Rattle.zitiline.specs.declared.words.Page.TheVariants.{Help, Version}
 
--- What one word asks for, if it is one of the four.
-abbrev pub form_named : List ℕ → Option Form
-form_named word =
-    if bytes_eq word (codes "encode") then Some Encode
-    else (if bytes_eq word (codes "decode") then Some Decode
-    else (if bytes_eq word (codes "trace") then Some Trace else (if bytes_eq word (codes "replies") then Some Replies else None)))
+-- The words, each with what it asks for.
+abbrev pub known_words : List (List ℕ × Asked)
+known_words =
+    (codes "encode", Turn Encode) ∷ (codes "decode", Turn Decode) ∷ (codes "trace", Turn Trace) ∷ (codes "replies", Turn Replies)
+    ∷ (codes "check", Turn Check) ∷ (codes "help", Tell Help) ∷ (codes "version", Tell Version) ∷ []
 
--- What the words ask for, if they are one of the four alone.
-abbrev pub form_of : List (List ℕ) → Option Form
-form_of [] = None
-form_of (word ∷ []) = form_named word
-form_of (word ∷ next ∷ words) = None
+-- What a word asks for, if it is one of some.
+abbrev pub asked_among : List (List ℕ × Asked) → List ℕ → Option Asked
+asked_among [] word = None
+asked_among (row ∷ rows) word = if bytes_eq word row.0 then Some row.1 else asked_among rows word
+
+-- What the words ask for, if they are one of the seven alone.
+abbrev pub asked_of : List (List ℕ) → Option Asked
+asked_of [] = None
+asked_of (word ∷ []) = asked_among known_words word
+asked_of (word ∷ next ∷ words) = None

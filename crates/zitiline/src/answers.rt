@@ -7,7 +7,7 @@ ghost use Rattle.zitiline.specs.Steps.{IsAnswer, fault_text, note_in};
 use crate::notes::fault_note;
 use crate::words::Form;
 use ctrl_model::Bytes;
-use frame_lines::{DecodeFault, LineFault, decode, encode};
+use frame_lines::{DecodeFault, LineFault, check, decode, encode};
 use std::alloc::{AllocError, Global};
 use trace_lines::{ReplyFault, TraceFault, tell_replies, trace};
 
@@ -76,6 +76,10 @@ pub fn answer_to(alloc: Global, form: Form, input: &[u8]) -> Result<Answer, Allo
         Form::Replies => {
             let told = tell_replies(alloc, input)?;
             answer_with(alloc, told.text, told.fault.map(Fault::Reply))
+        }
+        Form::Check => {
+            let checked = check(alloc, input)?;
+            answer_with(alloc, checked.told, checked.fault.map(Fault::Line))
         }
     }
 }

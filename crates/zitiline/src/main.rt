@@ -5,6 +5,7 @@ mod answers;
 mod intake;
 mod laws;
 mod notes;
+mod pages;
 mod running;
 mod status;
 mod words;
@@ -14,7 +15,7 @@ ghost use Rattle.std.specs.Prelude.{◌≡◌, ◌≢◌, None, IfOk, IfErr, map
 ghost use Rattle.std.specs.Process.{exit_status};
 ghost use Rattle.std.specs.IoError.{error_kind};
 ghost use Rattle.std.specs.String.{string_bytes};
-ghost use Rattle.zitiline.specs.Words.{form_of};
+ghost use Rattle.zitiline.specs.Words.{asked_of};
 ghost use Rattle.zitiline.specs.Headline.{Runs};
 ghost use Rattle.zitiline.specs.Statuses.{number_of};
 
@@ -43,7 +44,7 @@ fn run_given<S: Source, D: Desk>(
     desk: &mut D,
 ) -> Status
     ensures words { IfOk given (λ words. Runs (record { left = S.left; faults = S.faults; tells = D.tells; seen = D.seen; stopped = D.stopped })
-        (form_of (map string_bytes (drop 1 words.items))) source.old source.new desk.old desk.new result) }
+        (asked_of (map string_bytes (drop 1 words.items))) source.old source.new desk.old desk.new result) }
     ensures no_text { IfErr given (λ error. error_kind error ≢ ErrorKind.OutOfMemory
         → Runs (record { left = S.left; faults = S.faults; tells = D.tells; seen = D.seen; stopped = D.stopped })
         None source.old source.new desk.old desk.new result) }
@@ -71,7 +72,7 @@ fn ends<S: Source, D: Desk>(
     desk: &mut D,
 ) -> ExitCode
     ensures words { IfOk given (λ words. (status : Status) × Runs (record { left = S.left; faults = S.faults; tells = D.tells; seen = D.seen; stopped = D.stopped })
-        (form_of (map string_bytes (drop 1 words.items))) source.old source.new desk.old desk.new status × (exit_status result ≡ number_of status)) }
+        (asked_of (map string_bytes (drop 1 words.items))) source.old source.new desk.old desk.new status × (exit_status result ≡ number_of status)) }
     ensures no_text { IfErr given (λ error. error_kind error ≢ ErrorKind.OutOfMemory
         → (status : Status) × Runs (record { left = S.left; faults = S.faults; tells = D.tells; seen = D.seen; stopped = D.stopped })
         None source.old source.new desk.old desk.new status × (exit_status result ≡ number_of status)) }

@@ -12,7 +12,8 @@ pub fn status_note(status: Status) -> &'static [u8]
     ensures { result.now ≡ notes_of None status }
 {
     match status {
-        Status::Usage => b"zitiline: usage: zitiline encode | decode | trace | replies\n",
+        Status::Usage =>
+            b"zitiline: usage: zitiline encode | decode | trace | replies | check | help | version\n",
         Status::ReadFault => b"zitiline: read fault\n",
         Status::WriteFault => b"zitiline: write fault\n",
         Status::NoMemory => b"zitiline: no memory\n",

@@ -2,17 +2,20 @@ ghost use Rattle.std.specs.Prelude.{◌≡◌, None, Some, map};
 ghost use Rattle.std.specs.Option.{option_map};
 ghost use Rattle.std.specs.String.{string_bytes};
 ghost use Rattle.ziti_outside.specs.Untouched.{OnlyNotes};
-ghost use Rattle.zitiline.specs.Words.{form_of};
+ghost use Rattle.zitiline.specs.declared.words.Asked.TheVariants.{Turn};
+ghost use Rattle.zitiline.specs.Words.{asked_of};
 ghost use Rattle.zitiline.specs.Answers.{fault_of, status_for};
 ghost use Rattle.zitiline.specs.Notes.{notes_of, NotesLines};
 ghost use Rattle.zitiline.specs.Steps.{note_bytes, answer_notes, SaysAnswer, SaysInput, IsWriteCaused, LeavesFolder};
+ghost use Rattle.zitiline.specs.Pages.{TellsPage};
 ghost use Rattle.zitiline.specs.Headline.{Runs};
 
 use crate::answers::{Answer, answer_to};
 use crate::intake::{Cut, take_all};
 use crate::notes::{note_lines, status_note};
+use crate::pages::page_text;
 use crate::status::Status;
-use crate::words::{Form, form_of};
+use crate::words::{Asked, Form, Page, asked_of};
 use std::alloc::Global;
 use ziti_outside::{Desk, Failed, Source};
 
@@ -70,7 +73,7 @@ fn answer_input<D: Desk>(alloc: Global, form: Form, input: &[u8], desk: &mut D) 
 
 fn run_form<S: Source, D: Desk>(alloc: Global, form: Form, source: &mut S, desk: &mut D) -> Status
     ensures runs { Runs (record { left = S.left; faults = S.faults; tells = D.tells; seen = D.seen; stopped = D.stopped })
-        (Some form) source.old source.new desk.old desk.new result }
+        (Some (Turn form)) source.old source.new desk.old desk.new result }
 {
     match take_all(alloc, source) {
         Ok(input) => answer_input(alloc, form, input.as_slice(), desk),
@@ -79,7 +82,35 @@ fn run_form<S: Source, D: Desk>(alloc: Global, form: Form, source: &mut S, desk:
     }
 }
 
-/// Runs the program on the words behind its name: takes the input to its end, says what is to be said of it, and notes its fault.
+// Says a page about the program.
+fn tell_page<D: Desk>(page: Page, desk: &mut D) -> Status
+    ensures page { TellsPage page (D.seen desk.old) (D.seen desk.new) result }
+    ensures cause { IsWriteCaused (D.seen desk.old).say_faults (D.seen desk.new).say_faults result }
+    ensures folder { LeavesFolder D.seen D.stopped desk.old desk.new }
+{
+    match desk.say(page_text(page)) {
+        Ok(()) => end_with(Status::Done, desk),
+        Err(_) => end_with(Status::WriteFault, desk),
+    }
+}
+
+fn run_asked<S: Source, D: Desk>(
+    alloc: Global,
+    asked: Asked,
+    source: &mut S,
+    desk: &mut D,
+) -> Status
+    ensures { Runs (record { left = S.left; faults = S.faults; tells = D.tells; seen = D.seen; stopped = D.stopped })
+        (Some asked) source.old source.new desk.old desk.new result }
+{
+    match asked {
+        Asked::Turn(form) => run_form(alloc, form, source, desk),
+        Asked::Tell(page) => tell_page(page, desk),
+    }
+}
+
+/// Runs the program on the words behind its name: takes the input to its end, says what is to be said of it, and notes its fault; or says a
+/// page about itself.
 pub fn run<S: Source, D: Desk>(
     alloc: Global,
     words: &[String],
@@ -87,10 +118,10 @@ pub fn run<S: Source, D: Desk>(
     desk: &mut D,
 ) -> Status
     ensures runs { Runs (record { left = S.left; faults = S.faults; tells = D.tells; seen = D.seen; stopped = D.stopped })
-        (form_of (map string_bytes words.now)) source.old source.new desk.old desk.new result }
+        (asked_of (map string_bytes words.now)) source.old source.new desk.old desk.new result }
 {
-    match form_of(words) {
-        Some(form) => run_form(alloc, form, source, desk),
+    match asked_of(words) {
+        Some(asked) => run_asked(alloc, asked, source, desk),
         None => end_with(Status::Usage, desk),
     }
 }

@@ -1,12 +1,12 @@
 ghost use Rattle.std.specs.Prelude.{◌≡◌};
 ghost use Rattle.zitiline.specs.Statuses.{number_of};
 
-/// How a run ended (docs/FORMATS.md, "Lines for people").
+/// How a run ended (docs/FORMATS.md, "The words of zitiline").
 #[derive(Clone, Copy, Debug, PartialEq, Eq)]
 pub enum Status {
     /// The input was read to its end, and all of it said.
     Done,
-    /// The words are none of the four.
+    /// The words are none of the seven.
     Usage,
     /// A line is at fault, or no line tells a frame.
     BadInput,

@@ -1,8 +1,17 @@
 ghost use Rattle.std.specs.Prelude.{◌≡◌, map};
 ghost use Rattle.std.specs.String.{string_bytes};
-ghost use Rattle.zitiline.specs.Words.{form_of};
+ghost use Rattle.zitiline.specs.Words.{asked_of};
 
 /// What the program is asked for.
+#[derive(Clone, Copy, Debug, PartialEq, Eq)]
+pub enum Asked {
+    /// What is to be said of the input.
+    Turn(Form),
+    /// A page about the program itself. No input is read.
+    Tell(Page),
+}
+
+/// What is to be said of an input.
 #[derive(Clone, Copy, Debug, PartialEq, Eq)]
 pub enum Form {
     /// Lines to frames.
@@ -13,17 +22,31 @@ pub enum Form {
     Trace,
     /// Tagged replies to lines.
     Replies,
+    /// All faults of lines.
+    Check,
 }
 
-/// What the words ask for, if they are one of the four alone.
-pub fn form_of(words: &[String]) -> Option<Form>
-    ensures { result ≡ form_of (map string_bytes words.now) }
+/// A page about the program.
+#[derive(Clone, Copy, Debug, PartialEq, Eq)]
+pub enum Page {
+    /// A line for each word.
+    Help,
+    /// The version of the lines.
+    Version,
+}
+
+/// What the words ask for, if they are one of the seven alone.
+pub fn asked_of(words: &[String]) -> Option<Asked>
+    ensures { result ≡ asked_of (map string_bytes words.now) }
 {
     match words {
-        [word] if word.as_bytes() == b"encode".as_slice() => Some(Form::Encode),
-        [word] if word.as_bytes() == b"decode".as_slice() => Some(Form::Decode),
-        [word] if word.as_bytes() == b"trace".as_slice() => Some(Form::Trace),
-        [word] if word.as_bytes() == b"replies".as_slice() => Some(Form::Replies),
+        [word] if word.as_bytes() == b"encode".as_slice() => Some(Asked::Turn(Form::Encode)),
+        [word] if word.as_bytes() == b"decode".as_slice() => Some(Asked::Turn(Form::Decode)),
+        [word] if word.as_bytes() == b"trace".as_slice() => Some(Asked::Turn(Form::Trace)),
+        [word] if word.as_bytes() == b"replies".as_slice() => Some(Asked::Turn(Form::Replies)),
+        [word] if word.as_bytes() == b"check".as_slice() => Some(Asked::Turn(Form::Check)),
+        [word] if word.as_bytes() == b"help".as_slice() => Some(Asked::Tell(Page::Help)),
+        [word] if word.as_bytes() == b"version".as_slice() => Some(Asked::Tell(Page::Version)),
         _ => None,
     }
 }

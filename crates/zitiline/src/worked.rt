@@ -2,21 +2,26 @@ ghost use Rattle.std.specs.Prelude.{◌≡◌, [], ◌∷◌, ◌++◌, codes, N
 ghost use Rattle.channel_frame.specs.WorkedFrames.{ann_bytes, reply_bytes, cut_bytes};
 ghost use Rattle.session_mux.specs.WorkedTraces.{one_session};
 ghost use Rattle.trace_lines.specs.WorkedTexts.{one_story, reply_of_3};
-ghost use Rattle.zitiline.specs.declared.words.Form.TheVariants.{Encode, Decode, Trace, Replies};
+ghost use Rattle.zitiline.specs.declared.words.Asked.TheVariants.{Turn, Tell};
+ghost use Rattle.zitiline.specs.declared.words.Form.TheVariants.{Encode, Decode, Trace, Replies, Check};
+ghost use Rattle.zitiline.specs.declared.words.Page.TheVariants.{Help, Version};
 ghost use Rattle.zitiline.specs.declared.status.Status.TheVariants.{Done, BadInput, ReadFault};
-ghost use Rattle.zitiline.specs.Words.{form_of};
+ghost use Rattle.zitiline.specs.Words.{asked_of};
 ghost use Rattle.zitiline.specs.Answers.{said_of, fault_of, status_of};
 ghost use Rattle.zitiline.specs.Notes.{notes_of};
 
 /// What words ask for.
 pub fn worked_words()
-    ensures encode { form_of (codes "encode" ∷ []) ≡ Some Encode }
-    ensures decode { form_of (codes "decode" ∷ []) ≡ Some Decode }
-    ensures trace { form_of (codes "trace" ∷ []) ≡ Some Trace }
-    ensures replies { form_of (codes "replies" ∷ []) ≡ Some Replies }
-    ensures none { form_of [] ≡ None }
-    ensures two { form_of (codes "encode" ∷ codes "decode" ∷ []) ≡ None }
-    ensures other { form_of (codes "Encode" ∷ []) ≡ None }
+    ensures encode { asked_of (codes "encode" ∷ []) ≡ Some (Turn Encode) }
+    ensures decode { asked_of (codes "decode" ∷ []) ≡ Some (Turn Decode) }
+    ensures trace { asked_of (codes "trace" ∷ []) ≡ Some (Turn Trace) }
+    ensures replies { asked_of (codes "replies" ∷ []) ≡ Some (Turn Replies) }
+    ensures check { asked_of (codes "check" ∷ []) ≡ Some (Turn Check) }
+    ensures help { asked_of (codes "help" ∷ []) ≡ Some (Tell Help) }
+    ensures version { asked_of (codes "version" ∷ []) ≡ Some (Tell Version) }
+    ensures none { asked_of [] ≡ None }
+    ensures two { asked_of (codes "encode" ∷ codes "decode" ∷ []) ≡ None }
+    ensures other { asked_of (codes "Encode" ∷ []) ≡ None }
 {}
 
 /// What is said of inputs, how they end and what is noted.
@@ -33,5 +38,8 @@ pub fn worked_answers()
     ensures trace_noted { notes_of (fault_of Trace (codes "0 open admin\n0 open admin")) BadInput ≡ codes "zitiline: line 2: session opened before\n" }
     ensures told { said_of Replies reply_of_3 ≡ codes "3 7 ok {\"no\":1}\n" }
     ensures told_noted { notes_of (fault_of Replies reply_bytes) BadInput ≡ codes "zitiline: frame 1: no tag at 0\n" }
+    ensures checked { said_of Check (codes "Hello\nHelo {}\n") ≡ codes "line 2: unknown type at column 1: NAME is the name of a command; near is Hello\n" }
+    ensures check_noted { notes_of (fault_of Check (codes "Hello\nHelo {}\n")) BadInput ≡ codes "zitiline: line 2: unknown type\n" }
+    ensures check_ends { status_of Check (codes "Hello {}\n\n7 1502 {}\n") ≡ Done }
     ensures fault_noted { notes_of None ReadFault ≡ codes "zitiline: read fault\n" }
 {}

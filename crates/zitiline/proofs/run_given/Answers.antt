@@ -1,26 +1,26 @@
-use Rattle.std.proofs.Common.{◌≡◌, ◌∙◌, Option, map, subst, ap}
+use Rattle.std.proofs.Common.{◌∙◌, Option, map, subst, ap}
 use Rattle.std.specs.String.{string_bytes}
 use Rattle.program_words.proofs.AskedLaws.{asked_with, asked_without, failed_with, failed_without, wanting_with}
-use Rattle.zitiline.specs.declared.words.Form.{Form}
-use Rattle.zitiline.specs.Words.{form_of}
+use Rattle.zitiline.specs.declared.words.Asked.{Asked}
+use Rattle.zitiline.specs.Words.{asked_of}
 use Rattle.zitiline.specs.Headline.{Runs}
 use Rattle.zitiline.proofs.run_given.Goals as goal
 
 pub returns-in-Ok-clause-words : goal.returns-in-Ok-clause-words
 returns-in-Ok-clause-words c d =
-    let RunsOf : Option Form → Type 0 = λ form. Runs {S = c.row.S.Denot} {D = c.row.D.Denot}
-    (record { left = c.S.Source.left; faults = c.S.Source.faults; tells = c.D.Desk.tells; seen = c.D.Desk.seen; stopped = c.D.Desk.stopped }) form
+    let RunsOf : Option Asked → Type 0 = λ asked. Runs {S = c.row.S.Denot} {D = c.row.D.Denot}
+    (record { left = c.S.Source.left; faults = c.S.Source.faults; tells = c.D.Desk.tells; seen = c.D.Desk.seen; stopped = c.D.Desk.stopped }) asked
     d.args.source.now d.run.new.source d.args.desk.now d.run.new.desk d.run.result in
     asked_with d.args.given d.asked_words.result _ _ _ d.in-Ok.is d.asked_words.ensures.words
-    (λ words same. subst RunsOf (ap (λ ws. form_of (map string_bytes ws)) (d.as_slice.ensures.value ∙ same)) d.run.ensures.runs)
+    (λ words same. subst RunsOf (ap (λ ws. asked_of (map string_bytes ws)) (d.as_slice.ensures.value ∙ same)) d.run.ensures.runs)
 
 pub returns-in-Ok-clause-no_text : goal.returns-in-Ok-clause-no_text
 returns-in-Ok-clause-no_text c d =
-    let RunsOf : Option Form → Type 0 = λ form. Runs {S = c.row.S.Denot} {D = c.row.D.Denot}
-    (record { left = c.S.Source.left; faults = c.S.Source.faults; tells = c.D.Desk.tells; seen = c.D.Desk.seen; stopped = c.D.Desk.stopped }) form
+    let RunsOf : Option Asked → Type 0 = λ asked. Runs {S = c.row.S.Denot} {D = c.row.D.Denot}
+    (record { left = c.S.Source.left; faults = c.S.Source.faults; tells = c.D.Desk.tells; seen = c.D.Desk.seen; stopped = c.D.Desk.stopped }) asked
     d.args.source.now d.run.new.source d.args.desk.now d.run.new.desk d.run.result in
     failed_with d.args.given d.asked_words.result _ _ _ _ d.in-Ok.is d.asked_words.ensures.no_text
-    (λ same. subst RunsOf (ap (λ ws. form_of (map string_bytes ws)) (d.as_slice.ensures.value ∙ same)) d.run.ensures.runs)
+    (λ same. subst RunsOf (ap (λ ws. asked_of (map string_bytes ws)) (d.as_slice.ensures.value ∙ same)) d.run.ensures.runs)
 
 pub returns-in-Ok-clause-no_memory : goal.returns-in-Ok-clause-no_memory
 returns-in-Ok-clause-no_memory c d = wanting_with d.args.given d.asked_words.result _ _ _ d.in-Ok.is d.asked_words.ensures.no_memory

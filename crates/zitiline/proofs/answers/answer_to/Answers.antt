@@ -24,3 +24,9 @@ returns-in_ok-traced-in-Trace c =
     let e = c.in_ok-traced-in-Trace.ensures in
     is_answered fault.Trace trace_text form.Trace c.args.form c.args.input.now _ c.in_ok-traced-in-Trace.traced.fault c.map-in-Trace.result c.answer_with-in-Trace.result
     (λ f. refl) c.in-Trace.is e.bytes (sym (ap (option_map trace_text) e.fault)) c.map-in-Trace.ensures.cases c.answer_with-in-Trace.ensures
+
+pub returns-in_ok-checked-in-Check : goal.returns-in_ok-checked-in-Check
+returns-in_ok-checked-in-Check c =
+    let e = c.in_ok-checked-in-Check.ensures in
+    is_answered fault.Line line_text form.Check c.args.form c.args.input.now _ c.in_ok-checked-in-Check.checked.fault c.map-in-Check.result c.answer_with-in-Check.result
+    (λ f. refl) c.in-Check.is e.told (sym (ap (option_map line_text) e.fault)) c.map-in-Check.ensures.cases c.answer_with-in-Check.ensures

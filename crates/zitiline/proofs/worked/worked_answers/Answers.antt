@@ -1,10 +1,11 @@
 use Rattle.std.proofs.Common.{refl}
 use Rattle.std.specs.Fmt.{digits}
 use Rattle.std.specs.Str.{is_utf8, chars}
+use Rattle.frame_lines.specs.NearNames.{near_name}
 use Rattle.zitiline.proofs.worked.worked_answers.Goals as goal
 
 pub returns : goal.returns
-unfolding digits is_utf8 chars lib.Utf8.encode
+unfolding digits near_name is_utf8 chars lib.Utf8.encode
 returns c = record {
   encoded = refl;
   ends = refl;
@@ -18,5 +19,8 @@ returns c = record {
   trace_noted = refl;
   told = refl;
   told_noted = refl;
+  checked = refl;
+  check_noted = refl;
+  check_ends = refl;
   fault_noted = refl;
 }

@@ -1,0 +1,21 @@
+ghost use Rattle.std.specs.Prelude.{◌≡◌};
+ghost use Rattle.zitiline.specs.Pages.{page_text};
+
+use crate::words::Page;
+
+/// The page in full.
+pub fn page_text(page: Page) -> &'static [u8]
+    ensures { result.now ≡ page_text page }
+{
+    match page {
+        Page::Help => b"usage: zitiline WORD, with input and output redirected\n\
+              encode   lines to frames\n\
+              decode   frames to lines\n\
+              trace    lines of sessions to a trace\n\
+              replies  tagged replies to lines\n\
+              check    lines to all faults that they have for encode\n\
+              help     these lines\n\
+              version  the version of the lines\n",
+        Page::Version => b"zitiline 1\n",
+    }
+}
