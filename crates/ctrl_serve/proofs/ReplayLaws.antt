@@ -1,9 +1,9 @@
 -- How the opening of the folder, the serving of the frames and the notes make up a run on the folder, with the counts of their faults.
 use Rattle.std.specs.Prelude.{true, false, Bool, IsTrue, IsSome}
-use Rattle.std.proofs.Common.{◌≡◌, ℕ, ◌⊎◌, List, [], length, take, refl, sym, ap, ◌∙◌, subst, arith}
+use Rattle.std.proofs.Common.{◌≡◌, ℕ, List, [], length, take, refl, sym, ap, ◌∙◌, subst, arith}
 use Rattle.std.specs.declared.option.Option.{Option}
 use Rattle.ziti_outside.specs.Images.{Image, After}
-use Rattle.ziti_outside.specs.Moments.{Elapses, Leaves}
+use Rattle.ziti_outside.specs.Moments.{Leaves}
 use Rattle.ziti_outside.specs.Told.{Took}
 use Rattle.ziti_outside.specs.declared.desk.Part.TheVariants.{Mark}
 use Rattle.ziti_outside.specs.Untouched.{OnlyDisk, OnlyNotes}
@@ -173,11 +173,11 @@ input_runs o {form} {c} {most} new {source} {source_now} {desk} {desk_now} {f} {
     }
 
 -- And where it was cut short, and that was told.
-cut_runs_by : {S D : Type 0} (o : Outside S D) (by : Cut) {form : Form} {c : Serving} {most : ℕ} {source source_now : S} {desk mid now : D} {f g h : Bool}
+cut_runs_by : {S D : Type 0} (o : Outside S D) (by : Cut) {form : Form} {c : Serving} {most : ℕ} {source source_now : S} {desk mid now : D} {f g : Bool} (h : Bool)
     → CutsInput by (intake_from o form most c) (passing o source source_now desk mid f) (record { failed = g; desk = o.seen mid }) → f ≡ false
     → OnlyNotes o.seen o.stopped mid now → FindsNoMore o.stopped mid now → NotesMore g h (status_lines [] (status_of_cut by)) (o.seen mid) (o.seen now)
     → RunsOn (taking_of form most) c o source source_now desk now (status_of_cut by)
-cut_runs_by o by {form} {c} {most} {source} {source_now} {desk} {mid} {now} {f} {g} {h} told calm others no_more more =
+cut_runs_by o by {form} {c} {most} {source} {source_now} {desk} {mid} {now} {f} {g} h told calm others no_more more =
     let used : List ℕ = take most told.takes.taken in
     record {
       serves = cut_serves by (record { failed = h; desk = o.seen now }) told calm others.replies more;
@@ -186,13 +186,13 @@ cut_runs_by o by {form} {c} {most} {source} {source_now} {desk} {mid} {now} {f} 
       stops = λ some tell. used_stops form c.bounds c.machine used (known_in form) (at_start form used) (o.seen desk).said refl refl (no_more_behind _ (told.takes.stops some tell) no_more);
     }
 
-pub cut_runs : {S D : Type 0} (o : Outside S D) (by : Cut) {form : Form} {c : Serving} {most : ℕ} {source source_now : S} {desk mid now : D} {f g h : Bool} (status : Status) → status ≡ status_of_cut by
+pub cut_runs : {S D : Type 0} (o : Outside S D) (by : Cut) {form : Form} {c : Serving} {most : ℕ} {source source_now : S} {desk mid now : D} {f g : Bool} (h : Bool) (status : Status) → status ≡ status_of_cut by
     → CutsInput by (intake_from o form most c) (passing o source source_now desk mid f) (record { failed = g; desk = o.seen mid }) → f ≡ false
     → OnlyNotes o.seen o.stopped mid now → FindsNoMore o.stopped mid now → NotesMore g h (status_lines [] status) (o.seen mid) (o.seen now)
     → RunsOn (taking_of form most) c o source source_now desk now status
-cut_runs o by {form} {c} {most} {source} {source_now} {desk} {mid} {now} {f} {g} {h} status is cuts calm others no_more more =
+cut_runs o by {form} {c} {most} {source} {source_now} {desk} {mid} {now} {f} {g} h status is cuts calm others no_more more =
     let behind = subst (λ (u : Status). NotesMore g h (status_lines [] u) (o.seen mid) (o.seen now)) is more in
-    subst (λ (u : Status). RunsOn (taking_of form most) c o source source_now desk now u) (sym is) (cut_runs_by o by {f = f} {g = g} {h = h} cuts calm others no_more behind)
+    subst (λ (u : Status). RunsOn (taking_of form most) c o source source_now desk now u) (sym is) (cut_runs_by o by {f = f} {g = g} h cuts calm others no_more behind)
 
 -- The notes of such a run failed once at most.
 pub cut_run_counted : (by : Cut) {i : Intake} {o : Passage} {mid : Telling} (now : Telling) (status : Status) → status ≡ status_of_cut by → CutsInput by i o mid → o.told.failed ≡ false

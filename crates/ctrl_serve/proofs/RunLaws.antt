@@ -1,5 +1,5 @@
 -- How what the parts of a run promise makes up what the run promises.
-use Rattle.std.specs.Prelude.{true, false, Bool, IsTrue}
+use Rattle.std.specs.Prelude.{true, false, Bool}
 use Rattle.std.proofs.Common.{◌≡◌, ℕ, ◌⊎◌, inl, inr, List, length, take, None, Some, refl, sym, ap, ◌∙◌, subst, arith}
 use Rattle.std.proofs.Math.Dec.{ltb}
 use Rattle.std.proofs.lemmas.Bool.{false≢true}

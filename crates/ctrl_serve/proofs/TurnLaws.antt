@@ -23,7 +23,7 @@ use Rattle.ctrl_serve.specs.Answering.{served_at, NotesNothing, Progress, Served
 use Rattle.run_notes.specs.declared.ends.Cut.{Cut}
 use Rattle.run_notes.specs.declared.ends.Cut.TheVariants.{NoMemory, Disk, Unsaid}
 use Rattle.ctrl_serve.specs.FrameAnswer.{frame_answer, reply_text}
-use Rattle.run_notes.specs.KnownSessions.{count_at, counted, Known, sender_at, known_after, known_along}
+use Rattle.run_notes.specs.KnownSessions.{count_at, Known, sender_at, known_after, known_along}
 use Rattle.ctrl_serve.specs.KnownReplies.{machine_after, machine_along, reply_by, replies_by, replies_along}
 use Rattle.run_notes.specs.Notes.{event_lines, fault_lines}
 use Rattle.run_notes.specs.NotesSoFar.{NotesMore}

@@ -15,7 +15,7 @@ use Rattle.ctrl_model.specs.State.{start}
 use Rattle.ctrl_model.specs.ValidState.{ValidState}
 use Rattle.model_laws.specs.JudgedCircuits.{AreGranted}
 use Rattle.slot_files.specs.FolderImage.{Stands, StandsAsBefore}
-use Rattle.row_store.specs.OpenedStates.{IsStateless, OpensToState}
+use Rattle.row_store.specs.OpenedStates.{IsStateless}
 use Rattle.row_store.specs.declared.bounds.StoreBounds.{StoreBounds}
 use Rattle.ctrl_keep.specs.KeptMachine.{Machine}
 use Rattle.ctrl_serve.specs.OpenedFolders.{Keeps, OpensTo}

@@ -1,4 +1,4 @@
-use Rattle.std.proofs.Common.{Err, refl, ap, ◌∙◌}
+use Rattle.std.proofs.Common.{Err, ap, ◌∙◌}
 use Rattle.journal_core.proofs.RoomLaws.{held_none, held_then}
 use Rattle.ctrl_serve.proofs.ControllerLaws.{notes_behind}
 use Rattle.ctrl_serve.proofs.IntakeLaws.{all_no_fault, input_counted, write_calm, disk_calm, cut_write, cut_disk}
@@ -25,7 +25,7 @@ pub returns-in-Err-clause-runs : goal.returns-in-Err-clause-runs
 returns-in-Err-clause-runs g c =
     let t = c.tell_cut_behind.ensures in
     cut_runs (record { left = g.S.Source.left; faults = g.S.Source.faults; tells = g.D.Desk.tells; seen = g.D.Desk.seen; stopped = g.D.Desk.stopped })
-    c.in-Err.cut c.tell_cut_behind.result t.status c.in-Err.ensures.answers c.new-notes.ensures t.others t.stops t.noted
+    c.in-Err.cut c.tell_cut_behind.new.notes.failed c.tell_cut_behind.result t.status c.in-Err.ensures.answers c.new-notes.ensures t.others t.stops t.noted
 
 pub returns-in-Err-clause-counts : goal.returns-in-Err-clause-counts
 returns-in-Err-clause-counts g c =
