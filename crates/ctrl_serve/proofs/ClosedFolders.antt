@@ -1,6 +1,6 @@
 -- A folder that was not opened: why it stays closed, and what telling that leaves.
 use Rattle.std.specs.Prelude.{⊤, Bool, IsTrue}
-use Rattle.std.proofs.Common.{◌≡◌, ℕ, ◌<◌, ◌⊎◌, inl, inr, List, [], length, Err, refl, sym, ◌∙◌, subst}
+use Rattle.std.proofs.Common.{◌≡◌, ℕ, ◌<◌, ◌⊎◌, inl, inr, [], length, Err, refl, sym, ◌∙◌, subst}
 use Rattle.ziti_outside.specs.Images.{Image, After}
 use Rattle.ziti_outside.specs.Moments.{Leaves}
 use Rattle.ziti_outside.specs.Told.{AreTaken}

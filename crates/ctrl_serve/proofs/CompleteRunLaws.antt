@@ -54,7 +54,7 @@ replayed o bounds most form source source_now desk desk_now status s (inl closed
     inl (starved o.tells (o.seen desk) (o.seen desk_now) status s closed.unopened.why told opens disk)
 replayed o bounds most form source source_now desk desk_now status s (inr on) told opens read write disk =
     from_machine s (taking_of form most) bounds on.machine (o.left source) (o.left source_now) (o.seen desk) (o.seen desk_now) status (on.opens told) (one_machine_state (o.seen desk).reads s on.machine opens (on.opens told))
-    (serves_completely form status bounds on.machine most _ _ _ _ on.serves read write disk)
+    (serves_completely status on.serves read write disk)
 
 pub replay_is_complete : {S D : Type 0} (o : Outside S D) (bounds : Bounds) (form : Form) (source source_now : S) (desk desk_now : D) (status : Status) (s : State)
     → Runs o bounds (Some (Replay form)) source source_now desk desk_now status

@@ -4,7 +4,7 @@ use Rattle.std.proofs.Common.{◌≡◌, ℕ, zero, suc, ◌<◌, ◌≤◌, ◌
 use Rattle.std.specs.List.{list_any, flat_map, range_with_len}
 use Rattle.std.proofs.Math.Dec.{ltb}
 use Rattle.std.proofs.lemmas.Bool.{lt-ltb, cases_lt, false≢true}
-use Rattle.std.proofs.lemmas.List.{take_all}
+use Rattle.std.proofs.lemmas.List.{nil_from_length, take_all}
 use Rattle.std.specs.declared.option.Option.{Option}
 use Rattle.std.specs.Io.KnownBytes.{IsAtEnd}
 use Rattle.ziti_outside.specs.Causes.{Rose}
@@ -21,7 +21,7 @@ use Rattle.run_notes.specs.declared.status.Status.TheVariants.{Done, Truncated}
 use Rattle.run_notes.specs.Endings.{ending_at}
 use Rattle.ctrl_serve.specs.SaidReplies.{SaysAll, joined}
 use Rattle.ctrl_serve.specs.FrameAnswer.{replies, replies_to}
-use Rattle.ctrl_serve.specs.Headline.{Serves, taking_of}
+use Rattle.ctrl_serve.specs.Headline.{Serves, Taking, taking_of}
 use Rattle.ctrl_serve.specs.Reading.{is_decided}
 use Rattle.run_notes.specs.Inputs.{events_in, end_in, is_fault, is_bad_input, closed_rests, rest_at, has_rest}
 use Rattle.run_notes.specs.Notes.{session_note, session_rest_lines, trace_note, fault_lines, bad_lines, rest_lines, notes_of}
@@ -130,58 +130,60 @@ reads_well form most bytes taken left rest is gave read_on =
     let read = was_read most bytes taken left gave (at_end most left taken is.whole (read_on (good_undecided form (take most taken) is.good))) is.whole in
     record { read = read; good = ap (is_bad_input form) (sym read.used) ∙ is.good; rests = ap (has_rest form) (sym read.used) ∙ is.rests }
 
-done_reads : (form : Form) (bounds : StoreBounds) (m : Machine) (most : ℕ) (bytes : List ℕ) (left : Option (List ℕ)) (b c : Seen) (s : Serves (taking_of form most) bounds m (Some bytes) left b c Done)
-    → ReadsWell form most bytes s.taken left false
-done_reads form bounds m most bytes left b c s = reads_well form most bytes s.taken left false (done_is _ _ _ (s.ends refl)) s.gave (s.read_on refl)
+done_reads : (taking : Taking) (bounds : StoreBounds) (m : Machine) (bytes : List ℕ) (left : Option (List ℕ)) (b c : Seen) (s : Serves taking bounds m (Some bytes) left b c Done)
+    → ReadsWell taking.form taking.most bytes s.taken left false
+done_reads taking bounds m bytes left b c s = reads_well taking.form taking.most bytes s.taken left false (done_is _ _ _ (s.ends refl)) s.gave (s.read_on refl)
 
-pub done_read : (form : Form) (bounds : StoreBounds) (m : Machine) (most : ℕ) (bytes : List ℕ) (left : Option (List ℕ)) (b c : Seen) → Serves (taking_of form most) bounds m (Some bytes) left b c Done
-    → (left ≡ Some []) × (length bytes ≤ most)
-done_read form bounds m most bytes left b c s = let r = (done_reads form bounds m most bytes left b c s).read in (r.none_left, r.few)
-
-no_bytes : (xs : List ℕ) → length xs ≡ 0 → xs ≡ []
-no_bytes [] e = refl
-no_bytes (x ∷ xs) e = absurd (omega (arith, e))
+pub done_read : (taking : Taking) (bounds : StoreBounds) (m : Machine) (bytes : List ℕ) (left : Option (List ℕ)) (b c : Seen) → Serves taking bounds m (Some bytes) left b c Done
+    → (left ≡ Some []) × (length bytes ≤ taking.most)
+done_read taking bounds m bytes left b c s = let r = (done_reads taking bounds m bytes left b c s).read in (r.none_left, r.few)
 
 none_above : (n : ℕ) → nat_lt 0 n ≡ false → n ≡ 0
 none_above zero e = refl
 none_above (suc n) e = absurd (false≢true (sym e ∙ lt-ltb 0 (suc n) (omega arith)))
+
+-- All that the source had was used.
+pub done_used : (taking : Taking) (bounds : StoreBounds) (m : Machine) (bytes : List ℕ) (left left_now : Option (List ℕ)) (b c : Seen) → left ≡ Some bytes
+    → (s : Serves taking bounds m left left_now b c Done) → take taking.most s.taken ≡ bytes
+done_used taking bounds m bytes left left_now b c told s =
+    (reads_well taking.form taking.most bytes s.taken left_now false (done_is _ _ _ (s.ends refl)) (subst (λ (x : Option (List ℕ)). Gave x left_now s.taken) told s.gave) (s.read_on refl)).read.used
 
 -- Without a rest of any session there is none of session 0.
 plain_whole : (bytes : List ℕ) → is_bad_input Plain bytes ≡ false → has_rest Plain bytes ≡ false → rest_of bytes ≡ []
 plain_whole bytes good rests =
     let left : ℕ → Bool = λ (s : ℕ). nat_lt 0 (rest_at (end_in Plain bytes) (closed_rests Plain bytes) s) in
     let none : left 0 ≡ false = or_left (left 0) (list_any left (range_with_len 1 255)) (or_left (list_any left (range_with_len 0 256)) (nat_lt 0 (length (end_in Plain bytes).input)) rests) in
-    no_bytes (rest_of bytes) (none_above (length (rest_of bytes)) (ap (nat_lt 0) (sym (plain_rest bytes (plain_good bytes good))) ∙ none))
+    nil_from_length (rest_of bytes) (none_above (length (rest_of bytes)) (ap (nat_lt 0) (sym (plain_rest bytes (plain_good bytes good))) ∙ none))
 
 pub done_whole : (bounds : StoreBounds) (m : Machine) (most : ℕ) (bytes : List ℕ) (left : Option (List ℕ)) (b c : Seen) → Serves (taking_of Plain most) bounds m (Some bytes) left b c Done → rest_of bytes ≡ []
 done_whole bounds m most bytes left b c s =
-    let r = done_reads Plain bounds m most bytes left b c s in
+    let r = done_reads (taking_of Plain most) bounds m bytes left b c s in
     plain_whole bytes r.good r.rests
 
-pub done_said : (form : Form) (bounds : StoreBounds) (m : Machine) (most : ℕ) (bytes before : List ℕ) (left : Option (List ℕ)) (b c : Seen) → b.said ≡ Some before → Serves (taking_of form most) bounds m (Some bytes) left b c Done
-    → c.said ≡ Some (before ++ replies form bounds m bytes)
-done_said form bounds m most bytes before left b c told s =
-    let r = (done_reads form bounds m most bytes left b c s).read in
-    let all = all_replies form bounds m (take most s.taken) s.said s.answered s.unanswered s.split (s.all refl) s.says in
-    told_took before s.said c.said (subst (λ (x : Option (List ℕ)). Took x c.said s.said) told s.took) ∙ ap (λ (l : List ℕ). Some (before ++ l)) (all ∙ ap (replies form bounds m) r.used)
+pub done_said : (taking : Taking) (bounds : StoreBounds) (m : Machine) (bytes before : List ℕ) (left : Option (List ℕ)) (b c : Seen) → b.said ≡ Some before → Serves taking bounds m (Some bytes) left b c Done
+    → c.said ≡ Some (before ++ replies taking.form bounds m bytes)
+done_said taking bounds m bytes before left b c told s =
+    let r = (done_reads taking bounds m bytes left b c s).read in
+    let all = all_replies taking.form bounds m (take taking.most s.taken) s.said s.answered s.unanswered s.split (s.all refl) s.says in
+    told_took before s.said c.said (subst (λ (x : Option (List ℕ)). Took x c.said s.said) told s.took) ∙ ap (λ (l : List ℕ). Some (before ++ l)) (all ∙ ap (replies taking.form bounds m) r.used)
 
-pub done_noted : (form : Form) (bounds : StoreBounds) (m : Machine) (most : ℕ) (bytes : List ℕ) (left : Option (List ℕ)) (b c : Seen) → Serves (taking_of form most) bounds m (Some bytes) left b c Done → Took b.noted c.noted []
-done_noted form bounds m most bytes left b c s =
-    let r = done_reads form bounds m most bytes left b c s in
-    let first : List ℕ = take most s.taken in
-    let none : notes_of form s.answered first Done ≡ [] =
-    good_lines form first s.answered [] (all_events form first s.answered s.unanswered s.split (s.all refl)) (ap (is_bad_input form) r.read.used ∙ r.good) in
+pub done_noted : (taking : Taking) (bounds : StoreBounds) (m : Machine) (bytes : List ℕ) (left : Option (List ℕ)) (b c : Seen) → Serves taking bounds m (Some bytes) left b c Done → Took b.noted c.noted []
+done_noted taking bounds m bytes left b c s =
+    let r = done_reads taking bounds m bytes left b c s in
+    let first : List ℕ = take taking.most s.taken in
+    let none : notes_of taking.form s.answered first Done ≡ [] =
+    good_lines taking.form first s.answered [] (all_events taking.form first s.answered s.unanswered s.split (s.all refl)) (ap (is_bad_input taking.form) r.read.used ∙ r.good) in
     nothing_is_front b.noted c.noted s.notes.part.0 (subst (λ (l : List ℕ). IsFront s.notes.part.0 l) none s.notes.part.1) s.notes.part.2
 
 -- ---- Truncated
 
-truncated_reads : (form : Form) (bounds : StoreBounds) (m : Machine) (most : ℕ) (bytes : List ℕ) (left : Option (List ℕ)) (b c : Seen) (s : Serves (taking_of form most) bounds m (Some bytes) left b c Truncated)
-    → ReadsWell form most bytes s.taken left true
-truncated_reads form bounds m most bytes left b c s = reads_well form most bytes s.taken left true (truncated_at _ _ _ (s.ends refl)) s.gave (s.read_on refl)
+truncated_reads : (taking : Taking) (bounds : StoreBounds) (m : Machine) (bytes : List ℕ) (left : Option (List ℕ)) (b c : Seen) (s : Serves taking bounds m (Some bytes) left b c Truncated)
+    → ReadsWell taking.form taking.most bytes s.taken left true
+truncated_reads taking bounds m bytes left b c s = reads_well taking.form taking.most bytes s.taken left true (truncated_at _ _ _ (s.ends refl)) s.gave (s.read_on refl)
 
-pub truncated_read : (form : Form) (bounds : StoreBounds) (m : Machine) (most : ℕ) (bytes : List ℕ) (left : Option (List ℕ)) (b c : Seen) → Serves (taking_of form most) bounds m (Some bytes) left b c Truncated
-    → (left ≡ Some []) × (length bytes ≤ most)
-truncated_read form bounds m most bytes left b c s = let r = (truncated_reads form bounds m most bytes left b c s).read in (r.none_left, r.few)
+pub truncated_read : (taking : Taking) (bounds : StoreBounds) (m : Machine) (bytes : List ℕ) (left : Option (List ℕ)) (b c : Seen) → Serves taking bounds m (Some bytes) left b c Truncated
+    → (left ≡ Some []) × (length bytes ≤ taking.most)
+truncated_read taking bounds m bytes left b c s = let r = (truncated_reads taking bounds m bytes left b c s).read in (r.none_left, r.few)
 
 -- The rest of each session but session 0 is none, and there is none of session 0 where the bytes have none.
 no_rest_at : (bytes : List ℕ) → is_bad_input Plain bytes ≡ false → rest_of bytes ≡ [] → (s : ℕ) → nat_lt 0 (rest_at (end_in Plain bytes) (closed_rests Plain bytes) s) ≡ false
@@ -197,15 +199,15 @@ plain_some bytes good rests none =
 pub truncated_rest : (bounds : StoreBounds) (m : Machine) (most : ℕ) (bytes : List ℕ) (left : Option (List ℕ)) (b c : Seen) → Serves (taking_of Plain most) bounds m (Some bytes) left b c Truncated
     → (fault_of bytes ≡ None) × (rest_of bytes ≡ [] → ⊥)
 truncated_rest bounds m most bytes left b c s =
-    let r = truncated_reads Plain bounds m most bytes left b c s in
+    let r = truncated_reads (taking_of Plain most) bounds m bytes left b c s in
     (plain_good bytes r.good, plain_some bytes r.good r.rests)
 
-pub truncated_said : (form : Form) (bounds : StoreBounds) (m : Machine) (most : ℕ) (bytes before : List ℕ) (left : Option (List ℕ)) (b c : Seen) → b.said ≡ Some before → Serves (taking_of form most) bounds m (Some bytes) left b c Truncated
-    → c.said ≡ Some (before ++ replies form bounds m bytes)
-truncated_said form bounds m most bytes before left b c told s =
-    let r = (truncated_reads form bounds m most bytes left b c s).read in
-    let all = all_replies form bounds m (take most s.taken) s.said s.answered s.unanswered s.split (s.all refl) s.says in
-    told_took before s.said c.said (subst (λ (x : Option (List ℕ)). Took x c.said s.said) told s.took) ∙ ap (λ (l : List ℕ). Some (before ++ l)) (all ∙ ap (replies form bounds m) r.used)
+pub truncated_said : (taking : Taking) (bounds : StoreBounds) (m : Machine) (bytes before : List ℕ) (left : Option (List ℕ)) (b c : Seen) → b.said ≡ Some before → Serves taking bounds m (Some bytes) left b c Truncated
+    → c.said ≡ Some (before ++ replies taking.form bounds m bytes)
+truncated_said taking bounds m bytes before left b c told s =
+    let r = (truncated_reads taking bounds m bytes left b c s).read in
+    let all = all_replies taking.form bounds m (take taking.most s.taken) s.said s.answered s.unanswered s.split (s.all refl) s.says in
+    told_took before s.said c.said (subst (λ (x : Option (List ℕ)). Took x c.said s.said) told s.took) ∙ ap (λ (l : List ℕ). Some (before ++ l)) (all ∙ ap (replies taking.form bounds m) r.used)
 
 -- Plain input has one line of rests.
 plain_lines : (bytes : List ℕ) → fault_of bytes ≡ None → (rest_of bytes ≡ [] → ⊥)
@@ -216,12 +218,12 @@ plain_lines bytes none some =
     ∙ ap (λ (l : List ℕ). line 0 ++ l) (no_lines line 1 255 (λ s le. ap (session_rest_lines s) (plain_no_rest bytes s (λ e. omega (arith, le, e)))))
     ∙ append-nil (line 0)
     ∙ ap (session_rest_lines 0) (plain_rest bytes none)
-    ∙ some_rest 0 (length (rest_of bytes)) (λ e. some (no_bytes (rest_of bytes) e))
+    ∙ some_rest 0 (length (rest_of bytes)) (λ e. some (nil_from_length (rest_of bytes) e))
 
 pub truncated_noted : (bounds : StoreBounds) (m : Machine) (most : ℕ) (bytes : List ℕ) (left : Option (List ℕ)) (b c : Seen) → Serves (taking_of Plain most) bounds m (Some bytes) left b c Truncated → (Rose b.note_faults c.note_faults → ⊥)
     → Took b.noted c.noted (session_note 0 (decimal (length (rest_of bytes)) ++ codes " bytes left"))
 truncated_noted bounds m most bytes left b c s calm =
-    let r = truncated_reads Plain bounds m most bytes left b c s in
+    let r = truncated_reads (taking_of Plain most) bounds m bytes left b c s in
     let is = truncated_rest bounds m most bytes left b c s in
     let first : List ℕ = take most s.taken in
     let lines : notes_of Plain s.answered first Truncated ≡ rest_lines (end_in Plain first) (closed_rests Plain first) =

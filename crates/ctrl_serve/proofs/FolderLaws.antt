@@ -4,7 +4,7 @@ use Rattle.std.proofs.Common.{◌≡◌, ℕ, ◌⊎◌, inl, inr, List, [], len
 use Rattle.std.specs.declared.option.Option.{Option}
 use Rattle.std.specs.declared.result.Result.{Result}
 use Rattle.ziti_outside.specs.Images.{Image, After}
-use Rattle.ziti_outside.specs.Moments.{Elapses, Leaves}
+use Rattle.ziti_outside.specs.Moments.{Leaves}
 use Rattle.ziti_outside.specs.Told.{AreTaken, Took}
 use Rattle.ziti_outside.specs.Causes.{HasCause}
 use Rattle.ziti_outside.specs.Untouched.{OnlyDisk, OnlyNotes, OnlyReads}

@@ -1,11 +1,13 @@
 -- How a folder follows the machine of a run, from one frame to all frames of an input.
-use Rattle.std.proofs.Common.{◌≡◌, ◌⊎◌, inl, inr, ℕ, zero, suc, ◌<◌, List, [], ◌∷◌, ◌++◌, length, refl, sym, ap, ◌∙◌, subst, arith}
-use Rattle.ziti_outside.specs.Images.{Image}
-use Rattle.ziti_outside.specs.declared.desk.Part.TheVariants.{Zero, Mark}
+use Rattle.std.proofs.Common.{◌≡◌, ◌⊎◌, inl, inr, ℕ, zero, suc, ◌<◌, ◌≤◌, List, [], ◌∷◌, ◌++◌, length, refl, sym, ap, ◌∙◌, subst, arith}
+use Rattle.std.proofs.lemmas.List.{nil_from_length}
+use Rattle.ziti_outside.specs.Images.{Image, Else}
+use Rattle.ziti_outside.specs.declared.desk.Part.{Part}
+use Rattle.ziti_outside.specs.declared.desk.Part.TheVariants.{Zero, One, Mark}
 use Rattle.journal_core.specs.Slots.{Slot, slot_bytes}
-use Rattle.slot_files.specs.FolderImage.{Stands, StandsBy}
+use Rattle.slot_files.specs.FolderImage.{slot_of, Stands, StandsBy}
 use Rattle.slot_files.specs.OpenedSlots.{IsCreated, Opens}
-use Rattle.slot_files.proofs.StandLaws.{created_slot}
+use Rattle.slot_files.proofs.StandLaws.{created_slot, slot_no_mark}
 use Rattle.row_store.specs.declared.bounds.StoreBounds.{StoreBounds}
 use Rattle.ctrl_keep.specs.KeptMachine.{Machine}
 use Rattle.ctrl_keep.specs.KeptBatches.{mark_at, end_at, batches_next, GoesOnBehind, Follows}
@@ -23,6 +25,7 @@ use Rattle.ctrl_serve.specs.ControllerViews.{serving_of}
 use Rattle.ctrl_serve.specs.FrameAnswer.{machine_behind, batches_behind, last_machine, last_batches}
 use Rattle.ctrl_serve.specs.KnownReplies.{machine_after, machine_along, batches_along}
 use Rattle.ctrl_serve.specs.FollowedFolders.{FollowsEvents, FollowsInput}
+use Rattle.ctrl_serve.specs.UncompactedFolders.{CompactsNothing, LeavesOtherSlot}
 use Rattle.ctrl_serve.proofs.KnownLaws.{machine_then, machine_from_start}
 
 -- ---- a frame
@@ -58,6 +61,38 @@ came_back a b c (inl first) later back = (first, back ∙ sym first)
 came_back a b c (inr more) (inl same) back = absurd (not_behind a b more (sym same ∙ back))
 came_back a b c (inr more) (inr later) back = absurd (not_behind a c (behind_then a b c more later) back)
 
+-- ---- where nothing was compacted
+
+else_still : (part : Part) (before now : Image) → now ≡ before → Else part before now
+else_still part before now same = record { same = λ other not. ap (λ (i : Image). i other) same }
+
+else_then : {part : Part} {before mid now : Image} → Else part before mid → Else part mid now → Else part before now
+else_then first later = record { same = λ other not. later.same other not ∙ first.same other not }
+
+-- A step that did not compact leaves the other slot and the mark.
+else_by : (old new : Machine) (before now : Image) → Follows old new before now → CompactsNothing old new → (new ≡ old) ⊎ GoesOnBehind old new → Else (slot_of (length (before Mark))) before now
+else_by old new before now follows same (inl still) = else_still (slot_of (length (before Mark))) before now (follows.still still)
+else_by old new before now follows same (inr (inl longer)) = let e : mark_at new.place ≡ mark_at old.place = same in absurd (omega (arith, longer, e))
+else_by old new before now follows same (inr (inr (mark, further))) = (follows.adds mark further).others
+
+follows_else : (old new : Machine) (before now : Image) → Follows old new before now → CompactsNothing old new → Else (slot_of (length (before Mark))) before now
+follows_else old new before now follows same = else_by old new before now follows same follows.on
+
+marks_rise : (a b : Machine) → (b ≡ a) ⊎ GoesOnBehind a b → mark_at a.place ≤ mark_at b.place
+marks_rise a b (inl same) = omega (arith, ap (λ (m : Machine). mark_at m.place) same)
+marks_rise a b (inr (inl longer)) = omega (arith, longer)
+marks_rise a b (inr (inr (mark, further))) = omega (arith, mark)
+
+-- Where two stretches compacted nothing, neither of them did.
+neither_compacts : (a b c : Machine) → (b ≡ a) ⊎ GoesOnBehind a b → (c ≡ b) ⊎ GoesOnBehind b c → CompactsNothing a c → CompactsNothing a b × CompactsNothing b c
+neither_compacts a b c first later same =
+    let low = marks_rise a b first in
+    let high = marks_rise b c later in
+    let e : mark_at c.place ≡ mark_at a.place = same in
+    let one : mark_at b.place ≡ mark_at a.place = omega (arith, low, high, e) in
+    let other : mark_at c.place ≡ mark_at b.place = omega (arith, low, high, e) in
+    (one, other)
+
 -- ---- along events
 
 pub batches_then : (bounds : StoreBounds) (es later : List Event) (k : Known) (m : Machine) (batches : List (List ℕ))
@@ -67,14 +102,14 @@ batches_then bounds (e ∷ es) later k m batches = batches_then bounds es later 
 
 -- Before any event.
 pub follows_start : (bounds : StoreBounds) (k : Known) (m : Machine) (i : Image) → FollowsEvents bounds [] k m i i
-follows_start bounds k m i = record { on = inl refl; still = λ _. refl; stands = λ batches s. s }
+follows_start bounds k m i = record { on = inl refl; still = λ _. refl; stands = λ batches s. s; elsewhere = λ _. else_still (slot_of (length (i Mark))) i i refl }
 
 -- Along one.
 follows_one : (bounds : StoreBounds) (e : Event) (k : Known) (m next : Machine) (before now : Image) → next ≡ machine_after bounds e k m → Follows m next before now
     → FollowsEvents bounds (e ∷ []) k m before now
 follows_one bounds e k m next before now is follows =
     let step = subst (λ (x : Machine). Follows m x before now) is follows in
-    record { on = step.on; still = step.still; stands = step.stands }
+    record { on = step.on; still = step.still; stands = step.stands; elsewhere = follows_else m (machine_after bounds e k m) before now step }
 
 -- Along some, and then others, by what is known and the machine behind the first ones.
 pub follows_then : {bounds here : StoreBounds} {es later : List Event} {k k1 : Known} {m m1 : Machine} {before mid now : Image} → here ≡ bounds → k1 ≡ known_along es k → m1 ≡ machine_along bounds es k m
@@ -92,6 +127,11 @@ follows_then {bounds} {here} {es} {later} {k} {k1} {m} {m1} {before} {mid} {now}
           at.still both.1 ∙ first.still both.0;
       stands = λ batches s.
           subst (Stands now) (sym (batches_then bounds es later k m batches)) (at.stands (batches_along bounds es k m batches) (first.stands batches s));
+      elsewhere = λ same.
+          let neither = neither_compacts m (machine_along bounds es k m) _ first.on at.on (sym (ap (λ (y : Machine). mark_at y.place) last) ∙ same) in
+          let here = first.elsewhere neither.0 in
+          let mark : mid Mark ≡ before Mark = here.same Mark (slot_no_mark (length (before Mark))) in
+          else_then here (subst (λ (bytes : List ℕ). Else (slot_of (length bytes)) mid now) mark (at.elsewhere neither.1));
     }
 
 -- One event more.
@@ -124,6 +164,7 @@ follows_input form bounds used es m before now all follows =
       still = λ back. follows.still (last ∙ back);
       stands = λ batches s.
           subst (Stands now) (along_batches bounds es (known_in form) m batches ∙ ap (λ (l : List Event). batches_behind bounds m (frames_in form l) batches) all) (follows.stands batches s);
+      elsewhere = λ same. follows.elsewhere (ap (λ (y : Machine). mark_at y.place) last ∙ same);
     }
 
 -- ---- the folder was opened before
@@ -151,3 +192,31 @@ opened_stands_for form bounds m before mid now used batches made follows s = fol
 pub opened_still : (form : Form) (bounds : StoreBounds) (m : Machine) (before mid now : Image) (used : List ℕ) → Opens (length (before Mark)) before mid
     → FollowsInput form bounds m mid now used → 0 < length (before Mark) → last_machine form bounds m used ≡ m → now ≡ before
 opened_still form bounds m before mid now used made follows some back = follows.still back ∙ kept_by (length (before Mark)) before mid some made
+
+-- Where it was created, the second slot was left.
+second_left : (before mid now : Image) → mid One ≡ before One → Else Zero mid now → (part : Part) → (part ≡ Mark → ⊥) → (part ≡ Zero → ⊥) → now part ≡ before part
+second_left before mid now second others Zero no_mark no_first = absurd (no_first refl)
+second_left before mid now second others One no_mark no_first = others.same One no_first ∙ second
+second_left before mid now second others Mark no_mark no_first = absurd (no_mark refl)
+
+created_leaves : (before mid now : Image) → before Mark ≡ [] → IsCreated before mid → Else (slot_of (length (mid Mark))) mid now → LeavesOtherSlot before now
+created_leaves before mid now none made others =
+    let first : Else Zero mid now = subst (λ (bytes : List ℕ). Else (slot_of (length bytes)) mid now) made.mark others in
+    record {
+      slot = λ part mark not. second_left before mid now made.second first part mark (λ is. not (is ∙ ap (λ (bytes : List ℕ). slot_of (length bytes)) (sym none)));
+      mark = λ some. absurd (omega (arith, some, ap length none));
+    }
+
+found_leaves : (before mid now : Image) → mid ≡ before → Else (slot_of (length (mid Mark))) mid now → LeavesOtherSlot before now
+found_leaves before mid now same others =
+    let here = subst (λ (i : Image). Else (slot_of (length (i Mark))) i now) same others in
+    record { slot = λ part mark not. here.same part not; mark = λ some. here.same Mark (slot_no_mark (length (before Mark))) }
+
+leaves_by : (mark : ℕ) (before mid now : Image) → length (before Mark) ≡ mark → Opens mark before mid → Else (slot_of (length (mid Mark))) mid now → LeavesOtherSlot before now
+leaves_by zero before mid now is made others = created_leaves before mid now (nil_from_length (before Mark) is) made others
+leaves_by (suc turn) before mid now is made others = found_leaves before mid now made others
+
+-- Where the run behind it compacted nothing, it leaves the slot that does not stand, and the mark unless it was empty.
+pub opened_leaves : (form : Form) (bounds : StoreBounds) (m : Machine) (before mid now : Image) (used : List ℕ) → Opens (length (before Mark)) before mid
+    → FollowsInput form bounds m mid now used → CompactsNothing m (last_machine form bounds m used) → LeavesOtherSlot before now
+opened_leaves form bounds m before mid now used made follows same = leaves_by (length (before Mark)) before mid now refl made (follows.elsewhere same)

@@ -1,10 +1,9 @@
 -- Along the frames of an input what granted each circuit stands, where it stood before them.
-use Rattle.std.proofs.Common.{◌≡◌, ℕ, Bool, true, false, cond, nat_lt, List, [], ◌∷◌, Option, None, Some, Result, Ok, Err, refl, sym, subst}
+use Rattle.std.proofs.Common.{◌≡◌, ℕ, Bool, true, false, nat_lt, List, [], ◌∷◌, Option, None, Some, Result, Ok, Err, refl}
 use Rattle.ctrl_model.specs.declared.commands.Command.{Command}
 use Rattle.ctrl_model.specs.declared.kinds.Who.{Who}
 use Rattle.ctrl_model.specs.declared.replies.Reply.{Reply}
 use Rattle.ctrl_model.specs.Controller.{answer}
-use Rattle.ctrl_model.specs.Permitted.{is_permitted}
 use Rattle.ctrl_model.specs.State.{State}
 use Rattle.ctrl_model.specs.ValidState.{ValidState}
 use Rattle.channel_frame.specs.declared.frames.Frame.{Frame}
@@ -17,7 +16,7 @@ use Rattle.model_laws.proofs.ValidCommands.{answer-granted, answer-valid}
 use Rattle.row_codec.specs.declared.changes.Op.{Op}
 use Rattle.row_codec.specs.Batches.{batch_between}
 use Rattle.row_store.specs.declared.bounds.StoreBounds.{StoreBounds}
-use Rattle.ctrl_keep.specs.KeptMachine.{Machine, Place, answered, compacted_at, kept, is_compact, step}
+use Rattle.ctrl_keep.specs.KeptMachine.{Machine, Place, answered, kept}
 use Rattle.ctrl_serve.specs.FrameAnswer.{answer_to, frame_answer, machine_behind}
 
 -- ---- one step

@@ -7,7 +7,6 @@ use Rattle.std.specs.declared.option.Option.{Option}
 use Rattle.std.specs.declared.result.Result.{Result}
 use Rattle.std.specs.Io.KnownBytes.{IsAtEnd}
 use Rattle.ziti_outside.specs.Causes.{HasCause, Rose}
-use Rattle.ziti_outside.specs.Images.{Image}
 use Rattle.ziti_outside.specs.Told.{Took}
 use Rattle.row_store.specs.declared.bounds.StoreBounds.{StoreBounds}
 use Rattle.ctrl_keep.specs.KeptMachine.{Machine}
@@ -23,10 +22,10 @@ use Rattle.session_mux.specs.declared.sessions.Form.{Form}
 use Rattle.run_notes.specs.Endings.{ending_at, is_cut, is_kept, status_of_cut, status_at}
 use Rattle.ctrl_serve.specs.SaidReplies.{Says, SaysAll, joined}
 use Rattle.run_notes.specs.NotedLines.{NotesLines, RisesOnce}
-use Rattle.ctrl_serve.specs.Controllers.{Serving}
+use Rattle.ctrl_serve.specs.Answering.{Telling}
 use Rattle.ctrl_serve.specs.FrameAnswer.{replies_to}
 use Rattle.ctrl_serve.specs.Headline.{Serves, taking_of}
-use Rattle.ctrl_serve.specs.Pieces.{CutsInput, EndsInput, EndsSo, HasFault, IsReadCaused}
+use Rattle.ctrl_serve.specs.Pieces.{CutsInput, EndsInput, EndsSo, HasFault, Intake, IsReadCaused, Passage}
 use Rattle.ctrl_serve.specs.Reading.{is_decided}
 use Rattle.run_notes.specs.Inputs.{events_in, is_bad_input, has_rest}
 use Rattle.run_notes.specs.Notes.{fault_lines, status_lines, notes_of}
@@ -83,9 +82,9 @@ read_caused bad rest Fault status before now is faulty = record { calm = λ e. a
 -- ---- what answering the used bytes said and noted
 
 -- Such a status is no fault of the desk.
-pub all_no_fault : (form : Form) (bounds : StoreBounds) (m : Machine) (used : List ℕ) (end : End) (status : Status) (a b : Option (List ℕ)) (c d : Seen) (f g : Bool)
-    → AnswersAll form bounds m used end status a b f g c d → (status ≡ WriteFault → ⊥) × (status ≡ DiskFault → ⊥)
-all_no_fault form bounds m used end status a b c d f g told =
+pub all_no_fault : {form : Form} {bounds : StoreBounds} {m : Machine} {used : List ℕ} {end : End} {status : Status} {old now : Telling}
+    → AnswersAll form bounds m used end status old now → (status ≡ WriteFault → ⊥) × (status ≡ DiskFault → ⊥)
+all_no_fault {form} {used = used} {end = end} told =
     (λ w. no_write_fault (is_bad_input form used) (has_rest form used) end (sym told.ends ∙ w), λ w. no_disk_fault (is_bad_input form used) (has_rest form used) end (sym told.ends ∙ w))
 
 -- Where the answering was cut short, and that was told.
@@ -179,16 +178,23 @@ ended most Whole now bytes bad rest decided is (inr so) = record { ends = λ _. 
 ended most More now bytes bad rest decided is so = record { ends = λ _. ap (ending_at bad rest) (sym (lt-ltb most (length bytes) so)); read_on = λ e going. inr so }
 ended most Fault now bytes bad rest decided is so = record { ends = λ e. absurd cc; read_on = λ e going. absurd cc }
 
+-- What was noted since no note had failed.
+pub noted_since : (old now : Telling) (lines : List ℕ) → old.failed ≡ false → NotesMore old.failed now.failed lines old.desk now.desk → NotesLines lines old.desk now.desk × RisesOnce old.desk.note_faults now.desk.note_faults
+noted_since old now lines calm more =
+    noted_lines now.failed lines old.desk now.desk (subst (λ (f : Bool). NotesMore f now.failed lines old.desk now.desk) calm more [] old.desk (noted_none old.desk))
+
 -- A run that answered all events of the used bytes serves its input.
-abbrev pub input_serves : (form : Form) (c : Serving) (most : ℕ) (m : Machine) (l r : Option (List ℕ)) (n n1 : Seen) (g : Bool) (tells : Bool) (elapses : (Image → List ℕ → Type 0) → Type 0) (status : Status)
-    → EndsInput status form c most m l r n.said n1.said false g n n1 tells elapses → Serves (taking_of form most) c.bounds c.machine l r n n1 status
-input_serves form c most m l r n n1 g tells elapses status told =
-    let first : List ℕ = take most told.takes.taken in
+abbrev pub input_serves : {i : Intake} {o : Passage} {m : Machine} {now : Telling} (status : Status) → EndsInput status i o m now → o.told.failed ≡ false
+    → Serves (taking_of i.form i.most) i.from.bounds i.from.machine o.left o.left_now o.told.desk now.desk status
+input_serves {i} {o} {m} {now} status told calm =
+    let form : Form = i.form in
+    let first : List ℕ = take i.most told.takes.taken in
     let events : List Event = events_in form first in
     let bad : Bool = is_bad_input form first in
     let rest : Bool = has_rest form first in
-    let so = ended most told.end r told.takes.taken bad rest (is_decided form first) (decided_bad form first) told.ends in
+    let so = ended i.most told.end o.left_now told.takes.taken bad rest (is_decided form first) (decided_bad form first) told.ends in
     let is = told.all.ends in
+    let replies : List ℕ = joined (replies_to form i.from.bounds i.from.machine events) in
     record {
       taken = told.takes.taken;
       gave = told.takes.gave;
@@ -197,36 +203,37 @@ input_serves form c most m l r n n1 g tells elapses status told =
       unanswered = [];
       split = append-nil events;
       all = λ _. refl;
-      said = joined (replies_to form c.bounds c.machine events);
+      said = replies;
       took = told.all.said;
-      says = subst (λ (u : Status). Says form c.bounds c.machine u (joined (replies_to form c.bounds c.machine events)) events []) (sym is) (says_all form c.bounds c.machine bad rest told.end _ events [] refl);
+      says = subst (λ (u : Status). Says form i.from.bounds i.from.machine u replies events []) (sym is) (says_all form i.from.bounds i.from.machine bad rest told.end _ events [] refl);
       ends = λ e. is ∙ so.ends (sym (ap is_cut is) ∙ e);
       read_on = λ e going. so.read_on (sym (ap is_cut is) ∙ e) going;
       near = told.near;
-      notes = (noted_lines g (notes_of form events first status) n n1 (told.all.noted_is [] n (noted_none n))).0;
+      notes = (noted_since o.told now (notes_of form events first status) calm told.all.noted_is).0;
     }
 
 -- A failed note was the only one.
-pub input_counted : (form : Form) (c : Serving) (most : ℕ) (m : Machine) (l r a b : Option (List ℕ)) (n n1 : Seen) (g : Bool) (tells : Bool) (elapses : (Image → List ℕ → Type 0) → Type 0) (status : Status)
-    → EndsInput status form c most m l r a b false g n n1 tells elapses → RisesOnce n.note_faults n1.note_faults
-input_counted form c most m l r a b n n1 g tells elapses status told =
-    let first : List ℕ = take most told.takes.taken in
-    (noted_lines g (notes_of form (events_in form first) first status) n n1 (told.all.noted_is [] n (noted_none n))).1
+pub input_counted : {i : Intake} {o : Passage} {m : Machine} {now : Telling} (status : Status) → EndsInput status i o m now → o.told.failed ≡ false
+    → RisesOnce o.told.desk.note_faults now.desk.note_faults
+input_counted {i} {o} {m} {now} status told calm =
+    let first : List ℕ = take i.most told.takes.taken in
+    (noted_since o.told now (notes_of i.form (events_in i.form first) first status) calm told.all.noted_is).1
 
 -- What was noted where it was cut short, and that was told.
-pub some_noted : (by : Cut) (form : Form) (bounds : StoreBounds) (m : Machine) (used : List ℕ) (a b : Option (List ℕ)) (n n1 n2 : Seen) (g h : Bool)
-    → (told : AnswersSome by form bounds m used a b false g n n1) → NotesMore g h (status_lines [] (status_of_cut by)) n1 n2
-    → NotesLines (fault_lines told.answered ++ status_lines [] (status_of_cut by)) n n2 × RisesOnce n.note_faults n2.note_faults
-some_noted by form bounds m used a b n n1 n2 g h told more =
-    noted_lines h (fault_lines told.answered ++ status_lines [] (status_of_cut by)) n n2
-    (more_then false g h (fault_lines told.answered) (status_lines [] (status_of_cut by)) n n1 n2 told.noted_is more [] n (noted_none n))
+pub some_noted : (by : Cut) {form : Form} {bounds : StoreBounds} {m : Machine} {used : List ℕ} {old mid : Telling} (now : Telling)
+    → (told : AnswersSome by form bounds m used old mid) → old.failed ≡ false → NotesMore mid.failed now.failed (status_lines [] (status_of_cut by)) mid.desk now.desk
+    → NotesLines (fault_lines told.answered ++ status_lines [] (status_of_cut by)) old.desk now.desk × RisesOnce old.desk.note_faults now.desk.note_faults
+some_noted by {old = old} {mid = mid} now told calm more =
+    let lines : List ℕ = status_lines [] (status_of_cut by) in
+    noted_since old now (fault_lines told.answered ++ lines) calm
+    (more_then old.failed mid.failed now.failed (fault_lines told.answered) lines old.desk mid.desk now.desk told.noted_is more)
 
 -- So does one that was cut short.
-abbrev pub cut_serves : (by : Cut) (form : Form) (c : Serving) (most : ℕ) (l r : Option (List ℕ)) (n n1 n2 : Seen) (g h : Bool) (tells : Bool) (elapses : (Image → List ℕ → Type 0) → Type 0)
-    → CutsInput by form c most l r n.said n1.said false g n n1 tells elapses → n2.said ≡ n1.said → NotesMore g h (status_lines [] (status_of_cut by)) n1 n2
-    → Serves (taking_of form most) c.bounds c.machine l r n n2 (status_of_cut by)
-cut_serves by form c most l r n n1 n2 g h tells elapses told still more =
-    let first : List ℕ = take most told.takes.taken in
+abbrev pub cut_serves : (by : Cut) {i : Intake} {o : Passage} {mid : Telling} (now : Telling) → CutsInput by i o mid → o.told.failed ≡ false → now.desk.said ≡ mid.desk.said
+    → NotesMore mid.failed now.failed (status_lines [] (status_of_cut by)) mid.desk now.desk
+    → Serves (taking_of i.form i.most) i.from.bounds i.from.machine o.left o.left_now o.told.desk now.desk (status_of_cut by)
+cut_serves by {i} {o} {mid} now told calm still more =
+    let first : List ℕ = take i.most told.takes.taken in
     record {
       taken = told.takes.taken;
       gave = told.takes.gave;
@@ -236,18 +243,17 @@ cut_serves by form c most l r n n1 n2 g h tells elapses told still more =
       split = told.some.split;
       all = cut_all by told.some.unanswered;
       said = told.some.said;
-      took = subst (λ (u : Option (List ℕ)). Took n.said u told.some.said) (sym still) told.some.took;
-      says = cut_says_so by form c.bounds c.machine told.some.said told.some.answered told.some.unanswered told.some.says;
+      took = subst (λ (u : Option (List ℕ)). Took o.told.desk.said u told.some.said) (sym still) told.some.took;
+      says = cut_says_so by i.form i.from.bounds i.from.machine told.some.said told.some.answered told.some.unanswered told.some.says;
       ends = λ e. absurd (cut_is_cut by e);
       read_on = λ e going. absurd (cut_is_cut by e);
       near = told.near;
-      notes = subst (λ (lines : List ℕ). NotesLines lines n n2) (cut_notes by form told.some.answered first) (some_noted by form c.bounds c.machine first n.said n1.said n n1 n2 g h told.some more).0;
+      notes = subst (λ (lines : List ℕ). NotesLines lines o.told.desk now.desk) (cut_notes by i.form told.some.answered first) (some_noted by now told.some calm more).0;
     }
 
-pub cut_counted : (by : Cut) (form : Form) (c : Serving) (most : ℕ) (l r a b : Option (List ℕ)) (n n1 n2 : Seen) (g h : Bool) (tells : Bool) (elapses : (Image → List ℕ → Type 0) → Type 0)
-    → CutsInput by form c most l r a b false g n n1 tells elapses → NotesMore g h (status_lines [] (status_of_cut by)) n1 n2 → RisesOnce n.note_faults n2.note_faults
-cut_counted by form c most l r a b n n1 n2 g h tells elapses told more =
-    (some_noted by form c.bounds c.machine (take most told.takes.taken) a b n n1 n2 g h told.some more).1
+pub cut_counted : (by : Cut) {i : Intake} {o : Passage} {mid : Telling} (now : Telling) → CutsInput by i o mid → o.told.failed ≡ false → NotesMore mid.failed now.failed (status_lines [] (status_of_cut by)) mid.desk now.desk
+    → RisesOnce o.told.desk.note_faults now.desk.note_faults
+cut_counted by now told calm more = (some_noted by now told.some calm more).1
 
 -- So does a run for which memory was wanting before it took its input.
 starved_serves : (form : Form) (bounds : StoreBounds) (machine : Machine) (most : ℕ) (l : Option (List ℕ)) (n n1 : Seen) → n1.said ≡ n.said → NotesLines (status_lines [] NoMemory) n n1

@@ -21,6 +21,7 @@ pub mod LoadRuns
 pub mod OpenedMachines
 pub mod ClosedFolders
 pub mod GrantedRuns
+pub mod UncompactedRuns
 pub mod ReplayLaws
 pub mod FolderLaws
 pub mod AcknowledgedLaws

@@ -10,9 +10,9 @@ use Rattle.std.specs.declared.option.Option.{Option}
 use Rattle.ziti_outside.specs.Images.{Image}
 use Rattle.ziti_outside.specs.Moments.{Elapses}
 use Rattle.ziti_outside.specs.Told.{Gave, Took}
-use Rattle.ziti_outside.proofs.Moves.{Gave-none, Gave-then, Took-then}
+use Rattle.ziti_outside.proofs.Moves.{Gave-none, Gave-then, Took-none, Took-then}
 use Rattle.ziti_outside.proofs.MomentLaws.{Elapses-none, Elapses-then, Elapses-weaker}
-use Rattle.ziti_outside.specs.Views.{Stopped, Seen}
+use Rattle.ziti_outside.specs.Views.{Stopped}
 use Rattle.row_store.specs.declared.bounds.StoreBounds.{StoreBounds}
 use Rattle.ctrl_keep.specs.KeptMachine.{Machine}
 use Rattle.session_mux.specs.declared.events.Event.{Event}
@@ -32,20 +32,20 @@ use Rattle.run_notes.specs.KnownSessions.{Known, known_in, known_along}
 use Rattle.run_notes.specs.Notes.{ending_lines, event_lines, fault_lines}
 use Rattle.run_notes.specs.NotesSoFar.{NotesMore}
 use Rattle.run_notes.proofs.KnownLaws.{known_then, along_faulty}
-use Rattle.run_notes.proofs.NoteLaws.{more_then, more_still}
+use Rattle.run_notes.proofs.NoteLaws.{more_none, more_then}
 use Rattle.ctrl_serve.specs.KnownReplies.{machine_along, replies_along}
 use Rattle.ctrl_serve.specs.SaidReplies.{joined}
 use Rattle.ctrl_serve.specs.Reading.{is_decided, StaysNear}
-use Rattle.ctrl_serve.specs.Pieces.{decided_by, AnswersPieces, CutsInput, EndsInput, EndsPieces, EndsSo, TakesPieces}
+use Rattle.ctrl_serve.specs.Pieces.{decided_by, AnswersPieces, CutsInput, EndsInput, EndsPieces, EndsSo, Intake, Passage, TakesPieces}
 use Rattle.ctrl_serve.specs.Turns.{Answers, IsCutShort, StopsAlong, StopsEvent}
 use Rattle.run_notes.specs.declared.ends.Cut.{Cut}
 use Rattle.run_notes.specs.declared.ends.Cut.TheVariants.{NoMemory}
 use Rattle.run_notes.specs.declared.ends.End.{End}
 use Rattle.run_notes.specs.declared.ends.End.TheVariants.{Whole}
-use Rattle.ctrl_serve.specs.Controllers.{Serving}
+use Rattle.ctrl_serve.specs.Answering.{begun, NotesNothing, Progress, Telling}
 use Rattle.ctrl_serve.specs.FrameAnswer.{replies_to}
 use Rattle.ctrl_serve.proofs.KnownLaws.{machine_then, replies_then}
-use Rattle.ctrl_serve.proofs.TurnLaws.{answers_start, none_left}
+use Rattle.ctrl_serve.proofs.TurnLaws.{goes_nowhere, none_left}
 use Rattle.ctrl_serve.proofs.UsedLaws.{at_start, all_so, end_so, says_whole, split_so, used_answered, used_cut, used_last, used_none, used_starved}
 use Rattle.ctrl_serve.proofs.RunStopLaws.{no_more_behind}
 
@@ -65,18 +65,6 @@ goes_fed old new es more goes = record {
   ends = λ later. ap end_of (fed_twice old more later) ∙ goes.ends (more ++ later) ∙ ap end_of (sym (fed_twice new more later));
 }
 
--- What was answered so far was answered of the input with more of it.
-abbrev pub answers_fed : (form : Form) (bounds : StoreBounds) (k k1 : Known) (m m1 : Machine) (st st1 : Standing) (a b : Option (List ℕ)) (f g : Bool) (n n1 : Seen) (more : List ℕ)
-    → Answers form bounds k k1 m m1 st st1 a b f g n n1 → Answers form bounds k k1 m m1 (fed st more) (fed st1 more) a b f g n n1
-answers_fed form bounds k k1 m m1 st st1 a b f g n n1 more told = record {
-  answered = told.answered;
-  goes = goes_fed st st1 told.answered more told.goes;
-  known_is = told.known_is;
-  machine_is = told.machine_is;
-  said = told.said;
-  noted_is = told.noted_is;
-}
-
 -- ---- some events behind others
 
 two_replies : (form : Form) (bounds : StoreBounds) (es later : List Event) (k : Known) (m : Machine)
@@ -87,48 +75,49 @@ two_replies form bounds es later k m =
     ∙ flat_map-append (λ (x : List ℕ). x) (replies_along form bounds es k m) (replies_along form bounds later (known_along es k) (machine_along bounds es k m))
 
 -- The replies to the later events, by what is known and the machine behind the first ones.
-pub later_said : (form : Form) (bounds here : StoreBounds) (es later : List Event) (k k1 : Known) (m m1 : Machine) (a b c : Option (List ℕ)) → here ≡ bounds → k1 ≡ known_along es k → m1 ≡ machine_along bounds es k m
-    → Took a b (joined (replies_along form bounds es k m)) → Took b c (joined (replies_along form here later k1 m1)) → Took a c (joined (replies_along form bounds (es ++ later) k m))
-later_said form bounds here es later k k1 m m1 a b c within known same first second =
+pub later_said : {form : Form} {bounds here : StoreBounds} {p q : Progress} (c : Option (List ℕ)) (later : List Event) → here ≡ bounds → (first : Answers form bounds p q)
+    → Took q.told.desk.said c (joined (replies_along form here later q.known q.machine)) → Took p.told.desk.said c (joined (replies_along form bounds (first.answered ++ later) p.known p.machine))
+later_said {form} {bounds} {here} {p} {q} c later within first second =
+    let es : List Event = first.answered in
+    let k : Known = p.known in
+    let m : Machine = p.machine in
+    let a : Option (List ℕ) = p.told.desk.said in
+    let b : Option (List ℕ) = q.told.desk.said in
     let at : Took b c (joined (replies_along form bounds later (known_along es k) (machine_along bounds es k m))) =
-    subst (λ (y : Machine). Took b c (joined (replies_along form bounds later (known_along es k) y))) same
-    (subst (λ (y : Known). Took b c (joined (replies_along form bounds later y m1))) known
-    (subst (λ (y : StoreBounds). Took b c (joined (replies_along form y later k1 m1))) within second)) in
-    subst (λ (l : List ℕ). Took a c l) (sym (two_replies form bounds es later k m)) (Took-then a b c (joined (replies_along form bounds es k m)) _ first at)
+    subst (λ (y : Machine). Took b c (joined (replies_along form bounds later (known_along es k) y))) first.machine_is
+    (subst (λ (y : Known). Took b c (joined (replies_along form bounds later y q.machine))) first.known_is
+    (subst (λ (y : StoreBounds). Took b c (joined (replies_along form y later q.known q.machine))) within second)) in
+    subst (λ (l : List ℕ). Took a c l) (sym (two_replies form bounds es later k m)) (Took-then a b c (joined (replies_along form bounds es k m)) _ first.said at)
 
-abbrev pub answers_then : (form : Form) (bounds here : StoreBounds) (k k1 k2 : Known) (m m1 m2 : Machine) (st st1 st2 : Standing) (a b c : Option (List ℕ)) (f g h : Bool) (n n1 n2 : Seen)
-    → here ≡ bounds → Answers form bounds k k1 m m1 st st1 a b f g n n1 → Answers form here k1 k2 m1 m2 st1 st2 b c g h n1 n2
-    → Answers form bounds k k2 m m2 st st2 a c f h n n2
-answers_then form bounds here k k1 k2 m m1 m2 st st1 st2 a b c f g h n n1 n2 within first later =
+-- What is known, and the machine, behind the later ones.
+pub later_known : {form : Form} {bounds : StoreBounds} {p q : Progress} (later : List Event) → (first : Answers form bounds p q) → known_along later q.known ≡ known_along (first.answered ++ later) p.known
+later_known {form} {bounds} {p} {q} later first = ap (known_along later) first.known_is ∙ sym (known_then first.answered later p.known)
+
+pub later_machine : {form : Form} {bounds : StoreBounds} {p q : Progress} (later : List Event) → (first : Answers form bounds p q)
+    → machine_along bounds later q.known q.machine ≡ machine_along bounds (first.answered ++ later) p.known p.machine
+later_machine {form} {bounds} {p} {q} later first =
+    ap (λ (y : Known). machine_along bounds later y q.machine) first.known_is
+    ∙ ap (machine_along bounds later (known_along first.answered p.known)) first.machine_is
+    ∙ sym (machine_then bounds first.answered later p.known p.machine)
+
+abbrev pub answers_then : {form : Form} {bounds here : StoreBounds} {p q r : Progress} → here ≡ bounds → Answers form bounds p q → Answers form here q r → Answers form bounds p r
+answers_then {form} {bounds} {here} {p} {q} {r} within first later =
     let es : List Event = first.answered in
     let fs : List Event = later.answered in
     record {
       answered = es ++ fs;
-      goes = goes_then st st1 st2 es fs first.goes later.goes;
-      known_is = later.known_is ∙ ap (known_along fs) first.known_is ∙ sym (known_then es fs k);
-      machine_is =
-          later.machine_is
-          ∙ ap (λ (y : StoreBounds). machine_along y fs k1 m1) within
-          ∙ ap (λ (y : Known). machine_along bounds fs y m1) first.known_is
-          ∙ ap (machine_along bounds fs (known_along es k)) first.machine_is
-          ∙ sym (machine_then bounds es fs k m);
-      said = later_said form bounds here es fs k k1 m m1 a b c within first.known_is first.machine_is first.said later.said;
+      goes = goes_then p.standing q.standing r.standing es fs first.goes later.goes;
+      known_is = later.known_is ∙ later_known fs first;
+      machine_is = later.machine_is ∙ ap (λ (y : StoreBounds). machine_along y fs q.known q.machine) within ∙ later_machine fs first;
+      said = later_said r.told.desk.said fs within first later.said;
       noted_is =
-          subst (λ (l : List ℕ). NotesMore f h l n n2) (sym (flat_map-append event_lines es fs))
-          (more_then f g h (fault_lines es) (fault_lines fs) n n1 n2 first.noted_is later.noted_is);
+          subst (λ (l : List ℕ). NotesMore p.told.failed r.told.failed l p.told.desk r.told.desk) (sym (flat_map-append event_lines es fs))
+          (more_then p.told.failed q.told.failed r.told.failed (fault_lines es) (fault_lines fs) p.told.desk q.told.desk r.told.desk first.noted_is later.noted_is);
     }
 
 -- Where the later ones were cut short.
-abbrev pub cut_behind : (cut : Cut) (form : Form) (bounds : StoreBounds) (k k1 : Known) (m m1 : Machine) (st st1 : Standing) (a b c : Option (List ℕ)) (f g h : Bool) (n n1 n2 : Seen)
-    → Answers form bounds k k1 m m1 st st1 a b f g n n1 → IsCutShort cut form bounds k1 m1 st1 b c g h n1 n2 → IsCutShort cut form bounds k m st a c f h n n2
-cut_behind cut form bounds k k1 m m1 st st1 a b c f g h n n1 n2 first cuts = record {
-  known_mid = cuts.known_mid;
-  machine_mid = cuts.machine_mid;
-  st_mid = cuts.st_mid;
-  said_mid = cuts.said_mid;
-  first = answers_then form bounds bounds k k1 cuts.known_mid m m1 cuts.machine_mid st st1 cuts.st_mid a b cuts.said_mid f g h n n1 n2 refl first cuts.first;
-  cuts = cuts.cuts;
-}
+abbrev pub cut_behind : {cut : Cut} {form : Form} {bounds : StoreBounds} {p q : Progress} {now : Telling} → Answers form bounds p q → IsCutShort cut form bounds q now → IsCutShort cut form bounds p now
+cut_behind first cuts = record { mid = cuts.mid; first = answers_then refl first cuts.first; cuts = cuts.cuts; unnoted = cuts.unnoted }
 
 -- ---- what a stop finds
 
@@ -149,40 +138,38 @@ stop_fed form bounds k m st more said image taken stop = record {
 }
 
 -- A stop within the later events.
-stop_behind : (form : Form) (bounds here : StoreBounds) (k k1 : Known) (m m1 : Machine) (st st1 : Standing) (a b : Option (List ℕ)) (f g : Bool) (n n1 : Seen)
-    → here ≡ bounds → Answers form bounds k k1 m m1 st st1 a b f g n n1 → (image : Image) (taken : List ℕ) → StopsAlong form here k1 m1 st1 b image taken → StopsAlong form bounds k m st a image taken
-stop_behind form bounds here k k1 m m1 st st1 a b f g n n1 within first image taken later =
-    let stop = subst (λ (y : StoreBounds). StopsAlong form y k1 m1 st1 b image taken) within later in
+stop_behind : {form : Form} {bounds here : StoreBounds} {p q : Progress} → here ≡ bounds → Answers form bounds p q
+    → (image : Image) (taken : List ℕ) → StopsAlong form here q.known q.machine q.standing q.told.desk.said image taken
+    → StopsAlong form bounds p.known p.machine p.standing p.told.desk.said image taken
+stop_behind {form} {bounds} {here} {p} {q} within first image taken later =
+    let stop = subst (λ (y : StoreBounds). StopsAlong form y q.known q.machine q.standing q.told.desk.said image taken) within later in
     let es : List Event = first.answered in
     let fs : List Event = stop.answered in
     let arrived : Event = Arrived stop.session stop.frame in
-    let known : known_along fs k1 ≡ known_along (es ++ fs) k = ap (known_along fs) first.known_is ∙ sym (known_then es fs k) in
-    let machine : machine_along bounds fs k1 m1 ≡ machine_along bounds (es ++ fs) k m =
-    ap (λ (y : Known). machine_along bounds fs y m1) first.known_is ∙ ap (machine_along bounds fs (known_along es k)) first.machine_is ∙ sym (machine_then bounds es fs k m) in
     record {
       answered = es ++ fs;
       mid = stop.mid;
-      goes = goes_then st st1 stop.mid es fs first.goes stop.goes;
+      goes = goes_then p.standing q.standing stop.mid es fs first.goes stop.goes;
       session = stop.session;
       frame = stop.frame;
       later = stop.later;
       next = stop.next;
       said_mid = stop.said_mid;
-      replies = later_said form bounds bounds es fs k k1 m m1 a b stop.said_mid refl first.known_is first.machine_is first.said stop.replies;
+      replies = later_said stop.said_mid fs refl first stop.replies;
       turn =
-          subst (λ (y : Machine). StopsEvent form bounds arrived (known_along (es ++ fs) k) y stop.said_mid image taken) machine
-          (subst (λ (y : Known). StopsEvent form bounds arrived y (machine_along bounds fs k1 m1) stop.said_mid image taken) known stop.turn);
+          subst (λ (y : Machine). StopsEvent form bounds arrived (known_along (es ++ fs) p.known) y stop.said_mid image taken) (later_machine fs first)
+          (subst (λ (y : Known). StopsEvent form bounds arrived y (machine_along bounds fs q.known q.machine) stop.said_mid image taken) (later_known fs first) stop.turn);
     }
 
 pub stops_fed : {i j : Stopped} (form : Form) (bounds : StoreBounds) (k : Known) (m : Machine) (st : Standing) (more : List ℕ) (said : Option (List ℕ))
     → Elapses i j (StopsAlong form bounds k m st said) → Elapses i j (StopsAlong form bounds k m (fed st more) said)
 stops_fed form bounds k m st more said stops = Elapses-weaker (StopsAlong form bounds k m (fed st more) said) stops (stop_fed form bounds k m st more said)
 
-pub stops_behind : {i j l : Stopped} (form : Form) (bounds here : StoreBounds) (k k1 : Known) (m m1 : Machine) (st st1 : Standing) (a b : Option (List ℕ)) (f g : Bool) (n n1 : Seen)
-    → here ≡ bounds → Answers form bounds k k1 m m1 st st1 a b f g n n1 → Elapses i j (StopsAlong form bounds k m st a) → Elapses j l (StopsAlong form here k1 m1 st1 b)
-    → Elapses i l (StopsAlong form bounds k m st a)
-stops_behind form bounds here k k1 m m1 st st1 a b f g n n1 within first before later =
-    Elapses-then (StopsAlong form bounds k m st a) before later (λ image taken stop. stop) (stop_behind form bounds here k k1 m m1 st st1 a b f g n n1 within first)
+pub stops_behind : {i j l : Stopped} {form : Form} {bounds here : StoreBounds} {p q : Progress} → here ≡ bounds → Answers form bounds p q
+    → Elapses i j (StopsAlong form bounds p.known p.machine p.standing p.told.desk.said) → Elapses j l (StopsAlong form here q.known q.machine q.standing q.told.desk.said)
+    → Elapses i l (StopsAlong form bounds p.known p.machine p.standing p.told.desk.said)
+stops_behind {form = form} {bounds = bounds} {p = p} within first before later =
+    Elapses-then (StopsAlong form bounds p.known p.machine p.standing p.told.desk.said) before later (λ image taken stop. stop) (stop_behind within first)
 
 -- ---- the start of an input
 
@@ -276,18 +263,6 @@ came_so form used st es goes = sym (end_came st) ∙ ap came (end_so form used s
 
 -- ---- the pieces
 
--- What was answered from a standing to another was answered from the same one to the same.
-abbrev answers_from : (form : Form) (bounds : StoreBounds) (k k1 : Known) (m m1 : Machine) (st st0 st1 st2 : Standing) (a b : Option (List ℕ)) (f g : Bool) (n n1 : Seen)
-    → st0 ≡ st → st2 ≡ st1 → Answers form bounds k k1 m m1 st st1 a b f g n n1 → Answers form bounds k k1 m m1 st0 st2 a b f g n n1
-answers_from form bounds k k1 m m1 st st0 st1 st2 a b f g n n1 same same_now told = record {
-  answered = told.answered;
-  goes = subst (λ (y : Standing). GoesTo y st2 told.answered) (sym same) (subst (λ (y : Standing). GoesTo st y told.answered) (sym same_now) told.goes);
-  known_is = told.known_is;
-  machine_is = told.machine_is;
-  said = told.said;
-  noted_is = told.noted_is;
-}
-
 pub undecided_start : (form : Form) (most : ℕ) → is_decided form (take most []) ≡ false
 undecided_start Plain most = ap (λ (st : Standing). list_any is_fault (events_of st)) (no_bytes_used Plain most) ∙ ap (list_any is_fault) (start_given Plain).none
 undecided_start Trace most = ap (λ (st : Standing). begins_bad (end_of st)) (no_bytes_used Trace most) ∙ (start_given Trace).good
@@ -303,24 +278,39 @@ near_none form most = record {
   undecided = undecided_start form most;
 }
 
--- Before any of them, nothing was taken and answered.
-abbrev pub pieces_start : {i : Stopped} (form : Form) (c : Serving) (most : ℕ) (k : Known) (st : Standing) (l a : Option (List ℕ)) (f : Bool) (n : Seen) (tells : Bool)
-    → k ≡ known_in form → st ≡ start_of form → AnswersPieces form c most k c.machine st l l a a f f n n tells (Elapses i i) 0
-pieces_start {i} form c most k st l a f n tells known start = record {
-  takes = record { taken = []; gave = Gave-none l; few = omega arith; stops = λ some told. Elapses-none i (StopsAlong form c.bounds (known_in form) c.machine (at_start form (take most [])) a) };
+-- Before any of them, nothing was taken.
+abbrev pub takes_nothing : (i : Intake) (left : Option (List ℕ)) (told : Telling) (stopped : Stopped) → TakesPieces i (record { left = left; left_now = left; told = told; stopped = stopped; stopped_now = stopped })
+takes_nothing i left told stopped = record {
+  taken = [];
+  gave = Gave-none left;
+  few = omega arith;
+  stops = λ some tells. Elapses-none stopped (StopsAlong i.form i.from.bounds (known_in i.form) i.from.machine (at_start i.form (take i.most [])) told.desk.said);
+}
+
+-- Nor was anything answered.
+abbrev pub pieces_start : (i : Intake) (left : Option (List ℕ)) (stopped : Stopped) (p : Progress) → p.known ≡ known_in i.form → p.machine ≡ i.from.machine → p.standing ≡ start_of i.form
+    → AnswersPieces i (record { left = left; left_now = left; told = p.told; stopped = stopped; stopped_now = stopped }) p 0
+pieces_start i left stopped p known machine start = record {
+  takes = takes_nothing i left p.told stopped;
   counted = refl;
-  answers = answers_from form c.bounds (known_in form) k c.machine c.machine st (at_start form (take most [])) st st a a f f n n (no_bytes_used form most ∙ sym start) refl
-      (answers_start form c.bounds (known_in form) k c.machine st a f n known);
-  undecided = undecided_start form most;
+  answers = record {
+    answered = [];
+    goes = subst (λ (st : Standing). GoesTo (at_start i.form (take i.most [])) st []) (no_bytes_used i.form i.most ∙ sym start) (goes_nowhere (at_start i.form (take i.most [])));
+    known_is = known;
+    machine_is = machine;
+    said = Took-none p.told.desk.said;
+    noted_is = more_none p.told.failed p.told.desk;
+  };
+  undecided = undecided_start i.form i.most;
 }
 
 -- Nothing was answered, and memory was wanting.
-pub pieces_none : {i : Stopped} (form : Form) (c : Serving) (most : ℕ) (l a : Option (List ℕ)) (f : Bool) (n : Seen) (tells : Bool)
-    → CutsInput NoMemory form c most l l a a f f n n tells (Elapses i i)
-pieces_none {i} form c most l a f n tells = record {
-  takes = record { taken = []; gave = Gave-none l; few = omega arith; stops = λ some told. Elapses-none i (StopsAlong form c.bounds (known_in form) c.machine (at_start form (take most [])) a) };
-  some = used_none form c.bounds c.machine (take most []) a f n;
-  near = near_none form most;
+pub pieces_none : (i : Intake) (left : Option (List ℕ)) (stopped : Stopped) (told : Telling)
+    → CutsInput NoMemory i (record { left = left; left_now = left; told = told; stopped = stopped; stopped_now = stopped }) told
+pieces_none i left stopped told = record {
+  takes = takes_nothing i left told stopped;
+  some = used_none i.form i.from.bounds i.from.machine (take i.most []) told;
+  near = near_none i.form i.most;
 }
 
 -- The used bytes with one piece more.
@@ -338,141 +328,145 @@ pub short_piece : (count : ℕ) (buf : List ℕ) → length buf ≤ 65536 → le
 short_piece count buf few = omega (arith, length-take count buf, few)
 
 -- A piece came, and none of it was answered yet.
-pub record FedPieces (form : Form) (c : Serving) (most : ℕ) (k : Known) (m : Machine) (st : Standing) (l r a b : Option (List ℕ)) (f g : Bool) (n n1 : Seen)
-    (tells : Bool) (elapses : (Image → List ℕ → Type 0) → Type 0) (size : ℕ) : Type 0 where
-  pub takes : TakesPieces form c most l r a tells elapses
+pub record FedPieces (i : Intake) (o : Passage) (now : Progress) (size : ℕ) : Type 0 where
+  pub takes : TakesPieces i o
   pub counted : length takes.taken ≡ size
-  pub answers : Answers form c.bounds (known_in form) k c.machine m (at_start form (take most takes.taken)) st a b f g n n1
-  pub near : (later : List Event) → StaysNear form most takes.taken (answers.answered ++ later)
-  pub calm : form ≡ Plain → list_any is_fault answers.answered ≡ false
+  pub answers : Answers i.form i.from.bounds (begun i.form i.from.machine (take i.most takes.taken) o.told) now
+  pub near : (later : List Event) → StaysNear i.form i.most takes.taken (answers.answered ++ later)
+  pub calm : i.form ≡ Plain → list_any is_fault answers.answered ≡ false
+
+-- What passes outside until more of the source was taken, and until later.
+abbrev pub taken_to : Passage → Option (List ℕ) → Passage
+taken_to o left = record { left = o.left; left_now = left; told = o.told; stopped = o.stopped; stopped_now = o.stopped_now }
+
+abbrev pub passed_to : Passage → Stopped → Passage
+passed_to o stopped = record { left = o.left; left_now = o.left_now; told = o.told; stopped = o.stopped; stopped_now = stopped }
+
+-- Where the answering stands, with the sessions elsewhere.
+abbrev pub standing_at : Progress → Standing → Progress
+standing_at p st = record { known = p.known; machine = p.machine; standing = st; told = p.told }
 
 -- Plain input that is not decided has no fault.
 pub undecided_calm : (form : Form) (used : List ℕ) (es : List Event) → is_decided form used ≡ false → es ≡ events_in form used → form ≡ Plain → list_any is_fault es ≡ false
 undecided_calm Plain used es going all is = ap (list_any is_fault) all ∙ going
 undecided_calm Trace used es going all is = absurd cc
 
-abbrev pub pieces_fed : {i j : Stopped} {form : Form} {c : Serving} {most : ℕ} {k : Known} {m : Machine} {st st2 : Standing} {l r r2 a b : Option (List ℕ)} {f g : Bool} {n n1 : Seen} {tells : Bool} {count : ℕ} (piece : List ℕ) {part : List ℕ}
-    → AnswersPieces form c most k m st l r a b f g n n1 tells (Elapses i j) count → events_of st ≡ [] → count ≤ most → Gave r r2 piece → length piece ≤ 65536 → part ≡ take (most - count) piece → st2 ≡ fed st part
-    → FedPieces form c most k m st2 l r2 a b f g n n1 tells (Elapses i j) (count + length piece)
-pieces_fed {i} {j} {form} {c} {most} {k} {m} {st} {st2} {l} {r} {r2} {a} {b} {f} {g} {n} {n1} {tells} {count} piece {part} held none le gave few is now =
+abbrev pub pieces_fed : {i : Intake} {o : Passage} {p : Progress} {count : ℕ} {left : Option (List ℕ)} {st : Standing} (piece : List ℕ) {part : List ℕ}
+    → AnswersPieces i o p count → events_of p.standing ≡ [] → count ≤ i.most → Gave o.left_now left piece → length piece ≤ 65536 → part ≡ take (i.most - count) piece → st ≡ fed p.standing part
+    → FedPieces i (taken_to o left) (standing_at p st) (count + length piece)
+pieces_fed {i} {o} {p} {count} {left} {st} piece {part} held none le gave few is now =
+    let form : Form = i.form in
     let taken : List ℕ = held.takes.taken in
-    let used : List ℕ = take most taken in
-    let start : at_start form (take most (taken ++ piece)) ≡ fed (at_start form used) part =
-    ap (at_start form) (two_used most count taken piece part held.counted le is) ∙ sym (fed_twice (start_of form) used part) in
+    let used : List ℕ = take i.most taken in
+    let start : at_start form (take i.most (taken ++ piece)) ≡ fed (at_start form used) part =
+    ap (at_start form) (two_used i.most count taken piece part held.counted le is) ∙ sym (fed_twice (start_of form) used part) in
     let es : List Event = held.answers.answered in
-    let all : es ≡ events_in form used = all_so form used st es held.answers.goes none in
+    let all : es ≡ events_in form used = all_so form used p.standing es held.answers.goes none in
     record {
       takes = record {
         taken = taken ++ piece;
-        gave = Gave-then l r r2 taken piece held.takes.gave gave;
+        gave = Gave-then o.left o.left_now left taken piece held.takes.gave gave;
         few = omega (arith, length-append taken piece, held.counted, le, few);
-        stops = λ some told. subst (λ (y : Standing). Elapses i j (StopsAlong form c.bounds (known_in form) c.machine y a)) (sym start)
-            (stops_fed form c.bounds (known_in form) c.machine (at_start form used) part a (held.takes.stops some told));
+        stops = λ some told. subst (λ (y : Standing). Elapses o.stopped o.stopped_now (StopsAlong form i.from.bounds (known_in form) i.from.machine y o.told.desk.said)) (sym start)
+            (stops_fed form i.from.bounds (known_in form) i.from.machine (at_start form used) part o.told.desk.said (held.takes.stops some told));
       };
       counted = omega (arith, length-append taken piece, held.counted);
-      answers = answers_from form c.bounds (known_in form) k c.machine m (fed (at_start form used) part) (at_start form (take most (taken ++ piece))) (fed st part) st2 a b f g n n1 start now
-          (answers_fed form c.bounds (known_in form) k c.machine m (at_start form used) st a b f g n n1 part held.answers);
+      answers = record {
+        answered = es;
+        goes = subst (λ (y : Standing). GoesTo y st es) (sym start) (subst (λ (y : Standing). GoesTo (fed (at_start form used) part) y es) (sym now) (goes_fed (at_start form used) p.standing es part held.answers.goes));
+        known_is = held.answers.known_is;
+        machine_is = held.answers.machine_is;
+        said = held.answers.said;
+        noted_is = held.answers.noted_is;
+      };
       near = λ later. record { first = taken; last = piece; split = refl; piece = few; more = later; before = ap (λ (first : List Event). first ++ later) (sym all); undecided = held.undecided };
       calm = undecided_calm form used es held.undecided all;
     }
 
 -- No memory was left to hold it.
-pub fed_starved : {elapses : (Image → List ℕ → Type 0) → Type 0} {form : Form} {c : Serving} {most : ℕ} {k : Known} {m : Machine} {st : Standing} {l r a b : Option (List ℕ)} {f g : Bool} {n n1 : Seen} {tells : Bool} {size : ℕ}
-    → FedPieces form c most k m st l r a b f g n n1 tells elapses size → CutsInput NoMemory form c most l r a b f g n n1 tells elapses
-fed_starved {elapses} {form} {c} {most} {k} {m} {st} {l} {r} {a} {b} {f} {g} {n} {n1} {tells} {size} fed =
+pub fed_starved : {i : Intake} {o : Passage} {p : Progress} {size : ℕ} → FedPieces i o p size → CutsInput NoMemory i o p.told
+fed_starved {i} {o} {p} {size} fed =
     let es : List Event = fed.answers.answered in
     record {
       takes = fed.takes;
       some = record {
         answered = es;
-        unanswered = events_of st;
-        split = split_so form (take most fed.takes.taken) st es fed.answers.goes;
-        said = joined (replies_to form c.bounds c.machine es);
-        took = says_whole form c.bounds c.machine es a b b refl fed.answers.said;
+        unanswered = events_of p.standing;
+        split = split_so i.form (take i.most fed.takes.taken) p.standing es fed.answers.goes;
+        said = joined (replies_to i.form i.from.bounds i.from.machine es);
+        took = says_whole i.form i.from.bounds i.from.machine es o.told.desk.said p.told.desk.said p.told.desk.said refl fed.answers.said;
         says = record { same = refl; calm = fed.calm };
         noted_is = fed.answers.noted_is;
       };
-      near = subst (λ (answered : List Event). StaysNear form most fed.takes.taken answered) (append-nil es) (fed.near []);
+      near = subst (λ (answered : List Event). StaysNear i.form i.most fed.takes.taken answered) (append-nil es) (fed.near []);
     }
 
--- What a stop finds while its events are answered.
-abbrev takes_on : {i j o : Stopped} (form : Form) (c : Serving) (here : StoreBounds) (most : ℕ) (k : Known) (m : Machine) (st : Standing) (l r a b : Option (List ℕ)) (f g : Bool) (n n1 : Seen) (tells : Bool) (size : ℕ)
-    → FedPieces form c most k m st l r a b f g n n1 tells (Elapses i j) size → here ≡ c.bounds
-    → (IsSome c.kept → IsTrue tells → Elapses j o (StopsAlong form here k m st b)) → TakesPieces form c most l r a tells (Elapses i o)
-takes_on form c here most k m st l r a b f g n n1 tells size fed within stops = record {
+-- What a stop finds while its events are answered, within the bounds of the controller that answers them.
+abbrev takes_on : {i : Intake} {o : Passage} {p : Progress} {size : ℕ} {here : StoreBounds} {later : Stopped} → FedPieces i o p size → here ≡ i.from.bounds
+    → (IsSome i.from.kept → IsTrue i.tells → Elapses o.stopped_now later (StopsAlong i.form here p.known p.machine p.standing p.told.desk.said)) → TakesPieces i (passed_to o later)
+takes_on fed within stops = record {
   taken = fed.takes.taken;
   gave = fed.takes.gave;
   few = fed.takes.few;
-  stops = λ some told. stops_behind form c.bounds here (known_in form) k c.machine m (at_start form (take most fed.takes.taken)) st a b f g n n1 within fed.answers (fed.takes.stops some told) (stops some told);
+  stops = λ some told. stops_behind within fed.answers (fed.takes.stops some told) (stops some told);
 }
 
 -- The answering of its events was cut short.
-pub fed_cut : {i j o : Stopped} {by : Cut} {form : Form} {c : Serving} {here : StoreBounds} {most : ℕ} {k : Known} {m : Machine} {st : Standing} {l r a b d : Option (List ℕ)} {f g h : Bool} {n n1 n2 : Seen} {tells : Bool} {size : ℕ}
-    → FedPieces form c most k m st l r a b f g n n1 tells (Elapses i j) size → here ≡ c.bounds → IsCutShort by form here k m st b d g h n1 n2
-    → (IsSome c.kept → IsTrue tells → Elapses j o (StopsAlong form here k m st b)) → CutsInput by form c most l r a d f h n n2 tells (Elapses i o)
-fed_cut {i} {j} {o} {by} {form} {c} {here} {most} {k} {m} {st} {l} {r} {a} {b} {d} {f} {g} {h} {n} {n1} {n2} {tells} {size} fed within short stops =
-    let used : List ℕ = take most fed.takes.taken in
-    let cuts = subst (λ (y : StoreBounds). IsCutShort by form y k m st b d g h n1 n2) within short in
-    record {
-      takes = takes_on form c here most k m st l r a b f g n n1 tells size fed within stops;
-      some = used_cut by form c.bounds c.machine used a d f h n n2
-          (cut_behind by form c.bounds (known_in form) k c.machine m (at_start form used) st a b d f g h n n1 n2 fed.answers cuts);
-      near = fed.near cuts.first.answered;
-    }
+pub fed_cut : {by : Cut} {i : Intake} {o : Passage} {p : Progress} {size : ℕ} {here : StoreBounds} {later : Stopped} {now : Telling} → FedPieces i o p size → here ≡ i.from.bounds
+    → IsCutShort by i.form here p now → (IsSome i.from.kept → IsTrue i.tells → Elapses o.stopped_now later (StopsAlong i.form here p.known p.machine p.standing p.told.desk.said))
+    → CutsInput by i (passed_to o later) now
+fed_cut {by} {i} {o} {p} {size} {here} {later} {now} fed within short stops =
+    let cuts = subst (λ (y : StoreBounds). IsCutShort by i.form y p now) within short in
+    record { takes = takes_on fed within stops; some = used_cut by i.form i.from.bounds i.from.machine (take i.most fed.takes.taken) (cut_behind fed.answers cuts); near = fed.near cuts.first.answered }
 
 -- All its events were answered: the input is not decided and goes on, or it is.
-abbrev pub fed_more : {i j o : Stopped} {form : Form} {c : Serving} {here : StoreBounds} {most : ℕ} {k k1 : Known} {m m1 : Machine} {st st1 : Standing} {l r a b d : Option (List ℕ)} {f g h : Bool} {n n1 n2 : Seen} {tells : Bool} (bad : Option ℕ) {size count : ℕ}
-    → FedPieces form c most k m st l r a b f g n n1 tells (Elapses i j) size → here ≡ c.bounds → Answers form here k k1 m m1 st st1 b d g h n1 n2
-    → (IsSome c.kept → IsTrue tells → Elapses j o (StopsAlong form here k m st b)) → ComesToEnd st1 bad → decided_by form bad k1.faulty ≡ false → size ≡ count
-    → AnswersPieces form c most k1 m1 st1 l r a d f h n n2 tells (Elapses i o) count
-fed_more {i} {j} {o} {form} {c} {here} {most} {k} {k1} {m} {m1} {st} {st1} {l} {r} {a} {b} {d} {f} {g} {h} {n} {n1} {n2} {tells} bad {size} {count} fed within later stops end going same =
-    let used : List ℕ = take most fed.takes.taken in
-    let told = answers_then form c.bounds here (known_in form) k k1 c.machine m m1 (at_start form used) st st1 a b d f g h n n1 n2 within fed.answers later in
-    let all : told.answered ≡ events_in form used = all_so form used st1 told.answered told.goes (none_left st1 bad end) in
+abbrev pub fed_more : {i : Intake} {o : Passage} {p q : Progress} {here : StoreBounds} {later : Stopped} (bad : Option ℕ) {size count : ℕ} → FedPieces i o p size → here ≡ i.from.bounds
+    → Answers i.form here p q → (IsSome i.from.kept → IsTrue i.tells → Elapses o.stopped_now later (StopsAlong i.form here p.known p.machine p.standing p.told.desk.said))
+    → ComesToEnd q.standing bad → decided_by i.form bad q.known.faulty ≡ false → size ≡ count → AnswersPieces i (passed_to o later) q count
+fed_more {i} {o} {p} {q} {here} {later} bad {size} {count} fed within answers stops end going same =
+    let used : List ℕ = take i.most fed.takes.taken in
+    let told = answers_then within fed.answers answers in
+    let all : told.answered ≡ events_in i.form used = all_so i.form used q.standing told.answered told.goes (none_left q.standing bad end) in
     record {
-      takes = takes_on form c here most k m st l r a b f g n n1 tells size fed within stops;
+      takes = takes_on fed within stops;
       counted = fed.counted ∙ same;
       answers = told;
-      undecided = sym (decided_so form used st1 k1 told.answered bad told.known_is all (end_so form used st1 told.answered told.goes) end) ∙ going;
+      undecided = sym (decided_so i.form used q.standing q.known told.answered bad told.known_is all (end_so i.form used q.standing told.answered told.goes) end) ∙ going;
     }
 
-abbrev pub fed_decided : {i j o : Stopped} {form : Form} {c : Serving} {here : StoreBounds} {most : ℕ} {k k1 : Known} {m m1 : Machine} {st st1 : Standing} {l r a b d : Option (List ℕ)} {f g h : Bool} {n n1 n2 : Seen} {tells : Bool} (bad : Option ℕ) {size : ℕ}
-    → FedPieces form c most k m st l r a b f g n n1 tells (Elapses i j) size → here ≡ c.bounds → Answers form here k k1 m m1 st st1 b d g h n1 n2
-    → (IsSome c.kept → IsTrue tells → Elapses j o (StopsAlong form here k m st b)) → ComesToEnd st1 bad → decided_by form bad k1.faulty ≡ true
-    → EndsPieces form c most k1 m1 st1 l r a d f h n n2 tells (Elapses i o) Whole
-fed_decided {i} {j} {o} {form} {c} {here} {most} {k} {k1} {m} {m1} {st} {st1} {l} {r} {a} {b} {d} {f} {g} {h} {n} {n1} {n2} {tells} bad {size} fed within later stops end decided =
-    let used : List ℕ = take most fed.takes.taken in
-    let told = answers_then form c.bounds here (known_in form) k k1 c.machine m m1 (at_start form used) st st1 a b d f g h n n1 n2 within fed.answers later in
-    let all : told.answered ≡ events_in form used = all_so form used st1 told.answered told.goes (none_left st1 bad end) in
+abbrev pub fed_decided : {i : Intake} {o : Passage} {p q : Progress} {here : StoreBounds} {later : Stopped} (bad : Option ℕ) {size : ℕ} → FedPieces i o p size → here ≡ i.from.bounds
+    → Answers i.form here p q → (IsSome i.from.kept → IsTrue i.tells → Elapses o.stopped_now later (StopsAlong i.form here p.known p.machine p.standing p.told.desk.said))
+    → ComesToEnd q.standing bad → decided_by i.form bad q.known.faulty ≡ true → EndsPieces i (passed_to o later) q Whole
+fed_decided {i} {o} {p} {q} {here} {later} bad {size} fed within answers stops end decided =
+    let used : List ℕ = take i.most fed.takes.taken in
+    let told = answers_then within fed.answers answers in
+    let all : told.answered ≡ events_in i.form used = all_so i.form used q.standing told.answered told.goes (none_left q.standing bad end) in
     record {
-      takes = takes_on form c here most k m st l r a b f g n n1 tells size fed within stops;
+      takes = takes_on fed within stops;
       answers = told;
-      near = subst (λ (answered : List Event). StaysNear form most fed.takes.taken answered) all (fed.near later.answered);
-      ends = inl (sym (decided_so form used st1 k1 told.answered bad told.known_is all (end_so form used st1 told.answered told.goes) end) ∙ decided);
+      near = subst (λ (answered : List Event). StaysNear i.form i.most fed.takes.taken answered) all (fed.near answers.answered);
+      ends = inl (sym (decided_so i.form used q.standing q.known told.answered bad told.known_is all (end_so i.form used q.standing told.answered told.goes) end) ∙ decided);
     }
 
 -- Where it goes on, all was given.
-pub more_given : {elapses : (Image → List ℕ → Type 0) → Type 0} {form : Form} {c : Serving} {most : ℕ} {k : Known} {m : Machine} {st : Standing} {l r a b : Option (List ℕ)} {f g : Bool} {n n1 : Seen} {tells : Bool} (bad : Option ℕ) {count : ℕ}
-    → AnswersPieces form c most k m st l r a b f g n n1 tells elapses count → ComesToEnd st bad → decided_by form bad k.faulty ≡ false → IsAllGiven st
-more_given {elapses} {form} {c} {most} {k} {m} {st} {l} {r} {a} {b} {f} {g} {n} {n1} {tells} bad {count} held end going =
-    let used : List ℕ = take most held.takes.taken in
-    undecided_given form used st bad k.faulty (end_so form used st held.answers.answered held.answers.goes) end going
+pub more_given : {i : Intake} {o : Passage} {p : Progress} (bad : Option ℕ) {count : ℕ} → AnswersPieces i o p count → ComesToEnd p.standing bad → decided_by i.form bad p.known.faulty ≡ false → IsAllGiven p.standing
+more_given {i} {o} {p} bad {count} held end going =
+    let used : List ℕ = take i.most held.takes.taken in
+    undecided_given i.form used p.standing bad p.known.faulty (end_so i.form used p.standing held.answers.answered held.answers.goes) end going
 
 -- No more bytes came than are used.
-pub came_few : {elapses : (Image → List ℕ → Type 0) → Type 0} {form : Form} {c : Serving} {most : ℕ} {k : Known} {m : Machine} {st : Standing} {l r a b : Option (List ℕ)} {f g : Bool} {n n1 : Seen} {tells : Bool} {count : ℕ}
-    → AnswersPieces form c most k m st l r a b f g n n1 tells elapses count → st.before + length st.input ≤ count
-came_few {elapses} {form} {c} {most} {k} {m} {st} {l} {r} {a} {b} {f} {g} {n} {n1} {tells} {count} held =
+pub came_few : {i : Intake} {o : Passage} {p : Progress} {count : ℕ} → AnswersPieces i o p count → p.standing.before + length p.standing.input ≤ count
+came_few {i} {o} {p} {count} held =
     let taken : List ℕ = held.takes.taken in
-    let used : List ℕ = take most taken in
-    let all = came_so form used st held.answers.answered held.answers.goes in
-    let few : length used ≤ length taken = omega (arith, length-take most taken) in
+    let used : List ℕ = take i.most taken in
+    let all = came_so i.form used p.standing held.answers.answered held.answers.goes in
+    let few : length used ≤ length taken = omega (arith, length-take i.most taken) in
     omega (arith, all, few, held.counted)
 
 -- No more of it was taken.
-abbrev pub pieces_end : {elapses : (Image → List ℕ → Type 0) → Type 0} {end : End} {form : Form} {c : Serving} {most : ℕ} {k : Known} {m : Machine} {st : Standing} {l r r2 a b : Option (List ℕ)} {f g : Bool} {n n1 : Seen} {tells : Bool} {count : ℕ}
-    → (held : AnswersPieces form c most k m st l r a b f g n n1 tells elapses count) → Gave l r2 held.takes.taken → EndsSo end most r2 held.takes.taken (is_decided form (take most held.takes.taken))
-    → EndsPieces form c most k m st l r2 a b f g n n1 tells elapses end
-pieces_end {elapses} {end} {form} {c} {most} {k} {m} {st} {l} {r} {r2} {a} {b} {f} {g} {n} {n1} {tells} {count} held gave ends = record {
+abbrev pub pieces_end : {i : Intake} {o : Passage} {p : Progress} {end : End} {left : Option (List ℕ)} {count : ℕ} → (held : AnswersPieces i o p count) → Gave o.left left held.takes.taken
+    → EndsSo end i.most left held.takes.taken (is_decided i.form (take i.most held.takes.taken)) → EndsPieces i (taken_to o left) p end
+pieces_end {i} {o} {p} {end} {left} {count} held gave ends = record {
   takes = record { taken = held.takes.taken; gave = gave; few = held.takes.few; stops = held.takes.stops };
   answers = held.answers;
   near = record {
@@ -481,7 +475,7 @@ pieces_end {elapses} {end} {form} {c} {most} {k} {m} {st} {l} {r} {r2} {a} {b} {
     split = append-nil held.takes.taken;
     piece = omega arith;
     more = [];
-    before = append-nil (events_in form (take most held.takes.taken));
+    before = append-nil (events_in i.form (take i.most held.takes.taken));
     undecided = held.undecided;
   };
   ends = ends;
@@ -490,51 +484,41 @@ pieces_end {elapses} {end} {form} {c} {most} {k} {m} {st} {l} {r} {r2} {a} {b} {
 -- ---- the ending is told
 
 -- The notes behind the answering leave a stop nothing more to find.
-abbrev takes_still : {i j o : Stopped} (form : Form) (c : Serving) (most : ℕ) (l r a : Option (List ℕ)) (tells : Bool)
-    → TakesPieces form c most l r a tells (Elapses i j) → Elapses j o (λ image taken. ⊥) → TakesPieces form c most l r a tells (Elapses i o)
-takes_still form c most l r a tells takes noted = record {
+abbrev takes_still : {i : Intake} {o : Passage} {later : Stopped} → TakesPieces i o → Elapses o.stopped_now later (λ image taken. ⊥) → TakesPieces i (passed_to o later)
+takes_still {i} {o} {later} takes noted = record {
   taken = takes.taken;
   gave = takes.gave;
   few = takes.few;
-  stops = λ some told. no_more_behind (StopsAlong form c.bounds (known_in form) c.machine (at_start form (take most takes.taken)) a) (takes.stops some told) noted;
+  stops = λ some told. no_more_behind (StopsAlong i.form i.from.bounds (known_in i.form) i.from.machine (at_start i.form (take i.most takes.taken)) o.told.desk.said) (takes.stops some told) noted;
 }
 
 -- Where all events were answered, and the ending was told.
-abbrev pub input_ends : {i j o : Stopped} (end : End) (form : Form) (c : Serving) (most : ℕ) (k : Known) (m : Machine) (st : Standing) (l r a b b2 : Option (List ℕ)) (f g h : Bool) (n n1 n2 : Seen) (tells : Bool) (bad : Option ℕ) (status : Status)
-    → EndsPieces form c most k m st l r a b f g n n1 tells (Elapses i j) end → ComesToEnd st bad → Elapses j o (λ image taken. ⊥) → b2 ≡ b
-    → status ≡ status_at (k.faulty || begins_bad (end_of st)) (leaves_some (end_of st) k.closed) end → NotesMore g h (ending_lines (end_of st) k.closed status) n1 n2
-    → EndsInput status form c most m l r a b2 f h n n2 tells (Elapses i o)
-input_ends end form c most k m st l r a b b2 f g h n n1 n2 tells bad status told comes quiet still is noted =
-    let used : List ℕ = take most told.takes.taken in
-    let none : events_of st ≡ [] = none_left st bad comes in
+abbrev pub input_ends : {i : Intake} {o : Passage} {p : Progress} {later : Stopped} {now : Telling} (end : End) (bad : Option ℕ) (status : Status)
+    → EndsPieces i o p end → ComesToEnd p.standing bad → Elapses o.stopped_now later (λ image taken. ⊥) → now.desk.said ≡ p.told.desk.said
+    → status ≡ status_at (p.known.faulty || begins_bad (end_of p.standing)) (leaves_some (end_of p.standing) p.known.closed) end
+    → NotesMore p.told.failed now.failed (ending_lines (end_of p.standing) p.known.closed status) p.told.desk now.desk
+    → EndsInput status i (passed_to o later) p.machine now
+input_ends {i} {o} {p} {later} {now} end bad status told comes quiet still is noted =
+    let none : events_of p.standing ≡ [] = none_left p.standing bad comes in
     record {
-      takes = takes_still form c most l r a tells told.takes quiet;
+      takes = takes_still told.takes quiet;
       end = end;
-      all = used_answered form c.bounds c.machine m used end status k st a b b2 f g h n n1 n2 told.answers none still is noted;
+      all = used_answered i.form i.from.bounds i.from.machine (take i.most told.takes.taken) end status {now = now} told.answers none still is noted;
       near = told.near;
       ends = told.ends;
-      last = used_last form c.bounds c.machine m used k st a b f g n n1 told.answers none;
+      last = used_last i.form i.from.bounds i.from.machine (take i.most told.takes.taken) told.answers none;
     }
 
 -- Where memory was wanting to tell it.
-pub input_starved : {i j o : Stopped} (end : End) (form : Form) (c : Serving) (most : ℕ) (k : Known) (m : Machine) (st : Standing) (l r a b b2 : Option (List ℕ)) (f g h : Bool) (n n1 n2 : Seen) (tells : Bool) (bad : Option ℕ)
-    → EndsPieces form c most k m st l r a b f g n n1 tells (Elapses i j) end → ComesToEnd st bad → Elapses j o (λ image taken. ⊥)
-    → (begins_bad (end_of st) ≡ true) ⊎ (status_at k.faulty (leaves_some (end_of st) k.closed) end ≡ Truncated) → b2 ≡ b → h ≡ g → n2.noted ≡ n1.noted → n2.note_faults ≡ n1.note_faults
-    → CutsInput NoMemory form c most l r a b2 f h n n2 tells (Elapses i o)
-input_starved end form c most k m st l r a b b2 f g h n n1 n2 tells bad told comes quiet why still p q u =
-    let used : List ℕ = take most told.takes.taken in
-    let all : told.answers.answered ≡ events_in form used = all_so form used st told.answers.answered told.answers.goes (none_left st bad comes) in
-    let some = used_starved form c.bounds c.machine m used end k st a b b2 f g n n1 told.answers why still in
-    rw p (record {
-      takes = takes_still form c most l r a tells told.takes quiet;
-      some = record {
-        answered = some.answered;
-        unanswered = some.unanswered;
-        split = some.split;
-        said = some.said;
-        took = some.took;
-        says = some.says;
-        noted_is = more_still f g (fault_lines some.answered) n n1 n2 q u some.noted_is;
-      };
-      near = subst (λ (answered : List Event). StaysNear form most told.takes.taken answered) (sym all) told.near;
-    })
+pub input_starved : {i : Intake} {o : Passage} {p : Progress} {later : Stopped} {now : Telling} (end : End) (bad : Option ℕ)
+    → EndsPieces i o p end → ComesToEnd p.standing bad → Elapses o.stopped_now later (λ image taken. ⊥)
+    → (begins_bad (end_of p.standing) ≡ true) ⊎ (status_at p.known.faulty (leaves_some (end_of p.standing) p.known.closed) end ≡ Truncated) → now.desk.said ≡ p.told.desk.said
+    → NotesNothing p.told now → CutsInput NoMemory i (passed_to o later) now
+input_starved {i} {o} {p} {later} {now} end bad told comes quiet why still none =
+    let used : List ℕ = take i.most told.takes.taken in
+    let all : told.answers.answered ≡ events_in i.form used = all_so i.form used p.standing told.answers.answered told.answers.goes (none_left p.standing bad comes) in
+    record {
+      takes = takes_still told.takes quiet;
+      some = used_starved i.form i.from.bounds i.from.machine used end {now = now} told.answers why still none;
+      near = subst (λ (answered : List Event). StaysNear i.form i.most told.takes.taken answered) (sym all) told.near;
+    }

@@ -1,9 +1,9 @@
 -- How the opening of the folder, the serving of the frames and the notes make up a run on the folder, with the counts of their faults.
 use Rattle.std.specs.Prelude.{true, false, Bool, IsTrue, IsSome}
-use Rattle.std.proofs.Common.{◌≡◌, ℕ, ◌⊎◌, List, [], length, take, refl, sym, ap, ◌∙◌, subst, arith}
+use Rattle.std.proofs.Common.{◌≡◌, ℕ, List, [], length, take, refl, sym, ap, ◌∙◌, subst, arith}
 use Rattle.std.specs.declared.option.Option.{Option}
 use Rattle.ziti_outside.specs.Images.{Image, After}
-use Rattle.ziti_outside.specs.Moments.{Elapses, Leaves}
+use Rattle.ziti_outside.specs.Moments.{Leaves}
 use Rattle.ziti_outside.specs.Told.{Took}
 use Rattle.ziti_outside.specs.declared.desk.Part.TheVariants.{Mark}
 use Rattle.ziti_outside.specs.Untouched.{OnlyDisk, OnlyNotes}
@@ -34,7 +34,8 @@ use Rattle.run_notes.specs.Inputs.{events_in}
 use Rattle.run_notes.specs.Endings.{is_cut, is_kept, status_of_cut}
 use Rattle.run_notes.specs.NotedLines.{FindsNoMore, RisesOnce}
 use Rattle.ctrl_serve.specs.Failures.{TakesUntilFailure}
-use Rattle.ctrl_serve.specs.Pieces.{CutsInput, EndsInput, IsReadCaused}
+use Rattle.ctrl_serve.specs.Answering.{Telling}
+use Rattle.ctrl_serve.specs.Pieces.{CutsInput, EndsInput, Intake, IsReadCaused, Passage}
 use Rattle.session_mux.specs.Completion.{completed}
 use Rattle.ctrl_serve.specs.Headline.{Serves, Replays, Taking, taking_of}
 use Rattle.ctrl_serve.proofs.GrantedRuns.{behind-granted}
@@ -44,8 +45,8 @@ use Rattle.run_notes.specs.KnownSessions.{known_in}
 use Rattle.run_notes.proofs.NoteLaws.{notes_from}
 use Rattle.ctrl_serve.specs.Runs.{IsWriteCaused, IsDiskCaused, KeepsUsed, RunsOn, CountsFaults}
 use Rattle.ctrl_serve.proofs.FailureLaws.{takes_none}
-use Rattle.ctrl_serve.proofs.FollowedRuns.{opened_stands_for, opened_still}
-use Rattle.ctrl_serve.proofs.IntakeLaws.{write_calm, disk_calm, input_serves, input_counted, cut_serves, cut_counted}
+use Rattle.ctrl_serve.proofs.FollowedRuns.{opened_leaves, opened_stands_for, opened_still}
+use Rattle.ctrl_serve.proofs.IntakeLaws.{write_calm, disk_calm, input_serves, cut_serves, cut_counted}
 use Rattle.ctrl_serve.proofs.UsedLaws.{at_start}
 use Rattle.ctrl_serve.proofs.OpenedMachines.{ready_keeps, opens_by}
 use Rattle.ctrl_serve.proofs.RunStopLaws.{no_more_behind, opened_stops, later_stops, used_stops}
@@ -148,61 +149,56 @@ opened_counts {seen = seen} source source_now desk mid now status calls calm cou
 
 -- ---- the run from a controller on
 
+-- What the run takes from a controller on, and what passes outside.
+abbrev pub intake_from : {S D : Type 0} → Outside S D → Form → ℕ → Serving → Intake
+intake_from o form most c = record { form = form; most = most; from = c; tells = o.tells }
+
+abbrev pub passing : {S D : Type 0} → (o : Outside S D) (source source_now : S) (desk desk_now : D) (failed : Bool) → Passage
+passing o source source_now desk desk_now failed =
+    record { left = o.left source; left_now = o.left source_now; told = record { failed = failed; desk = o.seen desk }; stopped = o.stopped desk; stopped_now = o.stopped desk_now }
+
 -- Where all events of the input were answered.
-pub input_runs : {S D : Type 0} (o : Outside S D) (form : Form) (c : Serving) (most : ℕ) (new : Controller) (source source_now : S) (desk desk_now : D) (f g : Bool) (status : Status)
-    → f ≡ false
-    → (answered : EndsInput status form c most (serving_of new).machine (o.left source) (o.left source_now) (o.seen desk).said (o.seen desk_now).said f g (o.seen desk) (o.seen desk_now) o.tells (Elapses (o.stopped desk) (o.stopped desk_now)))
+pub input_runs : {S D : Type 0} (o : Outside S D) {form : Form} {c : Serving} {most : ℕ} (new : Controller) {source source_now : S} {desk desk_now : D} {f g : Bool} (status : Status)
+    → (answered : EndsInput status (intake_from o form most c) (passing o source source_now desk desk_now f) (serving_of new).machine (record { failed = g; desk = o.seen desk_now })) → f ≡ false
     → (IsSome c.kept → IsTrue o.tells → FollowsInput form c.bounds c.machine (o.seen desk).reads (o.seen desk_now).reads (take most answered.takes.taken))
     → GoesOn c (serving_of new) → IsReady o.tells (serving_of new).kept (o.seen desk_now).reads (o.stopped desk_now).images
     → RunsOn (taking_of form most) c o source source_now desk desk_now status
-input_runs o form c most new source source_now desk desk_now f g status calm answered follows on ready =
-    let both = subst (λ (u : Bool). (told : EndsInput status form c most (serving_of new).machine (o.left source) (o.left source_now) (o.seen desk).said (o.seen desk_now).said u g (o.seen desk) (o.seen desk_now) o.tells (Elapses (o.stopped desk) (o.stopped desk_now)))
-    × (IsSome c.kept → IsTrue o.tells → FollowsInput form c.bounds c.machine (o.seen desk).reads (o.seen desk_now).reads (take most told.takes.taken)))
-    calm (answered, follows) in
-    let told = both.0 in
+input_runs o {form} {c} {most} new {source} {source_now} {desk} {desk_now} {f} {g} status told calm follows on ready =
     let used : List ℕ = take most told.takes.taken in
     record {
-      serves = input_serves form c most (serving_of new).machine (o.left source) (o.left source_now) (o.seen desk) (o.seen desk_now) g o.tells (Elapses (o.stopped desk) (o.stopped desk_now)) status told;
+      serves = input_serves status told calm;
       keeps = served_keeps form c new used used o.tells (o.seen desk_now).reads (o.stopped desk_now).images status refl told.last on ready;
-      follows = λ some kept tell. both.1 some tell;
+      follows = λ some kept tell. follows some tell;
       stops = λ some tell. used_stops form c.bounds c.machine used (known_in form) (at_start form used) (o.seen desk).said refl refl (told.takes.stops some tell);
     }
 
 -- And where it was cut short, and that was told.
-cut_runs_by : {S D : Type 0} (o : Outside S D) (by : Cut) (form : Form) (c : Serving) (most : ℕ) (source source_now : S) (desk mid now : D) (g h : Bool)
-    → CutsInput by form c most (o.left source) (o.left source_now) (o.seen desk).said (o.seen mid).said false g (o.seen desk) (o.seen mid) o.tells (Elapses (o.stopped desk) (o.stopped mid))
+cut_runs_by : {S D : Type 0} (o : Outside S D) (by : Cut) {form : Form} {c : Serving} {most : ℕ} {source source_now : S} {desk mid now : D} {f g : Bool} (h : Bool)
+    → CutsInput by (intake_from o form most c) (passing o source source_now desk mid f) (record { failed = g; desk = o.seen mid }) → f ≡ false
     → OnlyNotes o.seen o.stopped mid now → FindsNoMore o.stopped mid now → NotesMore g h (status_lines [] (status_of_cut by)) (o.seen mid) (o.seen now)
     → RunsOn (taking_of form most) c o source source_now desk now (status_of_cut by)
-cut_runs_by o by form c most source source_now desk mid now g h told others no_more more =
+cut_runs_by o by {form} {c} {most} {source} {source_now} {desk} {mid} {now} {f} {g} h told calm others no_more more =
     let used : List ℕ = take most told.takes.taken in
     record {
-      serves = cut_serves by form c most (o.left source) (o.left source_now) (o.seen desk) (o.seen mid) (o.seen now) g h o.tells (Elapses (o.stopped desk) (o.stopped mid)) told others.replies more;
+      serves = cut_serves by (record { failed = h; desk = o.seen now }) told calm others.replies more;
       keeps = cut_keeps form c used o.tells (o.seen now).reads (o.stopped now).images by (status_of_cut by) refl;
       follows = λ some kept tell. absurd (not_kept by kept);
       stops = λ some tell. used_stops form c.bounds c.machine used (known_in form) (at_start form used) (o.seen desk).said refl refl (no_more_behind _ (told.takes.stops some tell) no_more);
     }
 
-pub cut_runs : {S D : Type 0} (o : Outside S D) (by : Cut) (form : Form) (c : Serving) (most : ℕ) (source source_now : S) (desk mid now : D) (f g h : Bool) (status : Status) → status ≡ status_of_cut by → f ≡ false
-    → CutsInput by form c most (o.left source) (o.left source_now) (o.seen desk).said (o.seen mid).said f g (o.seen desk) (o.seen mid) o.tells (Elapses (o.stopped desk) (o.stopped mid))
+pub cut_runs : {S D : Type 0} (o : Outside S D) (by : Cut) {form : Form} {c : Serving} {most : ℕ} {source source_now : S} {desk mid now : D} {f g : Bool} (h : Bool) (status : Status) → status ≡ status_of_cut by
+    → CutsInput by (intake_from o form most c) (passing o source source_now desk mid f) (record { failed = g; desk = o.seen mid }) → f ≡ false
     → OnlyNotes o.seen o.stopped mid now → FindsNoMore o.stopped mid now → NotesMore g h (status_lines [] status) (o.seen mid) (o.seen now)
     → RunsOn (taking_of form most) c o source source_now desk now status
-cut_runs o by form c most source source_now desk mid now f g h status is calm cuts others no_more more =
-    let told = subst (λ (u : Bool). CutsInput by form c most (o.left source) (o.left source_now) (o.seen desk).said (o.seen mid).said u g (o.seen desk) (o.seen mid) o.tells (Elapses (o.stopped desk) (o.stopped mid))) calm cuts in
+cut_runs o by {form} {c} {most} {source} {source_now} {desk} {mid} {now} {f} {g} h status is cuts calm others no_more more =
     let behind = subst (λ (u : Status). NotesMore g h (status_lines [] u) (o.seen mid) (o.seen now)) is more in
-    subst (λ (u : Status). RunsOn (taking_of form most) c o source source_now desk now u) (sym is) (cut_runs_by o by form c most source source_now desk mid now g h told others no_more behind)
+    subst (λ (u : Status). RunsOn (taking_of form most) c o source source_now desk now u) (sym is) (cut_runs_by o by {f = f} {g = g} h cuts calm others no_more behind)
 
 -- The notes of such a run failed once at most.
-pub cut_run_counted : (by : Cut) (form : Form) (c : Serving) (most : ℕ) (l r a b : Option (List ℕ)) (d d1 d2 : Seen) (f g h : Bool) (tells : Bool) (before : (Image → List ℕ → Type 0) → Type 0) (status : Status)
-    → status ≡ status_of_cut by → f ≡ false → CutsInput by form c most l r a b f g d d1 tells before → NotesMore g h (status_lines [] status) d1 d2 → RisesOnce d.note_faults d2.note_faults
-cut_run_counted by form c most l r a b d d1 d2 f g h tells before status is calm cuts more =
-    let told = subst (λ (u : Bool). CutsInput by form c most l r a b u g d d1 tells before) calm cuts in
-    let behind = subst (λ (u : Status). NotesMore g h (status_lines [] u) d1 d2) is more in
-    cut_counted by form c most l r a b d d1 d2 g h tells before told behind
-
-pub input_run_counted : (form : Form) (c : Serving) (most : ℕ) (m : Machine) (l r a b : Option (List ℕ)) (d e : Seen) (f g : Bool) (tells : Bool) (elapses : (Image → List ℕ → Type 0) → Type 0) (status : Status)
-    → f ≡ false → EndsInput status form c most m l r a b f g d e tells elapses → RisesOnce d.note_faults e.note_faults
-input_run_counted form c most m l r a b d e f g tells elapses status calm told =
-    input_counted form c most m l r a b d e g tells elapses status (subst (λ (u : Bool). EndsInput status form c most m l r a b u g d e tells elapses) calm told)
+pub cut_run_counted : (by : Cut) {i : Intake} {o : Passage} {mid : Telling} (now : Telling) (status : Status) → status ≡ status_of_cut by → CutsInput by i o mid → o.told.failed ≡ false
+    → NotesMore mid.failed now.failed (status_lines [] status) mid.desk now.desk → RisesOnce o.told.desk.note_faults now.desk.note_faults
+cut_run_counted by {mid = mid} now status is cuts calm more =
+    cut_counted by now cuts calm (subst (λ (u : Status). NotesMore mid.failed now.failed (status_lines [] u) mid.desk now.desk) is more)
 
 -- A run without a folder begins at the start.
 pub started_serves : (core : Cored) (most : ℕ) (l m : Option (List ℕ)) (d e : Seen) (status : Status) → core ≡ record { state = start; live = true }
@@ -254,6 +250,7 @@ replays_on o form bounds most k source source_now desk mid now status opens stan
       found = λ kept told. (runs.keeps refl kept told).1;
       stands = λ kept told batches. opened_stands_for form k.stored.bounds (machine_of k) before middle after used batches (made told) (runs.follows refl kept told);
       still = λ kept told. opened_still form k.stored.bounds (machine_of k) before middle after used (made told) (runs.follows refl kept told);
+      elsewhere = λ kept told. opened_leaves form k.stored.bounds (machine_of k) before middle after used (made told) (runs.follows refl kept told);
       granted = λ stand n. behind-granted k.stored.bounds (machine_of k) (completed form (take n runs.serves.taken)) holds.valid stand;
       stops = λ told all. opened_stops form k.stored.bounds (machine_of k) (events_in form used) (opening told) (runs.stops refl told) all;
       stops_later = λ told. later_stops form k.stored.bounds (machine_of k) (events_in form used) (opening told) (runs.stops refl told);

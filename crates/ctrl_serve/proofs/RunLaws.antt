@@ -1,5 +1,5 @@
 -- How what the parts of a run promise makes up what the run promises.
-use Rattle.std.specs.Prelude.{true, false, Bool, IsTrue}
+use Rattle.std.specs.Prelude.{true, false, Bool}
 use Rattle.std.proofs.Common.{◌≡◌, ℕ, ◌⊎◌, inl, inr, List, length, take, None, Some, refl, sym, ap, ◌∙◌, subst, arith}
 use Rattle.std.proofs.Math.Dec.{ltb}
 use Rattle.std.proofs.lemmas.Bool.{false≢true}
@@ -21,12 +21,12 @@ use Rattle.ctrl_serve.specs.declared.command_line.Form.TheVariants.{Dry, Replay,
 use Rattle.run_notes.specs.declared.status.Status.{Status}
 use Rattle.run_notes.specs.declared.status.Status.TheVariants.{Done, Usage, BadInput, Truncated, ReadFault, WriteFault, DiskFault, Damaged, NoMemory, InputTooLong, FolderFull}
 use Rattle.ctrl_serve.specs.CommandLine.{reads_input}
-use Rattle.run_notes.specs.Endings.{is_kept}
+use Rattle.run_notes.specs.Endings.{is_cut, is_kept}
 use Rattle.ctrl_serve.specs.SaidReplies.{SaysAll}
 use Rattle.run_notes.specs.Inputs.{is_bad_input, has_rest}
 use Rattle.run_notes.specs.NotedLines.{FindsNoMore, RisesOnce, NotesLines}
 use Rattle.ctrl_serve.specs.FrameAnswer.{no_bounds, alone, replies}
-use Rattle.ctrl_serve.specs.Headline.{OnlySaysAndNotes, folder_bounds, taking_of, Serves, IsComplete, IsLeftAlone, IsUnopened, StaysClosed, Refuses, Replays, Runs}
+use Rattle.ctrl_serve.specs.Headline.{OnlySaysAndNotes, folder_bounds, taking_of, Serves, Taking, IsComplete, IsLeftAlone, IsUnopened, StaysClosed, Refuses, Replays, Runs}
 use Rattle.ctrl_serve.specs.FolderWords.{Audits, Compacts, EndsCompaction}
 use Rattle.ctrl_serve.specs.Loads.{counts_line, state_of_load, SaysOneLine, IsSaid}
 use Rattle.run_notes.specs.Notes.{usage_note}
@@ -39,39 +39,48 @@ use Rattle.ctrl_serve.proofs.PieceLaws.{good_undecided}
 -- ---- a run that serves its input
 
 -- Where all events were answered all replies were said.
-all_said : (form : Form) (status : Status) (bounds : StoreBounds) (m : Machine) (most : ℕ) (a b : Option (List ℕ)) (c d : Seen) (s : Serves (taking_of form most) bounds m a b c d status)
-    → is_kept status ≡ true → SaysAll form bounds m s.said s.answered → Took c.said d.said (replies form bounds m (take most s.taken))
-all_said form status bounds m most a b c d s kept says =
-    subst (λ (l : List ℕ). Took c.said d.said l) (all_replies form bounds m (take most s.taken) s.said s.answered s.unanswered s.split (s.all kept) says) s.took
+all_said : {status : Status} {taking : Taking} {bounds : StoreBounds} {m : Machine} {a b : Option (List ℕ)} {c d : Seen} (s : Serves taking bounds m a b c d status)
+    → is_kept status ≡ true → SaysAll taking.form bounds m s.said s.answered → Took c.said d.said (replies taking.form bounds m (take taking.most s.taken))
+all_said {taking = taking} {bounds = bounds} {m = m} {c = c} {d = d} s kept says =
+    subst (λ (l : List ℕ). Took c.said d.said l) (all_replies taking.form bounds m (take taking.most s.taken) s.said s.answered s.unanswered s.split (s.all kept) says) s.took
+
+-- So it is complete where it was not cut short either.
+complete : {status : Status} {taking : Taking} {bounds : StoreBounds} {m : Machine} {a b : Option (List ℕ)} {c d : Seen} (s : Serves taking bounds m a b c d status)
+    → is_cut status ≡ false → is_kept status ≡ true → SaysAll taking.form bounds m s.said s.answered → IsComplete taking bounds m a b c d status
+complete s on kept says = inr (record { taken = s.taken; gave = s.gave; ends = s.ends on; said = all_said s kept says; read_on = s.read_on on })
 
 -- Where no call failed it is complete, unless memory was wanting.
-pub serves_completely : (form : Form) (status : Status) (bounds : StoreBounds) (m : Machine) (most : ℕ) (a b : Option (List ℕ)) (c d : Seen)
-    → Serves (taking_of form most) bounds m a b c d status → (status ≡ ReadFault → ⊥) → (status ≡ WriteFault → ⊥) → (status ≡ DiskFault → ⊥) → IsComplete (taking_of form most) bounds m a b c d status
-serves_completely form Done bounds m most a b c d s read write disk = inr (record { taken = s.taken; gave = s.gave; ends = s.ends refl; said = all_said form Done bounds m most a b c d s refl s.says; read_on = s.read_on refl })
-serves_completely form Usage bounds m most a b c d s read write disk = absurd s.says
-serves_completely form BadInput bounds m most a b c d s read write disk = inr (record { taken = s.taken; gave = s.gave; ends = s.ends refl; said = all_said form BadInput bounds m most a b c d s refl s.says; read_on = s.read_on refl })
-serves_completely form Truncated bounds m most a b c d s read write disk = inr (record { taken = s.taken; gave = s.gave; ends = s.ends refl; said = all_said form Truncated bounds m most a b c d s refl s.says; read_on = s.read_on refl })
-serves_completely form ReadFault bounds m most a b c d s read write disk = absurd (read refl)
-serves_completely form WriteFault bounds m most a b c d s read write disk = absurd (write refl)
-serves_completely form DiskFault bounds m most a b c d s read write disk = absurd (disk refl)
-serves_completely form Damaged bounds m most a b c d s read write disk = absurd s.says
-serves_completely form NoMemory bounds m most a b c d s read write disk = inl refl
-serves_completely form InputTooLong bounds m most a b c d s read write disk = inr (record { taken = s.taken; gave = s.gave; ends = s.ends refl; said = all_said form InputTooLong bounds m most a b c d s refl s.says; read_on = s.read_on refl })
-serves_completely form FolderFull bounds m most a b c d s read write disk = absurd s.says
+pub serves_completely : (status : Status) {taking : Taking} {bounds : StoreBounds} {m : Machine} {a b : Option (List ℕ)} {c d : Seen}
+    → Serves taking bounds m a b c d status → (status ≡ ReadFault → ⊥) → (status ≡ WriteFault → ⊥) → (status ≡ DiskFault → ⊥) → IsComplete taking bounds m a b c d status
+serves_completely Done s read write disk = complete s refl refl s.says
+serves_completely Usage s read write disk = absurd s.says
+serves_completely BadInput s read write disk = complete s refl refl s.says
+serves_completely Truncated s read write disk = complete s refl refl s.says
+serves_completely ReadFault s read write disk = absurd (read refl)
+serves_completely WriteFault s read write disk = absurd (write refl)
+serves_completely DiskFault s read write disk = absurd (disk refl)
+serves_completely Damaged s read write disk = absurd s.says
+serves_completely NoMemory s read write disk = inl refl
+serves_completely InputTooLong s read write disk = complete s refl refl s.says
+serves_completely FolderFull s read write disk = absurd s.says
+
+-- What is so of a status is of no other one of which it is never so.
+ends_otherwise : (IsSo : Status → Type 0) (status : Status) → IsSo status → (other : Status) → (IsSo other → ⊥) → status ≡ other → ⊥
+ends_otherwise IsSo status so other never is = never (subst IsSo is so)
 
 -- It does not end with Usage.
-serves_no_usage : (form : Form) (status : Status) (bounds : StoreBounds) (m : Machine) (most : ℕ) (a b : Option (List ℕ)) (c d : Seen) → Serves (taking_of form most) bounds m a b c d status → status ≡ Usage → ⊥
-serves_no_usage form status bounds m most a b c d s is = (subst (λ (u : Status). Serves (taking_of form most) bounds m a b c d u) is s).says
+serves_no_usage : {status : Status} {taking : Taking} {bounds : StoreBounds} {m : Machine} {a b : Option (List ℕ)} {c d : Seen} → Serves taking bounds m a b c d status → status ≡ Usage → ⊥
+serves_no_usage {status} {taking} {bounds} {m} {a} {b} {c} {d} s is = ends_otherwise (λ (u : Status). Serves taking bounds m a b c d u) status s Usage (λ t. t.says) is
 
 -- Where it is done it read its input to the end.
-done_at_end : (form : Form) (bounds : StoreBounds) (m : Machine) (most : ℕ) (a b : Option (List ℕ)) (c d : Seen) → Serves (taking_of form most) bounds m a b c d Done → IsAtEnd b
-done_at_end form bounds m most a b c d s =
-    let first : List ℕ = take most s.taken in
-    let is = done_is (is_bad_input form first) (has_rest form first) (ltb most (length s.taken)) (s.ends refl) in
-    at_end most b s.taken is.whole (s.read_on refl (good_undecided form first is.good))
+done_at_end : (taking : Taking) (bounds : StoreBounds) (m : Machine) (a b : Option (List ℕ)) (c d : Seen) → Serves taking bounds m a b c d Done → IsAtEnd b
+done_at_end taking bounds m a b c d s =
+    let first : List ℕ = take taking.most s.taken in
+    let is = done_is (is_bad_input taking.form first) (has_rest taking.form first) (ltb taking.most (length s.taken)) (s.ends refl) in
+    at_end taking.most b s.taken is.whole (s.read_on refl (good_undecided taking.form first is.good))
 
-serves_to_end : (form : Form) (status : Status) (bounds : StoreBounds) (m : Machine) (most : ℕ) (a b : Option (List ℕ)) (c d : Seen) → Serves (taking_of form most) bounds m a b c d status → status ≡ Done → IsAtEnd b
-serves_to_end form status bounds m most a b c d s is = done_at_end form bounds m most a b c d (subst (λ (u : Status). Serves (taking_of form most) bounds m a b c d u) is s)
+serves_to_end : {status : Status} {taking : Taking} {bounds : StoreBounds} {m : Machine} {a b : Option (List ℕ)} {c d : Seen} → Serves taking bounds m a b c d status → status ≡ Done → IsAtEnd b
+serves_to_end {status} {taking} {bounds} {m} {a} {b} {c} {d} s is = done_at_end taking bounds m a b c d (subst (λ (u : Status). Serves taking bounds m a b c d u) is s)
 
 -- ---- a run as it was asked for
 
@@ -104,7 +113,7 @@ pub dry_runs : {S D : Type 0} (o : Outside S D) (bounds : Bounds) (form : Option
     → (status ≡ DiskFault → ⊥) → OnlySaysAndNotes o.seen o.stopped desk desk_now
     → Runs o bounds form source source_now desk desk_now status
 dry_runs o bounds form source source_now desk desk_now status is serves counts calm others = record {
-  usage = (λ u. absurd (serves_no_usage Plain status _ _ bounds.input _ _ _ _ serves u), λ n. cc);
+  usage = (λ u. absurd (serves_no_usage serves u), λ n. cc);
   usage_takes_nothing = λ n. cc;
   usage_notes_alone = λ n. cc;
   usage_changes_nothing = λ n. cc;
@@ -122,8 +131,8 @@ dry_runs o bounds form source source_now desk desk_now status is serves counts c
   takes_until_failure = counts.takes_until_failure;
   dry = λ _. serves;
   dry_says_and_notes_alone = λ _. others;
-  complete = λ _ read say. serves_completely Plain status _ _ bounds.input _ _ _ _ serves (λ r. read (counts.read_fault r)) (λ w. say (counts.write.rose w)) calm;
-  read_to_the_end = λ asked e reads done. serves_to_end Plain status _ _ bounds.input _ _ _ _ serves done;
+  complete = λ _ read say. serves_completely status serves (λ r. read (counts.read_fault r)) (λ w. say (counts.write.rose w)) calm;
+  read_to_the_end = λ asked e reads done. serves_to_end serves done;
   replay = λ of e. cc;
   load = λ number e. cc;
   load_takes_nothing = λ number e. cc;
@@ -141,27 +150,18 @@ dry_runs o bounds form source source_now desk desk_now status is serves counts c
 -- Where a folder was not opened the run ends with none of these.
 closed_status : (tells : Bool) (before now : Seen) (status : Status) → StaysClosed tells before now status
     → (status ≡ Usage → ⊥) × (status ≡ Done → ⊥) × (status ≡ ReadFault → ⊥) × (status ≡ WriteFault → ⊥)
-closed_status tells before now Done why = absurd why
-closed_status tells before now Usage why = absurd why
-closed_status tells before now BadInput why = absurd why
-closed_status tells before now Truncated why = absurd why
-closed_status tells before now ReadFault why = absurd why
-closed_status tells before now WriteFault why = absurd why
-closed_status tells before now DiskFault why = (λ e. cc, λ e. cc, λ e. cc, λ e. cc)
-closed_status tells before now Damaged why = (λ e. cc, λ e. cc, λ e. cc, λ e. cc)
-closed_status tells before now NoMemory why = (λ e. cc, λ e. cc, λ e. cc, λ e. cc)
-closed_status tells before now InputTooLong why = absurd why
-closed_status tells before now FolderFull why = absurd why
+closed_status tells before now status why =
+    let not = ends_otherwise (λ (u : Status). StaysClosed tells before now u) status why in
+    (not Usage (λ w. w), not Done (λ w. w), not ReadFault (λ w. w), not WriteFault (λ w. w))
 
 -- A run on the folder, which was not opened or from which the run went on.
-replays_status : {S D : Type 0} (o : Outside S D) (of : Form) (bounds : StoreBounds) (most : ℕ) (source source_now : S) (desk desk_now : D) (status : Status)
-    → Refuses o.tells o.seen o.stopped source source_now desk desk_now status
-    ⊎ Replays (taking_of of most) bounds o source source_now desk desk_now status
+replays_status : {S D : Type 0} (o : Outside S D) {taking : Taking} {bounds : StoreBounds} (source source_now : S) (desk desk_now : D) (status : Status)
+    → Refuses o.tells o.seen o.stopped source source_now desk desk_now status ⊎ Replays taking bounds o source source_now desk desk_now status
     → (status ≡ Usage → ⊥) × (status ≡ Done → IsAtEnd (o.left source_now))
-replays_status o of bounds most source source_now desk desk_now status (inl closed) =
+replays_status o source source_now desk desk_now status (inl closed) =
     let none = closed_status o.tells _ _ status closed.unopened.why in (none.0, λ done. absurd (none.1 done))
-replays_status o of bounds most source source_now desk desk_now status (inr on) =
-    (serves_no_usage of status bounds on.machine most _ _ _ _ on.serves, serves_to_end of status bounds on.machine most _ _ _ _ on.serves)
+replays_status o source source_now desk desk_now status (inr on) =
+    (serves_no_usage on.serves, serves_to_end on.serves)
 
 pub replay_runs : {S D : Type 0} (o : Outside S D) (of : Form) (bounds : Bounds) (form : Option command.Form) (source source_now : S) (desk desk_now : D) (status : Status) → form ≡ Some (Replay of)
     → Refuses o.tells o.seen o.stopped source source_now desk desk_now status
@@ -170,7 +170,7 @@ pub replay_runs : {S D : Type 0} (o : Outside S D) (of : Form) (bounds : Bounds)
     → HoldsRoom o.tells (folder_bounds bounds).slot o.seen o.stopped desk desk_now
     → Runs o bounds form source source_now desk desk_now status
 replay_runs o of bounds form source source_now desk desk_now status is replays counts room =
-    let at : (status ≡ Usage → ⊥) × (status ≡ Done → IsAtEnd (o.left source_now)) = replays_status o of (folder_bounds bounds) bounds.input source source_now desk desk_now status replays in
+    let at : (status ≡ Usage → ⊥) × (status ≡ Done → IsAtEnd (o.left source_now)) = replays_status o source source_now desk desk_now status replays in
     record {
       usage = (λ u. absurd (at.0 u), λ n. cc);
       usage_takes_nothing = λ n. cc;
@@ -252,17 +252,9 @@ usage_runs o bounds form source desk desk_now is others more note counted = reco
 -- It ends with none of these.
 pub line_statuses : (status : Status) (line : List ℕ) (a b : Seen) → SaysOneLine line a b status
     → (status ≡ Usage → ⊥) × (status ≡ ReadFault → ⊥) × (status ≡ DiskFault → ⊥)
-line_statuses Done line a b s = (λ e. cc, λ e. cc, λ e. cc)
-line_statuses Usage line a b s = absurd s.says
-line_statuses BadInput line a b s = absurd s.says
-line_statuses Truncated line a b s = absurd s.says
-line_statuses ReadFault line a b s = absurd s.says
-line_statuses WriteFault line a b s = (λ e. cc, λ e. cc, λ e. cc)
-line_statuses DiskFault line a b s = absurd s.says
-line_statuses Damaged line a b s = absurd s.says
-line_statuses NoMemory line a b s = (λ e. cc, λ e. cc, λ e. cc)
-line_statuses InputTooLong line a b s = absurd s.says
-line_statuses FolderFull line a b s = absurd s.says
+line_statuses status line a b s =
+    let not = ends_otherwise (λ (u : Status). SaysOneLine line a b u) status s in
+    (not Usage (λ t. t.says), not ReadFault (λ t. t.says), not DiskFault (λ t. t.says))
 
 -- Where no say failed the line was said, unless memory was wanting.
 pub line_said : (status : Status) (line : List ℕ) (a b : Seen) → SaysOneLine line a b status → (status ≡ WriteFault → ⊥) → IsSaid line a.said b.said status
@@ -383,17 +375,9 @@ audit_runs o bounds form source desk desk_now status is audits alone write disk 
 -- It ends with none of these.
 ends_statuses : (status : Status) (bounds : StoreBounds) (m : Machine) (tells : Bool) (before now : Seen) → EndsCompaction status bounds m tells before now
     → (status ≡ Usage → ⊥) × (status ≡ ReadFault → ⊥) × (status ≡ WriteFault → ⊥)
-ends_statuses Done bounds m tells before now e = (λ u. cc, λ u. cc, λ u. cc)
-ends_statuses Usage bounds m tells before now e = absurd e
-ends_statuses BadInput bounds m tells before now e = absurd e
-ends_statuses Truncated bounds m tells before now e = absurd e
-ends_statuses ReadFault bounds m tells before now e = absurd e
-ends_statuses WriteFault bounds m tells before now e = absurd e
-ends_statuses DiskFault bounds m tells before now e = (λ u. cc, λ u. cc, λ u. cc)
-ends_statuses Damaged bounds m tells before now e = absurd e
-ends_statuses NoMemory bounds m tells before now e = (λ u. cc, λ u. cc, λ u. cc)
-ends_statuses InputTooLong bounds m tells before now e = absurd e
-ends_statuses FolderFull bounds m tells before now e = (λ u. cc, λ u. cc, λ u. cc)
+ends_statuses status bounds m tells before now ends =
+    let not = ends_otherwise (λ (u : Status). EndsCompaction u bounds m tells before now) status ends in
+    (not Usage (λ e. e), not ReadFault (λ e. e), not WriteFault (λ e. e))
 
 compact_statuses : {D : Type 0} {seen : D → Seen} {stopped : D → Stopped}
     (tells : Bool) (bounds : StoreBounds) (desk desk_now : D) (status : Status) → IsUnopened tells seen stopped desk desk_now status

@@ -1,5 +1,4 @@
 -- What a stop within a run over an input finds: how the turns of the loop, the notes behind them and the opening of the folder make it up.
-use Rattle.std.specs.Prelude.{Bool}
 use Rattle.std.proofs.Common.{◌≡◌, ◌⊎◌, inl, inr, ℕ, List, [], ◌∷◌, ◌++◌, Some, refl, sym, ap, ◌∙◌, subst}
 use Rattle.std.specs.declared.option.Option.{Option}
 use Rattle.ziti_outside.specs.Images.{Image, After}
@@ -21,6 +20,7 @@ use Rattle.session_mux.specs.declared.sessions.Form.{Form}
 use Rattle.session_mux.specs.Completion.{Standing, events_of, GoesTo}
 use Rattle.run_notes.specs.Inputs.{events_in}
 use Rattle.run_notes.specs.KnownSessions.{Known, count_at, sender_at, known_in, known_along}
+use Rattle.ctrl_serve.specs.Answering.{Progress}
 use Rattle.ctrl_serve.specs.Controllers.{Turn}
 use Rattle.ctrl_serve.specs.FrameAnswer.{frame_answer, replies_to}
 use Rattle.ctrl_serve.specs.KnownReplies.{machine_along, reply_by}
@@ -53,16 +53,17 @@ no_more_behind X first stops = Elapses-then X first stops (λ image taken p. p) 
 -- ---- the loop
 
 -- A stop within the event behind the answered ones is one within the loop.
-pub stops_next : (form : Form) (bounds here : StoreBounds) (e : Event) (k k1 : Known) (m m1 : Machine) (st st1 later : Standing) (a b : Option (List ℕ)) (f g : Bool) (n n1 : Seen)
-    → here ≡ bounds → Answers form bounds k k1 m m1 st st1 a b f g n n1 → GoesTo st1 later (e ∷ [])
-    → (image : Image) (taken : List ℕ) → StopsEvent form here e k1 m1 b image taken → StopsAlong form bounds k m st a image taken
-stops_next form bounds here (event.Opened s who) k k1 m m1 st st1 later a b f g n n1 within told goes image taken stop = absurd stop
-stops_next form bounds here (event.Arrived s frame) k k1 m m1 st st1 later a b f g n n1 within told goes image taken stop =
+pub stops_next : {form : Form} {bounds here : StoreBounds} (e : Event) {p q : Progress} {later : Standing} → here ≡ bounds → Answers form bounds p q → GoesTo q.standing later (e ∷ [])
+    → (image : Image) (taken : List ℕ) → StopsEvent form here e q.known q.machine q.told.desk.said image taken
+    → StopsAlong form bounds p.known p.machine p.standing p.told.desk.said image taken
+stops_next (event.Opened s who) within told goes image taken stop = absurd stop
+stops_next {form} {bounds} {here} (event.Arrived s frame) {p} {q} {later} within told goes image taken stop =
     let es : List Event = told.answered in
     let arrived : Event = event.Arrived s frame in
+    let b : Option (List ℕ) = q.told.desk.said in
     record {
       answered = es;
-      mid = st1;
+      mid = q.standing;
       goes = told.goes;
       session = s;
       frame = frame;
@@ -70,20 +71,19 @@ stops_next form bounds here (event.Arrived s frame) k k1 m m1 st st1 later a b f
       next = goes;
       said_mid = b;
       replies = told.said;
-      turn = subst (λ (y : Machine). StopsEvent form bounds arrived (known_along es k) y b image taken) told.machine_is
-          (subst (λ (y : Known). StopsEvent form bounds arrived y m1 b image taken) told.known_is
-          (subst (λ (y : StoreBounds). StopsEvent form y arrived k1 m1 b image taken) within stop));
+      turn = subst (λ (y : Machine). StopsEvent form bounds arrived (known_along es p.known) y b image taken) told.machine_is
+          (subst (λ (y : Known). StopsEvent form bounds arrived y q.machine b image taken) told.known_is
+          (subst (λ (y : StoreBounds). StopsEvent form y arrived q.known q.machine b image taken) within stop));
     }
-stops_next form bounds here (event.Ended s fault at) k k1 m m1 st st1 later a b f g n n1 within told goes image taken stop = absurd stop
-stops_next form bounds here (event.Closed s rest) k k1 m m1 st st1 later a b f g n n1 within told goes image taken stop = absurd stop
+stops_next (event.Ended s fault at) within told goes image taken stop = absurd stop
+stops_next (event.Closed s rest) within told goes image taken stop = absurd stop
 
 -- The loop with one event more.
-pub stops_more : {i j l : Stopped} {form : Form} {bounds here : StoreBounds} {e : Event} {k k1 : Known} {m m1 : Machine} {st st1 later : Standing} {a b : Option (List ℕ)} {f g : Bool} {n n1 : Seen}
-    → here ≡ bounds → Answers form bounds k k1 m m1 st st1 a b f g n n1 → GoesTo st1 later (e ∷ [])
-    → Elapses i j (StopsAlong form bounds k m st a) → Elapses j l (StopsEvent form here e k1 m1 b) → Elapses i l (StopsAlong form bounds k m st a)
-stops_more {i} {j} {l} {form} {bounds} {here} {e} {k} {k1} {m} {m1} {st} {st1} {later} {a} {b} {f} {g} {n} {n1} within told goes before turn =
-    Elapses-then (StopsAlong form bounds k m st a) before turn (λ image taken stop. stop)
-    (stops_next form bounds here e k k1 m m1 st st1 later a b f g n n1 within told goes)
+pub stops_more : {i j l : Stopped} {form : Form} {bounds here : StoreBounds} {e : Event} {p q : Progress} {later : Standing} → here ≡ bounds → Answers form bounds p q → GoesTo q.standing later (e ∷ [])
+    → Elapses i j (StopsAlong form bounds p.known p.machine p.standing p.told.desk.said) → Elapses j l (StopsEvent form here e q.known q.machine q.told.desk.said)
+    → Elapses i l (StopsAlong form bounds p.known p.machine p.standing p.told.desk.said)
+stops_more {form = form} {bounds = bounds} {e = e} {p = p} within told goes before turn =
+    Elapses-then (StopsAlong form bounds p.known p.machine p.standing p.told.desk.said) before turn (λ image taken stop. stop) (stops_next e within told goes)
 
 -- ---- the used bytes
 

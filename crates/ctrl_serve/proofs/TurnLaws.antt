@@ -19,10 +19,11 @@ use Rattle.session_mux.specs.MuxSteps.{GivesNone, MayWantMemory}
 use Rattle.session_mux.proofs.GoingLaws.{goes_then}
 use Rattle.session_mux.proofs.StepLaws.{no_more_input}
 use Rattle.ctrl_serve.specs.declared.serving.Address.{Address}
+use Rattle.ctrl_serve.specs.Answering.{served_at, NotesNothing, Progress, Served, Telling}
 use Rattle.run_notes.specs.declared.ends.Cut.{Cut}
 use Rattle.run_notes.specs.declared.ends.Cut.TheVariants.{NoMemory, Disk, Unsaid}
 use Rattle.ctrl_serve.specs.FrameAnswer.{frame_answer, reply_text}
-use Rattle.run_notes.specs.KnownSessions.{count_at, counted, Known, sender_at, known_after, known_along}
+use Rattle.run_notes.specs.KnownSessions.{count_at, Known, sender_at, known_after, known_along}
 use Rattle.ctrl_serve.specs.KnownReplies.{machine_after, machine_along, reply_by, replies_by, replies_along}
 use Rattle.run_notes.specs.Notes.{event_lines, fault_lines}
 use Rattle.run_notes.specs.NotesSoFar.{NotesMore}
@@ -31,7 +32,7 @@ use Rattle.ctrl_serve.specs.Turns.{TakesTurn, CutsTurn, TakesEvent, CutsEvent, C
 use Rattle.run_notes.specs.Endings.{IsAllGiven, IsStuckAt, ComesToEnd}
 use Rattle.run_notes.proofs.KnownLaws.{known_then}
 use Rattle.ctrl_serve.proofs.KnownLaws.{machine_then, replies_then}
-use Rattle.run_notes.proofs.NoteLaws.{more_none, more_then, more_still, more_left}
+use Rattle.run_notes.proofs.NoteLaws.{more_none, more_then, more_left}
 use Rattle.ziti_outside.specs.Views.{Seen}
 
 -- ---- a frame
@@ -70,15 +71,16 @@ abbrev pub address_at : Form → ℕ → Known → Address
 address_at form s k = record { form = form; session = s; sequence = count_at k.replied s }
 
 -- The turn of a frame that arrived, with its reply counted.
-pub arrived_taken : (form : Form) (bounds : StoreBounds) (s n : ℕ) (f : Frame) (k next : Known) (m m' : Machine) (who : Who) (a b : Option (List ℕ)) → n ≡ count_at k.replied s → who ≡ sender_at k s
-    → next ≡ record k { replied = counted k.replied s } → TakesTurn bounds (record { form = form; session = s; sequence = n }) who f m m' a b → TakesEvent form bounds (Arrived s f) k next m m' a b
-arrived_taken form bounds s n f k next m m' who a b count sender known took =
-    let turn = subst (λ (w : Who). TakesTurn bounds (address_at form s k) w f m m' a b) sender
-    (subst (λ (i : ℕ). TakesTurn bounds (record { form = form; session = s; sequence = i }) who f m m' a b) count took) in
+pub arrived_taken : (form : Form) (bounds : StoreBounds) (s n : ℕ) (f : Frame) (who : Who) (old new : Served) → n ≡ count_at old.known.replied s → who ≡ sender_at old.known s
+    → new.known ≡ known_after (Arrived s f) old.known → TakesTurn bounds (record { form = form; session = s; sequence = n }) who f old.machine new.machine old.said new.said
+    → TakesEvent form bounds (Arrived s f) old new
+arrived_taken form bounds s n f who old new count sender known took =
+    let turn = subst (λ (w : Who). TakesTurn bounds (address_at form s old.known) w f old.machine new.machine old.said new.said) sender
+    (subst (λ (i : ℕ). TakesTurn bounds (record { form = form; session = s; sequence = i }) who f old.machine new.machine old.said new.said) count took) in
     record {
       known_is = known;
       next = turn.next;
-      said = subst (λ (l : List ℕ). Took a b l) (sym (one_joined (reply_by form bounds s f k m))) turn.said;
+      said = subst (λ (l : List ℕ). Took old.said new.said l) (sym (one_joined (reply_by form bounds s f old.known old.machine))) turn.said;
     }
 
 arrived_unsaid : (cut : Cut) (form : Form) (bounds : StoreBounds) (s : ℕ) (f : Frame) (k : Known) (m : Machine) (a b : Option (List ℕ))
@@ -99,15 +101,6 @@ pub arrived_noted : {T E : Type 0} (r : Result T E) (f : Bool) (a b : Seen) → 
 arrived_noted (Ok x) f a b q r = more_left f f a b refl q r
 arrived_noted (Err e) f a b q r = tt
 
--- An event without a reply.
-pub quiet_taken : (form : Form) (bounds : StoreBounds) (e : Event) (k next : Known) (m m' : Machine) (a b : Option (List ℕ)) → replies_by form bounds e k m ≡ [] → next ≡ known_after e k
-    → m' ≡ machine_after bounds e k m → b ≡ a → TakesEvent form bounds e k next m m' a b
-quiet_taken form bounds e k next m m' a b none known same still = record {
-  known_is = known;
-  next = same;
-  said = subst (λ (l : List ℕ). Took a b l) (sym (ap joined none)) (subst (λ (x : Option (List ℕ)). Took a x []) (sym still) (Took-none a));
-}
-
 -- ---- the loop
 
 -- Going nowhere gives nothing.
@@ -115,15 +108,14 @@ pub goes_nowhere : (st : Standing) → GoesTo st st []
 goes_nowhere st = record { events = λ more. refl; ends = λ more. refl }
 
 -- Nothing was answered at the start.
-abbrev pub answers_start : (form : Form) (bounds : StoreBounds) (first k : Known) (m : Machine) (st : Standing) (a : Option (List ℕ)) (f : Bool) (n : Seen)
-    → k ≡ first → Answers form bounds first k m m st st a a f f n n
-answers_start form bounds first k m st a f n known = record {
+abbrev pub answers_start : (form : Form) (bounds : StoreBounds) (p : Progress) → Answers form bounds p p
+answers_start form bounds p = record {
   answered = [];
-  goes = goes_nowhere st;
-  known_is = known;
+  goes = goes_nowhere p.standing;
+  known_is = refl;
   machine_is = refl;
-  said = Took-none a;
-  noted_is = more_none f n;
+  said = Took-none p.told.desk.said;
+  noted_is = more_none p.told.failed p.told.desk;
 }
 
 -- The replies behind one event more.
@@ -141,34 +133,40 @@ pub one_more_lines : (es : List Event) (e : Event) → fault_lines es ++ event_l
 one_more_lines es e = ap (λ (l : List ℕ). fault_lines es ++ l) (sym (append-nil (event_lines e))) ∙ sym (flat_map-append event_lines es (e ∷ []))
 
 -- One more event, within the same bounds.
-abbrev pub answers_more : {form : Form} {bounds here : StoreBounds} {e : Event} {k k1 k2 : Known} {m m1 m2 : Machine} {st st1 st2 : Standing} {a b c : Option (List ℕ)} {f g h : Bool} {n n1 n2 : Seen}
-    → here ≡ bounds → Answers form bounds k k1 m m1 st st1 a b f g n n1 → GoesTo st1 st2 (e ∷ []) → TakesEvent form here e k1 k2 m1 m2 b c
-    → NotesMore g h (event_lines e) n1 n2 → Answers form bounds k k2 m m2 st st2 a c f h n n2
-answers_more {form} {bounds} {here} {e} {k} {k1} {k2} {m} {m1} {m2} {st} {st1} {st2} {a} {b} {c} {f} {g} {h} {n} {n1} {n2} within told goes took noted =
-    let turn = subst (λ (y : StoreBounds). TakesEvent form y e k1 k2 m1 m2 b c) within took in
+abbrev pub answers_more : {form : Form} {bounds here : StoreBounds} {e : Event} {p q r : Progress}
+    → here ≡ bounds → Answers form bounds p q → GoesTo q.standing r.standing (e ∷ []) → TakesEvent form here e (served_at q) (served_at r)
+    → NotesMore q.told.failed r.told.failed (event_lines e) q.told.desk r.told.desk → Answers form bounds p r
+answers_more {form} {bounds} {here} {e} {p} {q} {r} within told goes took noted =
+    let turn = subst (λ (y : StoreBounds). TakesEvent form y e (served_at q) (served_at r)) within took in
     let es : List Event = told.answered in
+    let k : Known = p.known in
+    let m : Machine = p.machine in
+    let a : Option (List ℕ) = p.told.desk.said in
+    let b : Option (List ℕ) = q.told.desk.said in
+    let c : Option (List ℕ) = r.told.desk.said in
     let said : Took b c (joined (replies_by form bounds e (known_along es k) (machine_along bounds es k m))) =
     subst (λ (y : Known). Took b c (joined (replies_by form bounds e y (machine_along bounds es k m)))) told.known_is
-    (subst (λ (y : Machine). Took b c (joined (replies_by form bounds e k1 y))) told.machine_is turn.said) in
+    (subst (λ (y : Machine). Took b c (joined (replies_by form bounds e q.known y))) told.machine_is turn.said) in
     record {
       answered = es ++ e ∷ [];
-      goes = goes_then st st1 st2 es (e ∷ []) told.goes goes;
+      goes = goes_then p.standing q.standing r.standing es (e ∷ []) told.goes goes;
       known_is = turn.known_is ∙ ap (known_after e) told.known_is ∙ sym (known_then es (e ∷ []) k);
       machine_is =
-          turn.next ∙ ap (λ (y : Known). machine_after bounds e y m1) told.known_is
+          turn.next ∙ ap (λ (y : Known). machine_after bounds e y q.machine) told.known_is
           ∙ ap (machine_after bounds e (known_along es k)) told.machine_is ∙ sym (machine_then bounds es (e ∷ []) k m);
       said =
           subst (λ (l : List ℕ). Took a c l) (sym (one_more_replies form bounds es e k m))
           (Took-then a b c (joined (replies_along form bounds es k m)) _ told.said said);
-      noted_is = subst (λ (l : List ℕ). NotesMore f h l n n2) (one_more_lines es e) (more_then f g h (fault_lines es) (event_lines e) n n1 n2 told.noted_is noted);
+      noted_is = subst (λ (l : List ℕ). NotesMore p.told.failed r.told.failed l p.told.desk r.told.desk) (one_more_lines es e)
+          (more_then p.told.failed q.told.failed r.told.failed (fault_lines es) (event_lines e) p.told.desk q.told.desk r.told.desk told.noted_is noted);
     }
 
 -- The standing went on, and gave no event.
-abbrev pub answers_still : {form : Form} {bounds : StoreBounds} {k k1 : Known} {m m1 : Machine} {st st1 st2 : Standing} {a b : Option (List ℕ)} {f g : Bool} {n n1 : Seen}
-    → Answers form bounds k k1 m m1 st st1 a b f g n n1 → GoesTo st1 st2 [] → Answers form bounds k k1 m m1 st st2 a b f g n n1
-answers_still {form} {bounds} {k} {k1} {m} {m1} {st} {st1} {st2} {a} {b} {f} {g} {n} {n1} told goes = record {
+abbrev pub answers_still : {form : Form} {bounds : StoreBounds} {p q : Progress} {later : Standing} → Answers form bounds p q → GoesTo q.standing later []
+    → Answers form bounds p (record { known = q.known; machine = q.machine; standing = later; told = q.told })
+answers_still {form} {bounds} {p} {q} {later} told goes = record {
   answered = told.answered;
-  goes = subst (λ (es : List Event). GoesTo st st2 es) (append-nil told.answered) (goes_then st st1 st2 told.answered [] told.goes goes);
+  goes = subst (λ (es : List Event). GoesTo p.standing later es) (append-nil told.answered) (goes_then p.standing q.standing later told.answered [] told.goes goes);
   known_is = told.known_is;
   machine_is = told.machine_is;
   said = told.said;
@@ -221,44 +219,27 @@ stuck_at old new at goes is = record {
 -- ---- where it was cut short
 
 -- The next event was.
-next_cut : (cut : Cut) (form : Form) (bounds : StoreBounds) (e : Event) (k : Known) (m : Machine) (st later : Standing) (a b : Option (List ℕ)) → GoesTo st later (e ∷ []) → CutsEvent cut form bounds e k m a b
-    → CutsNext cut form bounds k m st a b
-next_cut NoMemory form bounds e k m st later a b goes cuts = (cuts, inl (e, later, goes))
-next_cut Disk form bounds e k m st later a b goes cuts =
-    (cuts.0, cuts.1, later, subst (λ (x : Event). GoesTo st later (x ∷ [])) cuts.2 goes, cuts.3)
-next_cut Unsaid form bounds e k m st later a b goes cuts =
-    (cuts.0, cuts.1, later, subst (λ (x : Event). GoesTo st later (x ∷ [])) cuts.2 goes, cuts.3)
+next_cut : (cut : Cut) (form : Form) (bounds : StoreBounds) (e : Event) (q : Progress) (later : Standing) (c : Option (List ℕ)) → GoesTo q.standing later (e ∷ [])
+    → CutsEvent cut form bounds e q.known q.machine q.told.desk.said c → CutsNext cut form bounds q.known q.machine q.standing q.told.desk.said c
+next_cut NoMemory form bounds e q later c goes cuts = (cuts, inl (e, later, goes))
+next_cut Disk form bounds e q later c goes cuts =
+    (cuts.0, cuts.1, later, subst (λ (x : Event). GoesTo q.standing later (x ∷ [])) cuts.2 goes, cuts.3)
+next_cut Unsaid form bounds e q later c goes cuts =
+    (cuts.0, cuts.1, later, subst (λ (x : Event). GoesTo q.standing later (x ∷ [])) cuts.2 goes, cuts.3)
 
-pub cut_answers : {cut : Cut} {form : Form} {bounds here : StoreBounds} {e : Event} {k k1 : Known} {m m1 : Machine} {st st1 later : Standing} {a b c : Option (List ℕ)} {f g h : Bool} {n n1 n2 : Seen}
-    → here ≡ bounds → Answers form bounds k k1 m m1 st st1 a b f g n n1 → GoesTo st1 later (e ∷ []) → CutsEvent cut form here e k1 m1 b c → h ≡ g → n2.noted ≡ n1.noted → n2.note_faults ≡ n1.note_faults
-    → IsCutShort cut form bounds k m st a c f h n n2
-cut_answers {cut} {form} {bounds} {here} {e} {k} {k1} {m} {m1} {st} {st1} {later} {a} {b} {c} {f} {g} {h} {n} {n1} {n2} within told goes cuts p q r = rw p (record {
-  known_mid = k1;
-  machine_mid = m1;
-  st_mid = st1;
-  said_mid = b;
-  first = record {
-    answered = told.answered;
-    goes = told.goes;
-    known_is = told.known_is;
-    machine_is = told.machine_is;
-    said = told.said;
-    noted_is = more_still f g (fault_lines told.answered) n n1 n2 q r told.noted_is;
-  };
-  cuts = next_cut cut form bounds e k1 m1 st1 later b c goes (subst (λ (y : StoreBounds). CutsEvent cut form y e k1 m1 b c) within cuts);
-})
+pub cut_answers : {cut : Cut} {form : Form} {bounds here : StoreBounds} {e : Event} {p q : Progress} {later : Standing} {now : Telling}
+    → here ≡ bounds → Answers form bounds p q → GoesTo q.standing later (e ∷ []) → CutsEvent cut form here e q.known q.machine q.told.desk.said now.desk.said → NotesNothing q.told now
+    → IsCutShort cut form bounds p now
+cut_answers {cut} {form} {bounds} {here} {e} {p} {q} {later} {now} within told goes cuts unnoted = record {
+  mid = q;
+  first = told;
+  cuts = next_cut cut form bounds e q later now.desk.said goes (subst (λ (y : StoreBounds). CutsEvent cut form y e q.known q.machine q.told.desk.said now.desk.said) within cuts);
+  unnoted = unnoted;
+}
 
 -- For want of memory, before an event was found.
-pub starved_answers : {form : Form} {bounds : StoreBounds} {k k1 : Known} {m m1 : Machine} {st st1 : Standing} {a b : Option (List ℕ)} {f g : Bool} {n n1 : Seen}
-    → Answers form bounds k k1 m m1 st st1 a b f g n n1 → MayWantMemory st1 → IsCutShort NoMemory form bounds k m st a b f g n n1
-starved_answers {form} {bounds} {k} {k1} {m} {m1} {st} {st1} {a} {b} {f} {g} {n} {n1} told may = record {
-  known_mid = k1;
-  machine_mid = m1;
-  st_mid = st1;
-  said_mid = b;
-  first = told;
-  cuts = (refl, inr may);
-}
+pub starved_answers : {form : Form} {bounds : StoreBounds} {p q : Progress} → Answers form bounds p q → MayWantMemory q.standing → IsCutShort NoMemory form bounds p q.told
+starved_answers {form} {bounds} {p} {q} told may = record { mid = q; first = told; cuts = (refl, inr may); unnoted = record { failed = refl; notes = refl; failed_notes = refl } }
 
 -- However the events came to their end, none is left.
 pub none_left : (st : Standing) (bad : Option ℕ) → ComesToEnd st bad → events_of st ≡ []

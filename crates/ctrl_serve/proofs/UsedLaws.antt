@@ -30,12 +30,12 @@ use Rattle.run_notes.specs.KnownSessions.{Known, known_in, known_along}
 use Rattle.ctrl_serve.specs.KnownReplies.{machine_along, reply_by, replies_along}
 use Rattle.run_notes.specs.Notes.{ending_lines, fault_lines}
 use Rattle.run_notes.specs.NotesSoFar.{NotesMore}
+use Rattle.ctrl_serve.specs.Answering.{begun, NotesNothing, Progress, Telling}
 use Rattle.ctrl_serve.specs.Turns.{Answers, AnswersAll, AnswersSome, CutsNext, HasNext, IsCutShort, SaysCut}
 use Rattle.run_notes.specs.Endings.{status_at}
 use Rattle.ctrl_serve.proofs.KnownLaws.{replies_then, replies_from_start, machine_from_start}
 use Rattle.run_notes.proofs.KnownLaws.{along_closed, along_faulty}
-use Rattle.run_notes.proofs.NoteLaws.{more_none, more_then}
-use Rattle.ziti_outside.specs.Views.{Seen}
+use Rattle.run_notes.proofs.NoteLaws.{more_none, more_still, more_then}
 
 -- The used bytes before any event.
 abbrev pub at_start : Form → List ℕ → Standing
@@ -81,30 +81,31 @@ all_lines form used st k es status known all ends =
     ∙ ap (λ (l : List ℕ). fault_lines (events_in form used) ++ ending_lines (end_in form used) l status) closed
 
 -- The events of the input were answered, and its ending was told.
-pub used_answered : (form : Form) (bounds : StoreBounds) (m m1 : Machine) (used : List ℕ) (end : End) (status : Status) (k : Known) (st : Standing) (a b c : Option (List ℕ)) (f g h : Bool) (n n1 n2 : Seen)
-    → Answers form bounds (known_in form) k m m1 (at_start form used) st a b f g n n1 → events_of st ≡ [] → c ≡ b
-    → status ≡ status_at (k.faulty || begins_bad (end_of st)) (leaves_some (end_of st) k.closed) end → NotesMore g h (ending_lines (end_of st) k.closed status) n1 n2
-    → AnswersAll form bounds m used end status a c f h n n2
-used_answered form bounds m m1 used end status k st a b c f g h n n1 n2 told none still ended noted =
+pub used_answered : (form : Form) (bounds : StoreBounds) (m : Machine) (used : List ℕ) (end : End) (status : Status) {old now : Telling} {q : Progress}
+    → Answers form bounds (begun form m used old) q → events_of q.standing ≡ [] → now.desk.said ≡ q.told.desk.said
+    → status ≡ status_at (q.known.faulty || begins_bad (end_of q.standing)) (leaves_some (end_of q.standing) q.known.closed) end
+    → NotesMore q.told.failed now.failed (ending_lines (end_of q.standing) q.known.closed status) q.told.desk now.desk → AnswersAll form bounds m used end status old now
+used_answered form bounds m used end status {old} {now} {q} told none still ended noted =
     let es : List Event = told.answered in
+    let st : Standing = q.standing in
     let all : es ≡ events_in form used = all_so form used st es told.goes none in
     let ends : end_of st ≡ end_in form used = end_so form used st es told.goes in
     record {
       said =
-          subst (λ (y : Option (List ℕ)). Took a y (joined (replies_to form bounds m (events_in form used)))) (sym still)
-          (subst (λ (l : List ℕ). Took a b l) (all_said form bounds m used es all) told.said);
-      ends = ended ∙ all_ends form used st k es end told.known_is all ends;
+          subst (λ (y : Option (List ℕ)). Took old.desk.said y (joined (replies_to form bounds m (events_in form used)))) (sym still)
+          (subst (λ (l : List ℕ). Took old.desk.said q.told.desk.said l) (all_said form bounds m used es all) told.said);
+      ends = ended ∙ all_ends form used st q.known es end told.known_is all ends;
       noted_is =
-          subst (λ (l : List ℕ). NotesMore f h l n n2) (all_lines form used st k es status told.known_is all ends)
-          (more_then f g h (fault_lines es) (ending_lines (end_of st) k.closed status) n n1 n2 told.noted_is noted);
+          subst (λ (l : List ℕ). NotesMore old.failed now.failed l old.desk now.desk) (all_lines form used st q.known es status told.known_is all ends)
+          (more_then old.failed q.told.failed now.failed (fault_lines es) (ending_lines (end_of st) q.known.closed status) old.desk q.told.desk now.desk told.noted_is noted);
     }
 
 -- And the machine is the last one.
-pub used_last : (form : Form) (bounds : StoreBounds) (m m1 : Machine) (used : List ℕ) (k : Known) (st : Standing) (a b : Option (List ℕ)) (f g : Bool) (n n1 : Seen)
-    → Answers form bounds (known_in form) k m m1 (at_start form used) st a b f g n n1 → events_of st ≡ [] → m1 ≡ last_machine form bounds m used
-used_last form bounds m m1 used k st a b f g n n1 told none =
+pub used_last : (form : Form) (bounds : StoreBounds) (m : Machine) (used : List ℕ) {old : Telling} {q : Progress}
+    → Answers form bounds (begun form m used old) q → events_of q.standing ≡ [] → q.machine ≡ last_machine form bounds m used
+used_last form bounds m used {old} {q} told none =
     told.machine_is ∙ machine_from_start form bounds told.answered m
-    ∙ ap (λ (l : List Event). machine_behind bounds m (frames_in form l)) (all_so form used st told.answered told.goes none)
+    ∙ ap (λ (l : List Event). machine_behind bounds m (frames_in form l)) (all_so form used q.standing told.answered told.goes none)
 
 -- ---- the first of them
 
@@ -128,15 +129,15 @@ pub so_calm : (form : Form) (used : List ℕ) (st : Standing) (es : List Event) 
 so_calm form used st es goes why is = starved_calm used st es (subst (λ (f : Form). GoesTo (at_start f used) st es) is goes) why
 
 -- Nothing was answered.
-abbrev pub used_none : (form : Form) (bounds : StoreBounds) (m : Machine) (used : List ℕ) (a : Option (List ℕ)) (f : Bool) (n : Seen) → AnswersSome NoMemory form bounds m used a a f f n n
-used_none form bounds m used a f n = record {
+abbrev pub used_none : (form : Form) (bounds : StoreBounds) (m : Machine) (used : List ℕ) (told : Telling) → AnswersSome NoMemory form bounds m used told told
+used_none form bounds m used told = record {
   answered = [];
   unanswered = events_in form used;
   split = refl;
   said = [];
-  took = Took-none a;
+  took = Took-none told.desk.said;
   says = record { same = refl; calm = λ _. refl };
-  noted_is = more_none f n;
+  noted_is = more_none told.failed told.desk;
 }
 
 -- What was said of the next reply.
@@ -161,51 +162,65 @@ next_reply form bounds m m1 k es s f known same =
     ∙ ap (λ (y : Known). replies_to form bounds m es ++ reply_by form bounds s f y (machine_along bounds es (known_in form) m) ∷ []) (sym known)
     ∙ ap (λ (y : Machine). replies_to form bounds m es ++ reply_by form bounds s f k y ∷ []) (sym same)
 
-pub says_so : (cut : Cut) (form : Form) (bounds : StoreBounds) (m m1 : Machine) (used : List ℕ) (k : Known) (es : List Event) (st : Standing) (a b c : Option (List ℕ))
-    → GoesTo (at_start form used) st es → k ≡ known_along es (known_in form) → m1 ≡ machine_along bounds es (known_in form) m → Took a b (joined (replies_along form bounds es (known_in form) m))
-    → CutsNext cut form bounds k m1 st b c → SaysSo cut form bounds m a c es (events_of st)
-says_so NoMemory form bounds m m1 used k es st a b c goes known same took cuts =
-    record { said = joined (replies_to form bounds m es); took = says_whole form bounds m es a b c cuts.0 took; says = record { same = refl; calm = so_calm form used st es goes cuts.1 } }
-says_so Disk form bounds m m1 used k es st a b c goes known same took cuts =
+pub says_so : (cut : Cut) (form : Form) (bounds : StoreBounds) (m : Machine) (used : List ℕ) {old : Telling} {q : Progress} {c : Option (List ℕ)}
+    → (told : Answers form bounds (begun form m used old) q) → CutsNext cut form bounds q.known q.machine q.standing q.told.desk.said c
+    → SaysSo cut form bounds m old.desk.said c told.answered (events_of q.standing)
+says_so NoMemory form bounds m used {old} {q} {c} told cuts =
+    let es : List Event = told.answered in
     record {
       said = joined (replies_to form bounds m es);
-      took = says_whole form bounds m es a b c cuts.4 took;
-      says = record { session = cuts.0; frame = cuts.1; later = events_of cuts.2; first = next_first st cuts.2 (Arrived cuts.0 cuts.1) cuts.3; same = refl };
+      took = says_whole form bounds m es old.desk.said q.told.desk.said c cuts.0 told.said;
+      says = record { same = refl; calm = so_calm form used q.standing es told.goes cuts.1 };
     }
-says_so Unsaid form bounds m m1 used k es st a b c goes known same took cuts =
+says_so Disk form bounds m used {old} {q} {c} told cuts =
+    let es : List Event = told.answered in
+    record {
+      said = joined (replies_to form bounds m es);
+      took = says_whole form bounds m es old.desk.said q.told.desk.said c cuts.4 told.said;
+      says = record { session = cuts.0; frame = cuts.1; later = events_of cuts.2; first = next_first q.standing cuts.2 (Arrived cuts.0 cuts.1) cuts.3; same = refl };
+    }
+says_so Unsaid form bounds m used {old} {q} {c} told cuts =
+    let es : List Event = told.answered in
     let s : ℕ = cuts.0 in
     let f : Frame = cuts.1 in
     let part = cuts.4 in
+    let a : Option (List ℕ) = old.desk.said in
+    let b : Option (List ℕ) = q.told.desk.said in
     record {
       said = joined (replies_to form bounds m es) ++ part.0;
-      took = Took-then a b c (joined (replies_to form bounds m es)) part.0 (says_whole form bounds m es a b b refl took) part.2;
+      took = Took-then a b c (joined (replies_to form bounds m es)) part.0 (says_whole form bounds m es a b b refl told.said) part.2;
       says = record {
         session = s;
         frame = f;
         later = events_of cuts.2;
-        first = next_first st cuts.2 (Arrived s f) cuts.3;
-        reply = reply_by form bounds s f k m1;
-        is_reply = next_reply form bounds m m1 k es s f known same;
+        first = next_first q.standing cuts.2 (Arrived s f) cuts.3;
+        reply = reply_by form bounds s f q.known q.machine;
+        is_reply = next_reply form bounds m q.machine q.known es s f told.known_is told.machine_is;
         front = part.0;
         is_front = part.1;
         same = refl;
       };
     }
 
+-- What was noted was noted still, where nothing was noted since.
+pub noted_behind : (old : Telling) {mid now : Telling} (lines : List ℕ) → NotesNothing mid now → NotesMore old.failed mid.failed lines old.desk mid.desk → NotesMore old.failed now.failed lines old.desk now.desk
+noted_behind old {mid} {now} lines none more =
+    subst (λ (g : Bool). NotesMore old.failed g lines old.desk now.desk) (sym none.failed) (more_still old.failed mid.failed lines old.desk mid.desk now.desk none.notes none.failed_notes more)
+
 -- The next event was cut short.
-abbrev pub used_cut : (cut : Cut) (form : Form) (bounds : StoreBounds) (m : Machine) (used : List ℕ) (a c : Option (List ℕ)) (f g : Bool) (n n1 : Seen)
-    → IsCutShort cut form bounds (known_in form) m (at_start form used) a c f g n n1 → AnswersSome cut form bounds m used a c f g n n1
-used_cut cut form bounds m used a c f g n n1 told =
+abbrev pub used_cut : (cut : Cut) (form : Form) (bounds : StoreBounds) (m : Machine) (used : List ℕ) {old now : Telling}
+    → IsCutShort cut form bounds (begun form m used old) now → AnswersSome cut form bounds m used old now
+used_cut cut form bounds m used {old} {now} told =
     let es : List Event = told.first.answered in
-    let says = says_so cut form bounds m told.machine_mid used told.known_mid es told.st_mid a told.said_mid c told.first.goes told.first.known_is told.first.machine_is told.first.said told.cuts in
+    let says = says_so cut form bounds m used {c = now.desk.said} told.first told.cuts in
     record {
       answered = es;
-      unanswered = events_of told.st_mid;
-      split = split_so form used told.st_mid es told.first.goes;
+      unanswered = events_of told.mid.standing;
+      split = split_so form used told.mid.standing es told.first.goes;
       said = says.said;
       took = says.took;
       says = says.says;
-      noted_is = told.first.noted_is;
+      noted_is = noted_behind old (fault_lines es) told.unnoted told.first.noted_is;
     }
 
 -- A run that is truncated has met no fault.
@@ -228,15 +243,16 @@ told_calm form used st k es end goes known why is =
     ending_calm used st k es end (subst (λ (f : Form). GoesTo (at_start f used) st es) is goes) (subst (λ (f : Form). k ≡ known_along es (known_in f)) is known) why
 
 -- For want of memory behind them, to tell how the run ended, where nothing more was said.
-abbrev pub used_starved : (form : Form) (bounds : StoreBounds) (m m1 : Machine) (used : List ℕ) (end : End) (k : Known) (st : Standing) (a b c : Option (List ℕ)) (f g : Bool) (n n1 : Seen)
-    → Answers form bounds (known_in form) k m m1 (at_start form used) st a b f g n n1
-    → (begins_bad (end_of st) ≡ true) ⊎ (status_at k.faulty (leaves_some (end_of st) k.closed) end ≡ Truncated) → c ≡ b → AnswersSome NoMemory form bounds m used a c f g n n1
-used_starved form bounds m m1 used end k st a b c f g n n1 told why still = record {
+abbrev pub used_starved : (form : Form) (bounds : StoreBounds) (m : Machine) (used : List ℕ) (end : End) {old now : Telling} {q : Progress}
+    → Answers form bounds (begun form m used old) q
+    → (begins_bad (end_of q.standing) ≡ true) ⊎ (status_at q.known.faulty (leaves_some (end_of q.standing) q.known.closed) end ≡ Truncated) → now.desk.said ≡ q.told.desk.said
+    → NotesNothing q.told now → AnswersSome NoMemory form bounds m used old now
+used_starved form bounds m used end {old} {now} {q} told why still none = record {
   answered = told.answered;
-  unanswered = events_of st;
-  split = split_so form used st told.answered told.goes;
+  unanswered = events_of q.standing;
+  split = split_so form used q.standing told.answered told.goes;
   said = joined (replies_to form bounds m told.answered);
-  took = says_whole form bounds m told.answered a b c still told.said;
-  says = record { same = refl; calm = told_calm form used st k told.answered end told.goes told.known_is why };
-  noted_is = told.noted_is;
+  took = says_whole form bounds m told.answered old.desk.said q.told.desk.said now.desk.said still told.said;
+  says = record { same = refl; calm = told_calm form used q.standing q.known told.answered end told.goes told.known_is why };
+  noted_is = noted_behind old (fault_lines told.answered) none told.noted_is;
 }

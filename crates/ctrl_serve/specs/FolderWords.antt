@@ -1,5 +1,5 @@
 -- What the words `audit` and `compact` do with a folder (docs/PROMISES.md, "The headline").
-use Rattle.std.specs.Prelude.{◌≡◌, ℕ, ◌<◌, Bool, true, IsTrue, List, [], length, Some, is_some}
+use Rattle.std.specs.Prelude.{◌≡◌, ◌<◌, Bool, true, IsTrue, [], length, Some, is_some}
 use Rattle.ziti_outside.specs.declared.desk.Part.TheVariants.{Mark}
 use Rattle.ziti_outside.specs.Images.{Image}
 use Rattle.ziti_outside.specs.Moments.{Elapses}

@@ -15,7 +15,7 @@ use Rattle.ctrl_model.specs.State.{start}
 use Rattle.ctrl_model.specs.ValidState.{ValidState}
 use Rattle.model_laws.specs.JudgedCircuits.{AreGranted}
 use Rattle.slot_files.specs.FolderImage.{Stands, StandsAsBefore}
-use Rattle.row_store.specs.OpenedStates.{IsStateless, OpensToState}
+use Rattle.row_store.specs.OpenedStates.{IsStateless}
 use Rattle.row_store.specs.declared.bounds.StoreBounds.{StoreBounds}
 use Rattle.ctrl_keep.specs.KeptMachine.{Machine}
 use Rattle.ctrl_serve.specs.OpenedFolders.{Keeps, OpensTo}
@@ -38,6 +38,7 @@ use Rattle.ctrl_serve.specs.SaidReplies.{Says}
 use Rattle.ctrl_serve.specs.Loads.{counts_line, state_of_load, SaysOneLine, IsSaid}
 use Rattle.ctrl_serve.specs.FolderWords.{Audits, Compacts}
 use Rattle.ctrl_serve.specs.RunStops.{AllOpenTo, StopFinds}
+use Rattle.ctrl_serve.specs.UncompactedFolders.{CompactsNothing, LeavesOtherSlot}
 use Rattle.run_notes.specs.Notes.{usage_note, damaged_note, status_lines, notes_of}
 
 -- The bounds that a run takes.
@@ -142,7 +143,8 @@ pub record Refuses {S D : Type 0} (tells : Bool) (seen : D → Seen) (stopped : 
 -- Where it ended with all kept, the folder keeps the machine behind all frames of the used bytes: exactly the rows of its state, and its
 -- place; and what a stop may leave then opens to that state. For whatever batches it stood before the run, it stands for those that the run
 -- makes of them (`last_batches`); and where its mark was not empty and the machine behind all frames is the one at the opening, every part
--- reads as before. Where what granted each circuit stands at the opening, as it does of a folder begun empty, it stands behind the frames of
+-- reads as before. Where the run carried out no Compact, the slot that did not stand reads as before, and so does the mark unless it was
+-- empty. Where what granted each circuit stands at the opening, as it does of a folder begun empty, it stands behind the frames of
 -- each front of the input.
 --
 -- A stop at any moment of the run finds the replies to the first frames, and the folder open to the state behind them, as `StopFinds`
@@ -160,6 +162,8 @@ pub record Replays {S D : Type 0} (taking : Taking) (bounds : StoreBounds) (o : 
       → Stands (o.seen desk_now).reads (last_batches taking.form bounds machine (take taking.most serves.taken) batches)
   pub still : is_kept status ≡ true → IsTrue o.tells → 0 < length ((o.seen desk).reads Mark) → last_machine taking.form bounds machine (take taking.most serves.taken) ≡ machine
       → (o.seen desk_now).reads ≡ (o.seen desk).reads
+  pub elsewhere : is_kept status ≡ true → IsTrue o.tells → CompactsNothing machine (last_machine taking.form bounds machine (take taking.most serves.taken))
+      → LeavesOtherSlot (o.seen desk).reads (o.seen desk_now).reads
   pub granted : AreGranted machine.state → (n : ℕ) → AreGranted (last_machine taking.form bounds machine (take n serves.taken)).state
   pub stops : IsTrue o.tells → AllOpenTo (o.stopped desk).images machine.state
       → Elapses (o.stopped desk) (o.stopped desk_now) (StopFinds taking.form bounds machine (events_in taking.form (take taking.most serves.taken)) (o.seen desk).said)

@@ -9,11 +9,13 @@ pub mod Loads
 pub mod RunStops
 pub mod FolderWords
 pub mod FolderRuns
+pub mod UncompactedFolders
 pub mod Headline
 pub mod Controllers
 pub mod ControllerViews
 pub mod KnownReplies
 pub mod FollowedFolders
+pub mod Answering
 pub mod Turns
 pub mod Pieces
 pub mod Runs

@@ -3,12 +3,12 @@ use Rattle.std.specs.Prelude.{◌≡◌, ◌⊎◌, ℕ, ◌+◌, ◌<◌, ◌�
 use Rattle.std.specs.declared.option.Option.{Option}
 use Rattle.std.specs.declared.result.Result.{Result}
 use Rattle.std.specs.Io.KnownBytes.{IsAtEnd}
-use Rattle.ziti_outside.specs.Images.{Image}
+use Rattle.ziti_outside.specs.Moments.{Elapses}
 use Rattle.ziti_outside.specs.Told.{Gave}
 use Rattle.ziti_outside.specs.Causes.{Rose}
 use Rattle.session_mux.specs.declared.sessions.Form.{Form}
 use Rattle.session_mux.specs.declared.sessions.Form.TheVariants.{Plain, Trace}
-use Rattle.session_mux.specs.Completion.{Standing, start_of, fed}
+use Rattle.session_mux.specs.Completion.{start_of, fed}
 use Rattle.ctrl_keep.specs.KeptMachine.{Machine}
 use Rattle.run_notes.specs.declared.ends.End.{End}
 use Rattle.run_notes.specs.declared.ends.End.TheVariants.{Whole, More, Fault}
@@ -17,12 +17,13 @@ use Rattle.run_notes.specs.declared.status.Status.{Status}
 use Rattle.run_notes.specs.declared.status.Status.TheVariants.{ReadFault}
 use Rattle.run_notes.specs.Endings.{is_cut}
 use Rattle.run_notes.specs.Inputs.{events_in}
-use Rattle.run_notes.specs.KnownSessions.{Known, known_in}
+use Rattle.run_notes.specs.KnownSessions.{known_in}
+use Rattle.ctrl_serve.specs.Answering.{begun, Progress, Telling}
 use Rattle.ctrl_serve.specs.Controllers.{Serving}
 use Rattle.ctrl_serve.specs.FrameAnswer.{last_machine}
 use Rattle.ctrl_serve.specs.Reading.{is_decided, StaysNear}
 use Rattle.ctrl_serve.specs.Turns.{Answers, AnswersAll, AnswersSome, StopsAlong}
-use Rattle.ziti_outside.specs.Views.{Seen}
+use Rattle.ziti_outside.specs.Views.{Seen, Stopped}
 
 -- Whether the answered bytes are decided, by the bad record that comes behind them, and by whether a session had a fault.
 abbrev pub decided_by : Form → (bad : Option ℕ) → (faulty : Bool) → Bool
@@ -47,51 +48,69 @@ pub record IsReadCaused (before now : ℕ) (status : Status) : Type 0 where
   pub calm : is_cut status ≡ false → now ≡ before
   pub rose : status ≡ ReadFault → Rose before now
 
+-- How an input is taken: its form, how many bytes of it are used at most, what answers it, and whether the desk tells its folder.
+pub record Intake : Type 0 where
+  pub form : Form
+  pub most : ℕ
+  pub from : Serving
+  pub tells : Bool
+
+-- It, by these.
+abbrev pub intake_of : Form → ℕ → Serving → Bool → Intake
+intake_of form most c tells = record { form = form; most = most; from = c; tells = tells }
+
+-- What passes outside from the start of an input to a later moment: what the source had left, what was told at the start, and what a stop
+-- may leave.
+pub record Passage : Type 1 where
+  pub left : Option (List ℕ)
+  pub left_now : Option (List ℕ)
+  pub told : Telling
+  pub stopped : Stopped
+  pub stopped_now : Stopped
+
+-- It, by these.
+abbrev pub passage_of : (left left_now : Option (List ℕ)) → (failed : Bool) → Seen → (stopped stopped_now : Stopped) → Passage
+passage_of left left_now failed desk stopped stopped_now =
+    record { left = left; left_now = left_now; told = record { failed = failed; desk = desk }; stopped = stopped; stopped_now = stopped_now }
+
 -- What was taken of the source, at most a piece more than is used, and what a stop finds while it is answered.
-pub record TakesPieces (form : Form) (c : Serving) (most : ℕ) (left_before left_now said : Option (List ℕ)) (tells : Bool) (elapses : (Image → List ℕ → Type 0) → Type 0) : Type 0 where
+pub record TakesPieces (i : Intake) (o : Passage) : Type 0 where
   pub taken : List ℕ
-  pub gave : Gave left_before left_now taken
-  pub few : length taken ≤ most + 65536
-  pub stops : IsSome c.kept → IsTrue tells → elapses (StopsAlong form c.bounds (known_in form) c.machine (fed (start_of form) (take most taken)) said)
+  pub gave : Gave o.left o.left_now taken
+  pub few : length taken ≤ i.most + 65536
+  pub stops : IsSome i.from.kept → IsTrue i.tells
+      → Elapses o.stopped o.stopped_now (StopsAlong i.form i.from.bounds (known_in i.form) i.from.machine (fed (start_of i.form) (take i.most taken)) o.told.desk.said)
 
 -- The events of all used bytes so far were answered, and these did not decide the input.
-pub record AnswersPieces (form : Form) (c : Serving) (most : ℕ) (known : Known) (now : Machine) (st : Standing) (left_before left_now said_before said_now : Option (List ℕ))
-    (failed failed_now : Bool) (desk desk_now : Seen) (tells : Bool) (elapses : (Image → List ℕ → Type 0) → Type 0) (count : ℕ) : Type 0 where
-  pub takes : TakesPieces form c most left_before left_now said_before tells elapses
+pub record AnswersPieces (i : Intake) (o : Passage) (now : Progress) (count : ℕ) : Type 0 where
+  pub takes : TakesPieces i o
   pub counted : length takes.taken ≡ count
-  pub answers : Answers form c.bounds (known_in form) known c.machine now (fed (start_of form) (take most takes.taken)) st said_before said_now failed failed_now desk desk_now
-  pub undecided : is_decided form (take most takes.taken) ≡ false
+  pub answers : Answers i.form i.from.bounds (begun i.form i.from.machine (take i.most takes.taken) o.told) now
+  pub undecided : is_decided i.form (take i.most takes.taken) ≡ false
 
 -- The taking ended so, and the events of all used bytes were answered.
-pub record EndsPieces (form : Form) (c : Serving) (most : ℕ) (known : Known) (now : Machine) (st : Standing) (left_before left_now said_before said_now : Option (List ℕ))
-    (failed failed_now : Bool) (desk desk_now : Seen) (tells : Bool) (elapses : (Image → List ℕ → Type 0) → Type 0) (end : End) : Type 0 where
-  pub takes : TakesPieces form c most left_before left_now said_before tells elapses
-  pub answers : Answers form c.bounds (known_in form) known c.machine now (fed (start_of form) (take most takes.taken)) st said_before said_now failed failed_now desk desk_now
-  pub near : StaysNear form most takes.taken (events_in form (take most takes.taken))
-  pub ends : EndsSo end most left_now takes.taken (is_decided form (take most takes.taken))
+pub record EndsPieces (i : Intake) (o : Passage) (now : Progress) (end : End) : Type 0 where
+  pub takes : TakesPieces i o
+  pub answers : Answers i.form i.from.bounds (begun i.form i.from.machine (take i.most takes.taken) o.told) now
+  pub near : StaysNear i.form i.most takes.taken (events_in i.form (take i.most takes.taken))
+  pub ends : EndsSo end i.most o.left_now takes.taken (is_decided i.form (take i.most takes.taken))
 
 -- The answering was cut short behind some events of the used bytes.
-pub record CutsInput (cut : Cut) (form : Form) (c : Serving) (most : ℕ) (left_before left_now said_before said_now : Option (List ℕ))
-    (failed failed_now : Bool) (desk desk_now : Seen) (tells : Bool) (elapses : (Image → List ℕ → Type 0) → Type 0) : Type 0 where
-  pub takes : TakesPieces form c most left_before left_now said_before tells elapses
-  pub some : AnswersSome cut form c.bounds c.machine (take most takes.taken) said_before said_now failed failed_now desk desk_now
-  pub near : StaysNear form most takes.taken some.answered
+pub record CutsInput (cut : Cut) (i : Intake) (o : Passage) (now : Telling) : Type 0 where
+  pub takes : TakesPieces i o
+  pub some : AnswersSome cut i.form i.from.bounds i.from.machine (take i.most takes.taken) o.told now
+  pub near : StaysNear i.form i.most takes.taken some.answered
 
 -- All events of the used bytes were answered, and the ending was told; the machine is the last one.
-pub record EndsInput (status : Status) (form : Form) (c : Serving) (most : ℕ) (now : Machine) (left_before left_now said_before said_now : Option (List ℕ))
-    (failed failed_now : Bool) (desk desk_now : Seen) (tells : Bool) (elapses : (Image → List ℕ → Type 0) → Type 0) : Type 0 where
-  pub takes : TakesPieces form c most left_before left_now said_before tells elapses
+pub record EndsInput (status : Status) (i : Intake) (o : Passage) (machine : Machine) (now : Telling) : Type 0 where
+  pub takes : TakesPieces i o
   pub end : End
-  pub all : AnswersAll form c.bounds c.machine (take most takes.taken) end status said_before said_now failed failed_now desk desk_now
-  pub near : StaysNear form most takes.taken (events_in form (take most takes.taken))
-  pub ends : EndsSo end most left_now takes.taken (is_decided form (take most takes.taken))
-  pub last : now ≡ last_machine form c.bounds c.machine (take most takes.taken)
+  pub all : AnswersAll i.form i.from.bounds i.from.machine (take i.most takes.taken) end status o.told now
+  pub near : StaysNear i.form i.most takes.taken (events_in i.form (take i.most takes.taken))
+  pub ends : EndsSo end i.most o.left_now takes.taken (is_decided i.form (take i.most takes.taken))
+  pub last : machine ≡ last_machine i.form i.from.bounds i.from.machine (take i.most takes.taken)
 
 -- What comes of the input, and what is so of its used bytes where all their events were answered.
-abbrev pub AnswersInput : Result Status Cut → (form : Form) (c : Serving) (most : ℕ) (now : Machine) (left_before left_now said_before said_now : Option (List ℕ))
-    (failed failed_now : Bool) (desk desk_now : Seen) (tells : Bool) (elapses : (Image → List ℕ → Type 0) → Type 0) (follows : List ℕ → Type 0) → Type 0
-AnswersInput (Ok status) form c most now left_before left_now said_before said_now failed failed_now desk desk_now tells elapses follows =
-    (ends : EndsInput status form c most now left_before left_now said_before said_now failed failed_now desk desk_now tells elapses)
-    × follows (take most ends.takes.taken)
-AnswersInput (Err cut) form c most now left_before left_now said_before said_now failed failed_now desk desk_now tells elapses follows =
-    CutsInput cut form c most left_before left_now said_before said_now failed failed_now desk desk_now tells elapses
+abbrev pub AnswersInput : Result Status Cut → (i : Intake) (o : Passage) (machine : Machine) (now : Telling) (follows : List ℕ → Type 0) → Type 0
+AnswersInput (Ok status) i o machine now follows = (ends : EndsInput status i o machine now) × follows (take i.most ends.takes.taken)
+AnswersInput (Err cut) i o machine now follows = CutsInput cut i o now

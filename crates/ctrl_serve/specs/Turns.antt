@@ -1,5 +1,5 @@
 -- One turn of the serving loop, the loop, and what comes of the used bytes. Only private contracts cite these.
-use Rattle.std.specs.Prelude.{◌≡◌, ◌⊎◌, ℕ, Bool, ⊤, List, [], ◌∷◌, ◌++◌, Ok, Err}
+use Rattle.std.specs.Prelude.{◌≡◌, ◌⊎◌, ℕ, ⊤, List, [], ◌∷◌, ◌++◌, Ok, Err}
 use Rattle.std.specs.declared.option.Option.{Option}
 use Rattle.std.specs.declared.result.Result.{Result}
 use Rattle.ziti_outside.specs.Images.{Image}
@@ -17,6 +17,7 @@ use Rattle.session_mux.specs.MuxSteps.{MayWantMemory}
 use Rattle.run_notes.specs.declared.ends.End.{End}
 use Rattle.run_notes.specs.declared.ends.Cut.{Cut}
 use Rattle.run_notes.specs.declared.ends.Cut.TheVariants.{NoMemory, Disk, Unsaid}
+use Rattle.ctrl_serve.specs.Answering.{NotesNothing, Progress, Served, Telling}
 use Rattle.ctrl_serve.specs.Controllers.{Turn}
 use Rattle.ctrl_serve.specs.declared.serving.Address.{Address}
 use Rattle.run_notes.specs.declared.status.Status.{Status}
@@ -28,7 +29,6 @@ use Rattle.run_notes.specs.KnownSessions.{Known, sender_at, known_after, known_a
 use Rattle.ctrl_serve.specs.KnownReplies.{machine_after, machine_along, reply_by, replies_by, replies_along}
 use Rattle.run_notes.specs.Notes.{fault_lines, notes_of}
 use Rattle.run_notes.specs.NotesSoFar.{NotesMore}
-use Rattle.ziti_outside.specs.Views.{Seen}
 
 -- ---- a frame
 
@@ -63,11 +63,11 @@ unkept (Err Unsaid) = Ok tt
 
 -- ---- an event
 
--- An answered event: what is known, the machine, the reply and the note are as the event says.
-pub record TakesEvent (form : Form) (bounds : StoreBounds) (e : Event) (known known_now : Known) (before now : Machine) (said_before said_now : Option (List ℕ)) : Type 0 where
-  pub known_is : known_now ≡ known_after e known
-  pub next : now ≡ machine_after bounds e known before
-  pub said : Took said_before said_now (joined (replies_by form bounds e known before))
+-- An answered event: what is known, the machine and the replies go on as the event says.
+pub record TakesEvent (form : Form) (bounds : StoreBounds) (e : Event) (old new : Served) : Type 0 where
+  pub known_is : new.known ≡ known_after e old.known
+  pub next : new.machine ≡ machine_after bounds e old.known old.machine
+  pub said : Took old.said new.said (joined (replies_by form bounds e old.known old.machine))
 
 -- An event that was cut short: nothing was said for want of memory; or it brings a frame, and the disk failed before its reply, or a front of the
 -- reply was said.
@@ -89,14 +89,13 @@ StopsEvent form bounds (event.Closed s rest) known before said image taken = ⊥
 
 -- So far: the answered events are the first ones, and what is known, the machine, the replies that were said and the faults that were noted
 -- are those behind them.
-pub record Answers (form : Form) (bounds : StoreBounds) (known known_now : Known) (before now : Machine) (st st_now : Standing) (said_before said_now : Option (List ℕ))
-    (failed failed_now : Bool) (desk desk_now : Seen) : Type 0 where
+pub record Answers (form : Form) (bounds : StoreBounds) (old new : Progress) : Type 0 where
   pub answered : List Event
-  pub goes : GoesTo st st_now answered
-  pub known_is : known_now ≡ known_along answered known
-  pub machine_is : now ≡ machine_along bounds answered known before
-  pub said : Took said_before said_now (joined (replies_along form bounds answered known before))
-  pub noted_is : NotesMore failed failed_now (fault_lines answered) desk desk_now
+  pub goes : GoesTo old.standing new.standing answered
+  pub known_is : new.known ≡ known_along answered old.known
+  pub machine_is : new.machine ≡ machine_along bounds answered old.known old.machine
+  pub said : Took old.told.desk.said new.told.desk.said (joined (replies_along form bounds answered old.known old.machine))
+  pub noted_is : NotesMore old.told.failed new.told.failed (fault_lines answered) old.told.desk new.told.desk
 
 -- An event is next.
 abbrev pub HasNext : Standing → Type 0
@@ -111,15 +110,12 @@ CutsNext Disk form bounds known before st said_before said_now =
 CutsNext Unsaid form bounds known before st said_before said_now =
     (s : ℕ) × (f : Frame) × (later : Standing) × GoesTo st later (Arrived s f ∷ []) × TookFront said_before said_now (reply_by form bounds s f known before)
 
--- The events were answered so far, and the next one was cut short.
-pub record IsCutShort (cut : Cut) (form : Form) (bounds : StoreBounds) (known : Known) (before : Machine) (st : Standing) (said_before said_now : Option (List ℕ))
-    (failed failed_now : Bool) (desk desk_now : Seen) : Type 0 where
-  pub known_mid : Known
-  pub machine_mid : Machine
-  pub st_mid : Standing
-  pub said_mid : Option (List ℕ)
-  pub first : Answers form bounds known known_mid before machine_mid st st_mid said_before said_mid failed failed_now desk desk_now
-  pub cuts : CutsNext cut form bounds known_mid machine_mid st_mid said_mid said_now
+-- The events were answered so far, and the next one was cut short, with nothing noted of it.
+pub record IsCutShort (cut : Cut) (form : Form) (bounds : StoreBounds) (old : Progress) (now : Telling) : Type 0 where
+  pub mid : Progress
+  pub first : Answers form bounds old mid
+  pub cuts : CutsNext cut form bounds mid.known mid.machine mid.standing mid.told.desk.said now.desk.said
+  pub unnoted : NotesNothing mid.told now
 
 -- What a stop within the loop finds: it fell within the turn of the frame that arrives behind some answered events.
 pub record StopsAlong (form : Form) (bounds : StoreBounds) (known : Known) (before : Machine) (st : Standing) (said : Option (List ℕ)) (image : Image) (taken : List ℕ) : Type 0 where
@@ -143,19 +139,17 @@ SaysCut Disk form bounds m said answered unanswered = SaysBefore form bounds m s
 SaysCut Unsaid form bounds m said answered unanswered = SaysFront form bounds m said answered unanswered
 
 -- All events of the used bytes were answered, and the ending was told.
-pub record AnswersAll (form : Form) (bounds : StoreBounds) (m : Machine) (used : List ℕ) (end : End) (status : Status) (said_before said_now : Option (List ℕ))
-    (failed failed_now : Bool) (desk desk_now : Seen) : Type 0 where
-  pub said : Took said_before said_now (joined (replies_to form bounds m (events_in form used)))
+pub record AnswersAll (form : Form) (bounds : StoreBounds) (m : Machine) (used : List ℕ) (end : End) (status : Status) (old new : Telling) : Type 0 where
+  pub said : Took old.desk.said new.desk.said (joined (replies_to form bounds m (events_in form used)))
   pub ends : status ≡ status_at (is_bad_input form used) (has_rest form used) end
-  pub noted_is : NotesMore failed failed_now (notes_of form (events_in form used) used status) desk desk_now
+  pub noted_is : NotesMore old.failed new.failed (notes_of form (events_in form used) used status) old.desk new.desk
 
 -- Or the answering was cut short behind some of them.
-pub record AnswersSome (cut : Cut) (form : Form) (bounds : StoreBounds) (m : Machine) (used : List ℕ) (said_before said_now : Option (List ℕ))
-    (failed failed_now : Bool) (desk desk_now : Seen) : Type 0 where
+pub record AnswersSome (cut : Cut) (form : Form) (bounds : StoreBounds) (m : Machine) (used : List ℕ) (old new : Telling) : Type 0 where
   pub answered : List Event
   pub unanswered : List Event
   pub split : answered ++ unanswered ≡ events_in form used
   pub said : List ℕ
-  pub took : Took said_before said_now said
+  pub took : Took old.desk.said new.desk.said said
   pub says : SaysCut cut form bounds m said answered unanswered
-  pub noted_is : NotesMore failed failed_now (fault_lines answered) desk desk_now
+  pub noted_is : NotesMore old.failed new.failed (fault_lines answered) old.desk new.desk

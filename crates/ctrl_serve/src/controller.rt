@@ -1,12 +1,11 @@
-ghost use Rattle.std.specs.Prelude.{◌≡◌, ◌⊎◌, ◌≢◌, true, None, IsTrue, IsSome, OnOk, IfOk, IfErr, IsErrOf, Ok, Err};
-ghost use Rattle.ctrl_keep.specs.KeptBatches.{Follows};
+ghost use Rattle.std.specs.Prelude.{◌≡◌, ◌⊎◌, ◌≢◌, true, None, IsTrue, IsSome, OnOk, IfOk, IfErr, Ok, Err};
 ghost use Rattle.ctrl_keep.specs.KeptMachine.{step};
 ghost use Rattle.row_store.specs.OpenedStates.{OpensToState};
 ghost use Rattle.ctrl_model.specs.CommandForm.{is_spelled};
 ghost use Rattle.ctrl_model.specs.Controller.{answer, carry};
 ghost use Rattle.journal_core.specs.Room.{HoldsRoom};
 ghost use Rattle.ctrl_serve.specs.ControllerViews.{serving_of};
-ghost use Rattle.ctrl_serve.specs.Controllers.{GoesOn, IsReady};
+ghost use Rattle.ctrl_serve.specs.Controllers.{FailsWithFolder, FollowsStep, GoesOn, IsReadyOn};
 ghost use Rattle.ctrl_serve.specs.Turns.{unkept};
 ghost use Rattle.reply_codec.specs.ReplyLimits.{keeps_limits};
 ghost use Rattle.ziti_outside.specs.Causes.{HasCause};
@@ -81,16 +80,16 @@ impl Controller {
         command: &Command,
     ) -> Result<Reply, Cut>
         requires able { (serving_of self.old).able ≡ true }
-        requires ready { IsReady D.tells (serving_of self.old).kept (D.seen desk.old).reads (D.stopped desk.old).images }
+        requires ready { IsReadyOn D.tells D.seen D.stopped desk.old (serving_of self.old) }
         requires spelled { is_spelled command.now ≡ true }
         ensures ok { IfOk result (λ r. (r, (serving_of self.new).machine) ≡ step (serving_of self.old).bounds who.now command.now (serving_of self.old).machine) }
         ensures on { OnOk result (GoesOn (serving_of self.old) (serving_of self.new)) }
-        ensures follows { OnOk result (IsSome (serving_of self.old).kept → IsTrue D.tells → Follows (serving_of self.old).machine (serving_of self.new).machine (D.seen desk.old).reads (D.seen desk.new).reads) }
-        ensures ready { (serving_of self.new).able ≡ true → IsReady D.tells (serving_of self.new).kept (D.seen desk.new).reads (D.stopped desk.new).images }
+        ensures follows { OnOk result (FollowsStep D.tells D.seen desk.old desk.new (serving_of self.old) (serving_of self.new)) }
+        ensures ready { (serving_of self.new).able ≡ true → IsReadyOn D.tells D.seen D.stopped desk.new (serving_of self.new) }
         ensures limits { IfOk result (λ r. keeps_limits r ≡ true) }
         ensures cut { IfErr result (λ c. c ≢ Cut.Unsaid) }
         ensures cause { HasCause (D.seen desk.old).disk_faults (D.seen desk.new).disk_faults (unkept result) }
-        ensures undisked { (serving_of self.old).kept ≡ None → IsErrOf result Cut.Disk → ⊥ }
+        ensures undisked { FailsWithFolder (serving_of self.old) result }
         ensures alone { (serving_of self.old).kept ≡ None → desk.new ≡ desk.old }
         ensures others { OnlyDisk D.seen desk.old desk.new }
         ensures stops { IsSome (serving_of self.old).kept → IsTrue D.tells → Leaves D.seen D.stopped desk.old desk.new

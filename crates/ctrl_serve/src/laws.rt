@@ -1,4 +1,4 @@
-ghost use Rattle.std.specs.Prelude.{◌≡◌, ◌⊎◌, ℕ, ◌≢◌, ◌<◌, ◌≤◌, ◌^◌, Bool, true, IsTrue, List, [], ◌++◌, codes, decimal, length, take, None, Some};
+ghost use Rattle.std.specs.Prelude.{◌≡◌, ◌⊎◌, ℕ, ◌≢◌, ◌<◌, ◌≤◌, ◌^◌, Bool, true, false, IsTrue, List, [], ◌++◌, codes, decimal, length, take, None, Some};
 ghost use Rattle.std.specs.declared.option.Option.{Option};
 ghost use Rattle.channel_frame.specs.declared.frames.Frame.{Frame};
 ghost use Rattle.channel_frame.specs.StreamReading.{Reads, fault_of, frames_of, rest_of};
@@ -19,12 +19,13 @@ ghost use Rattle.ziti_outside.specs.declared.desk.Part.{Part};
 ghost use Rattle.ziti_outside.specs.Images.{Image};
 ghost use Rattle.ctrl_serve.specs.SaidReplies.{SaysAll, SaysFront, joined, AreWhole, AreCut};
 ghost use Rattle.ctrl_serve.specs.FrameAnswer.{answers, each_reply, last_machine, machine_behind_alone, replies, spoken_alone};
-ghost use Rattle.run_notes.specs.Endings.{ending};
+ghost use Rattle.run_notes.specs.Endings.{ending, is_kept};
 ghost use Rattle.run_notes.specs.Inputs.{events_in};
 ghost use Rattle.ctrl_serve.specs.Reading.{is_decided, StaysNear};
 ghost use Rattle.run_notes.specs.Notes.{session_note, status_lines};
 ghost use Rattle.run_notes.specs.NotedLines.{NotesLines};
-ghost use Rattle.ctrl_serve.specs.Headline.{Serves, Runs, taking_of, folder_bounds};
+ghost use Rattle.ctrl_serve.specs.Headline.{Serves, Replays, Runs, Taking, taking_of, folder_bounds};
+ghost use Rattle.ctrl_serve.specs.UncompactedFolders.{ask_for_compact, CompactsNothing, LeavesOtherSlot};
 ghost use Rattle.ctrl_serve.specs.Loads.{counts_line, IsSaid, SaysOneLine};
 ghost use Rattle.ctrl_serve.specs.RunStops.{StopFinds, HoldsFirst};
 ghost use Rattle.ctrl_serve.specs.OpenedFolders.{OpensTo};
@@ -148,6 +149,21 @@ pub fn stops_keep_what_was_acknowledged()
 pub fn a_run_goes_on_from_a_stop()
     ensures state { (image : Image) (s : State) (m : Machine) → OpensToState image s → OpensTo image m → m.state ≡ s }
     ensures undamaged { (image : Image) (s : State) (part : Part) (at : ℕ) → OpensToState image s → IsStateless image part at → ⊥ }
+{}
+
+/// A replay whose frames ask for no Compact carries none out: its machine's mark stays as long. So where it kept all, on a desk that tells its
+/// folder, the slot that the mark does not name reads as before, and so does the mark, unless it was empty. Where it is done, that is said
+/// of the frames of all that its source had.
+pub fn runs_without_compact_leave_the_other_slot<S: Source, D: Desk>()
+    ensures machine { (form : Form) (bounds : StoreBounds) (machine : Machine) (used : List ℕ) → ask_for_compact (completed form used) ≡ false
+        → CompactsNothing machine (last_machine form bounds machine used) }
+    ensures folder { (taking : Taking) (bounds : StoreBounds) (source source_now : S) (desk desk_now : D) (status : Status)
+        → (replays : Replays taking bounds (record { left = S.left; faults = S.faults; tells = D.tells; seen = D.seen; stopped = D.stopped }) source source_now desk desk_now status)
+        → is_kept status ≡ true → IsTrue D.tells → ask_for_compact (completed taking.form (take taking.most replays.serves.taken)) ≡ false
+        → LeavesOtherSlot (D.seen desk).reads (D.seen desk_now).reads }
+    ensures done { (bounds : Bounds) (form : Form) (source source_now : S) (desk desk_now : D) (bytes : List ℕ)
+        → Runs (record { left = S.left; faults = S.faults; tells = D.tells; seen = D.seen; stopped = D.stopped }) bounds (Some (Replay form)) source source_now desk desk_now Done
+        → S.left source ≡ Some bytes → IsTrue D.tells → ask_for_compact (completed form bytes) ≡ false → LeavesOtherSlot (D.seen desk).reads (D.seen desk_now).reads }
 {}
 
 /// What a run on a folder comes to where no call failed, those of notes aside, and the folder tells its bytes and opens to a state. Want of memory

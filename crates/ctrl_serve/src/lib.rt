@@ -21,11 +21,13 @@ pub use laws::{
     a_decided_input_decides_its_events, a_run_goes_on_from_a_stop, cut_plain_runs_note_one_line,
     cut_runs_say_fronts, done_says_all, done_says_the_line, nearness_hangs_on_what_was_said,
     numbers_have_one_word, plain_input_is_one_session, runs_are_complete,
-    stops_keep_what_was_acknowledged, truncated_says_all,
+    runs_without_compact_leave_the_other_slot, stops_keep_what_was_acknowledged,
+    truncated_says_all,
 };
 pub use run_notes::Status;
 pub use top::{run, run_within};
 pub use worked::{
     worked_answers, worked_circuits, worked_counts, worked_networks, worked_numbers,
-    worked_policies, worked_readings, worked_runs, worked_sessions, worked_stops, worked_words,
+    worked_policies, worked_readings, worked_runs, worked_sessions, worked_stops,
+    worked_uncompacted, worked_words,
 };

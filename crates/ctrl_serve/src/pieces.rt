@@ -1,17 +1,16 @@
-ghost use Rattle.std.specs.Prelude.{◌≡◌, ◌≤◌, ◌^◌, true, IsTrue, IsSome, IfOk, IfErr, IsErrOf, None, OnOk, length, take};
+ghost use Rattle.std.specs.Prelude.{◌≡◌, ◌≤◌, ◌^◌, true, IsTrue, IsSome, IfOk, IfErr, None, OnOk, length, take};
 ghost use Rattle.journal_core.specs.Room.{HoldsRoom};
 ghost use Rattle.session_mux.specs.Completion.{start_of};
 ghost use Rattle.ziti_outside.specs.Causes.{HasCause};
-ghost use Rattle.ziti_outside.specs.Moments.{Elapses};
 ghost use Rattle.run_notes.specs.Endings.{ComesToEnd};
 ghost use Rattle.run_notes.specs.KnownSessions.{known_in};
 ghost use Rattle.run_notes.specs.NotedLines.{RisesOnce};
+ghost use Rattle.ctrl_serve.specs.Answering.{progress_at};
 ghost use Rattle.ctrl_serve.specs.ControllerViews.{serving_of};
-ghost use Rattle.ctrl_serve.specs.Controllers.{GoesOn, IsReady};
+ghost use Rattle.ctrl_serve.specs.Controllers.{FailsWithFolder, GoesOn, IsReadyOn, SpeaksAlone};
 ghost use Rattle.ctrl_serve.specs.Failures.{TakesUntilFailure};
 ghost use Rattle.ctrl_serve.specs.FollowedFolders.{FollowsEvents, FollowsInput};
-ghost use Rattle.ctrl_serve.specs.Headline.{OnlySaysAndNotes};
-ghost use Rattle.ctrl_serve.specs.Pieces.{decided_by, AnswersInput, CutsInput, EndsPieces, HasFault, IsReadCaused};
+ghost use Rattle.ctrl_serve.specs.Pieces.{decided_by, intake_of, passage_of, AnswersInput, CutsInput, EndsPieces, HasFault, IsReadCaused};
 ghost use Rattle.ctrl_serve.specs.Turns.{unkept, unsaid};
 
 use crate::controller::Controller;
@@ -84,22 +83,24 @@ fn serve_pieces<S: Source, D: Desk>(
     requires start { mux.old ≡ start_of form }
     requires known { sessions.old ≡ known_in form }
     requires able { (serving_of controller.old).able ≡ true }
-    requires ready { IsReady D.tells (serving_of controller.old).kept (D.seen desk.old).reads (D.stopped desk.old).images }
-    ensures ok { IfOk result (λ stop. (ends : EndsPieces form (serving_of controller.old) most sessions.new (serving_of controller.new).machine mux.new (S.left source.old) (S.left source.new) (D.seen desk.old).said (D.seen desk.new).said
-        notes.old.failed notes.new.failed (D.seen desk.old) (D.seen desk.new) D.tells (Elapses (D.stopped desk.old) (D.stopped desk.new)) stop.end)
+    requires ready { IsReadyOn D.tells D.seen D.stopped desk.old (serving_of controller.old) }
+    ensures ok { IfOk result (λ stop. (ends : EndsPieces (intake_of form most (serving_of controller.old) D.tells)
+        (passage_of (S.left source.old) (S.left source.new) notes.old.failed (D.seen desk.old) (D.stopped desk.old) (D.stopped desk.new))
+        (progress_at sessions.new (serving_of controller.new) mux.new notes.new.failed (D.seen desk.new)) stop.end)
         × (IsSome (serving_of controller.old).kept → IsTrue D.tells → FollowsEvents (serving_of controller.old).bounds ends.answers.answered (known_in form) (serving_of controller.old).machine (D.seen desk.old).reads (D.seen desk.new).reads)) }
     ensures end { IfOk result (λ stop. ComesToEnd mux.new stop.bad) }
     ensures fault { IfOk result (λ stop. HasFault stop.end (S.faults source.old) (S.faults source.new)) }
     ensures on { OnOk result (GoesOn (serving_of controller.old) (serving_of controller.new)) }
-    ensures ready { OnOk result (IsReady D.tells (serving_of controller.new).kept (D.seen desk.new).reads (D.stopped desk.new).images) }
-    ensures cut { IfErr result (λ c. CutsInput c form (serving_of controller.old) most (S.left source.old) (S.left source.new) (D.seen desk.old).said (D.seen desk.new).said
-        notes.old.failed notes.new.failed (D.seen desk.old) (D.seen desk.new) D.tells (Elapses (D.stopped desk.old) (D.stopped desk.new))) }
+    ensures ready { OnOk result (IsReadyOn D.tells D.seen D.stopped desk.new (serving_of controller.new)) }
+    ensures cut { IfErr result (λ c. CutsInput c (intake_of form most (serving_of controller.old) D.tells)
+        (passage_of (S.left source.old) (S.left source.new) notes.old.failed (D.seen desk.old) (D.stopped desk.old) (D.stopped desk.new))
+        (record { failed = notes.new.failed; desk = D.seen desk.new })) }
     ensures counted { RisesOnce (S.faults source.old) (S.faults source.new) }
     ensures until_failure { TakesUntilFailure S.left S.faults source.old source.new }
     ensures say_cause { HasCause (D.seen desk.old).say_faults (D.seen desk.new).say_faults (unsaid result) }
     ensures disk_cause { HasCause (D.seen desk.old).disk_faults (D.seen desk.new).disk_faults (unkept result) }
-    ensures undisked { (serving_of controller.old).kept ≡ None → IsErrOf result Cut.Disk → ⊥ }
-    ensures alone { (serving_of controller.old).kept ≡ None → OnlySaysAndNotes D.seen D.stopped desk.old desk.new }
+    ensures undisked { FailsWithFolder (serving_of controller.old) result }
+    ensures alone { SpeaksAlone D.seen D.stopped desk.old desk.new (serving_of controller.old) }
     ensures room { HoldsRoom D.tells (serving_of controller.old).bounds.slot D.seen D.stopped desk.old desk.new }
 {
     let mut room = zeros(alloc, PIECE)?;
@@ -147,19 +148,20 @@ pub fn serve_input<S: Source, D: Desk>(
 ) -> Result<Status, Cut>
     requires most { most ≤ 2 ^ 32 }
     requires able { (serving_of controller.old).able ≡ true }
-    requires ready { IsReady D.tells (serving_of controller.old).kept (D.seen desk.old).reads (D.stopped desk.old).images }
-    ensures answers { AnswersInput result form (serving_of controller.old) most (serving_of controller.new).machine (S.left source.old) (S.left source.new) (D.seen desk.old).said (D.seen desk.new).said
-        notes.old.failed notes.new.failed (D.seen desk.old) (D.seen desk.new) D.tells (Elapses (D.stopped desk.old) (D.stopped desk.new))
+    requires ready { IsReadyOn D.tells D.seen D.stopped desk.old (serving_of controller.old) }
+    ensures answers { AnswersInput result (intake_of form most (serving_of controller.old) D.tells)
+        (passage_of (S.left source.old) (S.left source.new) notes.old.failed (D.seen desk.old) (D.stopped desk.old) (D.stopped desk.new))
+        (serving_of controller.new).machine (record { failed = notes.new.failed; desk = D.seen desk.new })
         (λ used. IsSome (serving_of controller.old).kept → IsTrue D.tells → FollowsInput form (serving_of controller.old).bounds (serving_of controller.old).machine (D.seen desk.old).reads (D.seen desk.new).reads used) }
     ensures read { IfOk result (λ status. IsReadCaused (S.faults source.old) (S.faults source.new) status) }
     ensures on { OnOk result (GoesOn (serving_of controller.old) (serving_of controller.new)) }
-    ensures ready { OnOk result (IsReady D.tells (serving_of controller.new).kept (D.seen desk.new).reads (D.stopped desk.new).images) }
+    ensures ready { OnOk result (IsReadyOn D.tells D.seen D.stopped desk.new (serving_of controller.new)) }
     ensures counted { RisesOnce (S.faults source.old) (S.faults source.new) }
     ensures until_failure { TakesUntilFailure S.left S.faults source.old source.new }
     ensures say_cause { HasCause (D.seen desk.old).say_faults (D.seen desk.new).say_faults (unsaid result) }
     ensures disk_cause { HasCause (D.seen desk.old).disk_faults (D.seen desk.new).disk_faults (unkept result) }
-    ensures undisked { (serving_of controller.old).kept ≡ None → IsErrOf result Cut.Disk → ⊥ }
-    ensures alone { (serving_of controller.old).kept ≡ None → OnlySaysAndNotes D.seen D.stopped desk.old desk.new }
+    ensures undisked { FailsWithFolder (serving_of controller.old) result }
+    ensures alone { SpeaksAlone D.seen D.stopped desk.old desk.new (serving_of controller.old) }
     ensures room { HoldsRoom D.tells (serving_of controller.old).bounds.slot D.seen D.stopped desk.old desk.new }
 {
     let mut mux = mux_of(alloc, form)?;

@@ -1,16 +1,15 @@
-ghost use Rattle.std.specs.Prelude.{◌≡◌, ◌⊎◌, ◌≢◌, true, IsTrue, IsSome, IfOk, IfErr, IsErrOf, None, OnOk, OnErr};
+ghost use Rattle.std.specs.Prelude.{◌≡◌, ◌⊎◌, ◌≢◌, true, IsTrue, IsSome, IfOk, IfErr, None, OnOk, OnErr};
 ghost use Rattle.channel_frame.specs.declared.frames.Frame.{Frame};
-ghost use Rattle.ctrl_keep.specs.KeptBatches.{Follows};
 ghost use Rattle.row_store.specs.OpenedStates.{OpensToState};
 ghost use Rattle.journal_core.specs.Room.{HoldsRoom};
 ghost use Rattle.reply_codec.specs.ReplyLimits.{keeps_limits};
 ghost use Rattle.session_mux.specs.declared.events.Event.TheVariants.{Arrived};
+ghost use Rattle.ctrl_serve.specs.Answering.{progress_at, served_by};
 ghost use Rattle.ctrl_serve.specs.ControllerViews.{serving_of};
-ghost use Rattle.ctrl_serve.specs.Controllers.{GoesOn, IsReady, Turn};
+ghost use Rattle.ctrl_serve.specs.Controllers.{FailsWithFolder, FollowsStep, GoesOn, IsReadyOn, SpeaksAlone, Turn};
 ghost use Rattle.run_notes.specs.NotedLines.{LeavesNotes};
 ghost use Rattle.ctrl_serve.specs.FollowedFolders.{FollowsEvents};
 ghost use Rattle.ctrl_serve.specs.FrameAnswer.{frame_answer, refusal_for, reply_text, tag};
-ghost use Rattle.ctrl_serve.specs.Headline.{OnlySaysAndNotes};
 ghost use Rattle.run_notes.specs.KnownSessions.{known_after, sender_at};
 ghost use Rattle.ctrl_serve.specs.KnownReplies.{machine_after};
 ghost use Rattle.run_notes.specs.Notes.{event_lines, fault_word as word_of_fault, session_note};
@@ -58,15 +57,15 @@ fn answer_frame<D: Desk>(
     frame: &Frame,
 ) -> Result<Reply, Cut>
     requires able { (serving_of controller.old).able ≡ true }
-    requires ready { IsReady D.tells (serving_of controller.old).kept (D.seen desk.old).reads (D.stopped desk.old).images }
+    requires ready { IsReadyOn D.tells D.seen D.stopped desk.old (serving_of controller.old) }
     ensures ok { IfOk result (λ r. (r, (serving_of controller.new).machine) ≡ frame_answer (serving_of controller.old).bounds who.now frame.now (serving_of controller.old).machine) }
     ensures on { OnOk result (GoesOn (serving_of controller.old) (serving_of controller.new)) }
-    ensures follows { OnOk result (IsSome (serving_of controller.old).kept → IsTrue D.tells → Follows (serving_of controller.old).machine (serving_of controller.new).machine (D.seen desk.old).reads (D.seen desk.new).reads) }
-    ensures ready { OnOk result (IsReady D.tells (serving_of controller.new).kept (D.seen desk.new).reads (D.stopped desk.new).images) }
+    ensures follows { OnOk result (FollowsStep D.tells D.seen desk.old desk.new (serving_of controller.old) (serving_of controller.new)) }
+    ensures ready { OnOk result (IsReadyOn D.tells D.seen D.stopped desk.new (serving_of controller.new)) }
     ensures limits { IfOk result (λ r. keeps_limits r ≡ true) }
     ensures cut { IfErr result (λ c. c ≢ Cut.Unsaid) }
     ensures cause { HasCause (D.seen desk.old).disk_faults (D.seen desk.new).disk_faults (unkept result) }
-    ensures undisked { (serving_of controller.old).kept ≡ None → IsErrOf result Cut.Disk → ⊥ }
+    ensures undisked { FailsWithFolder (serving_of controller.old) result }
     ensures alone { (serving_of controller.old).kept ≡ None → desk.new ≡ desk.old }
     ensures room { HoldsRoom D.tells (serving_of controller.old).bounds.slot D.seen D.stopped desk.old desk.new }
     ensures others { OnlyDisk D.seen desk.old desk.new }
@@ -121,17 +120,17 @@ fn serve_frame<D: Desk>(
     frame: &Frame,
 ) -> Result<(), Cut>
     requires able { (serving_of controller.old).able ≡ true }
-    requires ready { IsReady D.tells (serving_of controller.old).kept (D.seen desk.old).reads (D.stopped desk.old).images }
+    requires ready { IsReadyOn D.tells D.seen D.stopped desk.old (serving_of controller.old) }
     ensures ok { OnOk result (TakesTurn (serving_of controller.old).bounds address who.now frame.now (serving_of controller.old).machine (serving_of controller.new).machine (D.seen desk.old).said (D.seen desk.new).said) }
     ensures on { OnOk result (GoesOn (serving_of controller.old) (serving_of controller.new)) }
-    ensures follows { OnOk result (IsSome (serving_of controller.old).kept → IsTrue D.tells → Follows (serving_of controller.old).machine (serving_of controller.new).machine (D.seen desk.old).reads (D.seen desk.new).reads) }
-    ensures ready { OnOk result (IsReady D.tells (serving_of controller.new).kept (D.seen desk.new).reads (D.stopped desk.new).images) }
+    ensures follows { OnOk result (FollowsStep D.tells D.seen desk.old desk.new (serving_of controller.old) (serving_of controller.new)) }
+    ensures ready { OnOk result (IsReadyOn D.tells D.seen D.stopped desk.new (serving_of controller.new)) }
     ensures cut { IfErr result (λ c. CutsTurn c (serving_of controller.old).bounds address who.now frame.now (serving_of controller.old).machine (D.seen desk.old).said (D.seen desk.new).said) }
     ensures say_cause { HasCause (D.seen desk.old).say_faults (D.seen desk.new).say_faults (unsaid result) }
     ensures disk_cause { HasCause (D.seen desk.old).disk_faults (D.seen desk.new).disk_faults (unkept result) }
     ensures notes { LeavesNotes D.seen desk.old desk.new }
-    ensures undisked { (serving_of controller.old).kept ≡ None → IsErrOf result Cut.Disk → ⊥ }
-    ensures alone { (serving_of controller.old).kept ≡ None → OnlySaysAndNotes D.seen D.stopped desk.old desk.new }
+    ensures undisked { FailsWithFolder (serving_of controller.old) result }
+    ensures alone { SpeaksAlone D.seen D.stopped desk.old desk.new (serving_of controller.old) }
     ensures room { HoldsRoom D.tells (serving_of controller.old).bounds.slot D.seen D.stopped desk.old desk.new }
     ensures stops { IsSome (serving_of controller.old).kept → IsTrue D.tells → Elapses (D.stopped desk.old) (D.stopped desk.new)
         (Turn (serving_of controller.old).machine.state
@@ -157,17 +156,17 @@ fn serve_arrived<D: Desk>(
     frame: &Frame,
 ) -> Result<(), Cut>
     requires able { (serving_of controller.old).able ≡ true }
-    requires ready { IsReady D.tells (serving_of controller.old).kept (D.seen desk.old).reads (D.stopped desk.old).images }
-    ensures ok { OnOk result (TakesEvent form (serving_of controller.old).bounds (Arrived session frame.now) sessions.old sessions.new (serving_of controller.old).machine (serving_of controller.new).machine (D.seen desk.old).said (D.seen desk.new).said) }
+    requires ready { IsReadyOn D.tells D.seen D.stopped desk.old (serving_of controller.old) }
+    ensures ok { OnOk result (TakesEvent form (serving_of controller.old).bounds (Arrived session frame.now) (served_by sessions.old (serving_of controller.old) (D.seen desk.old)) (served_by sessions.new (serving_of controller.new) (D.seen desk.new))) }
     ensures on { OnOk result (GoesOn (serving_of controller.old) (serving_of controller.new)) }
-    ensures follows { OnOk result (IsSome (serving_of controller.old).kept → IsTrue D.tells → Follows (serving_of controller.old).machine (serving_of controller.new).machine (D.seen desk.old).reads (D.seen desk.new).reads) }
-    ensures ready { OnOk result (IsReady D.tells (serving_of controller.new).kept (D.seen desk.new).reads (D.stopped desk.new).images) }
+    ensures follows { OnOk result (FollowsStep D.tells D.seen desk.old desk.new (serving_of controller.old) (serving_of controller.new)) }
+    ensures ready { OnOk result (IsReadyOn D.tells D.seen D.stopped desk.new (serving_of controller.new)) }
     ensures cut { IfErr result (λ c. CutsEvent c form (serving_of controller.old).bounds (Arrived session frame.now) sessions.old (serving_of controller.old).machine (D.seen desk.old).said (D.seen desk.new).said) }
     ensures say_cause { HasCause (D.seen desk.old).say_faults (D.seen desk.new).say_faults (unsaid result) }
     ensures disk_cause { HasCause (D.seen desk.old).disk_faults (D.seen desk.new).disk_faults (unkept result) }
     ensures notes { LeavesNotes D.seen desk.old desk.new }
-    ensures undisked { (serving_of controller.old).kept ≡ None → IsErrOf result Cut.Disk → ⊥ }
-    ensures alone { (serving_of controller.old).kept ≡ None → OnlySaysAndNotes D.seen D.stopped desk.old desk.new }
+    ensures undisked { FailsWithFolder (serving_of controller.old) result }
+    ensures alone { SpeaksAlone D.seen D.stopped desk.old desk.new (serving_of controller.old) }
     ensures room { HoldsRoom D.tells (serving_of controller.old).bounds.slot D.seen D.stopped desk.old desk.new }
     ensures stops { IsSome (serving_of controller.old).kept → IsTrue D.tells → Elapses (D.stopped desk.old) (D.stopped desk.new)
         (StopsEvent form (serving_of controller.old).bounds (Arrived session frame.now) sessions.old (serving_of controller.old).machine (D.seen desk.old).said) }
@@ -200,18 +199,18 @@ fn serve_event<D: Desk>(
     event: Event,
 ) -> Result<(), Cut>
     requires able { (serving_of controller.old).able ≡ true }
-    requires ready { IsReady D.tells (serving_of controller.old).kept (D.seen desk.old).reads (D.stopped desk.old).images }
-    ensures ok { OnOk result (TakesEvent form (serving_of controller.old).bounds event sessions.old sessions.new (serving_of controller.old).machine (serving_of controller.new).machine (D.seen desk.old).said (D.seen desk.new).said) }
+    requires ready { IsReadyOn D.tells D.seen D.stopped desk.old (serving_of controller.old) }
+    ensures ok { OnOk result (TakesEvent form (serving_of controller.old).bounds event (served_by sessions.old (serving_of controller.old) (D.seen desk.old)) (served_by sessions.new (serving_of controller.new) (D.seen desk.new))) }
     ensures on { OnOk result (GoesOn (serving_of controller.old) (serving_of controller.new)) }
-    ensures follows { OnOk result (IsSome (serving_of controller.old).kept → IsTrue D.tells → Follows (serving_of controller.old).machine (serving_of controller.new).machine (D.seen desk.old).reads (D.seen desk.new).reads) }
-    ensures ready { OnOk result (IsReady D.tells (serving_of controller.new).kept (D.seen desk.new).reads (D.stopped desk.new).images) }
+    ensures follows { OnOk result (FollowsStep D.tells D.seen desk.old desk.new (serving_of controller.old) (serving_of controller.new)) }
+    ensures ready { OnOk result (IsReadyOn D.tells D.seen D.stopped desk.new (serving_of controller.new)) }
     ensures cut { IfErr result (λ c. CutsEvent c form (serving_of controller.old).bounds event sessions.old (serving_of controller.old).machine (D.seen desk.old).said (D.seen desk.new).said) }
     ensures say_cause { HasCause (D.seen desk.old).say_faults (D.seen desk.new).say_faults (unsaid result) }
     ensures disk_cause { HasCause (D.seen desk.old).disk_faults (D.seen desk.new).disk_faults (unkept result) }
     ensures noted { OnOk result (NotesMore notes.old.failed notes.new.failed (event_lines event) (D.seen desk.old) (D.seen desk.new)) }
     ensures unnoted { OnErr result ((notes.new ≡ notes.old) × LeavesNotes D.seen desk.old desk.new) }
-    ensures undisked { (serving_of controller.old).kept ≡ None → IsErrOf result Cut.Disk → ⊥ }
-    ensures alone { (serving_of controller.old).kept ≡ None → OnlySaysAndNotes D.seen D.stopped desk.old desk.new }
+    ensures undisked { FailsWithFolder (serving_of controller.old) result }
+    ensures alone { SpeaksAlone D.seen D.stopped desk.old desk.new (serving_of controller.old) }
     ensures room { HoldsRoom D.tells (serving_of controller.old).bounds.slot D.seen D.stopped desk.old desk.new }
     ensures stops { IsSome (serving_of controller.old).kept → IsTrue D.tells → Elapses (D.stopped desk.old) (D.stopped desk.new)
         (StopsEvent form (serving_of controller.old).bounds event sessions.old (serving_of controller.old).machine (D.seen desk.old).said) }
@@ -247,19 +246,19 @@ pub fn serve_events<D: Desk>(
     notes: &mut Notes,
 ) -> Result<Option<u64>, Cut>
     requires able { (serving_of controller.old).able ≡ true }
-    requires ready { IsReady D.tells (serving_of controller.old).kept (D.seen desk.old).reads (D.stopped desk.old).images }
-    ensures ok { OnOk result ((told : Answers form (serving_of controller.old).bounds sessions.old sessions.new (serving_of controller.old).machine (serving_of controller.new).machine mux.old mux.new (D.seen desk.old).said (D.seen desk.new).said
-        notes.old.failed notes.new.failed (D.seen desk.old) (D.seen desk.new))
+    requires ready { IsReadyOn D.tells D.seen D.stopped desk.old (serving_of controller.old) }
+    ensures ok { OnOk result ((told : Answers form (serving_of controller.old).bounds (progress_at sessions.old (serving_of controller.old) mux.old notes.old.failed (D.seen desk.old))
+        (progress_at sessions.new (serving_of controller.new) mux.new notes.new.failed (D.seen desk.new)))
         × (IsSome (serving_of controller.old).kept → IsTrue D.tells → FollowsEvents (serving_of controller.old).bounds told.answered sessions.old (serving_of controller.old).machine (D.seen desk.old).reads (D.seen desk.new).reads)) }
     ensures end { IfOk result (λ bad. ComesToEnd mux.new bad) }
     ensures on { OnOk result (GoesOn (serving_of controller.old) (serving_of controller.new)) }
-    ensures ready { OnOk result (IsReady D.tells (serving_of controller.new).kept (D.seen desk.new).reads (D.stopped desk.new).images) }
-    ensures cut { IfErr result (λ c. IsCutShort c form (serving_of controller.old).bounds sessions.old (serving_of controller.old).machine mux.old (D.seen desk.old).said (D.seen desk.new).said
-        notes.old.failed notes.new.failed (D.seen desk.old) (D.seen desk.new)) }
+    ensures ready { OnOk result (IsReadyOn D.tells D.seen D.stopped desk.new (serving_of controller.new)) }
+    ensures cut { IfErr result (λ c. IsCutShort c form (serving_of controller.old).bounds (progress_at sessions.old (serving_of controller.old) mux.old notes.old.failed (D.seen desk.old))
+        (record { failed = notes.new.failed; desk = D.seen desk.new })) }
     ensures say_cause { HasCause (D.seen desk.old).say_faults (D.seen desk.new).say_faults (unsaid result) }
     ensures disk_cause { HasCause (D.seen desk.old).disk_faults (D.seen desk.new).disk_faults (unkept result) }
-    ensures undisked { (serving_of controller.old).kept ≡ None → IsErrOf result Cut.Disk → ⊥ }
-    ensures alone { (serving_of controller.old).kept ≡ None → OnlySaysAndNotes D.seen D.stopped desk.old desk.new }
+    ensures undisked { FailsWithFolder (serving_of controller.old) result }
+    ensures alone { SpeaksAlone D.seen D.stopped desk.old desk.new (serving_of controller.old) }
     ensures room { HoldsRoom D.tells (serving_of controller.old).bounds.slot D.seen D.stopped desk.old desk.new }
     ensures stops { IsSome (serving_of controller.old).kept → IsTrue D.tells → Elapses (D.stopped desk.old) (D.stopped desk.new)
         (StopsAlong form (serving_of controller.old).bounds sessions.old (serving_of controller.old).machine mux.old (D.seen desk.old).said) }

@@ -3,7 +3,7 @@ ghost use Rattle.journal_core.specs.Room.{HoldsRoom};
 ghost use Rattle.ctrl_model.specs.State.{start};
 ghost use Rattle.session_mux.specs.declared.sessions.Form.TheVariants.{Plain};
 ghost use Rattle.ctrl_serve.specs.ControllerViews.{serving_of};
-ghost use Rattle.ctrl_serve.specs.Controllers.{IsReady};
+ghost use Rattle.ctrl_serve.specs.Controllers.{IsReadyOn, SpeaksAlone};
 ghost use Rattle.ctrl_serve.specs.FrameAnswer.{no_bounds, alone};
 ghost use Rattle.ctrl_serve.specs.CommandLine.{form_of, texts};
 ghost use Rattle.ctrl_serve.specs.Runs.{CountsFaults, RunsOn};
@@ -33,13 +33,13 @@ fn run_on<S: Source, D: Desk>(
 ) -> Status
     requires most { most ≤ 2 ^ 32 }
     requires able { (serving_of controller.old).able ≡ true }
-    requires ready { IsReady D.tells (serving_of controller.old).kept (D.seen desk.old).reads (D.stopped desk.old).images }
+    requires ready { IsReadyOn D.tells D.seen D.stopped desk.old (serving_of controller.old) }
     ensures runs { RunsOn (taking_of form most) (serving_of controller.old)
         (record { left = S.left; faults = S.faults; tells = D.tells; seen = D.seen; stopped = D.stopped })
         source.old source.new desk.old desk.new result }
     ensures counts { CountsFaults S.left S.faults D.seen source.old source.new desk.old desk.new result }
     ensures undisked { (serving_of controller.old).kept ≡ None → result ≢ Status.DiskFault }
-    ensures alone { (serving_of controller.old).kept ≡ None → OnlySaysAndNotes D.seen D.stopped desk.old desk.new }
+    ensures alone { SpeaksAlone D.seen D.stopped desk.old desk.new (serving_of controller.old) }
     ensures room { HoldsRoom D.tells (serving_of controller.old).bounds.slot D.seen D.stopped desk.old desk.new }
 {
     let mut notes = Notes::new();

@@ -1,7 +1,9 @@
 ghost use Rattle.std.specs.Prelude.{◌≡◌, [], ◌∷◌, ◌++◌, true, false, codes, take, None, Some};
 ghost use Rattle.ziti_outside.specs.Images.{Image};
 ghost use Rattle.channel_frame.specs.FrameSpelling.{spelling};
+ghost use Rattle.command_codec.specs.BodyMeaning.{meaning};
 ghost use Rattle.channel_frame.specs.WorkedFrames.{ann_bytes, reply_bytes, cut_bytes, unmarked_bytes};
+ghost use Rattle.ctrl_model.specs.declared.kinds.Who.TheVariants.{Admin};
 ghost use Rattle.ctrl_model.specs.declared.refusals.Denial.TheVariants as denial;
 ghost use Rattle.ctrl_model.specs.declared.refusals.Field.TheVariants as field;
 ghost use Rattle.ctrl_model.specs.declared.refusals.Reason.TheVariants as reason;
@@ -9,7 +11,8 @@ ghost use Rattle.ctrl_model.specs.declared.refusals.Refusal.TheVariants as refus
 ghost use Rattle.ctrl_model.specs.declared.replies.Reply.TheVariants as reply;
 ghost use Rattle.ctrl_model.specs.State.{start};
 ghost use Rattle.row_store.specs.OpenedStates.{OpensToState};
-ghost use Rattle.ctrl_keep.specs.WorkedMachines.{at_most, machine_at};
+ghost use Rattle.row_store.specs.WorkedStores.{three_parts};
+ghost use Rattle.ctrl_keep.specs.WorkedMachines.{at_most, machine_at, marked};
 ghost use Rattle.ctrl_serve.specs.CommandLine.{form_of, number_of_word};
 ghost use Rattle.ctrl_serve.specs.declared.command_line.Form.TheVariants.{Dry, Replay, Audit, Compact, Load};
 ghost use Rattle.session_mux.specs.declared.sessions.Form.TheVariants.{Plain, Trace};
@@ -19,8 +22,9 @@ ghost use Rattle.ctrl_serve.specs.Reading.{is_decided};
 ghost use Rattle.ctrl_serve.specs.Loads.{counts_line};
 ghost use Rattle.run_notes.specs.Inputs.{events_in};
 ghost use Rattle.ctrl_serve.specs.RunStops.{HoldsFirst, StopFinds};
+ghost use Rattle.ctrl_serve.specs.UncompactedFolders.{ask_for_compact, spells_compact, CompactsNothing, LeavesOtherSlot};
 ghost use Rattle.ctrl_serve.specs.WorkedStops.{only_ann, ann_and_bob, bob_bytes, bob_reply_bytes, no_room_bytes};
-ghost use Rattle.ctrl_serve.specs.WorkedAnswers.{reply_at_start, reply_behind, state_after, ann_may_dial, all_may_dial, first_goes, ann_comes_again, two_routers, router_goes, line, ann_asks, middle_closes};
+ghost use Rattle.ctrl_serve.specs.WorkedAnswers.{frame_of, reply_at_start, reply_behind, state_after, ann_may_dial, all_may_dial, first_goes, ann_comes_again, two_routers, router_goes, line, ann_asks, middle_closes};
 ghost use Rattle.reply_codec.specs.ReplyFrame.{reply_frame};
 
 /// Words of the command line.
@@ -156,6 +160,24 @@ pub fn worked_stops()
         → StopFinds Plain (at_most 42) (machine_at start 8) (events_in Plain ann_bytes) (Some []) image (take 1 reply_bytes) }
     ensures torn_unkept { (image : Image) → OpensToState image start
         → StopFinds Plain (at_most 42) (machine_at start 8) (events_in Plain ann_bytes) (Some []) image (take 1 reply_bytes) → ⊥ }
+{}
+
+/// Frames that ask for Compact: one of its content type whose body it is, and not one with a key more, nor one that creates. Machines: the one
+/// that was compacted has a byte more in its mark. And folders: beside the slot that stands nothing may change, neither the other slot nor the
+/// mark; where the mark was empty, it and the first slot may.
+pub fn worked_uncompacted()
+    ensures asks { spells_compact (meaning 1510 (codes "{}")) ≡ true }
+    ensures asks_wrongly { spells_compact (meaning 1510 (codes "{\"x\":1}")) ≡ false }
+    ensures creates { spells_compact (meaning 1000 (codes "{\"name\":\"ann\"}")) ≡ false }
+    ensures one_asks { ask_for_compact ((0, (Admin, frame_of 1000 (codes "{\"name\":\"ann\"}"))) ∷ (0, (Admin, frame_of 1510 (codes "{}"))) ∷ []) ≡ true }
+    ensures none_asks { ask_for_compact [] ≡ false }
+    ensures went_on { CompactsNothing (machine_at start 8) (machine_at only_ann 41) }
+    ensures compacted { CompactsNothing (machine_at only_ann 41) (marked only_ann 41 2) → ⊥ }
+    ensures grew { LeavesOtherSlot (three_parts (1 ∷ []) (2 ∷ []) (0 ∷ [])) (three_parts (1 ∷ 5 ∷ []) (2 ∷ []) (0 ∷ [])) }
+    ensures other_grew { LeavesOtherSlot (three_parts (1 ∷ []) (2 ∷ []) (0 ∷ [])) (three_parts (1 ∷ []) (2 ∷ 5 ∷ []) (0 ∷ [])) → ⊥ }
+    ensures second_stands { LeavesOtherSlot (three_parts (1 ∷ []) (2 ∷ []) (0 ∷ 0 ∷ [])) (three_parts (1 ∷ 5 ∷ []) (2 ∷ []) (0 ∷ 0 ∷ [])) → ⊥ }
+    ensures mark_grew { LeavesOtherSlot (three_parts (1 ∷ []) (2 ∷ []) (0 ∷ [])) (three_parts (1 ∷ []) (2 ∷ []) (0 ∷ 0 ∷ [])) → ⊥ }
+    ensures created { LeavesOtherSlot (three_parts [] (2 ∷ []) []) (three_parts (1 ∷ []) (2 ∷ []) (0 ∷ [])) }
 {}
 
 /// Where inputs are decided: plain input at a head with a wrong marker, and not by a whole or a cut frame or half a head; a trace at a bad record,

@@ -10,6 +10,7 @@ use Rattle.slot_files.specs.FolderImage.{Stands}
 use Rattle.row_store.specs.declared.bounds.StoreBounds.{StoreBounds}
 use Rattle.row_store.specs.OpenedStates.{IsStateless, OpensToState}
 use Rattle.row_store.proofs.OneStates.{stateless_opens, one_place}
+use Rattle.ctrl_keep.specs.KeptBatches.{mark_at}
 use Rattle.ctrl_keep.specs.KeptMachine.{Machine}
 use Rattle.session_mux.specs.declared.events.Event.{Event}
 use Rattle.session_mux.specs.declared.sessions.Form.{Form}
@@ -121,6 +122,7 @@ replays_whole o form input source source_now desk desk_now status told new on r 
       stands = λ batches stood. subst (λ (bs : List (List ℕ)). Stands (o.seen desk_now).reads bs) (same_batches form r.machine (used s.taken) (used input) batches same.events)
           (r.stands has.kept new.told batches stood);
       same = λ some still. r.still has.kept new.told some (last ∙ still);
+      elsewhere = λ none. r.elsewhere has.kept new.told (ap (λ (m : Machine). mark_at m.place) last ∙ none);
     }
 
 -- ---- a run on a folder that was not opened

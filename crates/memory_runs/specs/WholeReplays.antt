@@ -25,6 +25,7 @@ use Rattle.ctrl_serve.specs.OpenedFolders.{Keeps}
 use Rattle.ctrl_serve.specs.Reading.{is_decided}
 use Rattle.ctrl_serve.specs.RunStops.{HoldsFirst, StopFinds}
 use Rattle.ctrl_serve.specs.SaidReplies.{joined}
+use Rattle.ctrl_serve.specs.UncompactedFolders.{CompactsNothing, LeavesOtherSlot}
 
 -- The bytes of an input that the program uses: the first 2^32.
 abbrev pub used : List ℕ → List ℕ
@@ -71,7 +72,8 @@ pub record NotesInput (form : Form) (input : List ℕ) (status : Status) (now : 
 -- A whole replay of an input, from the machine to which the folder opened. It ended as the used bytes decide. Exactly the replies to their
 -- frames were said, each whole and in order. The folder keeps the machine behind all of them, and so opens to its state; it stands for the
 -- batches that the machine's steps make of those for which it stood; and where that machine is the one at the opening, every part reads as
--- before, unless its mark was empty.
+-- before, unless its mark was empty. Where the machine's steps compact nothing, the slot that did not stand reads as before, and so does the
+-- mark unless it was empty.
 pub record IsWhole (form : Form) (machine : Machine) (input : List ℕ) (before : Image) (now : Seen) (status : Status) : Type 0 where
   pub ends : status ≡ ending form (used input) (is_longer input)
   pub said : now.said ≡ Some (replies form bounds machine (used input))
@@ -80,6 +82,7 @@ pub record IsWhole (form : Form) (machine : Machine) (input : List ℕ) (before 
   pub opens : OpensToState now.reads (last_machine form bounds machine (used input)).state
   pub stands : (batches : List (List ℕ)) → Stands before batches → Stands now.reads (last_batches form bounds machine (used input) batches)
   pub same : 0 < length (before Mark) → last_machine form bounds machine (used input) ≡ machine → now.reads ≡ before
+  pub elsewhere : CompactsNothing machine (last_machine form bounds machine (used input)) → LeavesOtherSlot before now.reads
 
 -- What a stop at any moment of such a replay finds: the first frames of the input answered, and maybe one in its turn, with the folder open
 -- to the state behind them (`StopFinds`). If of the reply bytes that were taken by then the first so many replies are a front, the folder

@@ -1,4 +1,4 @@
-use Rattle.std.proofs.Common.{◌≡◌, Option, subst, ap}
+use Rattle.std.proofs.Common.{Option, subst, ap}
 use Rattle.program_words.proofs.AskedLaws.{asked_with, asked_without, failed_with, failed_without, wanting_with}
 use Rattle.ctrl_serve.specs.declared.command_line.Form.{Form}
 use Rattle.ctrl_serve.specs.CommandLine.{form_of, texts}

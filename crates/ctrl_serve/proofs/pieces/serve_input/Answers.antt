@@ -5,6 +5,7 @@ use Rattle.ziti_outside.specs.Images.{Image}
 use Rattle.run_notes.specs.declared.notes.Notes.{Notes}
 use Rattle.run_notes.specs.KnownSessions.{known_in}
 use Rattle.ctrl_serve.specs.FollowedFolders.{FollowsEvents}
+use Rattle.ctrl_serve.specs.Pieces.{intake_of}
 use Rattle.ctrl_serve.specs.ControllerViews.{serving_of}
 use Rattle.ctrl_serve.proofs.ControllerLaws.{OnlySaysAndNotes-none, notes_behind, ready_behind}
 use Rattle.ctrl_serve.proofs.FailureLaws.{takes_none}
@@ -19,12 +20,10 @@ use Rattle.ctrl_serve.proofs.pieces.serve_input.Goals as goal
 pub returns-clause-answers : goal.returns-clause-answers
 returns-clause-answers g c =
     let k = serving_of c.args.controller.now in
-    let seen = g.D.Desk.seen in
     let ends = c.in_ok-stop.ensures.ok.0 in
     let used : List ℕ = take c.args.most ends.takes.taken in
     let all = all_so c.args.form used c.serve_pieces.new.mux ends.answers.answered ends.answers.goes (none_left c.serve_pieces.new.mux c.in_ok-stop.stop.bad c.in_ok-stop.ensures.end) in (
-      input_ends c.in_ok-stop.stop.end c.args.form k c.args.most c.serve_pieces.new.sessions (serving_of c.serve_pieces.new.controller).machine c.serve_pieces.new.mux _ _ (seen c.args.desk.now).said (seen c.serve_pieces.new.desk).said (seen c.tell_ending.new.desk).said
-          c.args.notes.now.failed c.serve_pieces.new.notes.failed c.tell_ending.new.notes.failed (seen c.args.desk.now) (seen c.serve_pieces.new.desk) (seen c.tell_ending.new.desk) g.D.Desk.tells c.in_ok-stop.stop.bad _
+      input_ends {now = record { failed = c.tell_ending.new.notes.failed; desk = g.D.Desk.seen c.tell_ending.new.desk }} c.in_ok-stop.stop.end c.in_ok-stop.stop.bad _
           ends c.in_ok-stop.ensures.end c.tell_ending.ensures.stops c.tell_ending.ensures.others.replies c.in_ok-tell_ending.ensures.status c.in_ok-tell_ending.ensures.noted,
       λ some told. follows_input c.args.form k.bounds used ends.answers.answered k.machine _ _ all
           (subst (λ (i : Image). FollowsEvents k.bounds ends.answers.answered (known_in c.args.form) k.machine (g.D.Desk.seen c.args.desk.now).reads i) (sym c.tell_ending.ensures.others.parts) (c.in_ok-stop.ensures.ok.1 some told)),
@@ -38,13 +37,13 @@ pub returns-in_err-mux-clause-answers : goal.returns-in_err-mux-clause-answers
 returns-in_err-mux-clause-answers g c =
     let desk = c.args.desk.now in
     let p = err_from_is_err_and c.from_residual.result c.from_residual.ensures.1 in
-    rw p.1 (rw p.2 (pieces_none c.args.form (serving_of c.args.controller.now) c.args.most (g.S.Source.left c.args.source.now) (g.D.Desk.seen desk).said c.args.notes.now.failed (g.D.Desk.seen desk) g.D.Desk.tells))
+    rw p.1 (rw p.2 (pieces_none (intake_of c.args.form c.args.most (serving_of c.args.controller.now) g.D.Desk.tells) (g.S.Source.left c.args.source.now) (g.D.Desk.stopped desk) (record { failed = c.args.notes.now.failed; desk = g.D.Desk.seen desk })))
 
 pub returns-in_err-sessions-clause-answers : goal.returns-in_err-sessions-clause-answers
 returns-in_err-sessions-clause-answers g c =
     let desk = c.args.desk.now in
     let p = err_from_is_err_and c.from_residual-in_err-sessions.result c.from_residual-in_err-sessions.ensures.1 in
-    rw p.1 (rw p.2 (pieces_none c.args.form (serving_of c.args.controller.now) c.args.most (g.S.Source.left c.args.source.now) (g.D.Desk.seen desk).said c.args.notes.now.failed (g.D.Desk.seen desk) g.D.Desk.tells))
+    rw p.1 (rw p.2 (pieces_none (intake_of c.args.form c.args.most (serving_of c.args.controller.now) g.D.Desk.tells) (g.S.Source.left c.args.source.now) (g.D.Desk.stopped desk) (record { failed = c.args.notes.now.failed; desk = g.D.Desk.seen desk })))
 
 pub returns-in_err-mux-clause-until_failure : goal.returns-in_err-mux-clause-until_failure
 returns-in_err-mux-clause-until_failure g c = takes_none _
@@ -59,14 +58,11 @@ returns-in_err-stop-clause-answers g c =
 
 pub returns-in_err-tell_ending-clause-answers : goal.returns-in_err-tell_ending-clause-answers
 returns-in_err-tell_ending-clause-answers g c =
-    let k = serving_of c.args.controller.now in
-    let seen = g.D.Desk.seen in
     let left = c.in_err-tell_ending.ensures.unnoted in
     let p = err_from_is_err_and c.from_residual-in_err-tell_ending.result c.from_residual-in_err-tell_ending.ensures.1 in
-    rw p.1 (rw p.2 (input_starved c.in_ok-stop.stop.end c.args.form k c.args.most c.serve_pieces.new.sessions (serving_of c.serve_pieces.new.controller).machine c.serve_pieces.new.mux _ _
-    (seen c.args.desk.now).said (seen c.serve_pieces.new.desk).said (seen c.tell_ending.new.desk).said c.args.notes.now.failed c.serve_pieces.new.notes.failed c.tell_ending.new.notes.failed
-    (seen c.args.desk.now) (seen c.serve_pieces.new.desk) (seen c.tell_ending.new.desk) g.D.Desk.tells c.in_ok-stop.stop.bad
-    c.in_ok-stop.ensures.ok.0 c.in_ok-stop.ensures.end c.tell_ending.ensures.stops c.in_err-tell_ending.ensures.memory c.tell_ending.ensures.others.replies (ap (λ (x : Notes). x.failed) left.0) left.1.notes left.1.failed_notes))
+    rw p.1 (rw p.2 (input_starved {now = record { failed = c.tell_ending.new.notes.failed; desk = g.D.Desk.seen c.tell_ending.new.desk }} c.in_ok-stop.stop.end c.in_ok-stop.stop.bad
+    c.in_ok-stop.ensures.ok.0 c.in_ok-stop.ensures.end c.tell_ending.ensures.stops c.in_err-tell_ending.ensures.memory c.tell_ending.ensures.others.replies
+    (record { failed = ap (λ (x : Notes). x.failed) left.0; notes = left.1.notes; failed_notes = left.1.failed_notes })))
 
 pub returns-clause-alone : goal.returns-clause-alone
 returns-clause-alone g c = λ none. notes_behind (c.serve_pieces.ensures.alone none) c.tell_ending.ensures.others c.tell_ending.ensures.stops

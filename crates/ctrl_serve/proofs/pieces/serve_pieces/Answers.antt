@@ -1,9 +1,11 @@
-use Rattle.std.proofs.Common.{◌∙◌, ◌+◌, ◌≡◌, ◌≤◌, List, ℕ, [], length, take, ◌-◌, inr, refl, sym, ap, subst, append-nil, arith}
+use Rattle.std.proofs.Common.{◌∙◌, ◌+◌, ◌≡◌, ◌<◌, ◌≤◌, List, ℕ, [], length, take, ◌-◌, inr, refl, sym, ap, subst, append-nil, arith}
 use Rattle.std.proofs.lemmas.Result.{err_from_is_err_and}
 use Rattle.std.proofs.lemmas.List.{length-take, length-take-le}
 use Rattle.ziti_outside.specs.Told.{Gave}
 use Rattle.ziti_outside.proofs.Moves.{Gave-then, Gave-kept}
 use Rattle.run_notes.specs.Endings.{IsAllGiven}
+use Rattle.ctrl_serve.specs.Answering.{progress_at}
+use Rattle.ctrl_serve.specs.Pieces.{intake_of}
 use Rattle.ctrl_serve.specs.ControllerViews.{serving_of}
 use Rattle.ctrl_serve.proofs.ControllerLaws.{GoesOn-then, still_alone, OnlySaysAndNotes-none, OnlySaysAndNotes-then}
 use Rattle.ctrl_serve.proofs.FailureLaws.{takes_more, takes_none, takes_so_far}
@@ -20,7 +22,8 @@ pieces-init g c =
     record {
       on = record { able = c.requires.able; bounds = refl; kind = refl };
       ready = c.requires.ready;
-      answers = pieces_start c.args.form k c.args.most c.args.sessions.now c.args.mux.now (g.S.Source.left c.args.source.now) (g.D.Desk.seen desk).said c.args.notes.now.failed (g.D.Desk.seen desk) g.D.Desk.tells c.requires.known c.requires.start;
+      answers = pieces_start (intake_of c.args.form c.args.most k g.D.Desk.tells) (g.S.Source.left c.args.source.now) (g.D.Desk.stopped desk)
+          (progress_at c.args.sessions.now k c.args.mux.now c.args.notes.now.failed (g.D.Desk.seen desk)) c.requires.known refl c.requires.start;
       follows = λ some told. follows_start k.bounds (known_in c.args.form) k.machine (g.D.Desk.seen desk).reads;
       given = subst IsAllGiven (sym c.requires.start) (start_given c.args.form);
       few = omega arith;
@@ -40,7 +43,8 @@ pieces-preserved g c =
     let piece : List ℕ = take c.in-Ok.count c.take.new.buf in
     let long : length piece ≡ c.in-Ok.count = length-take-le c.in-Ok.count c.take.new.buf c.in-Ok.ensures.bytes.within in
     let few = short_piece c.in-Ok.count c.take.new.buf (omega (arith, c.in_ok-room.ensures, c.pieces.auto.piece, c.take.auto.buf)) in
-    let came = pieces_fed (take c.in-Ok.count c.take.new.buf) held.answers held.given.none (omega (arith, c.pieces-test.true)) c.in-Ok.ensures.bytes.bytes few c.first_bytes.ensures c.in_ok-feed-in-Ok.ensures.ok in
+    let within : c.pieces.taken ≤ c.args.most = omega (arith, c.pieces-test.true) in
+    let came = pieces_fed (take c.in-Ok.count c.take.new.buf) held.answers held.given.none within c.in-Ok.ensures.bytes.bytes few c.first_bytes.ensures c.in_ok-feed-in-Ok.ensures.ok in
     let now = fed_more c.in_ok-bad-in-Ok.bad came held.on.bounds e.ok.0 (λ some told. c.serve_events.ensures.stops (held.on.kind ∙ some) told) e.end (sym c.is_decided.ensures ∙ c.if-is_decided.false) (ap (λ (n : ℕ). c.pieces.taken + n) long) in
     record {
       on = GoesOn-then held.on e.on;
@@ -62,7 +66,7 @@ feed-requires g c =
     let held = c.pieces.invariant in
     let piece : List ℕ = take c.in-Ok.count c.take.new.buf in
     let few = short_piece c.in-Ok.count c.take.new.buf (omega (arith, c.in_ok-room.ensures, c.pieces.auto.piece, c.take.auto.buf)) in
-    let came = came_few held.answers in
+    let came : c.pieces.mux.before + length c.pieces.mux.input ≤ c.pieces.taken = came_few held.answers in
     let part : length c.first_bytes.result.now ≤ length piece = omega (arith, ap length c.first_bytes.ensures, length-take (c.args.most - c.pieces.taken) piece) in
     omega (arith, came, part, few, c.pieces-test.true, c.requires.most)
 
@@ -70,7 +74,7 @@ pub returns-in_err-room-clause-cut : goal.returns-in_err-room-clause-cut
 returns-in_err-room-clause-cut g c =
     let desk = c.args.desk.now in
     let p = err_from_is_err_and c.from_residual.result c.from_residual.ensures.1 in
-    rw p.1 (rw p.2 (pieces_none c.args.form (serving_of c.args.controller.now) c.args.most (g.S.Source.left c.args.source.now) (g.D.Desk.seen desk).said c.args.notes.now.failed (g.D.Desk.seen desk) g.D.Desk.tells))
+    rw p.1 (rw p.2 (pieces_none (intake_of c.args.form c.args.most (serving_of c.args.controller.now) g.D.Desk.tells) (g.S.Source.left c.args.source.now) (g.D.Desk.stopped desk) (record { failed = c.args.notes.now.failed; desk = g.D.Desk.seen desk })))
 
 pub returns-in_err-room-clause-until_failure : goal.returns-in_err-room-clause-until_failure
 returns-in_err-room-clause-until_failure g c = takes_none _
@@ -78,9 +82,9 @@ returns-in_err-room-clause-until_failure g c = takes_none _
 pub returns-in-Err-clause-ok : goal.returns-in-Err-clause-ok
 returns-in-Err-clause-ok g c =
     let held = c.pieces.invariant in
-    let taken : List ℕ = held.answers.takes.taken in (
-      pieces_end held.answers
-          (Gave-kept _ _ _ taken held.answers.takes.gave c.in-Err.ensures.bytes.bytes) (omega (arith, held.answers.counted, c.pieces-test.true)),
+    let taken : List ℕ = held.answers.takes.taken in
+    let few : length taken ≤ c.args.most = omega (arith, held.answers.counted, c.pieces-test.true) in (
+      pieces_end held.answers (Gave-kept _ _ _ taken held.answers.takes.gave c.in-Err.ensures.bytes.bytes) few,
       held.follows,
     )
 
@@ -94,10 +98,11 @@ returns-in-Ok-eq0-clause-ok g c =
     let held = c.pieces.invariant in
     let left = g.S.Source.left in
     let taken : List ℕ = held.answers.takes.taken in
-    let none : Gave (left c.pieces.source) (left c.take.new.self) [] = subst (λ (n : ℕ). Gave (left c.pieces.source) (left c.take.new.self) (take n c.take.new.buf)) c.in-Ok-eq0.field-0-test c.in-Ok-eq0.ensures.bytes.bytes in (
+    let none : Gave (left c.pieces.source) (left c.take.new.self) [] = subst (λ (n : ℕ). Gave (left c.pieces.source) (left c.take.new.self) (take n c.take.new.buf)) c.in-Ok-eq0.field-0-test c.in-Ok-eq0.ensures.bytes.bytes in
+    let few : length taken ≤ c.args.most = omega (arith, held.answers.counted, c.pieces-test.true) in (
       pieces_end held.answers
           (subst (λ (bytes : List ℕ). Gave (left c.args.source.now) (left c.take.new.self) bytes) (append-nil taken) (Gave-then _ _ _ taken [] held.answers.takes.gave none))
-          (inr (omega (arith, held.answers.counted, c.pieces-test.true), c.in-Ok-eq0.ensures.bytes.end c.in-Ok-eq0.field-0-test)),
+          (inr (few, c.in-Ok-eq0.ensures.bytes.end c.in-Ok-eq0.field-0-test)),
       held.follows,
     )
 
@@ -111,7 +116,8 @@ returns-in_err-feed-in-Ok-clause-cut g c =
     let held = c.pieces.invariant in
     let few = short_piece c.in-Ok.count c.take.new.buf (omega (arith, c.in_ok-room.ensures, c.pieces.auto.piece, c.take.auto.buf)) in
     let p = err_from_is_err_and c.from_residual-in_err-feed-in-Ok.result c.from_residual-in_err-feed-in-Ok.ensures.1 in
-    let came = pieces_fed (take c.in-Ok.count c.take.new.buf) held.answers held.given.none (omega (arith, c.pieces-test.true)) c.in-Ok.ensures.bytes.bytes few c.first_bytes.ensures refl in
+    let within : c.pieces.taken ≤ c.args.most = omega (arith, c.pieces-test.true) in
+    let came = pieces_fed (take c.in-Ok.count c.take.new.buf) held.answers held.given.none within c.in-Ok.ensures.bytes.bytes few c.first_bytes.ensures refl in
     rw p.1 (rw p.2 (fed_starved came))
 
 pub returns-in_err-feed-in-Ok-clause-until_failure : goal.returns-in_err-feed-in-Ok-clause-until_failure
@@ -124,7 +130,8 @@ returns-in_err-bad-in-Ok-clause-cut g c =
     let held = c.pieces.invariant in
     let few = short_piece c.in-Ok.count c.take.new.buf (omega (arith, c.in_ok-room.ensures, c.pieces.auto.piece, c.take.auto.buf)) in
     let p = err_from_is_err_and c.from_residual-in_err-bad-in-Ok.result c.from_residual-in_err-bad-in-Ok.ensures.1 in
-    let came = pieces_fed (take c.in-Ok.count c.take.new.buf) held.answers held.given.none (omega (arith, c.pieces-test.true)) c.in-Ok.ensures.bytes.bytes few c.first_bytes.ensures c.in_ok-feed-in-Ok.ensures.ok in
+    let within : c.pieces.taken ≤ c.args.most = omega (arith, c.pieces-test.true) in
+    let came = pieces_fed (take c.in-Ok.count c.take.new.buf) held.answers held.given.none within c.in-Ok.ensures.bytes.bytes few c.first_bytes.ensures c.in_ok-feed-in-Ok.ensures.ok in
     rw p.1 (rw p.2 (fed_cut came held.on.bounds c.in_err-bad-in-Ok.ensures.cut (λ some told. c.serve_events.ensures.stops (held.on.kind ∙ some) told)))
 
 pub returns-in_err-bad-in-Ok-clause-until_failure : goal.returns-in_err-bad-in-Ok-clause-until_failure
@@ -137,7 +144,8 @@ returns-then-is_decided-clause-ok g c =
     let held = c.pieces.invariant in
     let e = c.in_ok-bad-in-Ok.ensures in
     let few = short_piece c.in-Ok.count c.take.new.buf (omega (arith, c.in_ok-room.ensures, c.pieces.auto.piece, c.take.auto.buf)) in
-    let came = pieces_fed (take c.in-Ok.count c.take.new.buf) held.answers held.given.none (omega (arith, c.pieces-test.true)) c.in-Ok.ensures.bytes.bytes few c.first_bytes.ensures c.in_ok-feed-in-Ok.ensures.ok in (
+    let within : c.pieces.taken ≤ c.args.most = omega (arith, c.pieces-test.true) in
+    let came = pieces_fed (take c.in-Ok.count c.take.new.buf) held.answers held.given.none within c.in-Ok.ensures.bytes.bytes few c.first_bytes.ensures c.in_ok-feed-in-Ok.ensures.ok in (
       fed_decided c.in_ok-bad-in-Ok.bad came held.on.bounds e.ok.0 (λ some told. c.serve_events.ensures.stops (held.on.kind ∙ some) told) e.end (sym c.is_decided.ensures ∙ c.if-is_decided.true),
       λ some told.
           follows_then held.on.bounds held.answers.answers.known_is held.answers.answers.machine_is (held.follows some told) (e.ok.1 (held.on.kind ∙ some) told),
@@ -154,9 +162,9 @@ returns-then-is_decided-clause-alone g c = λ none.
 
 pub returns-clause-ok : goal.returns-clause-ok
 returns-clause-ok g c =
-    let held = c.pieces.invariant in (
-      pieces_end held.answers held.answers.takes.gave
-          (omega (arith, held.answers.counted, c.pieces-test.false)),
+    let held = c.pieces.invariant in
+    let more : c.args.most < length held.answers.takes.taken = omega (arith, held.answers.counted, c.pieces-test.false) in (
+      pieces_end held.answers held.answers.takes.gave more,
       held.follows,
     )
 

@@ -10,7 +10,7 @@ returns-in_err-serve_frame-clause-cut g c =
 
 pub returns-clause-ok : goal.returns-clause-ok
 returns-clause-ok g c =
-    arrived_taken c.args.form _ c.args.session c.replied.result c.args.frame.now c.args.sessions.now c.reply.new.self _ _ c.sender.result.now _ _ c.replied.ensures c.sender.ensures c.reply.ensures c.in_ok-serve_frame.ensures.ok
+    arrived_taken c.args.form _ c.args.session c.replied.result c.args.frame.now c.sender.result.now _ _ c.replied.ensures c.sender.ensures c.reply.ensures c.in_ok-serve_frame.ensures.ok
 
 pub returns-clause-stops : goal.returns-clause-stops
 returns-clause-stops g c = λ some told.

@@ -4,6 +4,7 @@ use Rattle.ziti_outside.proofs.MomentLaws.{Elapses-none}
 use Rattle.session_mux.specs.declared.events.MuxFault.{MuxFault}
 use Rattle.session_mux.specs.MuxSteps.{GivesFault}
 use Rattle.run_notes.specs.declared.notes.Notes.{Notes}
+use Rattle.ctrl_serve.specs.Answering.{progress_at}
 use Rattle.ctrl_serve.specs.ControllerViews.{serving_of}
 use Rattle.run_notes.specs.Endings.{IsStuckAt}
 use Rattle.ctrl_serve.proofs.ControllerLaws.{GoesOn-then, still_alone, OnlySaysAndNotes-none, OnlySaysAndNotes-then}
@@ -20,7 +21,7 @@ events-init g c =
     record {
       on = record { able = c.requires.able; bounds = refl; kind = refl };
       ready = c.requires.ready;
-      answers = answers_start c.args.form k.bounds c.args.sessions.now c.args.sessions.now k.machine c.args.mux.now (g.D.Desk.seen desk).said c.args.notes.now.failed (g.D.Desk.seen desk) refl;
+      answers = answers_start c.args.form k.bounds (progress_at c.args.sessions.now k c.args.mux.now c.args.notes.now.failed (g.D.Desk.seen desk));
       follows = λ some told. follows_start k.bounds c.args.sessions.now k.machine (g.D.Desk.seen desk).reads;
       calm = refl;
       calm_disk = refl;
@@ -61,7 +62,7 @@ returns-in_err-serve_event-in-Ok-Some-clause-cut g c =
     let p = err_from_is_err_and c.from_residual.result c.from_residual.ensures.1 in
     let held = c.events.invariant in
     let cut = c.in_err-serve_event-in-Ok-Some.ensures in
-    rw p.1 (rw p.2 (cut_answers held.on.bounds held.answers goes cut.cut (ap (λ (x : Notes). x.failed) cut.unnoted.0) cut.unnoted.1.notes cut.unnoted.1.failed_notes))
+    rw p.1 (rw p.2 (cut_answers {now = record { failed = c.serve_event.new.notes.failed; desk = g.D.Desk.seen c.serve_event.new.desk }} held.on.bounds held.answers goes cut.cut (record { failed = ap (λ (x : Notes). x.failed) cut.unnoted.0; notes = cut.unnoted.1.notes; failed_notes = cut.unnoted.1.failed_notes })))
 
 pub returns-in-Ok-None-clause-end : goal.returns-in-Ok-None-clause-end
 returns-in-Ok-None-clause-end g c =

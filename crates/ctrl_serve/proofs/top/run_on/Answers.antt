@@ -1,46 +1,40 @@
-use Rattle.std.proofs.Common.{Err, refl, ap, ◌∙◌}
+use Rattle.std.proofs.Common.{Err, ap, ◌∙◌}
 use Rattle.journal_core.proofs.RoomLaws.{held_none, held_then}
-use Rattle.ctrl_serve.specs.ControllerViews.{serving_of}
 use Rattle.ctrl_serve.proofs.ControllerLaws.{notes_behind}
-use Rattle.ctrl_serve.proofs.IntakeLaws.{all_no_fault, write_calm, disk_calm, cut_write, cut_disk}
-use Rattle.ctrl_serve.proofs.ReplayLaws.{cut_is_read, cut_run_counted, cut_runs, cut_undisked, input_counts, input_run_counted, input_runs}
+use Rattle.ctrl_serve.proofs.IntakeLaws.{all_no_fault, input_counted, write_calm, disk_calm, cut_write, cut_disk}
+use Rattle.ctrl_serve.proofs.ReplayLaws.{cut_is_read, cut_run_counted, cut_runs, cut_undisked, input_counts, input_runs}
 use Rattle.ctrl_serve.proofs.top.run_on.Goals as goal
 
 pub returns-in-Ok-clause-runs : goal.returns-in-Ok-clause-runs
 returns-in-Ok-clause-runs g c =
-    let k = serving_of c.args.controller.now in
     let e = c.in-Ok.ensures in
     input_runs (record { left = g.S.Source.left; faults = g.S.Source.faults; tells = g.D.Desk.tells; seen = g.D.Desk.seen; stopped = g.D.Desk.stopped })
-    c.args.form k c.args.most c.serve_input.new.controller c.args.source.now c.serve_input.new.source c.args.desk.now c.serve_input.new.desk c.new-notes.result.failed c.serve_input.new.notes.failed c.in-Ok.status
-    c.new-notes.ensures e.answers.0 e.answers.1 e.on e.ready
+    c.serve_input.new.controller c.in-Ok.status e.answers.0 c.new-notes.ensures e.answers.1 e.on e.ready
 
 pub returns-in-Ok-clause-counts : goal.returns-in-Ok-clause-counts
 returns-in-Ok-clause-counts g c =
-    let k = serving_of c.args.controller.now in
     let e = c.in-Ok.ensures in
-    let not = all_no_fault c.args.form _ _ _ _ c.in-Ok.status _ _ _ _ _ _ e.answers.0.all in
+    let not = all_no_fault e.answers.0.all in
     input_counts _ _ _ _ c.in-Ok.status e.read c.serve_input.ensures.counted c.serve_input.ensures.until_failure (write_calm _ _ c.in-Ok.status e.say_cause.calm not.0) (disk_calm _ _ c.in-Ok.status e.disk_cause.calm not.1)
-    (input_run_counted c.args.form k c.args.most _ _ _ _ _ _ _ c.new-notes.result.failed c.serve_input.new.notes.failed g.D.Desk.tells _ c.in-Ok.status c.new-notes.ensures e.answers.0)
+    (input_counted c.in-Ok.status e.answers.0 c.new-notes.ensures)
 
 pub returns-in-Ok-clause-undisked : goal.returns-in-Ok-clause-undisked
-returns-in-Ok-clause-undisked g c = λ alone. (all_no_fault c.args.form _ _ _ _ c.in-Ok.status _ _ _ _ _ _ c.in-Ok.ensures.answers.0.all).1
+returns-in-Ok-clause-undisked g c = λ alone. (all_no_fault c.in-Ok.ensures.answers.0.all).1
 
 pub returns-in-Err-clause-runs : goal.returns-in-Err-clause-runs
 returns-in-Err-clause-runs g c =
-    let k = serving_of c.args.controller.now in
     let t = c.tell_cut_behind.ensures in
     cut_runs (record { left = g.S.Source.left; faults = g.S.Source.faults; tells = g.D.Desk.tells; seen = g.D.Desk.seen; stopped = g.D.Desk.stopped })
-    c.in-Err.cut c.args.form k c.args.most c.args.source.now c.serve_input.new.source c.args.desk.now c.serve_input.new.desk c.tell_cut_behind.new.desk c.new-notes.result.failed c.serve_input.new.notes.failed c.tell_cut_behind.new.notes.failed c.tell_cut_behind.result
-    t.status c.new-notes.ensures c.in-Err.ensures.answers t.others t.stops t.noted
+    c.in-Err.cut c.tell_cut_behind.new.notes.failed c.tell_cut_behind.result t.status c.in-Err.ensures.answers c.new-notes.ensures t.others t.stops t.noted
 
 pub returns-in-Err-clause-counts : goal.returns-in-Err-clause-counts
 returns-in-Err-clause-counts g c =
-    let k = serving_of c.args.controller.now in
     let t = c.tell_cut_behind.ensures in
     input_counts _ _ _ _ c.tell_cut_behind.result (cut_is_read c.in-Err.cut _ _ c.tell_cut_behind.result t.status) c.serve_input.ensures.counted c.serve_input.ensures.until_failure
     (cut_write c.in-Err.cut _ _ _ c.tell_cut_behind.result c.in-Err.ensures.say_cause t.others.failed_says t.status)
     (cut_disk c.in-Err.cut _ _ _ c.tell_cut_behind.result c.in-Err.ensures.disk_cause t.others.failed_calls t.status)
-    (cut_run_counted c.in-Err.cut c.args.form k c.args.most _ _ _ _ _ _ _ c.new-notes.result.failed c.serve_input.new.notes.failed c.tell_cut_behind.new.notes.failed g.D.Desk.tells _ c.tell_cut_behind.result t.status c.new-notes.ensures c.in-Err.ensures.answers t.noted)
+    (cut_run_counted c.in-Err.cut (record { failed = c.tell_cut_behind.new.notes.failed; desk = g.D.Desk.seen c.tell_cut_behind.new.desk }) c.tell_cut_behind.result t.status
+    c.in-Err.ensures.answers c.new-notes.ensures t.noted)
 
 pub returns-in-Err-clause-undisked : goal.returns-in-Err-clause-undisked
 returns-in-Err-clause-undisked g c = λ none.
