@@ -12,6 +12,7 @@ use Rattle.session_mux.specs.declared.sessions.Form.{Form}
 use Rattle.run_notes.specs.declared.status.Status.{Status}
 use Rattle.ctrl_serve.specs.FrameAnswer.{last_batches, last_machine}
 use Rattle.ctrl_serve.specs.OpenedFolders.{Keeps, OpensTo}
+use Rattle.ctrl_serve.specs.UncompactedFolders.{LeavesOtherSlot}
 use Rattle.memory_runs.specs.WholeReplays.{bounds, used, IsNoted, IsRefused, IsWhole}
 use Rattle.memory_runs.specs.Replays.{IsAsSeen}
 
@@ -46,6 +47,7 @@ whole_so form m input folder before now other status same at whole seen is =
       opens = subst (λ (i : Image). OpensToState i (last_machine form bounds m (used input)).state) (sym seen.reads) whole.opens;
       stands = λ batches stood. subst (λ (i : Image). Stands i (last_batches form bounds m (used input) batches)) (sym seen.reads) (whole.stands batches stood);
       same = λ some still. seen.reads ∙ whole.same some still;
+      elsewhere = λ none. subst (λ (i : Image). LeavesOtherSlot before i) (sym seen.reads) (whole.elsewhere none);
     }))
 
 pub refused_so : (part : Part) (at : ℕ) (folder before : Image) (now other : Seen) (status same : Status) → before ≡ folder → IsRefused part at before now status → IsAsSeen now other
