@@ -22,8 +22,8 @@ use run_notes::{Cut, Full, Status, tell_cut, tell_damage, tell_full};
 use std::alloc::Global;
 use ziti_outside::Desk;
 
-/// Notes why the folder was not opened, and answers that status; for want of memory that one.
-pub(crate) fn tell_closed<D: Desk>(alloc: Global, fault: KeepFault, desk: &mut D) -> Status
+/// Notes why the folder was not opened, and answers that status. It wants no memory.
+pub(crate) fn tell_closed<D: Desk>(fault: KeepFault, desk: &mut D) -> Status
     requires { fault ≢ KeepFault.Spent }
     ensures told { TellsClosed fault result (D.seen desk.old) (D.seen desk.new) }
     ensures counted { RisesOnce (D.seen desk.old).note_faults (D.seen desk.new).note_faults }
@@ -32,7 +32,7 @@ pub(crate) fn tell_closed<D: Desk>(alloc: Global, fault: KeepFault, desk: &mut D
 {
     match fault {
         KeepFault::Disk => tell_cut(Cut::Disk, desk),
-        KeepFault::Damaged { part, at } => tell_damage(alloc, part, at, desk),
+        KeepFault::Damaged { part, at } => tell_damage(part, at, desk),
         KeepFault::NoMemory => tell_cut(Cut::NoMemory, desk),
         KeepFault::Spent => unreachable!(),
     }
@@ -64,7 +64,7 @@ pub fn run_audit<D: Desk>(alloc: Global, desk: &mut D) -> Status
 {
     match peek(alloc, desk) {
         Ok(core) => say_counts(alloc, core, desk),
-        Err(fault) => tell_closed(alloc, fault, desk),
+        Err(fault) => tell_closed(fault, desk),
     }
 }
 
@@ -140,6 +140,6 @@ pub fn run_compact<D: Desk>(alloc: Global, bounds: StoreBounds, desk: &mut D) ->
 {
     match Kept::open(alloc, desk, bounds) {
         Ok(kept) => compact_opened(kept, desk),
-        Err(fault) => tell_closed(alloc, fault, desk),
+        Err(fault) => tell_closed(fault, desk),
     }
 }

@@ -103,7 +103,7 @@ fn run_replay<S: Source, D: Desk>(
             drop(controller);
             status
         }
-        Err(fault) => tell_closed(alloc, fault, desk),
+        Err(fault) => tell_closed(fault, desk),
     }
 }
 

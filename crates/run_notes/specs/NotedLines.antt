@@ -34,10 +34,3 @@ FindsNoMore stopped old new = Elapses (stopped old) (stopped new) (λ image take
 abbrev pub IsNoteCaused : List ℕ → (before now : Seen) → Bool → Type 0
 IsNoteCaused lines before now true = Took before.noted now.noted lines × (now.note_faults ≡ before.note_faults)
 IsNoteCaused lines before now false = Rose before.note_faults now.note_faults
-
--- What the telling of a damaged folder answers, that status or want of memory, and what it noted.
-pub record TellsDamage (part : Part) (at : ℕ) (result : Status) (before now : Seen) : Type 0 where
-  pub same : (result ≡ Damaged) ⊎ (result ≡ NoMemory)
-  pub damaged : result ≡ Damaged → NotesLines (damaged_note part at) before now
-  pub memory : result ≡ NoMemory → NotesLines (status_lines [] NoMemory) before now
-  pub counted : RisesOnce before.note_faults now.note_faults
