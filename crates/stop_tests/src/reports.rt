@@ -1,4 +1,5 @@
-//! Advice on two names by the folder: of a line of routers behind some more rows, and where the folder keeps nothing or is damaged.
+//! Advice on two names by the folder: of a line of routers behind some more rows, where the folder keeps nothing or is damaged, and words
+//! that are no line.
 
 use crate::desks::EMPTY;
 use crate::folders::{AMPLE, ANN_SLOT, Ended, answers, has_parts, ran};
@@ -17,8 +18,8 @@ const ANN_WEB: [&str; 2] = ["ann", "web"];
 const YES: &[u8] =
     b"{\"admissible\":[1],\"bind\":0,\"common\":[\"r1\"],\"dial\":1,\"online\":[\"r1\"],\"policies\":[[\"d\",true,true]],\"rule\":0,\"terminators\":[1],\"yes\":true}\n";
 
-/// Nothing is found of an identity in an empty folder.
-const NOTHING: &[u8] =
+/// Nothing is found of an identity where a folder keeps nothing.
+pub(crate) const NO_ONE: &[u8] =
     b"{\"admissible\":[],\"bind\":0,\"common\":[],\"dial\":0,\"online\":[],\"policies\":[],\"rule\":30,\"terminators\":[],\"yes\":false}\n";
 
 /// What one command makes other, and names that nothing has. No path past r2 makes nothing other, nor does a terminator of an instance.
@@ -129,36 +130,53 @@ fn says_why_and_changes_nothing(rt: HostRuntime) -> Result<(), Fail> {
 const USAGE: &str =
     "zitictl: usage: zitictl dry | replay [--sessions] | audit | compact | load N | advise I S\n";
 
-/// An empty folder and a damaged one, and words that are no line: a name short, one too many, and what is no name.
-const OTHERS: [(&[&str], [&[u8]; 3], Ended<'static>); 6] = [
-    (
-        &["advise", "ann", "web"],
-        EMPTY,
-        (Status::Done, NOTHING, ""),
-    ),
-    (
-        &["advise", "ann", "web"],
-        [b"", ANN_SLOT, FIRST],
-        (Status::Damaged, b"", "zitictl: damaged: file 0 at 0\n"),
-    ),
-    (&["advise", "ann"], EMPTY, (Status::Usage, b"", USAGE)),
-    (
-        &["advise", "ann", "web", "api"],
-        EMPTY,
-        (Status::Usage, b"", USAGE),
-    ),
-    (&["advise", "", "web"], EMPTY, (Status::Usage, b"", USAGE)),
-    (
-        &["advise", "ann", "#web"],
-        EMPTY,
-        (Status::Usage, b"", USAGE),
-    ),
+const AT_START: &str = "zitictl: damaged: file 0 at 0\n";
+
+/// A slot in which ann's record stands behind a gate that is still closed.
+const PENDING_SLOT: &[u8] =
+    b"ZCTL\x01\0\0\0\0\x1c\0\0\0\x01\x02\x01\x01\x04\0\0\0\x02\0\0\0\x01\x05\x03\0\0\0\x01\x05\0\0\0\x03ann\0\0";
+
+/// A slot of another format.
+const FOREIGN_SLOT: &[u8] = b"ZCTL\x03\0\0\0\0";
+
+/// Folders that keep nothing: without a byte, without a mark, and with a record that is pending.
+const BARE: [[&[u8]; 3]; 3] = [EMPTY, [ANN_SLOT, b"", b""], [PENDING_SLOT, b"", FIRST]];
+
+/// Damaged folders: the slot that stands is cut, or of another format.
+const DAMAGED: [[&[u8]; 3]; 2] = [[b"", ANN_SLOT, FIRST], [FOREIGN_SLOT, ANN_SLOT, FIRST]];
+
+#[test]
+fn tells_other_folders(rt: HostRuntime) -> Result<(), Fail> {
+    let words = ["advise", "ann", "web"];
+    for parts in BARE {
+        advises(&rt, rt.alloc(), &words, parts, (Status::Done, NO_ONE, ""))?;
+    }
+    for parts in DAMAGED {
+        advises(
+            &rt,
+            rt.alloc(),
+            &words,
+            parts,
+            (Status::Damaged, b"", AT_START),
+        )?;
+    }
+    Ok(())
+}
+
+/// Words that are no line: a name short, one too many, and what is no name.
+const NO_LINES: [&[&str]; 6] = [
+    &["advise"],
+    &["advise", "ann"],
+    &["advise", "ann", "web", "api"],
+    &["advise", "", "web"],
+    &["advise", "@ann", "web"],
+    &["advise", "ann", "#web"],
 ];
 
 #[test]
-fn tells_other_folders_and_words(rt: HostRuntime) -> Result<(), Fail> {
-    for (words, parts, ended) in &OTHERS {
-        advises(&rt, rt.alloc(), words, *parts, *ended)?;
+fn tells_words_that_are_no_line(rt: HostRuntime) -> Result<(), Fail> {
+    for words in NO_LINES {
+        advises(&rt, rt.alloc(), words, EMPTY, (Status::Usage, b"", USAGE))?;
     }
     Ok(())
 }
