@@ -13,7 +13,8 @@ use policy_advisor::{advise, report};
 use std::alloc::{AllocError, Global};
 
 /// What is asked of the state of a folder that is looked at.
-pub(crate) enum Look<'a> {
+#[derive(Clone, Copy)]
+pub enum Look<'a> {
     /// The counts line.
     Counts,
     /// The advice on the names of an identity and of a service.
