@@ -3,6 +3,7 @@ pub mod RouteFits
 pub mod CarriedFits
 pub mod ControllerLaws
 pub mod RoomRuns
+pub mod AdviseWords
 pub mod KnownLaws
 pub mod FollowedRuns
 pub mod TurnLaws

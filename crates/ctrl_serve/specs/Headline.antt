@@ -1,5 +1,5 @@
 -- What a run promises, for every line of words (docs/PROMISES.md, "The headline").
-use Rattle.std.specs.Prelude.{◌≡◌, ◌↔◌, ℕ, ◌+◌, ◌<◌, ◌≤◌, ◌^◌, ◌⊎◌, nat_lt, Bool, true, false, IsTrue, None, Some, is_some, List, [], ◌++◌, length, take}
+use Rattle.std.specs.Prelude.{◌≡◌, ◌↔◌, ℕ, ◌+◌, ◌<◌, ◌≤◌, ◌^◌, ◌⊎◌, nat_lt, Bool, true, false, IsTrue, None, Some, is_some, List, [], ◌∷◌, ◌++◌, codes, length, take}
 use Rattle.std.specs.declared.option.Option.{Option}
 use Rattle.std.specs.Io.KnownBytes.{IsAtEnd}
 use Rattle.ziti_outside.specs.Told.{Gave, Took, AreTaken}
@@ -24,7 +24,7 @@ use Rattle.session_mux.specs.declared.events.Event.{Event}
 use Rattle.session_mux.specs.declared.sessions.Form.{Form}
 use Rattle.session_mux.specs.declared.sessions.Form.TheVariants.{Plain}
 use Rattle.ctrl_serve.specs.declared.command_line.Form as command
-use Rattle.ctrl_serve.specs.declared.command_line.Form.TheVariants.{Dry, Replay, Audit, Compact, Load}
+use Rattle.ctrl_serve.specs.declared.command_line.Form.TheVariants.{Dry, Replay, Audit, Compact, Load, Advise}
 use Rattle.run_notes.specs.declared.status.Status.{Status}
 use Rattle.run_notes.specs.declared.status.Status.TheVariants.{Done, Usage, ReadFault, WriteFault, DiskFault, Damaged, NoMemory}
 use Rattle.ctrl_serve.specs.CommandLine.{reads_input}
@@ -36,7 +36,7 @@ use Rattle.run_notes.specs.Inputs.{events_in}
 use Rattle.run_notes.specs.Endings.{ending, is_cut, is_kept}
 use Rattle.ctrl_serve.specs.SaidReplies.{Says}
 use Rattle.ctrl_serve.specs.Loads.{counts_line, state_of_load, SaysOneLine, IsSaid}
-use Rattle.ctrl_serve.specs.FolderWords.{Audits, Compacts}
+use Rattle.ctrl_serve.specs.FolderWords.{Advises, Audits, Compacts}
 use Rattle.ctrl_serve.specs.RunStops.{AllOpenTo, StopFinds}
 use Rattle.ctrl_serve.specs.UncompactedFolders.{CompactsNothing, LeavesOtherSlot}
 use Rattle.run_notes.specs.Notes.{usage_note, damaged_note, status_lines, notes_of}
@@ -171,7 +171,7 @@ pub record Replays {S D : Type 0} (taking : Taking) (bounds : StoreBounds) (o : 
       (λ image taken. StopFinds taking.form bounds machine (events_in taking.form (take taking.most serves.taken)) (o.seen desk).said image taken
       ⊎ Now (After StandsAsBefore (o.stopped desk).images) (o.seen desk).said image taken)
 
--- A run that was asked for a line of the table of words, or for none of its lines.
+-- A run on some words, which ask for a line of the table of words, or for none of its lines.
 --
 -- Usage comes exactly where the words are no line. Then nothing is taken, the usage note is written, and the desk is left alone
 -- otherwise: nothing is said, and the folder stays, at every moment.
@@ -191,12 +191,14 @@ pub record Replays {S D : Type 0} (taking : Taking) (bounds : StoreBounds) (o : 
 -- Under `audit` nothing is taken, and the folder is left alone. Where it opens to a state, the counts line of that state is said; where
 -- it opens to none, nothing is said.
 --
+-- Under `advise I S`, whose last two words are names, the same holds of the report on the identity and the service of these names.
+--
 -- Under `compact` nothing is taken and said. The folder is opened first; where it opens to a machine, it is compacted, or the compaction is
 -- refused for want of room, with the status FolderFull.
 --
 -- Under all words no slot reads longer at the end than the bound, unless it read longer at the start; then it reads no longer than that. So
 -- it is of what a stop may leave at the end, against what one might have left at the start.
-pub record Runs {S D : Type 0} (o : Outside S D) (bounds : Bounds) (form : Option command.Form) (source source_now : S) (desk desk_now : D) (status : Status) : Type 0 where
+pub record Runs {S D : Type 0} (o : Outside S D) (bounds : Bounds) (words : List (List ℕ)) (form : Option command.Form) (source source_now : S) (desk desk_now : D) (status : Status) : Type 0 where
   pub usage : (status ≡ Usage) ↔ (form ≡ None)
   pub usage_takes_nothing : form ≡ None → source_now ≡ source
   pub usage_notes_alone : form ≡ None → OnlyNotes o.seen o.stopped desk desk_now
@@ -230,6 +232,11 @@ pub record Runs {S D : Type 0} (o : Outside S D) (bounds : Bounds) (form : Optio
       ⊎ Audits o.tells (o.seen desk) (o.seen desk_now) status
   pub audit_takes_nothing : form ≡ Some Audit → source_now ≡ source
   pub audit_changes_nothing : form ≡ Some Audit → IsLeftAlone o.seen o.stopped desk desk_now
+  pub advise : (i s : List ℕ) → words ≡ codes "advise" ∷ i ∷ s ∷ [] → form ≡ Some Advise
+      → IsUnopened o.tells o.seen o.stopped desk desk_now status
+      ⊎ Advises i s o.tells (o.seen desk) (o.seen desk_now) status
+  pub advise_takes_nothing : form ≡ Some Advise → source_now ≡ source
+  pub advise_changes_nothing : form ≡ Some Advise → IsLeftAlone o.seen o.stopped desk desk_now
   pub compact : form ≡ Some Compact
       → IsUnopened o.tells o.seen o.stopped desk desk_now status
       ⊎ Compacts (folder_bounds bounds) o.tells (o.seen desk) (o.seen desk_now) (o.stopped desk) (o.stopped desk_now) status

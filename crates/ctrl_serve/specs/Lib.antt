@@ -10,6 +10,7 @@ pub mod RunStops
 pub mod FolderWords
 pub mod FolderRuns
 pub mod UncompactedFolders
+pub mod LookedLines
 pub mod Headline
 pub mod Controllers
 pub mod ControllerViews

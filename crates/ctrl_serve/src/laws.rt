@@ -1,10 +1,11 @@
-ghost use Rattle.std.specs.Prelude.{◌≡◌, ◌⊎◌, ℕ, ◌≢◌, ◌<◌, ◌≤◌, ◌^◌, Bool, true, false, IsTrue, List, [], ◌++◌, codes, decimal, length, take, None, Some};
+ghost use Rattle.std.specs.Prelude.{◌≡◌, ◌⊎◌, ℕ, ◌≢◌, ◌<◌, ◌≤◌, ◌^◌, Bool, true, false, IsTrue, List, [], ◌∷◌, ◌++◌, codes, decimal, length, take, None, Some};
 ghost use Rattle.std.specs.declared.option.Option.{Option};
 ghost use Rattle.channel_frame.specs.declared.frames.Frame.{Frame};
 ghost use Rattle.channel_frame.specs.StreamReading.{Reads, fault_of, frames_of, rest_of};
 ghost use Rattle.ctrl_model.specs.declared.kinds.Who.TheVariants.{Admin};
 ghost use Rattle.ctrl_model.specs.State.{State};
 ghost use Rattle.ctrl_keep.specs.KeptMachine.{Machine};
+ghost use Rattle.policy_advisor.specs.Reports.{report_of};
 ghost use Rattle.row_store.specs.OpenedStates.{OpensToState, IsStateless};
 ghost use Rattle.row_store.specs.declared.bounds.StoreBounds.{StoreBounds};
 ghost use Rattle.session_mux.specs.declared.events.Event.{Event};
@@ -30,7 +31,7 @@ ghost use Rattle.ctrl_serve.specs.Loads.{counts_line, IsSaid, SaysOneLine};
 ghost use Rattle.ctrl_serve.specs.RunStops.{StopFinds, HoldsFirst};
 ghost use Rattle.ctrl_serve.specs.OpenedFolders.{OpensTo};
 ghost use Rattle.ctrl_serve.specs.CommandLine.{number_of_word};
-ghost use Rattle.ctrl_serve.specs.declared.command_line.Form.TheVariants.{Replay, Audit, Compact};
+ghost use Rattle.ctrl_serve.specs.declared.command_line.Form.TheVariants.{Replay, Audit, Compact, Advise};
 ghost use Rattle.ctrl_serve.specs.CompleteRuns.{IsCalm, CompletesFrom, ComesOutFrom};
 ghost use Rattle.ziti_outside.specs.Views.{Seen};
 ghost use Rattle.ctrl_serve.specs.declared.bounds.Bounds.{Bounds};
@@ -161,26 +162,30 @@ pub fn runs_without_compact_leave_the_other_slot<S: Source, D: Desk>()
         → (replays : Replays taking bounds (record { left = S.left; faults = S.faults; tells = D.tells; seen = D.seen; stopped = D.stopped }) source source_now desk desk_now status)
         → is_kept status ≡ true → IsTrue D.tells → ask_for_compact (completed taking.form (take taking.most replays.serves.taken)) ≡ false
         → LeavesOtherSlot (D.seen desk).reads (D.seen desk_now).reads }
-    ensures done { (bounds : Bounds) (form : Form) (source source_now : S) (desk desk_now : D) (bytes : List ℕ)
-        → Runs (record { left = S.left; faults = S.faults; tells = D.tells; seen = D.seen; stopped = D.stopped }) bounds (Some (Replay form)) source source_now desk desk_now Done
+    ensures done { (bounds : Bounds) (words : List (List ℕ)) (form : Form) (source source_now : S) (desk desk_now : D) (bytes : List ℕ)
+        → Runs (record { left = S.left; faults = S.faults; tells = D.tells; seen = D.seen; stopped = D.stopped }) bounds words (Some (Replay form)) source source_now desk desk_now Done
         → S.left source ≡ Some bytes → IsTrue D.tells → ask_for_compact (completed form bytes) ≡ false → LeavesOtherSlot (D.seen desk).reads (D.seen desk_now).reads }
 {}
 
 /// What a run on a folder comes to where no call failed, those of notes aside, and the folder tells its bytes and opens to a state. Want of memory
 /// is the one thing that may still cut it short. Otherwise `replay` is complete from the machine of that state: it ended as the bytes
-/// decide, and all replies were said; `audit` is done, and said the counts line of that state; and `compact` was done, or was refused for want of room where
+/// decide, and all replies were said; `audit` is done, and said the counts line of that state, and `advise` the report of that state on its two names; and `compact` was done, or was refused for want of room where
 /// the machine's step refuses it.
 pub fn runs_are_complete<S: Source, D: Desk>()
-    ensures replay { (bounds : Bounds) (form : Form) (source source_now : S) (desk desk_now : D) (status : Status) (s : State)
-        → Runs (record { left = S.left; faults = S.faults; tells = D.tells; seen = D.seen; stopped = D.stopped }) bounds (Some (Replay form)) source source_now desk desk_now status
+    ensures replay { (bounds : Bounds) (words : List (List ℕ)) (form : Form) (source source_now : S) (desk desk_now : D) (status : Status) (s : State)
+        → Runs (record { left = S.left; faults = S.faults; tells = D.tells; seen = D.seen; stopped = D.stopped }) bounds words (Some (Replay form)) source source_now desk desk_now status
         → IsTrue D.tells → OpensToState (D.seen desk).reads s → IsCalm (S.faults source) (S.faults source_now) → IsCalm (D.seen desk).say_faults (D.seen desk_now).say_faults → IsCalm (D.seen desk).disk_faults (D.seen desk_now).disk_faults
         → (status ≡ NoMemory) ⊎ CompletesFrom s (taking_of form bounds.input) (folder_bounds bounds) (S.left source) (S.left source_now) (D.seen desk) (D.seen desk_now) status }
-    ensures audit { (bounds : Bounds) (source source_now : S) (desk desk_now : D) (status : Status) (s : State)
-        → Runs (record { left = S.left; faults = S.faults; tells = D.tells; seen = D.seen; stopped = D.stopped }) bounds (Some Audit) source source_now desk desk_now status
+    ensures audit { (bounds : Bounds) (words : List (List ℕ)) (source source_now : S) (desk desk_now : D) (status : Status) (s : State)
+        → Runs (record { left = S.left; faults = S.faults; tells = D.tells; seen = D.seen; stopped = D.stopped }) bounds words (Some Audit) source source_now desk desk_now status
         → IsTrue D.tells → OpensToState (D.seen desk).reads s → IsCalm (D.seen desk).say_faults (D.seen desk_now).say_faults → IsCalm (D.seen desk).disk_faults (D.seen desk_now).disk_faults
         → IsSaid (counts_line s) (D.seen desk).said (D.seen desk_now).said status }
-    ensures compact { (bounds : Bounds) (source source_now : S) (desk desk_now : D) (status : Status) (s : State)
-        → Runs (record { left = S.left; faults = S.faults; tells = D.tells; seen = D.seen; stopped = D.stopped }) bounds (Some Compact) source source_now desk desk_now status
+    ensures advise { (bounds : Bounds) (identity service : List ℕ) (source source_now : S) (desk desk_now : D) (status : Status) (s : State)
+        → Runs (record { left = S.left; faults = S.faults; tells = D.tells; seen = D.seen; stopped = D.stopped }) bounds (codes "advise" ∷ identity ∷ service ∷ []) (Some Advise) source source_now desk desk_now status
+        → IsTrue D.tells → OpensToState (D.seen desk).reads s → IsCalm (D.seen desk).say_faults (D.seen desk_now).say_faults → IsCalm (D.seen desk).disk_faults (D.seen desk_now).disk_faults
+        → IsSaid (report_of s identity service) (D.seen desk).said (D.seen desk_now).said status }
+    ensures compact { (bounds : Bounds) (words : List (List ℕ)) (source source_now : S) (desk desk_now : D) (status : Status) (s : State)
+        → Runs (record { left = S.left; faults = S.faults; tells = D.tells; seen = D.seen; stopped = D.stopped }) bounds words (Some Compact) source source_now desk desk_now status
         → IsTrue D.tells → OpensToState (D.seen desk).reads s → IsCalm (D.seen desk).disk_faults (D.seen desk_now).disk_faults
         → (status ≡ NoMemory) ⊎ ComesOutFrom s (D.seen desk).reads (folder_bounds bounds) status }
 {}

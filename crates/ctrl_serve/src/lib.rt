@@ -9,6 +9,7 @@ mod ending;
 mod folder;
 mod laws;
 mod loads;
+mod looking;
 mod pieces;
 mod serving;
 mod top;

@@ -1,36 +1,37 @@
 use Rattle.std.proofs.Common.{ℕ, inl, inr, subst, ◌∙◌}
 use Rattle.ctrl_core.specs.KeptState.{Cored}
 use Rattle.run_notes.specs.NotedLines.{RisesOnce}
+use Rattle.ctrl_serve.specs.LookedLines.{line_of}
 use Rattle.ctrl_serve.specs.Runs.{IsWriteCaused}
 use Rattle.ctrl_serve.proofs.FolderLaws.{audited, looked_alone, unaudited}
 use Rattle.ctrl_serve.proofs.ControllerLaws.{LeftAlone-then, noted_alone}
 use Rattle.ctrl_serve.proofs.IntakeLaws.{disk_calm, write_calm}
 use Rattle.ctrl_serve.proofs.ClosedFolders.{closed_calm, closed_disk, never_spent}
 use Rattle.ctrl_serve.proofs.RunLaws.{line_statuses}
-use Rattle.ctrl_serve.proofs.folder.run_audit.Goals as goal
+use Rattle.ctrl_serve.proofs.folder.run_look.Goals as goal
 
-pub returns-in-Ok-clause-audits : goal.returns-in-Ok-clause-audits
-returns-in-Ok-clause-audits g c =
-    inr (audited {seen = g.D.Desk.seen} g.D.Desk.tells c.in-Ok.core.state c.args.desk.now c.peek.new.desk c.say_counts.new.desk c.say_counts.result c.peek.ensures.reads.others c.in-Ok.ensures.valid c.in-Ok.ensures.opens c.say_counts.ensures.says)
+pub returns-in-Ok-clause-looks : goal.returns-in-Ok-clause-looks
+returns-in-Ok-clause-looks g c =
+    inr (audited {seen = g.D.Desk.seen} (line_of c.args.look.now) g.D.Desk.tells c.in-Ok.core.state c.args.desk.now c.peek.new.desk c.say_looked.new.desk c.say_looked.result c.peek.ensures.reads.others c.in-Ok.ensures.valid c.in-Ok.ensures.opens c.say_looked.ensures.says)
 
 pub returns-in-Ok-clause-alone : goal.returns-in-Ok-clause-alone
-returns-in-Ok-clause-alone g c = LeftAlone-then (looked_alone c.peek.ensures.reads) c.say_counts.ensures.others.folder
+returns-in-Ok-clause-alone g c = LeftAlone-then (looked_alone c.peek.ensures.reads) c.say_looked.ensures.others.folder
 
 pub returns-in-Ok-clause-write_cause : goal.returns-in-Ok-clause-write_cause
 returns-in-Ok-clause-write_cause g c =
-    subst (λ (n : ℕ). IsWriteCaused n (g.D.Desk.seen c.say_counts.new.desk).say_faults c.say_counts.result) c.peek.ensures.reads.others.failed_says c.say_counts.ensures.write_cause
+    subst (λ (n : ℕ). IsWriteCaused n (g.D.Desk.seen c.say_looked.new.desk).say_faults c.say_looked.result) c.peek.ensures.reads.others.failed_says c.say_looked.ensures.write_cause
 
 pub returns-in-Ok-clause-disk_cause : goal.returns-in-Ok-clause-disk_cause
 returns-in-Ok-clause-disk_cause g c =
-    let s = c.say_counts.ensures in
-    disk_calm _ _ c.say_counts.result (s.others.failed_calls ∙ c.in-Ok.ensures.cause.calm) (line_statuses c.say_counts.result _ _ _ s.says).2
+    let s = c.say_looked.ensures in
+    disk_calm _ _ c.say_looked.result (s.others.failed_calls ∙ c.in-Ok.ensures.cause.calm) (line_statuses c.say_looked.result _ _ _ s.says).2
 
 pub returns-in-Ok-clause-counted : goal.returns-in-Ok-clause-counted
 returns-in-Ok-clause-counted g c =
-    subst (λ (n : ℕ). RisesOnce n (g.D.Desk.seen c.say_counts.new.desk).note_faults) c.peek.ensures.reads.others.failed_notes c.say_counts.ensures.counted
+    subst (λ (n : ℕ). RisesOnce n (g.D.Desk.seen c.say_looked.new.desk).note_faults) c.peek.ensures.reads.others.failed_notes c.say_looked.ensures.counted
 
-pub returns-in-Err-clause-audits : goal.returns-in-Err-clause-audits
-returns-in-Err-clause-audits g c =
+pub returns-in-Err-clause-looks : goal.returns-in-Err-clause-looks
+returns-in-Err-clause-looks g c =
     let t = c.tell_closed.ensures in
     inl (unaudited g.D.Desk.tells c.in-Err.fault c.args.desk.now c.peek.new.desk c.tell_closed.new.desk c.tell_closed.result c.peek.ensures.reads t.others t.stops c.in-Err.ensures.fault t.told)
 
