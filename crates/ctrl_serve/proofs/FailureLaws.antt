@@ -1,5 +1,5 @@
 -- What failed calls on the outside leave.
-use Rattle.std.proofs.Common.{◌≡◌, ◌∙◌, inl, inr, ℕ, ◌<◌, List, [], ◌++◌, refl, sym, ap, arith}
+use Rattle.std.proofs.Common.{◌≡◌, ◌∙◌, inl, inr, ℕ, ◌<◌, List, [], ◌∷◌, ◌++◌, get_or, refl, sym, ap, arith}
 use Rattle.std.proofs.lemmas.Bool.{cases_eq}
 use Rattle.std.proofs.KnownBytes.{Keeps-refl}
 use Rattle.std.specs.declared.option.Option.{Option}
@@ -29,17 +29,7 @@ takes_none {S} {left} source = takes_so_far source source [] (Gave-none (left so
 
 -- The status of each number.
 status_with : ℕ → Status
-status_with 0 = Done
-status_with 1 = Usage
-status_with 2 = BadInput
-status_with 3 = Truncated
-status_with 4 = ReadFault
-status_with 5 = WriteFault
-status_with 6 = DiskFault
-status_with 7 = Damaged
-status_with 8 = NoMemory
-status_with 9 = InputTooLong
-status_with n = FolderFull
+status_with n = get_or (Done ∷ Usage ∷ BadInput ∷ Truncated ∷ ReadFault ∷ WriteFault ∷ DiskFault ∷ Damaged ∷ NoMemory ∷ InputTooLong ∷ FolderFull ∷ []) n Done
 
 of_its_number : (status : Status) → status_with (number_of status) ≡ status
 of_its_number Done = refl

@@ -101,7 +101,7 @@ granted_unsaid : {S D : Type 0} (o : Outside S D) (form : Form) (bounds : StoreB
     → IsTrue o.tells → HoldsGranted (o.seen desk).reads → HoldsGranted (o.seen desk_now).reads
 granted_unsaid o form bounds most source source_now desk desk_now (inl closed) told held = absurd closed.unopened.why
 granted_unsaid o form bounds most source source_now desk desk_now (inr r) told held =
-    let kept = r.unsaid refl told in
+    let kept = r.ahead refl told in
     let stood = stands_there (o.seen desk).reads r.machine (r.opens told) held in
     (
       kept.machine.state,

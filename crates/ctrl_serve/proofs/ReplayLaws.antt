@@ -173,7 +173,7 @@ input_runs o {form} {c} {most} new {source} {source_now} {desk} {desk_now} {f} {
       keeps = served_keeps form c new used used o.tells (o.seen desk_now).reads (o.stopped desk_now).images status refl told.last on ready;
       follows = λ some kept tell. follows some tell;
       stops = λ some tell. used_stops form c.bounds c.machine used (known_in form) (at_start form used) (o.seen desk).said refl refl (told.takes.stops some tell);
-      unsaid = λ some is tell. absurd ((all_no_fault told.all).0 is);
+      ahead = λ some is tell. absurd ((all_no_fault told.all).0 is);
     }
 
 -- Where a reply was not taken whole.
@@ -202,9 +202,9 @@ cut_runs_by o by {form} {c} {most} new {source} {source_now} {desk} {mid} {now} 
       keeps = cut_keeps form c used o.tells (o.seen now).reads (o.stopped now).images by (status_of_cut by) refl;
       follows = λ some kept tell. absurd (not_kept by kept);
       stops = λ some tell. used_stops form c.bounds c.machine used (known_in form) (at_start form used) (o.seen desk).said refl refl (no_more_behind _ (told.takes.stops some tell) no_more);
-      unsaid = λ some is tell.
+      ahead = λ some is tell.
           let stands = on (by_unsaid by is) in
-          ahead_keeps new o.tells (o.seen now).reads (o.stopped now).images (told.some.ahead (by_unsaid by is)) some stands.on
+          ahead_keeps {c = c} new o.tells (o.seen now).reads (o.stopped now).images (told.some.ahead (by_unsaid by is)) some stands.on
           (ready_behind (serving_of new).kept o.tells (o.seen mid).reads (o.seen now).reads (o.stopped mid).images (o.stopped now).images others.parts others.found stands.ready) tell;
     }
 
@@ -273,7 +273,7 @@ replays_on o form bounds most k source source_now desk mid now status opens stan
       stands = λ kept told batches. opened_stands_for form k.stored.bounds (machine_of k) before middle after used batches (made told) (runs.follows refl kept told);
       still = λ kept told. opened_still form k.stored.bounds (machine_of k) before middle after used (made told) (runs.follows refl kept told);
       elsewhere = λ kept told. opened_leaves form k.stored.bounds (machine_of k) before middle after used (made told) (runs.follows refl kept told);
-      unsaid = λ is told. runs.unsaid refl is told;
+      ahead = λ is told. runs.ahead refl is told;
       granted = λ stand n. behind-granted k.stored.bounds (machine_of k) (completed form (take n runs.serves.taken)) holds.valid stand;
       stops = λ told all. opened_stops form k.stored.bounds (machine_of k) (events_in form used) (opening told) (runs.stops refl told) all;
       stops_later = λ told. later_stops form k.stored.bounds (machine_of k) (events_in form used) (opening told) (runs.stops refl told);

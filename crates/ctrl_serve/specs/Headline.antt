@@ -166,7 +166,7 @@ pub record Replays {S D : Type 0} (taking : Taking) (bounds : StoreBounds) (o : 
       → (o.seen desk_now).reads ≡ (o.seen desk).reads
   pub elsewhere : is_kept status ≡ true → IsTrue o.tells → CompactsNothing machine (last_machine taking.form bounds machine (take taking.most serves.taken))
       → LeavesOtherSlot (o.seen desk).reads (o.seen desk_now).reads
-  pub unsaid : status ≡ WriteFault → IsTrue o.tells → KeepsOneAhead taking.form bounds machine serves.answered serves.unanswered (o.seen desk_now).reads (o.stopped desk_now).images
+  pub ahead : status ≡ WriteFault → IsTrue o.tells → KeepsOneAhead taking.form bounds machine serves.answered serves.unanswered (o.seen desk_now).reads (o.stopped desk_now).images
   pub granted : AreGranted machine.state → (n : ℕ) → AreGranted (last_machine taking.form bounds machine (take n serves.taken)).state
   pub stops : IsTrue o.tells → AllOpenTo (o.stopped desk).images machine.state
       → Elapses (o.stopped desk) (o.stopped desk_now) (StopFinds taking.form bounds machine (events_in taking.form (take taking.most serves.taken)) (o.seen desk).said)

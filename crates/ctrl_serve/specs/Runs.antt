@@ -47,7 +47,7 @@ pub record RunsOn {S D : Type 0} (taking : Taking) (c : Serving) (o : Outside S 
   pub follows : IsSome c.kept → is_kept status ≡ true → IsTrue o.tells → FollowsInput taking.form c.bounds c.machine (o.seen desk).reads (o.seen desk_now).reads (take taking.most serves.taken)
   pub stops : IsSome c.kept → IsTrue o.tells
       → Elapses (o.stopped desk) (o.stopped desk_now) (StopFinds taking.form c.bounds c.machine (events_in taking.form (take taking.most serves.taken)) (o.seen desk).said)
-  pub unsaid : IsSome c.kept → status ≡ WriteFault → IsTrue o.tells
+  pub ahead : IsSome c.kept → status ≡ WriteFault → IsTrue o.tells
       → KeepsOneAhead taking.form c.bounds c.machine serves.answered serves.unanswered (o.seen desk_now).reads (o.stopped desk_now).images
 
 -- Each fault comes only where its count rose, no count falls or rises by more than one, and a failed take is the last.
