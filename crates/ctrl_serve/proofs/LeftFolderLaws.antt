@@ -102,8 +102,7 @@ granted_unsaid : {S D : Type 0} (o : Outside S D) (form : Form) (bounds : StoreB
 granted_unsaid o form bounds most source source_now desk desk_now (inl closed) told held = absurd closed.unopened.why
 granted_unsaid o form bounds most source source_now desk desk_now (inr r) told held =
     let kept = r.ahead refl told in
-    let stood = stands_there (o.seen desk).reads r.machine (r.opens told) held in
-    (
+    let stood = stands_there (o.seen desk).reads r.machine (r.opens told) held in (
       kept.machine.state,
       opens_kept (o.seen desk_now).reads kept.machine kept.keeps,
       subst (λ (m : Machine). AreGranted m.state) (sym kept.ahead.behind) (behind-granted bounds r.machine _ r.valid stood),
@@ -230,11 +229,11 @@ pub stays_shut : {S D : Type 0} (o : Outside S D) (bounds : Bounds) (form : Opti
 stays_shut o bounds None source source_now desk desk_now runs = let e : Damaged ≡ Usage = runs.usage.1 refl in absurd cc
 stays_shut o bounds (Some Dry) source source_now desk desk_now runs = absurd (runs.dry refl).says
 stays_shut o bounds (Some (Replay form)) source source_now desk desk_now runs =
-    elim (runs.replay form refl) as (λ _. StaysShut o source source_now desk desk_now) [ | inl closed ↦ (closed.takes_nothing, closed.unopened) | inr on ↦ absurd on.serves.says ]
+    elim (runs.replay form refl) as (λ _. StaysShut o source source_now desk desk_now) [ inl closed ↦ (closed.takes_nothing, closed.unopened) | inr on ↦ absurd on.serves.says ]
 stays_shut o bounds (Some Audit) source source_now desk desk_now runs =
-    elim (runs.audit refl) as (λ _. StaysShut o source source_now desk desk_now) [ | inl closed ↦ (runs.audit_takes_nothing refl, closed) | inr on ↦ absurd on.says.says ]
+    elim (runs.audit refl) as (λ _. StaysShut o source source_now desk desk_now) [ inl closed ↦ (runs.audit_takes_nothing refl, closed) | inr on ↦ absurd on.says.says ]
 stays_shut o bounds (Some Compact) source source_now desk desk_now runs =
-    elim (runs.compact refl) as (λ _. StaysShut o source source_now desk desk_now) [ | inl closed ↦ (runs.compact_takes_nothing refl, closed) | inr on ↦ absurd on.ends ]
+    elim (runs.compact refl) as (λ _. StaysShut o source source_now desk desk_now) [ inl closed ↦ (runs.compact_takes_nothing refl, closed) | inr on ↦ absurd on.ends ]
 stays_shut o bounds (Some (Load number)) source source_now desk desk_now runs = absurd (runs.load number refl).says
 
 -- A told folder has a mark then, so it was left alone.
