@@ -27,6 +27,7 @@ pub mod ReplayLaws
 pub mod FolderLaws
 pub mod AcknowledgedLaws
 pub mod CompleteRunLaws
+pub mod LeftFolderLaws
 pub mod DecidedInputs
 pub mod NearLaws
 pub mod LineLaws

@@ -38,6 +38,7 @@ use Rattle.ctrl_serve.specs.SaidReplies.{Says}
 use Rattle.ctrl_serve.specs.Loads.{counts_line, state_of_load, SaysOneLine, IsSaid}
 use Rattle.ctrl_serve.specs.FolderWords.{Advises, Audits, Compacts}
 use Rattle.ctrl_serve.specs.RunStops.{AllOpenTo, StopFinds}
+use Rattle.ctrl_serve.specs.UnsaidReplies.{KeepsOneAhead}
 use Rattle.ctrl_serve.specs.UncompactedFolders.{CompactsNothing, LeavesOtherSlot}
 use Rattle.run_notes.specs.Notes.{usage_note, damaged_note, status_lines, notes_of}
 
@@ -143,7 +144,8 @@ pub record Refuses {S D : Type 0} (tells : Bool) (seen : D → Seen) (stopped : 
 -- Where it ended with all kept, the folder keeps the machine behind all frames of the used bytes: exactly the rows of its state, and its
 -- place; and what a stop may leave then opens to that state. For whatever batches it stood before the run, it stands for those that the run
 -- makes of them (`last_batches`); and where its mark was not empty and the machine behind all frames is the one at the opening, every part
--- reads as before. Where the run carried out no Compact, the slot that did not stand reads as before, and so does the mark unless it was
+-- reads as before. Where a say failed, the folder keeps the machine behind the frame whose reply was not taken whole: it is one frame ahead of
+-- the replies. Where the run carried out no Compact, the slot that did not stand reads as before, and so does the mark unless it was
 -- empty. Where what granted each circuit stands at the opening, as it does of a folder begun empty, it stands behind the frames of
 -- each front of the input.
 --
@@ -164,6 +166,7 @@ pub record Replays {S D : Type 0} (taking : Taking) (bounds : StoreBounds) (o : 
       → (o.seen desk_now).reads ≡ (o.seen desk).reads
   pub elsewhere : is_kept status ≡ true → IsTrue o.tells → CompactsNothing machine (last_machine taking.form bounds machine (take taking.most serves.taken))
       → LeavesOtherSlot (o.seen desk).reads (o.seen desk_now).reads
+  pub ahead : status ≡ WriteFault → IsTrue o.tells → KeepsOneAhead taking.form bounds machine serves.answered serves.unanswered (o.seen desk_now).reads (o.stopped desk_now).images
   pub granted : AreGranted machine.state → (n : ℕ) → AreGranted (last_machine taking.form bounds machine (take n serves.taken)).state
   pub stops : IsTrue o.tells → AllOpenTo (o.stopped desk).images machine.state
       → Elapses (o.stopped desk) (o.stopped desk_now) (StopFinds taking.form bounds machine (events_in taking.form (take taking.most serves.taken)) (o.seen desk).said)
@@ -176,7 +179,7 @@ pub record Replays {S D : Type 0} (taking : Taking) (bounds : StoreBounds) (o : 
 -- Usage comes exactly where the words are no line. Then nothing is taken, the usage note is written, and the desk is left alone
 -- otherwise: nothing is said, and the folder stays, at every moment.
 --
--- A fault comes only where its count rose in this run. A failed take cuts the run short, and nothing is taken after it. A failed
+-- A fault comes only where its count rose in this run. A failed take ends the run with ReadFault, and nothing is taken after it. A failed
 -- say ends the run with WriteFault, and a failed call on the disk with DiskFault. No count falls, or rises by more than one.
 --
 -- Under `dry` the replies are the controller's, the status is the one that the input decides, and the notes tell both; the folder
@@ -206,7 +209,7 @@ pub record Runs {S D : Type 0} (o : Outside S D) (bounds : Bounds) (words : List
   pub usage_note : form ≡ None → NotesLines usage_note (o.seen desk) (o.seen desk_now)
   pub read_fault : status ≡ ReadFault → Rose (o.faults source) (o.faults source_now)
   pub write_fault : status ≡ WriteFault → Rose (o.seen desk).say_faults (o.seen desk_now).say_faults
-  pub failed_take : is_cut status ≡ false → o.faults source_now ≡ o.faults source
+  pub failed_take : (status ≡ ReadFault → ⊥) → o.faults source_now ≡ o.faults source
   pub failed_say : (status ≡ WriteFault → ⊥) → (o.seen desk_now).say_faults ≡ (o.seen desk).say_faults
   pub read_faults_once : RisesOnce (o.faults source) (o.faults source_now)
   pub say_faults_once : RisesOnce (o.seen desk).say_faults (o.seen desk_now).say_faults
