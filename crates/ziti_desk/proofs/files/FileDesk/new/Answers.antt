@@ -12,4 +12,4 @@ returns-clause-images g c = λ image. (λ found. found, λ found. found)
 pub returns-clause-since : goal.returns-clause-since
 returns-clause-since g c = λ time image taken.
     subst (λ stages. PairsFrom (StopsWithin g.F.Drive.moment g.F.Drive.since g.O.Outlet.contents) (λ stage. Now (g.F.Drive.may_leave stage.0) (g.O.Outlet.contents stage.1)) stages (c.args.folder, c.args.replies) time image taken
-        ↔ Now (g.F.Drive.may_leave c.args.folder) (g.O.Outlet.contents c.args.replies) image taken) (sym c.new.ensures) (λ pair. pair, λ pair. pair)
+    ↔ Now (g.F.Drive.may_leave c.args.folder) (g.O.Outlet.contents c.args.replies) image taken) (sym c.new.ensures) (λ pair. pair, λ pair. pair)
