@@ -38,7 +38,6 @@ pub fn note_bytes(noted: &mut Vec<u8>, bytes: &[u8], most: u64, fails: bool) -> 
     requires { most ≤ vec_capacity noted.old }
     ensures ok { OnOk result (noted.new.items ≡ noted.old.items ++ bytes.now) }
     ensures err { OnErr result (noted.new ≡ noted.old) }
-    ensures kept { OnErr result (noted.new.items ≡ noted.old.items) }
     ensures fails { is_err result ≡ (fails || nat_lt (most - length noted.old.items) (length bytes.now)) }
     ensures capacity { most ≤ vec_capacity noted.new }
 {

@@ -73,49 +73,54 @@ pub same_limits : {f g : List ℕ} {c d p q s t n m l k : ℕ} → f ≡ g → c
 same_limits a b c d e f = rw a (rw b (rw c (rw d (rw e (rw f refl)))))
 
 -- Behind a call that took nothing.
-pub limits_none : (failing : List ℕ) (part said noted log : ℕ) {calls now : ℕ} → now ≡ next_call calls
+pub limits_none : (failing : List ℕ) (part said noted log : ℕ) (calls : ℕ) {now : ℕ} → now ≡ next_call calls
     → ◌≡◌ {A = Limits} (record { failing = failing; calls = now; part = part; said = said; noted = noted; log = log })
     (less 0 0 0 (record { failing = failing; calls = calls; part = part; said = said; noted = noted; log = log }))
-limits_none failing part said noted log next = same_limits refl next refl (omega arith) (omega arith) (omega arith)
+limits_none failing part said noted log calls next = same_limits refl next refl (omega arith) (omega arith) (omega arith)
 
 -- Behind a write or a cut: what it takes of the log is taken where there was room.
-pub limits_pending : {T E : Type 0} {r : Result T E} {call : Bool → Call} {text : List ℕ} (over : Bool) {fails : Bool} (log new : Log) (failing : List ℕ) (part said noted : ℕ) {calls now : ℕ}
+pub limits_pending : {T E : Type 0} {r : Result T E} {call : Bool → Call} {text : List ℕ} (over : Bool) {fails : Bool} (log new : Log) (failing : List ℕ) (part said noted : ℕ) (calls : ℕ) {now : ℕ}
     → now ≡ next_call calls → Pends fails over call text log new r
     → ◌≡◌ {A = Limits} (record { failing = failing; calls = now; part = part; said = said; noted = noted; log = new.room })
     (if over then less 0 0 0 (record { failing = failing; calls = calls; part = part; said = said; noted = noted; log = log.room })
     else less 0 0 (32 + length text) (record { failing = failing; calls = calls; part = part; said = said; noted = noted; log = log.room }))
-limits_pending true log new failing part said noted next pends = same_limits refl next refl (omega arith) (omega arith) (let same = ap (λ (l : Log). l.room) (pends.unlogged refl) in omega (arith, same))
-limits_pending false log new failing part said noted next pends = same_limits refl next refl (omega arith) (omega arith) (pends.room refl)
+limits_pending true log new failing part said noted calls next pends = same_limits refl next refl (omega arith) (omega arith) (let same = ap (λ (l : Log). l.room) (pends.unlogged refl) in omega (arith, same))
+limits_pending false log new failing part said noted calls next pends = same_limits refl next refl (omega arith) (omega arith) (pends.room refl)
 
 -- Behind a sync.
-pub limits_synced : {T E : Type 0} (r : Result T E) (log new : Log) (failing : List ℕ) (part said noted : ℕ) {calls now : ℕ} → now ≡ next_call calls → OnOk r (new.room ≡ log.room - 32) → OnErr r (new ≡ log)
+pub limits_synced : {T E : Type 0} (r : Result T E) (log new : Log) (failing : List ℕ) (part said noted : ℕ) (calls : ℕ) {now : ℕ} → now ≡ next_call calls → OnOk r (new.room ≡ log.room - 32) → OnErr r (new ≡ log)
     → ◌≡◌ {A = Limits} (record { failing = failing; calls = now; part = part; said = said; noted = noted; log = new.room })
     (if is_err r then less 0 0 0 (record { failing = failing; calls = calls; part = part; said = said; noted = noted; log = log.room })
     else less 0 0 32 (record { failing = failing; calls = calls; part = part; said = said; noted = noted; log = log.room }))
-limits_synced (Ok u) log new failing part said noted next room same = same_limits refl next refl (omega arith) (omega arith) room
-limits_synced (Err e) log new failing part said noted next room same =
+limits_synced (Ok u) log new failing part said noted calls next room same = same_limits refl next refl (omega arith) (omega arith) room
+limits_synced (Err e) log new failing part said noted calls next room same =
     same_limits refl next refl (omega arith) (omega arith) (let room = ap (λ (l : Log). l.room) same in omega (arith, room))
 
 -- Behind a say.
-pub limits_said : {T E : Type 0} (r : Result T E) (log new : Log) (said said_now bytes : List ℕ) (failing : List ℕ) (part most noted : ℕ) {calls now : ℕ} → now ≡ next_call calls
+pub limits_said : {T E : Type 0} (r : Result T E) (log new : Log) (said said_now bytes : List ℕ) (failing : List ℕ) (part most noted : ℕ) (calls : ℕ) {now : ℕ} → now ≡ next_call calls
     → OnOk r (LogsCall (Said (length bytes)) [] log new × (said_now ≡ said ++ bytes)) → OnOk r (new.room ≡ log.room - 32) → OnErr r ((said_now ≡ said) × (new ≡ log))
     → ◌≡◌ {A = Limits} (record { failing = failing; calls = now; part = part; said = most - length said_now; noted = noted; log = new.room })
     (if is_err r then less 0 0 0 (record { failing = failing; calls = calls; part = part; said = most - length said; noted = noted; log = log.room })
     else less (length bytes) 0 32 (record { failing = failing; calls = calls; part = part; said = most - length said; noted = noted; log = log.room }))
-limits_said (Ok u) log new said said_now bytes failing part most noted next ok room err =
+limits_said (Ok u) log new said said_now bytes failing part most noted calls next ok room err =
     same_limits refl next refl (let long = ap length ok.1 ∙ length-append said bytes in omega (arith, long)) (omega arith) room
-limits_said (Err e) log new said said_now bytes failing part most noted next ok room err =
+limits_said (Err e) log new said said_now bytes failing part most noted calls next ok room err =
     same_limits refl next refl (let long = ap length err.0 in omega (arith, long)) (omega arith) (let room = ap (λ (l : Log). l.room) err.1 in omega (arith, room))
 
+-- What is of two equal values is equal, behind a call that failed.
+pub failed_ap : {T E A B : Type 0} (r : Result T E) (a b : A) → OnErr r (a ≡ b) → (f : A → B) → OnErr r (f a ≡ f b)
+failed_ap (Ok u) a b same f = tt
+failed_ap (Err e) a b same f = ap f same
+
 -- Behind a note.
-pub limits_noted : {T E : Type 0} (r : Result T E) (noted noted_now bytes : List ℕ) (failing : List ℕ) (part said most log : ℕ) {calls now : ℕ} → now ≡ next_call calls
+pub limits_noted : {T E : Type 0} (r : Result T E) (noted noted_now bytes : List ℕ) (failing : List ℕ) (part said most log : ℕ) (calls : ℕ) {now : ℕ} → now ≡ next_call calls
     → OnOk r (noted_now ≡ noted ++ bytes) → OnErr r (noted_now ≡ noted)
     → ◌≡◌ {A = Limits} (record { failing = failing; calls = now; part = part; said = said; noted = most - length noted_now; log = log })
     (if is_err r then less 0 0 0 (record { failing = failing; calls = calls; part = part; said = said; noted = most - length noted; log = log })
     else less 0 (length bytes) 0 (record { failing = failing; calls = calls; part = part; said = said; noted = most - length noted; log = log }))
-limits_noted (Ok u) noted noted_now bytes failing part said most log next ok err =
+limits_noted (Ok u) noted noted_now bytes failing part said most log calls next ok err =
     same_limits refl next refl (omega arith) (let long = ap length ok ∙ length-append noted bytes in omega (arith, long)) (omega arith)
-limits_noted (Err e) noted noted_now bytes failing part said most log next ok err =
+limits_noted (Err e) noted noted_now bytes failing part said most log calls next ok err =
     same_limits refl next refl (omega arith) (let long = ap length err in omega (arith, long)) (omega arith)
 
 -- ---- which calls fail

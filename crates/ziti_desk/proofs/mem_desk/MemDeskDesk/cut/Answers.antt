@@ -51,4 +51,4 @@ returns-clause-limits c =
     let desk = c.args.self.now in
     let limits = limits_of desk in
     limits_pending (is_logged_out limits 0) desk.log c.cut_part-answer.new.log limits.failing limits.part limits.said limits.noted
-    c.is_next_listed-fails.ensures.counted c.cut_part-answer.ensures.logs
+    c.args.self.now.calls c.is_next_listed-fails.ensures.counted c.cut_part-answer.ensures.logs

@@ -2,7 +2,7 @@ use Rattle.std.specs.Prelude.{nat_lt, length}
 use Rattle.std.proofs.Common.{◌||◌, ◌-◌, ap, ◌∙◌, refl, sym, append-nil, List, ℕ}
 use Rattle.desk_base.specs.Pieces.{is_listed}
 use Rattle.ziti_desk.specs.DeskStops.{calls_of, limits_of}
-use Rattle.ziti_desk.proofs.RoomSteps.{limits_noted}
+use Rattle.ziti_desk.proofs.RoomSteps.{failed_ap, limits_noted}
 use Rattle.ziti_desk.proofs.mem_desk.MemDeskDesk.note.Goals as goal
 
 pub returns-clause-fails : goal.returns-clause-fails
@@ -19,4 +19,4 @@ returns-clause-limits c =
     let desk = c.args.self.now in
     let limits = limits_of desk in
     rw c.counted.ensures.answer (limits_noted c.note_bytes-answer.result desk.noted.items c.note_bytes-answer.new.noted.items c.args.bytes.now limits.failing limits.part limits.said desk.room.noted_bytes limits.log
-    c.is_next_listed-fails.ensures.counted c.note_bytes-answer.ensures.ok c.note_bytes-answer.ensures.kept)
+    c.args.self.now.calls c.is_next_listed-fails.ensures.counted c.note_bytes-answer.ensures.ok (failed_ap c.note_bytes-answer.result _ _ c.note_bytes-answer.ensures.err (λ noted. noted.items)))

@@ -17,4 +17,4 @@ returns-clause-logs c = record { first = refl; calls = sym (append-nil (calls_of
 pub returns-clause-limits : goal.returns-clause-limits
 returns-clause-limits c =
     let limits = limits_of c.args.self.now in
-    limits_none limits.failing limits.part limits.said limits.noted limits.log c.is_next_listed-fails.ensures.counted
+    limits_none limits.failing limits.part limits.said limits.noted limits.log c.args.self.now.calls c.is_next_listed-fails.ensures.counted

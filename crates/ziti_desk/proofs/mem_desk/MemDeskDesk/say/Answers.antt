@@ -46,4 +46,4 @@ returns-clause-limits c =
     let desk = c.args.self.now in
     let limits = limits_of desk in
     rw c.counted.ensures.answer (limits_said c.say_bytes-answer.result desk.log c.say_bytes-answer.new.log desk.said.items c.say_bytes-answer.new.said.items c.args.bytes.now limits.failing limits.part desk.room.said_bytes limits.noted
-    c.is_next_listed-fails.ensures.counted c.say_bytes-answer.ensures.ok c.say_bytes-answer.ensures.room c.say_bytes-answer.ensures.err)
+    c.args.self.now.calls c.is_next_listed-fails.ensures.counted c.say_bytes-answer.ensures.ok c.say_bytes-answer.ensures.room c.say_bytes-answer.ensures.err)

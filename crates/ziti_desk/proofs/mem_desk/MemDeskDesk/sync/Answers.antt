@@ -43,4 +43,4 @@ returns-clause-limits c =
     let desk = c.args.self.now in
     let limits = limits_of desk in
     rw c.counted.ensures.answer (limits_synced c.sync_part-answer.result desk.log c.sync_part-answer.new.log limits.failing limits.part limits.said limits.noted
-    c.is_next_listed-fails.ensures.counted c.sync_part-answer.ensures.room c.sync_part-answer.ensures.err)
+    c.args.self.now.calls c.is_next_listed-fails.ensures.counted c.sync_part-answer.ensures.room c.sync_part-answer.ensures.err)

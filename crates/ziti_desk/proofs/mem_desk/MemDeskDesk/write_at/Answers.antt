@@ -53,4 +53,4 @@ returns-clause-limits c =
     let desk = c.args.self.now in
     let limits = limits_of desk in
     limits_pending (is_over_part limits (length (image_of desk.held c.args.part)) c.args.at (length c.args.bytes.now)) desk.log c.write_part-answer.new.log limits.failing limits.part limits.said limits.noted
-    c.is_next_listed-fails.ensures.counted c.write_part-answer.ensures.logs
+    c.args.self.now.calls c.is_next_listed-fails.ensures.counted c.write_part-answer.ensures.logs
