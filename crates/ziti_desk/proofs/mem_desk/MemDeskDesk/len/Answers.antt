@@ -1,6 +1,4 @@
-use Rattle.std.specs.Prelude.{nat_lt, length}
-use Rattle.std.proofs.Common.{◌||◌, ◌+◌, ap, ◌∙◌, refl, sym, append-nil, List, ℕ}
-use Rattle.desk_base.specs.MemEvents.{image_of}
+use Rattle.std.proofs.Common.{ap, ◌∙◌, refl, sym, append-nil, List, ℕ}
 use Rattle.desk_base.specs.Pieces.{is_listed}
 use Rattle.ziti_desk.specs.DeskStops.{calls_of, limits_of}
 use Rattle.ziti_desk.proofs.RoomSteps.{limits_none}

@@ -1,4 +1,4 @@
-use Rattle.std.specs.Prelude.{nat_lt, length}
+use Rattle.std.specs.Prelude.{nat_lt}
 use Rattle.std.proofs.Common.{◌||◌, ap, ◌∙◌, refl, List, ℕ}
 use Rattle.desk_base.specs.MemEvents.{image_of}
 use Rattle.desk_base.specs.Pieces.{is_listed}

@@ -1,6 +1,4 @@
-use Rattle.std.specs.Prelude.{⊤, max, nat_lt}
-use Rattle.std.proofs.Common.{◌≡◌, Bool, ◌||◌, ◌+◌, ap, ◌∙◌, refl, length, List, ℕ}
-use Rattle.ziti_outside.specs.declared.failed.Failed.{Failed}
+use Rattle.std.proofs.Common.{ap, ◌∙◌, refl, length, List, ℕ}
 use Rattle.desk_base.specs.MemEvents.{image_of}
 use Rattle.desk_base.specs.MemRoom.{is_over_part}
 use Rattle.desk_base.specs.Pieces.{is_listed}
