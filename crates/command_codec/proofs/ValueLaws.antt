@@ -1,20 +1,25 @@
 -- What a body means is what the JSON value means that it is.
-use Rattle.std.proofs.Common.{◌≡◌, ℕ, ◌==◌, ◌<◌, true, false, cond, List, [], ◌∷◌, length, Option, Some, None, Result, Ok, Err, refl, sym, ap, ◌∙◌, arith}
-use Rattle.std.specs.Prelude.{◌≢◌, IfOk, IfErr, option_and_then}
+use Rattle.std.proofs.Common.{◌≡◌, ℕ, ◌==◌, ◌<◌, true, false, cond, List, [], ◌∷◌, length, Option, Some, None, Result, Ok, Err, refl, sym, ap, ◌∙◌, subst, arith}
+use Rattle.std.specs.Prelude.{◌≢◌, IfOk, IfErr, IsOk, option_and_then}
 use Rattle.std.specs.Str.{is_utf8, chars}
 use Rattle.serde_json.proofs.OnLiterals.{serde_json_on_literals}
 use Rattle.serde_json.specs.Data.{Data}
 use Rattle.ctrl_model.specs.declared.commands.Command.{Command}
 use Rattle.ctrl_model.specs.declared.commands.Command.TheVariants as command
+use Rattle.ctrl_model.specs.declared.refusals.Field.{Field}
 use Rattle.ctrl_model.specs.declared.refusals.Field.TheVariants as field
 use Rattle.ctrl_model.specs.declared.refusals.Reason.TheVariants as reason
 use Rattle.ctrl_model.specs.CommandForm.{is_spelled}
+use Rattle.json_body.specs.declared.fields.FieldFault.{FieldFault}
+use Rattle.json_body.specs.declared.fields.FieldFault.TheVariants as fault
 use Rattle.json_body.specs.FieldKinds.{is_object}
 use Rattle.body_fields.specs.BodyValues.{value_of_body}
+use Rattle.body_fields.specs.FieldRules.{FieldRule}
 use Rattle.command_codec.specs.declared.reading.CodecFault.{CodecFault}
 use Rattle.command_codec.specs.declared.reading.CodecFault.TheVariants.{BadBody, UnsupportedType, NoMemory}
-use Rattle.command_codec.specs.BodyObjects.{Reader, as_body, object_of_body, said_by, with_cause}
+use Rattle.command_codec.specs.BodyObjects.{Reader, as_body, object_of_body, cause_of, said_by, with_cause}
 use Rattle.command_codec.specs.BodyMeaning.{table, entry_at, meaning_under, meaning, said_under, value_under, value_meaning}
+use Rattle.command_codec.proofs.FormLaws.{IsForm, with_entry}
 use Rattle.command_codec.proofs.SpelledLaws.{means}
 use Rattle.command_codec.proofs.TableLaws.{supported}
 
@@ -89,3 +94,36 @@ pub value_no_object : (content : ℕ) (reader : Reader) (d : Data) → (content 
 value_no_object content reader d other is object =
     ap (λ b. cond b (Ok command.Hello) (value_under (entry_at content table) d)) other ∙ ap (λ o. value_under o d) is
     ∙ ap (λ b. said_by reader (cond b (Some d) None)) object
+
+-- ---- what is returned of the object that a value is
+
+-- What an object says under a form, with the cause of a fault, is what its value means.
+pub said_value : (content : ℕ) (form : List FieldRule × List Field) (d o : Data) → (content == 0) ≡ false → IsForm content form → o ≡ d → is_object d ≡ true
+    → value_meaning content d ≡ with_cause (said_under (entry_at content table) o)
+said_value content form d o other is same object =
+    with_entry {P = value_meaning content d ≡ with_cause (said_under (entry_at content table) o)} content form is (λ reader at.
+    value_said content reader d other at object ∙ ap (λ x. with_cause (said_under (entry_at content table) x)) (sym same))
+
+-- Where an object says a command, its value means one.
+pub said_some : (content : ℕ) (form : List FieldRule × List Field) (d o : Data) → (content == 0) ≡ false → IsForm content form → o ≡ d → is_object d ≡ true
+    → IsOk (said_under (entry_at content table) o) → IsOk (value_meaning content d)
+said_some content form d o other is same object ok =
+    subst (λ r. IsOk r) (sym (said_value content form d o other is same object)) (by (said_under (entry_at content table) o) ok)
+  where
+    by : (r : Result Command FieldFault) → IsOk r → IsOk (with_cause r)
+    by (Ok c) ok = ok
+    by (Err f) ok = absurd ok
+
+-- Where a value with a form is no object, its meaning says so.
+pub said_of_none : (content : ℕ) (form : List FieldRule × List Field) (d : Data) → (content == 0) ≡ false → IsForm content form → is_object d ≡ false
+    → value_meaning content d ≡ Err (BadBody field.Nothing reason.NotObject)
+said_of_none content form d other is object =
+    with_entry {P = value_meaning content d ≡ Err (BadBody field.Nothing reason.NotObject)} content form is (λ reader at. value_no_object content reader d other at object)
+
+-- The cause of a fault is want of memory where the fault is.
+pub cause_memory : (f : FieldFault) → cause_of f ≡ NoMemory → f ≡ fault.NoMemory
+cause_memory fault.NotObject e = absurd (cc)
+cause_memory (fault.Missing of_field) e = absurd (cc)
+cause_memory (fault.WrongKind of_field) e = absurd (cc)
+cause_memory fault.Unknown e = absurd (cc)
+cause_memory fault.NoMemory e = refl
