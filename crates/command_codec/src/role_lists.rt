@@ -1,10 +1,11 @@
-ghost use Rattle.std.specs.Prelude.{◌≡◌, not, IfOk, is_some};
+ghost use Rattle.std.specs.Prelude.{◌≡◌, ◌&&◌, not, IfOk, is_some, option_and_then};
 ghost use Rattle.std.specs.List.{list_any};
-ghost use Rattle.serde_json.specs.View.{view};
+ghost use Rattle.serde_json.specs.View.{view, items_view};
 ghost use Rattle.json_body.specs.FieldKinds.{object_of, required};
 ghost use Rattle.role_expr.specs.ReadRoles.{role_in};
+ghost use Rattle.body_fields.specs.ItemLists.{each_of};
 ghost use Rattle.body_fields.specs.ReadResults.{Gives};
-ghost use Rattle.command_codec.specs.RoleLists.{as_side, is_all_text, side_of};
+ghost use Rattle.command_codec.specs.RoleLists.{as_role, as_side, is_all_text, side_of};
 
 use body_fields::{ItemKind, are_said, list};
 use ctrl_model::{Field, MOST_ENTRIES, Role, Side};
@@ -69,14 +70,28 @@ fn has_other(values: &[Value]) -> bool
     values.iter().any(|value| !is_all(value))
 }
 
+// Whether `#all` does not stand beside another value.
+fn stands_alone(values: &[Value]) -> bool
+    ensures { result ≡ not (list_any (λ v. is_all_text (view v)) values.now && list_any (λ v. not (is_all_text (view v))) values.now) }
+{
+    !(has_all(values) && has_other(values))
+}
+
+// Whether values are role entries in which `#all` stands alone. No memory is taken.
+fn are_roles(values: &[Value]) -> bool
+    ensures { result ≡ is_some (option_and_then side_of (each_of as_role (items_view values.now))) }
+{
+    are_said::<Role, RoleEntry>(values) && stands_alone(values)
+}
+
 // Whether a value is a role list in which `#all` stands alone. No memory is taken.
 pub(crate) fn is_side(value: &Value) -> bool
     ensures { result ≡ is_some (as_side (view value.now)) }
 {
-    let Some(values) = as_list_of(value, MOST_ENTRIES) else {
-        return false;
-    };
-    are_said::<Role, RoleEntry>(values) && !(has_all(values) && has_other(values))
+    match as_list_of(value, MOST_ENTRIES) {
+        Some(values) => are_roles(values),
+        None => false,
+    }
 }
 
 // The side of some role entries, if `#all` stands alone.
