@@ -114,8 +114,12 @@ said_of_none content form d other is object =
 
 -- ---- the causes of faults
 
--- The cause of a fault is want of memory where the fault is.
-pub cause_memory : (f : FieldFault) → cause_of f ≡ NoMemory → f ≡ fault.NoMemory
+-- A fault that is told as one cause.
+abbrev pub IsTold : FieldFault → CodecFault → Type 0
+IsTold f cause = ◌≡◌ {A = Result Command CodecFault} (Err (cause_of f)) (Err cause)
+
+-- Want of memory alone is told as such.
+pub cause_memory : (f : FieldFault) → IsTold f NoMemory → f ≡ fault.NoMemory
 cause_memory fault.NotObject e = absurd (cc)
 cause_memory (fault.Missing of_field) e = absurd (cc)
 cause_memory (fault.WrongKind of_field) e = absurd (cc)
@@ -123,7 +127,7 @@ cause_memory fault.Unknown e = absurd (cc)
 cause_memory fault.NoMemory e = refl
 
 -- No fault is told as a type that is not supported.
-pub cause_supported : (f : FieldFault) → cause_of f ≡ UnsupportedType → ⊥
+pub cause_supported : (f : FieldFault) → IsTold f UnsupportedType → ⊥
 cause_supported fault.NotObject e = absurd (cc)
 cause_supported (fault.Missing of_field) e = absurd (cc)
 cause_supported (fault.WrongKind of_field) e = absurd (cc)

@@ -19,23 +19,23 @@ pub returns-in_err-fields-clause-memory : goal.returns-in_err-fields-clause-memo
 returns-in_err-fields-clause-memory c =
     let p = err_from_is_err_and c.from_residual.result c.from_residual.ensures.1 in
     rw (p.1, p.2) (λ wanting.
-    let memory : c.in_err-fields.field-0.0 ≡ fault.NoMemory = cause_memory _ wanting in
+    let memory : c.in_err-fields.field-0.0 ≡ fault.NoMemory = cause_memory c.in_err-fields.field-0.0 wanting in
     let none : fault.NotObject ≡ fault.NoMemory = sym c.in_err-fields.ensures.fault.0 ∙ memory in
     absurd (cc))
 
 pub returns-in_err-judged_command-clause-fault : goal.returns-in_err-judged_command-clause-fault
 returns-in_err-judged_command-clause-fault c =
-    let p = err_from_is_err_and c.from_residual-2.result c.from_residual-2.ensures.1 in
+    let p = err_from_is_err_and c.from_residual-in_err-judged_command.result c.from_residual-in_err-judged_command.ensures.1 in
     rw (p.1, p.2) (λ other.
     said_value c.args.content (form_rules c.args.form) (view c.args.value.now) (object_of c.in_ok-fields.fields) c.requires.other c.requires.form c.in_ok-fields.ensures.object.0
     c.in_ok-fields.ensures.object.1 ∙ ap with_cause (c.in_err-judged_command.ensures.given (λ wanting. other (ap cause_of wanting))))
 
 pub returns-in_err-judged_command-clause-memory : goal.returns-in_err-judged_command-clause-memory
 returns-in_err-judged_command-clause-memory c =
-    let p = err_from_is_err_and c.from_residual-2.result c.from_residual-2.ensures.1 in
+    let p = err_from_is_err_and c.from_residual-in_err-judged_command.result c.from_residual-in_err-judged_command.ensures.1 in
     rw (p.1, p.2) (λ wanting.
     said_some c.args.content (form_rules c.args.form) (view c.args.value.now) (object_of c.in_ok-fields.fields) c.requires.other c.requires.form c.in_ok-fields.ensures.object.0
-    c.in_ok-fields.ensures.object.1 (c.in_err-judged_command.ensures.memory (ap Err (cause_memory _ wanting))))
+    c.in_ok-fields.ensures.object.1 (c.in_err-judged_command.ensures.memory (ap (λ f. Err f) (cause_memory c.in_err-judged_command.field-0.0 wanting))))
 
 pub returns-clause-command : goal.returns-clause-command
 returns-clause-command c =

@@ -1,4 +1,4 @@
-use Rattle.std.proofs.Common.{◌≡◌, Some, None, Err, sym, ap, ◌∙◌}
+use Rattle.std.proofs.Common.{◌≡◌, Some, None, Err, refl, sym, ap, ◌∙◌}
 use Rattle.std.specs.Prelude.{option_map}
 use Rattle.std.proofs.lemmas.Result.{err_from_is_err_and}
 use Rattle.serde_json.specs.View.{view}
@@ -17,8 +17,8 @@ pub returns-in_default-clause-unsupported : goal.returns-in_default-clause-unsup
 returns-in_default-clause-unsupported c =
     (λ e. is_unsupported c.args.content c.args.body.now c.if-content-eq-HELLO.false (no_entry c.args.content (sym (ap (option_map form_rules) c.in_default.is) ∙ c.form_of.ensures)), λ e. refl)
 
-pub formed_command-requires-clause-form : goal.formed_command-requires-clause-form
-formed_command-requires-clause-form c = sym (ap (option_map form_rules) c.in-Some.is) ∙ c.form_of.ensures
+pub formed_command-command-requires-clause-form : goal.formed_command-command-requires-clause-form
+formed_command-command-requires-clause-form c = sym (ap (option_map form_rules) c.in-Some.is) ∙ c.form_of.ensures
 
 pub returns-in_err-value-clause-fault : goal.returns-in_err-value-clause-fault
 returns-in_err-value-clause-fault c =
@@ -31,13 +31,13 @@ returns-in_err-value-clause-fault c =
 pub returns-in_err-value-clause-unsupported : goal.returns-in_err-value-clause-unsupported
 returns-in_err-value-clause-unsupported c =
     let p = err_from_is_err_and c.from_residual.result c.from_residual.ensures.1 in
-    rw (p.1, p.2) (λ e. absurd (cause_supported _ e),
+    rw (p.1, p.2) (λ e. absurd (cause_supported c.in_err-value.field-0.0 e),
     λ e. absurd (not_supported c.args.content (form_rules c.in-Some.form) c.args.body.now c.if-content-eq-HELLO.false (sym (ap (option_map form_rules) c.in-Some.is) ∙ c.form_of.ensures) e))
 
 pub returns-in_err-value-clause-memory : goal.returns-in_err-value-clause-memory
 returns-in_err-value-clause-memory c =
     let p = err_from_is_err_and c.from_residual.result c.from_residual.ensures.1 in
-    rw (p.1, p.2) (λ wanting. c.in_err-value.ensures.memory (ap Err (cause_memory _ wanting)))
+    rw (p.1, p.2) (λ wanting. c.in_err-value.ensures.memory (ap (λ f. Err f) (cause_memory c.in_err-value.field-0.0 wanting)))
 
 pub returns-clause-command : goal.returns-clause-command
 returns-clause-command c =
