@@ -19,6 +19,7 @@ use Rattle.command_codec.specs.ContentTypes.{content_of}
 use Rattle.command_codec.specs.EntityBodies.{as_cost, named, entity_fields, made, updated, router_fields, made_router, updated_router, entity_table}
 use Rattle.command_codec.specs.SpelledBodies.{Tells, MayTell, SaysName, SaysMade, SaysUpdated, SaysMadeRouter, SaysUpdatedRouter, SaysFields}
 use Rattle.command_codec.proofs.NameListLaws.{as_name-form, as_attributes-form}
+use Rattle.body_fields.proofs.FieldLaws.{number_form}
 use Rattle.command_codec.proofs.ReadingLaws.{said_by_ok, reads_one, reads_two, reads_four, required_form, optional_form}
 use Rattle.command_codec.proofs.TableLaws.{IsSaid, Faithful, by_row, ◌⊗◌}
 
@@ -26,11 +27,6 @@ use Rattle.command_codec.proofs.TableLaws.{IsSaid, Faithful, by_row, ◌⊗◌}
 
 pub name_form : (of_field : Field) (o : Data) (name : List ℕ) → Tells as_name of_field name o → is_name name ≡ true
 name_form of_field o name e = required_form as_name of_field o name e (λ d h. as_name-form d name h)
-
-pub number_form : (low high : ℕ) (d : Data) (n : ℕ) → as_number_in low high d ≡ Some n → in_range low high n ≡ true
-number_form low high d n e =
-    option_and_then_some (within low high) (option_and_then as_u64 (as_number d)) n e (λ m is h.
-    let p = cond_some (nat_le low m && nat_le m high) m n h in subst (λ k. in_range low high k ≡ true) p.1 p.0)
 
 pub required_number : (low high : ℕ) (of_field : Field) (o : Data) (n : ℕ) → Tells (as_number_in low high) of_field n o → in_range low high n ≡ true
 required_number low high of_field o n e = required_form (as_number_in low high) of_field o n e (λ d h. number_form low high d n h)

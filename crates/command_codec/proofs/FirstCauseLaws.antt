@@ -10,7 +10,7 @@ use Rattle.json_body.specs.declared.fields.FieldFault.{FieldFault}
 use Rattle.json_body.specs.declared.fields.FieldFault.TheVariants.{Missing, WrongKind, Unknown}
 use Rattle.json_body.specs.FieldKinds.{member_of, required_from, required, optional_from, optional, has_only, finished}
 use Rattle.command_codec.specs.BodyObjects.{Reader, ◌>>=◌}
-use Rattle.command_codec.specs.FirstCauses.{FieldRule, needs, may_have, IsMissing, IsOfWrongKind, Breaks, Keeps, BreaksFirst, HasAnotherKey, IsFirstFault}
+use Rattle.body_fields.specs.FieldRules.{FieldRule, needs, may_have, Breaks, Keeps, BreaksFirst, HasAnotherKey}
 
 -- What is said is a fault exactly where an object that is to keep these rules, and to have the words of these fields alone, has it
 -- as its first one.

@@ -6,7 +6,7 @@ use Rattle.ctrl_model.specs.declared.commands.Command.TheVariants as command
 use Rattle.ctrl_model.specs.CommandForm.{is_spelled}
 use Rattle.command_codec.specs.declared.reading.CodecFault.{CodecFault}
 use Rattle.command_codec.specs.declared.reading.CodecFault.TheVariants.{NoMemory}
-use Rattle.command_codec.specs.ReadResults.{Gives}
+use Rattle.body_fields.specs.ReadResults.{Gives}
 use Rattle.command_codec.specs.BodyObjects.{Reader}
 use Rattle.command_codec.specs.BodyMeaning.{table, entry_at, meaning_under, meaning_in, meaning}
 use Rattle.command_codec.specs.ContentTypes.{content_of}
