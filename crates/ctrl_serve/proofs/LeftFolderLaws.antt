@@ -29,7 +29,9 @@ use Rattle.run_notes.specs.NotedLines.{NotesLines}
 use Rattle.run_notes.specs.Notes.{damaged_note}
 use Rattle.ctrl_serve.specs.declared.bounds.Bounds.{Bounds}
 use Rattle.ctrl_serve.specs.declared.command_line.Form as command
-use Rattle.ctrl_serve.specs.declared.command_line.Form.TheVariants.{Dry, Replay, Audit, Compact, Load}
+use Rattle.ctrl_serve.specs.declared.command_line.Form.TheVariants.{Dry, Replay, Audit, Compact, Load, Advise}
+use Rattle.ctrl_serve.specs.CommandLine.{form_of}
+use Rattle.ctrl_serve.proofs.AdviseWords.{advise_words}
 use Rattle.ctrl_serve.specs.FolderWords.{compaction, Compacts}
 use Rattle.ctrl_serve.specs.FrameAnswer.{last_machine}
 use Rattle.ctrl_serve.specs.Headline.{folder_bounds, taking_of, IsLeftAlone, IsUnopened, Refuses, Replays, Runs, StaysClosed}
@@ -75,10 +77,10 @@ keeps_all o form bounds most source source_now desk desk_now bytes s (inr r) lef
       found = subst (λ (u : List ℕ). AllOpenTo (o.stopped desk_now).images (last_machine form bounds r.machine u).state) used (r.found refl told);
     }
 
-pub done_keeps : {S D : Type 0} (o : Outside S D) (bounds : Bounds) (form : Form) (source source_now : S) (desk desk_now : D) (bytes : List ℕ) (s : State)
-    → Runs o bounds (Some (Replay form)) source source_now desk desk_now Done → o.left source ≡ Some bytes → IsTrue o.tells → OpensToState (o.seen desk).reads s
+pub done_keeps : {S D : Type 0} (o : Outside S D) (bounds : Bounds) (words : List (List ℕ)) (form : Form) (source source_now : S) (desk desk_now : D) (bytes : List ℕ) (s : State)
+    → Runs o bounds words (Some (Replay form)) source source_now desk desk_now Done → o.left source ≡ Some bytes → IsTrue o.tells → OpensToState (o.seen desk).reads s
     → KeepsAll form (folder_bounds bounds) bytes s (o.seen desk).reads (o.seen desk_now).reads (o.stopped desk_now).images
-done_keeps o bounds form source source_now desk desk_now bytes s runs left told opens =
+done_keeps o bounds words form source source_now desk desk_now bytes s runs left told opens =
     keeps_all o form (folder_bounds bounds) bounds.input source source_now desk desk_now bytes s (runs.replay form refl) left told opens
 
 -- ---- what granted the circuits
@@ -108,14 +110,14 @@ granted_unsaid o form bounds most source source_now desk desk_now (inr r) told h
       subst (λ (m : Machine). AreGranted m.state) (sym kept.ahead.behind) (behind-granted bounds r.machine _ r.valid stood),
     )
 
-pub kept_granted : {S D : Type 0} (o : Outside S D) (bounds : Bounds) (form : Form) (source source_now : S) (desk desk_now : D) (status : Status)
-    → Runs o bounds (Some (Replay form)) source source_now desk desk_now status → IsTrue o.tells → HoldsGranted (o.seen desk).reads → is_kept status ≡ true → HoldsGranted (o.seen desk_now).reads
-kept_granted o bounds form source source_now desk desk_now status runs told held kept =
+pub kept_granted : {S D : Type 0} (o : Outside S D) (bounds : Bounds) (words : List (List ℕ)) (form : Form) (source source_now : S) (desk desk_now : D) (status : Status)
+    → Runs o bounds words (Some (Replay form)) source source_now desk desk_now status → IsTrue o.tells → HoldsGranted (o.seen desk).reads → is_kept status ≡ true → HoldsGranted (o.seen desk_now).reads
+kept_granted o bounds words form source source_now desk desk_now status runs told held kept =
     granted_on o form (folder_bounds bounds) bounds.input source source_now desk desk_now status (runs.replay form refl) told held kept
 
-pub unsaid_granted : {S D : Type 0} (o : Outside S D) (bounds : Bounds) (form : Form) (source source_now : S) (desk desk_now : D)
-    → Runs o bounds (Some (Replay form)) source source_now desk desk_now WriteFault → IsTrue o.tells → HoldsGranted (o.seen desk).reads → HoldsGranted (o.seen desk_now).reads
-unsaid_granted o bounds form source source_now desk desk_now runs told held =
+pub unsaid_granted : {S D : Type 0} (o : Outside S D) (bounds : Bounds) (words : List (List ℕ)) (form : Form) (source source_now : S) (desk desk_now : D)
+    → Runs o bounds words (Some (Replay form)) source source_now desk desk_now WriteFault → IsTrue o.tells → HoldsGranted (o.seen desk).reads → HoldsGranted (o.seen desk_now).reads
+unsaid_granted o bounds words form source source_now desk desk_now runs told held =
     granted_unsaid o form (folder_bounds bounds) bounds.input source source_now desk desk_now (runs.replay form refl) told held
 
 -- A folder without a mark opens to the state at the start, which has no circuit.
@@ -132,14 +134,14 @@ within_kept room within =
     let d = within.one in
     record { zero = omega arith; one = omega arith }
 
-pub reads_within : {S D : Type 0} (o : Outside S D) (bounds : Bounds) (form : Option command.Form) (source source_now : S) (desk desk_now : D) (status : Status)
-    → Runs o bounds form source source_now desk desk_now status → IsTrue o.tells → IsWithin bounds.slot (o.seen desk).reads → IsWithin bounds.slot (o.seen desk_now).reads
-reads_within o bounds form source source_now desk desk_now status runs told within = within_kept (runs.room.reads told) within
+pub reads_within : {S D : Type 0} (o : Outside S D) (bounds : Bounds) (words : List (List ℕ)) (form : Option command.Form) (source source_now : S) (desk desk_now : D) (status : Status)
+    → Runs o bounds words form source source_now desk desk_now status → IsTrue o.tells → IsWithin bounds.slot (o.seen desk).reads → IsWithin bounds.slot (o.seen desk_now).reads
+reads_within o bounds words form source source_now desk desk_now status runs told within = within_kept (runs.room.reads told) within
 
-pub found_within : {S D : Type 0} (o : Outside S D) (bounds : Bounds) (form : Option command.Form) (source source_now : S) (desk desk_now : D) (status : Status)
-    → Runs o bounds form source source_now desk desk_now status → ((image : Image) → (o.stopped desk).images image → IsWithin bounds.slot image)
+pub found_within : {S D : Type 0} (o : Outside S D) (bounds : Bounds) (words : List (List ℕ)) (form : Option command.Form) (source source_now : S) (desk desk_now : D) (status : Status)
+    → Runs o bounds words form source source_now desk desk_now status → ((image : Image) → (o.stopped desk).images image → IsWithin bounds.slot image)
     → (image : Image) → (o.stopped desk_now).images image → IsWithin bounds.slot image
-found_within o bounds form source source_now desk desk_now status runs within image p =
+found_within o bounds words form source source_now desk desk_now status runs within image p =
     let before = runs.room.found image p in
     within_kept before.by (within before.from before.was)
 
@@ -213,9 +215,9 @@ compacts_alone bounds tells desk desk_now s (inl closed) told opens = absurd clo
 compacts_alone {seen = seen} {stopped = stopped} bounds tells desk desk_now s (inr c) told opens =
     holds_alone bounds tells (seen desk) (seen desk_now) (stopped desk) (stopped desk_now) s c told opens
 
-pub done_compacts : {S D : Type 0} (o : Outside S D) (bounds : Bounds) (source source_now : S) (desk desk_now : D) (s : State) → Runs o bounds (Some Compact) source source_now desk desk_now Done
+pub done_compacts : {S D : Type 0} (o : Outside S D) (bounds : Bounds) (words : List (List ℕ)) (source source_now : S) (desk desk_now : D) (s : State) → Runs o bounds words (Some Compact) source source_now desk desk_now Done
     → IsTrue o.tells → OpensToState (o.seen desk).reads s → HoldsAlone s (o.seen desk).reads (o.seen desk_now).reads (o.stopped desk_now).images
-done_compacts o bounds source source_now desk desk_now s runs told opens =
+done_compacts o bounds words source source_now desk desk_now s runs told opens =
     compacts_alone {seen = o.seen} {stopped = o.stopped} (folder_bounds bounds) o.tells desk desk_now s (runs.compact refl) told opens
 
 -- ---- damage
@@ -224,17 +226,23 @@ done_compacts o bounds source source_now desk desk_now s runs told opens =
 abbrev StaysShut : {S D : Type 0} (o : Outside S D) (source source_now : S) (desk desk_now : D) → Type 0
 StaysShut o source source_now desk desk_now = (source_now ≡ source) × IsUnopened o.tells o.seen o.stopped desk desk_now Damaged
 
-pub stays_shut : {S D : Type 0} (o : Outside S D) (bounds : Bounds) (form : Option command.Form) (source source_now : S) (desk desk_now : D)
-    → Runs o bounds form source source_now desk desk_now Damaged → StaysShut o source source_now desk desk_now
-stays_shut o bounds None source source_now desk desk_now runs = let e : Damaged ≡ Usage = runs.usage.1 refl in absurd cc
-stays_shut o bounds (Some Dry) source source_now desk desk_now runs = absurd (runs.dry refl).says
-stays_shut o bounds (Some (Replay form)) source source_now desk desk_now runs =
+pub stays_shut : {S D : Type 0} (o : Outside S D) (bounds : Bounds) (words : List (List ℕ)) (form : Option command.Form) (source source_now : S) (desk desk_now : D)
+    → form_of words ≡ form → Runs o bounds words form source source_now desk desk_now Damaged → StaysShut o source source_now desk desk_now
+stays_shut o bounds words None source source_now desk desk_now asked runs = let e : Damaged ≡ Usage = runs.usage.1 refl in absurd cc
+stays_shut o bounds words (Some Dry) source source_now desk desk_now asked runs = absurd (runs.dry refl).says
+stays_shut o bounds words (Some (Replay form)) source source_now desk desk_now asked runs =
     elim (runs.replay form refl) as (λ _. StaysShut o source source_now desk desk_now) [ inl closed ↦ (closed.takes_nothing, closed.unopened) | inr on ↦ absurd on.serves.says ]
-stays_shut o bounds (Some Audit) source source_now desk desk_now runs =
+stays_shut o bounds words (Some Audit) source source_now desk desk_now asked runs =
     elim (runs.audit refl) as (λ _. StaysShut o source source_now desk desk_now) [ inl closed ↦ (runs.audit_takes_nothing refl, closed) | inr on ↦ absurd on.says.says ]
-stays_shut o bounds (Some Compact) source source_now desk desk_now runs =
+stays_shut o bounds words (Some Compact) source source_now desk desk_now asked runs =
     elim (runs.compact refl) as (λ _. StaysShut o source source_now desk desk_now) [ inl closed ↦ (runs.compact_takes_nothing refl, closed) | inr on ↦ absurd on.ends ]
-stays_shut o bounds (Some (Load number)) source source_now desk desk_now runs = absurd (runs.load number refl).says
+stays_shut o bounds words (Some (Load number)) source source_now desk desk_now asked runs = absurd (runs.load number refl).says
+stays_shut o bounds words (Some Advise) source source_now desk desk_now asked runs =
+    let names = advise_words words asked in
+    elim (runs.advise names.identity names.service names.are refl) as (λ _. StaysShut o source source_now desk desk_now) [
+      inl closed ↦ (runs.advise_takes_nothing refl, closed)
+    | inr on ↦ absurd on.says.says
+    ]
 
 -- A told folder has a mark then, so it was left alone.
 pub shut_alone : {D : Type 0} {seen : D → Seen} {stopped : D → Stopped} (tells : Bool) (desk desk_now : D) → IsUnopened tells seen stopped desk desk_now Damaged → IsTrue tells

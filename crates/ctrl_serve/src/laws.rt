@@ -33,13 +33,9 @@ ghost use Rattle.ctrl_serve.specs.UncompactedFolders.{ask_for_compact, CompactsN
 ghost use Rattle.ctrl_serve.specs.Loads.{counts_line, IsSaid, SaysOneLine};
 ghost use Rattle.ctrl_serve.specs.RunStops.{StopFinds, HoldsFirst};
 ghost use Rattle.ctrl_serve.specs.OpenedFolders.{OpensTo};
-ghost use Rattle.ctrl_serve.specs.CommandLine.{number_of_word};
-<<<<<<< HEAD
-ghost use Rattle.ctrl_serve.specs.declared.command_line.Form.TheVariants.{Replay, Audit, Compact, Advise};
-=======
+ghost use Rattle.ctrl_serve.specs.CommandLine.{form_of, number_of_word};
 ghost use Rattle.ctrl_serve.specs.declared.command_line.Form as command;
-ghost use Rattle.ctrl_serve.specs.declared.command_line.Form.TheVariants.{Replay, Audit, Compact};
->>>>>>> hd-b
+ghost use Rattle.ctrl_serve.specs.declared.command_line.Form.TheVariants.{Replay, Audit, Compact, Advise};
 ghost use Rattle.ctrl_serve.specs.CompleteRuns.{IsCalm, CompletesFrom, ComesOutFrom};
 ghost use Rattle.ziti_outside.specs.Views.{Seen};
 ghost use Rattle.ctrl_serve.specs.declared.bounds.Bounds.{Bounds};
@@ -201,22 +197,22 @@ pub fn runs_are_complete<S: Source, D: Desk>()
 /// A call that failed in a run, as its count tells, is what the status tells: where a take failed it is ReadFault, where a say failed
 /// WriteFault, and where a call on the folder failed DiskFault. So in one run calls of one kind alone fail, those of notes aside.
 pub fn a_told_failure_is_the_status<S: Source, D: Desk>()
-    ensures take { (bounds : Bounds) (form : Option command.Form) (source source_now : S) (desk desk_now : D) (status : Status)
-        → Runs (record { left = S.left; faults = S.faults; tells = D.tells; seen = D.seen; stopped = D.stopped }) bounds form source source_now desk desk_now status
+    ensures take { (bounds : Bounds) (words : List (List ℕ)) (form : Option command.Form) (source source_now : S) (desk desk_now : D) (status : Status)
+        → Runs (record { left = S.left; faults = S.faults; tells = D.tells; seen = D.seen; stopped = D.stopped }) bounds words form source source_now desk desk_now status
         → S.faults source < S.faults source_now → status ≡ ReadFault }
-    ensures say { (bounds : Bounds) (form : Option command.Form) (source source_now : S) (desk desk_now : D) (status : Status)
-        → Runs (record { left = S.left; faults = S.faults; tells = D.tells; seen = D.seen; stopped = D.stopped }) bounds form source source_now desk desk_now status
+    ensures say { (bounds : Bounds) (words : List (List ℕ)) (form : Option command.Form) (source source_now : S) (desk desk_now : D) (status : Status)
+        → Runs (record { left = S.left; faults = S.faults; tells = D.tells; seen = D.seen; stopped = D.stopped }) bounds words form source source_now desk desk_now status
         → (D.seen desk).say_faults < (D.seen desk_now).say_faults → status ≡ WriteFault }
-    ensures disk { (bounds : Bounds) (form : Option command.Form) (source source_now : S) (desk desk_now : D) (status : Status)
-        → Runs (record { left = S.left; faults = S.faults; tells = D.tells; seen = D.seen; stopped = D.stopped }) bounds form source source_now desk desk_now status
+    ensures disk { (bounds : Bounds) (words : List (List ℕ)) (form : Option command.Form) (source source_now : S) (desk desk_now : D) (status : Status)
+        → Runs (record { left = S.left; faults = S.faults; tells = D.tells; seen = D.seen; stopped = D.stopped }) bounds words form source source_now desk desk_now status
         → (D.seen desk).disk_faults < (D.seen desk_now).disk_faults → status ≡ DiskFault }
 {}
 
 /// What `Done` says of a replay on a told folder that opened to a state, where the source told its bytes: the folder keeps the machine behind
 /// all frames of them, and opens to its state; and so does all that a stop may leave.
 pub fn done_keeps_all<S: Source, D: Desk>()
-    ensures folder { (bounds : Bounds) (form : Form) (source source_now : S) (desk desk_now : D) (bytes : List ℕ) (s : State)
-        → Runs (record { left = S.left; faults = S.faults; tells = D.tells; seen = D.seen; stopped = D.stopped }) bounds (Some (Replay form)) source source_now desk desk_now Done
+    ensures folder { (bounds : Bounds) (words : List (List ℕ)) (form : Form) (source source_now : S) (desk desk_now : D) (bytes : List ℕ) (s : State)
+        → Runs (record { left = S.left; faults = S.faults; tells = D.tells; seen = D.seen; stopped = D.stopped }) bounds words (Some (Replay form)) source source_now desk desk_now Done
         → S.left source ≡ Some bytes → IsTrue D.tells → OpensToState (D.seen desk).reads s
         → KeepsAll form (folder_bounds bounds) bytes s (D.seen desk).reads (D.seen desk_now).reads (D.stopped desk_now).images }
 {}
@@ -224,11 +220,11 @@ pub fn done_keeps_all<S: Source, D: Desk>()
 /// No circuit outlives what granted it: where what grants each circuit stands in the state to which a told folder opens, it stands in the state
 /// to which the folder opens behind a replay that kept all, or whose say failed. In a folder without a mark, as a new one, it does.
 pub fn circuits_stand_on_what_grants_them<S: Source, D: Desk>()
-    ensures kept { (bounds : Bounds) (form : Form) (source source_now : S) (desk desk_now : D) (status : Status)
-        → Runs (record { left = S.left; faults = S.faults; tells = D.tells; seen = D.seen; stopped = D.stopped }) bounds (Some (Replay form)) source source_now desk desk_now status
+    ensures kept { (bounds : Bounds) (words : List (List ℕ)) (form : Form) (source source_now : S) (desk desk_now : D) (status : Status)
+        → Runs (record { left = S.left; faults = S.faults; tells = D.tells; seen = D.seen; stopped = D.stopped }) bounds words (Some (Replay form)) source source_now desk desk_now status
         → IsTrue D.tells → HoldsGranted (D.seen desk).reads → is_kept status ≡ true → HoldsGranted (D.seen desk_now).reads }
-    ensures unsaid { (bounds : Bounds) (form : Form) (source source_now : S) (desk desk_now : D)
-        → Runs (record { left = S.left; faults = S.faults; tells = D.tells; seen = D.seen; stopped = D.stopped }) bounds (Some (Replay form)) source source_now desk desk_now WriteFault
+    ensures unsaid { (bounds : Bounds) (words : List (List ℕ)) (form : Form) (source source_now : S) (desk desk_now : D)
+        → Runs (record { left = S.left; faults = S.faults; tells = D.tells; seen = D.seen; stopped = D.stopped }) bounds words (Some (Replay form)) source source_now desk desk_now WriteFault
         → IsTrue D.tells → HoldsGranted (D.seen desk).reads → HoldsGranted (D.seen desk_now).reads }
     ensures begun_empty { (image : Image) → image Mark ≡ [] → HoldsGranted image }
 {}
@@ -236,35 +232,35 @@ pub fn circuits_stand_on_what_grants_them<S: Source, D: Desk>()
 /// No run makes a slot longer than its bound: where no slot of a told folder read longer at the start none does at the end, whatever the words
 /// and whatever came of the run; and so it is of all that a stop may leave at the end, where it was of all that one might have left at the start.
 pub fn slots_keep_their_bound<S: Source, D: Desk>()
-    ensures reads { (bounds : Bounds) (form : Option command.Form) (source source_now : S) (desk desk_now : D) (status : Status)
-        → Runs (record { left = S.left; faults = S.faults; tells = D.tells; seen = D.seen; stopped = D.stopped }) bounds form source source_now desk desk_now status
+    ensures reads { (bounds : Bounds) (words : List (List ℕ)) (form : Option command.Form) (source source_now : S) (desk desk_now : D) (status : Status)
+        → Runs (record { left = S.left; faults = S.faults; tells = D.tells; seen = D.seen; stopped = D.stopped }) bounds words form source source_now desk desk_now status
         → IsTrue D.tells → IsWithin bounds.slot (D.seen desk).reads → IsWithin bounds.slot (D.seen desk_now).reads }
-    ensures found { (bounds : Bounds) (form : Option command.Form) (source source_now : S) (desk desk_now : D) (status : Status)
-        → Runs (record { left = S.left; faults = S.faults; tells = D.tells; seen = D.seen; stopped = D.stopped }) bounds form source source_now desk desk_now status
+    ensures found { (bounds : Bounds) (words : List (List ℕ)) (form : Option command.Form) (source source_now : S) (desk desk_now : D) (status : Status)
+        → Runs (record { left = S.left; faults = S.faults; tells = D.tells; seen = D.seen; stopped = D.stopped }) bounds words form source source_now desk desk_now status
         → ((image : Image) → (D.stopped desk).images image → IsWithin bounds.slot image) → (image : Image) → (D.stopped desk_now).images image → IsWithin bounds.slot image }
 {}
 
 /// What `Done` says of `compact` on a told folder that opened to a state: it opens to the very same state, holds exactly its rows in the slot that
 /// did not stand before, and nothing in the other one; and all that a stop may leave opens to that state.
 pub fn done_compacts_all<S: Source, D: Desk>()
-    ensures folder { (bounds : Bounds) (source source_now : S) (desk desk_now : D) (s : State)
-        → Runs (record { left = S.left; faults = S.faults; tells = D.tells; seen = D.seen; stopped = D.stopped }) bounds (Some Compact) source source_now desk desk_now Done
+    ensures folder { (bounds : Bounds) (words : List (List ℕ)) (source source_now : S) (desk desk_now : D) (s : State)
+        → Runs (record { left = S.left; faults = S.faults; tells = D.tells; seen = D.seen; stopped = D.stopped }) bounds words (Some Compact) source source_now desk desk_now Done
         → IsTrue D.tells → OpensToState (D.seen desk).reads s → HoldsAlone s (D.seen desk).reads (D.seen desk_now).reads (D.stopped desk_now).images }
 {}
 
 /// What `Damaged` says under any words: nothing was taken and nothing said. A told folder was left alone, every part of it and all that a stop
 /// may leave at any moment; and it opens to no state, at the place that the note names.
 pub fn damage_changes_nothing<S: Source, D: Desk>()
-    ensures input { (bounds : Bounds) (form : Option command.Form) (source source_now : S) (desk desk_now : D)
-        → Runs (record { left = S.left; faults = S.faults; tells = D.tells; seen = D.seen; stopped = D.stopped }) bounds form source source_now desk desk_now Damaged
+    ensures input { (bounds : Bounds) (words : List (List ℕ)) (source source_now : S) (desk desk_now : D)
+        → Runs (record { left = S.left; faults = S.faults; tells = D.tells; seen = D.seen; stopped = D.stopped }) bounds words (form_of words) source source_now desk desk_now Damaged
         → source_now ≡ source }
-    ensures replies { (bounds : Bounds) (form : Option command.Form) (source source_now : S) (desk desk_now : D)
-        → Runs (record { left = S.left; faults = S.faults; tells = D.tells; seen = D.seen; stopped = D.stopped }) bounds form source source_now desk desk_now Damaged
+    ensures replies { (bounds : Bounds) (words : List (List ℕ)) (source source_now : S) (desk desk_now : D)
+        → Runs (record { left = S.left; faults = S.faults; tells = D.tells; seen = D.seen; stopped = D.stopped }) bounds words (form_of words) source source_now desk desk_now Damaged
         → (D.seen desk_now).said ≡ (D.seen desk).said }
-    ensures folder { (bounds : Bounds) (form : Option command.Form) (source source_now : S) (desk desk_now : D)
-        → Runs (record { left = S.left; faults = S.faults; tells = D.tells; seen = D.seen; stopped = D.stopped }) bounds form source source_now desk desk_now Damaged
+    ensures folder { (bounds : Bounds) (words : List (List ℕ)) (source source_now : S) (desk desk_now : D)
+        → Runs (record { left = S.left; faults = S.faults; tells = D.tells; seen = D.seen; stopped = D.stopped }) bounds words (form_of words) source source_now desk desk_now Damaged
         → IsTrue D.tells → IsLeftAlone D.seen D.stopped desk desk_now }
-    ensures place { (bounds : Bounds) (form : Option command.Form) (source source_now : S) (desk desk_now : D)
-        → Runs (record { left = S.left; faults = S.faults; tells = D.tells; seen = D.seen; stopped = D.stopped }) bounds form source source_now desk desk_now Damaged
+    ensures place { (bounds : Bounds) (words : List (List ℕ)) (source source_now : S) (desk desk_now : D)
+        → Runs (record { left = S.left; faults = S.faults; tells = D.tells; seen = D.seen; stopped = D.stopped }) bounds words (form_of words) source source_now desk desk_now Damaged
         → IsTrue D.tells → (part : Part) × (at : ℕ) × IsStateless (D.seen desk).reads part at × NotesLines (damaged_note part at) (D.seen desk) (D.seen desk_now) }
 {}
