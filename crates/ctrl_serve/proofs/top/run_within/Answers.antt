@@ -39,7 +39,7 @@ returns-in-Some-Audit g c =
 
 pub run_advise-requires : goal.run_advise-requires
 run_advise-requires g c =
-    ap (λ ws. form_of (texts ws)) (c.as_slice-2.ensures.value ∙ sym c.as_slice.ensures.value) ∙ sym c.form_of.ensures ∙ c.in-Some-Advise.is ∙ ap (λ (f : Form). Some f) c.in-Some-Advise.field-0-is
+    ap (λ ws. form_of (texts ws)) (c.as_slice-in-Some-Advise.ensures.value ∙ sym c.as_slice.ensures.value) ∙ sym c.form_of.ensures ∙ c.in-Some-Advise.is ∙ ap (λ (f : Form). Some f) c.in-Some-Advise.field-0-is
 
 pub returns-in-Some-Advise : goal.returns-in-Some-Advise
 returns-in-Some-Advise g c =
@@ -47,7 +47,7 @@ returns-in-Some-Advise g c =
     let form = ap (λ ws. form_of (texts ws)) (sym c.as_slice.ensures.value) ∙ sym c.form_of.ensures ∙ c.in-Some-Advise.is ∙ ap (λ (f : Form). Some f) c.in-Some-Advise.field-0-is in
     record {
       runs = advise_runs (record { left = g.S.Source.left; faults = g.S.Source.faults; tells = g.D.Desk.tells; seen = g.D.Desk.seen; stopped = g.D.Desk.stopped }) c.args.bounds _ _ _ _ _ _ form (advise_words _ form)
-          (λ i s are. e.advises i s (ap texts c.as_slice-2.ensures.value ∙ are)) e.alone e.write_cause e.disk_cause e.counted;
+          (λ i s are. e.advises i s (ap texts c.as_slice-in-Some-Advise.ensures.value ∙ are)) e.alone e.write_cause e.disk_cause e.counted;
     }
 
 pub returns-in-Some-Compact : goal.returns-in-Some-Compact
