@@ -1,17 +1,16 @@
 -- What the bodies of the commands on identities, services and edge routers say, they spell.
-use Rattle.std.proofs.Common.{◌≡◌, ℕ, nat_le, Bool, true, false, ◌&&◌, List, [], ◌∷◌, Some, Ok, refl, subst}
-use Rattle.std.specs.Prelude.{option_and_then, is_some}
+use Rattle.std.proofs.Common.{◌≡◌, ℕ, Bool, true, false, ◌&&◌, List, [], ◌∷◌, Ok, refl, subst}
+use Rattle.std.specs.Prelude.{is_some}
 use Rattle.std.proofs.lemmas.Bool.{and_from, false≢true}
-use Rattle.std.proofs.lemmas.Option.{cond_some, option_and_then_some}
 use Rattle.serde_json.specs.Data.{Data}
-use Rattle.serde_json.specs.Find.{as_bool, as_number, as_u64}
+use Rattle.serde_json.specs.Find.{as_bool, as_number}
 use Rattle.ctrl_model.specs.declared.commands.Command.{Command}
 use Rattle.ctrl_model.specs.declared.commands.Command.TheVariants as command
 use Rattle.ctrl_model.specs.declared.refusals.Field.{Field}
 use Rattle.ctrl_model.specs.declared.refusals.Field.TheVariants as field
 use Rattle.ctrl_model.specs.NameForm.{is_name}
 use Rattle.ctrl_model.specs.CommandForm.{in_range, are_attributes, is_cost}
-use Rattle.json_body.specs.FieldKinds.{as_name, as_number_in, within, required, optional}
+use Rattle.json_body.specs.FieldKinds.{as_name, as_number_in, required, optional}
 use Rattle.command_codec.specs.NameLists.{as_attributes}
 use Rattle.command_codec.specs.BodyObjects.{object_of_body, said_by}
 use Rattle.command_codec.specs.BodyMeaning.{entry_at, meaning_in}

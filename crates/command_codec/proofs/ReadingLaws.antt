@@ -1,13 +1,12 @@
 -- What a reading that says something is made of: each field says something, and the object has no other key.
-use Rattle.std.proofs.Common.{◌≡◌, Bool, true, false, cond, List, Option, Some, None, Result, Ok, Err, refl, sym, ap, ◌∙◌, subst}
-use Rattle.std.specs.Prelude.{⊤, option_and_then}
+use Rattle.std.proofs.Common.{◌≡◌, Bool, true, false, cond, List, Option, Some, None, Result, Ok, Err, refl, ap, ◌∙◌, subst}
+use Rattle.std.specs.Prelude.{⊤}
 use Rattle.std.specs.Option.{ok_or}
-use Rattle.std.specs.Result.{IsErrAnd}
 use Rattle.serde_json.specs.Data.{Data}
 use Rattle.ctrl_model.specs.declared.commands.Command.{Command}
 use Rattle.ctrl_model.specs.declared.refusals.Field.{Field}
 use Rattle.json_body.specs.declared.fields.FieldFault.{FieldFault}
-use Rattle.json_body.specs.declared.fields.FieldFault.TheVariants.{Missing, WrongKind, Unknown, NoMemory}
+use Rattle.json_body.specs.declared.fields.FieldFault.TheVariants.{WrongKind, Unknown}
 use Rattle.json_body.specs.FieldKinds.{member_of, required_from, required, optional_from, optional, has_only, finished}
 use Rattle.command_codec.specs.BodyObjects.{Reader, ◌>>=◌, with_cause, said_by}
 

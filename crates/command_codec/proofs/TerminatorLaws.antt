@@ -1,7 +1,6 @@
 -- What the bodies of the commands on terminators say, they spell.
-use Rattle.std.proofs.Common.{◌≡◌, ℕ, true, ◌&&◌, List, [], ◌∷◌, Option, Some, None, Ok, Err, refl, ap, subst}
-use Rattle.std.specs.Prelude.{is_some, option_map}
-use Rattle.std.specs.Option.{ok_or}
+use Rattle.std.proofs.Common.{◌≡◌, ℕ, true, ◌&&◌, List, [], ◌∷◌, Option, Some, None, Ok, refl, ap, subst}
+use Rattle.std.specs.Prelude.{is_some}
 use Rattle.std.proofs.lemmas.Bool.{and_from, false≢true}
 use Rattle.std.proofs.lemmas.Option.{cond_some, option_and_then_some}
 use Rattle.serde_json.specs.Data.{Data}
@@ -14,9 +13,7 @@ use Rattle.ctrl_model.specs.declared.refusals.Field.{Field}
 use Rattle.ctrl_model.specs.declared.refusals.Field.TheVariants as field
 use Rattle.ctrl_model.specs.NameForm.{is_name, is_instance}
 use Rattle.ctrl_model.specs.CommandForm.{is_spelled, is_cost, is_number, is_name_or_none}
-use Rattle.json_body.specs.declared.fields.FieldFault.{FieldFault}
-use Rattle.json_body.specs.declared.fields.FieldFault.TheVariants.{WrongKind}
-use Rattle.json_body.specs.FieldKinds.{as_name, member_of, required_from, required, optional_from, optional}
+use Rattle.json_body.specs.FieldKinds.{as_name, required, optional}
 use Rattle.body_fields.specs.FieldValues.{as_no, instance_of, as_instance, as_some_name}
 use Rattle.body_fields.specs.FieldWords.{as_precedence}
 use Rattle.command_codec.specs.BodyObjects.{object_of_body, said_by}

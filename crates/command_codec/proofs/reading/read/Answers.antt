@@ -1,8 +1,7 @@
-use Rattle.std.proofs.Common.{◌≡◌, Some, None, Err, refl, sym, ap, ◌∙◌}
+use Rattle.std.proofs.Common.{Some, Err, refl, sym, ap, ◌∙◌}
 use Rattle.std.specs.Prelude.{option_map}
 use Rattle.std.proofs.lemmas.Result.{err_from_is_err_and}
 use Rattle.serde_json.specs.View.{view}
-use Rattle.json_body.specs.declared.fields.FieldFault.TheVariants as fault
 use Rattle.command_codec.specs.BodyForms.{form_rules}
 use Rattle.command_codec.specs.BodyObjects.{cause_of}
 use Rattle.command_codec.proofs.FormLaws.{no_entry}
@@ -31,8 +30,10 @@ returns-in_err-value-clause-fault c =
 pub returns-in_err-value-clause-unsupported : goal.returns-in_err-value-clause-unsupported
 returns-in_err-value-clause-unsupported c =
     let p = err_from_is_err_and c.from_residual.result c.from_residual.ensures.1 in
-    rw (p.1, p.2) (λ e. absurd (cause_supported c.in_err-value.field-0.0 e),
-    λ e. absurd (not_supported c.args.content (form_rules c.in-Some.form) c.args.body.now c.if-content-eq-HELLO.false (sym (ap (option_map form_rules) c.in-Some.is) ∙ c.form_of.ensures) e))
+    rw (p.1, p.2) (
+      λ e. absurd (cause_supported c.in_err-value.field-0.0 e),
+      λ e. absurd (not_supported c.args.content (form_rules c.in-Some.form) c.args.body.now c.if-content-eq-HELLO.false (sym (ap (option_map form_rules) c.in-Some.is) ∙ c.form_of.ensures) e),
+    )
 
 pub returns-in_err-value-clause-memory : goal.returns-in_err-value-clause-memory
 returns-in_err-value-clause-memory c =

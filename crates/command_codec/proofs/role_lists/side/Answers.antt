@@ -1,4 +1,3 @@
-use Rattle.std.proofs.Common.{Err}
 use Rattle.std.proofs.lemmas.Result.{err_from_is_err_and}
 use Rattle.json_body.specs.FieldKinds.{object_of}
 use Rattle.body_fields.specs.ItemLists.{as_each_of}
