@@ -28,7 +28,7 @@ takes_none {S} {left} source = takes_so_far source source [] (Gave-none (left so
 -- ---- the status tells what failed
 
 -- The status of each number.
-status_with : ℕ → Status
+abbrev status_with : ℕ → Status
 status_with n = get_or (Done ∷ Usage ∷ BadInput ∷ Truncated ∷ ReadFault ∷ WriteFault ∷ DiskFault ∷ Damaged ∷ NoMemory ∷ InputTooLong ∷ FolderFull ∷ []) n Done
 
 of_its_number : (status : Status) → status_with (number_of status) ≡ status

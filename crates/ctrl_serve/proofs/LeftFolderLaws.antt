@@ -1,13 +1,13 @@
 -- What is in a folder behind a run, in plain words.
 use Rattle.std.specs.Prelude.{◌≤◌, ◌<◌, ◌==◌, ◌%◌, ◌-◌, cond, if◌then◌else◌, nat_lt, is_some, IsTrue}
-use Rattle.std.proofs.Common.{◌≡◌, ◌⊎◌, inl, inr, ℕ, zero, suc, ◌+◌, Bool, true, false, List, [], length, take, None, Some, refl, sym, ap, ◌∙◌, subst, arith}
+use Rattle.std.proofs.Common.{◌≡◌, ◌⊎◌, inl, inr, ℕ, zero, suc, ◌+◌, Bool, true, false, List, [], ◌∷◌, ◌++◌, length, take, None, Some, refl, sym, ap, ◌∙◌, subst, arith}
 use Rattle.std.specs.declared.option.Option.{Option}
 use Rattle.ziti_outside.specs.Images.{Image}
 use Rattle.ziti_outside.specs.Views.{Outside, Seen, Stopped}
 use Rattle.ziti_outside.specs.declared.desk.Part.{Part}
 use Rattle.ziti_outside.specs.declared.desk.Part.TheVariants.{Zero, One, Mark}
-use Rattle.journal_core.specs.Room.{HoldsRoom, IsWithin, KeepsRoom}
-use Rattle.slot_files.specs.FolderImage.{slot_of, Stands, StandsBy}
+use Rattle.journal_core.specs.Room.{IsWithin, KeepsRoom}
+use Rattle.slot_files.specs.FolderImage.{slot_of, Stands}
 use Rattle.slot_files.specs.SwitchedSlots.{other_slot}
 use Rattle.row_store.specs.CompactedStores.{compacted, compacted_size}
 use Rattle.row_store.specs.declared.bounds.StoreBounds.{StoreBounds}
@@ -19,7 +19,7 @@ use Rattle.ctrl_model.specs.State.{State, start}
 use Rattle.model_laws.specs.JudgedCircuits.{AreGranted}
 use Rattle.ctrl_keep.specs.KeptBatches.{mark_at}
 use Rattle.ctrl_keep.specs.KeptMachine.{Machine, Place, compacted_place}
-use Rattle.session_mux.specs.Completion.{completed}
+use Rattle.session_mux.specs.declared.events.Event.TheVariants.{Arrived}
 use Rattle.session_mux.specs.declared.sessions.Form.{Form}
 use Rattle.run_notes.specs.declared.status.Status.{Status}
 use Rattle.run_notes.specs.declared.status.Status.TheVariants.{Done, Usage, BadInput, Truncated, ReadFault, WriteFault, DiskFault, Damaged, NoMemory, InputTooLong, FolderFull}
@@ -107,7 +107,7 @@ granted_unsaid o form bounds most source source_now desk desk_now (inr r) told h
     let stood = stands_there (o.seen desk).reads r.machine (r.opens told) held in (
       kept.machine.state,
       opens_kept (o.seen desk_now).reads kept.machine kept.keeps,
-      subst (λ (m : Machine). AreGranted m.state) (sym kept.ahead.behind) (behind-granted bounds r.machine _ r.valid stood),
+      subst (λ (m : Machine). AreGranted m.state) (sym kept.ahead.behind) (behind-granted bounds r.machine (frames_in form (r.serves.answered ++ Arrived kept.ahead.session kept.ahead.frame ∷ [])) r.valid stood),
     )
 
 pub kept_granted : {S D : Type 0} (o : Outside S D) (bounds : Bounds) (words : List (List ℕ)) (form : Form) (source source_now : S) (desk desk_now : D) (status : Status)

@@ -46,7 +46,7 @@ use Rattle.ctrl_serve.specs.Answering.{begun, NotesNothing, Progress, Telling}
 use Rattle.ctrl_serve.specs.FrameAnswer.{replies_to}
 use Rattle.ctrl_serve.proofs.KnownLaws.{machine_then, replies_then}
 use Rattle.ctrl_serve.proofs.TurnLaws.{goes_nowhere, none_left}
-use Rattle.ctrl_serve.proofs.UsedLaws.{at_start, all_so, end_so, says_whole, split_so, used_answered, used_cut, used_last, used_none, used_starved}
+use Rattle.ctrl_serve.proofs.UsedLaws.{at_start, all_so, end_so, says_whole, split_so, starved_said, used_answered, used_cut, used_last, used_none, used_starved}
 use Rattle.ctrl_serve.proofs.RunStopLaws.{no_more_behind}
 
 -- ---- more input comes
@@ -396,7 +396,7 @@ fed_starved {i} {o} {p} {size} machine fed =
         said = joined (replies_to i.form i.from.bounds i.from.machine es);
         took = says_whole i.form i.from.bounds i.from.machine es o.told.desk.said p.told.desk.said p.told.desk.said refl fed.answers.said;
         says = record { same = refl; calm = fed.calm };
-        ahead = λ e. absurd cc;
+        ahead = λ e. absurd (starved_said e);
         noted_is = fed.answers.noted_is;
       };
       near = subst (λ (answered : List Event). StaysNear i.form i.most fed.takes.taken answered) (append-nil es) (fed.near []);

@@ -129,6 +129,10 @@ starved_calm used st es goes (inr may) = no_fault_given used st es goes (may.pla
 pub so_calm : (form : Form) (used : List ℕ) (st : Standing) (es : List Event) → GoesTo (at_start form used) st es → HasNext st ⊎ MayWantMemory st → form ≡ Plain → list_any is_fault es ≡ false
 so_calm form used st es goes why is = starved_calm used st es (subst (λ (f : Form). GoesTo (at_start f used) st es) is goes) why
 
+-- Want of memory is no failed say.
+pub starved_said : NoMemory ≡ Unsaid → ⊥
+starved_said e = cc
+
 -- Nothing was answered.
 abbrev pub used_none : (form : Form) (bounds : StoreBounds) (m : Machine) (used : List ℕ) (told : Telling) (now : Machine) → AnswersSome NoMemory form bounds m used told now told
 used_none form bounds m used told now = record {
@@ -138,7 +142,7 @@ used_none form bounds m used told now = record {
   said = [];
   took = Took-none told.desk.said;
   says = record { same = refl; calm = λ _. refl };
-  ahead = λ e. absurd cc;
+  ahead = λ e. absurd (starved_said e);
   noted_is = more_none told.failed told.desk;
 }
 
@@ -164,24 +168,24 @@ next_reply form bounds m m1 k es s f known same =
     ∙ ap (λ (y : Known). replies_to form bounds m es ++ reply_by form bounds s f y (machine_along bounds es (known_in form) m) ∷ []) (sym known)
     ∙ ap (λ (y : Machine). replies_to form bounds m es ++ reply_by form bounds s f k y ∷ []) (sym same)
 
-pub says_so : (cut : Cut) (form : Form) (bounds : StoreBounds) (m : Machine) (used : List ℕ) {old : Telling} {q : Progress} {now : Machine} {c : Option (List ℕ)}
+pub says_so : (cut : Cut) (form : Form) (bounds : StoreBounds) (m : Machine) (used : List ℕ) {old : Telling} {q : Progress} (now : Machine) {c : Option (List ℕ)}
     → (told : Answers form bounds (begun form m used old) q) → CutsNext cut form bounds q now c
     → SaysSo cut form bounds m old.desk.said c told.answered (events_of q.standing)
-says_so NoMemory form bounds m used {old} {q} {now} {c} told cuts =
+says_so NoMemory form bounds m used {old} {q} now {c} told cuts =
     let es : List Event = told.answered in
     record {
       said = joined (replies_to form bounds m es);
       took = says_whole form bounds m es old.desk.said q.told.desk.said c cuts.0 told.said;
       says = record { same = refl; calm = so_calm form used q.standing es told.goes cuts.1 };
     }
-says_so Disk form bounds m used {old} {q} {now} {c} told cuts =
+says_so Disk form bounds m used {old} {q} now {c} told cuts =
     let es : List Event = told.answered in
     record {
       said = joined (replies_to form bounds m es);
       took = says_whole form bounds m es old.desk.said q.told.desk.said c cuts.4 told.said;
       says = record { session = cuts.0; frame = cuts.1; later = events_of cuts.2; first = next_first q.standing cuts.2 (Arrived cuts.0 cuts.1) cuts.3; same = refl };
     }
-says_so Unsaid form bounds m used {old} {q} {now} {c} told cuts =
+says_so Unsaid form bounds m used {old} {q} now {c} told cuts =
     let es : List Event = told.answered in
     let s : ℕ = cuts.0 in
     let f : Frame = cuts.1 in
@@ -205,11 +209,11 @@ says_so Unsaid form bounds m used {old} {q} {now} {c} told cuts =
     }
 
 -- Where it was not taken whole, the machine is one frame ahead.
-pub one_ahead : (cut : Cut) (form : Form) (bounds : StoreBounds) (m : Machine) (used : List ℕ) {old : Telling} {q : Progress} {now : Machine} {c : Option (List ℕ)}
+pub one_ahead : (cut : Cut) (form : Form) (bounds : StoreBounds) (m : Machine) (used : List ℕ) {old : Telling} {q : Progress} {now : Machine} (c : Option (List ℕ))
     → (told : Answers form bounds (begun form m used old) q) → CutsNext cut form bounds q now c → cut ≡ Unsaid → IsOneAhead form bounds m told.answered (events_of q.standing) now
-one_ahead NoMemory form bounds m used told cuts is = absurd cc
-one_ahead Disk form bounds m used told cuts is = absurd cc
-one_ahead Unsaid form bounds m used {old} {q} {now} {c} told cuts is =
+one_ahead NoMemory form bounds m used c told cuts is = absurd cc
+one_ahead Disk form bounds m used c told cuts is = absurd cc
+one_ahead Unsaid form bounds m used {old} {q} {now} c told cuts is =
     let es : List Event = told.answered in
     let e : Event = Arrived cuts.0 cuts.1 in
     record {
@@ -232,7 +236,7 @@ abbrev pub used_cut : (cut : Cut) (form : Form) (bounds : StoreBounds) (m : Mach
     → IsCutShort cut form bounds (begun form m used old) machine now → AnswersSome cut form bounds m used old machine now
 used_cut cut form bounds m used {old} {now} {machine} told =
     let es : List Event = told.first.answered in
-    let says = says_so cut form bounds m used {now = machine} {c = now.desk.said} told.first told.cuts in
+    let says = says_so cut form bounds m used machine {c = now.desk.said} told.first told.cuts in
     record {
       answered = es;
       unanswered = events_of told.mid.standing;
@@ -240,7 +244,7 @@ used_cut cut form bounds m used {old} {now} {machine} told =
       said = says.said;
       took = says.took;
       says = says.says;
-      ahead = one_ahead cut form bounds m used {now = machine} {c = now.desk.said} told.first told.cuts;
+      ahead = one_ahead cut form bounds m used now.desk.said told.first told.cuts;
       noted_is = noted_behind old (fault_lines es) told.unnoted told.first.noted_is;
     }
 
@@ -275,6 +279,6 @@ used_starved form bounds m used end machine {old} {now} {q} told why still none 
   said = joined (replies_to form bounds m told.answered);
   took = says_whole form bounds m told.answered old.desk.said q.told.desk.said now.desk.said still told.said;
   says = record { same = refl; calm = told_calm form used q.standing q.known told.answered end told.goes told.known_is why };
-  ahead = λ e. absurd cc;
+  ahead = λ e. absurd (starved_said e);
   noted_is = noted_behind old (fault_lines told.answered) none told.noted_is;
 }

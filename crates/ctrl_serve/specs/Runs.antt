@@ -1,5 +1,5 @@
 -- What the parts of a run do, up to the headline. Only private contracts cite these.
-use Rattle.std.specs.Prelude.{◌≡◌, ℕ, Bool, true, false, IsTrue, IsSome, is_some, List, take}
+use Rattle.std.specs.Prelude.{◌≡◌, ℕ, Bool, true, IsTrue, IsSome, is_some, List, take}
 use Rattle.std.specs.declared.option.Option.{Option}
 use Rattle.ziti_outside.specs.Images.{Image}
 use Rattle.ziti_outside.specs.Causes.{Rose}

@@ -1,13 +1,9 @@
 -- What was noted of some lines, and what failed notes leave (docs/PROMISES.md, "The headline").
-use Rattle.std.specs.Prelude.{◌≡◌, ◌⊎◌, ℕ, ◌+◌, ◌≤◌, Bool, true, false, List, []}
+use Rattle.std.specs.Prelude.{◌≡◌, ℕ, ◌+◌, ◌≤◌, Bool, true, false, List, []}
 use Rattle.ziti_outside.specs.Causes.{Rose}
 use Rattle.ziti_outside.specs.Moments.{Elapses}
 use Rattle.ziti_outside.specs.Told.{Took, TookFront}
-use Rattle.ziti_outside.specs.declared.desk.Part.{Part}
 use Rattle.ziti_outside.specs.Views.{Seen, Stopped}
-use Rattle.run_notes.specs.declared.status.Status.{Status}
-use Rattle.run_notes.specs.declared.status.Status.TheVariants.{Damaged, NoMemory}
-use Rattle.run_notes.specs.Notes.{damaged_note, status_lines}
 
 -- A count of faults did not fall, and rose by one at most.
 pub record RisesOnce (before now : ℕ) : Type 0 where
