@@ -35,7 +35,7 @@ use Rattle.ctrl_serve.proofs.AdviseWords.{advise_words}
 use Rattle.ctrl_serve.specs.FolderWords.{compaction, Compacts}
 use Rattle.ctrl_serve.specs.FrameAnswer.{last_machine}
 use Rattle.ctrl_serve.specs.Headline.{folder_bounds, taking_of, IsLeftAlone, IsUnopened, Refuses, Replays, Runs, StaysClosed}
-use Rattle.ctrl_serve.specs.LeftFolders.{HoldsAlone, HoldsGranted, KeepsAll}
+use Rattle.ctrl_serve.specs.LeftFolders.{HoldsAlone, HoldsGranted, KeepsAllFrames}
 use Rattle.ctrl_serve.specs.OpenedFolders.{Keeps, OpensBy, OpensTo}
 use Rattle.ctrl_serve.specs.RunStops.{AllOpenTo}
 use Rattle.ctrl_serve.proofs.EndingLaws.{done_used}
@@ -62,7 +62,7 @@ closed_kept tells before now FolderFull why kept = why
 keeps_all : {S D : Type 0} (o : Outside S D) (form : Form) (bounds : StoreBounds) (most : ℕ) (source source_now : S) (desk desk_now : D) (bytes : List ℕ) (s : State)
     → Refuses o.tells o.seen o.stopped source source_now desk desk_now Done ⊎ Replays (taking_of form most) bounds o source source_now desk desk_now Done
     → o.left source ≡ Some bytes → IsTrue o.tells → OpensToState (o.seen desk).reads s
-    → KeepsAll form bounds bytes s (o.seen desk).reads (o.seen desk_now).reads (o.stopped desk_now).images
+    → KeepsAllFrames form bounds bytes s (o.seen desk).reads (o.seen desk_now).reads (o.stopped desk_now).images
 keeps_all o form bounds most source source_now desk desk_now bytes s (inl closed) left told opens = absurd closed.unopened.why
 keeps_all o form bounds most source source_now desk desk_now bytes s (inr r) left told opens =
     let used : take most r.serves.taken ≡ bytes = done_used (taking_of form most) bounds r.machine bytes (o.left source) (o.left source_now) (o.seen desk) (o.seen desk_now) left r.serves in
@@ -79,7 +79,7 @@ keeps_all o form bounds most source source_now desk desk_now bytes s (inr r) lef
 
 pub done_keeps : {S D : Type 0} (o : Outside S D) (bounds : Bounds) (words : List (List ℕ)) (form : Form) (source source_now : S) (desk desk_now : D) (bytes : List ℕ) (s : State)
     → Runs o bounds words (Some (Replay form)) source source_now desk desk_now Done → o.left source ≡ Some bytes → IsTrue o.tells → OpensToState (o.seen desk).reads s
-    → KeepsAll form (folder_bounds bounds) bytes s (o.seen desk).reads (o.seen desk_now).reads (o.stopped desk_now).images
+    → KeepsAllFrames form (folder_bounds bounds) bytes s (o.seen desk).reads (o.seen desk_now).reads (o.stopped desk_now).images
 done_keeps o bounds words form source source_now desk desk_now bytes s runs left told opens =
     keeps_all o form (folder_bounds bounds) bounds.input source source_now desk desk_now bytes s (runs.replay form refl) left told opens
 

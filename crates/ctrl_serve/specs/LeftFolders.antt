@@ -17,7 +17,7 @@ use Rattle.ctrl_serve.specs.RunStops.{AllOpenTo}
 
 -- A folder that opened to a state keeps the machine behind all frames of an input: that of the machine to which it opened, which had that
 -- state. So it opens to the machine's state, and so does all that a stop may leave.
-pub record KeepsAll (form : Form) (bounds : StoreBounds) (bytes : List ℕ) (s : State) (before now : Image) (images : Image → Type 0) : Type 0 where
+pub record KeepsAllFrames (form : Form) (bounds : StoreBounds) (bytes : List ℕ) (s : State) (before now : Image) (images : Image → Type 0) : Type 0 where
   pub machine : Machine
   pub opens : OpensTo before machine
   pub from : machine.state ≡ s

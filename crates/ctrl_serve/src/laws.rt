@@ -28,7 +28,7 @@ ghost use Rattle.ctrl_serve.specs.Reading.{is_decided, StaysNear};
 ghost use Rattle.run_notes.specs.Notes.{damaged_note, session_note, status_lines};
 ghost use Rattle.run_notes.specs.NotedLines.{NotesLines};
 ghost use Rattle.ctrl_serve.specs.Headline.{Serves, Replays, Runs, Taking, taking_of, folder_bounds, IsLeftAlone};
-ghost use Rattle.ctrl_serve.specs.LeftFolders.{HoldsAlone, HoldsGranted, KeepsAll};
+ghost use Rattle.ctrl_serve.specs.LeftFolders.{HoldsAlone, HoldsGranted, KeepsAllFrames};
 ghost use Rattle.ctrl_serve.specs.UncompactedFolders.{ask_for_compact, CompactsNothing, LeavesOtherSlot};
 ghost use Rattle.ctrl_serve.specs.Loads.{counts_line, IsSaid, SaysOneLine};
 ghost use Rattle.ctrl_serve.specs.RunStops.{StopFinds, HoldsFirst};
@@ -214,7 +214,7 @@ pub fn done_keeps_all<S: Source, D: Desk>()
     ensures folder { (bounds : Bounds) (words : List (List ℕ)) (form : Form) (source source_now : S) (desk desk_now : D) (bytes : List ℕ) (s : State)
         → Runs (record { left = S.left; faults = S.faults; tells = D.tells; seen = D.seen; stopped = D.stopped }) bounds words (Some (Replay form)) source source_now desk desk_now Done
         → S.left source ≡ Some bytes → IsTrue D.tells → OpensToState (D.seen desk).reads s
-        → KeepsAll form (folder_bounds bounds) bytes s (D.seen desk).reads (D.seen desk_now).reads (D.stopped desk_now).images }
+        → KeepsAllFrames form (folder_bounds bounds) bytes s (D.seen desk).reads (D.seen desk_now).reads (D.stopped desk_now).images }
 {}
 
 /// No circuit outlives what granted it: where what grants each circuit stands in the state to which a told folder opens, it stands in the state
