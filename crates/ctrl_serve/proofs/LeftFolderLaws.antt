@@ -240,8 +240,8 @@ stays_shut o bounds words (Some (Load number)) source source_now desk desk_now a
 stays_shut o bounds words (Some Advise) source source_now desk desk_now asked runs =
     let names = advise_words words asked in
     elim (runs.advise names.identity names.service names.are refl) as (λ _. StaysShut o source source_now desk desk_now) [
-      inl closed ↦ (runs.advise_takes_nothing refl, closed)
-    | inr on ↦ absurd on.says.says
+      | inl closed ↦ (runs.advise_takes_nothing refl, closed)
+      | inr on ↦ absurd on.says.says
     ]
 
 -- A told folder has a mark then, so it was left alone.
