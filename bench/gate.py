@@ -168,7 +168,7 @@ def newest(runs, checks):
         latest[part(it)] = max(latest.get(part(it), 0), runs[it["of"]]["order"])
     folder = lambda crate: f"{TOP}/crates/{crate}/must-fail"
     there = {it["crate"]: sum(name.endswith(".edit") for name in os.listdir(folder(it["crate"]))) for it in checks if os.path.isdir(folder(it["crate"]))}
-    return [it for it in checks if runs[it["of"]]["order"] == latest[part(it)] and (it["number"] or 0) < there.get(it["crate"], float("inf"))]
+    return [it for it in checks if runs[it["of"]]["order"] == latest[part(it)] and (it["number"] is None or it["number"] < there.get(it["crate"], 0))]
 
 
 def rests(runs, checks):

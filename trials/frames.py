@@ -26,6 +26,7 @@ STATUSES = {
     "replay": {0, 2, 3, 4, 5, 6, 7, 8, 9},
     "replay --sessions": {0, 2, 3, 4, 5, 6, 7, 8, 9},
     "audit": {0, 5, 6, 7, 8},
+    "advise ann web": {0, 5, 6, 7, 8},
     "compact": {0, 6, 7, 8, 10},
 }
 

@@ -3,7 +3,7 @@
 
 usage: hostile.py PROGRAM [RUNS [SEED]]
 
-Each run must end with a status of its words, within its bounds of memory and time, and `audit` must leave every file as it was.
+Each run must end with a status of its words, within its bounds of memory and time, and a look must leave every file as it was.
 """
 
 import collections
@@ -119,7 +119,7 @@ def main():
             status, said, noted = frames.run(program, words, stdin, folder, SECONDS, bounded)
             assert status in frames.STATUSES[words], (number, words, status, noted)
             assert status != 8, (number, words, "memory")
-            if words == "audit":
+            if words in ("audit", "advise ann web"):
                 assert read_folder(folder) == files, number
             tally[words, status] += 1
     for (words, status), count in sorted(tally.items()):

@@ -50,6 +50,7 @@ ROWS = [
     ("replay --sessions", TRACE, False),
     ("audit", b"", True),
     ("audit", b"", False),
+    ("advise ann web", b"", True),
     ("compact", b"", True),
     ("compact", b"", False),
     ("no such words", b"", False),

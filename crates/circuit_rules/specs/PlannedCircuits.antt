@@ -10,14 +10,13 @@ use Rattle.ctrl_model.specs.State.{State, start}
 use Rattle.ctrl_model.specs.ValidState.{ValidState}
 use Rattle.circuits.specs.CircuitTables.{is_full}
 use Rattle.entity_store.specs.EntityTables.{Tables, entities}
-use Rattle.grant_denorm.specs.PairCounts.{count_of}
-use Rattle.terminators.specs.TermTables.{open_at}
 use Rattle.circuit_rules.specs.declared.circuit_asking.Request.{Request}
 use Rattle.circuits.specs.declared.changes.CircuitChange.{CircuitChange}
 use Rattle.model_laws.specs.declared.plans.Plan.{Plan}
 use Rattle.circuit_rules.specs.declared.circuit_parts.Parts.{Parts}
 use Rattle.circuit_rules.specs.CircuitParts.{with_parts, AreGrants}
 use Rattle.circuit_rules.specs.CircuitPlans.{PlansCircuits}
+use Rattle.circuit_rules.specs.Views.{network_by}
 
 -- A plan of an answer in every valid state with these parts and these grant counts.
 abbrev pub Answers : (State → Reply × State) → Parts → Plan CircuitChange → Type 0
@@ -42,18 +41,8 @@ router_at n t = router_name (with_entities t) n
 
 -- The network of these parts, with some routers in place of their own.
 abbrev pub network_over : Parts → List RouterSeen → Network
-network_over p routers = record {
-  routers = routers;
-  links = p.fabric.now.links.rows;
-  least = p.fabric.now.least;
-  terminators = p.terminators.now.terminators.rows;
-  load = open_at p.terminators.now;
-  dial = count_of p.dial.now;
-  bind = count_of p.bind.now;
-  identity_router = count_of p.identity_router.now;
-  service_router = count_of p.service_router.now;
-  full = is_full p.circuits.now;
-}
+network_over p routers =
+    network_by routers p.fabric.now p.terminators.now p.dial.now p.bind.now p.identity_router.now p.service_router.now (is_full p.circuits.now)
 
 -- The network of these parts.
 abbrev pub network_in : Parts → Network

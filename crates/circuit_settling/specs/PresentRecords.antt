@@ -1,5 +1,5 @@
 -- What is present, as settling circuits asks, and which circuits stay beside it (docs/RULES.md, "Settling").
-use Rattle.std.specs.Prelude.{◌≡◌, ℕ, Bool, false, List, map}
+use Rattle.std.specs.Prelude.{◌≡◌, ℕ, Bool, List, map}
 use Rattle.ctrl_model.specs.declared.kinds.RouterSeen.{RouterSeen}
 use Rattle.ctrl_model.specs.Networks.{Network, seen}
 use Rattle.ctrl_model.specs.Numbered.{numbers}
@@ -8,26 +8,16 @@ use Rattle.ctrl_model.specs.State.{Circuit}
 use Rattle.entity_store.specs.EntityTables.{Tables}
 use Rattle.grant_denorm.specs.CountsAfter.{count_after}
 use Rattle.fabric_graph.specs.FabricTables.{FabricSeen}
+use Rattle.fabric_graph.specs.Routers as fabric
 use Rattle.terminators.specs.TermTables.{TermTables}
 use Rattle.circuit_settling.specs.declared.granting.GrantsAfter.{GrantsAfter}
 use Rattle.circuit_settling.specs.declared.going.Remaining.{Remaining}
 use Rattle.circuit_settling.specs.declared.staying.Present.{Present}
 
--- The network of terminators, of links with the least router cost, and of routers. Nothing else of a network matters to whether the links
--- of a circuit are a path: it has no grants and no load.
+-- The network of terminators, of links with the least router cost, and of routers: that of the links and the routers, with terminators.
+-- Nothing else of a network matters to whether the links of a circuit are a path: it has no grants and no load.
 abbrev pub network : TermTables → FabricSeen → List RouterSeen → Network
-network t f routers = record {
-  routers = routers;
-  links = f.links.rows;
-  least = f.least;
-  terminators = t.terminators.rows;
-  load = λ _. 0;
-  dial = λ _ _. 0;
-  bind = λ _ _. 0;
-  identity_router = λ _ _. 0;
-  service_router = λ _ _. 0;
-  full = false;
-}
+network t f routers = record (fabric.network f routers) { terminators = t.terminators.rows }
 
 -- Whether a circuit stays in a network, beside the present identities and services, whatever its own number.
 abbrev pub stays : Network → List ℕ → List ℕ → Circuit → Bool

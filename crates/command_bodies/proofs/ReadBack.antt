@@ -26,9 +26,9 @@ use Rattle.command_codec.specs.BodyObjects.{object_of_body}
 use Rattle.command_codec.specs.ContentTypes.{content_of}
 use Rattle.command_codec.specs.NameLists.{as_attributes}
 use Rattle.command_codec.specs.RoleLists.{as_side}
-use Rattle.command_codec.specs.FieldValues.{as_no, as_instance, as_some_name}
-use Rattle.command_codec.specs.FieldWords.{as_relation, as_semantic, as_precedence}
-use Rattle.command_codec.specs.RouteClaims.{as_numbers, as_potentials}
+use Rattle.body_fields.specs.FieldValues.{as_no, as_instance, as_some_name}
+use Rattle.body_fields.specs.FieldWords.{as_relation, as_semantic, as_precedence}
+use Rattle.body_fields.specs.RouteClaims.{as_numbers, as_potentials}
 use Rattle.command_codec.specs.EntityBodies.{as_cost, named, made, updated, made_router, updated_router}
 use Rattle.command_codec.specs.PolicyBodies.{service_policy, router_policy}
 use Rattle.command_codec.specs.LinkBodies.{as_link_cost, as_latency, made_link, link_cost, reported_latency, reported_state, least_router_cost}

@@ -18,9 +18,9 @@ use Rattle.json_body.specs.FieldKinds.{as_name, member_of, required_from, option
 use Rattle.command_codec.specs.BodyObjects.{Reader, object_of_body, with_cause, said_by}
 use Rattle.command_codec.specs.NameLists.{as_attributes}
 use Rattle.command_codec.specs.RoleLists.{as_side}
-use Rattle.command_codec.specs.FieldValues.{as_no, as_instance, as_some_name}
-use Rattle.command_codec.specs.FieldWords.{as_relation, as_semantic, as_precedence}
-use Rattle.command_codec.specs.RouteClaims.{as_numbers, as_potentials}
+use Rattle.body_fields.specs.FieldValues.{as_no, as_instance, as_some_name}
+use Rattle.body_fields.specs.FieldWords.{as_relation, as_semantic, as_precedence}
+use Rattle.body_fields.specs.RouteClaims.{as_numbers, as_potentials}
 use Rattle.command_codec.specs.EntityBodies.{as_cost, named, entity_fields, made, updated, router_fields, made_router, updated_router}
 use Rattle.command_codec.specs.PolicyBodies.{service_policy_fields, service_policy, router_policy_fields, router_policy}
 use Rattle.command_codec.specs.LinkBodies.{as_link_cost, as_latency, link_fields, made_link, link_cost, reported_latency, reported_state, least_router_cost}

@@ -9,9 +9,9 @@ use Rattle.ctrl_model.specs.Claims.{no_path}
 use Rattle.ctrl_model.specs.CommandForm.{is_number, is_value, is_reach, are_numbers}
 use Rattle.ctrl_model.specs.declared.claims.Reach.{Reach}
 use Rattle.command_bodies.specs.WrittenFields.{natural, value_or_null, potential, list_of}
-use Rattle.command_codec.specs.FieldValues.{as_no}
-use Rattle.command_codec.specs.ItemLists.{as_each_of}
-use Rattle.command_codec.specs.RouteClaims.{as_numbers, as_value, as_reach, as_potentials}
+use Rattle.body_fields.specs.FieldValues.{as_no}
+use Rattle.body_fields.specs.ItemLists.{as_each_of}
+use Rattle.body_fields.specs.RouteClaims.{as_numbers, as_value, as_reach, as_potentials}
 use Rattle.command_bodies.proofs.WrittenKinds.{number_read, from_zero, list_read}
 
 pub numbers_read : (most : ℕ) (ns : List ℕ) → are_numbers most ns ≡ true → as_numbers most (list_of natural ns) ≡ Some ns

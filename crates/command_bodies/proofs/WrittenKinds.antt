@@ -17,9 +17,9 @@ use Rattle.ctrl_model.specs.declared.kinds.Semantic.TheVariants.{AnyOf, AllOf}
 use Rattle.json_body.specs.FieldKinds.{as_name, as_number_in, items_count}
 use Rattle.command_bodies.specs.WrittenFields.{natural, list_of}
 use Rattle.role_expr.specs.NameRepeats.{without_repeats}
-use Rattle.command_codec.specs.FieldValues.{as_instance, as_some_name}
-use Rattle.command_codec.specs.FieldWords.{as_relation, as_semantic, as_precedence}
-use Rattle.command_codec.specs.ItemLists.{each_of, as_each_of}
+use Rattle.body_fields.specs.FieldValues.{as_instance, as_some_name}
+use Rattle.body_fields.specs.FieldWords.{as_relation, as_semantic, as_precedence}
+use Rattle.body_fields.specs.ItemLists.{each_of, as_each_of}
 use Rattle.command_codec.specs.NameLists.{as_attributes}
 use Rattle.command_bodies.specs.WrittenWords.{relation_word, semantic_word, precedence_word}
 

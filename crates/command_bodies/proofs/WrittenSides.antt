@@ -16,7 +16,7 @@ use Rattle.role_expr.specs.RoleSides.{is_all, id_in, attribute_in, side_from}
 use Rattle.role_expr.specs.RoleSpelling.{is_role, role_spelling}
 use Rattle.role_expr.proofs.RoleLaws.{read_again}
 use Rattle.command_bodies.specs.WrittenFields.{list_of}
-use Rattle.command_codec.specs.ItemLists.{as_each_of}
+use Rattle.body_fields.specs.ItemLists.{as_each_of}
 use Rattle.command_codec.specs.RoleLists.{as_role, side_of, as_side}
 use Rattle.command_bodies.specs.RoleEntries.{role_texts}
 use Rattle.command_bodies.proofs.WrittenKinds.{list_read, without_repeats-same}

@@ -15,27 +15,28 @@ use Rattle.ctrl_model.specs.declared.refusals.Field.TheVariants as field
 use Rattle.ctrl_model.specs.declared.refusals.Reason.TheVariants as reason
 use Rattle.json_body.specs.declared.fields.FieldFault.{FieldFault}
 use Rattle.json_body.specs.declared.fields.FieldFault.TheVariants.{Missing, WrongKind, Unknown}
-use Rattle.json_body.specs.FieldKinds.{as_name, finished, optional}
+use Rattle.json_body.specs.FieldKinds.{as_name, optional}
 use Rattle.command_codec.specs.declared.reading.CodecFault.{CodecFault}
 use Rattle.command_codec.specs.declared.reading.CodecFault.TheVariants.{UnsupportedType, BadBody, NoMemory}
 use Rattle.command_codec.specs.NameLists.{as_attributes}
 use Rattle.command_codec.specs.RoleLists.{as_side}
-use Rattle.command_codec.specs.FieldValues.{as_no, as_instance, as_some_name}
-use Rattle.command_codec.specs.FieldWords.{as_relation, as_semantic, as_precedence}
+use Rattle.body_fields.specs.FieldValues.{as_no, as_instance, as_some_name}
+use Rattle.body_fields.specs.FieldWords.{as_relation, as_semantic, as_precedence}
 use Rattle.command_codec.specs.BodyObjects.{Reader, ◌>>=◌, object_of_body, cause_of, with_cause, said_by}
 use Rattle.command_codec.specs.BodyMeaning.{table, entry_at, meaning_under, meaning_in, meaning}
 use Rattle.command_codec.specs.EntityBodies.{as_cost, named, made, updated, made_router, updated_router, entity_fields, router_fields, entity_table}
 use Rattle.command_codec.specs.PolicyBodies.{service_policy, service_policy_fields, router_policy, router_policy_fields, policy_table}
 use Rattle.command_codec.specs.LinkBodies.{as_link_cost, as_latency, made_link, link_cost, reported_latency, reported_state, least_router_cost, link_fields, link_table}
 use Rattle.command_codec.specs.TerminatorBodies.{numbered, made_terminator, updated_terminator, terminator_fields, terminator_table}
-use Rattle.command_codec.specs.RouteClaims.{as_numbers, as_potentials}
+use Rattle.body_fields.specs.RouteClaims.{as_numbers, as_potentials}
 use Rattle.command_codec.specs.CircuitBodies.{Asked, asked, asked_circuit, claimed_route, circuit_fields, route_fields, as_total, circuit_table}
 use Rattle.command_codec.specs.ShowBodies.{plain, show_table}
-use Rattle.command_codec.specs.FirstCauses.{FieldRule, Breaks, IsFirstFault, BreaksFirst, HasAnotherKey, IsFaultCause, IsCauseOf, IsCauseUnder, IsFirstCause, name_rules, number_rules, made_rules, updated_rules, service_policy_rules, router_policy_rules, request_rules, needs, may_have, entity_rules, policy_rules, network_rules, terminator_rules, route_rules, show_rules, all_rules}
+use Rattle.body_fields.specs.FieldRules.{FieldRule, Breaks, IsFirstFault, needs, may_have}
+use Rattle.command_codec.specs.FirstCauses.{IsFaultCause, IsCauseOf, IsCauseUnder, IsFirstCause, name_rules, number_rules, made_rules, updated_rules, service_policy_rules, router_policy_rules, request_rules, entity_rules, policy_rules, network_rules, terminator_rules, route_rules, show_rules, all_rules}
 use Rattle.command_codec.proofs.FirstCauseLaws.{TellsFirst, required_first, optional_first, none_first, required_gathered, optional_gathered}
 
 -- What a reader says of an object is a fault exactly where that is the first one by these rules.
-abbrev Follows : Reader → List FieldRule → Type 0
+abbrev pub Follows : Reader → List FieldRule → Type 0
 Follows reader rules = (o : Data) → TellsFirst (map (λ rule. rule.of_field) rules) rules o (reader o)
 
 -- ---- the readers
@@ -205,6 +206,28 @@ all_agree =
     both_agree entity_table (policy_table ++ (link_table ++ (terminator_table ++ (circuit_table ++ show_table)))) entity_rules
     (policy_rules ++ (network_rules ++ (terminator_rules ++ (route_rules ++ show_rules)))) entities_agree named_agree
 
+-- An entry of the one table and rules of the other that stand at one content type, if they do: the entry follows the rules.
+abbrev pub Found : Option Reader → Option (List FieldRule) → Type 0
+Found None None = ⊤
+Found None (Some rules) = ⊥
+Found (Some reader) None = ⊥
+Found (Some reader) (Some rules) = Follows reader rules
+
+found_in : (content : ℕ) (xs : List (ℕ × Reader)) (ys : List (ℕ × List FieldRule)) → Agree xs ys → Found (entry_at content xs) (lookup (λ n. n == content) ys)
+found_in content [] [] agree = tt
+found_in content [] (y ∷ ys) agree = absurd agree
+found_in content (x ∷ xs) [] agree = absurd agree
+found_in content (x ∷ xs) (y ∷ ys) agree =
+    subst (λ n. Found (cond (n == content) (Some x.1) (entry_at content xs)) (cond (y.0 == content) (Some y.1) (lookup (λ n. n == content) ys)))
+    (sym agree.0.same) (by (y.0 == content) (found_in content xs ys agree.1))
+  where
+    by : (b : Bool) → Found (entry_at content xs) (lookup (λ n. n == content) ys) → Found (cond b (Some x.1) (entry_at content xs)) (cond b (Some y.1) (lookup (λ n. n == content) ys))
+    by true rest = agree.0.follows
+    by false rest = rest
+
+pub found : (content : ℕ) → Found (entry_at content table) (lookup (λ n. n == content) all_rules)
+found content = found_in content table all_rules all_agree
+
 -- ---- the first cause
 
 same_cause : (f g : CodecFault) → ◌≡◌ {A = Result Command CodecFault} (Err f) (Err g) → f ≡ g
@@ -223,22 +246,15 @@ cause_of_body reader rules None cause follows =
     (λ e. sym (same_cause (BadBody field.Nothing reason.NotObject) cause e), λ is. ap (λ f. Err f) (sym is))
 cause_of_body reader rules (Some o) cause follows = cause_of_object reader rules o cause follows
 
-cause_under : (content : ℕ) (body : List ℕ) (cause : CodecFault) (xs : List (ℕ × Reader)) (ys : List (ℕ × List FieldRule)) → Agree xs ys
-    → (meaning_in xs content body ≡ Err cause) ↔ IsCauseUnder (lookup (λ n. n == content) ys) body cause
-cause_under content body cause [] [] agree = (λ e. sym (same_cause UnsupportedType cause e), λ is. ap (λ f. Err f) (sym is))
-cause_under content body cause [] (y ∷ ys) agree = absurd agree
-cause_under content body cause (x ∷ xs) [] agree = absurd agree
-cause_under content body cause (x ∷ xs) (y ∷ ys) agree =
-    subst (λ n. (meaning_under (cond (n == content) (Some x.1) (entry_at content xs)) body ≡ Err cause) ↔ IsCauseUnder (cond (y.0 == content) (Some y.1) (lookup (λ n. n == content) ys)) body cause)
-    (sym agree.0.same) (by (y.0 == content) (cause_under content body cause xs ys agree.1))
-  where
-    by : (b : Bool) → (meaning_in xs content body ≡ Err cause) ↔ IsCauseUnder (lookup (λ n. n == content) ys) body cause
-        → (meaning_under (cond b (Some x.1) (entry_at content xs)) body ≡ Err cause) ↔ IsCauseUnder (cond b (Some y.1) (lookup (λ n. n == content) ys)) body cause
-    by true rest = cause_of_body x.1 y.1 (object_of_body body) cause agree.0.follows
-    by false rest = rest
+cause_under : (content : ℕ) (body : List ℕ) (cause : CodecFault) (entry : Option Reader) (rules : Option (List FieldRule)) → Found entry rules
+    → (meaning_under entry body ≡ Err cause) ↔ IsCauseUnder rules body cause
+cause_under content body cause None None at = (λ e. sym (same_cause UnsupportedType cause e), λ is. ap (λ f. Err f) (sym is))
+cause_under content body cause None (Some rules) at = absurd at
+cause_under content body cause (Some reader) None at = absurd at
+cause_under content body cause (Some reader) (Some rules) at = cause_of_body reader rules (object_of_body body) cause at
 
 pub first_cause : (content : ℕ) (body : List ℕ) (cause : CodecFault) → (meaning content body ≡ Err cause) ↔ IsFirstCause content body cause
-first_cause content body cause = by (content == 0) (cause_under content body cause table all_rules all_agree)
+first_cause content body cause = by (content == 0) (cause_under content body cause (entry_at content table) (lookup (λ n. n == content) all_rules) (found content))
   where
     by : (b : Bool) → (meaning_in table content body ≡ Err cause) ↔ IsCauseUnder (lookup (λ n. n == content) all_rules) body cause
         → (cond b (Ok command.Hello) (meaning_in table content body) ≡ Err cause) ↔ ((b ≡ false) × IsCauseUnder (lookup (λ n. n == content) all_rules) body cause)

@@ -13,14 +13,14 @@ use Rattle.ctrl_model.specs.NameForm.{is_name, is_instance}
 use Rattle.ctrl_model.specs.CommandForm.{in_range, is_spelled, is_number, is_name_or_none, is_reach, are_numbers}
 use Rattle.json_body.specs.declared.fields.FieldFault.{FieldFault}
 use Rattle.json_body.specs.FieldKinds.{as_name, required, optional}
-use Rattle.command_codec.specs.FieldValues.{as_no, as_instance, as_some_name}
-use Rattle.command_codec.specs.RouteClaims.{as_numbers, as_potentials}
+use Rattle.body_fields.specs.FieldValues.{as_no, as_instance, as_some_name}
+use Rattle.body_fields.specs.RouteClaims.{as_numbers, as_potentials}
 use Rattle.command_codec.specs.BodyObjects.{◌>>=◌, object_of_body, said_by}
 use Rattle.command_codec.specs.BodyMeaning.{entry_at, meaning_in}
 use Rattle.command_codec.specs.ContentTypes.{content_of}
 use Rattle.command_codec.specs.CircuitBodies.{Asked, asked, circuit_fields, asked_circuit, route_fields, as_total, claimed_route, circuit_table}
 use Rattle.command_codec.specs.SpelledBodies.{Tells, MayTell, SaysAskedCircuit, SaysClaimedRoute, SaysFields}
-use Rattle.command_codec.proofs.ClaimLaws.{as_numbers-form, as_potentials-form}
+use Rattle.body_fields.proofs.ClaimLaws.{as_numbers-form, as_potentials-form}
 use Rattle.command_codec.proofs.EntityLaws.{name_form, required_number}
 use Rattle.command_codec.proofs.ReadingLaws.{ok_same, said_by_ok, reads_one, reads_seven, required_form}
 use Rattle.command_codec.proofs.TableLaws.{IsSaid, Faithful, by_row, ◌⊗◌}

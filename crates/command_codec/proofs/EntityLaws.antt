@@ -1,17 +1,16 @@
 -- What the bodies of the commands on identities, services and edge routers say, they spell.
-use Rattle.std.proofs.Common.{◌≡◌, ℕ, nat_le, Bool, true, false, ◌&&◌, List, [], ◌∷◌, Some, Ok, refl, subst}
-use Rattle.std.specs.Prelude.{option_and_then, is_some}
+use Rattle.std.proofs.Common.{◌≡◌, ℕ, Bool, true, false, ◌&&◌, List, [], ◌∷◌, Ok, refl, subst}
+use Rattle.std.specs.Prelude.{is_some}
 use Rattle.std.proofs.lemmas.Bool.{and_from, false≢true}
-use Rattle.std.proofs.lemmas.Option.{cond_some, option_and_then_some}
 use Rattle.serde_json.specs.Data.{Data}
-use Rattle.serde_json.specs.Find.{as_bool, as_number, as_u64}
+use Rattle.serde_json.specs.Find.{as_bool, as_number}
 use Rattle.ctrl_model.specs.declared.commands.Command.{Command}
 use Rattle.ctrl_model.specs.declared.commands.Command.TheVariants as command
 use Rattle.ctrl_model.specs.declared.refusals.Field.{Field}
 use Rattle.ctrl_model.specs.declared.refusals.Field.TheVariants as field
 use Rattle.ctrl_model.specs.NameForm.{is_name}
 use Rattle.ctrl_model.specs.CommandForm.{in_range, are_attributes, is_cost}
-use Rattle.json_body.specs.FieldKinds.{as_name, as_number_in, within, required, optional}
+use Rattle.json_body.specs.FieldKinds.{as_name, as_number_in, required, optional}
 use Rattle.command_codec.specs.NameLists.{as_attributes}
 use Rattle.command_codec.specs.BodyObjects.{object_of_body, said_by}
 use Rattle.command_codec.specs.BodyMeaning.{entry_at, meaning_in}
@@ -19,6 +18,7 @@ use Rattle.command_codec.specs.ContentTypes.{content_of}
 use Rattle.command_codec.specs.EntityBodies.{as_cost, named, entity_fields, made, updated, router_fields, made_router, updated_router, entity_table}
 use Rattle.command_codec.specs.SpelledBodies.{Tells, MayTell, SaysName, SaysMade, SaysUpdated, SaysMadeRouter, SaysUpdatedRouter, SaysFields}
 use Rattle.command_codec.proofs.NameListLaws.{as_name-form, as_attributes-form}
+use Rattle.body_fields.proofs.FieldLaws.{number_form}
 use Rattle.command_codec.proofs.ReadingLaws.{said_by_ok, reads_one, reads_two, reads_four, required_form, optional_form}
 use Rattle.command_codec.proofs.TableLaws.{IsSaid, Faithful, by_row, ◌⊗◌}
 
@@ -26,11 +26,6 @@ use Rattle.command_codec.proofs.TableLaws.{IsSaid, Faithful, by_row, ◌⊗◌}
 
 pub name_form : (of_field : Field) (o : Data) (name : List ℕ) → Tells as_name of_field name o → is_name name ≡ true
 name_form of_field o name e = required_form as_name of_field o name e (λ d h. as_name-form d name h)
-
-pub number_form : (low high : ℕ) (d : Data) (n : ℕ) → as_number_in low high d ≡ Some n → in_range low high n ≡ true
-number_form low high d n e =
-    option_and_then_some (within low high) (option_and_then as_u64 (as_number d)) n e (λ m is h.
-    let p = cond_some (nat_le low m && nat_le m high) m n h in subst (λ k. in_range low high k ≡ true) p.1 p.0)
 
 pub required_number : (low high : ℕ) (of_field : Field) (o : Data) (n : ℕ) → Tells (as_number_in low high) of_field n o → in_range low high n ≡ true
 required_number low high of_field o n e = required_form (as_number_in low high) of_field o n e (λ d h. number_form low high d n h)

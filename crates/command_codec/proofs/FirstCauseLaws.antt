@@ -1,6 +1,6 @@
 -- What a body says is a fault exactly where that is the first one: the fields are gone through one by one.
-use Rattle.std.proofs.Common.{◌≡◌, ℕ, ◌==◌, Bool, true, false, cond, List, [], ◌∷◌, ◌++◌, Option, Some, None, Result, Ok, Err, refl, sym, ap, ◌∙◌, subst, inl, inr, ◌⊎◌}
-use Rattle.std.specs.Prelude.{◌↔◌, ⊤, is_some, map}
+use Rattle.std.proofs.Common.{◌≡◌, Bool, true, false, cond, List, [], ◌∷◌, ◌++◌, Option, Some, None, Result, Ok, Err, refl, sym, ap, ◌∙◌, subst, inl, inr, ◌⊎◌}
+use Rattle.std.specs.Prelude.{◌↔◌, ⊤, is_some}
 use Rattle.std.specs.List.{AllByRecursion}
 use Rattle.std.specs.Option.{ok_or}
 use Rattle.serde_json.specs.Data.{Data}
@@ -9,8 +9,8 @@ use Rattle.ctrl_model.specs.declared.refusals.Field.{Field}
 use Rattle.json_body.specs.declared.fields.FieldFault.{FieldFault}
 use Rattle.json_body.specs.declared.fields.FieldFault.TheVariants.{Missing, WrongKind, Unknown}
 use Rattle.json_body.specs.FieldKinds.{member_of, required_from, required, optional_from, optional, has_only, finished}
-use Rattle.command_codec.specs.BodyObjects.{Reader, ◌>>=◌}
-use Rattle.command_codec.specs.FirstCauses.{FieldRule, needs, may_have, IsMissing, IsOfWrongKind, Breaks, Keeps, BreaksFirst, HasAnotherKey, IsFirstFault}
+use Rattle.command_codec.specs.BodyObjects.{◌>>=◌}
+use Rattle.body_fields.specs.FieldRules.{FieldRule, needs, may_have, Breaks, Keeps, BreaksFirst, HasAnotherKey}
 
 -- What is said is a fault exactly where an object that is to keep these rules, and to have the words of these fields alone, has it
 -- as its first one.

@@ -1,7 +1,5 @@
-mod ItemLaws
 mod NameListLaws
 mod SideLaws
-mod BodyValues
 mod ReadingLaws
 mod TableLaws
 mod EntityLaws
@@ -9,8 +7,9 @@ mod PolicyLaws
 mod ShowLaws
 mod LinkLaws
 mod TerminatorLaws
-mod ClaimLaws
 mod CircuitLaws
 pub mod SpelledLaws
 mod FirstCauseLaws
 mod CauseTables
+mod FormLaws
+mod ValueLaws

@@ -13,9 +13,9 @@ use Rattle.ctrl_model.specs.CommandForm.{is_distinct, are_names, are_attributes}
 use Rattle.json_body.specs.FieldKinds.{as_name, name_of}
 use Rattle.role_expr.specs.NameRepeats.{without_repeats}
 use Rattle.role_expr.proofs.RepeatLaws.{with_name, without_repeats-distinct, without_repeats-end, without_repeats-length, without_repeats-names}
-use Rattle.command_codec.specs.ItemLists.{each_of, as_each_of}
+use Rattle.body_fields.specs.ItemLists.{each_of, as_each_of}
 use Rattle.command_codec.specs.NameLists.{as_attributes}
-use Rattle.command_codec.proofs.ItemLaws.{by_mapped, each_of-more, each_of-none, as_each_of-form}
+use Rattle.body_fields.proofs.ItemLaws.{by_mapped, each_of-more, each_of-none, as_each_of-form}
 
 -- A name behind names.
 pub names-more : (vs : List Value) (v : Value) (kept : List (List ℕ)) (n : List ℕ) → option_map without_repeats (each_of as_name (items_view vs)) ≡ Some kept → Some n ≡ as_name (view v)

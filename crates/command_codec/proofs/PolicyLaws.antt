@@ -18,7 +18,7 @@ use Rattle.ctrl_model.specs.declared.refusals.Field.TheVariants as field
 use Rattle.ctrl_model.specs.NameForm.{is_name}
 use Rattle.ctrl_model.specs.CommandForm.{is_side, is_service_relation}
 use Rattle.json_body.specs.FieldKinds.{as_name, required}
-use Rattle.command_codec.specs.FieldWords.{relation_of, as_relation, as_semantic}
+use Rattle.body_fields.specs.FieldWords.{relation_of, as_relation, as_semantic}
 use Rattle.command_codec.specs.RoleLists.{as_side}
 use Rattle.command_codec.specs.BodyObjects.{object_of_body, said_by}
 use Rattle.command_codec.specs.BodyMeaning.{entry_at, meaning_in}

@@ -1,41 +1,17 @@
 -- What a reading that says something is made of: each field says something, and the object has no other key.
-use Rattle.std.proofs.Common.{◌≡◌, Bool, true, false, cond, List, Option, Some, None, Result, Ok, Err, refl, sym, ap, ◌∙◌, subst}
-use Rattle.std.specs.Prelude.{⊤, option_and_then}
+use Rattle.std.proofs.Common.{◌≡◌, Bool, true, false, cond, List, Option, Some, None, Result, Ok, Err, refl, ap, ◌∙◌, subst}
+use Rattle.std.specs.Prelude.{⊤}
 use Rattle.std.specs.Option.{ok_or}
-use Rattle.std.specs.Result.{IsErrAnd}
 use Rattle.serde_json.specs.Data.{Data}
 use Rattle.ctrl_model.specs.declared.commands.Command.{Command}
 use Rattle.ctrl_model.specs.declared.refusals.Field.{Field}
 use Rattle.json_body.specs.declared.fields.FieldFault.{FieldFault}
-use Rattle.json_body.specs.declared.fields.FieldFault.TheVariants.{Missing, WrongKind, Unknown, NoMemory}
+use Rattle.json_body.specs.declared.fields.FieldFault.TheVariants.{WrongKind, Unknown}
 use Rattle.json_body.specs.FieldKinds.{member_of, required_from, required, optional_from, optional, has_only, finished}
 use Rattle.command_codec.specs.BodyObjects.{Reader, ◌>>=◌, with_cause, said_by}
 
 pub ok_same : {A E : Type 0} (x y : A) → ◌≡◌ {A = Result A E} (Ok x) (Ok y) → x ≡ y
 ok_same x y e = cc
-
--- ---- want of memory
-
--- Whether a field that is required is there and of its kind takes no memory.
-required-never_wanting : {A : Type 0} (kind : Data → Option A) (field : Field) (o : Data) → required kind field o ≡ Err NoMemory → ⊥
-required-never_wanting {A} kind field o e = by (member_of field o) e
-  where
-    said : (d : Data) (x : Option A) → ◌≡◌ {A = Result A FieldFault} (ok_or x (WrongKind field)) (Err NoMemory) → ⊥
-    said d None e = absurd (cc)
-    said d (Some x) e = absurd (cc)
-
-    by : (v : Option Data) → required_from field kind v ≡ Err NoMemory → ⊥
-    by None e = absurd (cc)
-    by (Some d) e = said d (kind d) e
-
--- So what hands its fault on tells no want of memory.
-pub never_wanting : {A T : Type 0} (kind : Data → Option A) (field : Field) (o : Data) (r : Result T FieldFault) (fault : FieldFault) → IsErrAnd r (λ y. y ≡ fault)
-    → required kind field o ≡ Err fault → r ≡ Err NoMemory → ⊥
-never_wanting kind field o (Ok x) fault handed said wanting = absurd handed
-never_wanting {T = T} kind field o (Err y) fault handed said wanting = required-never_wanting kind field o (said ∙ ap Err (sym handed ∙ same y NoMemory wanting))
-  where
-    same : (a b : FieldFault) → ◌≡◌ {A = Result T FieldFault} (Err a) (Err b) → a ≡ b
-    same a b e = cc
 
 -- ---- the object of a body
 
@@ -132,16 +108,3 @@ optional_form {A} P kind otherwise of_field o x e base k = by (member_of of_fiel
     by : (v : Option Data) → optional_from of_field kind otherwise v ≡ Ok x → P x
     by None e = subst P (ok_same otherwise x e) base
     by (Some d) e = told d (kind d) refl e
-
--- Where a field says nothing of a kind, it says nothing of what is read from it.
-pub required_behind : {A B : Type 0} (kind : Data → Option A) (more : A → Option B) (of_field : Field) (o : Data) (f : FieldFault)
-    → required kind of_field o ≡ Err f → required (λ d. option_and_then more (kind d)) of_field o ≡ Err f
-required_behind {A} {B} kind more of_field o f e = by (member_of of_field o) e
-  where
-    told : (q : Option A) → ok_or q (WrongKind of_field) ≡ Err f → ok_or (option_and_then more q) (WrongKind of_field) ≡ Err f
-    told None e = let same : WrongKind of_field ≡ f = cc in ap (λ g. Err g) same
-    told (Some x) e = absurd (cc)
-
-    by : (v : Option Data) → required_from of_field kind v ≡ Err f → required_from of_field (λ d. option_and_then more (kind d)) v ≡ Err f
-    by None e = let same : Missing of_field ≡ f = cc in ap (λ g. Err g) same
-    by (Some d) e = told (kind d) e

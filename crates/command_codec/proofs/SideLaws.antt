@@ -1,5 +1,6 @@
 -- Role lists in bodies: which entry a text is, and what form the side of a role list has.
 use Rattle.std.proofs.Common.{◌≡◌, ℕ, ◌+◌, ◌≤◌, nat_le, Bool, true, false, not, cond, ◌&&◌, ◌||◌, List, [], ◌∷◌, length, codes, Option, Some, None, refl, sym, ap, ◌∙◌, subst, arith, le-leb}
+use Rattle.std.specs.Prelude.{is_some, option_and_then, option_map}
 use Rattle.std.specs.List.{filter, list_all, list_any, flat_map}
 use Rattle.std.specs.Str.{bytes_eq}
 use Rattle.std.proofs.lemmas.Bool.{and_from, and_parts, false≢true, not_from_false}
@@ -19,9 +20,11 @@ use Rattle.role_expr.specs.RoleSides.{is_all, id_in, attribute_in, is_all_beside
 use Rattle.role_expr.specs.RoleSpelling.{is_role, role_spelling}
 use Rattle.role_expr.proofs.RepeatLaws.{without_repeats-length}
 use Rattle.role_expr.proofs.RoleLaws.{read_again, reads}
-use Rattle.command_codec.specs.ItemLists.{as_each_of}
-use Rattle.command_codec.specs.RoleLists.{as_role, side_of, as_side}
-use Rattle.command_codec.proofs.ItemLaws.{as_each_of-form}
+use Rattle.serde_json.specs.View.{view, items_view}
+use Rattle.serde_json.specs.declared.value.Value.{Value}
+use Rattle.body_fields.specs.ItemLists.{each_of, as_each_of}
+use Rattle.command_codec.specs.RoleLists.{as_role, is_all_bytes, is_all_text, side_of, as_side}
+use Rattle.body_fields.proofs.ItemLaws.{by_mapped, as_each_of-form}
 use Rattle.command_codec.proofs.NameListLaws.{without_repeats-form}
 
 -- ---- which entry bytes are
@@ -137,3 +140,48 @@ as_side-form d side e =
     by : (rs : List Role) → length rs ≤ 64 → list_all is_role rs ≡ true → (b : Bool) → is_all_beside rs ≡ b → cond b None (Some (side_from rs)) ≡ Some side → is_side side ≡ true
     by rs few roles true beside is = absurd (cc)
     by rs few roles false beside is = subst (λ s. is_side s ≡ true) (same_Some (side_from rs) side is) (side_from-form rs few roles beside)
+
+-- ---- whether a role list is a side, before its entries are read
+
+not_so : (b : Bool) → not b ≡ true → b ≡ false
+not_so true e = absurd (false≢true e)
+not_so false e = refl
+
+-- The spelling of an entry is that of `#all` where the entry is.
+spelled_all : (r : Role) → is_role r ≡ true → bytes_eq (role_spelling r) (codes "#all") ≡ is_all r
+spelled_all role.All form = refl
+spelled_all (role.Id n) form = refl
+spelled_all (role.Attribute n) form = not_so (bytes_eq n (codes "all")) (and_parts (is_name n) (not (bytes_eq n (codes "all"))) form).1
+
+text_all : (d : Data) (r : Role) → as_role d ≡ Some r → is_all_text d ≡ is_all r
+text_all d r e =
+    option_and_then_some role_in (as_str d) r e (λ bytes is h.
+    let p = reads bytes r h in
+    ap is_all_bytes is ∙ ap (λ b. bytes_eq b (codes "#all")) (sym p.1) ∙ spelled_all r p.0)
+
+-- Values of which some are `#all`, as the entries that they are.
+any_all : (p : Bool → Bool) (vs : List Value) (rs : List Role) → each_of as_role (items_view vs) ≡ Some rs → list_any (λ v. p (is_all_text (view v))) vs ≡ list_any (λ r. p (is_all r)) rs
+any_all p [] rs e = ap (list_any (λ r. p (is_all r))) (same_Some [] rs e)
+any_all p (v ∷ vs) rs e =
+    option_and_then_some (λ x. option_map (λ xs. x ∷ xs) (each_of as_role (items_view vs))) (as_role (view v)) rs e (λ r is more.
+    by_mapped (λ xs. r ∷ xs) (each_of as_role (items_view vs)) rs more (λ ss sent same.
+    ap (λ b. p b || list_any (λ w. p (is_all_text (view w))) vs) (text_all (view v) r is) ∙ ap (λ b. p (is_all r) || b) (any_all p vs ss sent)
+    ∙ ap (list_any (λ q. p (is_all q))) same))
+
+-- Whether `#all` stands beside another of some values.
+abbrev pub values_beside : List Value → Bool
+values_beside vs = list_any (λ v. is_all_text (view v)) vs && list_any (λ v. not (is_all_text (view v))) vs
+
+pub side_said : (vs : List Value) → (is_some (each_of as_role (items_view vs)) && not (values_beside vs)) ≡ is_some (option_and_then side_of (each_of as_role (items_view vs)))
+side_said vs = by (each_of as_role (items_view vs)) refl
+  where
+    told : (rs : List Role) (b : Bool) → is_all_beside rs ≡ b → not b ≡ is_some (cond b None (Some (side_from rs)))
+    told rs true is = refl
+    told rs false is = refl
+
+    by : (o : Option (List Role)) → each_of as_role (items_view vs) ≡ o → (is_some o && not (values_beside vs)) ≡ is_some (option_and_then side_of o)
+    by None is = refl
+    by (Some rs) is =
+        let some = any_all (λ b. b) vs rs is in
+        let other = any_all not vs rs is in
+        ap not (ap (λ b. b && list_any (λ v. not (is_all_text (view v))) vs) some ∙ ap (λ b. list_any is_all rs && b) other) ∙ told rs (is_all_beside rs) refl

@@ -1,14 +1,13 @@
 -- A body means a command exactly where it spells it, and what it means keeps the form of its fields.
-use Rattle.std.proofs.Common.{◌≡◌, ℕ, ◌==◌, Bool, true, false, cond, ◌||◌, List, Option, Some, None, Result, Ok, Err, refl, true≢false, sym, ap, ◌∙◌, subst, eqb-true}
+use Rattle.std.proofs.Common.{◌≡◌, ℕ, ◌==◌, Bool, true, false, cond, List, Result, Ok, Err, refl, true≢false, ap, ◌∙◌, subst, eqb-true}
 use Rattle.std.specs.Prelude.{IfOk, is_some}
 use Rattle.ctrl_model.specs.declared.commands.Command.{Command}
 use Rattle.ctrl_model.specs.declared.commands.Command.TheVariants as command
 use Rattle.ctrl_model.specs.CommandForm.{is_spelled}
 use Rattle.command_codec.specs.declared.reading.CodecFault.{CodecFault}
 use Rattle.command_codec.specs.declared.reading.CodecFault.TheVariants.{NoMemory}
-use Rattle.command_codec.specs.ReadResults.{Gives}
-use Rattle.command_codec.specs.BodyObjects.{Reader}
-use Rattle.command_codec.specs.BodyMeaning.{table, entry_at, meaning_under, meaning_in, meaning}
+use Rattle.body_fields.specs.ReadResults.{Gives}
+use Rattle.command_codec.specs.BodyMeaning.{table, entry_at, meaning_in, meaning}
 use Rattle.command_codec.specs.ContentTypes.{content_of}
 use Rattle.command_codec.specs.SpelledBodies.{SaysFields, Spells}
 use Rattle.command_codec.proofs.TableLaws.{Faithful, ◌⊕◌}

@@ -1,7 +1,6 @@
 -- What the bodies of the commands on terminators say, they spell.
-use Rattle.std.proofs.Common.{◌≡◌, ℕ, true, ◌&&◌, List, [], ◌∷◌, Option, Some, None, Ok, Err, refl, ap, subst}
-use Rattle.std.specs.Prelude.{is_some, option_map}
-use Rattle.std.specs.Option.{ok_or}
+use Rattle.std.proofs.Common.{◌≡◌, ℕ, true, ◌&&◌, List, [], ◌∷◌, Option, Some, None, Ok, refl, ap, subst}
+use Rattle.std.specs.Prelude.{is_some}
 use Rattle.std.proofs.lemmas.Bool.{and_from, false≢true}
 use Rattle.std.proofs.lemmas.Option.{cond_some, option_and_then_some}
 use Rattle.serde_json.specs.Data.{Data}
@@ -14,18 +13,16 @@ use Rattle.ctrl_model.specs.declared.refusals.Field.{Field}
 use Rattle.ctrl_model.specs.declared.refusals.Field.TheVariants as field
 use Rattle.ctrl_model.specs.NameForm.{is_name, is_instance}
 use Rattle.ctrl_model.specs.CommandForm.{is_spelled, is_cost, is_number, is_name_or_none}
-use Rattle.json_body.specs.declared.fields.FieldFault.{FieldFault}
-use Rattle.json_body.specs.declared.fields.FieldFault.TheVariants.{WrongKind}
-use Rattle.json_body.specs.FieldKinds.{as_name, member_of, required_from, required, optional_from, optional}
-use Rattle.command_codec.specs.FieldValues.{as_no, instance_of, as_instance, as_some_name}
-use Rattle.command_codec.specs.FieldWords.{as_precedence}
+use Rattle.json_body.specs.FieldKinds.{as_name, required, optional}
+use Rattle.body_fields.specs.FieldValues.{as_no, instance_of, as_instance, as_some_name}
+use Rattle.body_fields.specs.FieldWords.{as_precedence}
 use Rattle.command_codec.specs.BodyObjects.{object_of_body, said_by}
 use Rattle.command_codec.specs.BodyMeaning.{entry_at, meaning_in}
 use Rattle.command_codec.specs.ContentTypes.{content_of}
 use Rattle.command_codec.specs.EntityBodies.{as_cost}
 use Rattle.command_codec.specs.TerminatorBodies.{numbered, terminator_fields, made_terminator, updated_terminator, terminator_table}
 use Rattle.command_codec.specs.SpelledBodies.{MayTell, SaysNo, SaysMadeTerminator, SaysUpdatedTerminator, SaysFields}
-use Rattle.command_codec.proofs.ItemLaws.{by_mapped}
+use Rattle.body_fields.proofs.ItemLaws.{by_mapped}
 use Rattle.command_codec.proofs.NameListLaws.{as_name-form}
 use Rattle.command_codec.proofs.EntityLaws.{name_form, required_number, optional_number}
 use Rattle.command_codec.proofs.ReadingLaws.{said_by_ok, reads_one, reads_three, reads_six, optional_form}
@@ -46,18 +43,6 @@ as_some_name-form d n e =
 
 pub some_name_form : (of_field : Field) (o : Data) (name : Option (List ℕ)) → MayTell as_some_name None of_field name o → is_name_or_none name ≡ true
 some_name_form of_field o name e = optional_form (λ n. is_name_or_none n ≡ true) as_some_name None of_field o name e refl as_some_name-form
-
--- Where a field that is there gives no name, it gives none that may be left out.
-pub some_name_fault : (of_field : Field) (o : Data) (f : FieldFault) → is_some (member_of of_field o) ≡ true → required as_name of_field o ≡ Err f → optional as_some_name None of_field o ≡ Err f
-some_name_fault of_field o f there e = by (member_of of_field o) there e
-  where
-    told : (n : Option (List ℕ)) → ok_or n (WrongKind of_field) ≡ Err f → ok_or (option_map (λ m. Some m) n) (WrongKind of_field) ≡ Err f
-    told None e = let same : WrongKind of_field ≡ f = cc in ap (λ g. Err g) same
-    told (Some n) e = absurd (cc)
-
-    by : (v : Option Data) → is_some v ≡ true → required_from of_field as_name v ≡ Err f → optional_from of_field as_some_name None v ≡ Err f
-    by None there e = absurd (false≢true there)
-    by (Some d) there e = told (as_name d) e
 
 -- ---- what a body says gives the fields
 

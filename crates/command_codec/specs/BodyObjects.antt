@@ -3,15 +3,14 @@
 use Rattle.std.specs.Prelude.{ℕ, if◌then◌else◌, List, None, Some, Ok, Err, option_and_then}
 use Rattle.std.specs.declared.option.Option.{Option}
 use Rattle.std.specs.declared.result.Result.{Result}
-use Rattle.std.specs.Str.{is_utf8}
 use Rattle.serde_json.specs.Data.{Data}
-use Rattle.serde_json.specs.Read.{read}
 use Rattle.ctrl_model.specs.declared.commands.Command.{Command}
 use Rattle.ctrl_model.specs.declared.refusals.Field.TheVariants as field
 use Rattle.ctrl_model.specs.declared.refusals.Reason.TheVariants as reason
 use Rattle.json_body.specs.declared.fields.FieldFault.{FieldFault}
 use Rattle.json_body.specs.declared.fields.FieldFault.TheVariants as fault
 use Rattle.json_body.specs.FieldKinds.{is_object}
+use Rattle.body_fields.specs.BodyValues.{value_of_body}
 use Rattle.command_codec.specs.declared.reading.CodecFault.{CodecFault}
 use Rattle.command_codec.specs.declared.reading.CodecFault.TheVariants.{BadBody, NoMemory}
 
@@ -24,10 +23,6 @@ infixl 10 ◌>>=◌
 abbrev pub ◌>>=◌ : {A B : Type 0} → Result A FieldFault → (A → Result B FieldFault) → Result B FieldFault
 (Ok x) >>= f = f x
 (Err e) >>= f = Err e
-
--- The JSON value that a body is, if it is JSON text.
-abbrev pub value_of_body : List ℕ → Option Data
-value_of_body body = if is_utf8 body then read body else None
 
 -- A value that is an object.
 abbrev pub as_body : Data → Option Data

@@ -11,8 +11,8 @@ use Rattle.ctrl_model.specs.declared.refusals.Field.TheVariants as field
 use Rattle.json_body.specs.declared.fields.FieldFault.{FieldFault}
 use Rattle.json_body.specs.FieldKinds.{as_name, as_number_in, required, optional, finished}
 use Rattle.command_codec.specs.BodyObjects.{Reader, ◌>>=◌}
-use Rattle.command_codec.specs.FieldValues.{as_no, as_instance, as_some_name}
-use Rattle.command_codec.specs.RouteClaims.{as_numbers, as_potentials}
+use Rattle.body_fields.specs.FieldValues.{as_no, as_instance, as_some_name}
+use Rattle.body_fields.specs.RouteClaims.{as_numbers, as_potentials}
 use Rattle.command_codec.specs.TerminatorBodies.{numbered}
 use Rattle.ctrl_model.specs.Limits.{limit, longest_path, most_number}
 use Rattle.ctrl_model.specs.declared.kinds.Kind.TheVariants as kind

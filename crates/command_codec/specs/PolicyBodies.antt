@@ -11,7 +11,7 @@ use Rattle.ctrl_model.specs.declared.refusals.Field.TheVariants as field
 use Rattle.json_body.specs.FieldKinds.{as_name, required, finished}
 use Rattle.command_codec.specs.BodyObjects.{Reader, ◌>>=◌}
 use Rattle.command_codec.specs.EntityBodies.{named}
-use Rattle.command_codec.specs.FieldWords.{as_relation, as_semantic}
+use Rattle.body_fields.specs.FieldWords.{as_relation, as_semantic}
 use Rattle.command_codec.specs.RoleLists.{as_side}
 
 -- The fields of the commands that make or update a service policy.

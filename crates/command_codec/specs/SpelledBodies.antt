@@ -17,14 +17,14 @@ use Rattle.ctrl_model.specs.declared.refusals.Field.TheVariants as field
 use Rattle.json_body.specs.FieldKinds.{as_name, required, optional, has_only}
 use Rattle.command_codec.specs.NameLists.{as_attributes}
 use Rattle.command_codec.specs.RoleLists.{as_side}
-use Rattle.command_codec.specs.FieldValues.{as_no, as_instance, as_some_name}
-use Rattle.command_codec.specs.FieldWords.{as_relation, as_semantic, as_precedence}
+use Rattle.body_fields.specs.FieldValues.{as_no, as_instance, as_some_name}
+use Rattle.body_fields.specs.FieldWords.{as_relation, as_semantic, as_precedence}
 use Rattle.command_codec.specs.BodyObjects.{object_of_body}
 use Rattle.command_codec.specs.EntityBodies.{as_cost, entity_fields, router_fields}
 use Rattle.command_codec.specs.PolicyBodies.{service_policy_fields, router_policy_fields}
 use Rattle.command_codec.specs.LinkBodies.{as_link_cost, as_latency, link_fields}
 use Rattle.command_codec.specs.TerminatorBodies.{terminator_fields}
-use Rattle.command_codec.specs.RouteClaims.{as_numbers, as_potentials}
+use Rattle.body_fields.specs.RouteClaims.{as_numbers, as_potentials}
 use Rattle.command_codec.specs.CircuitBodies.{circuit_fields, route_fields, as_total}
 use Rattle.command_codec.specs.ContentTypes.{content_of}
 use Rattle.ctrl_model.specs.Limits.{limit, longest_path}

@@ -9,8 +9,8 @@ use Rattle.ctrl_model.specs.declared.refusals.Field.TheVariants as field
 use Rattle.json_body.specs.FieldKinds.{as_name, required, optional, finished}
 use Rattle.command_codec.specs.BodyObjects.{Reader, ◌>>=◌}
 use Rattle.command_codec.specs.EntityBodies.{as_cost}
-use Rattle.command_codec.specs.FieldValues.{as_no, as_instance, as_some_name}
-use Rattle.command_codec.specs.FieldWords.{as_precedence}
+use Rattle.body_fields.specs.FieldValues.{as_no, as_instance, as_some_name}
+use Rattle.body_fields.specs.FieldWords.{as_precedence}
 
 -- A command whose one field is the number of a record.
 abbrev pub numbered : (ℕ → Command) → Reader

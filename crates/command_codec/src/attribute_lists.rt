@@ -1,42 +1,21 @@
-ghost use Rattle.std.specs.Prelude.{◌≡◌, [], IfOk, IsOk, IsErrOf, IsSome, OnErr, option_map};
+ghost use Rattle.std.specs.Prelude.{◌≡◌, [], IfOk, option_map};
 ghost use Rattle.serde_json.specs.View.{items_view};
-ghost use Rattle.json_body.specs.FieldKinds.{object_of, required, optional};
+ghost use Rattle.json_body.specs.FieldKinds.{as_name, object_of, optional, required};
 ghost use Rattle.role_expr.specs.NameRepeats.{without_repeats};
-ghost use Rattle.json_body.specs.FieldKinds.{as_name};
-ghost use Rattle.command_codec.specs.ItemLists.{each_of};
+ghost use Rattle.body_fields.specs.ItemLists.{each_of};
+ghost use Rattle.body_fields.specs.ReadResults.{Gives};
 ghost use Rattle.command_codec.specs.NameLists.{as_attributes};
-ghost use Rattle.command_codec.specs.ReadResults.{Gives};
 
-use crate::item_lists::{ListItem, are_said};
-use ctrl_model::{Field, MOST_ENTRIES, Name, Names};
-use json_body::{FieldFault, Fields, as_name, is_name};
+use ctrl_model::{Field, MOST_ENTRIES, Names};
+use json_body::{FieldFault, Fields, as_name};
 use role_expr::keep_name;
 use serde_json::Value;
 use std::alloc::{AllocError, Global};
 
-// A name.
-impl ListItem for Name {
-    ghost use Rattle.json_body.specs.FieldKinds.{as_name};
-
-    ghost kind = { as_name };
-
-    fn is_said(value: &Value) -> bool {
-        is_name(value)
-    }
-
-    fn said_by(alloc: Global, value: &Value) -> Result<Option<Name>, AllocError> {
-        as_name(alloc, value)
-    }
-}
-
-// The names that some values are, without repeats, if each is a name. No memory is taken before that is known.
+// The names that some values are, without repeats, if each is a name.
 fn names_in(alloc: Global, values: &[Value]) -> Result<Option<Names>, AllocError>
-    ensures names { IfOk result (λ ns. ns ≡ option_map without_repeats (each_of as_name (items_view values.now))) }
-    ensures memory { OnErr result (IsSome (each_of as_name (items_view values.now))) }
+    ensures { IfOk result (λ ns. ns ≡ option_map without_repeats (each_of as_name (items_view values.now))) }
 {
-    if !are_said::<Name>(values) {
-        return Ok(None);
-    }
     let mut kept = Vec::new(alloc);
     'values: for value in values {
         let Some(name) = as_name(alloc, value)? else {
@@ -49,9 +28,7 @@ fn names_in(alloc: Global, values: &[Value]) -> Result<Option<Names>, AllocError
 
 // The attributes that an object gives.
 pub(crate) fn attributes(alloc: Global, fields: &Fields) -> Result<Names, FieldFault>
-    ensures given { Gives FieldFault.NoMemory (λ ns. ns) result (required as_attributes Field.Attributes (object_of fields.now)) }
-    // Memory can be wanting for attributes alone.
-    ensures memory { IsErrOf result FieldFault.NoMemory → IsOk (required as_attributes Field.Attributes (object_of fields.now)) }
+    ensures { Gives FieldFault.NoMemory (λ ns. ns) result (required as_attributes Field.Attributes (object_of fields.now)) }
 {
     let values = fields.list(Field::Attributes, MOST_ENTRIES)?;
     names_in(alloc, values)?.ok_or(FieldFault::WrongKind(Field::Attributes))

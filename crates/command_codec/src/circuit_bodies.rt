@@ -1,41 +1,17 @@
-ghost use Rattle.std.specs.Prelude.{◌≡◌, ℕ, List, Option, IsErrOf, Err};
+ghost use Rattle.std.specs.Prelude.{◌≡◌, ℕ, List, Option};
 ghost use Rattle.ctrl_model.specs.declared.commands.Command.{Command};
 ghost use Rattle.json_body.specs.FieldKinds.{object_of};
-ghost use Rattle.command_codec.specs.BodyObjects.{object_of_body, said_by};
-ghost use Rattle.command_codec.specs.BodyMeaning.{meaning_in};
+ghost use Rattle.command_codec.specs.BodyMeaning.{entry_at, said_under};
 ghost use Rattle.command_codec.specs.CircuitBodies.{asked, asked_circuit, claimed_route, circuit_table};
-ghost use Rattle.command_codec.specs.ReadResults.{Gives};
+ghost use Rattle.body_fields.specs.ReadResults.{Gives};
 
-use crate::bodies::value_in;
+use crate::body_forms::{CIRCUIT_FIELDS, ROUTE_FIELDS};
 use crate::content_types::{CREATE_CIRCUIT, DELETE_CIRCUIT, EXPLAIN, SHOW_CIRCUIT, VERIFY_ROUTE};
-use crate::optional_fields::{instance_or_empty, name_or_none};
-use crate::reading::CodecFault;
-use crate::route_claims::{numbers, potentials};
 use crate::terminator_bodies::numbered;
+use body_fields::{instance_or_empty, name_or_none, numbers, potentials};
 use ctrl_model::{Command, Field, Instance, LONGEST_PATH, MOST_ROUTERS, Name};
 use json_body::{FieldFault, Fields};
 use std::alloc::Global;
-
-// The fields of a body that asks for a circuit, and of one that claims a route.
-const CIRCUIT_FIELDS: [Field; 4] = [
-    Field::Identity,
-    Field::Service,
-    Field::Ingress,
-    Field::Instance,
-];
-
-const ROUTE_FIELDS: [Field; 10] = [
-    Field::Identity,
-    Field::Service,
-    Field::Ingress,
-    Field::Instance,
-    Field::Chosen,
-    Field::Links,
-    Field::Potentials,
-    Field::Routers,
-    Field::Terminator,
-    Field::Total,
-];
 
 // A circuit that is asked for, as a body says it.
 #[derive(Drop)]
@@ -87,19 +63,17 @@ fn asked(alloc: Global, fields: &Fields) -> Result<AskedCircuit, FieldFault>
 }
 
 // What a body says that asks for a circuit.
-fn asked_circuit(alloc: Global, body: &[u8]) -> Result<AskedCircuit, CodecFault>
-    ensures { (make : List ℕ → List ℕ → Option (List ℕ) → List ℕ → Command) → Gives CodecFault.NoMemory
-        (λ a. make a.identity a.service a.ingress a.instance) result (said_by (asked_circuit make) (object_of_body body.now)) }
+fn asked_circuit(alloc: Global, fields: &Fields) -> Result<AskedCircuit, FieldFault>
+    ensures { (make : List ℕ → List ℕ → Option (List ℕ) → List ℕ → Command) → Gives FieldFault.NoMemory
+        (λ a. make a.identity a.service a.ingress a.instance) result (asked_circuit make (object_of fields.now)) }
 {
-    let value = value_in(alloc, body)?;
-    let fields = Fields::of(&value)?;
-    let circuit = asked(alloc, &fields)?;
+    let circuit = asked(alloc, fields)?;
     fields.finish(&CIRCUIT_FIELDS)?;
     Ok(circuit)
 }
 
-// The command that an object gives which verifies a route.
-fn route_in(alloc: Global, fields: &Fields) -> Result<Command, FieldFault>
+// The command that a body says which verifies a route.
+fn claimed_route(alloc: Global, fields: &Fields) -> Result<Command, FieldFault>
     ensures { Gives FieldFault.NoMemory (λ c. c) result (claimed_route (object_of fields.now)) }
 {
     let circuit = asked(alloc, fields)?;
@@ -124,38 +98,26 @@ fn route_in(alloc: Global, fields: &Fields) -> Result<Command, FieldFault>
     })
 }
 
-// The command that a body says which verifies a route.
-fn claimed_route(alloc: Global, body: &[u8]) -> Result<Command, CodecFault>
-    ensures { Gives CodecFault.NoMemory (λ c. c) result (said_by claimed_route (object_of_body body.now)) }
-{
-    let value = value_in(alloc, body)?;
-    let fields = Fields::of(&value)?;
-    let command = route_in(alloc, &fields)?;
-    Ok(command)
-}
-
 // The command on a circuit that a body spells.
-#[tactic(auto, using(crate::proofs::TableLaws::supported))]
 pub(crate) fn circuit_command(
     alloc: Global,
     content: u32,
-    body: &[u8],
-) -> Result<Command, CodecFault>
-    ensures given { Gives CodecFault.NoMemory (λ c. c) result (meaning_in circuit_table content body.now) }
-    ensures unsupported { meaning_in circuit_table content body.now ≡ Err CodecFault.UnsupportedType → IsErrOf result CodecFault.UnsupportedType }
+    fields: &Fields,
+) -> Result<Command, FieldFault>
+    ensures { Gives FieldFault.NoMemory (λ c. c) result (said_under (entry_at content circuit_table) (object_of fields.now)) }
 {
     match content {
-        CREATE_CIRCUIT => Ok(asked_circuit(alloc, body)?.created()),
+        CREATE_CIRCUIT => Ok(asked_circuit(alloc, fields)?.created()),
         DELETE_CIRCUIT => {
-            let no = numbered(alloc, body)?;
+            let no = numbered(alloc, fields)?;
             Ok(Command::DeleteCircuit { no })
         }
-        EXPLAIN => Ok(asked_circuit(alloc, body)?.explained()),
-        VERIFY_ROUTE => claimed_route(alloc, body),
+        EXPLAIN => Ok(asked_circuit(alloc, fields)?.explained()),
+        VERIFY_ROUTE => claimed_route(alloc, fields),
         SHOW_CIRCUIT => {
-            let no = numbered(alloc, body)?;
+            let no = numbered(alloc, fields)?;
             Ok(Command::ShowCircuit { no })
         }
-        _ => Err(CodecFault::UnsupportedType),
+        _ => Err(FieldFault::Unknown),
     }
 }

@@ -2,25 +2,22 @@
 #![tactic(auto)]
 
 mod attribute_lists;
-mod bodies;
+mod body_forms;
+mod body_kinds;
 mod circuit_bodies;
 mod content_types;
 mod entity_bodies;
-mod field_words;
-mod item_lists;
 mod laws;
 mod link_bodies;
-mod optional_fields;
 mod policy_bodies;
 mod reading;
 mod role_lists;
-mod route_claims;
 mod show_bodies;
 mod terminator_bodies;
 mod worked;
 
 pub use laws::{the_first_cause, what_a_body_spells};
-pub use reading::{CodecFault, read};
+pub use reading::{CodecFault, read, read_value};
 pub use worked::{
     worked_bodies, worked_causes, worked_circuits, worked_claims, worked_first_causes,
     worked_links, worked_lists, worked_policies, worked_policy_causes, worked_shows, worked_sides,

@@ -1,35 +1,25 @@
-ghost use Rattle.std.specs.Prelude.{◌≡◌, ℕ, List, IsErrOf, Err};
+ghost use Rattle.std.specs.Prelude.{◌≡◌, ℕ, List};
+ghost use Rattle.json_body.specs.FieldKinds.{object_of};
 ghost use Rattle.ctrl_model.specs.declared.commands.Command.{Command};
 ghost use Rattle.ctrl_model.specs.declared.kinds.Relation.{Relation};
 ghost use Rattle.ctrl_model.specs.declared.kinds.Semantic.{Semantic};
 ghost use Rattle.ctrl_model.specs.declared.kinds.Side.{Side};
-ghost use Rattle.command_codec.specs.BodyObjects.{object_of_body, said_by};
-ghost use Rattle.command_codec.specs.BodyMeaning.{meaning_in};
+ghost use Rattle.command_codec.specs.BodyMeaning.{entry_at, said_under};
 ghost use Rattle.command_codec.specs.PolicyBodies.{service_policy, router_policy, policy_table};
-ghost use Rattle.command_codec.specs.ReadResults.{Gives};
+ghost use Rattle.body_fields.specs.ReadResults.{Gives};
 
-use crate::bodies::value_in;
+use crate::body_forms::SERVICE_POLICY_FIELDS;
 use crate::content_types::{
     CREATE_EDGE_ROUTER_POLICY, CREATE_SERVICE_EDGE_ROUTER_POLICY, CREATE_SERVICE_POLICY,
     DELETE_EDGE_ROUTER_POLICY, DELETE_SERVICE_EDGE_ROUTER_POLICY, DELETE_SERVICE_POLICY,
     UPDATE_EDGE_ROUTER_POLICY, UPDATE_SERVICE_EDGE_ROUTER_POLICY, UPDATE_SERVICE_POLICY,
 };
 use crate::entity_bodies::named;
-use crate::field_words::{relation, semantic};
-use crate::reading::CodecFault;
 use crate::role_lists::side;
+use body_fields::{relation, semantic};
 use ctrl_model::{Command, Field, Name, Relation, Semantic, Side};
-use json_body::Fields;
+use json_body::{FieldFault, Fields};
 use std::alloc::Global;
-
-// The fields of a body that makes or updates a service policy.
-const SERVICE_POLICY_FIELDS: [Field; 5] = [
-    Field::Name,
-    Field::PolicyType,
-    Field::Semantic,
-    Field::IdentityRoles,
-    Field::ServiceRoles,
-];
 
 // A service policy, as a body says it.
 #[derive(Drop)]
@@ -123,17 +113,15 @@ impl RouterPolicy {
 }
 
 // What a body says that makes or updates a service policy.
-fn service_policy(alloc: Global, body: &[u8]) -> Result<ServicePolicy, CodecFault>
-    ensures { (make : List ℕ → Relation → Semantic → Side → Side → Command) → Gives CodecFault.NoMemory
-        (λ p. make p.name p.relation p.semantic p.identity_roles p.service_roles) result (said_by (service_policy make) (object_of_body body.now)) }
+fn service_policy(alloc: Global, fields: &Fields) -> Result<ServicePolicy, FieldFault>
+    ensures { (make : List ℕ → Relation → Semantic → Side → Side → Command) → Gives FieldFault.NoMemory
+        (λ p. make p.name p.relation p.semantic p.identity_roles p.service_roles) result (service_policy make (object_of fields.now)) }
 {
-    let value = value_in(alloc, body)?;
-    let fields = Fields::of(&value)?;
     let name = fields.name(alloc, Field::Name)?;
-    let relation = relation(&fields)?;
-    let semantic = semantic(&fields)?;
-    let identity_roles = side(alloc, &fields, Field::IdentityRoles)?;
-    let service_roles = side(alloc, &fields, Field::ServiceRoles)?;
+    let relation = relation(fields)?;
+    let semantic = semantic(fields)?;
+    let identity_roles = side(alloc, fields, Field::IdentityRoles)?;
+    let service_roles = side(alloc, fields, Field::ServiceRoles)?;
     fields.finish(&SERVICE_POLICY_FIELDS)?;
     Ok(ServicePolicy {
         name,
@@ -145,16 +133,14 @@ fn service_policy(alloc: Global, body: &[u8]) -> Result<ServicePolicy, CodecFaul
 }
 
 // What a body says that makes or updates a policy on routers, whose one side is in the field.
-fn router_policy(alloc: Global, body: &[u8], field: Field) -> Result<RouterPolicy, CodecFault>
-    ensures { (make : List ℕ → Semantic → Side → Side → Command) → Gives CodecFault.NoMemory
-        (λ p. make p.name p.semantic p.roles p.router_roles) result (said_by (router_policy field make) (object_of_body body.now)) }
+fn router_policy(alloc: Global, fields: &Fields, field: Field) -> Result<RouterPolicy, FieldFault>
+    ensures { (make : List ℕ → Semantic → Side → Side → Command) → Gives FieldFault.NoMemory
+        (λ p. make p.name p.semantic p.roles p.router_roles) result (router_policy field make (object_of fields.now)) }
 {
-    let value = value_in(alloc, body)?;
-    let fields = Fields::of(&value)?;
     let name = fields.name(alloc, Field::Name)?;
-    let semantic = semantic(&fields)?;
-    let roles = side(alloc, &fields, field)?;
-    let router_roles = side(alloc, &fields, Field::RouterRoles)?;
+    let semantic = semantic(fields)?;
+    let roles = side(alloc, fields, field)?;
+    let router_roles = side(alloc, fields, Field::RouterRoles)?;
     fields.finish(&[Field::Name, Field::Semantic, field, Field::RouterRoles])?;
     Ok(RouterPolicy {
         name,
@@ -165,50 +151,48 @@ fn router_policy(alloc: Global, body: &[u8], field: Field) -> Result<RouterPolic
 }
 
 // The command on a policy that a body spells.
-#[tactic(auto, using(crate::proofs::TableLaws::supported))]
 pub(crate) fn policy_command(
     alloc: Global,
     content: u32,
-    body: &[u8],
-) -> Result<Command, CodecFault>
-    ensures given { Gives CodecFault.NoMemory (λ c. c) result (meaning_in policy_table content body.now) }
-    ensures unsupported { meaning_in policy_table content body.now ≡ Err CodecFault.UnsupportedType → IsErrOf result CodecFault.UnsupportedType }
+    fields: &Fields,
+) -> Result<Command, FieldFault>
+    ensures { Gives FieldFault.NoMemory (λ c. c) result (said_under (entry_at content policy_table) (object_of fields.now)) }
 {
     match content {
-        CREATE_SERVICE_POLICY => Ok(service_policy(alloc, body)?.created()),
-        UPDATE_SERVICE_POLICY => Ok(service_policy(alloc, body)?.updated()),
+        CREATE_SERVICE_POLICY => Ok(service_policy(alloc, fields)?.created()),
+        UPDATE_SERVICE_POLICY => Ok(service_policy(alloc, fields)?.updated()),
         DELETE_SERVICE_POLICY => {
-            let name = named(alloc, body, Field::Name)?;
+            let name = named(alloc, fields, Field::Name)?;
             Ok(Command::DeleteServicePolicy { name })
         }
         CREATE_EDGE_ROUTER_POLICY => Ok(router_policy(
             alloc,
-            body,
+            fields,
             Field::IdentityRoles,
         )?.created_for_identities()),
         UPDATE_EDGE_ROUTER_POLICY => Ok(router_policy(
             alloc,
-            body,
+            fields,
             Field::IdentityRoles,
         )?.updated_for_identities()),
         DELETE_EDGE_ROUTER_POLICY => {
-            let name = named(alloc, body, Field::Name)?;
+            let name = named(alloc, fields, Field::Name)?;
             Ok(Command::DeleteEdgeRouterPolicy { name })
         }
         CREATE_SERVICE_EDGE_ROUTER_POLICY => Ok(router_policy(
             alloc,
-            body,
+            fields,
             Field::ServiceRoles,
         )?.created_for_services()),
         UPDATE_SERVICE_EDGE_ROUTER_POLICY => Ok(router_policy(
             alloc,
-            body,
+            fields,
             Field::ServiceRoles,
         )?.updated_for_services()),
         DELETE_SERVICE_EDGE_ROUTER_POLICY => {
-            let name = named(alloc, body, Field::Name)?;
+            let name = named(alloc, fields, Field::Name)?;
             Ok(Command::DeleteServiceEdgeRouterPolicy { name })
         }
-        _ => Err(CodecFault::UnsupportedType),
+        _ => Err(FieldFault::Unknown),
     }
 }

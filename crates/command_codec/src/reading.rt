@@ -1,21 +1,30 @@
-ghost use Rattle.std.specs.Prelude.{◌≡◌, ◌≢◌, ◌↔◌, IfOk, IfErr, IsOk, IsErrOf, true, Ok, Err};
+ghost use Rattle.std.specs.Prelude.{◌≡◌, ◌≢◌, ◌↔◌, ◌<◌, ◌==◌, IfOk, IfErr, IsOk, IsErrOf, length, true, Some, Ok, Err, option_map};
+ghost use Rattle.std.specs.Map.{lookup};
+ghost use Rattle.serde_json.specs.View.{view};
 ghost use Rattle.ctrl_model.specs.CommandForm.{is_spelled};
-ghost use Rattle.command_codec.specs.BodyMeaning.{meaning};
-ghost use Rattle.command_codec.specs.ReadResults.{Gives};
+ghost use Rattle.json_body.specs.FieldKinds.{object_of};
+ghost use Rattle.body_fields.specs.ReadResults.{Gives};
+ghost use Rattle.command_codec.specs.BodyForms.{form_rules, with_fields};
+ghost use Rattle.command_codec.specs.BodyMeaning.{entry_at, meaning, said_under, table, value_meaning};
+ghost use Rattle.command_codec.specs.FirstCauses.{all_rules};
 
+use crate::body_forms::{BodyForm, form_of};
 use crate::circuit_bodies::circuit_command;
 use crate::content_types::{
-    COMPACT, CREATE_CIRCUIT, CREATE_IDENTITY, CREATE_LINK, CREATE_SERVICE_POLICY,
-    CREATE_TERMINATOR, DELETE_SERVICE_EDGE_ROUTER_POLICY, DELETE_TERMINATOR, DISCONNECT_ROUTER,
-    HELLO, SET_LEAST_ROUTER_COST, SHOW_CIRCUIT, SHOW_COUNTS, SHOW_GRANTS, VERIFY_ROUTE,
+    COMPACT, CREATE_CIRCUIT, CREATE_IDENTITY, CREATE_LINK, CREATE_ROUTER, CREATE_SERVICE_POLICY,
+    CREATE_TERMINATOR, DELETE_SERVICE, DELETE_SERVICE_EDGE_ROUTER_POLICY, DELETE_TERMINATOR,
+    DISCONNECT_ROUTER, HELLO, SET_LEAST_ROUTER_COST, SHOW_CIRCUIT, SHOW_COUNTS, SHOW_GRANTS,
+    VERIFY_ROUTE,
 };
-use crate::entity_bodies::entity_command;
+use crate::entity_bodies::{entity_command, router_command};
 use crate::link_bodies::link_command;
 use crate::policy_bodies::policy_command;
 use crate::show_bodies::show_command;
 use crate::terminator_bodies::terminator_command;
+use body_fields::{keep_rules, value_in};
 use ctrl_model::{Command, Field, Reason};
-use json_body::FieldFault;
+use json_body::{FieldFault, Fields};
+use serde_json::Value;
 use std::alloc::Global;
 use thiserror::Error;
 
@@ -62,23 +71,72 @@ impl From<FieldFault> for CodecFault {
     }
 }
 
-fn command_in(alloc: Global, content: u32, body: &[u8]) -> Result<Command, CodecFault>
-    ensures given { Gives CodecFault.NoMemory (λ c. c) result (meaning content body.now) }
-    ensures hello { content ≡ 0 → IsOk result }
-    ensures unsupported { meaning content body.now ≡ Err CodecFault.UnsupportedType → IsErrOf result CodecFault.UnsupportedType }
+// The command that an object spells under a content type.
+fn command_in(alloc: Global, content: u32, fields: &Fields) -> Result<Command, FieldFault>
+    ensures { Gives FieldFault.NoMemory (λ c. c) result (said_under (entry_at content table) (object_of fields.now)) }
 {
     match content {
-        HELLO => Ok(Command::Hello),
-        CREATE_IDENTITY..=DISCONNECT_ROUTER => entity_command(alloc, content, body),
+        CREATE_IDENTITY..=DELETE_SERVICE => entity_command(alloc, content, fields),
+        CREATE_ROUTER..=DISCONNECT_ROUTER => router_command(alloc, content, fields),
         CREATE_SERVICE_POLICY..=DELETE_SERVICE_EDGE_ROUTER_POLICY => {
-            policy_command(alloc, content, body)
+            policy_command(alloc, content, fields)
         }
-        CREATE_LINK..=SET_LEAST_ROUTER_COST => link_command(alloc, content, body),
-        CREATE_TERMINATOR..=DELETE_TERMINATOR => terminator_command(alloc, content, body),
-        CREATE_CIRCUIT..=VERIFY_ROUTE | SHOW_CIRCUIT => circuit_command(alloc, content, body),
-        SHOW_GRANTS..=SHOW_COUNTS | COMPACT => show_command(alloc, content, body),
-        _ => Err(CodecFault::UnsupportedType),
+        CREATE_LINK..=SET_LEAST_ROUTER_COST => link_command(alloc, content, fields),
+        CREATE_TERMINATOR..=DELETE_TERMINATOR => terminator_command(alloc, content, fields),
+        CREATE_CIRCUIT..=VERIFY_ROUTE | SHOW_CIRCUIT => circuit_command(alloc, content, fields),
+        SHOW_GRANTS..=SHOW_COUNTS | COMPACT => show_command(alloc, content, fields),
+        _ => Err(FieldFault::Unknown),
     }
+}
+
+// The same, judged by the form of its content type before memory is asked.
+fn judged_command(
+    alloc: Global,
+    content: u32,
+    form: BodyForm,
+    fields: &Fields,
+) -> Result<Command, FieldFault>
+    requires { Some (form_rules form) ≡ option_map with_fields (lookup (λ n. n == content) all_rules) }
+    ensures given { Gives FieldFault.NoMemory (λ c. c) result (said_under (entry_at content table) (object_of fields.now)) }
+    ensures memory { IsErrOf result FieldFault.NoMemory → IsOk (said_under (entry_at content table) (object_of fields.now)) }
+{
+    keep_rules(form.rules, form.allowed, fields)?;
+    command_in(alloc, content, fields)
+}
+
+// The command that the body spells which is a JSON value, by the form of its content type.
+fn formed_command(
+    alloc: Global,
+    content: u32,
+    form: BodyForm,
+    value: &Value,
+) -> Result<Command, CodecFault>
+    requires other { content ≢ 0 }
+    requires form { Some (form_rules form) ≡ option_map with_fields (lookup (λ n. n == content) all_rules) }
+    ensures command { IfOk result (λ c. value_meaning content (view value.now) ≡ Ok c) }
+    ensures fault { IfErr result (λ e. e ≢ CodecFault.NoMemory → value_meaning content (view value.now) ≡ Err e) }
+    ensures memory { IsErrOf result CodecFault.NoMemory → IsOk (value_meaning content (view value.now)) }
+{
+    let fields = Fields::of(value)?;
+    Ok(judged_command(alloc, content, form, &fields)?)
+}
+
+/// The command that the body spells which is a JSON value.
+///
+/// Faults come as those of `read`. Want of memory takes the place of none of them: it comes only where the value spells a command.
+pub fn read_value(alloc: Global, content: u32, value: &Value) -> Result<Command, CodecFault>
+    ensures command { IfOk result (λ c. value_meaning content (view value.now) ≡ Ok c) }
+    ensures fault { IfErr result (λ e. e ≢ CodecFault.NoMemory → value_meaning content (view value.now) ≡ Err e) }
+    // All that the value says is judged before memory is asked.
+    ensures memory { IsErrOf result CodecFault.NoMemory → IsOk (value_meaning content (view value.now)) }
+{
+    if content == HELLO {
+        return Ok(Command::Hello);
+    }
+    let Some(form) = form_of(content) else {
+        return Err(CodecFault::UnsupportedType);
+    };
+    formed_command(alloc, content, form, value)
 }
 
 /// The command that a body spells under a content type.
@@ -91,8 +149,19 @@ pub fn read(alloc: Global, content: u32, body: &[u8]) -> Result<Command, CodecFa
     // Memory cannot be wanting for Hello, nor where no command has the type.
     ensures hello { content ≡ 0 → IsOk result }
     ensures unsupported { IsErrOf result CodecFault.UnsupportedType ↔ (meaning content body.now ≡ Err CodecFault.UnsupportedType) }
+    // Nor for an empty body; and once a JSON value was made of the body, `read_value` tells whatever cause there is.
+    ensures memory { IsErrOf result CodecFault.NoMemory → 0 < length body.now }
     // What is read keeps the kinds, the ranges and the lengths of its fields.
     ensures spelled { IfOk result (λ c. is_spelled c ≡ true) }
 {
-    command_in(alloc, content, body)
+    if content == HELLO {
+        return Ok(Command::Hello);
+    }
+    let Some(form) = form_of(content) else {
+        return Err(CodecFault::UnsupportedType);
+    };
+    let value = value_in(alloc, body)?;
+    let command = formed_command(alloc, content, form, &value);
+    drop(value);
+    command
 }

@@ -1,22 +1,22 @@
-ghost use Rattle.std.specs.Prelude.{◌≡◌, IfOk, OnErr, IsErrOf, IsOk, IsSome};
+ghost use Rattle.std.specs.Prelude.{◌≡◌, ◌&&◌, not, IfOk, is_some, option_and_then};
+ghost use Rattle.std.specs.List.{list_any};
+ghost use Rattle.serde_json.specs.View.{view, items_view};
 ghost use Rattle.json_body.specs.FieldKinds.{object_of, required};
 ghost use Rattle.role_expr.specs.ReadRoles.{role_in};
-ghost use Rattle.ctrl_model.specs.Limits.{most_entries};
-ghost use Rattle.command_codec.specs.ItemLists.{as_each_of};
-ghost use Rattle.command_codec.specs.RoleLists.{side_of, as_role, as_side};
-ghost use Rattle.command_codec.specs.ReadResults.{Gives};
+ghost use Rattle.body_fields.specs.ItemLists.{each_of};
+ghost use Rattle.body_fields.specs.ReadResults.{Gives};
+ghost use Rattle.command_codec.specs.RoleLists.{as_role, as_side, is_all_text, side_of};
 
-use crate::item_lists::{ListItem, list};
+use body_fields::{ItemKind, are_said, list};
 use ctrl_model::{Field, MOST_ENTRIES, Role, Side};
-use json_body::{FieldFault, Fields};
+use json_body::{FieldFault, Fields, as_list_of};
 use role_expr::{RoleFault, is_role, read_role};
 use serde_json::Value;
 use std::alloc::{AllocError, Global};
 
 // The role entry that some bytes are, if they are one.
 fn role_in(alloc: Global, bytes: &[u8]) -> Result<Option<Role>, AllocError>
-    ensures role { IfOk result (λ r. r ≡ role_in bytes.now) }
-    ensures memory { OnErr result (IsSome (role_in bytes.now)) }
+    ensures { IfOk result (λ r. r ≡ role_in bytes.now) }
 {
     match read_role(alloc, bytes) {
         Ok(role) => Ok(Some(role)),
@@ -27,7 +27,9 @@ fn role_in(alloc: Global, bytes: &[u8]) -> Result<Option<Role>, AllocError>
 }
 
 // A role entry.
-impl ListItem for Role {
+pub(crate) struct RoleEntry;
+
+impl ItemKind<Role> for RoleEntry {
     ghost use Rattle.command_codec.specs.RoleLists.{as_role};
 
     ghost kind = { as_role };
@@ -47,10 +49,54 @@ impl ListItem for Role {
     }
 }
 
+fn is_all(value: &Value) -> bool
+    ensures { result ≡ is_all_text (view value.now) }
+{
+    match value.as_str() {
+        Some(text) => text == "#all",
+        None => false,
+    }
+}
+
+fn has_all(values: &[Value]) -> bool
+    ensures { result ≡ list_any (λ v. is_all_text (view v)) values.now }
+{
+    values.iter().any(|value| is_all(value))
+}
+
+fn has_other(values: &[Value]) -> bool
+    ensures { result ≡ list_any (λ v. not (is_all_text (view v))) values.now }
+{
+    values.iter().any(|value| !is_all(value))
+}
+
+// Whether `#all` does not stand beside another value.
+fn stands_alone(values: &[Value]) -> bool
+    ensures { result ≡ not (list_any (λ v. is_all_text (view v)) values.now && list_any (λ v. not (is_all_text (view v))) values.now) }
+{
+    !(has_all(values) && has_other(values))
+}
+
+// Whether values are role entries in which `#all` stands alone. No memory is taken.
+fn are_roles(values: &[Value]) -> bool
+    ensures { result ≡ is_some (option_and_then side_of (each_of as_role (items_view values.now))) }
+{
+    are_said::<Role, RoleEntry>(values) && stands_alone(values)
+}
+
+// Whether a value is a role list in which `#all` stands alone. No memory is taken.
+pub(crate) fn is_side(value: &Value) -> bool
+    ensures { result ≡ is_some (as_side (view value.now)) }
+{
+    match as_list_of(value, MOST_ENTRIES) {
+        Some(values) => are_roles(values),
+        None => false,
+    }
+}
+
 // The side of some role entries, if `#all` stands alone.
 fn side_of(alloc: Global, roles: &[Role]) -> Result<Option<Side>, AllocError>
-    ensures side { IfOk result (λ s. s ≡ side_of roles.now) }
-    ensures memory { OnErr result (IsSome (side_of roles.now)) }
+    ensures { IfOk result (λ s. s ≡ side_of roles.now) }
 {
     // Of entries that were read BadRole never comes.
     match role_expr::side_of(alloc, roles) {
@@ -62,10 +108,8 @@ fn side_of(alloc: Global, roles: &[Role]) -> Result<Option<Side>, AllocError>
 
 // The side that an object gives in a field.
 pub(crate) fn side(alloc: Global, fields: &Fields, field: Field) -> Result<Side, FieldFault>
-    ensures given { Gives FieldFault.NoMemory (λ s. s) result (required as_side field (object_of fields.now)) }
-    // Memory can be wanting for role entries alone.
-    ensures memory { IsErrOf result FieldFault.NoMemory → IsOk (required (as_each_of most_entries as_role) field (object_of fields.now)) }
+    ensures { Gives FieldFault.NoMemory (λ s. s) result (required as_side field (object_of fields.now)) }
 {
-    let roles: Vec<Role> = list(alloc, fields, field, MOST_ENTRIES)?;
+    let roles = list::<Role, RoleEntry>(alloc, fields, field, MOST_ENTRIES)?;
     side_of(alloc, roles.as_slice())?.ok_or(FieldFault::WrongKind(field))
 }

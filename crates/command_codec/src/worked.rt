@@ -11,7 +11,7 @@ ghost use Rattle.ctrl_model.specs.declared.kinds.Semantic.TheVariants.{AnyOf, Al
 ghost use Rattle.role_expr.specs.NameRepeats.{without_repeats};
 ghost use Rattle.command_codec.specs.NameLists.{as_attributes};
 ghost use Rattle.command_codec.specs.RoleLists.{as_side};
-ghost use Rattle.command_codec.specs.RouteClaims.{as_numbers, as_reach};
+ghost use Rattle.body_fields.specs.RouteClaims.{as_numbers, as_reach};
 ghost use Rattle.command_codec.specs.BodyMeaning.{meaning};
 ghost use Rattle.command_codec.specs.FirstCauses.{IsFirstCause};
 

@@ -15,7 +15,7 @@ use Rattle.core_stores.specs.declared.stores.Stores.{Stores}
 
 -- Nothing settles.
 abbrev pub nothing : Settled
-nothing = record { links = []; terminators = []; lost = []; ended = []; moves = [] }
+nothing = record { links = []; terminators = []; going = []; ended = []; moves = [] }
 
 -- A terminator of service 2 on router 3.
 abbrev pub offer : Terminator

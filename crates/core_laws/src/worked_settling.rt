@@ -23,11 +23,11 @@ ghost use Rattle.core_laws.specs.WorkedSettling.{nothing, counting, with_another
 pub fn what_settles()
     ensures nothing_named { SettlesNothing nothing }
     ensures granted { AreSettled line_in_use nothing }
-    ensures link_down { AreSettled unsettled (record nothing { lost = 1 ∷ []; moves = now_over 1 (3 ∷ []) ∷ [] }) }
-    ensures ungranted { AreSettled ungranted (record nothing { lost = 1 ∷ []; ended = 1 ∷ [] }) }
-    ensures middle { AreSettled without_the_middle (record nothing { links = 1 ∷ 2 ∷ []; lost = 1 ∷ []; ended = 1 ∷ [] }) }
-    ensures end { AreSettled without_the_end (record nothing { links = 2 ∷ []; terminators = 1 ∷ []; lost = 1 ∷ []; ended = 1 ∷ [] }) }
-    ensures taken_out { (without_settled (record nothing { links = 1 ∷ 2 ∷ []; lost = 1 ∷ []; ended = 1 ∷ [] }) without_the_middle).circuits.rows ≡ [] }
+    ensures link_down { AreSettled unsettled (record nothing { going = 1 ∷ []; moves = now_over 1 (3 ∷ []) ∷ [] }) }
+    ensures ungranted { AreSettled ungranted (record nothing { going = 1 ∷ []; ended = 1 ∷ [] }) }
+    ensures middle { AreSettled without_the_middle (record nothing { links = 1 ∷ 2 ∷ []; going = 1 ∷ []; ended = 1 ∷ [] }) }
+    ensures end { AreSettled without_the_end (record nothing { links = 2 ∷ []; terminators = 1 ∷ []; going = 1 ∷ []; ended = 1 ∷ [] }) }
+    ensures taken_out { (without_settled (record nothing { links = 1 ∷ 2 ∷ []; going = 1 ∷ []; ended = 1 ∷ [] }) without_the_middle).circuits.rows ≡ [] }
 {}
 
 /// The circuit of the line is granted, and without the policy that granted it it is not.
@@ -62,7 +62,7 @@ pub fn where_loads_change()
     ensures comes { loads_after (Circuit (circuit.Add (over []))) nothing ≡ More (record { 0 = 1 }) }
     ensures goes { loads_after (Circuit (circuit.Remove (record { 0 = 1 }))) nothing ≡ Any }
     ensures terminators { loads_after (Policy (policy.Remove kind.ServicePolicy 1)) (record nothing { terminators = 1 ∷ [] }) ≡ Any }
-    ensures circuits { loads_after (Circuit (circuit.Add (over []))) (record nothing { lost = 1 ∷ []; moves = now_over 1 [] ∷ [] }) ≡ Any }
+    ensures circuits { loads_after (Circuit (circuit.Add (over []))) (record nothing { going = 1 ∷ []; moves = now_over 1 [] ∷ [] }) ≡ Any }
 {}
 
 /// Of two circuits to terminator 1 all are counted where its load is 2, and one is not yet where it is 1.

@@ -56,7 +56,7 @@ loads_by (change.Circuit (circuit.Remove n)) = loads.Any
 
 -- The same with what settles: anywhere, if a terminator goes or a circuit does not stay as it is.
 abbrev pub loads_after : Change → Settled → Loads
-loads_after c g = cond (is_nothing g.terminators && is_nothing g.lost) (loads_by c) loads.Any
+loads_after c g = cond (is_nothing g.terminators && is_nothing g.going) (loads_by c) loads.Any
 
 -- Each circuit ends at a present terminator, and there are no more circuits than may be.
 pub record EndThere (s : State) : Type 0 where

@@ -9,7 +9,7 @@ use Rattle.core_stores.specs.declared.settled.Settled.{Settled}
 pub record SettlesNothing (g : Settled) : Type 0 where
   pub links_stay : g.links ≡ []
   pub terminators_stay : g.terminators ≡ []
-  pub circuits_stay : g.lost ≡ []
+  pub circuits_stay : g.going ≡ []
   pub none_ends : g.ended ≡ []
   pub none_moves : g.moves ≡ []
 

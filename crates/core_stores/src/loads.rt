@@ -65,7 +65,7 @@ pub enum Loads {
 pub fn loads_after(change: &Change, settled: &Settled) -> Loads
     ensures { result ≡ loads_after change.now settled.now }
 {
-    if !settled.terminators.is_empty() || !settled.lost.is_empty() {
+    if !settled.terminators.is_empty() || !settled.going.is_empty() {
         return Loads::Any;
     }
     match change {

@@ -16,7 +16,7 @@ pub struct Settled {
     pub links: Numbers,
     pub terminators: Numbers,
     /// The circuits that do not stay as they are: each of them ends or is moved.
-    pub lost: Numbers,
+    pub going: Numbers,
     pub ended: Numbers,
     pub moves: Moves,
 }
@@ -29,7 +29,7 @@ impl Settled {
         Settled {
             links: Numbers::of(Vec::new(alloc)),
             terminators: Numbers::of(Vec::new(alloc)),
-            lost: Numbers::of(Vec::new(alloc)),
+            going: Numbers::of(Vec::new(alloc)),
             ended: Numbers::of(Vec::new(alloc)),
             moves: Moves::of(Vec::new(alloc)),
         }

@@ -69,14 +69,14 @@ module _ (c : Change) (st : Stores) (g : Fallen) (can : CanSettle st c) (falls :
 
   -- where each circuit stays as it is, the links and the terminators that fall are all that settles
   pub settled_alone : (told : Bool) → told ≡ true → Stands c (state_of st) → StayGranted told (state_of st) (after_change c (state_of st)) → g.circuits ≡ []
-      → (out : Settled) → out.links ≡ g.links → out.terminators ≡ g.terminators → out.lost ≡ [] → out.ended ≡ [] → out.moves ≡ [] → AreSettled (after_change c (state_of st)) out
-  settled_alone told is stands known none out links terms lost ended moves = subst (λ s. AreSettled s out) (sym (parts_after c st can)) (record {
+      → (out : Settled) → out.links ≡ g.links → out.terminators ≡ g.terminators → out.going ≡ [] → out.ended ≡ [] → out.moves ≡ [] → AreSettled (after_change c (state_of st)) out
+  settled_alone told is stands known none out links terms going ended moves = subst (λ s. AreSettled s out) (sym (parts_after c st can)) (record {
     links_are = links ∙ falls_then.links_are;
     terms_are = terms ∙ falls_then.terms_are;
     judged = record {
-      lost_are = lost ∙ sym none ∙ going_is true c st g can falls_then stands (subst (λ b. StayGranted b (state_of st) (after_change c (state_of st))) is known);
-      ended_are = ended ∙ sym (ap (ended_by (way_in t)) lost);
-      moves_are = moves ∙ sym (ap (moves_by (way_in t)) lost);
+      going_are = going ∙ sym none ∙ going_is true c st g can falls_then stands (subst (λ b. StayGranted b (state_of st) (after_change c (state_of st))) is known);
+      ended_are = ended ∙ sym (ap (ended_by (way_in t)) going);
+      moves_are = moves ∙ sym (ap (moves_by (way_in t)) going);
     };
   })
 
@@ -141,7 +141,7 @@ module _ (c : Change) (st : Stores) (g : Fallen) (can : CanSettle st c) (falls :
           → going ≡ going_after granted g.circuits (numbers k.circuits.rows) (grants_there f e routers k) (stays_there f e routers k) → j.ended ≡ ended_by (way_there f e routers k) going → j.moves ≡ moves_by (way_there f e routers k) going
           → AreJudged (after_change c (state_of st)) going j
       judged_so granted stands known f e routers k going j is going_are ended moves = subst (λ s. AreJudged s going j) (sym (parts_after c st can)) (record {
-        lost_are =
+        going_are =
             going_are ∙ (λ i. going_after granted g.circuits (numbers (is.circuits i).rows) (λ n. same_grants f e routers k is n i) (λ n. same_stays f e routers k is n i))
             ∙ going_is granted c st g can falls_then stands known;
         ended_are = ended ∙ (λ i. ended_by (λ n. same_way f e routers k is n i) going);

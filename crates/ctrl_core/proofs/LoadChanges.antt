@@ -169,11 +169,11 @@ lacks_by (change.Circuit (circuit.Add k)) st out counts v still = lacks_one k st
 lacks_by (change.Circuit (circuit.Remove n)) st out counts v still = tt
 
 -- the loads that are kept lack what is told
-pub loads_lack : (c : Change) (st out : Stores) (g : Settled) → CountsOpen st → ValidState (state_of out) → ((is_nothing g.terminators && is_nothing g.lost) ≡ true → IsUnsettled c st out)
+pub loads_lack : (c : Change) (st out : Stores) (g : Settled) → CountsOpen st → ValidState (state_of out) → ((is_nothing g.terminators && is_nothing g.going) ≡ true → IsUnsettled c st out)
     → CountsBut (loads_after c g) out
-loads_lack c st out g counts v still = by (is_nothing g.terminators && is_nothing g.lost) refl
+loads_lack c st out g counts v still = by (is_nothing g.terminators && is_nothing g.going) refl
   where
-    by : (b : Bool) → (is_nothing g.terminators && is_nothing g.lost) ≡ b → CountsBut (cond b (loads_by c) loads.Any) out
+    by : (b : Bool) → (is_nothing g.terminators && is_nothing g.going) ≡ b → CountsBut (cond b (loads_by c) loads.Any) out
     by true e = lacks_by c st out counts v (still e)
     by false e = tt
 
@@ -197,7 +197,7 @@ without_none t = λ i. record { terminators = sym (gone_none t.terminators) i; l
 -- and once what settles is taken out, which is nothing
 pub unsettled_taken : (c : Change) (st mid out : Stores) (g : Settled) → CanSettle st c → AreSettled (after_change c (state_of st)) g → Carries st mid (after_change c (state_of st))
     → mid.terminators ≡ terms_then c st → Carries mid out (without_settled g (state_of mid)) → out.terminators ≡ without_terms g.terminators mid.terminators
-    → (is_nothing g.terminators && is_nothing g.lost) ≡ true → IsUnsettled c st out
+    → (is_nothing g.terminators && is_nothing g.going) ≡ true → IsUnsettled c st out
 unsettled_taken c st mid out g can settled made made_terms taken taken_terms none = record {
   terminators = ap (λ (t : TermTables). t.terminators) terms;
   loads = ap (λ (t : TermTables). t.loads) terms;
@@ -205,17 +205,17 @@ unsettled_taken c st mid out g can settled made made_terms taken taken_terms non
       ∙ sym (gone_none (state_of mid).circuits) ∙ (unsettled_made c st mid can made made_terms).circuits;
 }
   where
-    both : (is_nothing g.terminators ≡ true) × (is_nothing g.lost ≡ true)
-    both = and_parts (is_nothing g.terminators) (is_nothing g.lost) none
+    both : (is_nothing g.terminators ≡ true) × (is_nothing g.going ≡ true)
+    both = and_parts (is_nothing g.terminators) (is_nothing g.going) none
 
     terms : out.terminators ≡ terms_then c st
     terms = taken_terms ∙ ap (λ ns. without_terms ns mid.terminators) (none_there g.terminators both.0) ∙ without_none mid.terminators ∙ made_terms
 
     ended : g.ended ≡ []
-    ended = settled.judged.ended_are ∙ ap (ended_by (way_in (after_change c (state_of st)))) (none_there g.lost both.1)
+    ended = settled.judged.ended_are ∙ ap (ended_by (way_in (after_change c (state_of st)))) (none_there g.going both.1)
 
     moves : g.moves ≡ []
-    moves = settled.judged.moves_are ∙ ap (moves_by (way_in (after_change c (state_of st)))) (none_there g.lost both.1)
+    moves = settled.judged.moves_are ∙ ap (moves_by (way_in (after_change c (state_of st)))) (none_there g.going both.1)
 
 -- ---- a change that is carried out
 

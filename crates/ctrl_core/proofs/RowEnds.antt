@@ -104,19 +104,19 @@ terms_climb c st g knows =
     (gone_climb (terminator_stays (settle_links (state_then c st))) (terms_then c st).terminators o.high o.ordered)
 
 -- and the circuits that do not stay as they are hold those that end and those that are moved
-pub circuits_climb : (c : Change) (st : Stores) (g : Settled) → KnowsSettled st c g → Climbs (λ n. n) g.lost
+pub circuits_climb : (c : Change) (st : Stores) (g : Settled) → KnowsSettled st c g → Climbs (λ n. n) g.going
 circuits_climb c st g knows =
-    subst (λ ns. Climbs (λ n. n) ns) (sym (settled_then c st g knows).judged.lost_are)
+    subst (λ ns. Climbs (λ n. n) ns) (sym (settled_then c st g knows).judged.going_are)
     (gone_climb (keeps_in (state_then c st)) (circuits_then c st).circuits (circuits_then c st).circuits.next (circuits_ordered c st knows.can))
 
-pub ended_lost : (c : Change) (st : Stores) (g : Settled) → KnowsSettled st c g → (n : ℕ) → Among n g.ended → Among n g.lost
-ended_lost c st g knows n among =
-    let judged = knows.settled.judged in ended_among (way_in (after_change c (state_of st))) g.lost n (subst (λ ns. Among n ns) judged.ended_are among)
+pub ended_going : (c : Change) (st : Stores) (g : Settled) → KnowsSettled st c g → (n : ℕ) → Among n g.ended → Among n g.going
+ended_going c st g knows n among =
+    let judged = knows.settled.judged in ended_among (way_in (after_change c (state_of st))) g.going n (subst (λ ns. Among n ns) judged.ended_are among)
 
-pub moved_lost : (c : Change) (st : Stores) (g : Settled) → KnowsSettled st c g → (n : ℕ) → Among n (moved_numbers g.moves) → Among n g.lost
-moved_lost c st g knows n among =
+pub moved_going : (c : Change) (st : Stores) (g : Settled) → KnowsSettled st c g → (n : ℕ) → Among n (moved_numbers g.moves) → Among n g.going
+moved_going c st g knows n among =
     let judged = knows.settled.judged in
-    moved_among (way_in (after_change c (state_of st))) g.lost n (subst (λ ms. Among n (moved_numbers ms)) judged.moves_are among)
+    moved_among (way_in (after_change c (state_of st))) g.going n (subst (λ ms. Among n (moved_numbers ms)) judged.moves_are among)
 
 -- ---- records that fit their rows
 

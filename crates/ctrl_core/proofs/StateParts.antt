@@ -151,7 +151,7 @@ circuits_left : (c : Change) (st : Stores) (g : Settled) → CanSettle st c → 
     → moved_table g.moves (without_numbers g.ended (circuits_then c st).circuits) ≡ (settle (state_then c st)).circuits
 circuits_left c st g can named =
     (λ i. moved_table (named.judged.moves_are i) (without_numbers (named.judged.ended_are i) (circuits_then c st).circuits))
-    ∙ ap (λ (k : CircuitTables). k.circuits) (circuits_settled (state_then c st) g.lost (circuits_ordered c st can) named.judged.lost_are)
+    ∙ ap (λ (k : CircuitTables). k.circuits) (circuits_settled (state_then c st) g.going (circuits_ordered c st can) named.judged.going_are)
 
 -- a state without what settles is settled
 pub without_is_settled : (c : Change) (st : Stores) (g : Settled) → CanSettle st c → AreSettled (after_change c (state_of st)) g

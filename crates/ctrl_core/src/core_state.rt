@@ -3,9 +3,12 @@ ghost use Rattle.ctrl_model.specs.State.{start};
 ghost use Rattle.ctrl_model.specs.CommandForm.{is_spelled};
 ghost use Rattle.ctrl_model.specs.Controller.{carry};
 ghost use Rattle.ctrl_model.specs.Grants.{count};
+ghost use Rattle.ctrl_model.specs.Networks.{circuits_full, open_circuits};
 ghost use Rattle.ctrl_model.specs.ValidState.{ValidState};
 ghost use Rattle.model_laws.specs.Plans.{CanLeadBy, led_by, tells_change};
 ghost use Rattle.grant_denorm.specs.MovedCounts.{AreCountsOf};
+ghost use Rattle.policy_store.specs.PolicyChanges.{tables_of};
+ghost use Rattle.terminators.specs.TermTables.{open_at};
 ghost use Rattle.row_codec.specs.Batches.{batch_between};
 ghost use Rattle.state_building.specs.declared.flaws.Flaw.{Flaw};
 ghost use Rattle.row_loading.specs.declared.faults.CoreFault.TheVariants.{NotAState};
@@ -21,12 +24,15 @@ use crate::loading::load;
 use crate::plans::Planned;
 use core_stores::{Change, Settled, Stores};
 use ctrl_model::{Command, Relation, Reply};
+use entity_store::Entities;
+use fabric_graph::Fabric;
 use grant_denorm::Counted;
-use policy_store::GrantSteps;
+use policy_store::{GrantSteps, Policies};
 use row_codec::Batch;
 use row_loading::{CoreFault, read_rows};
 use std::alloc::{AllocError, Global};
 use std::marker::Model;
+use terminators::Terminators;
 
 /// The state of a controller, kept in stores, with the grant count of every pair. Contracts see the state, and whether the core
 /// is live: after want of memory in `apply` it is given up.
@@ -94,6 +100,50 @@ impl Core {
         ensures { AreCountsOf (count relation self.now.state) result.now }
     {
         self.stores.grants.counted(relation)
+    }
+
+    /// The identities, services and routers of the core's state.
+    pub fn entities(&self) -> &Entities
+        requires { self.now.live ≡ true }
+        ensures identities { result.now.identities ≡ self.now.state.identities }
+        ensures services { result.now.services ≡ self.now.state.services }
+        ensures routers { result.now.routers ≡ self.now.state.routers }
+    {
+        &self.stores.entities
+    }
+
+    /// The policies of the core's state.
+    pub fn policies(&self) -> &Policies
+        requires { self.now.live ≡ true }
+        ensures { result.now ≡ tables_of self.now.state }
+    {
+        &self.stores.policies
+    }
+
+    /// The links of the core's state, and its least cost of entering a router.
+    pub fn fabric(&self) -> &Fabric
+        requires { self.now.live ≡ true }
+        ensures links { result.now.links ≡ self.now.state.links }
+        ensures least { result.now.least ≡ self.now.state.least_router_cost }
+    {
+        &self.stores.fabric
+    }
+
+    /// The terminators of the core's state, each with the number of circuits that are open at it.
+    pub fn terminators(&self) -> &Terminators
+        requires { self.now.live ≡ true }
+        ensures terminators { result.now.terminators ≡ self.now.state.terminators }
+        ensures loads { (n : ℕ) → open_at result.now n ≡ open_circuits self.now.state n }
+    {
+        &self.stores.terminators
+    }
+
+    /// Whether no circuit can be added in the core's state.
+    pub fn circuits_full(&self) -> bool
+        requires { self.now.live ≡ true }
+        ensures { result ≡ circuits_full self.now.state }
+    {
+        self.stores.circuits.is_full()
     }
 
     /// Plans the answer to a command that some body spells, as the controller gives it to who may send it. A plan of a refusal, or of a reply that shows something, has no change and moves no count. Its batch is exactly

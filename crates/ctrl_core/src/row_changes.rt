@@ -131,7 +131,7 @@ fn circuit_rows(
         alloc,
         &stores.circuits,
         change.of_circuits(),
-        &settled.lost,
+        &settled.going,
         &settled.ended,
         &settled.moves,
     )

@@ -137,14 +137,14 @@ fn judged_beside(
 fn without_circuits(alloc: Global, fallen: Fallen) -> Settled
     ensures links { result.links ≡ fallen.links }
     ensures terminators { result.terminators ≡ fallen.terminators }
-    ensures lost { result.lost ≡ [] }
+    ensures going { result.going ≡ [] }
     ensures ended { result.ended ≡ [] }
     ensures moves { result.moves ≡ [] }
 {
     Settled {
         links: fallen.links,
         terminators: fallen.terminators,
-        lost: Numbers::of(Vec::new(alloc)),
+        going: Numbers::of(Vec::new(alloc)),
         ended: Numbers::of(Vec::new(alloc)),
         moves: Moves::of(Vec::new(alloc)),
     }
@@ -169,13 +169,13 @@ fn with_circuits(
 {
     let remaining = what_remains(alloc, stores, change)?;
     let grants = grants_after(alloc, &stores.grants, steps)?;
-    let (lost, judged) = judged_beside(
+    let (going, judged) = judged_beside(
         alloc, stores, change, &fallen, &remaining, &grants, granted,
     )?;
     Ok(Settled {
         links: fallen.links,
         terminators: fallen.terminators,
-        lost,
+        going,
         ended: judged.ended,
         moves: judged.moves,
     })

@@ -1,6 +1,6 @@
 -- A folder that was not opened: why it stays closed, and what telling that leaves.
 use Rattle.std.specs.Prelude.{⊤, Bool, IsTrue}
-use Rattle.std.proofs.Common.{◌≡◌, ℕ, ◌<◌, ◌⊎◌, inl, inr, [], length, Err, refl, sym, ◌∙◌, subst}
+use Rattle.std.proofs.Common.{◌≡◌, ℕ, ◌<◌, [], length, Err, refl, sym, ◌∙◌, subst}
 use Rattle.ziti_outside.specs.Images.{Image, After}
 use Rattle.ziti_outside.specs.Moments.{Leaves}
 use Rattle.ziti_outside.specs.Told.{AreTaken}
@@ -17,8 +17,8 @@ use Rattle.ctrl_keep.specs.Faults.{disk_failure, OpenFails}
 use Rattle.row_store.specs.OpenedStates.{IsStateless}
 use Rattle.run_notes.specs.declared.status.Status.{Status}
 use Rattle.run_notes.specs.declared.status.Status.TheVariants.{ReadFault, WriteFault, DiskFault, Damaged, NoMemory}
-use Rattle.run_notes.specs.NotedLines.{FindsNoMore, NotesLines, TellsDamage, RisesOnce}
-use Rattle.run_notes.specs.Notes.{status_lines}
+use Rattle.run_notes.specs.NotedLines.{FindsNoMore, NotesLines}
+use Rattle.run_notes.specs.Notes.{damaged_note, status_lines}
 use Rattle.run_notes.proofs.NoteLaws.{notes_from}
 use Rattle.ctrl_serve.specs.FolderRuns.{TellsClosed}
 use Rattle.ctrl_serve.specs.Headline.{StaysClosed, IsUnopened}
@@ -31,12 +31,7 @@ use Rattle.ctrl_serve.proofs.OpenedMachines.{stateless_marked}
 -- What was told of it since a desk that had noted the same.
 closed_from : (fault : KeepFault) (status : Status) (a b n : Seen) → b.noted ≡ a.noted → b.note_faults ≡ a.note_faults → TellsClosed fault status b n → TellsClosed fault status a n
 closed_from keep.Disk status a b n q r told = (told.0, notes_from _ a b n q r told.1)
-closed_from (keep.Damaged part at) status a b n q r told = record {
-  same = told.same;
-  damaged = λ e. notes_from _ a b n q r (told.damaged e);
-  memory = λ e. notes_from _ a b n q r (told.memory e);
-  counted = subst (λ (k : ℕ). RisesOnce k n.note_faults) r told.counted;
-}
+closed_from (keep.Damaged part at) status a b n q r told = (told.0, notes_from _ a b n q r told.1)
 closed_from keep.Spent status a b n q r told = absurd told
 closed_from keep.NoMemory status a b n q r told = (told.0, notes_from _ a b n q r told.1)
 
@@ -48,21 +43,16 @@ closed_by_memory : (tells : Bool) (before now : Seen) (status : Status) → stat
 closed_by_memory tells before now status is noted = subst (λ (u : Status). StaysClosed tells before now u) (sym is) noted
 
 -- A damaged folder, which reads as before.
-closed_at : (tells : Bool) (before now : Seen) (part : Part) (at : ℕ) (status : Status) → (status ≡ Damaged) ⊎ (status ≡ NoMemory)
-    → (IsTrue tells → IsStateless before.reads part at) → (IsTrue tells → now.reads ≡ before.reads) → TellsDamage part at status before now → StaysClosed tells before now status
-closed_at tells before now part at status (inl is) none still told = subst (λ (u : Status). StaysClosed tells before now u) (sym is) (part, at, none, still, told.damaged is)
-closed_at tells before now part at status (inr is) none still told = subst (λ (u : Status). StaysClosed tells before now u) (sym is) (told.memory is)
-
-closed_by_damage : (tells : Bool) (before now : Seen) (part : Part) (at : ℕ) (status : Status)
-    → (IsTrue tells → IsStateless before.reads part at) → (IsTrue tells → now.reads ≡ before.reads) → TellsDamage part at status before now → StaysClosed tells before now status
-closed_by_damage tells before now part at status none still told = closed_at tells before now part at status told.same none still told
+closed_by_damage : (tells : Bool) (before now : Seen) (part : Part) (at : ℕ) (status : Status) → status ≡ Damaged
+    → (IsTrue tells → IsStateless before.reads part at) → (IsTrue tells → now.reads ≡ before.reads) → NotesLines (damaged_note part at) before now → StaysClosed tells before now status
+closed_by_damage tells before now part at status is none still noted = subst (λ (u : Status). StaysClosed tells before now u) (sym is) (part, at, none, still, noted)
 
 -- Why it was not opened, by the fault that was told.
 pub closed_by : (tells : Bool) (before now : Seen) (fault : KeepFault) (status : Status) → OpenFails tells before.reads fault
     → (IsTrue tells → 0 < length (before.reads Mark) → now.reads ≡ before.reads) → TellsClosed fault status before now → StaysClosed tells before now status
 closed_by tells before now keep.Disk status fails kept told = closed_by_disk tells before now status told.0 told.1
 closed_by tells before now (keep.Damaged part at) status fails kept told =
-    closed_by_damage tells before now part at status fails (λ yes. kept yes (stateless_marked before.reads part at (fails yes))) told
+    closed_by_damage tells before now part at status told.0 fails (λ yes. kept yes (stateless_marked before.reads part at (fails yes))) told.1
 closed_by tells before now keep.Spent status fails kept told = absurd fails
 closed_by tells before now keep.NoMemory status fails kept told = closed_by_memory tells before now status told.0 told.1
 
@@ -72,15 +62,10 @@ never_spent tells image fault fails is = subst (OpenFails tells image) is fails
 
 -- ---- what telling it leaves
 
--- Neither status is another fault.
-damage_statuses : (status : Status) → (status ≡ Damaged) ⊎ (status ≡ NoMemory) → (status ≡ ReadFault → ⊥) × (status ≡ WriteFault → ⊥) × (status ≡ DiskFault → ⊥)
-damage_statuses status (inl is) = (λ e. cc, λ e. cc, λ e. cc)
-damage_statuses status (inr is) = (λ e. cc, λ e. cc, λ e. cc)
-
 -- No take and no say failed where it was not opened.
 pub closed_calm : (fault : KeepFault) (status : Status) (c d : Seen) → TellsClosed fault status c d → (status ≡ ReadFault → ⊥) × (status ≡ WriteFault → ⊥)
 closed_calm keep.Disk status c d told = let is = told.0 in (λ e. cc, λ e. cc)
-closed_calm (keep.Damaged part at) status c d told = let is = damage_statuses status told.same in (is.0, is.1)
+closed_calm (keep.Damaged part at) status c d told = let is = told.0 in (λ e. cc, λ e. cc)
 closed_calm keep.Spent status c d told = absurd told
 closed_calm keep.NoMemory status c d told = let is = told.0 in (λ e. cc, λ e. cc)
 
@@ -89,7 +74,7 @@ pub closed_disk : (T : Type 0) (before mid now : ℕ) (fault : KeepFault) (statu
     → TellsClosed fault status c d → IsDiskCaused before now status
 closed_disk T before mid now keep.Disk status c d cause still told =
     subst (λ (u : Status). IsDiskCaused before now u) (sym told.0) (disk_fault before mid now keep.Disk (disk_failure {T = T} (Err keep.Disk)) refl cause still)
-closed_disk T before mid now (keep.Damaged part at) status c d cause still told = disk_calm before now status (still ∙ cause.calm) (damage_statuses status told.same).2
+closed_disk T before mid now (keep.Damaged part at) status c d cause still told = disk_calm before now status (still ∙ cause.calm) (λ e. let is = told.0 in cc)
 closed_disk T before mid now keep.Spent status c d cause still told = absurd told
 closed_disk T before mid now keep.NoMemory status c d cause still told = disk_calm before now status (still ∙ cause.calm) (λ e. let is = told.0 in cc)
 

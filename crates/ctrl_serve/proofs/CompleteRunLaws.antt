@@ -1,10 +1,11 @@
 -- What the runs on a folder that opens to a state come to where no call failed but a note.
 use Rattle.std.specs.Prelude.{IsTrue}
-use Rattle.std.proofs.Common.{◌≡◌, ◌⊎◌, inl, inr, ℕ, List, Bool, Some, refl, subst}
+use Rattle.std.proofs.Common.{◌≡◌, ◌⊎◌, inl, inr, ℕ, List, [], ◌∷◌, codes, Bool, Some, refl, subst}
 use Rattle.std.specs.declared.option.Option.{Option}
 use Rattle.ziti_outside.specs.Images.{Image}
 use Rattle.ziti_outside.specs.Views.{Outside, Seen, Stopped}
 use Rattle.ctrl_model.specs.State.{State}
+use Rattle.policy_advisor.specs.Reports.{report_of}
 use Rattle.row_store.specs.declared.bounds.StoreBounds.{StoreBounds}
 use Rattle.ctrl_keep.specs.KeptMachine.{Machine}
 use Rattle.row_store.specs.OpenedStates.{OpensToState}
@@ -13,9 +14,9 @@ use Rattle.session_mux.specs.declared.sessions.Form.{Form}
 use Rattle.run_notes.specs.declared.status.Status.{Status}
 use Rattle.run_notes.specs.declared.status.Status.TheVariants.{Done, Usage, BadInput, Truncated, ReadFault, WriteFault, DiskFault, Damaged, NoMemory, InputTooLong, FolderFull}
 use Rattle.ctrl_serve.specs.declared.bounds.Bounds.{Bounds}
-use Rattle.ctrl_serve.specs.declared.command_line.Form.TheVariants.{Replay, Audit, Compact}
+use Rattle.ctrl_serve.specs.declared.command_line.Form.TheVariants.{Replay, Audit, Compact, Advise}
 use Rattle.ctrl_serve.specs.Loads.{counts_line, IsSaid}
-use Rattle.ctrl_serve.specs.FolderWords.{Audits, Compacts, EndsCompaction}
+use Rattle.ctrl_serve.specs.FolderWords.{Compacts, EndsCompaction, Looks}
 use Rattle.ctrl_serve.specs.Headline.{folder_bounds, taking_of, Taking, StaysClosed, IsUnopened, IsComplete, Refuses, Replays, Runs}
 use Rattle.ctrl_serve.specs.OpenedFolders.{OpensTo}
 use Rattle.ctrl_serve.specs.CompleteRuns.{IsCalm, CompletesFrom, ComesOut, ComesOutFrom}
@@ -56,31 +57,39 @@ replayed o bounds most form source source_now desk desk_now status s (inr on) to
     from_machine s (taking_of form most) bounds on.machine (o.left source) (o.left source_now) (o.seen desk) (o.seen desk_now) status (on.opens told) (one_machine_state (o.seen desk).reads s on.machine opens (on.opens told))
     (serves_completely status on.serves read write disk)
 
-pub replay_is_complete : {S D : Type 0} (o : Outside S D) (bounds : Bounds) (form : Form) (source source_now : S) (desk desk_now : D) (status : Status) (s : State)
-    → Runs o bounds (Some (Replay form)) source source_now desk desk_now status
+pub replay_is_complete : {S D : Type 0} (o : Outside S D) (bounds : Bounds) (words : List (List ℕ)) (form : Form) (source source_now : S) (desk desk_now : D) (status : Status) (s : State)
+    → Runs o bounds words (Some (Replay form)) source source_now desk desk_now status
     → IsTrue o.tells → OpensToState (o.seen desk).reads s → IsCalm (o.faults source) (o.faults source_now) → IsCalm (o.seen desk).say_faults (o.seen desk_now).say_faults
     → IsCalm (o.seen desk).disk_faults (o.seen desk_now).disk_faults
     → (status ≡ NoMemory) ⊎ CompletesFrom s (taking_of form bounds.input) (folder_bounds bounds) (o.left source) (o.left source_now) (o.seen desk) (o.seen desk_now) status
-replay_is_complete o bounds form source source_now desk desk_now status s runs told opens takes says disk =
+replay_is_complete o bounds words form source source_now desk desk_now status s runs told opens takes says disk =
     replayed o (folder_bounds bounds) bounds.input form source source_now desk desk_now status s (runs.replay form refl) told opens
     (λ r. takes (runs.read_fault r)) (λ w. says (runs.write_fault w)) (λ d. disk (runs.disk_fault d))
 
--- ---- audit
+-- ---- audit and advise
 
-audited : {D : Type 0} {seen : D → Seen} {stopped : D → Stopped}
-    (tells : Bool) (desk desk_now : D) (status : Status) (s : State) → IsUnopened tells seen stopped desk desk_now status
-    ⊎ Audits tells (seen desk) (seen desk_now) status
-    → IsTrue tells → OpensToState (seen desk).reads s → (status ≡ WriteFault → ⊥) → (status ≡ DiskFault → ⊥) → IsSaid (counts_line s) (seen desk).said (seen desk_now).said status
-audited {seen = seen} tells desk desk_now status s (inl closed) told opens write disk = inl (starved tells (seen desk) (seen desk_now) status s closed.why told opens disk)
-audited {seen = seen} tells desk desk_now status s (inr on) told opens write disk =
-    subst (λ (t : State). IsSaid (counts_line t) (seen desk).said (seen desk_now).said status) (one_state (seen desk).reads on.state s (on.opens told) opens) (line_said status _ _ _ on.says write)
+looked : {D : Type 0} {seen : D → Seen} {stopped : D → Stopped}
+    (line : State → List ℕ) (tells : Bool) (desk desk_now : D) (status : Status) (s : State) → IsUnopened tells seen stopped desk desk_now status
+    ⊎ Looks line tells (seen desk) (seen desk_now) status
+    → IsTrue tells → OpensToState (seen desk).reads s → (status ≡ WriteFault → ⊥) → (status ≡ DiskFault → ⊥) → IsSaid (line s) (seen desk).said (seen desk_now).said status
+looked {seen = seen} line tells desk desk_now status s (inl closed) told opens write disk = inl (starved tells (seen desk) (seen desk_now) status s closed.why told opens disk)
+looked {seen = seen} line tells desk desk_now status s (inr on) told opens write disk =
+    subst (λ (t : State). IsSaid (line t) (seen desk).said (seen desk_now).said status) (one_state (seen desk).reads on.state s (on.opens told) opens) (line_said status _ _ _ on.says write)
 
-pub audit_is_complete : {S D : Type 0} (o : Outside S D) (bounds : Bounds) (source source_now : S) (desk desk_now : D) (status : Status) (s : State)
-    → Runs o bounds (Some Audit) source source_now desk desk_now status
+pub audit_is_complete : {S D : Type 0} (o : Outside S D) (bounds : Bounds) (words : List (List ℕ)) (source source_now : S) (desk desk_now : D) (status : Status) (s : State)
+    → Runs o bounds words (Some Audit) source source_now desk desk_now status
     → IsTrue o.tells → OpensToState (o.seen desk).reads s → IsCalm (o.seen desk).say_faults (o.seen desk_now).say_faults → IsCalm (o.seen desk).disk_faults (o.seen desk_now).disk_faults
     → IsSaid (counts_line s) (o.seen desk).said (o.seen desk_now).said status
-audit_is_complete o bounds source source_now desk desk_now status s runs told opens says disk =
-    audited {seen = o.seen} {stopped = o.stopped} o.tells desk desk_now status s (runs.audit refl) told opens
+audit_is_complete o bounds words source source_now desk desk_now status s runs told opens says disk =
+    looked {seen = o.seen} {stopped = o.stopped} counts_line o.tells desk desk_now status s (runs.audit refl) told opens
+    (λ w. says (runs.write_fault w)) (λ d. disk (runs.disk_fault d))
+
+pub advise_is_complete : {S D : Type 0} (o : Outside S D) (bounds : Bounds) (identity service : List ℕ) (source source_now : S) (desk desk_now : D) (status : Status) (s : State)
+    → Runs o bounds (codes "advise" ∷ identity ∷ service ∷ []) (Some Advise) source source_now desk desk_now status
+    → IsTrue o.tells → OpensToState (o.seen desk).reads s → IsCalm (o.seen desk).say_faults (o.seen desk_now).say_faults → IsCalm (o.seen desk).disk_faults (o.seen desk_now).disk_faults
+    → IsSaid (report_of s identity service) (o.seen desk).said (o.seen desk_now).said status
+advise_is_complete o bounds identity service source source_now desk desk_now status s runs told opens says disk =
+    looked {seen = o.seen} {stopped = o.stopped} (λ t. report_of t identity service) o.tells desk desk_now status s (runs.advise identity service refl refl) told opens
     (λ w. says (runs.write_fault w)) (λ d. disk (runs.disk_fault d))
 
 -- ---- compact
@@ -113,8 +122,8 @@ compacts_from {seen = seen} tells bounds desk desk_now status s (inl closed) tol
 compacts_from {seen = seen} tells bounds desk desk_now status s (inr on) told opens disk =
     out_from s (seen desk).reads bounds on.machine status (on.opens told) (one_machine_state (seen desk).reads s on.machine opens (on.opens told)) (comes_out status bounds on.machine tells _ _ on.ends disk)
 
-pub compact_is_complete : {S D : Type 0} (o : Outside S D) (bounds : Bounds) (source source_now : S) (desk desk_now : D) (status : Status) (s : State)
-    → Runs o bounds (Some Compact) source source_now desk desk_now status
+pub compact_is_complete : {S D : Type 0} (o : Outside S D) (bounds : Bounds) (words : List (List ℕ)) (source source_now : S) (desk desk_now : D) (status : Status) (s : State)
+    → Runs o bounds words (Some Compact) source source_now desk desk_now status
     → IsTrue o.tells → OpensToState (o.seen desk).reads s → IsCalm (o.seen desk).disk_faults (o.seen desk_now).disk_faults → (status ≡ NoMemory) ⊎ ComesOutFrom s (o.seen desk).reads (folder_bounds bounds) status
-compact_is_complete o bounds source source_now desk desk_now status s runs told opens disk =
+compact_is_complete o bounds words source source_now desk desk_now status s runs told opens disk =
     compacts_from {seen = o.seen} {stopped = o.stopped} o.tells (folder_bounds bounds) desk desk_now status s (runs.compact refl) told opens (λ d. disk (runs.disk_fault d))

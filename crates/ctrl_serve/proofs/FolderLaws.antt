@@ -39,9 +39,9 @@ use Rattle.run_notes.specs.declared.status.Status.TheVariants as ending
 use Rattle.run_notes.specs.NotedLines.{FindsNoMore}
 use Rattle.run_notes.proofs.NoteLaws.{notes_from}
 use Rattle.ctrl_serve.specs.FolderRuns.{TellsClosed, TellsCompaction, TellsRoom, full_in}
-use Rattle.ctrl_serve.specs.FolderWords.{Audits, Compacts, EndsCompaction, IsCompacted, compaction, refusal_of}
+use Rattle.ctrl_serve.specs.FolderWords.{Looks, Compacts, EndsCompaction, IsCompacted, compaction, refusal_of}
 use Rattle.ctrl_serve.specs.Headline.{IsLeftAlone, IsUnopened}
-use Rattle.ctrl_serve.specs.Loads.{counts_line, SaysOneLine}
+use Rattle.ctrl_serve.specs.Loads.{SaysOneLine}
 use Rattle.ctrl_serve.specs.OpenedFolders.{Keeps}
 use Rattle.ctrl_serve.specs.RunStops.{AllOpenTo}
 use Rattle.ctrl_serve.specs.Runs.{IsDiskCaused}
@@ -91,11 +91,11 @@ looked_alone {stopped = stopped} {desk = desk} looks = record {
   stops = Elapses-weaker (λ image taken. (stopped desk).images image) looks.stops.time (λ i w p. p.found);
 }
 
--- The counts line was said of the state to which it opens.
+-- The line was said of the state to which it opens.
 pub audited : {D : Type 0} {seen : D → Seen}
-    (tells : Bool) (s : State) (desk mid now : D) (status : Status) → OnlyDisk seen desk mid → ValidState s → (IsTrue tells → OpensToState (seen desk).reads s)
-    → SaysOneLine (counts_line s) (seen mid) (seen now) status → Audits tells (seen desk) (seen now) status
-audited {seen = seen} tells s desk mid now status calls valid opens says = record {
+    (line : State → List ℕ) (tells : Bool) (s : State) (desk mid now : D) (status : Status) → OnlyDisk seen desk mid → ValidState s → (IsTrue tells → OpensToState (seen desk).reads s)
+    → SaysOneLine (line s) (seen mid) (seen now) status → Looks line tells (seen desk) (seen now) status
+audited {seen = seen} line tells s desk mid now status calls valid opens says = record {
   state = s;
   valid = valid;
   opens = opens;

@@ -1,7 +1,7 @@
 -- How what was taken, answered and noted makes up a run over an input.
 use Rattle.std.specs.Prelude.{⊤, false, true, Bool}
-use Rattle.std.proofs.Common.{◌≡◌, ℕ, ◌<◌, ◌⊎◌, inl, inr, List, [], ◌++◌, length, take, Err, refl, sym, ap, ◌∙◌, subst, append-nil, arith}
-use Rattle.std.proofs.lemmas.Bool.{lt-ltb, le-ltb, false≢true}
+use Rattle.std.proofs.Common.{◌≡◌, ℕ, ◌<◌, ◌⊎◌, inl, inr, List, [], ◌++◌, length, take, None, Err, refl, sym, ap, ◌∙◌, subst, append-nil, arith}
+use Rattle.std.proofs.lemmas.Bool.{lt-ltb, le-ltb, false≢true, true≢false}
 use Rattle.std.proofs.Math.Dec.{ltb}
 use Rattle.std.specs.declared.option.Option.{Option}
 use Rattle.std.specs.declared.result.Result.{Result}
@@ -16,10 +16,11 @@ use Rattle.run_notes.specs.declared.ends.End.TheVariants.{Whole, More, Fault}
 use Rattle.run_notes.specs.declared.ends.Cut.{Cut}
 use Rattle.run_notes.specs.declared.ends.Cut.TheVariants as cut
 use Rattle.run_notes.specs.declared.status.Status.{Status}
-use Rattle.run_notes.specs.declared.status.Status.TheVariants.{ReadFault, WriteFault, DiskFault, NoMemory}
+use Rattle.run_notes.specs.declared.status.Status.TheVariants.{Truncated, ReadFault, WriteFault, DiskFault, NoMemory}
 use Rattle.session_mux.specs.declared.events.Event.{Event}
 use Rattle.session_mux.specs.declared.sessions.Form.{Form}
-use Rattle.run_notes.specs.Endings.{ending_at, is_cut, is_kept, status_of_cut, status_at}
+use Rattle.session_mux.specs.Completion.{Standing, begins_bad, end_of}
+use Rattle.run_notes.specs.Endings.{ComesToEnd, ending_at, is_cut, is_kept, IsAllGiven, status_of_cut, status_at}
 use Rattle.ctrl_serve.specs.SaidReplies.{Says, SaysAll, joined}
 use Rattle.run_notes.specs.NotedLines.{NotesLines, RisesOnce}
 use Rattle.ctrl_serve.specs.Answering.{Telling}
@@ -73,11 +74,21 @@ no_read_fault false rest true e = cc
 no_read_fault false true false e = cc
 no_read_fault false false false e = cc
 
--- It is a read fault, and cuts the run short, only where the source failed.
+-- It is a read fault exactly where the source failed.
 pub read_caused : (bad rest : Bool) (end : End) (status : Status) (before now : ℕ) → status ≡ status_at bad rest end → HasFault end before now → IsReadCaused before now status
-read_caused bad rest Whole status before now is calm = record { calm = λ e. calm; rose = λ r. absurd (no_read_fault bad rest false (sym r ∙ is)) }
-read_caused bad rest More status before now is calm = record { calm = λ e. calm; rose = λ r. absurd (no_read_fault bad rest true (sym r ∙ is)) }
-read_caused bad rest Fault status before now is faulty = record { calm = λ e. absurd (let cuts : true ≡ false = sym (ap is_cut is) ∙ e in cc); rose = λ r. faulty }
+read_caused bad rest Whole status before now is calm = record { calm = λ _. calm; rose = λ r. absurd (no_read_fault bad rest false (sym r ∙ is)) }
+read_caused bad rest More status before now is calm = record { calm = λ _. calm; rose = λ r. absurd (no_read_fault bad rest true (sym r ∙ is)) }
+read_caused bad rest Fault status before now is faulty = record { calm = λ other. absurd (other is); rose = λ r. faulty }
+
+-- Where memory was wanting to tell how a run ended the source had not failed: a read fault is told without memory.
+pub starved_faultless : (end : End) (bad : Option ℕ) (st : Standing) (faulty rest : Bool) (before now : ℕ) → ComesToEnd st bad → (end ≡ Fault → bad ≡ None)
+    → (begins_bad (end_of st) ≡ true) ⊎ (status_at faulty rest end ≡ Truncated) → HasFault end before now → now ≡ before
+starved_faultless Whole bad st faulty rest before now comes last why calm = calm
+starved_faultless More bad st faulty rest before now comes last why calm = calm
+starved_faultless Fault bad st faulty rest before now comes last (inl found) faulted =
+    let given : IsAllGiven st = subst (ComesToEnd st) (last refl) comes in
+    absurd (true≢false (sym found ∙ given.good))
+starved_faultless Fault bad st faulty rest before now comes last (inr truncated) faulted = absurd cc
 
 -- ---- what answering the used bytes said and noted
 
@@ -220,8 +231,8 @@ input_counted {i} {o} {m} {now} status told calm =
     (noted_since o.told now (notes_of i.form (events_in i.form first) first status) calm told.all.noted_is).1
 
 -- What was noted where it was cut short, and that was told.
-pub some_noted : (by : Cut) {form : Form} {bounds : StoreBounds} {m : Machine} {used : List ℕ} {old mid : Telling} (now : Telling)
-    → (told : AnswersSome by form bounds m used old mid) → old.failed ≡ false → NotesMore mid.failed now.failed (status_lines [] (status_of_cut by)) mid.desk now.desk
+pub some_noted : (by : Cut) {form : Form} {bounds : StoreBounds} {m : Machine} {used : List ℕ} {old : Telling} {machine : Machine} {mid : Telling} (now : Telling)
+    → (told : AnswersSome by form bounds m used old machine mid) → old.failed ≡ false → NotesMore mid.failed now.failed (status_lines [] (status_of_cut by)) mid.desk now.desk
     → NotesLines (fault_lines told.answered ++ status_lines [] (status_of_cut by)) old.desk now.desk × RisesOnce old.desk.note_faults now.desk.note_faults
 some_noted by {old = old} {mid = mid} now told calm more =
     let lines : List ℕ = status_lines [] (status_of_cut by) in
@@ -229,10 +240,10 @@ some_noted by {old = old} {mid = mid} now told calm more =
     (more_then old.failed mid.failed now.failed (fault_lines told.answered) lines old.desk mid.desk now.desk told.noted_is more)
 
 -- So does one that was cut short.
-abbrev pub cut_serves : (by : Cut) {i : Intake} {o : Passage} {mid : Telling} (now : Telling) → CutsInput by i o mid → o.told.failed ≡ false → now.desk.said ≡ mid.desk.said
+abbrev pub cut_serves : (by : Cut) {i : Intake} {o : Passage} {machine : Machine} {mid : Telling} (now : Telling) → CutsInput by i o machine mid → o.told.failed ≡ false → now.desk.said ≡ mid.desk.said
     → NotesMore mid.failed now.failed (status_lines [] (status_of_cut by)) mid.desk now.desk
     → Serves (taking_of i.form i.most) i.from.bounds i.from.machine o.left o.left_now o.told.desk now.desk (status_of_cut by)
-cut_serves by {i} {o} {mid} now told calm still more =
+cut_serves by {i} {o} {machine} {mid} now told calm still more =
     let first : List ℕ = take i.most told.takes.taken in
     record {
       taken = told.takes.taken;
@@ -251,7 +262,7 @@ cut_serves by {i} {o} {mid} now told calm still more =
       notes = subst (λ (lines : List ℕ). NotesLines lines o.told.desk now.desk) (cut_notes by i.form told.some.answered first) (some_noted by now told.some calm more).0;
     }
 
-pub cut_counted : (by : Cut) {i : Intake} {o : Passage} {mid : Telling} (now : Telling) → CutsInput by i o mid → o.told.failed ≡ false → NotesMore mid.failed now.failed (status_lines [] (status_of_cut by)) mid.desk now.desk
+pub cut_counted : (by : Cut) {i : Intake} {o : Passage} {machine : Machine} {mid : Telling} (now : Telling) → CutsInput by i o machine mid → o.told.failed ≡ false → NotesMore mid.failed now.failed (status_lines [] (status_of_cut by)) mid.desk now.desk
     → RisesOnce o.told.desk.note_faults now.desk.note_faults
 cut_counted by now told calm more = (some_noted by now told.some calm more).1
 

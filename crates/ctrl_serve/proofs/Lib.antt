@@ -3,6 +3,7 @@ pub mod RouteFits
 pub mod CarriedFits
 pub mod ControllerLaws
 pub mod RoomRuns
+pub mod AdviseWords
 pub mod KnownLaws
 pub mod FollowedRuns
 pub mod TurnLaws
@@ -26,6 +27,7 @@ pub mod ReplayLaws
 pub mod FolderLaws
 pub mod AcknowledgedLaws
 pub mod CompleteRunLaws
+pub mod LeftFolderLaws
 pub mod DecidedInputs
 pub mod NearLaws
 pub mod LineLaws

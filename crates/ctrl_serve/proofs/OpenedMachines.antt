@@ -104,11 +104,20 @@ opens_by zero image reads images k is opens holds held made =
 opens_by (suc turn) image reads images k is opens holds held same =
     subst (λ (i : Image). Keeps i (machine_of k)) same (kept_keeps k reads images holds held)
 
+-- And to that one it opens.
+pub opens_empty : (image : Image) → image Mark ≡ [] → OpensToState image start
+opens_empty image empty =
+    record { valid = start_valid; rows = record { batches = []; stands = subst (λ (m : List ℕ). StandsBy (length m) image []) (sym empty) refl; give = start_rows } }
+
+-- A folder opens to the state of the machine that it keeps.
+pub opens_kept : (image : Image) (m : Machine) → Keeps image m → OpensToState image m.state
+opens_kept image m keeps = record { valid = keeps.valid; rows = record { batches = keeps.batches; stands = keeps.stands; give = keeps.give } }
+
 -- The machine to which a folder opens has the state to which it opens.
 machine_state_by : (mark : ℕ) (image : Image) (s : State) (m : Machine) → length (image Mark) ≡ mark → OpensToState image s → OpensBy mark image m → m.state ≡ s
 machine_state_by zero image s m is opens same = ap (λ (x : Machine). x.state) same ∙ sym (opens_to_start image s is opens)
 machine_state_by (suc turn) image s m is opens keeps =
-    one_state image m.state s (record { valid = keeps.valid; rows = record { batches = keeps.batches; stands = keeps.stands; give = keeps.give } }) opens
+    one_state image m.state s (opens_kept image m keeps) opens
 
 pub one_machine_state : (image : Image) (s : State) (m : Machine) → OpensToState image s → OpensTo image m → m.state ≡ s
 one_machine_state image s m opens to = machine_state_by (length (image Mark)) image s m refl opens to

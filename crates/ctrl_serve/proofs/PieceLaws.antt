@@ -46,7 +46,7 @@ use Rattle.ctrl_serve.specs.Answering.{begun, NotesNothing, Progress, Telling}
 use Rattle.ctrl_serve.specs.FrameAnswer.{replies_to}
 use Rattle.ctrl_serve.proofs.KnownLaws.{machine_then, replies_then}
 use Rattle.ctrl_serve.proofs.TurnLaws.{goes_nowhere, none_left}
-use Rattle.ctrl_serve.proofs.UsedLaws.{at_start, all_so, end_so, says_whole, split_so, used_answered, used_cut, used_last, used_none, used_starved}
+use Rattle.ctrl_serve.proofs.UsedLaws.{at_start, all_so, end_so, says_whole, split_so, starved_said, used_answered, used_cut, used_last, used_none, used_starved}
 use Rattle.ctrl_serve.proofs.RunStopLaws.{no_more_behind}
 
 -- ---- more input comes
@@ -116,7 +116,7 @@ answers_then {form} {bounds} {here} {p} {q} {r} within first later =
     }
 
 -- Where the later ones were cut short.
-abbrev pub cut_behind : {cut : Cut} {form : Form} {bounds : StoreBounds} {p q : Progress} {now : Telling} → Answers form bounds p q → IsCutShort cut form bounds q now → IsCutShort cut form bounds p now
+abbrev pub cut_behind : {cut : Cut} {form : Form} {bounds : StoreBounds} {p q : Progress} {m : Machine} {now : Telling} → Answers form bounds p q → IsCutShort cut form bounds q m now → IsCutShort cut form bounds p m now
 cut_behind first cuts = record { mid = cuts.mid; first = answers_then refl first cuts.first; cuts = cuts.cuts; unnoted = cuts.unnoted }
 
 -- ---- what a stop finds
@@ -305,11 +305,11 @@ pieces_start i left stopped p known machine start = record {
 }
 
 -- Nothing was answered, and memory was wanting.
-pub pieces_none : (i : Intake) (left : Option (List ℕ)) (stopped : Stopped) (told : Telling)
-    → CutsInput NoMemory i (record { left = left; left_now = left; told = told; stopped = stopped; stopped_now = stopped }) told
-pieces_none i left stopped told = record {
+pub pieces_none : (i : Intake) (left : Option (List ℕ)) (stopped : Stopped) (machine : Machine) (told : Telling)
+    → CutsInput NoMemory i (record { left = left; left_now = left; told = told; stopped = stopped; stopped_now = stopped }) machine told
+pieces_none i left stopped machine told = record {
   takes = takes_nothing i left told stopped;
-  some = used_none i.form i.from.bounds i.from.machine (take i.most []) told;
+  some = used_none i.form i.from.bounds i.from.machine (take i.most []) told machine;
   near = near_none i.form i.most;
 }
 
@@ -384,8 +384,8 @@ pieces_fed {i} {o} {p} {count} {left} {st} piece {part} held none le gave few is
     }
 
 -- No memory was left to hold it.
-pub fed_starved : {i : Intake} {o : Passage} {p : Progress} {size : ℕ} → FedPieces i o p size → CutsInput NoMemory i o p.told
-fed_starved {i} {o} {p} {size} fed =
+pub fed_starved : {i : Intake} {o : Passage} {p : Progress} {size : ℕ} (machine : Machine) → FedPieces i o p size → CutsInput NoMemory i o machine p.told
+fed_starved {i} {o} {p} {size} machine fed =
     let es : List Event = fed.answers.answered in
     record {
       takes = fed.takes;
@@ -396,6 +396,7 @@ fed_starved {i} {o} {p} {size} fed =
         said = joined (replies_to i.form i.from.bounds i.from.machine es);
         took = says_whole i.form i.from.bounds i.from.machine es o.told.desk.said p.told.desk.said p.told.desk.said refl fed.answers.said;
         says = record { same = refl; calm = fed.calm };
+        ahead = λ e. absurd (starved_said e);
         noted_is = fed.answers.noted_is;
       };
       near = subst (λ (answered : List Event). StaysNear i.form i.most fed.takes.taken answered) (append-nil es) (fed.near []);
@@ -412,11 +413,11 @@ takes_on fed within stops = record {
 }
 
 -- The answering of its events was cut short.
-pub fed_cut : {by : Cut} {i : Intake} {o : Passage} {p : Progress} {size : ℕ} {here : StoreBounds} {later : Stopped} {now : Telling} → FedPieces i o p size → here ≡ i.from.bounds
-    → IsCutShort by i.form here p now → (IsSome i.from.kept → IsTrue i.tells → Elapses o.stopped_now later (StopsAlong i.form here p.known p.machine p.standing p.told.desk.said))
-    → CutsInput by i (passed_to o later) now
-fed_cut {by} {i} {o} {p} {size} {here} {later} {now} fed within short stops =
-    let cuts = subst (λ (y : StoreBounds). IsCutShort by i.form y p now) within short in
+pub fed_cut : {by : Cut} {i : Intake} {o : Passage} {p : Progress} {size : ℕ} {here : StoreBounds} {later : Stopped} {machine : Machine} {now : Telling} → FedPieces i o p size → here ≡ i.from.bounds
+    → IsCutShort by i.form here p machine now → (IsSome i.from.kept → IsTrue i.tells → Elapses o.stopped_now later (StopsAlong i.form here p.known p.machine p.standing p.told.desk.said))
+    → CutsInput by i (passed_to o later) machine now
+fed_cut {by} {i} {o} {p} {size} {here} {later} {machine} {now} fed within short stops =
+    let cuts = subst (λ (y : StoreBounds). IsCutShort by i.form y p machine now) within short in
     record { takes = takes_on fed within stops; some = used_cut by i.form i.from.bounds i.from.machine (take i.most fed.takes.taken) (cut_behind fed.answers cuts); near = fed.near cuts.first.answered }
 
 -- All its events were answered: the input is not decided and goes on, or it is.
@@ -510,15 +511,15 @@ input_ends {i} {o} {p} {later} {now} end bad status told comes quiet still is no
     }
 
 -- Where memory was wanting to tell it.
-pub input_starved : {i : Intake} {o : Passage} {p : Progress} {later : Stopped} {now : Telling} (end : End) (bad : Option ℕ)
+pub input_starved : {i : Intake} {o : Passage} {p : Progress} {later : Stopped} {now : Telling} (end : End) (bad : Option ℕ) (machine : Machine)
     → EndsPieces i o p end → ComesToEnd p.standing bad → Elapses o.stopped_now later (λ image taken. ⊥)
     → (begins_bad (end_of p.standing) ≡ true) ⊎ (status_at p.known.faulty (leaves_some (end_of p.standing) p.known.closed) end ≡ Truncated) → now.desk.said ≡ p.told.desk.said
-    → NotesNothing p.told now → CutsInput NoMemory i (passed_to o later) now
-input_starved {i} {o} {p} {later} {now} end bad told comes quiet why still none =
+    → NotesNothing p.told now → CutsInput NoMemory i (passed_to o later) machine now
+input_starved {i} {o} {p} {later} {now} end bad machine told comes quiet why still none =
     let used : List ℕ = take i.most told.takes.taken in
     let all : told.answers.answered ≡ events_in i.form used = all_so i.form used p.standing told.answers.answered told.answers.goes (none_left p.standing bad comes) in
     record {
       takes = takes_still told.takes quiet;
-      some = used_starved i.form i.from.bounds i.from.machine used end {now = now} told.answers why still none;
+      some = used_starved i.form i.from.bounds i.from.machine used end machine {now = now} told.answers why still none;
       near = subst (λ (answered : List Event). StaysNear i.form i.most told.takes.taken answered) (sym all) told.near;
     }

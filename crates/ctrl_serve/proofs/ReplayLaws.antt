@@ -23,15 +23,17 @@ use Rattle.run_notes.specs.declared.ends.Cut.{Cut}
 use Rattle.run_notes.specs.declared.ends.Cut.TheVariants as cut
 use Rattle.run_notes.specs.declared.status.Status.{Status}
 use Rattle.run_notes.specs.declared.status.Status.TheVariants.{ReadFault, WriteFault, DiskFault, NoMemory}
-use Rattle.ctrl_serve.specs.Controllers.{Serving, IsReady, GoesOn}
+use Rattle.ctrl_serve.specs.Controllers.{Serving, IsOn, IsReady, GoesOn}
 use Rattle.ctrl_serve.specs.ControllerViews.{serving_of}
 use Rattle.ctrl_serve.specs.OpenedFolders.{Keeps}
+use Rattle.ctrl_serve.specs.UnsaidReplies.{IsOneAhead, KeepsOneAhead}
 use Rattle.ctrl_serve.specs.FollowedFolders.{FollowsInput}
 use Rattle.ctrl_serve.specs.FrameAnswer.{no_bounds, alone, last_machine}
+use Rattle.session_mux.specs.declared.events.Event.{Event}
 use Rattle.session_mux.specs.declared.sessions.Form.{Form}
 use Rattle.session_mux.specs.declared.sessions.Form.TheVariants.{Plain}
 use Rattle.run_notes.specs.Inputs.{events_in}
-use Rattle.run_notes.specs.Endings.{is_cut, is_kept, status_of_cut}
+use Rattle.run_notes.specs.Endings.{is_kept, status_of_cut}
 use Rattle.run_notes.specs.NotedLines.{FindsNoMore, RisesOnce}
 use Rattle.ctrl_serve.specs.Failures.{TakesUntilFailure}
 use Rattle.ctrl_serve.specs.Answering.{Telling}
@@ -46,7 +48,8 @@ use Rattle.run_notes.proofs.NoteLaws.{notes_from}
 use Rattle.ctrl_serve.specs.Runs.{IsWriteCaused, IsDiskCaused, KeepsUsed, RunsOn, CountsFaults}
 use Rattle.ctrl_serve.proofs.FailureLaws.{takes_none}
 use Rattle.ctrl_serve.proofs.FollowedRuns.{opened_leaves, opened_stands_for, opened_still}
-use Rattle.ctrl_serve.proofs.IntakeLaws.{write_calm, disk_calm, input_serves, cut_serves, cut_counted}
+use Rattle.ctrl_serve.proofs.ControllerLaws.{ready_behind}
+use Rattle.ctrl_serve.proofs.IntakeLaws.{all_no_fault, write_calm, disk_calm, input_serves, cut_serves, cut_counted}
 use Rattle.ctrl_serve.proofs.UsedLaws.{at_start}
 use Rattle.ctrl_serve.proofs.OpenedMachines.{ready_keeps, opens_by}
 use Rattle.ctrl_serve.proofs.RunStopLaws.{no_more_behind, opened_stops, later_stops, used_stops}
@@ -94,23 +97,23 @@ input_counts source source_now desk desk_now status read once until write disk n
   takes_until_failure = until;
 }
 
--- A run that was cut short meets no read fault, and is cut short.
-cut_read : (by : Cut) (before now : ℕ) → IsReadCaused before now (status_of_cut by)
-cut_read cut.NoMemory before now = record { calm = λ e. absurd cc; rose = λ r. absurd cc }
-cut_read cut.Disk before now = record { calm = λ e. absurd cc; rose = λ r. absurd cc }
-cut_read cut.Unsaid before now = record { calm = λ e. absurd cc; rose = λ r. absurd cc }
+-- A run that was cut short meets no read fault, and then no take had failed.
+cut_read : (by : Cut) (before now : ℕ) → now ≡ before → IsReadCaused before now (status_of_cut by)
+cut_read cut.NoMemory before now calm = record { calm = λ _. calm; rose = λ r. absurd cc }
+cut_read cut.Disk before now calm = record { calm = λ _. calm; rose = λ r. absurd cc }
+cut_read cut.Unsaid before now calm = record { calm = λ _. calm; rose = λ r. absurd cc }
 
-pub cut_is_read : (by : Cut) (before now : ℕ) (status : Status) → status ≡ status_of_cut by → IsReadCaused before now status
-cut_is_read by before now status is = subst (λ (u : Status). IsReadCaused before now u) (sym is) (cut_read by before now)
+pub cut_is_read : (by : Cut) (before now : ℕ) (status : Status) → status ≡ status_of_cut by → now ≡ before → IsReadCaused before now status
+cut_is_read by before now status is calm = subst (λ (u : Status). IsReadCaused before now u) (sym is) (cut_read by before now calm)
 
--- Where memory was wanting, and that was told.
+-- Where memory was wanting, and that was told, before anything was taken.
 pub cut_counts : {S D : Type 0} {left : S → Option (List ℕ)} {faults : S → ℕ} {seen : D → Seen} {stopped : D → Stopped}
-    (source source_now : S) (desk desk_now : D) (status : Status) → status ≡ NoMemory → RisesOnce (faults source) (faults source_now) → TakesUntilFailure left faults source source_now
+    (source source_now : S) (desk desk_now : D) (status : Status) → status ≡ NoMemory → faults source_now ≡ faults source → RisesOnce (faults source) (faults source_now) → TakesUntilFailure left faults source source_now
     → OnlyNotes seen stopped desk desk_now → RisesOnce (seen desk).note_faults (seen desk_now).note_faults
     → CountsFaults left faults seen source source_now desk desk_now status
-cut_counts source source_now desk desk_now status is once until notes noted = record {
+cut_counts source source_now desk desk_now status is calm once until notes noted = record {
   read_fault = λ r. cc;
-  failed_take = λ e. absurd (let c = ap is_cut is in cc);
+  failed_take = λ _. calm;
   write = write_calm _ _ status notes.failed_says (λ w. cc);
   disk = disk_calm _ _ status notes.failed_calls (λ w. cc);
   read_faults_once = once;
@@ -170,32 +173,51 @@ input_runs o {form} {c} {most} new {source} {source_now} {desk} {desk_now} {f} {
       keeps = served_keeps form c new used used o.tells (o.seen desk_now).reads (o.stopped desk_now).images status refl told.last on ready;
       follows = λ some kept tell. follows some tell;
       stops = λ some tell. used_stops form c.bounds c.machine used (known_in form) (at_start form used) (o.seen desk).said refl refl (told.takes.stops some tell);
+      ahead = λ some is tell. absurd ((all_no_fault told.all).0 is);
     }
 
+-- Where a reply was not taken whole.
+by_unsaid : (by : Cut) → status_of_cut by ≡ WriteFault → by ≡ cut.Unsaid
+by_unsaid cut.NoMemory is = absurd cc
+by_unsaid cut.Disk is = absurd cc
+by_unsaid cut.Unsaid is = refl
+
+-- Then a folder keeps the machine that is one frame ahead, as where its controller is ready.
+ahead_keeps : {form : Form} {c : Serving} {answered unanswered : List Event} (new : Controller) (tells : Bool) (reads : Image) (images : Image → Type 0)
+    → IsOneAhead form c.bounds c.machine answered unanswered (serving_of new).machine → IsSome c.kept → GoesOn c (serving_of new) → IsReady tells (serving_of new).kept reads images → IsTrue tells
+    → KeepsOneAhead form c.bounds c.machine answered unanswered reads images
+ahead_keeps new tells reads images ahead some on ready told =
+    let there = ready_keeps new tells reads images (on.kind ∙ some) ready told in
+    record { machine = (serving_of new).machine; ahead = ahead; keeps = there.0; found = there.1 }
+
 -- And where it was cut short, and that was told.
-cut_runs_by : {S D : Type 0} (o : Outside S D) (by : Cut) {form : Form} {c : Serving} {most : ℕ} {source source_now : S} {desk mid now : D} {f g : Bool} (h : Bool)
-    → CutsInput by (intake_from o form most c) (passing o source source_now desk mid f) (record { failed = g; desk = o.seen mid }) → f ≡ false
-    → OnlyNotes o.seen o.stopped mid now → FindsNoMore o.stopped mid now → NotesMore g h (status_lines [] (status_of_cut by)) (o.seen mid) (o.seen now)
+cut_runs_by : {S D : Type 0} (o : Outside S D) (by : Cut) {form : Form} {c : Serving} {most : ℕ} (new : Controller) {source source_now : S} {desk mid now : D} {f g : Bool} (h : Bool)
+    → CutsInput by (intake_from o form most c) (passing o source source_now desk mid f) (serving_of new).machine (record { failed = g; desk = o.seen mid }) → f ≡ false
+    → (by ≡ cut.Unsaid → IsOn o.tells o.seen o.stopped mid c (serving_of new)) → OnlyNotes o.seen o.stopped mid now → FindsNoMore o.stopped mid now → NotesMore g h (status_lines [] (status_of_cut by)) (o.seen mid) (o.seen now)
     → RunsOn (taking_of form most) c o source source_now desk now (status_of_cut by)
-cut_runs_by o by {form} {c} {most} {source} {source_now} {desk} {mid} {now} {f} {g} h told calm others no_more more =
+cut_runs_by o by {form} {c} {most} new {source} {source_now} {desk} {mid} {now} {f} {g} h told calm on others no_more more =
     let used : List ℕ = take most told.takes.taken in
     record {
       serves = cut_serves by (record { failed = h; desk = o.seen now }) told calm others.replies more;
       keeps = cut_keeps form c used o.tells (o.seen now).reads (o.stopped now).images by (status_of_cut by) refl;
       follows = λ some kept tell. absurd (not_kept by kept);
       stops = λ some tell. used_stops form c.bounds c.machine used (known_in form) (at_start form used) (o.seen desk).said refl refl (no_more_behind _ (told.takes.stops some tell) no_more);
+      ahead = λ some is tell.
+          let stands = on (by_unsaid by is) in
+          ahead_keeps {c = c} new o.tells (o.seen now).reads (o.stopped now).images (told.some.ahead (by_unsaid by is)) some stands.on
+          (ready_behind (serving_of new).kept o.tells (o.seen mid).reads (o.seen now).reads (o.stopped mid).images (o.stopped now).images others.parts others.found stands.ready) tell;
     }
 
-pub cut_runs : {S D : Type 0} (o : Outside S D) (by : Cut) {form : Form} {c : Serving} {most : ℕ} {source source_now : S} {desk mid now : D} {f g : Bool} (h : Bool) (status : Status) → status ≡ status_of_cut by
-    → CutsInput by (intake_from o form most c) (passing o source source_now desk mid f) (record { failed = g; desk = o.seen mid }) → f ≡ false
-    → OnlyNotes o.seen o.stopped mid now → FindsNoMore o.stopped mid now → NotesMore g h (status_lines [] status) (o.seen mid) (o.seen now)
+pub cut_runs : {S D : Type 0} (o : Outside S D) (by : Cut) {form : Form} {c : Serving} {most : ℕ} (new : Controller) {source source_now : S} {desk mid now : D} {f g : Bool} (h : Bool) (status : Status) → status ≡ status_of_cut by
+    → CutsInput by (intake_from o form most c) (passing o source source_now desk mid f) (serving_of new).machine (record { failed = g; desk = o.seen mid }) → f ≡ false
+    → (by ≡ cut.Unsaid → IsOn o.tells o.seen o.stopped mid c (serving_of new)) → OnlyNotes o.seen o.stopped mid now → FindsNoMore o.stopped mid now → NotesMore g h (status_lines [] status) (o.seen mid) (o.seen now)
     → RunsOn (taking_of form most) c o source source_now desk now status
-cut_runs o by {form} {c} {most} {source} {source_now} {desk} {mid} {now} {f} {g} h status is cuts calm others no_more more =
+cut_runs o by {form} {c} {most} new {source} {source_now} {desk} {mid} {now} {f} {g} h status is cuts calm on others no_more more =
     let behind = subst (λ (u : Status). NotesMore g h (status_lines [] u) (o.seen mid) (o.seen now)) is more in
-    subst (λ (u : Status). RunsOn (taking_of form most) c o source source_now desk now u) (sym is) (cut_runs_by o by {f = f} {g = g} h cuts calm others no_more behind)
+    subst (λ (u : Status). RunsOn (taking_of form most) c o source source_now desk now u) (sym is) (cut_runs_by o by new {f = f} {g = g} h cuts calm on others no_more behind)
 
 -- The notes of such a run failed once at most.
-pub cut_run_counted : (by : Cut) {i : Intake} {o : Passage} {mid : Telling} (now : Telling) (status : Status) → status ≡ status_of_cut by → CutsInput by i o mid → o.told.failed ≡ false
+pub cut_run_counted : (by : Cut) {i : Intake} {o : Passage} {machine : Machine} {mid : Telling} (now : Telling) (status : Status) → status ≡ status_of_cut by → CutsInput by i o machine mid → o.told.failed ≡ false
     → NotesMore mid.failed now.failed (status_lines [] status) mid.desk now.desk → RisesOnce o.told.desk.note_faults now.desk.note_faults
 cut_run_counted by {mid = mid} now status is cuts calm more =
     cut_counted by now cuts calm (subst (λ (u : Status). NotesMore mid.failed now.failed (status_lines [] u) mid.desk now.desk) is more)
@@ -251,6 +273,7 @@ replays_on o form bounds most k source source_now desk mid now status opens stan
       stands = λ kept told batches. opened_stands_for form k.stored.bounds (machine_of k) before middle after used batches (made told) (runs.follows refl kept told);
       still = λ kept told. opened_still form k.stored.bounds (machine_of k) before middle after used (made told) (runs.follows refl kept told);
       elsewhere = λ kept told. opened_leaves form k.stored.bounds (machine_of k) before middle after used (made told) (runs.follows refl kept told);
+      ahead = λ is told. runs.ahead refl is told;
       granted = λ stand n. behind-granted k.stored.bounds (machine_of k) (completed form (take n runs.serves.taken)) holds.valid stand;
       stops = λ told all. opened_stops form k.stored.bounds (machine_of k) (events_in form used) (opening told) (runs.stops refl told) all;
       stops_later = λ told. later_stops form k.stored.bounds (machine_of k) (events_in form used) (opening told) (runs.stops refl told);

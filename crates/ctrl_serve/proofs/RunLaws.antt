@@ -1,6 +1,6 @@
 -- How what the parts of a run promise makes up what the run promises.
 use Rattle.std.specs.Prelude.{true, false, Bool}
-use Rattle.std.proofs.Common.{◌≡◌, ℕ, ◌⊎◌, inl, inr, List, length, take, None, Some, refl, sym, ap, ◌∙◌, subst, arith}
+use Rattle.std.proofs.Common.{◌≡◌, ℕ, ◌⊎◌, inl, inr, List, [], ◌∷◌, codes, length, take, None, Some, refl, sym, ap, ◌∙◌, subst, arith}
 use Rattle.std.proofs.Math.Dec.{ltb}
 use Rattle.std.proofs.lemmas.Bool.{false≢true}
 use Rattle.std.specs.declared.option.Option.{Option}
@@ -10,14 +10,15 @@ use Rattle.ziti_outside.specs.Untouched.{OnlyNotes}
 use Rattle.ziti_outside.specs.Views.{Outside, Seen, Stopped}
 use Rattle.journal_core.specs.Room.{HoldsRoom}
 use Rattle.journal_core.proofs.RoomLaws.{held_none}
-use Rattle.ctrl_model.specs.State.{start}
+use Rattle.ctrl_model.specs.State.{State, start}
+use Rattle.policy_advisor.specs.Reports.{report_of}
 use Rattle.row_store.specs.declared.bounds.StoreBounds.{StoreBounds}
 use Rattle.ctrl_keep.specs.KeptMachine.{Machine}
 use Rattle.ctrl_serve.specs.declared.bounds.Bounds.{Bounds}
 use Rattle.ctrl_serve.specs.declared.command_line.Form as command
 use Rattle.session_mux.specs.declared.sessions.Form.{Form}
 use Rattle.session_mux.specs.declared.sessions.Form.TheVariants.{Plain}
-use Rattle.ctrl_serve.specs.declared.command_line.Form.TheVariants.{Dry, Replay, Audit, Compact, Load}
+use Rattle.ctrl_serve.specs.declared.command_line.Form.TheVariants.{Dry, Replay, Audit, Compact, Load, Advise}
 use Rattle.run_notes.specs.declared.status.Status.{Status}
 use Rattle.run_notes.specs.declared.status.Status.TheVariants.{Done, Usage, BadInput, Truncated, ReadFault, WriteFault, DiskFault, Damaged, NoMemory, InputTooLong, FolderFull}
 use Rattle.ctrl_serve.specs.CommandLine.{reads_input}
@@ -27,10 +28,11 @@ use Rattle.run_notes.specs.Inputs.{is_bad_input, has_rest}
 use Rattle.run_notes.specs.NotedLines.{FindsNoMore, RisesOnce, NotesLines}
 use Rattle.ctrl_serve.specs.FrameAnswer.{no_bounds, alone, replies}
 use Rattle.ctrl_serve.specs.Headline.{OnlySaysAndNotes, folder_bounds, taking_of, Serves, Taking, IsComplete, IsLeftAlone, IsUnopened, StaysClosed, Refuses, Replays, Runs}
-use Rattle.ctrl_serve.specs.FolderWords.{Audits, Compacts, EndsCompaction}
+use Rattle.ctrl_serve.specs.FolderWords.{Advises, Audits, Compacts, EndsCompaction, Looks}
 use Rattle.ctrl_serve.specs.Loads.{counts_line, state_of_load, SaysOneLine, IsSaid}
 use Rattle.run_notes.specs.Notes.{usage_note}
 use Rattle.ctrl_serve.specs.Runs.{CountsFaults, IsDiskCaused, IsWriteCaused}
+use Rattle.ctrl_serve.proofs.AdviseWords.{AreAdviseWords}
 use Rattle.ctrl_serve.proofs.EndingLaws.{done_is, at_end, all_replies}
 use Rattle.ctrl_serve.proofs.ControllerLaws.{noted_alone}
 use Rattle.ctrl_serve.proofs.FailureLaws.{takes_none}
@@ -96,6 +98,7 @@ asked_form of (Some (Replay form)) = form
 asked_form of (Some Audit) = of
 asked_form of (Some Compact) = of
 asked_form of (Some (Load number)) = of
+asked_form of (Some Advise) = of
 
 same_form : (of other : Form) → ◌≡◌ {A = Option command.Form} (Some (Replay of)) (Some (Replay other)) → of ≡ other
 same_form of other e = ap (asked_form of) e
@@ -107,12 +110,12 @@ reads_nothing form word asked none is e reads =
     false≢true (sym none ∙ ap reads_input same ∙ reads)
 
 -- A run without a folder.
-pub dry_runs : {S D : Type 0} (o : Outside S D) (bounds : Bounds) (form : Option command.Form) (source source_now : S) (desk desk_now : D) (status : Status) → form ≡ Some Dry
+pub dry_runs : {S D : Type 0} (o : Outside S D) (bounds : Bounds) (words : List (List ℕ)) (form : Option command.Form) (source source_now : S) (desk desk_now : D) (status : Status) → form ≡ Some Dry
     → Serves (taking_of Plain bounds.input) no_bounds (alone start) (o.left source) (o.left source_now) (o.seen desk) (o.seen desk_now) status
     → CountsFaults o.left o.faults o.seen source source_now desk desk_now status
     → (status ≡ DiskFault → ⊥) → OnlySaysAndNotes o.seen o.stopped desk desk_now
-    → Runs o bounds form source source_now desk desk_now status
-dry_runs o bounds form source source_now desk desk_now status is serves counts calm others = record {
+    → Runs o bounds words form source source_now desk desk_now status
+dry_runs o bounds words form source source_now desk desk_now status is serves counts calm others = record {
   usage = (λ u. absurd (serves_no_usage serves u), λ n. cc);
   usage_takes_nothing = λ n. cc;
   usage_notes_alone = λ n. cc;
@@ -141,6 +144,9 @@ dry_runs o bounds form source source_now desk desk_now status is serves counts c
   audit = λ e. cc;
   audit_takes_nothing = λ e. cc;
   audit_changes_nothing = λ e. cc;
+  advise = λ i s w e. cc;
+  advise_takes_nothing = λ e. cc;
+  advise_changes_nothing = λ e. cc;
   compact = λ e. cc;
   compact_takes_nothing = λ e. cc;
   compact_says_nothing = λ e. cc;
@@ -163,13 +169,13 @@ replays_status o source source_now desk desk_now status (inl closed) =
 replays_status o source source_now desk desk_now status (inr on) =
     (serves_no_usage on.serves, serves_to_end on.serves)
 
-pub replay_runs : {S D : Type 0} (o : Outside S D) (of : Form) (bounds : Bounds) (form : Option command.Form) (source source_now : S) (desk desk_now : D) (status : Status) → form ≡ Some (Replay of)
+pub replay_runs : {S D : Type 0} (o : Outside S D) (of : Form) (bounds : Bounds) (words : List (List ℕ)) (form : Option command.Form) (source source_now : S) (desk desk_now : D) (status : Status) → form ≡ Some (Replay of)
     → Refuses o.tells o.seen o.stopped source source_now desk desk_now status
     ⊎ Replays (taking_of of bounds.input) (folder_bounds bounds) o source source_now desk desk_now status
     → CountsFaults o.left o.faults o.seen source source_now desk desk_now status
     → HoldsRoom o.tells (folder_bounds bounds).slot o.seen o.stopped desk desk_now
-    → Runs o bounds form source source_now desk desk_now status
-replay_runs o of bounds form source source_now desk desk_now status is replays counts room =
+    → Runs o bounds words form source source_now desk desk_now status
+replay_runs o of bounds words form source source_now desk desk_now status is replays counts room =
     let at : (status ≡ Usage → ⊥) × (status ≡ Done → IsAtEnd (o.left source_now)) = replays_status o source source_now desk desk_now status replays in
     record {
       usage = (λ u. absurd (at.0 u), λ n. cc);
@@ -202,6 +208,9 @@ replay_runs o of bounds form source source_now desk desk_now status is replays c
       audit = λ e. cc;
       audit_takes_nothing = λ e. cc;
       audit_changes_nothing = λ e. cc;
+      advise = λ i s w e. cc;
+      advise_takes_nothing = λ e. cc;
+      advise_changes_nothing = λ e. cc;
       compact = λ e. cc;
       compact_takes_nothing = λ e. cc;
       compact_says_nothing = λ e. cc;
@@ -209,10 +218,10 @@ replay_runs o of bounds form source source_now desk desk_now status is replays c
     }
 
 -- A run that only wrote the usage note, where the words are no line of the table.
-pub usage_runs : {S D : Type 0} (o : Outside S D) (bounds : Bounds) (form : Option command.Form) (source : S) (desk desk_now : D) → form ≡ None → OnlyNotes o.seen o.stopped desk desk_now → FindsNoMore o.stopped desk desk_now
+pub usage_runs : {S D : Type 0} (o : Outside S D) (bounds : Bounds) (words : List (List ℕ)) (form : Option command.Form) (source : S) (desk desk_now : D) → form ≡ None → OnlyNotes o.seen o.stopped desk desk_now → FindsNoMore o.stopped desk desk_now
     → NotesLines usage_note (o.seen desk) (o.seen desk_now) → RisesOnce (o.seen desk).note_faults (o.seen desk_now).note_faults
-    → Runs o bounds form source source desk desk_now Usage
-usage_runs o bounds form source desk desk_now is others more note counted = record {
+    → Runs o bounds words form source source desk desk_now Usage
+usage_runs o bounds words form source desk desk_now is others more note counted = record {
   usage = (λ _. is, λ _. refl);
   usage_takes_nothing = λ _. refl;
   usage_notes_alone = λ _. others;
@@ -241,6 +250,9 @@ usage_runs o bounds form source desk desk_now is others more note counted = reco
   audit = λ e. cc;
   audit_takes_nothing = λ e. cc;
   audit_changes_nothing = λ e. cc;
+  advise = λ i s w e. cc;
+  advise_takes_nothing = λ e. cc;
+  advise_changes_nothing = λ e. cc;
   compact = λ e. cc;
   compact_takes_nothing = λ e. cc;
   compact_says_nothing = λ e. cc;
@@ -274,11 +286,11 @@ line_said FolderFull line a b s write = absurd s.says
 one_load : (form : Option command.Form) (m n : ℕ) → form ≡ Some (Load m) → form ≡ Some (Load n) → m ≡ n
 one_load form m n is e = cc
 
-pub load_runs : {S D : Type 0} (o : Outside S D) (bounds : Bounds) (form : Option command.Form) (number : ℕ) (source : S) (desk desk_now : D) (status : Status) → form ≡ Some (Load number)
+pub load_runs : {S D : Type 0} (o : Outside S D) (bounds : Bounds) (words : List (List ℕ)) (form : Option command.Form) (number : ℕ) (source : S) (desk desk_now : D) (status : Status) → form ≡ Some (Load number)
     → SaysOneLine (counts_line (state_of_load number)) (o.seen desk) (o.seen desk_now) status
     → IsWriteCaused (o.seen desk).say_faults (o.seen desk_now).say_faults status → RisesOnce (o.seen desk).note_faults (o.seen desk_now).note_faults → OnlySaysAndNotes o.seen o.stopped desk desk_now
-    → Runs o bounds form source source desk desk_now status
-load_runs o bounds form number source desk desk_now status is says write counted others =
+    → Runs o bounds words form source source desk desk_now status
+load_runs o bounds words form number source desk desk_now status is says write counted others =
     let not = line_statuses status _ _ _ says in
     let same : (other : ℕ) → form ≡ Some (Load other) → number ≡ other = λ other e. one_load form number other is e in
     record {
@@ -310,6 +322,9 @@ load_runs o bounds form number source desk desk_now status is says write counted
       audit = λ e. cc;
       audit_takes_nothing = λ e. cc;
       audit_changes_nothing = λ e. cc;
+      advise = λ i s w e. cc;
+      advise_takes_nothing = λ e. cc;
+      advise_changes_nothing = λ e. cc;
       compact = λ e. cc;
       compact_takes_nothing = λ e. cc;
       compact_says_nothing = λ e. cc;
@@ -318,23 +333,47 @@ load_runs o bounds form number source desk desk_now status is says write counted
 
 -- ---- a look at a folder
 
--- A run of `audit` ends with none of these.
-audit_statuses : {D : Type 0} {seen : D → Seen} {stopped : D → Stopped}
-    (tells : Bool) (desk desk_now : D) (status : Status) → IsUnopened tells seen stopped desk desk_now status
-    ⊎ Audits tells (seen desk) (seen desk_now) status
-    → (status ≡ Usage → ⊥) × (status ≡ ReadFault → ⊥)
-audit_statuses tells desk desk_now status (inl closed) = let not = closed_status tells _ _ status closed.why in (not.0, not.2)
-audit_statuses tells desk desk_now status (inr on) = let not = line_statuses status _ _ _ on.says in (not.0, not.1)
+-- Whether a word looks at a folder.
+abbrev is_look : command.Form → Bool
+is_look Dry = false
+is_look (Replay form) = false
+is_look Audit = true
+is_look Compact = false
+is_look (Load number) = false
+is_look Advise = true
 
-pub audit_runs : {S D : Type 0} (o : Outside S D) (bounds : Bounds) (form : Option command.Form) (source : S) (desk desk_now : D) (status : Status) → form ≡ Some Audit
-    → IsUnopened o.tells o.seen o.stopped desk desk_now status
-    ⊎ Audits o.tells (o.seen desk) (o.seen desk_now) status
+-- It reads no input, and is no word that does not look.
+look_reads_nothing : (word : command.Form) → is_look word ≡ true → reads_input word ≡ false
+look_reads_nothing Dry looks = absurd (false≢true looks)
+look_reads_nothing (Replay form) looks = absurd (false≢true looks)
+look_reads_nothing Audit looks = refl
+look_reads_nothing Compact looks = absurd (false≢true looks)
+look_reads_nothing (Load number) looks = absurd (false≢true looks)
+look_reads_nothing Advise looks = refl
+
+looks_not : (form : Option command.Form) (word other : command.Form) → is_look word ≡ true → is_look other ≡ false → form ≡ Some word → form ≡ Some other → ⊥
+looks_not form word other looks not is e =
+    let same : word ≡ other = cc in
+    false≢true (sym not ∙ sym (ap is_look same) ∙ looks)
+
+-- A run of such a word ends with none of these.
+look_statuses : {D : Type 0} {seen : D → Seen} {stopped : D → Stopped}
+    (line : State → List ℕ) (tells : Bool) (desk desk_now : D) (status : Status) → IsUnopened tells seen stopped desk desk_now status
+    ⊎ Looks line tells (seen desk) (seen desk_now) status
+    → (status ≡ Usage → ⊥) × (status ≡ ReadFault → ⊥)
+look_statuses line tells desk desk_now status (inl closed) = let not = closed_status tells _ _ status closed.why in (not.0, not.2)
+look_statuses line tells desk desk_now status (inr on) = let not = line_statuses status _ _ _ on.says in (not.0, not.1)
+
+look_runs : {S D : Type 0} (o : Outside S D) (bounds : Bounds) (words : List (List ℕ)) (form : Option command.Form) (word : command.Form) (source : S) (desk desk_now : D) (status : Status)
+    → is_look word ≡ true → form ≡ Some word → (status ≡ Usage → ⊥) × (status ≡ ReadFault → ⊥)
+    → (form ≡ Some Audit → IsUnopened o.tells o.seen o.stopped desk desk_now status ⊎ Audits o.tells (o.seen desk) (o.seen desk_now) status)
+    → ((i s : List ℕ) → words ≡ codes "advise" ∷ i ∷ s ∷ [] → form ≡ Some Advise
+    → IsUnopened o.tells o.seen o.stopped desk desk_now status ⊎ Advises i s o.tells (o.seen desk) (o.seen desk_now) status)
     → IsLeftAlone o.seen o.stopped desk desk_now → IsWriteCaused (o.seen desk).say_faults (o.seen desk_now).say_faults status → IsDiskCaused (o.seen desk).disk_faults (o.seen desk_now).disk_faults status
     → RisesOnce (o.seen desk).note_faults (o.seen desk_now).note_faults
-    → Runs o bounds form source source desk desk_now status
-audit_runs o bounds form source desk desk_now status is audits alone write disk counted =
-    let not : (status ≡ Usage → ⊥) × (status ≡ ReadFault → ⊥) =
-    audit_statuses {seen = o.seen} {stopped = o.stopped} o.tells desk desk_now status audits in
+    → Runs o bounds words form source source desk desk_now status
+look_runs o bounds words form word source desk desk_now status looks is not audits advises alone write disk counted =
+    let other : (asked : command.Form) → is_look asked ≡ false → form ≡ Some asked → ⊥ = λ asked none e. looks_not form word asked looks none is e in
     record {
       usage = (λ u. absurd (not.0 u), λ n. cc);
       usage_takes_nothing = λ n. cc;
@@ -352,23 +391,48 @@ audit_runs o bounds form source desk desk_now status is audits alone write disk 
       disk_faults_once = disk.counted;
       note_faults_once = counted;
       takes_until_failure = takes_none source;
-      dry = λ e. cc;
-      dry_says_and_notes_alone = λ e. cc;
-      complete = λ e. cc;
-      read_to_the_end = λ asked e reads. absurd (reads_nothing form Audit asked refl is e reads);
-      replay = λ of e. cc;
-      load = λ number e. cc;
-      load_takes_nothing = λ number e. cc;
-      load_says_and_notes_alone = λ number e. cc;
-      load_complete = λ number e. cc;
-      audit = λ _. audits;
+      dry = λ e. absurd (other Dry refl e);
+      dry_says_and_notes_alone = λ e. absurd (other Dry refl e);
+      complete = λ e. absurd (other Dry refl e);
+      read_to_the_end = λ asked e reads. absurd (reads_nothing form word asked (look_reads_nothing word looks) is e reads);
+      replay = λ of e. absurd (other (Replay of) refl e);
+      load = λ number e. absurd (other (Load number) refl e);
+      load_takes_nothing = λ number e. refl;
+      load_says_and_notes_alone = λ number e. absurd (other (Load number) refl e);
+      load_complete = λ number e. absurd (other (Load number) refl e);
+      audit = audits;
       audit_takes_nothing = λ _. refl;
       audit_changes_nothing = λ _. alone;
-      compact = λ e. cc;
-      compact_takes_nothing = λ e. cc;
-      compact_says_nothing = λ e. cc;
+      advise = advises;
+      advise_takes_nothing = λ _. refl;
+      advise_changes_nothing = λ _. alone;
+      compact = λ e. absurd (other Compact refl e);
+      compact_takes_nothing = λ e. refl;
+      compact_says_nothing = λ e. absurd (other Compact refl e);
       room = held_none o.tells (folder_bounds bounds).slot alone.parts alone.found;
     }
+
+pub audit_runs : {S D : Type 0} (o : Outside S D) (bounds : Bounds) (words : List (List ℕ)) (form : Option command.Form) (source : S) (desk desk_now : D) (status : Status) → form ≡ Some Audit
+    → IsUnopened o.tells o.seen o.stopped desk desk_now status
+    ⊎ Audits o.tells (o.seen desk) (o.seen desk_now) status
+    → IsLeftAlone o.seen o.stopped desk desk_now → IsWriteCaused (o.seen desk).say_faults (o.seen desk_now).say_faults status → IsDiskCaused (o.seen desk).disk_faults (o.seen desk_now).disk_faults status
+    → RisesOnce (o.seen desk).note_faults (o.seen desk_now).note_faults
+    → Runs o bounds words form source source desk desk_now status
+audit_runs o bounds words form source desk desk_now status is audits alone write disk counted =
+    look_runs o bounds words form Audit source desk desk_now status refl is (look_statuses {seen = o.seen} {stopped = o.stopped} counts_line o.tells desk desk_now status audits)
+    (λ _. audits) (λ i s w e. cc) alone write disk counted
+
+pub advise_runs : {S D : Type 0} (o : Outside S D) (bounds : Bounds) (words : List (List ℕ)) (form : Option command.Form) (source : S) (desk desk_now : D) (status : Status) → form ≡ Some Advise
+    → AreAdviseWords words
+    → ((i s : List ℕ) → words ≡ codes "advise" ∷ i ∷ s ∷ []
+    → IsUnopened o.tells o.seen o.stopped desk desk_now status ⊎ Advises i s o.tells (o.seen desk) (o.seen desk_now) status)
+    → IsLeftAlone o.seen o.stopped desk desk_now → IsWriteCaused (o.seen desk).say_faults (o.seen desk_now).say_faults status → IsDiskCaused (o.seen desk).disk_faults (o.seen desk_now).disk_faults status
+    → RisesOnce (o.seen desk).note_faults (o.seen desk_now).note_faults
+    → Runs o bounds words form source source desk desk_now status
+advise_runs o bounds words form source desk desk_now status is named advises alone write disk counted =
+    look_runs o bounds words form Advise source desk desk_now status refl is
+    (look_statuses {seen = o.seen} {stopped = o.stopped} (λ s. report_of s named.identity named.service) o.tells desk desk_now status (advises named.identity named.service named.are))
+    (λ e. cc) (λ i s w _. advises i s w) alone write disk counted
 
 -- ---- the compaction of a folder
 
@@ -386,13 +450,13 @@ compact_statuses : {D : Type 0} {seen : D → Seen} {stopped : D → Stopped}
 compact_statuses tells bounds desk desk_now status (inl closed) = let not = closed_status tells _ _ status closed.why in (not.0, not.2, not.3)
 compact_statuses tells bounds desk desk_now status (inr on) = ends_statuses status bounds on.machine tells _ _ on.ends
 
-pub compact_runs : {S D : Type 0} (o : Outside S D) (bounds : Bounds) (form : Option command.Form) (source : S) (desk desk_now : D) (status : Status) → form ≡ Some Compact
+pub compact_runs : {S D : Type 0} (o : Outside S D) (bounds : Bounds) (words : List (List ℕ)) (form : Option command.Form) (source : S) (desk desk_now : D) (status : Status) → form ≡ Some Compact
     → IsUnopened o.tells o.seen o.stopped desk desk_now status
     ⊎ Compacts (folder_bounds bounds) o.tells (o.seen desk) (o.seen desk_now) (o.stopped desk) (o.stopped desk_now) status
     → (o.seen desk_now).said ≡ (o.seen desk).said → (o.seen desk_now).say_faults ≡ (o.seen desk).say_faults → IsDiskCaused (o.seen desk).disk_faults (o.seen desk_now).disk_faults status → RisesOnce (o.seen desk).note_faults (o.seen desk_now).note_faults
     → HoldsRoom o.tells (folder_bounds bounds).slot o.seen o.stopped desk desk_now
-    → Runs o bounds form source source desk desk_now status
-compact_runs o bounds form source desk desk_now status is compacts quiet says disk counted room =
+    → Runs o bounds words form source source desk desk_now status
+compact_runs o bounds words form source desk desk_now status is compacts quiet says disk counted room =
     let not : (status ≡ Usage → ⊥) × (status ≡ ReadFault → ⊥) × (status ≡ WriteFault → ⊥) =
     compact_statuses {seen = o.seen} {stopped = o.stopped} o.tells (folder_bounds bounds) desk desk_now status compacts in
     record {
@@ -424,6 +488,9 @@ compact_runs o bounds form source desk desk_now status is compacts quiet says di
       audit = λ e. cc;
       audit_takes_nothing = λ e. cc;
       audit_changes_nothing = λ e. cc;
+      advise = λ i s w e. cc;
+      advise_takes_nothing = λ e. cc;
+      advise_changes_nothing = λ e. cc;
       compact = λ _. compacts;
       compact_takes_nothing = λ _. refl;
       compact_says_nothing = λ _. quiet;

@@ -219,27 +219,29 @@ stuck_at old new at goes is = record {
 -- ---- where it was cut short
 
 -- The next event was.
-next_cut : (cut : Cut) (form : Form) (bounds : StoreBounds) (e : Event) (q : Progress) (later : Standing) (c : Option (List ℕ)) → GoesTo q.standing later (e ∷ [])
-    → CutsEvent cut form bounds e q.known q.machine q.told.desk.said c → CutsNext cut form bounds q.known q.machine q.standing q.told.desk.said c
-next_cut NoMemory form bounds e q later c goes cuts = (cuts, inl (e, later, goes))
-next_cut Disk form bounds e q later c goes cuts =
+next_cut : (cut : Cut) (form : Form) (bounds : StoreBounds) (e : Event) (q : Progress) (later : Standing) (m : Machine) (c : Option (List ℕ)) → GoesTo q.standing later (e ∷ [])
+    → CutsEvent cut form bounds e q.known q.machine q.told.desk.said c → (cut ≡ Unsaid → m ≡ machine_after bounds e q.known q.machine) → CutsNext cut form bounds q m c
+next_cut NoMemory form bounds e q later m c goes cuts next = (cuts, inl (e, later, goes))
+next_cut Disk form bounds e q later m c goes cuts next =
     (cuts.0, cuts.1, later, subst (λ (x : Event). GoesTo q.standing later (x ∷ [])) cuts.2 goes, cuts.3)
-next_cut Unsaid form bounds e q later c goes cuts =
-    (cuts.0, cuts.1, later, subst (λ (x : Event). GoesTo q.standing later (x ∷ [])) cuts.2 goes, cuts.3)
+next_cut Unsaid form bounds e q later m c goes cuts next =
+    (cuts.0, cuts.1, later, subst (λ (x : Event). GoesTo q.standing later (x ∷ [])) cuts.2 goes, cuts.3, next refl ∙ ap (λ (x : Event). machine_after bounds x q.known q.machine) cuts.2)
 
-pub cut_answers : {cut : Cut} {form : Form} {bounds here : StoreBounds} {e : Event} {p q : Progress} {later : Standing} {now : Telling}
-    → here ≡ bounds → Answers form bounds p q → GoesTo q.standing later (e ∷ []) → CutsEvent cut form here e q.known q.machine q.told.desk.said now.desk.said → NotesNothing q.told now
-    → IsCutShort cut form bounds p now
-cut_answers {cut} {form} {bounds} {here} {e} {p} {q} {later} {now} within told goes cuts unnoted = record {
+pub cut_answers : {cut : Cut} {form : Form} {bounds here : StoreBounds} {e : Event} {p q : Progress} {later : Standing} {m : Machine} {now : Telling}
+    → here ≡ bounds → Answers form bounds p q → GoesTo q.standing later (e ∷ []) → CutsEvent cut form here e q.known q.machine q.told.desk.said now.desk.said
+    → (cut ≡ Unsaid → m ≡ machine_after here e q.known q.machine) → NotesNothing q.told now
+    → IsCutShort cut form bounds p m now
+cut_answers {cut} {form} {bounds} {here} {e} {p} {q} {later} {m} {now} within told goes cuts next unnoted = record {
   mid = q;
   first = told;
-  cuts = next_cut cut form bounds e q later now.desk.said goes (subst (λ (y : StoreBounds). CutsEvent cut form y e q.known q.machine q.told.desk.said now.desk.said) within cuts);
+  cuts = next_cut cut form bounds e q later m now.desk.said goes (subst (λ (y : StoreBounds). CutsEvent cut form y e q.known q.machine q.told.desk.said now.desk.said) within cuts)
+      (λ is. next is ∙ ap (λ (y : StoreBounds). machine_after y e q.known q.machine) within);
   unnoted = unnoted;
 }
 
 -- For want of memory, before an event was found.
-pub starved_answers : {form : Form} {bounds : StoreBounds} {p q : Progress} → Answers form bounds p q → MayWantMemory q.standing → IsCutShort NoMemory form bounds p q.told
-starved_answers {form} {bounds} {p} {q} told may = record { mid = q; first = told; cuts = (refl, inr may); unnoted = record { failed = refl; notes = refl; failed_notes = refl } }
+pub starved_answers : {form : Form} {bounds : StoreBounds} {p q : Progress} (m : Machine) → Answers form bounds p q → MayWantMemory q.standing → IsCutShort NoMemory form bounds p m q.told
+starved_answers {form} {bounds} {p} {q} m told may = record { mid = q; first = told; cuts = (refl, inr may); unnoted = record { failed = refl; notes = refl; failed_notes = refl } }
 
 -- However the events came to their end, none is left.
 pub none_left : (st : Standing) (bad : Option ℕ) → ComesToEnd st bad → events_of st ≡ []

@@ -85,8 +85,8 @@ done_leaves_by o form bounds most source source_now desk desk_now bytes (inr r) 
     let used : take most r.serves.taken ≡ bytes = done_used (taking_of form most) bounds r.machine bytes (o.left source) (o.left source_now) (o.seen desk) (o.seen desk_now) left r.serves in
     r.elsewhere refl told (ap (λ (u : List ℕ). mark_at (last_machine form bounds r.machine u).place) used ∙ last_mark form bounds r.machine bytes none)
 
-pub done_leaves : {S D : Type 0} (o : Outside S D) (bounds : Bounds) (form : Form) (source source_now : S) (desk desk_now : D) (bytes : List ℕ)
-    → Runs o bounds (Some (Replay form)) source source_now desk desk_now Done → o.left source ≡ Some bytes → IsTrue o.tells → ask_for_compact (completed form bytes) ≡ false
+pub done_leaves : {S D : Type 0} (o : Outside S D) (bounds : Bounds) (words : List (List ℕ)) (form : Form) (source source_now : S) (desk desk_now : D) (bytes : List ℕ)
+    → Runs o bounds words (Some (Replay form)) source source_now desk desk_now Done → o.left source ≡ Some bytes → IsTrue o.tells → ask_for_compact (completed form bytes) ≡ false
     → LeavesOtherSlot (o.seen desk).reads (o.seen desk_now).reads
-done_leaves o bounds form source source_now desk desk_now bytes runs left told none =
+done_leaves o bounds words form source source_now desk desk_now bytes runs left told none =
     done_leaves_by o form (folder_bounds bounds) bounds.input source source_now desk desk_now bytes (runs.replay form refl) left told none

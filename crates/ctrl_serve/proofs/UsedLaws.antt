@@ -27,13 +27,14 @@ use Rattle.ctrl_serve.specs.SaidReplies.{joined}
 use Rattle.ctrl_serve.specs.FrameAnswer.{machine_behind, replies_to, last_machine}
 use Rattle.run_notes.specs.Inputs.{events_in, end_in, frames_in, is_fault, closed_rests, leaves_some, no_counts, rests_along}
 use Rattle.run_notes.specs.KnownSessions.{Known, known_in, known_along}
-use Rattle.ctrl_serve.specs.KnownReplies.{machine_along, reply_by, replies_along}
+use Rattle.ctrl_serve.specs.KnownReplies.{machine_after, machine_along, reply_by, replies_along}
 use Rattle.run_notes.specs.Notes.{ending_lines, fault_lines}
 use Rattle.run_notes.specs.NotesSoFar.{NotesMore}
 use Rattle.ctrl_serve.specs.Answering.{begun, NotesNothing, Progress, Telling}
 use Rattle.ctrl_serve.specs.Turns.{Answers, AnswersAll, AnswersSome, CutsNext, HasNext, IsCutShort, SaysCut}
 use Rattle.run_notes.specs.Endings.{status_at}
-use Rattle.ctrl_serve.proofs.KnownLaws.{replies_then, replies_from_start, machine_from_start}
+use Rattle.ctrl_serve.specs.UnsaidReplies.{IsOneAhead}
+use Rattle.ctrl_serve.proofs.KnownLaws.{machine_then, replies_then, replies_from_start, machine_from_start}
 use Rattle.run_notes.proofs.KnownLaws.{along_closed, along_faulty}
 use Rattle.run_notes.proofs.NoteLaws.{more_none, more_still, more_then}
 
@@ -128,15 +129,20 @@ starved_calm used st es goes (inr may) = no_fault_given used st es goes (may.pla
 pub so_calm : (form : Form) (used : List ℕ) (st : Standing) (es : List Event) → GoesTo (at_start form used) st es → HasNext st ⊎ MayWantMemory st → form ≡ Plain → list_any is_fault es ≡ false
 so_calm form used st es goes why is = starved_calm used st es (subst (λ (f : Form). GoesTo (at_start f used) st es) is goes) why
 
+-- Want of memory is no failed say.
+pub starved_said : NoMemory ≡ Unsaid → ⊥
+starved_said e = cc
+
 -- Nothing was answered.
-abbrev pub used_none : (form : Form) (bounds : StoreBounds) (m : Machine) (used : List ℕ) (told : Telling) → AnswersSome NoMemory form bounds m used told told
-used_none form bounds m used told = record {
+abbrev pub used_none : (form : Form) (bounds : StoreBounds) (m : Machine) (used : List ℕ) (told : Telling) (now : Machine) → AnswersSome NoMemory form bounds m used told now told
+used_none form bounds m used told now = record {
   answered = [];
   unanswered = events_in form used;
   split = refl;
   said = [];
   took = Took-none told.desk.said;
   says = record { same = refl; calm = λ _. refl };
+  ahead = λ e. absurd (starved_said e);
   noted_is = more_none told.failed told.desk;
 }
 
@@ -162,24 +168,24 @@ next_reply form bounds m m1 k es s f known same =
     ∙ ap (λ (y : Known). replies_to form bounds m es ++ reply_by form bounds s f y (machine_along bounds es (known_in form) m) ∷ []) (sym known)
     ∙ ap (λ (y : Machine). replies_to form bounds m es ++ reply_by form bounds s f k y ∷ []) (sym same)
 
-pub says_so : (cut : Cut) (form : Form) (bounds : StoreBounds) (m : Machine) (used : List ℕ) {old : Telling} {q : Progress} {c : Option (List ℕ)}
-    → (told : Answers form bounds (begun form m used old) q) → CutsNext cut form bounds q.known q.machine q.standing q.told.desk.said c
+pub says_so : (cut : Cut) (form : Form) (bounds : StoreBounds) (m : Machine) (used : List ℕ) {old : Telling} {q : Progress} (now : Machine) {c : Option (List ℕ)}
+    → (told : Answers form bounds (begun form m used old) q) → CutsNext cut form bounds q now c
     → SaysSo cut form bounds m old.desk.said c told.answered (events_of q.standing)
-says_so NoMemory form bounds m used {old} {q} {c} told cuts =
+says_so NoMemory form bounds m used {old} {q} now {c} told cuts =
     let es : List Event = told.answered in
     record {
       said = joined (replies_to form bounds m es);
       took = says_whole form bounds m es old.desk.said q.told.desk.said c cuts.0 told.said;
       says = record { same = refl; calm = so_calm form used q.standing es told.goes cuts.1 };
     }
-says_so Disk form bounds m used {old} {q} {c} told cuts =
+says_so Disk form bounds m used {old} {q} now {c} told cuts =
     let es : List Event = told.answered in
     record {
       said = joined (replies_to form bounds m es);
       took = says_whole form bounds m es old.desk.said q.told.desk.said c cuts.4 told.said;
       says = record { session = cuts.0; frame = cuts.1; later = events_of cuts.2; first = next_first q.standing cuts.2 (Arrived cuts.0 cuts.1) cuts.3; same = refl };
     }
-says_so Unsaid form bounds m used {old} {q} {c} told cuts =
+says_so Unsaid form bounds m used {old} {q} now {c} told cuts =
     let es : List Event = told.answered in
     let s : ℕ = cuts.0 in
     let f : Frame = cuts.1 in
@@ -202,17 +208,35 @@ says_so Unsaid form bounds m used {old} {q} {c} told cuts =
       };
     }
 
+-- Where it was not taken whole, the machine is one frame ahead.
+pub one_ahead : (cut : Cut) (form : Form) (bounds : StoreBounds) (m : Machine) (used : List ℕ) {old : Telling} {q : Progress} {now : Machine} (c : Option (List ℕ))
+    → (told : Answers form bounds (begun form m used old) q) → CutsNext cut form bounds q now c → cut ≡ Unsaid → IsOneAhead form bounds m told.answered (events_of q.standing) now
+one_ahead NoMemory form bounds m used c told cuts is = absurd cc
+one_ahead Disk form bounds m used c told cuts is = absurd cc
+one_ahead Unsaid form bounds m used {old} {q} {now} c told cuts is =
+    let es : List Event = told.answered in
+    let e : Event = Arrived cuts.0 cuts.1 in
+    record {
+      session = cuts.0;
+      frame = cuts.1;
+      later = events_of cuts.2;
+      first = next_first q.standing cuts.2 e cuts.3;
+      behind =
+          cuts.5 ∙ ap (λ (k : Known). machine_after bounds e k q.machine) told.known_is ∙ ap (machine_after bounds e (known_along es (known_in form))) told.machine_is
+          ∙ sym (machine_then bounds es (e ∷ []) (known_in form) m) ∙ machine_from_start form bounds (es ++ e ∷ []) m;
+    }
+
 -- What was noted was noted still, where nothing was noted since.
 pub noted_behind : (old : Telling) {mid now : Telling} (lines : List ℕ) → NotesNothing mid now → NotesMore old.failed mid.failed lines old.desk mid.desk → NotesMore old.failed now.failed lines old.desk now.desk
 noted_behind old {mid} {now} lines none more =
     subst (λ (g : Bool). NotesMore old.failed g lines old.desk now.desk) (sym none.failed) (more_still old.failed mid.failed lines old.desk mid.desk now.desk none.notes none.failed_notes more)
 
 -- The next event was cut short.
-abbrev pub used_cut : (cut : Cut) (form : Form) (bounds : StoreBounds) (m : Machine) (used : List ℕ) {old now : Telling}
-    → IsCutShort cut form bounds (begun form m used old) now → AnswersSome cut form bounds m used old now
-used_cut cut form bounds m used {old} {now} told =
+abbrev pub used_cut : (cut : Cut) (form : Form) (bounds : StoreBounds) (m : Machine) (used : List ℕ) {old now : Telling} {machine : Machine}
+    → IsCutShort cut form bounds (begun form m used old) machine now → AnswersSome cut form bounds m used old machine now
+used_cut cut form bounds m used {old} {now} {machine} told =
     let es : List Event = told.first.answered in
-    let says = says_so cut form bounds m used {c = now.desk.said} told.first told.cuts in
+    let says = says_so cut form bounds m used machine {c = now.desk.said} told.first told.cuts in
     record {
       answered = es;
       unanswered = events_of told.mid.standing;
@@ -220,6 +244,7 @@ used_cut cut form bounds m used {old} {now} told =
       said = says.said;
       took = says.took;
       says = says.says;
+      ahead = one_ahead cut form bounds m used now.desk.said told.first told.cuts;
       noted_is = noted_behind old (fault_lines es) told.unnoted told.first.noted_is;
     }
 
@@ -243,16 +268,17 @@ told_calm form used st k es end goes known why is =
     ending_calm used st k es end (subst (λ (f : Form). GoesTo (at_start f used) st es) is goes) (subst (λ (f : Form). k ≡ known_along es (known_in f)) is known) why
 
 -- For want of memory behind them, to tell how the run ended, where nothing more was said.
-abbrev pub used_starved : (form : Form) (bounds : StoreBounds) (m : Machine) (used : List ℕ) (end : End) {old now : Telling} {q : Progress}
+abbrev pub used_starved : (form : Form) (bounds : StoreBounds) (m : Machine) (used : List ℕ) (end : End) (machine : Machine) {old now : Telling} {q : Progress}
     → Answers form bounds (begun form m used old) q
     → (begins_bad (end_of q.standing) ≡ true) ⊎ (status_at q.known.faulty (leaves_some (end_of q.standing) q.known.closed) end ≡ Truncated) → now.desk.said ≡ q.told.desk.said
-    → NotesNothing q.told now → AnswersSome NoMemory form bounds m used old now
-used_starved form bounds m used end {old} {now} {q} told why still none = record {
+    → NotesNothing q.told now → AnswersSome NoMemory form bounds m used old machine now
+used_starved form bounds m used end machine {old} {now} {q} told why still none = record {
   answered = told.answered;
   unanswered = events_of q.standing;
   split = split_so form used q.standing told.answered told.goes;
   said = joined (replies_to form bounds m told.answered);
   took = says_whole form bounds m told.answered old.desk.said q.told.desk.said now.desk.said still told.said;
   says = record { same = refl; calm = told_calm form used q.standing q.known told.answered end told.goes told.known_is why };
+  ahead = λ e. absurd (starved_said e);
   noted_is = noted_behind old (fault_lines told.answered) none told.noted_is;
 }

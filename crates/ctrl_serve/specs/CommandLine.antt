@@ -6,8 +6,9 @@ use Rattle.std.specs.Str.{bytes_eq}
 use Rattle.std.specs.Str.Parse.{digits_value}
 use Rattle.std.specs.String.{string_bytes}
 use Rattle.std.specs.declared.string.String.{String}
+use Rattle.ctrl_model.specs.NameForm.{is_name}
 use Rattle.ctrl_serve.specs.declared.command_line.Form.{Form}
-use Rattle.ctrl_serve.specs.declared.command_line.Form.TheVariants.{Dry, Replay, Audit, Compact, Load}
+use Rattle.ctrl_serve.specs.declared.command_line.Form.TheVariants.{Dry, Replay, Audit, Compact, Load, Advise}
 use Rattle.session_mux.specs.declared.sessions.Form.TheVariants.{Plain, Trace}
 
 -- The bytes of each word.
@@ -39,7 +40,8 @@ form_of (word ∷ []) =
 form_of (word ∷ next ∷ []) =
     if bytes_eq word (codes "load") then option_map Load (number_of_word next)
     else if bytes_eq word (codes "replay") && bytes_eq next (codes "--sessions") then Some (Replay Trace) else None
-form_of (word ∷ next ∷ third ∷ words) = None
+form_of (word ∷ next ∷ third ∷ []) = if bytes_eq word (codes "advise") && (is_name next && is_name third) then Some Advise else None
+form_of (word ∷ next ∷ third ∷ fourth ∷ words) = None
 
 -- Whether what is asked for reads the input.
 abbrev pub reads_input : Form → Bool
@@ -48,3 +50,4 @@ reads_input (Replay form) = true
 reads_input Audit = false
 reads_input Compact = false
 reads_input (Load number) = false
+reads_input Advise = false

@@ -43,6 +43,11 @@ pub record GoesOn (old new : Serving) : Type 0 where
 abbrev pub FollowsStep : {D : Type 0} → (tells : Bool) (seen : D → Seen) (desk later : D) (old new : Serving) → Type 0
 FollowsStep tells seen desk later old new = IsSome old.kept → IsTrue tells → Follows old.machine new.machine (seen desk).reads (seen later).reads
 
+-- A controller can answer on, and is ready on a desk.
+pub record IsOn {D : Type 0} (tells : Bool) (seen : D → Seen) (stopped : D → Stopped) (desk : D) (old new : Serving) : Type 0 where
+  pub on : GoesOn old new
+  pub ready : IsReadyOn tells seen stopped desk new
+
 -- Under the core alone no call on the disk fails.
 abbrev pub FailsWithFolder : {T : Type 0} → Serving → Result T Cut → Type 0
 FailsWithFolder c result = c.kept ≡ None → IsErrOf result Disk → ⊥

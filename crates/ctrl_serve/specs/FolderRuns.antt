@@ -12,8 +12,8 @@ use Rattle.run_notes.specs.declared.ends.Full.{Full}
 use Rattle.run_notes.specs.declared.ends.Full.TheVariants as full
 use Rattle.run_notes.specs.declared.status.Status.{Status}
 use Rattle.run_notes.specs.declared.status.Status.TheVariants as ending
-use Rattle.run_notes.specs.NotedLines.{NotesLines, TellsDamage}
-use Rattle.run_notes.specs.Notes.{full_note, status_lines}
+use Rattle.run_notes.specs.NotedLines.{NotesLines}
+use Rattle.run_notes.specs.Notes.{damaged_note, full_note, status_lines}
 
 -- A run ended at one status, and these lines were noted.
 abbrev pub TellsEnd : (is : Status) → (lines : List ℕ) → (status : Status) → (before now : Seen) → Type 0
@@ -22,7 +22,7 @@ TellsEnd is lines status before now = (status ≡ is) × NotesLines lines before
 -- What was told of a folder that was not opened, by the fault of its opening, which is never Spent.
 abbrev pub TellsClosed : KeepFault → (status : Status) → (before now : Seen) → Type 0
 TellsClosed Disk status before now = TellsEnd ending.DiskFault (status_lines [] ending.DiskFault) status before now
-TellsClosed (Damaged part at) status before now = TellsDamage part at status before now
+TellsClosed (Damaged part at) status before now = TellsEnd ending.Damaged (damaged_note part at) status before now
 TellsClosed Spent status before now = ⊥
 TellsClosed NoMemory status before now = TellsEnd ending.NoMemory (status_lines [] ending.NoMemory) status before now
 

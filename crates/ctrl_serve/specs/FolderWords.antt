@@ -1,5 +1,5 @@
--- What the words `audit` and `compact` do with a folder (docs/PROMISES.md, "The headline").
-use Rattle.std.specs.Prelude.{◌≡◌, ◌<◌, Bool, true, IsTrue, [], length, Some, is_some}
+-- What the words `audit`, `advise` and `compact` do with a folder (docs/PROMISES.md, "The headline").
+use Rattle.std.specs.Prelude.{◌≡◌, ℕ, ◌<◌, Bool, true, IsTrue, List, [], length, Some, is_some}
 use Rattle.ziti_outside.specs.declared.desk.Part.TheVariants.{Mark}
 use Rattle.ziti_outside.specs.Images.{Image}
 use Rattle.ziti_outside.specs.Moments.{Elapses}
@@ -14,6 +14,7 @@ use Rattle.ctrl_model.specs.declared.replies.Reply.TheVariants.{Done, Refused}
 use Rattle.ctrl_model.specs.State.{State}
 use Rattle.ctrl_model.specs.ValidState.{ValidState}
 use Rattle.slot_files.specs.FolderImage.{slot_of, Stands, StandsAsBefore}
+use Rattle.policy_advisor.specs.Reports.{report_of}
 use Rattle.row_store.specs.declared.bounds.StoreBounds.{StoreBounds}
 use Rattle.row_store.specs.CompactedStores.{compacted}
 use Rattle.row_store.specs.OpenedStates.{byte_rows_of, OpensToState}
@@ -28,14 +29,22 @@ use Rattle.ctrl_serve.specs.Loads.{counts_line, SaysOneLine}
 use Rattle.ctrl_serve.specs.OpenedFolders.{Keeps, OpensTo}
 use Rattle.ctrl_serve.specs.RunStops.{AllOpenTo}
 
--- ---- audit
+-- ---- audit and advise
 
--- A run of `audit` on a folder that opens to a state, which is valid: it says the counts line of that state.
-pub record Audits (tells : Bool) (before now : Seen) (status : Status) : Type 0 where
+-- A run that looks at a folder, on one that opens to a state, which is valid: it says a line of that state.
+pub record Looks (line : State → List ℕ) (tells : Bool) (before now : Seen) (status : Status) : Type 0 where
   pub state : State
   pub valid : ValidState state
   pub opens : IsTrue tells → OpensToState before.reads state
-  pub says : SaysOneLine (counts_line state) before now status
+  pub says : SaysOneLine (line state) before now status
+
+-- Under `audit` the line is the counts line.
+abbrev pub Audits : (tells : Bool) (before now : Seen) (status : Status) → Type 0
+Audits tells before now status = Looks counts_line tells before now status
+
+-- Under `advise I S` it is the report on the names of an identity and of a service.
+abbrev pub Advises : (identity service : List ℕ) (tells : Bool) (before now : Seen) (status : Status) → Type 0
+Advises identity service tells before now status = Looks (λ s. report_of s identity service) tells before now status
 
 -- ---- compact
 

@@ -1,5 +1,5 @@
 -- What a run promises, for every line of words (docs/PROMISES.md, "The headline").
-use Rattle.std.specs.Prelude.{◌≡◌, ◌↔◌, ℕ, ◌+◌, ◌<◌, ◌≤◌, ◌^◌, ◌⊎◌, nat_lt, Bool, true, false, IsTrue, None, Some, is_some, List, [], ◌++◌, length, take}
+use Rattle.std.specs.Prelude.{◌≡◌, ◌↔◌, ℕ, ◌+◌, ◌<◌, ◌≤◌, ◌^◌, ◌⊎◌, nat_lt, Bool, true, false, IsTrue, None, Some, is_some, List, [], ◌∷◌, ◌++◌, codes, length, take}
 use Rattle.std.specs.declared.option.Option.{Option}
 use Rattle.std.specs.Io.KnownBytes.{IsAtEnd}
 use Rattle.ziti_outside.specs.Told.{Gave, Took, AreTaken}
@@ -24,7 +24,7 @@ use Rattle.session_mux.specs.declared.events.Event.{Event}
 use Rattle.session_mux.specs.declared.sessions.Form.{Form}
 use Rattle.session_mux.specs.declared.sessions.Form.TheVariants.{Plain}
 use Rattle.ctrl_serve.specs.declared.command_line.Form as command
-use Rattle.ctrl_serve.specs.declared.command_line.Form.TheVariants.{Dry, Replay, Audit, Compact, Load}
+use Rattle.ctrl_serve.specs.declared.command_line.Form.TheVariants.{Dry, Replay, Audit, Compact, Load, Advise}
 use Rattle.run_notes.specs.declared.status.Status.{Status}
 use Rattle.run_notes.specs.declared.status.Status.TheVariants.{Done, Usage, ReadFault, WriteFault, DiskFault, Damaged, NoMemory}
 use Rattle.ctrl_serve.specs.CommandLine.{reads_input}
@@ -36,8 +36,9 @@ use Rattle.run_notes.specs.Inputs.{events_in}
 use Rattle.run_notes.specs.Endings.{ending, is_cut, is_kept}
 use Rattle.ctrl_serve.specs.SaidReplies.{Says}
 use Rattle.ctrl_serve.specs.Loads.{counts_line, state_of_load, SaysOneLine, IsSaid}
-use Rattle.ctrl_serve.specs.FolderWords.{Audits, Compacts}
+use Rattle.ctrl_serve.specs.FolderWords.{Advises, Audits, Compacts}
 use Rattle.ctrl_serve.specs.RunStops.{AllOpenTo, StopFinds}
+use Rattle.ctrl_serve.specs.UnsaidReplies.{KeepsOneAhead}
 use Rattle.ctrl_serve.specs.UncompactedFolders.{CompactsNothing, LeavesOtherSlot}
 use Rattle.run_notes.specs.Notes.{usage_note, damaged_note, status_lines, notes_of}
 
@@ -143,7 +144,8 @@ pub record Refuses {S D : Type 0} (tells : Bool) (seen : D → Seen) (stopped : 
 -- Where it ended with all kept, the folder keeps the machine behind all frames of the used bytes: exactly the rows of its state, and its
 -- place; and what a stop may leave then opens to that state. For whatever batches it stood before the run, it stands for those that the run
 -- makes of them (`last_batches`); and where its mark was not empty and the machine behind all frames is the one at the opening, every part
--- reads as before. Where the run carried out no Compact, the slot that did not stand reads as before, and so does the mark unless it was
+-- reads as before. Where a say failed, the folder keeps the machine behind the frame whose reply was not taken whole: it is one frame ahead of
+-- the replies. Where the run carried out no Compact, the slot that did not stand reads as before, and so does the mark unless it was
 -- empty. Where what granted each circuit stands at the opening, as it does of a folder begun empty, it stands behind the frames of
 -- each front of the input.
 --
@@ -164,6 +166,7 @@ pub record Replays {S D : Type 0} (taking : Taking) (bounds : StoreBounds) (o : 
       → (o.seen desk_now).reads ≡ (o.seen desk).reads
   pub elsewhere : is_kept status ≡ true → IsTrue o.tells → CompactsNothing machine (last_machine taking.form bounds machine (take taking.most serves.taken))
       → LeavesOtherSlot (o.seen desk).reads (o.seen desk_now).reads
+  pub ahead : status ≡ WriteFault → IsTrue o.tells → KeepsOneAhead taking.form bounds machine serves.answered serves.unanswered (o.seen desk_now).reads (o.stopped desk_now).images
   pub granted : AreGranted machine.state → (n : ℕ) → AreGranted (last_machine taking.form bounds machine (take n serves.taken)).state
   pub stops : IsTrue o.tells → AllOpenTo (o.stopped desk).images machine.state
       → Elapses (o.stopped desk) (o.stopped desk_now) (StopFinds taking.form bounds machine (events_in taking.form (take taking.most serves.taken)) (o.seen desk).said)
@@ -171,12 +174,12 @@ pub record Replays {S D : Type 0} (taking : Taking) (bounds : StoreBounds) (o : 
       (λ image taken. StopFinds taking.form bounds machine (events_in taking.form (take taking.most serves.taken)) (o.seen desk).said image taken
       ⊎ Now (After StandsAsBefore (o.stopped desk).images) (o.seen desk).said image taken)
 
--- A run that was asked for a line of the table of words, or for none of its lines.
+-- A run on some words, which ask for a line of the table of words, or for none of its lines.
 --
 -- Usage comes exactly where the words are no line. Then nothing is taken, the usage note is written, and the desk is left alone
 -- otherwise: nothing is said, and the folder stays, at every moment.
 --
--- A fault comes only where its count rose in this run. A failed take cuts the run short, and nothing is taken after it. A failed
+-- A fault comes only where its count rose in this run. A failed take ends the run with ReadFault, and nothing is taken after it. A failed
 -- say ends the run with WriteFault, and a failed call on the disk with DiskFault. No count falls, or rises by more than one.
 --
 -- Under `dry` the replies are the controller's, the status is the one that the input decides, and the notes tell both; the folder
@@ -191,12 +194,14 @@ pub record Replays {S D : Type 0} (taking : Taking) (bounds : StoreBounds) (o : 
 -- Under `audit` nothing is taken, and the folder is left alone. Where it opens to a state, the counts line of that state is said; where
 -- it opens to none, nothing is said.
 --
+-- Under `advise I S`, whose last two words are names, the same holds of the report on the identity and the service of these names.
+--
 -- Under `compact` nothing is taken and said. The folder is opened first; where it opens to a machine, it is compacted, or the compaction is
 -- refused for want of room, with the status FolderFull.
 --
 -- Under all words no slot reads longer at the end than the bound, unless it read longer at the start; then it reads no longer than that. So
 -- it is of what a stop may leave at the end, against what one might have left at the start.
-pub record Runs {S D : Type 0} (o : Outside S D) (bounds : Bounds) (form : Option command.Form) (source source_now : S) (desk desk_now : D) (status : Status) : Type 0 where
+pub record Runs {S D : Type 0} (o : Outside S D) (bounds : Bounds) (words : List (List ℕ)) (form : Option command.Form) (source source_now : S) (desk desk_now : D) (status : Status) : Type 0 where
   pub usage : (status ≡ Usage) ↔ (form ≡ None)
   pub usage_takes_nothing : form ≡ None → source_now ≡ source
   pub usage_notes_alone : form ≡ None → OnlyNotes o.seen o.stopped desk desk_now
@@ -204,7 +209,7 @@ pub record Runs {S D : Type 0} (o : Outside S D) (bounds : Bounds) (form : Optio
   pub usage_note : form ≡ None → NotesLines usage_note (o.seen desk) (o.seen desk_now)
   pub read_fault : status ≡ ReadFault → Rose (o.faults source) (o.faults source_now)
   pub write_fault : status ≡ WriteFault → Rose (o.seen desk).say_faults (o.seen desk_now).say_faults
-  pub failed_take : is_cut status ≡ false → o.faults source_now ≡ o.faults source
+  pub failed_take : (status ≡ ReadFault → ⊥) → o.faults source_now ≡ o.faults source
   pub failed_say : (status ≡ WriteFault → ⊥) → (o.seen desk_now).say_faults ≡ (o.seen desk).say_faults
   pub read_faults_once : RisesOnce (o.faults source) (o.faults source_now)
   pub say_faults_once : RisesOnce (o.seen desk).say_faults (o.seen desk_now).say_faults
@@ -230,6 +235,11 @@ pub record Runs {S D : Type 0} (o : Outside S D) (bounds : Bounds) (form : Optio
       ⊎ Audits o.tells (o.seen desk) (o.seen desk_now) status
   pub audit_takes_nothing : form ≡ Some Audit → source_now ≡ source
   pub audit_changes_nothing : form ≡ Some Audit → IsLeftAlone o.seen o.stopped desk desk_now
+  pub advise : (i s : List ℕ) → words ≡ codes "advise" ∷ i ∷ s ∷ [] → form ≡ Some Advise
+      → IsUnopened o.tells o.seen o.stopped desk desk_now status
+      ⊎ Advises i s o.tells (o.seen desk) (o.seen desk_now) status
+  pub advise_takes_nothing : form ≡ Some Advise → source_now ≡ source
+  pub advise_changes_nothing : form ≡ Some Advise → IsLeftAlone o.seen o.stopped desk desk_now
   pub compact : form ≡ Some Compact
       → IsUnopened o.tells o.seen o.stopped desk desk_now status
       ⊎ Compacts (folder_bounds bounds) o.tells (o.seen desk) (o.seen desk_now) (o.stopped desk) (o.stopped desk_now) status

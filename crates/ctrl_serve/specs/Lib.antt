@@ -7,9 +7,11 @@ pub mod OpenedFolders
 pub mod WorkedAnswers
 pub mod Loads
 pub mod RunStops
+pub mod UnsaidReplies
 pub mod FolderWords
 pub mod FolderRuns
 pub mod UncompactedFolders
+pub mod LookedLines
 pub mod Headline
 pub mod Controllers
 pub mod ControllerViews
@@ -22,3 +24,4 @@ pub mod Runs
 pub use Rattle.run_notes.specs.Statuses
 pub mod WorkedStops
 pub mod CompleteRuns
+pub mod LeftFolders

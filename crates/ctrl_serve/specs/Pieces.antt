@@ -15,7 +15,6 @@ use Rattle.run_notes.specs.declared.ends.End.TheVariants.{Whole, More, Fault}
 use Rattle.run_notes.specs.declared.ends.Cut.{Cut}
 use Rattle.run_notes.specs.declared.status.Status.{Status}
 use Rattle.run_notes.specs.declared.status.Status.TheVariants.{ReadFault}
-use Rattle.run_notes.specs.Endings.{is_cut}
 use Rattle.run_notes.specs.Inputs.{events_in}
 use Rattle.run_notes.specs.KnownSessions.{known_in}
 use Rattle.ctrl_serve.specs.Answering.{begun, Progress, Telling}
@@ -43,9 +42,9 @@ HasFault Whole before now = now ≡ before
 HasFault More before now = now ≡ before
 HasFault Fault before now = Rose before now
 
--- A read fault came only where the count of failed takes rose, and a run that was not cut short passed over none.
+-- A read fault came only where the count of failed takes rose, and that count stays where no read fault came.
 pub record IsReadCaused (before now : ℕ) (status : Status) : Type 0 where
-  pub calm : is_cut status ≡ false → now ≡ before
+  pub calm : (status ≡ ReadFault → ⊥) → now ≡ before
   pub rose : status ≡ ReadFault → Rose before now
 
 -- How an input is taken: its form, how many bytes of it are used at most, what answers it, and whether the desk tells its folder.
@@ -96,9 +95,9 @@ pub record EndsPieces (i : Intake) (o : Passage) (now : Progress) (end : End) : 
   pub ends : EndsSo end i.most o.left_now takes.taken (is_decided i.form (take i.most takes.taken))
 
 -- The answering was cut short behind some events of the used bytes.
-pub record CutsInput (cut : Cut) (i : Intake) (o : Passage) (now : Telling) : Type 0 where
+pub record CutsInput (cut : Cut) (i : Intake) (o : Passage) (machine : Machine) (now : Telling) : Type 0 where
   pub takes : TakesPieces i o
-  pub some : AnswersSome cut i.form i.from.bounds i.from.machine (take i.most takes.taken) o.told now
+  pub some : AnswersSome cut i.form i.from.bounds i.from.machine (take i.most takes.taken) o.told machine now
   pub near : StaysNear i.form i.most takes.taken some.answered
 
 -- All events of the used bytes were answered, and the ending was told; the machine is the last one.
@@ -113,4 +112,4 @@ pub record EndsInput (status : Status) (i : Intake) (o : Passage) (machine : Mac
 -- What comes of the input, and what is so of its used bytes where all their events were answered.
 abbrev pub AnswersInput : Result Status Cut → (i : Intake) (o : Passage) (machine : Machine) (now : Telling) (follows : List ℕ → Type 0) → Type 0
 AnswersInput (Ok status) i o machine now follows = (ends : EndsInput status i o machine now) × follows (take i.most ends.takes.taken)
-AnswersInput (Err cut) i o machine now follows = CutsInput cut i o now
+AnswersInput (Err cut) i o machine now follows = CutsInput cut i o machine now

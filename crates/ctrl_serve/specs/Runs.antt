@@ -1,5 +1,5 @@
 -- What the parts of a run do, up to the headline. Only private contracts cite these.
-use Rattle.std.specs.Prelude.{◌≡◌, ℕ, Bool, true, false, IsTrue, IsSome, is_some, List, take}
+use Rattle.std.specs.Prelude.{◌≡◌, ℕ, Bool, true, IsTrue, IsSome, is_some, List, take}
 use Rattle.std.specs.declared.option.Option.{Option}
 use Rattle.ziti_outside.specs.Images.{Image}
 use Rattle.ziti_outside.specs.Causes.{Rose}
@@ -16,8 +16,9 @@ use Rattle.ctrl_serve.specs.OpenedFolders.{Keeps}
 use Rattle.ctrl_serve.specs.FollowedFolders.{FollowsInput}
 use Rattle.ctrl_serve.specs.FrameAnswer.{last_machine}
 use Rattle.run_notes.specs.Inputs.{events_in}
-use Rattle.run_notes.specs.Endings.{is_cut, is_kept}
+use Rattle.run_notes.specs.Endings.{is_kept}
 use Rattle.ctrl_serve.specs.RunStops.{StopFinds}
+use Rattle.ctrl_serve.specs.UnsaidReplies.{KeepsOneAhead}
 use Rattle.ctrl_serve.specs.Headline.{Serves, Taking}
 
 -- A write fault came only where the count of failed says rose, by one at most, and it stays where no write fault came.
@@ -46,11 +47,13 @@ pub record RunsOn {S D : Type 0} (taking : Taking) (c : Serving) (o : Outside S 
   pub follows : IsSome c.kept → is_kept status ≡ true → IsTrue o.tells → FollowsInput taking.form c.bounds c.machine (o.seen desk).reads (o.seen desk_now).reads (take taking.most serves.taken)
   pub stops : IsSome c.kept → IsTrue o.tells
       → Elapses (o.stopped desk) (o.stopped desk_now) (StopFinds taking.form c.bounds c.machine (events_in taking.form (take taking.most serves.taken)) (o.seen desk).said)
+  pub ahead : IsSome c.kept → status ≡ WriteFault → IsTrue o.tells
+      → KeepsOneAhead taking.form c.bounds c.machine serves.answered serves.unanswered (o.seen desk_now).reads (o.stopped desk_now).images
 
 -- Each fault comes only where its count rose, no count falls or rises by more than one, and a failed take is the last.
 pub record CountsFaults {S D : Type 0} (left : S → Option (List ℕ)) (faults : S → ℕ) (seen : D → Seen) (source source_now : S) (desk desk_now : D) (status : Status) : Type 0 where
   pub read_fault : status ≡ ReadFault → Rose (faults source) (faults source_now)
-  pub failed_take : is_cut status ≡ false → faults source_now ≡ faults source
+  pub failed_take : (status ≡ ReadFault → ⊥) → faults source_now ≡ faults source
   pub write : IsWriteCaused (seen desk).say_faults (seen desk_now).say_faults status
   pub disk : IsDiskCaused (seen desk).disk_faults (seen desk_now).disk_faults status
   pub read_faults_once : RisesOnce (faults source) (faults source_now)

@@ -22,6 +22,7 @@ use Rattle.ctrl_serve.specs.Controllers.{Turn}
 use Rattle.ctrl_serve.specs.declared.serving.Address.{Address}
 use Rattle.run_notes.specs.declared.status.Status.{Status}
 use Rattle.ctrl_serve.specs.FrameAnswer.{frame_answer, reply_text, replies_to}
+use Rattle.ctrl_serve.specs.UnsaidReplies.{IsOneAhead}
 use Rattle.run_notes.specs.Inputs.{events_in, is_bad_input, has_rest}
 use Rattle.run_notes.specs.Endings.{status_at}
 use Rattle.ctrl_serve.specs.SaidReplies.{SaysFront, SaysBefore, SaysStarved, joined}
@@ -102,19 +103,20 @@ abbrev pub HasNext : Standing → Type 0
 HasNext st = (e : Event) × (later : Standing) × GoesTo st later (e ∷ [])
 
 -- Where the events were cut short: nothing was said for want of memory, where an event is next or memory may be wanted for it; or a frame is next,
--- and the disk failed before its reply, or a front of the reply was said.
-abbrev pub CutsNext : Cut → Form → (bounds : StoreBounds) → Known → Machine → Standing → Option (List ℕ) → Option (List ℕ) → Type 0
-CutsNext NoMemory form bounds known before st said_before said_now = (said_now ≡ said_before) × (HasNext st ⊎ MayWantMemory st)
-CutsNext Disk form bounds known before st said_before said_now =
-    (s : ℕ) × (f : Frame) × (later : Standing) × GoesTo st later (Arrived s f ∷ []) × (said_now ≡ said_before)
-CutsNext Unsaid form bounds known before st said_before said_now =
-    (s : ℕ) × (f : Frame) × (later : Standing) × GoesTo st later (Arrived s f ∷ []) × TookFront said_before said_now (reply_by form bounds s f known before)
+-- and the disk failed before its reply, or a front of the reply was said, and the machine now is the one behind the frame.
+abbrev pub CutsNext : Cut → Form → (bounds : StoreBounds) → (mid : Progress) (machine_now : Machine) (said_now : Option (List ℕ)) → Type 0
+CutsNext NoMemory form bounds mid machine_now said_now = (said_now ≡ mid.told.desk.said) × (HasNext mid.standing ⊎ MayWantMemory mid.standing)
+CutsNext Disk form bounds mid machine_now said_now =
+    (s : ℕ) × (f : Frame) × (later : Standing) × GoesTo mid.standing later (Arrived s f ∷ []) × (said_now ≡ mid.told.desk.said)
+CutsNext Unsaid form bounds mid machine_now said_now =
+    (s : ℕ) × (f : Frame) × (later : Standing) × GoesTo mid.standing later (Arrived s f ∷ [])
+    × TookFront mid.told.desk.said said_now (reply_by form bounds s f mid.known mid.machine) × (machine_now ≡ machine_after bounds (Arrived s f) mid.known mid.machine)
 
 -- The events were answered so far, and the next one was cut short, with nothing noted of it.
-pub record IsCutShort (cut : Cut) (form : Form) (bounds : StoreBounds) (old : Progress) (now : Telling) : Type 0 where
+pub record IsCutShort (cut : Cut) (form : Form) (bounds : StoreBounds) (old : Progress) (machine_now : Machine) (now : Telling) : Type 0 where
   pub mid : Progress
   pub first : Answers form bounds old mid
-  pub cuts : CutsNext cut form bounds mid.known mid.machine mid.standing mid.told.desk.said now.desk.said
+  pub cuts : CutsNext cut form bounds mid machine_now now.desk.said
   pub unnoted : NotesNothing mid.told now
 
 -- What a stop within the loop finds: it fell within the turn of the frame that arrives behind some answered events.
@@ -144,12 +146,13 @@ pub record AnswersAll (form : Form) (bounds : StoreBounds) (m : Machine) (used :
   pub ends : status ≡ status_at (is_bad_input form used) (has_rest form used) end
   pub noted_is : NotesMore old.failed new.failed (notes_of form (events_in form used) used status) old.desk new.desk
 
--- Or the answering was cut short behind some of them.
-pub record AnswersSome (cut : Cut) (form : Form) (bounds : StoreBounds) (m : Machine) (used : List ℕ) (old new : Telling) : Type 0 where
+-- Or the answering was cut short behind some of them, and where a reply was not taken whole the machine now is one frame ahead.
+pub record AnswersSome (cut : Cut) (form : Form) (bounds : StoreBounds) (m : Machine) (used : List ℕ) (old : Telling) (machine_now : Machine) (new : Telling) : Type 0 where
   pub answered : List Event
   pub unanswered : List Event
   pub split : answered ++ unanswered ≡ events_in form used
   pub said : List ℕ
   pub took : Took old.desk.said new.desk.said said
   pub says : SaysCut cut form bounds m said answered unanswered
+  pub ahead : cut ≡ Unsaid → IsOneAhead form bounds m answered unanswered machine_now
   pub noted_is : NotesMore old.failed new.failed (fault_lines answered) old.desk new.desk

@@ -1,6 +1,8 @@
 ghost use Rattle.std.specs.Prelude.{◌≡◌};
 ghost use Rattle.ctrl_serve.specs.CommandLine.{form_of, is_padded, number_of_word, texts};
 
+use ctrl_model::Name;
+
 /// What a line of words runs.
 #[derive(Clone, Copy, Debug, PartialEq, Eq)]
 pub enum Form {
@@ -14,6 +16,8 @@ pub enum Form {
     Compact,
     /// The generated load of this number, without a folder.
     Load(u32),
+    /// The advice on an identity and a service, by the folder, which is left alone. Their names are the second and the third word.
+    Advise,
 }
 
 // Whether a text begins with a plus, or with a zero before another byte.
@@ -33,7 +37,8 @@ fn number_of_word(word: &str) -> Option<u32>
     word.parse::<u32>().ok()
 }
 
-/// What the words run, if they are a line of the table of words: `dry`, `replay`, `replay --sessions`, `audit`, `compact` and `load N`.
+/// What the words run, if they are a line of the table of words: `dry`, `replay`, `replay --sessions`, `audit`, `compact`, `load N` and
+/// `advise I S`, of which the last two are names.
 pub fn form_of(words: &[String]) -> Option<Form>
     ensures { result ≡ form_of (texts words.now) }
 {
@@ -55,6 +60,10 @@ pub fn form_of(words: &[String]) -> Option<Form>
                 && next.as_bytes() == b"--sessions".as_slice() => {
             Some(Form::Replay(session_mux::Form::Trace))
         }
+        [word, identity, service]
+            if word.as_bytes() == b"advise".as_slice()
+                && Name::is(identity.as_bytes())
+                && Name::is(service.as_bytes()) => Some(Form::Advise),
         _ => None,
     }
 }

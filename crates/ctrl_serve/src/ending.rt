@@ -1,4 +1,4 @@
-ghost use Rattle.std.specs.Prelude.{◌≡◌, ◌≢◌, None, IfOk, IfErr, drop};
+ghost use Rattle.std.specs.Prelude.{◌≡◌, ◌≢◌, [], None, IfOk, IfErr, drop};
 ghost use Rattle.std.specs.Process.{exit_status};
 ghost use Rattle.std.specs.IoError.{error_kind};
 ghost use Rattle.ctrl_serve.specs.CommandLine.{form_of, texts};
@@ -23,10 +23,10 @@ fn run_given<S: Source, D: Desk>(
     desk: &mut D,
 ) -> Status
     ensures words { IfOk given (λ words. Runs (record { left = S.left; faults = S.faults; tells = D.tells; seen = D.seen; stopped = D.stopped })
-        program_bounds (form_of (texts (drop 1 words.items))) source.old source.new desk.old desk.new result) }
+        program_bounds (texts (drop 1 words.items)) (form_of (texts (drop 1 words.items))) source.old source.new desk.old desk.new result) }
     ensures no_text { IfErr given (λ error. error_kind error ≢ ErrorKind.OutOfMemory
         → Runs (record { left = S.left; faults = S.faults; tells = D.tells; seen = D.seen; stopped = D.stopped })
-        program_bounds None source.old source.new desk.old desk.new result) }
+        program_bounds [] None source.old source.new desk.old desk.new result) }
     ensures no_memory { IfErr given (λ error. error_kind error ≡ ErrorKind.OutOfMemory
         → (result ≡ Status.NoMemory) × (source.new ≡ source.old) × (desk.new ≡ desk.old)) }
 {
@@ -54,10 +54,10 @@ pub fn ends<S: Source, D: Desk>(
     desk: &mut D,
 ) -> ExitCode
     ensures words { IfOk given (λ words. (status : Status) × Runs (record { left = S.left; faults = S.faults; tells = D.tells; seen = D.seen; stopped = D.stopped })
-        program_bounds (form_of (texts (drop 1 words.items))) source.old source.new desk.old desk.new status × (exit_status result ≡ number_of status)) }
+        program_bounds (texts (drop 1 words.items)) (form_of (texts (drop 1 words.items))) source.old source.new desk.old desk.new status × (exit_status result ≡ number_of status)) }
     ensures no_text { IfErr given (λ error. error_kind error ≢ ErrorKind.OutOfMemory
         → (status : Status) × Runs (record { left = S.left; faults = S.faults; tells = D.tells; seen = D.seen; stopped = D.stopped })
-        program_bounds None source.old source.new desk.old desk.new status × (exit_status result ≡ number_of status)) }
+        program_bounds [] None source.old source.new desk.old desk.new status × (exit_status result ≡ number_of status)) }
     ensures no_memory { IfErr given (λ error. error_kind error ≡ ErrorKind.OutOfMemory
         → (exit_status result ≡ number_of Status.NoMemory) × (source.new ≡ source.old) × (desk.new ≡ desk.old)) }
 {

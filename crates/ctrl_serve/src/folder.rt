@@ -7,13 +7,15 @@ ghost use Rattle.ctrl_keep.specs.KeptController.{HoldsRows, machine_of};
 ghost use Rattle.row_store.specs.OpenedStates.{OpensToState};
 ghost use Rattle.run_notes.specs.NotedLines.{FindsNoMore, RisesOnce};
 ghost use Rattle.ctrl_serve.specs.FolderRuns.{TellsClosed, TellsCompaction, TellsRoom, full_in};
-ghost use Rattle.ctrl_serve.specs.FolderWords.{Audits, Compacts, EndsCompaction};
+ghost use Rattle.ctrl_serve.specs.FolderWords.{Compacts, EndsCompaction, Looks};
 ghost use Rattle.ctrl_serve.specs.Headline.{IsLeftAlone, IsUnopened, OnlySaysAndNotes};
-ghost use Rattle.ctrl_serve.specs.Loads.{counts_line as line_of_counts, SaysOneLine};
+ghost use Rattle.ctrl_serve.specs.Loads.{SaysOneLine};
+ghost use Rattle.ctrl_serve.specs.LookedLines.{HasNames, line_of as line_asked};
 ghost use Rattle.ctrl_serve.specs.Runs.{IsDiskCaused, IsWriteCaused};
 
 use crate::controller::cut_of;
-use crate::loads::{counts_line, say_line};
+use crate::loads::say_line;
+use crate::looking::{Look, line_of};
 use ctrl_core::Core;
 use ctrl_keep::{KeepFault, Kept, peek};
 use ctrl_model::{Command, Refusal, Reply, Who};
@@ -22,8 +24,8 @@ use run_notes::{Cut, Full, Status, tell_cut, tell_damage, tell_full};
 use std::alloc::Global;
 use ziti_outside::Desk;
 
-/// Notes why the folder was not opened, and answers that status; for want of memory that one.
-pub(crate) fn tell_closed<D: Desk>(alloc: Global, fault: KeepFault, desk: &mut D) -> Status
+/// Notes why the folder was not opened, and answers that status. It wants no memory.
+pub(crate) fn tell_closed<D: Desk>(fault: KeepFault, desk: &mut D) -> Status
     requires { fault ≢ KeepFault.Spent }
     ensures told { TellsClosed fault result (D.seen desk.old) (D.seen desk.new) }
     ensures counted { RisesOnce (D.seen desk.old).note_faults (D.seen desk.new).note_faults }
@@ -32,39 +34,41 @@ pub(crate) fn tell_closed<D: Desk>(alloc: Global, fault: KeepFault, desk: &mut D
 {
     match fault {
         KeepFault::Disk => tell_cut(Cut::Disk, desk),
-        KeepFault::Damaged { part, at } => tell_damage(alloc, part, at, desk),
+        KeepFault::Damaged { part, at } => tell_damage(part, at, desk),
         KeepFault::NoMemory => tell_cut(Cut::NoMemory, desk),
         KeepFault::Spent => unreachable!(),
     }
 }
 
-// Says the counts line of a core. The core is dropped before the line is said.
-fn say_counts<D: Desk>(alloc: Global, core: Core, desk: &mut D) -> Status
+// Says the line that is asked for of a core. The core is dropped before the line is said.
+fn say_looked<D: Desk>(alloc: Global, look: &Look, core: Core, desk: &mut D) -> Status
     requires live { core.live ≡ true }
-    ensures says { SaysOneLine (line_of_counts core.state) (D.seen desk.old) (D.seen desk.new) result }
+    requires names { HasNames look.now }
+    ensures says { SaysOneLine (line_asked look.now core.state) (D.seen desk.old) (D.seen desk.new) result }
     ensures write_cause { IsWriteCaused (D.seen desk.old).say_faults (D.seen desk.new).say_faults result }
     ensures counted { RisesOnce (D.seen desk.old).note_faults (D.seen desk.new).note_faults }
     ensures others { OnlySaysAndNotes D.seen D.stopped desk.old desk.new }
 {
     let mut core = core;
-    let line = counts_line(alloc, &mut core);
+    let line = line_of(alloc, look, &mut core);
     drop(core);
     say_line(line, desk)
 }
 
-/// Says the counts line of the state to which the folder opens, by reading it alone: it is left as it is. Where it opens to none, that
-/// is noted and nothing is said.
-pub fn run_audit<D: Desk>(alloc: Global, desk: &mut D) -> Status
-    ensures audits { IsUnopened D.tells D.seen D.stopped desk.old desk.new result
-        ⊎ Audits D.tells (D.seen desk.old) (D.seen desk.new) result }
+/// Says the line that is asked for of the state to which the folder opens, by reading it alone: it is left as it is. Where it opens to
+/// none, that is noted and nothing is said.
+pub(crate) fn run_look<D: Desk>(alloc: Global, look: &Look, desk: &mut D) -> Status
+    requires { HasNames look.now }
+    ensures looks { IsUnopened D.tells D.seen D.stopped desk.old desk.new result
+        ⊎ Looks (line_asked look.now) D.tells (D.seen desk.old) (D.seen desk.new) result }
     ensures alone { IsLeftAlone D.seen D.stopped desk.old desk.new }
     ensures write_cause { IsWriteCaused (D.seen desk.old).say_faults (D.seen desk.new).say_faults result }
     ensures disk_cause { IsDiskCaused (D.seen desk.old).disk_faults (D.seen desk.new).disk_faults result }
     ensures counted { RisesOnce (D.seen desk.old).note_faults (D.seen desk.new).note_faults }
 {
     match peek(alloc, desk) {
-        Ok(core) => say_counts(alloc, core, desk),
-        Err(fault) => tell_closed(alloc, fault, desk),
+        Ok(core) => say_looked(alloc, look, core, desk),
+        Err(fault) => tell_closed(fault, desk),
     }
 }
 
@@ -140,6 +144,6 @@ pub fn run_compact<D: Desk>(alloc: Global, bounds: StoreBounds, desk: &mut D) ->
 {
     match Kept::open(alloc, desk, bounds) {
         Ok(kept) => compact_opened(kept, desk),
-        Err(fault) => tell_closed(alloc, fault, desk),
+        Err(fault) => tell_closed(fault, desk),
     }
 }

@@ -1,10 +1,11 @@
-ghost use Rattle.std.specs.Prelude.{◌≡◌, ◌⊎◌, ℕ, ◌≢◌, ◌<◌, ◌≤◌, ◌^◌, Bool, true, false, IsTrue, List, [], ◌++◌, codes, decimal, length, take, None, Some};
+ghost use Rattle.std.specs.Prelude.{◌≡◌, ◌⊎◌, ℕ, ◌≢◌, ◌<◌, ◌≤◌, ◌^◌, Bool, true, false, IsTrue, List, [], ◌∷◌, ◌++◌, codes, decimal, length, take, None, Some};
 ghost use Rattle.std.specs.declared.option.Option.{Option};
 ghost use Rattle.channel_frame.specs.declared.frames.Frame.{Frame};
 ghost use Rattle.channel_frame.specs.StreamReading.{Reads, fault_of, frames_of, rest_of};
 ghost use Rattle.ctrl_model.specs.declared.kinds.Who.TheVariants.{Admin};
 ghost use Rattle.ctrl_model.specs.State.{State};
 ghost use Rattle.ctrl_keep.specs.KeptMachine.{Machine};
+ghost use Rattle.policy_advisor.specs.Reports.{report_of};
 ghost use Rattle.row_store.specs.OpenedStates.{OpensToState, IsStateless};
 ghost use Rattle.row_store.specs.declared.bounds.StoreBounds.{StoreBounds};
 ghost use Rattle.session_mux.specs.declared.events.Event.{Event};
@@ -12,25 +13,29 @@ ghost use Rattle.session_mux.specs.declared.sessions.Form.{Form};
 ghost use Rattle.session_mux.specs.declared.sessions.Form.TheVariants.{Plain};
 ghost use Rattle.session_mux.specs.Completion.{completed};
 ghost use Rattle.run_notes.specs.declared.status.Status.{Status};
-ghost use Rattle.run_notes.specs.declared.status.Status.TheVariants.{Done, BadInput, Truncated, WriteFault, DiskFault, NoMemory};
+ghost use Rattle.run_notes.specs.declared.status.Status.TheVariants.{Done, BadInput, Truncated, ReadFault, WriteFault, DiskFault, Damaged, NoMemory};
 ghost use Rattle.ziti_outside.specs.Told.{IsFront, Took};
 ghost use Rattle.ziti_outside.specs.Causes.{Rose};
 ghost use Rattle.ziti_outside.specs.declared.desk.Part.{Part};
+ghost use Rattle.ziti_outside.specs.declared.desk.Part.TheVariants.{Mark};
+ghost use Rattle.journal_core.specs.Room.{IsWithin};
 ghost use Rattle.ziti_outside.specs.Images.{Image};
 ghost use Rattle.ctrl_serve.specs.SaidReplies.{SaysAll, SaysFront, joined, AreWhole, AreCut};
 ghost use Rattle.ctrl_serve.specs.FrameAnswer.{answers, each_reply, last_machine, machine_behind_alone, replies, spoken_alone};
 ghost use Rattle.run_notes.specs.Endings.{ending, is_kept};
 ghost use Rattle.run_notes.specs.Inputs.{events_in};
 ghost use Rattle.ctrl_serve.specs.Reading.{is_decided, StaysNear};
-ghost use Rattle.run_notes.specs.Notes.{session_note, status_lines};
+ghost use Rattle.run_notes.specs.Notes.{damaged_note, session_note, status_lines};
 ghost use Rattle.run_notes.specs.NotedLines.{NotesLines};
-ghost use Rattle.ctrl_serve.specs.Headline.{Serves, Replays, Runs, Taking, taking_of, folder_bounds};
+ghost use Rattle.ctrl_serve.specs.Headline.{Serves, Replays, Runs, Taking, taking_of, folder_bounds, IsLeftAlone};
+ghost use Rattle.ctrl_serve.specs.LeftFolders.{HoldsAlone, HoldsGranted, KeepsAllFrames};
 ghost use Rattle.ctrl_serve.specs.UncompactedFolders.{ask_for_compact, CompactsNothing, LeavesOtherSlot};
 ghost use Rattle.ctrl_serve.specs.Loads.{counts_line, IsSaid, SaysOneLine};
 ghost use Rattle.ctrl_serve.specs.RunStops.{StopFinds, HoldsFirst};
 ghost use Rattle.ctrl_serve.specs.OpenedFolders.{OpensTo};
-ghost use Rattle.ctrl_serve.specs.CommandLine.{number_of_word};
-ghost use Rattle.ctrl_serve.specs.declared.command_line.Form.TheVariants.{Replay, Audit, Compact};
+ghost use Rattle.ctrl_serve.specs.CommandLine.{form_of, number_of_word};
+ghost use Rattle.ctrl_serve.specs.declared.command_line.Form as command;
+ghost use Rattle.ctrl_serve.specs.declared.command_line.Form.TheVariants.{Replay, Audit, Compact, Advise};
 ghost use Rattle.ctrl_serve.specs.CompleteRuns.{IsCalm, CompletesFrom, ComesOutFrom};
 ghost use Rattle.ziti_outside.specs.Views.{Seen};
 ghost use Rattle.ctrl_serve.specs.declared.bounds.Bounds.{Bounds};
@@ -161,26 +166,101 @@ pub fn runs_without_compact_leave_the_other_slot<S: Source, D: Desk>()
         → (replays : Replays taking bounds (record { left = S.left; faults = S.faults; tells = D.tells; seen = D.seen; stopped = D.stopped }) source source_now desk desk_now status)
         → is_kept status ≡ true → IsTrue D.tells → ask_for_compact (completed taking.form (take taking.most replays.serves.taken)) ≡ false
         → LeavesOtherSlot (D.seen desk).reads (D.seen desk_now).reads }
-    ensures done { (bounds : Bounds) (form : Form) (source source_now : S) (desk desk_now : D) (bytes : List ℕ)
-        → Runs (record { left = S.left; faults = S.faults; tells = D.tells; seen = D.seen; stopped = D.stopped }) bounds (Some (Replay form)) source source_now desk desk_now Done
+    ensures done { (bounds : Bounds) (words : List (List ℕ)) (form : Form) (source source_now : S) (desk desk_now : D) (bytes : List ℕ)
+        → Runs (record { left = S.left; faults = S.faults; tells = D.tells; seen = D.seen; stopped = D.stopped }) bounds words (Some (Replay form)) source source_now desk desk_now Done
         → S.left source ≡ Some bytes → IsTrue D.tells → ask_for_compact (completed form bytes) ≡ false → LeavesOtherSlot (D.seen desk).reads (D.seen desk_now).reads }
 {}
 
 /// What a run on a folder comes to where no call failed, those of notes aside, and the folder tells its bytes and opens to a state. Want of memory
 /// is the one thing that may still cut it short. Otherwise `replay` is complete from the machine of that state: it ended as the bytes
-/// decide, and all replies were said; `audit` is done, and said the counts line of that state; and `compact` was done, or was refused for want of room where
+/// decide, and all replies were said; `audit` is done, and said the counts line of that state, and `advise` the report of that state on its two names; and `compact` was done, or was refused for want of room where
 /// the machine's step refuses it.
 pub fn runs_are_complete<S: Source, D: Desk>()
-    ensures replay { (bounds : Bounds) (form : Form) (source source_now : S) (desk desk_now : D) (status : Status) (s : State)
-        → Runs (record { left = S.left; faults = S.faults; tells = D.tells; seen = D.seen; stopped = D.stopped }) bounds (Some (Replay form)) source source_now desk desk_now status
+    ensures replay { (bounds : Bounds) (words : List (List ℕ)) (form : Form) (source source_now : S) (desk desk_now : D) (status : Status) (s : State)
+        → Runs (record { left = S.left; faults = S.faults; tells = D.tells; seen = D.seen; stopped = D.stopped }) bounds words (Some (Replay form)) source source_now desk desk_now status
         → IsTrue D.tells → OpensToState (D.seen desk).reads s → IsCalm (S.faults source) (S.faults source_now) → IsCalm (D.seen desk).say_faults (D.seen desk_now).say_faults → IsCalm (D.seen desk).disk_faults (D.seen desk_now).disk_faults
         → (status ≡ NoMemory) ⊎ CompletesFrom s (taking_of form bounds.input) (folder_bounds bounds) (S.left source) (S.left source_now) (D.seen desk) (D.seen desk_now) status }
-    ensures audit { (bounds : Bounds) (source source_now : S) (desk desk_now : D) (status : Status) (s : State)
-        → Runs (record { left = S.left; faults = S.faults; tells = D.tells; seen = D.seen; stopped = D.stopped }) bounds (Some Audit) source source_now desk desk_now status
+    ensures audit { (bounds : Bounds) (words : List (List ℕ)) (source source_now : S) (desk desk_now : D) (status : Status) (s : State)
+        → Runs (record { left = S.left; faults = S.faults; tells = D.tells; seen = D.seen; stopped = D.stopped }) bounds words (Some Audit) source source_now desk desk_now status
         → IsTrue D.tells → OpensToState (D.seen desk).reads s → IsCalm (D.seen desk).say_faults (D.seen desk_now).say_faults → IsCalm (D.seen desk).disk_faults (D.seen desk_now).disk_faults
         → IsSaid (counts_line s) (D.seen desk).said (D.seen desk_now).said status }
-    ensures compact { (bounds : Bounds) (source source_now : S) (desk desk_now : D) (status : Status) (s : State)
-        → Runs (record { left = S.left; faults = S.faults; tells = D.tells; seen = D.seen; stopped = D.stopped }) bounds (Some Compact) source source_now desk desk_now status
+    ensures advise { (bounds : Bounds) (identity service : List ℕ) (source source_now : S) (desk desk_now : D) (status : Status) (s : State)
+        → Runs (record { left = S.left; faults = S.faults; tells = D.tells; seen = D.seen; stopped = D.stopped }) bounds (codes "advise" ∷ identity ∷ service ∷ []) (Some Advise) source source_now desk desk_now status
+        → IsTrue D.tells → OpensToState (D.seen desk).reads s → IsCalm (D.seen desk).say_faults (D.seen desk_now).say_faults → IsCalm (D.seen desk).disk_faults (D.seen desk_now).disk_faults
+        → IsSaid (report_of s identity service) (D.seen desk).said (D.seen desk_now).said status }
+    ensures compact { (bounds : Bounds) (words : List (List ℕ)) (source source_now : S) (desk desk_now : D) (status : Status) (s : State)
+        → Runs (record { left = S.left; faults = S.faults; tells = D.tells; seen = D.seen; stopped = D.stopped }) bounds words (Some Compact) source source_now desk desk_now status
         → IsTrue D.tells → OpensToState (D.seen desk).reads s → IsCalm (D.seen desk).disk_faults (D.seen desk_now).disk_faults
         → (status ≡ NoMemory) ⊎ ComesOutFrom s (D.seen desk).reads (folder_bounds bounds) status }
+{}
+
+/// A call that failed in a run, as its count tells, is what the status tells: where a take failed it is ReadFault, where a say failed
+/// WriteFault, and where a call on the folder failed DiskFault. So in one run calls of one kind alone fail, those of notes aside.
+pub fn a_told_failure_is_the_status<S: Source, D: Desk>()
+    ensures take { (bounds : Bounds) (words : List (List ℕ)) (form : Option command.Form) (source source_now : S) (desk desk_now : D) (status : Status)
+        → Runs (record { left = S.left; faults = S.faults; tells = D.tells; seen = D.seen; stopped = D.stopped }) bounds words form source source_now desk desk_now status
+        → S.faults source < S.faults source_now → status ≡ ReadFault }
+    ensures say { (bounds : Bounds) (words : List (List ℕ)) (form : Option command.Form) (source source_now : S) (desk desk_now : D) (status : Status)
+        → Runs (record { left = S.left; faults = S.faults; tells = D.tells; seen = D.seen; stopped = D.stopped }) bounds words form source source_now desk desk_now status
+        → (D.seen desk).say_faults < (D.seen desk_now).say_faults → status ≡ WriteFault }
+    ensures disk { (bounds : Bounds) (words : List (List ℕ)) (form : Option command.Form) (source source_now : S) (desk desk_now : D) (status : Status)
+        → Runs (record { left = S.left; faults = S.faults; tells = D.tells; seen = D.seen; stopped = D.stopped }) bounds words form source source_now desk desk_now status
+        → (D.seen desk).disk_faults < (D.seen desk_now).disk_faults → status ≡ DiskFault }
+{}
+
+/// What `Done` says of a replay on a told folder that opened to a state, where the source told its bytes: the folder keeps the machine behind
+/// all frames of them, and opens to its state; and so does all that a stop may leave.
+pub fn done_keeps_all<S: Source, D: Desk>()
+    ensures folder { (bounds : Bounds) (words : List (List ℕ)) (form : Form) (source source_now : S) (desk desk_now : D) (bytes : List ℕ) (s : State)
+        → Runs (record { left = S.left; faults = S.faults; tells = D.tells; seen = D.seen; stopped = D.stopped }) bounds words (Some (Replay form)) source source_now desk desk_now Done
+        → S.left source ≡ Some bytes → IsTrue D.tells → OpensToState (D.seen desk).reads s
+        → KeepsAllFrames form (folder_bounds bounds) bytes s (D.seen desk).reads (D.seen desk_now).reads (D.stopped desk_now).images }
+{}
+
+/// No circuit outlives what granted it: where what grants each circuit stands in the state to which a told folder opens, it stands in the state
+/// to which the folder opens behind a replay that kept all, or whose say failed. In a folder without a mark, as a new one, it does.
+pub fn circuits_stand_on_what_grants_them<S: Source, D: Desk>()
+    ensures kept { (bounds : Bounds) (words : List (List ℕ)) (form : Form) (source source_now : S) (desk desk_now : D) (status : Status)
+        → Runs (record { left = S.left; faults = S.faults; tells = D.tells; seen = D.seen; stopped = D.stopped }) bounds words (Some (Replay form)) source source_now desk desk_now status
+        → IsTrue D.tells → HoldsGranted (D.seen desk).reads → is_kept status ≡ true → HoldsGranted (D.seen desk_now).reads }
+    ensures unsaid { (bounds : Bounds) (words : List (List ℕ)) (form : Form) (source source_now : S) (desk desk_now : D)
+        → Runs (record { left = S.left; faults = S.faults; tells = D.tells; seen = D.seen; stopped = D.stopped }) bounds words (Some (Replay form)) source source_now desk desk_now WriteFault
+        → IsTrue D.tells → HoldsGranted (D.seen desk).reads → HoldsGranted (D.seen desk_now).reads }
+    ensures begun_empty { (image : Image) → image Mark ≡ [] → HoldsGranted image }
+{}
+
+/// No run makes a slot longer than its bound: where no slot of a told folder read longer at the start none does at the end, whatever the words
+/// and whatever came of the run; and so it is of all that a stop may leave at the end, where it was of all that one might have left at the start.
+pub fn slots_keep_their_bound<S: Source, D: Desk>()
+    ensures reads { (bounds : Bounds) (words : List (List ℕ)) (form : Option command.Form) (source source_now : S) (desk desk_now : D) (status : Status)
+        → Runs (record { left = S.left; faults = S.faults; tells = D.tells; seen = D.seen; stopped = D.stopped }) bounds words form source source_now desk desk_now status
+        → IsTrue D.tells → IsWithin bounds.slot (D.seen desk).reads → IsWithin bounds.slot (D.seen desk_now).reads }
+    ensures found { (bounds : Bounds) (words : List (List ℕ)) (form : Option command.Form) (source source_now : S) (desk desk_now : D) (status : Status)
+        → Runs (record { left = S.left; faults = S.faults; tells = D.tells; seen = D.seen; stopped = D.stopped }) bounds words form source source_now desk desk_now status
+        → ((image : Image) → (D.stopped desk).images image → IsWithin bounds.slot image) → (image : Image) → (D.stopped desk_now).images image → IsWithin bounds.slot image }
+{}
+
+/// What `Done` says of `compact` on a told folder that opened to a state: it opens to the very same state, holds exactly its rows in the slot that
+/// did not stand before, and nothing in the other one; and all that a stop may leave opens to that state.
+pub fn done_compacts_all<S: Source, D: Desk>()
+    ensures folder { (bounds : Bounds) (words : List (List ℕ)) (source source_now : S) (desk desk_now : D) (s : State)
+        → Runs (record { left = S.left; faults = S.faults; tells = D.tells; seen = D.seen; stopped = D.stopped }) bounds words (Some Compact) source source_now desk desk_now Done
+        → IsTrue D.tells → OpensToState (D.seen desk).reads s → HoldsAlone s (D.seen desk).reads (D.seen desk_now).reads (D.stopped desk_now).images }
+{}
+
+/// What `Damaged` says under any words: nothing was taken and nothing said. A told folder was left alone, every part of it and all that a stop
+/// may leave at any moment; and it opens to no state, at the place that the note names.
+pub fn damage_changes_nothing<S: Source, D: Desk>()
+    ensures input { (bounds : Bounds) (words : List (List ℕ)) (source source_now : S) (desk desk_now : D)
+        → Runs (record { left = S.left; faults = S.faults; tells = D.tells; seen = D.seen; stopped = D.stopped }) bounds words (form_of words) source source_now desk desk_now Damaged
+        → source_now ≡ source }
+    ensures replies { (bounds : Bounds) (words : List (List ℕ)) (source source_now : S) (desk desk_now : D)
+        → Runs (record { left = S.left; faults = S.faults; tells = D.tells; seen = D.seen; stopped = D.stopped }) bounds words (form_of words) source source_now desk desk_now Damaged
+        → (D.seen desk_now).said ≡ (D.seen desk).said }
+    ensures folder { (bounds : Bounds) (words : List (List ℕ)) (source source_now : S) (desk desk_now : D)
+        → Runs (record { left = S.left; faults = S.faults; tells = D.tells; seen = D.seen; stopped = D.stopped }) bounds words (form_of words) source source_now desk desk_now Damaged
+        → IsTrue D.tells → IsLeftAlone D.seen D.stopped desk desk_now }
+    ensures place { (bounds : Bounds) (words : List (List ℕ)) (source source_now : S) (desk desk_now : D)
+        → Runs (record { left = S.left; faults = S.faults; tells = D.tells; seen = D.seen; stopped = D.stopped }) bounds words (form_of words) source source_now desk desk_now Damaged
+        → IsTrue D.tells → (part : Part) × (at : ℕ) × IsStateless (D.seen desk).reads part at × NotesLines (damaged_note part at) (D.seen desk) (D.seen desk_now) }
 {}

@@ -1,4 +1,4 @@
-ghost use Rattle.std.specs.Prelude.{◌≡◌, ◌≤◌, ◌^◌, true, IsTrue, IsSome, IfOk, IfErr, None, OnOk, length, take};
+ghost use Rattle.std.specs.Prelude.{◌≡◌, ◌≤◌, ◌^◌, true, IsTrue, IsSome, IfOk, IfErr, None, OnOk, OnErr, length, take};
 ghost use Rattle.journal_core.specs.Room.{HoldsRoom};
 ghost use Rattle.session_mux.specs.Completion.{start_of};
 ghost use Rattle.ziti_outside.specs.Causes.{HasCause};
@@ -7,7 +7,7 @@ ghost use Rattle.run_notes.specs.KnownSessions.{known_in};
 ghost use Rattle.run_notes.specs.NotedLines.{RisesOnce};
 ghost use Rattle.ctrl_serve.specs.Answering.{progress_at};
 ghost use Rattle.ctrl_serve.specs.ControllerViews.{serving_of};
-ghost use Rattle.ctrl_serve.specs.Controllers.{FailsWithFolder, GoesOn, IsReadyOn, SpeaksAlone};
+ghost use Rattle.ctrl_serve.specs.Controllers.{FailsWithFolder, GoesOn, IsOn, IsReadyOn, SpeaksAlone};
 ghost use Rattle.ctrl_serve.specs.Failures.{TakesUntilFailure};
 ghost use Rattle.ctrl_serve.specs.FollowedFolders.{FollowsEvents, FollowsInput};
 ghost use Rattle.ctrl_serve.specs.Pieces.{decided_by, intake_of, passage_of, AnswersInput, CutsInput, EndsPieces, HasFault, IsReadCaused};
@@ -90,11 +90,14 @@ fn serve_pieces<S: Source, D: Desk>(
         × (IsSome (serving_of controller.old).kept → IsTrue D.tells → FollowsEvents (serving_of controller.old).bounds ends.answers.answered (known_in form) (serving_of controller.old).machine (D.seen desk.old).reads (D.seen desk.new).reads)) }
     ensures end { IfOk result (λ stop. ComesToEnd mux.new stop.bad) }
     ensures fault { IfOk result (λ stop. HasFault stop.end (S.faults source.old) (S.faults source.new)) }
+    ensures faultless { OnErr result (S.faults source.new ≡ S.faults source.old) }
+    ensures last { IfOk result (λ stop. stop.end ≡ End.Fault → stop.bad ≡ None) }
     ensures on { OnOk result (GoesOn (serving_of controller.old) (serving_of controller.new)) }
     ensures ready { OnOk result (IsReadyOn D.tells D.seen D.stopped desk.new (serving_of controller.new)) }
     ensures cut { IfErr result (λ c. CutsInput c (intake_of form most (serving_of controller.old) D.tells)
         (passage_of (S.left source.old) (S.left source.new) notes.old.failed (D.seen desk.old) (D.stopped desk.old) (D.stopped desk.new))
-        (record { failed = notes.new.failed; desk = D.seen desk.new })) }
+        (serving_of controller.new).machine (record { failed = notes.new.failed; desk = D.seen desk.new })) }
+    ensures unsaid { IfErr result (λ c. c ≡ Cut.Unsaid → IsOn D.tells D.seen D.stopped desk.new (serving_of controller.old) (serving_of controller.new)) }
     ensures counted { RisesOnce (S.faults source.old) (S.faults source.new) }
     ensures until_failure { TakesUntilFailure S.left S.faults source.old source.new }
     ensures say_cause { HasCause (D.seen desk.old).say_faults (D.seen desk.new).say_faults (unsaid result) }
@@ -154,6 +157,8 @@ pub fn serve_input<S: Source, D: Desk>(
         (serving_of controller.new).machine (record { failed = notes.new.failed; desk = D.seen desk.new })
         (λ used. IsSome (serving_of controller.old).kept → IsTrue D.tells → FollowsInput form (serving_of controller.old).bounds (serving_of controller.old).machine (D.seen desk.old).reads (D.seen desk.new).reads used) }
     ensures read { IfOk result (λ status. IsReadCaused (S.faults source.old) (S.faults source.new) status) }
+    ensures faultless { OnErr result (S.faults source.new ≡ S.faults source.old) }
+    ensures unsaid { IfErr result (λ c. c ≡ Cut.Unsaid → IsOn D.tells D.seen D.stopped desk.new (serving_of controller.old) (serving_of controller.new)) }
     ensures on { OnOk result (GoesOn (serving_of controller.old) (serving_of controller.new)) }
     ensures ready { OnOk result (IsReadyOn D.tells D.seen D.stopped desk.new (serving_of controller.new)) }
     ensures counted { RisesOnce (S.faults source.old) (S.faults source.new) }

@@ -6,7 +6,7 @@ ghost use Rattle.reply_codec.specs.ReplyLimits.{keeps_limits};
 ghost use Rattle.session_mux.specs.declared.events.Event.TheVariants.{Arrived};
 ghost use Rattle.ctrl_serve.specs.Answering.{progress_at, served_by};
 ghost use Rattle.ctrl_serve.specs.ControllerViews.{serving_of};
-ghost use Rattle.ctrl_serve.specs.Controllers.{FailsWithFolder, FollowsStep, GoesOn, IsReadyOn, SpeaksAlone, Turn};
+ghost use Rattle.ctrl_serve.specs.Controllers.{FailsWithFolder, FollowsStep, GoesOn, IsOn, IsReadyOn, SpeaksAlone, Turn};
 ghost use Rattle.run_notes.specs.NotedLines.{LeavesNotes};
 ghost use Rattle.ctrl_serve.specs.FollowedFolders.{FollowsEvents};
 ghost use Rattle.ctrl_serve.specs.FrameAnswer.{frame_answer, refusal_for, reply_text, tag};
@@ -126,6 +126,8 @@ fn serve_frame<D: Desk>(
     ensures follows { OnOk result (FollowsStep D.tells D.seen desk.old desk.new (serving_of controller.old) (serving_of controller.new)) }
     ensures ready { OnOk result (IsReadyOn D.tells D.seen D.stopped desk.new (serving_of controller.new)) }
     ensures cut { IfErr result (λ c. CutsTurn c (serving_of controller.old).bounds address who.now frame.now (serving_of controller.old).machine (D.seen desk.old).said (D.seen desk.new).said) }
+    ensures next { IfErr result (λ c. c ≡ Cut.Unsaid → (serving_of controller.new).machine ≡ (frame_answer (serving_of controller.old).bounds who.now frame.now (serving_of controller.old).machine).1) }
+    ensures unsaid { IfErr result (λ c. c ≡ Cut.Unsaid → IsOn D.tells D.seen D.stopped desk.new (serving_of controller.old) (serving_of controller.new)) }
     ensures say_cause { HasCause (D.seen desk.old).say_faults (D.seen desk.new).say_faults (unsaid result) }
     ensures disk_cause { HasCause (D.seen desk.old).disk_faults (D.seen desk.new).disk_faults (unkept result) }
     ensures notes { LeavesNotes D.seen desk.old desk.new }
@@ -162,6 +164,8 @@ fn serve_arrived<D: Desk>(
     ensures follows { OnOk result (FollowsStep D.tells D.seen desk.old desk.new (serving_of controller.old) (serving_of controller.new)) }
     ensures ready { OnOk result (IsReadyOn D.tells D.seen D.stopped desk.new (serving_of controller.new)) }
     ensures cut { IfErr result (λ c. CutsEvent c form (serving_of controller.old).bounds (Arrived session frame.now) sessions.old (serving_of controller.old).machine (D.seen desk.old).said (D.seen desk.new).said) }
+    ensures next { IfErr result (λ c. c ≡ Cut.Unsaid → (serving_of controller.new).machine ≡ machine_after (serving_of controller.old).bounds (Arrived session frame.now) sessions.old (serving_of controller.old).machine) }
+    ensures unsaid { IfErr result (λ c. c ≡ Cut.Unsaid → IsOn D.tells D.seen D.stopped desk.new (serving_of controller.old) (serving_of controller.new)) }
     ensures say_cause { HasCause (D.seen desk.old).say_faults (D.seen desk.new).say_faults (unsaid result) }
     ensures disk_cause { HasCause (D.seen desk.old).disk_faults (D.seen desk.new).disk_faults (unkept result) }
     ensures notes { LeavesNotes D.seen desk.old desk.new }
@@ -205,6 +209,8 @@ fn serve_event<D: Desk>(
     ensures follows { OnOk result (FollowsStep D.tells D.seen desk.old desk.new (serving_of controller.old) (serving_of controller.new)) }
     ensures ready { OnOk result (IsReadyOn D.tells D.seen D.stopped desk.new (serving_of controller.new)) }
     ensures cut { IfErr result (λ c. CutsEvent c form (serving_of controller.old).bounds event sessions.old (serving_of controller.old).machine (D.seen desk.old).said (D.seen desk.new).said) }
+    ensures next { IfErr result (λ c. c ≡ Cut.Unsaid → (serving_of controller.new).machine ≡ machine_after (serving_of controller.old).bounds event sessions.old (serving_of controller.old).machine) }
+    ensures unsaid { IfErr result (λ c. c ≡ Cut.Unsaid → IsOn D.tells D.seen D.stopped desk.new (serving_of controller.old) (serving_of controller.new)) }
     ensures say_cause { HasCause (D.seen desk.old).say_faults (D.seen desk.new).say_faults (unsaid result) }
     ensures disk_cause { HasCause (D.seen desk.old).disk_faults (D.seen desk.new).disk_faults (unkept result) }
     ensures noted { OnOk result (NotesMore notes.old.failed notes.new.failed (event_lines event) (D.seen desk.old) (D.seen desk.new)) }
@@ -254,7 +260,8 @@ pub fn serve_events<D: Desk>(
     ensures on { OnOk result (GoesOn (serving_of controller.old) (serving_of controller.new)) }
     ensures ready { OnOk result (IsReadyOn D.tells D.seen D.stopped desk.new (serving_of controller.new)) }
     ensures cut { IfErr result (λ c. IsCutShort c form (serving_of controller.old).bounds (progress_at sessions.old (serving_of controller.old) mux.old notes.old.failed (D.seen desk.old))
-        (record { failed = notes.new.failed; desk = D.seen desk.new })) }
+        (serving_of controller.new).machine (record { failed = notes.new.failed; desk = D.seen desk.new })) }
+    ensures unsaid { IfErr result (λ c. c ≡ Cut.Unsaid → IsOn D.tells D.seen D.stopped desk.new (serving_of controller.old) (serving_of controller.new)) }
     ensures say_cause { HasCause (D.seen desk.old).say_faults (D.seen desk.new).say_faults (unsaid result) }
     ensures disk_cause { HasCause (D.seen desk.old).disk_faults (D.seen desk.new).disk_faults (unkept result) }
     ensures undisked { FailsWithFolder (serving_of controller.old) result }

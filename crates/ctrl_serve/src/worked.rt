@@ -14,7 +14,7 @@ ghost use Rattle.row_store.specs.OpenedStates.{OpensToState};
 ghost use Rattle.row_store.specs.WorkedStores.{three_parts};
 ghost use Rattle.ctrl_keep.specs.WorkedMachines.{at_most, machine_at, marked};
 ghost use Rattle.ctrl_serve.specs.CommandLine.{form_of, number_of_word};
-ghost use Rattle.ctrl_serve.specs.declared.command_line.Form.TheVariants.{Dry, Replay, Audit, Compact, Load};
+ghost use Rattle.ctrl_serve.specs.declared.command_line.Form.TheVariants.{Dry, Replay, Audit, Compact, Load, Advise};
 ghost use Rattle.session_mux.specs.declared.sessions.Form.TheVariants.{Plain, Trace};
 ghost use Rattle.session_mux.specs.WorkedTraces.{one_session, two_sessions, kind_five, one_faulty};
 ghost use Rattle.ctrl_serve.specs.FrameAnswer.{no_bounds, alone, replies};
@@ -45,6 +45,11 @@ pub fn worked_words()
     ensures bare { form_of (codes "load" ∷ []) ≡ None }
     ensures padded { form_of (codes "load" ∷ codes "01" ∷ []) ≡ None }
     ensures twice { form_of (codes "load" ∷ codes "7" ∷ codes "7" ∷ []) ≡ None }
+    ensures advise { form_of (codes "advise" ∷ codes "ann" ∷ codes "web" ∷ []) ≡ Some Advise }
+    ensures one_name { form_of (codes "advise" ∷ codes "ann" ∷ []) ≡ None }
+    ensures three_names { form_of (codes "advise" ∷ codes "ann" ∷ codes "web" ∷ codes "api" ∷ []) ≡ None }
+    ensures no_identity { form_of (codes "advise" ∷ [] ∷ codes "web" ∷ []) ≡ None }
+    ensures no_service { form_of (codes "advise" ∷ codes "ann" ∷ codes "#web" ∷ []) ≡ None }
 {}
 
 /// Words as numbers: decimal, below 2^32, without a sign and without a zero before another digit.

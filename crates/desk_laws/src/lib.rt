@@ -4,11 +4,12 @@
 ghost use Rattle.std.specs.Prelude.{◌≡◌, ℕ, true, false, [], ◌∷◌, take, None, Some};
 ghost use Rattle.ziti_outside.specs.declared.desk.Part.TheVariants.{Zero, One};
 ghost use Rattle.ziti_outside.specs.Images.{Image};
-ghost use Rattle.ziti_desk.specs.declared.mem_log.Call.TheVariants.{Wrote};
-ghost use Rattle.ziti_desk.specs.Pieces.{from_first, first, without, joined, is_listed, next_call};
-ghost use Rattle.ziti_desk.specs.StopPoints.{PairsAt, KeepsOf, event_of, said_past, written_past, KeepsNothing, KeepsAll, worked_calls};
+ghost use Rattle.desk_base.specs.declared.mem_log.Call.TheVariants.{Wrote};
+ghost use Rattle.desk_base.specs.Pieces.{from_first, first, without, joined, is_listed, next_call};
+ghost use Rattle.desk_base.specs.MemRoom.{few, is_logged_out, is_named, is_over_noted, is_over_part, is_over_said, less};
+ghost use Rattle.desk_base.specs.StopPoints.{PairsAt, KeepsOf, event_of, said_past, written_past, KeepsNothing, KeepsAll, worked_calls};
 ghost use Rattle.ziti_desk.specs.Stages.{IsBetween, PairsFrom};
-ghost use Rattle.ziti_desk.specs.MemEvents.{Saying, Writing, Cutting, Syncing, at_parts, reads_after, Leaving, Since};
+ghost use Rattle.desk_base.specs.MemEvents.{Saying, Writing, Cutting, Syncing, at_parts, reads_after, Leaving, Since};
 
 /// What a stop finds, by its choice, of a desk whose first slot was `1 2 3`: `7 8` are written at its second place, `5 6` are said, the
 /// slot is synced, a write of `9` at its start fails, and `4` is said; worked by hand.
@@ -54,6 +55,26 @@ pub fn worked_pieces()
     ensures unlisted { is_listed (1 ∷ 3 ∷ []) 2 ≡ false }
     ensures counted { next_call 4 ≡ 5 }
     ensures counted_to_the_end { next_call 18446744073709551615 ≡ 18446744073709551615 }
+{}
+
+/// Which calls fail for want of room or by the list, worked by hand: the next call is the fourth, which is listed; a part may have 4 bytes;
+/// and there is room for 2 reply bytes, for 1 byte of notes, and for 64 bytes of the log, of which a call takes 32 and the bytes that it writes.
+pub fn worked_limits()
+    ensures listed { is_named few ≡ true }
+    ensures not_listed_behind_it { is_named (less 0 0 0 few) ≡ false }
+    ensures two_bytes_are_said { is_over_said few 2 ≡ false }
+    ensures three_are_not { is_over_said few 3 ≡ true }
+    ensures none_without_a_log { is_over_said (less 0 0 33 few) 0 ≡ true }
+    ensures one_byte_is_noted { is_over_noted few 1 ≡ false }
+    ensures two_are_not { is_over_noted few 2 ≡ true }
+    ensures a_note_needs_no_log { is_over_noted (less 0 0 64 few) 1 ≡ false }
+    ensures written_to_the_end { is_over_part few 3 1 3 ≡ false }
+    ensures written_past_it { is_over_part few 3 1 4 ≡ true }
+    ensures written_over_a_longer_part { is_over_part few 6 1 5 ≡ false }
+    ensures a_longer_part_grows { is_over_part few 6 1 6 ≡ true }
+    ensures logged { is_logged_out few 32 ≡ false }
+    ensures not_logged { is_logged_out few 33 ≡ true }
+    ensures left { less 2 0 32 few ≡ record { failing = 3 ∷ []; calls = 4; part = 4; said = 0; noted = 1; log = 32 } }
 {}
 
 /// The moments of a desk over memory whose first slot was `1` and was written `7`, before `5 6` was said: worked by hand.

@@ -1,4 +1,4 @@
-ghost use Rattle.std.specs.Prelude.{◌≡◌, ◌≢◌, IfOk, IfErr, IsOk, IsErrOf, is_some, true, false, Ok, Err};
+ghost use Rattle.std.specs.Prelude.{◌≡◌, ◌≢◌, IfOk, IfErr, IsOk, IsErrOf, is_some, option_map, true, false, Ok, Err};
 ghost use Rattle.std.specs.Result.{result_map_both};
 ghost use Rattle.serde_json.specs.Find.{as_str, as_bool};
 ghost use Rattle.serde_json.specs.View.{view, items_view};
@@ -60,6 +60,13 @@ impl<'a> Fields<'a> {
             return Err(FieldFault::NotObject);
         }
         Ok(Fields { value })
+    }
+
+    /// The value that the field has, if it is there.
+    pub fn value(&self, field: Field) -> Option<&'a Value>
+        ensures { option_map (λ v. view v.now) result ≡ member_of field (object_of self.now) }
+    {
+        member_of(self.value, field)
     }
 
     /// Whether the field is there.

@@ -1,6 +1,6 @@
 -- What was noted, line after line.
-use Rattle.std.specs.Prelude.{⊤, not, cond, IfOk}
-use Rattle.std.proofs.Common.{◌≡◌, ℕ, zero, suc, Bool, true, false, List, [], ◌++◌, get_or, Ok, Err, inl, codes, decimal, refl, sym, ap, ◌∙◌, subst, append_assoc, append-nil, arith}
+use Rattle.std.specs.Prelude.{not, cond, IfOk}
+use Rattle.std.proofs.Common.{◌≡◌, ℕ, zero, suc, Bool, true, false, List, [], ◌++◌, get_or, Ok, Err, codes, decimal, refl, sym, ap, ◌∙◌, subst, append_assoc, append-nil, arith}
 use Rattle.std.proofs.Math.ListN.{get_or-map}
 use Rattle.std.proofs.lemmas.Bool.{false≢true}
 use Rattle.session_mux.specs.declared.sessions.Session.{Session}
@@ -12,9 +12,8 @@ use Rattle.session_mux.proofs.TableLaws.{none_each}
 use Rattle.run_notes.specs.Inputs.{held_or_closed, rest_at}
 use Rattle.std.specs.declared.option.Option.{Option}
 use Rattle.std.specs.declared.result.Result.{Result}
-use Rattle.ziti_outside.specs.declared.failed.Failed.{Failed}
-use Rattle.ziti_outside.specs.Causes.{HasCause, Rose}
-use Rattle.ziti_outside.specs.Told.{Hands, Took, TookFront}
+use Rattle.ziti_outside.specs.Causes.{Rose}
+use Rattle.ziti_outside.specs.Told.{Took, TookFront}
 use Rattle.ziti_outside.proofs.Moves.{Took-none, Took-then, IsFront-none, IsFront-all, IsFront-then, IsFront-longer}
 use Rattle.run_notes.specs.declared.status.Status.{Status}
 use Rattle.run_notes.specs.declared.status.Status.TheVariants.{Done, Usage, BadInput, Truncated, ReadFault, WriteFault, DiskFault, Damaged, NoMemory, InputTooLong, FolderFull}
@@ -23,10 +22,9 @@ use Rattle.run_notes.specs.declared.ends.End.TheVariants.{Whole, More, Fault}
 use Rattle.ziti_outside.specs.Untouched.{OnlyNotes}
 use Rattle.std.specs.declared.alloc.AllocError.{AllocError}
 use Rattle.run_notes.specs.Endings.{IsStuckAt, status_at}
-use Rattle.run_notes.specs.NotedLines.{RisesOnce, NotesLines, TellsDamage, IsNoteCaused}
-use Rattle.run_notes.specs.Notes.{note_of, damaged_note, bad_lines, ending_lines, status_lines, session_note, session_rest_lines, trace_note, trace_rest_lines}
+use Rattle.run_notes.specs.NotedLines.{RisesOnce, NotesLines, IsNoteCaused}
+use Rattle.run_notes.specs.Notes.{note_of, bad_lines, ending_lines, status_lines, session_note, session_rest_lines, trace_note, trace_rest_lines}
 use Rattle.run_notes.specs.NotesSoFar.{IsNoted, NotesMore}
-use Rattle.ziti_outside.specs.declared.desk.Part.{Part}
 use Rattle.ziti_outside.specs.Views.{Seen, Stopped}
 
 -- Nothing was noted where there was nothing to note.
@@ -126,21 +124,6 @@ bad_text at = refl
 
 pub trace_text : (left : List ℕ) → codes "zitictl: trace: " ++ (left ++ codes " bytes left\n") ≡ note_of (codes "trace: " ++ (left ++ codes " bytes left"))
 trace_text left = ap (λ (l : List ℕ). codes "zitictl: trace: " ++ l) (sym (append_assoc left (codes " bytes left") (codes "\n")))
-
--- And those of a damaged folder's note.
-pub damage_text : (file at : List ℕ)
-    → codes "zitictl: damaged: file " ++ (file ++ (codes " at " ++ (at ++ codes "\n"))) ≡ note_of (codes "damaged: file " ++ (file ++ (codes " at " ++ at)))
-damage_text file at =
-    ap (λ (l : List ℕ). codes "zitictl: damaged: file " ++ l) (sym (append_assoc file (codes " at " ++ at) (codes "\n")))
-
--- A damaged folder's line was noted, or a front of it.
-pub damage_told : (part : Part) (at : ℕ) (lines : List ℕ) (a b : Seen) → lines ≡ damaged_note part at → NotesLines lines a b → RisesOnce a.note_faults b.note_faults → TellsDamage part at Damaged a b
-damage_told part at lines a b is noted counted = record {
-  same = inl refl;
-  damaged = λ _. subst (λ (l : List ℕ). NotesLines l a b) is noted;
-  memory = λ e. cc;
-  counted = counted;
-}
 
 -- ---- what is left
 

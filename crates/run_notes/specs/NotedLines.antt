@@ -1,13 +1,9 @@
 -- What was noted of some lines, and what failed notes leave (docs/PROMISES.md, "The headline").
-use Rattle.std.specs.Prelude.{◌≡◌, ◌⊎◌, ℕ, ◌+◌, ◌≤◌, Bool, true, false, List, []}
+use Rattle.std.specs.Prelude.{◌≡◌, ℕ, ◌+◌, ◌≤◌, Bool, true, false, List, []}
 use Rattle.ziti_outside.specs.Causes.{Rose}
 use Rattle.ziti_outside.specs.Moments.{Elapses}
 use Rattle.ziti_outside.specs.Told.{Took, TookFront}
-use Rattle.ziti_outside.specs.declared.desk.Part.{Part}
 use Rattle.ziti_outside.specs.Views.{Seen, Stopped}
-use Rattle.run_notes.specs.declared.status.Status.{Status}
-use Rattle.run_notes.specs.declared.status.Status.TheVariants.{Damaged, NoMemory}
-use Rattle.run_notes.specs.Notes.{damaged_note, status_lines}
 
 -- A count of faults did not fall, and rose by one at most.
 pub record RisesOnce (before now : ℕ) : Type 0 where
@@ -34,10 +30,3 @@ FindsNoMore stopped old new = Elapses (stopped old) (stopped new) (λ image take
 abbrev pub IsNoteCaused : List ℕ → (before now : Seen) → Bool → Type 0
 IsNoteCaused lines before now true = Took before.noted now.noted lines × (now.note_faults ≡ before.note_faults)
 IsNoteCaused lines before now false = Rose before.note_faults now.note_faults
-
--- What the telling of a damaged folder answers, that status or want of memory, and what it noted.
-pub record TellsDamage (part : Part) (at : ℕ) (result : Status) (before now : Seen) : Type 0 where
-  pub same : (result ≡ Damaged) ⊎ (result ≡ NoMemory)
-  pub damaged : result ≡ Damaged → NotesLines (damaged_note part at) before now
-  pub memory : result ≡ NoMemory → NotesLines (status_lines [] NoMemory) before now
-  pub counted : RisesOnce before.note_faults now.note_faults

@@ -1,9 +1,11 @@
-ghost use Rattle.std.specs.Prelude.{◌≡◌, ◌++◌, [], IfOk, codes, decimal};
+ghost use Rattle.std.specs.Prelude.{◌≡◌, ◌++◌, [], IfOk, length, codes, decimal};
 ghost use Rattle.std.specs.String.{string_bytes};
 ghost use Rattle.run_notes.specs.Notes.{damaged_note, fault_word as word_of_fault, file_number, full_note, session_note, session_rest_lines, status_lines, trace_note, trace_rest_lines};
 
 use crate::ends::Full;
 use crate::status::Status;
+use arrayvec::ArrayString;
+use itoa::Buffer;
 use std::alloc::{AllocError, Global};
 use ziti_outside::Part;
 
@@ -13,7 +15,7 @@ pub fn status_line(status: Status) -> &'static [u8]
 {
     match status {
         Status::Usage => {
-            b"zitictl: usage: zitictl dry | replay [--sessions] | audit | compact | load N\n"
+            b"zitictl: usage: zitictl dry | replay [--sessions] | audit | compact | load N | advise I S\n"
         }
         Status::ReadFault => b"zitictl: read fault\n",
         Status::WriteFault => b"zitictl: write fault\n",
@@ -70,23 +72,30 @@ pub fn trace_rest_line(alloc: Global, left: usize) -> Result<String, AllocError>
     format!(in alloc; "zitictl: trace: {left} bytes left\n")
 }
 
-// The number by which a note names a part of the folder.
-fn file_number(part: Part) -> u8
-    ensures { result ≡ file_number part }
+// The number by which a note names a part of the folder, as text.
+fn file_text(part: Part) -> &'static str
+    ensures text { result.now ≡ decimal (file_number part) }
+    ensures short { length result.now ≡ 1 }
 {
     match part {
-        Part::Zero => 0,
-        Part::One => 1,
-        Part::Mark => 2,
+        Part::Zero => "0",
+        Part::One => "1",
+        Part::Mark => "2",
     }
 }
 
-/// The line of a folder that opens to no state.
-pub fn damaged_line(alloc: Global, part: Part, at: u64) -> Result<String, AllocError>
-    ensures { IfOk result (λ line. string_bytes line ≡ damaged_note part at) }
+/// The line of a folder that opens to no state: at most 49 bytes, made without memory.
+pub fn damaged_line(part: Part, at: u64) -> ArrayString<64>
+    ensures { result.bytes ≡ damaged_note part at }
 {
-    let file = file_number(part);
-    format!(in alloc; "zitictl: damaged: file {file} at {at}\n")
+    let mut place = Buffer::new();
+    let mut line = ArrayString::new();
+    line.push_str("zitictl: damaged: file ");
+    line.push_str(file_text(part));
+    line.push_str(" at ");
+    line.push_str(place.format(at));
+    line.push_str("\n");
+    line
 }
 
 /// The line of a folder without room for a compaction.

@@ -6,8 +6,8 @@ ghost use Rattle.session_mux.specs.MuxSteps.{HasMoved};
 ghost use Rattle.ziti_outside.specs.Untouched.{OnlyNotes};
 ghost use Rattle.run_notes.specs.Endings.{ComesToEnd, IsAllGiven, status_at, status_of_cut};
 ghost use Rattle.run_notes.specs.Inputs.{leaves_some, rest_at};
-ghost use Rattle.run_notes.specs.NotedLines.{FindsNoMore, LeavesNotes, NotesLines, RisesOnce, TellsDamage};
-ghost use Rattle.run_notes.specs.Notes.{ending_lines, full_note, rest_lines, session_rest_lines, status_lines, trace_note};
+ghost use Rattle.run_notes.specs.NotedLines.{FindsNoMore, LeavesNotes, NotesLines, RisesOnce};
+ghost use Rattle.run_notes.specs.Notes.{damaged_note, ending_lines, full_note, rest_lines, session_rest_lines, status_lines, trace_note};
 ghost use Rattle.run_notes.specs.NotesSoFar.{NotesMore};
 
 use crate::ends::{Cut, End, Full};
@@ -222,19 +222,17 @@ pub fn tell_cut<D: Desk>(cut: Cut, desk: &mut D) -> Status
     status
 }
 
-/// Notes that the folder opens to no state, and answers that status; for want of memory that one is noted.
-pub fn tell_damage<D: Desk>(alloc: Global, part: Part, at: u64, desk: &mut D) -> Status
-    ensures told { TellsDamage part at result (D.seen desk.old) (D.seen desk.new) }
+/// Notes that the folder opens to no state, and answers that status. It wants no memory.
+pub fn tell_damage<D: Desk>(part: Part, at: u64, desk: &mut D) -> Status
+    ensures status { result ≡ Status.Damaged }
+    ensures told { NotesLines (damaged_note part at) (D.seen desk.old) (D.seen desk.new) }
+    ensures counted { RisesOnce (D.seen desk.old).note_faults (D.seen desk.new).note_faults }
     ensures others { OnlyNotes D.seen D.stopped desk.old desk.new }
     ensures stops { FindsNoMore D.stopped desk.old desk.new }
 {
-    match damaged_line(alloc, part, at) {
-        Ok(line) => {
-            note_lines(line.as_bytes(), desk);
-            Status::Damaged
-        }
-        Err(_) => tell_cut(Cut::NoMemory, desk),
-    }
+    let line = damaged_line(part, at);
+    note_lines(line.as_str().as_bytes(), desk);
+    Status::Damaged
 }
 
 /// Notes what of the folder has no room for a compaction, and answers that status.

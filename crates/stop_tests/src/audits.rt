@@ -5,6 +5,7 @@ use crate::folders::{
     AMPLE, ANN_ALONE, ANN_FOLDER, ANN_SLOT, BARE_SLOT, BOTH, BOTH_SLOT, Ended, NOTHING, SECOND,
     has_parts, ran,
 };
+use crate::reports::NO_ONE;
 use crate::rerouting::network;
 use ctrl_serve::{Status, run};
 use sample_runs::{FIRST, parts_of, source_of};
@@ -60,11 +61,18 @@ fn counts_each_kind(rt: HostRuntime) -> Result<(), Fail> {
     looks(&rt, rt.alloc(), parts_of(&desk), ended)
 }
 
-// Looks at the folder of any desk.
-fn looks_at<D: Desk>(rt: &impl Abort, alloc: Global, desk: &mut D) -> Result<(), AllocError> {
+// Looks at the folder of any desk, by these words.
+fn looks_at<D: Desk>(
+    rt: &impl Abort,
+    alloc: Global,
+    asked: &[&str],
+    desk: &mut D,
+) -> Result<(), AllocError> {
     let mut source = source_of(alloc, b"", 1, &[])?;
     let mut words = Vec::new(alloc);
-    words.push(String::from_str(alloc, "audit")?)?;
+    for word in asked {
+        words.push(String::from_str(alloc, word)?)?;
+    }
     let status = run(alloc, &words, &mut source, desk);
     assert_eq!(rt; status, Status::Done);
     Ok(())
@@ -74,21 +82,27 @@ fn looks_at<D: Desk>(rt: &impl Abort, alloc: Global, desk: &mut D) -> Result<(),
 fn looks_here(
     rt: &impl Abort,
     host: &HostRuntime,
+    asked: &[&str],
     said: &mut Vec<u8>,
     noted: &mut Vec<u8>,
 ) -> Result<(), AllocError> {
     let replies = Writes::new(said);
     let notes = Writes::new(noted);
     let mut desk = FileDesk::new(Folder::new(host, Paths::WORKING_FOLDER), replies, notes);
-    looks_at(rt, host.alloc(), &mut desk)
+    looks_at(rt, host.alloc(), asked, &mut desk)
 }
 
-// The working folder counts nothing.
-fn is_bare(rt: &impl Abort, host: &HostRuntime) -> Result<(), AllocError> {
+// This is said of the working folder.
+fn says_here(
+    rt: &impl Abort,
+    host: &HostRuntime,
+    asked: &[&str],
+    line: &[u8],
+) -> Result<(), AllocError> {
     let mut said = Vec::new(host.alloc());
     let mut noted = Vec::new(host.alloc());
-    looks_here(rt, host, &mut said, &mut noted)?;
-    assert_eq!(rt; said.as_slice(), NOTHING);
+    looks_here(rt, host, asked, &mut said, &mut noted)?;
+    assert_eq!(rt; said.as_slice(), line);
     assert!(rt; noted.is_empty());
     Ok(())
 }
@@ -103,7 +117,8 @@ fn has_no_file(rt: &impl Abort, host: &HostRuntime) {
 #[test]
 fn makes_no_file(rt: HostRuntime) -> Result<(), Fail> {
     has_no_file(&rt, &rt);
-    is_bare(&rt, &rt)?;
+    says_here(&rt, &rt, &["audit"], NOTHING)?;
+    says_here(&rt, &rt, &["advise", "ann", "web"], NO_ONE)?;
     has_no_file(&rt, &rt);
     Ok(())
 }

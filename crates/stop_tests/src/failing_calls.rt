@@ -26,6 +26,10 @@ const TRACE: &[u8] =
 const TAGGED: &[u8] =
     b"\x04\0\x03\x06\x09\x0c\x02\0\0\0\0\0\0\0\x15\0\0\0\x08\0\0\0\x01\0\0\0\x04\0\0\0\x07\0\0\0\x02\0\0\0\x01\0\0\0\x01{\"no\":1}";
 
+/// The report on an absent service.
+const NO_SERVICE: &[u8] =
+    b"{\"admissible\":[],\"bind\":0,\"common\":[],\"dial\":0,\"online\":[],\"policies\":[],\"rule\":31,\"terminators\":[],\"yes\":false}\n";
+
 /// A run of words on an input and a folder, and what the whole run says.
 #[derive(Clone, Copy)]
 struct Trial {
@@ -79,6 +83,13 @@ const AUDIT: Trial = Trial {
     kept: [1, 1],
     disk: 3,
     says: 1,
+};
+
+/// The advice on ann and an absent service, by the same calls.
+const ADVISE: Trial = Trial {
+    words: &["advise", "ann", "web"],
+    said: NO_SERVICE,
+    ..AUDIT
 };
 
 /// Its compaction: two syncs where it is opened, two writes, two syncs and a cut.
@@ -174,7 +185,7 @@ fn check_trial(rt: &impl Abort, alloc: Global, trial: &Trial) -> Result<(), Fail
 
 #[test]
 fn ends_at_each_failing_call(rt: HostRuntime) -> Result<(), Fail> {
-    for trial in [REPLAY, REPLAY_MORE, SESSIONS, AUDIT, COMPACT] {
+    for trial in [REPLAY, REPLAY_MORE, SESSIONS, AUDIT, ADVISE, COMPACT] {
         check_trial(&rt, rt.alloc(), &trial)?;
     }
     Ok(())

@@ -1,4 +1,4 @@
-//! Tests of whole runs on a folder: the words that look at it and compact it, hostile input and folders, and stops and failing calls.
+//! Tests of whole runs on a folder: the words that look at it, advise by it and compact it, hostile input and folders, and stops and failing calls.
 #![tactic(auto)]
 
 #[cfg(test)]
@@ -15,6 +15,8 @@ mod files;
 mod folders;
 #[cfg(test)]
 mod hostile;
+#[cfg(test)]
+mod reports;
 #[cfg(test)]
 mod rerouting;
 #[cfg(test)]

@@ -57,7 +57,7 @@ const HEADERS: &[u8] =
 
 /// The usage note.
 const USAGE: &[u8] =
-    b"zitictl: usage: zitictl dry | replay [--sessions] | audit | compact | load N\n";
+    b"zitictl: usage: zitictl dry | replay [--sessions] | audit | compact | load N | advise I S\n";
 
 /// No bytes.
 const NONE: &[u8] = b"";

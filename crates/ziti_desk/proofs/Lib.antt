@@ -1,6 +1,3 @@
-pub mod MemLaws
 pub mod MemSteps
-pub mod PieceLaws
-pub mod StopLaws
-pub mod KeptLaws
 pub mod StageSteps
+pub mod RoomSteps

@@ -10,14 +10,14 @@ use Rattle.ziti_outside.specs.Moments.{Now, Saying, Elapses, Remembers}
 use Rattle.ziti_outside.proofs.ImageLaws.{Torn-none, CutShort-none}
 use Rattle.ziti_outside.proofs.Moves.{IsFront-all}
 use Rattle.ziti_outside.proofs.MomentLaws.{Elapses-none}
-use Rattle.ziti_desk.specs.declared.mem_log.Call.{Call}
-use Rattle.ziti_desk.specs.declared.mem_log.Call.TheVariants.{Said, Wrote, Cut, Synced}
-use Rattle.ziti_desk.specs.declared.mem_log.Log.{Log}
-use Rattle.ziti_desk.specs.declared.mem_parts.Images.{Images}
-use Rattle.ziti_desk.specs.MemEvents as of
-use Rattle.ziti_desk.specs.MemEvents.{Event, Writing, Cutting, Syncing, events, said_count, written_count, reads_by, said_by, may_by, reads_after, said_after, Within, Leaving, Since, Replayed, LogsCall, IsDone, IsPending, image_of, with_part, written_over, logged, stopped_by}
-use Rattle.ziti_desk.specs.MemStops.{unwritten, uncut, with_part_here, with_part_else}
-use Rattle.ziti_desk.proofs.MemLaws.{reads_push, said_push, may_push, events_push, said_count_push, written_count_push, step_elapses, step_remembers}
+use Rattle.desk_base.specs.declared.mem_log.Call.{Call}
+use Rattle.desk_base.specs.declared.mem_log.Call.TheVariants.{Said, Wrote, Cut, Synced}
+use Rattle.desk_base.specs.declared.mem_log.Log.{Log}
+use Rattle.desk_base.specs.declared.mem_parts.Images.{Images}
+use Rattle.desk_base.specs.MemEvents as of
+use Rattle.desk_base.specs.MemEvents.{Event, Writing, Cutting, Syncing, events, said_count, written_count, reads_by, said_by, may_by, reads_after, said_after, Within, Leaving, Since, Replayed, LogsCall, IsDone, IsPending, image_of, with_part, written_over, logged, stopped_by}
+use Rattle.desk_base.specs.MemStops.{unwritten, uncut, with_part_here, with_part_else}
+use Rattle.desk_base.proofs.MemLaws.{reads_push, said_push, may_push, events_push, said_count_push, written_count_push, step_elapses, step_remembers}
 
 -- The log got one call more, and the parts and the replies are as behind it.
 pub record Stepped (first held : Image) (log : Log) (said said_before : List ℕ) (before : List Event) (e : Event) : Type 0 where
@@ -55,7 +55,7 @@ quiet_within (Writing part at bytes done) s w quiet within = within
 quiet_within (Cutting part len done) s w quiet within = within
 quiet_within (Syncing part) s w quiet within = within
 
-quiet_said : (e : Event) (s : List ℕ) → Quiet e → said_by e s ≡ s
+pub quiet_said : (e : Event) (s : List ℕ) → Quiet e → said_by e s ≡ s
 quiet_said (of.Saying bytes) s quiet = absurd quiet
 quiet_said (Writing part at bytes done) s quiet = refl
 quiet_said (Cutting part len done) s quiet = refl

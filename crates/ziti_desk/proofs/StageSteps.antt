@@ -8,7 +8,7 @@ use Rattle.ziti_outside.specs.Moments.{Now, Saying, Elapses, Remembers, Leaves}
 use Rattle.ziti_outside.specs.Views.{Seen, Stopped}
 use Rattle.ziti_outside.specs.Told.{Took, AreTaken, IsFront, Hands}
 use Rattle.ziti_outside.proofs.Moves.{IsFront-none, IsFront-all, IsFront-longer}
-use Rattle.ziti_desk.specs.DriveStops.{Finds}
+use Rattle.desk_base.specs.DriveStops.{Finds}
 use Rattle.ziti_desk.specs.Stages.{IsBetween, StopsWithin, next_of, PairsFrom, staged}
 
 -- A desk whose replies nobody asks for leaves what its folder leaves.

@@ -1,11 +1,8 @@
-pub mod Answers
-pub mod Untold
-pub mod MemEvents
-pub mod MemStops
-pub mod Pieces
-pub mod StopPoints
+pub use Rattle.desk_base.specs.DriveStops
+pub use Rattle.desk_base.specs.MemEvents
+pub use Rattle.desk_base.specs.MemRoom
+pub use Rattle.desk_base.specs.Pieces
+pub use Rattle.desk_base.specs.StopPoints
 pub mod DeskStops
-pub mod KeptSteps
-pub mod DriveStops
 pub mod Stages
 pub mod StageLaws

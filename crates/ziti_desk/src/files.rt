@@ -1,8 +1,6 @@
-ghost use Rattle.std.specs.Prelude.{◌≡◌, []};
+ghost use Rattle.std.specs.Prelude.{◌≡◌};
 
-use crate::answers::{counted, given};
-use crate::drive::Drive;
-use crate::outlets::{Outlet, write_whole};
+use desk_base::{Drive, Outlet, counted, given, write_whole};
 use http_server::Log;
 use std::io::Read;
 use ziti_outside::{Desk, Failed, Part, Source};
@@ -48,13 +46,26 @@ pub struct FileDesk<F, O, E> {
     history: Log<F, O>,
 }
 
-impl<F, O, E> FileDesk<F, O, E> {
-    /// The desk over a drive and two outlets, of which no call has been made.
+impl<F: Drive, O: Outlet, E: Outlet> FileDesk<F, O, E> {
+    ghost use Rattle.std.specs.Prelude.{◌≡◌, ◌↔◌, ℕ, List};
+    ghost use Rattle.ziti_outside.specs.Images.{Image};
+    ghost use Rattle.ziti_outside.specs.Moments.{Now};
+
+    /// The desk over a drive and two outlets, of which no call has been made: what is seen of it and what a stop may leave of it are what
+    /// they are of these.
     pub fn new(folder: F, replies: O, notes: E) -> FileDesk<F, O, E>
-        ensures folder { result.folder ≡ folder }
-        ensures replies { result.replies ≡ replies }
-        ensures notes { result.notes ≡ notes }
-        ensures history { result.history.items ≡ [] }
+        ensures seen { ⟦<FileDesk<F, O, E> as Desk>⟧.seen result ≡ record {
+          said = O.contents replies;
+          noted = E.contents notes;
+          say_faults = O.failures replies;
+          note_faults = E.failures notes;
+          disk_faults = F.faults folder;
+          reads = F.reads folder;
+        } }
+        ensures moment { (⟦<FileDesk<F, O, E> as Desk>⟧.stopped result).moment ≡ 0 }
+        ensures images { (image : Image) → (⟦<FileDesk<F, O, E> as Desk>⟧.stopped result).images image ↔ F.may_leave folder image }
+        ensures since { (time : ℕ) (image : Image) (taken : List ℕ) → (⟦<FileDesk<F, O, E> as Desk>⟧.stopped result).since time image taken
+            ↔ Now (F.may_leave folder) (O.contents replies) image taken }
     {
         FileDesk {
             folder,
@@ -63,7 +74,9 @@ impl<F, O, E> FileDesk<F, O, E> {
             history: Log::new(),
         }
     }
+}
 
+impl<F, O, E> FileDesk<F, O, E> {
     /// The drive of its folder.
     pub fn folder(&self) -> &F
         ensures { result.now ≡ self.now.folder }

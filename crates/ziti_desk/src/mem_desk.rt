@@ -1,12 +1,11 @@
-ghost use Rattle.std.specs.Prelude.{◌≡◌, ◌⊎◌, ◌≤◌, ◌++◌, [], true, false, Some, IfOk, OnOk, OnErr, length, take};
-ghost use Rattle.ziti_outside.specs.Images.{Image, Holds, StandAt};
-ghost use Rattle.ziti_desk.specs.MemEvents.{Writing, Cutting, LogsCall, IsDone, IsPending, Replayed, image_of};
+ghost use Rattle.std.specs.Prelude.{◌≤◌, ◌-◌, [], vec_capacity};
+ghost use Rattle.desk_base.specs.MemEvents.{Replayed, image_of};
+ghost use Rattle.desk_base.specs.MemRoom.{PartsFit};
 
-use crate::answers::counted;
-use crate::failing_calls::is_next_listed;
-use crate::mem_log::{Call, Log, append, has_room};
-use crate::mem_parts::{Images, behind_end, overwrite};
-use crate::stopping::{chosen, stop_at};
+use desk_base::{
+    Images, Log, chosen, counted, cut_part, is_next_listed, len_of, note_bytes, read_part,
+    say_bytes, stop_at, sync_part, write_part,
+};
 use std::alloc::{AllocError, Global};
 use ziti_outside::{Desk, Failed, Part};
 
@@ -35,16 +34,24 @@ pub struct MemDesk {
     said: Vec<u8>,
     noted: Vec<u8>,
     log: Log,
-    file_bytes: u64,
+    room: Room,
     calls: u64,
     failing: Vec<u32>,
     say_faults: u64,
     note_faults: u64,
     disk_faults: u64,
     ghost replayed: { Replayed (image_of first) (image_of held) log.calls.items said.items log.written.items },
+    ghost parts_fit: { PartsFit room.file_bytes held },
+    ghost said_fit: { room.said_bytes ≤ vec_capacity said },
+    ghost noted_fit: { room.noted_bytes ≤ vec_capacity noted },
 }
 
 impl MemDesk {
+    ghost use Rattle.std.specs.Prelude.{◌≡◌, [], IfOk, Some};
+    ghost use Rattle.ziti_outside.specs.Images.{Image};
+    ghost use Rattle.desk_base.specs.MemEvents.{image_of};
+    ghost use Rattle.ziti_desk.specs.DeskStops.{calls_of, first_of, limits_of};
+
     /// A desk whose parts have these bytes, of which no call has been made.
     pub fn new(
         alloc: Global,
@@ -59,6 +66,16 @@ impl MemDesk {
         ensures disk_faults { IfOk result (λ d. (⟦<MemDesk as Desk>⟧.seen d).disk_faults ≡ 0) }
         ensures reads { IfOk result (λ d. (⟦<MemDesk as Desk>⟧.seen d).reads ≡ image_of images) }
         ensures moment { IfOk result (λ d. (⟦<MemDesk as Desk>⟧.stopped d).moment ≡ 0) }
+        ensures first { IfOk result (λ d. first_of d ≡ image_of images) }
+        ensures calls { IfOk result (λ d. calls_of d ≡ []) }
+        ensures limits { IfOk result (λ d. limits_of d ≡ record {
+          failing = failing.items;
+          calls = 0;
+          part = room.file_bytes;
+          said = room.said_bytes;
+          noted = room.noted_bytes;
+          log = room.log_bytes;
+        }) }
         ensures nothing_pending { IfOk result (λ d. (image : Image) → (⟦<MemDesk as Desk>⟧.stopped d).images image → image ≡ image_of images) }
     {
         let first = images.copy(alloc)?;
@@ -70,7 +87,7 @@ impl MemDesk {
             said: Vec::with_capacity(alloc, room.said_bytes as usize)?,
             noted: Vec::with_capacity(alloc, room.noted_bytes as usize)?,
             log: Log::new(alloc, room.log_bytes)?,
-            file_bytes: room.file_bytes,
+            room,
             calls: 0,
             failing,
             say_faults: 0,
@@ -110,7 +127,7 @@ impl MemDesk {
 
 impl MemDesk {
     ghost use Rattle.std.specs.Prelude.{◌≡◌, ◌≤◌, ℕ, IfOk};
-    ghost use Rattle.ziti_desk.specs.MemEvents.{image_of};
+    ghost use Rattle.desk_base.specs.MemEvents.{image_of};
     ghost use Rattle.ziti_desk.specs.DeskStops.{StopsAt, KeepsNothingAt, KeepsAllAt};
 
     /// The parts and the replies that a stop at a moment leaves, behind so many of the calls that matter to it or within the next.
@@ -146,184 +163,25 @@ impl MemDesk {
     }
 }
 
-fn say_bytes(said: &mut Vec<u8>, log: &mut Log, bytes: &[u8], fails: bool) -> Result<(), Failed>
-    ensures ok { OnOk result (LogsCall (Call.Said (length bytes.now)) [] log.old log.new × (said.new.items ≡ said.old.items ++ bytes.now)) }
-    ensures err { OnErr result ((said.new.items ≡ said.old.items) × (log.new ≡ log.old)) }
-{
-    if fails || !has_room(said, bytes.len()) {
-        return Err(Failed);
-    }
-    let count = bytes.len();
-    log.add(Call::Said { count }, b"")?;
-    append(said, bytes);
-    Ok(())
-}
-
-fn note_bytes(noted: &mut Vec<u8>, bytes: &[u8], fails: bool) -> Result<(), Failed>
-    ensures ok { OnOk result (noted.new.items ≡ noted.old.items ++ bytes.now) }
-    ensures err { OnErr result (noted.new ≡ noted.old) }
-{
-    if fails || !has_room(noted, bytes.len()) {
-        return Err(Failed);
-    }
-    append(noted, bytes);
-    Ok(())
-}
-
-fn len_of(held: &Images, part: Part, fails: bool) -> Result<u64, Failed>
-    ensures { IfOk result (λ len. len ≡ length (image_of held.now part)) }
-{
-    if fails {
-        return Err(Failed);
-    }
-    Ok(held.part(part).len() as u64)
-}
-
-fn read_part(held: &Images, part: Part, at: u64, buf: &mut [u8], fails: bool) -> Result<(), Failed>
-    ensures { OnOk result (StandAt at buf.new (image_of held.now part)) }
-{
-    let bytes = held.part(part).as_slice();
-    if fails || at > bytes.len() as u64 {
-        return Err(Failed);
-    }
-    let (_, rest) = bytes.split_at(at as usize);
-    if rest.len() < buf.len() {
-        return Err(Failed);
-    }
-    let (front, _) = rest.split_at(buf.len());
-    buf.copy_from_slice(front);
-    Ok(())
-}
-
-// Whether a part that grows by so many bytes stays within its room.
-fn is_within(len: u64, behind: u64, most: u64) -> bool {
-    behind == 0 || len <= most && behind <= most - len
-}
-
-fn write_file(
-    file: &mut Vec<u8>,
-    log: &mut Log,
-    part: Part,
-    at: u64,
-    bytes: &[u8],
-    most: u64,
-    fails: bool,
-) -> Result<(), Failed>
-    requires { at ≤ length file.old.items }
-    ensures ok { OnOk result (LogsCall (Call.Wrote part at (length bytes.now) true) bytes.now log.old log.new
-        × Holds at bytes.now file.old.items file.new.items) }
-    ensures err { OnErr result ((file.new ≡ file.old)
-        × ((log.new ≡ log.old) ⊎ LogsCall (Call.Wrote part at (length bytes.now) false) bytes.now log.old log.new)) }
-{
-    let count = bytes.len();
-    let behind = behind_end(file, at as usize, count);
-    if !has_room(file, behind) || !is_within(file.len() as u64, behind as u64, most) {
-        return Err(Failed);
-    }
-    let done = !fails;
-    log.add(
-        Call::Wrote {
-            part,
-            at,
-            count,
-            done,
-        },
-        bytes,
-    )?;
-    if fails {
-        return Err(Failed);
-    }
-    overwrite(file, at as usize, bytes);
-    Ok(())
-}
-
-fn write_part(
-    held: &mut Images,
-    log: &mut Log,
-    part: Part,
-    at: u64,
-    bytes: &[u8],
-    most: u64,
-    fails: bool,
-) -> Result<(), Failed>
-    requires { at ≤ length (image_of held.old part) }
-    ensures ok { OnOk result (IsDone (Writing part at bytes.now true) (Call.Wrote part at (length bytes.now) true) bytes.now held.old held.new log.old log.new) }
-    ensures err { OnErr result (IsPending (Call.Wrote part at (length bytes.now) false) bytes.now held.old held.new log.old log.new) }
-{
-    match part {
-        Part::Zero => write_file(&mut held.zero, log, part, at, bytes, most, fails),
-        Part::One => write_file(&mut held.one, log, part, at, bytes, most, fails),
-        Part::Mark => write_file(&mut held.mark, log, part, at, bytes, most, fails),
-    }
-}
-
-fn cut_file(
-    file: &mut Vec<u8>,
-    log: &mut Log,
-    part: Part,
-    len: u64,
-    fails: bool,
-) -> Result<(), Failed>
-    requires { len ≤ length file.old.items }
-    ensures ok { OnOk result (LogsCall (Call.Cut part len true) [] log.old log.new × (file.new.items ≡ take len file.old.items)) }
-    ensures err { OnErr result ((file.new ≡ file.old)
-        × ((log.new ≡ log.old) ⊎ LogsCall (Call.Cut part len false) [] log.old log.new)) }
-{
-    let done = !fails;
-    log.add(Call::Cut { part, len, done }, b"")?;
-    if fails {
-        return Err(Failed);
-    }
-    file.truncate(len as usize);
-    Ok(())
-}
-
-fn cut_part(
-    held: &mut Images,
-    log: &mut Log,
-    part: Part,
-    len: u64,
-    fails: bool,
-) -> Result<(), Failed>
-    requires { len ≤ length (image_of held.old part) }
-    ensures ok { OnOk result (IsDone (Cutting part len true) (Call.Cut part len true) [] held.old held.new log.old log.new) }
-    ensures err { OnErr result (IsPending (Call.Cut part len false) [] held.old held.new log.old log.new) }
-{
-    match part {
-        Part::Zero => cut_file(&mut held.zero, log, part, len, fails),
-        Part::One => cut_file(&mut held.one, log, part, len, fails),
-        Part::Mark => cut_file(&mut held.mark, log, part, len, fails),
-    }
-}
-
-fn sync_part(log: &mut Log, part: Part, fails: bool) -> Result<(), Failed>
-    ensures ok { OnOk result (LogsCall (Call.Synced part) [] log.old log.new) }
-    ensures err { OnErr result (log.new ≡ log.old) }
-{
-    if fails {
-        return Err(Failed);
-    }
-    log.add(Call::Synced { part }, b"")
-}
-
 impl Desk for MemDesk {
-    ghost use Rattle.std.specs.Prelude.{true, Some, []};
+    ghost use Rattle.std.specs.Prelude.{◌≡◌, ◌≤◌, ◌+◌, ◌++◌, ◌∷◌, ◌||◌, not, true, Some, [], is_err, if◌then◌else◌, IsTrue, IfOk, OnOk, OnErr, length, nat_lt, take};
     ghost use Rattle.std.proofs.Common.{◌∙◌};
-    ghost use Rattle.ziti_desk.specs.MemEvents.{image_of, logged, stopped_by};
-    ghost use Rattle.ziti_desk.specs.MemStops.{counts, now_only, own_image};
+    ghost use Rattle.ziti_outside.specs.Causes.{HasCause};
+    ghost use Rattle.ziti_outside.specs.Images.{Holds, StandAt, Torn, CutShort, Else, OnPart, After, IsStable};
+    ghost use Rattle.ziti_outside.specs.Moments.{Elapses, Remembers, Leaves};
+    ghost use Rattle.ziti_outside.specs.Moments as moments;
+    ghost use Rattle.ziti_outside.specs.Told.{Hands};
+    ghost use Rattle.ziti_outside.specs.Untouched.{OnlySays, OnlyNotes, OnlyDisk};
+    ghost use Rattle.desk_base.specs.MemEvents.{Saying, Writing, Cutting, Syncing, image_of, logged};
+    ghost use Rattle.desk_base.specs.MemRoom.{is_named, is_over_said, is_over_noted, is_over_part, is_logged_out, less};
+    ghost use Rattle.desk_base.specs.MemStops.{counts, now_only, own_image};
+    ghost use Rattle.ziti_desk.specs.DeskStops.{Logs, calls_of, limits_of, seen_of, stopped_of};
 
     ghost tells = { true };
 
-    ghost seen = { λ d. record {
-      said = Some d.said.items;
-      noted = Some d.noted.items;
-      say_faults = d.say_faults;
-      note_faults = d.note_faults;
-      disk_faults = d.disk_faults;
-      reads = image_of d.held;
-    } };
+    ghost seen = { seen_of };
 
-    ghost stopped = { λ d. stopped_by (image_of d.first) (logged d.log d.said.items) };
+    ghost stopped = { stopped_of };
 
     ghost counts_now = { λ d time image taken early leaves replies.
         counts (image_of d.first) (λ i. i ≡ image_of d.first) [] (logged d.log d.said.items) time image taken leaves (replies ∙ d.replayed.taken) };
@@ -333,31 +191,93 @@ impl Desk for MemDesk {
 
     ghost is_own = { λ d told. own_image (image_of d.first) (image_of d.held) (logged d.log d.said.items) d.replayed.reads };
 
-    fn say(&mut self, bytes: &[u8]) -> Result<(), Failed> {
+    fn say(&mut self, bytes: &[u8]) -> Result<(), Failed>
+        ensures taken { Hands (seen_of self.old).said (seen_of self.new).said result bytes.now }
+        ensures cause { HasCause (seen_of self.old).say_faults (seen_of self.new).say_faults result }
+        ensures others { OnlySays seen_of stopped_of self.old self.new }
+        ensures stops { Elapses (stopped_of self.old) (stopped_of self.new) (moments.Saying (stopped_of self.old).images (seen_of self.old).said bytes.now) }
+        ensures remembers { Remembers (stopped_of self.old) (stopped_of self.new) }
+        ensures fails { is_err result ≡ (is_named (limits_of self.old) || is_over_said (limits_of self.old) (length bytes.now)) }
+        ensures logs { Logs self.old self.new (if is_err result then [] else Saying bytes.now ∷ []) }
+        ensures limits { limits_of self.new ≡ (if is_err result then less 0 0 0 (limits_of self.old) else less (length bytes.now) 0 32 (limits_of self.old)) }
+    {
         let fails = is_next_listed(&mut self.calls, &self.failing);
-        let answer = say_bytes(&mut self.said, &mut self.log, bytes, fails);
+        let answer = say_bytes(
+            &mut self.said,
+            &mut self.log,
+            bytes,
+            self.room.said_bytes,
+            fails,
+        );
         counted(&mut self.say_faults, answer)
     }
 
-    fn note(&mut self, bytes: &[u8]) -> Result<(), Failed> {
+    fn note(&mut self, bytes: &[u8]) -> Result<(), Failed>
+        ensures taken { Hands (seen_of self.old).noted (seen_of self.new).noted result bytes.now }
+        ensures cause { HasCause (seen_of self.old).note_faults (seen_of self.new).note_faults result }
+        ensures others { OnlyNotes seen_of stopped_of self.old self.new }
+        ensures stops { Leaves seen_of stopped_of self.old self.new (stopped_of self.old).images }
+        ensures remembers { Remembers (stopped_of self.old) (stopped_of self.new) }
+        ensures fails { is_err result ≡ (is_named (limits_of self.old) || is_over_noted (limits_of self.old) (length bytes.now)) }
+        ensures logs { Logs self.old self.new [] }
+        ensures limits { limits_of self.new ≡ (if is_err result then less 0 0 0 (limits_of self.old) else less 0 (length bytes.now) 0 (limits_of self.old)) }
+    {
         let fails = is_next_listed(&mut self.calls, &self.failing);
-        let answer = note_bytes(&mut self.noted, bytes, fails);
+        let answer = note_bytes(&mut self.noted, bytes, self.room.noted_bytes, fails);
         counted(&mut self.note_faults, answer)
     }
 
-    fn len(&mut self, part: Part) -> Result<u64, Failed> {
+    fn len(&mut self, part: Part) -> Result<u64, Failed>
+        ensures length { IfOk result (λ n. IsTrue true → n ≡ length ((seen_of self.old).reads part)) }
+        ensures parts { (seen_of self.new).reads ≡ (seen_of self.old).reads }
+        ensures cause { HasCause (seen_of self.old).disk_faults (seen_of self.new).disk_faults result }
+        ensures others { OnlyDisk seen_of self.old self.new }
+        ensures stops { Leaves seen_of stopped_of self.old self.new (stopped_of self.old).images }
+        ensures remembers { Remembers (stopped_of self.old) (stopped_of self.new) }
+        ensures fails { is_err result ≡ is_named (limits_of self.old) }
+        ensures logs { Logs self.old self.new [] }
+        ensures limits { limits_of self.new ≡ less 0 0 0 (limits_of self.old) }
+    {
         let fails = is_next_listed(&mut self.calls, &self.failing);
         let answer = len_of(&self.held, part, fails);
         counted(&mut self.disk_faults, answer)
     }
 
-    fn read_at(&mut self, part: Part, at: u64, buf: &mut [u8]) -> Result<(), Failed> {
+    fn read_at(&mut self, part: Part, at: u64, buf: &mut [u8]) -> Result<(), Failed>
+        ensures read { OnOk result (IsTrue true → StandAt at buf.new ((seen_of self.old).reads part)) }
+        ensures parts { (seen_of self.new).reads ≡ (seen_of self.old).reads }
+        ensures cause { HasCause (seen_of self.old).disk_faults (seen_of self.new).disk_faults result }
+        ensures others { OnlyDisk seen_of self.old self.new }
+        ensures stops { Leaves seen_of stopped_of self.old self.new (stopped_of self.old).images }
+        ensures remembers { Remembers (stopped_of self.old) (stopped_of self.new) }
+        ensures fails { is_err result ≡ (is_named (limits_of self.old) || nat_lt (length ((seen_of self.old).reads part)) (at + length buf.old)) }
+        ensures logs { Logs self.old self.new [] }
+        ensures limits { limits_of self.new ≡ less 0 0 0 (limits_of self.old) }
+    {
         let fails = is_next_listed(&mut self.calls, &self.failing);
         let answer = read_part(&self.held, part, at, buf, fails);
         counted(&mut self.disk_faults, answer)
     }
 
-    fn write_at(&mut self, part: Part, at: u64, bytes: &[u8]) -> Result<(), Failed> {
+    fn write_at(&mut self, part: Part, at: u64, bytes: &[u8]) -> Result<(), Failed>
+        requires within { IsTrue true → at ≤ length ((seen_of self.old).reads part) }
+        ensures written { OnOk result (IsTrue true → Holds at bytes.now ((seen_of self.old).reads part) ((seen_of self.new).reads part)) }
+        ensures torn { OnErr result (IsTrue true → Torn at (length bytes.now) ((seen_of self.old).reads part) ((seen_of self.new).reads part)) }
+        ensures elsewhere { Else part (seen_of self.old).reads (seen_of self.new).reads }
+        ensures cause { HasCause (seen_of self.old).disk_faults (seen_of self.new).disk_faults result }
+        ensures others { OnlyDisk seen_of self.old self.new }
+        ensures stops { Leaves seen_of stopped_of self.old self.new
+            (After (OnPart part (Torn at (length bytes.now))) (stopped_of self.old).images) }
+        ensures remembers { Remembers (stopped_of self.old) (stopped_of self.new) }
+        ensures fails { is_err result ≡ (is_named (limits_of self.old)
+            || is_over_part (limits_of self.old) (length ((seen_of self.old).reads part)) at (length bytes.now)) }
+        ensures logs { Logs self.old self.new
+            (if is_over_part (limits_of self.old) (length ((seen_of self.old).reads part)) at (length bytes.now) then []
+            else Writing part at bytes.now (not (is_named (limits_of self.old))) ∷ []) }
+        ensures limits { limits_of self.new ≡
+            (if is_over_part (limits_of self.old) (length ((seen_of self.old).reads part)) at (length bytes.now) then less 0 0 0 (limits_of self.old)
+            else less 0 0 (32 + length bytes.now) (limits_of self.old)) }
+    {
         let fails = is_next_listed(&mut self.calls, &self.failing);
         let answer = write_part(
             &mut self.held,
@@ -365,19 +285,43 @@ impl Desk for MemDesk {
             part,
             at,
             bytes,
-            self.file_bytes,
+            self.room.file_bytes,
             fails,
         );
         counted(&mut self.disk_faults, answer)
     }
 
-    fn cut(&mut self, part: Part, len: u64) -> Result<(), Failed> {
+    fn cut(&mut self, part: Part, len: u64) -> Result<(), Failed>
+        requires within { IsTrue true → len ≤ length ((seen_of self.old).reads part) }
+        ensures cut { OnOk result (IsTrue true → (seen_of self.new).reads part ≡ take len ((seen_of self.old).reads part)) }
+        ensures cut_short { OnErr result (IsTrue true → CutShort len ((seen_of self.old).reads part) ((seen_of self.new).reads part)) }
+        ensures elsewhere { Else part (seen_of self.old).reads (seen_of self.new).reads }
+        ensures cause { HasCause (seen_of self.old).disk_faults (seen_of self.new).disk_faults result }
+        ensures others { OnlyDisk seen_of self.old self.new }
+        ensures stops { Leaves seen_of stopped_of self.old self.new (After (OnPart part (CutShort len)) (stopped_of self.old).images) }
+        ensures remembers { Remembers (stopped_of self.old) (stopped_of self.new) }
+        ensures fails { is_err result ≡ (is_named (limits_of self.old) || is_logged_out (limits_of self.old) 0) }
+        ensures logs { Logs self.old self.new
+            (if is_logged_out (limits_of self.old) 0 then [] else Cutting part len (not (is_named (limits_of self.old))) ∷ []) }
+        ensures limits { limits_of self.new ≡
+            (if is_logged_out (limits_of self.old) 0 then less 0 0 0 (limits_of self.old) else less 0 0 32 (limits_of self.old)) }
+    {
         let fails = is_next_listed(&mut self.calls, &self.failing);
         let answer = cut_part(&mut self.held, &mut self.log, part, len, fails);
         counted(&mut self.disk_faults, answer)
     }
 
-    fn sync(&mut self, part: Part) -> Result<(), Failed> {
+    fn sync(&mut self, part: Part) -> Result<(), Failed>
+        ensures stable { OnOk result (IsStable part (seen_of self.new).reads (stopped_of self.new).images) }
+        ensures parts { (seen_of self.new).reads ≡ (seen_of self.old).reads }
+        ensures cause { HasCause (seen_of self.old).disk_faults (seen_of self.new).disk_faults result }
+        ensures others { OnlyDisk seen_of self.old self.new }
+        ensures stops { Leaves seen_of stopped_of self.old self.new (stopped_of self.old).images }
+        ensures remembers { Remembers (stopped_of self.old) (stopped_of self.new) }
+        ensures fails { is_err result ≡ (is_named (limits_of self.old) || is_logged_out (limits_of self.old) 0) }
+        ensures logs { Logs self.old self.new (if is_err result then [] else Syncing part ∷ []) }
+        ensures limits { limits_of self.new ≡ (if is_err result then less 0 0 0 (limits_of self.old) else less 0 0 32 (limits_of self.old)) }
+    {
         let fails = is_next_listed(&mut self.calls, &self.failing);
         let answer = sync_part(&mut self.log, part, fails);
         counted(&mut self.disk_faults, answer)

@@ -1,12 +1,12 @@
-use crate::drive::Drive;
 use crate::mem_desk::MemDesk;
+use desk_base::Drive;
 use ziti_outside::{Desk, Failed, Part};
 
 // The folder of a desk over memory: what a stop finds of it is what it finds of that desk, whatever that desk said.
 impl Drive for MemDesk {
     ghost use Rattle.std.specs.Prelude.{◌≡◌, true, List, ℕ, []};
-    ghost use Rattle.ziti_desk.specs.MemEvents.{image_of, logged};
-    ghost use Rattle.ziti_desk.specs.MemStops.{counts, now_only, own_image};
+    ghost use Rattle.desk_base.specs.MemEvents.{image_of, logged};
+    ghost use Rattle.desk_base.specs.MemStops.{counts, now_only, own_image};
 
     ghost tells = { true };
 

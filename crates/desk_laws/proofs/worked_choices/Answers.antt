@@ -1,6 +1,6 @@
 use Rattle.std.proofs.Common.{◌≡◌, ℕ, List, [], ◌∷◌, get_or, refl, ap, arith}
 use Rattle.ziti_outside.specs.declared.desk.Part.TheVariants.{Zero}
-use Rattle.ziti_desk.proofs.KeptLaws.{by_parts}
+use Rattle.desk_base.proofs.KeptLaws.{by_parts}
 use Rattle.desk_laws.proofs.worked_choices.Goals as goal
 
 pub returns-clause-nothing_at_first : goal.returns-clause-nothing_at_first

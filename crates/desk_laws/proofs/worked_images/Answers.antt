@@ -2,8 +2,8 @@ use Rattle.std.proofs.Common.{◌≡◌, [], ◌∷◌, refl}
 use Rattle.ziti_outside.specs.declared.desk.Part.TheVariants.{Zero}
 use Rattle.ziti_outside.specs.Images.{Image, Torn, CutShort, OnPart, After}
 use Rattle.ziti_outside.proofs.ImageLaws.{Torn-none, CutShort-none}
-use Rattle.ziti_desk.specs.MemEvents.{at_parts}
-use Rattle.ziti_desk.specs.MemStops.{unwritten, uncut}
+use Rattle.desk_base.specs.MemEvents.{at_parts}
+use Rattle.desk_base.specs.MemStops.{unwritten, uncut}
 use Rattle.desk_laws.proofs.worked_images.Goals as goal
 
 pub returns-clause-cut_before_the_write : goal.returns-clause-cut_before_the_write

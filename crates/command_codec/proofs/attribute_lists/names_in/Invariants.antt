@@ -2,7 +2,7 @@ use Rattle.std.proofs.Common.{◌≡◌, Some, option_map, take}
 use Rattle.serde_json.specs.View.{items_view}
 use Rattle.role_expr.specs.NameRepeats.{without_repeats}
 use Rattle.json_body.specs.FieldKinds.{as_name}
-use Rattle.command_codec.specs.ItemLists.{each_of}
+use Rattle.body_fields.specs.ItemLists.{each_of}
 use Rattle.command_codec.proofs.attribute_lists.names_in.Given as goal
 
 -- kept are the names of the values before the index, without repeats

@@ -25,4 +25,4 @@ returns-then-is_empty c =
     let out = c.without_circuits.ensures in
     settled_alone c.args.change.now c.args.stores.now c.in_ok-fallen.fallen c.requires.can falls _ c.if-stay.true c.requires.stands
     (subst (λ told. StayGranted told s t) (sym c.stays_granted-stay.ensures) (stay_granted c.args.granted s t c.args.steps.now c.requires.granted c.requires.counts))
-    (c.is_empty.ensures.0 c.if-is_empty.true) c.without_circuits.result out.links out.terminators out.lost out.ended out.moves
+    (c.is_empty.ensures.0 c.if-is_empty.true) c.without_circuits.result out.links out.terminators out.going out.ended out.moves

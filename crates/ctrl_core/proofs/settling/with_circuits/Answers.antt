@@ -11,4 +11,4 @@ judged_beside-requires-clause-counts c =
     grants_after_are c.args.stores.now (after_change c.args.change.now (state_of c.args.stores.now)) c.args.steps.now c.in_ok-grants.grants c.requires.kept c.requires.counts c.in_ok-grants.ensures
 
 pub returns : goal.returns
-returns c = record { links_are = c.requires.falls.links_are; terms_are = c.requires.falls.terms_are; judged = c.in_ok-lost.ensures }
+returns c = record { links_are = c.requires.falls.links_are; terms_are = c.requires.falls.terms_are; judged = c.in_ok-going.ensures }

@@ -1,25 +1,24 @@
-use Rattle.std.proofs.Common.{Option, subst, ap}
+use Rattle.std.proofs.Common.{ℕ, List, subst, ap}
 use Rattle.program_words.proofs.AskedLaws.{asked_with, asked_without, failed_with, failed_without, wanting_with}
-use Rattle.ctrl_serve.specs.declared.command_line.Form.{Form}
 use Rattle.ctrl_serve.specs.CommandLine.{form_of, texts}
 use Rattle.ctrl_serve.specs.Headline.{Runs, program_bounds}
 use Rattle.ctrl_serve.proofs.ending.run_given.Goals as goal
 
 pub returns-in-Ok-clause-words : goal.returns-in-Ok-clause-words
 returns-in-Ok-clause-words c d =
-    let RunsOf : Option Form → Type 0 = λ form. Runs {S = c.row.S.Denot} {D = c.row.D.Denot}
-    (record { left = c.S.Source.left; faults = c.S.Source.faults; tells = c.D.Desk.tells; seen = c.D.Desk.seen; stopped = c.D.Desk.stopped }) program_bounds form
+    let RunsOf : List (List ℕ) → Type 0 = λ words. Runs {S = c.row.S.Denot} {D = c.row.D.Denot}
+    (record { left = c.S.Source.left; faults = c.S.Source.faults; tells = c.D.Desk.tells; seen = c.D.Desk.seen; stopped = c.D.Desk.stopped }) program_bounds words (form_of words)
     d.args.source.now d.run.new.source d.args.desk.now d.run.new.desk d.run.result in
     asked_with d.args.given d.asked_words.result _ _ _ d.in-Ok.is d.asked_words.ensures.words
-    (λ words same. subst RunsOf (ap (λ ws. form_of (texts ws)) same) d.run.ensures.runs)
+    (λ words same. subst RunsOf (ap texts same) d.run.ensures.runs)
 
 pub returns-in-Ok-clause-no_text : goal.returns-in-Ok-clause-no_text
 returns-in-Ok-clause-no_text c d =
-    let RunsOf : Option Form → Type 0 = λ form. Runs {S = c.row.S.Denot} {D = c.row.D.Denot}
-    (record { left = c.S.Source.left; faults = c.S.Source.faults; tells = c.D.Desk.tells; seen = c.D.Desk.seen; stopped = c.D.Desk.stopped }) program_bounds form
+    let RunsOf : List (List ℕ) → Type 0 = λ words. Runs {S = c.row.S.Denot} {D = c.row.D.Denot}
+    (record { left = c.S.Source.left; faults = c.S.Source.faults; tells = c.D.Desk.tells; seen = c.D.Desk.seen; stopped = c.D.Desk.stopped }) program_bounds words (form_of words)
     d.args.source.now d.run.new.source d.args.desk.now d.run.new.desk d.run.result in
     failed_with d.args.given d.asked_words.result _ _ _ _ d.in-Ok.is d.asked_words.ensures.no_text
-    (λ same. subst RunsOf (ap (λ ws. form_of (texts ws)) same) d.run.ensures.runs)
+    (λ same. subst RunsOf (ap texts same) d.run.ensures.runs)
 
 pub returns-in-Ok-clause-no_memory : goal.returns-in-Ok-clause-no_memory
 returns-in-Ok-clause-no_memory c d = wanting_with d.args.given d.asked_words.result _ _ _ d.in-Ok.is d.asked_words.ensures.no_memory

@@ -6,4 +6,4 @@ use Rattle.ctrl_serve.proofs.folder.tell_closed.Goals as goal
 pub returns-in-Damaged-clause-told : goal.returns-in-Damaged-clause-told
 returns-in-Damaged-clause-told g c =
     let d = g.D.Desk in
-    subst (λ (f : KeepFault). TellsClosed f c.tell_damage.result (d.seen c.args.desk.now) (d.seen c.tell_damage.new.desk)) (sym c.in-Damaged.is) c.tell_damage.ensures.told
+    subst (λ (f : KeepFault). TellsClosed f c.tell_damage.result (d.seen c.args.desk.now) (d.seen c.tell_damage.new.desk)) (sym c.in-Damaged.is) (c.tell_damage.ensures.status, c.tell_damage.ensures.told)

@@ -14,7 +14,7 @@ use Rattle.ctrl_serve.proofs.TurnLaws.{none_left}
 use Rattle.ctrl_serve.proofs.UsedLaws.{all_so}
 use Rattle.ctrl_serve.proofs.RoomRuns.{room_calm}
 use Rattle.ctrl_serve.proofs.PieceLaws.{input_ends, input_starved, pieces_none}
-use Rattle.ctrl_serve.proofs.IntakeLaws.{read_caused}
+use Rattle.ctrl_serve.proofs.IntakeLaws.{read_caused, starved_faultless}
 use Rattle.ctrl_serve.proofs.pieces.serve_input.Goals as goal
 
 pub returns-clause-answers : goal.returns-clause-answers
@@ -37,13 +37,13 @@ pub returns-in_err-mux-clause-answers : goal.returns-in_err-mux-clause-answers
 returns-in_err-mux-clause-answers g c =
     let desk = c.args.desk.now in
     let p = err_from_is_err_and c.from_residual.result c.from_residual.ensures.1 in
-    rw p.1 (rw p.2 (pieces_none (intake_of c.args.form c.args.most (serving_of c.args.controller.now) g.D.Desk.tells) (g.S.Source.left c.args.source.now) (g.D.Desk.stopped desk) (record { failed = c.args.notes.now.failed; desk = g.D.Desk.seen desk })))
+    rw p.1 (rw p.2 (pieces_none (intake_of c.args.form c.args.most (serving_of c.args.controller.now) g.D.Desk.tells) (g.S.Source.left c.args.source.now) (g.D.Desk.stopped desk) (serving_of c.args.controller.now).machine (record { failed = c.args.notes.now.failed; desk = g.D.Desk.seen desk })))
 
 pub returns-in_err-sessions-clause-answers : goal.returns-in_err-sessions-clause-answers
 returns-in_err-sessions-clause-answers g c =
     let desk = c.args.desk.now in
     let p = err_from_is_err_and c.from_residual-in_err-sessions.result c.from_residual-in_err-sessions.ensures.1 in
-    rw p.1 (rw p.2 (pieces_none (intake_of c.args.form c.args.most (serving_of c.args.controller.now) g.D.Desk.tells) (g.S.Source.left c.args.source.now) (g.D.Desk.stopped desk) (record { failed = c.args.notes.now.failed; desk = g.D.Desk.seen desk })))
+    rw p.1 (rw p.2 (pieces_none (intake_of c.args.form c.args.most (serving_of c.args.controller.now) g.D.Desk.tells) (g.S.Source.left c.args.source.now) (g.D.Desk.stopped desk) (serving_of c.args.controller.now).machine (record { failed = c.args.notes.now.failed; desk = g.D.Desk.seen desk })))
 
 pub returns-in_err-mux-clause-until_failure : goal.returns-in_err-mux-clause-until_failure
 returns-in_err-mux-clause-until_failure g c = takes_none _
@@ -60,7 +60,7 @@ pub returns-in_err-tell_ending-clause-answers : goal.returns-in_err-tell_ending-
 returns-in_err-tell_ending-clause-answers g c =
     let left = c.in_err-tell_ending.ensures.unnoted in
     let p = err_from_is_err_and c.from_residual-in_err-tell_ending.result c.from_residual-in_err-tell_ending.ensures.1 in
-    rw p.1 (rw p.2 (input_starved {now = record { failed = c.tell_ending.new.notes.failed; desk = g.D.Desk.seen c.tell_ending.new.desk }} c.in_ok-stop.stop.end c.in_ok-stop.stop.bad
+    rw p.1 (rw p.2 (input_starved {now = record { failed = c.tell_ending.new.notes.failed; desk = g.D.Desk.seen c.tell_ending.new.desk }} c.in_ok-stop.stop.end c.in_ok-stop.stop.bad (serving_of c.serve_pieces.new.controller).machine
     c.in_ok-stop.ensures.ok.0 c.in_ok-stop.ensures.end c.tell_ending.ensures.stops c.in_err-tell_ending.ensures.memory c.tell_ending.ensures.others.replies
     (record { failed = ap (λ (x : Notes). x.failed) left.0; notes = left.1.notes; failed_notes = left.1.failed_notes })))
 
@@ -92,3 +92,13 @@ returns-in_err-mux-clause-alone g c = λ none. OnlySaysAndNotes-none c.args.desk
 
 pub returns-in_err-sessions-clause-alone : goal.returns-in_err-sessions-clause-alone
 returns-in_err-sessions-clause-alone g c = λ none. OnlySaysAndNotes-none c.args.desk.now
+
+pub returns-in_err-tell_ending-clause-faultless : goal.returns-in_err-tell_ending-clause-faultless
+returns-in_err-tell_ending-clause-faultless g c =
+    let p = err_from_is_err_and c.from_residual-in_err-tell_ending.result c.from_residual-in_err-tell_ending.ensures.1 in
+    rw p.1 (starved_faultless c.in_ok-stop.stop.end c.in_ok-stop.stop.bad c.serve_pieces.new.mux _ _ _ _ c.in_ok-stop.ensures.end c.in_ok-stop.ensures.last c.in_err-tell_ending.ensures.memory c.in_ok-stop.ensures.fault)
+
+pub returns-in_err-stop-clause-unsaid : goal.returns-in_err-stop-clause-unsaid
+returns-in_err-stop-clause-unsaid g c =
+    let p = err_from_is_err_and c.from_residual-in_err-stop.result c.from_residual-in_err-stop.ensures.1 in
+    rw p.1 (rw p.2 c.in_err-stop.ensures.unsaid)

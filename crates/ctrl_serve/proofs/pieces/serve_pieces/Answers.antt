@@ -74,7 +74,7 @@ pub returns-in_err-room-clause-cut : goal.returns-in_err-room-clause-cut
 returns-in_err-room-clause-cut g c =
     let desk = c.args.desk.now in
     let p = err_from_is_err_and c.from_residual.result c.from_residual.ensures.1 in
-    rw p.1 (rw p.2 (pieces_none (intake_of c.args.form c.args.most (serving_of c.args.controller.now) g.D.Desk.tells) (g.S.Source.left c.args.source.now) (g.D.Desk.stopped desk) (record { failed = c.args.notes.now.failed; desk = g.D.Desk.seen desk })))
+    rw p.1 (rw p.2 (pieces_none (intake_of c.args.form c.args.most (serving_of c.args.controller.now) g.D.Desk.tells) (g.S.Source.left c.args.source.now) (g.D.Desk.stopped desk) (serving_of c.args.controller.now).machine (record { failed = c.args.notes.now.failed; desk = g.D.Desk.seen desk })))
 
 pub returns-in_err-room-clause-until_failure : goal.returns-in_err-room-clause-until_failure
 returns-in_err-room-clause-until_failure g c = takes_none _
@@ -118,7 +118,7 @@ returns-in_err-feed-in-Ok-clause-cut g c =
     let p = err_from_is_err_and c.from_residual-in_err-feed-in-Ok.result c.from_residual-in_err-feed-in-Ok.ensures.1 in
     let within : c.pieces.taken ≤ c.args.most = omega (arith, c.pieces-test.true) in
     let came = pieces_fed (take c.in-Ok.count c.take.new.buf) held.answers held.given.none within c.in-Ok.ensures.bytes.bytes few c.first_bytes.ensures refl in
-    rw p.1 (rw p.2 (fed_starved came))
+    rw p.1 (rw p.2 (fed_starved (serving_of c.pieces.controller).machine came))
 
 pub returns-in_err-feed-in-Ok-clause-until_failure : goal.returns-in_err-feed-in-Ok-clause-until_failure
 returns-in_err-feed-in-Ok-clause-until_failure g c =
@@ -190,3 +190,8 @@ returns-in_err-room-clause-alone g c = λ none. OnlySaysAndNotes-none c.args.des
 pub returns-in_err-bad-in-Ok-clause-alone : goal.returns-in_err-bad-in-Ok-clause-alone
 returns-in_err-bad-in-Ok-clause-alone g c = λ none.
     let held = c.pieces.invariant in OnlySaysAndNotes-then (held.alone none) (c.serve_events.ensures.alone (still_alone _ _ held.on.kind none))
+
+pub returns-in_err-bad-in-Ok-clause-unsaid : goal.returns-in_err-bad-in-Ok-clause-unsaid
+returns-in_err-bad-in-Ok-clause-unsaid g c =
+    let p = err_from_is_err_and c.from_residual-in_err-bad-in-Ok.result c.from_residual-in_err-bad-in-Ok.ensures.1 in
+    rw p.1 (rw p.2 (λ is. let turn = c.in_err-bad-in-Ok.ensures.unsaid is in record { on = GoesOn-then c.pieces.invariant.on turn.on; ready = turn.ready }))

@@ -1,4 +1,8 @@
+use Rattle.std.proofs.Common.{ap, ◌∙◌}
 use Rattle.std.proofs.lemmas.Result.{err_from_is_err_and}
+use Rattle.ctrl_model.specs.declared.kinds.Who.{Who}
+use Rattle.ctrl_serve.specs.ControllerViews.{serving_of}
+use Rattle.ctrl_serve.specs.FrameAnswer.{frame_answer}
 use Rattle.ctrl_serve.proofs.RunStopLaws.{arrived_stops}
 use Rattle.ctrl_serve.proofs.TurnLaws.{arrived_taken, arrived_cut}
 use Rattle.ctrl_serve.proofs.serving.serve_arrived.Goals as goal
@@ -28,3 +32,14 @@ returns-clause-alone g c = c.serve_frame.ensures.alone
 
 pub returns-in_err-serve_frame-clause-alone : goal.returns-in_err-serve_frame-clause-alone
 returns-in_err-serve_frame-clause-alone g c = c.serve_frame.ensures.alone
+
+pub returns-in_err-serve_frame-clause-next : goal.returns-in_err-serve_frame-clause-next
+returns-in_err-serve_frame-clause-next g c =
+    let p = err_from_is_err_and c.from_residual.result c.from_residual.ensures.1 in
+    let old = serving_of c.args.controller.now in
+    rw p.1 (rw p.2 (λ is. c.in_err-serve_frame.ensures.next is ∙ ap (λ (who : Who). (frame_answer old.bounds who c.args.frame.now old.machine).1) c.sender.ensures))
+
+pub returns-in_err-serve_frame-clause-unsaid : goal.returns-in_err-serve_frame-clause-unsaid
+returns-in_err-serve_frame-clause-unsaid g c =
+    let p = err_from_is_err_and c.from_residual.result c.from_residual.ensures.1 in
+    rw p.1 (rw p.2 c.in_err-serve_frame.ensures.unsaid)

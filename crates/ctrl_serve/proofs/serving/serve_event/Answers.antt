@@ -1,8 +1,12 @@
-use Rattle.std.specs.Prelude.{OnOk}
+use Rattle.std.specs.Prelude.{OnOk, IfErr}
 use Rattle.std.proofs.Common.{◌≡◌, ℕ, List, [], refl, sym, ap, subst}
+use Rattle.session_mux.specs.declared.events.Event.{Event}
+use Rattle.run_notes.specs.declared.ends.Cut.TheVariants.{Unsaid}
 use Rattle.run_notes.specs.Notes.{event_lines}
 use Rattle.run_notes.specs.NotesSoFar.{NotesMore}
 use Rattle.ctrl_keep.proofs.FollowedSteps.{follows_still}
+use Rattle.ctrl_serve.specs.ControllerViews.{serving_of}
+use Rattle.ctrl_serve.specs.KnownReplies.{machine_after}
 use Rattle.ctrl_serve.proofs.ControllerLaws.{OnlySaysAndNotes-none, notes_alone}
 use Rattle.ctrl_serve.proofs.TurnLaws.{arrived_noted}
 use Rattle.ctrl_serve.proofs.serving.serve_event.Goals as goal
@@ -42,3 +46,12 @@ returns-in-Arrived-clause-noted g c =
     let failed = c.args.notes.now.failed in
     let none : event_lines c.args.event ≡ [] = ap event_lines c.in-Arrived.is in
     subst (λ (l : List ℕ). OnOk c.serve_arrived.result (NotesMore failed failed l old new)) (sym none) (arrived_noted c.serve_arrived.result failed old new notes.notes notes.failed_notes)
+
+pub returns-in-Arrived-clause-next : goal.returns-in-Arrived-clause-next
+returns-in-Arrived-clause-next g c =
+    let old = serving_of c.args.controller.now in
+    let new = serving_of c.serve_arrived.new.controller in
+    subst (λ (e : Event). IfErr c.serve_arrived.result (λ c1. c1 ≡ Unsaid → new.machine ≡ machine_after old.bounds e c.args.sessions.now old.machine)) (sym c.in-Arrived.is) c.serve_arrived.ensures.next
+
+pub returns-in-Arrived-clause-unsaid : goal.returns-in-Arrived-clause-unsaid
+returns-in-Arrived-clause-unsaid g c = c.serve_arrived.ensures.unsaid

@@ -62,7 +62,7 @@ returns-in_err-serve_event-in-Ok-Some-clause-cut g c =
     let p = err_from_is_err_and c.from_residual.result c.from_residual.ensures.1 in
     let held = c.events.invariant in
     let cut = c.in_err-serve_event-in-Ok-Some.ensures in
-    rw p.1 (rw p.2 (cut_answers {now = record { failed = c.serve_event.new.notes.failed; desk = g.D.Desk.seen c.serve_event.new.desk }} held.on.bounds held.answers goes cut.cut (record { failed = ap (λ (x : Notes). x.failed) cut.unnoted.0; notes = cut.unnoted.1.notes; failed_notes = cut.unnoted.1.failed_notes })))
+    rw p.1 (rw p.2 (cut_answers {now = record { failed = c.serve_event.new.notes.failed; desk = g.D.Desk.seen c.serve_event.new.desk }} held.on.bounds held.answers goes cut.cut cut.next (record { failed = ap (λ (x : Notes). x.failed) cut.unnoted.0; notes = cut.unnoted.1.notes; failed_notes = cut.unnoted.1.failed_notes })))
 
 pub returns-in-Ok-None-clause-end : goal.returns-in-Ok-None-clause-end
 returns-in-Ok-None-clause-end g c =
@@ -78,7 +78,7 @@ returns-in-Err-BadRecord-clause-end g c =
     subst (λ (n : ℕ). IsStuckAt new n) (sym c.in-Err-BadRecord.at-is) (stuck_at old new c.in-Err-BadRecord.at stuck.0 stuck.1)
 
 pub returns-in-Err-NoMemory-clause-cut : goal.returns-in-Err-NoMemory-clause-cut
-returns-in-Err-NoMemory-clause-cut g c = starved_answers c.events.invariant.answers (c.next.ensures.memory (c.in-Err-NoMemory.is ∙ ap Err c.in-Err-NoMemory.field-0-is))
+returns-in-Err-NoMemory-clause-cut g c = starved_answers (serving_of c.events.controller).machine c.events.invariant.answers (c.next.ensures.memory (c.in-Err-NoMemory.is ∙ ap Err c.in-Err-NoMemory.field-0-is))
 
 pub returns-in_err-serve_event-in-Ok-Some-clause-stops : goal.returns-in_err-serve_event-in-Ok-Some-clause-stops
 returns-in_err-serve_event-in-Ok-Some-clause-stops g c = λ some told.
@@ -104,3 +104,9 @@ returns-in-Err-BadRecord-clause-ok g c =
 pub returns-in_err-serve_event-in-Ok-Some-clause-alone : goal.returns-in_err-serve_event-in-Ok-Some-clause-alone
 returns-in_err-serve_event-in-Ok-Some-clause-alone g c = λ none.
     let held = c.events.invariant in OnlySaysAndNotes-then (held.alone none) (c.serve_event.ensures.alone (still_alone _ _ held.on.kind none))
+
+pub returns-in_err-serve_event-in-Ok-Some-clause-unsaid : goal.returns-in_err-serve_event-in-Ok-Some-clause-unsaid
+returns-in_err-serve_event-in-Ok-Some-clause-unsaid g c =
+    let p = err_from_is_err_and c.from_residual.result c.from_residual.ensures.1 in
+    let cut = c.in_err-serve_event-in-Ok-Some.ensures in
+    rw p.1 (rw p.2 (λ is. let turn = cut.unsaid is in record { on = GoesOn-then c.events.invariant.on turn.on; ready = turn.ready }))

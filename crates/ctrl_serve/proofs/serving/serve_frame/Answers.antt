@@ -1,4 +1,6 @@
-use Rattle.std.proofs.Common.{◌∙◌}
+use Rattle.std.proofs.Common.{ap, ◌∙◌}
+use Rattle.ctrl_model.specs.declared.replies.Reply.{Reply}
+use Rattle.ctrl_keep.specs.KeptMachine.{Machine}
 use Rattle.journal_core.proofs.RoomLaws.{held_none, held_then}
 use Rattle.ctrl_serve.specs.ControllerViews.{serving_of}
 use Rattle.ctrl_serve.proofs.ControllerLaws.{desk_behind, says_behind, ready_behind}
@@ -62,3 +64,14 @@ pub returns-in-Ok-clause-ready : goal.returns-in-Ok-clause-ready
 returns-in-Ok-clause-ready g c =
     let others = c.say.ensures.others in
     ready_behind (serving_of c.answer_frame.new.controller).kept g.D.Desk.tells _ _ _ _ others.parts others.found c.in_ok-reply.ensures.ready
+
+pub returns-clause-next : goal.returns-clause-next
+returns-clause-next g c = λ is. ap (λ (p : Reply × Machine). p.1) c.in_ok-reply.ensures.ok
+
+pub returns-clause-unsaid : goal.returns-clause-unsaid
+returns-clause-unsaid g c = λ is.
+    let others = c.say.ensures.others in
+    record {
+      on = c.in_ok-reply.ensures.on;
+      ready = ready_behind (serving_of c.answer_frame.new.controller).kept g.D.Desk.tells _ _ _ _ others.parts others.found c.in_ok-reply.ensures.ready;
+    }

@@ -21,7 +21,7 @@ returns-in-Ok-clause-others g c = c.run_on-status.ensures.alone refl
 
 pub returns-in-Err-clause-counts : goal.returns-in-Err-clause-counts
 returns-in-Err-clause-counts g c =
-    cut_counts c.args.source.now _ _ _ c.tell_cut.result c.tell_cut.ensures.status (record { later = omega arith; once = omega arith }) (takes_none c.args.source.now) c.tell_cut.ensures.others c.tell_cut.ensures.counted
+    cut_counts c.args.source.now _ _ _ c.tell_cut.result c.tell_cut.ensures.status refl (record { later = omega arith; once = omega arith }) (takes_none c.args.source.now) c.tell_cut.ensures.others c.tell_cut.ensures.counted
 
 pub returns-in-Err-clause-others : goal.returns-in-Err-clause-others
 returns-in-Err-clause-others g c = notes_alone c.tell_cut.ensures.others c.tell_cut.ensures.stops

@@ -25,12 +25,13 @@ pub returns-in-Err-clause-runs : goal.returns-in-Err-clause-runs
 returns-in-Err-clause-runs g c =
     let t = c.tell_cut_behind.ensures in
     cut_runs (record { left = g.S.Source.left; faults = g.S.Source.faults; tells = g.D.Desk.tells; seen = g.D.Desk.seen; stopped = g.D.Desk.stopped })
-    c.in-Err.cut c.tell_cut_behind.new.notes.failed c.tell_cut_behind.result t.status c.in-Err.ensures.answers c.new-notes.ensures t.others t.stops t.noted
+    c.in-Err.cut c.serve_input.new.controller c.tell_cut_behind.new.notes.failed c.tell_cut_behind.result t.status c.in-Err.ensures.answers c.new-notes.ensures
+    c.in-Err.ensures.unsaid t.others t.stops t.noted
 
 pub returns-in-Err-clause-counts : goal.returns-in-Err-clause-counts
 returns-in-Err-clause-counts g c =
     let t = c.tell_cut_behind.ensures in
-    input_counts _ _ _ _ c.tell_cut_behind.result (cut_is_read c.in-Err.cut _ _ c.tell_cut_behind.result t.status) c.serve_input.ensures.counted c.serve_input.ensures.until_failure
+    input_counts _ _ _ _ c.tell_cut_behind.result (cut_is_read c.in-Err.cut _ _ c.tell_cut_behind.result t.status c.in-Err.ensures.faultless) c.serve_input.ensures.counted c.serve_input.ensures.until_failure
     (cut_write c.in-Err.cut _ _ _ c.tell_cut_behind.result c.in-Err.ensures.say_cause t.others.failed_says t.status)
     (cut_disk c.in-Err.cut _ _ _ c.tell_cut_behind.result c.in-Err.ensures.disk_cause t.others.failed_calls t.status)
     (cut_run_counted c.in-Err.cut (record { failed = c.tell_cut_behind.new.notes.failed; desk = g.D.Desk.seen c.tell_cut_behind.new.desk }) c.tell_cut_behind.result t.status

@@ -1,7 +1,8 @@
-use Rattle.std.proofs.Common.{◌∙◌}
-use Rattle.run_notes.proofs.NoteLaws.{damage_told}
+use Rattle.std.proofs.Common.{ℕ, List, ◌∙◌, subst}
+use Rattle.run_notes.specs.NotedLines.{NotesLines}
 use Rattle.run_notes.proofs.telling.tell_damage.Goals as goal
 
-pub returns-in-Ok-clause-told : goal.returns-in-Ok-clause-told
-returns-in-Ok-clause-told g c =
-    damage_told c.args.part c.args.at c.as_bytes.result.now _ _ (c.as_bytes.ensures.value ∙ c.in-Ok.ensures) c.note_lines.ensures.noted c.note_lines.ensures.counted
+pub returns-clause-told : goal.returns-clause-told
+returns-clause-told g c =
+    let d = g.D.Desk in
+    subst (λ (l : List ℕ). NotesLines l (d.seen c.args.desk.now) (d.seen c.note_lines.new.desk)) (c.as_bytes.ensures.value ∙ c.as_str.ensures.value ∙ c.damaged_line-line.ensures) c.note_lines.ensures.noted

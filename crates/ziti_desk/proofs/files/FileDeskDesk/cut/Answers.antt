@@ -1,5 +1,5 @@
 use Rattle.std.proofs.Common.{refl}
-use Rattle.ziti_desk.specs.MemStops.{uncut}
+use Rattle.desk_base.specs.MemStops.{uncut}
 use Rattle.ziti_desk.proofs.StageSteps.{drive_outcome}
 use Rattle.ziti_desk.proofs.files.FileDeskDesk.cut.Goals as goal
 

@@ -1,5 +1,5 @@
 use Rattle.std.proofs.Common.{refl, length}
-use Rattle.ziti_desk.specs.MemStops.{unwritten}
+use Rattle.desk_base.specs.MemStops.{unwritten}
 use Rattle.ziti_desk.proofs.StageSteps.{drive_outcome}
 use Rattle.ziti_desk.proofs.files.FileDeskDesk.write_at.Goals as goal
 

@@ -1,5 +1,5 @@
 use Rattle.std.proofs.Common.{◌∙◌, sym}
-use Rattle.ziti_desk.proofs.MemLaws.{events_count}
+use Rattle.desk_base.proofs.MemLaws.{events_count}
 use Rattle.ziti_desk.proofs.mem_desk.MemDesk.moments.Goals as goal
 
 pub returns : goal.returns

@@ -1,8 +1,8 @@
 use Rattle.std.proofs.Common.{◌≡◌, List, [], ℕ, subst, arith}
-use Rattle.ziti_desk.specs.MemEvents.{image_of, logged}
-use Rattle.ziti_desk.specs.StopPoints.{PairsAt, KeepsNothing, KeepsAll}
-use Rattle.ziti_desk.proofs.MemLaws.{events_count}
-use Rattle.ziti_desk.proofs.StopLaws.{at_since}
+use Rattle.desk_base.specs.MemEvents.{image_of, logged}
+use Rattle.desk_base.specs.StopPoints.{PairsAt, KeepsNothing, KeepsAll}
+use Rattle.desk_base.proofs.MemLaws.{events_count}
+use Rattle.desk_base.proofs.StopLaws.{at_since}
 use Rattle.ziti_desk.proofs.mem_desk.MemDesk.stopped.Goals as goal
 
 pub stop_at-requires : goal.stop_at-requires

@@ -1,0 +1,5 @@
+pub mod FieldLaws
+pub mod ItemLaws
+pub mod ClaimLaws
+mod BodyValues
+mod RuleLaws

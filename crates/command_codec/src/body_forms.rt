@@ -1,0 +1,404 @@
+ghost use Rattle.std.specs.Prelude.{◌≡◌, ◌==◌, option_map};
+ghost use Rattle.std.specs.Map.{lookup};
+ghost use Rattle.command_codec.specs.BodyForms.{form_rules, with_fields};
+ghost use Rattle.command_codec.specs.FirstCauses.{all_rules, entity_rules, network_rules, policy_rules, route_rules, show_rules, terminator_rules};
+
+use crate::body_kinds::BodyKind;
+use crate::content_types::{
+    COMPACT, CONNECT_ROUTER, CREATE_CIRCUIT, CREATE_EDGE_ROUTER_POLICY, CREATE_IDENTITY,
+    CREATE_LINK, CREATE_ROUTER, CREATE_SERVICE, CREATE_SERVICE_EDGE_ROUTER_POLICY,
+    CREATE_SERVICE_POLICY, CREATE_TERMINATOR, DELETE_CIRCUIT, DELETE_EDGE_ROUTER_POLICY,
+    DELETE_IDENTITY, DELETE_LINK, DELETE_ROUTER, DELETE_SERVICE, DELETE_SERVICE_EDGE_ROUTER_POLICY,
+    DELETE_SERVICE_POLICY, DELETE_TERMINATOR, DISCONNECT_ROUTER, EXPLAIN, LIST_SERVICES,
+    REPORT_LATENCY, REPORT_STATE, SET_LEAST_ROUTER_COST, SET_LINK_COST, SHOW_CIRCUIT, SHOW_COUNTS,
+    SHOW_GRANTS, UPDATE_EDGE_ROUTER_POLICY, UPDATE_IDENTITY, UPDATE_ROUTER, UPDATE_SERVICE,
+    UPDATE_SERVICE_EDGE_ROUTER_POLICY, UPDATE_SERVICE_POLICY, UPDATE_TERMINATOR, VERIFY_ROUTE,
+};
+use body_fields::AskedField::{self, Needed, Optional};
+use ctrl_model::{Field, LONGEST_PATH, MOST_COST, MOST_LATENCY, MOST_ROUTERS};
+
+// What a command asks of the object that is its body: the rules of its fields, and which fields there may be.
+#[derive(Clone, Copy)]
+pub(crate) struct BodyForm {
+    pub(crate) rules: &'static [AskedField<BodyKind>],
+    pub(crate) allowed: &'static [Field],
+}
+
+// The number of a record.
+const NUMBER_OF_RECORD: BodyKind = BodyKind::Number(1, u32::MAX);
+
+// A cost of a router or a terminator, of a link, and of a route; and a latency.
+const COST: BodyKind = BodyKind::Number(0, MOST_COST);
+
+const LINK_COST: BodyKind = BodyKind::Number(1, MOST_COST);
+
+const TOTAL: BodyKind = BodyKind::Number(0, u32::MAX);
+
+const LATENCY: BodyKind = BodyKind::Number(0, MOST_LATENCY);
+
+pub(crate) const ENTITY_FIELDS: [Field; 2] = [Field::Name, Field::Attributes];
+
+pub(crate) const ROUTER_FIELDS: [Field; 4] = [
+    Field::Name,
+    Field::Attributes,
+    Field::Cost,
+    Field::NoTraversal,
+];
+
+pub(crate) const SERVICE_POLICY_FIELDS: [Field; 5] = [
+    Field::Name,
+    Field::PolicyType,
+    Field::Semantic,
+    Field::IdentityRoles,
+    Field::ServiceRoles,
+];
+
+pub(crate) const EDGE_ROUTER_POLICY_FIELDS: [Field; 4] = [
+    Field::Name,
+    Field::Semantic,
+    Field::IdentityRoles,
+    Field::RouterRoles,
+];
+
+pub(crate) const SERVICE_EDGE_ROUTER_POLICY_FIELDS: [Field; 4] = [
+    Field::Name,
+    Field::Semantic,
+    Field::ServiceRoles,
+    Field::RouterRoles,
+];
+
+pub(crate) const LINK_FIELDS: [Field; 6] = [
+    Field::Name,
+    Field::A,
+    Field::B,
+    Field::Cost,
+    Field::LatencyA,
+    Field::LatencyB,
+];
+
+pub(crate) const LINK_COST_FIELDS: [Field; 2] = [Field::Link, Field::Cost];
+
+pub(crate) const LATENCY_FIELDS: [Field; 3] = [Field::Link, Field::Router, Field::Latency];
+
+pub(crate) const STATE_FIELDS: [Field; 3] = [Field::Link, Field::Router, Field::Up];
+
+pub(crate) const TERMINATOR_FIELDS: [Field; 6] = [
+    Field::Service,
+    Field::Router,
+    Field::Instance,
+    Field::Host,
+    Field::Cost,
+    Field::Precedence,
+];
+
+pub(crate) const TERMINATOR_UPDATE_FIELDS: [Field; 3] = [Field::No, Field::Cost, Field::Precedence];
+
+pub(crate) const CIRCUIT_FIELDS: [Field; 4] = [
+    Field::Identity,
+    Field::Service,
+    Field::Ingress,
+    Field::Instance,
+];
+
+pub(crate) const ROUTE_FIELDS: [Field; 10] = [
+    Field::Identity,
+    Field::Service,
+    Field::Ingress,
+    Field::Instance,
+    Field::Chosen,
+    Field::Links,
+    Field::Potentials,
+    Field::Routers,
+    Field::Terminator,
+    Field::Total,
+];
+
+// One name.
+const NAME: BodyForm = BodyForm {
+    rules: &[Needed(Field::Name, BodyKind::Name)],
+    allowed: &[Field::Name],
+};
+
+// The name of a link.
+const LINK_NAME: BodyForm = BodyForm {
+    rules: &[Needed(Field::Link, BodyKind::Name)],
+    allowed: &[Field::Link],
+};
+
+// The name of an identity.
+const IDENTITY_NAME: BodyForm = BodyForm {
+    rules: &[Needed(Field::Identity, BodyKind::Name)],
+    allowed: &[Field::Identity],
+};
+
+// The number of a record.
+const RECORD: BodyForm = BodyForm {
+    rules: &[Needed(Field::No, NUMBER_OF_RECORD)],
+    allowed: &[Field::No],
+};
+
+// No fields.
+const NOTHING: BodyForm = BodyForm {
+    rules: &[],
+    allowed: &[],
+};
+
+// An identity or a service that is made, and one that is updated.
+const MADE: BodyForm = BodyForm {
+    rules: &[
+        Needed(Field::Name, BodyKind::Name),
+        Optional(Field::Attributes, BodyKind::Attributes),
+    ],
+    allowed: &ENTITY_FIELDS,
+};
+
+const UPDATED: BodyForm = BodyForm {
+    rules: &[
+        Needed(Field::Name, BodyKind::Name),
+        Needed(Field::Attributes, BodyKind::Attributes),
+    ],
+    allowed: &ENTITY_FIELDS,
+};
+
+// A router that is made, and one that is updated.
+const MADE_ROUTER: BodyForm = BodyForm {
+    rules: &[
+        Needed(Field::Name, BodyKind::Name),
+        Optional(Field::Attributes, BodyKind::Attributes),
+        Optional(Field::Cost, COST),
+        Optional(Field::NoTraversal, BodyKind::Flag),
+    ],
+    allowed: &ROUTER_FIELDS,
+};
+
+const UPDATED_ROUTER: BodyForm = BodyForm {
+    rules: &[
+        Needed(Field::Name, BodyKind::Name),
+        Needed(Field::Attributes, BodyKind::Attributes),
+        Needed(Field::Cost, COST),
+        Needed(Field::NoTraversal, BodyKind::Flag),
+    ],
+    allowed: &ROUTER_FIELDS,
+};
+
+// A policy of each kind.
+const SERVICE_POLICY: BodyForm = BodyForm {
+    rules: &[
+        Needed(Field::Name, BodyKind::Name),
+        Needed(Field::PolicyType, BodyKind::Relation),
+        Needed(Field::Semantic, BodyKind::Semantic),
+        Needed(Field::IdentityRoles, BodyKind::Side),
+        Needed(Field::ServiceRoles, BodyKind::Side),
+    ],
+    allowed: &SERVICE_POLICY_FIELDS,
+};
+
+const EDGE_ROUTER_POLICY: BodyForm = BodyForm {
+    rules: &[
+        Needed(Field::Name, BodyKind::Name),
+        Needed(Field::Semantic, BodyKind::Semantic),
+        Needed(Field::IdentityRoles, BodyKind::Side),
+        Needed(Field::RouterRoles, BodyKind::Side),
+    ],
+    allowed: &EDGE_ROUTER_POLICY_FIELDS,
+};
+
+const SERVICE_EDGE_ROUTER_POLICY: BodyForm = BodyForm {
+    rules: &[
+        Needed(Field::Name, BodyKind::Name),
+        Needed(Field::Semantic, BodyKind::Semantic),
+        Needed(Field::ServiceRoles, BodyKind::Side),
+        Needed(Field::RouterRoles, BodyKind::Side),
+    ],
+    allowed: &SERVICE_EDGE_ROUTER_POLICY_FIELDS,
+};
+
+// A link that is made, and what is set or reported of one.
+const MADE_LINK: BodyForm = BodyForm {
+    rules: &[
+        Needed(Field::Name, BodyKind::Name),
+        Needed(Field::A, BodyKind::Name),
+        Needed(Field::B, BodyKind::Name),
+        Optional(Field::Cost, LINK_COST),
+        Optional(Field::LatencyA, LATENCY),
+        Optional(Field::LatencyB, LATENCY),
+    ],
+    allowed: &LINK_FIELDS,
+};
+
+const COST_OF_LINK: BodyForm = BodyForm {
+    rules: &[
+        Needed(Field::Link, BodyKind::Name),
+        Needed(Field::Cost, LINK_COST),
+    ],
+    allowed: &LINK_COST_FIELDS,
+};
+
+const REPORTED_LATENCY: BodyForm = BodyForm {
+    rules: &[
+        Needed(Field::Link, BodyKind::Name),
+        Needed(Field::Router, BodyKind::Name),
+        Needed(Field::Latency, LATENCY),
+    ],
+    allowed: &LATENCY_FIELDS,
+};
+
+const REPORTED_STATE: BodyForm = BodyForm {
+    rules: &[
+        Needed(Field::Link, BodyKind::Name),
+        Needed(Field::Router, BodyKind::Name),
+        Needed(Field::Up, BodyKind::Flag),
+    ],
+    allowed: &STATE_FIELDS,
+};
+
+// The least router cost.
+const LEAST_ROUTER_COST: BodyForm = BodyForm {
+    rules: &[Needed(Field::Cost, LINK_COST)],
+    allowed: &[Field::Cost],
+};
+
+// A terminator that is made, and one that is updated.
+const MADE_TERMINATOR: BodyForm = BodyForm {
+    rules: &[
+        Needed(Field::Service, BodyKind::Name),
+        Needed(Field::Router, BodyKind::Name),
+        Optional(Field::Instance, BodyKind::Instance),
+        Optional(Field::Host, BodyKind::NameOrNone),
+        Optional(Field::Cost, COST),
+        Optional(Field::Precedence, BodyKind::Precedence),
+    ],
+    allowed: &TERMINATOR_FIELDS,
+};
+
+const UPDATED_TERMINATOR: BodyForm = BodyForm {
+    rules: &[
+        Needed(Field::No, NUMBER_OF_RECORD),
+        Needed(Field::Cost, COST),
+        Needed(Field::Precedence, BodyKind::Precedence),
+    ],
+    allowed: &TERMINATOR_UPDATE_FIELDS,
+};
+
+// A circuit that is asked for, and a route that is claimed.
+const ASKED_CIRCUIT: BodyForm = BodyForm {
+    rules: &[
+        Needed(Field::Identity, BodyKind::Name),
+        Needed(Field::Service, BodyKind::Name),
+        Optional(Field::Ingress, BodyKind::NameOrNone),
+        Optional(Field::Instance, BodyKind::Instance),
+    ],
+    allowed: &CIRCUIT_FIELDS,
+};
+
+const CLAIMED_ROUTE: BodyForm = BodyForm {
+    rules: &[
+        Needed(Field::Identity, BodyKind::Name),
+        Needed(Field::Service, BodyKind::Name),
+        Optional(Field::Ingress, BodyKind::NameOrNone),
+        Optional(Field::Instance, BodyKind::Instance),
+        Needed(Field::Chosen, BodyKind::Name),
+        Needed(Field::Links, BodyKind::Numbers(LONGEST_PATH)),
+        Needed(Field::Potentials, BodyKind::Potentials),
+        Needed(Field::Routers, BodyKind::Numbers(MOST_ROUTERS)),
+        Needed(Field::Terminator, NUMBER_OF_RECORD),
+        Needed(Field::Total, TOTAL),
+    ],
+    allowed: &ROUTE_FIELDS,
+};
+
+// The forms of the content types of identities, services and routers.
+fn entity_form(content: u32) -> Option<BodyForm>
+    ensures { option_map form_rules result ≡ option_map with_fields (lookup (λ n. n == content) entity_rules) }
+{
+    match content {
+        CREATE_IDENTITY | CREATE_SERVICE => Some(MADE),
+        UPDATE_IDENTITY | UPDATE_SERVICE => Some(UPDATED),
+        CREATE_ROUTER => Some(MADE_ROUTER),
+        UPDATE_ROUTER => Some(UPDATED_ROUTER),
+        DELETE_IDENTITY | DELETE_SERVICE | DELETE_ROUTER | CONNECT_ROUTER | DISCONNECT_ROUTER =>
+            Some(NAME),
+        _ => None,
+    }
+}
+
+// Those of policies.
+fn policy_form(content: u32) -> Option<BodyForm>
+    ensures { option_map form_rules result ≡ option_map with_fields (lookup (λ n. n == content) policy_rules) }
+{
+    match content {
+        CREATE_SERVICE_POLICY | UPDATE_SERVICE_POLICY => Some(SERVICE_POLICY),
+        CREATE_EDGE_ROUTER_POLICY | UPDATE_EDGE_ROUTER_POLICY => Some(EDGE_ROUTER_POLICY),
+        CREATE_SERVICE_EDGE_ROUTER_POLICY | UPDATE_SERVICE_EDGE_ROUTER_POLICY => Some(
+            SERVICE_EDGE_ROUTER_POLICY,
+        ),
+        DELETE_SERVICE_POLICY | DELETE_EDGE_ROUTER_POLICY | DELETE_SERVICE_EDGE_ROUTER_POLICY =>
+            Some(NAME),
+        _ => None,
+    }
+}
+
+// Those of links, and of the least router cost.
+fn link_form(content: u32) -> Option<BodyForm>
+    ensures { option_map form_rules result ≡ option_map with_fields (lookup (λ n. n == content) network_rules) }
+{
+    match content {
+        CREATE_LINK => Some(MADE_LINK),
+        SET_LINK_COST => Some(COST_OF_LINK),
+        REPORT_LATENCY => Some(REPORTED_LATENCY),
+        REPORT_STATE => Some(REPORTED_STATE),
+        DELETE_LINK => Some(LINK_NAME),
+        SET_LEAST_ROUTER_COST => Some(LEAST_ROUTER_COST),
+        _ => None,
+    }
+}
+
+// Those of terminators.
+fn terminator_form(content: u32) -> Option<BodyForm>
+    ensures { option_map form_rules result ≡ option_map with_fields (lookup (λ n. n == content) terminator_rules) }
+{
+    match content {
+        CREATE_TERMINATOR => Some(MADE_TERMINATOR),
+        UPDATE_TERMINATOR => Some(UPDATED_TERMINATOR),
+        DELETE_TERMINATOR => Some(RECORD),
+        _ => None,
+    }
+}
+
+// Those of circuits and routes.
+fn circuit_form(content: u32) -> Option<BodyForm>
+    ensures { option_map form_rules result ≡ option_map with_fields (lookup (λ n. n == content) route_rules) }
+{
+    match content {
+        CREATE_CIRCUIT | EXPLAIN => Some(ASKED_CIRCUIT),
+        DELETE_CIRCUIT | SHOW_CIRCUIT => Some(RECORD),
+        VERIFY_ROUTE => Some(CLAIMED_ROUTE),
+        _ => None,
+    }
+}
+
+// Those of what is shown, and of Compact.
+fn show_form(content: u32) -> Option<BodyForm>
+    ensures { option_map form_rules result ≡ option_map with_fields (lookup (λ n. n == content) show_rules) }
+{
+    match content {
+        SHOW_GRANTS | LIST_SERVICES => Some(IDENTITY_NAME),
+        SHOW_COUNTS | COMPACT => Some(NOTHING),
+        _ => None,
+    }
+}
+
+// What the command asks whose content type it is, if it is one but that of Hello.
+pub(crate) fn form_of(content: u32) -> Option<BodyForm>
+    ensures { option_map form_rules result ≡ option_map with_fields (lookup (λ n. n == content) all_rules) }
+{
+    match content {
+        CREATE_IDENTITY..=DISCONNECT_ROUTER => entity_form(content),
+        CREATE_SERVICE_POLICY..=DELETE_SERVICE_EDGE_ROUTER_POLICY => policy_form(content),
+        CREATE_LINK..=SET_LEAST_ROUTER_COST => link_form(content),
+        CREATE_TERMINATOR..=DELETE_TERMINATOR => terminator_form(content),
+        CREATE_CIRCUIT..=VERIFY_ROUTE | SHOW_CIRCUIT => circuit_form(content),
+        SHOW_GRANTS..=SHOW_COUNTS | COMPACT => show_form(content),
+        _ => None,
+    }
+}

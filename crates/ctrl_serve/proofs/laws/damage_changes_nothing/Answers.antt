@@ -1,0 +1,20 @@
+use Rattle.std.proofs.Common.{refl}
+use Rattle.ctrl_serve.specs.CommandLine.{form_of}
+use Rattle.ctrl_serve.proofs.LeftFolderLaws.{shut_alone, shut_place, stays_shut}
+use Rattle.ctrl_serve.proofs.laws.damage_changes_nothing.Goals as goal
+
+pub returns-clause-input : goal.returns-clause-input
+returns-clause-input g c bounds words source source_now desk desk_now runs =
+    (stays_shut (record { left = g.S.Source.left; faults = g.S.Source.faults; tells = g.D.Desk.tells; seen = g.D.Desk.seen; stopped = g.D.Desk.stopped }) bounds words (form_of words) source source_now desk desk_now refl runs).0
+
+pub returns-clause-replies : goal.returns-clause-replies
+returns-clause-replies g c bounds words source source_now desk desk_now runs =
+    (stays_shut (record { left = g.S.Source.left; faults = g.S.Source.faults; tells = g.D.Desk.tells; seen = g.D.Desk.seen; stopped = g.D.Desk.stopped }) bounds words (form_of words) source source_now desk desk_now refl runs).1.says_nothing
+
+pub returns-clause-folder : goal.returns-clause-folder
+returns-clause-folder g c bounds words source source_now desk desk_now runs told =
+    shut_alone g.D.Desk.tells desk desk_now (stays_shut (record { left = g.S.Source.left; faults = g.S.Source.faults; tells = g.D.Desk.tells; seen = g.D.Desk.seen; stopped = g.D.Desk.stopped }) bounds words (form_of words) source source_now desk desk_now refl runs).1 told
+
+pub returns-clause-place : goal.returns-clause-place
+returns-clause-place g c bounds words source source_now desk desk_now runs told =
+    shut_place g.D.Desk.tells desk desk_now (stays_shut (record { left = g.S.Source.left; faults = g.S.Source.faults; tells = g.D.Desk.tells; seen = g.D.Desk.seen; stopped = g.D.Desk.stopped }) bounds words (form_of words) source source_now desk desk_now refl runs).1 told

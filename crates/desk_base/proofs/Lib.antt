@@ -1,0 +1,4 @@
+pub mod MemLaws
+pub mod PieceLaws
+pub mod StopLaws
+pub mod KeptLaws

@@ -1,0 +1,9 @@
+pub mod Answers
+pub mod Untold
+pub mod MemEvents
+pub mod MemStops
+pub mod Pieces
+pub mod MemRoom
+pub mod StopPoints
+pub mod KeptSteps
+pub mod DriveStops

@@ -1,6 +1,0 @@
-use Rattle.std.proofs.Common.{◌≡◌, length}
-use Rattle.ziti_desk.proofs.stopping.drawn.Given as goal
-
--- a byte was found for each so far
-abbrev pub invariant-bytes : goal.invariant-bytes
-invariant-bytes l = length l.text.items ≡ l.byte-index
