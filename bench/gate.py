@@ -76,6 +76,9 @@ def part_of(number):
         folder = os.path.basename(os.readlink(f"/proc/{number}/cwd"))
     except OSError:
         return None
+    # (words that are read while a process turns into another may be cut)
+    if "--crate-name" not in words[:-1]:
+        return None
     crate = words[words.index("--crate-name") + 1]
     if not folder.startswith("rt-edit-"):
         return crate, "tests" if "--test" in words else "proof", None
