@@ -33,7 +33,7 @@ returns-in_err-value-clause-unsupported c =
     rw (p.1, p.2) (
       λ e. absurd (cause_supported c.in_err-value.field-0.0 e),
       λ e. with_form c.args.content c.form_of.result c.form_of.ensures there (λ form is.
-      absurd (not_supported c.args.content form c.args.body.now c.if-content-eq-HELLO.false is e)),
+          absurd (not_supported c.args.content form c.args.body.now c.if-content-eq-HELLO.false is e)),
     )
 
 pub returns-in_err-value-clause-memory : goal.returns-in_err-value-clause-memory
