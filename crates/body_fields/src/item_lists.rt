@@ -1,4 +1,4 @@
-ghost use Rattle.std.specs.Prelude.{◌≡◌, IfOk, is_some, option_map};
+ghost use Rattle.std.specs.Prelude.{◌≡◌, IfOk, IsErrOf, IsOk, IsSome, OnErr, is_some, option_map};
 ghost use Rattle.serde_json.specs.View.{view, items_view};
 ghost use Rattle.json_body.specs.FieldKinds.{object_of, required};
 ghost use Rattle.body_fields.specs.ItemLists.{each_of, as_each_of};
@@ -11,7 +11,7 @@ use std::alloc::{AllocError, Global};
 
 /// A kind of the values of a list, and what each of them says.
 pub trait ItemKind<T: Drop> {
-    ghost use Rattle.std.specs.Prelude.{◌≡◌, Option, IfOk, is_some};
+    ghost use Rattle.std.specs.Prelude.{◌≡◌, Option, IfOk, IsSome, OnErr, is_some};
     ghost use Rattle.serde_json.specs.Data.{Data};
     ghost use Rattle.serde_json.specs.View.{view};
 
@@ -23,7 +23,9 @@ pub trait ItemKind<T: Drop> {
 
     /// What a value says, if it says something.
     fn said_by(alloc: Global, value: &Value) -> Result<Option<T>, AllocError>
-        ensures value { IfOk result (λ x. x ≡ kind (view value.now)) };
+        ensures value { IfOk result (λ x. x ≡ kind (view value.now)) }
+        // Memory can be wanting for what is said alone.
+        ensures memory { OnErr result (IsSome (kind (view value.now))) };
 }
 
 /// A name.
@@ -65,13 +67,17 @@ pub fn is_list_of<T: Drop, K: ItemKind<T>>(value: &Value, most: usize) -> bool
     }
 }
 
-/// What each of some values says, if each says something.
+/// What each of some values says, if each says something. No memory is taken before that is known.
 pub fn each_in<T: Drop, K: ItemKind<T>>(
     alloc: Global,
     values: &[Value],
 ) -> Result<Option<Vec<T>>, AllocError>
-    ensures { IfOk result (λ xs. option_map (λ v. v.items) xs ≡ each_of K.kind (items_view values.now)) }
+    ensures values { IfOk result (λ xs. option_map (λ v. v.items) xs ≡ each_of K.kind (items_view values.now)) }
+    ensures memory { OnErr result (IsSome (each_of K.kind (items_view values.now))) }
 {
+    if !are_said::<T, K>(values) {
+        return Ok(None);
+    }
     let mut items = Vec::new(alloc);
     'values: for value in values {
         let Some(item) = K::said_by(alloc, value)? else {
@@ -82,14 +88,16 @@ pub fn each_in<T: Drop, K: ItemKind<T>>(
     Ok(Some(items))
 }
 
-/// The list of at most `most` values of the kind that an object gives in a field; faults as those of `Fields::name`.
-pub fn list<T: Drop, K: ItemKind<T>>(
+// The list of at most `most` values of the kind that an object gives in a field; faults as those of `Fields::name`.
+pub(crate) fn list<T: Drop, K: ItemKind<T>>(
     alloc: Global,
     fields: &Fields,
     field: Field,
     most: usize,
 ) -> Result<Vec<T>, FieldFault>
-    ensures { Gives FieldFault.NoMemory (λ v. v.items) result (required (as_each_of most K.kind) field (object_of fields.now)) }
+    ensures given { Gives FieldFault.NoMemory (λ v. v.items) result (required (as_each_of most K.kind) field (object_of fields.now)) }
+    // Memory can be wanting for such a list alone.
+    ensures memory { IsErrOf result FieldFault.NoMemory → IsOk (required (as_each_of most K.kind) field (object_of fields.now)) }
 {
     let values = fields.list(field, most)?;
     each_in::<T, K>(alloc, values)?.ok_or(FieldFault::WrongKind(field))

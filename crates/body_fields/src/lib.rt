@@ -11,7 +11,7 @@ mod route_claims;
 pub use bodies::value_in;
 pub use field_rules::{AskedField, FieldKind, keep_rules};
 pub use field_words::{precedence, precedence_in, relation, relation_in, semantic, semantic_in};
-pub use item_lists::{ItemKind, ItemName, are_said, each_in, is_list_of, list};
+pub use item_lists::{ItemKind, ItemName, are_said, each_in, is_list_of};
 pub use optional_fields::{
     flag_or_not, instance_or_empty, is_instance, name_or_none, number_or, precedence_or_default,
 };

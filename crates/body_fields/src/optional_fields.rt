@@ -1,4 +1,4 @@
-ghost use Rattle.std.specs.Prelude.{◌≡◌, [], IfOk, is_some, None, false};
+ghost use Rattle.std.specs.Prelude.{◌≡◌, [], IfOk, IsErrOf, IsOk, IsSome, OnErr, is_some, None, false};
 ghost use Rattle.serde_json.specs.Find.{as_bool};
 ghost use Rattle.serde_json.specs.View.{view};
 ghost use Rattle.ctrl_model.specs.declared.kinds.Precedence.TheVariants.{Normal};
@@ -45,7 +45,9 @@ pub fn name_or_none(
     fields: &Fields,
     field: Field,
 ) -> Result<Option<Name>, FieldFault>
-    ensures { Gives FieldFault.NoMemory (λ n. n) result (optional as_some_name None field (object_of fields.now)) }
+    ensures given { Gives FieldFault.NoMemory (λ n. n) result (optional as_some_name None field (object_of fields.now)) }
+    // Memory can be wanting for a name alone.
+    ensures memory { IsErrOf result FieldFault.NoMemory → IsOk (optional as_some_name None field (object_of fields.now)) }
 {
     if !fields.has(field) {
         return Ok(None);
@@ -56,6 +58,7 @@ pub fn name_or_none(
 // The instance that some bytes are, if they are one.
 fn instance_of(alloc: Global, bytes: &[u8]) -> Result<Option<Instance>, AllocError>
     ensures instance { IfOk result (λ i. i ≡ instance_of bytes.now) }
+    ensures memory { OnErr result (IsSome (instance_of bytes.now)) }
 {
     match Instance::of(alloc, bytes) {
         Ok(instance) => Ok(Some(instance)),
@@ -76,7 +79,9 @@ pub fn is_instance(value: &Value) -> bool
 
 /// The instance that an object gives, or the empty one where it leaves the field out.
 pub fn instance_or_empty(alloc: Global, fields: &Fields) -> Result<Instance, FieldFault>
-    ensures { Gives FieldFault.NoMemory (λ i. i) result (optional as_instance [] Field.Instance (object_of fields.now)) }
+    ensures given { Gives FieldFault.NoMemory (λ i. i) result (optional as_instance [] Field.Instance (object_of fields.now)) }
+    // Memory can be wanting for an instance alone.
+    ensures memory { IsErrOf result FieldFault.NoMemory → IsOk (optional as_instance [] Field.Instance (object_of fields.now)) }
 {
     let text = if fields.has(Field::Instance) {
         fields.text(Field::Instance)?

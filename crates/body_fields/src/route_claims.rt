@@ -1,4 +1,4 @@
-ghost use Rattle.std.specs.Prelude.{◌≡◌, ◌||◌, codes, IfOk, is_some, option_map, string_bytes};
+ghost use Rattle.std.specs.Prelude.{◌≡◌, ◌||◌, codes, IfOk, IsErrOf, IsOk, IsSome, OnErr, is_some, option_map, string_bytes};
 ghost use Rattle.std.specs.List.{list_all};
 ghost use Rattle.std.specs.Str.{bytes_eq};
 ghost use Rattle.std.specs.BTreeMap.{keys};
@@ -125,6 +125,7 @@ fn has_values(value: &Value) -> bool
 // The values of a potential.
 fn values_in(alloc: Global, value: &Value) -> Result<Option<Vec<u64>>, AllocError>
     ensures values { IfOk result (λ vs. option_map (λ v. v.items) vs ≡ values_in (view value.now)) }
+    ensures memory { OnErr result (IsSome (values_in (view value.now))) }
 {
     let Some(values) = value.get(VALUES) else {
         return Ok(None);
@@ -142,14 +143,18 @@ pub fn numbers(
     field: Field,
     most: usize,
 ) -> Result<Numbers, FieldFault>
-    ensures { Gives FieldFault.NoMemory (λ n. n) result (required (as_numbers most) field (object_of fields.now)) }
+    ensures given { Gives FieldFault.NoMemory (λ n. n) result (required (as_numbers most) field (object_of fields.now)) }
+    // Memory can be wanting for such numbers alone.
+    ensures memory { IsErrOf result FieldFault.NoMemory → IsOk (required (as_numbers most) field (object_of fields.now)) }
 {
     Ok(Numbers::of(list::<u32, RecordNumber>(alloc, fields, field, most)?))
 }
 
 /// The potentials that an object gives; faults as those of `Fields::name`.
 pub fn potentials(alloc: Global, fields: &Fields) -> Result<Reaches, FieldFault>
-    ensures { Gives FieldFault.NoMemory (λ r. r) result (required as_potentials Field.Potentials (object_of fields.now)) }
+    ensures given { Gives FieldFault.NoMemory (λ r. r) result (required as_potentials Field.Potentials (object_of fields.now)) }
+    // Memory can be wanting for potentials alone.
+    ensures memory { IsErrOf result FieldFault.NoMemory → IsOk (required as_potentials Field.Potentials (object_of fields.now)) }
 {
     Ok(Reaches::of(list::<Reach, Potential>(alloc, fields, Field::Potentials, MOST_ROUTERS)?))
 }

@@ -15,7 +15,7 @@ use Rattle.ctrl_model.specs.declared.refusals.Field.TheVariants as field
 use Rattle.ctrl_model.specs.declared.refusals.Reason.TheVariants as reason
 use Rattle.json_body.specs.declared.fields.FieldFault.{FieldFault}
 use Rattle.json_body.specs.declared.fields.FieldFault.TheVariants.{Missing, WrongKind, Unknown}
-use Rattle.json_body.specs.FieldKinds.{as_name, optional}
+use Rattle.json_body.specs.FieldKinds.{as_name}
 use Rattle.command_codec.specs.declared.reading.CodecFault.{CodecFault}
 use Rattle.command_codec.specs.declared.reading.CodecFault.TheVariants.{UnsupportedType, BadBody, NoMemory}
 use Rattle.command_codec.specs.NameLists.{as_attributes}

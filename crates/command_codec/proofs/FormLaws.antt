@@ -1,6 +1,6 @@
 -- The rules of a form tell what the entry of its content type says: a fault where they have a first one, and else a command.
-use Rattle.std.proofs.Common.{◌≡◌, ℕ, ◌==◌, ◌+◌, ◌<◌, ◌≤◌, List, Option, Some, None, Result, Ok, Err, refl, sym, ap, ◌∙◌, subst, ◌⊎◌, inl, inr, arith}
-use Rattle.std.specs.Prelude.{IsOk, IsSome, option_map}
+use Rattle.std.proofs.Common.{◌≡◌, ℕ, ◌==◌, ◌+◌, ◌<◌, ◌≤◌, true, false, List, Option, Some, None, Result, Ok, Err, refl, sym, ◌∙◌, subst, ◌⊎◌, inl, inr, arith}
+use Rattle.std.specs.Prelude.{IsOk, IsSome, is_some, option_map}
 use Rattle.std.specs.Map.{lookup}
 use Rattle.std.proofs.Math.Nat.{eq-or-lt_of_le}
 use Rattle.std.proofs.lemmas.Bool.{false≢true}
@@ -11,10 +11,11 @@ use Rattle.ctrl_model.specs.declared.refusals.Field.{Field}
 use Rattle.json_body.specs.declared.fields.FieldFault.{FieldFault}
 use Rattle.json_body.specs.declared.fields.FieldFault.TheVariants.{Missing, WrongKind, Unknown, NoMemory}
 use Rattle.body_fields.specs.FieldRules.{FieldRule, Breaks, IsFirstAmong}
-use Rattle.command_codec.specs.BodyForms.{with_fields}
+use Rattle.command_codec.specs.BodyForms.{form_rules, with_fields}
 use Rattle.command_codec.specs.BodyObjects.{Reader}
 use Rattle.command_codec.specs.BodyMeaning.{table, entry_at, said_under}
 use Rattle.command_codec.specs.FirstCauses.{all_rules}
+use Rattle.command_codec.specs.declared.body_forms.BodyForm.{BodyForm}
 use Rattle.command_codec.proofs.CauseTables.{Follows, Found, found}
 
 -- What a form is: the rules at the content type, with their fields.
@@ -81,6 +82,17 @@ with_entry {P} content form is k = by (entry_at content table) refl (by_form (λ
     by : (e : Option Reader) → entry_at content table ≡ e → IsSome e → P
     by None at there = absurd (false≢true there)
     by (Some reader) at there = k reader at
+
+-- Whether the code has a form tells whether there is one.
+pub with_form : {P : Type 0} (content : ℕ) (form : Option BodyForm) → option_map form_rules form ≡ option_map with_fields (lookup (λ n. n == content) all_rules) → is_some form ≡ true
+    → ((rules : List FieldRule × List Field) → IsForm content rules → P) → P
+with_form content None is there k = absurd (false≢true there)
+with_form content (Some form) is there k = k (form_rules form) is
+
+pub without_form : (content : ℕ) (form : Option BodyForm) → option_map form_rules form ≡ option_map with_fields (lookup (λ n. n == content) all_rules) → is_some form ≡ false
+    → entry_at content table ≡ None
+without_form content None is absent = no_entry content is
+without_form content (Some form) is absent = absurd (false≢true (sym absent))
 
 -- A content type that is one of two next to each other.
 pub one_of_two : (n a : ℕ) → a ≤ n → n < a + 2 → (n ≡ a) ⊎ (n ≡ a + 1)

@@ -19,7 +19,7 @@ use Rattle.role_expr.specs.ReadRoles.{role_in}
 use Rattle.role_expr.specs.RoleSides.{is_all, id_in, attribute_in, is_all_beside, side_from}
 use Rattle.role_expr.specs.RoleSpelling.{is_role, role_spelling}
 use Rattle.role_expr.proofs.RepeatLaws.{without_repeats-length}
-use Rattle.role_expr.proofs.RoleLaws.{read_again, reads}
+use Rattle.role_expr.proofs.RoleLaws.{reads}
 use Rattle.serde_json.specs.View.{view, items_view}
 use Rattle.serde_json.specs.declared.value.Value.{Value}
 use Rattle.body_fields.specs.ItemLists.{each_of, as_each_of}
@@ -28,10 +28,6 @@ use Rattle.body_fields.proofs.ItemLaws.{by_mapped, as_each_of-form}
 use Rattle.command_codec.proofs.NameListLaws.{without_repeats-form}
 
 -- ---- which entry bytes are
-
--- An entry whose spelling the bytes are.
-pub role_in-some : (bytes : List ℕ) (r : Role) → is_role r ≡ true → role_spelling r ≡ bytes → role_in bytes ≡ Some r
-role_in-some bytes r form is = ap role_in (sym is) ∙ read_again r form
 
 -- Bytes that are the spelling of no entry.
 pub role_in-none : (bytes : List ℕ) → ((r : Role) → is_role r ≡ true → role_spelling r ≡ bytes → ⊥) → role_in bytes ≡ None

@@ -1,12 +1,9 @@
 -- A body means a command exactly where it spells it, and what it means keeps the form of its fields.
-use Rattle.std.proofs.Common.{◌≡◌, ℕ, ◌==◌, Bool, true, false, cond, List, Result, Ok, Err, refl, true≢false, ap, ◌∙◌, subst, eqb-true}
-use Rattle.std.specs.Prelude.{IfOk, is_some}
+use Rattle.std.proofs.Common.{◌≡◌, ℕ, ◌==◌, Bool, true, false, cond, List, Ok, refl, true≢false, ap, ◌∙◌, subst, eqb-true}
+use Rattle.std.specs.Prelude.{is_some}
 use Rattle.ctrl_model.specs.declared.commands.Command.{Command}
 use Rattle.ctrl_model.specs.declared.commands.Command.TheVariants as command
 use Rattle.ctrl_model.specs.CommandForm.{is_spelled}
-use Rattle.command_codec.specs.declared.reading.CodecFault.{CodecFault}
-use Rattle.command_codec.specs.declared.reading.CodecFault.TheVariants.{NoMemory}
-use Rattle.body_fields.specs.ReadResults.{Gives}
 use Rattle.command_codec.specs.BodyMeaning.{table, entry_at, meaning_in, meaning}
 use Rattle.command_codec.specs.ContentTypes.{content_of}
 use Rattle.command_codec.specs.SpelledBodies.{SaysFields, Spells}
@@ -55,8 +52,3 @@ meaning-Spells content body c (at, says) = ap (λ n. meaning n body) at ∙ by c
     by : (d : Command) → SaysFields body d → meaning (content_of d) body ≡ Ok d
     by command.Hello says = refl
     by d says = other d refl says
-
--- What is returned of a reading keeps the form of its fields.
-pub given_form : (content : ℕ) (body : List ℕ) (r : Result Command CodecFault) → Gives NoMemory (λ c. c) r (meaning content body) → IfOk r (λ c. is_spelled c ≡ true)
-given_form content body (Ok c) e = (means content body c e).form
-given_form content body (Err f) e = tt

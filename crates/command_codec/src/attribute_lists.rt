@@ -1,4 +1,4 @@
-ghost use Rattle.std.specs.Prelude.{◌≡◌, [], IfOk, option_map};
+ghost use Rattle.std.specs.Prelude.{◌≡◌, [], IfOk, IsErrOf, IsOk, IsSome, OnErr, option_map};
 ghost use Rattle.serde_json.specs.View.{items_view};
 ghost use Rattle.json_body.specs.FieldKinds.{as_name, object_of, optional, required};
 ghost use Rattle.role_expr.specs.NameRepeats.{without_repeats};
@@ -6,16 +6,21 @@ ghost use Rattle.body_fields.specs.ItemLists.{each_of};
 ghost use Rattle.body_fields.specs.ReadResults.{Gives};
 ghost use Rattle.command_codec.specs.NameLists.{as_attributes};
 
-use ctrl_model::{Field, MOST_ENTRIES, Names};
+use body_fields::{ItemName, are_said};
+use ctrl_model::{Field, MOST_ENTRIES, Name, Names};
 use json_body::{FieldFault, Fields, as_name};
 use role_expr::keep_name;
 use serde_json::Value;
 use std::alloc::{AllocError, Global};
 
-// The names that some values are, without repeats, if each is a name.
+// The names that some values are, without repeats, if each is a name. No memory is taken before that is known.
 fn names_in(alloc: Global, values: &[Value]) -> Result<Option<Names>, AllocError>
-    ensures { IfOk result (λ ns. ns ≡ option_map without_repeats (each_of as_name (items_view values.now))) }
+    ensures names { IfOk result (λ ns. ns ≡ option_map without_repeats (each_of as_name (items_view values.now))) }
+    ensures memory { OnErr result (IsSome (each_of as_name (items_view values.now))) }
 {
+    if !are_said::<Name, ItemName>(values) {
+        return Ok(None);
+    }
     let mut kept = Vec::new(alloc);
     'values: for value in values {
         let Some(name) = as_name(alloc, value)? else {
@@ -28,7 +33,9 @@ fn names_in(alloc: Global, values: &[Value]) -> Result<Option<Names>, AllocError
 
 // The attributes that an object gives.
 pub(crate) fn attributes(alloc: Global, fields: &Fields) -> Result<Names, FieldFault>
-    ensures { Gives FieldFault.NoMemory (λ ns. ns) result (required as_attributes Field.Attributes (object_of fields.now)) }
+    ensures given { Gives FieldFault.NoMemory (λ ns. ns) result (required as_attributes Field.Attributes (object_of fields.now)) }
+    // Memory can be wanting for attributes alone.
+    ensures memory { IsErrOf result FieldFault.NoMemory → IsOk (required as_attributes Field.Attributes (object_of fields.now)) }
 {
     let values = fields.list(Field::Attributes, MOST_ENTRIES)?;
     names_in(alloc, values)?.ok_or(FieldFault::WrongKind(Field::Attributes))
@@ -36,7 +43,8 @@ pub(crate) fn attributes(alloc: Global, fields: &Fields) -> Result<Names, FieldF
 
 // The attributes that an object gives, or none where it leaves them out.
 pub(crate) fn attributes_or_none(alloc: Global, fields: &Fields) -> Result<Names, FieldFault>
-    ensures { Gives FieldFault.NoMemory (λ ns. ns) result (optional as_attributes [] Field.Attributes (object_of fields.now)) }
+    ensures given { Gives FieldFault.NoMemory (λ ns. ns) result (optional as_attributes [] Field.Attributes (object_of fields.now)) }
+    ensures memory { IsErrOf result FieldFault.NoMemory → IsOk (optional as_attributes [] Field.Attributes (object_of fields.now)) }
 {
     if !fields.has(Field::Attributes) {
         return Ok(Names::of(Vec::new(alloc)));

@@ -17,7 +17,7 @@ mod terminator_bodies;
 mod worked;
 
 pub use laws::{the_first_cause, what_a_body_spells};
-pub use reading::{CodecFault, read, read_value};
+pub use reading::{CodecFault, read};
 pub use worked::{
     worked_bodies, worked_causes, worked_circuits, worked_claims, worked_first_causes,
     worked_links, worked_lists, worked_policies, worked_policy_causes, worked_shows, worked_sides,

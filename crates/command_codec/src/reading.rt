@@ -104,27 +104,10 @@ fn judged_command(
     command_in(alloc, content, fields)
 }
 
-// The command that the body spells which is a JSON value, by the form of its content type.
-fn formed_command(
-    alloc: Global,
-    content: u32,
-    form: BodyForm,
-    value: &Value,
-) -> Result<Command, CodecFault>
-    requires other { content ≢ 0 }
-    requires form { Some (form_rules form) ≡ option_map with_fields (lookup (λ n. n == content) all_rules) }
-    ensures command { IfOk result (λ c. value_meaning content (view value.now) ≡ Ok c) }
-    ensures fault { IfErr result (λ e. e ≢ CodecFault.NoMemory → value_meaning content (view value.now) ≡ Err e) }
-    ensures memory { IsErrOf result CodecFault.NoMemory → IsOk (value_meaning content (view value.now)) }
-{
-    let fields = Fields::of(value)?;
-    Ok(judged_command(alloc, content, form, &fields)?)
-}
-
-/// The command that the body spells which is a JSON value.
-///
-/// Faults come as those of `read`. Want of memory takes the place of none of them: it comes only where the value spells a command.
-pub fn read_value(alloc: Global, content: u32, value: &Value) -> Result<Command, CodecFault>
+// The command that the body spells which is a JSON value.
+//
+// Faults come as those of `read`. Want of memory takes the place of none of them: it comes only where the value spells a command.
+fn read_value(alloc: Global, content: u32, value: &Value) -> Result<Command, CodecFault>
     ensures command { IfOk result (λ c. value_meaning content (view value.now) ≡ Ok c) }
     ensures fault { IfErr result (λ e. e ≢ CodecFault.NoMemory → value_meaning content (view value.now) ≡ Err e) }
     // All that the value says is judged before memory is asked.
@@ -136,7 +119,8 @@ pub fn read_value(alloc: Global, content: u32, value: &Value) -> Result<Command,
     let Some(form) = form_of(content) else {
         return Err(CodecFault::UnsupportedType);
     };
-    formed_command(alloc, content, form, value)
+    let fields = Fields::of(value)?;
+    Ok(judged_command(alloc, content, form, &fields)?)
 }
 
 /// The command that a body spells under a content type.
@@ -157,11 +141,11 @@ pub fn read(alloc: Global, content: u32, body: &[u8]) -> Result<Command, CodecFa
     if content == HELLO {
         return Ok(Command::Hello);
     }
-    let Some(form) = form_of(content) else {
+    if form_of(content).is_none() {
         return Err(CodecFault::UnsupportedType);
-    };
+    }
     let value = value_in(alloc, body)?;
-    let command = formed_command(alloc, content, form, &value);
+    let command = read_value(alloc, content, &value);
     drop(value);
     command
 }

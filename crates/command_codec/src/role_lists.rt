@@ -1,4 +1,4 @@
-ghost use Rattle.std.specs.Prelude.{◌≡◌, ◌&&◌, not, IfOk, is_some, option_and_then};
+ghost use Rattle.std.specs.Prelude.{◌≡◌, ◌&&◌, not, IfOk, IsErrOf, IsOk, IsSome, OnErr, is_some, option_and_then};
 ghost use Rattle.std.specs.List.{list_any};
 ghost use Rattle.serde_json.specs.View.{view, items_view};
 ghost use Rattle.json_body.specs.FieldKinds.{object_of, required};
@@ -7,7 +7,7 @@ ghost use Rattle.body_fields.specs.ItemLists.{each_of};
 ghost use Rattle.body_fields.specs.ReadResults.{Gives};
 ghost use Rattle.command_codec.specs.RoleLists.{as_role, as_side, is_all_text, side_of};
 
-use body_fields::{ItemKind, are_said, list};
+use body_fields::{ItemKind, are_said, each_in};
 use ctrl_model::{Field, MOST_ENTRIES, Role, Side};
 use json_body::{FieldFault, Fields, as_list_of};
 use role_expr::{RoleFault, is_role, read_role};
@@ -16,7 +16,8 @@ use std::alloc::{AllocError, Global};
 
 // The role entry that some bytes are, if they are one.
 fn role_in(alloc: Global, bytes: &[u8]) -> Result<Option<Role>, AllocError>
-    ensures { IfOk result (λ r. r ≡ role_in bytes.now) }
+    ensures role { IfOk result (λ r. r ≡ role_in bytes.now) }
+    ensures memory { OnErr result (IsSome (role_in bytes.now)) }
 {
     match read_role(alloc, bytes) {
         Ok(role) => Ok(Some(role)),
@@ -96,7 +97,8 @@ pub(crate) fn is_side(value: &Value) -> bool
 
 // The side of some role entries, if `#all` stands alone.
 fn side_of(alloc: Global, roles: &[Role]) -> Result<Option<Side>, AllocError>
-    ensures { IfOk result (λ s. s ≡ side_of roles.now) }
+    ensures side { IfOk result (λ s. s ≡ side_of roles.now) }
+    ensures memory { OnErr result (IsSome (side_of roles.now)) }
 {
     // Of entries that were read BadRole never comes.
     match role_expr::side_of(alloc, roles) {
@@ -106,10 +108,26 @@ fn side_of(alloc: Global, roles: &[Role]) -> Result<Option<Side>, AllocError>
     }
 }
 
+// The side that some values are, if they are role entries in which `#all` stands alone. No memory is taken before that is known.
+fn side_in(alloc: Global, values: &[Value]) -> Result<Option<Side>, AllocError>
+    ensures side { IfOk result (λ s. s ≡ option_and_then side_of (each_of as_role (items_view values.now))) }
+    ensures memory { OnErr result (IsSome (option_and_then side_of (each_of as_role (items_view values.now)))) }
+{
+    if !are_roles(values) {
+        return Ok(None);
+    }
+    let Some(roles) = each_in::<Role, RoleEntry>(alloc, values)? else {
+        return Ok(None);
+    };
+    side_of(alloc, roles.as_slice())
+}
+
 // The side that an object gives in a field.
 pub(crate) fn side(alloc: Global, fields: &Fields, field: Field) -> Result<Side, FieldFault>
-    ensures { Gives FieldFault.NoMemory (λ s. s) result (required as_side field (object_of fields.now)) }
+    ensures given { Gives FieldFault.NoMemory (λ s. s) result (required as_side field (object_of fields.now)) }
+    // Memory can be wanting for a side alone.
+    ensures memory { IsErrOf result FieldFault.NoMemory → IsOk (required as_side field (object_of fields.now)) }
 {
-    let roles = list::<Role, RoleEntry>(alloc, fields, field, MOST_ENTRIES)?;
-    side_of(alloc, roles.as_slice())?.ok_or(FieldFault::WrongKind(field))
+    let values = fields.list(field, MOST_ENTRIES)?;
+    side_in(alloc, values)?.ok_or(FieldFault::WrongKind(field))
 }

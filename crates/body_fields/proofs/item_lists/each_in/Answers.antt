@@ -4,8 +4,8 @@ use Rattle.serde_json.specs.View.{view}
 use Rattle.body_fields.proofs.ItemLaws.{each_of-more, each_of-none}
 use Rattle.body_fields.proofs.item_lists.each_in.Goals as goal
 
-pub returns-in_default : goal.returns-in_default
-returns-in_default g c =
+pub returns-in_default-clause-values : goal.returns-in_default-clause-values
+returns-in_default-clause-values g c =
     let below : c.values.value-index < length c.args.values.now = omega arith in
     let nothing : g.K.ItemKind.kind (view c.value-item.result) ≡ None = sym c.in_ok-item.ensures.value ∙ c.in_default.is in
     sym (each_of-none g.K.ItemKind.kind c.args.values.now c.values.value-index c.value-item.result below (subst (λ v. g.K.ItemKind.kind (view v) ≡ None) c.value-item.is nothing))

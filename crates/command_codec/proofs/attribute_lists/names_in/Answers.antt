@@ -5,8 +5,8 @@ use Rattle.json_body.specs.FieldKinds.{as_name}
 use Rattle.command_codec.proofs.NameListLaws.{names-more, names-none}
 use Rattle.command_codec.proofs.attribute_lists.names_in.Goals as goal
 
-pub returns-in_default : goal.returns-in_default
-returns-in_default c =
+pub returns-in_default-clause-names : goal.returns-in_default-clause-names
+returns-in_default-clause-names c =
     let below : c.values.value-index < length c.args.values.now = omega arith in
     let no_name : None ≡ as_name (view c.value-item.result) = sym c.in_default.is ∙ c.in_ok-name.ensures.name in
     sym (names-none c.args.values.now c.values.value-index c.value-item.result below (subst (λ v. None ≡ as_name (view v)) c.value-item.is no_name))
