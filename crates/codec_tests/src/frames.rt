@@ -1,6 +1,7 @@
 ghost use Rattle.std.specs.Prelude.{IfSome};
 ghost use Rattle.channel_frame.specs.FrameSpelling.{KeepsLimits};
 
+use crate::checks::are_bytes;
 use crate::samples::REPLY;
 use channel_frame::{Frame, encode, read_frame, read_head};
 use std::alloc::Global;
@@ -22,6 +23,6 @@ fn frame_of(alloc: Global, bytes: &[u8]) -> Option<Frame>
 fn a_frame_is_read_and_spelled_again(rt: HostRuntime) -> Result<(), Fail> {
     let reply = frame_of(rt.alloc(), &REPLY).ok_or("the bytes are a reply")?;
     let again = encode(rt.alloc(), &reply)?;
-    assert_eq!(rt; again.as_slice(), REPLY.as_slice());
+    are_bytes(&rt, again.as_slice(), &REPLY);
     Ok(())
 }

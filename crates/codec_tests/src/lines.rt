@@ -1,5 +1,6 @@
 //! Frames told as lines, and lines that say frames. The run of `zitiline` shows where the latter end at a fault.
 
+use crate::checks::are_bytes;
 use crate::samples::{ANN, REPLY};
 use frame_lines::{DecodeFault, check, decode, encode};
 use std::alloc::{AllocError, Global};
@@ -30,9 +31,9 @@ fn tells(
     let mut bytes = Vec::from_slice(alloc, parts[0])?;
     bytes.extend_from_slice(parts[1])?;
     let decoded = decode(alloc, bytes.as_slice())?;
-    assert_eq!(rt; decoded.text.as_slice(), text.as_bytes());
+    are_bytes(rt, decoded.text.as_slice(), text.as_bytes());
     let found = words_of(alloc, decoded.fault)?;
-    assert_eq!(rt; found.as_str(), words);
+    are_bytes(rt, found.as_bytes(), words.as_bytes());
     Ok(())
 }
 
@@ -65,15 +66,15 @@ fn frames_are_told(rt: HostRuntime) -> Result<(), Fail> {
 fn a_text_says_frames(rt: HostRuntime) -> Result<(), Fail> {
     let text = b"# ann\r\n\n7 CreateIdentity {\"name\":\"ann\"}\r\n".as_slice();
     let encoded = encode(rt.alloc(), text)?;
-    assert_eq!(rt; encoded.bytes.as_slice(), ANN.as_slice());
-    assert_eq!(rt; encoded.fault, None);
+    are_bytes(&rt, encoded.bytes.as_slice(), &ANN);
+    assert!(rt; encoded.fault.is_none());
     Ok(())
 }
 
 // All faults of a text are told so, and where there are none it is encoded.
 fn is_checked(rt: &impl Abort, alloc: Global, text: &[u8], told: &str) -> Result<(), Fail> {
     let checked = check(alloc, text)?;
-    assert_eq!(rt; checked.told.as_slice(), told.as_bytes());
+    are_bytes(rt, checked.told.as_slice(), told.as_bytes());
     let encoded = encode(alloc, text)?;
     assert_eq!(rt; checked.fault, encoded.fault);
     Ok(())

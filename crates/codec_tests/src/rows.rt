@@ -1,6 +1,7 @@
 ghost use Rattle.std.specs.Prelude.{◌≡◌, true, IfSome};
 ghost use Rattle.row_codec.specs.RowForm.{is_row};
 
+use crate::checks::are_bytes;
 use row_codec::Row;
 use row_reading::read_row;
 use row_writing::write_row;
@@ -24,7 +25,7 @@ fn a_row_is_read_and_written_again(rt: HostRuntime) -> Result<(), Fail> {
     let written = write_row(rt.alloc(), &row);
     drop(row);
     let (key, value) = written?;
-    assert_eq!(rt; key.as_slice(), KEY.as_slice());
-    assert_eq!(rt; value.as_slice(), VALUE.as_slice());
+    are_bytes(&rt, key.as_slice(), &KEY);
+    are_bytes(&rt, value.as_slice(), &VALUE);
     Ok(())
 }

@@ -1,5 +1,6 @@
 //! Texts that say traces, and tagged replies told as lines.
 
+use crate::checks::are_bytes;
 use std::alloc::{AllocError, Global};
 use std::process::Abort;
 use std::test::Fail;
@@ -34,9 +35,9 @@ fn says(
     words: &str,
 ) -> Result<(), Fail> {
     let traced = trace(alloc, text)?;
-    assert_eq!(rt; traced.bytes.as_slice(), bytes);
+    are_bytes(rt, traced.bytes.as_slice(), bytes);
     let found = words_of(alloc, traced.fault)?;
-    assert_eq!(rt; found.as_str(), words);
+    are_bytes(rt, found.as_bytes(), words.as_bytes());
     Ok(())
 }
 
@@ -76,11 +77,12 @@ fn a_long_frame_is_cut_into_pieces(rt: HostRuntime) -> Result<(), Fail> {
     text.resize(text.len() + 65_520, b'x')?;
     let traced = trace(rt.alloc(), text.as_slice())?;
     let bytes = traced.bytes.as_slice();
-    assert_eq!(rt; bytes.len(), 4 + 4 + 65_535 + 4 + 5);
-    assert_eq!(rt; &bytes[4..8], [2, 0, 255, 255].as_slice());
-    assert_eq!(rt;
+    assert!(rt; bytes.len() == 4 + 4 + 65_535 + 4 + 5);
+    are_bytes(&rt, &bytes[4..8], &[2, 0, 255, 255]);
+    are_bytes(
+        &rt,
         &bytes[65_543..],
-        [2, 0, 5, 0, 120, 120, 120, 120, 120].as_slice()
+        &[2, 0, 5, 0, 120, 120, 120, 120, 120],
     );
     Ok(())
 }
@@ -103,9 +105,9 @@ fn tells(
     let mut bytes = Vec::from_slice(alloc, parts[0])?;
     bytes.extend_from_slice(parts[1])?;
     let told = tell_replies(alloc, bytes.as_slice())?;
-    assert_eq!(rt; told.text.as_slice(), text.as_bytes());
+    are_bytes(rt, told.text.as_slice(), text.as_bytes());
     let found = reply_words_of(alloc, told.fault)?;
-    assert_eq!(rt; found.as_str(), words);
+    are_bytes(rt, found.as_bytes(), words.as_bytes());
     Ok(())
 }
 

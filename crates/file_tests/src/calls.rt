@@ -2,6 +2,7 @@
 
 ghost use Rattle.std.specs.Prelude.{◌≡◌, IsTrue, length};
 
+use crate::checks::{are_bytes, are_calls, is_done, is_refused};
 use sample_runs::{Asked, Calls, NONE_FAILS, Name, Recorded};
 use std::alloc::{AllocError, Global};
 use std::process::Abort;
@@ -42,16 +43,16 @@ const PARTS: [(Part, Name); 3] = [
 fn has_named(rt: &impl Abort, host: &HostRuntime) -> io::Result<()> {
     for (path, wanted) in [("ziti.0", b"0"), ("ziti.1", b"1"), ("ziti.mark", b"m")] {
         let kept = fs::read(host, path)?;
-        assert_eq!(rt; kept.as_slice(), wanted.as_slice(), "{path}");
+        are_bytes(rt, kept.as_slice(), wanted.as_slice());
         fs::remove_file(host, path)?;
     }
     Ok(())
 }
 
 fn writes_three<F: Drive>(rt: &impl Abort, folder: &mut F) {
-    assert_eq!(rt; folder.write_at(Part::Zero, 0, b"0"), Ok(()));
-    assert_eq!(rt; folder.write_at(Part::One, 0, b"1"), Ok(()));
-    assert_eq!(rt; folder.write_at(Part::Mark, 0, b"m"), Ok(()));
+    is_done(rt, folder.write_at(Part::Zero, 0, b"0"));
+    is_done(rt, folder.write_at(Part::One, 0, b"1"));
+    is_done(rt, folder.write_at(Part::Mark, 0, b"m"));
 }
 
 #[test]
@@ -64,7 +65,7 @@ fn keeps_three_files_by_their_names(rt: HostRuntime) -> Result<(), Fail> {
 // These were the calls.
 fn were(rt: &impl Abort, alloc: Global, calls: &Calls, wanted: &[Asked]) -> Result<(), AllocError> {
     let all = calls.all(alloc)?;
-    assert_eq!(rt; all.as_slice(), wanted);
+    are_calls(rt, all.as_slice(), wanted);
     Ok(())
 }
 
@@ -77,11 +78,11 @@ fn has_len<F: Drive>(rt: &impl Abort, folder: &mut F, part: Part, wanted: u64)
 
 // Writes a part that is absent, syncs it, cuts it and syncs it again.
 fn writes_a_part<F: Drive>(rt: &impl Abort, folder: &mut F, part: Part) {
-    assert_eq!(rt; folder.write_at(part, 0, b"abc"), Ok(()));
-    assert_eq!(rt; folder.sync(part), Ok(()));
+    is_done(rt, folder.write_at(part, 0, b"abc"));
+    is_done(rt, folder.sync(part));
     has_len(rt, folder, part, 3);
-    assert_eq!(rt; folder.cut(part, 2), Ok(()));
-    assert_eq!(rt; folder.sync(part), Ok(()));
+    is_done(rt, folder.cut(part, 2));
+    is_done(rt, folder.sync(part));
 }
 
 /// The file of a part is made, and its folder is synced before its first byte is written; it is synced where it is asked to be.
@@ -120,7 +121,7 @@ fn makes_a_part(
 fn has_files(rt: &impl Abort, host: &HostRuntime) -> io::Result<()> {
     for path in [MADE.zero, MADE.one, MADE.mark] {
         let kept = fs::read(host, path)?;
-        assert_eq!(rt; kept.as_slice(), b"ab".as_slice());
+        are_bytes(rt, kept.as_slice(), b"ab");
     }
     Ok(())
 }
@@ -140,12 +141,12 @@ fn syncs_the_folder_of_what_it_makes(rt: HostRuntime) -> Result<(), Fail> {
 fn looks_and_syncs<F: Drive>(rt: &impl Abort, folder: &mut F) {
     let mut buf = [0u8; 2];
     has_len(rt, folder, Part::Zero, 3);
-    assert_eq!(rt; folder.read_at(Part::Zero, 1, &mut buf), Ok(()));
-    assert_eq!(rt; buf, *b"bc");
-    assert!(rt; folder.read_at(Part::Zero, 2, &mut buf).is_err());
+    is_done(rt, folder.read_at(Part::Zero, 1, &mut buf));
+    are_bytes(rt, &buf, b"bc");
+    is_refused(rt, folder.read_at(Part::Zero, 2, &mut buf));
     has_len(rt, folder, Part::Mark, 0);
-    assert_eq!(rt; folder.sync(Part::Zero), Ok(()));
-    assert_eq!(rt; folder.sync(Part::Mark), Ok(()));
+    is_done(rt, folder.sync(Part::Zero));
+    is_done(rt, folder.sync(Part::Mark));
 }
 
 /// A file is opened for reading alone until it is synced, when its folder is synced too; an absent one is not made.
@@ -202,7 +203,7 @@ fn refused_recorded<'c>(host: &'c HostRuntime, calls: &'c Calls) -> u32 {
 fn fails_once(rt: &impl Abort, host: &HostRuntime, failing: usize) -> io::Result<()> {
     fs::create_dir(host, REFUSED.folder)?;
     let calls = Calls::new(host.alloc(), failing);
-    assert_eq!(rt; refused_recorded(host, &calls), 1, "{failing}");
+    assert!(rt; refused_recorded(host, &calls) == 1, "{failing}");
     fs::remove_dir_all(host, REFUSED.folder)
 }
 

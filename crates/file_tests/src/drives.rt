@@ -2,6 +2,7 @@
 
 ghost use Rattle.std.specs.Prelude.{◌≡◌, IsTrue, length};
 
+use crate::checks::{are_bytes, is_done, is_refused};
 use sample_runs::{FIRST, desk_of};
 use std::alloc::{AllocError, Global};
 use std::process::Abort;
@@ -28,28 +29,28 @@ fn has_len<D: Desk>(rt: &impl Abort, desk: &mut D, part: Part, wanted: u64)
 fn does_some<D: Desk>(rt: &impl Abort, desk: &mut D) {
     let mut buf = [0u8; 2];
     has_len(rt, desk, Part::Zero, 3);
-    assert_eq!(rt; desk.write_at(Part::Zero, 1, b"78"), Ok(()));
-    assert_eq!(rt; desk.say(b"56"), Ok(()));
-    assert_eq!(rt; desk.sync(Part::Zero), Ok(()));
+    is_done(rt, desk.write_at(Part::Zero, 1, b"78"));
+    is_done(rt, desk.say(b"56"));
+    is_done(rt, desk.sync(Part::Zero));
     has_len(rt, desk, Part::Zero, 3);
-    assert_eq!(rt; desk.cut(Part::Zero, 2), Ok(()));
-    assert_eq!(rt; desk.note(b"n"), Ok(()));
+    is_done(rt, desk.cut(Part::Zero, 2));
+    is_done(rt, desk.note(b"n"));
     has_len(rt, desk, Part::Zero, 2);
-    assert_eq!(rt; desk.read_at(Part::Zero, 0, &mut buf), Ok(()));
-    assert_eq!(rt; buf, *b"17");
-    assert!(rt; desk.read_at(Part::One, 0, &mut buf).is_err());
+    is_done(rt, desk.read_at(Part::Zero, 0, &mut buf));
+    are_bytes(rt, &buf, b"17");
+    is_refused(rt, desk.read_at(Part::One, 0, &mut buf));
 }
 
 // The drive reads so, has seen these calls, and a stop that keeps nothing pending finds the slot as it was synced.
 fn has_kept(rt: &impl Abort, alloc: Global, drive: &MemDesk) -> Result<(), AllocError> {
-    assert_eq!(rt; drive.part(Part::Zero), b"17".as_slice());
-    assert_eq!(rt; drive.part(Part::Mark), FIRST);
-    assert!(rt; drive.said().is_empty());
-    assert_eq!(rt; drive.moments(), 3);
+    are_bytes(rt, drive.part(Part::Zero), b"17");
+    are_bytes(rt, drive.part(Part::Mark), FIRST);
+    are_bytes(rt, drive.said(), b"");
+    assert!(rt; drive.moments() == 3);
     if drive.moments() == 3 {
         let (image, taken) = drive.stopped(alloc, 3, 0)?;
-        assert_eq!(rt; image.zero.as_slice(), b"178".as_slice());
-        assert!(rt; taken.is_empty());
+        are_bytes(rt, image.zero.as_slice(), b"178");
+        are_bytes(rt, taken.as_slice(), b"");
     }
     Ok(())
 }
@@ -71,7 +72,7 @@ fn keeps_parts_on_a_drive_in_memory(rt: HostRuntime) -> Result<(), Fail> {
     let mut said = Vec::new(rt.alloc());
     let mut noted = Vec::new(rt.alloc());
     keeps_parts(&rt, rt.alloc(), &mut said, &mut noted)?;
-    assert_eq!(&rt; said.as_slice(), b"56".as_slice());
-    assert_eq!(&rt; noted.as_slice(), b"n".as_slice());
+    are_bytes(&rt, said.as_slice(), b"56");
+    are_bytes(&rt, noted.as_slice(), b"n");
     Ok(())
 }

@@ -1,12 +1,8 @@
 //! Folders with a byte changed, cut off or made up: where they are damaged, and to what the others open.
 
-use crate::desks::desk_of;
-use crate::folders::{GRANT_KEPT, has_parts, has_slot, has_told, replay};
-use crate::replays::answers;
+use crate::checks::{answers, has_slot, holds, ran};
 use ctrl_serve::Status;
-use sample_runs::{
-    ANN, ANN_KEPT, ANN_MADE, BOB_KEPT, BOB_MADE, DONE, FIRST, Row, WEB_KEPT, slot_of,
-};
+use sample_runs::{ANN_KEPT, FIRST, GRANT_KEPT, How, WEB_KEPT, slot_of};
 use std::alloc::{AllocError, Global};
 use std::process::Abort;
 use std::test::Fail;
@@ -60,41 +56,18 @@ const CHANGES: [(Change, [&[u8]; 5]); 3] = [
     ),
 ];
 
-/// No identities, services, policies or grants but so many.
-const NOTHING: &str =
-    r#"{"circuits":0,"grants":0,"identities":0,"links":0,"policies":0,"routers":0,"services":0,"terminators":0}"#;
-
-const ANN_ALONE: &str =
-    r#"{"circuits":0,"grants":0,"identities":1,"links":0,"policies":0,"routers":0,"services":0,"terminators":0}"#;
-
-const ANN_AND_WEB: &str =
-    r#"{"circuits":0,"grants":0,"identities":1,"links":0,"policies":0,"routers":0,"services":1,"terminators":0}"#;
-
 /// The place of a byte that goes up by one, and what then is answered: gates that close, next numbers, and names.
-const OPENED: [(usize, Row); 9] = [
-    (8, (1502, "{}", NOTHING)),
-    (41, (1502, "{}", ANN_ALONE)),
-    (74, (1502, "{}", ANN_AND_WEB)),
-    (21, (1000, r#"{"name":"bob"}"#, r#"{"no":3}"#)),
-    (57, (1010, r#"{"name":"app"}"#, r#"{"no":16777218}"#)),
-    (
-        37,
-        (
-            1500,
-            r#"{"identity":"bnn"}"#,
-            r#"{"bind":[],"dial":[["web",1]],"routers":[]}"#,
-        ),
-    ),
-    (
-        70,
-        (1501, r#"{"identity":"ann"}"#, r#"{"services":["xeb"]}"#),
-    ),
-    (103, (1102, r#"{"name":"q"}"#, DONE)),
-    (
-        105,
-        (1501, r#"{"identity":"ann"}"#, r#"{"services":["web"]}"#),
-    ),
-];
+const OPENED: &str = r#"
+8 1502 {} -> {"circuits":0,"grants":0,"identities":0,"links":0,"policies":0,"routers":0,"services":0,"terminators":0}
+41 1502 {} -> {"circuits":0,"grants":0,"identities":1,"links":0,"policies":0,"routers":0,"services":0,"terminators":0}
+74 1502 {} -> {"circuits":0,"grants":0,"identities":1,"links":0,"policies":0,"routers":0,"services":1,"terminators":0}
+21 1000 {"name":"bob"} -> {"no":3}
+57 1010 {"name":"app"} -> {"no":16777218}
+37 1500 {"identity":"bnn"} -> {"bind":[],"dial":[["web",1]],"routers":[]}
+70 1501 {"identity":"ann"} -> {"services":["xeb"]}
+103 1102 {"name":"q"} -> {}
+105 1501 {"identity":"ann"} -> {"services":["web"]}
+"#;
 
 // The slot of ann, web and the policy with its count.
 fn whole_slot(alloc: Global) -> Result<Vec<u8>, AllocError> {
@@ -136,14 +109,39 @@ fn note_of(letter: u8) -> &'static str {
 }
 
 // A folder whose first slot has these bytes is damaged where that is noted, or opens, and reads as before. Nothing is said.
-fn check_slot(rt: &impl Abort, alloc: Global, slot: &[u8], noted: &str) -> Result<(), Fail> {
-    let mut desk = desk_of(alloc, [slot, b"", FIRST])?;
-    let status = replay(alloc, b"", 4_096, &mut desk)?;
-    assert_eq!(rt; status == Status::Done, noted.is_empty());
-    assert_eq!(rt; status == Status::Damaged, !noted.is_empty());
-    has_told(rt, &desk, b"", noted);
-    has_slot(rt, &desk, slot);
+fn check_slot(rt: &impl Abort, alloc: Global, slot: &[u8], letter: u8) -> Result<(), AllocError> {
+    let parts = [slot, b"", FIRST];
+    let noted = note_of(letter);
+    let status = if noted.is_empty() {
+        Status::Done
+    } else {
+        Status::Damaged
+    };
+    let ended = (status, b"".as_slice(), noted.as_bytes());
+    let desk = ran(
+        rt,
+        alloc,
+        "byte",
+        &["replay"],
+        How::AMPLE,
+        b"",
+        parts,
+        ended,
+    )?;
+    has_slot(rt, "byte", &desk, slot);
     Ok(())
+}
+
+fn check_changed(
+    rt: &impl Abort,
+    alloc: Global,
+    slot: &[u8],
+    place: usize,
+    change: Change,
+    letter: u8,
+) -> Result<(), AllocError> {
+    let slot = changed(alloc, slot, place, change)?;
+    check_slot(rt, alloc, slot.as_slice(), letter)
 }
 
 // What comes of each byte of a stretch.
@@ -154,41 +152,60 @@ fn check_stretch(
     first: usize,
     change: Change,
     letters: &[u8],
-) -> Result<usize, Fail> {
+) -> Result<usize, AllocError> {
     let mut place = first;
     for letter in letters {
-        let slot = changed(alloc, slot, place, change)?;
-        check_slot(rt, alloc, slot.as_slice(), note_of(*letter))?;
+        check_changed(rt, alloc, slot, place, change, *letter)?;
         place = place.saturating_add(1);
     }
     Ok(place)
 }
 
+// What comes of each byte of the slot.
+fn check_changes(
+    rt: &impl Abort,
+    alloc: Global,
+    slot: &[u8],
+    change: Change,
+    stretches: [&[u8]; 5],
+) -> Result<(), AllocError> {
+    let mut place = 0usize;
+    for letters in stretches {
+        place = check_stretch(rt, alloc, slot, place, change, letters)?;
+    }
+    holds(rt, "each byte", place == slot.len());
+    Ok(())
+}
+
 #[test]
 fn finds_each_changed_byte(rt: HostRuntime) -> Result<(), Fail> {
     let slot = whole_slot(rt.alloc())?;
-    for (change, stretches) in &CHANGES {
-        let mut place = 0usize;
-        for letters in stretches {
-            place = check_stretch(&rt, rt.alloc(), slot.as_slice(), place, *change, letters)?;
-        }
-        assert_eq!(rt; place, slot.len());
+    for (change, stretches) in CHANGES {
+        check_changes(&rt, rt.alloc(), slot.as_slice(), change, stretches)?;
     }
     Ok(())
 }
 
 // What the folder answers whose slot has one byte more at a place.
-fn check_opened(rt: &impl Abort, alloc: Global, place: usize, row: Row) -> Result<(), Fail> {
-    let whole = whole_slot(alloc)?;
-    let slot = changed(alloc, whole.as_slice(), place, Change::Rises)?;
-    let mut desk = desk_of(alloc, [slot.as_slice(), b"", FIRST])?;
-    answers(rt, alloc, &mut desk, 4_096, &[row])
+fn check_opened(
+    rt: &impl Abort,
+    alloc: Global,
+    whole: &[u8],
+    place: &str,
+    row: &str,
+) -> Result<(), AllocError> {
+    let place = place.parse::<usize>().unwrap_or(0);
+    let slot = changed(alloc, whole, place, Change::Rises)?;
+    answers(rt, alloc, How::AMPLE, [slot.as_slice(), b"", FIRST], row)?;
+    Ok(())
 }
 
 #[test]
 fn opens_to_what_other_bytes_say(rt: HostRuntime) -> Result<(), Fail> {
-    for (place, row) in &OPENED {
-        check_opened(&rt, rt.alloc(), *place, *row)?;
+    let whole = whole_slot(rt.alloc())?;
+    for line in OPENED.trim_ascii().lines() {
+        let (place, row) = line.split_once(' ').ok_or("a line has no place")?;
+        check_opened(&rt, rt.alloc(), whole.as_slice(), place, row)?;
     }
     Ok(())
 }
@@ -204,135 +221,28 @@ const CUTS: [(usize, u8); 6] = [
     (133, b'.'),
 ];
 
+// What comes of the fronts of the slot from one length to before another.
+fn check_fronts(
+    rt: &impl Abort,
+    alloc: Global,
+    slot: &[u8],
+    first: usize,
+    behind: usize,
+    letter: u8,
+) -> Result<(), AllocError> {
+    for left in first..behind {
+        check_slot(rt, alloc, slot.get(..left).unwrap_or(b""), letter)?;
+    }
+    Ok(())
+}
+
 #[test]
 fn finds_each_cut(rt: HostRuntime) -> Result<(), Fail> {
     let slot = whole_slot(rt.alloc())?;
     let mut first = 0usize;
     for (behind, letter) in CUTS {
-        for left in first..behind {
-            let front = slot.as_slice().get(..left).unwrap_or(b"");
-            check_slot(&rt, rt.alloc(), front, note_of(letter))?;
-        }
+        check_fronts(&rt, rt.alloc(), slot.as_slice(), first, behind, letter)?;
         first = behind;
     }
     Ok(())
-}
-
-/// A folder is damaged, which is so noted: nothing is said, and it reads as before.
-pub(crate) fn refuses(
-    rt: &impl Abort,
-    alloc: Global,
-    parts: [&[u8]; 3],
-    noted: &str,
-) -> Result<(), Fail> {
-    let mut desk = desk_of(alloc, parts)?;
-    let status = replay(alloc, ANN, 4_096, &mut desk)?;
-    assert_eq!(rt; status, Status::Damaged);
-    has_told(rt, &desk, b"", noted);
-    has_parts(rt, &desk, parts);
-    Ok(())
-}
-
-/// What is noted of a slot whose rows are those of no valid state, if it is the second one.
-const SECOND: &str = "zitictl: damaged: file 1 at 131\n";
-
-#[test]
-fn tells_a_wrong_count_in_either_slot(rt: HostRuntime) -> Result<(), Fail> {
-    let whole = whole_slot(rt.alloc())?;
-    let slot = changed(rt.alloc(), whole.as_slice(), 127, Change::Rises)?;
-    let (whole, slot) = (whole.as_slice(), slot.as_slice());
-    refuses(&rt, rt.alloc(), [slot, whole, FIRST], note_of(b'4'))?;
-    refuses(&rt, rt.alloc(), [whole, slot, b"\0\0"], SECOND)?;
-    refuses(
-        &rt,
-        rt.alloc(),
-        [slot, whole, b"\x01\x02\x03"],
-        note_of(b'4'),
-    )
-}
-
-/// The header, an open gate, and a length of 2^32 - 1.
-const LONGEST: &[u8] = b"ZCTL\x01\0\0\0\x01\xff\xff\xff\xff";
-
-/// A record that deletes a second identity.
-const BOB_GOES: &[u8] = b"\x01\x07\0\0\0\x02\x05\x03\0\0\0\x02";
-
-#[test]
-fn tells_slots_that_were_made_up(rt: HostRuntime) -> Result<(), Fail> {
-    let slot = slot_of(rt.alloc(), &[ANN_KEPT, BOB_GOES])?;
-    refuses(&rt, rt.alloc(), [LONGEST, b"", FIRST], note_of(b'1'))?;
-    refuses(
-        &rt,
-        rt.alloc(),
-        [slot.as_slice(), b"", FIRST],
-        note_of(b'2'),
-    )
-}
-
-// Behind a request that is answered so, a folder of these parts has those.
-fn goes_on(
-    rt: &impl Abort,
-    alloc: Global,
-    before: [&[u8]; 3],
-    row: Row,
-    after: [&[u8]; 3],
-) -> Result<(), Fail> {
-    let mut desk = desk_of(alloc, before)?;
-    answers(rt, alloc, &mut desk, 75, &[row])?;
-    has_parts(rt, &desk, after);
-    Ok(())
-}
-
-// The slot of these records, with some bytes behind its closed gate.
-fn slot_before(alloc: Global, records: &[&[u8]], old: &[u8]) -> Result<Vec<u8>, AllocError> {
-    let mut slot = slot_of(alloc, records)?;
-    slot.extend_from_slice(old)?;
-    Ok(slot)
-}
-
-#[test]
-fn begins_anew_where_the_mark_is_empty(rt: HostRuntime) -> Result<(), Fail> {
-    let after = slot_before(rt.alloc(), &[ANN_KEPT], &[0xFF; 8])?;
-    goes_on(
-        &rt,
-        rt.alloc(),
-        [&[0xFF; 50], &[0xFF; 3], b""],
-        ANN_MADE,
-        [after.as_slice(), &[0xFF; 3], FIRST],
-    )
-}
-
-#[test]
-fn goes_on_in_the_slot_that_stands(rt: HostRuntime) -> Result<(), Fail> {
-    let before = slot_of(rt.alloc(), &[ANN_KEPT])?;
-    let after = slot_of(rt.alloc(), &[ANN_KEPT, BOB_KEPT])?;
-    let (before, after) = (before.as_slice(), after.as_slice());
-    goes_on(
-        &rt,
-        rt.alloc(),
-        [before, before, b"\0\0"],
-        BOB_MADE,
-        [before, after, b"\0\0"],
-    )
-}
-
-// The slot of these records with the gate at a place closed.
-fn closed(alloc: Global, records: &[&[u8]], gate: usize) -> Result<Vec<u8>, AllocError> {
-    let slot = slot_of(alloc, records)?;
-    changed(alloc, slot.as_slice(), gate, Change::LastTurns)
-}
-
-// Bob's record has as many bytes as web's, over which it is written, so a closed gate stands where the policy's was.
-#[test]
-fn goes_on_before_old_bytes(rt: HostRuntime) -> Result<(), Fail> {
-    let before = closed(rt.alloc(), &[ANN_KEPT, WEB_KEPT, GRANT_KEPT], 41)?;
-    let after = closed(rt.alloc(), &[ANN_KEPT, BOB_KEPT, GRANT_KEPT], 74)?;
-    let (before, after) = (before.as_slice(), after.as_slice());
-    goes_on(
-        &rt,
-        rt.alloc(),
-        [before, b"", FIRST],
-        BOB_MADE,
-        [after, b"", FIRST],
-    )
 }

@@ -1,192 +1,144 @@
-//! Runs on a folder over memory: what they say, what they keep, and how they end.
+//! Replays on a folder: what is answered by room, what is then kept, and that it is kept where nothing at all is asked of it.
 
-use crate::desks::{desk_of, source_of};
-use crate::folders::{GRANT_KEPT, desk_with, has_slot, has_told, replay, run_word};
-use ctrl_serve::Status;
-use sample_runs::{
-    ANN, ANN_KEPT, ANN_MADE, BOB_KEPT, BOB_MADE, DONE, MADE, Row, WEB_KEPT, replies, requests,
-    slot_of,
-};
-use std::alloc::Global;
+use crate::checks::{SILENT, answers, has_parts, ran};
+use sample_runs::{ANN_SLOT, FIRST, How, SECOND, folder_of, parts_in};
+use std::alloc::{AllocError, Global};
 use std::process::Abort;
 use std::test::Fail;
-use ziti_desk::MemDesk;
+use ziti_desk::Images;
 
-/// The record of the router r1, and the one behind which it is connected.
-const ROUTER_KEPT: &[u8] =
-    b"\x01\x1e\0\0\0\x01\x02\x01\x03\x04\0\0\0\x02\0\0\0\x01\x05\x05\0\0\0\x01\x07\0\0\0\x02r1\0\0\0\0";
+/// Runs, with the folder before, how it is bounded, and the folder behind the run. A slot has 9 bytes beside its records; the records of identities and of
+/// web have 33 bytes, that of the policy 57, and those of the router 35 and 23. Compacted, ann, bob and web take 14 bytes and a batch of 72.
+const RUNS: &str = r##"
+# no room for bob | ANN_SLOT - FIRST | slot=74 mark=1 | ANN_SLOT - FIRST
+1000 {"name":"bob"} -> {"code":40,"name":"JournalFull"}
+1000 {"name":"ann"} -> {"code":20,"name":"Exists"}
 
-pub(crate) const CONNECTED_KEPT: &[u8] =
-    b"\x01\x12\0\0\0\x01\x05\x05\0\0\0\x01\x07\0\0\0\x02r1\0\0\0\x02";
+# room for bob | ANN_SLOT - FIRST | slot=75 mark=1 | HEADER+ANN_KEPT+BOB_KEPT+\0 - FIRST
+1000 {"name":"bob"} -> {"no":2}
 
-/// The refusal of a change without room.
-const FULL: &str = r#"{"code":40,"name":"JournalFull"}"#;
+# a full slot | HEADER+ANN_KEPT+BOB_KEPT+\0 - FIRST | slot=75 mark=1 | HEADER+ANN_KEPT+BOB_KEPT+\0 - FIRST
+1000 {"name":"ann"} -> {"code":20,"name":"Exists"}
 
-const ANN_EXISTS: Row = (1000, r#"{"name":"ann"}"#, r#"{"code":20,"name":"Exists"}"#);
+# the least slot | - - - | slot=64 mark=1 | ANN_SLOT - FIRST
+1000 {"name":"ann"} -> {"no":1}
+1000 {"name":"bob"} -> {"code":40,"name":"JournalFull"}
 
-const BOB_FULL: Row = (1000, r#"{"name":"bob"}"#, FULL);
+# room for a policy | - - - | slot=132 mark=1 | HEADER+ANN_KEPT+WEB_KEPT+GRANT_KEPT+\0 - FIRST
+PAIR
+1100 {"name":"p","type":"Dial","semantic":"AnyOf","identity_roles":["#all"],"service_roles":["#all"]} -> {"no":1}
 
-const WEB_MADE: Row = (1010, r#"{"name":"web"}"#, r#"{"no":1}"#);
+# no room for it | - - - | slot=131 mark=1 | HEADER+ANN_KEPT+WEB_KEPT+\0 - FIRST
+PAIR
+1100 {"name":"p","type":"Dial","semantic":"AnyOf","identity_roles":["#all"],"service_roles":["#all"]} -> {"code":40,"name":"JournalFull"}
 
-/// What creates the policy p, by which all may dial all.
-const GRANT: &str =
-    r##"{"name":"p","type":"Dial","semantic":"AnyOf","identity_roles":["#all"],"service_roles":["#all"]}"##;
+# a command that changes nothing | - - - | slot=67 mark=1 | HEADER+ROUTER_KEPT+CONNECTED_KEPT+\0 - FIRST
+1020 {"name":"r1"} -> {"no":1}
+1023 {"name":"r1"} -> {}
+1023 {"name":"r1"} -> {}
+1024 {"name":"r1"} -> {"code":40,"name":"JournalFull"}
 
-/// Runs on a folder that keeps some records or, with none, is empty: how many bytes a slot may have, the requests with the bodies of
-/// their replies, and the records that are kept behind them. A slot has 9 bytes beside its records; of the first three kinds
-/// these have 33 bytes, 33 and 57, and those of the router 35 and 23. Compacted, ann, bob and web take 14 bytes and a batch of 72. The
-/// mark may have one byte.
-type Keeping = (
-    &'static [&'static [u8]],
-    u64,
-    &'static [Row],
-    &'static [&'static [u8]],
-);
+# no room to compact | HEADER+ANN_KEPT+BOB_KEPT+WEB_KEPT+\0 - FIRST | slot=85 mark=1 | HEADER+ANN_KEPT+BOB_KEPT+WEB_KEPT+\0 - FIRST
+1510 {} -> {"code":40,"name":"JournalFull"}
 
-const KEEPINGS: [Keeping; 9] = [
-    (&[ANN_KEPT], 74, &[BOB_FULL, ANN_EXISTS], &[ANN_KEPT]),
-    (&[ANN_KEPT], 75, &[BOB_MADE], &[ANN_KEPT, BOB_KEPT]),
-    (
-        &[ANN_KEPT, BOB_KEPT],
-        75,
-        &[ANN_EXISTS],
-        &[ANN_KEPT, BOB_KEPT],
-    ),
-    (&[], 64, &[ANN_MADE, BOB_FULL], &[ANN_KEPT]),
-    (
-        &[],
-        132,
-        &[ANN_MADE, WEB_MADE, (1100, GRANT, r#"{"no":1}"#)],
-        &[ANN_KEPT, WEB_KEPT, GRANT_KEPT],
-    ),
-    (
-        &[],
-        131,
-        &[ANN_MADE, WEB_MADE, (1100, GRANT, FULL)],
-        &[ANN_KEPT, WEB_KEPT],
-    ),
-    (
-        &[],
-        67,
-        &[
-            (1020, r#"{"name":"r1"}"#, r#"{"no":1}"#),
-            (1023, r#"{"name":"r1"}"#, DONE),
-            (1023, r#"{"name":"r1"}"#, DONE),
-            (1024, r#"{"name":"r1"}"#, FULL),
-        ],
-        &[ROUTER_KEPT, CONNECTED_KEPT],
-    ),
-    (
-        &[ANN_KEPT, BOB_KEPT, WEB_KEPT],
-        85,
-        &[(1510, "{}", FULL)],
-        &[ANN_KEPT, BOB_KEPT, WEB_KEPT],
-    ),
-    (
-        &[ANN_KEPT, BOB_KEPT, WEB_KEPT],
-        86,
-        &[(1510, "{}", r#"{"code":41,"name":"MarkFull"}"#)],
-        &[ANN_KEPT, BOB_KEPT, WEB_KEPT],
-    ),
-];
+# a full mark | HEADER+ANN_KEPT+BOB_KEPT+WEB_KEPT+\0 - FIRST | slot=86 mark=1 | HEADER+ANN_KEPT+BOB_KEPT+WEB_KEPT+\0 - FIRST
+1510 {} -> {"code":41,"name":"MarkFull"}
 
-/// Tails: a cut frame, and a wrong marker.
-const CUT: &[u8] = b"\x03\x06\x09\x0c\xe8\x03\0\0\x07\0\0\0\0\0\0\0\x0e\0\0";
+# goes on in the other slot | - - - | slot=1024 mark=2 | - HEADER+ANN_KEPT+BOB_KEPT+\0 SECOND
+1000 {"name":"ann"} -> {"no":1}
+1510 {} -> {}
+1000 {"name":"bob"} -> {"no":2}
+1510 {} -> {"code":41,"name":"MarkFull"}
 
-const UNMARKED: &[u8] = b"\x03\x06\x09\x0d\xe8\x03\0\0\x07\0\0\0\0\0\0\0\0\0\0\0";
+# has room again: behind ann, who is made and deleted, the slot has 54 bytes, and with bob 87 | - - - | slot=64 mark=2 | - HEADER+NEXT_KEPT+BOB_KEPT+\0 SECOND
+1000 {"name":"ann"} -> {"no":1}
+1002 {"name":"ann"} -> {}
+1000 {"name":"bob"} -> {"code":40,"name":"JournalFull"}
+1510 {} -> {}
+1000 {"name":"bob"} -> {"no":2}
 
-/// Runs behind ann's frame: what then comes, how many bytes are used, where the source fails, the status, and what is noted.
-type Ending = (&'static [u8], u64, &'static [u32], Status, &'static str);
+# begins anew where the mark is empty | \xff*50 \xff*3 - | slot=75 mark=1 | ANN_SLOT+\xff*8 \xff*3 FIRST
+1000 {"name":"ann"} -> {"no":1}
 
-const ENDINGS: [Ending; 5] = [
-    (b"", 34, &[], Status::Done, ""),
-    (
-        b"\x03",
-        34,
-        &[],
-        Status::InputTooLong,
-        "zitictl: input too long\n",
-    ),
-    (
-        CUT,
-        99,
-        &[],
-        Status::Truncated,
-        "zitictl: session 0: 19 bytes left\n",
-    ),
-    (
-        UNMARKED,
-        99,
-        &[],
-        Status::BadInput,
-        "zitictl: session 0: BadMarker at 34\n",
-    ),
-    (b"", 99, &[1], Status::ReadFault, "zitictl: read fault\n"),
-];
+# goes on in the slot that stands | ANN_SLOT ANN_SLOT SECOND | slot=75 mark=1 | ANN_SLOT HEADER+ANN_KEPT+BOB_KEPT+\0 SECOND
+1000 {"name":"bob"} -> {"no":2}
 
-/// Runs requests on the desk's folder, which are answered so.
-pub(crate) fn answers(
+# bob's record is written over web's, so a closed gate stands where the policy's was | HEADER+ANN_KEPT+WEB_CLOSED+GRANT_KEPT+\0 - FIRST | slot=75 mark=1 | HEADER+ANN_KEPT+BOB_KEPT+GRANT_CLOSED+\0 - FIRST
+1000 {"name":"bob"} -> {"no":2}
+"##;
+
+// The folder before a run, how it is bounded, and the folder behind it, of its first line.
+fn head_of(run: &str) -> Option<(&str, &str, &str)> {
+    let (head, _) = run.trim_ascii().split_once('\n')?;
+    let (_, rest) = head.split_once(" | ")?;
+    let (before, rest) = rest.split_once(" | ")?;
+    let (how, after) = rest.split_once(" | ")?;
+    Some((before, how, after))
+}
+
+// A run on a folder keeps another one, as does one at which nothing is asked.
+fn keeps(
     rt: &impl Abort,
     alloc: Global,
-    desk: &mut MemDesk,
-    most: u64,
-    rows: &[Row],
-) -> Result<(), Fail> {
-    let input = requests(alloc, rows)?;
-    let status = replay(alloc, input.as_slice(), most, desk)?;
-    assert_eq!(rt; status, Status::Done);
-    let said = replies(alloc, rows)?;
-    has_told(rt, desk, said.as_slice(), "");
+    run: &str,
+    how: How,
+    before: &Images,
+    after: &Images,
+) -> Result<(), AllocError> {
+    let desk = answers(rt, alloc, how, parts_in(before), run)?;
+    has_parts(rt, run, &desk, parts_in(after));
+    let least = how.by("slot=64");
+    let next = ran(
+        rt,
+        alloc,
+        run,
+        &["replay"],
+        least,
+        b"",
+        parts_in(after),
+        SILENT,
+    )?;
+    has_parts(rt, run, &next, parts_in(after));
     Ok(())
 }
 
-// The folder keeps these records, and keeps them where nothing at all is asked of it, at which nothing is said.
-fn keeps(rt: &impl Abort, alloc: Global, desk: &mut MemDesk, kept: &[&[u8]]) -> Result<(), Fail> {
-    let slot = slot_of(alloc, kept)?;
-    has_slot(rt, desk, slot.as_slice());
-    let said = desk.said().len();
-    let status = replay(alloc, b"", 64, desk)?;
-    assert_eq!(rt; status, Status::Done);
-    assert_eq!(rt; desk.said().len(), said);
-    has_slot(rt, desk, slot.as_slice());
-    Ok(())
-}
-
-fn check_keeping(rt: &impl Abort, alloc: Global, keeping: &Keeping) -> Result<(), Fail> {
-    let (before, most, rows, after) = *keeping;
-    let mut desk = desk_with(alloc, before)?;
-    answers(rt, alloc, &mut desk, most, rows)?;
-    keeps(rt, alloc, &mut desk, after)
+fn check_run(
+    rt: &impl Abort,
+    alloc: Global,
+    run: &str,
+    head: (&str, &str, &str),
+) -> Result<(), AllocError> {
+    let (before, how, after) = head;
+    let before = folder_of(alloc, before)?;
+    let after = folder_of(alloc, after)?;
+    keeps(rt, alloc, run, How::AMPLE.by(how), &before, &after)
 }
 
 #[test]
 fn keeps_what_has_room(rt: HostRuntime) -> Result<(), Fail> {
-    for keeping in &KEEPINGS {
-        check_keeping(&rt, rt.alloc(), keeping)?;
+    for run in RUNS.split("\n\n") {
+        let head = head_of(run).ok_or("a run has no head")?;
+        check_run(&rt, rt.alloc(), run, head)?;
     }
     Ok(())
 }
 
-// Runs ann's frame and what then comes on an empty folder.
-fn ends(rt: &impl Abort, alloc: Global, desk: &mut MemDesk, ending: &Ending) -> Result<(), Fail> {
-    let (next, most, failing, status, noted) = *ending;
-    let mut source = source_of(alloc, [ANN, next], failing)?;
-    let found = run_word(alloc, "replay", most, 64, &mut source, desk)?;
-    assert_eq!(rt; found, status);
-    has_told(rt, desk, MADE, noted);
-    Ok(())
-}
-
-fn check_ending(rt: &impl Abort, alloc: Global, ending: &Ending) -> Result<(), Fail> {
-    let mut desk = desk_of(alloc, [b"", b"", b""])?;
-    ends(rt, alloc, &mut desk, ending)?;
-    keeps(rt, alloc, &mut desk, &[ANN_KEPT])
-}
+/// What ann's folder is asked, and what it answers, whether or not it was compacted.
+const ASKED: &str = r#"
+1000 {"name":"ann"} -> {"code":20,"name":"Exists"}
+1500 {"identity":"ann"} -> {"bind":[],"dial":[],"routers":[]}
+1000 {"name":"bob"} -> {"no":2}
+1002 {"name":"ann"} -> {}
+1000 {"name":"ann"} -> {"no":3}
+"#;
 
 #[test]
-fn keeps_what_was_answered_however_it_ends(rt: HostRuntime) -> Result<(), Fail> {
-    for ending in &ENDINGS {
-        check_ending(&rt, rt.alloc(), ending)?;
+fn goes_on_with_the_same_replies(rt: HostRuntime) -> Result<(), Fail> {
+    let never = [ANN_SLOT, b"", FIRST];
+    let once = [b"".as_slice(), ANN_SLOT, SECOND];
+    let twice = [ANN_SLOT, b"", b"\0\0\0"];
+    for parts in [never, once, twice] {
+        answers(&rt, rt.alloc(), How::AMPLE, parts, ASKED)?;
     }
     Ok(())
 }

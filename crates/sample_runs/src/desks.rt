@@ -2,14 +2,6 @@ use std::alloc::{AllocError, Global};
 use ziti_desk::{Images, MemDesk, MemSource, Room};
 use ziti_outside::Part;
 
-/// Room for some thousand replies and no folder.
-const REPLIES: Room = Room {
-    file_bytes: 0,
-    said_bytes: 262_144,
-    noted_bytes: 4_096,
-    log_bytes: 262_144,
-};
-
 // A folder whose parts have these bytes.
 fn images_of(alloc: Global, parts: [&[u8]; 3]) -> Result<Images, AllocError> {
     let mut images = Images::empty(alloc);
@@ -17,6 +9,24 @@ fn images_of(alloc: Global, parts: [&[u8]; 3]) -> Result<Images, AllocError> {
     images.one.extend_from_slice(parts[1])?;
     images.mark.extend_from_slice(parts[2])?;
     Ok(images)
+}
+
+/// The parts of a folder apart from a desk.
+pub fn parts_in(images: &Images) -> [&[u8]; 3] {
+    [
+        images.zero.as_slice(),
+        images.one.as_slice(),
+        images.mark.as_slice(),
+    ]
+}
+
+/// The words of a command line.
+pub fn words_of(alloc: Global, words: &[&str]) -> Result<Vec<String>, AllocError> {
+    let mut line = Vec::new(alloc);
+    for word in words {
+        line.push(String::from_str(alloc, word)?)?;
+    }
+    Ok(line)
 }
 
 /// A desk of this room, whose folder has these parts, the first slot, the second one and the mark, and which fails at these calls,
@@ -53,19 +63,4 @@ pub fn parts_of(desk: &MemDesk) -> [&[u8]; 3] {
         desk.part(Part::One),
         desk.part(Part::Mark),
     ]
-}
-
-/// A desk without a folder that fails at these calls, counted from 0.
-pub fn failing_desk(alloc: Global, failing: &[u32]) -> Result<MemDesk, AllocError> {
-    desk_of(alloc, REPLIES, [b"", b"", b""], failing)
-}
-
-/// A desk without a folder that does not fail.
-pub fn steady_desk(alloc: Global) -> Result<MemDesk, AllocError> {
-    failing_desk(alloc, &[])
-}
-
-/// The source of these bytes in pieces of 4,096, which does not fail.
-pub fn steady_source(alloc: Global, bytes: &[u8]) -> Result<MemSource, AllocError> {
-    source_of(alloc, bytes, 4_096, &[])
 }

@@ -1,8 +1,5 @@
 use std::alloc::{AllocError, Global};
 
-/// A content type, the body of the frame, and the body of its reply.
-pub type Row = (u32, &'static str, &'static str);
-
 /// The sequence number of each request.
 pub const REQUEST: u32 = 7;
 
@@ -17,14 +14,6 @@ pub const MADE: &[u8] =
 /// The reply to a second frame that creates ann, behind the first one: the name exists.
 pub const EXISTS: &[u8] =
     b"\x03\x06\x09\x0c\x02\0\0\0\x01\0\0\0\x15\0\0\0\x1b\0\0\0\x01\0\0\0\x04\0\0\0\x07\0\0\0\x02\0\0\0\x01\0\0\0\0{\"code\":20,\"name\":\"Exists\"}";
-
-/// The same as a row, and that of bob, who is the second identity.
-pub const ANN_MADE: Row = (1000, r#"{"name":"ann"}"#, r#"{"no":1}"#);
-
-pub const BOB_MADE: Row = (1000, r#"{"name":"bob"}"#, r#"{"no":2}"#);
-
-/// The reply to a change that makes nothing.
-pub const DONE: &str = "{}";
 
 fn push_number(bytes: &mut Vec<u8>, number: u32) -> Result<(), AllocError> {
     bytes.extend_from_slice(&number.to_le_bytes())
@@ -50,15 +39,6 @@ pub fn push_request(bytes: &mut Vec<u8>, content: u32, body: &str) -> Result<(),
     bytes.extend_from_slice(body.as_bytes())
 }
 
-/// The frames of requests.
-pub fn requests(alloc: Global, rows: &[Row]) -> Result<Vec<u8>, AllocError> {
-    let mut bytes = Vec::new(alloc);
-    for (content, body, _) in rows {
-        push_request(&mut bytes, *content, body)?;
-    }
-    Ok(bytes)
-}
-
 /// Puts the frame of a reply to such a request behind the others: with the request's number, and whether it is no refusal.
 pub fn push_reply(bytes: &mut Vec<u8>, sequence: u32, body: &str) -> Result<(), AllocError> {
     push_head(bytes, 2, sequence, 21, body)?;
@@ -67,22 +47,4 @@ pub fn push_reply(bytes: &mut Vec<u8>, sequence: u32, body: &str) -> Result<(), 
     bytes.extend_from_slice(b"\x02\0\0\0\x01\0\0\0")?;
     bytes.push(u8::from(!body.starts_with("{\"code\"")))?;
     bytes.extend_from_slice(body.as_bytes())
-}
-
-/// The frame of a reply.
-pub fn reply_frame(alloc: Global, sequence: u32, body: &str) -> Result<Vec<u8>, AllocError> {
-    let mut bytes = Vec::new(alloc);
-    push_reply(&mut bytes, sequence, body)?;
-    Ok(bytes)
-}
-
-/// The frames of their replies in a run of its own, which count from 0.
-pub fn replies(alloc: Global, rows: &[Row]) -> Result<Vec<u8>, AllocError> {
-    let mut bytes = Vec::new(alloc);
-    let mut sequence = 0u32;
-    for (_, _, body) in rows {
-        push_reply(&mut bytes, sequence, body)?;
-        sequence = sequence.wrapping_add(1);
-    }
-    Ok(bytes)
 }

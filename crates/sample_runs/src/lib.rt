@@ -1,21 +1,27 @@
-//! What tests of whole runs share: frames of requests and replies, laid out by hand, a small network, slots of records, sources and desks over memory,
-//! and files of the system that record what is asked of them.
+//! What tests of whole runs share: frames of requests and replies, laid out by hand, rows of them as text, parts by name, a small network and a
+//! realistic one, slots of records and folders of them, sources and desks over memory, and files of the system that record what is asked of them.
 #![tactic(auto)]
 
 mod desks;
 mod frames;
+mod how;
+mod models;
 mod networks;
+mod parts;
 mod recording;
 mod slots;
+mod talks;
+mod wide;
 
-pub use desks::{desk_of, failing_desk, parts_of, source_of, steady_desk, steady_source};
-pub use frames::{
-    ANN, ANN_MADE, BOB_MADE, DONE, EXISTS, MADE, REQUEST, Row, push_reply, push_request, replies,
-    reply_frame, requests,
-};
-pub use networks::{
-    ASK, CLOSED, DEAR_LINK, ENTRY, GONE, LINE, ON_DEAR_LINK, ON_LINE, OPENED, OVER_LINE, PAIR,
-    SECOND_GONE, SECOND_OFF, SECOND_ON_LINK, TWO_CIRCUITS, UNKNOWN_NUMBER, joined,
-};
+pub use desks::{desk_of, parts_in, parts_of, source_of, words_of};
+pub use frames::{ANN, MADE, push_reply, push_request};
+pub use how::How;
+pub use models::model;
+pub use parts::{bytes_of, folder_of, notes_of};
 pub use recording::{Asked, Calls, NONE_FAILS, Name, Recorded, RecordedFile, Spoken};
-pub use slots::{ANN_KEPT, BOB_KEPT, FIRST, HEADER, WEB_KEPT, slot_of};
+pub use slots::{
+    ANN_ALONE, ANN_KEPT, ANN_SLOT, BOB_KEPT, BOTH, BOTH_SLOT, FIRST, GRANT_KEPT, NOTHING, SECOND,
+    WEB_KEPT, slot_of,
+};
+pub use talks::Talk;
+pub use wide::wide_folder;

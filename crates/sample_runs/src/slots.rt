@@ -15,8 +15,37 @@ pub const BOB_KEPT: &[u8] =
 pub const WEB_KEPT: &[u8] =
     b"\x01\x1c\0\0\0\x01\x02\x01\x02\x04\0\0\0\x02\0\0\0\x01\x05\x04\0\0\0\x01\x05\0\0\0\x03web\0";
 
-/// The mark of a folder whose first slot stands.
+/// Of the policy p, by which all may dial all, and of the count of the one pair that it grants behind ann and web.
+pub const GRANT_KEPT: &[u8] =
+    b"\x01\x34\0\0\0\x01\x02\x01\x05\x04\0\0\0\x02\0\0\0\x01\x05\x07\0\0\0\x01\x0a\0\0\0\x01p\x01\x01\x01\0\0\x01\0\0\x01\x09\x0c\0\0\0\x01\0\0\0\x01\x04\0\0\0\x01\0\0\0";
+
+/// Ann's slot: the header, her record, and a closed gate.
+pub const ANN_SLOT: &[u8] =
+    b"ZCTL\x01\0\0\0\x01\x1c\0\0\0\x01\x02\x01\x01\x04\0\0\0\x02\0\0\0\x01\x05\x03\0\0\0\x01\x05\0\0\0\x03ann\0\0";
+
+/// The slot that has the rows of ann and bob in one record.
+pub const BOTH_SLOT: &[u8] =
+    b"ZCTL\x01\0\0\0\x01\x2c\0\0\0\x01\x02\x01\x01\x04\0\0\0\x03\0\0\0\x01\x05\x03\0\0\0\x01\x05\0\0\0\x03ann\0\x01\x05\x03\0\0\0\x02\x05\0\0\0\x03bob\0\0";
+
+/// A slot without a record.
+pub const BARE_SLOT: &[u8] = b"ZCTL\x01\0\0\0\0";
+
+/// The marks of folders whose first slot stands, whose second one does, and whose first one does again.
 pub const FIRST: &[u8] = b"\0";
+
+pub const SECOND: &[u8] = b"\0\0";
+
+pub const THIRD: &[u8] = b"\0\0\0";
+
+/// The lines of folders that keep nothing, ann alone, and both identities.
+pub const NOTHING: &[u8] =
+    b"{\"circuits\":0,\"grants\":0,\"identities\":0,\"links\":0,\"policies\":0,\"routers\":0,\"services\":0,\"terminators\":0}\n";
+
+pub const ANN_ALONE: &[u8] =
+    b"{\"circuits\":0,\"grants\":0,\"identities\":1,\"links\":0,\"policies\":0,\"routers\":0,\"services\":0,\"terminators\":0}\n";
+
+pub const BOTH: &[u8] =
+    b"{\"circuits\":0,\"grants\":0,\"identities\":2,\"links\":0,\"policies\":0,\"routers\":0,\"services\":0,\"terminators\":0}\n";
 
 /// A slot of these records.
 pub fn slot_of(alloc: Global, records: &[&[u8]]) -> Result<Vec<u8>, AllocError> {

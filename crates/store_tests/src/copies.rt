@@ -1,5 +1,6 @@
 //! Copies of stores: what is kept of each is in its copy.
 
+use crate::checks::are_numbers;
 use crate::lines::{line, offered};
 use fabric_graph::Fabric;
 use std::alloc::Global;
@@ -9,7 +10,7 @@ use terminators::Terminators;
 
 fn has_both_links(rt: &impl Abort, alloc: Global, fabric: &Fabric) -> Result<(), Fail> {
     let copied = fabric.copy()?;
-    assert_eq!(rt; copied.numbers(alloc)?.as_slice(), [1, 2].as_slice());
+    are_numbers(rt, copied.numbers(alloc)?.as_slice(), &[1, 2]);
     Ok(())
 }
 
@@ -21,7 +22,7 @@ fn copies_links(rt: HostRuntime) -> Result<(), Fail> {
 
 fn has_the_offer(rt: &impl Abort, alloc: Global, store: &Terminators) -> Result<(), Fail> {
     let copied = store.copy()?;
-    assert_eq!(rt; copied.numbers(alloc)?.as_slice(), [1].as_slice());
+    are_numbers(rt, copied.numbers(alloc)?.as_slice(), &[1]);
     Ok(())
 }
 

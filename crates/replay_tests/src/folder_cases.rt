@@ -1,0 +1,201 @@
+//! Runs on folders, a case a line: the looks, the compactions, the advice on folders that keep nothing, how replays end, and what is damaged.
+
+use crate::checks::{Ended, has_parts, holds, ran};
+use ctrl_serve::Status;
+use sample_runs::{How, bytes_of, folder_of, notes_of, parts_in};
+use std::alloc::{AllocError, Global};
+use std::process::Abort;
+use std::test::Fail;
+use ziti_desk::Images;
+
+/// The words, the folder before, how it is bounded, the input, the name of the status, what is said, the notes, and the folder behind the run, which `=` says
+/// is as before. `-` stands for nothing. Ann takes 42 bytes of a slot, both identities 58, web 28 more, and all three as one record 86.
+const CASES: &str = r#"
+audit | ANN_SLOT - FIRST | - | - | Done | ANN_ALONE | - | =
+audit | - - - | - | - | Done | NOTHING | - | =
+audit | ANY ANY - | - | - | Done | NOTHING | - | =
+audit | ANN_SLOT BOTH_SLOT - | - | - | Done | NOTHING | - | =
+audit | ANN_SLOT BOTH_SLOT SECOND | - | - | Done | BOTH | - | =
+audit | ANY BOTH_SLOT SECOND | - | - | Done | BOTH | - | =
+audit | BARE_SLOT ANN_SLOT FIRST | - | - | Done | NOTHING | - | =
+audit | - ANN_SLOT FIRST | - | - | Damaged | - | damaged: file 0 at 0 | =
+advise ann web | - - - | - | - | Done | NO_ONE | - | =
+advise ann web | ANN_SLOT - - | - | - | Done | NO_ONE | - | =
+advise ann web | PENDING_SLOT - FIRST | - | - | Done | NO_ONE | - | =
+advise ann web | - ANN_SLOT FIRST | - | - | Damaged | - | damaged: file 0 at 0 | =
+advise ann web | FOREIGN_SLOT ANN_SLOT FIRST | - | - | Damaged | - | damaged: file 0 at 0 | =
+compact | ANN_SLOT - FIRST | slot=64 mark=2 | - | Done | - | - | - ANN_SLOT SECOND
+compact | any+\x20+bytes ANN_SLOT SECOND | slot=64 mark=3 | - | Done | - | - | ANN_SLOT - THIRD
+compact | ANN_SLOT - THIRD | slot=1024 mark=4 | - | Done | - | - | - ANN_SLOT \0\0\0\0
+compact | BOTH_SLOT - FIRST | slot=64 mark=2 | - | Done | - | - | - BOTH_SLOT SECOND
+compact | BARE_SLOT - FIRST | slot=64 mark=2 | - | Done | - | - | - BARE_SLOT SECOND
+compact | - - - | slot=64 mark=2 | - | Done | - | - | - BARE_SLOT SECOND
+compact | other+\x20+bytes - - | slot=64 mark=2 | - | Done | - | - | - BARE_SLOT SECOND
+compact | ANN_SLOT - FIRST | slot=1024 mark=1 | - | FolderFull | - | mark full | =
+compact | - ANN_SLOT SECOND | slot=1024 mark=2 | - | FolderFull | - | mark full | =
+compact | - - - | slot=64 mark=1 | - | FolderFull | - | mark full | BARE_SLOT - FIRST
+compact | HEADER+ANN_KEPT+BOB_KEPT+WEB_KEPT+\0 - FIRST | slot=64 mark=2 | - | FolderFull | - | journal full | =
+compact | HEADER+ANN_KEPT+BOB_KEPT+WEB_KEPT+\0 - FIRST | slot=85 mark=2 | - | FolderFull | - | journal full | =
+compact | HEADER+ANN_KEPT+BOB_KEPT+WEB_KEPT+\0 - FIRST | slot=85 mark=1 | - | FolderFull | - | journal full | =
+compact | HEADER+ANN_KEPT+BOB_KEPT+WEB_KEPT+\0 - FIRST | slot=86 mark=1 | - | FolderFull | - | mark full | =
+compact | HEADER+ANN_KEPT+BOB_KEPT+WEB_KEPT+\0 - FIRST | slot=86 mark=2 | - | Done | - | - | - ALL_SLOT SECOND
+compact | ZCTL ANN_SLOT FIRST | - | - | Damaged | - | damaged: file 0 at 0 | =
+replay | - - - | slot=64 mark=1 most=34 | ANN | Done | MADE | - | ANN_SLOT - FIRST
+replay | - - - | slot=64 mark=1 most=34 | ANN \x03 | InputTooLong | MADE | input too long | ANN_SLOT - FIRST
+replay | - - - | slot=64 mark=1 most=99 | ANN CUT | Truncated | MADE | session 0: 19 bytes left | ANN_SLOT - FIRST
+replay | - - - | slot=64 mark=1 most=99 | ANN UNMARKED | BadInput | MADE | session 0: BadMarker at 34 | ANN_SLOT - FIRST
+replay | - - - | slot=64 mark=1 most=99 take=1 | ANN | ReadFault | MADE | read fault | ANN_SLOT - FIRST
+replay | - - - | piece=20 take=0 | ANN | ReadFault | - | read fault | BARE_SLOT - FIRST
+replay | - - - | piece=20 take=1 | ANN | ReadFault | - | read fault | BARE_SLOT - FIRST
+replay | - - - | piece=20 take=2 | ANN | ReadFault | MADE | read fault | ANN_SLOT - FIRST
+replay | ANN_SLOT - FIRST | slot=64 mark=1 | - | Done | - | - | =
+replay | HEADER+ANN_KEPT+WEB_KEPT+GRANT_TWICE+\0 HEADER+ANN_KEPT+WEB_KEPT+GRANT_KEPT+\0 FIRST | - | ANN | Damaged | - | damaged: file 0 at 131 | =
+replay | HEADER+ANN_KEPT+WEB_KEPT+GRANT_KEPT+\0 HEADER+ANN_KEPT+WEB_KEPT+GRANT_TWICE+\0 SECOND | - | ANN | Damaged | - | damaged: file 1 at 131 | =
+replay | HEADER+ANN_KEPT+WEB_KEPT+GRANT_TWICE+\0 HEADER+ANN_KEPT+WEB_KEPT+GRANT_KEPT+\0 \x01\x02\x03 | - | ANN | Damaged | - | damaged: file 0 at 131 | =
+replay | LONGEST_SLOT - FIRST | - | ANN | Damaged | - | damaged: file 0 at 8 | =
+replay | HEADER+ANN_KEPT+BOB_GOES+\0 - FIRST | - | ANN | Damaged | - | damaged: file 0 at 41 | =
+"#;
+
+/// The fields of a case.
+#[derive(Clone, Copy)]
+struct Case<'t> {
+    line: &'t str,
+    words: &'t str,
+    before: &'t str,
+    how: &'t str,
+    input: &'t str,
+    end: End<'t>,
+}
+
+/// How it ends: the status, what is said, the notes, and the folder.
+#[derive(Clone, Copy)]
+struct End<'t> {
+    status: &'t str,
+    said: &'t str,
+    noted: &'t str,
+    after: &'t str,
+}
+
+fn end_of(text: &str) -> Option<End<'_>> {
+    let (status, rest) = text.split_once(" | ")?;
+    let (said, rest) = rest.split_once(" | ")?;
+    let (noted, after) = rest.split_once(" | ")?;
+    Some(End {
+        status,
+        said,
+        noted,
+        after,
+    })
+}
+
+// The case of a line.
+fn case_of(line: &str) -> Option<Case<'_>> {
+    let (words, rest) = line.split_once(" | ")?;
+    let (before, rest) = rest.split_once(" | ")?;
+    let (how, rest) = rest.split_once(" | ")?;
+    let (input, rest) = rest.split_once(" | ")?;
+    Some(Case {
+        line,
+        words,
+        before,
+        how,
+        input,
+        end: end_of(rest)?,
+    })
+}
+
+/// The status of this name.
+fn status_of(name: &str) -> Status {
+    match name {
+        "Done" => Status::Done,
+        "BadInput" => Status::BadInput,
+        "Truncated" => Status::Truncated,
+        "ReadFault" => Status::ReadFault,
+        "Damaged" => Status::Damaged,
+        "InputTooLong" => Status::InputTooLong,
+        "FolderFull" => Status::FolderFull,
+        _ => Status::NoMemory,
+    }
+}
+
+// Runs words as a case says. No call of a look changes a part: its one moment is that of the say.
+fn runs(
+    rt: &impl Abort,
+    alloc: Global,
+    case: &Case<'_>,
+    words: &[&str],
+    input: &[u8],
+    folders: [&Images; 2],
+    ended: Ended<'_>,
+) -> Result<(), AllocError> {
+    let [before, after] = folders;
+    let (line, how, parts) = (case.line, How::AMPLE.by(case.how), parts_in(before));
+    let desk = ran(rt, alloc, line, words, how, input, parts, ended)?;
+    has_parts(rt, line, &desk, parts_in(after));
+    let (status, _, _) = ended;
+    let moments = u64::from(status == Status::Done);
+    holds(rt, line, case.words != "audit" || desk.moments() == moments);
+    Ok(())
+}
+
+// Runs the word of a case, behind which `advise` has two names.
+fn runs_line(
+    rt: &impl Abort,
+    alloc: Global,
+    case: &Case<'_>,
+    input: &[u8],
+    folders: [&Images; 2],
+    ended: Ended<'_>,
+) -> Result<(), AllocError> {
+    if case.words == "advise ann web" {
+        return runs(
+            rt,
+            alloc,
+            case,
+            &["advise", "ann", "web"],
+            input,
+            folders,
+            ended,
+        );
+    }
+    runs(rt, alloc, case, &[case.words], input, folders, ended)
+}
+
+fn says(
+    rt: &impl Abort,
+    alloc: Global,
+    case: &Case<'_>,
+    noted: &[u8],
+    folders: [&Images; 2],
+) -> Result<(), AllocError> {
+    let input = bytes_of(alloc, case.input)?;
+    let said = bytes_of(alloc, case.end.said)?;
+    let ended = (status_of(case.end.status), said.as_slice(), noted);
+    runs_line(rt, alloc, case, input.as_slice(), folders, ended)
+}
+
+fn notes(
+    rt: &impl Abort,
+    alloc: Global,
+    case: &Case<'_>,
+    folders: [&Images; 2],
+) -> Result<(), AllocError> {
+    let noted = notes_of(alloc, case.end.noted)?;
+    says(rt, alloc, case, noted.as_slice(), folders)
+}
+
+fn check_case(rt: &impl Abort, alloc: Global, case: &Case<'_>) -> Result<(), AllocError> {
+    let stays = case.end.after == "=";
+    let before = folder_of(alloc, case.before)?;
+    let after = folder_of(alloc, if stays { case.before } else { case.end.after })?;
+    notes(rt, alloc, case, [&before, &after])
+}
+
+#[test]
+fn ends_on_each_folder_as_it_has_to(rt: HostRuntime) -> Result<(), Fail> {
+    for line in CASES.trim_ascii().lines() {
+        let case = case_of(line).ok_or("a line is no case")?;
+        check_case(&rt, rt.alloc(), &case)?;
+    }
+    Ok(())
+}

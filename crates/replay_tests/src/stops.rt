@@ -1,0 +1,124 @@
+//! Runs that stop at each moment, by what the stop keeps of what is pending: what the folder then opens to, and how it goes on.
+
+use crate::checks::{ANN_FOLDER, EMPTY, answers, has_rows, holds, identities_in, ran};
+use ctrl_serve::Status;
+use sample_runs::{BOTH_SLOT, How, Talk, parts_in, parts_of};
+use std::alloc::{AllocError, Global};
+use std::process::Abort;
+use std::test::Fail;
+use ziti_desk::MemDesk;
+
+/// A run of a word on a folder that keeps none of ann and bob, ann or both: its requests, how many of both the folder keeps before, how many the run makes, and
+/// the least number of its moments.
+#[derive(Clone, Copy)]
+struct Trial {
+    word: &'static str,
+    parts: [&'static [u8]; 3],
+    rows: &'static str,
+    kept: usize,
+    made: usize,
+    least: u64,
+}
+
+/// The choices of a stop: of what is pending it keeps nothing, all, or a part.
+pub(crate) const CHOICES: [u64; 3] = [0, 1, 2];
+
+/// What makes both identities where none is there, ann, and both; and how many bytes each of their replies has.
+const BOTH: &str = "1000 {\"name\":\"ann\"} -> {\"no\":1}\n1000 {\"name\":\"bob\"} -> {\"no\":2}";
+
+const MISSING: [&str; 3] = [BOTH, "1000 {\"name\":\"bob\"} -> {\"no\":2}", ""];
+
+const REPLY: usize = 49;
+
+const TRIALS: [Trial; 2] = [
+    // Both are made on an empty folder: each record takes two writes and two syncs, and each reply one say.
+    Trial {
+        word: "replay",
+        parts: EMPTY,
+        rows: BOTH,
+        kept: 0,
+        made: 2,
+        least: 10,
+    },
+    // Ann's folder is compacted: the other slot is written and synced, the mark too, and the slot that stood is cut.
+    Trial {
+        word: "compact",
+        parts: ANN_FOLDER,
+        rows: "",
+        kept: 1,
+        made: 0,
+        least: 5,
+    },
+];
+
+// The folder that a stop leaves keeps as many identities as before the run and as replies were taken whole, or one more that the run
+// makes. With those that are not kept, which are answered as in a whole run, it has the rows of both.
+fn goes_on(
+    rt: &impl Abort,
+    alloc: Global,
+    parts: [&[u8]; 3],
+    answered: usize,
+    trial: &Trial,
+) -> Result<(), AllocError> {
+    let kept = identities_in(rt, alloc, parts)?;
+    let known = trial.kept.saturating_add(answered);
+    let most = trial.kept.saturating_add(trial.made);
+    let is_next = kept == known.saturating_add(1) && kept <= most;
+    holds(rt, trial.word, kept == known || is_next);
+    let rows = MISSING.get(kept).unwrap_or(&"");
+    let desk = answers(rt, alloc, How::AMPLE, parts, rows)?;
+    has_rows(rt, alloc, parts_of(&desk), BOTH_SLOT)
+}
+
+// What is said up to a stop is a front of what the whole run says.
+fn stops_at(
+    rt: &impl Abort,
+    alloc: Global,
+    desk: &MemDesk,
+    moment: u64,
+    choice: u64,
+    trial: &Trial,
+) -> Result<(), AllocError> {
+    assert!(rt; moment <= desk.moments());
+    let (images, taken) = desk.stopped(alloc, moment, choice)?;
+    holds(rt, trial.word, desk.said().starts_with(taken.as_slice()));
+    goes_on(rt, alloc, parts_in(&images), taken.len() / REPLY, trial)
+}
+
+fn stops_by(
+    rt: &impl Abort,
+    alloc: Global,
+    desk: &MemDesk,
+    choice: u64,
+    trial: &Trial,
+) -> Result<(), AllocError> {
+    for moment in 0u64..desk.moments().saturating_add(1) {
+        stops_at(rt, alloc, desk, moment, choice, trial)?;
+    }
+    Ok(())
+}
+
+// Makes a run and stops it at each moment, by each choice.
+fn stops(rt: &impl Abort, alloc: Global, trial: &Trial, talk: &Talk) -> Result<(), AllocError> {
+    let ended = (Status::Done, talk.wanted(), b"".as_slice());
+    let (word, input, parts) = (trial.word, talk.input(), trial.parts);
+    let desk = ran(rt, alloc, word, &[word], How::AMPLE, input, parts, ended)?;
+    holds(rt, word, desk.moments() >= trial.least);
+    for choice in CHOICES {
+        stops_by(rt, alloc, &desk, choice, trial)?;
+    }
+    Ok(())
+}
+
+fn check_trial(rt: &impl Abort, alloc: Global, trial: &Trial) -> Result<(), AllocError> {
+    let talk = Talk::of(alloc, trial.rows)?;
+    stops(rt, alloc, trial, &talk)
+}
+
+#[test]
+fn keeps_both_whatever_is_kept_of_what_is_pending(rt: HostRuntime) -> Result<(), Fail> {
+    for trial in &TRIALS {
+        check_trial(&rt, rt.alloc(), trial)?;
+    }
+    Ok(())
+}

@@ -1,0 +1,245 @@
+//! Parts of inputs, of what is said and of folders, laid out by hand, and the bytes of some of them.
+
+use crate::frames::{ANN, EXISTS, MADE};
+use crate::slots::{
+    ANN_ALONE, ANN_KEPT, ANN_SLOT, BARE_SLOT, BOB_KEPT, BOTH, BOTH_SLOT, FIRST, GRANT_KEPT, HEADER,
+    NOTHING, SECOND, THIRD, WEB_KEPT,
+};
+use std::alloc::{AllocError, Global};
+use ziti_desk::Images;
+
+/// Parts that have names elsewhere too.
+const KNOWN: [(&str, &[u8]); 17] = [
+    ("ANN", ANN),
+    ("MADE", MADE),
+    ("EXISTS", EXISTS),
+    ("HEADER", HEADER),
+    ("ANN_KEPT", ANN_KEPT),
+    ("BOB_KEPT", BOB_KEPT),
+    ("WEB_KEPT", WEB_KEPT),
+    ("GRANT_KEPT", GRANT_KEPT),
+    ("ANN_SLOT", ANN_SLOT),
+    ("BOTH_SLOT", BOTH_SLOT),
+    ("BARE_SLOT", BARE_SLOT),
+    ("FIRST", FIRST),
+    ("SECOND", SECOND),
+    ("THIRD", THIRD),
+    ("NOTHING", NOTHING),
+    ("ANN_ALONE", ANN_ALONE),
+    ("BOTH", BOTH),
+];
+
+/// More parts by their names. `\0` stands for a byte 0, and `\x` stands before two digits of a byte.
+const PARTS: &str = r##"
+# A frame of content type 2, and its reply as the first one.
+RESULT \x03\x06\x09\x0c\x02\0\0\0\x05\0\0\0\0\0\0\0\0\0\0\0
+UNSUPPORTED \x03\x06\x09\x0c\x02\0\0\0\0\0\0\0\x15\0\0\0\x24\0\0\0\x01\0\0\0\x04\0\0\0\x05\0\0\0\x02\0\0\0\x01\0\0\0\0{"code":10,"name":"UnsupportedType"}
+# A CreateIdentity with the body `{}`, and its reply as the first one.
+NAMELESS \x03\x06\x09\x0c\xe8\x03\0\0\x05\0\0\0\0\0\0\0\x02\0\0\0{}
+BAD_BODY \x03\x06\x09\x0c\x02\0\0\0\0\0\0\0\x15\0\0\0\x3e\0\0\0\x01\0\0\0\x04\0\0\0\x05\0\0\0\x02\0\0\0\x01\0\0\0\0{"code":11,"field":"name","name":"BadBody","reason":"Missing"}
+# A Hello of the token `id` with a body that is not read, and its reply as the first one: content type 2, success, no body.
+HELLO \x03\x06\x09\x0c\0\0\0\0\x09\0\0\0\x0a\0\0\0\x03\0\0\0\0\0\0\0\x02\0\0\0idabc
+GREETED \x03\x06\x09\x0c\x02\0\0\0\0\0\0\0\x15\0\0\0\0\0\0\0\x01\0\0\0\x04\0\0\0\x09\0\0\0\x02\0\0\0\x01\0\0\0\x01
+# The same Hello of sequence 0, and its reply.
+OPENING \x03\x06\x09\x0c\0\0\0\0\0\0\0\0\x0a\0\0\0\x03\0\0\0\0\0\0\0\x02\0\0\0idabc
+OPENED \x03\x06\x09\x0c\x02\0\0\0\0\0\0\0\x15\0\0\0\0\0\0\0\x01\0\0\0\x04\0\0\0\0\0\0\0\x02\0\0\0\x01\0\0\0\x01
+# A frame that deletes ann, and its reply as the second one.
+DELETED \x03\x06\x09\x0c\xea\x03\0\0\x08\0\0\0\0\0\0\0\x0e\0\0\0{"name":"ann"}
+DONE_SECOND \x03\x06\x09\x0c\x02\0\0\0\x01\0\0\0\x15\0\0\0\x02\0\0\0\x01\0\0\0\x04\0\0\0\x08\0\0\0\x02\0\0\0\x01\0\0\0\x01{}
+# The reply to ann's frame as the second one, after a refusal, which made nothing.
+MADE_SECOND \x03\x06\x09\x0c\x02\0\0\0\x01\0\0\0\x15\0\0\0\x08\0\0\0\x01\0\0\0\x04\0\0\0\x07\0\0\0\x02\0\0\0\x01\0\0\0\x01{"no":1}
+# Tails: a cut frame, a wrong marker, bodies of 1,048,577 and of 2^31 bytes, and a headers part of 9 bytes that no row of headers fills.
+CUT \x03\x06\x09\x0c\xe8\x03\0\0\x07\0\0\0\0\0\0\0\x0e\0\0
+UNMARKED \x03\x06\x09\x0d\xe8\x03\0\0\x07\0\0\0\0\0\0\0\0\0\0\0
+LONG \x03\x06\x09\x0c\xe8\x03\0\0\x07\0\0\0\0\0\0\0\x01\0\x10\0
+LONGEST \x03\x06\x09\x0c\xe8\x03\0\0\x07\0\0\0\0\0\0\0\0\0\0\x80
+HEADERS \x03\x06\x09\x0c\xe8\x03\0\0\x07\0\0\0\x09\0\0\0\0\0\0\0\x05\0\0\0\x02\0\0\0a
+# The head of a frame of content type 999 with the longest body, 1,048,576 bytes.
+LONGEST_BODY \x03\x06\x09\x0c\xe7\x03\0\0\x05\0\0\0\0\0\0\0\0\0\x10\0
+# A head whose headers part has 65,537 bytes: content type 1000, sequence 7, no body.
+LONG_HEADERS \x03\x06\x09\x0c\xe8\x03\0\0\x07\0\0\0\x01\0\x01\0\0\0\0\0
+# A Hello whose headers part has 65,536 bytes: the head, and the front of one header of the key 9 with 65,528 bytes; and its reply.
+LONGEST_HEADER \x03\x06\x09\x0c\0\0\0\0\x07\0\0\0\0\0\x01\0\0\0\0\0\x09\0\0\0\xf8\xff\0\0
+GREETED_7 \x03\x06\x09\x0c\x02\0\0\0\0\0\0\0\x15\0\0\0\0\0\0\0\x01\0\0\0\x04\0\0\0\x07\0\0\0\x02\0\0\0\x01\0\0\0\x01
+# A whole frame whose headers part of 8 bytes has a header of 2^32 - 1 bytes.
+ENDLESS_HEADER \x03\x06\x09\x0c\xe8\x03\0\0\x07\0\0\0\x08\0\0\0\0\0\0\0\x05\0\0\0\xff\xff\xff\xff
+# The head of a frame that creates an identity by a body of 400 bytes, and the reply where that is no object.
+NESTED \x03\x06\x09\x0c\xe8\x03\0\0\x07\0\0\0\0\0\0\0\x90\x01\0\0
+NO_OBJECT \x03\x06\x09\x0c\x02\0\0\0\0\0\0\0\x15\0\0\0\x3c\0\0\0\x01\0\0\0\x04\0\0\0\x07\0\0\0\x02\0\0\0\x01\0\0\0\0{"code":11,"field":"","name":"BadBody","reason":"NotObject"}
+# Session 0 is opened by an administrator, session 1 by the identity ann.
+OPEN_0 \x01\0\0\0
+OPEN_1 \x01\x01\x02\x03ann
+# A data record of session 0 with a frame that creates ann: content type 1000, sequence 7, no headers.
+ANN_OF_0 \x02\0\x22\0\x03\x06\x09\x0c\xe8\x03\0\0\x07\0\0\0\0\0\0\0\x0e\0\0\0{"name":"ann"}
+# The same frame of session 1.
+ANN_OF_1 \x02\x01\x22\0\x03\x06\x09\x0c\xe8\x03\0\0\x07\0\0\0\0\0\0\0\x0e\0\0\0{"name":"ann"}
+# A data record of session 1 with a frame that creates the service web: content type 1010, sequence 7.
+WEB_OF_1 \x02\x01\x22\0\x03\x06\x09\x0c\xf2\x03\0\0\x07\0\0\0\0\0\0\0\x0e\0\0\0{"name":"web"}
+# The frame that creates ann, in two data records of session 0: its head, and its body.
+HEAD_OF_0 \x02\0\x14\0\x03\x06\x09\x0c\xe8\x03\0\0\x07\0\0\0\0\0\0\0\x0e\0\0\0
+BODY_OF_0 \x02\0\x0e\0{"name":"ann"}
+# A data record of session 1 with a frame that asks for the services of ann: content type 1501, sequence 9.
+LIST_OF_1 \x02\x01\x26\0\x03\x06\x09\x0c\xdd\x05\0\0\x09\0\0\0\0\0\0\0\x12\0\0\0{"identity":"ann"}
+# The reply to session 0: the number 1.
+MADE_OF_0 \x04\0\x03\x06\x09\x0c\x02\0\0\0\0\0\0\0\x15\0\0\0\x08\0\0\0\x01\0\0\0\x04\0\0\0\x07\0\0\0\x02\0\0\0\x01\0\0\0\x01{"no":1}
+# The reply to session 1: ann may create nothing.
+REFUSED_OF_1 \x04\x01\x03\x06\x09\x0c\x02\0\0\0\0\0\0\0\x15\0\0\0\x21\0\0\0\x01\0\0\0\x04\0\0\0\x07\0\0\0\x02\0\0\0\x01\0\0\0\0{"code":12,"name":"NotPermitted"}
+# The reply to session 1 where ann is not there.
+UNKNOWN_OF_1 \x04\x01\x03\x06\x09\x0c\x02\0\0\0\0\0\0\0\x15\0\0\0\x2f\0\0\0\x01\0\0\0\x04\0\0\0\x09\0\0\0\x02\0\0\0\x01\0\0\0\0{"code":21,"field":"identity","name":"Unknown"}
+# A data record of session 0 with 20 bytes that begin with another marker.
+UNMARKED_OF_0 \x02\0\x14\0\x03\x06\x09\x0d\xe8\x03\0\0\x07\0\0\0\0\0\0\0\0\0\0\0
+# A data record of session 1 with a head whose body has 1,048,577 bytes.
+LONG_OF_1 \x02\x01\x14\0\x03\x06\x09\x0c\xe8\x03\0\0\x07\0\0\0\0\0\0\0\x01\0\x10\0
+# A data record of session 0 with a frame whose headers part of 9 bytes no row of headers fills.
+HEADERS_OF_0 \x02\0\x1d\0\x03\x06\x09\x0c\xe8\x03\0\0\x07\0\0\0\x09\0\0\0\0\0\0\0\x05\0\0\0\x02\0\0\0a
+# A data record of session 0 with the first 19 bytes of a frame.
+CUT_OF_0 \x02\0\x13\0\x03\x06\x09\x0c\xe8\x03\0\0\x07\0\0\0\0\0\0\0\x0e\0\0
+# Session 0 is closed, and session 1.
+CLOSE_0 \x03\0
+CLOSE_1 \x03\x01
+# A frame that creates bob, and its reply behind ann's folder: the number 2.
+BOB \x03\x06\x09\x0c\xe8\x03\0\0\x07\0\0\0\0\0\0\0\x0e\0\0\0{"name":"bob"}
+BOB_MADE \x03\x06\x09\x0c\x02\0\0\0\0\0\0\0\x15\0\0\0\x08\0\0\0\x01\0\0\0\x04\0\0\0\x07\0\0\0\x02\0\0\0\x01\0\0\0\x01{"no":2}
+# The reports on absent names: an identity, and a service where ann is there.
+NO_ONE {"admissible":[],"bind":0,"common":[],"dial":0,"online":[],"policies":[],"rule":30,"terminators":[],"yes":false}\x0a
+NO_SERVICE {"admissible":[],"bind":0,"common":[],"dial":0,"online":[],"policies":[],"rule":31,"terminators":[],"yes":false}\x0a
+# A slot in which ann's record stands behind a gate that is still closed, one of another format, one with a length of 2^32 - 1, and bytes that are none.
+PENDING_SLOT ZCTL\x01\0\0\0\0\x1c\0\0\0\x01\x02\x01\x01\x04\0\0\0\x02\0\0\0\x01\x05\x03\0\0\0\x01\x05\0\0\0\x03ann\0\0
+FOREIGN_SLOT ZCTL\x03\0\0\0\0
+LONGEST_SLOT ZCTL\x01\0\0\0\x01\xff\xff\xff\xff
+ANY \xff\x01\0ZCTL\x01\0\0\0\x01\xff\xff\xff\xff
+# The slot that has the rows of ann, bob and web in one record.
+ALL_SLOT ZCTL\x01\0\0\0\x01\x48\0\0\0\x01\x02\x01\x01\x04\0\0\0\x03\0\0\0\x01\x02\x01\x02\x04\0\0\0\x02\0\0\0\x01\x05\x03\0\0\0\x01\x05\0\0\0\x03ann\0\x01\x05\x03\0\0\0\x02\x05\0\0\0\x03bob\0\x01\x05\x04\0\0\0\x01\x05\0\0\0\x03web\0\0
+# The records of web and of the policy behind closed gates.
+WEB_CLOSED \0\x1c\0\0\0\x01\x02\x01\x02\x04\0\0\0\x02\0\0\0\x01\x05\x04\0\0\0\x01\x05\0\0\0\x03web\0
+GRANT_CLOSED \0\x34\0\0\0\x01\x02\x01\x05\x04\0\0\0\x02\0\0\0\x01\x05\x07\0\0\0\x01\x0a\0\0\0\x01p\x01\x01\x01\0\0\x01\0\0\x01\x09\x0c\0\0\0\x01\0\0\0\x01\x04\0\0\0\x01\0\0\0
+# The record of the policy with a count of two, and one that deletes a second identity.
+GRANT_TWICE \x01\x34\0\0\0\x01\x02\x01\x05\x04\0\0\0\x02\0\0\0\x01\x05\x07\0\0\0\x01\x0a\0\0\0\x01p\x01\x01\x01\0\0\x01\0\0\x01\x09\x0c\0\0\0\x01\0\0\0\x01\x04\0\0\0\x02\0\0\0
+BOB_GOES \x01\x07\0\0\0\x02\x05\x03\0\0\0\x02
+# The record of the router r1, the one behind which it is connected, and that of the next number of identities alone.
+ROUTER_KEPT \x01\x1e\0\0\0\x01\x02\x01\x03\x04\0\0\0\x02\0\0\0\x01\x05\x05\0\0\0\x01\x07\0\0\0\x02r1\0\0\0\0
+CONNECTED_KEPT \x01\x12\0\0\0\x01\x05\x05\0\0\0\x01\x07\0\0\0\x02r1\0\0\0\x02
+NEXT_KEPT \x01\x0c\0\0\0\x01\x02\x01\x01\x04\0\0\0\x02\0\0\0
+"##;
+
+// The bytes of a part that has a name elsewhere.
+fn known_part(name: &str) -> Option<&'static [u8]> {
+    for (known, part) in KNOWN {
+        if known == name {
+            return Some(part);
+        }
+    }
+    None
+}
+
+// How the part of a name is spelled. What is no name stands for itself.
+fn part_of(name: &str) -> &str {
+    for line in PARTS.lines() {
+        if let Some((known, part)) = line.split_once(' ') {
+            if known == name {
+                return part;
+            }
+        }
+    }
+    name
+}
+
+// The value of a digit of a byte, of which the letters are small.
+fn digit(letter: u8) -> u8 {
+    if letter < b'a' {
+        letter.wrapping_sub(b'0')
+    } else {
+        letter.wrapping_sub(b'a').wrapping_add(10)
+    }
+}
+
+// Puts what stands behind a `\`: the byte 0 or a byte by its digits, and some letters.
+fn push_escaped(bytes: &mut Vec<u8>, text: &[u8]) -> Result<(), AllocError> {
+    match text {
+        [b'0', rest @ ..] => {
+            bytes.push(0)?;
+            bytes.extend_from_slice(rest)
+        }
+        [b'x', high, low, rest @ ..] => {
+            bytes.push(digit(*high).wrapping_mul(16).wrapping_add(digit(*low)))?;
+            bytes.extend_from_slice(rest)
+        }
+        _ => bytes.extend_from_slice(text),
+    }
+}
+
+// Puts a part behind the bytes, as it is spelled.
+fn push_spelled(bytes: &mut Vec<u8>, part: &str) -> Result<(), AllocError> {
+    let mut is_escaped = false;
+    for text in part.split('\\') {
+        if is_escaped {
+            push_escaped(bytes, text.as_bytes())?;
+        } else {
+            bytes.extend_from_slice(text.as_bytes())?;
+        }
+        is_escaped = true;
+    }
+    Ok(())
+}
+
+// Puts what is spelled so many times behind the bytes.
+fn push_many(bytes: &mut Vec<u8>, spelled: &str, count: &str) -> Result<(), AllocError> {
+    for _ in 0usize..count.parse::<usize>().unwrap_or(0) {
+        push_spelled(bytes, spelled)?;
+    }
+    Ok(())
+}
+
+// Puts a piece behind the bytes: what is spelled so many times, as `a*20`, one that has a name, or one as it is spelled.
+fn push_piece(bytes: &mut Vec<u8>, piece: &str) -> Result<(), AllocError> {
+    if let Some((spelled, count)) = piece.split_once('*') {
+        return push_many(bytes, spelled, count);
+    }
+    match known_part(piece) {
+        Some(known) => bytes.extend_from_slice(known),
+        None => push_spelled(bytes, part_of(piece)),
+    }
+}
+
+// Puts a part behind the bytes: its pieces, between which there is a `+`, or nothing for `-`.
+fn push_part(bytes: &mut Vec<u8>, part: &str) -> Result<(), AllocError> {
+    if part != "-" {
+        for piece in part.split('+') {
+            push_piece(bytes, piece)?;
+        }
+    }
+    Ok(())
+}
+
+/// The bytes of some parts, between which there are spaces.
+pub fn bytes_of(alloc: Global, parts: &str) -> Result<Vec<u8>, AllocError> {
+    let mut bytes = Vec::new(alloc);
+    for part in parts.split_whitespace() {
+        push_part(&mut bytes, part)?;
+    }
+    Ok(bytes)
+}
+
+/// A folder by its parts, the first slot, the second one and the mark, between which there is a space.
+pub fn folder_of(alloc: Global, parts: &str) -> Result<Images, AllocError> {
+    let mut images = Images::empty(alloc);
+    let (zero, rest) = parts.split_once(' ').unwrap_or((parts, "-"));
+    let (one, mark) = rest.split_once(' ').unwrap_or((rest, "-"));
+    push_part(&mut images.zero, zero)?;
+    push_part(&mut images.one, one)?;
+    push_part(&mut images.mark, mark)?;
+    Ok(images)
+}
+
+/// The lines of notes, each of which begins with the program's name. `; ` stands between them, and `-` for none.
+pub fn notes_of(alloc: Global, notes: &str) -> Result<Vec<u8>, AllocError> {
+    let mut bytes = Vec::new(alloc);
+    for note in notes.split("; ") {
+        if note != "-" {
+            bytes.extend_from_slice(b"zitictl: ")?;
+            bytes.extend_from_slice(note.as_bytes())?;
+            bytes.push(b'\n')?;
+        }
+    }
+    Ok(bytes)
+}
