@@ -26,12 +26,7 @@ pub(crate) fn put_named(
 }
 
 // Puts the names of a link and of the router behind it.
-fn put_hop(
-    text: &mut Vec<u8>,
-    rows: &[Row],
-    link: u32,
-    router: u32,
-) -> Result<(), AllocError>
+fn put_hop(text: &mut Vec<u8>, rows: &[Row], link: u32, router: u32) -> Result<(), AllocError>
     ensures { OnOk result (text.new.items ≡ text.old.items ++ (codes "," ++ (named kind.Link (state_in rows.now) link ++ (codes "," ++ named kind.Router (state_in rows.now) router)))) }
 {
     text.extend_from_slice(b",")?;
@@ -41,12 +36,7 @@ fn put_hop(
 }
 
 // Puts the way over some links from a router on.
-fn put_way(
-    text: &mut Vec<u8>,
-    rows: &[Row],
-    from: u32,
-    links: &[u32],
-) -> Result<(), AllocError>
+fn put_way(text: &mut Vec<u8>, rows: &[Row], from: u32, links: &[u32]) -> Result<(), AllocError>
     ensures { OnOk result (text.new.items ≡ text.old.items ++ way_on (state_in rows.now) from links.now) }
 {
     let mut router = from;

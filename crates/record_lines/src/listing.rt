@@ -21,12 +21,7 @@ fn is_of(row: &Row, kind: Kind) -> bool
 }
 
 // Puts the line of a row that is a record of a kind.
-fn put_row_of(
-    text: &mut Vec<u8>,
-    rows: &[Row],
-    kind: Kind,
-    row: &Row,
-) -> Result<(), AllocError>
+fn put_row_of(text: &mut Vec<u8>, rows: &[Row], kind: Kind, row: &Row) -> Result<(), AllocError>
     ensures { OnOk result (text.new.items ≡ text.old.items ++ line_in kind (state_in rows.now) row.now) }
 {
     if is_of(row, kind) {

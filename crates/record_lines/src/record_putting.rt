@@ -12,7 +12,8 @@ ghost use Rattle.record_lines.specs.RowTexts.{row_line};
 
 use crate::circuit_putting::{put_circuit, put_named};
 use crate::word_putting::{
-    precedence_word, put_attributes, put_count, put_flag, put_head, put_keyed, put_number, put_side, relation_word, semantic_word,
+    precedence_word, put_attributes, put_count, put_flag, put_head, put_keyed, put_number,
+    put_side, relation_word, semantic_word,
 };
 use ctrl_model::{IdentityNo, Instance, Kind, Name, Names, Precedence, Relation, Semantic, Side};
 use row_codec::Row;
@@ -63,11 +64,7 @@ fn put_router(
 }
 
 // Puts what a link costs, and whether it is up.
-fn put_costs(
-    text: &mut Vec<u8>,
-    costs: (u32, (u32, u32)),
-    up: bool,
-) -> Result<(), AllocError>
+fn put_costs(text: &mut Vec<u8>, costs: (u32, (u32, u32)), up: bool) -> Result<(), AllocError>
     ensures { OnOk result (text.new.items ≡ text.old.items ++ (keyed (codes "cost") (decimal costs.0) ++ (keyed (codes "latency_a") (decimal costs.1.0) ++ (keyed (codes "latency_b") (decimal costs.1.1) ++ (keyed (codes "up") (flag_word up) ++ codes "\n"))))) }
 {
     put_count(text, b"cost", costs.0)?;
@@ -141,11 +138,7 @@ fn put_router_policy(
 }
 
 // Puts the name of a host as a field, if there is one.
-fn put_host(
-    text: &mut Vec<u8>,
-    rows: &[Row],
-    host: Option<IdentityNo>,
-) -> Result<(), AllocError>
+fn put_host(text: &mut Vec<u8>, rows: &[Row], host: Option<IdentityNo>) -> Result<(), AllocError>
     ensures { OnOk result (text.new.items ≡ text.old.items ++ keyed_if_any (codes "host") (option_map (named kind.Identity (state_in rows.now)) (option_map (λ h. h.0) host))) }
 {
     match host {
