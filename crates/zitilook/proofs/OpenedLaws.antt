@@ -1,5 +1,5 @@
 -- What a folder opens to whose rows were taken, and what is told where they were not.
-use Rattle.std.proofs.Common.{◌≡◌, ℕ, Bool, IsTrue, inl, IfOk, Ok, Err, sym, ap, ◌∙◌, subst}
+use Rattle.std.proofs.Common.{◌≡◌, ℕ, Bool, IsTrue, List, inl, inr, IfOk, Ok, Err, sym, ap, ◌∙◌, subst}
 use Rattle.std.specs.Prelude.{⊤}
 use Rattle.std.specs.declared.option.Option.{Option}
 use Rattle.std.specs.declared.result.Result.{Result}
@@ -67,7 +67,7 @@ pub unread_closed : (tells : Bool) (image : Image) (stored : Stored) (fault : St
     → StaysClosed tells image fault
 unread_closed tells image stored Disk opens f = absurd f
 unread_closed tells image stored Full opens f = absurd f
-unread_closed tells image stored (Damaged part at) opens f = λ told. store_without_state image stored part at (opens told) f.0 f.1 f.2
+unread_closed tells image stored (Damaged part at) opens f = λ told. inr (store_without_state image stored part at (opens told) f.0 f.1 f.2)
 unread_closed tells image stored MarkFull opens f = absurd f
 unread_closed tells image stored Spent opens f = absurd f
 unread_closed tells image stored NoMemory opens f = tt
@@ -111,23 +111,23 @@ closed_finds tells NoMemory status a b c why told said same q r = record {
 }
 
 -- each fault has its cause
-closed_causes : {T : Type 0} (fault : StoreFault) (status : Status) (a b c : Seen) → HasCause a.disk_faults b.disk_faults (disk_failure {T = T} (Err fault)) → TellsClosed fault status b c
+closed_causes : (T : Type 0) (fault : StoreFault) (status : Status) (a b c : Seen) → HasCause a.disk_faults b.disk_faults (disk_failure {T = T} (Err fault)) → TellsClosed fault status b c
     → c.say_faults ≡ a.say_faults → c.disk_faults ≡ b.disk_faults → HasCauses a c status
-closed_causes Disk status a b c cause told says calls = unread a c status told.0 says (subst (λ (n : ℕ). Rose a.disk_faults n) (sym calls) cause.failed)
-closed_causes Full status a b c cause told says calls = absurd told
-closed_causes (Damaged part at) status a b c cause told says calls =
+closed_causes T Disk status a b c cause told says calls = unread a c status told.0 says (subst (λ (n : ℕ). Rose a.disk_faults n) (sym calls) cause.failed)
+closed_causes T Full status a b c cause told says calls = absurd told
+closed_causes T (Damaged part at) status a b c cause told says calls =
     let is : status ≡ ending.Damaged = told.0 in
     calm a c status (λ (e : status ≡ ending.WriteFault). absurd cc) (λ (e : status ≡ ending.DiskFault). absurd cc) says (calls ∙ cause.calm)
-closed_causes MarkFull status a b c cause told says calls = absurd told
-closed_causes Spent status a b c cause told says calls = absurd told
-closed_causes NoMemory status a b c cause told says calls =
+closed_causes T MarkFull status a b c cause told says calls = absurd told
+closed_causes T Spent status a b c cause told says calls = absurd told
+closed_causes T NoMemory status a b c cause told says calls =
     let is : status ≡ ending.NoMemory = told.0 in
     calm a c status (λ (e : status ≡ ending.WriteFault). absurd cc) (λ (e : status ≡ ending.DiskFault). absurd cc) says (calls ∙ cause.calm)
 
-pub closed_ends : {D : Type 0} {T : Type 0} (seen : D → Seen) (stopped : D → Stopped) (fault : StoreFault) (status : Status) (old mid new : D)
+pub closed_ends : {D : Type 0} (T : Type 0) (seen : D → Seen) (stopped : D → Stopped) (fault : StoreFault) (status : Status) (old mid new : D)
     → HasCause (seen old).disk_faults (seen mid).disk_faults (disk_failure {T = T} (Err fault)) → OnlyReads seen stopped old mid → TellsClosed fault status (seen mid) (seen new)
     → OnlyNotes seen stopped mid new → FindsNoMore stopped mid new → EndsSo seen stopped old new status
-closed_ends seen stopped fault status old mid new cause reads told notes more = record {
-  causes = closed_causes fault status (seen old) (seen mid) (seen new) cause told (notes.failed_says ∙ reads.others.failed_says) notes.failed_calls;
+closed_ends T seen stopped fault status old mid new cause reads told notes more = record {
+  causes = closed_causes T fault status (seen old) (seen mid) (seen new) cause told (notes.failed_says ∙ reads.others.failed_says) notes.failed_calls;
   folder = LeftAlone-then (read_alone reads) (noted_alone notes more);
 }

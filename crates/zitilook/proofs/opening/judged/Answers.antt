@@ -1,4 +1,4 @@
-use Rattle.std.proofs.Common.{inl, IsErrOf, sym, ◌∙◌, subst}
+use Rattle.std.proofs.Common.{◌≡◌, inl, Err, ap, ◌∙◌, subst}
 use Rattle.std.specs.declared.result.Result.{Result}
 use Rattle.row_loading.specs.declared.faults.CoreFault.{CoreFault}
 use Rattle.row_loading.specs.declared.faults.CoreFault.TheVariants.{NotAState}
@@ -21,5 +21,10 @@ pub returns-in-Ok-clause-none : goal.returns-in-Ok-clause-none
 returns-in-Ok-clause-none c = λ place flaw e.
     subst AreOfNoState c.as_slice.ensures (refused-of_none c.as_slice.result.now place flaw (inl (c.read_rows.ensures.unread place flaw e)))
 
+-- equal errors are of equal faults
+same_fault : (T : Type 0) (f h : CoreFault) → ◌≡◌ {A = Result T CoreFault} (Err f) (Err h) → f ≡ h
+same_fault T f h is = cc
+
 pub returns-in-Err-clause-none : goal.returns-in-Err-clause-none
-returns-in-Err-clause-none c = λ place flaw e. c.from_rows.ensures.none place flaw (subst (λ r. IsErrOf r (NotAState place flaw)) (sym c.in-Err.is) e)
+returns-in-Err-clause-none c = λ place flaw e.
+    c.from_rows.ensures.none place flaw (c.in-Err.is ∙ ap (λ (f : CoreFault). Err f) (same_fault _ c.in-Err.fault (NotAState place flaw) e))

@@ -1,4 +1,5 @@
-use Rattle.std.proofs.Common.{inl, inr}
+use Rattle.std.proofs.Common.{inl, inr, Vec, Global}
+use Rattle.row_codec.specs.declared.rows.Row.{Row}
 use Rattle.state_building.specs.BuiltStates.{state_in}
 use Rattle.record_lines.specs.RecordLines.{lines_of}
 use Rattle.zitilook.proofs.FolderLaws.{read_ends}
@@ -33,7 +34,7 @@ returns-in-Err-clause-looks g c =
 pub returns-in-Err-clause-ends : goal.returns-in-Err-clause-ends
 returns-in-Err-clause-ends g c =
     let t = c.tell_closed.ensures in
-    closed_ends g.D.Desk.seen g.D.Desk.stopped c.in-Err.fault c.tell_closed.result c.args.desk.now c.open_rows.new.desk c.tell_closed.new.desk
+    closed_ends (Vec Row Global) g.D.Desk.seen g.D.Desk.stopped c.in-Err.fault c.tell_closed.result c.args.desk.now c.open_rows.new.desk c.tell_closed.new.desk
     c.in-Err.ensures.cause c.open_rows.ensures.reads t.told t.others t.stops
 
 pub tell_closed-requires : goal.tell_closed-requires
