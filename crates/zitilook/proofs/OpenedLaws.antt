@@ -1,7 +1,5 @@
 -- What a folder opens to whose rows were taken, and what is told where they were not.
 use Rattle.std.proofs.Common.{◌≡◌, ℕ, Bool, IsTrue, List, inl, inr, IfOk, Ok, Err, sym, ap, ◌∙◌, subst}
-use Rattle.std.specs.Prelude.{⊤}
-use Rattle.std.specs.declared.option.Option.{Option}
 use Rattle.std.specs.declared.result.Result.{Result}
 use Rattle.ziti_outside.specs.Causes.{HasCause, Rose}
 use Rattle.ziti_outside.specs.Images.{Image}
@@ -23,11 +21,11 @@ use Rattle.row_store.specs.Faults.{disk_failure, OpenFails}
 use Rattle.row_store.specs.OpenedStates.{byte_rows_of, OpensToState}
 use Rattle.row_store.specs.StoredRows.{Stored, IsStoreOf}
 use Rattle.row_store.proofs.StateRows.{puts_of_state, opens_state, store_without_state}
-use Rattle.run_notes.specs.NotedLines.{FindsNoMore, NotesLines}
+use Rattle.run_notes.specs.NotedLines.{FindsNoMore}
 use Rattle.run_notes.proofs.NoteLaws.{notes_from}
 use Rattle.zitilook.specs.declared.status.Status.{Status}
 use Rattle.zitilook.specs.declared.status.Status.TheVariants as ending
-use Rattle.zitilook.specs.Looks.{IsClosed, FindsNone, HasCauses, IsLeftAlone}
+use Rattle.zitilook.specs.Looks.{IsClosed, FindsNone, HasCauses}
 use Rattle.zitilook.specs.Notes.{damaged_note, notes_of}
 use Rattle.zitilook.specs.OpenedRows.{StaysClosed, StaysUnread, MayClose}
 use Rattle.zitilook.specs.Steps.{EndsSo, TellsClosed}

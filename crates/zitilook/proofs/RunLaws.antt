@@ -1,12 +1,10 @@
 -- A run by what it was asked for.
 use Rattle.std.proofs.Common.{◌≡◌, ◌⊎◌, inl, inr, ℕ, Bool, List, None, Some, refl, subst}
-use Rattle.std.specs.declared.option.Option.{Option}
 use Rattle.ziti_outside.specs.Untouched.{OnlyNotes}
 use Rattle.ziti_outside.specs.Views.{Seen, Stopped}
 use Rattle.ctrl_model.specs.declared.kinds.Kind.{Kind}
 use Rattle.record_lines.specs.RecordLines.{lines_of}
 use Rattle.run_notes.specs.NotedLines.{FindsNoMore, NotesLines}
-use Rattle.zitilook.specs.declared.words.Asked.{Asked}
 use Rattle.zitilook.specs.declared.words.Asked.TheVariants as asked
 use Rattle.zitilook.specs.declared.words.Page.{Page}
 use Rattle.zitilook.specs.declared.status.Status.{Status}

@@ -1,4 +1,4 @@
-use Rattle.std.proofs.Common.{◌∙◌, ℕ, List, Option, map, subst, ap}
+use Rattle.std.proofs.Common.{◌∙◌, ℕ, List, map, subst, ap}
 use Rattle.std.specs.String.{string_bytes}
 use Rattle.program_words.proofs.AskedLaws.{asked_with, asked_without, failed_with, failed_without, wanting_with}
 use Rattle.zitilook.specs.Words.{asked_of}

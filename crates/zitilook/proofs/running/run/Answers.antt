@@ -1,8 +1,7 @@
-use Rattle.std.proofs.Common.{ℕ, List, Option, None, Some, map, sym, ap, ◌∙◌, subst}
+use Rattle.std.proofs.Common.{ℕ, List, Option, Some, map, sym, ap, ◌∙◌, subst}
 use Rattle.std.specs.String.{string_bytes}
 use Rattle.zitilook.specs.declared.words.Asked.{Asked}
 use Rattle.zitilook.specs.Headline.{Runs}
-use Rattle.zitilook.specs.Pages.{page_text}
 use Rattle.zitilook.specs.Headline.{KnowsNone}
 use Rattle.zitilook.specs.Looks.{SaysText}
 use Rattle.zitilook.proofs.RunLaws.{list_runs, unknown_runs, page_runs, usage_runs}
