@@ -1,0 +1,212 @@
+-- The records of a state that rows give are those that the rows are, in their order.
+use Rattle.std.proofs.Common.{◌≡◌, ℕ, ◌==◌, nat_le, Bool, true, false, cond, List, [], ◌∷◌, ◌++◌, flat_map, Option, None, Some, option_map, refl, sym, ◌∙◌, ap, append-nil, append_assoc}
+use Rattle.std.specs.Prelude.{option_and_then}
+use Rattle.std.specs.Option.{option_map_or, option_or, unwrap_or}
+use Rattle.ctrl_model.specs.declared.kinds.Kind.{Kind}
+use Rattle.ctrl_model.specs.declared.kinds.Kind.TheVariants as kind
+use Rattle.ctrl_model.specs.Networks.{other_end}
+use Rattle.ctrl_model.specs.Numbered.{at}
+use Rattle.ctrl_model.specs.State.{State, Link, start}
+use Rattle.ctrl_model.specs.Tables.{Record, table, record_name}
+use Rattle.row_codec.specs.declared.rows.Row.{Row}
+use Rattle.row_codec.specs.declared.rows.Row.TheVariants as row
+use Rattle.row_codec.specs.RowKeys.{kind_number}
+use Rattle.state_building.specs.RowForms.{by_row}
+use Rattle.state_building.specs.JoinedRecords.{joined}
+use Rattle.state_building.specs.BuiltStates.{with_row, built, next_in, with_nexts, state_in}
+use Rattle.record_lines.specs.RecordLines.{line_of, lines_of}
+use Rattle.record_lines.specs.RecordNames.{name_of, router_behind}
+use Rattle.record_lines.specs.RowTexts.{same_kind, name_in, name_said, name_among, ends_said, ends_among, behind, line_in}
+
+-- ---- the records of a kind
+
+-- a record as one of a kind, if it is one
+abbrev pub one_of : (k j : Kind) → ℕ → Record j → List (ℕ × Record k)
+one_of kind.Identity kind.Identity n r = (n, r) ∷ []
+one_of kind.Service kind.Service n r = (n, r) ∷ []
+one_of kind.Router kind.Router n r = (n, r) ∷ []
+one_of kind.Link kind.Link n r = (n, r) ∷ []
+one_of kind.ServicePolicy kind.ServicePolicy n r = (n, r) ∷ []
+one_of kind.EdgeRouterPolicy kind.EdgeRouterPolicy n r = (n, r) ∷ []
+one_of kind.ServiceEdgeRouterPolicy kind.ServiceEdgeRouterPolicy n r = (n, r) ∷ []
+one_of kind.Terminator kind.Terminator n r = (n, r) ∷ []
+one_of kind.Circuit kind.Circuit n r = (n, r) ∷ []
+one_of k j n r = []
+
+-- the record of a kind that a row is
+abbrev pub record_in : (k : Kind) → Row → List (ℕ × Record k)
+record_in k x = by_row (record { next = λ j n. []; setting = λ cost. []; one = one_of k; count = λ r a b c. [] }) x
+
+-- the records of a kind that rows are
+abbrev pub records_in : (k : Kind) → List Row → List (ℕ × Record k)
+records_in k [] = []
+records_in k (x ∷ xs) = record_in k x ++ records_in k xs
+
+-- ---- the tables that rows give
+
+joins : (k j : Kind) (n : ℕ) (r : Record j) (s : State) → (table k (joined j n r s)).rows ≡ (table k s).rows ++ one_of k j n r
+joins kind.Identity kind.Identity n r s = refl
+joins kind.Service kind.Service n r s = refl
+joins kind.Router kind.Router n r s = refl
+joins kind.Link kind.Link n r s = refl
+joins kind.ServicePolicy kind.ServicePolicy n r s = refl
+joins kind.EdgeRouterPolicy kind.EdgeRouterPolicy n r s = refl
+joins kind.ServiceEdgeRouterPolicy kind.ServiceEdgeRouterPolicy n r s = refl
+joins kind.Terminator kind.Terminator n r s = refl
+joins kind.Circuit kind.Circuit n r s = refl
+joins kind.Attribute j n r s = refl
+joins k j n r s = sym (append-nil (table k s).rows)
+
+row_joins : (k : Kind) (x : Row) (s : State) → (table k (with_row x s)).rows ≡ (table k s).rows ++ record_in k x
+row_joins k (row.Identity n name attributes) s = joins k kind.Identity n.0 (record { name = name; attributes = attributes }) s
+row_joins k (row.Service n name attributes) s = joins k kind.Service n.0 (record { name = name; attributes = attributes }) s
+row_joins k (row.Router n name attributes cost through connected) s =
+    joins k kind.Router n.0 (record { name = name; attributes = attributes; cost = cost; through = through; connected = connected }) s
+row_joins k (row.Link n name a b cost latency_a latency_b up) s =
+    joins k kind.Link n.0 (record { name = name; a = a.0; b = b.0; cost = cost; latency_a = latency_a; latency_b = latency_b; up = up }) s
+row_joins k (row.ServicePolicy n name relation semantic identities services) s = joins k kind.ServicePolicy n.0 _ s
+row_joins k (row.EdgeRouterPolicy n name semantic identities routers) s = joins k kind.EdgeRouterPolicy n.0 _ s
+row_joins k (row.ServiceEdgeRouterPolicy n name semantic services routers) s = joins k kind.ServiceEdgeRouterPolicy n.0 _ s
+row_joins k (row.Terminator n service router host instance cost precedence) s = joins k kind.Terminator n.0 _ s
+row_joins k (row.Circuit n identity service terminator ingress links) s = joins k kind.Circuit n.0 _ s
+row_joins k (row.Setting cost) s = setting k
+  where
+    setting : (k : Kind) → (table k (record s { least_router_cost = cost })).rows ≡ (table k s).rows ++ []
+    setting kind.Attribute = refl
+    setting k = sym (append-nil (table k s).rows)
+row_joins k x s = sym (append-nil (table k s).rows)
+
+built_rows : (k : Kind) (rows : List Row) (s : State) → (table k (built rows s)).rows ≡ (table k s).rows ++ records_in k rows
+built_rows k [] s = sym (append-nil (table k s).rows)
+built_rows k (x ∷ xs) s =
+    built_rows k xs (with_row x s) ∙ ap (λ (l : List (ℕ × Record k)). l ++ records_in k xs) (row_joins k x s)
+    ∙ append_assoc (table k s).rows (record_in k x) (records_in k xs)
+
+empty_rows : (k : Kind) → (table k start).rows ≡ []
+empty_rows kind.Attribute = refl
+empty_rows k = refl
+
+nexts_keep : (k : Kind) (nexts : Kind → ℕ) (s : State) → (table k (with_nexts nexts s)).rows ≡ (table k s).rows
+nexts_keep kind.Attribute nexts s = refl
+nexts_keep k nexts s = refl
+
+-- the records of a kind in the state that rows give are those that the rows are
+pub table_rows : (k : Kind) (rows : List Row) → (table k (state_in rows)).rows ≡ records_in k rows
+table_rows k rows =
+    nexts_keep k (next_in rows) (built rows start) ∙ built_rows k rows start ∙ ap (λ (l : List (ℕ × Record k)). l ++ records_in k rows) (empty_rows k)
+
+-- ---- the names of records
+
+by_test : {R : Type 0} (name_of : R → List ℕ) (r : R) (rest : Option R) (later : List ℕ) (test : Bool) → later ≡ option_map_or name_of rest []
+    → unwrap_or (cond test (Some (name_of r)) None) later ≡ option_map_or name_of (cond test (Some r) rest) []
+by_test name_of r rest later true is = refl
+by_test name_of r rest later false is = is
+
+name_step : (k j : Kind) → nat_le 1 (kind_number j) ≡ true → (m : ℕ) (r : Record j) (n : ℕ) (rest : List (ℕ × Record k)) (later : List ℕ)
+    → later ≡ option_map_or (record_name k) (at rest n) []
+    → unwrap_or (name_in k n (j, m, record_name j r)) later ≡ option_map_or (record_name k) (at (one_of k j m r ++ rest) n) []
+name_step kind.Identity kind.Identity h m r n rest later is = by_test (record_name kind.Identity) r (at rest n) later (m == n) is
+name_step kind.Service kind.Service h m r n rest later is = by_test (record_name kind.Service) r (at rest n) later (m == n) is
+name_step kind.Router kind.Router h m r n rest later is = by_test (record_name kind.Router) r (at rest n) later (m == n) is
+name_step kind.Link kind.Link h m r n rest later is = by_test (record_name kind.Link) r (at rest n) later (m == n) is
+name_step kind.ServicePolicy kind.ServicePolicy h m r n rest later is = by_test (record_name kind.ServicePolicy) r (at rest n) later (m == n) is
+name_step kind.EdgeRouterPolicy kind.EdgeRouterPolicy h m r n rest later is = by_test (record_name kind.EdgeRouterPolicy) r (at rest n) later (m == n) is
+name_step kind.ServiceEdgeRouterPolicy kind.ServiceEdgeRouterPolicy h m r n rest later is = by_test (record_name kind.ServiceEdgeRouterPolicy) r (at rest n) later (m == n) is
+name_step kind.Terminator kind.Terminator h m r n rest later is = by_test (record_name kind.Terminator) r (at rest n) later (m == n) is
+name_step kind.Circuit kind.Circuit h m r n rest later is = by_test (record_name kind.Circuit) r (at rest n) later (m == n) is
+name_step kind.Attribute kind.Attribute h m r n rest later is = absurd (cc)
+name_step k j h m r n rest later is = is
+
+name_row : (k : Kind) (x : Row) (n : ℕ) (rest : List (ℕ × Record k)) (later : List ℕ) → later ≡ option_map_or (record_name k) (at rest n) []
+    → unwrap_or (name_said k n x) later ≡ option_map_or (record_name k) (at (record_in k x ++ rest) n) []
+name_row k (row.Identity m name attributes) n rest later is = name_step k kind.Identity refl m.0 _ n rest later is
+name_row k (row.Service m name attributes) n rest later is = name_step k kind.Service refl m.0 _ n rest later is
+name_row k (row.Router m name attributes cost through connected) n rest later is = name_step k kind.Router refl m.0 _ n rest later is
+name_row k (row.Link m name a b cost latency_a latency_b up) n rest later is = name_step k kind.Link refl m.0 _ n rest later is
+name_row k (row.ServicePolicy m name relation semantic identities services) n rest later is = name_step k kind.ServicePolicy refl m.0 _ n rest later is
+name_row k (row.EdgeRouterPolicy m name semantic identities routers) n rest later is = name_step k kind.EdgeRouterPolicy refl m.0 _ n rest later is
+name_row k (row.ServiceEdgeRouterPolicy m name semantic services routers) n rest later is = name_step k kind.ServiceEdgeRouterPolicy refl m.0 _ n rest later is
+name_row k (row.Terminator m service router host instance cost precedence) n rest later is = name_step k kind.Terminator refl m.0 _ n rest later is
+name_row k (row.Circuit m identity service terminator ingress links) n rest later is = name_step k kind.Circuit refl m.0 _ n rest later is
+name_row k x n rest later is = is
+
+names_in : (k : Kind) (rows : List Row) (n : ℕ) → name_among rows k n ≡ option_map_or (record_name k) (at (records_in k rows) n) []
+names_in k [] n = refl
+names_in k (x ∷ xs) n = name_row k x n (records_in k xs) (name_among xs k n) (names_in k xs n)
+
+-- the first name that rows say is that of the state that they give
+pub name_of_rows : (k : Kind) (rows : List Row) (n : ℕ) → name_among rows k n ≡ name_of k (state_in rows) n
+name_of_rows k rows n =
+    names_in k rows n ∙ ap (λ (l : List (ℕ × Record k)). option_map_or (record_name k) (at l n) []) (sym (table_rows k rows))
+
+-- ---- the ends of links
+
+end_step : (r : Link) (rest : Option Link) (later : Option (ℕ × ℕ)) (test : Bool) → later ≡ option_map (λ (l : Link). (l.a, l.b)) rest
+    → option_or (cond test (Some (r.a, r.b)) None) later ≡ option_map (λ (l : Link). (l.a, l.b)) (cond test (Some r) rest)
+end_step r rest later true is = refl
+end_step r rest later false is = is
+
+end_row : (x : Row) (n : ℕ) (rest : List (ℕ × Link)) (later : Option (ℕ × ℕ)) → later ≡ option_map (λ (l : Link). (l.a, l.b)) (at rest n)
+    → option_or (ends_said n x) later ≡ option_map (λ (l : Link). (l.a, l.b)) (at (record_in kind.Link x ++ rest) n)
+end_row (row.Link m name a b cost latency_a latency_b up) n rest later is =
+    end_step (record { name = name; a = a.0; b = b.0; cost = cost; latency_a = latency_a; latency_b = latency_b; up = up }) (at rest n) later (m.0 == n) is
+end_row x n rest later is = is
+
+ends_in : (rows : List Row) (n : ℕ) → ends_among rows n ≡ option_map (λ (l : Link). (l.a, l.b)) (at (records_in kind.Link rows) n)
+ends_in [] n = refl
+ends_in (x ∷ xs) n = end_row x n (records_in kind.Link xs) (ends_among xs n) (ends_in xs n)
+
+behind_in : (v : ℕ) (link : Option Link) → behind v (option_map (λ (l : Link). (l.a, l.b)) link) ≡ unwrap_or (option_and_then (other_end v) link) 0
+behind_in v None = refl
+behind_in v (Some l) = by_tests (l.a == v) (l.b == v)
+  where
+    by_tests : (first second : Bool) → cond first l.b (cond second l.a 0) ≡ unwrap_or (cond first (Some l.b) (cond second (Some l.a) None)) 0
+    by_tests true second = refl
+    by_tests false true = refl
+    by_tests false false = refl
+
+-- the router behind the first link that rows say is that of the state that they give
+pub behind_rows : (rows : List Row) (v n : ℕ) → behind v (ends_among rows n) ≡ router_behind (state_in rows) v n
+behind_rows rows v n =
+    ap (behind v) (ends_in rows n) ∙ behind_in v (at (records_in kind.Link rows) n)
+    ∙ ap (λ (l : List (ℕ × Link)). unwrap_or (option_and_then (other_end v) (at l n)) 0) (sym (table_rows kind.Link rows))
+
+-- ---- lines
+
+line_step : (k j : Kind) → nat_le 1 (kind_number j) ≡ true → (s : State) (m : ℕ) (r : Record j) (rest : List (ℕ × Record k)) (later : List ℕ)
+    → later ≡ flat_map (line_of k s) rest
+    → cond (same_kind j k) (line_of j s (m, r)) [] ++ later ≡ flat_map (line_of k s) (one_of k j m r ++ rest)
+line_step kind.Identity kind.Identity h s m r rest later is = ap (λ (l : List ℕ). line_of kind.Identity s (m, r) ++ l) is
+line_step kind.Service kind.Service h s m r rest later is = ap (λ (l : List ℕ). line_of kind.Service s (m, r) ++ l) is
+line_step kind.Router kind.Router h s m r rest later is = ap (λ (l : List ℕ). line_of kind.Router s (m, r) ++ l) is
+line_step kind.Link kind.Link h s m r rest later is = ap (λ (l : List ℕ). line_of kind.Link s (m, r) ++ l) is
+line_step kind.ServicePolicy kind.ServicePolicy h s m r rest later is = ap (λ (l : List ℕ). line_of kind.ServicePolicy s (m, r) ++ l) is
+line_step kind.EdgeRouterPolicy kind.EdgeRouterPolicy h s m r rest later is = ap (λ (l : List ℕ). line_of kind.EdgeRouterPolicy s (m, r) ++ l) is
+line_step kind.ServiceEdgeRouterPolicy kind.ServiceEdgeRouterPolicy h s m r rest later is =
+    ap (λ (l : List ℕ). line_of kind.ServiceEdgeRouterPolicy s (m, r) ++ l) is
+line_step kind.Terminator kind.Terminator h s m r rest later is = ap (λ (l : List ℕ). line_of kind.Terminator s (m, r) ++ l) is
+line_step kind.Circuit kind.Circuit h s m r rest later is = ap (λ (l : List ℕ). line_of kind.Circuit s (m, r) ++ l) is
+line_step kind.Attribute kind.Attribute h s m r rest later is = absurd (cc)
+line_step k j h s m r rest later is = is
+
+line_row : (k : Kind) (s : State) (x : Row) (rest : List (ℕ × Record k)) (later : List ℕ) → later ≡ flat_map (line_of k s) rest
+    → line_in k s x ++ later ≡ flat_map (line_of k s) (record_in k x ++ rest)
+line_row k s (row.Identity m name attributes) rest later is = line_step k kind.Identity refl s m.0 _ rest later is
+line_row k s (row.Service m name attributes) rest later is = line_step k kind.Service refl s m.0 _ rest later is
+line_row k s (row.Router m name attributes cost through connected) rest later is = line_step k kind.Router refl s m.0 _ rest later is
+line_row k s (row.Link m name a b cost latency_a latency_b up) rest later is = line_step k kind.Link refl s m.0 _ rest later is
+line_row k s (row.ServicePolicy m name relation semantic identities services) rest later is = line_step k kind.ServicePolicy refl s m.0 _ rest later is
+line_row k s (row.EdgeRouterPolicy m name semantic identities routers) rest later is = line_step k kind.EdgeRouterPolicy refl s m.0 _ rest later is
+line_row k s (row.ServiceEdgeRouterPolicy m name semantic services routers) rest later is = line_step k kind.ServiceEdgeRouterPolicy refl s m.0 _ rest later is
+line_row k s (row.Terminator m service router host instance cost precedence) rest later is = line_step k kind.Terminator refl s m.0 _ rest later is
+line_row k s (row.Circuit m identity service terminator ingress links) rest later is = line_step k kind.Circuit refl s m.0 _ rest later is
+line_row k s x rest later is = is
+
+lines_in_rows : (k : Kind) (s : State) (rows : List Row) → flat_map (line_in k s) rows ≡ flat_map (line_of k s) (records_in k rows)
+lines_in_rows k s [] = refl
+lines_in_rows k s (x ∷ xs) = line_row k s x (records_in k xs) (flat_map (line_in k s) xs) (lines_in_rows k s xs)
+
+-- the lines of rows are those of the records of the state that they give
+pub lines_of_rows : (k : Kind) (rows : List Row) → flat_map (line_in k (state_in rows)) rows ≡ lines_of k (state_in rows)
+lines_of_rows k rows =
+    lines_in_rows k (state_in rows) rows ∙ ap (λ (l : List (ℕ × Record k)). flat_map (line_of k (state_in rows)) l) (sym (table_rows k rows))

@@ -1,0 +1,71 @@
+-- What rows say of records, and the lines of rows. Only private contracts cite these.
+use Rattle.std.specs.Prelude.{ℕ, ◌==◌, ◌&&◌, Bool, false, cond, List, [], ◌∷◌, None, Some, option_and_then}
+use Rattle.std.specs.declared.option.Option.{Option}
+use Rattle.std.specs.List.{flat_map}
+use Rattle.std.specs.Option.{option_map_or, option_or, unwrap_or}
+use Rattle.ctrl_model.specs.declared.kinds.Kind.{Kind}
+use Rattle.ctrl_model.specs.State.{State}
+use Rattle.ctrl_model.specs.Tables.{record_name}
+use Rattle.row_codec.specs.declared.rows.Row.{Row}
+use Rattle.row_codec.specs.declared.rows.Row.TheVariants as row
+use Rattle.row_codec.specs.RowKeys.{kind_number}
+use Rattle.state_building.specs.RowForms.{by_row}
+use Rattle.record_lines.specs.RecordLines.{line_of}
+
+-- Whether two kinds are one.
+abbrev pub same_kind : Kind → Kind → Bool
+same_kind j k = kind_number j == kind_number k
+
+-- The kind, the number and the name of the record that a row is, if it is one.
+abbrev pub entry_in : Row → Option (Kind × ℕ × List ℕ)
+entry_in x = by_row (record {
+  next = λ k n. None;
+  setting = λ cost. None;
+  one = λ k n r. Some (k, n, record_name k r);
+  count = λ r a b c. None;
+}) x
+
+-- The name that an entry says of the record of a kind and a number.
+abbrev pub name_in : Kind → ℕ → Kind × ℕ × List ℕ → Option (List ℕ)
+name_in k n e = cond (same_kind e.0 k && e.1 == n) (Some e.2) None
+
+-- The name that a row says of the record of a kind and a number.
+abbrev pub name_said : Kind → ℕ → Row → Option (List ℕ)
+name_said k n x = option_and_then (name_in k n) (entry_in x)
+
+-- The first name that some rows say of it, none where they say none.
+abbrev pub name_among : List Row → Kind → ℕ → List ℕ
+name_among [] k n = []
+name_among (x ∷ xs) k n = unwrap_or (name_said k n x) (name_among xs k n)
+
+-- The two routers that a row says of the link of a number.
+abbrev pub ends_said : ℕ → Row → Option (ℕ × ℕ)
+ends_said n (row.Link m name a b cost latency_a latency_b up) = cond (m.0 == n) (Some (a.0, b.0)) None
+ends_said n x = None
+
+-- The first two that some rows say of it.
+abbrev pub ends_among : List Row → ℕ → Option (ℕ × ℕ)
+ends_among [] n = None
+ends_among (x ∷ xs) n = option_or (ends_said n x) (ends_among xs n)
+
+-- The router behind a link with two ends, seen from a router; 0 where there is no link or it does not end there.
+abbrev pub behind : ℕ → Option (ℕ × ℕ) → ℕ
+behind v None = 0
+behind v (Some e) = cond (e.0 == v) e.1 (cond (e.1 == v) e.0 0)
+
+-- Whether a row is a record of a kind.
+abbrev pub is_of : Kind → Row → Bool
+is_of k x = option_map_or (λ (e : Kind × ℕ × List ℕ). same_kind e.0 k) (entry_in x) false
+
+-- The line of the record that a row is; nothing where it is none.
+abbrev pub row_line : State → Row → List ℕ
+row_line s x = by_row (record {
+  next = λ k n. [];
+  setting = λ cost. [];
+  one = λ k n r. line_of k s (n, r);
+  count = λ r a b c. [];
+}) x
+
+-- The line of a row that is a record of a kind.
+abbrev pub line_in : Kind → State → Row → List ℕ
+line_in k s x = cond (is_of k x) (row_line s x) []

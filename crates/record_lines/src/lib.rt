@@ -1,0 +1,12 @@
+//! The records of a state as lines that people read (docs/FORMATS.md, "Lines of records").
+#![tactic(auto)]
+
+mod circuit_putting;
+mod listing;
+mod naming;
+mod record_putting;
+mod word_putting;
+mod worked;
+
+pub use listing::list;
+pub use worked::worked_lists;

@@ -1,0 +1,4 @@
+pub mod FolderLaws
+pub mod SaidLaws
+pub mod OpenedLaws
+pub mod RunLaws

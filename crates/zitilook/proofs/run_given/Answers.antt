@@ -1,0 +1,27 @@
+use Rattle.std.proofs.Common.{◌∙◌, ℕ, List, map, subst, ap}
+use Rattle.std.specs.String.{string_bytes}
+use Rattle.program_words.proofs.AskedLaws.{asked_with, asked_without, failed_with, failed_without, wanting_with}
+use Rattle.zitilook.specs.Words.{asked_of}
+use Rattle.zitilook.specs.Headline.{Runs}
+use Rattle.zitilook.proofs.run_given.Goals as goal
+
+pub returns-in-Ok-clause-words : goal.returns-in-Ok-clause-words
+returns-in-Ok-clause-words c d =
+    let RunsOf : List (List ℕ) → Type 0 = λ ws. Runs {D = c.row.D.Denot} c.D.Desk.tells c.D.Desk.seen c.D.Desk.stopped ws (asked_of ws) d.args.desk.now d.run.new.desk d.run.result in
+    asked_with d.args.given d.asked_words.result _ _ _ d.in-Ok.is d.asked_words.ensures.words
+    (λ words same. subst RunsOf (ap (map string_bytes) (d.as_slice.ensures.value ∙ same)) d.run.ensures.runs)
+
+pub returns-in-Ok-clause-no_text : goal.returns-in-Ok-clause-no_text
+returns-in-Ok-clause-no_text c d =
+    let RunsOf : List (List ℕ) → Type 0 = λ ws. Runs {D = c.row.D.Denot} c.D.Desk.tells c.D.Desk.seen c.D.Desk.stopped ws (asked_of ws) d.args.desk.now d.run.new.desk d.run.result in
+    failed_with d.args.given d.asked_words.result _ _ _ _ d.in-Ok.is d.asked_words.ensures.no_text
+    (λ same. subst RunsOf (ap (map string_bytes) (d.as_slice.ensures.value ∙ same)) d.run.ensures.runs)
+
+pub returns-in-Ok-clause-no_memory : goal.returns-in-Ok-clause-no_memory
+returns-in-Ok-clause-no_memory c d = wanting_with d.args.given d.asked_words.result _ _ _ d.in-Ok.is d.asked_words.ensures.no_memory
+
+pub returns-in-Err-clause-words : goal.returns-in-Err-clause-words
+returns-in-Err-clause-words c d = asked_without d.args.given d.asked_words.result _ _ _ d.in-Err.is d.asked_words.ensures.words
+
+pub returns-in-Err-clause-no_text : goal.returns-in-Err-clause-no_text
+returns-in-Err-clause-no_text c d = failed_without d.args.given d.asked_words.result _ _ _ _ d.in-Err.is d.asked_words.ensures.no_text

@@ -1,0 +1,28 @@
+-- The notes of a run, a line each (docs/FORMATS.md, "The words of zitilook").
+use Rattle.std.specs.Prelude.{ℕ, List, [], ◌++◌, codes, decimal}
+use Rattle.ziti_outside.specs.declared.desk.Part.{Part}
+use Rattle.run_notes.specs.Notes.{file_number}
+use Rattle.zitilook.specs.declared.status.Status.{Status}
+use Rattle.zitilook.specs.declared.status.Status.TheVariants.{Done, Usage, Unknown, WriteFault, DiskFault, Damaged, NoMemory}
+
+-- A note: what it tells behind the program's name, and a newline.
+abbrev pub note_of : List ℕ → List ℕ
+note_of told = codes "zitilook: " ++ (told ++ codes "\n")
+
+-- The note of a status that tells nothing else.
+abbrev pub notes_of : Status → List ℕ
+notes_of Done = []
+notes_of Usage = note_of (codes "usage: zitilook list KIND | help | version")
+notes_of Unknown = []
+notes_of WriteFault = note_of (codes "write fault")
+notes_of DiskFault = note_of (codes "disk fault")
+notes_of Damaged = []
+notes_of NoMemory = note_of (codes "no memory")
+
+-- The note of a word that names no kind.
+abbrev pub unknown_note : List ℕ → List ℕ
+unknown_note word = codes "zitilook: unknown kind: " ++ (word ++ codes "\n")
+
+-- The note of a folder that opens to no state: the slot and the place at which it is damaged.
+abbrev pub damaged_note : Part → ℕ → List ℕ
+damaged_note part at = note_of (codes "damaged: file " ++ (decimal (file_number part) ++ (codes " at " ++ decimal at)))

@@ -1,0 +1,14 @@
+-- What is said of the program itself (docs/FORMATS.md, "The words of zitilook").
+use Rattle.std.specs.Prelude.{ℕ, List, ◌++◌, codes}
+use Rattle.zitilook.specs.declared.words.Page.{Page}
+use Rattle.zitilook.specs.declared.words.Page.TheVariants.{Help, Version}
+
+-- A page: a line for each word and for each kind, or the version of the lines.
+abbrev pub page_text : Page → List ℕ
+page_text Help =
+    codes "usage: zitilook WORD, in the folder that is looked at\n"
+    ++ (codes "list KIND  the records of a kind, a line each\n"
+    ++ (codes "help       these lines\n"
+    ++ (codes "version    the version of the lines\n"
+    ++ codes "KIND is identities, services, routers, links, service-policies, edge-router-policies, service-edge-router-policies, terminators or circuits\n")))
+page_text Version = codes "zitilook 1\n"

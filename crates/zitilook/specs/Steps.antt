@@ -1,0 +1,22 @@
+-- What the parts of a run do, up to the headline. Only private contracts cite these.
+use Rattle.std.specs.Prelude.{◌≡◌}
+use Rattle.ziti_outside.specs.Views.{Seen, Stopped}
+use Rattle.row_store.specs.declared.faults.StoreFault.{StoreFault}
+use Rattle.row_store.specs.declared.faults.StoreFault.TheVariants as store
+use Rattle.run_notes.specs.NotedLines.{NotesLines}
+use Rattle.zitilook.specs.declared.status.Status.{Status}
+use Rattle.zitilook.specs.declared.status.Status.TheVariants.{DiskFault, Damaged, NoMemory}
+use Rattle.zitilook.specs.Looks.{HasCauses, IsLeftAlone}
+use Rattle.zitilook.specs.Notes.{damaged_note, notes_of}
+
+-- How a part of a run ended: each fault with its cause, and the folder left alone.
+pub record EndsSo {D : Type 0} (seen : D → Seen) (stopped : D → Stopped) (old new : D) (status : Status) : Type 0 where
+  pub causes : HasCauses (seen old) (seen new) status
+  pub folder : IsLeftAlone seen stopped old new
+
+-- What was told of a folder that was not opened, by the fault of its opening.
+abbrev pub TellsClosed : StoreFault → (status : Status) → (before now : Seen) → Type 0
+TellsClosed store.Disk status before now = (status ≡ DiskFault) × NotesLines (notes_of DiskFault) before now
+TellsClosed (store.Damaged part at) status before now = (status ≡ Damaged) × NotesLines (damaged_note part at) before now
+TellsClosed store.NoMemory status before now = (status ≡ NoMemory) × NotesLines (notes_of NoMemory) before now
+TellsClosed _ status before now = ⊥

@@ -1,0 +1,18 @@
+ghost use Rattle.std.specs.Prelude.{◌≡◌};
+ghost use Rattle.zitilook.specs.Pages.{page_text};
+
+use crate::words::Page;
+
+/// The page in full.
+pub fn page_text(page: Page) -> &'static [u8]
+    ensures { result.now ≡ page_text page }
+{
+    match page {
+        Page::Help => b"usage: zitilook WORD, in the folder that is looked at\n\
+              list KIND  the records of a kind, a line each\n\
+              help       these lines\n\
+              version    the version of the lines\n\
+              KIND is identities, services, routers, links, service-policies, edge-router-policies, service-edge-router-policies, terminators or circuits\n",
+        Page::Version => b"zitilook 1\n",
+    }
+}

@@ -1,0 +1,38 @@
+ghost use Rattle.std.specs.Prelude.{◌≡◌};
+ghost use Rattle.zitilook.specs.Statuses.{number_of};
+
+/// How a run ended (docs/FORMATS.md, "The words of zitilook").
+#[derive(Clone, Copy, Debug, PartialEq, Eq)]
+pub enum Status {
+    /// All that was asked for was said.
+    Done,
+    /// The words are no line of the table of words.
+    Usage,
+    /// The words name a kind that there is not.
+    Unknown,
+    /// The desk failed to take what was said.
+    WriteFault,
+    /// A call on the disk failed.
+    DiskFault,
+    /// The folder opens to no state.
+    Damaged,
+    /// There is no memory.
+    NoMemory,
+}
+
+impl Status {
+    /// The number with which the program ends.
+    pub fn number(&self) -> u8
+        ensures { result ≡ number_of self.now }
+    {
+        match self {
+            Status::Done => 0,
+            Status::Usage => 1,
+            Status::Unknown => 2,
+            Status::WriteFault => 5,
+            Status::DiskFault => 6,
+            Status::Damaged => 7,
+            Status::NoMemory => 8,
+        }
+    }
+}

@@ -1,0 +1,32 @@
+ghost use Rattle.std.specs.Prelude.{◌≡◌, [], ◌∷◌, codes, None, Some};
+ghost use Rattle.ctrl_model.specs.declared.kinds.Kind.TheVariants as kind;
+ghost use Rattle.ziti_outside.specs.declared.desk.Part.TheVariants.{Zero};
+ghost use Rattle.zitilook.specs.declared.words.Asked.TheVariants.{List as Listed, Unknown, Tell};
+ghost use Rattle.zitilook.specs.declared.words.Page.TheVariants.{Help, Version};
+ghost use Rattle.zitilook.specs.Notes.{damaged_note, unknown_note};
+ghost use Rattle.zitilook.specs.Words.{asked_of, second};
+
+/// What words ask for.
+pub fn worked_words()
+    ensures identities { asked_of (codes "list" ∷ codes "identities" ∷ []) ≡ Some (Listed kind.Identity) }
+    ensures services { asked_of (codes "list" ∷ codes "services" ∷ []) ≡ Some (Listed kind.Service) }
+    ensures routers { asked_of (codes "list" ∷ codes "routers" ∷ []) ≡ Some (Listed kind.Router) }
+    ensures links { asked_of (codes "list" ∷ codes "links" ∷ []) ≡ Some (Listed kind.Link) }
+    ensures service_policies { asked_of (codes "list" ∷ codes "service-policies" ∷ []) ≡ Some (Listed kind.ServicePolicy) }
+    ensures edge_router_policies { asked_of (codes "list" ∷ codes "edge-router-policies" ∷ []) ≡ Some (Listed kind.EdgeRouterPolicy) }
+    ensures service_edge_router_policies { asked_of (codes "list" ∷ codes "service-edge-router-policies" ∷ []) ≡ Some (Listed kind.ServiceEdgeRouterPolicy) }
+    ensures terminators { asked_of (codes "list" ∷ codes "terminators" ∷ []) ≡ Some (Listed kind.Terminator) }
+    ensures circuits { asked_of (codes "list" ∷ codes "circuits" ∷ []) ≡ Some (Listed kind.Circuit) }
+    ensures unknown { asked_of (codes "list" ∷ codes "identity" ∷ []) ≡ Some Unknown }
+    ensures help { asked_of (codes "help" ∷ []) ≡ Some (Tell Help) }
+    ensures version { asked_of (codes "version" ∷ []) ≡ Some (Tell Version) }
+    ensures none { asked_of [] ≡ None }
+    ensures alone { asked_of (codes "list" ∷ []) ≡ None }
+    ensures three { asked_of (codes "list" ∷ codes "links" ∷ codes "l1" ∷ []) ≡ None }
+{}
+
+/// What is noted.
+pub fn worked_notes()
+    ensures unknown { unknown_note (second (codes "list" ∷ codes "identity" ∷ [])) ≡ codes "zitilook: unknown kind: identity\n" }
+    ensures damaged { damaged_note Zero 8 ≡ codes "zitilook: damaged: file 0 at 8\n" }
+{}
