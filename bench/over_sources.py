@@ -6,7 +6,7 @@ in place of each of their functions' proofs, so that a crate is checked over con
 gives no verdict; it tells which goals are open. What `rt ci` kept of a crate below, on this machine and of the same
 text, is taken as it was built, which is much faster; where more than 24 crates are taken as text a check needs 9 GB.
 
-  --only ''                       names, types and the text of contracts, in seconds
+  --only ''                       names and types of the code, in seconds; not the text of contracts
   --only PATH --allow-holes       a function or a module, and what it calls
   --own --allow-holes             every module of the crate
   --whole=NAME                    a crate below with its own proofs
