@@ -45,6 +45,9 @@ fn identity_may(me: &Name, command: &Command) -> bool
         Command::ShowGrants { identity } | Command::ListServices { identity } => {
             is_named(me, identity)
         }
+        Command::Pick { identity, .. } | Command::ListClashes { identity, .. } => {
+            is_named(me, identity)
+        }
         _ => false,
     }
 }

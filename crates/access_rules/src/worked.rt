@@ -1,4 +1,5 @@
 ghost use Rattle.std.specs.Prelude.{◌≡◌, [], ◌∷◌, codes, true, false, None, Some};
+ghost use Rattle.ctrl_model.specs.declared.addresses.Address.TheVariants.{Host};
 ghost use Rattle.ctrl_model.specs.declared.commands.Command.TheVariants as command;
 ghost use Rattle.ctrl_model.specs.declared.kinds.Precedence.TheVariants.{Normal};
 ghost use Rattle.ctrl_model.specs.declared.kinds.Who.TheVariants as who;
@@ -43,6 +44,10 @@ pub fn worked_identities()
     ensures grants_of_another { is_permitted (who.Identity (codes "ann")) (command.ShowGrants (codes "bob")) ≡ false }
     ensures services { is_permitted (who.Identity (codes "ann")) (command.ListServices (codes "ann")) ≡ true }
     ensures services_of_another { is_permitted (who.Identity (codes "ann")) (command.ListServices (codes "bob")) ≡ false }
+    ensures picks { is_permitted (who.Identity (codes "ann")) (command.Pick (codes "ann") false (Host (codes "web")) 443) ≡ true }
+    ensures picks_of_another { is_permitted (who.Identity (codes "ann")) (command.Pick (codes "bob") true (Host (codes "ann")) 443) ≡ false }
+    ensures clashes { is_permitted (who.Identity (codes "ann")) (command.ListClashes (codes "ann") (codes "web")) ≡ true }
+    ensures clashes_of_another { is_permitted (who.Identity (codes "ann")) (command.ListClashes (codes "bob") (codes "ann")) ≡ false }
     ensures connects { is_permitted (who.Identity (codes "r1")) (command.ConnectRouter (codes "r1")) ≡ false }
     ensures changes { is_permitted (who.Identity (codes "ann")) (command.UpdateIdentity (codes "ann") []) ≡ false }
 {}
@@ -67,5 +72,7 @@ pub fn worked_others()
     ensures router_counts { is_permitted (who.Router (codes "r1")) command.ShowCounts ≡ false }
     ensures compacts { is_permitted (who.Router (codes "r1")) command.Compact ≡ false }
     ensures link_cost { is_permitted (who.Router (codes "r1")) (command.SetLinkCost (codes "l1") 1) ≡ false }
+    ensures clears_an_intercept { is_permitted (who.Identity (codes "web")) (command.ClearIntercept (codes "web")) ≡ false }
+    ensures router_picks { is_permitted (who.Router (codes "ann")) (command.Pick (codes "ann") false (Host (codes "web")) 443) ≡ false }
     ensures takes_away { is_permitted (who.Router (codes "r1")) (command.DeleteTerminator 1) ≡ false }
 {}

@@ -1,6 +1,7 @@
 -- What touched numbers cover of circuits that are changed, gone or moved.
 use Rattle.std.proofs.Common.{◌≡◌, ℕ, true, ◌⊎◌, inl, inr, List, Option, Some, sym, ◌∙◌, ap, lit≤}
 use Rattle.std.specs.List.{list_all}
+use Rattle.ctrl_model.specs.declared.formats.Format.{Format}
 use Rattle.ctrl_model.specs.declared.kinds.Kind.TheVariants as kind
 use Rattle.ctrl_model.specs.Membership.{Among}
 use Rattle.ctrl_model.specs.Numbered.{Table, at}
@@ -38,9 +39,9 @@ module _ (o : Option CircuitChange) (gone touched : List ℕ) (ms : List Move) (
       among (inl e) = inl e
       among (inr a) = inr (goes n a)
 
-  pub Covers-moved : (s t : State) → Climbs (λ n. n) touched → list_all is_long (touched_numbers changed touched) ≡ true
+  pub Covers-moved : (f : Format) (s t : State) → Climbs (λ n. n) touched → list_all is_long (touched_numbers changed touched) ≡ true
       → s.circuits ≡ k.circuits → t.circuits ≡ (with_moves ms (circuits_after o gone k)).circuits
-      → Covers 11 12 s t (record_changes kind.Circuit s t (touched_numbers changed touched))
-  Covers-moved s t climbs fits before after =
-      Covers-records kind.Circuit s t (touched_numbers changed touched) (lit≤ tt) (touched_climb changed touched climbs) fits (λ n misses.
+      → Covers f 11 12 s t (record_changes f kind.Circuit s t (touched_numbers changed touched))
+  Covers-moved f s t climbs fits before after =
+      Covers-records f kind.Circuit s t (touched_numbers changed touched) (lit≤ tt) (touched_climb changed touched climbs) fits (λ n misses.
       ap (λ (u : Table Circuit). at u.rows n) before ∙ at-elsewhere n misses ∙ sym (ap (λ (u : Table Circuit). at u.rows n) after))

@@ -1,5 +1,7 @@
 ghost use Rattle.std.specs.Prelude.{◌≡◌, ℕ, true, IfOk, IfSome};
 ghost use Rattle.std.specs.Option.{option_map};
+ghost use Rattle.ctrl_model.specs.declared.formats.Format.{Format};
+ghost use Rattle.ctrl_model.specs.declared.formats.Format.TheVariants.{Two};
 ghost use Rattle.ctrl_model.specs.declared.kinds.Kind.TheVariants as kind;
 ghost use Rattle.ctrl_model.specs.Membership.{Among};
 ghost use Rattle.ctrl_model.specs.State.{State};
@@ -23,8 +25,8 @@ use std::alloc::{AllocError, Global};
 // The row of a circuit under a number, if there is one.
 fn row_of(no: CircuitNo, circuit: Option<CircuitView>) -> Result<Option<Row>, AllocError>
     requires { IfSome circuit (λ c. fits kind.Circuit c ≡ true) }
-    ensures form { IfOk result (λ row. IfSome row (λ r. is_row r ≡ true)) }
-    ensures value { IfOk result (λ row. option_map value_of row ≡ option_map (record_value kind.Circuit) circuit.entry) }
+    ensures form { IfOk result (λ row. IfSome row (λ r. is_row Two r ≡ true)) }
+    ensures value { IfOk result (λ row. option_map (value_of Two) row ≡ option_map (record_value kind.Circuit) circuit.entry) }
 {
     let Some(circuit) = circuit else {
         return Ok(None);
@@ -78,8 +80,8 @@ pub fn circuit_changes(
     requires moved { (n : ℕ) → Among n (moved_numbers moves.now) → Among n touched.now }
     requires before { HaveRows circuits.now }
     requires after { HaveRows (with_moves moves.now (circuits_after (option_map (λ c. c.now) change) gone.now circuits.now)) }
-    ensures { IfOk result (λ changes. (s t : State) → s.circuits ≡ circuits.now.circuits
-        → t.circuits ≡ (with_moves moves.now (circuits_after (option_map (λ c. c.now) change.entry) gone.now circuits.now)).circuits → Covers 11 12 s t changes) }
+    ensures { IfOk result (λ changes. (f : Format) (s t : State) → s.circuits ≡ circuits.now.circuits
+        → t.circuits ≡ (with_moves moves.now (circuits_after (option_map (λ c. c.now) change.entry) gone.now circuits.now)).circuits → Covers f 11 12 s t changes) }
 {
     let after = CircuitsAfter::new(circuits, change, gone, moves);
     let changed = changed_number(change, circuits.next());

@@ -72,7 +72,7 @@ claim_fields chosen links potentials routers terminator total =
     (field.Chosen, a_text chosen) ∷ (field.Links, some_numbers links) ∷ (field.Potentials, some_reaches potentials)
     ∷ (field.Routers, some_numbers routers) ∷ (field.Terminator, a_number terminator) ∷ (field.Total, a_number total) ∷ []
 
--- The fields that the body of a command gives.
+-- The fields that the body of a command gives. None is written for the commands on intercepts yet.
 abbrev pub fields_of : Command → GivenFields
 fields_of command.Hello = []
 fields_of (command.CreateIdentity name attributes) = entity_fields name attributes
@@ -114,6 +114,10 @@ fields_of (command.ListServices identity) = name_field field.Identity identity
 fields_of command.ShowCounts = []
 fields_of (command.ShowCircuit n) = no_field n
 fields_of command.Compact = []
+fields_of (command.SetIntercept service intercept) = []
+fields_of (command.ClearIntercept service) = []
+fields_of (command.Pick identity udp address port) = []
+fields_of (command.ListClashes identity service) = []
 
 -- The fields that the body of a command of a family gives, and none of another command. The content types of a family begin at
 -- the first number and end before the second.

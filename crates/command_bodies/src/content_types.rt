@@ -56,6 +56,10 @@ pub fn content_of(command: &Command) -> u32
         Command::ShowCounts => 1502,
         Command::ShowCircuit { .. } => 1503,
         Command::Compact => 1510,
+        Command::SetIntercept { .. } => 1600,
+        Command::ClearIntercept { .. } => 1601,
+        Command::Pick { .. } => 1610,
+        Command::ListClashes { .. } => 1611,
         _ => content_of_managed(command),
     }
 }

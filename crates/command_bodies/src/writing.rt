@@ -1,7 +1,8 @@
-ghost use Rattle.std.specs.Prelude.{◌≡◌, true, IfOk, Some, Ok};
+ghost use Rattle.std.specs.Prelude.{◌≡◌, true, false, IfOk, Some, Ok};
 ghost use Rattle.serde_json.specs.View.{view};
 ghost use Rattle.serde_json.specs.Written.{compact_text};
 ghost use Rattle.ctrl_model.specs.CommandForm.{is_spelled};
+ghost use Rattle.ctrl_model.specs.InterceptCommands.{is_intercept_command};
 ghost use Rattle.command_codec.specs.BodyMeaning.{meaning};
 ghost use Rattle.command_codec.specs.BodyObjects.{object_of_body};
 ghost use Rattle.command_codec.specs.ContentTypes.{content_of};
@@ -32,9 +33,10 @@ fn object_bytes(alloc: Global, command: &Command) -> Result<Bytes, AllocError>
 
 /// The body that is written for a command that some body spells: compact JSON with keys in ascending order and every field but a
 /// host or an ingress that is none; no bytes for Hello. It is the one body that is written, and it reads as the command
-/// (docs/FORMATS.md, "Bodies").
+/// (docs/FORMATS.md, "Bodies"). The commands on intercepts are not written yet.
 pub fn write(alloc: Global, command: &Command) -> Result<Bytes, AllocError>
-    requires { is_spelled command.now ≡ true }
+    requires spelled { is_spelled command.now ≡ true }
+    requires others { is_intercept_command command.now ≡ false }
     ensures body { IfOk result (λ b. b ≡ body_text command.now) }
     ensures reads_back { IfOk result (λ b. meaning (content_of command.now) b ≡ Ok command.now) }
 {

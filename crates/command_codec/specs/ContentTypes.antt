@@ -44,3 +44,7 @@ content_of (command.ListServices identity) = 1501
 content_of command.ShowCounts = 1502
 content_of (command.ShowCircuit n) = 1503
 content_of command.Compact = 1510
+content_of (command.SetIntercept service intercept) = 1600
+content_of (command.ClearIntercept service) = 1601
+content_of (command.Pick identity udp address port) = 1610
+content_of (command.ListClashes identity service) = 1611

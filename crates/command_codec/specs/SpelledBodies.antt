@@ -134,7 +134,7 @@ SaysClaimedRoute body identity service ingress instance chosen links potentials 
     × Tells as_potentials field.Potentials potentials o × Tells (as_numbers (limit kind.Router)) field.Routers routers o × Tells as_no field.Terminator terminator o
     × Tells as_total field.Total total o)
 
--- A body gives the fields of a command. Any body gives those of Hello.
+-- A body gives the fields of a command. Any body gives those of Hello, and until they are read none those of the commands on intercepts.
 abbrev pub SaysFields : List ℕ → Command → Type 0
 SaysFields body command.Hello = ⊤
 SaysFields body (command.CreateIdentity name attributes) = SaysMade body name attributes
@@ -176,6 +176,10 @@ SaysFields body (command.ListServices identity) = SaysName body field.Identity i
 SaysFields body command.ShowCounts = Says body [] (λ o. ⊤)
 SaysFields body (command.ShowCircuit n) = SaysNo body n
 SaysFields body command.Compact = Says body [] (λ o. ⊤)
+SaysFields body (command.SetIntercept service intercept) = ⊥
+SaysFields body (command.ClearIntercept service) = ⊥
+SaysFields body (command.Pick identity udp address port) = ⊥
+SaysFields body (command.ListClashes identity service) = ⊥
 
 -- A body spells a command under a content type: the type is the command's, and the body gives the command's fields.
 abbrev pub Spells : ℕ → List ℕ → Command → Type 0

@@ -1,7 +1,8 @@
-ghost use Rattle.std.specs.Prelude.{◌≡◌, ◌≢◌, ◌↔◌, ◌<◌, ◌==◌, IfOk, IfErr, IsOk, IsErrOf, length, true, Some, Ok, Err, option_map};
+ghost use Rattle.std.specs.Prelude.{◌≡◌, ◌≢◌, ◌↔◌, ◌<◌, ◌==◌, IfOk, IfErr, IsOk, IsErrOf, length, true, false, Some, Ok, Err, option_map};
 ghost use Rattle.std.specs.Map.{lookup};
 ghost use Rattle.serde_json.specs.View.{view};
 ghost use Rattle.ctrl_model.specs.CommandForm.{is_spelled};
+ghost use Rattle.ctrl_model.specs.InterceptCommands.{is_intercept_command};
 ghost use Rattle.json_body.specs.FieldKinds.{object_of};
 ghost use Rattle.body_fields.specs.ReadResults.{Gives};
 ghost use Rattle.command_codec.specs.BodyForms.{form_rules, with_fields};
@@ -137,6 +138,8 @@ pub fn read(alloc: Global, content: u32, body: &[u8]) -> Result<Command, CodecFa
     ensures memory { IsErrOf result CodecFault.NoMemory → 0 < length body.now }
     // What is read keeps the kinds, the ranges and the lengths of its fields.
     ensures spelled { IfOk result (λ c. is_spelled c ≡ true) }
+    // The commands on intercepts are not read yet.
+    ensures others { IfOk result (λ c. is_intercept_command c ≡ false) }
 {
     if content == HELLO {
         return Ok(Command::Hello);

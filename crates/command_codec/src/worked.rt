@@ -133,6 +133,7 @@ pub fn worked_claims()
 pub fn worked_causes()
     ensures unsupported { meaning 999 (codes "{\"name\":\"ann\"}") ≡ Err UnsupportedType }
     ensures no_command { meaning 1511 (codes "{}") ≡ Err UnsupportedType }
+    ensures no_intercepts { meaning 1601 (codes "{\"service\":\"web\"}") ≡ Err UnsupportedType }
     ensures reply { meaning 2 (codes "{\"name\":\"ann\"}") ≡ Err UnsupportedType }
     ensures no_text { meaning 1000 (codes "abc") ≡ Err (BadBody field.Nothing reason.NotObject) }
     ensures no_bytes { meaning 1000 [] ≡ Err (BadBody field.Nothing reason.NotObject) }

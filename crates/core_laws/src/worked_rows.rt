@@ -3,6 +3,7 @@ ghost use Rattle.ctrl_model.specs.WorkedStates.{after, line_without_terminator, 
 ghost use Rattle.ctrl_model.specs.declared.kinds.Precedence.TheVariants.{Failed, Normal, Required};
 ghost use Rattle.row_codec.specs.Batches.{batch_between, batch_bytes};
 ghost use Rattle.row_codec.specs.RowValues.{precedence_byte, terminator_value};
+ghost use Rattle.ctrl_core.specs.KeptFormat.{kept_format};
 ghost use Rattle.core_laws.specs.WorkedRows.{offer_of};
 
 /// The byte of each precedence, alone and at the end of a terminator's row: service 2 on router 3, without a host and an instance, at
@@ -17,7 +18,7 @@ pub fn precedences_in_rows()
 /// The batch by which a folder keeps that a required terminator of web on r3 is made, the first one: the next number of terminators, and
 /// the row.
 pub fn precedence_in_a_folder()
-    ensures required { batch_bytes (batch_between line_without_terminator (after (offered (codes "web") (codes "r3") 0 Required ∷ []) line_without_terminator))
+    ensures required { batch_bytes (batch_between kept_format line_without_terminator (after (offered (codes "web") (codes "r3") 0 Required ∷ []) line_without_terminator))
         ≡ 1 ∷ 2 ∷ 1 ∷ 8 ∷ 4 ∷ 0 ∷ 0 ∷ 0 ∷ 2 ∷ 0 ∷ 0 ∷ 0
         ∷ 1 ∷ 5 ∷ 10 ∷ 0 ∷ 0 ∷ 0 ∷ 1 ∷ 16 ∷ 0 ∷ 0 ∷ 0
         ∷ 1 ∷ 0 ∷ 0 ∷ 0 ∷ 3 ∷ 0 ∷ 0 ∷ 0 ∷ 0 ∷ 0 ∷ 0 ∷ 0 ∷ 0 ∷ 0 ∷ 0 ∷ 1 ∷ [] }

@@ -12,6 +12,7 @@ pub mod LookedCircuits
 pub mod LoadChanges
 pub mod JudgedChanges
 pub mod NextNumbers
+pub mod KeptRows
 pub mod RowEnds
 pub mod CountRows
 pub mod TakenLaws

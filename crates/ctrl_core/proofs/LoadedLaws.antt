@@ -4,6 +4,7 @@ use Rattle.std.proofs.lemmas.Bool.{and_parts}
 use Rattle.std.proofs.lemmas.List.{take_all, take_more, length-take-le}
 use Rattle.std.proofs.Math.Seq.{drop-cons}
 use Rattle.std.specs.List.{list_all}
+use Rattle.ctrl_model.specs.declared.formats.Format.{Format}
 use Rattle.ctrl_model.specs.declared.kinds.Kind.{Kind}
 use Rattle.ctrl_model.specs.declared.kinds.Kind.TheVariants as kind
 use Rattle.ctrl_model.specs.declared.kinds.Relation.{Relation}
@@ -108,14 +109,14 @@ pub taken_all : (nexts : Kind → ℕ) (rows : List Row) (i : ℕ) (old now : St
 taken_all nexts rows i old now so all = subst (λ (xs : List Row). AreTaken nexts xs old now) (take_all i rows all) so
 
 -- the row at a place is one that some state can have
-pub row_at : (rows : List Row) (i : ℕ) (x : Row) → list_all is_row rows ≡ true → i < length rows → x ≡ get_or rows i x → is_row x ≡ true
-row_at rows i x form within is =
+pub row_at : (f : Format) (rows : List Row) (i : ℕ) (x : Row) → list_all (is_row f) rows ≡ true → i < length rows → x ≡ get_or rows i x → is_row f x ≡ true
+row_at f rows i x form within is =
     let split = sym (take-append-drop i rows) ∙ ap (λ (xs : List Row). take i rows ++ xs) (drop-cons rows i x within ∙ ap (λ (y : Row). y ∷ drop (suc i) rows) (sym is)) in
-    by (take i rows) (drop (suc i) rows) (subst (λ (xs : List Row). list_all is_row xs ≡ true) split form)
+    by (take i rows) (drop (suc i) rows) (subst (λ (xs : List Row). list_all (is_row f) xs ≡ true) split form)
   where
-    by : (front back : List Row) → list_all is_row (front ++ x ∷ back) ≡ true → is_row x ≡ true
-    by [] back e = (and_parts (is_row x) (list_all is_row back) e).0
-    by (y ∷ front) back e = by front back (and_parts (is_row y) (list_all is_row (front ++ x ∷ back)) e).1
+    by : (front back : List Row) → list_all (is_row f) (front ++ x ∷ back) ≡ true → is_row f x ≡ true
+    by [] back e = (and_parts (is_row f x) (list_all (is_row f) back) e).0
+    by (y ∷ front) back e = by front back (and_parts (is_row f y) (list_all (is_row f) (front ++ x ∷ back)) e).1
 
 -- ---- the counts
 
@@ -208,24 +209,24 @@ keeps_start = record { valid = start-valid; held = λ name. refl; loads = λ n. 
 -- ---- all rows
 
 -- once all rows are taken, the next numbers are at most those that the rows have
-pub nexts_later : (rows : List Row) (st : Stores) → list_all is_row rows ≡ true → state_of st ≡ built rows start → AreFlawless (next_in rows) rows start
+pub nexts_later : (f : Format) (rows : List Row) (st : Stores) → list_all (is_row f) rows ≡ true → state_of st ≡ built rows start → AreFlawless (next_in rows) rows start
     → (k : Kind) → (table k (state_of st)).next ≤ next_in rows k
-nexts_later rows st form is f k =
-    subst (λ s. (table k s).next ≤ next_in rows k) (sym is) (built-below (next_in rows) rows start (start-below (next_in rows)) f k (next_in-between rows k form).0)
+nexts_later f rows st form is flawless k =
+    subst (λ s. (table k s).next ≤ next_in rows k) (sym is) (built-below (next_in rows) rows start (start-below (next_in rows)) flawless k (next_in-between f rows k form).0)
 
 -- the counts that rows have are kept
-pub counts_told : (rows : List Row) (st : Stores) → Loads (map put_of rows) rows → state_of st ≡ built rows start → AreFlawless (next_in rows) rows start
+pub counts_told : (f : Format) (rows : List Row) (st : Stores) → Loads f (map (put_of f) rows) rows → state_of st ≡ built rows start → AreFlawless (next_in rows) rows start
     → (r : Relation) (a b : ℕ) → 0 < count_in rows r a b → count_in rows r a b ≡ count r (state_of st) a b
-counts_told rows st l is f r a b h = told (next_in rows) rows start r a b l.rises f h ∙ ap (λ s. count r s a b) (sym is)
+counts_told f rows st l is flawless r a b h = told f (next_in rows) rows start r a b l.rises flawless h ∙ ap (λ s. count r s a b) (sym is)
 
 -- with the next numbers raised the stores keep the state that the rows give
-pub keeps_loaded : (rows : List Row) (st new : Stores) → Loads (map put_of rows) rows → Keeps st → state_of st ≡ built rows start → AreFlawless (next_in rows) rows start
+pub keeps_loaded : (f : Format) (rows : List Row) (st new : Stores) → Loads f (map (put_of f) rows) rows → Keeps st → state_of st ≡ built rows start → AreFlawless (next_in rows) rows start
     → Carries st new (with_nexts (next_in rows) (state_of st)) → new.terminators.loads ≡ st.terminators.loads → KeepState new (state_in rows)
-keeps_loaded rows st new l k is f c same_loads =
+keeps_loaded f rows st new l k is flawless c same_loads =
     let ends : state_of new ≡ state_in rows = c.next ∙ ap (with_nexts (next_in rows)) is in
     record {
       kept = record {
-        valid = subst ValidState (sym ends) (valid_in (map put_of rows) rows l f);
+        valid = subst ValidState (sym ends) (valid_in f (map (put_of f) rows) rows l flawless);
         held = c.held;
         loads = λ n.
             ap (λ (ls : List (ℕ × ℕ)). unwrap_or (at ls n) 0) same_loads ∙ k.loads n
@@ -239,27 +240,27 @@ keeps_loaded rows st new l k is f c same_loads =
 
 -- ---- refusals
 
-pub are_flawed : (rows : List Row) (place : ℕ) (flaw : Flaw) → Loads (map put_of rows) rows → IsFirstFlaw (next_in rows) rows start place flaw
-    → AreFlawed (map put_of rows) place flaw
-are_flawed rows place flaw l f = record {
+pub are_flawed : (f : Format) (rows : List Row) (place : ℕ) (flaw : Flaw) → Loads f (map (put_of f) rows) rows → IsFirstFlaw (next_in rows) rows start place flaw
+    → AreFlawed f (map (put_of f) rows) place flaw
+are_flawed f rows place flaw l first = record {
   rows = rows;
   loads = l;
-  before = f.before;
-  one = f.one;
-  after = f.after;
-  split = f.split;
-  flawless = f.flawless;
-  place_is = f.place_is;
-  flaw_is = f.flaw_is;
+  before = first.before;
+  one = first.one;
+  after = first.after;
+  split = first.split;
+  flawless = first.flawless;
+  place_is = first.place_is;
+  flaw_is = first.flaw_is;
 }
 
-pub lack_counts : (rows : List Row) (st : Stores) (place : ℕ) (flaw : Flaw) → Loads (map put_of rows) rows → AreFlawless (next_in rows) rows start → state_of st ≡ built rows start
+pub lack_counts : (f : Format) (rows : List Row) (st : Stores) (place : ℕ) (flaw : Flaw) → Loads f (map (put_of f) rows) rows → AreFlawless (next_in rows) rows start → state_of st ≡ built rows start
     → (r : Relation) × (a : ℕ) × (b : ℕ) × (count_in rows r a b ≡ count r (state_of st) a b → ⊥) → length rows ≡ place → flaw ≡ WrongCount
-    → LackCounts (map put_of rows) place flaw
-lack_counts rows st place flaw l f is one at wrong = record {
+    → LackCounts f (map (put_of f) rows) place flaw
+lack_counts f rows st place flaw l flawless is one at wrong = record {
   rows = rows;
   loads = l;
-  flawless = f;
+  flawless = flawless;
   relation = one.0;
   left = one.1;
   right = one.2;
@@ -269,19 +270,19 @@ lack_counts rows st place flaw l f is one at wrong = record {
 }
 
 -- the changes that put the rows are refused for the same reason
-pub refused_so : (ops : List Op) (rows : List Row) (place : ℕ) (flaw : Flaw) → Loads ops rows → AreFlawed (map put_of rows) place flaw ⊎ LackCounts (map put_of rows) place flaw
-    → RefusesRows ops place flaw
-refused_so ops rows place flaw l h = subst (λ (os : List Op). RefusesRows os place flaw) (sym l.spelled) (inr h)
+pub refused_so : (f : Format) (ops : List Op) (rows : List Row) (place : ℕ) (flaw : Flaw) → Loads f ops rows → AreFlawed f (map (put_of f) rows) place flaw ⊎ LackCounts f (map (put_of f) rows) place flaw
+    → RefusesRows f ops place flaw
+refused_so f ops rows place flaw l h = subst (λ (os : List Op). RefusesRows f os place flaw) (sym l.spelled) (inr h)
 
 -- rows load as the changes that put them do
-pub loads_puts : (ops : List Op) (rows : List Row) → Loads ops rows → Loads (map put_of rows) rows
-loads_puts ops rows l = subst (λ (os : List Op). Loads os rows) l.spelled l
+pub loads_puts : (f : Format) (ops : List Op) (rows : List Row) → Loads f ops rows → Loads f (map (put_of f) rows) rows
+loads_puts f ops rows l = subst (λ (os : List Op). Loads f os rows) l.spelled l
 
 -- what holds of the state of stores without records holds at the start
 pub at_start : (P : State → Type 0) (st : Stores) → st ≡ no_stores → P (state_of st) → P start
 at_start P st is p = subst (λ (q : Stores). P (state_of q)) is p
 
 -- changes that put rows without flaws, with every count among them, are those that lead to the state that the stores keep
-pub rows_are : (ops : List Op) (rows : List Row) (st : Stores) → Loads ops rows → KeepState st (state_in rows) → AreFlawless (next_in rows) rows start → HaveCounts rows (built rows start)
-    → ops ≡ batch_between start (state_of st)
-rows_are ops rows st l k f c = ops_are ops rows l f c ∙ ap (batch_between start) (sym k.state_is)
+pub rows_are : (f : Format) (ops : List Op) (rows : List Row) (st : Stores) → Loads f ops rows → KeepState st (state_in rows) → AreFlawless (next_in rows) rows start → HaveCounts rows (built rows start)
+    → ops ≡ batch_between f start (state_of st)
+rows_are f ops rows st l k flawless counts = ops_are f ops rows l flawless counts ∙ ap (batch_between f start) (sym k.state_is)

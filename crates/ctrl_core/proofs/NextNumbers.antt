@@ -1,6 +1,7 @@
 -- The next numbers after a change: that of the kind of which it adds a record rises by one, and no other moves.
 use Rattle.std.proofs.Common.{◌≡◌, ℕ, ◌+◌, ◌≤◌, ◌<◌, true, cond, nat_le, leb-true, List, [], ◌∷◌, map, inl, inr, Option, None, Some, refl, sym, ◌∙◌, ap, subst, arith}
 use Rattle.std.proofs.lemmas.Bool.{false≢true}
+use Rattle.ctrl_model.specs.declared.formats.Format.{Format}
 use Rattle.ctrl_model.specs.declared.kinds.Kind.{Kind}
 use Rattle.ctrl_model.specs.declared.kinds.Kind.TheVariants as kind
 use Rattle.ctrl_model.specs.Membership.{Among}
@@ -210,10 +211,10 @@ pub next_so : (c : Change) (st : Stores) → CanSettle st c → map (next_change
 next_so c st can = pointwise (next_change_by c st) (next_change_in (state_of st) (next_state st c)) kinds (λ k m.
     ap (next_change_of k (table k (state_of st)).next) (sym (next_is k c st can (list_all-among (λ j. nat_le 1 (kind_number j)) kinds k refl m))))
 
-pub next_covered : (s t : State) → Covers 1 2 s t (map (next_change_in s t) kinds)
-next_covered s t =
-    subst (λ cs. Covers 1 2 s t cs) same
-    (Covers-next s t kinds (Climbs-from kind_number kinds refl) refl (λ k misses. ap (λ j. (table j s).next) (among_kinds k misses) ∙ sym (ap (λ j. (table j t).next) (among_kinds k misses))))
+pub next_covered : (f : Format) (s t : State) → Covers f 1 2 s t (map (next_change_in s t) kinds)
+next_covered f s t =
+    subst (λ cs. Covers f 1 2 s t cs) same
+    (Covers-next f s t kinds (Climbs-from kind_number kinds refl) refl (λ k misses. ap (λ j. (table j s).next) (among_kinds k misses) ∙ sym (ap (λ j. (table j t).next) (among_kinds k misses))))
   where
-    same : next_changes s t kinds ≡ map (next_change_in s t) kinds
-    same = pointwise (λ k. change_at s t (key_in Next (kind_number k) 0)) (next_change_in s t) kinds (λ k m. change_at-next k s t (leb-true 1 (kind_number k) (list_all-among (λ j. nat_le 1 (kind_number j)) kinds k refl m)))
+    same : next_changes f s t kinds ≡ map (next_change_in s t) kinds
+    same = pointwise (λ k. change_at f s t (key_in Next (kind_number k) 0)) (next_change_in s t) kinds (λ k m. change_at-next f k s t (leb-true 1 (kind_number k) (list_all-among (λ j. nat_le 1 (kind_number j)) kinds k refl m)))

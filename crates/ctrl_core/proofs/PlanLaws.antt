@@ -11,6 +11,7 @@ use Rattle.ctrl_model.specs.State.{State}
 use Rattle.ctrl_model.specs.Grants.{count}
 use Rattle.ctrl_model.specs.CommandForm.{is_spelled}
 use Rattle.ctrl_model.specs.Controller.{carry}
+use Rattle.ctrl_model.specs.InterceptCommands.{is_intercept_command}
 use Rattle.ctrl_model.specs.ValidState.{ValidState}
 use Rattle.ctrl_model.specs.Settling.{settle}
 use Rattle.model_laws.proofs.ValidCommands.{answer-valid}
@@ -99,12 +100,12 @@ still_is st d p made still = record {
 }
 
 -- a command of no family changes nothing
-pub alone_is : (c : Command) (s : State) (reply : Reply) → reply ≡ reply_alone c → is_entity_command c ≡ false → is_policy_command c ≡ false → is_link_command c ≡ false
+pub alone_is : (c : Command) (s : State) (reply : Reply) → reply ≡ reply_alone c → is_intercept_command c ≡ false → is_entity_command c ≡ false → is_policy_command c ≡ false → is_link_command c ≡ false
     → is_terminator_command c ≡ false → is_circuit_command c ≡ false → is_grant_command c ≡ false → carry c s ≡ (reply, s)
-alone_is c s reply is entity policy link terminator circuit grant =
-    by c (λ i. entity i || (policy i || (link i || (terminator i || (circuit i || grant i))))) ∙ ap (λ (r : Reply). (r, s)) (sym is)
+alone_is c s reply is intercept entity policy link terminator circuit grant =
+    by c (λ i. intercept i || (entity i || (policy i || (link i || (terminator i || (circuit i || grant i)))))) ∙ ap (λ (r : Reply). (r, s)) (sym is)
   where
-    by : (c : Command) → (is_entity_command c || (is_policy_command c || (is_link_command c || (is_terminator_command c || (is_circuit_command c || is_grant_command c))))) ≡ false
+    by : (c : Command) → (is_intercept_command c || (is_entity_command c || (is_policy_command c || (is_link_command c || (is_terminator_command c || (is_circuit_command c || is_grant_command c)))))) ≡ false
         → carry c s ≡ (reply_alone c, s)
     by command.Hello none = refl
     by command.Compact none = refl

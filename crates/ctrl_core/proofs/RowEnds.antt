@@ -2,6 +2,7 @@
 use Rattle.std.proofs.Common.{◌≡◌, ℕ, true, List, [], Option, None, Some, Bor, IfSome, refl, sym, ◌∙◌, ap, subst, arith}
 use Rattle.std.proofs.lemmas.Option.{none-some}
 use Rattle.std.specs.Option.{option_map, unwrap_or}
+use Rattle.ctrl_model.specs.declared.formats.Format.{Format}
 use Rattle.ctrl_model.specs.declared.kinds.Kind.{Kind}
 use Rattle.ctrl_model.specs.declared.kinds.Kind.TheVariants as kind
 use Rattle.ctrl_model.specs.Membership.{Among}
@@ -225,8 +226,8 @@ kept_then (change.Terminator q) st e f = refl
 kept_then (change.Circuit q) st e f = refl
 
 -- states with the same policies
-pub policies_same : (s t : State) → tables_of s ≡ tables_of t → Covers 7 10 s t []
-policies_same s t e =
-    Covers-append 7 8 10 s t [] [] (omega arith) (omega arith) (Covers-same_records kind.ServicePolicy s t (omega arith) (λ m. ap (λ (p : PolicyTables). at p.service_policies.rows m) e))
-    (Covers-append 8 9 10 s t [] [] (omega arith) (omega arith) (Covers-same_records kind.EdgeRouterPolicy s t (omega arith) (λ m. ap (λ (p : PolicyTables). at p.edge_router_policies.rows m) e))
-    (Covers-same_records kind.ServiceEdgeRouterPolicy s t (omega arith) (λ m. ap (λ (p : PolicyTables). at p.service_edge_router_policies.rows m) e)))
+pub policies_same : (f : Format) (s t : State) → tables_of s ≡ tables_of t → Covers f 7 10 s t []
+policies_same f s t e =
+    Covers-append f 7 8 10 s t [] [] (omega arith) (omega arith) (Covers-same_records f kind.ServicePolicy s t (omega arith) (λ m. ap (λ (p : PolicyTables). at p.service_policies.rows m) e))
+    (Covers-append f 8 9 10 s t [] [] (omega arith) (omega arith) (Covers-same_records f kind.EdgeRouterPolicy s t (omega arith) (λ m. ap (λ (p : PolicyTables). at p.edge_router_policies.rows m) e))
+    (Covers-same_records f kind.ServiceEdgeRouterPolicy s t (omega arith) (λ m. ap (λ (p : PolicyTables). at p.service_edge_router_policies.rows m) e)))

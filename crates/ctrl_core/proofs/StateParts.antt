@@ -52,6 +52,8 @@ assembled t p f e k = record {
   terminators = e.terminators;
   circuits = k.circuits;
   least_router_cost = f.least;
+  intercepts = [];
+  serial = 0;
 }
 
 -- each table after a change

@@ -10,6 +10,7 @@ use Rattle.core_stores.specs.declared.settled.Settled.{Settled}
 use Rattle.core_stores.specs.declared.stores.Stores.{Stores}
 use Rattle.ctrl_core.specs.Changes.{NamesSettled, after_change}
 use Rattle.grant_steps.specs.LeadingSteps.{LeadAllCounts}
+use Rattle.ctrl_core.specs.KeptFormat.{kept_format}
 use Rattle.ctrl_core.specs.KeptState.{Keeps}
 use Rattle.core_stores.specs.StoredState.{state_of}
 use Rattle.ctrl_core.specs.PlannedCommands.{CanPlan}
@@ -24,7 +25,7 @@ pub record CanComplete (st : Stores) (d : Draft) : Type 0 where
 -- What settles after the change of a draft, and the batch of the rows that differ.
 pub record SettlesAs (st : Stores) (d : Draft) (g : Settled) (batch : List Op) : Type 0 where
   pub settled : NamesSettled d.change (state_of st) g
-  pub batch_is : batch ≡ batch_between (state_of st) (led_by after_change d.change (state_of st))
+  pub batch_is : batch ≡ batch_between kept_format (state_of st) (led_by after_change d.change (state_of st))
 
 -- A plan is a draft with what settles and with the batch of the rows that differ.
 pub record Completes (st : Stores) (d : Draft) (p : Planned) : Type 0 where
@@ -32,4 +33,4 @@ pub record Completes (st : Stores) (d : Draft) (p : Planned) : Type 0 where
   pub change_is : p.change ≡ d.change
   pub steps_are : p.steps ≡ d.steps
   pub settled : NamesSettled d.change (state_of st) p.settled
-  pub batch_is : p.batch ≡ batch_between (state_of st) (led_by after_change d.change (state_of st))
+  pub batch_is : p.batch ≡ batch_between kept_format (state_of st) (led_by after_change d.change (state_of st))

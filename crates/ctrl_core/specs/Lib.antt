@@ -1,4 +1,5 @@
 pub mod KeptState
+pub mod KeptFormat
 pub mod Changes
 pub mod PlannedCommands
 pub mod ChangedStores

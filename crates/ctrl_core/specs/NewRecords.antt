@@ -42,6 +42,8 @@ new_in x = by_row (record {
   setting = λ cost. None;
   one = λ k n r. option_map (λ c. record { kind = k; number = n; change = c }) (added k r);
   count = λ r a b c. None;
+  intercept = λ n i. None;
+  serial = λ n. None;
 }) x
 
 -- A change adds a record of a kind.

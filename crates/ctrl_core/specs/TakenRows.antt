@@ -23,4 +23,6 @@ count_flaw_of x s = by_row (record {
   setting = λ cost. None;
   one = λ k n r. None;
   count = λ r a b c. flaw_if (not (count r s a b == c)) WrongCount None;
+  intercept = λ n i. None;
+  serial = λ n. None;
 }) x

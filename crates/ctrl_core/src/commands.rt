@@ -1,6 +1,7 @@
 ghost use Rattle.std.specs.Prelude.{◌≡◌, true, false, IfOk, MatchOption};
 ghost use Rattle.ctrl_model.specs.CommandForm.{is_spelled};
 ghost use Rattle.ctrl_model.specs.Controller.{carry};
+ghost use Rattle.ctrl_model.specs.InterceptCommands.{is_intercept_command};
 ghost use Rattle.ctrl_model.specs.State.{State};
 ghost use Rattle.ctrl_model.specs.declared.replies.Reply.{Reply};
 ghost use Rattle.model_laws.specs.Plans as family;
@@ -79,10 +80,11 @@ fn shown_in(alloc: Global, stores: &Stores, command: &Command) -> Result<Option<
 }
 
 /// Plans the answer to a command over the state of some stores: it is planned by the family that it belongs to, and what belongs to
-/// none, Hello or Compact, changes nothing.
+/// none, Hello or Compact, changes nothing. No command on intercepts is planned.
 pub fn plan_command(alloc: Global, stores: &Stores, command: &Command) -> Result<Draft, AllocError>
     requires kept { Keeps stores.now }
     requires spelled { is_spelled command.now ≡ true }
+    requires other { is_intercept_command command.now ≡ false }
     ensures { IfOk result (λ p. Plans p (carry command.now (state_of stores.now)) (state_of stores.now)) }
 {
     let entities = &stores.entities;

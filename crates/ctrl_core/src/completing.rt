@@ -1,6 +1,7 @@
 ghost use Rattle.std.specs.Prelude.{◌≡◌, IfOk};
 ghost use Rattle.model_laws.specs.Plans.{led_by};
 ghost use Rattle.row_codec.specs.Batches.{batch_between};
+ghost use Rattle.ctrl_core.specs.KeptFormat.{kept_format};
 ghost use Rattle.ctrl_core.specs.KeptState.{IsGranted};
 ghost use Rattle.core_stores.specs.StoredState.{state_of};
 ghost use Rattle.ctrl_core.specs.Changes.{NamesSettled, after_change};
@@ -39,7 +40,7 @@ fn batch_after(
 ) -> Result<Batch, AllocError>
     requires can { CanComplete stores.now draft.now }
     requires settled { NamesSettled draft.now.change (state_of stores.now) settled.now }
-    ensures { IfOk result (λ batch. batch ≡ batch_between (state_of stores.now) (led_by after_change draft.now.change (state_of stores.now))) }
+    ensures { IfOk result (λ batch. batch ≡ batch_between kept_format (state_of stores.now) (led_by after_change draft.now.change (state_of stores.now))) }
 {
     match &draft.change {
         Some(change) => batch_for(alloc, stores, change, settled, &draft.steps),

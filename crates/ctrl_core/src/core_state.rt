@@ -2,6 +2,7 @@ ghost use Rattle.std.specs.Prelude.{◌≡◌, ℕ, true, false, IfOk, IsErrOf, 
 ghost use Rattle.ctrl_model.specs.State.{start};
 ghost use Rattle.ctrl_model.specs.CommandForm.{is_spelled};
 ghost use Rattle.ctrl_model.specs.Controller.{carry};
+ghost use Rattle.ctrl_model.specs.InterceptCommands.{is_intercept_command};
 ghost use Rattle.ctrl_model.specs.Grants.{count};
 ghost use Rattle.ctrl_model.specs.Networks.{circuits_full, open_circuits};
 ghost use Rattle.ctrl_model.specs.ValidState.{ValidState};
@@ -10,16 +11,19 @@ ghost use Rattle.grant_denorm.specs.MovedCounts.{AreCountsOf};
 ghost use Rattle.policy_store.specs.PolicyChanges.{tables_of};
 ghost use Rattle.terminators.specs.TermTables.{open_at};
 ghost use Rattle.row_codec.specs.Batches.{batch_between};
+ghost use Rattle.row_codec.specs.StateRows.{HasRows};
 ghost use Rattle.state_building.specs.declared.flaws.Flaw.{Flaw};
 ghost use Rattle.row_loading.specs.declared.faults.CoreFault.TheVariants.{NotAState};
 ghost use Rattle.row_loading.specs.LoadedRows.{AreOfNoState};
 ghost use Rattle.row_loading.specs.RefusedRows.{RefusesRows};
 ghost use Rattle.grant_steps.specs.LeadingSteps.{LeadAllCounts};
 ghost use Rattle.ctrl_core.specs.Changes.{CanChange, CanLead, IsStill, LeadsFrom, NamesSettled, after_change, led};
+ghost use Rattle.ctrl_core.specs.KeptFormat.{kept_format};
 
 use crate::applying::move_stores;
 use crate::commands::plan_command;
 use crate::completing::{completed, settled_after};
+use crate::kept_format::KEPT_FORMAT;
 use crate::loading::load;
 use crate::plans::Planned;
 use core_stores::{Change, Settled, Stores};
@@ -71,19 +75,20 @@ impl Core {
         })
     }
 
-    /// The core of the state whose rows a batch puts, all of them, where no row was. Nothing is taken on trust: the counts are found
+    /// The core of the state whose rows a batch puts, in the format that is kept, all of them, where no row was. Nothing is taken on trust: the counts are found
     /// anew from the policies, and those of the rows have to be the same.
     ///
     /// `NotAState` comes exactly where they are not all rows of a valid state. It tells the first place at which a row cannot be the
     /// next one, or where a count is missing, and why (docs/FORMATS.md, "Rows of a valid state").
     pub fn from_rows(alloc: Global, rows: &Batch) -> Result<Core, CoreFault>
         ensures live { IfOk result (λ c. c.live ≡ true) }
-        ensures rows { IfOk result (λ c. rows.now ≡ batch_between start c.state) }
+        ensures rows { IfOk result (λ c. rows.now ≡ batch_between kept_format start c.state) }
         ensures valid { IfOk result (λ c. ValidState c.state) }
-        ensures refused { (place : ℕ) (flaw : Flaw) → IsErrOf result (NotAState place flaw) → RefusesRows rows.now place flaw }
-        ensures none { (place : ℕ) (flaw : Flaw) → IsErrOf result (NotAState place flaw) → AreOfNoState rows.now }
+        ensures has_rows { IfOk result (λ c. HasRows kept_format c.state) }
+        ensures refused { (place : ℕ) (flaw : Flaw) → IsErrOf result (NotAState place flaw) → RefusesRows kept_format rows.now place flaw }
+        ensures none { (place : ℕ) (flaw : Flaw) → IsErrOf result (NotAState place flaw) → AreOfNoState kept_format rows.now }
     {
-        let rows = read_rows(alloc, rows.as_slice())?;
+        let rows = read_rows(alloc, KEPT_FORMAT, rows.as_slice())?;
         let stores = load(alloc, rows.as_slice())?;
         // Rows of before circuits were revoked may have some that nothing grants.
         Ok(Core {
@@ -146,17 +151,21 @@ impl Core {
         self.stores.circuits.is_full()
     }
 
-    /// Plans the answer to a command that some body spells, as the controller gives it to who may send it. A plan of a refusal, or of a reply that shows something, has no change and moves no count. Its batch is exactly
-    /// the difference between the rows of the state and those of the next one, so it is empty where they are equal. The state stays,
-    /// and it is valid.
+    /// Plans the answer to a command that some body spells, as the controller gives it to who may send it. A plan of a refusal, or of a
+    /// reply that shows something, has no change and moves no count. Its batch is exactly the difference between the rows of the state
+    /// and those of the next one, so it is empty where they are equal. The state stays, and it is valid. No command on intercepts is
+    /// planned, and the format has rows for the state and for the next one.
     pub fn plan(&self, command: &Command) -> Result<Planned, AllocError>
         requires live { self.now.live ≡ true }
         requires spelled { is_spelled command.now ≡ true }
+        requires other { is_intercept_command command.now ≡ false }
         ensures reply { IfOk result (λ p. p.reply ≡ (carry command.now self.now.state).0) }
         ensures leads { IfOk result (λ p. LeadsFrom p self.now.state (carry command.now self.now.state).1) }
         ensures still { IfOk result (λ p. tells_change p.reply ≡ false → IsStill p.change p.steps) }
-        ensures batch { IfOk result (λ p. p.batch ≡ batch_between self.now.state (carry command.now self.now.state).1) }
+        ensures batch { IfOk result (λ p. p.batch ≡ batch_between kept_format self.now.state (carry command.now self.now.state).1) }
         ensures valid { ValidState self.now.state }
+        ensures has_rows { HasRows kept_format self.now.state }
+        ensures next_has_rows { IfOk result (λ p. HasRows kept_format (led p self.now.state)) }
     {
         let draft = plan_command(self.alloc, &self.stores, command)?;
         completed(self.alloc, &self.stores, draft, self.granted)
@@ -181,10 +190,11 @@ impl Core {
     }
 
     /// Answers a command that some body spells, and moves the state to the next one, as a plan of it that is applied at once. No batch is
-    /// made. Where memory is wanting the core stays, or it is given up.
+    /// made. Where memory is wanting the core stays, or it is given up. No command on intercepts is answered.
     pub fn answer(&mut self, command: &Command) -> Result<Reply, AllocError>
         requires live { self.old.live ≡ true }
         requires spelled { is_spelled command.now ≡ true }
+        requires other { is_intercept_command command.now ≡ false }
         ensures answered { IfOk result (λ r. (r, self.new.state) ≡ carry command.now self.old.state) }
         ensures live { OnOk result (self.new.live ≡ true) }
         ensures valid { ValidState self.old.state }

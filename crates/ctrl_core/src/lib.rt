@@ -6,6 +6,7 @@ mod commands;
 mod completing;
 mod core_state;
 mod counting;
+mod kept_format;
 mod loading;
 mod new_records;
 mod plans;
@@ -16,5 +17,6 @@ mod settling;
 mod taking;
 
 pub use core_state::Core;
+pub use kept_format::KEPT_FORMAT;
 pub use plans::Planned;
 pub use row_loading::CoreFault;

@@ -14,6 +14,7 @@ ghost use Rattle.state_building.specs.BuiltStates.{AreFlawless, HaveCounts, buil
 ghost use Rattle.core_stores.specs.CarriedStates.{Carries};
 ghost use Rattle.ctrl_core.specs.JoinedRows.{KeepState};
 ghost use Rattle.core_stores.specs.StoredState.{HoldsPolicies};
+ghost use Rattle.ctrl_core.specs.KeptFormat.{kept_format};
 ghost use Rattle.ctrl_core.specs.KeptState.{Keeps};
 ghost use Rattle.core_stores.specs.StoredState.{state_of};
 ghost use Rattle.ctrl_core.specs.LoadedRows.{IsFirstFlaw};
@@ -29,7 +30,7 @@ use std::alloc::Global;
 // Takes rows, one after another, up to the first that has a flaw.
 fn take_rows(alloc: Global, stores: &mut Stores, rows: &[Row]) -> Result<(), CoreFault>
     requires kept { Keeps stores.old }
-    requires form { list_all is_row rows.now ≡ true }
+    requires form { list_all (is_row kept_format) rows.now ≡ true }
     ensures taken { OnOk result (KeepState stores.new (built rows.now (state_of stores.old))) }
     ensures flawless { OnOk result (AreFlawless (next_in rows.now) rows.now (state_of stores.old)) }
     ensures flawed { (place : ℕ) (flaw : Flaw) → IsErrOf result (NotAState place flaw) → IsFirstFlaw (next_in rows.now) rows.now (state_of stores.old) place flaw }
@@ -48,7 +49,7 @@ fn take_rows(alloc: Global, stores: &mut Stores, rows: &[Row]) -> Result<(), Cor
 // Whether some kept count of a relation has no row.
 fn lacks(stores: &Stores, rows: &[Row]) -> bool
     requires kept { Keeps stores.now }
-    requires loads { Loads (map put_of rows.now) rows.now }
+    requires loads { Loads kept_format (map (put_of kept_format) rows.now) rows.now }
     requires told { (r : Relation) (a b : ℕ) → 0 < count_in rows.now r a b → count_in rows.now r a b ≡ count r (state_of stores.now) a b }
     ensures all { result ≡ false → HaveCounts rows.now (state_of stores.now) }
     ensures lacks { result ≡ true → (r : Relation) × (a : ℕ) × (b : ℕ) × (count_in rows.now r a b ≡ count r (state_of stores.now) a b → ⊥) }
@@ -79,11 +80,11 @@ fn raise_nexts(stores: &mut Stores, rows: &[Row])
 fn load_into(alloc: Global, stores: &mut Stores, rows: &[Row]) -> Result<(), CoreFault>
     requires kept { Keeps stores.old }
     requires empty { state_of stores.old ≡ start }
-    requires loads { Loads (map put_of rows.now) rows.now }
+    requires loads { Loads kept_format (map (put_of kept_format) rows.now) rows.now }
     ensures kept { OnOk result (KeepState stores.new (state_in rows.now)) }
     ensures flawless { OnOk result (AreFlawless (next_in rows.now) rows.now start) }
     ensures counts { OnOk result (HaveCounts rows.now (built rows.now start)) }
-    ensures refused { (place : ℕ) (flaw : Flaw) → IsErrOf result (NotAState place flaw) → AreFlawed (map put_of rows.now) place flaw ⊎ LackCounts (map put_of rows.now) place flaw }
+    ensures refused { (place : ℕ) (flaw : Flaw) → IsErrOf result (NotAState place flaw) → AreFlawed kept_format (map (put_of kept_format) rows.now) place flaw ⊎ LackCounts kept_format (map (put_of kept_format) rows.now) place flaw }
 {
     take_rows(alloc, stores, rows)?;
     if lacks(stores, rows) {
@@ -98,11 +99,11 @@ fn load_into(alloc: Global, stores: &mut Stores, rows: &[Row]) -> Result<(), Cor
 
 /// The stores of the state that rows build, from empty ones on.
 pub fn load(alloc: Global, rows: &[Row]) -> Result<Stores, CoreFault>
-    requires { Loads (map put_of rows.now) rows.now }
+    requires { Loads kept_format (map (put_of kept_format) rows.now) rows.now }
     ensures kept { IfOk result (λ st. KeepState st (state_in rows.now)) }
     ensures flawless { OnOk result (AreFlawless (next_in rows.now) rows.now start) }
     ensures counts { OnOk result (HaveCounts rows.now (built rows.now start)) }
-    ensures refused { (place : ℕ) (flaw : Flaw) → IsErrOf result (NotAState place flaw) → AreFlawed (map put_of rows.now) place flaw ⊎ LackCounts (map put_of rows.now) place flaw }
+    ensures refused { (place : ℕ) (flaw : Flaw) → IsErrOf result (NotAState place flaw) → AreFlawed kept_format (map (put_of kept_format) rows.now) place flaw ⊎ LackCounts kept_format (map (put_of kept_format) rows.now) place flaw }
 {
     let mut stores = Stores::new(alloc)?;
     load_into(alloc, &mut stores, rows)?;

@@ -3,9 +3,11 @@ ghost use Rattle.row_codec.specs.Batches.{batch_between};
 ghost use Rattle.row_codec.specs.CoveredTables.{Covers};
 ghost use Rattle.ctrl_core.specs.ChangedStores.{CanSettle, KnowsSettled, next_state};
 ghost use Rattle.grant_steps.specs.LeadingSteps.{LeadAllCounts};
+ghost use Rattle.ctrl_core.specs.KeptFormat.{kept_format};
 ghost use Rattle.ctrl_core.specs.KeptState.{Keeps};
 ghost use Rattle.core_stores.specs.StoredState.{state_of};
 
+use crate::kept_format::KEPT_FORMAT;
 use batch_codec::batch_of;
 use circuit_settling::circuit_changes;
 use core_stores::{Change, Settled, Stores, forgotten, least_change, next_changes};
@@ -21,7 +23,7 @@ use terminator_commands::term_changes;
 // The changes of the next numbers.
 fn next_rows(alloc: Global, stores: &Stores, change: &Change) -> Result<Vec<RowChange>, AllocError>
     requires { CanSettle stores.now change.now }
-    ensures { IfOk result (λ v. Covers 1 2 (state_of stores.now) (next_state stores.now change.now) v.items) }
+    ensures { IfOk result (λ v. Covers kept_format 1 2 (state_of stores.now) (next_state stores.now change.now) v.items) }
 {
     next_changes(alloc, stores, change)
 }
@@ -34,8 +36,8 @@ fn push_setting(
     change: &Change,
 ) -> Result<(), AllocError>
     requires can { CanSettle stores.now change.now }
-    requires covers { Covers 1 2 (state_of stores.now) (next_state stores.now change.now) changes.old.items }
-    ensures { OnOk result (Covers 1 3 (state_of stores.now) (next_state stores.now change.now) changes.new.items) }
+    requires covers { Covers kept_format 1 2 (state_of stores.now) (next_state stores.now change.now) changes.old.items }
+    ensures { OnOk result (Covers kept_format 1 3 (state_of stores.now) (next_state stores.now change.now) changes.new.items) }
 {
     changes.push(least_change(alloc, stores, change)?)?;
     Ok(())
@@ -52,7 +54,7 @@ fn append(changes: &mut Vec<RowChange>, more: Changes) -> Result<(), AllocError>
 // The change of the entity that a change touches.
 fn entity_rows(alloc: Global, stores: &Stores, change: &Change) -> Result<Changes, AllocError>
     requires { CanSettle stores.now change.now }
-    ensures { IfOk result (Covers 3 6 (state_of stores.now) (next_state stores.now change.now)) }
+    ensures { IfOk result (Covers kept_format 3 6 (state_of stores.now) (next_state stores.now change.now)) }
 {
     entity_changes(alloc, &stores.entities, change.of_entities())
 }
@@ -64,7 +66,7 @@ fn entity_tables(
     change: &Change,
 ) -> Result<Vec<RowChange>, AllocError>
     requires { CanSettle stores.now change.now }
-    ensures { IfOk result (λ v. Covers 1 6 (state_of stores.now) (next_state stores.now change.now) v.items) }
+    ensures { IfOk result (λ v. Covers kept_format 1 6 (state_of stores.now) (next_state stores.now change.now) v.items) }
 {
     let mut changes = next_rows(alloc, stores, change)?;
     push_setting(alloc, &mut changes, stores, change)?;
@@ -80,7 +82,7 @@ fn link_rows(
     settled: &Settled,
 ) -> Result<Changes, AllocError>
     requires { KnowsSettled stores.now change.now settled.now }
-    ensures { IfOk result (Covers 6 7 (state_of stores.now) (next_state stores.now change.now)) }
+    ensures { IfOk result (Covers kept_format 6 7 (state_of stores.now) (next_state stores.now change.now)) }
 {
     link_changes(alloc, &stores.fabric, change.of_links(), &settled.links)
 }
@@ -88,7 +90,7 @@ fn link_rows(
 // The changes of the policies.
 fn policy_rows(alloc: Global, stores: &Stores, change: &Change) -> Result<Changes, AllocError>
     requires { CanSettle stores.now change.now }
-    ensures { IfOk result (Covers 7 10 (state_of stores.now) (next_state stores.now change.now)) }
+    ensures { IfOk result (Covers kept_format 7 10 (state_of stores.now) (next_state stores.now change.now)) }
 {
     if let Some(change) = change.of_policies() {
         return policy_changes(alloc, &stores.policies, change);
@@ -107,7 +109,7 @@ fn term_rows(
     settled: &Settled,
 ) -> Result<Changes, AllocError>
     requires { KnowsSettled stores.now change.now settled.now }
-    ensures { IfOk result (Covers 10 11 (state_of stores.now) (next_state stores.now change.now)) }
+    ensures { IfOk result (Covers kept_format 10 11 (state_of stores.now) (next_state stores.now change.now)) }
 {
     term_changes(
         alloc,
@@ -125,7 +127,7 @@ fn circuit_rows(
     settled: &Settled,
 ) -> Result<Changes, AllocError>
     requires { KnowsSettled stores.now change.now settled.now }
-    ensures { IfOk result (Covers 11 12 (state_of stores.now) (next_state stores.now change.now)) }
+    ensures { IfOk result (Covers kept_format 11 12 (state_of stores.now) (next_state stores.now change.now)) }
 {
     circuit_changes(
         alloc,
@@ -147,7 +149,7 @@ fn count_rows(
     requires kept { Keeps stores.now }
     requires can { CanSettle stores.now change.now }
     requires counts { LeadAllCounts (state_of stores.now) (next_state stores.now change.now) steps.now }
-    ensures { IfOk result (Covers 12 16 (state_of stores.now) (next_state stores.now change.now)) }
+    ensures { IfOk result (Covers kept_format 12 16 (state_of stores.now) (next_state stores.now change.now)) }
 {
     let moves = GrantMoves {
         dial: CountMoves {
@@ -167,7 +169,7 @@ fn count_rows(
             steps: steps.service_router.as_slice(),
         },
     };
-    all_count_changes(alloc, &moves)
+    all_count_changes(alloc, KEPT_FORMAT, &moves)
 }
 
 // The changes of the links, the policies, the terminators and the circuits.
@@ -179,8 +181,8 @@ fn push_records(
     settled: &Settled,
 ) -> Result<(), AllocError>
     requires known { KnowsSettled stores.now change.now settled.now }
-    requires covers { Covers 1 6 (state_of stores.now) (next_state stores.now change.now) changes.old.items }
-    ensures { OnOk result (Covers 1 12 (state_of stores.now) (next_state stores.now change.now) changes.new.items) }
+    requires covers { Covers kept_format 1 6 (state_of stores.now) (next_state stores.now change.now) changes.old.items }
+    ensures { OnOk result (Covers kept_format 1 12 (state_of stores.now) (next_state stores.now change.now) changes.new.items) }
 {
     append(changes, link_rows(alloc, stores, change, settled)?)?;
     append(changes, policy_rows(alloc, stores, change)?)?;
@@ -201,7 +203,7 @@ pub fn batch_for(
     requires kept { Keeps stores.now }
     requires known { KnowsSettled stores.now change.now settled.now }
     requires counts { LeadAllCounts (state_of stores.now) (next_state stores.now change.now) steps.now }
-    ensures { IfOk result (λ batch. batch ≡ batch_between (state_of stores.now) (next_state stores.now change.now)) }
+    ensures { IfOk result (λ batch. batch ≡ batch_between kept_format (state_of stores.now) (next_state stores.now change.now)) }
 {
     let mut changes = entity_tables(alloc, stores, change)?;
     push_records(alloc, &mut changes, stores, change, settled)?;

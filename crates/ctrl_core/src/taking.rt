@@ -9,6 +9,7 @@ ghost use Rattle.state_building.specs.JoinedRecords.{flaw_if, flaw_of, is_sound,
 ghost use Rattle.state_building.specs.BuiltStates.{flaw_in, next_in, with_row};
 ghost use Rattle.core_stores.specs.StoredState.{state_of};
 ghost use Rattle.ctrl_core.specs.Changes.{after_change};
+ghost use Rattle.ctrl_core.specs.KeptFormat.{kept_format};
 ghost use Rattle.ctrl_core.specs.KeptState.{Keeps};
 ghost use Rattle.ctrl_core.specs.NewRecords.{IsNew, is_sound_new, new_flaw_of, new_in};
 ghost use Rattle.ctrl_core.specs.TakenRows.{Takes, count_flaw_of};
@@ -25,7 +26,7 @@ use std::alloc::{AllocError, Global};
 
 // The record of a row, as it comes next among some rows.
 fn coming(rows: &[Row], row: &Row, kind: Kind, number: u32) -> Coming
-    requires form { is_row row.now ≡ true }
+    requires form { is_row kept_format row.now ≡ true }
     ensures { result ≡ record { number = number; end = next_in rows.now kind; sound = is_sound_row row.now } }
 {
     Coming {
@@ -65,7 +66,7 @@ fn take_record(
     row: &Row,
 ) -> Result<Option<Flaw>, AllocError>
     requires kept { Keeps stores.old }
-    requires form { is_row row.now ≡ true }
+    requires form { is_row kept_format row.now ≡ true }
     requires new { is_some (new_in row.now) ≡ true }
     ensures { IfOk result (λ told. Takes told (flaw_in (next_in rows.now) row.now (state_of stores.old)) stores.new (with_row row.now (state_of stores.old))) }
 {
@@ -177,7 +178,7 @@ pub fn take_row(
     row: &Row,
 ) -> Result<Option<Flaw>, AllocError>
     requires kept { Keeps stores.old }
-    requires form { is_row row.now ≡ true }
+    requires form { is_row kept_format row.now ≡ true }
     ensures { IfOk result (λ told. Takes told (flaw_in (next_in rows.now) row.now (state_of stores.old)) stores.new (with_row row.now (state_of stores.old))) }
 {
     match row {
@@ -208,5 +209,7 @@ pub fn take_row(
         Row::Bind { .. } => Ok(judge_row(stores, row)),
         Row::IdentityRouter { .. } => Ok(judge_row(stores, row)),
         Row::ServiceRouter { .. } => Ok(judge_row(stores, row)),
+        // The format has no such rows.
+        Row::Intercept { .. } | Row::Serial { .. } => unreachable!(),
     }
 }

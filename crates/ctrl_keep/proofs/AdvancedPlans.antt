@@ -16,7 +16,7 @@ use Rattle.ctrl_model.specs.Permitted.{is_permitted}
 use Rattle.ctrl_model.specs.Controller.{carry}
 use Rattle.row_codec.specs.declared.changes.Op.{Op}
 use Rattle.row_codec.specs.Batches.{batch_between}
-use Rattle.row_store.specs.BatchRows.{rows_after}
+use Rattle.slot_reading.specs.BatchRows.{rows_after}
 use Rattle.row_store.specs.OpenedRows.{OpensTo}
 use Rattle.row_store.specs.StoredRows.{Stored, ReadsAs, size_with, with_ops}
 use Rattle.row_store.proofs.CommitLaws.{reads_opens}
@@ -25,7 +25,9 @@ use Rattle.ctrl_core.specs.Changes.{CanLead, LeadsFrom, led}
 use Rattle.ctrl_core.specs.KeptState.{Cored}
 use Rattle.ctrl_keep.specs.declared.faults.KeepFault.{KeepFault}
 use Rattle.ctrl_keep.specs.declared.faults.KeepFault.TheVariants.{Disk, Damaged, Spent, NoMemory}
-use Rattle.row_store.specs.OpenedStates.{OpensToState}
+use Rattle.row_codec.specs.StateRows.{HasRows}
+use Rattle.ctrl_core.specs.KeptFormat.{kept_format}
+use Rattle.ctrl_keep.specs.KeptFolders.{OpensToState}
 use Rattle.ctrl_keep.specs.KeptMachine.{Machine, is_compact, step}
 use Rattle.ctrl_keep.specs.KeptController.{Controlled, machine_with, machine_of, made_of, Keeps, IsPlanned}
 use Rattle.ctrl_keep.specs.Faults.{KeepFails, AdvanceFails, SubmitFails}
@@ -36,7 +38,8 @@ use Rattle.ctrl_keep.proofs.MachineSteps.{kept_with_room, kept_without_room, kep
 pub record CanAdvance (p : Planned) (core : Cored) (stored : Stored) : Type 0 where
   pub keeps : Keeps core stored
   pub leads : CanLead p core.state
-  pub batch : p.batch ≡ batch_between core.state (led p core.state)
+  pub has : HasRows kept_format (led p core.state)
+  pub batch : p.batch ≡ batch_between kept_format core.state (led p core.state)
   pub changes : p.batch ≡ [] → ⊥
 
 -- Whether its batch is empty, as the code asks.
@@ -55,6 +58,7 @@ pub can_advance : (p : Planned) (core : Cored) (stored : Stored) (ops : List Op)
 can_advance p core stored ops empty planned e f is = record {
   keeps = planned.keeps;
   leads = planned.leads;
+  has = planned.has;
   batch = planned.batch;
   changes = λ none. some_items ops (sym f ∙ is) (e ∙ none);
 }
@@ -86,18 +90,18 @@ step_next p core next stored later reply can room said moved kept =
 
 -- Whatever comes of the call, to the state before or to the one after.
 pub advance_either : (p : Planned) (core : Cored) (stored : Stored) → CanAdvance p core stored → size_with stored p.batch ≤ stored.bounds.slot
-    → (image : Image) → OpensTo image stored.rows ⊎ OpensTo image (rows_after stored.rows p.batch)
+    → (image : Image) → OpensTo stored.format image stored.rows ⊎ OpensTo stored.format image (rows_after stored.rows p.batch)
     → OpensToState image core.state ⊎ OpensToState image (made_of p core.state stored).1.state
 advance_either p core stored can room image o =
     subst (λ (a : Reply × Machine). OpensToState image core.state ⊎ OpensToState image a.1.state) (sym (made_next p core stored can room))
-    (opens_either image core.state (led p core.state) stored.rows p.batch can.keeps.valid can.leads.valid can.keeps.rows can.batch o)
+    (opens_either stored.format image core.state (led p core.state) stored.rows p.batch can.keeps.format can.keeps.valid can.leads.valid can.keeps.has can.has can.keeps.rows can.batch o)
 
 -- Behind the append, to the one after.
 pub advance_next : (p : Planned) (core : Cored) (stored : Stored) → CanAdvance p core stored → size_with stored p.batch ≤ stored.bounds.slot
-    → (image : Image) → OpensTo image (rows_after stored.rows p.batch) → OpensToState image (made_of p core.state stored).1.state
+    → (image : Image) → OpensTo stored.format image (rows_after stored.rows p.batch) → OpensToState image (made_of p core.state stored).1.state
 advance_next p core stored can room image o =
     subst (λ (a : Reply × Machine). OpensToState image a.1.state) (sym (made_next p core stored can room))
-    (opens_next image core.state (led p core.state) stored.rows p.batch can.keeps.valid can.leads.valid can.keeps.rows can.batch o)
+    (opens_next stored.format image core.state (led p core.state) stored.rows p.batch can.keeps.format can.keeps.valid can.leads.valid can.has can.keeps.rows can.batch o)
 
 -- ---- what is kept
 
@@ -110,9 +114,11 @@ keeps_next p core next stored later can e f =
     (record {
       live = refl;
       valid = can.leads.valid;
+      has = can.has;
       opened = can.keeps.opened;
       unspent = can.keeps.unspent;
-      rows = rows_lead core.state (led p core.state) stored.rows p.batch can.keeps.valid can.leads.valid can.keeps.rows can.batch;
+      format = can.keeps.format;
+      rows = rows_lead kept_format core.state (led p core.state) stored.rows p.batch can.keeps.valid can.leads.valid can.keeps.rows can.batch;
     }))
 
 -- ---- why it was not done
@@ -136,17 +142,18 @@ advance_fails ops core old new spent desk later NoMemory k e (room, inr done) = 
 -- ---- the whole controller
 
 -- What was planned in the state.
-pub is_planned : (p : Planned) (core : Cored) (stored : Stored) (t : State) → Keeps core stored → LeadsFrom p core.state t → p.batch ≡ batch_between core.state t → IsPlanned p core stored
-is_planned p core stored t keeps leads batch = record {
+pub is_planned : (p : Planned) (core : Cored) (stored : Stored) (t : State) → Keeps core stored → LeadsFrom p core.state t → HasRows kept_format (led p core.state) → p.batch ≡ batch_between kept_format core.state t → IsPlanned p core stored
+is_planned p core stored t keeps leads has batch = record {
   keeps = keeps;
   leads = leads.can;
-  batch = batch ∙ ap (batch_between core.state) (sym leads.next);
+  has = has;
+  batch = batch ∙ ap (batch_between kept_format core.state) (sym leads.next);
 }
 
 -- The machine's step is what it makes of the plan.
 pub step_is : (who : Who) (c : Command) (old : Controlled) (core : Cored) (stored : Stored) (spent : Bool) (p : Planned)
     → record { state = core.state; stored = stored; spent = spent } ≡ old → is_permitted who c ≡ true → is_compact c ≡ false → p.reply ≡ (carry c core.state).0
-    → LeadsFrom p core.state (carry c core.state).1 → p.batch ≡ batch_between core.state (carry c core.state).1
+    → LeadsFrom p core.state (carry c core.state).1 → p.batch ≡ batch_between kept_format core.state (carry c core.state).1
     → step old.stored.bounds who c (machine_of old) ≡ made_of p core.state stored
 step_is who c old core stored spent p view may other reply leads batch =
     subst (λ (k : Controlled). step k.stored.bounds who c (machine_of k) ≡ made_of p core.state stored) view
@@ -190,7 +197,7 @@ pub behind_kept : (p : Planned) (core : Cored) (stored later : Stored) (reads : 
     → later ≡ with_ops stored p.batch → (later.spent ≡ false → ReadsAs later reads images) → (image : Image) → images image → OpensToState image (made_of p core.state stored).1.state
 behind_kept p core stored later reads images can room e stands image m =
     let unspent : later.spent ≡ false = ap (λ (s : Stored). s.spent) e ∙ can.keeps.unspent in
-    advance_next p core stored can room image (subst (λ (s : Stored). OpensTo image s.rows) e (reads_opens later reads images (stands unspent) image m))
+    advance_next p core stored can room image (subst (λ (s : Stored). OpensTo s.format image s.rows) e (reads_opens later reads images (stands unspent) image m))
 
 -- Where there is no room, the machine refuses the change.
 pub step_full : (p : Planned) (core : Cored) (stored later : Stored) → CanAdvance p core stored → stored.bounds.slot < size_with stored p.batch → later ≡ stored

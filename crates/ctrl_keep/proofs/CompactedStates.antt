@@ -9,6 +9,7 @@ use Rattle.ctrl_model.specs.declared.kinds.Who.{Who}
 use Rattle.ctrl_model.specs.declared.refusals.Refusal.TheVariants.{JournalFull, MarkFull}
 use Rattle.ctrl_model.specs.declared.replies.Reply.{Reply}
 use Rattle.ctrl_model.specs.declared.replies.Reply.TheVariants.{Done, Refused}
+use Rattle.ctrl_model.specs.declared.formats.Format.{Format}
 use Rattle.ctrl_model.specs.State.{State}
 use Rattle.ctrl_model.specs.Permitted.{is_permitted}
 use Rattle.row_store.specs.declared.faults.StoreFault.{StoreFault}
@@ -16,16 +17,17 @@ use Rattle.row_store.specs.declared.faults.StoreFault.TheVariants as store_fault
 use Rattle.row_store.specs.Faults.{disk_failure as store_failure}
 use Rattle.row_store.specs.OpenedRows.{OpensTo}
 use Rattle.row_store.specs.StoredRows.{Stored}
-use Rattle.row_store.specs.CompactedStores.{compacted_of, IsCompacted, MayCompact, CompactFails}
+use Rattle.row_store.specs.RewrittenStores.{compacted_size, rewritten_of, IsRewritten, MayRewrite, RewriteFails}
 use Rattle.ctrl_core.specs.KeptState.{Cored}
 use Rattle.ctrl_keep.specs.declared.faults.KeepFault.{KeepFault}
 use Rattle.ctrl_keep.specs.declared.faults.KeepFault.TheVariants.{NoMemory}
-use Rattle.row_store.specs.OpenedStates.{OpensToState}
+use Rattle.ctrl_core.specs.KeptFormat.{kept_format}
+use Rattle.ctrl_keep.specs.KeptFolders.{OpensToState}
 use Rattle.ctrl_keep.specs.KeptMachine.{Machine, is_compact, compacted_at, step}
 use Rattle.ctrl_keep.specs.KeptController.{Controlled, place_of, machine_with, machine_of, Keeps}
 use Rattle.ctrl_keep.specs.CompactionReplies.{compaction_reply}
 use Rattle.ctrl_keep.specs.Faults.{disk_failure, AdvanceFails}
-use Rattle.row_store.proofs.StateRows.{opens_state}
+use Rattle.ctrl_keep.proofs.KeptStates.{opens_kept_state}
 use Rattle.ctrl_keep.proofs.MachineSteps.{step_compacts, compacted_done, compacted_full, compacted_mark}
 
 -- A flag is not both.
@@ -33,6 +35,18 @@ pub never_spent : {A : Type 0} (b : Bool) → b ≡ false → b ≡ true → A
 never_spent b e f = absurd (true≢false (sym f ∙ e))
 
 -- ---- the store
+
+-- The store after it was compacted.
+abbrev pub compacted_of : Stored → Stored
+compacted_of stored = rewritten_of stored.format stored.rows stored
+
+-- It may be compacted.
+abbrev pub MayCompact : Stored → Type 0
+MayCompact stored = MayRewrite (compacted_size stored.rows) stored
+
+-- Why it was not.
+abbrev pub CompactFails : {D : Type 0} → (old new : Stored) (desk later : D) → StoreFault → Type 0
+CompactFails old new desk later fault = RewriteFails (compacted_size old.rows) old new desk later fault
 
 -- What came of compacting a store that keeps a state: it was compacted, or why not.
 pub record CameTo {D : Type 0} (core : Cored) (old new : Stored) (desk later : D) (r : Result ⊤ StoreFault) : Type 0 where
@@ -46,7 +60,7 @@ came_of keeps done fault = record { keeps = keeps; done = done; fault = fault }
 
 -- A store that was compacted keeps the state.
 keeps_compacted : (core : Cored) (old new : Stored) → Keeps core old → new ≡ compacted_of old → Keeps core new
-keeps_compacted core old new k e = subst (Keeps core) (sym e) (record { live = k.live; valid = k.valid; opened = k.opened; unspent = k.unspent; rows = k.rows })
+keeps_compacted core old new k e = subst (Keeps core) (sym e) (record { live = k.live; valid = k.valid; has = k.has; opened = k.opened; unspent = k.unspent; format = k.format; rows = k.rows })
 
 -- What the machine makes of it.
 pub came_step : {D : Type 0} (core : Cored) (old new : Stored) (desk later : D) (r : Result ⊤ StoreFault) → CameTo core old new desk later r
@@ -68,6 +82,11 @@ came_step core old new desk later (Err store_fault.MarkFull) c = by c.fault
     by (unspent, fits, full, (e, quiet)) = ap (λ (l : Stored). (Refused MarkFull, machine_with core.state l)) e ∙ compacted_mark core.state old c.keeps.rows fits full
 came_step core old new desk later (Err store_fault.Spent) c = tt
 came_step core old new desk later (Err store_fault.NoMemory) c = tt
+
+-- Where the store has the kept format, its folder was written in it.
+pub folder_kept : (A : Type 0) (r : Result ⊤ StoreFault) (stored : Stored) (before now : Image) → stored.format ≡ kept_format → OnOk r (A → IsRewritten stored.format stored.rows stored before now)
+    → OnOk r (A → IsRewritten kept_format stored.rows stored before now)
+folder_kept A r stored before now e folder = subst (λ (f : Format). OnOk r (A → IsRewritten f stored.rows stored before now)) e folder
 
 -- It keeps the state where it is not spent.
 pub came_keeps : {D : Type 0} (core : Cored) (old new : Stored) (desk later : D) (r : Result ⊤ StoreFault) → CameTo core old new desk later r → new.spent ≡ false → Keeps core new
@@ -149,8 +168,8 @@ came_cause before now (Err store_fault.Spent) h = record { later = h.later; once
 came_cause before now (Err store_fault.NoMemory) h = record { later = h.later; once = h.once; calm = h.calm; failed = tt }
 
 -- What opens to the rows opens to the state.
-pub opens_kept : (core : Cored) (stored : Stored) → Keeps core stored → (image : Image) → OpensTo image stored.rows → OpensToState image core.state
-opens_kept core stored k image p = opens_state image core.state stored.rows k.valid k.rows p
+pub opens_kept : (core : Cored) (stored : Stored) → Keeps core stored → (image : Image) → OpensTo stored.format image stored.rows → OpensToState image core.state
+opens_kept core stored k image p = opens_kept_state stored.format image core.state stored.rows k.format k.valid k.has k.rows p
 
 -- ---- the whole controller
 
@@ -166,9 +185,9 @@ still_before image s t a e p = inl (subst (OpensToState image) e p)
 
 -- The folder of a store that was compacted is that of the whole controller.
 pub folder_of_all : (r : Result Reply KeepFault) (c : Command) (old : Controlled) (core : Cored) (stored : Stored) (spent : Bool) (tells : Type 0) (reads later : Image)
-    → record { state = core.state; stored = stored; spent = spent } ≡ old → IfOk r (λ reply. reply ≡ Done → tells → IsCompacted stored reads later)
-    → IfOk r (λ reply. is_compact c ≡ true → reply ≡ Done → tells → IsCompacted old.stored reads later)
-folder_of_all (Ok x) c old core stored spent tells reads later view folder = λ is done told. subst (λ (k : Controlled). IsCompacted k.stored reads later) view (folder done told)
+    → record { state = core.state; stored = stored; spent = spent } ≡ old → IfOk r (λ reply. reply ≡ Done → tells → IsRewritten kept_format stored.rows stored reads later)
+    → IfOk r (λ reply. is_compact c ≡ true → reply ≡ Done → tells → IsRewritten kept_format old.stored.rows old.stored reads later)
+folder_of_all (Ok x) c old core stored spent tells reads later view folder = λ is done told. subst (λ (k : Controlled). IsRewritten kept_format k.stored.rows k.stored reads later) view (folder done told)
 folder_of_all (Err x) c old core stored spent tells reads later view folder = tt
 
 -- It is not answered only where it is to be done, in the whole controller too.

@@ -12,17 +12,18 @@ use Rattle.row_codec.specs.Batches.{batch_between, batch_bytes}
 use Rattle.row_store.specs.declared.faults.StoreFault.{StoreFault}
 use Rattle.row_store.specs.declared.faults.StoreFault.TheVariants as store_fault
 use Rattle.row_store.specs.AddedBatches.{AddsBatch}
-use Rattle.row_store.specs.BatchRows.{ByteRows}
+use Rattle.slot_reading.specs.BatchRows.{ByteRows}
 use Rattle.row_store.specs.StoredRows.{Stored, with_ops}
-use Rattle.row_store.specs.CompactedStores.{compacted, compacted_of, IsCompacted}
+use Rattle.row_store.specs.RewrittenStores.{compacted, IsRewritten}
 use Rattle.ctrl_core.specs.KeptState.{Cored}
 use Rattle.ctrl_keep.specs.declared.faults.KeepFault.{KeepFault}
 use Rattle.row_store.specs.OpenedStates.{byte_rows_of}
+use Rattle.ctrl_core.specs.KeptFormat.{kept_format}
 use Rattle.ctrl_keep.specs.KeptMachine.{Place, Machine}
 use Rattle.ctrl_keep.specs.KeptBatches.{end_at, mark_at, batches_next, GoesOnBehind, Follows}
 use Rattle.ctrl_keep.specs.KeptController.{Controlled, machine_with, machine_of}
 use Rattle.ctrl_keep.specs.CompactionReplies.{compaction_reply}
-use Rattle.ctrl_keep.proofs.CompactedStates.{CameTo}
+use Rattle.ctrl_keep.proofs.CompactedStates.{CameTo, compacted_of}
 
 equal : (n : ℕ) → (n == n) ≡ true
 equal n = grind (arith, nat_tests)
@@ -43,7 +44,7 @@ pub follows_still : (old new : Machine) (before now : Image) → new ≡ old →
 follows_still old new before now e f =
     subst (λ (m : Machine). Follows old m before now) (sym e)
     (subst (λ (i : Image). Follows old old before i) (sym f)
-    (record { on = inl refl; still = λ _. refl; stands = λ batches s. subst (Stands before) (sym (batches_still old batches)) s; adds = λ _ past. absurd (omega arith) }))
+    (record { on = inl refl; still = λ _. refl; stands = λ batches s. subst (Stands kept_format before) (sym (batches_still old batches)) s; adds = λ _ past. absurd (omega arith) }))
 
 -- ---- a batch is kept
 
@@ -53,14 +54,14 @@ gate_moved s t ops stored later e f =
     let ends : stored.end + 5 + length (batch_bytes ops) ≡ stored.end = sym (ap (λ (l : Stored). l.end) e) ∙ ap (λ (m : Machine). end_at m.place) f in
     absurd (omega (arith, ends))
 
-pub follows_kept : (s t : State) (ops : List Op) (stored later : Stored) (before now : Image) → ops ≡ batch_between s t → later ≡ with_ops stored ops → AddsBatch ops before now
+pub follows_kept : (s t : State) (ops : List Op) (stored later : Stored) (before now : Image) → ops ≡ batch_between kept_format s t → later ≡ with_ops stored ops → AddsBatch ops before now
     → Follows (machine_with s stored) (machine_with t later) before now
 follows_kept s t ops stored later before now e f adds = record {
   on = subst (λ (l : Stored). Moved l) (sym f) (inr (inr (refl, omega arith)));
   still = λ same. absurd (gate_moved s t ops stored later f same);
   stands = λ batches b.
-      subst (λ (l : Stored). Stands now (batches_next (machine_with s stored) (machine_with t l) batches)) (sym f)
-      (rw (equal stored.mark, further stored.end (length (batch_bytes ops))) (subst (λ (o : List Op). Stands now (batches ++ batch_bytes o ∷ [])) e (adds.behind batches b)));
+      subst (λ (l : Stored). Stands kept_format now (batches_next (machine_with s stored) (machine_with t l) batches)) (sym f)
+      (rw (equal stored.mark, further stored.end (length (batch_bytes ops))) (subst (λ (o : List Op). Stands kept_format now (batches ++ batch_bytes o ∷ [])) e (adds.behind kept_format batches b)));
   adds = λ _ _. subst (λ (o : List Op). AddsBatch o before now) e adds;
 }
   where
@@ -75,14 +76,14 @@ mark_moved s stored later e f =
     let marks : stored.mark + 1 ≡ stored.mark = sym (ap (λ (l : Stored). l.mark) e) ∙ ap (λ (m : Machine). mark_at m.place) f in
     absurd (omega (arith, marks))
 
-pub follows_compacted : (s : State) (stored later : Stored) (before now : Image) → stored.rows ≡ byte_rows_of s → later ≡ compacted_of stored → IsCompacted stored before now
+pub follows_compacted : (s : State) (stored later : Stored) (before now : Image) → stored.rows ≡ byte_rows_of kept_format s → later ≡ compacted_of stored → IsRewritten kept_format stored.rows stored before now
     → Follows (machine_with s stored) (machine_with s later) before now
 follows_compacted s stored later before now rows e folder = record {
   on = subst (λ (l : Stored). Moved l) (sym e) (inr (inl (omega arith)));
   still = λ same. absurd (mark_moved s stored later e same);
   stands = λ batches b.
-      subst (λ (l : Stored). Stands now (batches_next (machine_with s stored) (machine_with s l) batches)) (sym e)
-      (rw (one_more stored.mark) (subst (λ (r : ByteRows). Stands now (compacted r)) rows folder.stands));
+      subst (λ (l : Stored). Stands kept_format now (batches_next (machine_with s stored) (machine_with s l) batches)) (sym e)
+      (rw (one_more stored.mark) (subst (λ (r : ByteRows). Stands kept_format now (compacted r)) rows folder.stands));
   adds = λ same _. let marks : stored.mark + 1 ≡ stored.mark = sym (ap (λ (l : Stored). l.mark) e) ∙ same in absurd (omega (arith, marks));
 }
   where
@@ -104,7 +105,7 @@ came_still core old new desk later (Err store_fault.NoMemory) c = tt
 
 -- The folder follows the machine.
 pub came_follows : {D : Type 0} (seen : D → Seen) (tells : Type 0) (core : Cored) (old new : Stored) (desk later : D) (r : Result ⊤ StoreFault) → CameTo core old new desk later r
-    → OnOk r (tells → IsCompacted old (seen desk).reads (seen later).reads)
+    → OnOk r (tells → IsRewritten kept_format old.rows old (seen desk).reads (seen later).reads)
     → OnOk (compaction_reply r) (tells → Follows (machine_with core.state old) (machine_with core.state new) (seen desk).reads (seen later).reads)
 came_follows seen tells core old new desk later (Ok x) c folder = λ told. follows_compacted core.state old new (seen desk).reads (seen later).reads c.keeps.rows c.done.1 (folder told)
 came_follows seen tells core old new desk later (Err store_fault.Disk) c folder = tt

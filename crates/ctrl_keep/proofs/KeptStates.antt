@@ -1,50 +1,66 @@
 -- What the batch between two valid states makes of the rows that a store has, and what an image then opens to.
 use Rattle.std.proofs.Common.{◌≡◌, ◌⊎◌, inl, inr, List, [], sym, ap, ◌∙◌, subst}
 use Rattle.ziti_outside.specs.Images.{Image}
+use Rattle.ctrl_model.specs.declared.formats.Format.{Format}
 use Rattle.ctrl_model.specs.State.{State}
 use Rattle.ctrl_model.specs.ValidState.{ValidState}
 use Rattle.row_codec.specs.declared.changes.Op.{Op}
 use Rattle.row_codec.specs.RowDifference.{IsTrueDifference}
+use Rattle.row_codec.specs.StateRows.{HasRows}
 use Rattle.row_codec.specs.Batches.{bytes_cmp, entries_of, batch_between, IsBatch}
 use Rattle.row_laws.proofs.BatchForms.{IsBatch-between}
 use Rattle.row_laws.proofs.StateBatches.{batch_leads, batch_is_true, batch_between-same}
-use Rattle.row_store.specs.BatchRows.{ByteRows, rows_after}
+use Rattle.slot_reading.specs.BatchRows.{ByteRows, MayLead, rows_after}
 use Rattle.row_store.specs.OpenedRows.{OpensTo}
+use Rattle.row_store.specs.OpenedStates.{byte_rows_of}
 use Rattle.row_store.specs.StoredRows.{Stored, ReadsAs}
 use Rattle.row_store.proofs.CommitLaws.{reads_opens}
-use Rattle.row_store.proofs.StateRows.{opens_state}
+use Rattle.ctrl_core.specs.KeptFormat.{kept_format}
 use Rattle.ctrl_core.specs.KeptState.{Cored}
-use Rattle.row_store.specs.OpenedStates.{byte_rows_of, OpensToState}
+use Rattle.ctrl_keep.specs.KeptFolders.{OpensToState}
 use Rattle.ctrl_keep.specs.KeptController.{Keeps}
 
 -- The rows after the batch are those of the next state.
-pub rows_lead : (s t : State) (rows : ByteRows) (ops : List Op) → ValidState s → ValidState t → rows ≡ byte_rows_of s → ops ≡ batch_between s t → rows_after rows ops ≡ byte_rows_of t
-rows_lead s t rows ops v w e f =
-    ap (λ (r : ByteRows). rows_after r ops) e ∙ ap (λ (o : List Op). rows_after (byte_rows_of s) o) f ∙ batch_leads s t v w
+pub rows_lead : (f : Format) (s t : State) (rows : ByteRows) (ops : List Op) → ValidState s → ValidState t → rows ≡ byte_rows_of f s → ops ≡ batch_between f s t → rows_after rows ops ≡ byte_rows_of f t
+rows_lead f s t rows ops v w e g =
+    ap (λ (r : ByteRows). rows_after r ops) e ∙ ap (λ (o : List Op). rows_after (byte_rows_of f s) o) g ∙ batch_leads f s t v w
 
 -- The batch can be spelled.
-pub batch_form : (s t : State) (ops : List Op) → ValidState s → ValidState t → ops ≡ batch_between s t → IsBatch ops
-batch_form s t ops v w e = subst IsBatch (sym e) (IsBatch-between s t v w)
+pub batch_form : (f : Format) (s t : State) (ops : List Op) → ValidState s → ValidState t → ops ≡ batch_between f s t → IsBatch ops
+batch_form f s t ops v w e = subst IsBatch (sym e) (IsBatch-between f s t v w)
 
 -- A batch that is not empty is a true difference of the rows.
-pub batch_changes : (s t : State) (rows : ByteRows) (ops : List Op) → ValidState s → ValidState t → rows ≡ byte_rows_of s → ops ≡ batch_between s t → (ops ≡ [] → ⊥)
-    → IsTrueDifference bytes_cmp rows (entries_of ops)
-batch_changes s t rows ops v w e f some =
+pub batch_changes : (f : Format) (s t : State) (rows : ByteRows) (ops : List Op) → ValidState s → ValidState t → HasRows f s → HasRows f t → rows ≡ byte_rows_of f s → ops ≡ batch_between f s t
+    → (ops ≡ [] → ⊥) → IsTrueDifference bytes_cmp rows (entries_of ops)
+batch_changes f s t rows ops v w has_s has_t e g some =
     subst (λ (r : ByteRows). IsTrueDifference bytes_cmp r (entries_of ops)) (sym e)
-    (subst (λ (o : List Op). IsTrueDifference bytes_cmp (byte_rows_of s) (entries_of o)) (sym f)
-    (batch_is_true s t v w (λ same. some (f ∙ ap (batch_between s) (sym same) ∙ batch_between-same s v))))
+    (subst (λ (o : List Op). IsTrueDifference bytes_cmp (byte_rows_of f s) (entries_of o)) (sym g)
+    (batch_is_true f s t v w has_s has_t (λ same. some (g ∙ ap (batch_between f s) (sym same) ∙ batch_between-same f s v))))
+
+-- In the kept format any batch may lead on.
+pub kept_leads : (stored : Stored) (rows : ByteRows) → stored.format ≡ kept_format → MayLead stored.format stored.end stored.rows rows
+kept_leads stored rows e = subst (λ (f : Format). MayLead f stored.end stored.rows rows) (sym e) (inr tt)
+
+-- What opens to the rows of a state, in a format that is the kept one, opens to the state.
+pub opens_kept_state : (f : Format) (image : Image) (s : State) (rows : ByteRows) → f ≡ kept_format → ValidState s → HasRows kept_format s → rows ≡ byte_rows_of kept_format s
+    → OpensTo f image rows → OpensToState image s
+opens_kept_state f image s rows same v has e p = record {
+  has = has;
+  valid = v;
+  rows = subst (OpensTo kept_format image) e (subst (λ (g : Format). OpensTo g image rows) same p);
+}
 
 -- What opens to the rows after the batch opens to the next state.
-pub opens_next : (image : Image) (s t : State) (rows : ByteRows) (ops : List Op) → ValidState s → ValidState t → rows ≡ byte_rows_of s → ops ≡ batch_between s t
-    → OpensTo image (rows_after rows ops) → OpensToState image t
-opens_next image s t rows ops v w e f p = opens_state image t (rows_after rows ops) w (rows_lead s t rows ops v w e f) p
+pub opens_next : (f : Format) (image : Image) (s t : State) (rows : ByteRows) (ops : List Op) → f ≡ kept_format → ValidState s → ValidState t → HasRows kept_format t → rows ≡ byte_rows_of kept_format s
+    → ops ≡ batch_between kept_format s t → OpensTo f image (rows_after rows ops) → OpensToState image t
+opens_next f image s t rows ops same v w has e g p = opens_kept_state f image t (rows_after rows ops) same w has (rows_lead kept_format s t rows ops v w e g) p
 
-pub opens_either : (image : Image) (s t : State) (rows : ByteRows) (ops : List Op) → ValidState s → ValidState t → rows ≡ byte_rows_of s → ops ≡ batch_between s t
-    → OpensTo image rows ⊎ OpensTo image (rows_after rows ops) → OpensToState image s ⊎ OpensToState image t
-opens_either image s t rows ops v w e f (inl p) = inl (opens_state image s rows v e p)
-opens_either image s t rows ops v w e f (inr p) = inr (opens_next image s t rows ops v w e f p)
+pub opens_either : (f : Format) (image : Image) (s t : State) (rows : ByteRows) (ops : List Op) → f ≡ kept_format → ValidState s → ValidState t → HasRows kept_format s → HasRows kept_format t
+    → rows ≡ byte_rows_of kept_format s → ops ≡ batch_between kept_format s t → OpensTo f image rows ⊎ OpensTo f image (rows_after rows ops) → OpensToState image s ⊎ OpensToState image t
+opens_either f image s t rows ops same v w has_s has_t e g (inl p) = inl (opens_kept_state f image s rows same v has_s e p)
+opens_either f image s t rows ops same v w has_s has_t e g (inr p) = inr (opens_next f image s t rows ops same v w has_t e g p)
 
 -- Every image of a folder that reads as a store stands opens to the state that the store keeps.
 pub still_opens : (core : Cored) (stored : Stored) (reads : Image) (images : Image → Type 0) → Keeps core stored → ReadsAs stored reads images → (image : Image) → images image
     → OpensToState image core.state
-still_opens core stored reads images k r image p = opens_state image core.state stored.rows k.valid k.rows (reads_opens stored reads images r image p)
+still_opens core stored reads images k r image p = opens_kept_state stored.format image core.state stored.rows k.format k.valid k.has k.rows (reads_opens stored reads images r image p)

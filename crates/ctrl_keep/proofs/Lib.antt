@@ -1,6 +1,7 @@
 pub mod KeptStates
 pub mod MachineSteps
 pub mod OpenedFolders
+pub mod OneKeptStates
 pub mod AdvancedPlans
 pub mod SubmittedCommands
 mod CompactedStates

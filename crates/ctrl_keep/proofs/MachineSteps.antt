@@ -14,13 +14,14 @@ use Rattle.row_codec.specs.declared.changes.Op.{Op}
 use Rattle.row_codec.specs.Batches.{batch_between}
 use Rattle.row_laws.proofs.StateBatches.{batch_between-same}
 use Rattle.row_store.specs.declared.bounds.StoreBounds.{StoreBounds}
-use Rattle.row_store.specs.BatchRows.{ByteRows}
+use Rattle.slot_reading.specs.BatchRows.{ByteRows}
 use Rattle.row_store.specs.StoredRows.{Stored, size_with, with_ops}
-use Rattle.row_store.specs.CompactedStores.{compacted, compacted_size, compacted_of}
+use Rattle.row_store.specs.RewrittenStores.{compacted, compacted_size, rewritten_of}
 use Rattle.journal_core.specs.Slots.{slot_end}
 use Rattle.ctrl_core.specs.declared.plans.Planned.{Planned}
 use Rattle.ctrl_core.specs.Changes.{LeadsFrom, led}
 use Rattle.row_store.specs.OpenedStates.{byte_rows_of}
+use Rattle.ctrl_core.specs.KeptFormat.{kept_format}
 use Rattle.ctrl_keep.specs.KeptMachine.{Machine, kept, is_compact, compacted_at, answered, step}
 use Rattle.ctrl_keep.specs.KeptController.{place_of, machine_with, made_of}
 
@@ -56,7 +57,7 @@ pub step_refused : (bounds : StoreBounds) (who : Who) (c : Command) (s : State) 
 step_refused bounds who c s stored v e =
     ap (λ (b : Bool). answered bounds (is_compact c && b) (cond b (carry c s) (Refused NotPermitted, s)) s (Some (place_of stored))) e
     ∙ ap (λ (b : Bool). answered bounds b (Refused NotPermitted, s) s (Some (place_of stored))) (never_both (is_compact c))
-    ∙ kept_still bounds.slot (Refused NotPermitted) s s (batch_between s s) stored (batch_between-same s v)
+    ∙ kept_still bounds.slot (Refused NotPermitted) s s (batch_between kept_format s s) stored (batch_between-same kept_format s v)
 
 -- A permitted command is answered by what the controller does, and Compact by what the folder does.
 step_permitted : (bounds : StoreBounds) (who : Who) (c : Command) (s : State) (stored : Stored) (compacts : Bool) → is_permitted who c ≡ true → is_compact c ≡ compacts
@@ -67,12 +68,12 @@ step_permitted bounds who c s stored compacts e is =
 
 -- A permitted command other than Compact is answered as it is planned.
 pub step_planned : (who : Who) (c : Command) (s : State) (stored : Stored) (p : Planned) → is_permitted who c ≡ true → is_compact c ≡ false → p.reply ≡ (carry c s).0
-    → LeadsFrom p s (carry c s).1 → p.batch ≡ batch_between s (carry c s).1 → step stored.bounds who c (machine_with s stored) ≡ made_of p s stored
+    → LeadsFrom p s (carry c s).1 → p.batch ≡ batch_between kept_format s (carry c s).1 → step stored.bounds who c (machine_with s stored) ≡ made_of p s stored
 step_planned who c s stored p e other reply leads batch =
     step_permitted stored.bounds who c s stored false e other
     ∙ sym (ap (λ (r : Reply). kept stored.bounds.slot r s p.batch (led p s) (place_of stored)) reply
     ∙ ap (λ (o : List Op). kept stored.bounds.slot (carry c s).0 s o (led p s) (place_of stored)) batch
-    ∙ ap (λ (t : State). kept stored.bounds.slot (carry c s).0 s (batch_between s (carry c s).1) t (place_of stored)) leads.next)
+    ∙ ap (λ (t : State). kept stored.bounds.slot (carry c s).0 s (batch_between kept_format s (carry c s).1) t (place_of stored)) leads.next)
 
 -- Compact is answered by the folder's bounds.
 pub step_compacts : (bounds : StoreBounds) (who : Who) (c : Command) (s : State) (stored : Stored) → is_permitted who c ≡ true → is_compact c ≡ true
@@ -84,9 +85,9 @@ step_compacts bounds who c s stored e is = step_permitted bounds who c s stored 
 -- What becomes of it where the two tests have these answers.
 abbrev compacted_by : (full has_room : Bool) → State → Stored → Reply × Machine
 compacted_by full has_room s stored =
-    cond full (Refused JournalFull, machine_with s stored) (cond has_room (Done, machine_with s (compacted_of stored)) (Refused MarkFull, machine_with s stored))
+    cond full (Refused JournalFull, machine_with s stored) (cond has_room (Done, machine_with s (rewritten_of kept_format stored.rows stored)) (Refused MarkFull, machine_with s stored))
 
-compacted_is : (s : State) (stored : Stored) (full has_room : Bool) → stored.rows ≡ byte_rows_of s → nat_lt stored.bounds.slot (compacted_size stored.rows) ≡ full
+compacted_is : (s : State) (stored : Stored) (full has_room : Bool) → stored.rows ≡ byte_rows_of kept_format s → nat_lt stored.bounds.slot (compacted_size stored.rows) ≡ full
     → nat_lt stored.mark stored.bounds.mark ≡ has_room → compacted_at stored.bounds s (place_of stored) ≡ compacted_by full has_room s stored
 compacted_is s stored full has_room rows e f =
     ap (λ (r : ByteRows). cond (nat_lt stored.bounds.slot (compacted_size r)) (Refused JournalFull, machine_with s stored)
@@ -95,17 +96,17 @@ compacted_is s stored full has_room rows e f =
     ∙ ap (λ (b : Bool). compacted_by b (nat_lt stored.mark stored.bounds.mark) s stored) e
     ∙ ap (λ (b : Bool). compacted_by full b s stored) f
 
-pub compacted_done : (s : State) (stored : Stored) → stored.rows ≡ byte_rows_of s → compacted_size stored.rows ≤ stored.bounds.slot → stored.mark < stored.bounds.mark
-    → (Done, machine_with s (compacted_of stored)) ≡ compacted_at stored.bounds s (place_of stored)
+pub compacted_done : (s : State) (stored : Stored) → stored.rows ≡ byte_rows_of kept_format s → compacted_size stored.rows ≤ stored.bounds.slot → stored.mark < stored.bounds.mark
+    → (Done, machine_with s (rewritten_of kept_format stored.rows stored)) ≡ compacted_at stored.bounds s (place_of stored)
 compacted_done s stored rows fits room =
     sym (compacted_is s stored false true rows (not_below stored.bounds.slot (compacted_size stored.rows) fits) (lt-ltb stored.mark stored.bounds.mark room))
 
-pub compacted_full : (s : State) (stored : Stored) → stored.rows ≡ byte_rows_of s → stored.bounds.slot < compacted_size stored.rows
+pub compacted_full : (s : State) (stored : Stored) → stored.rows ≡ byte_rows_of kept_format s → stored.bounds.slot < compacted_size stored.rows
     → (Refused JournalFull, machine_with s stored) ≡ compacted_at stored.bounds s (place_of stored)
 compacted_full s stored rows full =
     sym (compacted_is s stored true (nat_lt stored.mark stored.bounds.mark) rows (lt-ltb stored.bounds.slot (compacted_size stored.rows) full) refl)
 
-pub compacted_mark : (s : State) (stored : Stored) → stored.rows ≡ byte_rows_of s → compacted_size stored.rows ≤ stored.bounds.slot → stored.bounds.mark ≤ stored.mark
+pub compacted_mark : (s : State) (stored : Stored) → stored.rows ≡ byte_rows_of kept_format s → compacted_size stored.rows ≤ stored.bounds.slot → stored.bounds.mark ≤ stored.mark
     → (Refused MarkFull, machine_with s stored) ≡ compacted_at stored.bounds s (place_of stored)
 compacted_mark s stored rows fits full =
     sym (compacted_is s stored false false rows (not_below stored.bounds.slot (compacted_size stored.rows) fits) (not_below stored.mark stored.bounds.mark full))

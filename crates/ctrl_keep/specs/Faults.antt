@@ -1,5 +1,5 @@
 -- When the calls on a kept controller fail (docs/PROMISES.md, "The kept controller").
-use Rattle.std.specs.Prelude.{◌≡◌, ◌⊎◌, ◌≤◌, ◌<◌, ⊤, Bool, true, false, IsTrue, List, Ok, Err}
+use Rattle.std.specs.Prelude.{◌≡◌, ◌≢◌, ◌⊎◌, ◌≤◌, ◌<◌, ⊤, Bool, true, false, IsTrue, List, Ok, Err}
 use Rattle.std.specs.declared.result.Result.{Result}
 use Rattle.ziti_outside.specs.Images.{Image}
 use Rattle.ctrl_core.specs.KeptState.{Cored}
@@ -9,7 +9,9 @@ use Rattle.row_store.specs.declared.faults.StoreFault.TheVariants as store_fault
 use Rattle.row_store.specs.StoredRows.{Stored, size_with, with_ops, spent_of, spent_with}
 use Rattle.ctrl_keep.specs.declared.faults.KeepFault.{KeepFault}
 use Rattle.ctrl_keep.specs.declared.faults.KeepFault.TheVariants.{Disk, Damaged, Spent, NoMemory}
-use Rattle.row_store.specs.OpenedStates.{IsStateless, IsOfNoState}
+use Rattle.row_store.specs.OpenedStates.{IsOfNoState}
+use Rattle.ctrl_core.specs.KeptFormat.{kept_format}
+use Rattle.ctrl_keep.specs.KeptFolders.{IsStateless}
 use Rattle.ctrl_keep.specs.KeptController.{Controlled}
 
 -- The failure of a call on the disk, if that is how a call ended.
@@ -20,19 +22,21 @@ disk_failure (Err (Damaged part at)) = Ok tt
 disk_failure (Err Spent) = Ok tt
 disk_failure (Err NoMemory) = Ok tt
 
--- The fault of opening that a store's fault is. A store that is opened is not full, and neither its mark nor it is spent.
-abbrev pub opening_fault : StoreFault → KeepFault
-opening_fault store_fault.Disk = Disk
-opening_fault store_fault.Full = Spent
-opening_fault (store_fault.Damaged part at) = Damaged part at
-opening_fault store_fault.MarkFull = Spent
-opening_fault store_fault.Spent = Spent
-opening_fault store_fault.NoMemory = NoMemory
+-- The fault that a store's fault is, where it is not told of as a reply.
+abbrev pub fault_of : StoreFault → KeepFault
+fault_of store_fault.Disk = Disk
+fault_of store_fault.Full = Spent
+fault_of (store_fault.Damaged part at) = Damaged part at
+fault_of store_fault.MarkFull = Spent
+fault_of store_fault.Spent = Spent
+fault_of store_fault.NoMemory = NoMemory
 
--- Why the rows of a store gave no controller: they are those of no valid state, which is told at the store's end, or there is no memory.
+-- Why the rows of a store gave no controller: they are of another format, which is told at the front of the slot that stands; or of the kept
+-- one, and those of no valid state, which is told at the store's end; or there is no memory.
 abbrev pub LoadFails : Stored → KeepFault → Type 0
 LoadFails stored Disk = ⊥
-LoadFails stored (Damaged part at) = IsOfNoState stored part at
+LoadFails stored (Damaged part at) =
+    ((part ≡ stored.part) × (at ≡ 0) × (stored.format ≢ kept_format)) ⊎ ((stored.format ≡ kept_format) × IsOfNoState stored part at)
 LoadFails stored Spent = ⊥
 LoadFails stored NoMemory = ⊤
 

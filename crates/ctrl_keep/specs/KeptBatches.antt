@@ -5,8 +5,9 @@ use Rattle.ziti_outside.specs.Images.{Image}
 use Rattle.slot_files.specs.FolderImage.{Stands}
 use Rattle.row_codec.specs.Batches.{batch_between, batch_bytes}
 use Rattle.row_store.specs.AddedBatches.{AddsBatch}
-use Rattle.row_store.specs.CompactedStores.{compacted}
+use Rattle.row_store.specs.RewrittenStores.{compacted}
 use Rattle.row_store.specs.OpenedStates.{byte_rows_of}
+use Rattle.ctrl_core.specs.KeptFormat.{kept_format}
 use Rattle.ctrl_keep.specs.KeptMachine.{Place, Machine}
 
 -- The place of the gate at which a machine's journal goes on. Without a folder there is none, and this is 0.
@@ -19,14 +20,14 @@ abbrev pub mark_at : Option Place → ℕ
 mark_at None = 0
 mark_at (Some place) = place.mark
 
--- For which batches a folder stands behind one step of its machine, that stood for these before it: where the place stays, for these; where
+-- For which batches a folder of the kept format stands behind one step of its machine, that stood for these before it: where the place stays, for these; where
 -- the gate alone has moved on, for these and behind them the one batch of the difference between the rows of the two states; and where the
 -- mark has another length, the folder was compacted, and stands for the one batch of all rows, or for none where there are no rows.
 abbrev pub batches_next : Machine → Machine → List (List ℕ) → List (List ℕ)
 batches_next old new batches =
     if mark_at new.place == mark_at old.place then
-    if end_at new.place == end_at old.place then batches else batches ++ batch_bytes (batch_between old.state new.state) ∷ []
-    else compacted (byte_rows_of new.state)
+    if end_at new.place == end_at old.place then batches else batches ++ batch_bytes (batch_between kept_format old.state new.state) ∷ []
+    else compacted (byte_rows_of kept_format new.state)
 
 -- The second machine's journal goes on behind that of the first: its mark is longer, or as long, and its gate stands further on.
 abbrev pub GoesOnBehind : Machine → Machine → Type 0
@@ -38,5 +39,5 @@ GoesOnBehind old new = (mark_at old.place < mark_at new.place) ⊎ ((mark_at new
 pub record Follows (old new : Machine) (before now : Image) : Type 0 where
   pub on : (new ≡ old) ⊎ GoesOnBehind old new
   pub still : new ≡ old → now ≡ before
-  pub stands : (batches : List (List ℕ)) → Stands before batches → Stands now (batches_next old new batches)
-  pub adds : mark_at new.place ≡ mark_at old.place → end_at old.place < end_at new.place → AddsBatch (batch_between old.state new.state) before now
+  pub stands : (batches : List (List ℕ)) → Stands kept_format before batches → Stands kept_format now (batches_next old new batches)
+  pub adds : mark_at new.place ≡ mark_at old.place → end_at old.place < end_at new.place → AddsBatch (batch_between kept_format old.state new.state) before now

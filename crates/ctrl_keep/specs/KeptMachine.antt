@@ -15,8 +15,9 @@ use Rattle.journal_core.specs.Slots.{slot_end}
 use Rattle.row_codec.specs.declared.changes.Op.{Op}
 use Rattle.row_codec.specs.Batches.{batch_between, batch_bytes}
 use Rattle.row_store.specs.declared.bounds.StoreBounds.{StoreBounds}
-use Rattle.row_store.specs.CompactedStores.{compacted, compacted_size}
+use Rattle.row_store.specs.RewrittenStores.{compacted, compacted_size}
 use Rattle.row_store.specs.OpenedStates.{byte_rows_of}
+use Rattle.ctrl_core.specs.KeptFormat.{kept_format}
 
 -- Where the journal goes on: the place of the closed gate of the slot that stands, and the length of the mark.
 pub record Place : Type 0 where
@@ -52,20 +53,20 @@ is_compact _ = false
 -- The place in a folder whose rows were compacted: behind the one batch of all rows, or at the first gate where there are none, with a
 -- mark of one byte more.
 abbrev pub compacted_place : State → Place → Place
-compacted_place s place = record { end = slot_end (compacted (byte_rows_of s)); mark = place.mark + 1 }
+compacted_place s place = record { end = slot_end (compacted (byte_rows_of kept_format s)); mark = place.mark + 1 }
 
 -- What becomes of Compact in a folder: it is refused where the slot of the compacted rows would pass its bound, and else where the mark
 -- has as many bytes as it may have; else it is done. The state stays.
 abbrev pub compacted_at : StoreBounds → State → Place → Reply × Machine
 compacted_at bounds s place =
-    cond (nat_lt bounds.slot (compacted_size (byte_rows_of s))) (Refused JournalFull, record { state = s; place = Some place })
+    cond (nat_lt bounds.slot (compacted_size (byte_rows_of kept_format s))) (Refused JournalFull, record { state = s; place = Some place })
     (cond (nat_lt place.mark bounds.mark) (Done, record { state = s; place = Some (compacted_place s place) })
     (Refused MarkFull, record { state = s; place = Some place }))
 
 -- What becomes of an answer, with a folder or without. With a folder a Compact that was not refused compacts it.
 abbrev pub answered : StoreBounds → (compacts : Bool) → Reply × State → State → Option Place → Reply × Machine
 answered bounds compacts a s None = (a.0, record { state = a.1; place = None })
-answered bounds compacts a s (Some place) = cond compacts (compacted_at bounds s place) (kept bounds.slot a.0 s (batch_between s a.1) a.1 place)
+answered bounds compacts a s (Some place) = cond compacts (compacted_at bounds s place) (kept bounds.slot a.0 s (batch_between kept_format s a.1) a.1 place)
 
 -- One step: who sends which command gets which reply, and how the machine goes on.
 abbrev pub step : StoreBounds → Who → Command → Machine → Reply × Machine

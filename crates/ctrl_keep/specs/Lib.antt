@@ -1,3 +1,4 @@
+pub mod KeptFolders
 pub mod KeptMachine
 pub mod KeptBatches
 pub mod KeptController

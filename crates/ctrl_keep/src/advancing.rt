@@ -7,10 +7,10 @@ ghost use Rattle.journal_core.specs.Room.{HoldsRoom};
 ghost use Rattle.row_codec.specs.RowDifference.{IsTrueDifference};
 ghost use Rattle.row_codec.specs.Batches.{bytes_cmp, entries_of, IsBatch};
 ghost use Rattle.row_store.specs.AddedBatches.{AddsBatch};
-ghost use Rattle.row_store.specs.BatchRows.{rows_after};
+ghost use Rattle.slot_reading.specs.BatchRows.{MayLead, rows_after};
 ghost use Rattle.row_store.specs.OpenedRows.{OpensTo};
 ghost use Rattle.row_store.specs.StoredRows.{ReadsAs};
-ghost use Rattle.row_store.specs.OpenedStates.{OpensToState};
+ghost use Rattle.ctrl_keep.specs.KeptFolders.{OpensToState};
 ghost use Rattle.ctrl_keep.specs.KeptBatches.{Follows};
 ghost use Rattle.ctrl_keep.specs.KeptController.{machine_with, made_of, Keeps, IsPlanned};
 ghost use Rattle.ctrl_keep.specs.Faults.{disk_failure, KeptOrFull, KeepFails, AdvanceFails};
@@ -28,6 +28,7 @@ fn keep<D: Desk>(store: &mut Store, desk: &mut D, batch: &Batch) -> Result<bool,
     requires unspent { store.old.spent ≡ false }
     requires batch { IsBatch batch.now }
     requires changes { IsTrueDifference bytes_cmp store.old.rows (entries_of batch.now) }
+    requires leads { MayLead store.old.format store.old.end store.old.rows (rows_after store.old.rows batch.now) }
     requires stands { IsTrue D.tells → ReadsAs store.old (D.seen desk.old).reads (D.stopped desk.old).images }
 
     ensures kept { IfOk result (λ kept. KeptOrFull batch.now store.old store.new desk.old desk.new kept) }
@@ -36,12 +37,12 @@ fn keep<D: Desk>(store: &mut Store, desk: &mut D, batch: &Batch) -> Result<bool,
     ensures fault { IfErr result (λ fault. KeepFails batch.now store.old store.new desk.old desk.new fault) }
     ensures stands { store.new.spent ≡ false → IsTrue D.tells → ReadsAs store.new (D.seen desk.new).reads (D.stopped desk.new).images }
     ensures behind { IsErrOf result KeepFault.NoMemory → store.new.spent ≡ true → IsTrue D.tells → (image : Image)
-        → (D.stopped desk.new).images image → OpensTo image (rows_after store.old.rows batch.now) }
+        → (D.stopped desk.new).images image → OpensTo store.old.format image (rows_after store.old.rows batch.now) }
     ensures cause { HasCause (D.seen desk.old).disk_faults (D.seen desk.new).disk_faults (disk_failure result) }
     ensures others { OnlyDisk D.seen desk.old desk.new }
     ensures quiet { Leaves D.seen D.stopped desk.old desk.new (λ image. ⊤) }
     ensures stops { IsTrue D.tells → Leaves D.seen D.stopped desk.old desk.new
-        (λ image. OpensTo image store.old.rows ⊎ OpensTo image (rows_after store.old.rows batch.now)) }
+        (λ image. OpensTo store.old.format image store.old.rows ⊎ OpensTo store.old.format image (rows_after store.old.rows batch.now)) }
     ensures remembers { Remembers (D.stopped desk.old) (D.stopped desk.new) }
     ensures room { HoldsRoom D.tells store.old.bounds.slot D.seen D.stopped desk.old desk.new }
 {

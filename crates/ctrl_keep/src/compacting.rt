@@ -4,8 +4,9 @@ ghost use Rattle.ziti_outside.specs.Moments.{Remembers, Leaves};
 ghost use Rattle.ziti_outside.specs.Untouched.{OnlyDisk};
 ghost use Rattle.journal_core.specs.Room.{HoldsRoom};
 ghost use Rattle.row_store.specs.StoredRows.{ReadsAs};
-ghost use Rattle.row_store.specs.CompactedStores.{IsCompacted};
-ghost use Rattle.row_store.specs.OpenedStates.{OpensToState};
+ghost use Rattle.row_store.specs.RewrittenStores.{IsRewritten};
+ghost use Rattle.ctrl_core.specs.KeptFormat.{kept_format};
+ghost use Rattle.ctrl_keep.specs.KeptFolders.{OpensToState};
 ghost use Rattle.ctrl_keep.specs.KeptMachine.{is_compact, compacted_at};
 ghost use Rattle.ctrl_keep.specs.KeptBatches.{Follows};
 ghost use Rattle.ctrl_keep.specs.KeptController.{place_of, machine_with, Keeps};
@@ -56,7 +57,7 @@ pub(crate) fn compact<D: Desk>(
     ensures still { OnOk result (machine_with core.now.state store.new ≡ machine_with core.now.state store.old → desk.new ≡ desk.old) }
     ensures follows { OnOk result (IsTrue D.tells → Follows (machine_with core.now.state store.old) (machine_with core.now.state store.new) (D.seen desk.old).reads (D.seen desk.new).reads) }
     ensures unspent { OnOk result ((spent.new ≡ false) × (store.new.bounds ≡ store.old.bounds)) }
-    ensures folder { IfOk result (λ reply. reply ≡ Done → IsTrue D.tells → IsCompacted store.old (D.seen desk.old).reads (D.seen desk.new).reads) }
+    ensures folder { IfOk result (λ reply. reply ≡ Done → IsTrue D.tells → IsRewritten kept_format store.old.rows store.old (D.seen desk.old).reads (D.seen desk.new).reads) }
     ensures keeps { spent.new ≡ false → Keeps core.now store.new }
     ensures fault { IfErr result (λ fault. AdvanceFails core.now core.now store.old store.new spent.new desk.old desk.new fault) }
     ensures fits { OnErr result ((compacted_at store.old.bounds core.now.state (place_of store.old)).0 ≡ Done) }

@@ -1,7 +1,3 @@
-ghost use Rattle.std.specs.Prelude.{◌≡◌};
-ghost use Rattle.ctrl_keep.specs.Faults.{opening_fault};
-
-use row_store::StoreFault;
 use std::alloc::AllocError;
 use thiserror::Error;
 use ziti_outside::Part;
@@ -36,17 +32,5 @@ impl From<AllocError> for KeepFault {
 
     fn from(_error: AllocError) -> KeepFault {
         KeepFault::NoMemory
-    }
-}
-
-// The fault of opening that a store's fault is.
-pub(crate) fn fault_of(fault: StoreFault) -> KeepFault
-    ensures { result ≡ opening_fault fault }
-{
-    match fault {
-        StoreFault::Disk => KeepFault::Disk,
-        StoreFault::Damaged { part, at } => KeepFault::Damaged { part, at },
-        StoreFault::NoMemory => KeepFault::NoMemory,
-        StoreFault::Full | StoreFault::MarkFull | StoreFault::Spent => KeepFault::Spent,
     }
 }

@@ -10,20 +10,24 @@ ghost use Rattle.slot_files.specs.OpenedSlots.{Opens};
 ghost use Rattle.ctrl_model.specs.CommandForm.{is_spelled};
 ghost use Rattle.ctrl_model.specs.ValidState.{ValidState};
 ghost use Rattle.row_store.specs.StoredRows.{ReadsAs};
-ghost use Rattle.row_store.specs.OpenedStates.{byte_rows_of, OpensToState};
+ghost use Rattle.row_codec.specs.StateRows.{HasRows};
+ghost use Rattle.row_store.specs.OpenedStates.{byte_rows_of};
 ghost use Rattle.ctrl_keep.specs.KeptMachine.{step, is_compact};
 ghost use Rattle.ctrl_model.specs.declared.replies.Reply.TheVariants.{Done};
-ghost use Rattle.row_store.specs.CompactedStores.{IsCompacted};
+ghost use Rattle.row_store.specs.RewrittenStores.{IsRewritten};
+ghost use Rattle.ctrl_model.specs.InterceptCommands.{is_intercept_command};
+ghost use Rattle.ctrl_core.specs.KeptFormat.{kept_format};
+ghost use Rattle.ctrl_keep.specs.KeptFolders.{OpensToState};
 ghost use Rattle.ctrl_keep.specs.KeptBatches.{Follows};
 ghost use Rattle.ctrl_keep.specs.KeptController.{HoldsRows, machine_of};
 ghost use Rattle.ctrl_keep.specs.Faults.{disk_failure, OpenFails, LoadFails, SubmitFails};
 
 use crate::advancing::advance;
 use crate::compacting::{compact, is_compact};
-use crate::faults::{KeepFault, fault_of};
-use crate::loading::core_of;
+use crate::faults::KeepFault;
+use crate::loading::{core_of, refused};
 use access_rules::permitted;
-use ctrl_core::Core;
+use ctrl_core::{Core, KEPT_FORMAT};
 use ctrl_model::{Command, Refusal, Reply, Who};
 use row_store::{Store, StoreBounds};
 use std::alloc::Global;
@@ -50,10 +54,11 @@ impl Model for Kept {
 }
 
 impl Kept {
-    /// The controller whose state a folder keeps, which is created where its mark is empty. `bounds` are those of the later changes.
+    /// The controller whose state a folder keeps in the kept format, in which it is created where its mark is empty. `bounds` are those of
+    /// the later changes.
     ///
-    /// `Damaged` comes exactly where the folder opens to no state, with the first place at which it is damaged, and then it reads as
-    /// before. At every moment of the call, and after it, an image that a stop may leave stands for what an image of its start stood
+    /// `Damaged` comes exactly where the folder opens to no state of that format, with the first place at which it is damaged, which is place
+    /// 0 of a slot that begins with the header of another one; and then it reads as before. At every moment of the call, and after it, an image that a stop may leave stands for what an image of its start stood
     /// for. `Spent` never comes.
     pub fn open<D: Desk>(
         alloc: Global,
@@ -65,7 +70,7 @@ impl Kept {
         ensures stands { IfOk result (λ kept. IsTrue D.tells → ReadsAs kept.stored (D.seen desk.new).reads (D.stopped desk.new).images) }
         ensures holds { IfOk result HoldsRows }
         ensures opened { IfOk result (λ kept. (kept.stored.bounds ≡ bounds) × (kept.spent ≡ false)) }
-        ensures created { OnOk result (IsTrue D.tells → Opens (length ((D.seen desk.old).reads Mark)) (D.seen desk.old).reads (D.seen desk.new).reads) }
+        ensures created { OnOk result (IsTrue D.tells → Opens kept_format (length ((D.seen desk.old).reads Mark)) (D.seen desk.old).reads (D.seen desk.new).reads) }
 
         // A folder whose mark is not empty reads as before, whatever comes of the call; and the second slot always does.
         ensures kept { IsTrue D.tells → 0 < length ((D.seen desk.old).reads Mark) → (D.seen desk.new).reads ≡ (D.seen desk.old).reads }
@@ -79,15 +84,15 @@ impl Kept {
         ensures cause { HasCause (D.seen desk.old).disk_faults (D.seen desk.new).disk_faults (disk_failure result) }
         ensures others { OnlyDisk D.seen desk.old desk.new }
         ensures quiet { Leaves D.seen D.stopped desk.old desk.new (λ image. ⊤) }
-        ensures stops { IsTrue D.tells → Leaves D.seen D.stopped desk.old desk.new (After StandsAsBefore (D.stopped desk.old).images) }
+        ensures stops { IsTrue D.tells → Leaves D.seen D.stopped desk.old desk.new (After (StandsAsBefore kept_format) (D.stopped desk.old).images) }
         ensures remembers { Remembers (D.stopped desk.old) (D.stopped desk.new) }
 
         // No slot grows past the size of one without a record, neither as the desk reads nor in what a stop leaves.
         ensures room { HoldsRoom D.tells empty_size D.seen D.stopped desk.old desk.new }
     {
-        match Store::open(alloc, desk, bounds) {
+        match Store::open(alloc, desk, KEPT_FORMAT, bounds) {
             Ok(store) => Kept::load(alloc, store),
-            Err(fault) => Err(fault_of(fault)),
+            Err(fault) => Err(refused(desk, fault)),
         }
     }
 
@@ -96,7 +101,9 @@ impl Kept {
         requires { (store.opened ≡ true) × (store.spent ≡ false) }
         ensures stored { IfOk result (λ kept. (kept.stored ≡ store) × (kept.spent ≡ false)) }
         ensures valid { IfOk result (λ kept. ValidState kept.state) }
-        ensures rows { IfOk result (λ kept. store.rows ≡ byte_rows_of kept.state) }
+        ensures format { OnOk result (store.format ≡ kept_format) }
+        ensures has { IfOk result (λ kept. HasRows kept_format kept.state) }
+        ensures rows { IfOk result (λ kept. store.rows ≡ byte_rows_of kept_format kept.state) }
         ensures fault { IfErr result (λ fault. LoadFails store fault) }
     {
         let core = core_of(alloc, &store)?;
@@ -107,7 +114,7 @@ impl Kept {
         })
     }
 
-    /// Answers a command that some body spells, whoever sends it, and keeps what it changes in the folder before it answers.
+    /// Answers a command that some body spells and that is not of intercepts, whoever sends it, and keeps what it changes in the folder before it answers.
     ///
     /// The reply and what comes after are the machine's: a change without room in the journal is refused as `JournalFull`, and one that
     /// changes no row is answered at once. A command that leaves the machine as it was leaves the desk, whole; any other adds the one batch
@@ -124,6 +131,7 @@ impl Kept {
         command: &Command,
     ) -> Result<Reply, KeepFault>
         requires spelled { is_spelled command.now ≡ true }
+        requires other { is_intercept_command command.now ≡ false }
         requires stands { self.old.spent ≡ false → IsTrue D.tells → ReadsAs self.old.stored (D.seen desk.old).reads (D.stopped desk.old).images }
 
         ensures step { IfOk result (λ reply. (reply, machine_of self.new) ≡ step self.old.stored.bounds who.now command.now (machine_of self.old)) }
@@ -135,7 +143,7 @@ impl Kept {
         ensures unspent { OnOk result ((self.old.spent ≡ false) × (self.new.spent ≡ false) × (self.new.stored.bounds ≡ self.old.stored.bounds)) }
         ensures holds { self.new.spent ≡ false → HoldsRows self.new }
         ensures compacted { IfOk result (λ reply. is_compact command.now ≡ true → reply ≡ Done → IsTrue D.tells
-            → IsCompacted self.old.stored (D.seen desk.old).reads (D.seen desk.new).reads) }
+            → IsRewritten kept_format self.old.stored.rows self.old.stored (D.seen desk.old).reads (D.seen desk.new).reads) }
         ensures fault { IfErr result (λ fault. SubmitFails self.old self.new desk.old desk.new fault) }
         ensures fits { OnErr result (self.old.spent ≡ false → is_compact command.now ≡ true
             → (step self.old.stored.bounds who.now command.now (machine_of self.old)).0 ≡ Done) }

@@ -11,5 +11,5 @@ mod worked;
 
 pub use faults::KeepFault;
 pub use keeper::Kept;
-pub use loading::peek;
+pub use loading::{peek, peek_rows};
 pub use worked::{worked_batches, worked_compactions, worked_machine};

@@ -10,6 +10,7 @@ ghost use Rattle.ctrl_model.specs.Controller.{answer};
 ghost use Rattle.ctrl_model.specs.WorkedStates.{after, connected_router};
 ghost use Rattle.row_store.specs.declared.bounds.StoreBounds.{StoreBounds};
 ghost use Rattle.journal_core.specs.WorkedSlots.{batch_of_ann};
+ghost use Rattle.ctrl_core.specs.KeptFormat.{kept_format};
 ghost use Rattle.ctrl_keep.specs.KeptBatches.{batches_next};
 ghost use Rattle.ctrl_keep.specs.KeptMachine.{step};
 ghost use Rattle.ctrl_keep.specs.WorkedMachines.{machine_at, marked, at_most, creates_ann};
@@ -41,9 +42,9 @@ pub fn worked_compactions()
 /// For which batches folders stand behind a step, worked by hand: the batch that creates the first identity comes behind those that stood; a
 /// step that leaves the place adds none; and compacted, the one batch of all rows stands alone, or none where there are no rows.
 pub fn worked_batches()
-    ensures added { batches_next (machine_at start 8) (machine_at (after (creates_ann ∷ []) start) 41) [] ≡ batch_of_ann ∷ [] }
-    ensures added_behind { batches_next (machine_at start 8) (machine_at (after (creates_ann ∷ []) start) 41) ((7 ∷ []) ∷ []) ≡ (7 ∷ []) ∷ batch_of_ann ∷ [] }
-    ensures still { batches_next (machine_at start 8) (machine_at start 8) (batch_of_ann ∷ []) ≡ batch_of_ann ∷ [] }
-    ensures compacted { batches_next (machine_at (after (creates_ann ∷ []) start) 41) (marked (after (creates_ann ∷ []) start) 41 2) ((7 ∷ []) ∷ []) ≡ batch_of_ann ∷ [] }
+    ensures added { batches_next (machine_at start 8) (machine_at (after (creates_ann ∷ []) start) 41) [] ≡ batch_of_ann kept_format ∷ [] }
+    ensures added_behind { batches_next (machine_at start 8) (machine_at (after (creates_ann ∷ []) start) 41) ((7 ∷ []) ∷ []) ≡ (7 ∷ []) ∷ batch_of_ann kept_format ∷ [] }
+    ensures still { batches_next (machine_at start 8) (machine_at start 8) (batch_of_ann kept_format ∷ []) ≡ batch_of_ann kept_format ∷ [] }
+    ensures compacted { batches_next (machine_at (after (creates_ann ∷ []) start) 41) (marked (after (creates_ann ∷ []) start) 41 2) ((7 ∷ []) ∷ []) ≡ batch_of_ann kept_format ∷ [] }
     ensures compacted_to_none { batches_next (machine_at start 8) (marked start 8 2) ((7 ∷ []) ∷ []) ≡ [] }
 {}

@@ -1,12 +1,12 @@
 -- Laws on numbered maps: what stands at a number after each change, that the numbers stay in order, and what a search by a
 -- test finds. The laws named `..-back` tell from what stands after a change what stood before it.
-use Rattle.std.proofs.Common.{◌≡◌, ◌≢◌, ℕ, ◌+◌, ◌<◌, ◌≤◌, ◌==◌, Bool, true, false, cond, not, ◌||◌, ◌⊎◌, inl, inr, List, [], ◌∷◌, map, length, is_some, Option, None, Some, refl, sym, ◌∙◌, ap, arith, eqb-true, eq-eqb, ne_eqb, length-append, suc}
+use Rattle.std.proofs.Common.{◌≡◌, ◌≢◌, ℕ, ◌+◌, ◌<◌, ◌≤◌, ◌==◌, Bool, true, false, cond, not, ◌||◌, ◌⊎◌, inl, inr, List, [], ◌∷◌, map, length, is_some, Option, None, Some, refl, sym, ◌∙◌, ap, arith, eqb-true, eq-eqb, ne_eqb, length-append, suc, nat_lt, ltb-true, ltb-false}
 use Rattle.std.proofs.lemmas.Bool.{cases_eq, cond-true, cond-false, false≢true, not-true, both_ways}
 use Rattle.std.proofs.lemmas.Bool.Decides.{nat_tests}
 use Rattle.std.proofs.lemmas.Option.{same_Some, none-some}
 use Rattle.std.specs.Option.{option_map}
 use Rattle.std.specs.List.{filter}
-use Rattle.ctrl_model.specs.Numbered.{at, is_present, numbers, with_last, edit_at, without, map_each, first_where, Between}
+use Rattle.ctrl_model.specs.Numbered.{at, is_present, numbers, with_last, with_at, edit_at, without, map_each, first_where, Between}
 use Rattle.ctrl_model.specs.Walks.{is_among}
 
 -- ---- what stands at a number
@@ -48,11 +48,19 @@ pub at-without : {R : Type 0} (high : ℕ) (xs : List (ℕ × R)) (low n m : ℕ
 at-without high [] low n m b = grind (arith, nat_tests)
 at-without high (x ∷ xs) low n m b = grind (arith, nat_tests, at-without high xs (x.0 + 1) n m b.2, at-below high xs (x.0 + 1) m b.2)
 
+-- a record put at a number stands there, whatever stood there
+pub at-with_at : {R : Type 0} (xs : List (ℕ × R)) (n m : ℕ) (r : R) → at (with_at n r xs) m ≡ cond (n == m) (Some r) (at xs m)
+at-with_at [] n m r = refl
+at-with_at (x ∷ xs) n m r = grind (arith, nat_tests, at-with_at xs n m r)
+
 -- ---- a change at one number leaves the others
 
 pub at-with_last-other : {R : Type 0} (xs : List (ℕ × R)) (n m : ℕ) (r : R) → m ≢ n → at (with_last xs n r) m ≡ at xs m
 at-with_last-other [] n m r ne = cond-false (n == m) (Some r) None (ne_eqb n m (λ s. ne (sym s)))
 at-with_last-other (x ∷ xs) n m r ne = λ i. cond (x.0 == m) (Some x.1) (at-with_last-other xs n m r ne i)
+
+pub at-with_at-other : {R : Type 0} (xs : List (ℕ × R)) (n m : ℕ) (r : R) → m ≢ n → at (with_at n r xs) m ≡ at xs m
+at-with_at-other xs n m r ne = at-with_at xs n m r ∙ cond-false (n == m) (Some r) (at xs m) (ne_eqb n m (λ s. ne (sym s)))
 
 pub at-edit_at-other : {R : Type 0} (xs : List (ℕ × R)) (n m : ℕ) (f : R → R) → m ≢ n → at (edit_at xs n f) m ≡ at xs m
 at-edit_at-other xs n m f ne = at-edit_at xs n m f ∙ by (at xs m)
@@ -128,6 +136,22 @@ Between-more high (x ∷ xs) low least most l m b = (omega arith, omega arith, B
 pub Between-with_last : {R : Type 0} (high : ℕ) (xs : List (ℕ × R)) (low : ℕ) (r : R) → low ≤ high → Between low high xs → Between low (high + 1) (with_last xs high r)
 Between-with_last high [] low r l b = (omega arith, omega arith, tt)
 Between-with_last high (x ∷ xs) low r l b = (b.0, omega arith, Between-with_last high xs (x.0 + 1) r (omega arith) b.2)
+
+above : (m n : ℕ) → (m == n) ≡ false → n ≤ m → n + 1 ≤ m
+above m n is le = grind (arith, nat_tests)
+
+pub Between-with_at : {R : Type 0} (high : ℕ) (xs : List (ℕ × R)) (low n : ℕ) (r : R) → low ≤ n → n < high → Between low high xs → Between low high (with_at n r xs)
+Between-with_at high [] low n r l h b = (l, h, tt)
+Between-with_at high (x ∷ xs) low n r l h b = by (nat_lt x.0 n) refl (Between-with_at high xs (x.0 + 1) n r)
+  where
+    at_it : (c : Bool) → (x.0 == n) ≡ c → n ≤ x.0 → Between (n + 1) high (cond c xs (x ∷ xs))
+    at_it true is le = let same = eqb-true x.0 n is in Between-more high xs (x.0 + 1) (n + 1) high (omega arith) (omega arith) b.2
+    at_it false is le = (above x.0 n is le, b.1, b.2)
+
+    by : (c : Bool) → nat_lt x.0 n ≡ c → (x.0 + 1 ≤ n → n < high → Between (x.0 + 1) high xs → Between (x.0 + 1) high (with_at n r xs))
+        → Between low high (cond c (x ∷ with_at n r xs) ((n, r) ∷ cond (x.0 == n) xs (x ∷ xs)))
+    by true is k = (b.0, b.1, let below = ltb-true x.0 n is in k (omega arith) h b.2)
+    by false is k = (l, h, at_it (x.0 == n) refl (ltb-false x.0 n is))
 
 pub Between-map : {R S : Type 0} (g : ℕ × R → S) (high : ℕ) (xs : List (ℕ × R)) (low : ℕ) → Between low high xs → Between low high (map (λ x. (x.0, g x)) xs)
 Between-map g high [] low b = tt

@@ -1,20 +1,24 @@
 -- Texts of ranges of addresses: each that is read so is written, and what is written is read as it.
-use Rattle.std.proofs.Common.{◌≡◌, ℕ, ◌+◌, ◌-◌, ◌*◌, ◌/◌, ◌%◌, ◌^◌, ◌<◌, ◌≤◌, ◌==◌, Bool, true, false, cond, List, [], ◌∷◌, ◌++◌, length, All, codes, decimal, Option, None, Some, option_map, option_and_then, Result, Ok, Err, refl, sym, ap, ◌∙◌, subst, arith, append_assoc, append-nil, div-add-mod', eqb-true, eq-eqb, ne_eqb}
+use Rattle.std.proofs.Common.{◌≡◌, ℕ, ◌+◌, ◌-◌, ◌*◌, ◌/◌, ◌%◌, ◌^◌, ◌<◌, ◌≤◌, ◌==◌, Bool, true, false, cond, not, ◌&&◌, is_some, bytes_eq, List, [], ◌∷◌, ◌++◌, length, All, codes, decimal, Option, None, Some, option_map, option_and_then, Result, Ok, Err, refl, sym, ap, ◌∙◌, subst, arith, append_assoc, append-nil, length-append, div-add-mod', eqb-true, eq-eqb, ne_eqb}
 use Rattle.std.proofs.Math.Nat.{mul-mod_left}
-use Rattle.std.proofs.lemmas.Fmt.{decimal_is_IsNumeral}
-use Rattle.std.proofs.lemmas.List.Elements.{All-nil, All-cons, All-append}
+use Rattle.std.proofs.lemmas.Fmt.{decimal_is_IsNumeral, length-decimal-le}
+use Rattle.std.proofs.lemmas.Bool.{false≢true, false_from_ne_true, eqb-false}
+use Rattle.std.proofs.lemmas.List.{append_cancel_right}
+use Rattle.std.proofs.lemmas.List.Elements.{All-nil, All-cons, All-append, All-head, All-tail}
 use Rattle.std.proofs.lemmas.List.Splits.{slice_split_at, slice_split_none, join_with_byte-slice_split}
 use Rattle.std.proofs.lemmas.Option.{none-some, same_Some}
+use Rattle.std.proofs.lemmas.Slice.Eq.{bytes_eq-Decides}
 use Rattle.std.proofs.lemmas.Str.Parse.{digit_from_value}
 use Rattle.std.specs.Int.{w32, from_be_bytes}
 use Rattle.std.specs.List.{join_with_byte}
+use Rattle.std.specs.Option.{option_map_or}
 use Rattle.std.specs.Net.Addr.{ipv4_bits}
 use Rattle.std.specs.Net.Grammar.{IsIpv4Text, Parses}
 use Rattle.std.specs.Net.Text.{dotted_text}
 use Rattle.std.specs.Result.{result_ok}
 use Rattle.std.specs.Str.Parse.{AllDigits}
 use Rattle.std.specs.declared.net.ipv4_addr.Ipv4Addr.{Ipv4Addr}
-use Rattle.ctrl_model.specs.AddressForm.{parts_at, number_to, ip_behind, ip_of, first_bits, range_in, range_of, ip_text, address_text}
+use Rattle.ctrl_model.specs.AddressForm.{parts_at, number_to, ip_behind, ip_of, first_bits, range_in, range_of, ip_text, address_text, is_range_spelling}
 use Rattle.ctrl_model.specs.declared.addresses.Address.TheVariants.{Range}
 use Rattle.ctrl_model.proofs.NumberTexts.{text_of_number, number_of_text}
 
@@ -235,3 +239,101 @@ range_read ip bits r = by (bits == 32) refl where
       ∙ ap (λ o. option_and_then (λ n. option_map (λ k. (first_bits k n, k)) (number_to 32 (decimal bits))) o) (ip_read ip r.low)
       ∙ ap (λ o. option_map (λ k. (first_bits k ip, k)) o) (number_of_text 32 bits r.few (omega arith))
       ∙ ap (λ n. Some (n, bits)) r.cut
+
+-- ---- spellings are short
+
+four_short : (a b c d : ℕ) → Fit a b c d → length (dotted_text a b c d) ≤ 15
+four_short a b c d f =
+    let short : (n : ℕ) → n < 256 → length (decimal n) ≤ 3 = λ n few. length-decimal-le 3 n (omega arith) (omega (arith, few)) (omega (arith, few)) in
+    let whole = ap length (spread a b c d) in
+    let first = length-append (decimal a) (46 ∷ (decimal b ++ (46 ∷ (decimal c ++ (46 ∷ decimal d))))) in
+    let second = length-append (decimal b) (46 ∷ (decimal c ++ (46 ∷ decimal d))) in
+    let third = length-append (decimal c) (46 ∷ decimal d) in
+    omega (arith, whole, first, second, third, short a f.a_fits, short b f.b_fits, short c f.c_fits, short d f.d_fits)
+
+pub range_short : (ip bits : ℕ) → IsRange ip bits → length (address_text (Range ip bits)) ≤ 18
+range_short ip bits r = by (bits == 32) where
+  ip_short : length (ip_text ip) ≤ 15
+  ip_short =
+      four_short (ip / 16777216) (ip / 65536 % 256) (ip / 256 % 256) (ip % 256)
+      (record { a_fits = omega (arith, r.low); b_fits = omega arith; c_fits = omega arith; d_fits = omega arith })
+
+  by : (b : Bool) → length (ip_text ip ++ cond b [] (47 ∷ decimal bits)) ≤ 18
+  by true = omega (arith, length-append (ip_text ip) [], ip_short)
+  by false =
+      omega (arith, length-append (ip_text ip) (47 ∷ decimal bits), ip_short, length-decimal-le 2 bits (omega arith) (omega (arith, r.few)) (omega (arith, r.few)))
+
+-- ---- which bytes are a range's own spelling
+
+-- what four numbers say is written as they are
+pub ip_written : (w : List ℕ) (ip : ℕ) → ip_of w ≡ Some ip → w ≡ ip_text ip
+ip_written w ip e =
+    let f = four_said w ip e in
+    let a : f.a ≡ ip / 16777216 = omega (arith, f.value, f.fit.a_fits, f.fit.b_fits, f.fit.c_fits, f.fit.d_fits) in
+    let b : f.b ≡ ip / 65536 % 256 = omega (arith, f.value, f.fit.a_fits, f.fit.b_fits, f.fit.c_fits, f.fit.d_fits) in
+    let c : f.c ≡ ip / 256 % 256 = omega (arith, f.value, f.fit.a_fits, f.fit.b_fits, f.fit.c_fits, f.fit.d_fits) in
+    let d : f.d ≡ ip % 256 = omega (arith, f.value, f.fit.a_fits, f.fit.b_fits, f.fit.c_fits, f.fit.d_fits) in
+    f.text ∙ (λ i. dotted_text (a i) (b i) (c i) (d i))
+
+-- the bytes between slashes, joined again
+two_joined : (w i k : List ℕ) → parts_at 47 w ≡ i ∷ k ∷ [] → w ≡ i ++ 47 ∷ k
+two_joined w i k e = sym (join_with_byte-slice_split 47 w) ∙ ap (join_with_byte 47) e
+
+one_joined : (w i : List ℕ) → parts_at 47 w ≡ i ∷ [] → w ≡ i
+one_joined w i e = sym (join_with_byte-slice_split 47 w) ∙ ap (join_with_byte 47) e
+
+pub whole_spelled : (w i : List ℕ) → parts_at 47 w ≡ i ∷ [] → is_some (ip_of i) ≡ is_range_spelling w
+whole_spelled w i e = by (ip_of i) refl ∙ ap (λ ps. option_map_or (λ (r : ℕ × ℕ). bytes_eq (address_text (Range r.0 r.1)) w) (range_in ps) false) (sym e)
+  where
+    by : (o : Option ℕ) → ip_of i ≡ o → is_some o ≡ option_map_or (λ (r : ℕ × ℕ). bytes_eq (address_text (Range r.0 r.1)) w) (option_map (λ n. (n, 32)) o) false
+    by None is = refl
+    by (Some n) is = sym ((bytes_eq-Decides (ip_text n ++ []) w).1 (append-nil (ip_text n) ∙ sym (ip_written i n is) ∙ sym (one_joined w i e)))
+
+-- no slash is among bytes that lack it
+lacks_none : (xs ys : List ℕ) → Lacks 47 (xs ++ 47 ∷ ys) → ⊥
+lacks_none [] ys h = false≢true (sym (All-head (λ b. (b == 47) ≡ false) 47 ys h))
+lacks_none (x ∷ xs) ys h = lacks_none xs ys (All-tail (λ b. (b == 47) ≡ false) x (xs ++ 47 ∷ ys) h)
+
+-- an address with bits, as it is written, is its own spelling where 32 bits are not said and the other bits are 0
+own_part : (n k : ℕ) → n < 2 ^ 32 → k ≤ 32 → (not (k == 32) && (first_bits k n == n)) ≡ bytes_eq (address_text (Range (first_bits k n) k)) (ip_text n ++ 47 ∷ decimal k)
+own_part n k low few = by (k == 32) refl
+  where
+    m : ℕ
+    m = first_bits k n
+
+    -- the same text says the same address
+    same_ip : ip_text m ++ 47 ∷ decimal k ≡ ip_text n ++ 47 ∷ decimal k → m ≡ n
+    same_ip e = same_Some m n (sym (ip_read m (omega (arith, low))) ∙ ap ip_of (append_cancel_right (ip_text m) (ip_text n) (47 ∷ decimal k) e) ∙ ip_read n low)
+
+    cut : (b : Bool) → (m == n) ≡ b → b ≡ bytes_eq (ip_text m ++ 47 ∷ decimal k) (ip_text n ++ 47 ∷ decimal k)
+    cut true is = sym ((bytes_eq-Decides _ _).1 (ap (λ x. ip_text x ++ 47 ∷ decimal k) (eqb-true m n is)))
+    cut false is = sym (false_from_ne_true _ (λ t. eqb-false m n is (same_ip ((bytes_eq-Decides _ _).0 t))))
+
+    by : (b : Bool) → (k == 32) ≡ b → (not b && (m == n)) ≡ bytes_eq (ip_text m ++ cond b [] (47 ∷ decimal k)) (ip_text n ++ 47 ∷ decimal k)
+    by true is = sym (false_from_ne_true _ (λ t. no_slash ((bytes_eq-Decides _ _).0 t)))
+      where
+        lacks : Lacks 47 (ip_text m)
+        lacks =
+            four_lack (m / 16777216) (m / 65536 % 256) (m / 256 % 256) (m % 256)
+            (record { a_fits = omega (arith, low); b_fits = omega arith; c_fits = omega arith; d_fits = omega arith })
+
+        no_slash : ip_text m ++ [] ≡ ip_text n ++ 47 ∷ decimal k → ⊥
+        no_slash e = lacks_none (ip_text n) (decimal k) (subst (Lacks 47) (sym (append-nil (ip_text m)) ∙ e) lacks)
+    by false is = cut (m == n) refl
+
+pub part_spelled : (w i k : List ℕ) → parts_at 47 w ≡ i ∷ k ∷ []
+    → option_map_or (λ n. option_map_or (λ b. not (b == 32) && (first_bits b n == n)) (number_to 32 k) false) (ip_of i) false ≡ is_range_spelling w
+part_spelled w i k e =
+    by (ip_of i) (number_to 32 k) refl refl ∙ ap (λ ps. option_map_or (λ (r : ℕ × ℕ). bytes_eq (address_text (Range r.0 r.1)) w) (range_in ps) false) (sym e)
+  where
+    by : (o p : Option ℕ) → ip_of i ≡ o → number_to 32 k ≡ p → option_map_or (λ n. option_map_or (λ b. not (b == 32) && (first_bits b n == n)) p false) o false
+        ≡ option_map_or (λ (r : ℕ × ℕ). bytes_eq (address_text (Range r.0 r.1)) w) (option_and_then (λ n. option_map (λ b. (first_bits b n, b)) p) o) false
+    by None p is at = refl
+    by (Some n) None is at = refl
+    by (Some n) (Some b) is at =
+        let said = text_of_number 32 k b at in
+        own_part n b (four_is_low i n is) said.1
+        ∙ ap (bytes_eq (address_text (Range (first_bits b n) b))) (sym (λ j. ip_written i n is j ++ 47 ∷ said.0 j) ∙ sym (two_joined w i k e))
+
+pub more_spelled : (w i k j : List ℕ) (ps : List (List ℕ)) → parts_at 47 w ≡ i ∷ k ∷ j ∷ ps → false ≡ is_range_spelling w
+more_spelled w i k j ps e = ap (λ ps. option_map_or (λ (r : ℕ × ℕ). bytes_eq (address_text (Range r.0 r.1)) w) (range_in ps) false) (sym e)

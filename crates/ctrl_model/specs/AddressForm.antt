@@ -118,7 +118,15 @@ same_address a b = false
 abbrev pub is_address : Address → Bool
 is_address a = option_map_or (same_address a) (address_of (address_text a)) false
 
--- A text begins with a plus, or with a zero before another byte. Private contracts alone cite it.
+-- Whether bytes are the one spelling of an address.
+abbrev pub is_spelling : List ℕ → Bool
+is_spelling bytes = option_map_or (λ a. bytes_eq (address_text a) bytes) (address_of bytes) false
+
+-- Whether bytes are the one spelling of a range. Private contracts alone cite it, as the next one.
+abbrev pub is_range_spelling : List ℕ → Bool
+is_range_spelling bytes = option_map_or (λ r. bytes_eq (address_text (Range r.0 r.1)) bytes) (range_of bytes) false
+
+-- A text begins with a plus, or with a zero before another byte.
 abbrev pub is_padded : List ℕ → Bool
 is_padded [] = false
 is_padded (first ∷ []) = first == 43

@@ -1,5 +1,5 @@
 -- Candidates of a circuit request, the best of them, and the first rule that fails (docs/RULES.md, "Circuits").
-use Rattle.std.specs.Prelude.{◌≡◌, ℕ, ◌+◌, ◌==◌, Bool, true, false, ◌&&◌, cond, List, [], ◌∷◌, map, filter, None, Some}
+use Rattle.std.specs.Prelude.{◌≡◌, ℕ, ◌+◌, ◌==◌, Bool, true, false, ◌&&◌, cond, List, [], ◌∷◌, ◌++◌, map, filter, None, Some}
 use Rattle.std.specs.declared.option.Option.{Option}
 use Rattle.std.specs.Option.{option_map_or}
 use Rattle.std.specs.List.{flat_map}
@@ -105,18 +105,25 @@ abbrev pub first_denial : List (Bool × Denial) → Option Denial
 first_denial [] = None
 first_denial (x ∷ xs) = cond x.0 (Some x.1) (first_denial xs)
 
--- The rules of a request whose identity and service are present, in order, each with whether it fails.
-abbrev pub failing : Network → Ask → ℕ → ℕ → List (Bool × Denial)
-failing w ask i s =
+-- The rules of a request whose identity and service are present, in order, each with whether it fails, but for those on paths and on
+-- room for circuits.
+abbrev pub rules_but_paths : Network → Ask → ℕ → ℕ → List (Bool × Denial)
+rules_but_paths w ask i s =
     (is_absent ask.ingress, UnknownRouter)
     ∷ (w.dial i s == 0, NoDial)
     ∷ (is_nothing (shared w ask.ingress i s), NoSharedRouter)
     ∷ (is_nothing (ingresses w ask.ingress i s), SharedRoutersOffline)
     ∷ (is_nothing (counted w s ask.instance), NoTerminators)
     ∷ (is_nothing (admissible w s ask.instance), NoAdmissibleTerminator)
-    ∷ (is_nothing (candidates_for w ask i s), NoPath)
-    ∷ (w.full, CircuitsFull)
     ∷ []
+
+-- The other two rules of such a request.
+abbrev pub rules_on_paths : Network → Ask → ℕ → ℕ → List (Bool × Denial)
+rules_on_paths w ask i s = (is_nothing (candidates_for w ask i s), NoPath) ∷ (w.full, CircuitsFull) ∷ []
+
+-- All rules of such a request.
+abbrev pub failing : Network → Ask → ℕ → ℕ → List (Bool × Denial)
+failing w ask i s = rules_but_paths w ask i s ++ rules_on_paths w ask i s
 
 -- The first rule of a request that fails, if one does.
 abbrev pub first_rule : Network → Ask → Option Denial

@@ -11,7 +11,11 @@ use Rattle.ctrl_model.specs.declared.kinds.Relation.TheVariants.{Dial, Bind, Ide
 use Rattle.ctrl_model.specs.declared.claims.Reach.{Reach}
 use Rattle.ctrl_model.specs.NameForm.{is_name, is_instance}
 use Rattle.ctrl_model.specs.Matches.{has_name, is_nothing}
-use Rattle.ctrl_model.specs.Limits.{limit, longest_path, most_cost, most_entries, most_latency, most_number}
+use Rattle.ctrl_model.specs.declared.addresses.Address.{Address}
+use Rattle.ctrl_model.specs.declared.addresses.Address.TheVariants.{Host, Under, Range}
+use Rattle.ctrl_model.specs.AddressForm.{is_address}
+use Rattle.ctrl_model.specs.InterceptForm.{is_intercept}
+use Rattle.ctrl_model.specs.Limits.{limit, longest_path, most_bits, most_cost, most_entries, most_latency, most_number, most_port}
 use Rattle.ctrl_model.specs.Claims.{no_path}
 use Rattle.ctrl_model.specs.declared.kinds.Kind.TheVariants as kind
 
@@ -81,6 +85,20 @@ is_reach e = is_number e.router.0 && (nat_le (length e.values) (limit kind.Route
 abbrev pub are_numbers : ℕ → List ℕ → Bool
 are_numbers most ns = nat_le (length ns) most && list_all is_number ns
 
+-- An address that is one place: a host, or a range of all bits.
+abbrev pub is_one_place : Address → Bool
+is_one_place (Host text) = true
+is_one_place (Under text) = false
+is_one_place (Range ip bits) = bits == most_bits
+
+-- The destination of a pick.
+abbrev pub is_destination : Address → Bool
+is_destination a = is_address a && is_one_place a
+
+-- A port.
+abbrev pub is_port : ℕ → Bool
+is_port n = in_range 1 most_port n
+
 -- Whether some body spells a command.
 abbrev pub is_spelled : Command → Bool
 is_spelled command.Hello = true
@@ -125,3 +143,7 @@ is_spelled (command.ListServices identity) = is_name identity
 is_spelled command.ShowCounts = true
 is_spelled (command.ShowCircuit n) = is_number n
 is_spelled command.Compact = true
+is_spelled (command.SetIntercept service intercept) = is_name service && is_intercept intercept
+is_spelled (command.ClearIntercept service) = is_name service
+is_spelled (command.Pick identity udp address port) = is_name identity && (is_destination address && is_port port)
+is_spelled (command.ListClashes identity service) = is_name identity && is_name service

@@ -1,6 +1,6 @@
 -- The controller: who sends which command in which state gets which reply, and which state is next
 -- (docs/RULES.md, "The controller"). Each command names one definition of its family.
-use Rattle.std.specs.Prelude.{ℕ, true, false, cond, List, None}
+use Rattle.std.specs.Prelude.{ℕ, ◌+◌, true, false, cond, List, None}
 use Rattle.ctrl_model.specs.declared.commands.Command.{Command}
 use Rattle.ctrl_model.specs.declared.commands.Command.TheVariants as command
 use Rattle.ctrl_model.specs.declared.kinds.Who.{Who}
@@ -20,6 +20,8 @@ use Rattle.ctrl_model.specs.LinkCommands.{create_link, set_link_cost, report_lat
 use Rattle.ctrl_model.specs.TerminatorCommands.{create_terminator, update_terminator, delete_terminator}
 use Rattle.ctrl_model.specs.CircuitCommands.{ask_of, create_circuit, delete_circuit, explain, verify_route, show_circuit}
 use Rattle.ctrl_model.specs.ShowCommands.{show_grants, list_services, show_counts}
+use Rattle.ctrl_model.specs.InterceptCommands.{set_intercept, clear_intercept, pick, list_clashes}
+use Rattle.ctrl_model.specs.SameStates.{same_state}
 
 -- The policy that a command's fields say.
 abbrev pub policy : List ℕ → Relation → Semantic → Side → Side → Policy
@@ -67,7 +69,19 @@ carry (command.ListServices identity) s = list_services identity s
 carry command.ShowCounts s = show_counts s
 carry (command.ShowCircuit n) s = show_circuit n s
 carry command.Compact s = shown None s Done
+carry (command.SetIntercept service intercept) s = set_intercept service intercept s
+carry (command.ClearIntercept service) s = clear_intercept service s
+carry (command.Pick identity udp address port) s = pick identity udp address port s
+carry (command.ListClashes identity service) s = list_clashes identity service s
 
 -- The answer to a command: not permitted, it is refused and leaves the state.
 abbrev pub answer : Who → Command → State → Reply × State
 answer who c s = cond (is_permitted who c) (carry c s) (Refused NotPermitted, s)
+
+-- A state that follows another, counted: where it is another one, its serial is one higher.
+abbrev pub counted : State → State → State
+counted s t = cond (same_state s t) s (record t { serial = s.serial + 1 })
+
+-- An answer whose state is counted.
+abbrev pub numbered : State → Reply × State → Reply × State
+numbered s a = (a.0, counted s a.1)

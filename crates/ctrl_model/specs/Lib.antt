@@ -28,6 +28,8 @@ pub mod LinkCommands
 pub mod TerminatorCommands
 pub mod CircuitCommands
 pub mod ShowCommands
+pub mod InterceptCommands
+pub mod SameStates
 pub mod Controller
 pub mod ValidState
 pub mod WorkedStates

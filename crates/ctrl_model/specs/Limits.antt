@@ -67,3 +67,7 @@ most_claimed = 32
 -- The greatest port. The least one is 1.
 abbrev pub most_port : ℕ
 most_port = 65535
+
+-- The last serial. A state that has it is changed no more.
+abbrev pub last_serial : ℕ
+last_serial = 9223372036854775808

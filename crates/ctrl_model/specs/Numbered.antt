@@ -1,5 +1,5 @@
 -- Numbered maps: records under their numbers, in ascending order of the numbers (docs/RULES.md, "Records and numbers").
-use Rattle.std.specs.Prelude.{ℕ, ◌+◌, ◌<◌, ◌≤◌, ◌==◌, ⊤, Bool, not, cond, List, [], ◌∷◌, ◌++◌, None, Some, map, filter, is_some}
+use Rattle.std.specs.Prelude.{ℕ, ◌+◌, ◌<◌, ◌≤◌, ◌==◌, nat_lt, ⊤, Bool, not, cond, List, [], ◌∷◌, ◌++◌, None, Some, map, filter, is_some}
 use Rattle.std.specs.declared.option.Option.{Option}
 
 -- The record at a number, if one is there.
@@ -14,6 +14,11 @@ is_present xs n = is_some (at xs n)
 -- The records with one more at the end. A new record has the next number, which is above all others.
 abbrev pub with_last : {R : Type 0} → List (ℕ × R) → ℕ → R → List (ℕ × R)
 with_last xs n r = xs ++ (n, r) ∷ []
+
+-- The records with one at a number, in the place of the one that stood there, if one did.
+abbrev pub with_at : {R : Type 0} → ℕ → R → List (ℕ × R) → List (ℕ × R)
+with_at n r [] = (n, r) ∷ []
+with_at n r (x ∷ xs) = cond (nat_lt x.0 n) (x ∷ with_at n r xs) ((n, r) ∷ cond (x.0 == n) xs (x ∷ xs))
 
 -- The records, of which the one at a number is changed.
 abbrev pub edit_at : {R : Type 0} → List (ℕ × R) → ℕ → (R → R) → List (ℕ × R)

@@ -18,7 +18,7 @@ router_may me (command.CreateTerminator service router instance None cost preced
 router_may me _ = false
 
 -- An identity session may send what concerns that identity alone: a terminator that it hosts, its circuits and their
--- explanations, and what it is granted.
+-- explanations, what it is granted, and which service of its own a destination belongs to.
 abbrev pub identity_may : List ℕ → Command → Bool
 identity_may me command.Hello = true
 identity_may me (command.CreateTerminator service router instance (Some host) cost precedence) = bytes_eq me host
@@ -26,6 +26,8 @@ identity_may me (command.CreateCircuit identity service ingress instance) = byte
 identity_may me (command.Explain identity service ingress instance) = bytes_eq me identity
 identity_may me (command.ShowGrants identity) = bytes_eq me identity
 identity_may me (command.ListServices identity) = bytes_eq me identity
+identity_may me (command.Pick identity udp address port) = bytes_eq me identity
+identity_may me (command.ListClashes identity service) = bytes_eq me identity
 identity_may me _ = false
 
 -- Whether a role may send a command: an admin every one.

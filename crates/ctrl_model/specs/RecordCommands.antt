@@ -11,7 +11,7 @@ use Rattle.ctrl_model.specs.declared.refusals.Refusal.TheVariants.{Full, Unknown
 use Rattle.ctrl_model.specs.declared.replies.Reply.{Reply}
 use Rattle.ctrl_model.specs.declared.replies.Reply.TheVariants.{Done, Made}
 use Rattle.ctrl_model.specs.Limits.{limit}
-use Rattle.ctrl_model.specs.Numbered.{with_new, with_edit, with_removed, with_each}
+use Rattle.ctrl_model.specs.Numbered.{without, with_new, with_edit, with_removed, with_each}
 use Rattle.ctrl_model.specs.State.{State, Policy}
 use Rattle.ctrl_model.specs.Tables.{Record, table, with_table, record_name, named, has_room, left_kind, right_kind}
 use Rattle.ctrl_model.specs.Rules.{or_then, refuse_if, carried_out, unknown_if_absent, exists_if_present, at_number, attributes_full, forget_left, forget_right}
@@ -98,9 +98,15 @@ forgotten kind.Router name s = record s {
 }
 forgotten k name s = s
 
--- Deleting a record removes the one that has the name, and an entity's name from the sides that name it.
+-- The intercept of a service goes.
+abbrev pub without_intercept : Kind → ℕ → State → State
+without_intercept kind.Service n s = record s { intercepts = without s.intercepts n }
+without_intercept k n s = s
+
+-- Deleting a record removes the one that has the name, a service's intercept with it, and an entity's name from the sides that
+-- name it.
 abbrev pub after_delete : Kind → List ℕ → State → State
-after_delete k name s = at_number (named k s name) s (λ n. forgotten k name (after_remove k n s))
+after_delete k name s = at_number (named k s name) s (λ n. forgotten k name (without_intercept k n (after_remove k n s)))
 
 -- The answer to a command that deletes a record, whose name a field gives.
 abbrev pub delete : Kind → Field → List ℕ → State → Reply × State

@@ -1,12 +1,13 @@
--- The state of a controller: its records by kind, the next number of each kind, and the one setting
--- (docs/RULES.md, "Records and numbers"). It holds no grants and no indexes: all else is computed from it.
-use Rattle.std.specs.Prelude.{ℕ, Bool, List}
+-- The state of a controller: its records by kind, the next number of each kind, the one setting, the intercepts of services, and
+-- the serial (docs/RULES.md, "Records and numbers"). It holds no grants and no indexes: all else is computed from it.
+use Rattle.std.specs.Prelude.{ℕ, Bool, List, []}
 use Rattle.std.specs.declared.option.Option.{Option}
 use Rattle.std.specs.Str.{bytes_eq}
 use Rattle.ctrl_model.specs.declared.kinds.Side.{Side}
 use Rattle.ctrl_model.specs.declared.kinds.Semantic.{Semantic}
 use Rattle.ctrl_model.specs.declared.kinds.Relation.{Relation}
 use Rattle.ctrl_model.specs.declared.kinds.Precedence.{Precedence}
+use Rattle.ctrl_model.specs.declared.intercepts.Intercept.{Intercept}
 use Rattle.ctrl_model.specs.Numbered.{Table, no_rows, first_where}
 
 -- An identity or a service: its name and its attributes.
@@ -57,7 +58,8 @@ pub record Circuit : Type 0 where
   pub ingress : ℕ
   pub links : List ℕ
 
--- The state: a table for each kind, and the least cost of entering a router.
+-- The state: a table for each kind, the least cost of entering a router, the intercepts, each under the number of its service, and
+-- how many changes were kept.
 pub record State : Type 0 where
   pub identities : Table Entity
   pub services : Table Entity
@@ -69,8 +71,10 @@ pub record State : Type 0 where
   pub terminators : Table Terminator
   pub circuits : Table Circuit
   pub least_router_cost : ℕ
+  pub intercepts : List (ℕ × Intercept)
+  pub serial : ℕ
 
--- The state at the start: no records, each next number 1, and the setting 10.
+-- The state at the start: no records, each next number 1, the setting 10, no intercepts, and the serial 0.
 abbrev pub start : State
 start = record {
   identities = no_rows;
@@ -83,6 +87,8 @@ start = record {
   terminators = no_rows;
   circuits = no_rows;
   least_router_cost = 10;
+  intercepts = [];
+  serial = 0;
 }
 
 -- The number of the identity or service that has a name, if one has it.

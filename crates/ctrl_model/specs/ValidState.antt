@@ -9,8 +9,10 @@ use Rattle.ctrl_model.specs.declared.kinds.Relation.{Relation}
 use Rattle.ctrl_model.specs.declared.kinds.Relation.TheVariants.{IdentityRouter, ServiceRouter}
 use Rattle.ctrl_model.specs.NameForm.{is_name, is_instance}
 use Rattle.ctrl_model.specs.CommandForm.{are_attributes, is_stored_side, is_service_relation, is_cost, is_link_cost, is_latency}
-use Rattle.ctrl_model.specs.Limits.{limit, last_next}
-use Rattle.ctrl_model.specs.Numbered.{Table, at, Between}
+use Rattle.ctrl_model.specs.declared.intercepts.Intercept.{Intercept}
+use Rattle.ctrl_model.specs.InterceptForm.{is_intercept}
+use Rattle.ctrl_model.specs.Limits.{limit, last_next, last_serial}
+use Rattle.ctrl_model.specs.Numbered.{Table, at, is_present, Between}
 use Rattle.ctrl_model.specs.State.{State, Entity, Router, Link, Policy, Terminator}
 use Rattle.ctrl_model.specs.Tables.{Record, table, has_names, record_name, named, left_kind, right_kind}
 use Rattle.ctrl_model.specs.Grants.{same_relation}
@@ -90,11 +92,18 @@ pub record ValidTable (k : Kind) (s : State) (t : Table (Record k)) : Type 0 whe
   pub names : has_names k ≡ true → HaveUniqueNames (record_name k) t.rows
   pub each : each_passes (is_valid k s) t.rows ≡ true
 
--- A valid state: the table of each kind is valid, the setting is in its range, no more attributes are in use than may be, and
--- repairing changes nothing. Circuits that settling would revoke may stand: those of a folder written before circuits were revoked, until a
--- command has an effect.
+-- An intercept under the number of a service: the service is present.
+abbrev pub is_valid_intercept : State → ℕ × Intercept → Bool
+is_valid_intercept s row = is_present s.services.rows row.0 && is_intercept row.1
+
+-- A valid state: the table of each kind is valid, the setting is in its range, no more attributes are in use than may be, repairing
+-- changes nothing, the intercepts ascend by their services, each is valid, and the serial has an end. Circuits that settling would
+-- revoke may stand: those of a folder written before circuits were revoked, until a command has an effect.
 pub record ValidState (s : State) : Type 0 where
   pub kinds : (k : Kind) → ValidTable k s (table k s)
   pub setting : is_link_cost s.least_router_cost ≡ true
   pub attributes : attributes_full s ≡ false
   pub repaired : repair s ≡ s
+  pub ordered : Between 1 s.services.next s.intercepts
+  pub intercepts : list_all (is_valid_intercept s) s.intercepts ≡ true
+  pub counted : s.serial ≤ last_serial

@@ -13,7 +13,7 @@ use Rattle.ctrl_model.specs.declared.kinds.Who.TheVariants.{Admin}
 use Rattle.ctrl_model.specs.declared.claims.Reach.{Reach}
 use Rattle.ctrl_model.specs.declared.replies.Reply.{Reply}
 use Rattle.ctrl_model.specs.State.{State, start}
-use Rattle.ctrl_model.specs.Controller.{answer}
+use Rattle.ctrl_model.specs.Controller.{answer, numbered}
 
 -- The reply to a command of an admin.
 abbrev pub reply_to : Command → State → Reply
@@ -23,6 +23,11 @@ reply_to c s = (answer Admin c s).0
 abbrev pub after : List Command → State → State
 after [] s = s
 after (c ∷ cs) s = after cs (answer Admin c s).1
+
+-- The same, each change counted.
+abbrev pub counted_after : List Command → State → State
+counted_after [] s = s
+counted_after (c ∷ cs) s = counted_after cs (numbered s (answer Admin c s)).1
 
 -- The side `#all`.
 abbrev pub everyone : Side
@@ -52,9 +57,9 @@ connected_router name = CreateRouter name [] 0 false ∷ ConnectRouter name ∷ 
 abbrev pub offered : List ℕ → List ℕ → ℕ → Precedence → Command
 offered service router cost precedence = CreateTerminator service router [] None cost precedence
 
--- Three routers in a line; ann may dial web, may use r1, and web may use every router.
-abbrev pub line_without_terminator : State
-line_without_terminator = after (
+-- What makes three routers in a line; ann may dial web, may use r1, and web may use every router.
+abbrev pub line_commands : List Command
+line_commands =
     CreateRouter (codes "r1") [] 0 false ∷ ConnectRouter (codes "r1")
     ∷ CreateRouter (codes "r2") [] 0 false ∷ ConnectRouter (codes "r2")
     ∷ CreateRouter (codes "r3") [] 0 false ∷ ConnectRouter (codes "r3")
@@ -64,7 +69,11 @@ line_without_terminator = after (
     ∷ service_policy (codes "dial") Dial (only (codes "ann")) (only (codes "web"))
     ∷ CreateEdgeRouterPolicy (codes "edge") AnyOf (only (codes "ann")) (only (codes "r1"))
     ∷ CreateServiceEdgeRouterPolicy (codes "all") AnyOf everyone everyone
-    ∷ []) start
+    ∷ []
+
+-- That line.
+abbrev pub line_without_terminator : State
+line_without_terminator = after line_commands start
 
 -- The line, with a terminator of web on r3 at cost 0.
 abbrev pub line : State

@@ -1,9 +1,9 @@
-ghost use Rattle.std.specs.Prelude.{◌≡◌, ◌↔◌, ◌∷◌, ◌++◌, ◌≤◌, [], not, map, length, IfOk, IfSome, IsErrOf, Some, None, true, false, option_map, decimal};
+ghost use Rattle.std.specs.Prelude.{◌≡◌, ◌↔◌, ◌∷◌, ◌++◌, ◌≤◌, ◌==◌, ◌&&◌, [], not, map, length, IfOk, IfSome, IsErrOf, Some, None, true, false, option_map, decimal};
 ghost use Rattle.std.specs.Char.{is_ascii_digit};
 ghost use Rattle.std.specs.List.{list_all, list_any};
 ghost use Rattle.std.specs.Option.{option_map_or};
 ghost use Rattle.std.specs.String.{string_bytes};
-ghost use Rattle.ctrl_model.specs.AddressForm.{lowered, is_label_byte, is_label, is_host, under_of, parts_at, last_part, is_padded, number_to, ip_of, first_bits, range_of, address_of, ip_text, address_text, is_address};
+ghost use Rattle.ctrl_model.specs.AddressForm.{lowered, is_label_byte, is_label, is_host, under_of, parts_at, last_part, is_padded, number_to, ip_of, first_bits, range_of, address_of, ip_text, address_text, is_address, is_spelling, is_range_spelling};
 ghost use Rattle.ctrl_model.specs.declared.addresses.Address.TheVariants.{Range, Under};
 
 use crate::items::{Copies, Items};
@@ -245,7 +245,45 @@ fn address_of(alloc: Global, bytes: &[u8]) -> Result<Address, AddressFault>
     Ok(Address::Host { text })
 }
 
+// Whether bytes have no capital letter.
+fn is_small(bytes: &[u8]) -> bool
+    ensures { result ≡ list_all (λ b. lowered b == b) bytes.now }
+{
+    bytes.iter().all(|byte| lowered(*byte) == *byte)
+}
+
+// Whether an address and bits are a range's own: all other bits are 0, and 32 bits are not said.
+fn is_own_range(ip: &[u8], bits: &[u8]) -> bool
+    ensures { result ≡ option_map_or (λ n. option_map_or (λ k. not (k == 32) && (first_bits k n == n)) (number_to 32 bits.now) false) (ip_of ip.now) false }
+{
+    match (ip_of(ip), number_to(MOST_BITS, bits)) {
+        (Some(ip), Some(bits)) => bits != MOST_BITS && first_bits(bits, ip) == ip,
+        _ => false,
+    }
+}
+
+fn is_range_spelling(bytes: &[u8]) -> bool
+    ensures { result ≡ is_range_spelling bytes.now }
+{
+    let (ip, rest) = cut_at(b'/', bytes);
+    let Some(rest) = rest else {
+        return ip_of(ip).is_some();
+    };
+    let (bits, rest) = cut_at(b'/', rest);
+    rest.is_none() && is_own_range(ip, bits)
+}
+
 impl Address {
+    /// Whether the bytes are the one spelling of an address. No memory is taken.
+    pub fn is_spelling(bytes: &[u8]) -> bool
+        ensures form { result ≡ is_spelling bytes.now }
+    {
+        if range_of(bytes).is_some() {
+            return is_range_spelling(bytes);
+        }
+        (host_behind(bytes).is_some() || is_host(bytes)) && is_small(bytes)
+    }
+
     /// The address that the bytes are.
     ///
     /// `BadAddress` comes exactly where the bytes are none; else only memory can be wanting.

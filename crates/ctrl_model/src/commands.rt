@@ -1,4 +1,6 @@
+use crate::addresses::Address;
 use crate::claims::Reaches;
+use crate::intercepts::Intercept;
 use crate::kinds::{Precedence, Relation, Semantic, Side};
 use crate::numbering::Numbers;
 use crate::texts::{Instance, Name, Names};
@@ -180,4 +182,22 @@ pub enum Command {
         no: u32,
     },
     Compact,
+    SetIntercept {
+        service: Name,
+        intercept: Intercept,
+    },
+    ClearIntercept {
+        service: Name,
+    },
+    Pick {
+        identity: Name,
+        /// False for tcp.
+        udp: bool,
+        address: Address,
+        port: u32,
+    },
+    ListClashes {
+        identity: Name,
+        service: Name,
+    },
 }

@@ -5,6 +5,7 @@
 mod addresses;
 mod claims;
 mod commands;
+mod formats;
 mod intercepts;
 mod items;
 mod kinds;
@@ -17,12 +18,13 @@ mod texts;
 pub use addresses::{Address, AddressFault, Addresses};
 pub use claims::{Explanation, Potentials, Reach, Reaches};
 pub use commands::Command;
+pub use formats::Format;
 pub use intercepts::{Intercept, PortRange, PortRanges};
 pub use items::{Copies, Items};
 pub use kinds::{Kind, Precedence, Relation, Role, RouterSeen, Semantic, Side, Who};
 pub use limits::{
-    LONGEST_HOST, LONGEST_LABEL, LONGEST_NAME, LONGEST_PATH, MOST_ATTRIBUTES, MOST_BITS, MOST_COST,
-    MOST_ENTRIES, MOST_LATENCY, MOST_ROUTERS, limit,
+    LAST_SERIAL, LONGEST_HOST, LONGEST_LABEL, LONGEST_NAME, LONGEST_PATH, MOST_ATTRIBUTES,
+    MOST_BITS, MOST_CLAIMED, MOST_COST, MOST_ENTRIES, MOST_LATENCY, MOST_ROUTERS, limit,
 };
 pub use numbering::{
     CircuitNo, IdentityNo, LinkNo, Numbers, PolicyNo, RouterNo, ServiceNo, TermNo,

@@ -24,6 +24,9 @@ pub const LONGEST_LABEL: usize = 63;
 /// How many bits an address of four numbers has.
 pub const MOST_BITS: u8 = 32;
 
+/// How many addresses an intercept may have, and how many ranges of ports.
+pub const MOST_CLAIMED: usize = 32;
+
 /// How many bytes a name may have.
 pub const LONGEST_NAME: usize = 64;
 
@@ -32,6 +35,9 @@ pub const MOST_COST: u32 = 65_535;
 
 /// The greatest latency that one end of a link reports.
 pub const MOST_LATENCY: u32 = 60_000;
+
+/// The last serial: a state that has it is changed no more.
+pub const LAST_SERIAL: u64 = 9_223_372_036_854_775_808;
 
 /// How many records of a kind may be present, and how many attributes may be in use.
 pub fn limit(kind: Kind) -> usize

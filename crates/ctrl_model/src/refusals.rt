@@ -38,6 +38,12 @@ pub enum Field {
     Routers,
     Terminator,
     Total,
+    Protocols,
+    Addresses,
+    Ports,
+    Protocol,
+    Address,
+    Port,
     /// No field at all: written as the empty text.
     Nothing,
 }
@@ -78,6 +84,12 @@ impl Field {
             Field::Routers => "routers",
             Field::Terminator => "terminator",
             Field::Total => "total",
+            Field::Protocols => "protocols",
+            Field::Addresses => "addresses",
+            Field::Ports => "ports",
+            Field::Protocol => "protocol",
+            Field::Address => "address",
+            Field::Port => "port",
             Field::Nothing => "",
         }
     }
@@ -138,4 +150,6 @@ pub enum Refusal {
     JournalFull,
     /// The mark has reached its bound.
     MarkFull,
+    /// No service that the identity may dial has an intercept of the destination.
+    NoIntercept,
 }

@@ -2,7 +2,7 @@ use crate::claims::Explanation;
 use crate::items::{Copies, Items};
 use crate::numbering::{CircuitNo, Numbers, TermNo};
 use crate::refusals::Refusal;
-use crate::texts::{Name, Names};
+use crate::texts::{Bytes, Name, Names};
 use std::alloc::AllocError;
 
 /// A name and how many policies grant it.
@@ -81,6 +81,17 @@ pub enum Reply {
         routers: u32,
         services: u32,
         terminators: u32,
+    },
+    /// The service that a destination belongs to, with the address and the ports of its intercept that say so.
+    Picked {
+        address: Bytes,
+        low: u32,
+        high: u32,
+        service: Name,
+    },
+    /// The services that claim what a service claims.
+    Clashes {
+        names: Names,
     },
     /// The command was refused, and nothing changed.
     Refused(Refusal),

@@ -13,7 +13,7 @@ use Rattle.ctrl_model.specs.declared.kinds.Relation.TheVariants.{Dial, Bind, Ide
 use Rattle.ctrl_model.specs.declared.refusals.Field.TheVariants.{Identity, Name, Link}
 use Rattle.ctrl_model.specs.declared.replies.Reply.{Reply}
 use Rattle.ctrl_model.specs.declared.replies.Reply.TheVariants.{Done, Made, Refused}
-use Rattle.ctrl_model.specs.declared.refusals.Refusal.TheVariants.{JournalFull, MarkFull, NotPermitted}
+use Rattle.ctrl_model.specs.declared.refusals.Refusal.TheVariants.{JournalFull, MarkFull, NotPermitted, NoIntercept}
 use Rattle.ctrl_model.specs.declared.kinds.Who.{Who}
 use Rattle.ctrl_model.specs.Permitted.{is_permitted}
 use Rattle.row_codec.specs.declared.changes.Op.{Op}
@@ -21,9 +21,9 @@ use Rattle.row_codec.specs.Batches.{batch_between}
 use Rattle.row_store.specs.declared.bounds.StoreBounds.{StoreBounds}
 use Rattle.ctrl_keep.specs.KeptMachine.{Place, Machine, slot_with, behind, kept, is_compact, compacted_place, compacted_at, answered, step}
 use Rattle.row_store.specs.OpenedStates.{byte_rows_of}
-use Rattle.row_store.specs.CompactedStores.{compacted_size}
+use Rattle.row_store.specs.RewrittenStores.{compacted_size}
 use Rattle.ctrl_model.specs.State.{State, Entity, as_entity, entity_named, link_named}
-use Rattle.ctrl_model.specs.Rules.{carried_out, shown, unknown_if_absent}
+use Rattle.ctrl_model.specs.Rules.{carried_out, shown, or_then, unknown_if_absent}
 use Rattle.ctrl_model.specs.Tables.{Record, table, named}
 use Rattle.ctrl_model.specs.RecordCommands.{create, update, delete, after_create, after_update, after_delete, after_remove, refusal_of_create, refusal_of_update, absent_names}
 use Rattle.ctrl_model.specs.EntityCommands.{entity, described, new_router, described_router, marked}
@@ -36,9 +36,12 @@ use Rattle.ctrl_model.specs.ValidState.{ValidState}
 use Rattle.ctrl_model.specs.CircuitCommands.{ask_of, shown_circuit, no_such_circuit}
 use Rattle.ctrl_model.specs.Numbered.{at}
 use Rattle.ctrl_model.specs.Controller.{policy, carry, answer}
+use Rattle.ctrl_model.specs.InterceptCommands.{no_such_service, after_set_intercept, after_clear_intercept, picked_for, picked_reply, clashes_reply}
+use Rattle.ctrl_serve.proofs.InterceptFits.{pick_fits, clashes_fit}
 use Rattle.ctrl_serve.proofs.RouteFits.{create_fits, explain_fits, shown_fit}
 use Rattle.std.specs.Option.{option_map_or}
 use Rattle.reply_codec.specs.ReplyLimits.{keeps_limits}
+use Rattle.ctrl_core.specs.KeptFormat.{kept_format}
 
 -- Where the reply of an effect fits, so does the answer of the command that has it.
 pub carried_out_fits : (r : Option Refusal) (s : State) (reply : Reply) (t : State) → keeps_limits reply ≡ true → keeps_limits (carried_out r s reply t).0 ≡ true
@@ -139,6 +142,15 @@ carried_fits (command.ListServices identity) s valid =
     shown_fits (unknown_if_absent Identity (entity_named s.identities.rows identity)) s (services_of i s) (services_fit i s valid)
 carried_fits command.ShowCounts s valid = refl
 carried_fits command.Compact s valid = refl
+carried_fits (command.SetIntercept service i) s valid = carried_out_fits (no_such_service service s) s Done (after_set_intercept service i s) refl
+carried_fits (command.ClearIntercept service) s valid = carried_out_fits (no_such_service service s) s Done (after_clear_intercept service s) refl
+carried_fits (command.Pick identity udp to port) s valid =
+    let i = unwrap_or (named kind.Identity s identity) 0 in
+    shown_fits (unknown_if_absent Identity (named kind.Identity s identity)) s (option_map_or (picked_reply s) (picked_for i udp to port s) (Refused NoIntercept)) (pick_fits i udp to port s valid)
+carried_fits (command.ListClashes identity service) s valid =
+    let i = unwrap_or (named kind.Identity s identity) 0 in
+    let n = unwrap_or (named kind.Service s service) 0 in
+    shown_fits (or_then (unknown_if_absent Identity (named kind.Identity s identity)) (no_such_service service s)) s (clashes_reply i n s) (clashes_fit i n s valid)
 
 -- So does the answer that is kept in a journal, also where it has no room there.
 kept_fits : (most : ℕ) (reply : Reply) (s : State) (batch : List Op) (next : State) (place : Place) → keeps_limits reply ≡ true → keeps_limits (kept most reply s batch next place).0 ≡ true
@@ -151,7 +163,7 @@ kept_fits most reply s (op ∷ ops) next place fits = by (nat_lt most (slot_with
 
 -- What becomes of Compact in a folder fits.
 compacted_fits : (bounds : StoreBounds) (s : State) (place : Place) → keeps_limits (compacted_at bounds s place).0 ≡ true
-compacted_fits bounds s place = by (nat_lt bounds.slot (compacted_size (byte_rows_of s))) (nat_lt place.mark bounds.mark)
+compacted_fits bounds s place = by (nat_lt bounds.slot (compacted_size (byte_rows_of kept_format s))) (nat_lt place.mark bounds.mark)
   where
     by : (full room : Bool) → keeps_limits (cond {A = Reply × Machine} full (Refused JournalFull, record { state = s; place = Some place })
         (cond room (Done, record { state = s; place = Some (compacted_place s place) }) (Refused MarkFull, record { state = s; place = Some place }))).0 ≡ true
@@ -162,7 +174,7 @@ compacted_fits bounds s place = by (nat_lt bounds.slot (compacted_size (byte_row
 answered_fits : (bounds : StoreBounds) (compacts : Bool) (a : Reply × State) (s : State) (place : Option Place) → keeps_limits a.0 ≡ true → keeps_limits (answered bounds compacts a s place).0 ≡ true
 answered_fits bounds compacts a s None fits = fits
 answered_fits bounds true a s (Some place) fits = compacted_fits bounds s place
-answered_fits bounds false a s (Some place) fits = kept_fits bounds.slot a.0 s (batch_between s a.1) a.1 place fits
+answered_fits bounds false a s (Some place) fits = kept_fits bounds.slot a.0 s (batch_between kept_format s a.1) a.1 place fits
 
 -- Nor does it matter who sends a command.
 sent_fits : (may : Bool) (a : Reply × State) (s : State) → keeps_limits a.0 ≡ true → keeps_limits (cond {A = Reply × State} may a (Refused NotPermitted, s)).0 ≡ true

@@ -14,7 +14,7 @@ use Rattle.slot_files.specs.FolderImage.{StandsAsBefore}
 use Rattle.ctrl_keep.specs.declared.faults.KeepFault.{KeepFault}
 use Rattle.ctrl_keep.specs.declared.faults.KeepFault.TheVariants as keep
 use Rattle.ctrl_keep.specs.Faults.{disk_failure, OpenFails}
-use Rattle.row_store.specs.OpenedStates.{IsStateless}
+use Rattle.ctrl_keep.specs.KeptFolders.{IsStateless}
 use Rattle.run_notes.specs.declared.status.Status.{Status}
 use Rattle.run_notes.specs.declared.status.Status.TheVariants.{ReadFault, WriteFault, DiskFault, Damaged, NoMemory}
 use Rattle.run_notes.specs.NotedLines.{FindsNoMore, NotesLines}
@@ -25,6 +25,7 @@ use Rattle.ctrl_serve.specs.Headline.{StaysClosed, IsUnopened}
 use Rattle.ctrl_serve.specs.Runs.{IsDiskCaused}
 use Rattle.ctrl_serve.proofs.IntakeLaws.{disk_calm, disk_fault}
 use Rattle.ctrl_serve.proofs.OpenedMachines.{stateless_marked}
+use Rattle.ctrl_core.specs.KeptFormat.{kept_format}
 
 -- ---- why it stays closed
 
@@ -82,7 +83,7 @@ closed_disk T before mid now keep.NoMemory status c d cause still told = disk_ca
 pub unopened : {D : Type 0} {seen : D → Seen} {stopped : D → Stopped}
     (tells : Bool) (fault : KeepFault) (desk mid now : D) (status : Status) → OnlyDisk seen desk mid → OnlyNotes seen stopped mid now
     → FindsNoMore stopped mid now → OpenFails tells (seen desk).reads fault → (IsTrue tells → 0 < length ((seen desk).reads Mark) → (seen mid).reads ≡ (seen desk).reads)
-    → (IsTrue tells → 0 < length ((seen desk).reads Mark) → Leaves seen stopped desk mid (stopped desk).images) → Leaves seen stopped desk mid (λ image. ⊤) → (IsTrue tells → Leaves seen stopped desk mid (After StandsAsBefore (stopped desk).images))
+    → (IsTrue tells → 0 < length ((seen desk).reads Mark) → Leaves seen stopped desk mid (stopped desk).images) → Leaves seen stopped desk mid (λ image. ⊤) → (IsTrue tells → Leaves seen stopped desk mid (After (StandsAsBefore kept_format) (stopped desk).images))
     → TellsClosed fault status (seen mid) (seen now)
     → IsUnopened tells seen stopped desk now status
 unopened {seen = seen} {stopped = stopped} tells fault desk mid now status calls notes more fails kept unwritten quiet left told =

@@ -8,8 +8,7 @@ use Rattle.ctrl_model.specs.State.{State}
 use Rattle.policy_advisor.specs.Reports.{report_of}
 use Rattle.row_store.specs.declared.bounds.StoreBounds.{StoreBounds}
 use Rattle.ctrl_keep.specs.KeptMachine.{Machine}
-use Rattle.row_store.specs.OpenedStates.{OpensToState}
-use Rattle.row_store.proofs.OneStates.{one_state, stateless_opens}
+use Rattle.ctrl_keep.specs.KeptFolders.{OpensToState}
 use Rattle.session_mux.specs.declared.sessions.Form.{Form}
 use Rattle.run_notes.specs.declared.status.Status.{Status}
 use Rattle.run_notes.specs.declared.status.Status.TheVariants.{Done, Usage, BadInput, Truncated, ReadFault, WriteFault, DiskFault, Damaged, NoMemory, InputTooLong, FolderFull}
@@ -21,6 +20,7 @@ use Rattle.ctrl_serve.specs.Headline.{folder_bounds, taking_of, Taking, StaysClo
 use Rattle.ctrl_serve.specs.OpenedFolders.{OpensTo}
 use Rattle.ctrl_serve.specs.CompleteRuns.{IsCalm, CompletesFrom, ComesOut, ComesOutFrom}
 use Rattle.ctrl_serve.proofs.OpenedMachines.{one_machine_state}
+use Rattle.ctrl_keep.proofs.OneKeptStates.{one_kept_state, opens_undamaged}
 use Rattle.ctrl_serve.proofs.RunLaws.{serves_completely, line_said}
 
 -- ---- a folder that was not opened
@@ -35,7 +35,7 @@ starved tells before now Truncated s why told opens disk = absurd why
 starved tells before now ReadFault s why told opens disk = absurd why
 starved tells before now WriteFault s why told opens disk = absurd why
 starved tells before now DiskFault s why told opens disk = absurd (disk refl)
-starved tells before now Damaged s why told opens disk = absurd (stateless_opens before.reads why.0 why.1 s (why.2 told) opens)
+starved tells before now Damaged s why told opens disk = absurd (opens_undamaged before.reads s why.0 why.1 opens (why.2 told))
 starved tells before now NoMemory s why told opens disk = refl
 starved tells before now InputTooLong s why told opens disk = absurd why
 starved tells before now FolderFull s why told opens disk = absurd why
@@ -74,7 +74,7 @@ looked : {D : Type 0} {seen : D → Seen} {stopped : D → Stopped}
     → IsTrue tells → OpensToState (seen desk).reads s → (status ≡ WriteFault → ⊥) → (status ≡ DiskFault → ⊥) → IsSaid (line s) (seen desk).said (seen desk_now).said status
 looked {seen = seen} line tells desk desk_now status s (inl closed) told opens write disk = inl (starved tells (seen desk) (seen desk_now) status s closed.why told opens disk)
 looked {seen = seen} line tells desk desk_now status s (inr on) told opens write disk =
-    subst (λ (t : State). IsSaid (line t) (seen desk).said (seen desk_now).said status) (one_state (seen desk).reads on.state s (on.opens told) opens) (line_said status _ _ _ on.says write)
+    subst (λ (t : State). IsSaid (line t) (seen desk).said (seen desk_now).said status) (one_kept_state (seen desk).reads on.state s (on.opens told) opens) (line_said status _ _ _ on.says write)
 
 pub audit_is_complete : {S D : Type 0} (o : Outside S D) (bounds : Bounds) (words : List (List ℕ)) (source source_now : S) (desk desk_now : D) (status : Status) (s : State)
     → Runs o bounds words (Some Audit) source source_now desk desk_now status

@@ -22,12 +22,13 @@ use Rattle.ctrl_model.specs.declared.replies.Reply.TheVariants.{Done, Refused}
 use Rattle.ctrl_model.specs.State.{State}
 use Rattle.ctrl_model.specs.ValidState.{ValidState}
 use Rattle.row_store.specs.declared.bounds.StoreBounds.{StoreBounds}
-use Rattle.row_store.specs.BatchRows.{ByteRows}
-use Rattle.row_store.specs.CompactedStores.{compacted, compacted_size, IsCompacted as IsStoreCompacted}
+use Rattle.slot_reading.specs.BatchRows.{ByteRows}
+use Rattle.row_store.specs.RewrittenStores.{compacted, compacted_size, IsRewritten}
 use Rattle.row_store.specs.StoredRows.{ReadsAs}
 use Rattle.ctrl_keep.specs.declared.faults.KeepFault.{KeepFault}
 use Rattle.ctrl_keep.specs.declared.faults.KeepFault.TheVariants.{Disk, Damaged, Spent, NoMemory}
-use Rattle.row_store.specs.OpenedStates.{byte_rows_of, OpensToState}
+use Rattle.row_store.specs.OpenedStates.{byte_rows_of}
+use Rattle.ctrl_keep.specs.KeptFolders.{OpensToState}
 use Rattle.ctrl_keep.specs.KeptMachine.{Machine, compacted_place, is_compact}
 use Rattle.ctrl_keep.specs.KeptBatches.{mark_at}
 use Rattle.ctrl_keep.specs.KeptController.{Controlled, HoldsRows, machine_of, place_of}
@@ -49,6 +50,7 @@ use Rattle.ctrl_serve.proofs.IntakeLaws.{disk_calm, disk_fault}
 use Rattle.ctrl_serve.proofs.OpenedMachines.{kept_keeps, opens_by}
 use Rattle.ctrl_serve.proofs.FollowedRuns.{kept_by, opened_by}
 use Rattle.ctrl_serve.proofs.ClosedFolders.{unopened}
+use Rattle.ctrl_core.specs.KeptFormat.{kept_format}
 
 -- ---- notes behind the calls on a folder
 
@@ -65,8 +67,8 @@ notes_leave calls notes more = record {
 
 -- What was read alone stands for what it stood for.
 read_stands : {D : Type 0} {seen : D → Seen} {stopped : D → Stopped} {old new : D}
-    → Leaves seen stopped old new (stopped old).images → Leaves seen stopped old new (After StandsAsBefore (stopped old).images)
-read_stands {stopped = stopped} {old = old} call = Leaves-weaker (After StandsAsBefore (stopped old).images) call (λ i p. stands_same i p)
+    → Leaves seen stopped old new (stopped old).images → Leaves seen stopped old new (After (StandsAsBefore kept_format) (stopped old).images)
+read_stands {stopped = stopped} {old = old} call = Leaves-weaker (After (StandsAsBefore kept_format) (stopped old).images) call (λ i p. stands_same kept_format i p)
 
 -- And no reply byte was taken.
 read_quietly : {D : Type 0} {seen : D → Seen} {stopped : D → Stopped} {old new : D}
@@ -124,7 +126,7 @@ answers_by false false m next = inr (record { full = full.Mark; reply = refl; sa
 -- It is done, or refused.
 compaction_answers : (k : Controlled) → ((compaction k.stored.bounds (machine_of k)).0 ≡ Done) ⊎ IsRefused (machine_of k) (compaction k.stored.bounds (machine_of k))
 compaction_answers k =
-    answers_by (nat_lt k.stored.bounds.slot (compacted_size (byte_rows_of k.state))) (nat_lt k.stored.mark k.stored.bounds.mark) (machine_of k)
+    answers_by (nat_lt k.stored.bounds.slot (compacted_size (byte_rows_of kept_format k.state))) (nat_lt k.stored.mark k.stored.bounds.mark) (machine_of k)
     (record { state = k.state; place = Some (compacted_place k.state (place_of k.stored)) })
 
 state_by : (a b : Bool) (m next : Machine) → next.state ≡ m.state → (cond {A = Reply × Machine} a (Refused JournalFull, m) (cond {A = Reply × Machine} b (Done, next) (Refused MarkFull, m))).1.state ≡ m.state
@@ -135,7 +137,7 @@ state_by false false m next e = refl
 -- The state stays.
 compaction_state : (k : Controlled) → (compaction k.stored.bounds (machine_of k)).1.state ≡ k.state
 compaction_state k =
-    state_by (nat_lt k.stored.bounds.slot (compacted_size (byte_rows_of k.state))) (nat_lt k.stored.mark k.stored.bounds.mark) (machine_of k)
+    state_by (nat_lt k.stored.bounds.slot (compacted_size (byte_rows_of kept_format k.state))) (nat_lt k.stored.mark k.stored.bounds.mark) (machine_of k)
     (record { state = k.state; place = Some (compacted_place k.state (place_of k.stored)) }) refl
 
 -- Each such refusal tells its part.
@@ -148,10 +150,10 @@ full_of_refusal full.Mark = refl
 -- The folder of a controller that compacted it.
 folder_compacted : (k next : Controlled) (before reads : Image) (images left : Image → Type 0)
     → HoldsRows k → ReadsAs k.stored before images → HoldsRows next → ReadsAs next.stored reads left → machine_of next ≡ (compaction k.stored.bounds (machine_of k)).1
-    → IsStoreCompacted k.stored before reads → IsCompacted k.stored.bounds (machine_of k) reads
+    → IsRewritten kept_format k.stored.rows k.stored before reads → IsCompacted k.stored.bounds (machine_of k) reads
 folder_compacted k next before reads images left holds stands held stood goes made = record {
   keeps = subst (λ (m : Machine). Keeps reads m) goes (kept_keeps next reads left held stood);
-  stands = subst (λ (rows : ByteRows). Stands reads (compacted rows)) holds.rows made.stands;
+  stands = subst (λ (rows : ByteRows). Stands kept_format reads (compacted rows)) holds.rows made.stands;
   cut = λ place at.
       let mark : k.stored.mark ≡ place.mark = ap mark_at at in
       subst (λ (p : Part). reads p ≡ []) (stands.kept.part ∙ ap slot_of mark) made.cut;
@@ -165,7 +167,7 @@ pub record Submitted {D : Type 0} (tells : Bool) (seen : D → Seen) (stopped : 
   pub step : IfOk r (λ reply. (reply, machine_of next) ≡ compaction k.stored.bounds (machine_of k))
   pub unspent : OnOk r ((k.spent ≡ false) × (next.spent ≡ false) × (next.stored.bounds ≡ k.stored.bounds))
   pub held : next.spent ≡ false → HoldsRows next
-  pub made : IfOk r (λ reply. is_compact Compact ≡ true → reply ≡ Done → IsTrue tells → IsStoreCompacted k.stored (seen desk).reads (seen mid).reads)
+  pub made : IfOk r (λ reply. is_compact Compact ≡ true → reply ≡ Done → IsTrue tells → IsRewritten kept_format k.stored.rows k.stored (seen desk).reads (seen mid).reads)
   pub fault : IfErr r (λ fault. SubmitFails k next desk mid fault)
   pub fits : OnErr r (k.spent ≡ false → is_compact Compact ≡ true → (compaction k.stored.bounds (machine_of k)).0 ≡ Done)
   pub stood : next.spent ≡ false → IsTrue tells → ReadsAs next.stored (seen mid).reads (stopped mid).images
@@ -288,17 +290,17 @@ compaction_stops k calls = Leaves-weaker (λ image. OpensToState image k.state) 
 -- ---- the compaction of a folder
 
 -- An image that stands for what one of these stood for opens to the state to which they all open.
-still_stands : (images : Image → Type 0) (s : State) → AllOpenTo images s → (image : Image) → After StandsAsBefore images image → OpensToState image s
+still_stands : (images : Image → Type 0) (s : State) → AllOpenTo images s → (image : Image) → After (StandsAsBefore kept_format) images image → OpensToState image s
 still_stands images s all image p =
     let opens = all p.from p.was in
-    record { valid = opens.valid; rows = record { batches = opens.rows.batches; stands = p.by.still opens.rows.batches opens.rows.stands; give = opens.rows.give } }
+    record { has = opens.has; valid = opens.valid; rows = record { batches = opens.rows.batches; stands = p.by.still opens.rows.batches opens.rows.stands; give = opens.rows.give } }
 
 -- A folder that was opened was compacted, or not.
 pub compacted_opened : {D : Type 0} {seen : D → Seen} {stopped : D → Stopped}
     (bounds : StoreBounds) (k : Controlled) (tells : Bool) (desk mid now : D) (status : Status)
     → (IsTrue tells → OpensToState (seen desk).reads k.state) → (IsTrue tells → ReadsAs k.stored (seen mid).reads (stopped mid).images) → HoldsRows k → k.stored.bounds ≡ bounds
-    → (IsTrue tells → Opens (length ((seen desk).reads Mark)) (seen desk).reads (seen mid).reads) → OnlyDisk seen desk mid
-    → Leaves seen stopped desk mid (λ image. ⊤) → (IsTrue tells → Leaves seen stopped desk mid (After StandsAsBefore (stopped desk).images))
+    → (IsTrue tells → Opens kept_format (length ((seen desk).reads Mark)) (seen desk).reads (seen mid).reads) → OnlyDisk seen desk mid
+    → Leaves seen stopped desk mid (λ image. ⊤) → (IsTrue tells → Leaves seen stopped desk mid (After (StandsAsBefore kept_format) (stopped desk).images))
     → EndsCompaction status k.stored.bounds (machine_of k) tells (seen mid) (seen now)
     → (status ≡ ending.FolderFull → (seen now).reads ≡ (seen mid).reads) → Leaves seen stopped mid now (λ image. ⊤) → (IsTrue tells → Leaves seen stopped mid now (λ image. OpensToState image k.state))
     → Compacts bounds tells (seen desk) (seen now) (stopped desk) (stopped now) status
@@ -310,7 +312,8 @@ compacted_opened {D} {seen} {stopped} bounds k tells desk mid now status opens s
   ends = subst (λ (n : StoreBounds). EndsCompaction status n (machine_of k) tells (seen desk) (seen now)) same
       (ends_from status k.stored.bounds (machine_of k) tells (seen desk) (seen mid) (seen now) calls.notes calls.failed_notes ends);
   refused_stands = λ yes is. record {
-    still = λ batches s. subst (λ (i : Image). Stands i batches) (sym (full is)) (opened_by (length ((seen desk).reads Mark)) (seen desk).reads (seen mid).reads batches refl (made yes) s);
+    still = λ batches s. subst (λ (i : Image). Stands kept_format i batches) (sym (full is)) (opened_by (length ((seen desk).reads Mark)) (seen desk).reads (seen mid).reads batches refl (made yes) s);
+    own = λ some f batches s. subst (λ (i : Image). Stands f i batches) (sym (full is ∙ kept_by (length ((seen desk).reads Mark)) (seen desk).reads (seen mid).reads some (made yes))) s;
   };
   refused_still = λ yes is some. full is ∙ kept_by (length ((seen desk).reads Mark)) (seen desk).reads (seen mid).reads some (made yes);
   stops = λ yes all. Elapses-then (λ image taken. OpensToState image k.state) (left yes).time (later yes).time

@@ -27,6 +27,7 @@ use Rattle.ctrl_serve.specs.KnownReplies.{machine_after, machine_along, batches_
 use Rattle.ctrl_serve.specs.FollowedFolders.{FollowsEvents, FollowsInput}
 use Rattle.ctrl_serve.specs.UncompactedFolders.{CompactsNothing, LeavesOtherSlot}
 use Rattle.ctrl_serve.proofs.KnownLaws.{machine_then, machine_from_start}
+use Rattle.ctrl_core.specs.KeptFormat.{kept_format}
 
 -- ---- a frame
 
@@ -126,7 +127,7 @@ follows_then {bounds} {here} {es} {later} {k} {k1} {m} {m1} {before} {mid} {now}
           let both = came_back m (machine_along bounds es k m) _ first.on at.on (sym last ∙ back) in
           at.still both.1 ∙ first.still both.0;
       stands = λ batches s.
-          subst (Stands now) (sym (batches_then bounds es later k m batches)) (at.stands (batches_along bounds es k m batches) (first.stands batches s));
+          subst (Stands kept_format now) (sym (batches_then bounds es later k m batches)) (at.stands (batches_along bounds es k m batches) (first.stands batches s));
       elsewhere = λ same.
           let neither = neither_compacts m (machine_along bounds es k m) _ first.on at.on (sym (ap (λ (y : Machine). mark_at y.place) last) ∙ same) in
           let here = first.elsewhere neither.0 in
@@ -163,33 +164,33 @@ follows_input form bounds used es m before now all follows =
     record {
       still = λ back. follows.still (last ∙ back);
       stands = λ batches s.
-          subst (Stands now) (along_batches bounds es (known_in form) m batches ∙ ap (λ (l : List Event). batches_behind bounds m (frames_in form l) batches) all) (follows.stands batches s);
+          subst (Stands kept_format now) (along_batches bounds es (known_in form) m batches ∙ ap (λ (l : List Event). batches_behind bounds m (frames_in form l) batches) all) (follows.stands batches s);
       elsewhere = λ same. follows.elsewhere (ap (λ (y : Machine). mark_at y.place) last ∙ same);
     }
 
 -- ---- the folder was opened before
 
 -- Where it was created it stands for no batches, as it did.
-created_stands : (old new : Image) (batches : List (List ℕ)) → StandsBy 0 old batches → IsCreated old new → Stands new batches
+created_stands : (old new : Image) (batches : List (List ℕ)) → StandsBy 0 kept_format old batches → IsCreated kept_format old new → Stands kept_format new batches
 created_stands old new batches none made =
-    let slot : Slot (new Zero) [] = created_slot (old Zero) (new Zero) (slot_bytes []) refl made.first in
-    subst (λ (m : List ℕ). StandsBy (length m) new batches) (sym made.mark) (subst (λ (b : List (List ℕ)). Slot (new Zero) b) (sym none) slot)
+    let slot : Slot kept_format (new Zero) [] = created_slot kept_format (old Zero) (new Zero) (slot_bytes kept_format []) refl made.first in
+    subst (λ (m : List ℕ). StandsBy (length m) kept_format new batches) (sym made.mark) (subst (λ (b : List (List ℕ)). Slot kept_format (new Zero) b) (sym none) slot)
 
-pub opened_by : (mark : ℕ) (old new : Image) (batches : List (List ℕ)) → length (old Mark) ≡ mark → Opens mark old new → Stands old batches → Stands new batches
-opened_by zero old new batches is made s = created_stands old new batches (subst (λ (n : ℕ). StandsBy n old batches) is s) made
-opened_by (suc turn) old new batches is made s = subst (λ (i : Image). Stands i batches) (sym made) s
+pub opened_by : (mark : ℕ) (old new : Image) (batches : List (List ℕ)) → length (old Mark) ≡ mark → Opens kept_format mark old new → Stands kept_format old batches → Stands kept_format new batches
+opened_by zero old new batches is made s = created_stands old new batches (subst (λ (n : ℕ). StandsBy n kept_format old batches) is s) made
+opened_by (suc turn) old new batches is made s = subst (λ (i : Image). Stands kept_format i batches) (sym made) s
 
-pub kept_by : (mark : ℕ) (old new : Image) → 0 < mark → Opens mark old new → new ≡ old
+pub kept_by : (mark : ℕ) (old new : Image) → 0 < mark → Opens kept_format mark old new → new ≡ old
 kept_by zero old new some made = absurd (omega (arith, some))
 kept_by (suc turn) old new some made = made
 
 -- For whatever it stood, it stands behind a run for the last batches of these.
-pub opened_stands_for : (form : Form) (bounds : StoreBounds) (m : Machine) (before mid now : Image) (used : List ℕ) (batches : List (List ℕ)) → Opens (length (before Mark)) before mid
-    → FollowsInput form bounds m mid now used → Stands before batches → Stands now (last_batches form bounds m used batches)
+pub opened_stands_for : (form : Form) (bounds : StoreBounds) (m : Machine) (before mid now : Image) (used : List ℕ) (batches : List (List ℕ)) → Opens kept_format (length (before Mark)) before mid
+    → FollowsInput form bounds m mid now used → Stands kept_format before batches → Stands kept_format now (last_batches form bounds m used batches)
 opened_stands_for form bounds m before mid now used batches made follows s = follows.stands batches (opened_by (length (before Mark)) before mid batches refl made s)
 
 -- Where the machine is as it was at the opening, it reads as before.
-pub opened_still : (form : Form) (bounds : StoreBounds) (m : Machine) (before mid now : Image) (used : List ℕ) → Opens (length (before Mark)) before mid
+pub opened_still : (form : Form) (bounds : StoreBounds) (m : Machine) (before mid now : Image) (used : List ℕ) → Opens kept_format (length (before Mark)) before mid
     → FollowsInput form bounds m mid now used → 0 < length (before Mark) → last_machine form bounds m used ≡ m → now ≡ before
 opened_still form bounds m before mid now used made follows some back = follows.still back ∙ kept_by (length (before Mark)) before mid some made
 
@@ -199,7 +200,7 @@ second_left before mid now second others Zero no_mark no_first = absurd (no_firs
 second_left before mid now second others One no_mark no_first = others.same One no_first ∙ second
 second_left before mid now second others Mark no_mark no_first = absurd (no_mark refl)
 
-created_leaves : (before mid now : Image) → before Mark ≡ [] → IsCreated before mid → Else (slot_of (length (mid Mark))) mid now → LeavesOtherSlot before now
+created_leaves : (before mid now : Image) → before Mark ≡ [] → IsCreated kept_format before mid → Else (slot_of (length (mid Mark))) mid now → LeavesOtherSlot before now
 created_leaves before mid now none made others =
     let first : Else Zero mid now = subst (λ (bytes : List ℕ). Else (slot_of (length bytes)) mid now) made.mark others in
     record {
@@ -212,11 +213,11 @@ found_leaves before mid now same others =
     let here = subst (λ (i : Image). Else (slot_of (length (i Mark))) i now) same others in
     record { slot = λ part mark not. here.same part not; mark = λ some. here.same Mark (slot_no_mark (length (before Mark))) }
 
-leaves_by : (mark : ℕ) (before mid now : Image) → length (before Mark) ≡ mark → Opens mark before mid → Else (slot_of (length (mid Mark))) mid now → LeavesOtherSlot before now
+leaves_by : (mark : ℕ) (before mid now : Image) → length (before Mark) ≡ mark → Opens kept_format mark before mid → Else (slot_of (length (mid Mark))) mid now → LeavesOtherSlot before now
 leaves_by zero before mid now is made others = created_leaves before mid now (nil_from_length (before Mark) is) made others
 leaves_by (suc turn) before mid now is made others = found_leaves before mid now made others
 
 -- Where the run behind it compacted nothing, it leaves the slot that does not stand, and the mark unless it was empty.
-pub opened_leaves : (form : Form) (bounds : StoreBounds) (m : Machine) (before mid now : Image) (used : List ℕ) → Opens (length (before Mark)) before mid
+pub opened_leaves : (form : Form) (bounds : StoreBounds) (m : Machine) (before mid now : Image) (used : List ℕ) → Opens kept_format (length (before Mark)) before mid
     → FollowsInput form bounds m mid now used → CompactsNothing m (last_machine form bounds m used) → LeavesOtherSlot before now
 opened_leaves form bounds m before mid now used made follows same = leaves_by (length (before Mark)) before mid now refl made (follows.elsewhere same)

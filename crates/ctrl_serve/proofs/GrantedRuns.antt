@@ -18,6 +18,7 @@ use Rattle.row_codec.specs.Batches.{batch_between}
 use Rattle.row_store.specs.declared.bounds.StoreBounds.{StoreBounds}
 use Rattle.ctrl_keep.specs.KeptMachine.{Machine, Place, answered, kept}
 use Rattle.ctrl_serve.specs.FrameAnswer.{answer_to, frame_answer, machine_behind}
+use Rattle.ctrl_core.specs.KeptFormat.{kept_format}
 
 -- ---- one step
 
@@ -30,7 +31,7 @@ answered-holds : (P : State → Type 0) (bounds : StoreBounds) (compacts : Bool)
 answered-holds P bounds compacts a s None p q = q
 answered-holds P bounds true a s (Some place) p q =
     cond-holds (λ (a : Reply × Machine). P a.1.state) (nat_lt bounds.slot _) _ _ p (cond-holds (λ (a : Reply × Machine). P a.1.state) (nat_lt place.mark bounds.mark) _ _ p p)
-answered-holds P bounds false a s (Some place) p q = kept-holds P bounds.slot a.0 s a.1 (batch_between s a.1) place p q
+answered-holds P bounds false a s (Some place) p q = kept-holds P bounds.slot a.0 s a.1 (batch_between kept_format s a.1) place p q
 
 -- a valid state, of which what granted each circuit stands
 record IsSound (s : State) : Type 0 where

@@ -9,9 +9,10 @@ use Rattle.ziti_outside.specs.declared.desk.Part.TheVariants.{Zero, One, Mark}
 use Rattle.journal_core.specs.Room.{IsWithin, KeepsRoom}
 use Rattle.slot_files.specs.FolderImage.{slot_of, Stands}
 use Rattle.slot_files.specs.SwitchedSlots.{other_slot}
-use Rattle.row_store.specs.CompactedStores.{compacted, compacted_size}
+use Rattle.row_store.specs.RewrittenStores.{compacted, compacted_size}
 use Rattle.row_store.specs.declared.bounds.StoreBounds.{StoreBounds}
-use Rattle.row_store.specs.OpenedStates.{byte_rows_of, IsStateless, OpensToState}
+use Rattle.row_store.specs.OpenedStates.{byte_rows_of}
+use Rattle.ctrl_keep.specs.KeptFolders.{IsStateless, OpensToState}
 use Rattle.ctrl_model.specs.declared.refusals.Refusal.TheVariants.{JournalFull, MarkFull}
 use Rattle.ctrl_model.specs.declared.replies.Reply.{Reply}
 use Rattle.ctrl_model.specs.declared.replies.Reply.TheVariants as reply
@@ -41,6 +42,7 @@ use Rattle.ctrl_serve.specs.RunStops.{AllOpenTo}
 use Rattle.ctrl_serve.proofs.EndingLaws.{done_used}
 use Rattle.ctrl_serve.proofs.GrantedRuns.{behind-granted}
 use Rattle.ctrl_serve.proofs.OpenedMachines.{one_machine_state, opens_kept, opens_empty, stateless_marked}
+use Rattle.ctrl_core.specs.KeptFormat.{kept_format}
 
 -- ---- a replay
 
@@ -159,7 +161,7 @@ machine_at s place = record { state = s; place = place }
 moved_at : (bounds : StoreBounds) (s : State) (place : Place) → (compaction bounds (machine_at s (Some place))).0 ≡ reply.Done
     → (compaction bounds (machine_at s (Some place))).1 ≡ machine_at s (Some (compacted_place s place))
 moved_at bounds s place done =
-    done_by (nat_lt bounds.slot (compacted_size (byte_rows_of s))) (nat_lt place.mark bounds.mark) (machine_at s (Some place)) (machine_at s (Some (compacted_place s place))) done
+    done_by (nat_lt bounds.slot (compacted_size (byte_rows_of kept_format s))) (nat_lt place.mark bounds.mark) (machine_at s (Some place)) (machine_at s (Some (compacted_place s place))) done
 
 -- A compaction that is done moves the place alone.
 moved : (bounds : StoreBounds) (m : Machine) (place : Place) → m.place ≡ Some place → (compaction bounds m).0 ≡ reply.Done → (compaction bounds m).1 ≡ machine_at m.state (Some (compacted_place m.state place))
@@ -203,7 +205,7 @@ holds_alone bounds tells before now stopped stopped_now s c told opens =
     record {
       opens = subst (OpensToState now.reads) behind (opens_kept now.reads (compaction bounds c.machine).1 made.keeps);
       found = subst (AllOpenTo stopped_now.images) from (c.found told);
-      rows = subst (λ (t : State). Stands now.reads (compacted (byte_rows_of t))) from made.stands;
+      rows = subst (λ (t : State). Stands kept_format now.reads (compacted (byte_rows_of kept_format t))) from made.stands;
       cut = subst (λ (part : Part). now.reads part ≡ []) (sym (ap other_slot mark ∙ slot_turns at.0.mark was.some)) (made.cut at.0 at.1);
       turned = λ some. ap slot_of (mark ∙ ap (λ (n : ℕ). n + 1) (was.same some));
     }

@@ -1,5 +1,6 @@
 pub mod NumberWords
 pub mod RouteFits
+pub mod InterceptFits
 pub mod CarriedFits
 pub mod ControllerLaws
 pub mod RoomRuns

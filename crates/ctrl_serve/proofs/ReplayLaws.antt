@@ -13,7 +13,7 @@ use Rattle.slot_files.specs.OpenedSlots.{Opens}
 use Rattle.row_store.specs.StoredRows.{ReadsAs}
 use Rattle.ctrl_model.specs.State.{start}
 use Rattle.ctrl_core.specs.KeptState.{Cored}
-use Rattle.row_store.specs.OpenedStates.{OpensToState}
+use Rattle.ctrl_keep.specs.KeptFolders.{OpensToState}
 use Rattle.row_store.specs.declared.bounds.StoreBounds.{StoreBounds}
 use Rattle.ctrl_keep.specs.KeptMachine.{Machine}
 use Rattle.ctrl_keep.specs.KeptController.{Controlled, HoldsRows, machine_of}
@@ -53,6 +53,7 @@ use Rattle.ctrl_serve.proofs.IntakeLaws.{all_no_fault, write_calm, disk_calm, in
 use Rattle.ctrl_serve.proofs.UsedLaws.{at_start}
 use Rattle.ctrl_serve.proofs.OpenedMachines.{ready_keeps, opens_by}
 use Rattle.ctrl_serve.proofs.RunStopLaws.{no_more_behind, opened_stops, later_stops, used_stops}
+use Rattle.ctrl_core.specs.KeptFormat.{kept_format}
 
 -- ---- what the folder keeps behind the frames
 
@@ -253,8 +254,8 @@ serves_from {mid = mid} {now = now} desk replies noted failed s = record {
 -- From what was opened on. Opening the folder said and noted nothing.
 pub replays_on : {S D : Type 0} (o : Outside S D) (form : Form) (bounds : StoreBounds) (most : ℕ) (k : Controlled) (source source_now : S) (desk mid now : D) (status : Status)
     → (IsTrue o.tells → OpensToState (o.seen desk).reads k.state) → (IsTrue o.tells → ReadsAs k.stored (o.seen mid).reads (o.stopped mid).images) → HoldsRows k → k.stored.bounds ≡ bounds
-    → (IsTrue o.tells → Opens (length ((o.seen desk).reads Mark)) (o.seen desk).reads (o.seen mid).reads) → OnlyDisk o.seen desk mid
-    → (IsTrue o.tells → Leaves o.seen o.stopped desk mid (After StandsAsBefore (o.stopped desk).images))
+    → (IsTrue o.tells → Opens kept_format (length ((o.seen desk).reads Mark)) (o.seen desk).reads (o.seen mid).reads) → OnlyDisk o.seen desk mid
+    → (IsTrue o.tells → Leaves o.seen o.stopped desk mid (After (StandsAsBefore kept_format) (o.stopped desk).images))
     → RunsOn (taking_of form most) (serving_of (Kept k)) o source source_now mid now status
     → Replays (taking_of form most) bounds o source source_now desk now status
 replays_on o form bounds most k source source_now desk mid now status opens stands holds same made calls opening runs =

@@ -11,7 +11,7 @@ use Rattle.ctrl_model.specs.declared.kinds.Who.{Who}
 use Rattle.ctrl_model.specs.State.{State}
 use Rattle.slot_files.specs.FolderImage.{StandsAsBefore}
 use Rattle.row_store.specs.declared.bounds.StoreBounds.{StoreBounds}
-use Rattle.row_store.specs.OpenedStates.{OpensToState}
+use Rattle.ctrl_keep.specs.KeptFolders.{OpensToState}
 use Rattle.ctrl_keep.specs.KeptMachine.{Machine}
 use Rattle.session_mux.specs.declared.events.Event.{Event}
 use Rattle.session_mux.specs.declared.events.Event.TheVariants as event
@@ -30,6 +30,7 @@ use Rattle.ctrl_serve.specs.RunStops.{AllOpenTo, StopFinds, state_behind}
 use Rattle.ctrl_serve.proofs.KnownLaws.{machine_then, machine_from_start}
 use Rattle.ctrl_serve.proofs.TurnLaws.{address_at}
 use Rattle.ctrl_serve.proofs.UsedLaws.{at_start, split_so, next_first, next_reply, says_whole}
+use Rattle.ctrl_core.specs.KeptFormat.{kept_format}
 
 -- ---- an event
 
@@ -162,32 +163,33 @@ start_found form bounds m events said images image taken opens now = record {
 }
 
 -- An image that stands for what another one stood for opens to the state of that one.
-stands_open : (old new : Image) (s : State) → StandsAsBefore old new → OpensToState old s → OpensToState new s
+stands_open : (old new : Image) (s : State) → StandsAsBefore kept_format old new → OpensToState old s → OpensToState new s
 stands_open old new s same opens = record {
+  has = opens.has;
   valid = opens.valid;
   rows = record { batches = opens.rows.batches; stands = same.still opens.rows.batches opens.rows.stands; give = opens.rows.give };
 }
 
 -- So all images that stand for what these stood for open to their state.
-all_stand : (images : Image → Type 0) (s : State) → AllOpenTo images s → AllOpenTo (After StandsAsBefore images) s
+all_stand : (images : Image → Type 0) (s : State) → AllOpenTo images s → AllOpenTo (After (StandsAsBefore kept_format) images) s
 all_stand images s opens image after = stands_open after.from image s after.by (opens after.from after.was)
 
 -- A stop within the opening or within the run behind it, where all that a stop might have left before opens to the state.
 pub opened_stops : {D : Type 0} {seen : D → Seen} {stopped : D → Stopped} {desk mid now : D}
-    (form : Form) (bounds : StoreBounds) (m : Machine) (events : List Event) → Leaves seen stopped desk mid (After StandsAsBefore (stopped desk).images)
+    (form : Form) (bounds : StoreBounds) (m : Machine) (events : List Event) → Leaves seen stopped desk mid (After (StandsAsBefore kept_format) (stopped desk).images)
     → Elapses (stopped mid) (stopped now) (StopFinds form bounds m events (seen mid).said) → AllOpenTo (stopped desk).images m.state
     → Elapses (stopped desk) (stopped now) (StopFinds form bounds m events (seen desk).said)
 opened_stops {seen = seen} {stopped = stopped} {desk = desk} form bounds m events opening serving opens =
     Elapses-then (StopFinds form bounds m events (seen desk).said) opening.time serving
-    (λ image taken found. start_found form bounds m events (seen desk).said (After StandsAsBefore (stopped desk).images) image taken (all_stand (stopped desk).images m.state opens) found)
+    (λ image taken found. start_found form bounds m events (seen desk).said (After (StandsAsBefore kept_format) (stopped desk).images) image taken (all_stand (stopped desk).images m.state opens) found)
     (λ image taken found. subst (λ (x : Option (List ℕ)). StopFinds form bounds m events x image taken) opening.quiet found)
 
 -- And whatever it might have left before.
 pub later_stops : {D : Type 0} {seen : D → Seen} {stopped : D → Stopped} {desk mid now : D}
-    (form : Form) (bounds : StoreBounds) (m : Machine) (events : List Event) → Leaves seen stopped desk mid (After StandsAsBefore (stopped desk).images)
+    (form : Form) (bounds : StoreBounds) (m : Machine) (events : List Event) → Leaves seen stopped desk mid (After (StandsAsBefore kept_format) (stopped desk).images)
     → Elapses (stopped mid) (stopped now) (StopFinds form bounds m events (seen mid).said)
-    → Elapses (stopped desk) (stopped now) (λ image taken. StopFinds form bounds m events (seen desk).said image taken ⊎ Now (After StandsAsBefore (stopped desk).images) (seen desk).said image taken)
+    → Elapses (stopped desk) (stopped now) (λ image taken. StopFinds form bounds m events (seen desk).said image taken ⊎ Now (After (StandsAsBefore kept_format) (stopped desk).images) (seen desk).said image taken)
 later_stops {seen = seen} {stopped = stopped} {desk = desk} form bounds m events opening serving =
-    Elapses-then (λ image taken. StopFinds form bounds m events (seen desk).said image taken ⊎ Now (After StandsAsBefore (stopped desk).images) (seen desk).said image taken) opening.time serving
+    Elapses-then (λ image taken. StopFinds form bounds m events (seen desk).said image taken ⊎ Now (After (StandsAsBefore kept_format) (stopped desk).images) (seen desk).said image taken) opening.time serving
     (λ image taken found. inr found)
     (λ image taken found. inl (subst (λ (x : Option (List ℕ)). StopFinds form bounds m events x image taken) opening.quiet found))

@@ -32,6 +32,7 @@ use Rattle.ctrl_serve.specs.Headline.{folder_bounds, taking_of, Refuses, Replays
 use Rattle.ctrl_serve.specs.UncompactedFolders.{ask_for_compact, spells_compact, CompactsNothing, LeavesOtherSlot}
 use Rattle.ctrl_serve.proofs.EndingLaws.{done_used}
 use Rattle.ctrl_serve.proofs.PieceLaws.{or_left, or_right}
+use Rattle.ctrl_core.specs.KeptFormat.{kept_format}
 
 -- ---- a machine
 
@@ -47,7 +48,7 @@ kept_mark most reply s next (op ∷ ops) place = by (nat_lt most (slot_with (op 
 answered_mark : (bounds : StoreBounds) (compacts : Bool) (a : Reply × State) (s : State) (place : Option Place) → compacts ≡ false → mark_at (answered bounds compacts a s place).1.place ≡ mark_at place
 answered_mark bounds true a s place quiet = absurd (let e : true ≡ false = quiet in cc)
 answered_mark bounds false a s None quiet = refl
-answered_mark bounds false a s (Some place) quiet = kept_mark bounds.slot a.0 s a.1 (batch_between s a.1) place
+answered_mark bounds false a s (Some place) quiet = kept_mark bounds.slot a.0 s a.1 (batch_between kept_format s a.1) place
 
 not_both : (p q : Bool) → p ≡ false → (p && q) ≡ false
 not_both true q quiet = absurd (let e : true ≡ false = quiet in cc)

@@ -16,8 +16,9 @@ use Rattle.ctrl_model.specs.ValidState.{ValidState}
 use Rattle.slot_files.specs.FolderImage.{slot_of, Stands, StandsAsBefore}
 use Rattle.policy_advisor.specs.Reports.{report_of}
 use Rattle.row_store.specs.declared.bounds.StoreBounds.{StoreBounds}
-use Rattle.row_store.specs.CompactedStores.{compacted}
-use Rattle.row_store.specs.OpenedStates.{byte_rows_of, OpensToState}
+use Rattle.row_store.specs.RewrittenStores.{compacted}
+use Rattle.row_store.specs.OpenedStates.{byte_rows_of}
+use Rattle.ctrl_keep.specs.KeptFolders.{OpensToState}
 use Rattle.ctrl_keep.specs.KeptMachine.{Machine, Place, step}
 use Rattle.run_notes.specs.declared.ends.Full.{Full}
 use Rattle.run_notes.specs.declared.ends.Full.TheVariants as full
@@ -28,6 +29,7 @@ use Rattle.run_notes.specs.NotedLines.{NotesLines}
 use Rattle.ctrl_serve.specs.Loads.{counts_line, SaysOneLine}
 use Rattle.ctrl_serve.specs.OpenedFolders.{Keeps, OpensTo}
 use Rattle.ctrl_serve.specs.RunStops.{AllOpenTo}
+use Rattle.ctrl_core.specs.KeptFormat.{kept_format}
 
 -- ---- audit and advise
 
@@ -61,7 +63,7 @@ refusal_of full.Mark = MarkFull
 -- batch of all rows, or for none where there are no rows; and the slot that stood is empty.
 pub record IsCompacted (bounds : StoreBounds) (m : Machine) (reads_now : Image) : Type 0 where
   pub keeps : Keeps reads_now (compaction bounds m).1
-  pub stands : Stands reads_now (compacted (byte_rows_of m.state))
+  pub stands : Stands kept_format reads_now (compacted (byte_rows_of kept_format m.state))
   pub cut : (place : Place) → m.place ≡ Some place → reads_now (slot_of place.mark) ≡ []
 
 -- A compaction was refused for want of room: the machine's step says so, the note tells the part without room, and the folder keeps the
@@ -90,7 +92,7 @@ pub record Compacts (bounds : StoreBounds) (tells : Bool) (before now : Seen) (s
   pub placed : is_some machine.place ≡ true
   pub opens : IsTrue tells → OpensTo before.reads machine
   pub ends : EndsCompaction status bounds machine tells before now
-  pub refused_stands : IsTrue tells → status ≡ ending.FolderFull → StandsAsBefore before.reads now.reads
+  pub refused_stands : IsTrue tells → status ≡ ending.FolderFull → StandsAsBefore kept_format before.reads now.reads
   pub refused_still : IsTrue tells → status ≡ ending.FolderFull → 0 < length (before.reads Mark) → now.reads ≡ before.reads
   pub stops : IsTrue tells → AllOpenTo stopped.images machine.state → Elapses stopped stopped_now (λ image taken. OpensToState image machine.state)
   pub found : IsTrue tells → AllOpenTo stopped_now.images machine.state

@@ -15,7 +15,7 @@ use Rattle.ctrl_model.specs.State.{start}
 use Rattle.ctrl_model.specs.ValidState.{ValidState}
 use Rattle.model_laws.specs.JudgedCircuits.{AreGranted}
 use Rattle.slot_files.specs.FolderImage.{Stands, StandsAsBefore}
-use Rattle.row_store.specs.OpenedStates.{IsStateless}
+use Rattle.ctrl_keep.specs.KeptFolders.{IsStateless}
 use Rattle.row_store.specs.declared.bounds.StoreBounds.{StoreBounds}
 use Rattle.ctrl_keep.specs.KeptMachine.{Machine}
 use Rattle.ctrl_serve.specs.OpenedFolders.{Keeps, OpensTo}
@@ -41,6 +41,7 @@ use Rattle.ctrl_serve.specs.RunStops.{AllOpenTo, StopFinds}
 use Rattle.ctrl_serve.specs.UnsaidReplies.{KeepsOneAhead}
 use Rattle.ctrl_serve.specs.UncompactedFolders.{CompactsNothing, LeavesOtherSlot}
 use Rattle.run_notes.specs.Notes.{usage_note, damaged_note, status_lines, notes_of}
+use Rattle.ctrl_core.specs.KeptFormat.{kept_format}
 
 -- The bounds that a run takes.
 pub record AreBounds (b : Bounds) : Type 0 where
@@ -131,8 +132,8 @@ pub record IsUnopened {D : Type 0} (tells : Bool) (seen : D → Seen) (stopped :
   pub says_nothing : (seen desk_now).said ≡ (seen desk).said
   pub alone : IsTrue tells → 0 < length ((seen desk).reads Mark) → IsLeftAlone seen stopped desk desk_now
   pub why : StaysClosed tells (seen desk) (seen desk_now) status
-  pub stops : IsTrue tells → Elapses (stopped desk) (stopped desk_now) (Now (After StandsAsBefore (stopped desk).images) (seen desk).said)
-  pub stands : IsTrue tells → (image : Image) → (stopped desk_now).images image → After StandsAsBefore (stopped desk).images image
+  pub stops : IsTrue tells → Elapses (stopped desk) (stopped desk_now) (Now (After (StandsAsBefore kept_format) (stopped desk).images) (seen desk).said)
+  pub stands : IsTrue tells → (image : Image) → (stopped desk_now).images image → After (StandsAsBefore kept_format) (stopped desk).images image
   pub unsaid : Elapses (stopped desk) (stopped desk_now) (λ image taken. AreTaken (seen desk).said taken)
 
 -- A run over an input whose folder was not opened: nothing was taken besides.
@@ -160,8 +161,8 @@ pub record Replays {S D : Type 0} (taking : Taking) (bounds : StoreBounds) (o : 
   pub serves : Serves taking bounds machine (o.left source) (o.left source_now) (o.seen desk) (o.seen desk_now) status
   pub keeps : is_kept status ≡ true → IsTrue o.tells → Keeps (o.seen desk_now).reads (last_machine taking.form bounds machine (take taking.most serves.taken))
   pub found : is_kept status ≡ true → IsTrue o.tells → AllOpenTo (o.stopped desk_now).images (last_machine taking.form bounds machine (take taking.most serves.taken)).state
-  pub stands : is_kept status ≡ true → IsTrue o.tells → (batches : List (List ℕ)) → Stands (o.seen desk).reads batches
-      → Stands (o.seen desk_now).reads (last_batches taking.form bounds machine (take taking.most serves.taken) batches)
+  pub stands : is_kept status ≡ true → IsTrue o.tells → (batches : List (List ℕ)) → Stands kept_format (o.seen desk).reads batches
+      → Stands kept_format (o.seen desk_now).reads (last_batches taking.form bounds machine (take taking.most serves.taken) batches)
   pub still : is_kept status ≡ true → IsTrue o.tells → 0 < length ((o.seen desk).reads Mark) → last_machine taking.form bounds machine (take taking.most serves.taken) ≡ machine
       → (o.seen desk_now).reads ≡ (o.seen desk).reads
   pub elsewhere : is_kept status ≡ true → IsTrue o.tells → CompactsNothing machine (last_machine taking.form bounds machine (take taking.most serves.taken))
@@ -172,7 +173,7 @@ pub record Replays {S D : Type 0} (taking : Taking) (bounds : StoreBounds) (o : 
       → Elapses (o.stopped desk) (o.stopped desk_now) (StopFinds taking.form bounds machine (events_in taking.form (take taking.most serves.taken)) (o.seen desk).said)
   pub stops_later : IsTrue o.tells → Elapses (o.stopped desk) (o.stopped desk_now)
       (λ image taken. StopFinds taking.form bounds machine (events_in taking.form (take taking.most serves.taken)) (o.seen desk).said image taken
-      ⊎ Now (After StandsAsBefore (o.stopped desk).images) (o.seen desk).said image taken)
+      ⊎ Now (After (StandsAsBefore kept_format) (o.stopped desk).images) (o.seen desk).said image taken)
 
 -- A run on some words, which ask for a line of the table of words, or for none of its lines.
 --

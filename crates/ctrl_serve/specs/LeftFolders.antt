@@ -5,8 +5,9 @@ use Rattle.ziti_outside.specs.Images.{Image}
 use Rattle.slot_files.specs.FolderImage.{slot_of, Stands}
 use Rattle.slot_files.specs.SwitchedSlots.{other_slot}
 use Rattle.row_store.specs.declared.bounds.StoreBounds.{StoreBounds}
-use Rattle.row_store.specs.CompactedStores.{compacted}
-use Rattle.row_store.specs.OpenedStates.{byte_rows_of, OpensToState}
+use Rattle.row_store.specs.RewrittenStores.{compacted}
+use Rattle.row_store.specs.OpenedStates.{byte_rows_of}
+use Rattle.ctrl_keep.specs.KeptFolders.{OpensToState}
 use Rattle.ctrl_model.specs.State.{State}
 use Rattle.model_laws.specs.JudgedCircuits.{AreGranted}
 use Rattle.ctrl_keep.specs.KeptMachine.{Machine}
@@ -14,6 +15,7 @@ use Rattle.session_mux.specs.declared.sessions.Form.{Form}
 use Rattle.ctrl_serve.specs.FrameAnswer.{last_machine}
 use Rattle.ctrl_serve.specs.OpenedFolders.{Keeps, OpensTo}
 use Rattle.ctrl_serve.specs.RunStops.{AllOpenTo}
+use Rattle.ctrl_core.specs.KeptFormat.{kept_format}
 
 -- A folder that opened to a state keeps the machine behind all frames of an input: that of the machine to which it opened, which had that
 -- state. So it opens to the machine's state, and so does all that a stop may leave.
@@ -35,6 +37,6 @@ HoldsGranted image = (s : State) × OpensToState image s × AreGranted s
 pub record HoldsAlone (s : State) (before now : Image) (images : Image → Type 0) : Type 0 where
   pub opens : OpensToState now s
   pub found : AllOpenTo images s
-  pub rows : Stands now (compacted (byte_rows_of s))
+  pub rows : Stands kept_format now (compacted (byte_rows_of kept_format s))
   pub cut : now (other_slot (length (now Mark))) ≡ []
   pub turned : 0 < length (before Mark) → slot_of (length (now Mark)) ≡ other_slot (length (before Mark))

@@ -6,17 +6,20 @@ use Rattle.ctrl_model.specs.State.{start}
 use Rattle.ctrl_model.specs.ValidState.{ValidState}
 use Rattle.journal_core.specs.Slots.{slot_end}
 use Rattle.slot_files.specs.FolderImage.{Stands}
-use Rattle.row_store.specs.BatchRows.{Give}
+use Rattle.row_codec.specs.StateRows.{HasRows}
+use Rattle.slot_reading.specs.BatchRows.{Give}
 use Rattle.row_store.specs.OpenedStates.{byte_rows_of}
 use Rattle.ctrl_keep.specs.KeptMachine.{Machine}
+use Rattle.ctrl_core.specs.KeptFormat.{kept_format}
 
--- A folder keeps a machine: it stands for batches that give exactly the rows of the machine's state, which is valid, and the machine's
--- place is that of the closed gate behind these batches and of the mark's end.
+-- A folder keeps a machine: in the kept format it stands for batches that give exactly the rows of the machine's state, which is valid and
+-- has rows in it, and the machine's place is that of the closed gate behind these batches and of the mark's end.
 pub record Keeps (image : Image) (m : Machine) : Type 0 where
   pub valid : ValidState m.state
+  pub has : HasRows kept_format m.state
   pub batches : List (List ℕ)
-  pub stands : Stands image batches
-  pub give : Give batches (byte_rows_of m.state)
+  pub stands : Stands kept_format image batches
+  pub give : Give kept_format batches (byte_rows_of kept_format m.state)
   pub place : m.place ≡ Some (record { end = slot_end batches; mark = length (image Mark) })
 
 -- A folder opens to a machine, by the length of its mark: to the one at the start, whose slot and mark are created, where the mark is

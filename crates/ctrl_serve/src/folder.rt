@@ -4,7 +4,7 @@ ghost use Rattle.ziti_outside.specs.Untouched.{OnlyNotes};
 ghost use Rattle.journal_core.specs.Room.{empty_size, HoldsRoom};
 ghost use Rattle.row_store.specs.StoredRows.{ReadsAs};
 ghost use Rattle.ctrl_keep.specs.KeptController.{HoldsRows, machine_of};
-ghost use Rattle.row_store.specs.OpenedStates.{OpensToState};
+ghost use Rattle.ctrl_keep.specs.KeptFolders.{OpensToState};
 ghost use Rattle.run_notes.specs.NotedLines.{FindsNoMore, RisesOnce};
 ghost use Rattle.ctrl_serve.specs.FolderRuns.{TellsClosed, TellsCompaction, TellsRoom, full_in};
 ghost use Rattle.ctrl_serve.specs.FolderWords.{Compacts, EndsCompaction, Looks};

@@ -6,7 +6,7 @@ ghost use Rattle.ctrl_model.specs.declared.kinds.Who.TheVariants.{Admin};
 ghost use Rattle.ctrl_model.specs.State.{State};
 ghost use Rattle.ctrl_keep.specs.KeptMachine.{Machine};
 ghost use Rattle.policy_advisor.specs.Reports.{report_of};
-ghost use Rattle.row_store.specs.OpenedStates.{OpensToState, IsStateless};
+ghost use Rattle.ctrl_keep.specs.KeptFolders.{OpensToState, IsStateless};
 ghost use Rattle.row_store.specs.declared.bounds.StoreBounds.{StoreBounds};
 ghost use Rattle.session_mux.specs.declared.events.Event.{Event};
 ghost use Rattle.session_mux.specs.declared.sessions.Form.{Form};

@@ -10,7 +10,7 @@ ghost use Rattle.ctrl_model.specs.declared.refusals.Reason.TheVariants as reason
 ghost use Rattle.ctrl_model.specs.declared.refusals.Refusal.TheVariants as refusal;
 ghost use Rattle.ctrl_model.specs.declared.replies.Reply.TheVariants as reply;
 ghost use Rattle.ctrl_model.specs.State.{start};
-ghost use Rattle.row_store.specs.OpenedStates.{OpensToState};
+ghost use Rattle.ctrl_keep.specs.KeptFolders.{OpensToState};
 ghost use Rattle.row_store.specs.WorkedStores.{three_parts};
 ghost use Rattle.ctrl_keep.specs.WorkedMachines.{at_most, machine_at, marked};
 ghost use Rattle.ctrl_serve.specs.CommandLine.{form_of, number_of_word};

@@ -2,6 +2,8 @@
 use Rattle.std.proofs.Common.{◌≡◌, ℕ, ◌+◌, ◌≤◌, ◌==◌, true, false, cond, List, [], ◌∷◌, Option, None, Some, IfSome, inl, refl, sym, ◌∙◌, ap, ap₂, subst, lit≤, eq-eqb}
 use Rattle.std.proofs.lemmas.Bool.{and_from, cond-true, false≢true}
 use Rattle.std.specs.Option.{option_map}
+use Rattle.ctrl_model.specs.declared.formats.Format.{Format}
+use Rattle.ctrl_model.specs.declared.formats.Format.TheVariants.{Two}
 use Rattle.ctrl_model.specs.declared.kinds.Kind.{Kind}
 use Rattle.ctrl_model.specs.declared.kinds.Kind.TheVariants as kind
 use Rattle.ctrl_model.specs.Numbered.{at, with_last, edit_at, without, with_new, with_edit, with_removed, Between, Table}
@@ -160,8 +162,8 @@ module _ (c : EntityChange) (t : Tables) (can : CanChangeEntities c t) (k : Kind
   pub change_there : change_of k n (value_at k (kind_table k t).rows n) (option_map (record_value k) (kind_after k c (at (kind_table k t).rows n)))
       ≡ row_change (touched_kind c) (touched_number c t) t (after_entity_change c t)
   change_there =
-      let before = row_at-record k (with_entities t start) n (numbered k entity) in
-      let after = row_at-record k (with_entities (after_entity_change c t) start) n (numbered k entity) in
+      let before = row_at-record Two k (with_entities t start) n (numbered k entity) in
+      let after = row_at-record Two k (with_entities (after_entity_change c t) start) n (numbered k entity) in
       ap (λ o. change_of k n (value_at k (kind_table k t).rows n) (option_map (record_value k) o)) stands
       ∙ sym (ap₂ (change_of k n) before after)
       ∙ ap₂ (λ (j : Kind) m. row_change j m t (after_entity_change c t)) (sym touched) there
@@ -181,38 +183,38 @@ stays c t can k m misses =
 
 -- ---- covers
 
-module _ (k : Kind) (s u t v : State) (has_number : 1 ≤ kind_number k) (before : table k s ≡ table k t) (after : table k u ≡ table k v) where
+module _ (f : Format) (k : Kind) (s u t v : State) (has_number : 1 ≤ kind_number k) (before : table k s ≡ table k t) (after : table k u ≡ table k v) where
   from_tables : (m : ℕ) → at (table k t).rows m ≡ at (table k v).rows m → at (table k s).rows m ≡ at (table k u).rows m
   from_tables m e = ap (λ (x : Table (Record k)). at x.rows m) before ∙ e ∙ sym (ap (λ (x : Table (Record k)). at x.rows m) after)
 
-  no_row : ((m : ℕ) → at (table k t).rows m ≡ at (table k v).rows m) → Covers (kind_number k + 2) (kind_number k + 3) s u []
-  no_row same = Covers-same_records k s u has_number (λ m. from_tables m (same m))
+  no_row : ((m : ℕ) → at (table k t).rows m ≡ at (table k v).rows m) → Covers f (kind_number k + 2) (kind_number k + 3) s u []
+  no_row same = Covers-same_records f k s u has_number (λ m. from_tables m (same m))
 
   -- the value of a record is the same in states with the same table
   same_value : (a b : State) → table k a ≡ table k b → (n : ℕ) → option_map (record_value k) (at (table k a).rows n) ≡ option_map (record_value k) (at (table k b).rows n)
   same_value a b e n = ap (λ (x : Table (Record k)). option_map (record_value k) (at x.rows n)) e
 
-  same_change : (n : ℕ) → change_at s u (key_in (Records k) n 0) ≡ change_at t v (key_in (Records k) n 0)
+  same_change : (n : ℕ) → change_at f s u (key_in (Records k) n 0) ≡ change_at Two t v (key_in (Records k) n 0)
   same_change n =
       let key = key_in (Records k) n 0 in
-      let first = row_at-record k s n has_number ∙ same_value s t before n ∙ sym (row_at-record k t n has_number) in
-      let second = row_at-record k u n has_number ∙ same_value u v after n ∙ sym (row_at-record k v n has_number) in
-      λ i. record (change_at s u key) { before = first i; after = second i }
+      let first = row_at-record f k s n has_number ∙ same_value s t before n ∙ sym (row_at-record Two k t n has_number) in
+      let second = row_at-record f k u n has_number ∙ same_value u v after n ∙ sym (row_at-record Two k v n has_number) in
+      λ i. record (change_at f s u key) { before = first i; after = second i }
 
   one_row : (n : ℕ) → is_long n ≡ true → ((m : ℕ) → (n ≡ m → ⊥) → at (table k t).rows m ≡ at (table k v).rows m)
-      → Covers (kind_number k + 2) (kind_number k + 3) s u (change_at t v (key_in (Records k) n 0) ∷ [])
+      → Covers f (kind_number k + 2) (kind_number k + 3) s u (change_at Two t v (key_in (Records k) n 0) ∷ [])
   one_row n long same =
-      subst (λ x. Covers (kind_number k + 2) (kind_number k + 3) s u (x ∷ [])) (same_change n)
-      (Covers-records k s u (n ∷ []) has_number (tt, tt) (and_from (is_long n) true long refl) (λ m misses. from_tables m (same m (λ e. misses (inl e)))))
+      subst (λ x. Covers f (kind_number k + 2) (kind_number k + 3) s u (x ∷ [])) (same_change n)
+      (Covers-records f k s u (n ∷ []) has_number (tt, tt) (and_from (is_long n) true long refl) (λ m misses. from_tables m (same m (λ e. misses (inl e)))))
 
-module _ (s u : State) (t : Tables) where
+module _ (f : Format) (s u : State) (t : Tables) where
   -- equal entities need no change
-  pub same_covers : Has t s → Has t u → Covers 3 6 s u []
+  pub same_covers : Has t s → Has t u → Covers f 3 6 s u []
   same_covers h j =
       let v : State = with_entities t start in
-      Covers-append 3 4 6 s u [] [] (lit≤ tt) (lit≤ tt) (no_row kind.Identity s u v v (lit≤ tt) h.identities j.identities (λ m. refl))
-      (Covers-append 4 5 6 s u [] [] (lit≤ tt) (lit≤ tt) (no_row kind.Service s u v v (lit≤ tt) h.services j.services (λ m. refl))
-      (no_row kind.Router s u v v (lit≤ tt) h.routers j.routers (λ m. refl)))
+      Covers-append f 3 4 6 s u [] [] (lit≤ tt) (lit≤ tt) (no_row f kind.Identity s u v v (lit≤ tt) h.identities j.identities (λ m. refl))
+      (Covers-append f 4 5 6 s u [] [] (lit≤ tt) (lit≤ tt) (no_row f kind.Service s u v v (lit≤ tt) h.services j.services (λ m. refl))
+      (no_row f kind.Router s u v v (lit≤ tt) h.routers j.routers (λ m. refl)))
 
   module _ (c : EntityChange) (can : CanChangeEntities c t) (h : Has t s) (j : Has (after_entity_change c t) u) (long : is_long (touched_number c t) ≡ true) where
     abbrev n : ℕ
@@ -225,26 +227,26 @@ module _ (s u : State) (t : Tables) where
     w = with_entities (after_entity_change c t) start
 
     -- the row that a change touches covers the entities
-    by : (k : Kind) → touched_kind c ≡ k → is_entity_kind k ≡ true → Covers 3 6 s u (row_change k (touched_number c t) t (after_entity_change c t) ∷ [])
+    by : (k : Kind) → touched_kind c ≡ k → is_entity_kind k ≡ true → Covers f 3 6 s u (row_change k (touched_number c t) t (after_entity_change c t) ∷ [])
     by kind.Identity e is =
-        Covers-append 3 4 6 s u (row_change kind.Identity (touched_number c t) t (after_entity_change c t) ∷ []) [] (lit≤ tt) (lit≤ tt)
-        (one_row kind.Identity s u v w (lit≤ tt) h.identities j.identities n long (λ m misses. stays c t can kind.Identity m (λ f. misses)))
-        (Covers-append 4 5 6 s u [] [] (lit≤ tt) (lit≤ tt)
-        (no_row kind.Service s u v w (lit≤ tt) h.services j.services (λ m. stays c t can kind.Service m (λ f g. let clash : kind.Service ≡ kind.Identity = sym f ∙ e in cc)))
-        (no_row kind.Router s u v w (lit≤ tt) h.routers j.routers (λ m. stays c t can kind.Router m (λ f g. let clash : kind.Router ≡ kind.Identity = sym f ∙ e in cc))))
+        Covers-append f 3 4 6 s u (row_change kind.Identity (touched_number c t) t (after_entity_change c t) ∷ []) [] (lit≤ tt) (lit≤ tt)
+        (one_row f kind.Identity s u v w (lit≤ tt) h.identities j.identities n long (λ m misses. stays c t can kind.Identity m (λ x. misses)))
+        (Covers-append f 4 5 6 s u [] [] (lit≤ tt) (lit≤ tt)
+        (no_row f kind.Service s u v w (lit≤ tt) h.services j.services (λ m. stays c t can kind.Service m (λ x y. let clash : kind.Service ≡ kind.Identity = sym x ∙ e in cc)))
+        (no_row f kind.Router s u v w (lit≤ tt) h.routers j.routers (λ m. stays c t can kind.Router m (λ x y. let clash : kind.Router ≡ kind.Identity = sym x ∙ e in cc))))
     by kind.Service e is =
-        Covers-append 3 4 6 s u [] (row_change kind.Service (touched_number c t) t (after_entity_change c t) ∷ []) (lit≤ tt) (lit≤ tt)
-        (no_row kind.Identity s u v w (lit≤ tt) h.identities j.identities (λ m. stays c t can kind.Identity m (λ f g. let clash : kind.Identity ≡ kind.Service = sym f ∙ e in cc)))
-        (Covers-append 4 5 6 s u (row_change kind.Service (touched_number c t) t (after_entity_change c t) ∷ []) [] (lit≤ tt) (lit≤ tt)
-        (one_row kind.Service s u v w (lit≤ tt) h.services j.services n long (λ m misses. stays c t can kind.Service m (λ f. misses)))
-        (no_row kind.Router s u v w (lit≤ tt) h.routers j.routers (λ m. stays c t can kind.Router m (λ f g. let clash : kind.Router ≡ kind.Service = sym f ∙ e in cc))))
+        Covers-append f 3 4 6 s u [] (row_change kind.Service (touched_number c t) t (after_entity_change c t) ∷ []) (lit≤ tt) (lit≤ tt)
+        (no_row f kind.Identity s u v w (lit≤ tt) h.identities j.identities (λ m. stays c t can kind.Identity m (λ x y. let clash : kind.Identity ≡ kind.Service = sym x ∙ e in cc)))
+        (Covers-append f 4 5 6 s u (row_change kind.Service (touched_number c t) t (after_entity_change c t) ∷ []) [] (lit≤ tt) (lit≤ tt)
+        (one_row f kind.Service s u v w (lit≤ tt) h.services j.services n long (λ m misses. stays c t can kind.Service m (λ x. misses)))
+        (no_row f kind.Router s u v w (lit≤ tt) h.routers j.routers (λ m. stays c t can kind.Router m (λ x y. let clash : kind.Router ≡ kind.Service = sym x ∙ e in cc))))
     by kind.Router e is =
-        Covers-append 3 4 6 s u [] (row_change kind.Router (touched_number c t) t (after_entity_change c t) ∷ []) (lit≤ tt) (lit≤ tt)
-        (no_row kind.Identity s u v w (lit≤ tt) h.identities j.identities (λ m. stays c t can kind.Identity m (λ f g. let clash : kind.Identity ≡ kind.Router = sym f ∙ e in cc)))
-        (Covers-append 4 5 6 s u [] (row_change kind.Router (touched_number c t) t (after_entity_change c t) ∷ []) (lit≤ tt) (lit≤ tt)
-        (no_row kind.Service s u v w (lit≤ tt) h.services j.services (λ m. stays c t can kind.Service m (λ f g. let clash : kind.Service ≡ kind.Router = sym f ∙ e in cc)))
-        (one_row kind.Router s u v w (lit≤ tt) h.routers j.routers n long (λ m misses. stays c t can kind.Router m (λ f. misses))))
+        Covers-append f 3 4 6 s u [] (row_change kind.Router (touched_number c t) t (after_entity_change c t) ∷ []) (lit≤ tt) (lit≤ tt)
+        (no_row f kind.Identity s u v w (lit≤ tt) h.identities j.identities (λ m. stays c t can kind.Identity m (λ x y. let clash : kind.Identity ≡ kind.Router = sym x ∙ e in cc)))
+        (Covers-append f 4 5 6 s u [] (row_change kind.Router (touched_number c t) t (after_entity_change c t) ∷ []) (lit≤ tt) (lit≤ tt)
+        (no_row f kind.Service s u v w (lit≤ tt) h.services j.services (λ m. stays c t can kind.Service m (λ x y. let clash : kind.Service ≡ kind.Router = sym x ∙ e in cc)))
+        (one_row f kind.Router s u v w (lit≤ tt) h.routers j.routers n long (λ m misses. stays c t can kind.Router m (λ x. misses))))
     by _ e is = absurd (false≢true is)
 
-    pub touched_covers : is_entity_kind (touched_kind c) ≡ true → Covers 3 6 s u (row_change (touched_kind c) (touched_number c t) t (after_entity_change c t) ∷ [])
+    pub touched_covers : is_entity_kind (touched_kind c) ≡ true → Covers f 3 6 s u (row_change (touched_kind c) (touched_number c t) t (after_entity_change c t) ∷ [])
     touched_covers is = by (touched_kind c) refl is

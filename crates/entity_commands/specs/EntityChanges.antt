@@ -6,7 +6,7 @@ use Rattle.ctrl_model.specs.CommandForm.{is_cost}
 use Rattle.ctrl_model.specs.Numbered.{is_present}
 use Rattle.ctrl_model.specs.State.{State}
 use Rattle.ctrl_model.specs.Tables.{table, named, is_entity_kind}
-use Rattle.ctrl_model.specs.RecordCommands.{after_create, after_edit, after_remove, forgotten}
+use Rattle.ctrl_model.specs.RecordCommands.{after_create, after_edit, after_remove, forgotten, without_intercept}
 use Rattle.ctrl_model.specs.EntityCommands.{entity, described, new_router}
 use Rattle.entity_store.specs.declared.changes.EntityChange.{EntityChange}
 use Rattle.entity_store.specs.declared.changes.EntityChange.TheVariants as change
@@ -43,9 +43,9 @@ abbrev pub with_marked : ℕ → ℕ → Bool → Bool → State → State
 with_marked n cost through connected s =
     after_edit kind.Router n (λ r. record r { cost = cost; through = through; connected = connected }) s
 
--- The state without one entity, whose name no side has any more.
+-- The state without one entity, whose name no side has any more, and without its intercept where it is a service.
 abbrev pub without_named : Kind → ℕ → List ℕ → State → State
-without_named k n name s = forgotten k name (after_remove k n s)
+without_named k n name s = forgotten k name (without_intercept k n (after_remove k n s))
 
 -- The state after a change of its entities, not yet settled.
 abbrev pub entered : EntityChange → State → State

@@ -2,6 +2,7 @@
 use Rattle.std.specs.Prelude.{◌≡◌, ℕ, true, false, None, Some}
 use Rattle.std.specs.declared.option.Option.{Option}
 use Rattle.std.specs.Option.{option_map}
+use Rattle.ctrl_model.specs.declared.formats.Format.TheVariants.{Two}
 use Rattle.ctrl_model.specs.declared.kinds.Kind.{Kind}
 use Rattle.ctrl_model.specs.declared.kinds.Kind.TheVariants as kind
 use Rattle.ctrl_model.specs.Numbered.{at}
@@ -61,6 +62,6 @@ router_after (change.DescribeRouter n attributes cost through connected) o =
 router_after (change.Mark n cost through connected) o = option_map {T = Router} (λ r. record r { cost = cost; through = through; connected = connected }) o
 router_after _ o = None
 
--- The change of the row of a kind's entity under a number, which goes from some tables to others.
+-- The change of the row of a kind's entity under a number, which goes from some tables to others: the same in either format.
 abbrev pub row_change : Kind → ℕ → Tables → Tables → Change
-row_change k n t u = change_at (with_entities t start) (with_entities u start) (key_in (Records k) n 0)
+row_change k n t u = change_at Two (with_entities t start) (with_entities u start) (key_in (Records k) n 0)

@@ -1,5 +1,6 @@
 ghost use Rattle.std.specs.Prelude.{◌≡◌, ◌∷◌, [], true, IfOk, IfSome, OnOk};
 ghost use Rattle.std.specs.Option.{option_map};
+ghost use Rattle.ctrl_model.specs.declared.formats.Format.{Format};
 ghost use Rattle.ctrl_model.specs.Numbered.{at};
 ghost use Rattle.ctrl_model.specs.State.{State};
 ghost use Rattle.entity_store.specs.EntityChanges.{after_entity_change};
@@ -14,7 +15,7 @@ ghost use Rattle.row_writing.specs.RecordChanges.{change_of};
 ghost use Rattle.entity_commands.specs.EntityChanges.{CanChangeEntities};
 ghost use Rattle.entity_commands.specs.EntityRows.{AreFit, Has, plain_after, router_after, row_change, touched_kind, touched_number};
 
-use ctrl_model::{Bytes, Copies, IdentityNo, Kind, RouterNo};
+use ctrl_model::{Bytes, Copies, Format, IdentityNo, Kind, RouterNo};
 use entity_store::{Entities, EntityChange, EntityView, RouterView};
 use row_codec::{Change, Changes, Row};
 use row_writing::{change_of, value_of};
@@ -32,7 +33,7 @@ fn plain_value(alloc: Global, number: u32, entity: EntityView) -> Result<Bytes, 
         name,
         attributes,
     };
-    value_of(alloc, &row)
+    value_of(alloc, Format::Two, &row)
 }
 
 // The value of the row of an identity or a service, if there is one.
@@ -92,7 +93,7 @@ fn row_value(alloc: Global, no: RouterNo, router: RouterView) -> Result<Bytes, A
         through: router.through,
         connected: router.connected,
     };
-    value_of(alloc, &row)
+    value_of(alloc, Format::Two, &row)
 }
 
 // The value of the row of a router under a number, if there is one.
@@ -263,8 +264,8 @@ pub fn entity_changes(
     requires can { IfSome change (λ c. CanChangeEntities c.now entities.now) }
     requires before { AreFit entities.now }
     requires after { AreFit (changed_by after_entity_change (option_map (λ c. c.now) change) entities.now) }
-    ensures { IfOk result (λ changes. (s t : State) → Has entities.now s
-        → Has (changed_by after_entity_change (option_map (λ c. c.now) change.entry) entities.now) t → Covers 3 6 s t changes) }
+    ensures { IfOk result (λ changes. (f : Format) (s t : State) → Has entities.now s
+        → Has (changed_by after_entity_change (option_map (λ c. c.now) change.entry) entities.now) t → Covers f 3 6 s t changes) }
 {
     match change {
         None => Ok(Changes::of(Vec::new(alloc))),

@@ -1,6 +1,7 @@
 -- The changes of counts cover the tables of counts of all states that have these counts, before the steps and after them.
 use Rattle.std.proofs.Common.{◌≡◌, ◌≢◌, ℕ, ◌+◌, ◌-◌, List, [], ◌∷◌, ◌++◌, Option, ◌⊎◌, inl, inr, refl, sym, ◌∙◌, ap, subst, arith, append_assoc}
 use Rattle.std.proofs.lemmas.Bool.{cases_eq}
+use Rattle.ctrl_model.specs.declared.formats.Format.{Format}
 use Rattle.ctrl_model.specs.declared.kinds.Relation.{Relation}
 use Rattle.ctrl_model.specs.declared.kinds.Relation.TheVariants.{Dial, Bind, IdentityRouter, ServiceRouter}
 use Rattle.ctrl_model.specs.Membership.{Among}
@@ -23,29 +24,29 @@ use Rattle.grant_rows.specs.declared.moves.GrantMoves.{GrantMoves}
 use Rattle.grant_rows.specs.CountChanges.{change_from, count_after, changes_at, counts_of, steps_of, AreCountChanges, AddsCountChanges, AreGrantChanges}
 
 made : (key : List ℕ) (a b c d : Option (List ℕ)) → a ≡ c → b ≡ d → ◌≡◌ {A = Change} (record { key = key; before = a; after = b }) (record { key = key; before = c; after = d })
-made key a b c d f g = λ i. record { key = key; before = f i; after = g i }
+made key a b c d g h = λ i. record { key = key; before = g i; after = h i }
 
 after_is : (c k d u n : ℕ) → c ≡ k → n + d ≡ k + u → c + u - d ≡ n
-after_is c k d u n e f = omega arith
+after_is c k d u n e g = omega arith
 
 stays : (k d u n : ℕ) → n + d ≡ k + u → u ≡ d → k ≡ n
-stays k d u n e f = omega arith
+stays k d u n e g = omega arith
 
-module _ (r : Relation) (counts : List ((ℕ × ℕ) × ℕ)) (ds : List Delta) (s t : State) (are : AreCountsOf (count r s) counts) (moves : Moves (count r s) (count r t) ds) where
-  change_is : (p : ℕ × ℕ) → change_from r p (count_of counts p.0 p.1) (count_after counts ds p) ≡ change_at s t (key_in (Counts r) p.0 p.1)
+module _ (f : Format) (r : Relation) (counts : List ((ℕ × ℕ) × ℕ)) (ds : List Delta) (s t : State) (are : AreCountsOf (count r s) counts) (moves : Moves (count r s) (count r t) ds) where
+  change_is : (p : ℕ × ℕ) → change_from f r p (count_of counts p.0 p.1) (count_after counts ds p) ≡ change_at f s t (key_in (Counts r) p.0 p.1)
   change_is p =
-      made _ _ _ _ _ (ap count_value (are p.0 p.1) ∙ sym (row_at-count r s p.0 p.1))
-      (ap count_value (after_is (count_of counts p.0 p.1) (count r s p.0 p.1) (downs ds p.0 p.1) (ups ds p.0 p.1) (count r t p.0 p.1) (are p.0 p.1) (moves p.0 p.1))
-      ∙ sym (row_at-count r t p.0 p.1))
+      made _ _ _ _ _ (ap (count_value f) (are p.0 p.1) ∙ sym (row_at-count f r s p.0 p.1))
+      (ap (count_value f) (after_is (count_of counts p.0 p.1) (count r s p.0 p.1) (downs ds p.0 p.1) (ups ds p.0 p.1) (count r t p.0 p.1) (are p.0 p.1) (moves p.0 p.1))
+      ∙ sym (row_at-count f r t p.0 p.1))
 
-  changes_are : (pairs : List (ℕ × ℕ)) → changes_at r counts ds pairs ≡ count_changes r s t pairs
+  changes_are : (pairs : List (ℕ × ℕ)) → changes_at f r counts ds pairs ≡ count_changes f r s t pairs
   changes_are [] = refl
   changes_are (p ∷ ps) = λ i. change_is p i ∷ changes_are ps i
 
-  pub covered : (changes : List Change) → AreCountChanges r counts ds changes → Covers (table_number (Counts r)) (table_number (Counts r) + 1) s t changes
+  pub covered : (changes : List Change) → AreCountChanges f r counts ds changes → Covers f (table_number (Counts r)) (table_number (Counts r) + 1) s t changes
   covered changes a =
-      subst (Covers (table_number (Counts r)) (table_number (Counts r) + 1) s t) (sym (a.named ∙ changes_are a.pairs))
-      (Covers-counts r s t a.pairs a.rises a.fits
+      subst (Covers f (table_number (Counts r)) (table_number (Counts r) + 1) s t) (sym (a.named ∙ changes_are a.pairs))
+      (Covers-counts f r s t a.pairs a.rises a.fits
       (λ p misses. by p misses (cases_eq (ups ds p.0 p.1) (downs ds p.0 p.1))))
     where
       by : (p : ℕ × ℕ) → (Among p a.pairs → ⊥) → (ups ds p.0 p.1 ≡ downs ds p.0 p.1) ⊎ (ups ds p.0 p.1 ≢ downs ds p.0 p.1) → count r s p.0 p.1 ≡ count r t p.0 p.1
@@ -54,10 +55,10 @@ module _ (r : Relation) (counts : List ((ℕ × ℕ) × ℕ)) (ds : List Delta) 
 
 -- ---- the four relations
 
-pub joined_changes : (m : GrantMoves) (a b c d e : List Change) → a ≡ [] → AddsCountChanges Dial (counts_of Dial m) (steps_of Dial m) a b → AddsCountChanges Bind (counts_of Bind m) (steps_of Bind m) b c
-    → AddsCountChanges IdentityRouter (counts_of IdentityRouter m) (steps_of IdentityRouter m) c d → AddsCountChanges ServiceRouter (counts_of ServiceRouter m) (steps_of ServiceRouter m) d e
-    → AreGrantChanges m e
-joined_changes m a b c d e none w x y z = record {
+pub joined_changes : (f : Format) (m : GrantMoves) (a b c d e : List Change) → a ≡ [] → AddsCountChanges f Dial (counts_of Dial m) (steps_of Dial m) a b → AddsCountChanges f Bind (counts_of Bind m) (steps_of Bind m) b c
+    → AddsCountChanges f IdentityRouter (counts_of IdentityRouter m) (steps_of IdentityRouter m) c d → AddsCountChanges f ServiceRouter (counts_of ServiceRouter m) (steps_of ServiceRouter m) d e
+    → AreGrantChanges f m e
+joined_changes f m a b c d e none w x y z = record {
   dial = w.added;
   bind = x.added;
   identity_router = y.added;
@@ -70,17 +71,17 @@ joined_changes m a b c d e none w x y z = record {
   of_service_router = z.exact;
 }
 
-pub all_covered : (m : GrantMoves) (changes : List Change) → AreGrantChanges m changes → (s t : State) → ((r : Relation) → AreCountsOf (count r s) (counts_of r m))
-    → ((r : Relation) → Moves (count r s) (count r t) (steps_of r m)) → Covers 12 16 s t changes
-all_covered m changes g s t are moves =
-    subst (Covers 12 16 s t) (sym g.joined)
-    (Covers-append 12 13 16 s t g.dial (g.bind ++ (g.identity_router ++ g.service_router)) (omega arith) (omega arith) (one Dial g.dial g.of_dial)
-    (Covers-append 13 14 16 s t g.bind (g.identity_router ++ g.service_router) (omega arith) (omega arith) (one Bind g.bind g.of_bind)
-    (Covers-append 14 15 16 s t g.identity_router g.service_router (omega arith) (omega arith) (one IdentityRouter g.identity_router g.of_identity_router)
+pub all_covered : (f : Format) (m : GrantMoves) (changes : List Change) → AreGrantChanges f m changes → (s t : State) → ((r : Relation) → AreCountsOf (count r s) (counts_of r m))
+    → ((r : Relation) → Moves (count r s) (count r t) (steps_of r m)) → Covers f 12 16 s t changes
+all_covered f m changes g s t are moves =
+    subst (Covers f 12 16 s t) (sym g.joined)
+    (Covers-append f 12 13 16 s t g.dial (g.bind ++ (g.identity_router ++ g.service_router)) (omega arith) (omega arith) (one Dial g.dial g.of_dial)
+    (Covers-append f 13 14 16 s t g.bind (g.identity_router ++ g.service_router) (omega arith) (omega arith) (one Bind g.bind g.of_bind)
+    (Covers-append f 14 15 16 s t g.identity_router g.service_router (omega arith) (omega arith) (one IdentityRouter g.identity_router g.of_identity_router)
     (one ServiceRouter g.service_router g.of_service_router))))
   where
-    one : (r : Relation) (cs : List Change) → AreCountChanges r (counts_of r m) (steps_of r m) cs → Covers (table_number (Counts r)) (table_number (Counts r) + 1) s t cs
-    one r cs a = covered r (counts_of r m) (steps_of r m) s t (are r) (moves r) cs a
+    one : (r : Relation) (cs : List Change) → AreCountChanges f r (counts_of r m) (steps_of r m) cs → Covers f (table_number (Counts r)) (table_number (Counts r) + 1) s t cs
+    one r cs a = covered f r (counts_of r m) (steps_of r m) s t (are r) (moves r) cs a
 
-pub first_changes : (r : Relation) (counts : List ((ℕ × ℕ) × ℕ)) (ds : List Delta) (old new : List Change) → old ≡ [] → AddsCountChanges r counts ds old new → AreCountChanges r counts ds new
-first_changes r counts ds old new none a = subst (AreCountChanges r counts ds) (sym (a.joined ∙ ap (λ cs. cs ++ a.added) none)) a.exact
+pub first_changes : (f : Format) (r : Relation) (counts : List ((ℕ × ℕ) × ℕ)) (ds : List Delta) (old new : List Change) → old ≡ [] → AddsCountChanges f r counts ds old new → AreCountChanges f r counts ds new
+first_changes f r counts ds old new none a = subst (AreCountChanges f r counts ds) (sym (a.joined ∙ ap (λ cs. cs ++ a.added) none)) a.exact

@@ -9,6 +9,7 @@ use Rattle.std.specs.List.Sorted.{IsStrictlySortedBy}
 use Rattle.std.specs.Map.{lookup, keys_of}
 use Rattle.std.specs.BTreeMap.{is_at}
 use Rattle.std.specs.Ordering.{nat_cmp, ordering_then, is_eq}
+use Rattle.ctrl_model.specs.declared.formats.Format.{Format}
 use Rattle.ctrl_model.specs.declared.kinds.Relation.{Relation}
 use Rattle.ctrl_model.specs.Membership.{Among}
 use Rattle.ctrl_model.proofs.Members.{Among-map, by_map, Among-filter, by_filter}
@@ -95,7 +96,7 @@ there (x ∷ xs) p v e = by (is_eq (pair_cmp p x.0)) (there xs p v) refl e
 
 -- ---- the changes at the end
 
-module _ (r : Relation) (counts : Entries) (ds : List Delta) where
+module _ (f : Format) (r : Relation) (counts : Entries) (ds : List Delta) where
   abbrev pub AreMoved : Entries → Type 0
   AreMoved es = (p q : ℕ) → count_so_far es counts p q + downs ds p q ≡ count_of counts p q + ups ds p q
 
@@ -108,10 +109,10 @@ module _ (r : Relation) (counts : Entries) (ds : List Delta) where
   kept_pairs es = map (λ (e : (ℕ × ℕ) × ℕ). e.0) (filter (differs counts) es)
 
   named_by : (xs : Entries) → ((e : (ℕ × ℕ) × ℕ) → Among e xs → e.1 ≡ count_after counts ds e.0)
-      → map (λ (e : (ℕ × ℕ) × ℕ). change_from r e.0 (count_of counts e.0.0 e.0.1) e.1) xs
-      ≡ map (λ (p : ℕ × ℕ). change_from r p (count_of counts p.0 p.1) (count_after counts ds p)) (map (λ (e : (ℕ × ℕ) × ℕ). e.0) xs)
+      → map (λ (e : (ℕ × ℕ) × ℕ). change_from f r e.0 (count_of counts e.0.0 e.0.1) e.1) xs
+      ≡ map (λ (p : ℕ × ℕ). change_from f r p (count_of counts p.0 p.1) (count_after counts ds p)) (map (λ (e : (ℕ × ℕ) × ℕ). e.0) xs)
   named_by [] h = refl
-  named_by (x ∷ xs) h = λ i. change_from r x.0 (count_of counts x.0.0 x.0.1) (h x (inl refl) i) ∷ named_by xs (λ e m. h e (inr m)) i
+  named_by (x ∷ xs) h = λ i. change_from f r x.0 (count_of counts x.0.0 x.0.1) (h x (inl refl) i) ∷ named_by xs (λ e m. h e (inr m)) i
 
   above : (k : ℕ × ℕ) (es : Entries) → AllByRecursion (λ y. pair_cmp k y ≡ Less) (keys_of es)
       → AllByRecursion (λ (y : (ℕ × ℕ) × (ℕ × ℕ)). pair_cmp k y.0 ≡ Less) (map (λ p. (p, p)) (kept_pairs es))
@@ -158,7 +159,7 @@ module _ (r : Relation) (counts : Entries) (ds : List Delta) where
       Among-map (λ (e : (ℕ × ℕ) × ℕ). e.0) (filter (differs counts) es) (p, v)
       (Among-filter (differs counts) es (p, v) (there es p v is) (other_back v (downs ds p.0 p.1) (count_of counts p.0 p.1) (ups ds p.0 p.1) h ne))
 
-  pub made_changes : (es : Entries) → IsStrictlySortedBy pair_cmp (keys_of es) → are_long es ≡ true → AreMoved es → AreCountChanges r counts ds (entry_changes r counts es)
+  pub made_changes : (es : Entries) → IsStrictlySortedBy pair_cmp (keys_of es) → are_long es ≡ true → AreMoved es → AreCountChanges f r counts ds (entry_changes f r counts es)
   made_changes es s long h = record {
     pairs = kept_pairs es;
     named = named_by (filter (differs counts) es) (λ e m. by_filter (differs counts) es e m (λ n d. less_downs e.1 (downs ds e.0.0 e.0.1) (count_of counts e.0.0 e.0.1) (ups ds e.0.0 e.0.1) (moved_entry es e s h n)));
@@ -172,20 +173,20 @@ module _ (r : Relation) (counts : Entries) (ds : List Delta) where
 
 -- ---- the changes as they are listed
 
-entry_changes-cons : (r : Relation) (counts : Entries) (e : (ℕ × ℕ) × ℕ) (es : Entries) → entry_changes r counts (e ∷ es) ≡ entry_changes r counts (e ∷ []) ++ entry_changes r counts es
-entry_changes-cons r counts e es = by (differs counts e)
+entry_changes-cons : (f : Format) (r : Relation) (counts : Entries) (e : (ℕ × ℕ) × ℕ) (es : Entries) → entry_changes f r counts (e ∷ es) ≡ entry_changes f r counts (e ∷ []) ++ entry_changes f r counts es
+entry_changes-cons f r counts e es = by (differs counts e)
   where
-    by : (t : Bool) → map (λ x. change_from r x.0 (count_of counts x.0.0 x.0.1) x.1) (cond t (e ∷ filter (differs counts) es) (filter (differs counts) es))
-        ≡ map (λ x. change_from r x.0 (count_of counts x.0.0 x.0.1) x.1) (cond t (e ∷ []) []) ++ entry_changes r counts es
+    by : (t : Bool) → map (λ x. change_from f r x.0 (count_of counts x.0.0 x.0.1) x.1) (cond t (e ∷ filter (differs counts) es) (filter (differs counts) es))
+        ≡ map (λ x. change_from f r x.0 (count_of counts x.0.0 x.0.1) x.1) (cond t (e ∷ []) []) ++ entry_changes f r counts es
     by true = refl
     by false = refl
 
-pub listed_one_more : (r : Relation) (counts whole its rest : Entries) (e : (ℕ × ℕ) × ℕ) (start done new : List Change) → its ≡ e ∷ rest
-    → done ++ entry_changes r counts its ≡ start ++ entry_changes r counts whole → new ≡ done ++ entry_changes r counts (e ∷ [])
-    → new ++ entry_changes r counts rest ≡ start ++ entry_changes r counts whole
-listed_one_more r counts whole its rest e start done new is h n =
-    ap (λ xs. xs ++ entry_changes r counts rest) n ∙ append_assoc done (entry_changes r counts (e ∷ [])) (entry_changes r counts rest)
-    ∙ ap (λ xs. done ++ xs) (sym (entry_changes-cons r counts e rest)) ∙ ap (λ xs. done ++ entry_changes r counts xs) (sym is) ∙ h
+pub listed_one_more : (f : Format) (r : Relation) (counts whole its rest : Entries) (e : (ℕ × ℕ) × ℕ) (start done new : List Change) → its ≡ e ∷ rest
+    → done ++ entry_changes f r counts its ≡ start ++ entry_changes f r counts whole → new ≡ done ++ entry_changes f r counts (e ∷ [])
+    → new ++ entry_changes f r counts rest ≡ start ++ entry_changes f r counts whole
+listed_one_more f r counts whole its rest e start done new is h n =
+    ap (λ xs. xs ++ entry_changes f r counts rest) n ∙ append_assoc done (entry_changes f r counts (e ∷ [])) (entry_changes f r counts rest)
+    ∙ ap (λ xs. done ++ xs) (sym (entry_changes-cons f r counts e rest)) ∙ ap (λ xs. done ++ entry_changes f r counts xs) (sym is) ∙ h
 
 pub long_one_more : (whole its rest : Entries) (e : (ℕ × ℕ) × ℕ) → its ≡ e ∷ rest → are_long its ≡ are_long whole → (is_long e.0.0 && is_long e.0.1) ≡ true
     → are_long rest ≡ are_long whole

@@ -3,6 +3,7 @@ use Rattle.std.specs.Prelude.{ℕ, ◌==◌, Bool, not, List, map, filter}
 use Rattle.std.specs.Option.{unwrap_or}
 use Rattle.std.specs.Map.{lookup}
 use Rattle.std.specs.BTreeMap.{is_at}
+use Rattle.ctrl_model.specs.declared.formats.Format.{Format}
 use Rattle.ctrl_model.specs.declared.kinds.Relation.{Relation}
 use Rattle.grant_denorm.specs.PairCounts.{count_of}
 use Rattle.row_codec.specs.declared.changes.Change.{Change}
@@ -17,6 +18,6 @@ count_so_far moved counts a b = unwrap_or (lookup (is_at (pair_cmp (a, b))) move
 abbrev pub differs : List ((ℕ × ℕ) × ℕ) → (ℕ × ℕ) × ℕ → Bool
 differs counts e = not (count_of counts e.0.0 e.0.1 == e.1)
 
--- The changes of the moved counts that are others than those before.
-abbrev pub entry_changes : Relation → List ((ℕ × ℕ) × ℕ) → List ((ℕ × ℕ) × ℕ) → List Change
-entry_changes r counts moved = map (λ e. change_from r e.0 (count_of counts e.0.0 e.0.1) e.1) (filter (differs counts) moved)
+-- The changes of the moved counts that are others than those before, in a format.
+abbrev pub entry_changes : Format → Relation → List ((ℕ × ℕ) × ℕ) → List ((ℕ × ℕ) × ℕ) → List Change
+entry_changes f r counts moved = map (λ e. change_from f r e.0 (count_of counts e.0.0 e.0.1) e.1) (filter (differs counts) moved)

@@ -3,10 +3,17 @@ use Rattle.std.specs.Prelude.{◌≡◌, ◌≢◌, ◌⊎◌, ℕ, ◌+◌, ◌
 use Rattle.std.specs.declared.option.Option.{Option}
 use Rattle.std.specs.Int.{w32, to_le_bytes}
 use Rattle.std.specs.List.{AllByRecursion}
+use Rattle.ctrl_model.specs.declared.formats.Format.{Format}
+use Rattle.ctrl_model.specs.declared.formats.Format.TheVariants.{One, Two}
 
--- The eight bytes with which a slot begins.
-abbrev pub header : List ℕ
-header = 90 ∷ 67 ∷ 84 ∷ 76 ∷ 1 ∷ 0 ∷ 0 ∷ 0 ∷ []
+-- The number of a format.
+abbrev pub format_number : Format → ℕ
+format_number One = 1
+format_number Two = 2
+
+-- The eight bytes with which a slot of a format begins: `ZCTL`, the number of the format, and zeros.
+abbrev pub header : Format → List ℕ
+header format = 90 ∷ 67 ∷ 84 ∷ 76 ∷ format_number format ∷ 0 ∷ 0 ∷ 0 ∷ []
 
 -- A record: the payload's length as four bytes, the least first, and the payload.
 abbrev pub record_of : List ℕ → List ℕ
@@ -21,12 +28,12 @@ records_of (payload ∷ payloads) = 1 ∷ (record_of payload ++ records_of paylo
 abbrev pub IsPayload : List ℕ → Type 0
 IsPayload payload = length payload < 2 ^ 32
 
--- The bytes are a slot that stands for these payloads: the header, their records behind open gates, and a closed gate. What
+-- The bytes are a slot of a format that stands for these payloads: the header, their records behind open gates, and a closed gate. What
 -- follows the closed gate is no part of the slot.
-pub record Slot (bytes : List ℕ) (payloads : List (List ℕ)) : Type 0 where
+pub record Slot (format : Format) (bytes : List ℕ) (payloads : List (List ℕ)) : Type 0 where
   pub gate : ℕ
   pub more : List ℕ
-  pub split : bytes ≡ header ++ (records_of payloads ++ gate ∷ more)
+  pub split : bytes ≡ header format ++ (records_of payloads ++ gate ∷ more)
   pub closed : gate ≢ 1
   pub short : AllByRecursion IsPayload payloads
 
@@ -84,12 +91,12 @@ ShutOrAdded at text old new = Shut at old new ⊎ (new ≡ added at text old)
 abbrev pub slot_end : List (List ℕ) → ℕ
 slot_end payloads = 8 + length (records_of payloads)
 
--- The bytes of a slot that was created and to which these payloads were appended.
-abbrev pub slot_bytes : List (List ℕ) → List ℕ
-slot_bytes payloads = header ++ (records_of payloads ++ 0 ∷ [])
+-- The bytes of a slot of a format that was created and to which these payloads were appended.
+abbrev pub slot_bytes : Format → List (List ℕ) → List ℕ
+slot_bytes format payloads = header format ++ (records_of payloads ++ 0 ∷ [])
 
--- The bytes begin as a slot with these payloads does, whatever stands at the gate behind them.
-pub record SlotFront (bytes : List ℕ) (payloads : List (List ℕ)) : Type 0 where
+-- The bytes begin as a slot of a format with these payloads does, whatever stands at the gate behind them.
+pub record SlotFront (format : Format) (bytes : List ℕ) (payloads : List (List ℕ)) : Type 0 where
   pub more : List ℕ
-  pub split : bytes ≡ header ++ (records_of payloads ++ more)
+  pub split : bytes ≡ header format ++ (records_of payloads ++ more)
   pub short : AllByRecursion IsPayload payloads

@@ -2,6 +2,7 @@
 use Rattle.std.specs.Prelude.{◌≡◌, ◌⊎◌, ℕ, zero, suc, List, [], Some}
 use Rattle.ziti_outside.specs.Images.{Image}
 use Rattle.ziti_outside.specs.Views.{Seen, Stopped}
+use Rattle.ctrl_model.specs.declared.formats.Format.TheVariants as format
 use Rattle.journal_core.specs.WorkedSlots.{empty_slot, slot_of_ann, folder_of}
 
 -- How many calls were made of it, none or one; what its folder reads; the one image that a stop finds now; and the one that a stop found
@@ -35,8 +36,8 @@ behind folder reads found = record { calls = 1; reads = reads; found = found; be
 
 -- A folder of two slots without a record.
 abbrev pub two_slots : Image
-two_slots = folder_of empty_slot empty_slot
+two_slots = folder_of (empty_slot format.One) (empty_slot format.One)
 
 -- The same with the first batch in the first one.
 abbrev pub first_batch : Image
-first_batch = folder_of slot_of_ann empty_slot
+first_batch = folder_of (slot_of_ann format.One) (empty_slot format.One)

@@ -1,12 +1,12 @@
 ghost use Rattle.std.specs.Prelude.{◌≡◌, ◌≤◌, ◌+◌, ◌^◌, [], IfOk, length};
-ghost use Rattle.journal_core.specs.Slots.{text_of, slot_bytes};
+ghost use Rattle.journal_core.specs.Slots.{format_number, header, text_of, slot_bytes};
 
-use ctrl_model::Bytes;
+use ctrl_model::{Bytes, Format};
 use std::alloc::{AllocError, Global};
 use std::marker::Model;
 
-/// The eight bytes with which a slot begins: `ZCTL`, the number of the format, and zeros.
-pub const HEADER: [u8; 8] = [b'Z', b'C', b'T', b'L', 1, 0, 0, 0];
+/// How many bytes the header of a slot has.
+pub const HEADER_LEN: u64 = 8;
 
 /// A gate that is closed. So is every gate whose byte is not `OPEN`.
 const CLOSED: u8 = 0;
@@ -14,12 +14,29 @@ const CLOSED: u8 = 0;
 /// A gate that is open.
 pub(crate) const OPEN: u8 = 1;
 
-/// The bytes of a slot that stands for nothing: the header and a closed gate.
-pub fn empty_slot() -> [u8; 9]
-    ensures { result ≡ slot_bytes [] }
+// The number of a format.
+fn format_number(format: Format) -> u8
+    ensures { result ≡ format_number format }
+{
+    match format {
+        Format::One => 1,
+        Format::Two => 2,
+    }
+}
+
+/// The eight bytes with which a slot of a format begins: `ZCTL`, the number of the format, and zeros.
+pub fn header(format: Format) -> [u8; 8]
+    ensures { result ≡ header format }
+{
+    [b'Z', b'C', b'T', b'L', format_number(format), 0, 0, 0]
+}
+
+/// The bytes of a slot of a format that stands for nothing: the header and a closed gate.
+pub fn empty_slot(format: Format) -> [u8; 9]
+    ensures { result ≡ slot_bytes format [] }
 {
     let mut slot = [CLOSED; 9];
-    slot[..8].copy_from_slice(&HEADER);
+    slot[..8].copy_from_slice(&header(format));
     slot
 }
 

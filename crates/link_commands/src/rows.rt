@@ -1,5 +1,7 @@
 ghost use Rattle.std.specs.Prelude.{◌≡◌, ℕ, true, IfOk, IfSome};
 ghost use Rattle.std.specs.Option.{option_map};
+ghost use Rattle.ctrl_model.specs.declared.formats.Format.{Format};
+ghost use Rattle.ctrl_model.specs.declared.formats.Format.TheVariants.{Two};
 ghost use Rattle.ctrl_model.specs.declared.kinds.Kind.TheVariants as kind;
 ghost use Rattle.ctrl_model.specs.State.{State};
 ghost use Rattle.record_tables.specs.Climbing.{Climbs};
@@ -21,8 +23,8 @@ use std::alloc::{AllocError, Global};
 // The row of a link under a number, if there is one.
 fn row_of(no: LinkNo, link: Option<LinkView>) -> Result<Option<Row>, AllocError>
     requires { IfSome link (λ r. fits kind.Link r ≡ true) }
-    ensures form { IfOk result (λ row. IfSome row (λ r. is_row r ≡ true)) }
-    ensures value { IfOk result (λ row. option_map value_of row ≡ option_map (record_value kind.Link) link.entry) }
+    ensures form { IfOk result (λ row. IfSome row (λ r. is_row Two r ≡ true)) }
+    ensures value { IfOk result (λ row. option_map (value_of Two) row ≡ option_map (record_value kind.Link) link.entry) }
 {
     let Some(link) = link else {
         return Ok(None);
@@ -73,8 +75,8 @@ pub fn link_changes(
     requires climb { Climbs (λ n. n) gone.now }
     requires before { HaveRows fabric.now }
     requires after { HaveRows (fabric_after (option_map (λ c. c.now) change) gone.now fabric.now) }
-    ensures { IfOk result (λ changes. (s t : State) → s.links ≡ fabric.now.links
-        → t.links ≡ (fabric_after (option_map (λ c. c.now) change.entry) gone.now fabric.now).links → Covers 6 7 s t changes) }
+    ensures { IfOk result (λ changes. (f : Format) (s t : State) → s.links ≡ fabric.now.links
+        → t.links ≡ (fabric_after (option_map (λ c. c.now) change.entry) gone.now fabric.now).links → Covers f 6 7 s t changes) }
 {
     let after = FabricAfter::new(fabric, change, gone);
     let changed = changed_number(change, fabric.next());

@@ -5,8 +5,8 @@ use Rattle.ziti_outside.specs.Told.{AreTaken}
 use Rattle.ziti_outside.specs.Images.{Image}
 use Rattle.ziti_outside.specs.Moments.{Now}
 use Rattle.ziti_outside.specs.Views.{Outside, Seen, Stopped}
-use Rattle.row_store.specs.OpenedStates.{OpensToState}
-use Rattle.row_store.proofs.OneStates.{stateless_opens}
+use Rattle.ctrl_keep.specs.KeptFolders.{OpensToState}
+use Rattle.ctrl_keep.proofs.OneKeptStates.{opens_undamaged}
 use Rattle.ctrl_keep.specs.KeptMachine.{Machine}
 use Rattle.session_mux.specs.declared.events.Event.{Event}
 use Rattle.session_mux.specs.declared.sessions.Form.{Form}
@@ -67,7 +67,7 @@ pub safe : {S D : Type 0} (o : Outside S D) (form : Form) (input : List ℕ) (so
     → OpensTo (o.seen desk).reads m → Ran o form source source_now desk desk_now status → IsSafe form m input (o.stopped desk_now)
 safe o form input source source_now desk desk_now status m told new only on opens (inl refuses) =
     let d = closed o source source_now desk desk_now status new on refuses in
-    absurd (stateless_opens (o.seen desk).reads d.part d.at m.state d.none (machine_opens (o.seen desk).reads m opens))
+    absurd (opens_undamaged (o.seen desk).reads m.state d.part d.at (machine_opens (o.seen desk).reads m opens) d.none)
 safe o form input source source_now desk desk_now status m told new only on opens (inr r) =
     subst (λ (x : Machine). IsSafe form x input (o.stopped desk_now)) (one_machine (o.seen desk).reads r.machine m (r.opens new.told) opens)
     (replays_safely o form input source source_now desk desk_now status told new only on r)

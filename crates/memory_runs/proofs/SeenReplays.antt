@@ -6,7 +6,7 @@ use Rattle.ziti_outside.specs.declared.desk.Part.TheVariants.{Mark}
 use Rattle.ziti_outside.specs.Images.{Image}
 use Rattle.ziti_outside.specs.Views.{Seen}
 use Rattle.slot_files.specs.FolderImage.{Stands, StandsBy}
-use Rattle.row_store.specs.OpenedStates.{IsStateless, OpensToState}
+use Rattle.ctrl_keep.specs.KeptFolders.{IsStateless, OpensToState}
 use Rattle.ctrl_keep.specs.KeptMachine.{Machine}
 use Rattle.session_mux.specs.declared.sessions.Form.{Form}
 use Rattle.run_notes.specs.declared.status.Status.{Status}
@@ -15,6 +15,7 @@ use Rattle.ctrl_serve.specs.OpenedFolders.{Keeps, OpensTo}
 use Rattle.ctrl_serve.specs.UncompactedFolders.{LeavesOtherSlot}
 use Rattle.memory_runs.specs.WholeReplays.{bounds, used, IsNoted, IsRefused, IsWhole}
 use Rattle.memory_runs.specs.Replays.{IsAsSeen}
+use Rattle.ctrl_core.specs.KeptFormat.{kept_format}
 
 -- Of two things that hold of what is in a result, a third.
 pub both : {A E : Type 0} (r : Result A E) (P Q R : A → Type 0) → ((a : A) → P a → Q a → R a) → IfOk r P → IfOk r Q → IfOk r R
@@ -45,7 +46,7 @@ whole_so form m input folder before now other status same at whole seen is =
       };
       keeps = subst (λ (i : Image). Keeps i (last_machine form bounds m (used input))) (sym seen.reads) whole.keeps;
       opens = subst (λ (i : Image). OpensToState i (last_machine form bounds m (used input)).state) (sym seen.reads) whole.opens;
-      stands = λ batches stood. subst (λ (i : Image). Stands i (last_batches form bounds m (used input) batches)) (sym seen.reads) (whole.stands batches stood);
+      stands = λ batches stood. subst (λ (i : Image). Stands kept_format i (last_batches form bounds m (used input) batches)) (sym seen.reads) (whole.stands batches stood);
       same = λ some still. seen.reads ∙ whole.same some still;
       elsewhere = λ none. subst (λ (i : Image). LeavesOtherSlot before i) (sym seen.reads) (whole.elsewhere none);
     }))
@@ -61,5 +62,5 @@ pub decided_so : (folder before : Image) → before ≡ folder → ((m : Machine
 decided_so folder before same is = subst (λ (i : Image). ((m : Machine) × OpensTo i m) ⊎ ((part : Part) × (at : ℕ) × IsStateless i part at)) same is
 
 -- A folder whose mark is empty stands for no batches.
-pub new_stands : (image : Image) → image Mark ≡ [] → Stands image []
-new_stands image none = subst (λ (n : ℕ). StandsBy n image []) (sym (ap length none)) refl
+pub new_stands : (image : Image) → image Mark ≡ [] → Stands kept_format image []
+new_stands image none = subst (λ (n : ℕ). StandsBy n kept_format image []) (sym (ap length none)) refl

@@ -8,8 +8,8 @@ use Rattle.ziti_outside.specs.Images.{Image}
 use Rattle.ziti_outside.specs.Views.{Outside, Seen, Stopped}
 use Rattle.slot_files.specs.FolderImage.{Stands}
 use Rattle.row_store.specs.declared.bounds.StoreBounds.{StoreBounds}
-use Rattle.row_store.specs.OpenedStates.{IsStateless, OpensToState}
-use Rattle.row_store.proofs.OneStates.{stateless_opens, one_place}
+use Rattle.ctrl_keep.specs.KeptFolders.{IsStateless, OpensToState}
+use Rattle.ctrl_keep.proofs.OneKeptStates.{opens_undamaged, one_kept_place}
 use Rattle.ctrl_keep.specs.KeptBatches.{mark_at}
 use Rattle.ctrl_keep.specs.KeptMachine.{Machine}
 use Rattle.session_mux.specs.declared.events.Event.{Event}
@@ -26,8 +26,10 @@ use Rattle.ctrl_serve.specs.OpenedFolders.{Keeps, OpensTo}
 use Rattle.ctrl_serve.specs.SaidReplies.{joined, Says, SaysAll}
 use Rattle.ctrl_serve.proofs.EndingLaws.{all_replies, told_took}
 use Rattle.memory_runs.specs.WholeReplays.{bounds, used, is_longer, IsNew, IsNoted, IsRefused, IsWhole, NotesInput}
-use Rattle.memory_runs.proofs.OneMachines.{keeps_opens, machine_opens, one_machine}
+use Rattle.ctrl_serve.proofs.OpenedMachines.{opens_kept}
+use Rattle.memory_runs.proofs.OneMachines.{machine_opens, one_machine}
 use Rattle.memory_runs.proofs.UsedInputs.{AreAlike, alike}
+use Rattle.ctrl_core.specs.KeptFormat.{kept_format}
 
 -- ---- the statuses
 
@@ -118,8 +120,8 @@ replays_whole o form input source source_now desk desk_now status told new on r 
             (subst (λ (es : List Event). NotesLines (notes_of form es (used s.taken) status) (o.seen desk) (o.seen desk_now)) (all ∙ same.events) s.notes);
       };
       keeps = keeps;
-      opens = keeps_opens (o.seen desk_now).reads (last_machine form bounds r.machine (used input)) keeps;
-      stands = λ batches stood. subst (λ (bs : List (List ℕ)). Stands (o.seen desk_now).reads bs) (same_batches form r.machine (used s.taken) (used input) batches same.events)
+      opens = opens_kept (o.seen desk_now).reads (last_machine form bounds r.machine (used input)) keeps;
+      stands = λ batches stood. subst (λ (bs : List (List ℕ)). Stands kept_format (o.seen desk_now).reads bs) (same_batches form r.machine (used s.taken) (used input) batches same.events)
           (r.stands has.kept new.told batches stood);
       same = λ some still. r.still has.kept new.told some (last ∙ still);
       elsewhere = λ none. r.elsewhere has.kept new.told (ap (λ (m : Machine). mark_at m.place) last ∙ none);
@@ -165,7 +167,7 @@ pub whole : {S D : Type 0} (o : Outside S D) (form : Form) (input : List ℕ) (s
     → Ran o form source source_now desk desk_now status → IsWhole form m input (o.seen desk).reads (o.seen desk_now) status
 whole o form input source source_now desk desk_now status m told new on opens (inl refuses) =
     let d = closed o source source_now desk desk_now status new on refuses in
-    absurd (stateless_opens (o.seen desk).reads d.part d.at m.state d.none (machine_opens (o.seen desk).reads m opens))
+    absurd (opens_undamaged (o.seen desk).reads m.state d.part d.at (machine_opens (o.seen desk).reads m opens) d.none)
 whole o form input source source_now desk desk_now status m told new on opens (inr r) =
     subst (λ (x : Machine). IsWhole form x input (o.seen desk).reads (o.seen desk_now) status)
     (one_machine (o.seen desk).reads r.machine m (r.opens new.told) opens)
@@ -176,7 +178,7 @@ pub refused : {S D : Type 0} (o : Outside S D) (form : Form) (source source_now 
     → Ran o form source source_now desk desk_now status → IsRefused part at (o.seen desk).reads (o.seen desk_now) status
 refused o form source source_now desk desk_now status part at new on none (inl refuses) =
     let d = closed o source source_now desk desk_now status new on refuses in
-    let place = one_place (o.seen desk).reads d.part part d.at at d.none none in
+    let place = one_kept_place (o.seen desk).reads d.part part d.at at d.none none in
     record {
       ends = d.ends;
       said = refuses.unopened.says_nothing ∙ new.unsaid;
@@ -186,7 +188,7 @@ refused o form source source_now desk desk_now status part at new on none (inl r
       same = d.same;
     }
 refused o form source source_now desk desk_now status part at new on none (inr r) =
-    absurd (stateless_opens (o.seen desk).reads part at r.machine.state none (machine_opens (o.seen desk).reads r.machine (r.opens new.told)))
+    absurd (opens_undamaged (o.seen desk).reads r.machine.state part at (machine_opens (o.seen desk).reads r.machine (r.opens new.told)) none)
 
 pub opens_or_not : {S D : Type 0} (o : Outside S D) (form : Form) (source source_now : S) (desk desk_now : D) (status : Status)
     → IsNew o.tells (o.seen desk) (o.stopped desk) → is_cut status ≡ false → Ran o form source source_now desk desk_now status

@@ -10,7 +10,7 @@ use Rattle.ctrl_model.specs.State.{start}
 use Rattle.journal_core.specs.Slots.{slot_end}
 use Rattle.slot_files.specs.FolderImage.{Stands}
 use Rattle.row_store.specs.declared.bounds.StoreBounds.{StoreBounds}
-use Rattle.row_store.specs.OpenedStates.{IsStateless, OpensToState}
+use Rattle.ctrl_keep.specs.KeptFolders.{IsStateless, OpensToState}
 use Rattle.ctrl_keep.specs.KeptMachine.{Machine}
 use Rattle.session_mux.specs.declared.sessions.Form.{Form}
 use Rattle.session_mux.specs.Completion.{completed}
@@ -26,6 +26,7 @@ use Rattle.ctrl_serve.specs.Reading.{is_decided}
 use Rattle.ctrl_serve.specs.RunStops.{HoldsFirst, StopFinds}
 use Rattle.ctrl_serve.specs.SaidReplies.{joined}
 use Rattle.ctrl_serve.specs.UncompactedFolders.{CompactsNothing, LeavesOtherSlot}
+use Rattle.ctrl_core.specs.KeptFormat.{kept_format}
 
 -- The bytes of an input that the program uses: the first 2^32.
 abbrev pub used : List ℕ → List ℕ
@@ -80,7 +81,7 @@ pub record IsWhole (form : Form) (machine : Machine) (input : List ℕ) (before 
   pub notes : NotesInput form input status now
   pub keeps : Keeps now.reads (last_machine form bounds machine (used input))
   pub opens : OpensToState now.reads (last_machine form bounds machine (used input)).state
-  pub stands : (batches : List (List ℕ)) → Stands before batches → Stands now.reads (last_batches form bounds machine (used input) batches)
+  pub stands : (batches : List (List ℕ)) → Stands kept_format before batches → Stands kept_format now.reads (last_batches form bounds machine (used input) batches)
   pub same : 0 < length (before Mark) → last_machine form bounds machine (used input) ≡ machine → now.reads ≡ before
   pub elsewhere : CompactsNothing machine (last_machine form bounds machine (used input)) → LeavesOtherSlot before now.reads
 

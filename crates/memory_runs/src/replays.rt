@@ -2,7 +2,7 @@ ghost use Rattle.std.specs.Prelude.{◌≡◌, ◌≢◌, ◌≤◌, ◌⊎◌, 
 ghost use Rattle.ziti_outside.specs.declared.desk.Part.{Part};
 ghost use Rattle.ziti_outside.specs.Told.{IsFront};
 ghost use Rattle.slot_files.specs.FolderImage.{Stands};
-ghost use Rattle.row_store.specs.OpenedStates.{IsStateless, OpensToState};
+ghost use Rattle.ctrl_keep.specs.KeptFolders.{IsStateless, OpensToState};
 ghost use Rattle.ctrl_keep.specs.KeptMachine.{Machine};
 ghost use Rattle.session_mux.specs.Completion.{completed};
 ghost use Rattle.run_notes.specs.Endings.{ending, is_cut};
@@ -16,6 +16,7 @@ ghost use Rattle.ctrl_serve.specs.SaidReplies.{joined};
 ghost use Rattle.ziti_desk.specs.MemEvents.{image_of};
 ghost use Rattle.memory_runs.specs.WholeReplays.{bounds, is_longer, new_machine, used, IsNew, IsWhole, IsSafe, IsRefused, NotesInput};
 ghost use Rattle.memory_runs.specs.Replays.{seen_of, IsAsSeen};
+ghost use Rattle.ctrl_core.specs.KeptFormat.{kept_format};
 
 use crate::desks::{MemoryDesk, new_desk, program_desk};
 use crate::given::Given;
@@ -158,7 +159,7 @@ pub fn replay_from_nothing(
     ensures notes { IfOk result (λ r. NotesInput form input.now r.status (seen_of r)) }
     ensures opens { IfOk result (λ r. OpensToState (image_of r.folder) (last_machine form bounds new_machine (used input.now)).state) }
     ensures keeps { IfOk result (λ r. Keeps (image_of r.folder) (last_machine form bounds new_machine (used input.now))) }
-    ensures stands { IfOk result (λ r. Stands (image_of r.folder) (last_batches form bounds new_machine (used input.now) [])) }
+    ensures stands { IfOk result (λ r. Stands kept_format (image_of r.folder) (last_batches form bounds new_machine (used input.now) [])) }
 {
     replay_in_memory(alloc, form, input, Images::empty(alloc), room)
 }

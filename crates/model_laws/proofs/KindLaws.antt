@@ -21,7 +21,15 @@ with_table-holds P s kind.Circuit t none new old kind.Circuit = new
 with_table-holds P s kind.Attribute t none new old kind.Attribute = none
 with_table-holds P s k t none new old j = old j
 
--- no table is the setting
+-- no table is the setting, the intercepts or the serial
 pub with_table-setting : (k : Kind) (t : Table (Record k)) (s : State) → (with_table k t s).least_router_cost ≡ s.least_router_cost
 with_table-setting kind.Attribute t s = refl
 with_table-setting k t s = refl
+
+pub with_table-intercepts : (k : Kind) (t : Table (Record k)) (s : State) → (with_table k t s).intercepts ≡ s.intercepts
+with_table-intercepts kind.Attribute t s = refl
+with_table-intercepts k t s = refl
+
+pub with_table-serial : (k : Kind) (t : Table (Record k)) (s : State) → (with_table k t s).serial ≡ s.serial
+with_table-serial kind.Attribute t s = refl
+with_table-serial k t s = refl

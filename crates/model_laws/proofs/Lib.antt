@@ -26,6 +26,7 @@ pub mod RecordCommandLaws
 pub mod LinkCommandLaws
 pub mod TerminatorCommandLaws
 pub mod CircuitCommandLaws
+pub mod InterceptCommandLaws
 pub mod PlannedLaws
 pub mod NewRecords
 pub mod ValidCommands
@@ -33,3 +34,5 @@ pub mod TouchedLaws
 pub mod RefusedStates
 pub mod NextNumbers
 pub mod HitLaws
+pub mod SameStateLaws
+pub mod CountedLaws

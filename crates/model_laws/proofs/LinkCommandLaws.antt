@@ -21,7 +21,7 @@ use Rattle.ctrl_model.proofs.NumberedLaws.{first_where-found}
 use Rattle.model_laws.proofs.NamedLaws.{and_more}
 use Rattle.model_laws.proofs.RefusalLaws.{or_then-none, refuse_if-none, exists_if_present-none, full-none, at_number-holds}
 use Rattle.ctrl_model.proofs.TableLaws.{valid-more}
-use Rattle.model_laws.proofs.ValidLaws.{Follows, Orderly, Orderly-from_valid, carried_out-follows, Orderly-create, Orderly-edit}
+use Rattle.model_laws.proofs.ValidLaws.{Follows, Orderly, AreClaimed-from_valid, Keeps-itself, claims_more, Orderly-from_valid, carried_out-follows, Orderly-create, Orderly-edit}
 
 -- routers of different names are different
 ends_apart : (s : State) → Orderly s → (a b : List ℕ) (from to : ℕ) → named kind.Router s a ≡ Some from → named kind.Router s b ≡ Some to
@@ -83,7 +83,7 @@ report_state-follows link router up s v =
 
 pub set_least_router_cost-follows : (cost : ℕ) (s : State) → is_link_cost cost ≡ true → ValidState s → Follows s (set_least_router_cost cost s).1
 set_least_router_cost-follows cost s fits v =
-    carried_out-follows None s Done (record s { least_router_cost = cost }) (λ none. record { kinds = kinds; setting = fits; attributes = v.attributes })
+    carried_out-follows None s Done (record s { least_router_cost = cost }) (λ none. record { kinds = kinds; setting = fits; attributes = v.attributes; claims = claims_more s (record s { least_router_cost = cost }) refl refl (Keeps-itself s.services) (AreClaimed-from_valid s v) })
   where
     kinds : (k : Kind) → ValidTable k (record s { least_router_cost = cost }) (table k (record s { least_router_cost = cost }))
     kinds kind.Link = valid-more (v.kinds kind.Link) (record s { least_router_cost = cost }) (λ q e. e)

@@ -4,6 +4,7 @@ use Rattle.std.proofs.Common.{◌≡◌, ◌≢◌, ℕ, ◌+◌, ◌<◌, ◌�
 use Rattle.std.proofs.lemmas.Bool.{cases_eq}
 use Rattle.ctrl_model.specs.declared.commands.Command.{Command}
 use Rattle.ctrl_model.specs.declared.commands.Command.TheVariants as command
+use Rattle.ctrl_model.specs.declared.intercepts.Intercept.{Intercept}
 use Rattle.ctrl_model.specs.declared.kinds.Kind.{Kind}
 use Rattle.ctrl_model.specs.declared.kinds.Kind.TheVariants as kind
 use Rattle.ctrl_model.specs.declared.kinds.Relation.TheVariants.{IdentityRouter, ServiceRouter}
@@ -14,12 +15,12 @@ use Rattle.ctrl_model.specs.declared.refusals.Refusal.{Refusal}
 use Rattle.ctrl_model.specs.declared.refusals.Refusal.TheVariants.{NotPermitted}
 use Rattle.ctrl_model.specs.declared.replies.Reply.{Reply}
 use Rattle.ctrl_model.specs.declared.replies.Reply.TheVariants.{Refused, Done, Made}
-use Rattle.ctrl_model.specs.Numbered.{Table, at, with_last, no_rows, with_new, with_edit, with_removed}
+use Rattle.ctrl_model.specs.Numbered.{Table, at, with_at, with_last, without, no_rows, with_new, with_edit, with_removed}
 use Rattle.ctrl_model.specs.State.{State}
 use Rattle.ctrl_model.specs.Tables.{Record, table, with_table, named}
 use Rattle.ctrl_model.specs.Settling.{settle, revoke, repair}
 use Rattle.ctrl_model.specs.Rules.{carried_out, shown, at_number}
-use Rattle.ctrl_model.specs.RecordCommands.{create, update, delete, refusal_of_update, absent_names, after_create, after_edit, after_remove, after_update, forgotten}
+use Rattle.ctrl_model.specs.RecordCommands.{create, update, delete, refusal_of_update, absent_names, after_create, after_edit, after_remove, after_update, forgotten, without_intercept}
 use Rattle.ctrl_model.specs.EntityCommands.{described, described_router, marked}
 use Rattle.ctrl_model.specs.PolicyCommands.{replaced_by}
 use Rattle.ctrl_model.specs.LinkCommands.{refusal_of_create_link, after_create_link, refusal_of_report, with_latency, after_report_latency}
@@ -96,6 +97,15 @@ forgets kind.Router name s t h kind.ServiceEdgeRouterPolicy =
     less (forgotten kind.Router name t).service_edge_router_policies (h kind.ServiceEdgeRouterPolicy) refl (at-map_each-none _ t.service_edge_router_policies.rows)
 forgets i name s t h k = h k
 
+-- intercepts are in no table
+intercepted : (s t : State) (intercepts : List (ℕ × Intercept)) → AllFollow s t → AllFollow s (record t { intercepts = intercepts })
+intercepted s t intercepts h kind.Link = h kind.Link
+intercepted s t intercepts h k = h k
+
+unclaimed : (i : Kind) (n : ℕ) (s t : State) → AllFollow s t → AllFollow s (without_intercept i n t)
+unclaimed kind.Service n s t h = intercepted s t (without t.intercepts n) h
+unclaimed i n s t h = h
+
 step : (s : State) (o : Option Refusal) (reply : Reply) (effect : State) → AllFollow s effect → AllFollow s (carried_out o s reply effect).1
 step s o reply effect h = carried_out-holds (AllFollow s) o s reply effect (same s) (λ _. settled s effect h)
 
@@ -117,7 +127,7 @@ updated : (k : Kind) (name : List ℕ) (f : Record k → Record k) (absent : Opt
 updated k name f absent s = step s (refusal_of_update k name f absent s) Done (after_update k name f s) (changed k name f s)
 
 gone : (k : Kind) (of : Field) (name : List ℕ) (s : State) → AllFollow s (delete k of name s).1
-gone k of name s = step s _ _ _ (there s (named k s name) _ (λ n _. forgets k name s (after_remove k n s) (removed k n s)))
+gone k of name s = step s _ _ _ (there s (named k s name) _ (λ n _. forgets k name s (without_intercept k n (after_remove k n s)) (unclaimed k n s (after_remove k n s) (removed k n s))))
 
 looked : (s : State) (o : Option Refusal) (reply : Reply) → AllFollow s (shown o s reply).1
 looked s None reply = same s
@@ -173,6 +183,12 @@ carry-follows (command.ListServices identity) s = looked s _ _
 carry-follows command.ShowCounts s = same s
 carry-follows (command.ShowCircuit n) s = looked s _ _
 carry-follows command.Compact s = same s
+carry-follows (command.SetIntercept service intercept) s =
+    step s _ _ _ (there s (named kind.Service s service) _ (λ n _. intercepted s s (with_at n intercept s.intercepts) (same s)))
+carry-follows (command.ClearIntercept service) s =
+    step s _ _ _ (there s (named kind.Service s service) _ (λ n _. intercepted s s (without s.intercepts n) (same s)))
+carry-follows (command.Pick identity udp address port) s = looked s _ _
+carry-follows (command.ListClashes identity service) s = looked s _ _
 
 pub answer-follows : (who : Who) (c : Command) (s : State) → AllFollow s (answer who c s).1
 answer-follows who c s = cond-holds (λ a. AllFollow s a.1) (is_permitted who c) (carry c s) (Refused NotPermitted, s) (carry-follows c s) (same s)

@@ -73,6 +73,10 @@ carry-leaves (command.ListServices identity) s = λ r e. shown-leaves _ s _
 carry-leaves command.ShowCounts s = λ r e. refl
 carry-leaves (command.ShowCircuit n) s = λ r e. shown-leaves _ s _
 carry-leaves command.Compact s = λ r e. refl
+carry-leaves (command.SetIntercept service intercept) s = done _ s _
+carry-leaves (command.ClearIntercept service) s = done _ s _
+carry-leaves (command.Pick identity udp address port) s = λ r e. shown-leaves _ s _
+carry-leaves (command.ListClashes identity service) s = λ r e. shown-leaves _ s _
 
 pub answer-leaves : (who : Who) (c : Command) (s : State) → LeavesIfRefused s (answer who c s)
 answer-leaves who c s = cond-holds (LeavesIfRefused s) (is_permitted who c) (carry c s) (Refused NotPermitted, s) (carry-leaves c s) (λ r e. refl)

@@ -20,7 +20,7 @@ use Rattle.ctrl_model.specs.Settling.{settle}
 use Rattle.ctrl_model.specs.Rules.{carried_out, at_number, unknown_if_absent}
 use Rattle.ctrl_model.specs.Networks.{network_of}
 use Rattle.ctrl_model.specs.Choices.{Ask, first_rule, best}
-use Rattle.ctrl_model.specs.RecordCommands.{after_create, after_edit, after_remove, after_update, forgotten, refusal_of_create, refusal_of_update, create, update, delete, absent_names}
+use Rattle.ctrl_model.specs.RecordCommands.{after_create, after_edit, after_remove, after_update, forgotten, without_intercept, refusal_of_create, refusal_of_update, create, update, delete, absent_names}
 use Rattle.ctrl_model.specs.EntityCommands.{entity, described, new_router, described_router, marked}
 use Rattle.ctrl_model.specs.PolicyCommands.{replaced_by}
 use Rattle.ctrl_model.specs.LinkCommands.{with_latency, after_create_link, refusal_of_create_link, after_set_link_cost, refusal_of_report, after_report_latency, after_report_state}
@@ -28,9 +28,10 @@ use Rattle.ctrl_model.specs.TerminatorCommands.{after_create_terminator, refusal
 use Rattle.ctrl_model.specs.CircuitCommands.{ask_of, after_create_circuit, granted_reply, create_circuit, explain, no_such_circuit}
 use Rattle.ctrl_model.specs.Permitted.{is_permitted}
 use Rattle.ctrl_model.specs.Controller.{policy, carry, answer}
-use Rattle.model_laws.specs.TouchedTables.{Touched, Added, Changed, Deleted, Nothing, touched_by, records_back, put_back, forgetting, OthersStay, ChangesOne, ChangesOnly}
+use Rattle.ctrl_model.specs.InterceptCommands.{no_such_service, after_set_intercept, after_clear_intercept}
+use Rattle.model_laws.specs.TouchedTables.{Touched, Added, Changed, Deleted, OneIntercept, Nothing, touched_by, records_back, put_back, forgetting, OthersStay, ChangesOne, ChangesOnly}
 use Rattle.model_laws.proofs.KindLaws.{with_table-holds}
-use Rattle.ctrl_model.proofs.NumberedLaws.{at-edit_at-other, at-without-other}
+use Rattle.ctrl_model.proofs.NumberedLaws.{at-edit_at-other, at-without-other, at-with_at-other}
 use Rattle.model_laws.proofs.AbsentRecords.{at-filter-none, at-without-none, at-edit_at-none}
 use Rattle.model_laws.proofs.RefusalLaws.{or_then-none, at_number-holds, shown-leaves, cond-holds, decided-holds}
 
@@ -141,10 +142,11 @@ changed k name f s = there _ s (named k s name) _ (untouched k (named k s name) 
 updated : (k : Kind) (name : List ℕ) (f : Record k → Record k) (absent : Option Refusal) (s : State) → LeavesOrChanges (Changed k (named k s name)) s (update k name f absent s)
 updated k name f absent s = step _ s (refusal_of_update k name f absent s) Done (after_update k name f s) (changed k name f s)
 
--- a record whose name no side has goes alone
-deleted : (k : Kind) (of : Field) (name : List ℕ) (s : State) → ((t : State) → forgotten k name t ≡ t) → LeavesOrChanges (Changed k (named k s name)) s (delete k of name s)
+-- a record whose name no side has, and which no intercept is under, goes alone
+deleted : (k : Kind) (of : Field) (name : List ℕ) (s : State) → ((n : ℕ) (t : State) → forgotten k name (without_intercept k n t) ≡ t)
+    → LeavesOrChanges (Changed k (named k s name)) s (delete k of name s)
 deleted k of name s none =
-    gone (Changed k (named k s name)) of s (named k s name) _ (λ n is. subst (ChangesOne (Changed k (named k s name)) s) (sym (none (after_remove k n s))) (removed k n s (named k s name) is))
+    gone (Changed k (named k s name)) of s (named k s name) _ (λ n is. subst (ChangesOne (Changed k (named k s name)) s) (sym (none n (after_remove k n s))) (removed k n s (named k s name) is))
 
 create_circuit-changes : (ask : Ask) (s : State) → LeavesOrChanges (Added kind.Circuit) s (create_circuit ask s)
 create_circuit-changes ask s = decided-holds (LeavesOrChanges (Added kind.Circuit) s) (first_rule (network_of s) ask) (best (network_of s) ask)
@@ -165,17 +167,17 @@ carry-changes (command.CreateIdentity name attributes) s = made kind.Identity (e
 carry-changes (command.UpdateIdentity name attributes) s = updated kind.Identity name (described attributes) None s
 carry-changes (command.DeleteIdentity name) s =
     gone (Deleted kind.Identity name (named kind.Identity s name)) field.Name s (named kind.Identity s name) _
-    (λ n is. one refl (λ m ne. at-without-other s.identities.rows n m (other is ne), gone_at s.identities.rows n is))
+    (λ n is. one (ap (λ o. forgotten kind.Identity name (at_number o s (λ m. without_intercept kind.Identity m s))) (sym is)) (λ m ne. at-without-other s.identities.rows n m (other is ne), gone_at s.identities.rows n is))
 carry-changes (command.CreateService name attributes) s = made kind.Service (entity name attributes) s refl
 carry-changes (command.UpdateService name attributes) s = updated kind.Service name (described attributes) None s
 carry-changes (command.DeleteService name) s =
     gone (Deleted kind.Service name (named kind.Service s name)) field.Name s (named kind.Service s name) _
-    (λ n is. one refl (λ m ne. at-without-other s.services.rows n m (other is ne), gone_at s.services.rows n is))
+    (λ n is. one (ap (λ o. forgotten kind.Service name (at_number o s (λ m. without_intercept kind.Service m s))) (sym is)) (λ m ne. at-without-other s.services.rows n m (other is ne), gone_at s.services.rows n is))
 carry-changes (command.CreateRouter name attributes cost no_traversal) s = made kind.Router (new_router name attributes cost no_traversal) s refl
 carry-changes (command.UpdateRouter name attributes cost no_traversal) s = updated kind.Router name (described_router attributes cost no_traversal) None s
 carry-changes (command.DeleteRouter name) s =
     gone (Deleted kind.Router name (named kind.Router s name)) field.Name s (named kind.Router s name) _
-    (λ n is. one refl (λ m ne. at-without-other s.routers.rows n m (other is ne), gone_at s.routers.rows n is))
+    (λ n is. one (ap (λ o. forgotten kind.Router name (at_number o s (λ m. without_intercept kind.Router m s))) (sym is)) (λ m ne. at-without-other s.routers.rows n m (other is ne), gone_at s.routers.rows n is))
 carry-changes (command.ConnectRouter name) s =
     step _ s (unknown_if_absent field.Name (named kind.Router s name)) Done (after_update kind.Router name (marked true) s) (changed kind.Router name (marked true) s)
 carry-changes (command.DisconnectRouter name) s =
@@ -183,15 +185,15 @@ carry-changes (command.DisconnectRouter name) s =
 carry-changes (command.CreateServicePolicy name relation semantic left right) s = made kind.ServicePolicy (policy name relation semantic left right) s refl
 carry-changes (command.UpdateServicePolicy name relation semantic left right) s =
     updated kind.ServicePolicy name (replaced_by (policy name relation semantic left right)) (absent_names kind.ServicePolicy (policy name relation semantic left right) s) s
-carry-changes (command.DeleteServicePolicy name) s = deleted kind.ServicePolicy field.Name name s (λ t. refl)
+carry-changes (command.DeleteServicePolicy name) s = deleted kind.ServicePolicy field.Name name s (λ n t. refl)
 carry-changes (command.CreateEdgeRouterPolicy name semantic left right) s = made kind.EdgeRouterPolicy (policy name IdentityRouter semantic left right) s refl
 carry-changes (command.UpdateEdgeRouterPolicy name semantic left right) s =
     updated kind.EdgeRouterPolicy name (replaced_by (policy name IdentityRouter semantic left right)) (absent_names kind.EdgeRouterPolicy (policy name IdentityRouter semantic left right) s) s
-carry-changes (command.DeleteEdgeRouterPolicy name) s = deleted kind.EdgeRouterPolicy field.Name name s (λ t. refl)
+carry-changes (command.DeleteEdgeRouterPolicy name) s = deleted kind.EdgeRouterPolicy field.Name name s (λ n t. refl)
 carry-changes (command.CreateServiceEdgeRouterPolicy name semantic left right) s = made kind.ServiceEdgeRouterPolicy (policy name ServiceRouter semantic left right) s refl
 carry-changes (command.UpdateServiceEdgeRouterPolicy name semantic left right) s =
     updated kind.ServiceEdgeRouterPolicy name (replaced_by (policy name ServiceRouter semantic left right)) (absent_names kind.ServiceEdgeRouterPolicy (policy name ServiceRouter semantic left right) s) s
-carry-changes (command.DeleteServiceEdgeRouterPolicy name) s = deleted kind.ServiceEdgeRouterPolicy field.Name name s (λ t. refl)
+carry-changes (command.DeleteServiceEdgeRouterPolicy name) s = deleted kind.ServiceEdgeRouterPolicy field.Name name s (λ n t. refl)
 carry-changes (command.CreateLink name a b cost latency_a latency_b) s =
     step_if _ s (refusal_of_create_link name a b s) (Made s.links.next) (after_create_link name a b cost latency_a latency_b s) (λ none.
     let rules = or_then-none _ _ none in
@@ -205,7 +207,7 @@ carry-changes (command.ReportLatency link router latency) s =
     (there _ s (named kind.Router s router) _ (untouched kind.Link (named kind.Link s link) s) (λ r at_r. changed kind.Link link (with_latency r latency) s))
 carry-changes (command.ReportState link router up) s =
     step _ s (refusal_of_report link router s) Done (after_report_state link up s) (changed kind.Link link _ s)
-carry-changes (command.DeleteLink link) s = deleted kind.Link field.Link link s (λ t. refl)
+carry-changes (command.DeleteLink link) s = deleted kind.Link field.Link link s (λ n t. refl)
 carry-changes (command.SetLeastRouterCost cost) s =
     step _ s None Done
     (record s { least_router_cost = cost })
@@ -231,6 +233,14 @@ carry-changes (command.ListServices identity) s = inl (shown-leaves _ s _)
 carry-changes command.ShowCounts s = inl refl
 carry-changes (command.ShowCircuit n) s = inl (shown-leaves _ s _)
 carry-changes command.Compact s = inl refl
+carry-changes (command.SetIntercept service intercept) s =
+    step (OneIntercept (named kind.Service s service)) s (no_such_service service s) Done (after_set_intercept service intercept s)
+    (there _ s (named kind.Service s service) _ (one refl (λ m ne. refl)) (λ n is. one refl (λ m ne. at-with_at-other s.intercepts n m intercept (other is ne))))
+carry-changes (command.ClearIntercept service) s =
+    step (OneIntercept (named kind.Service s service)) s (no_such_service service s) Done (after_clear_intercept service s)
+    (there _ s (named kind.Service s service) _ (one refl (λ m ne. refl)) (λ n is. one refl (λ m ne. at-without-other s.intercepts n m (other is ne))))
+carry-changes (command.Pick identity udp address port) s = inl (shown-leaves _ s _)
+carry-changes (command.ListClashes identity service) s = inl (shown-leaves _ s _)
 
 pub answer-changes : (who : Who) (c : Command) (s : State) → LeavesOrChanges (touched_by c s) s (answer who c s)
 answer-changes who c s = cond-holds (LeavesOrChanges (touched_by c s) s) (is_permitted who c) (carry c s) (Refused NotPermitted, s) (carry-changes c s) (inl refl)

@@ -18,6 +18,7 @@ use Rattle.ctrl_model.specs.declared.replies.Reply.TheVariants.{Refused}
 use Rattle.ctrl_model.specs.NameForm.{is_name, is_instance}
 use Rattle.ctrl_model.specs.State.{State, Policy}
 use Rattle.ctrl_model.specs.CommandForm.{is_spelled, is_service_relation, is_side, is_number, is_cost, is_link_cost, is_latency, is_name_or_none}
+use Rattle.ctrl_model.specs.InterceptForm.{is_intercept}
 use Rattle.ctrl_model.specs.Rules.{shown}
 use Rattle.ctrl_model.specs.Networks.{network_of}
 use Rattle.ctrl_model.specs.Choices.{Ask, first_rule, best}
@@ -37,6 +38,7 @@ use Rattle.model_laws.proofs.RecordCommandLaws.{create-follows, delete-follows, 
 use Rattle.model_laws.proofs.LinkCommandLaws.{create_link-follows, set_link_cost-follows, report_latency-follows, report_state-follows, set_least_router_cost-follows}
 use Rattle.model_laws.proofs.TerminatorCommandLaws.{create_terminator-follows, update_terminator-follows, delete_terminator-follows}
 use Rattle.model_laws.proofs.CircuitCommandLaws.{create_circuit-follows, delete_circuit-follows}
+use Rattle.model_laws.proofs.InterceptCommandLaws.{set_intercept-follows, clear_intercept-follows}
 
 -- what is only shown leaves the state
 shown-follows : (o : Option Refusal) (s : State) (reply : Reply) → ValidState s → Follows s (shown o s reply).1
@@ -128,6 +130,10 @@ carry-follows (command.ListServices identity) s e v = shown-follows _ s _ v
 carry-follows command.ShowCounts s e v = inl refl
 carry-follows (command.ShowCircuit n) s e v = shown-follows _ s _ v
 carry-follows command.Compact s e v = inl refl
+carry-follows (command.SetIntercept service intercept) s e v = set_intercept-follows service intercept s (and_parts (is_name service) (is_intercept intercept) e).1 v
+carry-follows (command.ClearIntercept service) s e v = clear_intercept-follows service s v
+carry-follows (command.Pick identity udp address port) s e v = shown-follows _ s _ v
+carry-follows (command.ListClashes identity service) s e v = shown-follows _ s _ v
 
 answer-follows : (who : Who) (c : Command) (s : State) → is_spelled c ≡ true → ValidState s → Follows s (answer who c s).1
 answer-follows who c s e v = cond-holds (λ a. Follows s a.1) (is_permitted who c) (carry c s) (Refused NotPermitted, s) (carry-follows c s e v) (inl refl)

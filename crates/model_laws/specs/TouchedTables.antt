@@ -9,16 +9,19 @@ use Rattle.ctrl_model.specs.declared.kinds.Kind.TheVariants as kind
 use Rattle.ctrl_model.specs.Numbered.{Table, at, with_new}
 use Rattle.ctrl_model.specs.State.{State}
 use Rattle.ctrl_model.specs.Tables.{Record, table, with_table, named}
-use Rattle.ctrl_model.specs.RecordCommands.{forgotten}
+use Rattle.ctrl_model.specs.Rules.{at_number}
+use Rattle.ctrl_model.specs.RecordCommands.{forgotten, without_intercept}
 use Rattle.ctrl_model.specs.Settling.{settle}
 
 -- What a command may change: it adds a record to a table under its next number, which rises; it changes or removes the record
--- of a number, if there is one; it deletes an entity, whose name goes from the `@` names too; it changes the setting; or nothing.
+-- of a number, if there is one; it deletes an entity, whose name goes from the `@` names too, and a service's intercept with it; it
+-- changes the setting; it sets the intercept of a service, if there is one, or takes it away; or nothing.
 pub data Touched : Type 0 where
   Added : Kind → Touched
   Changed : Kind → Option ℕ → Touched
   Deleted : Kind → List ℕ → Option ℕ → Touched
   Setting : Touched
+  OneIntercept : Option ℕ → Touched
   Nothing : Touched
 
 -- What each command may change.
@@ -62,6 +65,10 @@ touched_by (command.ListServices identity) s = Nothing
 touched_by command.ShowCounts s = Nothing
 touched_by (command.ShowCircuit n) s = Nothing
 touched_by command.Compact s = Nothing
+touched_by (command.SetIntercept service intercept) s = OneIntercept (named kind.Service s service)
+touched_by (command.ClearIntercept service) s = OneIntercept (named kind.Service s service)
+touched_by (command.Pick identity udp address port) s = Nothing
+touched_by (command.ListClashes identity service) s = Nothing
 
 -- A state with the records of one kind as they were.
 abbrev pub records_back : Kind → State → State → State
@@ -73,12 +80,13 @@ put_back (Added k) old new = with_table k (table k old) new
 put_back (Changed k n) old new = records_back k old new
 put_back (Deleted k name n) old new = records_back k old new
 put_back Setting old new = record new { least_router_cost = old.least_router_cost }
+put_back (OneIntercept n) old new = record new { intercepts = old.intercepts }
 put_back Nothing old new = new
 
--- What becomes of the policies: deleting an entity takes its name out of the `@` names of every side that could name it, and no
--- other command changes them but those on the policy itself.
+-- What becomes of the policies and the intercepts: deleting an entity takes its name out of the `@` names of every side that could name
+-- it, and a service's intercept with it, and no other command changes them but those on the policy or the intercept itself.
 abbrev pub forgetting : Touched → State → State
-forgetting (Deleted k name n) s = forgotten k name s
+forgetting (Deleted k name n) s = forgotten k name (at_number n s (λ m. without_intercept k m s))
 forgetting touched s = s
 
 -- A table is another with one record more: at its end, under the next number, which rises by one.
@@ -94,6 +102,10 @@ StayBut k number old new = (m : ℕ) → (number ≡ Some m → ⊥) → at (tab
 abbrev pub MakesNone : Kind → State → State → Type 0
 MakesNone k old new = (m : ℕ) → at (table k old).rows m ≡ None → at (table k new).rows m ≡ None
 
+-- The intercepts of all services but one, if there is one, stay.
+abbrev pub InterceptsStayBut : Option ℕ → State → State → Type 0
+InterceptsStayBut number old new = (m : ℕ) → (number ≡ Some m → ⊥) → at new.intercepts m ≡ at old.intercepts m
+
 -- No record of a kind stands at a number, if there is one.
 abbrev pub IsGone : Kind → Option ℕ → State → Type 0
 IsGone k number new = (m : ℕ) → number ≡ Some m → at (table k new).rows m ≡ None
@@ -105,6 +117,7 @@ OthersStay (Added k) old new = IsAdded k old new
 OthersStay (Changed k n) old new = StayBut k n old new × MakesNone k old new
 OthersStay (Deleted k name n) old new = StayBut k n old new × IsGone k n new
 OthersStay Setting old new = ⊤
+OthersStay (OneIntercept n) old new = InterceptsStayBut n old new
 OthersStay Nothing old new = ⊤
 
 -- What a table says of numbers after a change: the next number does not fall, and where no record stood, none stands, unless it is

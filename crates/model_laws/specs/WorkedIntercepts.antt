@@ -1,5 +1,9 @@
--- Intercepts of worked examples.
+-- Intercepts of worked examples, and states with them.
 use Rattle.std.specs.Prelude.{ℕ, true, false, List, [], ◌∷◌, codes}
+use Rattle.ctrl_model.specs.declared.commands.Command.TheVariants.{CreateIdentity, CreateService, SetIntercept}
+use Rattle.ctrl_model.specs.declared.kinds.Relation.TheVariants.{Dial}
+use Rattle.ctrl_model.specs.State.{State, start}
+use Rattle.ctrl_model.specs.WorkedStates.{after, only, service_policy}
 use Rattle.ctrl_model.specs.declared.addresses.Address.{Address}
 use Rattle.ctrl_model.specs.declared.addresses.Address.TheVariants.{Host, Under, Range}
 use Rattle.ctrl_model.specs.declared.intercepts.PortRange.{PortRange}
@@ -41,3 +45,25 @@ overlapping =
     (1, over_tcp (Under (codes "b.org") ∷ Under (codes "org") ∷ []) (ports 1 100 ∷ ports 50 60 ∷ ports 40 50 ∷ []))
     ∷ (2, over_tcp (Under (codes "b.org") ∷ []) (ports 50 60 ∷ []))
     ∷ []
+
+-- Ann may dial web and api, each by a policy of its own.
+abbrev pub two_dialled : State
+two_dialled = after (
+    CreateIdentity (codes "ann") [] ∷ CreateService (codes "web") [] ∷ CreateService (codes "api") []
+    ∷ service_policy (codes "d1") Dial (only (codes "ann")) (only (codes "web"))
+    ∷ service_policy (codes "d2") Dial (only (codes "ann")) (only (codes "api"))
+    ∷ []) start
+
+-- The two, with intercepts of hosts: that of api is set before that of web.
+abbrev pub with_hosts : State
+with_hosts = after (
+    SetIntercept (codes "api") (over_tcp (Host (codes "api.example.org") ∷ []) (ports 1 65535 ∷ []))
+    ∷ SetIntercept (codes "web") (over_tcp (Under (codes "example.org") ∷ []) (ports 443 443 ∷ []))
+    ∷ []) two_dialled
+
+-- The two, with intercepts of networks.
+abbrev pub with_networks : State
+with_networks = after (
+    SetIntercept (codes "web") (over_tcp (Range 167772160 8 ∷ []) (ports 22 22 ∷ []))
+    ∷ SetIntercept (codes "api") (over_tcp (Range 167837696 16 ∷ []) (ports 22 22 ∷ []))
+    ∷ []) two_dialled

@@ -1,14 +1,15 @@
-ghost use Rattle.std.specs.Prelude.{◌≡◌, ◌↔◌, ℕ, Bool, List, None, Some, true};
+ghost use Rattle.std.specs.Prelude.{◌≡◌, ◌↔◌, ℕ, ◌≤◌, Bool, List, length, None, Some, true};
 ghost use Rattle.ctrl_model.specs.declared.addresses.Address.{Address};
 ghost use Rattle.ctrl_model.specs.declared.intercepts.Intercept.{Intercept};
 ghost use Rattle.ctrl_model.specs.AddressForm.{address_of, address_text, is_address};
 ghost use Rattle.ctrl_model.specs.Hits.{Hit, hits, hit_rank, picked, IsHit, IsPicked, are_intercepts};
 ghost use Rattle.ctrl_model.specs.Membership.{Among};
 
-/// Each address that bytes are is read back from its spelling, and the spelling of each address reads as it.
+/// Each address that bytes are is read back from its spelling, and the spelling of each address reads as it, and is short.
 pub fn addresses_are_read_back()
     ensures given { (bytes : List ℕ) (a : Address) → address_of bytes ≡ Some a → is_address a ≡ true }
     ensures spelled { (a : Address) → is_address a ≡ true → address_of (address_text a) ≡ Some a }
+    ensures short { (a : Address) → is_address a ≡ true → length (address_text a) ≤ 255 }
 {}
 
 /// The hits of a destination among some services are what a hit is said to be.

@@ -11,7 +11,9 @@ mod worked;
 mod worked_addresses;
 mod worked_intercepts;
 mod worked_laws;
+mod worked_picks;
 mod worked_requests;
+mod worked_serials;
 mod worked_validity;
 
 pub use intercept_laws::{addresses_are_read_back, each_hit, one_hit_a_rank, the_picked_hit};
@@ -21,10 +23,10 @@ pub use route_laws::{
     the_best, the_denial, the_least_path, the_rule,
 };
 pub use state_laws::{
-    absent_pairs_count_nothing, circuits_are_revoked, each_circuit_is_judged,
+    absent_pairs_count_nothing, changes_are_counted, circuits_are_revoked, each_circuit_is_judged,
     names_find_their_records, next_numbers_have_an_end, numbers_are_given_once, numbers_never_fall,
     one_record_a_name, refused_leaves_the_state, repairing_removes_and_reroutes, rerouted_circuits,
-    settled_once, untouched_tables,
+    same_states_are_equal_states, serials_and_intercepts_stay, settled_once, untouched_tables,
 };
 pub use validity::{granted_circuits_stay_granted, valid_stays_valid};
 pub use worked::{
@@ -36,7 +38,7 @@ pub use worked::{
     ranges_of_claims, revoked_circuits, role_lists, settled_circuits, shown_grants, sides,
     spelled_commands, unknown_names, updates,
 };
-pub use worked_addresses::{hosts_of_bytes, ranges_of_bytes, spelled_addresses};
+pub use worked_addresses::{hosts_of_bytes, own_spellings, ranges_of_bytes, spelled_addresses};
 pub use worked_intercepts::{
     clashing_services, forms_of_intercepts, narrow_ranges, near_addresses, picked_hits,
 };
@@ -44,8 +46,13 @@ pub use worked_laws::{
     lists_of_numbers, plain_paths_of_a_line, ranks_and_small_costs, records_of_no_valid_state,
     touched_records, words_of_fields,
 };
+pub use worked_picks::{
+    commands_on_intercepts, listed_clashes, picked_services, set_intercepts,
+    spelled_intercept_commands,
+};
 pub use worked_requests::{
     candidates_of_a_line, ends_without_traversal, listed_services_and_refused_explanations,
     named_instances_and_ingresses,
 };
+pub use worked_serials::{counted_changes, same_parts};
 pub use worked_validity::{attributes_of_all_kinds, states_that_are_not_valid};

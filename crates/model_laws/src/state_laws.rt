@@ -1,4 +1,4 @@
-ghost use Rattle.std.specs.Prelude.{◌≡◌, ◌⊎◌, ℕ, ◌<◌, ◌≤◌, true, false, List, filter, None, Some};
+ghost use Rattle.std.specs.Prelude.{◌≡◌, ◌↔◌, ◌⊎◌, ℕ, ◌+◌, ◌<◌, ◌≤◌, true, false, List, [], filter, None, Some};
 ghost use Rattle.std.specs.Option.{option_map};
 ghost use Rattle.ctrl_model.specs.declared.commands.Command.{Command};
 ghost use Rattle.ctrl_model.specs.declared.kinds.Kind.{Kind};
@@ -17,7 +17,9 @@ ghost use Rattle.ctrl_model.specs.Networks.{Network, network_of, is_shared, is_p
 ghost use Rattle.ctrl_model.specs.Walks.{is_among};
 ghost use Rattle.model_laws.specs.JudgedCircuits.{CircuitAt, HasEnds, IsStillGranted};
 ghost use Rattle.model_laws.specs.TouchedTables.{touched_by, ChangesOnly, GivesNext};
-ghost use Rattle.ctrl_model.specs.Controller.{answer};
+ghost use Rattle.ctrl_model.specs.Controller.{answer, counted};
+ghost use Rattle.ctrl_model.specs.InterceptCommands.{is_intercept_command};
+ghost use Rattle.ctrl_model.specs.SameStates.{same_state};
 ghost use Rattle.ctrl_model.specs.ValidState.{ValidState};
 
 /// A refused command leaves the state.
@@ -111,6 +113,23 @@ pub fn each_circuit_is_judged()
 /// `@` names of the policies that could name it.
 pub fn untouched_tables()
     ensures { (who : Who) (c : Command) (s : State) → ((answer who c s).1 ≡ s) ⊎ ChangesOnly (touched_by c s) s (answer who c s).1 }
+{}
+
+/// Two states pass the test of same states exactly where they are equal.
+pub fn same_states_are_equal_states()
+    ensures { (s t : State) → ((same_state s t ≡ true) ↔ (s ≡ t)) }
+{}
+
+/// A state that follows another is counted: the same one stays, and another one's serial is one higher, of which all else stays.
+pub fn changes_are_counted()
+    ensures same { (s : State) → counted s s ≡ s }
+    ensures another { (s t : State) → (s ≡ t → ⊥) → counted s t ≡ record t { serial = s.serial + 1 } }
+{}
+
+/// No command changes the serial by itself, and none but those on intercepts makes an intercept.
+pub fn serials_and_intercepts_stay()
+    ensures serial { (who : Who) (c : Command) (s : State) → (answer who c s).1.serial ≡ s.serial }
+    ensures intercepts { (who : Who) (c : Command) (s : State) → is_intercept_command c ≡ false → s.intercepts ≡ [] → (answer who c s).1.intercepts ≡ [] }
 {}
 
 /// A next number has an end.

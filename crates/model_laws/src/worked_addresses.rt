@@ -1,5 +1,5 @@
-ghost use Rattle.std.specs.Prelude.{◌≡◌, None, Some, [], codes, replicate};
-ghost use Rattle.ctrl_model.specs.AddressForm.{address_of, address_text};
+ghost use Rattle.std.specs.Prelude.{◌≡◌, true, false, None, Some, [], codes, replicate};
+ghost use Rattle.ctrl_model.specs.AddressForm.{address_of, address_text, is_spelling, is_range_spelling};
 ghost use Rattle.ctrl_model.specs.declared.addresses.Address.TheVariants.{Host, Under, Range};
 
 /// Hosts are read in small letters; the last label has a byte that is no digit, and no label is empty or has another byte.
@@ -44,6 +44,23 @@ pub fn ranges_of_bytes()
     ensures no_bits { address_of (codes "10.1.2.3/") ≡ None }
     ensures twice { address_of (codes "10.1.2.3/8/8") ≡ None }
     ensures of_a_host { address_of (codes "a/8") ≡ None }
+{}
+
+/// Which bytes are the one spelling of an address.
+pub fn own_spellings()
+    ensures host { is_spelling (codes "web.example.org") ≡ true }
+    ensures capital { is_spelling (codes "Web") ≡ false }
+    ensures under { is_spelling (codes "*.example.org") ≡ true }
+    ensures under_capital { is_spelling (codes "*.Example.org") ≡ false }
+    ensures alone { is_spelling (codes "10.1.2.3") ≡ true }
+    ensures sixteen { is_spelling (codes "10.1.0.0/16") ≡ true }
+    ensures all_bits { is_spelling (codes "10.1.2.3/32") ≡ false }
+    ensures bits_past_the_range { is_spelling (codes "10.1.2.3/8") ≡ false }
+    ensures no_bits { is_spelling (codes "0.0.0.0/0") ≡ true }
+    ensures none { is_spelling (codes "a..b") ≡ false }
+    ensures empty { is_spelling [] ≡ false }
+    ensures range_alone { is_range_spelling (codes "10.1.0.0/16") ≡ true }
+    ensures host_alone { is_range_spelling (codes "web") ≡ false }
 {}
 
 /// Each address has one spelling.

@@ -1,19 +1,20 @@
 ghost use Rattle.std.specs.Prelude.{◌≡◌, ◌≤◌, ◌<◌, ℕ, codes, true, false, [], ◌∷◌, None, Some};
 ghost use Rattle.ctrl_model.specs.declared.kinds.Kind.TheVariants as kind;
-ghost use Rattle.ctrl_model.specs.declared.commands.Command.TheVariants.{DeleteIdentity, CreateRouter, SetLeastRouterCost, UpdateTerminator, ShowCounts};
+ghost use Rattle.ctrl_model.specs.declared.commands.Command.TheVariants.{DeleteIdentity, CreateRouter, SetLeastRouterCost, UpdateTerminator, ShowCounts, ClearIntercept};
 ghost use Rattle.ctrl_model.specs.declared.kinds.Precedence.TheVariants.{Normal};
 ghost use Rattle.ctrl_model.specs.declared.kinds.Relation.TheVariants.{Dial, ServiceRouter};
 ghost use Rattle.ctrl_model.specs.declared.kinds.Semantic.TheVariants.{AnyOf};
 ghost use Rattle.ctrl_model.specs.declared.refusals.Field.TheVariants as field;
 ghost use Rattle.ctrl_model.specs.Words.{word_of};
 ghost use Rattle.ctrl_model.specs.Membership.{Among};
-ghost use Rattle.ctrl_model.specs.Numbered.{at, Between};
+ghost use Rattle.ctrl_model.specs.Numbered.{at, numbers, with_at, Between};
 ghost use Rattle.ctrl_model.specs.State.{start};
 ghost use Rattle.ctrl_model.specs.Networks.{network_of, link_cost};
 ghost use Rattle.ctrl_model.specs.PlainPaths.{IsPlainPath};
 ghost use Rattle.ctrl_model.specs.Choices.{Candidate, precedes};
 ghost use Rattle.model_laws.specs.ClaimedRoutes.{has_small_costs};
-ghost use Rattle.model_laws.specs.TouchedTables.{Added, Changed, Deleted, Setting, Nothing, touched_by, forgetting};
+ghost use Rattle.model_laws.specs.TouchedTables.{Added, Changed, Deleted, Setting, OneIntercept, Nothing, touched_by, forgetting, put_back};
+ghost use Rattle.model_laws.specs.WorkedIntercepts.{two_dialled, with_hosts};
 ghost use Rattle.ctrl_model.specs.ValidState.{ValidState, is_valid_entity, is_valid_router, is_valid_link, is_valid_policy, is_valid_policy_in, is_valid_terminator};
 ghost use Rattle.ctrl_model.specs.WorkedStates.{everyone, only, line};
 
@@ -21,6 +22,12 @@ ghost use Rattle.ctrl_model.specs.WorkedStates.{everyone, only, line};
 pub fn words_of_fields()
     ensures type_of_a_policy { word_of field.PolicyType ≡ codes "type" }
     ensures two_words { word_of field.NoTraversal ≡ codes "no_traversal" }
+    ensures protocols { word_of field.Protocols ≡ codes "protocols" }
+    ensures addresses { word_of field.Addresses ≡ codes "addresses" }
+    ensures ports { word_of field.Ports ≡ codes "ports" }
+    ensures protocol { word_of field.Protocol ≡ codes "protocol" }
+    ensures address { word_of field.Address ≡ codes "address" }
+    ensures port { word_of field.Port ≡ codes "port" }
     ensures none { word_of field.Nothing ≡ [] }
 {}
 
@@ -31,6 +38,10 @@ pub fn lists_of_numbers()
     ensures ascend { Between 1 4 ((1, codes "a") ∷ (3, codes "b") ∷ []) }
     ensures twice { Between 1 4 ((1, codes "a") ∷ (1, codes "b") ∷ []) → ⊥ }
     ensures at_the_end { Between 1 3 ((1, codes "a") ∷ (3, codes "b") ∷ []) → ⊥ }
+    ensures put_first { with_at 1 (codes "a") ((3, codes "b") ∷ []) ≡ (1, codes "a") ∷ (3, codes "b") ∷ [] }
+    ensures put_between { with_at 2 (codes "c") ((1, codes "a") ∷ (3, codes "b") ∷ []) ≡ (1, codes "a") ∷ (2, codes "c") ∷ (3, codes "b") ∷ [] }
+    ensures put_last { with_at 4 (codes "c") ((1, codes "a") ∷ (3, codes "b") ∷ []) ≡ (1, codes "a") ∷ (3, codes "b") ∷ (4, codes "c") ∷ [] }
+    ensures put_in_place { with_at 3 (codes "c") ((1, codes "a") ∷ (3, codes "b") ∷ []) ≡ (1, codes "a") ∷ (3, codes "c") ∷ [] }
 {}
 
 /// Paths of the line in plain words: over both links from end to end, and not there and back first.
@@ -59,6 +70,10 @@ pub fn touched_records()
     ensures changed { touched_by (UpdateTerminator 1 7 Normal) line ≡ Changed kind.Terminator (Some 1) }
     ensures setting { touched_by (SetLeastRouterCost 7) line ≡ Setting }
     ensures nothing { touched_by ShowCounts line ≡ Nothing }
+    ensures intercept { touched_by (ClearIntercept (codes "web")) line ≡ OneIntercept (Some 1) }
+    ensures no_intercept { touched_by (ClearIntercept (codes "tea")) line ≡ OneIntercept None }
+    ensures put_back_alone { (put_back (OneIntercept (Some 1)) with_hosts two_dialled).intercepts ≡ with_hosts.intercepts }
+    ensures goes_with_the_service { numbers (forgetting (Deleted kind.Service (codes "web") (Some 1)) with_hosts).intercepts ≡ 2 ∷ [] }
     ensures forgotten { at (forgetting (Deleted kind.Identity (codes "ann") (Some 1)) line).service_policies.rows 1 ≡ Some (record { name = codes "dial"; relation = Dial; semantic = AnyOf; left = record { all = false; ids = []; attributes = [] }; right = only (codes "web") }) }
     ensures another { at (forgetting (Deleted kind.Identity (codes "bob") None) line).service_policies.rows 1 ≡ Some (record { name = codes "dial"; relation = Dial; semantic = AnyOf; left = only (codes "ann"); right = only (codes "web") }) }
 {}

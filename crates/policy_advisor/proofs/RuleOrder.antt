@@ -6,7 +6,7 @@ use Rattle.ctrl_model.specs.declared.refusals.Denial.{Denial}
 use Rattle.ctrl_model.specs.declared.refusals.Denial.TheVariants.{NoDial, NoSharedRouter, SharedRoutersOffline, NoTerminators, NoAdmissibleTerminator, NoPath, CircuitsFull}
 use Rattle.ctrl_model.specs.declared.refusals.Refusal.TheVariants.{Denied}
 use Rattle.ctrl_model.specs.declared.replies.Reply.TheVariants.{Refused}
-use Rattle.ctrl_model.specs.Choices.{Any, Candidate, best, shared, ingresses, candidates_for, first_denial, first_rule}
+use Rattle.ctrl_model.specs.Choices.{Any, Candidate, best, shared, ingresses, candidates_for, first_denial, first_rule, rules_but_paths, rules_on_paths}
 use Rattle.ctrl_model.specs.CircuitCommands.{after_create_circuit, ask_of, decided, granted_reply}
 use Rattle.ctrl_model.specs.Controller.{carry}
 use Rattle.ctrl_model.specs.Matches.{is_nothing}
@@ -16,7 +16,7 @@ use Rattle.ctrl_model.specs.Settling.{settle}
 use Rattle.ctrl_model.specs.State.{State}
 use Rattle.policy_advisor.specs.declared.entering.Entries.{Entries}
 use Rattle.policy_advisor.specs.declared.offering.Offers.{Offers}
-use Rattle.policy_advisor.specs.Advice.{advice_of, failing_rule, of_both, plain_ask, router_numbers, rules_but_paths, rules_on_paths}
+use Rattle.policy_advisor.specs.Advice.{advice_of, failing_rule, of_both, plain_ask, router_numbers}
 use Rattle.policy_advisor.specs.Steps.{rule_by}
 
 -- ---- by what was found

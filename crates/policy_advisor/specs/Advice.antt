@@ -7,10 +7,10 @@ use Rattle.ctrl_model.specs.declared.kinds.RouterSeen.{RouterSeen}
 use Rattle.ctrl_model.specs.declared.kinds.Semantic.{Semantic}
 use Rattle.ctrl_model.specs.declared.kinds.Side.{Side}
 use Rattle.ctrl_model.specs.declared.refusals.Denial.{Denial}
-use Rattle.ctrl_model.specs.declared.refusals.Denial.TheVariants.{UnknownIdentity, UnknownService, UnknownRouter, NoDial, NoSharedRouter, SharedRoutersOffline, NoTerminators, NoAdmissibleTerminator, NoPath, CircuitsFull}
-use Rattle.ctrl_model.specs.Choices.{Any, Ask, is_absent, shared, ingresses, candidates_for, first_denial}
+use Rattle.ctrl_model.specs.declared.refusals.Denial.TheVariants.{UnknownIdentity, UnknownService}
+use Rattle.ctrl_model.specs.Choices.{Any, Ask, rules_but_paths, shared, ingresses, first_denial}
 use Rattle.ctrl_model.specs.Grants.{same_relation}
-use Rattle.ctrl_model.specs.Matches.{matches, is_nothing}
+use Rattle.ctrl_model.specs.Matches.{matches}
 use Rattle.ctrl_model.specs.Networks.{Network, network_of, counted, admissible}
 use Rattle.ctrl_model.specs.Numbered.{at, numbers}
 use Rattle.ctrl_model.specs.State.{State, Entity, Policy, entity_named}
@@ -45,22 +45,6 @@ abbrev pub has_both : Marked → Bool
 has_both m = m.left && m.right
 
 -- ---- rules
-
--- The rules of a request whose identity and service are present, in order, each with whether it fails, but for those on paths and on
--- room for circuits.
-abbrev pub rules_but_paths : Network → Ask → ℕ → ℕ → List (Bool × Denial)
-rules_but_paths w ask i s =
-    (is_absent ask.ingress, UnknownRouter)
-    ∷ (w.dial i s == 0, NoDial)
-    ∷ (is_nothing (shared w ask.ingress i s), NoSharedRouter)
-    ∷ (is_nothing (ingresses w ask.ingress i s), SharedRoutersOffline)
-    ∷ (is_nothing (counted w s ask.instance), NoTerminators)
-    ∷ (is_nothing (admissible w s ask.instance), NoAdmissibleTerminator)
-    ∷ []
-
--- The other two rules of such a request.
-abbrev pub rules_on_paths : Network → Ask → ℕ → ℕ → List (Bool × Denial)
-rules_on_paths w ask i s = (is_nothing (candidates_for w ask i s), NoPath) ∷ (w.full, CircuitsFull) ∷ []
 
 -- A request of an identity and a service for any ingress and the empty instance.
 abbrev pub plain_ask : Option ℕ → Option ℕ → Ask

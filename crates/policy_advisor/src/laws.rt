@@ -4,12 +4,12 @@ ghost use Rattle.ctrl_model.specs.declared.refusals.Denial.{Denial};
 ghost use Rattle.ctrl_model.specs.declared.refusals.Denial.TheVariants.{NoPath, CircuitsFull};
 ghost use Rattle.ctrl_model.specs.declared.refusals.Refusal.TheVariants.{Denied};
 ghost use Rattle.ctrl_model.specs.declared.replies.Reply.TheVariants.{Refused};
-ghost use Rattle.ctrl_model.specs.Choices.{Ask, failing, first_rule};
+ghost use Rattle.ctrl_model.specs.Choices.{Ask, failing, first_rule, rules_but_paths, rules_on_paths};
 ghost use Rattle.ctrl_model.specs.CircuitCommands.{ask_of};
 ghost use Rattle.ctrl_model.specs.Controller.{carry};
 ghost use Rattle.ctrl_model.specs.Networks.{Network, network_of};
 ghost use Rattle.ctrl_model.specs.State.{State};
-ghost use Rattle.policy_advisor.specs.Advice.{advice_of, has_both, rules_but_paths, rules_on_paths};
+ghost use Rattle.policy_advisor.specs.Advice.{advice_of, has_both};
 
 /// The rule of an advice is the first rule of a circuit request of the pair without ingress and with the empty instance, which is
 /// denied by it. Where there is none, only the want of a path and of room for circuits can deny the request.

@@ -3,6 +3,7 @@ use Rattle.std.proofs.Common.{◌≡◌, ◌≢◌, ℕ, ◌+◌, ◌<◌, ◌==
 use Rattle.std.proofs.lemmas.Bool.{false≢true}
 use Rattle.std.proofs.lemmas.List.{append-nil}
 use Rattle.std.specs.Option.{option_map}
+use Rattle.ctrl_model.specs.declared.formats.Format.{Format}
 use Rattle.ctrl_model.specs.declared.kinds.Kind.{Kind}
 use Rattle.ctrl_model.specs.declared.kinds.Kind.TheVariants as kind
 use Rattle.ctrl_model.specs.Limits.{last_next}
@@ -127,34 +128,34 @@ alone n e = ap (λ b. b && true) e
 abbrev change_in : (k : Kind) → ℕ → Option (Record k) → Option (Record k) → Change
 change_in k n b a = record { key = (kind_number k + 2) ∷ number_in_key n; before = option_map (record_value k) b; after = option_map (record_value k) a }
 
-changed_at : (k : Kind) (s t : State) (n : ℕ) (b a : Option (Record k)) → 1 ≤ kind_number k → at (table k s).rows n ≡ b → at (table k t).rows n ≡ a
-    → change_at s t (key_in (Records k) n 0) ≡ change_in k n b a
-changed_at k s t n b a h before after = change_at-record k s t n h ∙ ap₂ (change_in k n) before after
+changed_at : (format : Format) (k : Kind) (s t : State) (n : ℕ) (b a : Option (Record k)) → 1 ≤ kind_number k → at (table k s).rows n ≡ b → at (table k t).rows n ≡ a
+    → change_at format s t (key_in (Records k) n 0) ≡ change_in k n b a
+changed_at format k s t n b a h before after = change_at-record format k s t n h ∙ ap₂ (change_in k n) before after
 
 -- it stays
-stays : (k : Kind) (s t : State) (q : Table (Record k)) → 1 ≤ kind_number k → table k s ≡ q → table k t ≡ q → Covers (kind_number k + 2) (kind_number k + 3) s t []
-stays k s t q h es et = Covers-same_records k s t h (λ m. ap (λ (u : Table (Record k)). at u.rows m) (es ∙ sym et))
+stays : (format : Format) (k : Kind) (s t : State) (q : Table (Record k)) → 1 ≤ kind_number k → table k s ≡ q → table k t ≡ q → Covers format (kind_number k + 2) (kind_number k + 3) s t []
+stays format k s t q h es et = Covers-same_records format k s t h (λ m. ap (λ (u : Table (Record k)). at u.rows m) (es ∙ sym et))
 
 -- one of its records changes
-moves : (k : Kind) (s t : State) (q new : Table (Record k)) (n : ℕ) → 1 ≤ kind_number k → is_long n ≡ true → table k s ≡ q → table k t ≡ new → ((m : ℕ) → m ≢ n → at q.rows m ≡ at new.rows m)
-    → Covers (kind_number k + 2) (kind_number k + 3) s t (change_in k n (at q.rows n) (at new.rows n) ∷ [])
-moves k s t q new n h long es et same =
+moves : (format : Format) (k : Kind) (s t : State) (q new : Table (Record k)) (n : ℕ) → 1 ≤ kind_number k → is_long n ≡ true → table k s ≡ q → table k t ≡ new → ((m : ℕ) → m ≢ n → at q.rows m ≡ at new.rows m)
+    → Covers format (kind_number k + 2) (kind_number k + 3) s t (change_in k n (at q.rows n) (at new.rows n) ∷ [])
+moves format k s t q new n h long es et same =
     let at_number = λ (u : Table (Record k)) (m : ℕ). at u.rows m in
-    subst (λ c. Covers (kind_number k + 2) (kind_number k + 3) s t (c ∷ [])) (changed_at k s t n _ _ h (ap (λ u. at_number u n) es) (ap (λ u. at_number u n) et))
-    (Covers-records k s t (n ∷ []) h (tt, tt) (alone n long) (λ m misses. ap (λ u. at_number u m) es ∙ same m (λ e. misses (inl (sym e))) ∙ sym (ap (λ u. at_number u m) et)))
+    subst (λ c. Covers format (kind_number k + 2) (kind_number k + 3) s t (c ∷ [])) (changed_at format k s t n _ _ h (ap (λ u. at_number u n) es) (ap (λ u. at_number u n) et))
+    (Covers-records format k s t (n ∷ []) h (tt, tt) (alone n long) (λ m misses. ap (λ u. at_number u m) es ∙ same m (λ e. misses (inl (sym e))) ∙ sym (ap (λ u. at_number u m) et)))
 
 map_pointwise : {A B : Type 0} (f g : A → B) (xs : List A) → ((x : A) → f x ≡ g x) → map f xs ≡ map g xs
 map_pointwise f g [] h = refl
 map_pointwise f g (x ∷ xs) h = λ i. h x i ∷ map_pointwise f g xs h i
 
 -- each of its records changes
-moves_each : (k : Kind) (s t : State) (f : Record k → Record k) (q : Table (Record k)) → 1 ≤ kind_number k → table k s ≡ q → table k t ≡ with_each f q → Between 1 q.next q.rows → q.next ≤ last_next
-    → Covers (kind_number k + 2) (kind_number k + 3) s t (map (λ n. change_in k n (at q.rows n) (option_map f (at q.rows n))) (numbers q.rows))
-moves_each k s t f q h es et b last =
-    subst (λ cs. Covers (kind_number k + 2) (kind_number k + 3) s t cs)
-    (ap (λ (u : Table (Record k)). record_changes k s t (numbers u.rows)) es
-    ∙ map_pointwise _ _ (numbers q.rows) (λ n. changed_at k s t n _ _ h (ap (λ (u : Table (Record k)). at u.rows n) es) (ap (λ (u : Table (Record k)). at u.rows n) et ∙ at-map_each f q.rows n)))
-    (Covers-with_each k s t f q.next h (subst (λ (u : Table (Record k)). Between 1 q.next u.rows) (sym es) b) last (et ∙ ap (with_each f) (sym es)))
+moves_each : (format : Format) (k : Kind) (s t : State) (f : Record k → Record k) (q : Table (Record k)) → 1 ≤ kind_number k → table k s ≡ q → table k t ≡ with_each f q → Between 1 q.next q.rows → q.next ≤ last_next
+    → Covers format (kind_number k + 2) (kind_number k + 3) s t (map (λ n. change_in k n (at q.rows n) (option_map f (at q.rows n))) (numbers q.rows))
+moves_each format k s t f q h es et b last =
+    subst (λ cs. Covers format (kind_number k + 2) (kind_number k + 3) s t cs)
+    (ap (λ (u : Table (Record k)). record_changes format k s t (numbers u.rows)) es
+    ∙ map_pointwise _ _ (numbers q.rows) (λ n. changed_at format k s t n _ _ h (ap (λ (u : Table (Record k)). at u.rows n) es) (ap (λ (u : Table (Record k)). at u.rows n) et ∙ at-map_each f q.rows n)))
+    (Covers-with_each format k s t f q.next h (subst (λ (u : Table (Record k)). Between 1 q.next u.rows) (sym es) b) last (et ∙ ap (with_each f) (sym es)))
 
 -- ---- the tables of policies
 
@@ -167,34 +168,34 @@ edges e = ap (λ (t : PolicyTables). t.edge_router_policies) e
 lasts : {p q : PolicyTables} → p ≡ q → p.service_edge_router_policies ≡ q.service_edge_router_policies
 lasts e = ap (λ (t : PolicyTables). t.service_edge_router_policies) e
 
-pub covers_with : (k : Kind) (s t : State) (p : PolicyTables) (n : ℕ) (new : Table Policy) → is_policy_kind k ≡ true → is_long n ≡ true → tables_of s ≡ p → tables_of t ≡ with_policies k new p
+pub covers_with : (format : Format) (k : Kind) (s t : State) (p : PolicyTables) (n : ℕ) (new : Table Policy) → is_policy_kind k ≡ true → is_long n ≡ true → tables_of s ≡ p → tables_of t ≡ with_policies k new p
     → ((m : ℕ) → m ≢ n → at (policies k p) m ≡ at new.rows m)
-    → Covers 7 10 s t (policy_change_of k n (at (policies k p) n) (at (policies k (with_policies k new p)) n) ∷ [])
-covers_with kind.ServicePolicy s t p n new is long es et same =
-    Covers-append 7 8 10 s t (policy_change_of kind.ServicePolicy n (at p.service_policies.rows n) (at new.rows n) ∷ []) [] (omega arith) (omega arith)
-    (moves kind.ServicePolicy s t p.service_policies new n (omega arith) long (services es) (services et) same)
-    (Covers-append 8 9 10 s t [] [] (omega arith) (omega arith) (stays kind.EdgeRouterPolicy s t p.edge_router_policies (omega arith) (edges es) (edges et))
-    (stays kind.ServiceEdgeRouterPolicy s t p.service_edge_router_policies (omega arith) (lasts es) (lasts et)))
-covers_with kind.EdgeRouterPolicy s t p n new is long es et same =
+    → Covers format 7 10 s t (policy_change_of k n (at (policies k p) n) (at (policies k (with_policies k new p)) n) ∷ [])
+covers_with format kind.ServicePolicy s t p n new is long es et same =
+    Covers-append format 7 8 10 s t (policy_change_of kind.ServicePolicy n (at p.service_policies.rows n) (at new.rows n) ∷ []) [] (omega arith) (omega arith)
+    (moves format kind.ServicePolicy s t p.service_policies new n (omega arith) long (services es) (services et) same)
+    (Covers-append format 8 9 10 s t [] [] (omega arith) (omega arith) (stays format kind.EdgeRouterPolicy s t p.edge_router_policies (omega arith) (edges es) (edges et))
+    (stays format kind.ServiceEdgeRouterPolicy s t p.service_edge_router_policies (omega arith) (lasts es) (lasts et)))
+covers_with format kind.EdgeRouterPolicy s t p n new is long es et same =
     let change = policy_change_of kind.EdgeRouterPolicy n (at p.edge_router_policies.rows n) (at new.rows n) in
-    Covers-append 7 8 10 s t [] (change ∷ []) (omega arith) (omega arith) (stays kind.ServicePolicy s t p.service_policies (omega arith) (services es) (services et))
-    (Covers-append 8 9 10 s t (change ∷ []) [] (omega arith) (omega arith) (moves kind.EdgeRouterPolicy s t p.edge_router_policies new n (omega arith) long (edges es) (edges et) same)
-    (stays kind.ServiceEdgeRouterPolicy s t p.service_edge_router_policies (omega arith) (lasts es) (lasts et)))
-covers_with kind.ServiceEdgeRouterPolicy s t p n new is long es et same =
+    Covers-append format 7 8 10 s t [] (change ∷ []) (omega arith) (omega arith) (stays format kind.ServicePolicy s t p.service_policies (omega arith) (services es) (services et))
+    (Covers-append format 8 9 10 s t (change ∷ []) [] (omega arith) (omega arith) (moves format kind.EdgeRouterPolicy s t p.edge_router_policies new n (omega arith) long (edges es) (edges et) same)
+    (stays format kind.ServiceEdgeRouterPolicy s t p.service_edge_router_policies (omega arith) (lasts es) (lasts et)))
+covers_with format kind.ServiceEdgeRouterPolicy s t p n new is long es et same =
     let change = policy_change_of kind.ServiceEdgeRouterPolicy n (at p.service_edge_router_policies.rows n) (at new.rows n) in
-    Covers-append 7 8 10 s t [] (change ∷ []) (omega arith) (omega arith) (stays kind.ServicePolicy s t p.service_policies (omega arith) (services es) (services et))
-    (Covers-append 8 9 10 s t [] (change ∷ []) (omega arith) (omega arith) (stays kind.EdgeRouterPolicy s t p.edge_router_policies (omega arith) (edges es) (edges et))
-    (moves kind.ServiceEdgeRouterPolicy s t p.service_edge_router_policies new n (omega arith) long (lasts es) (lasts et) same))
-covers_with _ s t p n new is long es et same = absurd (false≢true is)
+    Covers-append format 7 8 10 s t [] (change ∷ []) (omega arith) (omega arith) (stays format kind.ServicePolicy s t p.service_policies (omega arith) (services es) (services et))
+    (Covers-append format 8 9 10 s t [] (change ∷ []) (omega arith) (omega arith) (stays format kind.EdgeRouterPolicy s t p.edge_router_policies (omega arith) (edges es) (edges et))
+    (moves format kind.ServiceEdgeRouterPolicy s t p.service_edge_router_policies new n (omega arith) long (lasts es) (lasts et) same))
+covers_with format _ s t p n new is long es et same = absurd (false≢true is)
 
-pub covers_change : (c : PolicyChange) (p : PolicyTables) (s t : State) → CanChangePolicies c p → AreValid p → tables_of s ≡ p → tables_of t ≡ after_policy_change c p
-    → Covers 7 10 s t (policy_change_of (touched_kind c) (touched_number c p) (at (policies (touched_kind c) p) (touched_number c p)) (at (policies (touched_kind c) (after_policy_change c p)) (touched_number c p)) ∷ [])
-covers_change (change.Add k q) p s t can v es et =
-    covers_with k s t p (next_of k p) (with_new q (policies_of k p)) can (next_long k p can v) es et (λ m other. sym (at-with_last-other (policies k p) (next_of k p) m q other))
-covers_change (change.Replace k n q) p s t can v es et =
-    covers_with k s t p n (with_edit n (replaced_by q) (policies_of k p)) can.0 (named_long k p n q.name can.0 v can.1) es et (λ m other. sym (at-edit_at-other (policies k p) n m (replaced_by q) other))
-covers_change (change.Remove k n) p s t can v es et =
-    covers_with k s t p n (with_removed n (policies_of k p)) can.0 (present_long k p n can.0 v can.1) es et (λ m other. sym (at-without-other (policies k p) n m other))
+pub covers_change : (format : Format) (c : PolicyChange) (p : PolicyTables) (s t : State) → CanChangePolicies c p → AreValid p → tables_of s ≡ p → tables_of t ≡ after_policy_change c p
+    → Covers format 7 10 s t (policy_change_of (touched_kind c) (touched_number c p) (at (policies (touched_kind c) p) (touched_number c p)) (at (policies (touched_kind c) (after_policy_change c p)) (touched_number c p)) ∷ [])
+covers_change format (change.Add k q) p s t can v es et =
+    covers_with format k s t p (next_of k p) (with_new q (policies_of k p)) can (next_long k p can v) es et (λ m other. sym (at-with_last-other (policies k p) (next_of k p) m q other))
+covers_change format (change.Replace k n q) p s t can v es et =
+    covers_with format k s t p n (with_edit n (replaced_by q) (policies_of k p)) can.0 (named_long k p n q.name can.0 v can.1) es et (λ m other. sym (at-edit_at-other (policies k p) n m (replaced_by q) other))
+covers_change format (change.Remove k n) p s t can v es et =
+    covers_with format k s t p n (with_removed n (policies_of k p)) can.0 (present_long k p n can.0 v can.1) es et (λ m other. sym (at-without-other (policies k p) n m other))
 
 -- ---- an `@` name goes
 
@@ -203,43 +204,43 @@ pub forgotten_is : (k : Kind) (hand : Hand) (name : List ℕ) (rows : List (ℕ 
 forgotten_is k hand name rows n b a e f = change_is k n b a _ _ e f
 
 -- the policies of a kind, each of which loses the name
-each_service : (s t : State) (hand : Hand) (name : List ℕ) (p : PolicyTables) → AreValid p → s.service_policies ≡ p.service_policies → t.service_policies ≡ with_each (forget_on hand name) p.service_policies
-    → Covers 7 8 s t (forgotten_rows kind.ServicePolicy hand name p)
-each_service s t hand name p v es et = moves_each kind.ServicePolicy s t (forget_on hand name) p.service_policies (omega arith) es et (ordered kind.ServicePolicy p refl v) (last_number kind.ServicePolicy p refl v)
+each_service : (format : Format) (s t : State) (hand : Hand) (name : List ℕ) (p : PolicyTables) → AreValid p → s.service_policies ≡ p.service_policies → t.service_policies ≡ with_each (forget_on hand name) p.service_policies
+    → Covers format 7 8 s t (forgotten_rows kind.ServicePolicy hand name p)
+each_service format s t hand name p v es et = moves_each format kind.ServicePolicy s t (forget_on hand name) p.service_policies (omega arith) es et (ordered kind.ServicePolicy p refl v) (last_number kind.ServicePolicy p refl v)
 
-each_edge : (s t : State) (hand : Hand) (name : List ℕ) (p : PolicyTables) → AreValid p → s.edge_router_policies ≡ p.edge_router_policies → t.edge_router_policies ≡ with_each (forget_on hand name) p.edge_router_policies
-    → Covers 8 9 s t (forgotten_rows kind.EdgeRouterPolicy hand name p)
-each_edge s t hand name p v es et = moves_each kind.EdgeRouterPolicy s t (forget_on hand name) p.edge_router_policies (omega arith) es et (ordered kind.EdgeRouterPolicy p refl v) (last_number kind.EdgeRouterPolicy p refl v)
+each_edge : (format : Format) (s t : State) (hand : Hand) (name : List ℕ) (p : PolicyTables) → AreValid p → s.edge_router_policies ≡ p.edge_router_policies → t.edge_router_policies ≡ with_each (forget_on hand name) p.edge_router_policies
+    → Covers format 8 9 s t (forgotten_rows kind.EdgeRouterPolicy hand name p)
+each_edge format s t hand name p v es et = moves_each format kind.EdgeRouterPolicy s t (forget_on hand name) p.edge_router_policies (omega arith) es et (ordered kind.EdgeRouterPolicy p refl v) (last_number kind.EdgeRouterPolicy p refl v)
 
-each_last : (s t : State) (hand : Hand) (name : List ℕ) (p : PolicyTables) → AreValid p → s.service_edge_router_policies ≡ p.service_edge_router_policies
-    → t.service_edge_router_policies ≡ with_each (forget_on hand name) p.service_edge_router_policies → Covers 9 10 s t (forgotten_rows kind.ServiceEdgeRouterPolicy hand name p)
-each_last s t hand name p v es et =
-    moves_each kind.ServiceEdgeRouterPolicy s t (forget_on hand name) p.service_edge_router_policies (omega arith) es et (ordered kind.ServiceEdgeRouterPolicy p refl v) (last_number kind.ServiceEdgeRouterPolicy p refl v)
+each_last : (format : Format) (s t : State) (hand : Hand) (name : List ℕ) (p : PolicyTables) → AreValid p → s.service_edge_router_policies ≡ p.service_edge_router_policies
+    → t.service_edge_router_policies ≡ with_each (forget_on hand name) p.service_edge_router_policies → Covers format 9 10 s t (forgotten_rows kind.ServiceEdgeRouterPolicy hand name p)
+each_last format s t hand name p v es et =
+    moves_each format kind.ServiceEdgeRouterPolicy s t (forget_on hand name) p.service_edge_router_policies (omega arith) es et (ordered kind.ServiceEdgeRouterPolicy p refl v) (last_number kind.ServiceEdgeRouterPolicy p refl v)
 
-covers_identity : (name : List ℕ) (p : PolicyTables) (s t : State) → AreValid p → tables_of s ≡ p → tables_of t ≡ forgetting kind.Identity name p
-    → Covers 7 10 s t (([] ++ forgotten_rows kind.ServicePolicy Left name p) ++ forgotten_rows kind.EdgeRouterPolicy Left name p)
-covers_identity name p s t v es et =
-    let third = stays kind.ServiceEdgeRouterPolicy s t p.service_edge_router_policies (omega arith) (lasts es) (lasts et) in
-    subst (λ cs. Covers 7 10 s t cs) (append-nil (forgotten_rows kind.ServicePolicy Left name p ++ forgotten_rows kind.EdgeRouterPolicy Left name p))
-    (Covers-append 7 9 10 s t (forgotten_rows kind.ServicePolicy Left name p ++ forgotten_rows kind.EdgeRouterPolicy Left name p) [] (omega arith) (omega arith)
-    (Covers-append 7 8 9 s t (forgotten_rows kind.ServicePolicy Left name p) (forgotten_rows kind.EdgeRouterPolicy Left name p) (omega arith) (omega arith)
-    (each_service s t Left name p v (services es) (services et)) (each_edge s t Left name p v (edges es) (edges et))) third)
+covers_identity : (format : Format) (name : List ℕ) (p : PolicyTables) (s t : State) → AreValid p → tables_of s ≡ p → tables_of t ≡ forgetting kind.Identity name p
+    → Covers format 7 10 s t (([] ++ forgotten_rows kind.ServicePolicy Left name p) ++ forgotten_rows kind.EdgeRouterPolicy Left name p)
+covers_identity format name p s t v es et =
+    let third = stays format kind.ServiceEdgeRouterPolicy s t p.service_edge_router_policies (omega arith) (lasts es) (lasts et) in
+    subst (λ cs. Covers format 7 10 s t cs) (append-nil (forgotten_rows kind.ServicePolicy Left name p ++ forgotten_rows kind.EdgeRouterPolicy Left name p))
+    (Covers-append format 7 9 10 s t (forgotten_rows kind.ServicePolicy Left name p ++ forgotten_rows kind.EdgeRouterPolicy Left name p) [] (omega arith) (omega arith)
+    (Covers-append format 7 8 9 s t (forgotten_rows kind.ServicePolicy Left name p) (forgotten_rows kind.EdgeRouterPolicy Left name p) (omega arith) (omega arith)
+    (each_service format s t Left name p v (services es) (services et)) (each_edge format s t Left name p v (edges es) (edges et))) third)
 
-covers_service : (name : List ℕ) (p : PolicyTables) (s t : State) → AreValid p → tables_of s ≡ p → tables_of t ≡ forgetting kind.Service name p
-    → Covers 7 10 s t (([] ++ forgotten_rows kind.ServicePolicy Right name p) ++ forgotten_rows kind.ServiceEdgeRouterPolicy Left name p)
-covers_service name p s t v es et =
-    Covers-append 7 8 10 s t (forgotten_rows kind.ServicePolicy Right name p) (forgotten_rows kind.ServiceEdgeRouterPolicy Left name p) (omega arith) (omega arith)
-    (each_service s t Right name p v (services es) (services et))
-    (Covers-append 8 9 10 s t [] (forgotten_rows kind.ServiceEdgeRouterPolicy Left name p) (omega arith) (omega arith)
-    (stays kind.EdgeRouterPolicy s t p.edge_router_policies (omega arith) (edges es) (edges et)) (each_last s t Left name p v (lasts es) (lasts et)))
+covers_service : (format : Format) (name : List ℕ) (p : PolicyTables) (s t : State) → AreValid p → tables_of s ≡ p → tables_of t ≡ forgetting kind.Service name p
+    → Covers format 7 10 s t (([] ++ forgotten_rows kind.ServicePolicy Right name p) ++ forgotten_rows kind.ServiceEdgeRouterPolicy Left name p)
+covers_service format name p s t v es et =
+    Covers-append format 7 8 10 s t (forgotten_rows kind.ServicePolicy Right name p) (forgotten_rows kind.ServiceEdgeRouterPolicy Left name p) (omega arith) (omega arith)
+    (each_service format s t Right name p v (services es) (services et))
+    (Covers-append format 8 9 10 s t [] (forgotten_rows kind.ServiceEdgeRouterPolicy Left name p) (omega arith) (omega arith)
+    (stays format kind.EdgeRouterPolicy s t p.edge_router_policies (omega arith) (edges es) (edges et)) (each_last format s t Left name p v (lasts es) (lasts et)))
 
-covers_router : (name : List ℕ) (p : PolicyTables) (s t : State) → AreValid p → tables_of s ≡ p → tables_of t ≡ forgetting kind.Router name p
-    → Covers 7 10 s t (([] ++ forgotten_rows kind.EdgeRouterPolicy Right name p) ++ forgotten_rows kind.ServiceEdgeRouterPolicy Right name p)
-covers_router name p s t v es et =
-    Covers-append 7 8 10 s t [] (forgotten_rows kind.EdgeRouterPolicy Right name p ++ forgotten_rows kind.ServiceEdgeRouterPolicy Right name p) (omega arith) (omega arith)
-    (stays kind.ServicePolicy s t p.service_policies (omega arith) (services es) (services et))
-    (Covers-append 8 9 10 s t (forgotten_rows kind.EdgeRouterPolicy Right name p) (forgotten_rows kind.ServiceEdgeRouterPolicy Right name p) (omega arith) (omega arith)
-    (each_edge s t Right name p v (edges es) (edges et)) (each_last s t Right name p v (lasts es) (lasts et)))
+covers_router : (format : Format) (name : List ℕ) (p : PolicyTables) (s t : State) → AreValid p → tables_of s ≡ p → tables_of t ≡ forgetting kind.Router name p
+    → Covers format 7 10 s t (([] ++ forgotten_rows kind.EdgeRouterPolicy Right name p) ++ forgotten_rows kind.ServiceEdgeRouterPolicy Right name p)
+covers_router format name p s t v es et =
+    Covers-append format 7 8 10 s t [] (forgotten_rows kind.EdgeRouterPolicy Right name p ++ forgotten_rows kind.ServiceEdgeRouterPolicy Right name p) (omega arith) (omega arith)
+    (stays format kind.ServicePolicy s t p.service_policies (omega arith) (services es) (services et))
+    (Covers-append format 8 9 10 s t (forgotten_rows kind.EdgeRouterPolicy Right name p) (forgotten_rows kind.ServiceEdgeRouterPolicy Right name p) (omega arith) (omega arith)
+    (each_edge format s t Right name p v (edges es) (edges et)) (each_last format s t Right name p v (lasts es) (lasts et)))
 
 -- a policy that loses a name still fits, where the policies after it are those of a valid state
 fits_forgetting : (k : Kind) (hand : Hand) (name : List ℕ) (p after : PolicyTables) → is_policy_kind k ≡ true → AreValid after → policies k after ≡ map_each (forget_on hand name) (policies k p)
@@ -272,12 +273,12 @@ naming_fit _ name p is v = absurd (false≢true is)
 abbrev pub forgotten_pair : PolicyTables → List ℕ → (Kind × Hand) × (Kind × Hand) → List Change
 forgotten_pair p name on = ([] ++ forgotten_rows on.0.0 on.0.1 name p) ++ forgotten_rows on.1.0 on.1.1 name p
 
-pub covers_forgotten : (k : Kind) (name : List ℕ) (p : PolicyTables) (s t : State) → is_entity_kind k ≡ true → AreValid p → tables_of s ≡ p
-    → tables_of t ≡ forgetting k name p → Covers 7 10 s t (forgotten_pair p name (naming k))
-covers_forgotten kind.Identity name p s t is = covers_identity name p s t
-covers_forgotten kind.Service name p s t is = covers_service name p s t
-covers_forgotten kind.Router name p s t is = covers_router name p s t
-covers_forgotten _ name p s t is = absurd (false≢true is)
+pub covers_forgotten : (format : Format) (k : Kind) (name : List ℕ) (p : PolicyTables) (s t : State) → is_entity_kind k ≡ true → AreValid p → tables_of s ≡ p
+    → tables_of t ≡ forgetting k name p → Covers format 7 10 s t (forgotten_pair p name (naming k))
+covers_forgotten format kind.Identity name p s t is = covers_identity format name p s t
+covers_forgotten format kind.Service name p s t is = covers_service format name p s t
+covers_forgotten format kind.Router name p s t is = covers_router format name p s t
+covers_forgotten format _ name p s t is = absurd (false≢true is)
 
 pub if_some : {A : Type 0} (P : A → Type 0) (o : Option A) → ((x : A) → o ≡ Some x → P x) → IfSome o P
 if_some P None h = tt

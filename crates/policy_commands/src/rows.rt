@@ -1,5 +1,7 @@
 ghost use Rattle.std.specs.Prelude.{◌≡◌, ℕ, ◌++◌, true, Some, IfOk, IfSome, OnOk};
 ghost use Rattle.std.specs.Option.{option_map};
+ghost use Rattle.ctrl_model.specs.declared.formats.Format.{Format};
+ghost use Rattle.ctrl_model.specs.declared.formats.Format.TheVariants.{Two};
 ghost use Rattle.ctrl_model.specs.declared.kinds.Kind.TheVariants as kind;
 ghost use Rattle.ctrl_model.specs.Numbered.{at};
 ghost use Rattle.ctrl_model.specs.PolicyCommands.{replaced_by};
@@ -25,8 +27,8 @@ fn policy_row(kind: Kind, number: u32, policy: Policy) -> Row
     requires kind { is_policy_kind kind ≡ true }
     requires long { is_long number ≡ true }
     requires fits { fits_row kind policy ≡ true }
-    ensures form { is_row result ≡ true }
-    ensures value { value_of result ≡ policy_value kind policy }
+    ensures form { is_row Two result ≡ true }
+    ensures value { value_of Two result ≡ policy_value kind policy }
 {
     let no = PolicyNo(number);
     let Policy {
@@ -68,8 +70,8 @@ fn row_if_some(kind: Kind, number: u32, policy: Option<Policy>) -> Option<Row>
     requires kind { is_policy_kind kind ≡ true }
     requires long { is_long number ≡ true }
     requires fits { IfSome policy (λ p. fits_row kind p ≡ true) }
-    ensures form { IfSome result (λ r. is_row r ≡ true) }
-    ensures value { option_map value_of result ≡ option_map (policy_value kind) policy }
+    ensures form { IfSome result (λ r. is_row Two r ≡ true) }
+    ensures value { option_map (value_of Two) result ≡ option_map (policy_value kind) policy }
 {
     match policy {
         Some(policy) => Some(policy_row(kind, number, policy)),
@@ -160,7 +162,7 @@ pub fn policy_changes(
     requires can { CanChangePolicies change.now kept.now }
     requires before { AreValid kept.now }
     requires after { AreValid (after_policy_change change.now kept.now) }
-    ensures { IfOk result (λ changes. (s t : State) → tables_of s ≡ kept.now → tables_of t ≡ after_policy_change change.now kept.now → Covers 7 10 s t changes) }
+    ensures { IfOk result (λ changes. (f : Format) (s t : State) → tables_of s ≡ kept.now → tables_of t ≡ after_policy_change change.now kept.now → Covers f 7 10 s t changes) }
 {
     let (kind, number) = touched(kept, change);
     let before = policy_before(kept, kind, number)?;
@@ -266,7 +268,7 @@ pub fn forgotten_changes(
     requires kind { is_entity_kind kind ≡ true }
     requires before { AreValid kept.now }
     requires after { AreValid (forgetting kind name.now kept.now) }
-    ensures { IfOk result (λ changes. (s t : State) → tables_of s ≡ kept.now → tables_of t ≡ forgetting kind name.now kept.now → Covers 7 10 s t changes) }
+    ensures { IfOk result (λ changes. (f : Format) (s t : State) → tables_of s ≡ kept.now → tables_of t ≡ forgetting kind name.now kept.now → Covers f 7 10 s t changes) }
 {
     let ((first, first_hand), (second, second_hand)) = naming(kind);
     let mut changes = Vec::new(alloc);

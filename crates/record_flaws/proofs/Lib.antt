@@ -1,3 +1,4 @@
 pub mod SoundPolicies
 pub mod LinkFlaws
 pub mod EntityFlaws
+pub mod ClaimFlaws

@@ -1,5 +1,6 @@
 pub mod SoundRows
 pub mod StoresOfStates
+pub mod LastClaims
 pub mod FoundFlaws
 pub mod WorkedFlaws
 pub mod SaidRecords

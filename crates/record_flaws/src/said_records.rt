@@ -1,8 +1,9 @@
 ghost use Rattle.std.specs.Prelude.{◌≡◌, IfOk};
-ghost use Rattle.record_flaws.specs.SaidRecords.{circuit_in, link_in, policy_in, term_in};
+ghost use Rattle.std.specs.Option.{option_map};
+ghost use Rattle.record_flaws.specs.SaidRecords.{circuit_in, claim_in, link_in, policy_in, serial_in, term_in};
 
 use circuits::Circuit;
-use ctrl_model::{Copies, Relation};
+use ctrl_model::{Copies, Intercept, Relation, ServiceNo};
 use fabric_graph::LinkRow;
 use policy_store::{Policy, policy_of};
 use row_codec::Row;
@@ -118,5 +119,25 @@ pub fn circuit_in(row: &Row) -> Result<Option<Circuit>, AllocError>
             links: links.copy()?,
         })),
         _ => Ok(None),
+    }
+}
+
+/// The intercept that a row says, and the service whose it is. None is a row of another table.
+pub fn claim_in(row: &Row) -> Result<Option<(ServiceNo, Intercept)>, AllocError>
+    ensures { IfOk result (λ o. option_map (λ claim. (claim.0.0, claim.1)) o ≡ claim_in row.now) }
+{
+    match row {
+        Row::Intercept { service, intercept } => Ok(Some((*service, intercept.copy()?))),
+        _ => Ok(None),
+    }
+}
+
+/// The serial that a row says. None is a row of another table.
+pub fn serial_in(row: &Row) -> Option<u64>
+    ensures { result ≡ serial_in row.now }
+{
+    match row {
+        Row::Serial { serial } => Some(*serial),
+        _ => None,
     }
 }

@@ -1,4 +1,5 @@
 ghost use Rattle.std.specs.Prelude.{◌≡◌, ◌==◌, ◌+◌, ◌||◌, ◌&&◌, true, not, nat_le, length};
+ghost use Rattle.ctrl_model.specs.declared.formats.Format.{Format};
 ghost use Rattle.ctrl_model.specs.CommandForm.{are_attributes, is_distinct, is_stored_side, is_cost, is_link_cost, is_latency};
 ghost use Rattle.ctrl_model.specs.Matches.{has_name, is_nothing};
 ghost use Rattle.row_codec.specs.RowForm.{is_row, are_listed, is_listed_side};
@@ -101,10 +102,10 @@ fn are_sound_sides(left: &Side, right: &Side) -> bool
     is_sound_side(left) && is_sound_side(right)
 }
 
-/// Whether a row's record is valid as far as that can be told of it alone: its numbers are in their ranges, its lists have no repeats
+/// Whether the record of a row of a format is valid as far as that can be told of it alone: its numbers are in their ranges, its lists have no repeats
 /// and keep their limits, and a side that is `#all` has none. Other rows have no record, and are.
 pub fn is_sound_row(row: &Row) -> bool
-    requires { is_row row.now ≡ true }
+    requires { (f : Format) × (is_row f row.now ≡ true) }
     ensures { result ≡ sound.is_sound_row row.now }
 {
     match row {

@@ -2,10 +2,11 @@
 use Rattle.std.proofs.Common.{◌≡◌, ℕ, ◌==◌, nat_le, Bool, true, false, cond, List, [], ◌∷◌, ◌++◌, flat_map, Option, None, Some, option_map, refl, sym, ◌∙◌, ap, append-nil, append_assoc}
 use Rattle.std.specs.Prelude.{option_and_then}
 use Rattle.std.specs.Option.{option_map_or, option_or, unwrap_or}
+use Rattle.ctrl_model.specs.declared.intercepts.Intercept.{Intercept}
 use Rattle.ctrl_model.specs.declared.kinds.Kind.{Kind}
 use Rattle.ctrl_model.specs.declared.kinds.Kind.TheVariants as kind
 use Rattle.ctrl_model.specs.Networks.{other_end}
-use Rattle.ctrl_model.specs.Numbered.{at}
+use Rattle.ctrl_model.specs.Numbered.{at, with_last}
 use Rattle.ctrl_model.specs.State.{State, Link, start}
 use Rattle.ctrl_model.specs.Tables.{Record, table, record_name}
 use Rattle.row_codec.specs.declared.rows.Row.{Row}
@@ -35,7 +36,7 @@ one_of k j n r = []
 
 -- the record of a kind that a row is
 abbrev pub record_in : (k : Kind) → Row → List (ℕ × Record k)
-record_in k x = by_row (record { next = λ j n. []; setting = λ cost. []; one = one_of k; count = λ r a b c. [] }) x
+record_in k x = by_row (record { next = λ j n. []; setting = λ cost. []; one = one_of k; count = λ r a b c. []; intercept = λ n i. []; serial = λ n. [] }) x
 
 -- the records of a kind that rows are
 abbrev pub records_in : (k : Kind) → List Row → List (ℕ × Record k)
@@ -57,6 +58,11 @@ joins kind.Circuit kind.Circuit n r s = refl
 joins kind.Attribute j n r s = refl
 joins k j n r s = sym (append-nil (table k s).rows)
 
+others_keep : (k : Kind) (cost : ℕ) (is : List (ℕ × Intercept)) (n : ℕ) (s : State)
+    → (table k (record s { least_router_cost = cost; intercepts = is; serial = n })).rows ≡ (table k s).rows ++ []
+others_keep kind.Attribute cost is n s = refl
+others_keep k cost is n s = sym (append-nil (table k s).rows)
+
 row_joins : (k : Kind) (x : Row) (s : State) → (table k (with_row x s)).rows ≡ (table k s).rows ++ record_in k x
 row_joins k (row.Identity n name attributes) s = joins k kind.Identity n.0 (record { name = name; attributes = attributes }) s
 row_joins k (row.Service n name attributes) s = joins k kind.Service n.0 (record { name = name; attributes = attributes }) s
@@ -69,11 +75,9 @@ row_joins k (row.EdgeRouterPolicy n name semantic identities routers) s = joins 
 row_joins k (row.ServiceEdgeRouterPolicy n name semantic services routers) s = joins k kind.ServiceEdgeRouterPolicy n.0 _ s
 row_joins k (row.Terminator n service router host instance cost precedence) s = joins k kind.Terminator n.0 _ s
 row_joins k (row.Circuit n identity service terminator ingress links) s = joins k kind.Circuit n.0 _ s
-row_joins k (row.Setting cost) s = setting k
-  where
-    setting : (k : Kind) → (table k (record s { least_router_cost = cost })).rows ≡ (table k s).rows ++ []
-    setting kind.Attribute = refl
-    setting k = sym (append-nil (table k s).rows)
+row_joins k (row.Setting cost) s = others_keep k cost s.intercepts s.serial s
+row_joins k (row.Intercept n i) s = others_keep k s.least_router_cost (with_last s.intercepts n.0 i) s.serial s
+row_joins k (row.Serial n) s = others_keep k s.least_router_cost s.intercepts n s
 row_joins k x s = sym (append-nil (table k s).rows)
 
 built_rows : (k : Kind) (rows : List Row) (s : State) → (table k (built rows s)).rows ≡ (table k s).rows ++ records_in k rows

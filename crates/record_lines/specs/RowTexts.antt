@@ -23,6 +23,8 @@ entry_in x = by_row (record {
   setting = λ cost. None;
   one = λ k n r. Some (k, n, record_name k r);
   count = λ r a b c. None;
+  intercept = λ n i. None;
+  serial = λ n. None;
 }) x
 
 -- The name that an entry says of the record of a kind and a number.
@@ -64,6 +66,8 @@ row_line s x = by_row (record {
   setting = λ cost. [];
   one = λ k n r. line_of k s (n, r);
   count = λ r a b c. [];
+  intercept = λ n i. [];
+  serial = λ n. [];
 }) x
 
 -- The line of a row that is a record of a kind.

@@ -42,4 +42,6 @@ small_network = record {
   terminators = lone (record { service = 1; router = 2; instance = []; host = None; cost = 0; precedence = Normal });
   circuits = lone (record { identity = 1; service = 1; terminator = 1; ingress = 1; links = 1 ∷ [] });
   least_router_cost = 10;
+  intercepts = [];
+  serial = 0;
 }

@@ -49,6 +49,7 @@ refusal_plain refusal.NotBindable = refl
 refusal_plain (refusal.Denied why) = refl
 refusal_plain refusal.JournalFull = refl
 refusal_plain refusal.MarkFull = refl
+refusal_plain refusal.NoIntercept = refl
 
 -- the object of a reply has no float
 pub reply_plain : (r : Reply) → option_map_or has_float (reply_object r) false ≡ false
@@ -62,6 +63,8 @@ reply_plain (reply.Services names) = rw (names_plain names)
 reply_plain (reply.Grants bind dial routers) = rw (tallies_plain bind, tallies_plain dial, tallies_plain routers)
 reply_plain (reply.Shown identity ingress links service terminator) = rw (naturals_plain links)
 reply_plain (reply.Counts circuits grants identities links policies routers services terminators) = refl
+reply_plain (reply.Picked address low high service) = refl
+reply_plain (reply.Clashes names) = rw (names_plain names)
 reply_plain (reply.Refused r) = refusal_plain r
 
 -- the text of the object of a reply is its body

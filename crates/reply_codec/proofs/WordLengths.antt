@@ -41,6 +41,12 @@ length-word field.Potentials = lit≤ tt
 length-word field.Routers = lit≤ tt
 length-word field.Terminator = lit≤ tt
 length-word field.Total = lit≤ tt
+length-word field.Protocols = lit≤ tt
+length-word field.Addresses = lit≤ tt
+length-word field.Ports = lit≤ tt
+length-word field.Protocol = lit≤ tt
+length-word field.Address = lit≤ tt
+length-word field.Port = lit≤ tt
 length-word field.Nothing = lit≤ tt
 
 -- that of a kind at most 26

@@ -138,6 +138,7 @@ refusal_object refusal.NotBindable = plain_refusal 26 (codes "NotBindable")
 refusal_object (refusal.Denied why) = plain_refusal (denial_number why) (denial_name why)
 refusal_object refusal.JournalFull = plain_refusal 40 (codes "JournalFull")
 refusal_object refusal.MarkFull = plain_refusal 41 (codes "MarkFull")
+refusal_object refusal.NoIntercept = plain_refusal 50 (codes "NoIntercept")
 
 -- The members of an explanation behind that of the ingress's name.
 abbrev pub claim_members : Explanation → Members
@@ -186,14 +187,24 @@ reply_object (reply.Counts circuits grants identities links policies routers ser
     (member (codes "services") (natural services)
     (member (codes "terminators") (natural terminators)
     no_members)))))))))
+reply_object (reply.Picked address low high service) = Some (object (
+    member (codes "address") (string address)
+    (member (codes "high") (natural high)
+    (member (codes "low") (natural low)
+    (member (codes "service") (string service)
+    no_members)))))
+reply_object (reply.Clashes names) = Some (object (member (codes "clashes") (strings names) no_members))
 reply_object (reply.Refused r) = Some (refusal_object r)
 
--- Whether a reply shows what there is: the services that an identity may dial, its grants, a circuit or the counts.
+-- Whether a reply shows what there is: the services that an identity may dial, its grants, a circuit, the counts, the service that a
+-- destination belongs to, or the services that clash with one.
 abbrev pub is_showing : Reply → Bool
 is_showing (reply.Services names) = true
 is_showing (reply.Grants bind dial routers) = true
 is_showing (reply.Shown identity ingress links service terminator) = true
 is_showing (reply.Counts circuits grants identities links policies routers services terminators) = true
+is_showing (reply.Picked address low high service) = true
+is_showing (reply.Clashes names) = true
 is_showing _ = false
 
 -- The body of a reply: its object as compact JSON, or no bytes.

@@ -40,6 +40,10 @@ some_grants = reply.Grants [] (record { name = codes "web"; count = 2 } ∷ []) 
 abbrev pub a_shown_circuit : Reply
 a_shown_circuit = reply.Shown (codes "ann") (codes "r1") (1 ∷ 2 ∷ []) (codes "web") (record { 0 = 1 })
 
+-- The service web is picked by a host and the ports from 1 to 65,535.
+abbrev pub picked_by : List ℕ → Reply
+picked_by address = reply.Picked address 1 65535 (codes "web")
+
 -- The counts of a controller with one identity and nothing else.
 abbrev pub one_identity : Reply
 one_identity = reply.Counts 0 0 1 0 0 0 0 0

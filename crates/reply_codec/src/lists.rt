@@ -3,11 +3,12 @@ ghost use Rattle.std.specs.List.{list_all};
 ghost use Rattle.serde_json.specs.Data.{array, string};
 ghost use Rattle.serde_json.specs.View.{view, items_of};
 ghost use Rattle.serde_json.specs.Written.{compact_text};
+ghost use Rattle.ctrl_model.specs.AddressForm.{is_spelling};
 ghost use Rattle.ctrl_model.specs.CommandForm.{is_value};
 ghost use Rattle.reply_codec.specs.ReplyBody.{natural, naturals, strings, tally_array, tally_arrays, cost_or_null, reach_object, reach_objects};
 ghost use Rattle.reply_codec.specs.ReplyLimits.{is_short_reach};
 
-use ctrl_model::{Name, Names, Numbers, Potentials, Reach, Reaches, Tallies, Tally};
+use ctrl_model::{Bytes, Name, Names, Numbers, Potentials, Reach, Reaches, Tallies, Tally};
 use serde_json::{Value, json};
 use std::alloc::{AllocError, Global};
 use std::str;
@@ -45,6 +46,23 @@ pub fn name_value(alloc: Global, name: &Name) -> Result<Value, AllocError>
     ensures few { IfOk result (λ _. length (compact_text (string name.now)) ≤ 386) }
 {
     Value::try_from_str(alloc, name_text(name))
+}
+
+fn address_text(address: &Bytes) -> &str
+    requires { is_spelling address.now ≡ true }
+    ensures value { result.now ≡ address.now }
+    ensures few { length address.now ≤ 255 }
+{
+    str::from_utf8(address.as_slice()).unwrap()
+}
+
+/// The spelling of an address as a text: at most 1,532 bytes.
+pub(crate) fn address_value(alloc: Global, address: &Bytes) -> Result<Value, AllocError>
+    requires { is_spelling address.now ≡ true }
+    ensures value { IfOk result (λ v. view v ≡ string address.now) }
+    ensures few { IfOk result (λ _. length (compact_text (string address.now)) ≤ 1_532) }
+{
+    Value::try_from_str(alloc, address_text(address))
 }
 
 /// A list of names: at most 387 bytes each, and 2.

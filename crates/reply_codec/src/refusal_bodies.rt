@@ -135,5 +135,6 @@ pub(crate) fn refusal_value(alloc: Global, refusal: &Refusal) -> Result<Value, A
         }
         Refusal::JournalFull => plain_value(alloc, 40, "JournalFull"),
         Refusal::MarkFull => plain_value(alloc, 41, "MarkFull"),
+        Refusal::NoIntercept => plain_value(alloc, 50, "NoIntercept"),
     }
 }

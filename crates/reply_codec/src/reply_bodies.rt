@@ -3,14 +3,17 @@ ghost use Rattle.std.specs.Option.{option_map, option_map_or};
 ghost use Rattle.serde_json.specs.Data.{number, string, object, member, no_members, boolean};
 ghost use Rattle.serde_json.specs.View.{view};
 ghost use Rattle.serde_json.specs.Written.{compact_text};
+ghost use Rattle.ctrl_model.specs.AddressForm.{is_spelling};
 ghost use Rattle.ctrl_model.specs.declared.replies.Reply.TheVariants as reply;
 ghost use Rattle.reply_codec.specs.ReplyBody.{is_showing, reply_object, reply_body};
 ghost use Rattle.reply_codec.specs.ReplyLimits.{is_short_claim, keeps_limits};
 ghost use Rattle.channel_frame.specs.FrameSpelling.{longest_body};
 
-use crate::lists::{name_value, names_value, numbers_value, reaches_value, tallies_value};
+use crate::lists::{
+    address_value, name_value, names_value, numbers_value, reaches_value, tallies_value,
+};
 use crate::refusal_bodies::refusal_value;
-use ctrl_model::{CircuitNo, Explanation, Name, Names, Numbers, Reply, Tallies, TermNo};
+use ctrl_model::{Bytes, CircuitNo, Explanation, Name, Names, Numbers, Reply, Tallies, TermNo};
 use serde_json::{Value, json};
 use std::alloc::{AllocError, Global};
 
@@ -132,7 +135,33 @@ fn counts_value(
     })
 }
 
-// The object of a reply that shows what there is: services, grants, a circuit or counts. None is another reply.
+fn picked_value(
+    alloc: Global,
+    address: &Bytes,
+    low: u32,
+    high: u32,
+    service: &Name,
+) -> Result<Value, AllocError>
+    requires { is_spelling address.now ≡ true }
+    ensures value { IfOk result (λ v. Some (view v) ≡ reply_object (reply.Picked address.now low high service.now)) }
+    ensures few { IfOk result (λ _. length (reply_body (reply.Picked address.now low high service.now)) ≤ longest_body) }
+{
+    let spelling = address_value(alloc, address)?;
+    let name = name_value(alloc, service)?;
+    json!(in alloc; {"address": spelling, "high": high, "low": low, "service": name})
+}
+
+fn clashes_value(alloc: Global, names: &Names) -> Result<Value, AllocError>
+    requires { length names.now ≤ 512 }
+    ensures value { IfOk result (λ v. Some (view v) ≡ reply_object (reply.Clashes names.now)) }
+    ensures few { IfOk result (λ _. length (reply_body (reply.Clashes names.now)) ≤ longest_body) }
+{
+    let services = names_value(alloc, names)?;
+    json!(in alloc; {"clashes": services})
+}
+
+// The object of a reply that shows what there is: services, grants, a circuit, counts, what is picked or clashes. None is another
+// reply.
 fn showing_value(alloc: Global, reply: &Reply) -> Result<Option<Value>, AllocError>
     requires { keeps_limits reply.now ≡ true }
     ensures value { IfOk result (λ o. option_map view o ≡ (if is_showing reply.now then reply_object reply.now else None)) }
@@ -174,6 +203,13 @@ fn showing_value(alloc: Global, reply: &Reply) -> Result<Option<Value>, AllocErr
                 *terminators,
             )?
         }
+        Reply::Picked {
+            address,
+            low,
+            high,
+            service,
+        } => picked_value(alloc, address, *low, *high, service)?,
+        Reply::Clashes { names } => clashes_value(alloc, names)?,
         _ => return Ok(None),
     };
     Ok(Some(value))

@@ -11,7 +11,7 @@ ghost use Rattle.ctrl_model.specs.declared.replies.Reply.TheVariants as reply;
 ghost use Rattle.reply_codec.specs.ReplyBody.{reply_body};
 ghost use Rattle.reply_codec.specs.ReplyFrame.{reply_frame, success_flag};
 ghost use Rattle.reply_codec.specs.ReplyLimits.{keeps_limits};
-ghost use Rattle.reply_codec.specs.WorkedReplies.{a_circuit, a_shown_circuit, circuit_over, claim_with, entry_with, explained_with, one_identity, some_grants};
+ghost use Rattle.reply_codec.specs.WorkedReplies.{a_circuit, a_shown_circuit, circuit_over, claim_with, entry_with, explained_with, one_identity, picked_by, some_grants};
 
 /// Bodies of plain replies and of a granted circuit; the reply to Hello has no bytes.
 pub fn worked_bodies()
@@ -34,6 +34,8 @@ pub fn worked_lists()
     ensures services { reply_body (reply.Services (codes "web" ∷ [])) ≡ codes "{\"services\":[\"web\"]}" }
     ensures grants { reply_body some_grants ≡ codes "{\"bind\":[],\"dial\":[[\"web\",2]],\"routers\":[[\"r1\",1]]}" }
     ensures shown { reply_body a_shown_circuit ≡ codes "{\"identity\":\"ann\",\"ingress\":\"r1\",\"links\":[1,2],\"service\":\"web\",\"terminator\":1}" }
+    ensures picked { reply_body (picked_by (codes "api.example.org")) ≡ codes "{\"address\":\"api.example.org\",\"high\":65535,\"low\":1,\"service\":\"web\"}" }
+    ensures clashes { reply_body (reply.Clashes (codes "api" ∷ [])) ≡ codes "{\"clashes\":[\"api\"]}" }
     ensures counts { reply_body one_identity ≡ codes "{\"circuits\":0,\"grants\":0,\"identities\":1,\"links\":0,\"policies\":0,\"routers\":0,\"services\":0,\"terminators\":0}" }
 {}
 
@@ -45,6 +47,7 @@ pub fn worked_plain_refusals()
     ensures same_router { reply_body (reply.Refused refusal.SameRouter) ≡ codes "{\"code\":25,\"name\":\"SameRouter\"}" }
     ensures not_bindable { reply_body (reply.Refused refusal.NotBindable) ≡ codes "{\"code\":26,\"name\":\"NotBindable\"}" }
     ensures journal_full { reply_body (reply.Refused refusal.JournalFull) ≡ codes "{\"code\":40,\"name\":\"JournalFull\"}" }
+    ensures no_intercept { reply_body (reply.Refused refusal.NoIntercept) ≡ codes "{\"code\":50,\"name\":\"NoIntercept\"}" }
     ensures mark_full { reply_body (reply.Refused refusal.MarkFull) ≡ codes "{\"code\":41,\"name\":\"MarkFull\"}" }
 {}
 
@@ -92,6 +95,10 @@ pub fn worked_limits()
     ensures more_services { keeps_limits (reply.Services (replicate 513 [])) ≡ false }
     ensures grants { keeps_limits some_grants ≡ true }
     ensures more_routers { keeps_limits (reply.Grants [] [] (replicate 257 (record { name = []; count = 1 }))) ≡ false }
+    ensures picked { keeps_limits (picked_by (codes "10.1.0.0/16")) ≡ true }
+    ensures capitals { keeps_limits (picked_by (codes "Example.org")) ≡ false }
+    ensures clashes { keeps_limits (reply.Clashes (replicate 512 [])) ≡ true }
+    ensures more_clashes { keeps_limits (reply.Clashes (replicate 513 [])) ≡ false }
     ensures refused { keeps_limits (reply.Refused refusal.Exists) ≡ true }
 {}
 

@@ -1,3 +1,3 @@
 pub mod FieldLaws
-mod SkipLaws
+pub mod SkipLaws
 pub mod BatchLaws

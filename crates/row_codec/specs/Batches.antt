@@ -5,6 +5,7 @@ use Rattle.std.specs.List.{flat_map, AllByRecursion}
 use Rattle.std.specs.declared.cmp.Ordering.{Ordering}
 use Rattle.std.specs.Ordering.{nat_cmp}
 use Rattle.std.specs.Cmp.Lexicographic.{slice_cmp}
+use Rattle.ctrl_model.specs.declared.formats.Format.{Format}
 use Rattle.ctrl_model.specs.State.{State}
 use Rattle.row_codec.specs.declared.changes.Op.{Op}
 use Rattle.row_codec.specs.declared.changes.Op.TheVariants.{Put, Delete}
@@ -40,9 +41,9 @@ ops_of entries = map (λ e. op_at (key_bytes e.0) e.1) entries
 abbrev pub spelled_rows : Rows → List (List ℕ × List ℕ)
 spelled_rows rows = map (λ x. (key_bytes x.0, x.1)) rows
 
--- The batch that leads from the rows of one state to those of another.
-abbrev pub batch_between : State → State → List Op
-batch_between s t = ops_of (difference key_cmp (rows_of s) (rows_of t))
+-- The batch that leads from the rows of one state to those of another, in a format.
+abbrev pub batch_between : Format → State → State → List Op
+batch_between f s t = ops_of (difference key_cmp (rows_of f s) (rows_of f t))
 
 -- An operation, spelled: 1, the key's length as one byte, the key, the value's length as four bytes, the value; or 2, the key's
 -- length and the key.

@@ -2,7 +2,9 @@
 use Rattle.std.specs.Prelude.{ℕ, zero, suc, Bool, true, false, cond, nat_lt, nat_le, ◌==◌, List, [], ◌∷◌, length, take, drop, None, Some}
 use Rattle.std.specs.declared.option.Option.{Option}
 use Rattle.std.specs.Option.{option_map, option_and_then}
-use Rattle.std.specs.Int.{w16, w32, from_le_bytes, from_be_bytes}
+use Rattle.std.specs.Int.{w16, w32, w64, from_le_bytes, from_be_bytes}
+use Rattle.ctrl_model.specs.declared.formats.Format.{Format}
+use Rattle.ctrl_model.specs.declared.formats.Format.TheVariants.{One, Two}
 use Rattle.ctrl_model.specs.NameForm.{is_name, is_instance}
 use Rattle.ctrl_model.specs.Limits.{most_entries}
 use Rattle.ctrl_model.specs.declared.kinds.Side.{Side}
@@ -33,6 +35,15 @@ front_long bytes = option_map (λ p. (from_le_bytes w32 p.0, p.1)) (front_part 4
 -- A number of two bytes, the least first.
 abbrev pub front_short : List ℕ → Front ℕ
 front_short bytes = option_map (λ p. (from_le_bytes w16 p.0, p.1)) (front_part 2 bytes)
+
+-- A number of eight bytes, the least first.
+abbrev pub front_wide : List ℕ → Front ℕ
+front_wide bytes = option_map (λ p. (from_le_bytes w64 p.0, p.1)) (front_part 8 bytes)
+
+-- A count, as many bytes as the format gives it.
+abbrev pub front_count : Format → List ℕ → Front ℕ
+front_count One bytes = front_long bytes
+front_count Two bytes = front_short bytes
 
 -- A number of a key: four bytes, the greatest first.
 abbrev pub front_number : List ℕ → Front ℕ

@@ -2,6 +2,7 @@ pub mod RowKeys
 pub mod RowValues
 pub mod RowForm
 pub mod StateRows
+pub mod NarrowedRows
 pub mod RowDifference
 pub mod Batches
 pub mod CoveredTables

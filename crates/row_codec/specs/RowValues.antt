@@ -1,8 +1,10 @@
 -- The values of rows: what the folder keeps of a record, byte by byte (docs/FORMATS.md, "Rows").
 use Rattle.std.specs.Prelude.{ℕ, ◌+◌, Bool, cond, List, [], ◌∷◌, ◌++◌, length, None, Some}
 use Rattle.std.specs.declared.option.Option.{Option}
-use Rattle.std.specs.Int.{w16, w32, to_le_bytes}
+use Rattle.std.specs.Int.{w16, w32, w64, to_le_bytes}
 use Rattle.std.specs.List.{flat_map}
+use Rattle.ctrl_model.specs.declared.formats.Format.{Format}
+use Rattle.ctrl_model.specs.declared.formats.Format.TheVariants.{One, Two}
 use Rattle.ctrl_model.specs.declared.kinds.Kind.{Kind}
 use Rattle.ctrl_model.specs.declared.kinds.Kind.TheVariants as kind
 use Rattle.ctrl_model.specs.declared.kinds.Side.{Side}
@@ -12,6 +14,10 @@ use Rattle.ctrl_model.specs.declared.kinds.Relation.{Relation}
 use Rattle.ctrl_model.specs.declared.kinds.Relation.TheVariants.{Dial, Bind, IdentityRouter, ServiceRouter}
 use Rattle.ctrl_model.specs.declared.kinds.Precedence.{Precedence}
 use Rattle.ctrl_model.specs.declared.kinds.Precedence.TheVariants.{Required, Normal, Failed}
+use Rattle.ctrl_model.specs.declared.addresses.Address.{Address}
+use Rattle.ctrl_model.specs.declared.intercepts.Intercept.{Intercept}
+use Rattle.ctrl_model.specs.declared.intercepts.PortRange.{PortRange}
+use Rattle.ctrl_model.specs.AddressForm.{address_text}
 use Rattle.ctrl_model.specs.State.{Entity, Router, Link, Policy, Terminator, Circuit}
 use Rattle.ctrl_model.specs.Tables.{Record}
 
@@ -22,6 +28,15 @@ long n = to_le_bytes w32 n
 -- A number as two bytes, the least first.
 abbrev pub short : ℕ → List ℕ
 short n = to_le_bytes w16 n
+
+-- A number as eight bytes, the least first.
+abbrev pub wide : ℕ → List ℕ
+wide n = to_le_bytes w64 n
+
+-- A grant count: four bytes in the first format, two in the second.
+abbrev pub count_bytes : Format → ℕ → List ℕ
+count_bytes One n = long n
+count_bytes Two n = short n
 
 -- A text: its length as one byte, and its bytes.
 abbrev pub text : List ℕ → List ℕ
@@ -113,3 +128,23 @@ record_value kind.ServiceEdgeRouterPolicy p = router_policy_value p
 record_value kind.Terminator t = terminator_value t
 record_value kind.Circuit c = circuit_value c
 record_value kind.Attribute u = []
+
+-- The protocols of an intercept: bit 0 tcp, bit 1 udp.
+abbrev pub protocols_byte : Bool → Bool → ℕ
+protocols_byte tcp udp = cond tcp 1 0 + cond udp 2 0
+
+-- A list: how many things there are as one byte, and the things.
+abbrev pub listed : {A : Type 0} → (A → List ℕ) → List A → List ℕ
+listed spelling xs = length xs ∷ flat_map spelling xs
+
+-- An address, as its text.
+abbrev pub address_value : Address → List ℕ
+address_value a = text (address_text a)
+
+-- A range of ports: the lowest one and the highest one.
+abbrev pub port_range_value : PortRange → List ℕ
+port_range_value r = short r.low ++ short r.high
+
+-- An intercept: its protocols, its addresses and its ranges of ports.
+abbrev pub intercept_value : Intercept → List ℕ
+intercept_value i = protocols_byte i.tcp i.udp ∷ (listed address_value i.addresses ++ listed port_range_value i.ports)

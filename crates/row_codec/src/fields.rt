@@ -1,8 +1,8 @@
 ghost use Rattle.std.specs.Prelude.{◌≡◌};
 ghost use Rattle.std.specs.Option.{option_map};
-ghost use Rattle.row_codec.specs.FieldReading.{front_byte, front_part, front_long, front_short, front_number, front_text, front_name, front_instance};
+ghost use Rattle.row_codec.specs.FieldReading.{front_byte, front_part, front_long, front_short, front_wide, front_count, front_number, front_text, front_name, front_instance};
 
-use ctrl_model::{Instance, Name};
+use ctrl_model::{Format, Instance, Name};
 
 /// The first byte, and what follows it.
 pub fn split_byte(bytes: &[u8]) -> Option<(u8, &[u8])>
@@ -46,6 +46,24 @@ pub fn split_short(bytes: &[u8]) -> Option<(u32, &[u8])>
 {
     let (part, rest) = bytes.split_first_chunk::<2>()?;
     Some((u32::from(u16::from_le_bytes(*part)), rest))
+}
+
+/// A number of eight bytes, and what follows it.
+pub fn split_wide(bytes: &[u8]) -> Option<(u64, &[u8])>
+    ensures { option_map (λ p. (p.0, p.1.now)) result ≡ front_wide bytes.now }
+{
+    let (part, rest) = bytes.split_first_chunk::<8>()?;
+    Some((u64::from_le_bytes(*part), rest))
+}
+
+/// A count of a format, and what follows it.
+pub fn split_count(format: Format, bytes: &[u8]) -> Option<(u32, &[u8])>
+    ensures { option_map (λ p. (p.0, p.1.now)) result ≡ front_count format bytes.now }
+{
+    match format {
+        Format::One => split_long(bytes),
+        Format::Two => split_short(bytes),
+    }
 }
 
 /// A number of a key, and what follows it.

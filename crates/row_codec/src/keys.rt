@@ -65,5 +65,7 @@ pub fn write_key(alloc: Global, row: &Row) -> Result<Vec<u8>, AllocError>
             router,
             ..
         } => pair_key(alloc, 15, service.0, router.0),
+        Row::Intercept { service, .. } => record_key(alloc, 16, service.0),
+        Row::Serial { .. } => short_key(alloc, &[17]),
     }
 }

@@ -15,11 +15,11 @@ pub use changes::{Batch, Change, Changes, Op};
 pub use codes::{split_flag, split_marks, split_precedence, split_relation, split_semantic};
 pub use faults::RowFault;
 pub use fields::{
-    split_byte, split_instance, split_long, split_name, split_number, split_part, split_short,
-    split_text,
+    split_byte, split_count, split_instance, split_long, split_name, split_number, split_part,
+    split_short, split_text, split_wide,
 };
 pub use keys::{record_key, write_key};
 pub use lists::{past_each_long, past_names};
 pub use rows::Row;
-pub use worked::{worked_differences, worked_rows};
-pub use writing::{push_long, push_text};
+pub use worked::{worked_differences, worked_intercept_values, worked_rows};
+pub use writing::{push_count, push_long, push_text, push_wide};

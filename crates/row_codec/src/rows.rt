@@ -1,6 +1,6 @@
 use ctrl_model::{
-    CircuitNo, IdentityNo, Instance, LinkNo, Name, Names, Numbers, PolicyNo, Precedence, Relation,
-    RouterNo, Semantic, ServiceNo, Side, TermNo,
+    CircuitNo, IdentityNo, Instance, Intercept, LinkNo, Name, Names, Numbers, PolicyNo, Precedence,
+    Relation, RouterNo, Semantic, ServiceNo, Side, TermNo,
 };
 
 /// A row of the folder: one variant for each table, with the fields of its key and then those of its value
@@ -105,5 +105,14 @@ pub enum Row {
         service: ServiceNo,
         router: RouterNo,
         count: u32,
+    },
+    /// What a service claims, in the second format, as the next one.
+    Intercept {
+        service: ServiceNo,
+        intercept: Intercept,
+    },
+    /// How many changes were kept. There where it is above 0.
+    Serial {
+        serial: u64,
     },
 }

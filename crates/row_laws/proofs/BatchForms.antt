@@ -4,6 +4,7 @@ use Rattle.std.proofs.lemmas.Cmp.{nat_list_cmp_total}
 use Rattle.std.specs.FinMap.{IsAntisymmetric, nat_cmp-IsAntisymmetric, slice_cmp-IsAntisymmetric}
 use Rattle.std.specs.Ordering.{match_ordering}
 use Rattle.std.specs.List.{AllByRecursion}
+use Rattle.ctrl_model.specs.declared.formats.Format.{Format}
 use Rattle.ctrl_model.specs.State.{State}
 use Rattle.ctrl_model.specs.ValidState.{ValidState}
 use Rattle.row_codec.specs.RowKeys.{Key, key_cmp, key_bytes, number_in_key}
@@ -14,7 +15,7 @@ use Rattle.row_laws.proofs.RisingRows.{All-map, All-more, All-each}
 use Rattle.row_laws.proofs.Differences.{Rises-difference}
 use Rattle.row_laws.proofs.RisingStates.{Rises-rows_of}
 use Rattle.row_laws.proofs.SpelledKeys.{Rises-spelled, batch_between-spelled}
-use Rattle.row_laws.proofs.WrittenRows.{Written, IsNumbered-valid, written_rows, AreKeys-rows_of}
+use Rattle.row_laws.proofs.WrittenRows.{Written, AscendIn-valid, IsNumbered-valid, written_rows, AreKeys-rows_of}
 
 pub bytes_exact : IsAntisymmetric bytes_cmp
 bytes_exact = slice_cmp-IsAntisymmetric nat_cmp-IsAntisymmetric
@@ -45,24 +46,26 @@ All-difference R P (x ∷ xs) new a b = All-with_old R P x (difference R xs) a.0
 -- ---- lengths
 
 short_key : (k : Key) → length (key_bytes k) ≤ 255
-short_key k = by (k.0 == 1) (k.0 == 2) (nat_lt k.0 12)
+short_key k = by (k.0 == 1) (k.0 == 2) (nat_lt k.0 12) (nat_lt k.0 16) (k.0 == 16)
   where
-    by : (u v w : Bool) → length (k.0 ∷ cond u (k.1 ∷ []) (cond v [] (cond w (number_in_key k.1) (number_in_key k.1 ++ number_in_key k.2)))) ≤ 255
-    by true v w = omega arith
-    by false true w = omega arith
-    by false false true = omega arith
-    by false false false = omega arith
+    by : (u v w x y : Bool) → length (k.0 ∷ cond u (k.1 ∷ []) (cond v [] (cond w (number_in_key k.1) (cond x (number_in_key k.1 ++ number_in_key k.2) (cond y (number_in_key k.1) []))))) ≤ 255
+    by true v w x y = omega arith
+    by false true w x y = omega arith
+    by false false true x y = omega arith
+    by false false false true y = omega arith
+    by false false false false true = omega arith
+    by false false false false false = omega arith
 
-pub IsBatch-between : (s t : State) → ValidState s → ValidState t → IsBatch (batch_between s t)
-IsBatch-between s t v w =
-    let rises = Rises-rows_of s (IsNumbered-valid s v) in
-    let after = Rises-rows_of t (IsNumbered-valid t w) in
+pub IsBatch-between : (format : Format) (s t : State) → ValidState s → ValidState t → IsBatch (batch_between format s t)
+IsBatch-between format s t v w =
+    let rises = Rises-rows_of format s (IsNumbered-valid s v) (AscendIn-valid format s v) in
+    let after = Rises-rows_of format t (IsNumbered-valid t w) (AscendIn-valid format t w) in
     record {
-      rises = subst (λ (es : List (Entry (List ℕ))). Rises bytes_cmp es) (sym (batch_between-spelled s t (AreKeys-rows_of s v) (AreKeys-rows_of t w)))
-          (Rises-difference nat_list_cmp_total bytes_exact (spelled_rows (rows_of s)) (spelled_rows (rows_of t))
-          (Rises-spelled (rows_of s) (AreKeys-rows_of s v) rises) (Rises-spelled (rows_of t) (AreKeys-rows_of t w) after));
-      fits = All-map IsSpelledOp (λ e. op_at (key_bytes e.0) e.1) (difference key_cmp (rows_of s) (rows_of t))
-          (All-difference key_cmp (λ e. IsSpelledOp (op_at (key_bytes e.0) e.1)) (rows_of s) (rows_of t)
-          (All-each (λ (x : Key × List ℕ). length (key_bytes x.0) ≤ 255) (λ x. short_key x.0) (rows_of s))
-          (All-more Written (λ (x : Key × List ℕ). (length (key_bytes x.0) ≤ 255) × (length x.1 < 2 ^ 32)) (λ x written. (short_key x.0, written.short_value)) (rows_of t) (written_rows t w)));
+      rises = subst (λ (es : List (Entry (List ℕ))). Rises bytes_cmp es) (sym (batch_between-spelled format s t (AreKeys-rows_of format s v) (AreKeys-rows_of format t w)))
+          (Rises-difference nat_list_cmp_total bytes_exact (spelled_rows (rows_of format s)) (spelled_rows (rows_of format t))
+          (Rises-spelled (rows_of format s) (AreKeys-rows_of format s v) rises) (Rises-spelled (rows_of format t) (AreKeys-rows_of format t w) after));
+      fits = All-map IsSpelledOp (λ e. op_at (key_bytes e.0) e.1) (difference key_cmp (rows_of format s) (rows_of format t))
+          (All-difference key_cmp (λ e. IsSpelledOp (op_at (key_bytes e.0) e.1)) (rows_of format s) (rows_of format t)
+          (All-each (λ (x : Key × List ℕ). length (key_bytes x.0) ≤ 255) (λ x. short_key x.0) (rows_of format s))
+          (All-more (Written format) (λ (x : Key × List ℕ). (length (key_bytes x.0) ≤ 255) × (length x.1 < 2 ^ 32)) (λ x written. (short_key x.0, written.short_value)) (rows_of format t) (written_rows format t w)));
     }

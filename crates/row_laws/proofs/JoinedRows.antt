@@ -1,9 +1,10 @@
 -- Laws on rows that are joined part by part, as those of the tables of a state: what stands at a key, and that they rise where the
 -- parts do and their numbers climb.
-use Rattle.std.proofs.Common.{◌≡◌, ℕ, ◌<◌, ◌==◌, ◌&&◌, nat_lt, Bool, true, false, cond, List, [], ◌∷◌, find, flat_map, ◌||◌, Option, None, Some, option_and_then, refl, ◌∙◌, ap, arith, ltb-true, ne_eqb, eqb-true}
+use Rattle.std.proofs.Common.{◌≡◌, ℕ, ◌<◌, ◌==◌, ◌&&◌, nat_lt, Bool, true, false, cond, List, [], ◌∷◌, find, flat_map, ◌||◌, inl, inr, Option, None, Some, option_and_then, refl, ◌∙◌, ap, arith, ltb-true, ne_eqb, eqb-true}
 use Rattle.std.proofs.lemmas.Bool.{and_parts, cond-false}
 use Rattle.std.specs.Option.{option_or}
 use Rattle.std.specs.List.{AllByRecursion, list_all, list_any}
+use Rattle.ctrl_model.specs.Membership.{Among}
 use Rattle.row_codec.specs.RowKeys.{Key, key_cmp}
 use Rattle.row_codec.specs.RowDifference.{value_at, Rises}
 use Rattle.row_laws.specs.ChangedKeys.{Climbs}
@@ -78,8 +79,8 @@ later_parts g In f order inside x p here (y ∷ ys) a =
 
 pub Rises-joined : {X V : Type 0} (g : X → ℕ) (In : X → Key → Type 0) (f : X → List (Key × V))
     → ((x y : X) → g x < g y → (p q : Key) → In x p → In y q → key_cmp p q ≡ Less) → ((x : X) → AllByRecursion (λ r. In x r.0) (f x))
-    → ((x : X) → Rises key_cmp (f x)) → (xs : List X) → Climbs g xs → Rises key_cmp (flat_map f xs)
-Rises-joined g In f order inside rises [] c = tt
-Rises-joined g In f order inside rises (x ∷ xs) c =
-    Rises-append key_total (f x) (flat_map f xs) (rises x) (Rises-joined g In f order inside rises xs c.1)
+    → (xs : List X) → ((x : X) → Among x xs → Rises key_cmp (f x)) → Climbs g xs → Rises key_cmp (flat_map f xs)
+Rises-joined g In f order inside [] rises c = tt
+Rises-joined g In f order inside (x ∷ xs) rises c =
+    Rises-append key_total (f x) (flat_map f xs) (rises x (inl refl)) (Rises-joined g In f order inside xs (λ y m. rises y (inr m)) c.1)
     (All-more (λ r. In x r.0) (λ r. Above key_cmp r.0 (flat_map f xs)) (λ r here. later_parts g In f order inside x r.0 here xs c.0) (f x) (inside x))

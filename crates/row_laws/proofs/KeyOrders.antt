@@ -116,30 +116,40 @@ be_order m n xs ys h k =
 
 -- ---- the order of keys is that of their bytes
 
-abbrev bytes_after : Bool → Bool → Bool → ℕ → ℕ → List ℕ
-bytes_after u v w a b = cond u (a ∷ []) (cond v [] (cond w (number_in_key a) (number_in_key a ++ number_in_key b)))
+abbrev bytes_after : (u v w x y : Bool) → ℕ → ℕ → List ℕ
+bytes_after u v w x y a b = cond u (a ∷ []) (cond v [] (cond w (number_in_key a) (cond x (number_in_key a ++ number_in_key b) (cond y (number_in_key a) []))))
 
-abbrev fits_after : Bool → Bool → Bool → ℕ → ℕ → Bool
-fits_after u v w a b = cond u (nat_le 1 a && (nat_le a 9 && b == 0)) (cond v (a == 0 && b == 0) (cond w (is_long a && b == 0) (is_long a && is_long b)))
+abbrev fits_after : (u v w x y : Bool) → ℕ → ℕ → Bool
+fits_after u v w x y a b =
+    cond u (nat_le 1 a && (nat_le a 9 && b == 0)) (cond v (a == 0 && b == 0) (cond w (is_long a && b == 0)
+    (cond x (is_long a && is_long b) (cond y (is_long a && b == 0) (a == 0 && b == 0)))))
 
 both_zero : (b d : ℕ) → (b == 0) ≡ true → (d == 0) ≡ true → Equal ≡ nat_cmp b d
 both_zero b d e f = sym (nat_cmp-equal b d (eqb-true b 0 e ∙ sym (eqb-true d 0 f)))
 
-order_after : (u v w : Bool) (a b c d : ℕ) → fits_after u v w a b ≡ true → fits_after u v w c d ≡ true
-    → slice_cmp nat_cmp (bytes_after u v w a b) (bytes_after u v w c d) ≡ ordering_then (nat_cmp a c) (nat_cmp b d)
-order_after true v w a b c d h k =
-    ap (λ o. ordering_then (nat_cmp a c) o)
-    (both_zero b d (and_parts (nat_le a 9) (b == 0) (and_parts (nat_le 1 a) (nat_le a 9 && b == 0) h).1).1
-    (and_parts (nat_le c 9) (d == 0) (and_parts (nat_le 1 c) (nat_le c 9 && d == 0) k).1).1)
-order_after false true w a b c d h k =
+-- keys without numbers, and keys of one number
+no_numbers : (a b c d : ℕ) → (a == 0 && b == 0) ≡ true → (c == 0 && d == 0) ≡ true → Equal ≡ ordering_then (nat_cmp a c) (nat_cmp b d)
+no_numbers a b c d h k =
     let p = and_parts (a == 0) (b == 0) h in
     let q = and_parts (c == 0) (d == 0) k in
     both_zero b d p.1 q.1 ∙ ap (λ o. ordering_then o (nat_cmp b d)) (both_zero a c p.0 q.0)
-order_after false false true a b c d h k =
+
+one_number : (a b c d : ℕ) → (is_long a && b == 0) ≡ true → (is_long c && d == 0) ≡ true
+    → slice_cmp nat_cmp (number_in_key a) (number_in_key c) ≡ ordering_then (nat_cmp a c) (nat_cmp b d)
+one_number a b c d h k =
     let p = and_parts (is_long a) (b == 0) h in
     let q = and_parts (is_long c) (d == 0) k in
     be_order a c [] [] p.0 q.0 ∙ ap (λ o. ordering_then (nat_cmp a c) o) (both_zero b d p.1 q.1)
-order_after false false false a b c d h k =
+
+order_after : (u v w x y : Bool) (a b c d : ℕ) → fits_after u v w x y a b ≡ true → fits_after u v w x y c d ≡ true
+    → slice_cmp nat_cmp (bytes_after u v w x y a b) (bytes_after u v w x y c d) ≡ ordering_then (nat_cmp a c) (nat_cmp b d)
+order_after true v w x y a b c d h k =
+    ap (λ o. ordering_then (nat_cmp a c) o)
+    (both_zero b d (and_parts (nat_le a 9) (b == 0) (and_parts (nat_le 1 a) (nat_le a 9 && b == 0) h).1).1
+    (and_parts (nat_le c 9) (d == 0) (and_parts (nat_le 1 c) (nat_le c 9 && d == 0) k).1).1)
+order_after false true w x y a b c d h k = no_numbers a b c d h k
+order_after false false true x y a b c d h k = one_number a b c d h k
+order_after false false false true y a b c d h k =
     let p = and_parts (is_long a) (is_long b) h in
     let q = and_parts (is_long c) (is_long d) k in
     be_order a c (number_in_key b) (number_in_key d) p.0 q.0
@@ -149,23 +159,28 @@ order_after false false false a b c d h k =
     last Less = refl
     last Equal = refl
     last Greater = refl
+order_after false false false false true a b c d h k = one_number a b c d h k
+order_after false false false false false a b c d h k = no_numbers a b c d h k
 
-after_table : (k : Key) → is_key k ≡ true → fits_after (k.0 == 1) (k.0 == 2) (nat_lt k.0 12) k.1 k.2 ≡ true
+-- what stands behind the number of a table, and whether it is that of a key
+abbrev bytes_in : ℕ → ℕ → ℕ → List ℕ
+bytes_in t a b = bytes_after (t == 1) (t == 2) (nat_lt t 12) (nat_lt t 16) (t == 16) a b
+
+abbrev fits_in : ℕ → ℕ → ℕ → Bool
+fits_in t a b = fits_after (t == 1) (t == 2) (nat_lt t 12) (nat_lt t 16) (t == 16) a b
+
+after_table : (k : Key) → is_key k ≡ true → fits_in k.0 k.1 k.2 ≡ true
 after_table k h =
-    let rest = fits_after (k.0 == 1) (k.0 == 2) (nat_lt k.0 12) k.1 k.2 in
-    (and_parts (nat_le k.0 15) rest (and_parts (nat_le 1 k.0) (nat_le k.0 15 && rest) h).1).1
+    let rest = fits_in k.0 k.1 k.2 in (and_parts (nat_le k.0 17) rest (and_parts (nat_le 1 k.0) (nat_le k.0 17 && rest) h).1).1
 
 pub bytes_order : (k l : Key) → is_key k ≡ true → is_key l ≡ true → bytes_cmp (key_bytes k) (key_bytes l) ≡ key_cmp k l
 bytes_order k l h j = by (cases_order k.0 l.0)
   where
-    K : Ordering
-    K = slice_cmp nat_cmp (bytes_after (k.0 == 1) (k.0 == 2) (nat_lt k.0 12) k.1 k.2) (bytes_after (l.0 == 1) (l.0 == 2) (nat_lt l.0 12) l.1 l.2)
-
     by : (k.0 ≡ l.0) ⊎ ((k.0 < l.0) ⊎ (l.0 < k.0)) → bytes_cmp (key_bytes k) (key_bytes l) ≡ key_cmp k l
     by (inl e) =
         ap (λ o. ordering_then (nat_cmp k.0 l.0) o)
-        (ap (λ t. slice_cmp nat_cmp (bytes_after (k.0 == 1) (k.0 == 2) (nat_lt k.0 12) k.1 k.2) (bytes_after (t == 1) (t == 2) (nat_lt t 12) l.1 l.2)) (sym e)
-        ∙ order_after (k.0 == 1) (k.0 == 2) (nat_lt k.0 12) k.1 k.2 l.1 l.2 (after_table k h)
-        (subst (λ t. fits_after (t == 1) (t == 2) (nat_lt t 12) l.1 l.2 ≡ true) (sym e) (after_table l j)))
+        (ap (λ t. slice_cmp nat_cmp (bytes_in k.0 k.1 k.2) (bytes_in t l.1 l.2)) (sym e)
+        ∙ order_after (k.0 == 1) (k.0 == 2) (nat_lt k.0 12) (nat_lt k.0 16) (k.0 == 16) k.1 k.2 l.1 l.2 (after_table k h)
+        (subst (λ t. fits_in t l.1 l.2 ≡ true) (sym e) (after_table l j)))
     by (inr (inl less)) = rw (nat_cmp-less k.0 l.0 less) refl
     by (inr (inr more)) = rw (nat_cmp-greater k.0 l.0 more) refl

@@ -15,3 +15,4 @@ pub mod SameStates
 pub mod StateBatches
 pub mod TouchedKeys
 pub mod SpelledChanges
+pub mod NarrowedLaws

@@ -3,6 +3,8 @@ use Rattle.std.proofs.Common.{◌≡◌, ℕ, ◌+◌, ◌==◌, ◌&&◌, ◌||
 use Rattle.std.proofs.lemmas.Bool.{true≢false, false≢true}
 use Rattle.std.proofs.lemmas.Bool.Decides.{nat_tests}
 use Rattle.std.specs.List.{list_any}
+use Rattle.ctrl_model.specs.declared.formats.Format.{Format}
+use Rattle.ctrl_model.specs.declared.formats.Format.TheVariants.{One, Two}
 use Rattle.ctrl_model.specs.declared.kinds.Kind.{Kind}
 use Rattle.ctrl_model.specs.declared.kinds.Relation.{Relation}
 use Rattle.ctrl_model.specs.declared.kinds.Relation.TheVariants.{Dial, Bind, IdentityRouter, ServiceRouter}
@@ -10,11 +12,12 @@ use Rattle.ctrl_model.specs.Numbered.{at, numbers}
 use Rattle.ctrl_model.specs.State.{State, Entity, as_entity}
 use Rattle.ctrl_model.specs.Tables.{table}
 use Rattle.ctrl_model.specs.Grants.{count, joins, policies_for, on_both, left_entity, right_entity, left_numbers, right_numbers}
-use Rattle.row_codec.specs.RowKeys.{RowTable, Key, kinds, kind_number, key_in, key_cmp, table_number, tables}
-use Rattle.row_codec.specs.RowKeys.RowTable.{Next, Setting, Records, Counts}
-use Rattle.row_codec.specs.RowValues.{record_value}
+use Rattle.row_codec.specs.RowKeys.{RowTable, Key, kinds, kind_number, key_in, key_cmp, table_number, tables_of}
+use Rattle.row_codec.specs.RowKeys.RowTable.{Next, Setting, Records, Counts, Intercepts, Serial}
+use Rattle.row_codec.specs.RowValues.{record_value, intercept_value}
 use Rattle.row_codec.specs.RowDifference.{value_at}
-use Rattle.row_codec.specs.StateRows.{next_value, setting_value, count_value, row_if_some, rows_in, rows_of, row_in, row_at}
+use Rattle.row_codec.specs.StateRows.{next_value, setting_value, serial_value, count_value, row_if_some, rows_in, rows_of, row_in, row_at}
+use Rattle.row_laws.specs.ChangedKeys.{Climbs}
 use Rattle.row_laws.proofs.KeyOrders.{is_eq-key_cmp}
 use Rattle.row_laws.proofs.JoinedRows.{Climbs-from, pick, pick_alike}
 
@@ -33,8 +36,8 @@ value_at-row key (Some v) q = ap (λ b. cond b (Some v) None) (is_eq-key_cmp key
 
 -- ---- each table
 
-value_at-next : (s : State) (q : Key) → value_at key_cmp (rows_in Next s) q ≡ cond (1 == q.0) (row_in Next s q.1 q.2) None
-value_at-next s q =
+value_at-next : (f : Format) (s : State) (q : Key) → value_at key_cmp (rows_in f Next s) q ≡ cond (1 == q.0) (row_in f Next s q.1 q.2) None
+value_at-next f s q =
     pick kind_number (λ k. row_if_some (1, kind_number k, 0) (next_value (table k s).next))
     (λ k. cond ((1 == q.0) && (0 == q.2)) (next_value (table k s).next) None) q q.1 each kinds (Climbs-from kind_number kinds refl)
     ∙ by (1 == q.0) (0 == q.2) (q.2 == 0) (eqb_sym 0 q.2) (find (λ k. kind_number k == q.1) kinds)
@@ -59,11 +62,12 @@ value_at-next s q =
     by false c d e None = refl
     by false c d e (Some k) = refl
 
-value_at-setting : (s : State) (q : Key) → value_at key_cmp (rows_in Setting s) q ≡ cond (2 == q.0) (row_in Setting s q.1 q.2) None
-value_at-setting s q =
-    value_at-row (2, 0, 0) (setting_value s.least_router_cost) q
-    ∙ ap₂ (λ b c. cond ((2 == q.0) && (b && c)) (setting_value s.least_router_cost) None) (eqb_sym 0 q.1) (eqb_sym 0 q.2)
-    ∙ by (2 == q.0) ((q.1 == 0) && (q.2 == 0)) (setting_value s.least_router_cost)
+-- a row without numbers
+value_at-lone : (n : ℕ) (v : Option (List ℕ)) (q : Key) → value_at key_cmp (row_if_some (n, 0, 0) v) q ≡ cond (n == q.0) (cond ((q.1 == 0) && (q.2 == 0)) v None) None
+value_at-lone n v q =
+    value_at-row (n, 0, 0) v q
+    ∙ ap₂ (λ b c. cond ((n == q.0) && (b && c)) v None) (eqb_sym 0 q.1) (eqb_sym 0 q.2)
+    ∙ by (n == q.0) ((q.1 == 0) && (q.2 == 0)) v
   where
     by : (b c : Bool) (v : Option (List ℕ)) → cond (b && c) v None ≡ cond b (cond c v None) None
     by true c v = refl
@@ -126,30 +130,30 @@ count-right_absent r s a b e =
     by None = refl
     by (Some e) = refl
 
-value_at-counts : (r : Relation) (s : State) (q : Key) → value_at key_cmp (rows_in (Counts r) s) q ≡ cond (table_number (Counts r) == q.0) (row_in (Counts r) s q.1 q.2) None
-value_at-counts r s q =
-    pick_alike (λ a. flat_map (λ b. row_if_some (key_in (Counts r) a b) (count_value (count r s a b))) (right_numbers r s))
-    (cond (t == q.0) (cond (list_any (λ x. x == q.2) (right_numbers r s)) (count_value (count r s q.1 q.2)) None) None) q q.1 outer (left_numbers r s)
+value_at-counts : (f : Format) (r : Relation) (s : State) (q : Key) → value_at key_cmp (rows_in f (Counts r) s) q ≡ cond (table_number (Counts r) == q.0) (row_in f (Counts r) s q.1 q.2) None
+value_at-counts f r s q =
+    pick_alike (λ a. flat_map (λ b. row_if_some (key_in (Counts r) a b) (count_value f (count r s a b))) (right_numbers r s))
+    (cond (t == q.0) (cond (list_any (λ x. x == q.2) (right_numbers r s)) (count_value f (count r s q.1 q.2)) None) None) q q.1 outer (left_numbers r s)
     ∙ by (list_any (λ x. x == q.1) (left_numbers r s)) (list_any (λ x. x == q.2) (right_numbers r s)) refl refl (t == q.0)
   where
     t : ℕ
     t = table_number (Counts r)
 
-    inner_by : (u v w : Bool) (a b : ℕ) → (b == q.2) ≡ w → cond (u && (v && w)) (count_value (count r s a b)) None ≡ cond w (cond (u && v) (count_value (count r s a q.2)) None) None
-    inner_by true true true a b e = ap (λ n. count_value (count r s a n)) (eqb-true b q.2 e)
+    inner_by : (u v w : Bool) (a b : ℕ) → (b == q.2) ≡ w → cond (u && (v && w)) (count_value f (count r s a b)) None ≡ cond w (cond (u && v) (count_value f (count r s a q.2)) None) None
+    inner_by true true true a b e = ap (λ n. count_value f (count r s a n)) (eqb-true b q.2 e)
     inner_by true true false a b e = refl
     inner_by true false true a b e = refl
     inner_by true false false a b e = refl
     inner_by false v true a b e = refl
     inner_by false v false a b e = refl
 
-    inner : (a b : ℕ) → value_at key_cmp (row_if_some (key_in (Counts r) a b) (count_value (count r s a b))) q
-        ≡ cond (b == q.2) (cond ((t == q.0) && (a == q.1)) (count_value (count r s a q.2)) None) None
-    inner a b = value_at-row (key_in (Counts r) a b) (count_value (count r s a b)) q ∙ inner_by (t == q.0) (a == q.1) (b == q.2) a b refl
+    inner : (a b : ℕ) → value_at key_cmp (row_if_some (key_in (Counts r) a b) (count_value f (count r s a b))) q
+        ≡ cond (b == q.2) (cond ((t == q.0) && (a == q.1)) (count_value f (count r s a q.2)) None) None
+    inner a b = value_at-row (key_in (Counts r) a b) (count_value f (count r s a b)) q ∙ inner_by (t == q.0) (a == q.1) (b == q.2) a b refl
 
-    outer_by : (u v w : Bool) (a : ℕ) → (a == q.1) ≡ v → cond w (cond (u && v) (count_value (count r s a q.2)) None) None
-        ≡ cond v (cond u (cond w (count_value (count r s q.1 q.2)) None) None) None
-    outer_by true true true a e = ap (λ n. count_value (count r s n q.2)) (eqb-true a q.1 e)
+    outer_by : (u v w : Bool) (a : ℕ) → (a == q.1) ≡ v → cond w (cond (u && v) (count_value f (count r s a q.2)) None) None
+        ≡ cond v (cond u (cond w (count_value f (count r s q.1 q.2)) None) None) None
+    outer_by true true true a e = ap (λ n. count_value f (count r s n q.2)) (eqb-true a q.1 e)
     outer_by true true false a e = refl
     outer_by true false true a e = refl
     outer_by true false false a e = refl
@@ -158,32 +162,38 @@ value_at-counts r s q =
     outer_by false false true a e = refl
     outer_by false false false a e = refl
 
-    outer : (a : ℕ) → value_at key_cmp (flat_map (λ b. row_if_some (key_in (Counts r) a b) (count_value (count r s a b))) (right_numbers r s)) q
-        ≡ cond (a == q.1) (cond (t == q.0) (cond (list_any (λ x. x == q.2) (right_numbers r s)) (count_value (count r s q.1 q.2)) None) None) None
+    outer : (a : ℕ) → value_at key_cmp (flat_map (λ b. row_if_some (key_in (Counts r) a b) (count_value f (count r s a b))) (right_numbers r s)) q
+        ≡ cond (a == q.1) (cond (t == q.0) (cond (list_any (λ x. x == q.2) (right_numbers r s)) (count_value f (count r s q.1 q.2)) None) None) None
     outer a =
-        pick_alike (λ b. row_if_some (key_in (Counts r) a b) (count_value (count r s a b))) (cond ((t == q.0) && (a == q.1)) (count_value (count r s a q.2)) None) q q.2 (inner a) (right_numbers r s)
+        pick_alike (λ b. row_if_some (key_in (Counts r) a b) (count_value f (count r s a b))) (cond ((t == q.0) && (a == q.1)) (count_value f (count r s a q.2)) None) q q.2 (inner a) (right_numbers r s)
         ∙ outer_by (t == q.0) (a == q.1) (list_any (λ x. x == q.2) (right_numbers r s)) a refl
 
     by : (u v : Bool) → list_any (λ x. x == q.1) (left_numbers r s) ≡ u → list_any (λ x. x == q.2) (right_numbers r s) ≡ v → (w : Bool)
-        → cond u (cond w (cond v (count_value (count r s q.1 q.2)) None) None) None ≡ cond w (count_value (count r s q.1 q.2)) None
-    by u v e f false = by_false u
+        → cond u (cond w (cond v (count_value f (count r s q.1 q.2)) None) None) None ≡ cond w (count_value f (count r s q.1 q.2)) None
+    by u v e g false = by_false u
       where
         by_false : (u : Bool) → ◌≡◌ {A = Option (List ℕ)} (cond u None None) None
         by_false true = refl
         by_false false = refl
-    by true true e f true = refl
-    by true false e f true = sym (ap count_value (count-right_absent r s q.1 q.2 (right_absent r s q.2 f)))
-    by false v e f true = sym (ap count_value (count-left_absent r s q.1 q.2 (left_absent r s q.1 e)))
+    by true true e g true = refl
+    by true false e g true = sym (ap (count_value f) (count-right_absent r s q.1 q.2 (right_absent r s q.2 g)))
+    by false v e g true = sym (ap (count_value f) (count-left_absent r s q.1 q.2 (left_absent r s q.1 e)))
 
 -- ---- all tables
 
-value_at-table : (t : RowTable) (s : State) (q : Key) → value_at key_cmp (rows_in t s) q ≡ cond (table_number t == q.0) (row_in t s q.1 q.2) None
-value_at-table Next s q = value_at-next s q
-value_at-table Setting s q = value_at-setting s q
-value_at-table (Records k) s q = value_at-records (kind_number k + 2) (record_value k) (table k s).rows q
-value_at-table (Counts r) s q = value_at-counts r s q
+value_at-table : (f : Format) (t : RowTable) (s : State) (q : Key) → value_at key_cmp (rows_in f t s) q ≡ cond (table_number t == q.0) (row_in f t s q.1 q.2) None
+value_at-table f Next s q = value_at-next f s q
+value_at-table f Setting s q = value_at-lone 2 (setting_value s.least_router_cost) q
+value_at-table f (Records k) s q = value_at-records (kind_number k + 2) (record_value k) (table k s).rows q
+value_at-table f (Counts r) s q = value_at-counts f r s q
+value_at-table f Intercepts s q = value_at-records 16 intercept_value s.intercepts q
+value_at-table f Serial s q = value_at-lone 17 (serial_value s.serial) q
+
+pub tables_climb : (f : Format) → Climbs table_number (tables_of f)
+tables_climb One = Climbs-from table_number (tables_of One) refl
+tables_climb Two = Climbs-from table_number (tables_of Two) refl
 
 -- the rows of a state have at a key what the state has there
-pub value_at-rows_of : (s : State) (q : Key) → value_at key_cmp (rows_of s) q ≡ row_at s q
-value_at-rows_of s q =
-    pick table_number (λ t. rows_in t s) (λ t. row_in t s q.1 q.2) q q.0 (λ t. value_at-table t s q) tables (Climbs-from table_number tables refl)
+pub value_at-rows_of : (f : Format) (s : State) (q : Key) → value_at key_cmp (rows_of f s) q ≡ row_at f s q
+value_at-rows_of f s q =
+    pick table_number (λ t. rows_in f t s) (λ t. row_in f t s q.1 q.2) q q.0 (λ t. value_at-table f t s q) (tables_of f) (tables_climb f)

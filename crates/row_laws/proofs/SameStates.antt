@@ -3,26 +3,31 @@ use Rattle.std.proofs.Common.{◌≡◌, ℕ, ◌≤◌, ◌==◌, nat_lt, nat_l
 use Rattle.std.proofs.lemmas.Bool.{and_parts}
 use Rattle.std.proofs.lemmas.Option.{same_Some, none-some}
 use Rattle.std.proofs.lemmas.Cmp.{tied_itself, nat_list_cmp_total}
+use Rattle.ctrl_model.specs.declared.formats.Format.{Format}
+use Rattle.ctrl_model.specs.declared.formats.Format.TheVariants.{One, Two}
+use Rattle.ctrl_model.specs.declared.intercepts.Intercept.{Intercept}
 use Rattle.ctrl_model.specs.declared.kinds.Kind.{Kind}
 use Rattle.ctrl_model.specs.declared.kinds.Kind.TheVariants as kind
-use Rattle.ctrl_model.specs.Limits.{last_next}
-use Rattle.ctrl_model.specs.Numbered.{at, Between}
-use Rattle.ctrl_model.specs.State.{State, start}
+use Rattle.ctrl_model.specs.Limits.{last_next, last_serial}
+use Rattle.ctrl_model.specs.InterceptForm.{is_intercept}
+use Rattle.ctrl_model.specs.Numbered.{Table, at, is_present, Between}
+use Rattle.ctrl_model.specs.State.{State, Entity, start}
 use Rattle.ctrl_model.specs.Tables.{Record, table}
-use Rattle.ctrl_model.specs.ValidState.{ValidState}
+use Rattle.ctrl_model.specs.ValidState.{ValidState, is_valid_intercept}
 use Rattle.ctrl_model.proofs.NumberedLaws.{same_numbered}
-use Rattle.ctrl_model.proofs.Members.{at-row}
+use Rattle.ctrl_model.proofs.Members.{at-row, list_all-among}
 use Rattle.row_codec.specs.RowKeys.{Key, key_cmp, key_bytes, key_in, kind_number, is_key, is_long}
-use Rattle.row_codec.specs.RowKeys.RowTable.{Next, Records}
-use Rattle.row_codec.specs.RowValues.{long, record_value}
+use Rattle.row_codec.specs.RowKeys.RowTable.{Next, Setting, Records, Intercepts, Serial}
+use Rattle.row_codec.specs.RowValues.{long, wide, record_value, intercept_value}
 use Rattle.row_codec.specs.RowDifference.{value_at}
-use Rattle.row_codec.specs.StateRows.{Rows, next_value, setting_value, rows_of, row_at}
+use Rattle.row_codec.specs.StateRows.{Rows, next_value, setting_value, serial_value, rows_of, row_at, HasRows}
 use Rattle.row_codec.specs.Batches.{bytes_cmp, spelled_rows}
 use Rattle.row_laws.proofs.KeyOrders.{key_exact, bytes_order, long_upto}
 use Rattle.row_laws.proofs.RowsAtKeys.{value_at-rows_of}
 use Rattle.row_laws.proofs.SpelledChanges.{row_at-next, row_at-record}
 use Rattle.row_laws.proofs.SpelledKeys.{AreKeys}
-use Rattle.row_laws.proofs.SpelledValues.{long_same, same_record, first_same}
+use Rattle.row_laws.proofs.SpelledValues.{long_same, same_record, same_intercept, same_wide, first_same}
+use Rattle.row_laws.proofs.TableRows.{row_at-table}
 use Rattle.row_laws.proofs.WrittenRecords.{record_fits}
 use Rattle.row_laws.proofs.WrittenRows.{AreKeys-rows_of}
 
@@ -82,11 +87,46 @@ same_table k s t v w e f =
     (subst (λ high. Between 1 high (table k t).rows) (sym next) b.ordered) (λ n. same_at k s t v w n (f n)) in
     λ i. record { rows = rows i; next = next i }
 
+-- ---- intercepts and the serial
+
+intercept_at_same : (s t : State) → ValidState s → ValidState t → (n : ℕ) → option_map intercept_value (at s.intercepts n) ≡ option_map intercept_value (at t.intercepts n)
+    → at s.intercepts n ≡ at t.intercepts n
+intercept_at_same s t v w n e = by (at s.intercepts n) (at t.intercepts n) refl refl e
+  where
+    own : (u : State) → ValidState u → (i : Intercept) → at u.intercepts n ≡ Some i → is_intercept i ≡ true
+    own u valid i is = (and_parts (is_present u.services.rows n) (is_intercept i) (list_all-among (is_valid_intercept u) u.intercepts (n, i) valid.intercepts (at-row u.intercepts n i is))).1
+
+    by : (o p : Option Intercept) → at s.intercepts n ≡ o → at t.intercepts n ≡ p → option_map intercept_value o ≡ option_map intercept_value p → o ≡ p
+    by None None a b f = refl
+    by None (Some j) a b f = absurd (none-some (intercept_value j) f)
+    by (Some i) None a b f = absurd (none-some (intercept_value i) (sym f))
+    by (Some i) (Some j) a b f = ap Some (same_intercept i j (own s v i a) (own t w j b) (same_Some (intercept_value i) (intercept_value j) f))
+
+serial_same : (m n : ℕ) → m ≤ last_serial → n ≤ last_serial → serial_value m ≡ serial_value n → m ≡ n
+serial_same m n h k e = by (nat_lt 0 m) (nat_lt 0 n) refl refl e
+  where
+    by : (c d : Bool) → nat_lt 0 m ≡ c → nat_lt 0 n ≡ d → cond c (Some (wide m)) None ≡ cond d (Some (wide n)) None → m ≡ n
+    by true true p q f = same_wide m n (omega (arith, h)) (omega (arith, k)) (same_Some (wide m) (wide n) f)
+    by true false p q f = absurd (none-some (wide m) (sym f))
+    by false true p q f = absurd (none-some (wide n) f)
+    by false false p q f = let a = ltb-false 0 m p in let b = ltb-false 0 n q in omega (arith, a, b)
+
+-- what only the second format tells
+told_in : (format : Format) (s t : State) → ValidState s → ValidState t → HasRows format s → HasRows format t → s.services ≡ t.services
+    → ((key : Key) → row_at format s key ≡ row_at format t key) → (s.intercepts ≡ t.intercepts) × (s.serial ≡ t.serial)
+told_in One s t v w has_s has_t services e = (has_s.0 ∙ sym has_t.0, has_s.1 ∙ sym has_t.1)
+told_in Two s t v w has_s has_t services e = (
+  same_numbered s.services.next s.intercepts t.intercepts 1 v.ordered (subst (λ (u : Table Entity). Between 1 u.next t.intercepts) (sym services) w.ordered)
+      (λ n. intercept_at_same s t v w n (sym (row_at-table Two Intercepts refl s (16, n, 0) refl) ∙ e (16, n, 0) ∙ row_at-table Two Intercepts refl t (16, n, 0) refl)),
+  serial_same s.serial t.serial v.counted w.counted (sym (row_at-table Two Serial refl s (17, 0, 0) refl) ∙ e (17, 0, 0) ∙ row_at-table Two Serial refl t (17, 0, 0) refl),
+)
+
 -- ---- states
 
-pub same_from_keys : (s t : State) → ValidState s → ValidState t → ((key : Key) → row_at s key ≡ row_at t key) → s ≡ t
-same_from_keys s t v w e =
-    let cost = setting_same s.least_router_cost t.least_router_cost (setting_fits s v) (setting_fits t w) (e (2, 0, 0)) in
+pub same_from_keys : (format : Format) (s t : State) → ValidState s → ValidState t → HasRows format s → HasRows format t → ((key : Key) → row_at format s key ≡ row_at format t key) → s ≡ t
+same_from_keys format s t v w has_s has_t e =
+    let told = told_in format s t v w has_s has_t (same kind.Service refl) e in
+    let cost = setting_same s.least_router_cost t.least_router_cost (setting_fits s v) (setting_fits t w) (sym (row_at-table format Setting refl s (2, 0, 0) refl) ∙ e (2, 0, 0) ∙ row_at-table format Setting refl t (2, 0, 0) refl) in
     λ i. record {
       identities = same kind.Identity refl i;
       services = same kind.Service refl i;
@@ -98,17 +138,19 @@ same_from_keys s t v w e =
       terminators = same kind.Terminator refl i;
       circuits = same kind.Circuit refl i;
       least_router_cost = cost i;
+      intercepts = told.0 i;
+      serial = told.1 i;
     }
   where
     same : (k : Kind) → nat_le 1 (kind_number k) ≡ true → table k s ≡ table k t
     same k h =
         let one = leb-true 1 (kind_number k) h in
-        same_table k s t v w (sym (row_at-next k s one) ∙ e (key_in Next (kind_number k) 0) ∙ row_at-next k t one)
-        (λ n. sym (row_at-record k s n one) ∙ e (key_in (Records k) n 0) ∙ row_at-record k t n one)
+        same_table k s t v w (sym (row_at-next format k s one) ∙ e (key_in Next (kind_number k) 0) ∙ row_at-next format k t one)
+        (λ n. sym (row_at-record format k s n one) ∙ e (key_in (Records k) n 0) ∙ row_at-record format k t n one)
 
-pub same_from_rows : (s t : State) → ValidState s → ValidState t → rows_of s ≡ rows_of t → s ≡ t
-same_from_rows s t v w e =
-    same_from_keys s t v w (λ q. sym (value_at-rows_of s q) ∙ ap (λ (rows : Rows). value_at key_cmp rows q) e ∙ value_at-rows_of t q)
+pub same_from_rows : (format : Format) (s t : State) → ValidState s → ValidState t → HasRows format s → HasRows format t → rows_of format s ≡ rows_of format t → s ≡ t
+same_from_rows format s t v w has_s has_t e =
+    same_from_keys format s t v w has_s has_t (λ q. sym (value_at-rows_of format s q) ∙ ap (λ (rows : Rows). value_at key_cmp rows q) e ∙ value_at-rows_of format t q)
 
 -- ---- rows that are spelled alike
 
@@ -125,5 +167,7 @@ same_spelled (x ∷ xs) (y ∷ ys) a b e =
     let value = ap (λ (p : List ℕ × List ℕ). p.1) parts.0 in
     let rest = same_spelled xs ys a.1 b.1 parts.1 in λ i. (key i, value i) ∷ rest i
 
-pub same_from_spelled : (s t : State) → ValidState s → ValidState t → spelled_rows (rows_of s) ≡ spelled_rows (rows_of t) → s ≡ t
-same_from_spelled s t v w e = same_from_rows s t v w (same_spelled (rows_of s) (rows_of t) (AreKeys-rows_of s v) (AreKeys-rows_of t w) e)
+pub same_from_spelled : (format : Format) (s t : State) → ValidState s → ValidState t → HasRows format s → HasRows format t
+    → spelled_rows (rows_of format s) ≡ spelled_rows (rows_of format t) → s ≡ t
+same_from_spelled format s t v w has_s has_t e =
+    same_from_rows format s t v w has_s has_t (same_spelled (rows_of format s) (rows_of format t) (AreKeys-rows_of format s v) (AreKeys-rows_of format t w) e)

@@ -2,6 +2,7 @@
 use Rattle.std.proofs.Common.{◌≡◌, ℕ, Bool, true, false, cond, List, [], ◌∷◌, map, Option, None, Some, refl, sym, ◌∙◌, ap, bytes_eq, Ordering, Less, Equal, Greater}
 use Rattle.std.specs.Ordering.{match_ordering}
 use Rattle.std.specs.List.{AllByRecursion}
+use Rattle.ctrl_model.specs.declared.formats.Format.{Format}
 use Rattle.ctrl_model.specs.State.{State}
 use Rattle.row_codec.specs.RowKeys.{Key, key_cmp, key_bytes, is_key}
 use Rattle.row_codec.specs.RowDifference.{Entry, Rises, put_if_other, with_old, difference}
@@ -72,6 +73,7 @@ entries_of-ops_of (e ∷ es) = by e.1 (entries_of-ops_of es)
     by None h = λ i. (key_bytes e.0, None) ∷ h i
     by (Some v) h = λ i. (key_bytes e.0, Some v) ∷ h i
 
-pub batch_between-spelled : (s t : State) → AreKeys (rows_of s) → AreKeys (rows_of t)
-    → entries_of (batch_between s t) ≡ difference bytes_cmp (spelled_rows (rows_of s)) (spelled_rows (rows_of t))
-batch_between-spelled s t k l = entries_of-ops_of (difference key_cmp (rows_of s) (rows_of t)) ∙ sym (spelled-difference (rows_of s) (rows_of t) k l)
+pub batch_between-spelled : (format : Format) (s t : State) → AreKeys (rows_of format s) → AreKeys (rows_of format t)
+    → entries_of (batch_between format s t) ≡ difference bytes_cmp (spelled_rows (rows_of format s)) (spelled_rows (rows_of format t))
+batch_between-spelled format s t k l =
+    entries_of-ops_of (difference key_cmp (rows_of format s) (rows_of format t)) ∙ sym (spelled-difference (rows_of format s) (rows_of format t) k l)

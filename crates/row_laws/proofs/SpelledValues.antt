@@ -1,7 +1,10 @@
 -- Values of rows tell records apart: two records that fit and have one value are equal. Each part of a value says where it ends.
-use Rattle.std.proofs.Common.{◌≡◌, ℕ, ◌^◌, ◌==◌, ◌&&◌, ◌||◌, nat_lt, nat_le, Bool, true, false, cond, List, [], ◌∷◌, ◌++◌, length, flat_map, get_or, drop, Option, None, Some, refl, sym, ◌∙◌, ap, ap₂, arith, ltb-true, ne_eqb, append_assoc, w16, w32}
+use Rattle.std.proofs.Common.{◌≡◌, ℕ, ◌^◌, ◌<◌, ◌==◌, ◌&&◌, ◌||◌, nat_lt, nat_le, Bool, true, false, cond, List, [], ◌∷◌, ◌++◌, length, map, flat_map, get_or, drop, Option, None, Some, refl, sym, ◌∙◌, ap, ap₂, arith, ltb-true, lt-ltb, leb-true, ne_eqb, append_assoc, w16, w32, w64}
 use Rattle.std.proofs.lemmas.Bool.{and_parts, cond-false, false≢true}
-use Rattle.std.proofs.lemmas.Nat.{from_le_bytes-to_le_bytes_2, from_le_bytes-to_le_bytes_4}
+use Rattle.std.proofs.lemmas.Nat.{from_le_bytes-to_le_bytes_2, from_le_bytes-to_le_bytes_4, from_le_bytes-to_le_bytes_8}
+use Rattle.std.proofs.lemmas.List.{length-map}
+use Rattle.std.proofs.lemmas.List.Folds.{flat_map-map}
+use Rattle.std.proofs.lemmas.Option.{same_Some}
 use Rattle.std.specs.Int.{from_le_bytes}
 use Rattle.std.specs.List.{list_all}
 use Rattle.ctrl_model.specs.declared.kinds.Kind.{Kind}
@@ -13,13 +16,19 @@ use Rattle.ctrl_model.specs.declared.kinds.Relation.{Relation}
 use Rattle.ctrl_model.specs.declared.kinds.Relation.TheVariants.{Dial, Bind, IdentityRouter, ServiceRouter}
 use Rattle.ctrl_model.specs.declared.kinds.Precedence.{Precedence}
 use Rattle.ctrl_model.specs.declared.kinds.Precedence.TheVariants.{Required, Normal, Failed}
+use Rattle.ctrl_model.specs.declared.addresses.Address.{Address}
+use Rattle.ctrl_model.specs.declared.intercepts.Intercept.{Intercept}
+use Rattle.ctrl_model.specs.declared.intercepts.PortRange.{PortRange}
+use Rattle.ctrl_model.specs.AddressForm.{address_of, address_text, is_address, same_address}
+use Rattle.ctrl_model.specs.InterceptForm.{is_claim, is_intercept, is_port_range, is_without_repeats, same_ports}
+use Rattle.ctrl_model.proofs.AddressLaws.{own_spelling}
 use Rattle.ctrl_model.specs.NameForm.{is_name, is_instance}
 use Rattle.ctrl_model.specs.CommandForm.{is_service_relation}
 use Rattle.ctrl_model.specs.State.{Entity, Router, Link, Policy, Terminator, Circuit}
 use Rattle.ctrl_model.specs.Tables.{Record}
 use Rattle.ctrl_model.specs.ValidState.{may_relate}
 use Rattle.row_codec.specs.RowKeys.{is_long}
-use Rattle.row_codec.specs.RowValues.{long, short, text, texts, side_bytes, sides_value, record_value, host_number, precedence_byte, router_marks, flag, relation_byte, semantic_byte}
+use Rattle.row_codec.specs.RowValues.{long, short, wide, protocols_byte, listed, address_value, port_range_value, intercept_value, text, texts, side_bytes, sides_value, record_value, host_number, precedence_byte, router_marks, flag, relation_byte, semantic_byte}
 use Rattle.row_codec.specs.RowForm.{is_short, are_listed, is_listed_side, is_host}
 use Rattle.row_laws.specs.FittingRecords.{fits}
 
@@ -45,7 +54,7 @@ long_same m n us vs h k e = (
   ap (drop 4) e,
 )
 
-short_same : (m n : ℕ) (us vs : List ℕ) → is_short m ≡ true → is_short n ≡ true → short m ++ us ≡ short n ++ vs → (m ≡ n) × (us ≡ vs)
+pub short_same : (m n : ℕ) (us vs : List ℕ) → is_short m ≡ true → is_short n ≡ true → short m ++ us ≡ short n ++ vs → (m ≡ n) × (us ≡ vs)
 short_same m n us vs h k e = (
   sym (from_le_bytes-to_le_bytes_2 m (ltb-true m (2 ^ 16) h)) ∙ ap (λ l. from_le_bytes w16 l) e ∙ from_le_bytes-to_le_bytes_2 n (ltb-true n (2 ^ 16) k),
   ap (drop 2) e,
@@ -281,3 +290,90 @@ same_record kind.ServiceEdgeRouterPolicy p q f g h =
 same_record kind.Terminator r q f g h = terminator_same r q f g h
 same_record kind.Circuit r q f g h = circuit_same r q f g h
 same_record kind.Attribute r q f g h = refl
+
+-- ---- intercepts and the serial
+
+protocols_tcp : (a b : Bool) → ((protocols_byte a b == 1) || (protocols_byte a b == 3)) ≡ a
+protocols_tcp true true = refl
+protocols_tcp true false = refl
+protocols_tcp false true = refl
+protocols_tcp false false = refl
+
+protocols_udp : (a b : Bool) → nat_lt 1 (protocols_byte a b) ≡ b
+protocols_udp true true = refl
+protocols_udp true false = refl
+protocols_udp false true = refl
+protocols_udp false false = refl
+
+protocols_same : (a b c d : Bool) → protocols_byte a b ≡ protocols_byte c d → (a ≡ c) × (b ≡ d)
+protocols_same a b c d e = (
+  sym (protocols_tcp a b) ∙ ap (λ n. (n == 1) || (n == 3)) e ∙ protocols_tcp c d,
+  sym (protocols_udp a b) ∙ ap (λ n. nat_lt 1 n) e ∙ protocols_udp c d,
+)
+
+-- addresses of one text are one address
+address_same : (a b : Address) → is_address a ≡ true → is_address b ≡ true → address_text a ≡ address_text b → a ≡ b
+address_same a b h k e = same_Some a b (sym (own_spelling a h) ∙ ap address_of e ∙ own_spelling b k)
+
+addresses_same : (xs ys : List Address) → list_all is_address xs ≡ true → list_all is_address ys ≡ true → map address_text xs ≡ map address_text ys → xs ≡ ys
+addresses_same [] [] h k e = refl
+addresses_same [] (y ∷ ys) h k e = absurd (cc)
+addresses_same (x ∷ xs) [] h k e = absurd (cc)
+addresses_same (x ∷ xs) (y ∷ ys) h k e =
+    let p = and_parts (is_address x) (list_all is_address xs) h in
+    let q = and_parts (is_address y) (list_all is_address ys) k in
+    let firsts = first_same (address_text x) (address_text y) (map address_text xs) (map address_text ys) e in
+    ap₂ (λ a b. a ∷ b) (address_same x y p.0 q.0 firsts.0) (addresses_same xs ys p.1 q.1 firsts.1)
+
+each_address_same : (xs ys : List Address) (us vs : List ℕ) → length xs ≡ length ys → list_all is_address xs ≡ true → list_all is_address ys ≡ true
+    → flat_map address_value xs ++ us ≡ flat_map address_value ys ++ vs → (xs ≡ ys) × (us ≡ vs)
+each_address_same xs ys us vs e h k f =
+    let as_texts = each_text_same (map address_text xs) (map address_text ys) us vs (length-map xs address_text ∙ e ∙ sym (length-map ys address_text))
+    (ap (λ zs. zs ++ us) (flat_map-map text address_text xs) ∙ f ∙ ap (λ zs. zs ++ vs) (sym (flat_map-map text address_text ys))) in
+    (addresses_same xs ys h k as_texts.0, as_texts.1)
+
+port_range_shorts : (r : PortRange) → is_port_range r ≡ true → (is_short r.low ≡ true) × (is_short r.high ≡ true)
+port_range_shorts r e =
+    let above = (and_parts (nat_le 1 r.low) (nat_le r.low r.high && nat_le r.high 65535) e).1 in
+    let both = and_parts (nat_le r.low r.high) (nat_le r.high 65535) above in
+    let low = leb-true r.low r.high both.0 in
+    let high = leb-true r.high 65535 both.1 in
+    (lt-ltb r.low (2 ^ 16) (omega (arith, low, high)), lt-ltb r.high (2 ^ 16) (omega (arith, high)))
+
+port_ranges_same : (xs ys : List PortRange) → length xs ≡ length ys → list_all is_port_range xs ≡ true → list_all is_port_range ys ≡ true
+    → flat_map port_range_value xs ≡ flat_map port_range_value ys → xs ≡ ys
+port_ranges_same [] [] e h k f = refl
+port_ranges_same [] (y ∷ ys) e h k f = absurd (omega arith)
+port_ranges_same (x ∷ xs) [] e h k f = absurd (omega arith)
+port_ranges_same (x ∷ xs) (y ∷ ys) e h k f =
+    let p = and_parts (is_port_range x) (list_all is_port_range xs) h in
+    let q = and_parts (is_port_range y) (list_all is_port_range ys) k in
+    let a = port_range_shorts x p.0 in
+    let b = port_range_shorts y q.0 in
+    let low = short_same x.low y.low (short x.high ++ flat_map port_range_value xs) (short y.high ++ flat_map port_range_value ys) a.0 b.0 f in
+    let high = short_same x.high y.high (flat_map port_range_value xs) (flat_map port_range_value ys) a.1 b.1 low.1 in
+    ap₂ (λ r rs. r ∷ rs) (λ i. record { low = low.0 i; high = high.0 i }) (port_ranges_same xs ys (omega arith) p.1 q.1 high.1)
+
+-- what is in the list of a claim
+claimed : {A : Type 0} (form : A → Bool) (same : A → A → Bool) (xs : List A) → is_claim form same xs ≡ true → list_all form xs ≡ true
+claimed form same xs e =
+    (and_parts (list_all form xs) (is_without_repeats same xs)
+    (and_parts (nat_le (length xs) 32) (list_all form xs && is_without_repeats same xs) (and_parts (nat_le 1 (length xs)) (nat_le (length xs) 32 && (list_all form xs && is_without_repeats same xs)) e).1).1).0
+
+pub same_intercept : (i j : Intercept) → is_intercept i ≡ true → is_intercept j ≡ true → intercept_value i ≡ intercept_value j → i ≡ j
+same_intercept i j h k e =
+    let p = and_parts (is_claim is_address same_address i.addresses) (is_claim is_port_range same_ports i.ports) (and_parts (i.tcp || i.udp) _ h).1 in
+    let q = and_parts (is_claim is_address same_address j.addresses) (is_claim is_port_range same_ports j.ports) (and_parts (j.tcp || j.udp) _ k).1 in
+    let firsts = first_same (protocols_byte i.tcp i.udp) (protocols_byte j.tcp j.udp)
+    (listed address_value i.addresses ++ listed port_range_value i.ports) (listed address_value j.addresses ++ listed port_range_value j.ports) e in
+    let protocols = protocols_same i.tcp i.udp j.tcp j.udp firsts.0 in
+    let many = first_same (length i.addresses) (length j.addresses)
+    (flat_map address_value i.addresses ++ listed port_range_value i.ports) (flat_map address_value j.addresses ++ listed port_range_value j.ports) firsts.1 in
+    let addresses = each_address_same i.addresses j.addresses (listed port_range_value i.ports) (listed port_range_value j.ports) many.0
+    (claimed is_address same_address i.addresses p.0) (claimed is_address same_address j.addresses q.0) many.1 in
+    let ports = first_same (length i.ports) (length j.ports) (flat_map port_range_value i.ports) (flat_map port_range_value j.ports) addresses.1 in
+    let ranges = port_ranges_same i.ports j.ports ports.0 (claimed is_port_range same_ports i.ports p.1) (claimed is_port_range same_ports j.ports q.1) ports.1 in
+    λ n. record { tcp = protocols.0 n; udp = protocols.1 n; addresses = addresses.0 n; ports = ranges n }
+
+pub same_wide : (m n : ℕ) → m < 2 ^ 64 → n < 2 ^ 64 → wide m ≡ wide n → m ≡ n
+same_wide m n h k e = sym (from_le_bytes-to_le_bytes_8 m h) ∙ ap (λ l. from_le_bytes w64 l) e ∙ from_le_bytes-to_le_bytes_8 n k

@@ -1,8 +1,10 @@
 -- The rows of a valid state: each stands under a key, spells a row's form, and is short enough for a batch.
-use Rattle.std.proofs.Common.{◌≡◌, ℕ, suc, ◌+◌, ◌*◌, ◌^◌, ◌<◌, ◌≤◌, ◌==◌, ◌&&◌, ◌⊎◌, inl, inr, eqb-true, nat_lt, nat_le, Bool, true, false, not, cond, List, [], ◌∷◌, ◌++◌, map, length, flat_map, Option, None, Some, option_map, refl, sym, ap, subst, arith, leb-true, length-append, count_by, le_trans, lt_of_le_of_lt, le_refl}
+use Rattle.std.proofs.Common.{◌≡◌, ℕ, suc, ◌+◌, ◌*◌, ◌^◌, ◌<◌, ◌≤◌, ◌==◌, ◌&&◌, ◌||◌, ◌⊎◌, inl, inr, eqb-true, nat_lt, nat_le, Bool, true, false, not, cond, List, [], ◌∷◌, ◌++◌, map, length, flat_map, Option, None, Some, option_map, refl, sym, ap, subst, arith, leb-true, lt-ltb, length-append, count_by, le_trans, lt_of_le_of_lt, le_refl}
 use Rattle.std.proofs.lemmas.Bool.{and_parts, and_from, or_cases, false≢true, not_from_false}
 use Rattle.std.proofs.lemmas.List.Sums.{count_by-le-length}
 use Rattle.std.specs.List.{list_all, AllByRecursion}
+use Rattle.ctrl_model.specs.declared.formats.Format.{Format}
+use Rattle.ctrl_model.specs.declared.formats.Format.TheVariants.{One, Two}
 use Rattle.ctrl_model.specs.declared.kinds.Kind.{Kind}
 use Rattle.ctrl_model.specs.declared.kinds.Kind.TheVariants as kind
 use Rattle.ctrl_model.specs.declared.kinds.Side.{Side}
@@ -14,33 +16,46 @@ use Rattle.ctrl_model.specs.NameForm.{is_name, is_instance}
 use Rattle.ctrl_model.specs.State.{State, Entity, Policy, start}
 use Rattle.ctrl_model.specs.Tables.{Record, table}
 use Rattle.ctrl_model.specs.Grants.{count, joins, policies_for, on_both, left_entity, right_entity, left_numbers, right_numbers}
-use Rattle.ctrl_model.specs.ValidState.{ValidState, may_relate}
-use Rattle.ctrl_model.proofs.Members.{Among-map}
+use Rattle.ctrl_model.specs.ValidState.{ValidState, is_valid_intercept, may_relate}
+use Rattle.ctrl_model.specs.AddressForm.{is_address, same_address}
+use Rattle.ctrl_model.specs.InterceptForm.{is_intercept, is_claim, is_port_range, same_ports}
+use Rattle.ctrl_model.specs.Limits.{last_serial}
+use Rattle.ctrl_model.specs.Numbered.{is_present}
+use Rattle.ctrl_model.specs.declared.addresses.Address.{Address}
+use Rattle.ctrl_model.specs.declared.intercepts.Intercept.{Intercept}
+use Rattle.ctrl_model.specs.declared.intercepts.PortRange.{PortRange}
+use Rattle.ctrl_model.proofs.AddressLaws.{text_short}
+use Rattle.ctrl_model.proofs.Members.{Among-map, list_all-among}
 use Rattle.row_laws.proofs.KeyOrders.{long_upto}
 use Rattle.row_codec.specs.declared.rows.Row.{Row}
 use Rattle.row_codec.specs.declared.rows.Row.TheVariants as row
-use Rattle.row_codec.specs.RowKeys.{RowTable, Key, kinds, kind_number, key_in, key_bytes, table_number, tables, is_key, is_long}
-use Rattle.row_codec.specs.RowKeys.RowTable.{Next, Setting, Records, Counts}
-use Rattle.row_codec.specs.RowValues.{long, short, text, texts, side_bytes, sides_value, record_value, host_number, precedence_byte, router_marks, flag, relation_byte, semantic_byte}
-use Rattle.row_codec.specs.RowForm.{SpellsRow, are_listed, is_listed_side, is_positive, is_host, is_short}
+use Rattle.row_codec.specs.RowKeys.{RowTable, Key, kinds, kind_number, key_in, key_bytes, table_number, tables_of, is_key, is_long}
+use Rattle.row_codec.specs.RowKeys.RowTable.{Next, Setting, Records, Counts, Intercepts, Serial}
+use Rattle.row_codec.specs.RowValues.{long, short, wide, count_bytes, address_value, port_range_value, intercept_value, text, texts, side_bytes, sides_value, record_value, host_number, precedence_byte, router_marks, flag, relation_byte, semantic_byte}
+use Rattle.row_codec.specs.RowForm.{SpellsRow, are_listed, is_listed_side, is_count, is_host, is_short, is_wide}
 use Rattle.row_codec.specs.StateRows.{next_value, count_value, row_if_some, rows_in, rows_of}
 use Rattle.row_laws.proofs.RisingRows.{All-flat_map, All-more, All-among, All-tested}
-use Rattle.row_laws.proofs.RisingStates.{IsNumbered}
+use Rattle.row_laws.proofs.RisingStates.{IsNumbered, below_sixteen}
 use Rattle.row_laws.proofs.SpelledKeys.{AreKeys}
 use Rattle.row_laws.proofs.TableRows.{has_number}
 use Rattle.row_laws.proofs.TouchedKeys.{pair_key}
 use Rattle.row_laws.specs.FittingRecords.{fits}
-use Rattle.row_laws.proofs.WrittenRecords.{listed_fits, record_fits}
+use Rattle.row_laws.specs.OrderedIntercepts.{AscendIn}
+use Rattle.row_laws.proofs.WrittenRecords.{listed_fits, present_fits, record_fits}
 
--- a row under a key, of a row's form, with a value that is short enough
-pub record Written (x : Key × List ℕ) : Type 0 where
+-- a row under a key, of a row's form in a format, with a value that is short enough
+pub record Written (format : Format) (x : Key × List ℕ) : Type 0 where
   pub under_key : is_key x.0 ≡ true
   pub form : Row
-  pub spells : SpellsRow (key_bytes x.0) x.1 form
+  pub spells : SpellsRow format (key_bytes x.0) x.1 form
   pub short_value : length x.1 < 2 ^ 32
 
 pub IsNumbered-valid : (s : State) → ValidState s → IsNumbered s
 IsNumbered-valid s v k = (v.kinds k).numbers.ordered
+
+pub AscendIn-valid : (format : Format) (s : State) → ValidState s → AscendIn format s
+AscendIn-valid One s v = tt
+AscendIn-valid Two s v = v.ordered
 
 -- ---- how long values are
 
@@ -152,6 +167,37 @@ short_record kind.Circuit c h =
     times n h = omega arith
 short_record kind.Attribute u h = omega arith
 
+-- the value of an intercept is short enough
+each_address_le : (xs : List Address) → list_all is_address xs ≡ true → length (flat_map address_value xs) ≤ length xs * 256
+each_address_le [] e = omega arith
+each_address_le (a ∷ xs) e =
+    let parts = and_parts (is_address a) (list_all is_address xs) e in
+    let short = text_short a parts.0 in
+    let here : length (address_value a) ≤ 256 = omega (arith, short) in
+    more (length (address_value a ++ flat_map address_value xs)) (length (flat_map address_value xs)) (length xs)
+    (append_le (address_value a) (flat_map address_value xs) 256 (length (flat_map address_value xs)) here (le_refl _)) (each_address_le xs parts.1)
+  where
+    more : (a b c : ℕ) → a ≤ 256 + b → b ≤ c * 256 → a ≤ suc c * 256
+    more a b c h k = omega arith
+
+each_range_le : (xs : List PortRange) → length (flat_map port_range_value xs) ≤ length xs * 4
+each_range_le [] = omega arith
+each_range_le (r ∷ xs) = more (length (flat_map port_range_value xs)) (length xs) (each_range_le xs)
+  where
+    more : (a c : ℕ) → a ≤ c * 4 → suc (suc (suc (suc a))) ≤ suc c * 4
+    more a c h = omega arith
+
+pub short_intercept : (i : Intercept) → is_intercept i ≡ true → length (intercept_value i) < 2 ^ 32
+short_intercept i e =
+    let claims = and_parts (is_claim is_address same_address i.addresses) (is_claim is_port_range same_ports i.ports) (and_parts (i.tcp || i.udp) _ e).1 in
+    let some = and_parts (nat_le (length i.addresses) 32) _ (and_parts (nat_le 1 (length i.addresses)) _ claims.0).1 in
+    let few = leb-true (length i.addresses) 32 some.0 in
+    let short = each_address_le i.addresses (and_parts (list_all is_address i.addresses) _ some.1).0 in
+    let few_ports = leb-true (length i.ports) 32 (and_parts (nat_le (length i.ports) 32) _ (and_parts (nat_le 1 (length i.ports)) _ claims.1).1).0 in
+    let ports = each_range_le i.ports in
+    let all = append_le (length i.addresses ∷ flat_map address_value i.addresses) (length i.ports ∷ flat_map port_range_value i.ports) 8193 129 (omega (arith, few, short)) (omega (arith, few_ports, ports)) in
+    omega (arith, all)
+
 -- ---- the row of a record, of a count, of a next number
 
 hosts_back : (o : Option ℕ) → option_map (λ (h : IdentityNo). h.0) (option_map (λ n. record { 0 = n }) o) ≡ o
@@ -166,31 +212,31 @@ without_third : (l m r x : Bool) → l ≡ true → (m && (r && x)) ≡ true →
 without_third l m r x h f = let parts = and_parts m (r && x) f in and_from l _ h (and_from m x parts.0 (and_parts r x parts.1).1)
 
 -- a record as the row that it spells
-written_by : (k : Kind) (n : ℕ) (r : Record k) (x : Row) → is_key (kind_number k + 2, n, 0) ≡ true → fits k r ≡ true → SpellsRow (key_bytes (kind_number k + 2, n, 0)) (record_value k r) x
-    → Written ((kind_number k + 2, n, 0), record_value k r)
-written_by k n r x key f spells = record { under_key = key; form = x; spells = spells; short_value = short_record k r f }
+written_by : (format : Format) (k : Kind) (n : ℕ) (r : Record k) (x : Row) → is_key (kind_number k + 2, n, 0) ≡ true → fits k r ≡ true → SpellsRow format (key_bytes (kind_number k + 2, n, 0)) (record_value k r) x
+    → Written format ((kind_number k + 2, n, 0), record_value k r)
+written_by format k n r x key f spells = record { under_key = key; form = x; spells = spells; short_value = short_record k r f }
 
-pub written_record : (k : Kind) (n : ℕ) (r : Record k) → has_number (Records k) ≡ true → is_long n ≡ true → fits k r ≡ true → Written ((kind_number k + 2, n, 0), record_value k r)
-written_record kind.Identity n e has h f =
-    written_by kind.Identity n e (row.Identity (record { 0 = n }) e.name e.attributes) (fit_number n h) f (record { form = and_from (is_long n) _ h f; key_is = refl; value_is = refl })
-written_record kind.Service n e has h f =
-    written_by kind.Service n e (row.Service (record { 0 = n }) e.name e.attributes) (fit_number n h) f (record { form = and_from (is_long n) _ h f; key_is = refl; value_is = refl })
-written_record kind.Router n r has h f =
-    written_by kind.Router n r (row.Router (record { 0 = n }) r.name r.attributes r.cost r.through r.connected) (fit_number n h) f (record { form = and_from (is_long n) _ h f; key_is = refl; value_is = refl })
-written_record kind.Link n l has h f =
-    written_by kind.Link n l (row.Link (record { 0 = n }) l.name (record { 0 = l.a }) (record { 0 = l.b }) l.cost l.latency_a l.latency_b l.up) (fit_number n h) f
+pub written_record : (format : Format) (k : Kind) (n : ℕ) (r : Record k) → has_number format (Records k) ≡ true → is_long n ≡ true → fits k r ≡ true → Written format ((kind_number k + 2, n, 0), record_value k r)
+written_record format kind.Identity n e has h f =
+    written_by format kind.Identity n e (row.Identity (record { 0 = n }) e.name e.attributes) (fit_number n h) f (record { form = and_from (is_long n) _ h f; key_is = refl; value_is = refl })
+written_record format kind.Service n e has h f =
+    written_by format kind.Service n e (row.Service (record { 0 = n }) e.name e.attributes) (fit_number n h) f (record { form = and_from (is_long n) _ h f; key_is = refl; value_is = refl })
+written_record format kind.Router n r has h f =
+    written_by format kind.Router n r (row.Router (record { 0 = n }) r.name r.attributes r.cost r.through r.connected) (fit_number n h) f (record { form = and_from (is_long n) _ h f; key_is = refl; value_is = refl })
+written_record format kind.Link n l has h f =
+    written_by format kind.Link n l (row.Link (record { 0 = n }) l.name (record { 0 = l.a }) (record { 0 = l.b }) l.cost l.latency_a l.latency_b l.up) (fit_number n h) f
     (record { form = and_from (is_long n) _ h f; key_is = refl; value_is = refl })
-written_record kind.ServicePolicy n p has h f =
-    written_by kind.ServicePolicy n p (row.ServicePolicy (record { 0 = n }) p.name p.relation p.semantic p.left p.right) (fit_number n h) f (record { form = and_from (is_long n) _ h f; key_is = refl; value_is = refl })
-written_record kind.EdgeRouterPolicy n p has h f =
-    written_by kind.EdgeRouterPolicy n p (row.EdgeRouterPolicy (record { 0 = n }) p.name p.semantic p.left p.right) (fit_number n h) f
+written_record format kind.ServicePolicy n p has h f =
+    written_by format kind.ServicePolicy n p (row.ServicePolicy (record { 0 = n }) p.name p.relation p.semantic p.left p.right) (fit_number n h) f (record { form = and_from (is_long n) _ h f; key_is = refl; value_is = refl })
+written_record format kind.EdgeRouterPolicy n p has h f =
+    written_by format kind.EdgeRouterPolicy n p (row.EdgeRouterPolicy (record { 0 = n }) p.name p.semantic p.left p.right) (fit_number n h) f
     (record { form = without_third (is_long n) (is_name p.name) (may_relate kind.EdgeRouterPolicy p.relation) _ h f; key_is = refl; value_is = refl })
-written_record kind.ServiceEdgeRouterPolicy n p has h f =
-    written_by kind.ServiceEdgeRouterPolicy n p (row.ServiceEdgeRouterPolicy (record { 0 = n }) p.name p.semantic p.left p.right) (fit_number n h) f
+written_record format kind.ServiceEdgeRouterPolicy n p has h f =
+    written_by format kind.ServiceEdgeRouterPolicy n p (row.ServiceEdgeRouterPolicy (record { 0 = n }) p.name p.semantic p.left p.right) (fit_number n h) f
     (record { form = without_third (is_long n) (is_name p.name) (may_relate kind.ServiceEdgeRouterPolicy p.relation) _ h f; key_is = refl; value_is = refl })
-written_record kind.Terminator n t has h f =
+written_record format kind.Terminator n t has h f =
     let hosts = hosts_back t.host in
-    written_by kind.Terminator n t
+    written_by format kind.Terminator n t
     (row.Terminator (record { 0 = n }) (record { 0 = t.service }) (record { 0 = t.router }) (option_map (λ n. record { 0 = n }) t.host) t.instance t.cost t.precedence) (fit_number n h) f
     (record {
       form = and_from (is_long n) _ h
@@ -198,10 +244,10 @@ written_record kind.Terminator n t has h f =
       key_is = refl;
       value_is = ap (λ o. record_value kind.Terminator (record t { host = o })) (sym hosts);
     })
-written_record kind.Circuit n c has h f =
-    written_by kind.Circuit n c (row.Circuit (record { 0 = n }) (record { 0 = c.identity }) (record { 0 = c.service }) (record { 0 = c.terminator }) (record { 0 = c.ingress }) c.links) (fit_number n h) f
+written_record format kind.Circuit n c has h f =
+    written_by format kind.Circuit n c (row.Circuit (record { 0 = n }) (record { 0 = c.identity }) (record { 0 = c.service }) (record { 0 = c.terminator }) (record { 0 = c.ingress }) c.links) (fit_number n h) f
     (record { form = and_from (is_long n) _ h f; key_is = refl; value_is = refl })
-written_record kind.Attribute n u has h f = absurd (false≢true has)
+written_record format kind.Attribute n u has h f = absurd (false≢true has)
 
 -- the row of a count, which spells it
 abbrev count_row : Relation → ℕ → ℕ → ℕ → Row
@@ -210,22 +256,28 @@ count_row Bind a b c = row.Bind (record { 0 = a }) (record { 0 = b }) c
 count_row IdentityRouter a b c = row.IdentityRouter (record { 0 = a }) (record { 0 = b }) c
 count_row ServiceRouter a b c = row.ServiceRouter (record { 0 = a }) (record { 0 = b }) c
 
-count_spells : (r : Relation) (a b c : ℕ) → (is_long a && (is_long b && is_positive c)) ≡ true → SpellsRow (key_bytes (table_number (Counts r), a, b)) (long c) (count_row r a b c)
-count_spells Dial a b c e = record { form = e; key_is = refl; value_is = refl }
-count_spells Bind a b c e = record { form = e; key_is = refl; value_is = refl }
-count_spells IdentityRouter a b c e = record { form = e; key_is = refl; value_is = refl }
-count_spells ServiceRouter a b c e = record { form = e; key_is = refl; value_is = refl }
+count_spells : (format : Format) (r : Relation) (a b c : ℕ) → (is_long a && (is_long b && is_count format c)) ≡ true
+    → SpellsRow format (key_bytes (table_number (Counts r), a, b)) (count_bytes format c) (count_row r a b c)
+count_spells format Dial a b c e = record { form = e; key_is = refl; value_is = refl }
+count_spells format Bind a b c e = record { form = e; key_is = refl; value_is = refl }
+count_spells format IdentityRouter a b c e = record { form = e; key_is = refl; value_is = refl }
+count_spells format ServiceRouter a b c e = record { form = e; key_is = refl; value_is = refl }
 
-written_count : (r : Relation) (a b c : ℕ) → is_long a ≡ true → is_long b ≡ true → is_positive c ≡ true → Written ((table_number (Counts r), a, b), long c)
-written_count r a b c h k p = record {
+short_count : (format : Format) (c : ℕ) → length (count_bytes format c) < 2 ^ 32
+short_count One c = omega arith
+short_count Two c = omega arith
+
+written_count : (format : Format) (r : Relation) (a b c : ℕ) → is_long a ≡ true → is_long b ≡ true → is_count format c ≡ true
+    → Written format ((table_number (Counts r), a, b), count_bytes format c)
+written_count format r a b c h k p = record {
   under_key = pair_key r (a, b) (and_from (is_long a) (is_long b) h k);
   form = count_row r a b c;
-  spells = count_spells r a b c (and_from (is_long a) _ h (and_from (is_long b) _ k p));
-  short_value = omega arith;
+  spells = count_spells format r a b c (and_from (is_long a) _ h (and_from (is_long b) _ k p));
+  short_value = short_count format c;
 }
 
-written_next : (n next : ℕ) → (nat_le 1 n && nat_le n 9) ≡ true → nat_lt 1 next ≡ true → is_long next ≡ true → Written ((1, n, 0), long next)
-written_next n next e h k =
+written_next : (format : Format) (n next : ℕ) → (nat_le 1 n && nat_le n 9) ≡ true → nat_lt 1 next ≡ true → is_long next ≡ true → Written format ((1, n, 0), long next)
+written_next format n next e h k =
     let parts = and_parts (nat_le 1 n) (nat_le n 9) e in
     record {
       under_key = and_from (nat_le 1 n) _ parts.0 (and_from (nat_le n 9) true parts.1 refl);
@@ -234,8 +286,8 @@ written_next n next e h k =
       short_value = omega arith;
     }
 
-written_setting : (cost : ℕ) → (cost == start.least_router_cost) ≡ false → is_long cost ≡ true → Written ((2, 0, 0), long cost)
-written_setting cost e h = record {
+written_setting : (format : Format) (cost : ℕ) → (cost == start.least_router_cost) ≡ false → is_long cost ≡ true → Written format ((2, 0, 0), long cost)
+written_setting format cost e h = record {
   under_key = refl;
   form = row.Setting cost;
   spells = record { form = and_from (not (cost == start.least_router_cost)) (is_long cost) (not_from_false (cost == start.least_router_cost) e) h; key_is = refl; value_is = refl };
@@ -270,62 +322,98 @@ few_policies Bind s v = (v.kinds kind.ServicePolicy).numbers.few
 few_policies IdentityRouter s v = le_trans (v.kinds kind.EdgeRouterPolicy).numbers.few (omega arith)
 few_policies ServiceRouter s v = le_trans (v.kinds kind.ServiceEdgeRouterPolicy).numbers.few (omega arith)
 
-pub count_fits : (r : Relation) (s : State) → ValidState s → (a b : ℕ) → is_long (count r s a b) ≡ true
-count_fits r s v a b = by (left_entity r s a) (right_entity r s b)
+-- a count is at most how many policies its kind may have
+pub count_most : (r : Relation) (s : State) → ValidState s → (a b : ℕ) → count r s a b ≤ 512
+count_most r s v a b = by (left_entity r s a) (right_entity r s b)
   where
-    counted : (e f : Entity) → count_by (λ (row : ℕ × Policy). joins r row.1 e f) (policies_for r s) ≤ 4294967295
-    counted e f = le_trans (count_by-le-length (λ (row : ℕ × Policy). joins r row.1 e f) (policies_for r s)) (le_trans (few_policies r s v) (omega arith))
+    by : (o p : Option Entity) → on_both o p (λ e f. count_by (λ row. joins r row.1 e f) (policies_for r s)) ≤ 512
+    by None p = omega arith
+    by (Some e) None = omega arith
+    by (Some e) (Some f) = le_trans (count_by-le-length (λ (row : ℕ × Policy). joins r row.1 e f) (policies_for r s)) (few_policies r s v)
 
-    by : (o p : Option Entity) → is_long (on_both o p (λ e f. count_by (λ row. joins r row.1 e f) (policies_for r s))) ≡ true
-    by None p = refl
-    by (Some e) None = refl
-    by (Some e) (Some f) = long_upto (count_by (λ row. joins r row.1 e f) (policies_for r s)) (counted e f)
+-- so one above 0 has a row in either format
+pub count_fits : (format : Format) (r : Relation) (s : State) → ValidState s → (a b : ℕ) → nat_lt 0 (count r s a b) ≡ true → is_count format (count r s a b) ≡ true
+count_fits One r s v a b above =
+    let most = count_most r s v a b in
+    and_from (nat_lt 0 (count r s a b)) (is_long (count r s a b)) above (lt-ltb (count r s a b) (2 ^ 32) (omega (arith, most)))
+count_fits Two r s v a b above =
+    let most = count_most r s v a b in
+    and_from (nat_lt 0 (count r s a b)) (is_short (count r s a b)) above (lt-ltb (count r s a b) (2 ^ 16) (omega (arith, most)))
 
-written_records : (k : Kind) → has_number (Records k) ≡ true → (s : State) → ValidState s → (rows : List (ℕ × Record k)) → ((x : ℕ × Record k) → Among x rows → Among x (table k s).rows)
-    → AllByRecursion Written (map (λ x. ((kind_number k + 2, x.0, 0), record_value k x.1)) rows)
-written_records k has s v [] inside = tt
-written_records k has s v (x ∷ xs) inside =
+written_records : (format : Format) (k : Kind) → has_number format (Records k) ≡ true → (s : State) → ValidState s → (rows : List (ℕ × Record k)) → ((x : ℕ × Record k) → Among x rows → Among x (table k s).rows)
+    → AllByRecursion (Written format) (map (λ x. ((kind_number k + 2, x.0, 0), record_value k x.1)) rows)
+written_records format k has s v [] inside = tt
+written_records format k has s v (x ∷ xs) inside =
     let here = inside x (inl refl) in (
-      written_record k x.0 x.1 has (listed_fits (v.kinds k).numbers x.0 (Among-map (λ (y : ℕ × Record k). y.0) (table k s).rows x here)) (record_fits s v k x here),
-      written_records k has s v xs (λ y m. inside y (inr m)),
+      written_record format k x.0 x.1 has (listed_fits (v.kinds k).numbers x.0 (Among-map (λ (y : ℕ × Record k). y.0) (table k s).rows x here)) (record_fits s v k x here),
+      written_records format k has s v xs (λ y m. inside y (inr m)),
     )
 
-written_counts : (r : Relation) (s : State) → ValidState s → AllByRecursion Written (rows_in (Counts r) s)
-written_counts r s v =
-    All-flat_map Written (λ a. flat_map (λ b. row_if_some (key_in (Counts r) a b) (count_value (count r s a b))) (right_numbers r s)) (left_numbers r s)
-    (All-among (λ a. AllByRecursion Written (flat_map (λ b. row_if_some (key_in (Counts r) a b) (count_value (count r s a b))) (right_numbers r s))) (left_numbers r s) (λ a m.
-    All-flat_map Written (λ b. row_if_some (key_in (Counts r) a b) (count_value (count r s a b))) (right_numbers r s)
-    (All-among (λ b. AllByRecursion Written (row_if_some (key_in (Counts r) a b) (count_value (count r s a b)))) (right_numbers r s) (λ b l.
-    All-cond Written (key_in (Counts r) a b) (nat_lt 0 (count r s a b)) (long (count r s a b)) (λ above.
-    written_count r a b (count r s a b) (left_fits r s v a m) (right_fits r s v b l)
-    (and_from (nat_lt 0 (count r s a b)) (is_long (count r s a b)) above (count_fits r s v a b)))))))
+written_counts : (format : Format) (r : Relation) (s : State) → ValidState s → AllByRecursion (Written format) (rows_in format (Counts r) s)
+written_counts format r s v =
+    All-flat_map (Written format) (λ a. flat_map (λ b. row_if_some (key_in (Counts r) a b) (count_value format (count r s a b))) (right_numbers r s)) (left_numbers r s)
+    (All-among (λ a. AllByRecursion (Written format) (flat_map (λ b. row_if_some (key_in (Counts r) a b) (count_value format (count r s a b))) (right_numbers r s))) (left_numbers r s) (λ a m.
+    All-flat_map (Written format) (λ b. row_if_some (key_in (Counts r) a b) (count_value format (count r s a b))) (right_numbers r s)
+    (All-among (λ b. AllByRecursion (Written format) (row_if_some (key_in (Counts r) a b) (count_value format (count r s a b)))) (right_numbers r s) (λ b l.
+    All-cond (Written format) (key_in (Counts r) a b) (nat_lt 0 (count r s a b)) (count_bytes format (count r s a b)) (λ above.
+    written_count format r a b (count r s a b) (left_fits r s v a m) (right_fits r s v b l) (count_fits format r s v a b above))))))
 
-written_table : (t : RowTable) (s : State) → ValidState s → AllByRecursion Written (rows_in t s)
-written_table Next s v =
-    All-flat_map Written (λ k. row_if_some (1, kind_number k, 0) (next_value (table k s).next)) kinds
-    (All-more (λ k. (nat_le 1 (kind_number k) && nat_le (kind_number k) 9) ≡ true) (λ k. AllByRecursion Written (row_if_some (1, kind_number k, 0) (next_value (table k s).next)))
-    (λ k e. All-cond Written (1, kind_number k, 0) (nat_lt 1 (table k s).next) (long (table k s).next)
-    (λ above. written_next (kind_number k) (table k s).next e above (long_upto (table k s).next (v.kinds k).numbers.last)))
+-- an intercept and the serial, which the second format alone has
+written_intercept : (n : ℕ) (i : Intercept) → is_long n ≡ true → is_intercept i ≡ true → Written Two ((16, n, 0), intercept_value i)
+written_intercept n i h f = record {
+  under_key = fit_number n h;
+  form = row.Intercept (record { 0 = n }) i;
+  spells = record { form = and_from (is_long n) (is_intercept i) h f; key_is = refl; value_is = refl };
+  short_value = short_intercept i f;
+}
+
+written_intercepts : (s : State) → ValidState s → (rows : List (ℕ × Intercept)) → ((x : ℕ × Intercept) → Among x rows → Among x s.intercepts)
+    → AllByRecursion (Written Two) (map (λ x. ((16, x.0, 0), intercept_value x.1)) rows)
+written_intercepts s v [] inside = tt
+written_intercepts s v (x ∷ xs) inside =
+    let valid = and_parts (is_present s.services.rows x.0) (is_intercept x.1) (list_all-among (is_valid_intercept s) s.intercepts x v.intercepts (inside x (inl refl))) in (
+      written_intercept x.0 x.1 (present_fits (v.kinds kind.Service).numbers x.0 valid.0).1 valid.1,
+      written_intercepts s v xs (λ y m. inside y (inr m)),
+    )
+
+written_serial : (n : ℕ) → nat_lt 0 n ≡ true → n ≤ last_serial → Written Two ((17, 0, 0), wide n)
+written_serial n above last = record {
+  under_key = refl;
+  form = row.Serial n;
+  spells = record { form = and_from (nat_lt 0 n) (is_wide n) above (lt-ltb n (2 ^ 64) (omega (arith, last))); key_is = refl; value_is = refl };
+  short_value = omega arith;
+}
+
+written_table : (format : Format) (t : RowTable) (s : State) → ValidState s → Among t (tables_of format) → AllByRecursion (Written format) (rows_in format t s)
+written_table format Next s v in_format =
+    All-flat_map (Written format) (λ k. row_if_some (1, kind_number k, 0) (next_value (table k s).next)) kinds
+    (All-more (λ k. (nat_le 1 (kind_number k) && nat_le (kind_number k) 9) ≡ true) (λ k. AllByRecursion (Written format) (row_if_some (1, kind_number k, 0) (next_value (table k s).next)))
+    (λ k e. All-cond (Written format) (1, kind_number k, 0) (nat_lt 1 (table k s).next) (long (table k s).next)
+    (λ above. written_next format (kind_number k) (table k s).next e above (long_upto (table k s).next (v.kinds k).numbers.last)))
     kinds (All-tested (λ k. nat_le 1 (kind_number k) && nat_le (kind_number k) 9) kinds refl))
-written_table Setting s v =
+written_table format Setting s v in_format =
     let most = leb-true s.least_router_cost 65535 (and_parts (nat_le 1 s.least_router_cost) (nat_le s.least_router_cost 65535) v.setting).1 in
-    All-uncond Written (2, 0, 0) (s.least_router_cost == start.least_router_cost) (long s.least_router_cost)
-    (λ e. written_setting s.least_router_cost e (long_upto s.least_router_cost (le_trans most (omega arith))))
-written_table (Records kind.Identity) s v = written_records kind.Identity refl s v s.identities.rows (λ x m. m)
-written_table (Records kind.Service) s v = written_records kind.Service refl s v s.services.rows (λ x m. m)
-written_table (Records kind.Router) s v = written_records kind.Router refl s v s.routers.rows (λ x m. m)
-written_table (Records kind.Link) s v = written_records kind.Link refl s v s.links.rows (λ x m. m)
-written_table (Records kind.ServicePolicy) s v = written_records kind.ServicePolicy refl s v s.service_policies.rows (λ x m. m)
-written_table (Records kind.EdgeRouterPolicy) s v = written_records kind.EdgeRouterPolicy refl s v s.edge_router_policies.rows (λ x m. m)
-written_table (Records kind.ServiceEdgeRouterPolicy) s v = written_records kind.ServiceEdgeRouterPolicy refl s v s.service_edge_router_policies.rows (λ x m. m)
-written_table (Records kind.Terminator) s v = written_records kind.Terminator refl s v s.terminators.rows (λ x m. m)
-written_table (Records kind.Circuit) s v = written_records kind.Circuit refl s v s.circuits.rows (λ x m. m)
-written_table (Records kind.Attribute) s v = tt
-written_table (Counts r) s v = written_counts r s v
+    All-uncond (Written format) (2, 0, 0) (s.least_router_cost == start.least_router_cost) (long s.least_router_cost)
+    (λ e. written_setting format s.least_router_cost e (long_upto s.least_router_cost (le_trans most (omega arith))))
+written_table format (Records kind.Identity) s v in_format = written_records format kind.Identity refl s v s.identities.rows (λ x m. m)
+written_table format (Records kind.Service) s v in_format = written_records format kind.Service refl s v s.services.rows (λ x m. m)
+written_table format (Records kind.Router) s v in_format = written_records format kind.Router refl s v s.routers.rows (λ x m. m)
+written_table format (Records kind.Link) s v in_format = written_records format kind.Link refl s v s.links.rows (λ x m. m)
+written_table format (Records kind.ServicePolicy) s v in_format = written_records format kind.ServicePolicy refl s v s.service_policies.rows (λ x m. m)
+written_table format (Records kind.EdgeRouterPolicy) s v in_format = written_records format kind.EdgeRouterPolicy refl s v s.edge_router_policies.rows (λ x m. m)
+written_table format (Records kind.ServiceEdgeRouterPolicy) s v in_format = written_records format kind.ServiceEdgeRouterPolicy refl s v s.service_edge_router_policies.rows (λ x m. m)
+written_table format (Records kind.Terminator) s v in_format = written_records format kind.Terminator refl s v s.terminators.rows (λ x m. m)
+written_table format (Records kind.Circuit) s v in_format = written_records format kind.Circuit refl s v s.circuits.rows (λ x m. m)
+written_table format (Records kind.Attribute) s v in_format = tt
+written_table format (Counts r) s v in_format = written_counts format r s v
+written_table One Intercepts s v in_format = absurd (false≢true (below_sixteen Intercepts in_format))
+written_table Two Intercepts s v in_format = written_intercepts s v s.intercepts (λ x m. m)
+written_table One Serial s v in_format = absurd (false≢true (below_sixteen Serial in_format))
+written_table Two Serial s v in_format = All-cond (Written Two) (17, 0, 0) (nat_lt 0 s.serial) (wide s.serial) (λ above. written_serial s.serial above v.counted)
 
 -- each row of a valid state stands under a key, has a row's form, and is short enough for a batch
-pub written_rows : (s : State) → ValidState s → AllByRecursion Written (rows_of s)
-written_rows s v = All-flat_map Written (λ t. rows_in t s) tables (All-among (λ t. AllByRecursion Written (rows_in t s)) tables (λ t m. written_table t s v))
+pub written_rows : (format : Format) (s : State) → ValidState s → AllByRecursion (Written format) (rows_of format s)
+written_rows format s v = All-flat_map (Written format) (λ t. rows_in format t s) (tables_of format) (All-among (λ t. AllByRecursion (Written format) (rows_in format t s)) (tables_of format) (λ t m. written_table format t s v m))
 
-pub AreKeys-rows_of : (s : State) → ValidState s → AreKeys (rows_of s)
-AreKeys-rows_of s v = All-more Written (λ x. is_key x.0 ≡ true) (λ x w. w.under_key) (rows_of s) (written_rows s v)
+pub AreKeys-rows_of : (format : Format) (s : State) → ValidState s → AreKeys (rows_of format s)
+AreKeys-rows_of format s v = All-more (Written format) (λ x. is_key x.0 ≡ true) (λ x w. w.under_key) (rows_of format s) (written_rows format s v)

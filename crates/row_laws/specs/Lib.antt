@@ -1,3 +1,4 @@
 pub mod SaidChanges
 pub mod ChangedKeys
 pub mod FittingRecords
+pub mod OrderedIntercepts

@@ -23,10 +23,11 @@ pub use difference_laws::{
 };
 pub use key_laws::{bytes_keep_the_order, keys_are_ordered};
 pub use state_rows::{
-    equal_rows_equal_states, records_fit, rows_at_keys, rows_have_their_form, rows_rise,
+    counts_are_few, equal_rows_equal_states, narrowed_rows, records_fit, rows_at_keys,
+    rows_have_their_form, rows_rise,
 };
 pub use touched_keys::{
-    counts_are_covered, many_records_are_touched, next_numbers_are_covered, one_record_is_touched,
-    records_are_covered, the_setting_is_covered,
+    counts_are_covered, intercepts_and_the_serial_are_covered, many_records_are_touched,
+    next_numbers_are_covered, one_record_is_touched, records_are_covered, the_setting_is_covered,
 };
 pub use worked::{worked_batches, worked_changes, worked_keys};

@@ -3,6 +3,7 @@ ghost use Rattle.std.specs.Ordering.{nat_cmp};
 ghost use Rattle.std.specs.declared.cmp.Ordering.TheVariants.{Less, Greater};
 ghost use Rattle.ctrl_model.specs.State.{start};
 ghost use Rattle.ctrl_model.specs.WorkedStates.{after, line, ann_to_web};
+ghost use Rattle.ctrl_model.specs.declared.formats.Format.TheVariants.{One};
 ghost use Rattle.ctrl_model.specs.declared.kinds.Kind.TheVariants as kind;
 ghost use Rattle.ctrl_model.specs.declared.kinds.Relation.TheVariants.{Dial};
 ghost use Rattle.ctrl_model.specs.declared.commands.Command.TheVariants.{CreateIdentity, SetLeastRouterCost, DeleteServicePolicy, DeleteCircuit};
@@ -30,13 +31,13 @@ pub fn worked_keys()
 
 /// The changes at keys of one table or two, as batches worked by hand.
 pub fn worked_changes()
-    ensures identity { batch_bytes (batch_of (next_changes start (after (CreateIdentity (codes "ann") [] ∷ []) start) (kind.Identity ∷ [])
-        ++ record_changes kind.Identity start (after (CreateIdentity (codes "ann") [] ∷ []) start) (1 ∷ [])))
+    ensures identity { batch_bytes (batch_of (next_changes One start (after (CreateIdentity (codes "ann") [] ∷ []) start) (kind.Identity ∷ [])
+        ++ record_changes One kind.Identity start (after (CreateIdentity (codes "ann") [] ∷ []) start) (1 ∷ [])))
         ≡ 1 ∷ 2 ∷ 1 ∷ 1 ∷ 4 ∷ 0 ∷ 0 ∷ 0 ∷ 2 ∷ 0 ∷ 0 ∷ 0 ∷ 1 ∷ 5 ∷ 3 ∷ 0 ∷ 0 ∷ 0 ∷ 1 ∷ 5 ∷ 0 ∷ 0 ∷ 0 ∷ 3 ∷ 97 ∷ 110 ∷ 110 ∷ 0 ∷ [] }
-    ensures setting { batch_bytes (batch_of (setting_change line (after (SetLeastRouterCost 20 ∷ []) line) ∷ [])) ≡ 1 ∷ 1 ∷ 2 ∷ 4 ∷ 0 ∷ 0 ∷ 0 ∷ 20 ∷ 0 ∷ 0 ∷ 0 ∷ [] }
-    ensures counts { batch_bytes (batch_of (count_changes Dial line (after (DeleteServicePolicy (codes "dial") ∷ []) line) ((1, 1) ∷ [])))
+    ensures setting { batch_bytes (batch_of (setting_change One line (after (SetLeastRouterCost 20 ∷ []) line) ∷ [])) ≡ 1 ∷ 1 ∷ 2 ∷ 4 ∷ 0 ∷ 0 ∷ 0 ∷ 20 ∷ 0 ∷ 0 ∷ 0 ∷ [] }
+    ensures counts { batch_bytes (batch_of (count_changes One Dial line (after (DeleteServicePolicy (codes "dial") ∷ []) line) ((1, 1) ∷ [])))
         ≡ 2 ∷ 9 ∷ 12 ∷ 0 ∷ 0 ∷ 0 ∷ 1 ∷ 0 ∷ 0 ∷ 0 ∷ 1 ∷ [] }
-    ensures circuit_gone { batch_bytes (batch_of (record_changes kind.Circuit (after (ann_to_web ∷ []) line) (after (ann_to_web ∷ DeleteCircuit 1 ∷ []) line) (1 ∷ [])))
+    ensures circuit_gone { batch_bytes (batch_of (record_changes One kind.Circuit (after (ann_to_web ∷ []) line) (after (ann_to_web ∷ DeleteCircuit 1 ∷ []) line) (1 ∷ [])))
         ≡ 2 ∷ 5 ∷ 11 ∷ 0 ∷ 0 ∷ 0 ∷ 1 ∷ [] }
-    ensures untouched { batch_of (record_changes kind.Router line (after (SetLeastRouterCost 20 ∷ []) line) (1 ∷ 2 ∷ 3 ∷ [])) ≡ [] }
+    ensures untouched { batch_of (record_changes One kind.Router line (after (SetLeastRouterCost 20 ∷ []) line) (1 ∷ 2 ∷ 3 ∷ [])) ≡ [] }
 {}

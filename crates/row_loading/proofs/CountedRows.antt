@@ -9,13 +9,15 @@ use Rattle.std.specs.Cmp.{IsTotalOrder, tied_then}
 use Rattle.std.specs.FinMap.{IsAntisymmetric}
 use Rattle.std.specs.List.{AllByRecursion, list_all}
 use Rattle.std.specs.Ordering.{nat_cmp, ordering_then}
+use Rattle.ctrl_model.specs.declared.formats.Format.{Format}
+use Rattle.ctrl_model.specs.declared.formats.Format.TheVariants.{One, Two}
 use Rattle.ctrl_model.specs.declared.kinds.Relation.{Relation}
 use Rattle.ctrl_model.specs.declared.kinds.Relation.TheVariants.{Dial, Bind, IdentityRouter, ServiceRouter}
 use Rattle.ctrl_model.specs.Grants.{same_relation}
 use Rattle.grant_denorm.specs.PairCounts.{same_pair, count_of, ComesFirst, AreCounts}
 use Rattle.row_codec.specs.declared.rows.Row.{Row}
 use Rattle.row_codec.specs.declared.rows.Row.TheVariants as row
-use Rattle.row_codec.specs.RowForm.{is_row, key_of, is_positive}
+use Rattle.row_codec.specs.RowForm.{is_row, key_of, is_count, is_short}
 use Rattle.row_codec.specs.RowKeys.{Key, key_cmp, key_in, table_number, is_long}
 use Rattle.row_codec.specs.RowKeys.RowTable.{Counts}
 use Rattle.row_codec.specs.RowDifference.{value_at, Rises}
@@ -40,6 +42,8 @@ counted_by r x = by_row (record {
   setting = λ cost. [];
   one = λ k n q. [];
   count = λ q a b c. cond (same_relation r q) (((a, b), c) ∷ []) [];
+  intercept = λ n i. [];
+  serial = λ n. [];
 }) x
 
 abbrev pub counted_in : Relation → List Row → Pairs
@@ -54,7 +58,7 @@ record IsCount (r : Relation) (x : Row) : Type 0 where
   pub said : (a b : ℕ) → count_said r a b x ≡ cond (left == a) (cond (right == b) (Some count) None) None
   pub is : is_count_of r x ≡ true
   pub key : key_of x ≡ key_in (Counts r) left right
-  pub positive : is_row x ≡ true → 0 < count
+  pub positive : (f : Format) → is_row f x ≡ true → 0 < count
 
 record IsNoCount (r : Relation) (x : Row) : Type 0 where
   pub counted : counted_by r x ≡ []
@@ -84,7 +88,7 @@ same_one ServiceRouter ServiceRouter e = refl
 
 a_count : (r q : Relation) (x : Row) (left right count : ℕ) → counted_by r x ≡ cond (same_relation r q) (((left, right), count) ∷ []) []
     → ((a b : ℕ) → count_said r a b x ≡ cond (same_relation r q) (cond (left == a) (cond (right == b) (Some count) None) None) None)
-    → is_count_of r x ≡ same_relation r q → key_of x ≡ key_in (Counts q) left right → (is_row x ≡ true → 0 < count) → IsCount r x ⊎ IsNoCount r x
+    → is_count_of r x ≡ same_relation r q → key_of x ≡ key_in (Counts q) left right → ((f : Format) → is_row f x ≡ true → 0 < count) → IsCount r x ⊎ IsNoCount r x
 a_count r q x left right count e f g k p = by (same_relation r q) refl
   where
     by : (t : Bool) → same_relation r q ≡ t → IsCount r x ⊎ IsNoCount r x
@@ -104,10 +108,12 @@ a_count r q x left right count e f g k p = by (same_relation r q) refl
       is = g ∙ is;
     })
 
-above_none : (a b c : ℕ) → (is_long a && (is_long b && is_positive c)) ≡ true → 0 < c
-above_none a b c f =
-    let last = (and_parts (is_long b) (is_positive c) (and_parts (is_long a) (is_long b && is_positive c) f).1).1 in
-    ltb-true 0 c (and_parts (nat_lt 0 c) (is_long c) last).0
+above_none : (a b c : ℕ) (f : Format) → (is_long a && (is_long b && is_count f c)) ≡ true → 0 < c
+above_none a b c f h = by f (and_parts (is_long b) (is_count f c) (and_parts (is_long a) (is_long b && is_count f c) h).1).1
+  where
+    by : (f : Format) → is_count f c ≡ true → 0 < c
+    by One h = ltb-true 0 c (and_parts (nat_lt 0 c) (is_long c) h).0
+    by Two h = ltb-true 0 c (and_parts (nat_lt 0 c) (is_short c) h).0
 
 told : (r : Relation) (x : Row) → IsCount r x ⊎ IsNoCount r x
 told r (row.Next k next) = other refl (λ a b. refl) refl
@@ -124,6 +130,8 @@ told r (row.Circuit n identity service terminator ingress links) = other refl (�
 told r (row.Dial i s c) = a_count r Dial (row.Dial i s c) i.0 s.0 c refl (λ a b. refl) refl refl (above_none i.0 s.0 c)
 told r (row.Bind i s c) = a_count r Bind (row.Bind i s c) i.0 s.0 c refl (λ a b. refl) refl refl (above_none i.0 s.0 c)
 told r (row.IdentityRouter i s c) = a_count r IdentityRouter (row.IdentityRouter i s c) i.0 s.0 c refl (λ a b. refl) refl refl (above_none i.0 s.0 c)
+told r (row.Intercept n i) = other refl (λ a b. refl) refl
+told r (row.Serial n) = other refl (λ a b. refl) refl
 told r (row.ServiceRouter i s c) = a_count r ServiceRouter (row.ServiceRouter i s c) i.0 s.0 c refl (λ a b. refl) refl refl (above_none i.0 s.0 c)
 
 -- ---- there are as many as rows that are counts of the relation
@@ -171,9 +179,9 @@ behind_table : (r : Relation) (a b x y : ℕ) → key_cmp (key_in (Counts r) a b
 behind_table r a b x y e =
     sym (ap (λ c. ordering_then c (pair_cmp (a, b) (x, y))) (nat_cmp-equal (table_number (Counts r)) (table_number (Counts r)) refl)) ∙ e
 
-Above-counted : (r : Relation) (a b : ℕ) (rows : List Row) → Above key_cmp (key_in (Counts r) a b) (keyed rows) → Above pair_cmp (a, b) (counted_in r rows)
-Above-counted r a b [] h = tt
-Above-counted r a b (x ∷ xs) h = by (told r x) (Above-counted r a b xs h.1)
+Above-counted : (v : Format) (r : Relation) (a b : ℕ) (rows : List Row) → Above key_cmp (key_in (Counts r) a b) (keyed v rows) → Above pair_cmp (a, b) (counted_in r rows)
+Above-counted v r a b [] h = tt
+Above-counted v r a b (x ∷ xs) h = by (told r x) (Above-counted v r a b xs h.1)
   where
     by : IsCount r x ⊎ IsNoCount r x → Above pair_cmp (a, b) (counted_in r xs) → Above pair_cmp (a, b) (counted_by r x ++ counted_in r xs)
     by (inl c) t =
@@ -181,27 +189,27 @@ Above-counted r a b (x ∷ xs) h = by (told r x) (Above-counted r a b xs h.1)
         (behind_table r a b c.left c.right (subst (λ (k : Key). key_cmp (key_in (Counts r) a b) k ≡ Less) c.key h.0), t)
     by (inr c) t = subst (λ (es : Pairs). Above pair_cmp (a, b) (es ++ counted_in r xs)) (sym c.counted) t
 
-pub Rises-counted : (r : Relation) (rows : List Row) → Rises key_cmp (keyed rows) → Rises pair_cmp (counted_in r rows)
-Rises-counted r [] h = tt
-Rises-counted r (x ∷ xs) h = by (told r x) (Rises-counted r xs h.1)
+pub Rises-counted : (v : Format) (r : Relation) (rows : List Row) → Rises key_cmp (keyed v rows) → Rises pair_cmp (counted_in r rows)
+Rises-counted v r [] h = tt
+Rises-counted v r (x ∷ xs) h = by (told r x) (Rises-counted v r xs h.1)
   where
     by : IsCount r x ⊎ IsNoCount r x → Rises pair_cmp (counted_in r xs) → Rises pair_cmp (counted_by r x ++ counted_in r xs)
     by (inl c) t =
         subst (λ (es : Pairs). Rises pair_cmp (es ++ counted_in r xs)) (sym c.counted)
-        (Above-counted r c.left c.right xs (subst (λ (k : Key). Above key_cmp k (keyed xs)) c.key h.0), t)
+        (Above-counted v r c.left c.right xs (subst (λ (k : Key). Above key_cmp k (keyed v xs)) c.key h.0), t)
     by (inr c) t = subst (λ (es : Pairs). Rises pair_cmp (es ++ counted_in r xs)) (sym c.counted) t
 
 abbrev AreAbove : Pairs → Type 0
 AreAbove xs = AllByRecursion (λ (x : (ℕ × ℕ) × ℕ). 0 < x.1) xs
 
-AreAbove-counted : (r : Relation) (rows : List Row) → list_all is_row rows ≡ true → AreAbove (counted_in r rows)
-AreAbove-counted r [] f = tt
-AreAbove-counted r (x ∷ xs) f =
-    let parts = and_parts (is_row x) (list_all is_row xs) f in
-    by (told r x) parts.0 (AreAbove-counted r xs parts.1)
+AreAbove-counted : (v : Format) (r : Relation) (rows : List Row) → list_all (is_row v) rows ≡ true → AreAbove (counted_in r rows)
+AreAbove-counted v r [] f = tt
+AreAbove-counted v r (x ∷ xs) f =
+    let parts = and_parts (is_row v x) (list_all (is_row v) xs) f in
+    by (told r x) parts.0 (AreAbove-counted v r xs parts.1)
   where
-    by : IsCount r x ⊎ IsNoCount r x → is_row x ≡ true → AreAbove (counted_in r xs) → AreAbove (counted_by r x ++ counted_in r xs)
-    by (inl c) g t = subst (λ (es : Pairs). AreAbove (es ++ counted_in r xs)) (sym c.counted) (c.positive g, t)
+    by : IsCount r x ⊎ IsNoCount r x → is_row v x ≡ true → AreAbove (counted_in r xs) → AreAbove (counted_by r x ++ counted_in r xs)
+    by (inl c) g t = subst (λ (es : Pairs). AreAbove (es ++ counted_in r xs)) (sym c.counted) (c.positive v g, t)
     by (inr c) g t = subst (λ (es : Pairs). AreAbove (es ++ counted_in r xs)) (sym c.counted) t
 
 above_first : (p : ℕ × ℕ) (xs : Pairs) → ComesFirst p xs → Above pair_cmp p xs
@@ -254,29 +262,29 @@ stand_in xs ys above kept q v e =
     let same = kept q.0 q.1 (omega (arith, positive, is)) in
     some_value (value_at pair_cmp ys q) v (sym is ∙ same ∙ count_of-value ys q.0 q.1) positive
 
-part : (r : Relation) (rows : List Row) (ys : Pairs) → list_all is_row rows ≡ true → Rises key_cmp (keyed rows) → AreCounts ys
+part : (v : Format) (r : Relation) (rows : List Row) (ys : Pairs) → list_all (is_row v) rows ≡ true → Rises key_cmp (keyed v rows) → AreCounts ys
     → ((a b : ℕ) → 0 < count_in rows r a b → count_in rows r a b ≡ count_of ys a b) → ArePart pair_cmp (counted_in r rows) ys
-part r rows ys form rises counts kept =
-    are_part pair_total pair_exact (counted_in r rows) ys (Rises-counted r rows rises) (Rises-counts ys counts)
-    (stand_in (counted_in r rows) ys (AreAbove-counted r rows form)
+part v r rows ys form rises counts kept =
+    are_part pair_total pair_exact (counted_in r rows) ys (Rises-counted v r rows rises) (Rises-counts ys counts)
+    (stand_in (counted_in r rows) ys (AreAbove-counted v r rows form)
     (λ a b h. let e = count_in-counted r rows a b in sym e ∙ kept a b (omega (arith, e, h))))
 
 -- as many counts are all of them
-pub none_lacks : (r : Relation) (rows : List Row) (ys : Pairs) (n m : ℕ) → list_all is_row rows ≡ true → Rises key_cmp (keyed rows) → AreCounts ys
+pub none_lacks : (v : Format) (r : Relation) (rows : List Row) (ys : Pairs) (n m : ℕ) → list_all (is_row v) rows ≡ true → Rises key_cmp (keyed v rows) → AreCounts ys
     → ((a b : ℕ) → 0 < count_in rows r a b → count_in rows r a b ≡ count_of ys a b) → n ≡ count_by (is_count_of r) rows → m ≡ length ys → nat_lt n m ≡ false
     → (a b : ℕ) → count_in rows r a b ≡ count_of ys a b
-none_lacks r rows ys n m form rises counts kept e f h a b =
-    let p = part r rows ys form rises counts kept in
+none_lacks v r rows ys n m form rises counts kept e f h a b =
+    let p = part v r rows ys form rises counts kept in
     let many = ltb-false n m h in
     let all = p.whole (omega (arith, length-counted r rows, e, f, many)) in
     count_in-counted r rows a b ∙ ap (λ (es : Pairs). count_of es a b) all
 
 -- fewer lack one
-pub one_lacks : (r : Relation) (rows : List Row) (ys : Pairs) (n m : ℕ) → list_all is_row rows ≡ true → Rises key_cmp (keyed rows) → AreCounts ys
+pub one_lacks : (v : Format) (r : Relation) (rows : List Row) (ys : Pairs) (n m : ℕ) → list_all (is_row v) rows ≡ true → Rises key_cmp (keyed v rows) → AreCounts ys
     → ((a b : ℕ) → 0 < count_in rows r a b → count_in rows r a b ≡ count_of ys a b) → n ≡ count_by (is_count_of r) rows → m ≡ length ys → nat_lt n m ≡ true
     → (a : ℕ) × (b : ℕ) × (count_in rows r a b ≡ 0) × (0 < count_of ys a b)
-one_lacks r rows ys n m form rises counts kept e f h =
-    let p = part r rows ys form rises counts kept in
+one_lacks v r rows ys n m form rises counts kept e f h =
+    let p = part v r rows ys form rises counts kept in
     let few = ltb-true n m h in
     let l = p.lacks (omega (arith, length-counted r rows, e, f, few)) in
     let a = l.key.0 in

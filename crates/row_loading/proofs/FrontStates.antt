@@ -1,6 +1,8 @@
 -- The states that the rows of a valid state lead through: the records of the kinds before one, and a front of those of that kind. Each
 -- record at the end of the front leads to a front that is one longer.
 use Rattle.std.proofs.Common.{◌≡◌, ℕ, zero, suc, ◌+◌, true, List, [], ◌∷◌, get_or, refl, sym, ap}
+use Rattle.ctrl_model.specs.declared.formats.Format.TheVariants.{One}
+use Rattle.ctrl_model.specs.declared.intercepts.Intercept.{Intercept}
 use Rattle.ctrl_model.specs.declared.kinds.Kind.{Kind}
 use Rattle.ctrl_model.specs.declared.kinds.Kind.TheVariants as kind
 use Rattle.ctrl_model.specs.declared.kinds.Relation.{Relation}
@@ -66,7 +68,7 @@ front k rows s = with_table k (so_far rows) (before k s)
 
 -- ---- what a front has
 
-pub table-front : (k : Kind) → has_number (Records k) ≡ true → (rows : List (ℕ × Record k)) (s : State) → table k (front k rows s) ≡ so_far rows
+pub table-front : (k : Kind) → has_number One (Records k) ≡ true → (rows : List (ℕ × Record k)) (s : State) → table k (front k rows s) ≡ so_far rows
 table-front kind.Attribute has rows s = absurd (cc)
 table-front k has rows s = refl
 
@@ -74,7 +76,7 @@ pub front-nothing : (k : Kind) (s : State) → front k [] s ≡ before k s
 front-nothing kind.Attribute s = refl
 front-nothing k s = refl
 
-pub joined-front : (k : Kind) → has_number (Records k) ≡ true → (rows : List (ℕ × Record k)) (n : ℕ) (r : Record k) (s : State)
+pub joined-front : (k : Kind) → has_number One (Records k) ≡ true → (rows : List (ℕ × Record k)) (n : ℕ) (r : Record k) (s : State)
     → joined k n r (front k rows s) ≡ front k (with_last rows n r) s
 joined-front kind.Attribute has rows n r s = absurd (cc)
 joined-front k has rows n r s = ap (λ t. with_table k t (before k s)) (so_far-last rows n r)
@@ -96,13 +98,17 @@ inside-front k rows s inside = with_table-holds (λ j t. Includes t.rows (table 
 
 -- ---- the end
 
--- counts are those of the state
-pub count-end : (r : Relation) (s : State) (a b : ℕ) → count r (before kind.Attribute s) a b ≡ count r s a b
-count-end Dial s a b = refl
-count-end Bind s a b = refl
-count-end IdentityRouter s a b = refl
-count-end ServiceRouter s a b = refl
+-- the state with all records, some intercepts and a serial
+abbrev pub with_claims : List (ℕ × Intercept) → ℕ → State → State
+with_claims is n s = record (before kind.Attribute s) { intercepts = is; serial = n }
 
--- with the next numbers of the state it is the state
-pub with_nexts-end : (nexts : Kind → ℕ) (s : State) → ((k : Kind) → nexts k ≡ (table k s).next) → with_nexts nexts (before kind.Attribute s) ≡ s
-with_nexts-end nexts s e = λ i. with_nexts (λ k. e k i) (before kind.Attribute s)
+-- counts are those of the state
+pub count-end : (r : Relation) (s : State) (is : List (ℕ × Intercept)) (n a b : ℕ) → count r (with_claims is n s) a b ≡ count r s a b
+count-end Dial s is n a b = refl
+count-end Bind s is n a b = refl
+count-end IdentityRouter s is n a b = refl
+count-end ServiceRouter s is n a b = refl
+
+-- with its intercepts, its serial and the next numbers of the state it is the state
+pub with_nexts-end : (nexts : Kind → ℕ) (s : State) → ((k : Kind) → nexts k ≡ (table k s).next) → with_nexts nexts (with_claims s.intercepts s.serial s) ≡ s
+with_nexts-end nexts s e = λ i. with_nexts (λ k. e k i) (with_claims s.intercepts s.serial s)

@@ -4,6 +4,7 @@ use Rattle.std.proofs.lemmas.Bool.{and_parts}
 use Rattle.std.proofs.lemmas.Option.{same_Some}
 use Rattle.std.specs.List.{list_all}
 use Rattle.std.specs.Option.{unwrap_or}
+use Rattle.ctrl_model.specs.declared.formats.Format.{Format}
 use Rattle.ctrl_model.specs.declared.kinds.Kind.{Kind}
 use Rattle.ctrl_model.specs.Limits.{last_next}
 use Rattle.row_codec.specs.declared.rows.Row.{Row}
@@ -38,7 +39,7 @@ next_between (Some n) h =
     let one = ltb-true 1 n (h n refl).0 in
     let below : n < 4294967296 = ltb-true n (2 ^ 32) (h n refl).1 in (omega arith, omega arith)
 
-pub next_in-between : (rows : List Row) (k : Kind) → list_all is_row rows ≡ true → (1 ≤ next_in rows k) × (next_in rows k ≤ last_next)
-next_in-between rows k h =
-    let between = next_between (first_next (kind_number k) (things_of rows)) (λ n e. let fits = first_next-fits (kind_number k) (things_of rows) (are_things rows h) n e in (fits.1, fits.2)) in
+pub next_in-between : (f : Format) (rows : List Row) (k : Kind) → list_all (is_row f) rows ≡ true → (1 ≤ next_in rows k) × (next_in rows k ≤ last_next)
+next_in-between f rows k h =
+    let between = next_between (first_next (kind_number k) (things_of rows)) (λ n e. let fits = first_next-fits (kind_number k) (things_of rows) (are_things f rows h) n e in (fits.1, fits.2)) in
     subst (λ n. (1 ≤ n) × (n ≤ last_next)) (sym (next_in-things rows k)) between

@@ -3,6 +3,7 @@ use Rattle.std.proofs.Common.{◌≡◌, ℕ, ◌+◌, ◌<◌, ◌≤◌, ◌==
 use Rattle.std.proofs.lemmas.Bool.{and_parts, cond-true, cond-false, false_from_ne_true}
 use Rattle.std.proofs.lemmas.Option.{none-some}
 use Rattle.std.specs.Str.{bytes_eq}
+use Rattle.ctrl_model.specs.declared.formats.Format.TheVariants.{One}
 use Rattle.ctrl_model.specs.declared.kinds.Kind.{Kind}
 use Rattle.ctrl_model.specs.declared.kinds.Kind.TheVariants as kind
 use Rattle.ctrl_model.specs.Limits.{limit}
@@ -29,7 +30,7 @@ above : {R : Type 0} (low high : ℕ) (done more : List (ℕ × R)) (n : ℕ) (r
 above low high [] more n r b = b.0
 above low high (x ∷ xs) more n r b = above (x.0 + 1) high xs more n r b.2
 
-least : {R : Type 0} (low high : ℕ) (done more : List (ℕ × R)) (n : ℕ) (r : R) → Between low high (done ++ (n, r) ∷ more) → low ≤ n
+pub least : {R : Type 0} (low high : ℕ) (done more : List (ℕ × R)) (n : ℕ) (r : R) → Between low high (done ++ (n, r) ∷ more) → low ≤ n
 least low high [] more n r b = b.0
 least low high (x ∷ xs) more n r b = let l = least (x.0 + 1) high xs more n r b.2 in let k = b.0 in omega arith
 
@@ -140,7 +141,7 @@ no_flaw false true false true true p q r t u ha hb hc hd he = absurd (cc)
 or_neither : (a b : Bool) → a ≡ false → b ≡ false → (a || b) ≡ false
 or_neither a b h k = ap₂ (λ c d. c || d) h k
 
-pub next_flawless : (k : Kind) → has_number (Records k) ≡ true → (s : State) → ValidState s → (nexts : Kind → ℕ) → nexts k ≡ (table k s).next
+pub next_flawless : (k : Kind) → has_number One (Records k) ≡ true → (s : State) → ValidState s → (nexts : Kind → ℕ) → nexts k ≡ (table k s).next
     → (done more : List (ℕ × Record k)) (n : ℕ) (r : Record k) → done ++ (n, r) ∷ more ≡ (table k s).rows → flaw_of nexts k n r (front k done s) ≡ None
 next_flawless k has s v nexts next done more n r split =
     let valid = v.kinds k in

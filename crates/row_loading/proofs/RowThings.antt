@@ -1,10 +1,13 @@
--- What rows are, as one of four things each: a next number, the setting, a record or a count. What is said of rows case by case is said
--- here of these things, and is the same.
+-- What rows are, as one of six things each: a next number, the setting, a record, a count, an intercept or the serial. What is said of
+-- rows case by case is said here of these things, and is the same.
 use Rattle.std.proofs.Common.{◌≡◌, ℕ, ◌==◌, ◌&&◌, nat_lt, nat_le, not, is_some, Bool, true, false, cond, List, [], ◌∷◌, map, find, Option, None, Some, refl, ◌∙◌, ap, arith}
 use Rattle.std.proofs.lemmas.Bool.{and_parts, and_from}
 use Rattle.std.proofs.lemmas.Bool.Decides.{nat_tests}
 use Rattle.std.specs.List.{list_all}
 use Rattle.std.specs.Option.{unwrap_or}
+use Rattle.ctrl_model.specs.declared.formats.Format.{Format}
+use Rattle.ctrl_model.specs.declared.formats.Format.TheVariants.{One, Two}
+use Rattle.ctrl_model.specs.declared.intercepts.Intercept.{Intercept}
 use Rattle.ctrl_model.specs.declared.kinds.Kind.{Kind}
 use Rattle.ctrl_model.specs.declared.kinds.Relation.{Relation}
 use Rattle.ctrl_model.specs.declared.kinds.Relation.TheVariants.{Dial, Bind, IdentityRouter, ServiceRouter}
@@ -14,12 +17,12 @@ use Rattle.ctrl_model.specs.Grants.{same_relation}
 use Rattle.row_codec.specs.declared.rows.Row.{Row}
 use Rattle.row_codec.specs.declared.rows.Row.TheVariants as row
 use Rattle.row_codec.specs.RowKeys.{Key, kinds, kind_number, key_in, is_long}
-use Rattle.row_codec.specs.RowKeys.RowTable.{Next, Setting, Records, Counts}
-use Rattle.row_codec.specs.RowValues.{long, record_value}
-use Rattle.row_codec.specs.RowForm.{is_row, key_of, value_of, is_positive}
+use Rattle.row_codec.specs.RowKeys.RowTable.{Next, Setting, Records, Counts, Intercepts, Serial}
+use Rattle.row_codec.specs.RowValues.{long, wide, count_bytes, record_value, intercept_value}
+use Rattle.row_codec.specs.RowForm.{is_row, key_of, value_of, is_count, is_short, is_two, is_wide}
 use Rattle.row_codec.specs.StateRows.{Rows}
 use Rattle.state_building.specs.RowForms.{by_row}
-use Rattle.state_building.specs.JoinedRecords.{joined}
+use Rattle.state_building.specs.JoinedRecords.{joined, claimed}
 use Rattle.state_building.specs.BuiltStates.{with_row, built, next_in, count_in}
 use Rattle.row_loading.specs.LoadedRows.{keyed}
 
@@ -29,10 +32,12 @@ pub data Thing : Type 0 where
   TheSetting : ℕ → Thing
   OneRecord : (k : Kind) → ℕ → Record k → Thing
   OneCount : Relation → ℕ → ℕ → ℕ → Thing
+  OneIntercept : ℕ → Intercept → Thing
+  TheSerial : ℕ → Thing
 
 -- What a row is.
 abbrev pub thing_of : Row → Thing
-thing_of x = by_row (record { next = NextNumber; setting = TheSetting; one = OneRecord; count = OneCount }) x
+thing_of x = by_row (record { next = NextNumber; setting = TheSetting; one = OneRecord; count = OneCount; intercept = OneIntercept; serial = TheSerial }) x
 
 -- What some rows are.
 abbrev pub things_of : List Row → List Thing
@@ -40,24 +45,26 @@ things_of rows = map thing_of rows
 
 -- ---- the key and the value of a thing
 
--- The row of a thing under its key.
-abbrev pub entry_of : Thing → Key × List ℕ
-entry_of (NextNumber k n) = (key_in Next k 0, long n)
-entry_of (TheSetting cost) = (key_in Setting 0 0, long cost)
-entry_of (OneRecord k n r) = (key_in (Records k) n 0, record_value k r)
-entry_of (OneCount r a b c) = (key_in (Counts r) a b, long c)
+-- The row of a thing of a format under its key.
+abbrev pub entry_of : Format → Thing → Key × List ℕ
+entry_of f (NextNumber k n) = (key_in Next k 0, long n)
+entry_of f (TheSetting cost) = (key_in Setting 0 0, long cost)
+entry_of f (OneRecord k n r) = (key_in (Records k) n 0, record_value k r)
+entry_of f (OneCount r a b c) = (key_in (Counts r) a b, count_bytes f c)
+entry_of f (OneIntercept n i) = (key_in Intercepts n 0, intercept_value i)
+entry_of f (TheSerial n) = (key_in Serial 0 0, wide n)
 
 -- The rows of some things under their keys.
-abbrev pub entries : List Thing → Rows
-entries xs = map entry_of xs
+abbrev pub entries : Format → List Thing → Rows
+entries f xs = map (entry_of f) xs
 
-entry_of-thing : (x : Row) → ◌≡◌ {A = Key × List ℕ} (key_of x, value_of x) (entry_of (thing_of x))
-entry_of-thing (row.Next k n) = refl
-entry_of-thing x = refl
+entry_of-thing : (f : Format) (x : Row) → ◌≡◌ {A = Key × List ℕ} (key_of x, value_of f x) (entry_of f (thing_of x))
+entry_of-thing f (row.Next k n) = refl
+entry_of-thing f x = refl
 
-pub keyed-things : (rows : List Row) → keyed rows ≡ entries (things_of rows)
-keyed-things [] = refl
-keyed-things (x ∷ xs) = λ i. entry_of-thing x i ∷ keyed-things xs i
+pub keyed-things : (f : Format) (rows : List Row) → keyed f rows ≡ entries f (things_of rows)
+keyed-things f [] = refl
+keyed-things f (x ∷ xs) = λ i. entry_of-thing f x i ∷ keyed-things f xs i
 
 -- ---- which things some state can have
 
@@ -66,30 +73,55 @@ is_thing (NextNumber k n) = is_some (find (λ j. kind_number j == k) kinds) && (
 is_thing (TheSetting cost) = not (cost == start.least_router_cost)
 is_thing (OneRecord k n r) = nat_le 1 (kind_number k)
 is_thing (OneCount r a b c) = nat_lt 0 c
+is_thing (OneIntercept n i) = true
+is_thing (TheSerial n) = nat_lt 0 n
+
+-- Whether the first format has a row of a thing.
+abbrev pub is_plain : Thing → Bool
+is_plain (OneIntercept n i) = false
+is_plain (TheSerial n) = false
+is_plain x = true
 
 kind_of_number : (k : ℕ) → nat_le 1 k ≡ true → nat_le k 9 ≡ true → is_some (find (λ j. kind_number j == k) kinds) ≡ true
 kind_of_number k h j = grind (arith, nat_tests)
 
-positive_count : (a b : Bool) (c : ℕ) → (a && (b && is_positive c)) ≡ true → nat_lt 0 c ≡ true
-positive_count a b c h = (and_parts (nat_lt 0 c) (is_long c) (and_parts b (is_positive c) (and_parts a (b && is_positive c) h).1).1).0
+above_none : (f : Format) (c : ℕ) → is_count f c ≡ true → nat_lt 0 c ≡ true
+above_none One c h = (and_parts (nat_lt 0 c) (is_long c) h).0
+above_none Two c h = (and_parts (nat_lt 0 c) (is_short c) h).0
 
-pub is_thing-row : (x : Row) → is_row x ≡ true → is_thing (thing_of x) ≡ true
-is_thing-row (row.Next k n) h =
+positive_count : (f : Format) (a b : Bool) (c : ℕ) → (a && (b && is_count f c)) ≡ true → nat_lt 0 c ≡ true
+positive_count f a b c h = above_none f c (and_parts b (is_count f c) (and_parts a (b && is_count f c) h).1).1
+
+pub is_thing-row : (f : Format) (x : Row) → is_row f x ≡ true → is_thing (thing_of x) ≡ true
+is_thing-row f (row.Next k n) h =
     let parts = and_parts (nat_le 1 k && nat_le k 9) (nat_lt 1 n && is_long n) h in
     let within = and_parts (nat_le 1 k) (nat_le k 9) parts.0 in
     and_from (is_some (find (λ j. kind_number j == k) kinds)) (nat_lt 1 n && is_long n) (kind_of_number k within.0 within.1) parts.1
-is_thing-row (row.Setting cost) h = (and_parts (not (cost == start.least_router_cost)) (is_long cost) h).0
-is_thing-row (row.Dial a b c) h = positive_count (is_long a.0) (is_long b.0) c h
-is_thing-row (row.Bind a b c) h = positive_count (is_long a.0) (is_long b.0) c h
-is_thing-row (row.IdentityRouter a b c) h = positive_count (is_long a.0) (is_long b.0) c h
-is_thing-row (row.ServiceRouter a b c) h = positive_count (is_long a.0) (is_long b.0) c h
-is_thing-row x h = refl
+is_thing-row f (row.Setting cost) h = (and_parts (not (cost == start.least_router_cost)) (is_long cost) h).0
+is_thing-row f (row.Dial a b c) h = positive_count f (is_long a.0) (is_long b.0) c h
+is_thing-row f (row.Bind a b c) h = positive_count f (is_long a.0) (is_long b.0) c h
+is_thing-row f (row.IdentityRouter a b c) h = positive_count f (is_long a.0) (is_long b.0) c h
+is_thing-row f (row.ServiceRouter a b c) h = positive_count f (is_long a.0) (is_long b.0) c h
+is_thing-row f (row.Serial n) h = (and_parts (nat_lt 0 n) (is_wide n) (and_parts (is_two f) (nat_lt 0 n && is_wide n) h).1).0
+is_thing-row f x h = refl
 
-pub are_things : (rows : List Row) → list_all is_row rows ≡ true → list_all is_thing (things_of rows) ≡ true
-are_things [] h = refl
-are_things (x ∷ xs) h =
-    let parts = and_parts (is_row x) (list_all is_row xs) h in
-    and_from (is_thing (thing_of x)) (list_all is_thing (things_of xs)) (is_thing-row x parts.0) (are_things xs parts.1)
+pub are_things : (f : Format) (rows : List Row) → list_all (is_row f) rows ≡ true → list_all is_thing (things_of rows) ≡ true
+are_things f [] h = refl
+are_things f (x ∷ xs) h =
+    let parts = and_parts (is_row f x) (list_all (is_row f) xs) h in
+    and_from (is_thing (thing_of x)) (list_all is_thing (things_of xs)) (is_thing-row f x parts.0) (are_things f xs parts.1)
+
+is_plain-row : (x : Row) → is_row One x ≡ true → is_plain (thing_of x) ≡ true
+is_plain-row (row.Intercept n i) h = h
+is_plain-row (row.Serial n) h = h
+is_plain-row (row.Next k n) h = refl
+is_plain-row x h = refl
+
+pub are_plain : (rows : List Row) → list_all (is_row One) rows ≡ true → list_all is_plain (things_of rows) ≡ true
+are_plain [] h = refl
+are_plain (x ∷ xs) h =
+    let parts = and_parts (is_row One x) (list_all (is_row One) xs) h in
+    and_from (is_plain (thing_of x)) (list_all is_plain (things_of xs)) (is_plain-row x parts.0) (are_plain xs parts.1)
 
 -- ---- states that are built of things
 
@@ -99,6 +131,8 @@ with_thing (NextNumber k n) s = s
 with_thing (TheSetting cost) s = record s { least_router_cost = cost }
 with_thing (OneRecord k n r) s = joined k n r s
 with_thing (OneCount r a b c) s = s
+with_thing (OneIntercept n i) s = claimed n i s
+with_thing (TheSerial n) s = record s { serial = n }
 
 -- The state with some things.
 abbrev pub built_of : List Thing → State → State

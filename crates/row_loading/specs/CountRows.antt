@@ -12,4 +12,6 @@ is_count_of r x = by_row (record {
   setting = λ cost. false;
   one = λ k n q. false;
   count = λ q a b c. same_relation r q;
+  intercept = λ n i. false;
+  serial = λ n. false;
 }) x

@@ -1,6 +1,7 @@
 -- Why changes are not those that put all rows of a valid state, and at which place: the first one that cannot come next, or the end,
 -- where a count is missing (docs/FORMATS.md, "Rows of a valid state").
 use Rattle.std.specs.Prelude.{◌≡◌, ◌⊎◌, ℕ, true, List, [], ◌∷◌, ◌++◌, length, Some}
+use Rattle.ctrl_model.specs.declared.formats.Format.{Format}
 use Rattle.ctrl_model.specs.declared.kinds.Relation.{Relation}
 use Rattle.ctrl_model.specs.State.{start}
 use Rattle.ctrl_model.specs.Grants.{count}
@@ -15,26 +16,26 @@ use Rattle.state_building.specs.BuiltStates.{flaw_in, built, AreFlawless, next_i
 use Rattle.row_loading.specs.LoadedRows.{put_of, keyed, Loads}
 
 -- Why a change puts no row behind some rows: it puts none at all, or one whose key does not come after theirs.
-abbrev pub PutsNoRow : Flaw → List Row → Op → Type 0
-PutsNoRow NoRecord rows op = (x : Row) → is_row x ≡ true → op ≡ put_of x → ⊥
-PutsNoRow OutOfOrder rows op = (x : Row) × (is_row x ≡ true) × (op ≡ put_of x) × (Rises key_cmp (keyed (rows ++ x ∷ [])) → ⊥)
-PutsNoRow _ rows op = ⊥
+abbrev pub PutsNoRow : Format → Flaw → List Row → Op → Type 0
+PutsNoRow f NoRecord rows op = (x : Row) → is_row f x ≡ true → op ≡ put_of f x → ⊥
+PutsNoRow f OutOfOrder rows op = (x : Row) × (is_row f x ≡ true) × (op ≡ put_of f x) × (Rises key_cmp (keyed f (rows ++ x ∷ [])) → ⊥)
+PutsNoRow f _ rows op = ⊥
 
 -- The change at a place is the first that puts no row.
-pub record AreUnread (ops : List Op) (place : ℕ) (flaw : Flaw) : Type 0 where
+pub record AreUnread (f : Format) (ops : List Op) (place : ℕ) (flaw : Flaw) : Type 0 where
   pub before : List Op
   pub op : Op
   pub after : List Op
   pub split : ops ≡ before ++ op ∷ after
   pub rows : List Row
-  pub loads : Loads before rows
+  pub loads : Loads f before rows
   pub place_is : length before ≡ place
-  pub reason : PutsNoRow flaw rows op
+  pub reason : PutsNoRow f flaw rows op
 
 -- The row at a place is the first that cannot come next.
-pub record AreFlawed (ops : List Op) (place : ℕ) (flaw : Flaw) : Type 0 where
+pub record AreFlawed (f : Format) (ops : List Op) (place : ℕ) (flaw : Flaw) : Type 0 where
   pub rows : List Row
-  pub loads : Loads ops rows
+  pub loads : Loads f ops rows
   pub before : List Row
   pub one : Row
   pub after : List Row
@@ -44,9 +45,9 @@ pub record AreFlawed (ops : List Op) (place : ℕ) (flaw : Flaw) : Type 0 where
   pub flaw_is : flaw_in (next_in rows) one (built before start) ≡ Some flaw
 
 -- Each row can come next, and at the end a count has no row.
-pub record LackCounts (ops : List Op) (place : ℕ) (flaw : Flaw) : Type 0 where
+pub record LackCounts (f : Format) (ops : List Op) (place : ℕ) (flaw : Flaw) : Type 0 where
   pub rows : List Row
-  pub loads : Loads ops rows
+  pub loads : Loads f ops rows
   pub flawless : AreFlawless (next_in rows) rows start
   pub relation : Relation
   pub left : ℕ
@@ -56,5 +57,5 @@ pub record LackCounts (ops : List Op) (place : ℕ) (flaw : Flaw) : Type 0 where
   pub flaw_is : flaw ≡ WrongCount
 
 -- Why changes are refused, and at which place.
-abbrev pub RefusesRows : List Op → ℕ → Flaw → Type 0
-RefusesRows ops place flaw = AreUnread ops place flaw ⊎ (AreFlawed ops place flaw ⊎ LackCounts ops place flaw)
+abbrev pub RefusesRows : Format → List Op → ℕ → Flaw → Type 0
+RefusesRows f ops place flaw = AreUnread f ops place flaw ⊎ (AreFlawed f ops place flaw ⊎ LackCounts f ops place flaw)

@@ -1,5 +1,6 @@
 ghost use Rattle.std.specs.Prelude.{◌≡◌, ◌==◌, ◌<◌, ℕ, not, true, false, None, count_by};
 ghost use Rattle.std.specs.List.{list_all};
+ghost use Rattle.ctrl_model.specs.declared.formats.Format.{Format};
 ghost use Rattle.grant_denorm.specs.PairCounts.{count_of};
 ghost use Rattle.row_codec.specs.RowForm.{is_row};
 ghost use Rattle.row_codec.specs.RowKeys.{key_cmp};
@@ -34,10 +35,9 @@ fn counts_in(rows: &[Row], relation: Relation) -> u64
     rows.iter().filter(|row| is_count_of(row, relation)).count() as u64
 }
 
-/// Whether some count of a relation has no row. The rows' own counts of the relation are those that are kept.
+/// Whether some count of a relation has no row, among those of a format. The rows' own counts of the relation are those that are kept.
 pub fn lacks_counts(rows: &[Row], relation: Relation, counted: &Counted) -> bool
-    requires form { list_all is_row rows.now ≡ true }
-    requires rises { Rises key_cmp (keyed rows.now) }
+    requires rows { (f : Format) × (list_all (is_row f) rows.now ≡ true) × Rises key_cmp (keyed f rows.now) }
     requires kept { (a b : ℕ) → 0 < count_in rows.now relation a b → count_in rows.now relation a b ≡ count_of counted.now a b }
     ensures all { result ≡ false → (a b : ℕ) → count_in rows.now relation a b ≡ count_of counted.now a b }
     ensures lacks { result ≡ true → (a : ℕ) × (b : ℕ) × (count_in rows.now relation a b ≡ 0) × (0 < count_of counted.now a b) }

@@ -11,6 +11,7 @@ ghost use Rattle.row_loading.specs.NextPuts.{Puts, PutsNone, PutsNext, PutsNoNex
 ghost use Rattle.row_loading.specs.RefusedRows.{AreUnread};
 
 use crate::faults::CoreFault;
+use ctrl_model::Format;
 use row_codec::{Op, Row, RowFault};
 use row_reading::read_row;
 use state_building::Flaw;
@@ -37,14 +38,14 @@ fn comes_after(last: Option<&[u8]>, key: &[u8]) -> bool
 }
 
 // The row that a change puts. `BadRow` comes exactly where it puts none.
-fn row_put(alloc: Global, op: &Op) -> Result<Row, RowFault>
-    ensures read { IfOk result (Puts op.now) }
-    ensures bad { IsErrOf result RowFault.BadRow → PutsNone op.now }
+fn row_put(alloc: Global, format: Format, op: &Op) -> Result<Row, RowFault>
+    ensures read { IfOk result (Puts format op.now) }
+    ensures bad { IsErrOf result RowFault.BadRow → PutsNone format op.now }
     ensures never { IsErrOf result RowFault.BadBatch → ⊥ }
-    ensures memory { IsErrOf result RowFault.NoMemory → (x : Row) × Puts op.now x }
+    ensures memory { IsErrOf result RowFault.NoMemory → (x : Row) × Puts format op.now x }
 {
     match op {
-        Op::Put { key, value } => read_row(alloc, key.as_slice(), value.as_slice()),
+        Op::Put { key, value } => read_row(alloc, format, key.as_slice(), value.as_slice()),
         Op::Delete { .. } => Err(RowFault::BadRow),
     }
 }
@@ -64,15 +65,21 @@ fn wanting(place: u64, comes: bool) -> CoreFault
 }
 
 // The row that the change at a place puts behind the last key.
-fn next_row(alloc: Global, place: u64, last: Option<&[u8]>, op: &Op) -> Result<Row, CoreFault>
-    ensures read { IfOk result (PutsNext (option_map (λ l. l.now) last.entry) op.now) }
+fn next_row(
+    alloc: Global,
+    format: Format,
+    place: u64,
+    last: Option<&[u8]>,
+    op: &Op,
+) -> Result<Row, CoreFault>
+    ensures read { IfOk result (PutsNext format (option_map (λ l. l.now) last.entry) op.now) }
     ensures place { (at : ℕ) (flaw : Flaw) → IsErrOf result (NotAState at flaw) → at ≡ place }
-    ensures flaw { (at : ℕ) (flaw : Flaw) → IsErrOf result (NotAState at flaw) → PutsNoNext flaw (option_map (λ l. l.now) last.entry) op.now }
+    ensures flaw { (at : ℕ) (flaw : Flaw) → IsErrOf result (NotAState at flaw) → PutsNoNext format flaw (option_map (λ l. l.now) last.entry) op.now }
     // Memory is wanted for the next row alone.
-    ensures memory { IsErrOf result NoMemory → (x : Row) × PutsNext (option_map (λ l. l.now) last.entry) op.now x }
+    ensures memory { IsErrOf result NoMemory → (x : Row) × PutsNext format (option_map (λ l. l.now) last.entry) op.now x }
 {
     let comes = comes_after(last, key_of(op));
-    let row = match row_put(alloc, op) {
+    let row = match row_put(alloc, format, op) {
         Ok(row) => row,
         Err(RowFault::NoMemory) => return Err(wanting(place, comes)),
         Err(_) => {
@@ -98,16 +105,16 @@ fn keep_row(rows: &mut Vec<Row>, row: Row) -> Result<(), AllocError>
     Ok(rows.push(row)?)
 }
 
-/// The rows that changes put, in the order of their keys. `NotAState` comes exactly where a change puts no row, or one whose key does
+/// The rows of a format that changes put, in the order of their keys. `NotAState` comes exactly where a change puts no row, or one whose key does
 /// not come after that of the one before it, and tells the first such place.
-pub fn read_rows(alloc: Global, ops: &[Op]) -> Result<Vec<Row>, CoreFault>
-    ensures read { IfOk result (λ rows. Loads ops.now rows.items) }
-    ensures unread { (place : ℕ) (flaw : Flaw) → IsErrOf result (NotAState place flaw) → AreUnread ops.now place flaw }
+pub fn read_rows(alloc: Global, format: Format, ops: &[Op]) -> Result<Vec<Row>, CoreFault>
+    ensures read { IfOk result (λ rows. Loads format ops.now rows.items) }
+    ensures unread { (place : ℕ) (flaw : Flaw) → IsErrOf result (NotAState place flaw) → AreUnread format ops.now place flaw }
 {
     let mut rows = Vec::new(alloc);
     let mut last: Option<&[u8]> = None;
     'ops: for op in ops {
-        let row = next_row(alloc, rows.len() as u64, last, op)?;
+        let row = next_row(alloc, format, rows.len() as u64, last, op)?;
         keep_row(&mut rows, row)?;
         last = Some(key_of(op));
     }

@@ -51,7 +51,7 @@ both_free f s p g t F G = record {
 
 -- ---- tests
 
-test_passed : {A : Type 0} (b : Bool) (x y : A) → cond b (Some x) None ≡ Some y → (b ≡ true) × (x ≡ y)
+pub test_passed : {A : Type 0} (b : Bool) (x y : A) → cond b (Some x) None ≡ Some y → (b ≡ true) × (x ≡ y)
 test_passed true x y e = (refl, some_is x y e)
 test_passed false x y e = absurd cc
 

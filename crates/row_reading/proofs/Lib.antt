@@ -2,3 +2,5 @@ mod FormLaws
 mod ValueLaws
 mod RowLaws
 mod LoopLaws
+mod AddressReading
+mod ClaimReading

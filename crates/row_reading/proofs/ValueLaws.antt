@@ -1,12 +1,21 @@
 -- The forms of fields and of values.
-use Rattle.std.proofs.Common.{◌≡◌, ℕ, zero, suc, ◌^◌, ◌<◌, Bool, true, false, cond, ltb, leb, not, ◌&&◌, ◌||◌, ne_eqb, ◌==◌, eqb, List, [], ◌∷◌, ◌++◌, length, Option, Some, None, refl, sym, ap, subst, ◌∙◌, arith}
-use Rattle.std.specs.Int.{w16, w32, from_le_bytes, from_be_bytes}
+use Rattle.std.proofs.Common.{◌≡◌, ℕ, zero, suc, ◌^◌, ◌<◌, ◌≤◌, Bool, true, false, cond, ltb, leb, not, bytes_eq, ◌&&◌, ◌||◌, ne_eqb, ◌==◌, eqb, List, [], ◌∷◌, ◌++◌, length, Option, Some, None, refl, sym, ap, subst, ◌∙◌, arith}
+use Rattle.std.specs.Int.{w16, w32, w64, from_le_bytes, from_be_bytes}
 use Rattle.std.specs.List.{flat_map, list_all}
-use Rattle.std.specs.Option.{option_map}
+use Rattle.std.specs.Option.{option_map, option_map_or}
+use Rattle.std.proofs.lemmas.Slice.Eq.{bytes_eq-Decides}
 use Rattle.std.proofs.lemmas.Bool.{eqb-true, leb-true, ltb-true, lt-ltb, le-leb}
-use Rattle.std.proofs.lemmas.Nat.{le_bytes_2, be_bytes_4, from_le_bytes-to_le_bytes_2, from_be_bytes-to_be_bytes_4}
+use Rattle.std.proofs.lemmas.Nat.{le_bytes_2, le_bytes_8, be_bytes_4, from_le_bytes-to_le_bytes_2, from_le_bytes-to_le_bytes_8, from_be_bytes-to_be_bytes_4}
 use Rattle.ctrl_model.specs.NameForm.{is_name, is_instance, is_name_byte}
-use Rattle.ctrl_model.specs.Limits.{most_entries}
+use Rattle.ctrl_model.specs.Limits.{most_entries, most_claimed}
+use Rattle.ctrl_model.specs.AddressForm.{address_of, address_text, same_address, is_address, is_spelling}
+use Rattle.ctrl_model.specs.InterceptForm.{is_port_range, same_ports, is_without_repeats, is_claim, is_intercept}
+use Rattle.ctrl_model.specs.declared.addresses.Address.{Address}
+use Rattle.ctrl_model.specs.declared.formats.Format.{Format}
+use Rattle.ctrl_model.specs.declared.formats.Format.TheVariants.{One, Two}
+use Rattle.ctrl_model.specs.declared.intercepts.Intercept.{Intercept}
+use Rattle.ctrl_model.specs.declared.intercepts.PortRange.{PortRange}
+use Rattle.ctrl_model.proofs.AddressLaws.{address_given, own_spelling, spelled_as, text_short}
 use Rattle.ctrl_model.specs.CommandForm.{is_service_relation}
 use Rattle.ctrl_model.specs.declared.kinds.Side.{Side}
 use Rattle.ctrl_model.specs.declared.kinds.Semantic.{Semantic}
@@ -15,13 +24,13 @@ use Rattle.ctrl_model.specs.declared.kinds.Relation.{Relation}
 use Rattle.ctrl_model.specs.declared.kinds.Relation.TheVariants as relation
 use Rattle.ctrl_model.specs.declared.kinds.Precedence.{Precedence}
 use Rattle.ctrl_model.specs.declared.kinds.Precedence.TheVariants.{Required, Normal, Failed}
-use Rattle.row_codec.specs.RowForm.{is_short, are_listed, is_listed_side, is_positive, is_host}
+use Rattle.row_codec.specs.RowForm.{is_short, is_wide, are_listed, is_listed_side, is_positive, is_count, is_host}
 use Rattle.row_codec.specs.RowKeys.{is_long, number_in_key}
-use Rattle.row_codec.specs.RowValues.{long, short, text, texts, flag, side_bytes, relation_byte, semantic_byte, precedence_byte, router_marks, host_number}
-use Rattle.row_codec.specs.FieldReading.{front_byte, front_part, front_long, front_short, front_number, front_text, front_name, front_names, front_instance, front_flag, flag_meant, front_side, side_of, kept, both, mapped, front_code, relation_meant, semantic_meant, precedence_meant, marks_meant}
-use Rattle.row_reading.specs.RowReading.{host_named, is_kind, is_next, is_setting, front_entity, front_router, front_costs, front_link, front_sides, front_service_policy, front_router_policy, front_place, front_terminator, front_circuit, front_nothing}
-use Rattle.row_codec.proofs.FieldLaws.{AreBytes, Takes, IsPart, some_is, map_some, and_left, and_right, byte_takes, part_takes, part_again, long_takes, long_again, text_takes, text_again}
-use Rattle.row_reading.proofs.FormLaws.{IsForm, both_form, both_free, kept_form, mapped_form, code_form, list_form, and_both}
+use Rattle.row_codec.specs.RowValues.{long, short, wide, count_bytes, protocols_byte, address_value, port_range_value, intercept_value, text, texts, flag, side_bytes, relation_byte, semantic_byte, precedence_byte, router_marks, host_number}
+use Rattle.row_codec.specs.FieldReading.{front_byte, front_part, front_long, front_short, front_number, front_text, front_name, front_names, front_instance, front_flag, front_count, front_wide, flag_meant, front_side, side_of, alone, kept, both, mapped, front_code, front_list, relation_meant, semantic_meant, precedence_meant, marks_meant}
+use Rattle.row_reading.specs.RowReading.{host_named, is_kind, is_next, is_setting, is_serial, protocols_meant, port_range_of, intercept_of, front_address, front_port_range, front_parts, front_intercept, front_entity, front_router, front_costs, front_link, front_sides, front_service_policy, front_router_policy, front_place, front_terminator, front_circuit, front_nothing}
+use Rattle.row_codec.proofs.FieldLaws.{AreBytes, Takes, IsPart, some_is, bind_some, map_some, and_left, and_right, byte_takes, part_takes, part_again, long_takes, long_again, text_takes, text_again}
+use Rattle.row_reading.proofs.FormLaws.{IsForm, both_form, both_free, kept_form, mapped_form, code_form, list_form, alone_takes, and_both}
 
 -- ---- numbers and texts
 
@@ -265,8 +274,9 @@ pub circuit_form : IsForm front_circuit (λ x. long x.0 ++ (long x.1.0 ++ (long 
 circuit_form = both_form front_long long is_long _ _ _ long_form (both_form front_long long is_long _ _ _ long_form (both_form front_long long is_long _ _ _ long_form
     (both_form front_long long is_long _ _ _ long_form (list_form 255 front_long long is_long long_form))))
 
-pub count_form : IsForm (kept is_positive front_long) long is_positive
-count_form = kept_form is_positive front_long long is_long long_form (λ n e. and_right (ltb 0 n) (is_long n) e)
+pub count_form : (f : Format) → IsForm (kept (is_count f) (front_count f)) (count_bytes f) (is_count f)
+count_form One = kept_form is_positive front_long long is_long long_form (λ n e. and_right (ltb 0 n) (is_long n) e)
+count_form Two = kept_form (is_count Two) front_short short is_short short_form (λ n e. and_right (ltb 0 n) (is_short n) e)
 
 pub next_form : IsForm (kept is_next front_long) long is_next
 next_form = kept_form is_next front_long long is_long long_form (λ n e. and_right (ltb 1 n) (is_long n) e)
@@ -292,3 +302,144 @@ nothing_form = record { again = λ u rest e. refl; takes = λ bytes x fits e. no
 
 pub pair_form : IsForm (both front_number front_number) (λ x. number_in_key x.0 ++ number_in_key x.1) (λ x. is_long x.0 && is_long x.1)
 pair_form = both_form front_number number_in_key is_long front_number number_in_key is_long number_form number_form
+
+-- ---- the serial
+
+wide_part : (bytes part rest : List ℕ) → IsPart 8 bytes part rest → Takes bytes (wide (from_le_bytes w64 part)) rest × (from_le_bytes w64 part < 2 ^ 64)
+wide_part bytes part rest p =
+    let is : wide (from_le_bytes w64 part) ≡ part = le_bytes_8 part (from_le_bytes w64 part) p.len p.fits refl in
+    (subst (λ (t : List ℕ). Takes bytes t rest) (sym is) p.takes, omega (arith, p.fits 0, p.fits 1, p.fits 2, p.fits 3, p.fits 4, p.fits 5, p.fits 6, p.fits 7))
+
+wide_takes : (bytes : List ℕ) (x : ℕ × List ℕ) → AreBytes bytes → front_wide bytes ≡ Some x → Takes bytes (wide x.0) x.1 × (is_wide x.0 ≡ true)
+wide_takes bytes x fits e =
+    let a = map_some (front_part 8 bytes) (λ p. (from_le_bytes w64 p.0, p.1)) x e in
+    let t = wide_part bytes a.0.0 a.0.1 (part_takes 8 bytes a.0 fits a.1) in
+    subst (λ (y : ℕ × List ℕ). Takes bytes (wide y.0) y.1 × (is_wide y.0 ≡ true)) a.2 (t.0, lt-ltb _ _ t.1)
+
+wide_form : IsForm front_wide wide is_wide
+wide_form = record {
+  again = λ n rest e.
+      ap (option_map {U = ℕ × List ℕ} (λ p. (from_le_bytes w64 p.0, p.1))) (part_again (wide n) rest 8 refl)
+      ∙ ap (λ (m : ℕ). some_number (m, rest)) (from_le_bytes-to_le_bytes_8 n (ltb-true n (2 ^ 64) e));
+  takes = λ bytes x fits e. wide_takes bytes x fits e;
+}
+
+pub serial_form : IsForm (kept is_serial front_wide) wide is_serial
+serial_form = kept_form is_serial front_wide wide is_wide wide_form (λ n e. and_right (ltb 0 n) (is_wide n) e)
+
+-- ---- intercepts
+
+abbrev both_protocols : Bool × Bool → ℕ
+both_protocols p = protocols_byte p.0 p.1
+
+abbrev pub some_protocol : Bool × Bool → Bool
+some_protocol p = p.0 || p.1
+
+protocols_means : (n : ℕ) (p : Bool × Bool) → protocols_meant n ≡ Some p → (n ≡ both_protocols p) × (some_protocol p ≡ true)
+protocols_means n p e = by (n == 1) (n == 2) (n == 3) (eqb-true n 1) (eqb-true n 2) (eqb-true n 3) e
+  where
+    by : (x y z : Bool) → (x ≡ true → n ≡ 1) → (y ≡ true → n ≡ 2) → (z ≡ true → n ≡ 3)
+        → cond x (Some (true, false)) (cond y (Some (false, true)) (cond z (Some (true, true)) None)) ≡ Some p → (n ≡ both_protocols p) × (some_protocol p ≡ true)
+    by true y z a b c e = (a refl ∙ ap both_protocols (some_is (true, false) p e), sym (ap some_protocol (some_is (true, false) p e)))
+    by false true z a b c e = (b refl ∙ ap both_protocols (some_is (false, true) p e), sym (ap some_protocol (some_is (false, true) p e)))
+    by false false true a b c e = (c refl ∙ ap both_protocols (some_is (true, true) p e), sym (ap some_protocol (some_is (true, true) p e)))
+    by false false false a b c e = absurd cc
+
+protocols_again : (tcp udp : Bool) → (tcp || udp) ≡ true → protocols_meant (protocols_byte tcp udp) ≡ Some (tcp, udp)
+protocols_again true true e = refl
+protocols_again true false e = refl
+protocols_again false true e = refl
+protocols_again false false e = absurd cc
+
+protocols_form : IsForm (front_code protocols_meant) (λ p. both_protocols p ∷ []) some_protocol
+protocols_form = code_form protocols_meant both_protocols some_protocol protocols_means (λ p e. protocols_again p.0 p.1 e)
+
+spelling_fits : (t : List ℕ) → is_spelling t ≡ true → fits_text t ≡ true
+spelling_fits t e =
+    let own = spelled_as t e in
+    le-leb _ _ (subst (λ (w : List ℕ). length w ≤ 255) own.2 (text_short own.0 (address_given t own.0 own.1)))
+
+spelling_form : IsForm (kept is_spelling front_text) text is_spelling
+spelling_form = kept_form is_spelling front_text text fits_text text_form spelling_fits
+
+address_takes : (bytes : List ℕ) (x : Address × List ℕ) → AreBytes bytes → front_address bytes ≡ Some x → Takes bytes (address_value x.0) x.1 × (is_address x.0 ≡ true)
+address_takes bytes x fits e =
+    let t = bind_some (kept is_spelling front_text bytes) (λ y. option_map (λ a. (a, y.1)) (address_of y.0)) x e in
+    let a = map_some (address_of t.0.0) (λ a. (a, t.0.1)) x t.2 in
+    let took = spelling_form.takes bytes t.0 fits t.1 in
+    let own = spelled_as t.0.0 took.1 in
+    let same : own.0 ≡ a.0 = some_is own.0 a.0 (sym own.1 ∙ a.1) in
+    subst (λ (y : Address × List ℕ). Takes bytes (address_value y.0) y.1 × (is_address y.0 ≡ true)) a.2
+    (subst (λ (w : List ℕ). Takes bytes (text w) t.0.1) (sym own.2 ∙ ap address_text same) took.0, address_given t.0.0 a.0 a.1)
+
+address_form : IsForm front_address address_value is_address
+address_form = record {
+  again = λ a rest e.
+      let own = own_spelling a e in
+      rw (spelling_form.again (address_text a) rest (ap (λ o. option_map_or (λ b. bytes_eq (address_text b) (address_text a)) o false) own ∙ (bytes_eq-Decides (address_text a) (address_text a)).1 refl), own) refl;
+  takes = address_takes;
+}
+
+port_fits : (r : PortRange) → is_port_range r ≡ true → (is_short r.low && is_short r.high) ≡ true
+port_fits r e =
+    let above = and_right (leb 1 r.low) (leb r.low r.high && leb r.high 65535) e in
+    let low = leb-true r.low r.high (and_left (leb r.low r.high) (leb r.high 65535) above) in
+    let high = leb-true r.high 65535 (and_right (leb r.low r.high) (leb r.high 65535) above) in
+    and_both (is_short r.low) (is_short r.high) (lt-ltb r.low (2 ^ 16) (omega (arith, low, high))) (lt-ltb r.high (2 ^ 16) (omega (arith, high)))
+
+port_range_form : IsForm front_port_range port_range_value is_port_range
+port_range_form =
+    kept_form is_port_range (mapped port_range_of (both front_short front_short)) port_range_value (λ (r : PortRange). is_short r.low && is_short r.high)
+    (mapped_form port_range_of (λ (r : PortRange). (r.low, r.high)) (λ r. is_short r.low && is_short r.high) (both front_short front_short) (λ x. short x.0 ++ short x.1) (λ x. is_short x.0 && is_short x.1)
+    (both_form front_short short is_short front_short short is_short short_form short_form)
+    (λ x e. (refl, e)) (λ r e. (e, refl)))
+    port_fits
+
+-- the parts of an intercept, and the test that its lists are short
+abbrev parts_of_intercept : Intercept → (Bool × Bool) × (List Address × List PortRange)
+parts_of_intercept i = ((i.tcp, i.udp), (i.addresses, i.ports))
+
+abbrev pub fits_addresses : List Address → Bool
+fits_addresses xs = leb (length xs) 32 && list_all is_address xs
+
+abbrev pub fits_ports : List PortRange → Bool
+fits_ports rs = leb (length rs) 32 && list_all is_port_range rs
+
+abbrev pub fits_intercept : Intercept → Bool
+fits_intercept i = some_protocol (i.tcp, i.udp) && (fits_addresses i.addresses && fits_ports i.ports)
+
+parts_form : IsForm front_parts (λ x. (both_protocols x.0 ∷ []) ++ ((length x.1.0 ∷ flat_map address_value x.1.0) ++ (length x.1.1 ∷ flat_map port_range_value x.1.1)))
+    (λ x. some_protocol x.0 && (fits_addresses x.1.0 && fits_ports x.1.1))
+parts_form =
+    both_form (front_code protocols_meant) (λ p. both_protocols p ∷ []) some_protocol _ _ (λ x. fits_addresses x.0 && fits_ports x.1) protocols_form
+    (both_form (front_list most_claimed front_address) _ fits_addresses (front_list most_claimed front_port_range) _ fits_ports
+    (list_form most_claimed front_address address_value is_address address_form)
+    (list_form most_claimed front_port_range port_range_value is_port_range port_range_form))
+
+-- what is read fits the parts of an intercept
+pub parts_fit : (value : List ℕ) (x : (Bool × Bool) × (List Address × List PortRange)) → AreBytes value → alone front_parts value ≡ Some x → fits_intercept (intercept_of x) ≡ true
+parts_fit value x fits e = (alone_takes front_parts _ _ parts_form value x fits e).1
+
+made_form : IsForm (mapped intercept_of front_parts) intercept_value fits_intercept
+made_form =
+    mapped_form intercept_of parts_of_intercept fits_intercept front_parts
+    (λ x. (both_protocols x.0 ∷ []) ++ ((length x.1.0 ∷ flat_map address_value x.1.0) ++ (length x.1.1 ∷ flat_map port_range_value x.1.1)))
+    (λ x. some_protocol x.0 && (fits_addresses x.1.0 && fits_ports x.1.1)) parts_form (λ x e. (refl, e)) (λ i e. (e, refl))
+
+-- the lists of an intercept are short, and of what an intercept may have
+claim_fits : {A : Type 0} (form : A → Bool) (same : A → A → Bool) (xs : List A) → is_claim form same xs ≡ true → (leb (length xs) 32 && list_all form xs) ≡ true
+claim_fits form same xs e =
+    let some = and_right (leb 1 (length xs)) (leb (length xs) 32 && (list_all form xs && is_without_repeats same xs)) e in
+    and_both (leb (length xs) 32) (list_all form xs) (and_left (leb (length xs) 32) (list_all form xs && is_without_repeats same xs) some)
+    (and_left (list_all form xs) (is_without_repeats same xs) (and_right (leb (length xs) 32) (list_all form xs && is_without_repeats same xs) some))
+
+intercept_fits : (i : Intercept) → is_intercept i ≡ true → fits_intercept i ≡ true
+intercept_fits i e =
+    let claims = and_right (i.tcp || i.udp) (is_claim is_address same_address i.addresses && is_claim is_port_range same_ports i.ports) e in
+    and_both (i.tcp || i.udp) (fits_addresses i.addresses && fits_ports i.ports) (and_left (i.tcp || i.udp) (is_claim is_address same_address i.addresses && is_claim is_port_range same_ports i.ports) e)
+    (and_both (fits_addresses i.addresses) (fits_ports i.ports)
+    (claim_fits is_address same_address i.addresses (and_left (is_claim is_address same_address i.addresses) (is_claim is_port_range same_ports i.ports) claims))
+    (claim_fits is_port_range same_ports i.ports (and_right (is_claim is_address same_address i.addresses) (is_claim is_port_range same_ports i.ports) claims)))
+
+pub intercept_form : IsForm front_intercept intercept_value is_intercept
+intercept_form = kept_form is_intercept _ intercept_value fits_intercept made_form intercept_fits

@@ -1,9 +1,10 @@
 ghost use Rattle.std.specs.Prelude.{◌≡◌};
-ghost use Rattle.row_codec.specs.RowForm.{is_positive};
-ghost use Rattle.row_codec.specs.FieldReading.{alone, kept, both, front_byte, front_long, front_number};
-ghost use Rattle.row_reading.specs.RowReading.{is_kind, is_next, is_setting};
+ghost use Rattle.row_codec.specs.RowForm.{is_count};
+ghost use Rattle.row_codec.specs.FieldReading.{alone, kept, both, front_byte, front_count, front_long, front_number, front_wide};
+ghost use Rattle.row_reading.specs.RowReading.{is_kind, is_next, is_serial, is_setting};
 
-use row_codec::{split_long, split_number};
+use ctrl_model::Format;
+use row_codec::{split_count, split_long, split_number, split_wide};
 
 /// A number of four bytes, and nothing behind it.
 pub(crate) fn lone_long(bytes: &[u8]) -> Option<u32>
@@ -46,12 +47,24 @@ pub(crate) fn lone_kind(bytes: &[u8]) -> Option<u8>
     }
 }
 
-/// A count that has a row.
-pub(crate) fn lone_count(value: &[u8]) -> Option<u32>
-    ensures { result ≡ alone (kept is_positive front_long) value.now }
+/// A count that has a row in a format.
+pub(crate) fn lone_count(format: Format, value: &[u8]) -> Option<u32>
+    ensures { result ≡ alone (kept (is_count format) (front_count format)) value.now }
 {
-    let number = lone_long(value)?;
-    if 0 < number { Some(number) } else { None }
+    match split_count(format, value)? {
+        (count, []) if 0 < count => Some(count),
+        _ => None,
+    }
+}
+
+/// A serial that has a row.
+pub(crate) fn lone_serial(value: &[u8]) -> Option<u64>
+    ensures { result ≡ alone (kept is_serial front_wide) value.now }
+{
+    match split_wide(value)? {
+        (serial, []) if 0 < serial => Some(serial),
+        _ => None,
+    }
 }
 
 /// A next number that has a row.

@@ -1,19 +1,24 @@
 ghost use Rattle.std.specs.Prelude.{◌≡◌, ℕ, List, Some};
+ghost use Rattle.ctrl_model.specs.declared.formats.Format.{Format};
+ghost use Rattle.ctrl_model.specs.declared.formats.Format.TheVariants.{Two};
 ghost use Rattle.ctrl_model.specs.declared.kinds.Kind.TheVariants as kind;
-ghost use Rattle.row_codec.specs.RowKeys.RowTable.{Next, Setting, Counts};
+ghost use Rattle.row_codec.specs.RowKeys.RowTable.{Next, Setting, Counts, Intercepts, Serial};
 ghost use Rattle.row_codec.specs.FieldReading.{alone, front_number};
 ghost use Rattle.row_reading.specs.RowReading.{Gives, front_entity, front_router_policy, record_read, count_read, table_read, table_seen, row_of};
 
+use crate::intercepts::{intercept_at, intercept_of};
 use crate::lists::{links_of, names_of, side_of};
-use crate::lone_fields::{lone_count, lone_kind, lone_next, lone_number, lone_pair, lone_setting};
+use crate::lone_fields::{
+    lone_count, lone_kind, lone_next, lone_number, lone_pair, lone_serial, lone_setting,
+};
 use crate::naming::{instance_named, named};
 use crate::tables::{Table, row_table_of};
 use crate::values::{
     circuit_at, entity_at, link_at, router_at, router_policy_at, service_policy_at, terminator_at,
 };
 use ctrl_model::{
-    CircuitNo, IdentityNo, Kind, LinkNo, Name, Names, PolicyNo, Relation, RouterNo, Semantic,
-    ServiceNo, Side, TermNo,
+    CircuitNo, Format, IdentityNo, Kind, LinkNo, Name, Names, PolicyNo, Relation, RouterNo,
+    Semantic, ServiceNo, Side, TermNo,
 };
 use row_codec::{Row, RowFault, split_byte};
 use std::alloc::Global;
@@ -207,13 +212,13 @@ fn record_row(alloc: Global, kind: Kind, rest: &[u8], value: &[u8]) -> Result<Ro
     }
 }
 
-fn count_row(relation: Relation, rest: &[u8], value: &[u8]) -> Result<Row, RowFault>
-    ensures { Gives (λ r. r) result (count_read relation rest.now value.now) }
+fn count_row(format: Format, relation: Relation, rest: &[u8], value: &[u8]) -> Result<Row, RowFault>
+    ensures { Gives (λ r. r) result (count_read format relation rest.now value.now) }
 {
     let Some((first, second)) = lone_pair(rest) else {
         return Err(RowFault::BadRow);
     };
-    let Some(count) = lone_count(value) else {
+    let Some(count) = lone_count(format, value) else {
         return Err(RowFault::BadRow);
     };
     match relation {
@@ -245,7 +250,7 @@ fn count_row(relation: Relation, rest: &[u8], value: &[u8]) -> Result<Row, RowFa
 }
 
 fn next_row(rest: &[u8], value: &[u8]) -> Result<Row, RowFault>
-    ensures { Gives (λ r. r) result (table_read Next rest.now value.now) }
+    ensures { (f : Format) → Gives (λ r. r) result (table_read f Next rest.now value.now) }
 {
     let Some(kind) = lone_kind(rest) else {
         return Err(RowFault::BadRow);
@@ -257,7 +262,7 @@ fn next_row(rest: &[u8], value: &[u8]) -> Result<Row, RowFault>
 }
 
 fn setting_row(rest: &[u8], value: &[u8]) -> Result<Row, RowFault>
-    ensures { Gives (λ r. r) result (table_read Setting rest.now value.now) }
+    ensures { (f : Format) → Gives (λ r. r) result (table_read f Setting rest.now value.now) }
 {
     if !rest.is_empty() {
         return Err(RowFault::BadRow);
@@ -268,26 +273,73 @@ fn setting_row(rest: &[u8], value: &[u8]) -> Result<Row, RowFault>
     Ok(Row::Setting { cost })
 }
 
-fn row_in(alloc: Global, table: Table, rest: &[u8], value: &[u8]) -> Result<Row, RowFault>
-    ensures { Gives (λ r. r) result (table_read (table_seen table) rest.now value.now) }
+fn intercept_row(alloc: Global, rest: &[u8], value: &[u8]) -> Result<Row, RowFault>
+    ensures { Gives (λ r. r) result (table_read Two Intercepts rest.now value.now) }
+{
+    let Some(service) = lone_number(rest) else {
+        return Err(RowFault::BadRow);
+    };
+    let Some(parts) = intercept_at(value) else {
+        return Err(RowFault::BadRow);
+    };
+    let intercept = intercept_of(alloc, parts)?;
+    Ok(Row::Intercept {
+        service: ServiceNo(service),
+        intercept,
+    })
+}
+
+fn serial_row(rest: &[u8], value: &[u8]) -> Result<Row, RowFault>
+    ensures { Gives (λ r. r) result (table_read Two Serial rest.now value.now) }
+{
+    if !rest.is_empty() {
+        return Err(RowFault::BadRow);
+    }
+    let Some(serial) = lone_serial(value) else {
+        return Err(RowFault::BadRow);
+    };
+    Ok(Row::Serial { serial })
+}
+
+fn row_in(
+    alloc: Global,
+    format: Format,
+    table: Table,
+    rest: &[u8],
+    value: &[u8],
+) -> Result<Row, RowFault>
+    ensures { Gives (λ r. r) result (table_read format (table_seen table) rest.now value.now) }
 {
     match table {
         Table::Next => next_row(rest, value),
         Table::Setting => setting_row(rest, value),
         Table::Records(kind) => record_row(alloc, kind, rest, value),
-        Table::Counts(relation) => count_row(relation, rest, value),
+        Table::Counts(relation) => count_row(format, relation, rest, value),
+        Table::Intercepts => match format {
+            Format::Two => intercept_row(alloc, rest, value),
+            Format::One => Err(RowFault::BadRow),
+        },
+        Table::Serial => match format {
+            Format::Two => serial_row(rest, value),
+            Format::One => Err(RowFault::BadRow),
+        },
     }
 }
 
-/// The row that a key and a value are read as.
-pub(crate) fn build_row(alloc: Global, key: &[u8], value: &[u8]) -> Result<Row, RowFault>
-    ensures { Gives (λ r. r) result (row_of key.now value.now) }
+/// The row that a key and a value are read as in a format.
+pub(crate) fn build_row(
+    alloc: Global,
+    format: Format,
+    key: &[u8],
+    value: &[u8],
+) -> Result<Row, RowFault>
+    ensures { Gives (λ r. r) result (row_of format key.now value.now) }
 {
     let Some((number, rest)) = split_byte(key) else {
         return Err(RowFault::BadRow);
     };
     match row_table_of(number) {
         None => Err(RowFault::BadRow),
-        Some(table) => row_in(alloc, table, rest, value),
+        Some(table) => row_in(alloc, format, table, rest, value),
     }
 }

@@ -15,9 +15,13 @@ pub(crate) enum Table {
     Records(Kind),
     /// The counts of a relation.
     Counts(Relation),
+    /// The intercepts.
+    Intercepts,
+    /// The serial.
+    Serial,
 }
 
-/// The table of a number.
+/// The table of a number, in either format.
 pub(crate) fn row_table_of(number: u8) -> Option<Table>
     ensures { option_map (λ t. table_seen t) result ≡ row_table_of number }
 {
@@ -37,6 +41,8 @@ pub(crate) fn row_table_of(number: u8) -> Option<Table>
         13 => Some(Table::Counts(Relation::Bind)),
         14 => Some(Table::Counts(Relation::IdentityRouter)),
         15 => Some(Table::Counts(Relation::ServiceRouter)),
+        16 => Some(Table::Intercepts),
+        17 => Some(Table::Serial),
         _ => None,
     }
 }

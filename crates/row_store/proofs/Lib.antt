@@ -1,6 +1,3 @@
-pub mod MapRows
-pub mod BatchLaws
-pub mod SlotReadings
 pub mod OpeningLaws
 pub mod OneStates
 pub mod StateRows
@@ -8,3 +5,6 @@ pub mod CommitLaws
 mod WorkedLaws
 mod MoveLaws
 mod CompactLaws
+pub mod NarrowLaws
+mod GateReadings
+pub mod ReplacedLaws

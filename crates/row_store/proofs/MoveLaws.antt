@@ -14,6 +14,7 @@ use Rattle.ziti_outside.proofs.ImageLaws.{CutShort-whole}
 use Rattle.ziti_outside.proofs.MomentLaws.{Leaves-then, Remembers-then, OnlyDisk-then}
 use Rattle.journal_core.specs.Room.{KeepsRoom}
 use Rattle.journal_core.proofs.RoomLaws.{held_then}
+use Rattle.ctrl_model.specs.declared.formats.Format.{Format}
 use Rattle.journal_core.specs.Slots.{Slot, header, records_of}
 use Rattle.slot_files.specs.declared.standing.Standing.{Standing}
 use Rattle.slot_files.specs.FolderImage.{slot_of, StandsBy, Stands}
@@ -53,47 +54,49 @@ slots_apart mark some e = turns ((mark - 1) % 2 == 0) (e ∙ other_turn mark som
 -- ---- what an image stands for
 
 -- An image with a mark of so many bytes stands for the batches of the slot that it names.
-pub stands_at : (mark : ℕ) (image : Image) (bytes : List ℕ) (batches : List (List ℕ)) → 0 < mark → length (image Mark) ≡ mark → image (slot_of mark) ≡ bytes → Slot bytes batches → Stands image batches
-stands_at mark image bytes batches some long here slot =
-    subst (λ (m : ℕ). StandsBy m image batches) (sym long) (by_slot mark image batches some (subst (λ (l : List ℕ). Slot l batches) (sym here) slot))
+pub stands_at : (f : Format) (mark : ℕ) (image : Image) (bytes : List ℕ) (batches : List (List ℕ)) → 0 < mark → length (image Mark) ≡ mark → image (slot_of mark) ≡ bytes → Slot f bytes batches
+    → Stands f image batches
+stands_at f mark image bytes batches some long here slot =
+    subst (λ (m : ℕ). StandsBy m f image batches) (sym long) (by_slot mark f image batches some (subst (λ (l : List ℕ). Slot f l batches) (sym here) slot))
 
 -- Bytes behind a slot are no part of it.
-pub slot_longer : (bytes more : List ℕ) (batches : List (List ℕ)) → Slot bytes batches → Slot (bytes ++ more) batches
-slot_longer bytes more batches s = record {
+pub slot_longer : (f : Format) (bytes more : List ℕ) (batches : List (List ℕ)) → Slot f bytes batches → Slot f (bytes ++ more) batches
+slot_longer f bytes more batches s = record {
   gate = s.gate;
   more = s.more ++ more;
-  split = ap (λ (l : List ℕ). l ++ more) s.split ∙ ap (λ (l : List ℕ). header ++ l) (append_assoc (records_of batches) (s.gate ∷ s.more) more);
+  split = ap (λ (l : List ℕ). l ++ more) s.split ∙ ap (λ (l : List ℕ). header f ++ l) (append_assoc (records_of batches) (s.gate ∷ s.more) more);
   closed = s.closed;
   short = s.short;
 }
 
 -- A slot that was written over the front of a part stands there.
-pub slot_written : (slot old new : List ℕ) (batches : List (List ℕ)) → Holds 0 slot old new → Slot slot batches → Slot new batches
-slot_written slot old new batches h s = subst (λ (l : List ℕ). Slot l batches) (sym h) (slot_longer slot (drop (0 + length slot) old) batches s)
+pub slot_written : (f : Format) (slot old new : List ℕ) (batches : List (List ℕ)) → Holds 0 slot old new → Slot f slot batches → Slot f new batches
+slot_written f slot old new batches h s = subst (λ (l : List ℕ). Slot f l batches) (sym h) (slot_longer f slot (drop (0 + length slot) old) batches s)
 
 -- ---- a slot is being written beside the one that stands
 
 -- Whatever stands in the other slot, the image stands for what the slot that stood has.
 still_stands : {step : List ℕ → List ℕ → Type 0} (standing : Standing) (other : Part) (reads : Image) (images : Image → Type 0) → IsNamed standing → IsOpened standing reads images
-    → other ≡ other_slot standing.mark → (image : Image) → After (OnPart other step) images image → (before : List (List ℕ)) → Slot (reads standing.part) before → Stands image before
-still_stands standing other reads images named opened is image p before slot =
+    → other ≡ other_slot standing.mark → (image : Image) → After (OnPart other step) images image
+    → (f : Format) (before : List (List ℕ)) → Slot f (reads standing.part) before → Stands f image before
+still_stands standing other reads images named opened is image p f before slot =
     let long : length (image Mark) ≡ standing.mark =
     ap length (p.by.others.same Mark (λ e. slot_no_mark (standing.mark + 1) (e ∙ is)) ∙ opened.stable_mark.each p.from p.was) ∙ opened.found.mark in
     let here : image standing.part ≡ reads standing.part =
     p.by.others.same standing.part (λ e. slots_apart standing.mark named.some (sym named.part ∙ e ∙ is)) ∙ opened.stable_slot.each p.from p.was in
-    stands_at standing.mark image (reads standing.part) before named.some long (subst (λ (q : Part). image q ≡ reads standing.part) named.part here) slot
+    stands_at f standing.mark image (reads standing.part) before named.some long (subst (λ (q : Part). image q ≡ reads standing.part) named.part here) slot
 
 pub images_written : {step : List ℕ → List ℕ → Type 0} (standing : Standing) (other : Part) (slot : List ℕ) (reads : Image) (images : Image → Type 0) → IsNamed standing → IsOpened standing reads images
     → other ≡ other_slot standing.mark → (image : Image) → After (OnPart other step) images image → StandsByOne (reads standing.part) slot image
 images_written standing other slot reads images named opened is image p = record {
-  either = λ before after s t. inl (still_stands standing other reads images named opened is image p before s);
+  either = λ f g before after s t. inl (still_stands standing other reads images named opened is image p f before s);
 }
 
 -- Once it is written and stable, the folder is ready to let it stand.
-pub written_ready : {step : List ℕ → List ℕ → Type 0} (standing : Standing) (other : Part) (slot : List ℕ) (reads mid : Image) (images later : Image → Type 0) → IsNamed standing
-    → IsOpened standing reads images → IsSlot slot → other ≡ other_slot standing.mark → Holds 0 slot (reads other) (mid other) → Else other reads mid → IsStable other mid later
-    → ((image : Image) → later image → After (OnPart other step) images image) → IsReady standing.mark mid later
-written_ready standing other slot reads mid images later named opened whole is holds others stable found =
+pub written_ready : {step : List ℕ → List ℕ → Type 0} (standing : Standing) (other : Part) (format : Format) (slot : List ℕ) (reads mid : Image) (images later : Image → Type 0) → IsNamed standing
+    → IsOpened standing reads images → IsSlot format slot → other ≡ other_slot standing.mark → Holds 0 slot (reads other) (mid other) → Else other reads mid → IsStable other mid later
+    → ((image : Image) → later image → After (OnPart other step) images image) → IsReady standing.mark format mid later
+written_ready standing other format slot reads mid images later named opened whole is holds others stable found =
     let apart = λ (e : Mark ≡ other). slot_no_mark (standing.mark + 1) (e ∙ is) in
     let same : mid Mark ≡ reads Mark = others.same Mark apart in
     record {
@@ -102,7 +105,7 @@ written_ready standing other slot reads mid images later named opened whole is h
         each = λ image p. let before = found image p in before.by.others.same Mark apart ∙ opened.stable_mark.each before.from before.was ∙ sym same;
       };
       batches = whole.batches;
-      slot = subst (λ (q : Part). Slot (mid q) whole.batches) is (slot_written slot (reads other) (mid other) whole.batches holds whole.slot);
+      slot = subst (λ (q : Part). Slot format (mid q) whole.batches) is (slot_written format slot (reads other) (mid other) whole.batches holds whole.slot);
       stable = subst (λ (q : Part). IsStable q mid later) is stable;
     }
 
@@ -112,9 +115,9 @@ pub images_moved : {step : List ℕ → List ℕ → Type 0} (standing : Standin
     → ((image : Image) → later image → After (OnPart other step) images image)
     → (image : Image) → After (StandsByEither standing.mark mid) later image → StandsByOne (reads standing.part) slot image
 images_moved standing other slot reads mid images later named opened is holds found image p = record {
-  either = λ before after s t. p.by.either before after
-      (still_stands standing other reads images named opened is p.from (found p.from p.was) before s)
-      (subst (λ (q : Part). Slot (mid q) after) is (slot_written slot (reads other) (mid other) after holds t));
+  either = λ f g before after s t. p.by.either f g before after
+      (still_stands standing other reads images named opened is p.from (found p.from p.was) f before s)
+      (subst (λ (q : Part). Slot g (mid q) after) is (slot_written g slot (reads other) (mid other) after holds t));
 }
 
 -- What the parts are in the end.
@@ -172,7 +175,7 @@ images_cut standing now reads mid images later named switched opened others foun
     record {
       from = first.from;
       was = first.was;
-      by = record { either = λ before after s t. inr (stands_at (standing.mark + 1) image (reads (other_slot standing.mark)) after (omega arith) long here t) };
+      by = record { either = λ f g before after s t. inr (stands_at g (standing.mark + 1) image (reads (other_slot standing.mark)) after (omega arith) long here t) };
     }
 
 -- Cutting a part to nothing makes no slot longer.

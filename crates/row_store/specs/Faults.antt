@@ -1,11 +1,16 @@
 -- When the calls on a store fail (docs/PROMISES.md, "The map of rows").
-use Rattle.std.specs.Prelude.{◌≡◌, ◌⊎◌, ◌<◌, ◌≤◌, Bool, true, false, IsTrue, List, ⊤, Ok, Err}
+use Rattle.std.specs.Prelude.{◌≡◌, ◌⊎◌, ℕ, ◌<◌, ◌≤◌, Bool, true, false, IsTrue, List, ⊤, Ok, Err}
 use Rattle.std.specs.declared.result.Result.{Result}
+use Rattle.ziti_outside.specs.declared.desk.Part.{Part}
 use Rattle.ziti_outside.specs.Images.{Image}
+use Rattle.ctrl_model.specs.declared.formats.Format.{Format}
+use Rattle.journal_core.specs.declared.faults.JournalFault.{JournalFault}
+use Rattle.journal_core.specs.declared.faults.JournalFault.TheVariants as journal
 use Rattle.row_codec.specs.declared.changes.Op.{Op}
 use Rattle.row_store.specs.declared.faults.StoreFault.{StoreFault}
 use Rattle.row_store.specs.declared.faults.StoreFault.TheVariants.{Disk, Full, Damaged, MarkFull, Spent, NoMemory}
-use Rattle.row_store.specs.BatchRows.{ByteRows}
+use Rattle.slot_reading.specs.BatchRows.{ByteRows}
+use Rattle.slot_reading.specs.SlotReading.{BreaksOff}
 use Rattle.row_store.specs.OpenedRows.{IsDamagedAt}
 use Rattle.row_store.specs.StoredRows.{Stored, size_with, spent_of, spent_with}
 
@@ -56,6 +61,22 @@ KeepFails old new (Damaged part at) = ⊥
 KeepFails old new MarkFull = ⊥
 KeepFails old new Spent = ⊥
 KeepFails old new NoMemory = ⊤
+
+-- A fault of a slot, told of the part in which it is.
+abbrev pub in_part : Part → JournalFault → StoreFault
+in_part part journal.Disk = Disk
+in_part part journal.Full = Full
+in_part part (journal.Damaged at) = Damaged part at
+in_part part journal.NoMemory = NoMemory
+
+-- Why the rows of a part were not read: the disk failed, the slot breaks off at the place that is told, or there is no memory.
+abbrev pub LoadFails : (tells : Bool) → Format → Part → List ℕ → StoreFault → Type 0
+LoadFails tells format part bytes Disk = ⊤
+LoadFails tells format part bytes Full = ⊥
+LoadFails tells format part bytes (Damaged other place) = (other ≡ part) × (IsTrue tells → BreaksOff format bytes place)
+LoadFails tells format part bytes MarkFull = ⊥
+LoadFails tells format part bytes Spent = ⊥
+LoadFails tells format part bytes NoMemory = ⊤
 
 -- The batch was appended, whatever came of the rows.
 abbrev pub IsKept : {T : Type 0} → Result T StoreFault → Type 0

@@ -1,11 +1,10 @@
-pub mod BatchRows
 pub mod AddedBatches
-pub mod Changes
 pub mod OpenedRows
 pub mod StoredRows
 pub mod OpenedStates
-pub mod SlotReading
 pub mod Faults
-pub mod CompactedStores
+pub mod RewrittenStores
+pub mod WrittenRows
+pub mod GateBatches
 pub mod MovedSlots
 pub mod WorkedStores

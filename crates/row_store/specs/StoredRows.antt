@@ -3,16 +3,18 @@ use Rattle.std.specs.Prelude.{◌≡◌, ℕ, ◌+◌, ◌<◌, Bool, true, fals
 use Rattle.ziti_outside.specs.declared.desk.Part.{Part}
 use Rattle.ziti_outside.specs.declared.desk.Part.TheVariants.{Zero, Mark}
 use Rattle.ziti_outside.specs.Images.{Image, IsStable}
+use Rattle.ctrl_model.specs.declared.formats.Format.{Format}
 use Rattle.journal_core.specs.Slots.{slot_end}
 use Rattle.slot_files.specs.FolderImage.{slot_of, Stands}
 use Rattle.row_codec.specs.declared.changes.Op.{Op}
 use Rattle.row_codec.specs.Batches.{batch_bytes}
 use Rattle.row_store.specs.declared.bounds.StoreBounds.{StoreBounds}
-use Rattle.row_store.specs.BatchRows.{ByteRows, Give, rows_after}
+use Rattle.slot_reading.specs.BatchRows.{ByteRows, Give, rows_after}
 
--- A store: its rows, the slot that stands, the place of that slot's closed gate, the mark's length, the bounds, whether it was
+-- A store: its format, its rows, the slot that stands, the place of that slot's closed gate, the mark's length, the bounds, whether it was
 -- opened to be changed, and whether it is spent.
 pub record Stored : Type 0 where
+  pub format : Format
   pub rows : ByteRows
   pub part : Part
   pub end : ℕ
@@ -21,14 +23,15 @@ pub record Stored : Type 0 where
   pub opened : Bool
   pub spent : Bool
 
--- A store is that of a folder: the mark has the kept length and names the kept slot, and the folder stands for batches that give
--- the kept rows and end at the kept gate. With an empty mark that is no rows, the first slot, and the place of its first gate.
+-- A store is that of a folder: the mark has the kept length and names the kept slot, and the folder stands for batches of the kept format
+-- that give the kept rows and end at the kept gate. With an empty mark that is any format, no rows, the first slot, and the place of its first
+-- gate.
 pub record IsStoreOf (image : Image) (stored : Stored) : Type 0 where
   pub mark : length (image Mark) ≡ stored.mark
   pub part : stored.part ≡ slot_of stored.mark
   pub batches : List (List ℕ)
-  pub stands : Stands image batches
-  pub give : Give batches stored.rows
+  pub stands : Stands stored.format image batches
+  pub give : Give stored.format batches stored.rows
   pub end : stored.end ≡ slot_end batches
 
 -- The folder reads as the store stands: the mark is not empty, the store is that of the folder, and nothing is pending in the mark
@@ -55,9 +58,10 @@ spent_of stored = record stored { spent = true }
 abbrev pub spent_with : Stored → ByteRows → Stored
 spent_with stored rows = record stored { rows = rows; spent = true }
 
--- The store of a folder whose mark is empty, as it is seen without creating anything.
-abbrev pub without_rows : Stored
-without_rows = record {
+-- The store of a folder whose mark is empty, as one of a format is seen without creating anything.
+abbrev pub without_rows : Format → Stored
+without_rows format = record {
+  format = format;
   rows = [];
   part = Zero;
   end = slot_end [];

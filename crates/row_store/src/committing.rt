@@ -5,16 +5,25 @@ ghost use Rattle.journal_core.specs.AppendedRecords.{OnlyAppends};
 ghost use Rattle.journal_core.specs.Slots.{IsClosed, ShutOrAdded, text_of, added};
 ghost use Rattle.row_codec.specs.RowDifference.{Rises};
 ghost use Rattle.row_codec.specs.Batches.{bytes_cmp, IsBatch, batch_bytes};
-ghost use Rattle.row_store.specs.BatchRows.{rows_in, rows_after};
+ghost use Rattle.slot_reading.specs.BatchRows.{rows_in, rows_after};
 ghost use Rattle.row_store.specs.Faults.{disk_failure, KeepFails, IsKept};
 
-use crate::changing::{Rows, change_all};
-use crate::faults::StoreFault;
+use crate::faults::{StoreFault, in_part};
 use batch_codec::write_batch;
-use journal_core::{JournalFault, Packed, append};
+use ctrl_model::Bytes;
+use journal_core::{Packed, append};
 use row_codec::{Batch, Op};
+use slot_reading::{Rows, change_all};
 use std::alloc::{AllocError, Global};
 use ziti_outside::{Desk, Part};
+
+// The spelling of a batch.
+pub(crate) fn spell(alloc: Global, batch: &Batch) -> Result<Bytes, AllocError>
+    requires { IsBatch batch.now }
+    ensures { IfOk result (λ bytes. bytes ≡ batch_bytes batch.now) }
+{
+    write_batch(alloc, batch)
+}
 
 // The spelling of a batch, packed.
 pub(crate) fn pack(alloc: Global, batch: &Batch) -> Result<Packed, AllocError>
@@ -23,7 +32,7 @@ pub(crate) fn pack(alloc: Global, batch: &Batch) -> Result<Packed, AllocError>
     requires at_most { length (batch_bytes batch.now) ≤ 2 ^ 30 }
     ensures { IfOk result (λ packed. packed ≡ batch_bytes batch.now) }
 {
-    let payload = write_batch(alloc, batch)?;
+    let payload = spell(alloc, batch)?;
     Packed::of(alloc, &payload)
 }
 
@@ -47,10 +56,7 @@ fn append_within<D: Desk>(
 {
     match append(desk, part, end, packed, most) {
         Ok(next) => Ok(next),
-        Err(JournalFault::Disk) => Err(StoreFault::Disk),
-        Err(JournalFault::Full) => Err(StoreFault::Full),
-        Err(JournalFault::Damaged { at }) => Err(StoreFault::Damaged { part, at }),
-        Err(JournalFault::NoMemory) => Err(StoreFault::NoMemory),
+        Err(fault) => Err(in_part(part, fault)),
     }
 }
 

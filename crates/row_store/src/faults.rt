@@ -1,3 +1,7 @@
+ghost use Rattle.std.specs.Prelude.{◌≡◌};
+ghost use Rattle.row_store.specs.Faults.{in_part};
+
+use journal_core::JournalFault;
 use std::alloc::AllocError;
 use thiserror::Error;
 use ziti_outside::{Failed, Part};
@@ -49,5 +53,17 @@ impl From<Failed> for StoreFault {
 
     fn from(_failed: Failed) -> StoreFault {
         StoreFault::Disk
+    }
+}
+
+// A fault of a slot, told of the part in which it is.
+pub(crate) fn in_part(part: Part, fault: JournalFault) -> StoreFault
+    ensures { result ≡ in_part part fault }
+{
+    match fault {
+        JournalFault::Disk => StoreFault::Disk,
+        JournalFault::Full => StoreFault::Full,
+        JournalFault::Damaged { at } => StoreFault::Damaged { part, at },
+        JournalFault::NoMemory => StoreFault::NoMemory,
     }
 }

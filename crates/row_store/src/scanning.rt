@@ -1,9 +1,11 @@
 ghost use Rattle.std.specs.Prelude.{◌≡◌, ◌++◌, ◌∷◌, [], OnOk, IfOk};
-ghost use Rattle.row_store.specs.BatchRows.{rows_in, is_of_table, puts, puts_of};
+ghost use Rattle.slot_reading.specs.BatchRows.{rows_in, is_of_table, puts, puts_of};
+ghost use Rattle.row_store.specs.WrittenRows.{each_as};
 
-use crate::changing::Rows;
+use crate::writing::{Writing, value_as};
 use ctrl_model::Bytes;
 use row_codec::{Batch, Op};
+use slot_reading::Rows;
 use std::alloc::{AllocError, Global};
 
 fn is_of_table(key: &[u8], table: u8) -> bool
@@ -15,11 +17,11 @@ fn is_of_table(key: &[u8], table: u8) -> bool
     }
 }
 
-fn put_of(alloc: Global, key: &[u8], value: &Bytes) -> Result<Op, AllocError>
+fn put_of(alloc: Global, key: &[u8], value: &[u8]) -> Result<Op, AllocError>
     ensures { IfOk result (λ op. op ≡ Op.Put key.now value.now) }
 {
     let key = Bytes::from_slice(alloc, key)?;
-    let value = Bytes::from_slice(alloc, value.as_slice())?;
+    let value = Bytes::from_slice(alloc, value)?;
     Ok(Op::Put { key, value })
 }
 
@@ -34,7 +36,7 @@ fn add_put(
     ensures { OnOk result (items.new.items ≡ items.old.items ++ puts_of table ((key.now, value.now) ∷ [])) }
 {
     if is_of_table(key, table) {
-        items.push(put_of(alloc, key, value)?)?;
+        items.push(put_of(alloc, key, value.as_slice())?)?;
     }
     Ok(())
 }
@@ -50,13 +52,14 @@ pub(crate) fn puts_of(alloc: Global, rows: &Rows, table: u8) -> Result<Batch, Al
     Ok(Batch::of(items))
 }
 
-// All rows as puts.
-pub(crate) fn puts(alloc: Global, rows: &Rows) -> Result<Batch, AllocError>
-    ensures { IfOk result (λ batch. batch ≡ puts (rows_in rows.now.entries)) }
+// All rows as puts of what is written.
+pub(crate) fn puts(alloc: Global, rows: &Rows, writing: Writing) -> Result<Batch, AllocError>
+    ensures { IfOk result (λ batch. batch ≡ puts (each_as writing (rows_in rows.now.entries))) }
 {
     let mut items = Vec::new(alloc);
     'rows: for (key, value) in rows {
-        items.push(put_of(alloc, key.as_slice(), value)?)?;
+        let written = value_as(writing, key.as_slice(), value.as_slice());
+        items.push(put_of(alloc, key.as_slice(), written)?)?;
     }
     Ok(Batch::of(items))
 }

@@ -1,11 +1,14 @@
 ghost use Rattle.std.specs.Prelude.{◌≡◌, ◌↔◌, ◌+◌, ◌≤◌, IsTrue, length};
 ghost use Rattle.std.specs.List.{AllByRecursion};
+ghost use Rattle.row_store.specs.declared.writing.Writing.{Writing};
 ghost use Rattle.row_codec.specs.Batches.{IsSpelledOp, op_bytes, batch_bytes};
-ghost use Rattle.row_store.specs.BatchRows.{ArePuttable, rows_in, puts};
-ghost use Rattle.row_store.specs.CompactedStores.{compacted_size};
+ghost use Rattle.slot_reading.specs.BatchRows.{ArePuttable, rows_in, puts};
+ghost use Rattle.row_store.specs.RewrittenStores.{compacted_size};
+ghost use Rattle.row_store.specs.WrittenRows.{each_as};
 
-use crate::changing::Rows;
+use crate::writing::{Writing, value_as};
 use row_codec::Op;
+use slot_reading::Rows;
 
 /// How many bytes a slot has without a record.
 const EMPTY: u64 = 9;
@@ -57,14 +60,15 @@ pub(crate) fn has_room(ops: &[Op], end: u64, most: u64) -> bool
     6 <= room && fits(ops, room - 6)
 }
 
-// Whether all rows, spelled as puts, have at most so many bytes. It takes no memory.
-fn all_fit(rows: &Rows, room: u64) -> bool
+// Whether all rows, spelled as puts of what is written, have at most so many bytes. It takes no memory.
+fn all_fit(rows: &Rows, writing: Writing, room: u64) -> bool
     requires { ArePuttable (rows_in rows.now.entries) }
-    ensures { IsTrue result ↔ (length (batch_bytes (puts (rows_in rows.now.entries))) ≤ room) }
+    ensures { IsTrue result ↔ (length (batch_bytes (puts (each_as writing (rows_in rows.now.entries)))) ≤ room) }
 {
     let mut left = room;
     'rows: for (key, value) in rows {
-        let Some(rest) = left.checked_sub(put_size(key.as_slice(), value.as_slice())) else {
+        let written = value_as(writing, key.as_slice(), value.as_slice());
+        let Some(rest) = left.checked_sub(put_size(key.as_slice(), written)) else {
             return false;
         };
         left = rest;
@@ -74,16 +78,16 @@ fn all_fit(rows: &Rows, room: u64) -> bool
 
 // How many bytes the slot of compacted rows has beside their puts.
 fn size_beside(rows: &Rows) -> u64
-    ensures { compacted_size (rows_in rows.now.entries) ≡ result + length (batch_bytes (puts (rows_in rows.now.entries))) }
+    ensures { (writing : Writing) → compacted_size (each_as writing (rows_in rows.now.entries)) ≡ result + length (batch_bytes (puts (each_as writing (rows_in rows.now.entries)))) }
 {
     if rows.is_empty() { EMPTY } else { WITH_RECORD }
 }
 
-// Whether the slot in which rows stand compacted keeps its bound. It takes no memory.
-pub(crate) fn has_room_for_all(rows: &Rows, most: u64) -> bool
+// Whether the slot in which rows stand compacted, as they are written, keeps its bound. It takes no memory.
+pub(crate) fn has_room_for_all(rows: &Rows, writing: Writing, most: u64) -> bool
     requires { ArePuttable (rows_in rows.now.entries) }
-    ensures { IsTrue result ↔ (compacted_size (rows_in rows.now.entries) ≤ most) }
+    ensures { IsTrue result ↔ (compacted_size (each_as writing (rows_in rows.now.entries)) ≤ most) }
 {
     let beside = size_beside(rows);
-    beside <= most && all_fit(rows, most - beside)
+    beside <= most && all_fit(rows, writing, most - beside)
 }

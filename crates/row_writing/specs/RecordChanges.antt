@@ -1,4 +1,4 @@
--- The change of one row, of a record, of a next number, of the setting; and of the rows of a kind's records at some numbers.
+-- The change of one row, of a record, of a next number, of the setting, of the serial; and of the rows of a kind's records at some numbers.
 use Rattle.std.specs.Prelude.{ℕ, List, map}
 use Rattle.std.specs.declared.option.Option.{Option}
 use Rattle.std.specs.Option.{option_map}
@@ -7,9 +7,9 @@ use Rattle.ctrl_model.specs.Numbered.{at}
 use Rattle.ctrl_model.specs.Tables.{Record}
 use Rattle.row_codec.specs.declared.changes.Change.{Change}
 use Rattle.row_codec.specs.RowKeys.{key_in, key_bytes, kind_number}
-use Rattle.row_codec.specs.RowKeys.RowTable.{Next, Setting, Records}
+use Rattle.row_codec.specs.RowKeys.RowTable.{Next, Setting, Records, Serial}
 use Rattle.row_codec.specs.RowValues.{record_value}
-use Rattle.row_codec.specs.StateRows.{next_value, setting_value}
+use Rattle.row_codec.specs.StateRows.{next_value, serial_value, setting_value}
 
 -- The change of the row of a kind's record under a number: its value before, if it was there, and after, if it is there.
 abbrev pub change_of : Kind → ℕ → Option (List ℕ) → Option (List ℕ) → Change
@@ -22,6 +22,10 @@ next_change_of k before after = record { key = key_bytes (key_in Next (kind_numb
 -- The change of the row of the least router cost, which goes from one to another.
 abbrev pub setting_change_of : ℕ → ℕ → Change
 setting_change_of before after = record { key = key_bytes (key_in Setting 0 0); before = setting_value before; after = setting_value after }
+
+-- The change of the row of the serial, which goes from one to another.
+abbrev pub serial_change_of : ℕ → ℕ → Change
+serial_change_of before after = record { key = key_bytes (key_in Serial 0 0); before = serial_value before; after = serial_value after }
 
 -- The value of the row of a kind's record under a number, if there is one.
 abbrev pub value_at : (k : Kind) → List (ℕ × Record k) → ℕ → Option (List ℕ)

@@ -1,5 +1,7 @@
 -- Rows of the worked examples, one or two of each table (docs/FORMATS.md, "Rows").
 use Rattle.std.specs.Prelude.{ℕ, true, false, List, [], ◌∷◌, codes, None, Some}
+use Rattle.ctrl_model.specs.declared.addresses.Address.TheVariants.{Under, Range}
+use Rattle.ctrl_model.specs.declared.formats.Format.{Format}
 use Rattle.ctrl_model.specs.declared.kinds.Kind.TheVariants as kind
 use Rattle.ctrl_model.specs.declared.kinds.Side.{Side}
 use Rattle.ctrl_model.specs.declared.kinds.Semantic.TheVariants.{AnyOf, AllOf}
@@ -12,9 +14,9 @@ use Rattle.row_codec.specs.declared.rows.Row.TheVariants as row
 use Rattle.row_codec.specs.RowKeys.{key_bytes}
 use Rattle.row_codec.specs.RowForm.{key_of, value_of}
 
--- The bytes of a row's key and those of its value.
-abbrev pub spelled : Row → List ℕ × List ℕ
-spelled r = (key_bytes (key_of r), value_of r)
+-- The bytes of a row's key and those of its value in a format.
+abbrev pub spelled : Format → Row → List ℕ × List ℕ
+spelled f r = (key_bytes (key_of r), value_of f r)
 
 -- The next identity is 2.
 abbrev pub next_identity : Row
@@ -88,7 +90,19 @@ identity_router_count = row.IdentityRouter (record { 0 = 1 }) (record { 0 = 256 
 abbrev pub service_router_count : Row
 service_router_count = row.ServiceRouter (record { 0 = 2 }) (record { 0 = 3 }) 65536
 
--- All of them.
+-- Service 1 claims what is under `example.org` over tcp at port 443.
+abbrev pub web_intercept : Row
+web_intercept = row.Intercept (record { 0 = 1 }) (record { tcp = true; udp = false; addresses = Under (codes "example.org") ∷ []; ports = record { low = 443; high = 443 } ∷ [] })
+
+-- Service 2 claims a network over tcp at port 22.
+abbrev pub api_intercept : Row
+api_intercept = row.Intercept (record { 0 = 2 }) (record { tcp = true; udp = false; addresses = Range 167837696 16 ∷ []; ports = record { low = 22; high = 22 } ∷ [] })
+
+-- 258 changes were kept.
+abbrev pub serial : Row
+serial = row.Serial 258
+
+-- All rows of the first format.
 abbrev pub worked_rows : List Row
 worked_rows =
     next_identity ∷ cost_of_twenty ∷ ann ∷ web ∷ marked_router ∷ second_link ∷ bind_policy ∷ edge_policy ∷ service_edge_policy

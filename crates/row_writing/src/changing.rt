@@ -3,12 +3,12 @@ ghost use Rattle.row_codec.specs.RowForm.{is_row, value_of};
 ghost use Rattle.row_codec.specs.RowKeys.{key_in, key_bytes, kind_number};
 ghost use Rattle.row_codec.specs.RowKeys.RowTable.{Records};
 ghost use Rattle.row_codec.specs.RowValues.{long};
-ghost use Rattle.row_codec.specs.StateRows.{next_value, setting_value};
-ghost use Rattle.row_writing.specs.RecordChanges.{change_of, next_change_of, setting_change_of};
+ghost use Rattle.row_codec.specs.StateRows.{next_value, serial_value, setting_value};
+ghost use Rattle.row_writing.specs.RecordChanges.{change_of, next_change_of, serial_change_of, setting_change_of};
 
 use crate::values::push_value;
-use ctrl_model::{Bytes, Kind};
-use row_codec::{Change, Row, push_long, record_key};
+use ctrl_model::{Bytes, Format, Kind};
+use row_codec::{Change, Row, push_long, push_wide, record_key};
 use std::alloc::{AllocError, Global};
 
 // The number of the table of a kind's records.
@@ -39,13 +39,13 @@ fn key_of(alloc: Global, kind: Kind, number: u32) -> Result<Bytes, AllocError>
     Ok(Bytes::of(key))
 }
 
-/// The value of a row that some state can have.
-pub fn value_of(alloc: Global, row: &Row) -> Result<Bytes, AllocError>
-    requires { is_row row.now ≡ true }
-    ensures { IfOk result (λ value. value ≡ value_of row.now) }
+/// The value of a row that some state can have in a format.
+pub fn value_of(alloc: Global, format: Format, row: &Row) -> Result<Bytes, AllocError>
+    requires { is_row format row.now ≡ true }
+    ensures { IfOk result (λ value. value ≡ value_of format row.now) }
 {
     let mut value = Vec::new(alloc);
-    push_value(&mut value, row)?;
+    push_value(&mut value, format, row)?;
     Ok(Bytes::of(value))
 }
 
@@ -67,6 +67,18 @@ pub fn change_of(
 
 /// The least router cost of a state that has no row of it.
 const LEAST_WITHOUT_ROW: u32 = 10;
+
+// The value of the serial, which has a row where it is above 0.
+fn serial_value(alloc: Global, serial: u64) -> Result<Option<Bytes>, AllocError>
+    ensures { IfOk result (λ value. value ≡ serial_value serial) }
+{
+    if serial == 0 {
+        return Ok(None);
+    }
+    let mut value = Vec::new(alloc);
+    push_wide(&mut value, serial)?;
+    Ok(Some(Bytes::of(value)))
+}
 
 // The value of a number of four bytes.
 fn long_value(alloc: Global, number: u32) -> Result<Bytes, AllocError>
@@ -121,6 +133,20 @@ pub fn setting_change(alloc: Global, before: u32, after: u32) -> Result<Change, 
     let key = Vec::from_slice(alloc, &[2])?;
     let before = setting_value(alloc, before)?;
     let after = setting_value(alloc, after)?;
+    Ok(Change {
+        key: Bytes::of(key),
+        before,
+        after,
+    })
+}
+
+/// The change of the row of the serial, which goes from one to another.
+pub fn serial_change(alloc: Global, before: u64, after: u64) -> Result<Change, AllocError>
+    ensures { IfOk result (λ change. change ≡ serial_change_of before after) }
+{
+    let key = Vec::from_slice(alloc, &[17])?;
+    let before = serial_value(alloc, before)?;
+    let after = serial_value(alloc, after)?;
     Ok(Change {
         key: Bytes::of(key),
         before,

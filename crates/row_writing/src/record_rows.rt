@@ -3,17 +3,18 @@ ghost use Rattle.std.specs.declared.option.Option.{Option};
 ghost use Rattle.std.specs.List.{list_all};
 ghost use Rattle.std.specs.Option.{option_map};
 ghost use Rattle.record_tables.specs.AfterChange.{touched_numbers};
+ghost use Rattle.ctrl_model.specs.declared.formats.Format.TheVariants.{Two};
 ghost use Rattle.row_codec.specs.RowForm.{is_row, value_of};
 ghost use Rattle.row_codec.specs.RowKeys.{is_long, kind_number};
 ghost use Rattle.row_writing.specs.RecordChanges.{change_of, changes_at};
 
 use crate::changing::{change_of, value_of};
-use ctrl_model::{Bytes, Kind, Numbers};
+use ctrl_model::{Bytes, Format, Kind, Numbers};
 use record_tables::touched;
 use row_codec::{Change, Changes, Row};
 use std::alloc::{AllocError, Global};
 
-/// The records of one kind before a change and after it, each of which has a row.
+/// The records of one kind before a change and after it, each of which has a row, the same in either format.
 pub trait ChangedRows {
     ghost values_before: { Self → ℕ → Option (List ℕ) };
 
@@ -24,19 +25,19 @@ pub trait ChangedRows {
     /// The rows of the record that has the number, before the change and after it, where one has it. An Err is want of memory.
     fn rows_at(&self, number: u32) -> Result<(Option<Row>, Option<Row>), AllocError>
         requires { HaveRows self.now }
-        ensures before_form { IfOk result (λ rows. IfSome rows.0 (λ r. is_row r ≡ true)) }
-        ensures after_form { IfOk result (λ rows. IfSome rows.1 (λ r. is_row r ≡ true)) }
-        ensures before { IfOk result (λ rows. option_map value_of rows.0 ≡ values_before self.now number) }
-        ensures after { IfOk result (λ rows. option_map value_of rows.1 ≡ values_after self.now number) };
+        ensures before_form { IfOk result (λ rows. IfSome rows.0 (λ r. is_row Two r ≡ true)) }
+        ensures after_form { IfOk result (λ rows. IfSome rows.1 (λ r. is_row Two r ≡ true)) }
+        ensures before { IfOk result (λ rows. option_map (value_of Two) rows.0 ≡ values_before self.now number) }
+        ensures after { IfOk result (λ rows. option_map (value_of Two) rows.1 ≡ values_after self.now number) };
 }
 
 // The value of a row, if there is one.
 fn value_if_some(alloc: Global, row: &Option<Row>) -> Result<Option<Bytes>, AllocError>
-    requires { IfSome row.now (λ r. is_row r ≡ true) }
-    ensures { IfOk result (λ value. value ≡ option_map value_of row.now) }
+    requires { IfSome row.now (λ r. is_row Two r ≡ true) }
+    ensures { IfOk result (λ value. value ≡ option_map (value_of Two) row.now) }
 {
     match row {
-        Some(row) => Ok(Some(value_of(alloc, row)?)),
+        Some(row) => Ok(Some(value_of(alloc, Format::Two, row)?)),
         None => Ok(None),
     }
 }
@@ -51,9 +52,9 @@ pub fn row_change(
     after: Option<Row>,
 ) -> Result<Change, AllocError>
     requires kind { nat_le 1 (kind_number kind) ≡ true }
-    requires before { IfSome before (λ r. is_row r ≡ true) }
-    requires after { IfSome after (λ r. is_row r ≡ true) }
-    ensures { IfOk result (λ change. change ≡ change_of kind number (option_map value_of before) (option_map value_of after)) }
+    requires before { IfSome before (λ r. is_row Two r ≡ true) }
+    requires after { IfSome after (λ r. is_row Two r ≡ true) }
+    ensures { IfOk result (λ change. change ≡ change_of kind number (option_map (value_of Two) before) (option_map (value_of Two) after)) }
 {
     let value_before = value_if_some(alloc, &before);
     drop(before);

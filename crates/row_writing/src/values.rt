@@ -1,15 +1,18 @@
 ghost use Rattle.std.specs.Prelude.{◌≡◌, ◌∷◌, ◌++◌, [], ◌&&◌, ◌≤◌, ◌<◌, true, nat_le, OnOk, length, map};
 ghost use Rattle.std.specs.List.{flat_map};
 ghost use Rattle.std.specs.Option.{option_map};
+ghost use Rattle.ctrl_model.specs.declared.formats.Format.TheVariants.{Two};
 ghost use Rattle.row_codec.specs.RowForm.{is_row, is_short, are_listed, is_listed_side, value_of};
 ghost use Rattle.row_codec.specs.RowValues.{long, short, text, texts, flag, side_bytes, relation_byte, semantic_byte, precedence_byte, router_marks, host_number};
 ghost use Rattle.row_writing.specs.TableValues.{value_between};
 
+use crate::intercepts::push_intercept;
 use crate::writing::{push_longs, push_name, push_names, push_short, push_side};
 use ctrl_model::{
-    IdentityNo, Instance, Name, Names, Numbers, Precedence, Relation, RouterNo, Semantic, Side,
+    Format, IdentityNo, Instance, Name, Names, Numbers, Precedence, Relation, RouterNo, Semantic,
+    Side,
 };
-use row_codec::{Row, push_long, push_text};
+use row_codec::{Row, push_count, push_long, push_text, push_wide};
 use std::alloc::AllocError;
 
 fn relation_byte(relation: Relation) -> u8
@@ -191,7 +194,7 @@ fn push_circuit(out: &mut Vec<u8>, numbers: [u32; 4], links: &Numbers) -> Result
 
 // Writes the value of a row of a policy, and nothing of another row.
 fn push_policy(out: &mut Vec<u8>, row: &Row) -> Result<(), AllocError>
-    requires { is_row row.now ≡ true }
+    requires { is_row Two row.now ≡ true }
     ensures { OnOk result (out.new.items ≡ out.old.items ++ value_between 7 10 row.now) }
 {
     match row {
@@ -223,7 +226,7 @@ fn push_policy(out: &mut Vec<u8>, row: &Row) -> Result<(), AllocError>
 
 // Writes the value of a row of what joins entities, a link, a policy, a terminator or a circuit, and nothing of another row.
 fn push_joining(out: &mut Vec<u8>, row: &Row) -> Result<(), AllocError>
-    requires { is_row row.now ≡ true }
+    requires { is_row Two row.now ≡ true }
     ensures { OnOk result (out.new.items ≡ out.old.items ++ value_between 6 12 row.now) }
 {
     match row {
@@ -261,10 +264,10 @@ fn push_joining(out: &mut Vec<u8>, row: &Row) -> Result<(), AllocError>
     }
 }
 
-/// Writes the value of a row.
-pub(crate) fn push_value(out: &mut Vec<u8>, row: &Row) -> Result<(), AllocError>
-    requires { is_row row.now ≡ true }
-    ensures { OnOk result (out.new.items ≡ out.old.items ++ value_of row.now) }
+/// Writes the value of a row of a format.
+pub(crate) fn push_value(out: &mut Vec<u8>, format: Format, row: &Row) -> Result<(), AllocError>
+    requires { is_row format row.now ≡ true }
+    ensures { OnOk result (out.new.items ≡ out.old.items ++ value_of format row.now) }
 {
     match row {
         Row::Next { next, .. } => push_long(out, *next),
@@ -287,10 +290,12 @@ pub(crate) fn push_value(out: &mut Vec<u8>, row: &Row) -> Result<(), AllocError>
             connected,
             ..
         } => { push_router(out, name, attributes, *cost, (*through, *connected)) }
-        Row::Dial { count, .. } => push_long(out, *count),
-        Row::Bind { count, .. } => push_long(out, *count),
-        Row::IdentityRouter { count, .. } => push_long(out, *count),
-        Row::ServiceRouter { count, .. } => push_long(out, *count),
+        Row::Dial { count, .. } => push_count(out, format, *count),
+        Row::Bind { count, .. } => push_count(out, format, *count),
+        Row::IdentityRouter { count, .. } => push_count(out, format, *count),
+        Row::ServiceRouter { count, .. } => push_count(out, format, *count),
+        Row::Intercept { intercept, .. } => push_intercept(out, intercept),
+        Row::Serial { serial } => push_wide(out, *serial),
         _ => push_joining(out, row),
     }
 }

@@ -7,6 +7,7 @@ use Rattle.ziti_outside.specs.Moments.{Remembers, Leaves}
 use Rattle.ziti_outside.specs.Untouched.{OnlyDisk}
 use Rattle.ziti_outside.specs.Views.{Seen, Stopped}
 use Rattle.journal_core.specs.Room.{HoldsRoom}
+use Rattle.ctrl_model.specs.declared.formats.Format.{Format}
 use Rattle.journal_core.specs.Slots.{Slot}
 use Rattle.slot_files.specs.declared.faults.SlotFault.{SlotFault}
 use Rattle.slot_files.specs.declared.faults.SlotFault.TheVariants.{Damaged, MarkFull}
@@ -17,12 +18,12 @@ use Rattle.slot_files.specs.FolderImage.{slot_of, Stands}
 abbrev pub other_slot : ℕ → Part
 other_slot mark = slot_of (mark + 1)
 
--- The mark has so many bytes, the other slot is complete, and nothing is pending in either.
-pub record IsReady (mark : ℕ) (reads : Image) (images : Image → Type 0) : Type 0 where
+-- The mark has so many bytes, the other slot is a complete one of a format, and nothing is pending in either.
+pub record IsReady (mark : ℕ) (format : Format) (reads : Image) (images : Image → Type 0) : Type 0 where
   pub long : length (reads Mark) ≡ mark
   pub stable_mark : IsStable Mark reads images
   pub batches : List (List ℕ)
-  pub slot : Slot (reads (other_slot mark)) batches
+  pub slot : Slot format (reads (other_slot mark)) batches
   pub stable : IsStable (other_slot mark) reads images
 
 -- The other slot stands: the mark has one byte more and names it.
@@ -32,7 +33,8 @@ pub record IsSwitched (old new : Standing) : Type 0 where
 
 -- An image stands for what an earlier one stood for, or for what the other slot stands for.
 pub record StandsByEither (mark : ℕ) (reads : Image) (old new : Image) : Type 0 where
-  pub either : (before after : List (List ℕ)) → Stands old before → Slot (reads (other_slot mark)) after → Stands new before ⊎ Stands new after
+  pub either : (stood other : Format) (before after : List (List ℕ)) → Stands stood old before → Slot other (reads (other_slot mark)) after
+      → Stands stood new before ⊎ Stands other new after
 
 -- The other slot was let stand, and nothing else was done, whatever came of it. At every moment a stop leaves an image that stands for what
 -- an earlier one stood for, or for what the other slot does; no reply byte is taken, and no slot grew, neither as the folder reads nor in what

@@ -1,14 +1,13 @@
-ghost use Rattle.std.specs.Prelude.{◌≡◌, ◌↔◌, ◌<◌, IsTrue, IfOk, IfErr, IfSome};
-ghost use Rattle.ziti_outside.specs.Told.{IsFront};
+ghost use Rattle.std.specs.Prelude.{◌≡◌, ◌<◌, IsTrue, IfOk, IfErr, IfSome};
 ghost use Rattle.ziti_outside.specs.Causes.{HasCause};
 ghost use Rattle.ziti_outside.specs.Untouched.{OnlyReads};
-ghost use Rattle.journal_core.specs.Slots.{header};
-ghost use Rattle.slot_files.specs.FolderImage.{slot_of};
+ghost use Rattle.slot_files.specs.FolderImage.{BeginsAs, IsHeaderOf, slot_of};
 ghost use Rattle.slot_files.specs.OpenedSlots.{IsNamed, Finds};
 ghost use Rattle.slot_files.specs.Faults.{disk_failure, FindFails};
 
 use crate::faults::SlotFault;
-use journal_core::HEADER;
+use ctrl_model::Format;
+use journal_core::{HEADER_LEN, header};
 use ziti_outside::{Desk, Failed, Part};
 
 /// The slot that stands.
@@ -18,6 +17,8 @@ pub struct Standing {
     pub part: Part,
     /// How many bytes the mark has: at least 1.
     pub mark: u64,
+    /// The format that the slot's header tells.
+    pub format: Format,
 }
 
 /// The slot that a mark of so many bytes names.
@@ -32,24 +33,37 @@ pub fn slot_of(mark: u64) -> Part
     }
 }
 
-// Whether a part begins with the header of a slot.
-fn has_header<D: Desk>(desk: &mut D, part: Part) -> Result<bool, Failed>
-    ensures header { IfOk result (λ found. IsTrue D.tells → (IsTrue found ↔ IsFront header ((D.seen desk.old).reads part))) }
+// The format whose header some bytes are.
+fn format_of(bytes: &[u8; 8]) -> Option<Format>
+    ensures { IsHeaderOf bytes.now result }
+{
+    if *bytes == header(Format::Two) {
+        return Some(Format::Two);
+    }
+    if *bytes == header(Format::One) {
+        return Some(Format::One);
+    }
+    None
+}
+
+// The format with whose header a part begins.
+fn begins_as<D: Desk>(desk: &mut D, part: Part) -> Result<Option<Format>, Failed>
+    ensures begins { IfOk result (λ found. IsTrue D.tells → BeginsAs ((D.seen desk.old).reads part) found) }
     ensures cause { HasCause (D.seen desk.old).disk_faults (D.seen desk.new).disk_faults result }
     ensures reads { OnlyReads D.seen D.stopped desk.old desk.new }
 {
-    if desk.len(part)? < HEADER.len() as u64 {
-        return Ok(false);
+    if desk.len(part)? < HEADER_LEN {
+        return Ok(None);
     }
     let mut bytes = [0u8; 8];
     desk.read_at(part, 0, &mut bytes)?;
-    Ok(bytes == HEADER)
+    Ok(format_of(&bytes))
 }
 
 /// Finds the slot that stands, by the mark's length, or none where the mark is empty. It changes nothing.
 ///
-/// `Damaged` names the slot and the place 0, and comes exactly where the mark is not empty and the slot that it names does not
-/// begin with the header. `MarkFull` never comes.
+/// `Damaged` names the slot and the place 0, and comes exactly where the mark is not empty and the slot that it names begins with the
+/// header of no format. `MarkFull` never comes.
 pub fn peek<D: Desk>(desk: &mut D) -> Result<Option<Standing>, SlotFault>
     ensures found { IfOk result (λ found. IsTrue D.tells → Finds (D.seen desk.old).reads found) }
     ensures named { IfOk result (λ found. IfSome found IsNamed) }
@@ -62,9 +76,8 @@ pub fn peek<D: Desk>(desk: &mut D) -> Result<Option<Standing>, SlotFault>
         return Ok(None);
     }
     let part = slot_of(mark);
-    if has_header(desk, part)? {
-        Ok(Some(Standing { part, mark }))
-    } else {
-        Err(SlotFault::Damaged { part, at: 0 })
+    match begins_as(desk, part)? {
+        Some(format) => Ok(Some(Standing { part, mark, format })),
+        None => Err(SlotFault::Damaged { part, at: 0 }),
     }
 }

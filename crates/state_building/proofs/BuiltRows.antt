@@ -3,12 +3,13 @@ use Rattle.std.proofs.Common.{◌≡◌, ℕ, ◌+◌, ◌<◌, ◌≤◌, true,
 use Rattle.ctrl_model.specs.declared.kinds.Kind.{Kind}
 use Rattle.ctrl_model.specs.declared.kinds.Kind.TheVariants as kind
 use Rattle.ctrl_model.specs.Limits.{last_next}
-use Rattle.ctrl_model.specs.Numbered.{Table, with_new}
+use Rattle.ctrl_model.specs.Numbered.{Table, with_last, with_new}
 use Rattle.ctrl_model.specs.State.{State, start}
 use Rattle.ctrl_model.specs.Tables.{Record, table}
 use Rattle.ctrl_model.specs.CommandForm.{is_link_cost}
 use Rattle.ctrl_model.specs.ValidState.{ValidState, ValidTable}
 use Rattle.ctrl_model.proofs.TableLaws.{valid-none}
+use Rattle.ctrl_model.specs.declared.intercepts.Intercept.{Intercept}
 use Rattle.row_codec.specs.declared.rows.Row.{Row}
 use Rattle.model_laws.proofs.KindLaws.{with_table-holds}
 use Rattle.state_building.specs.JoinedRecords.{skipped, joined}
@@ -20,7 +21,7 @@ use Rattle.state_building.proofs.ComingRows.{row-holds, row-valid}
 -- ---- the state at the start
 
 pub start-valid : ValidState start
-start-valid = record { kinds = kinds; setting = refl; attributes = refl; repaired = refl }
+start-valid = record { kinds = kinds; setting = refl; attributes = refl; repaired = refl; ordered = tt; intercepts = refl; counted = omega arith }
   where
     kinds : (k : Kind) → ValidTable k start (table k start)
     kinds kind.Link = valid-none kind.Link start
@@ -55,11 +56,15 @@ joined-below nexts k n r s h f =
 pub built-below : (nexts : Kind → ℕ) (rows : List Row) (s : State) → AreBelow nexts s → AreFlawless nexts rows s → AreBelow nexts (built rows s)
 built-below nexts [] s h f = h
 built-below nexts (x ∷ rows) s h f =
-    built-below nexts rows _ (row-holds (AreBelow nexts) nexts s h (λ k n r e. joined-below nexts k n r s h (IsFlawless-from nexts k n r s e)) (set-below s h) x f.0) f.1
+    built-below nexts rows _ (row-holds (AreBelow nexts) nexts s h (λ k n r e. joined-below nexts k n r s h (IsFlawless-from nexts k n r s e)) (set-below s h) (λ n i after fits there. claims-below s h (with_last s.intercepts n i) s.serial) (λ n fits. claims-below s h s.intercepts n) x f.0) f.1
   where
     set-below : (s : State) → AreBelow nexts s → (cost : ℕ) → is_link_cost cost ≡ true → AreBelow nexts (record s { least_router_cost = cost })
     set-below s h cost fits kind.Attribute = h kind.Attribute
     set-below s h cost fits k = h k
+
+    claims-below : (s : State) → AreBelow nexts s → (is : List (ℕ × Intercept)) (n : ℕ) → AreBelow nexts (record s { intercepts = is; serial = n })
+    claims-below s h is n kind.Attribute = h kind.Attribute
+    claims-below s h is n k = h k
 
 -- ---- the next numbers at the end
 

@@ -131,6 +131,9 @@ flawless-valid nexts k n r s v last f =
       setting = o.setting;
       attributes = o.attributes;
       repaired = repaired-standing (after_create k r t) (IsStanding-created k r t (IsStanding-repaired t valid.repaired) stay);
+      ordered = o.claims.ordered;
+      intercepts = o.claims.intercepts;
+      counted = o.claims.counted;
     }
 
 pub joined-valid : (nexts : Kind → ℕ) (k : Kind) (n : ℕ) (r : Record k) (s : State) → ValidState s → nexts k ≤ last_next → flaw_of nexts k n r s ≡ None → ValidState (joined k n r s)

@@ -10,8 +10,8 @@ use Rattle.ctrl_model.specs.CommandForm.{is_link_cost}
 use Rattle.ctrl_model.specs.ValidState.{ValidState, ValidTable, is_valid}
 use Rattle.ctrl_model.proofs.NumberedLaws.{Between-more}
 use Rattle.ctrl_model.proofs.TableLaws.{valid-none, valid-more, each_passes-more}
-use Rattle.model_laws.proofs.KindLaws.{with_table-holds, with_table-setting}
-use Rattle.model_laws.proofs.ValidLaws.{attributes_fewer, with_table-uses}
+use Rattle.model_laws.proofs.KindLaws.{with_table-holds, with_table-setting, with_table-intercepts, with_table-serial}
+use Rattle.model_laws.proofs.ValidLaws.{AreClaimed, AreClaimed-from_valid, attributes_fewer, claims_more, keeps_services, with_table-uses}
 use Rattle.state_building.specs.JoinedRecords.{skipped}
 use Rattle.state_building.proofs.GrownStates.{Grown, Keeps, valid_still}
 use Rattle.state_building.proofs.StandingRecords.{AllStay, all_still, IsStanding-repaired, repaired-standing}
@@ -31,8 +31,15 @@ skipped-valid k n s v above last = record {
   setting = ap is_link_cost (with_table-setting k (renumbered k n s) s) ∙ v.setting;
   attributes = attributes_fewer s (skipped k n s) (with_table-uses s k (renumbered k n s) (λ x m. m)) v.attributes;
   repaired = repaired-standing (skipped k n s) (with_table-holds (λ j t. AllStay j (skipped k n s) t.rows) s k (renumbered k n s) refl (still k) still);
+  ordered = claims.ordered;
+  intercepts = claims.intercepts;
+  counted = claims.counted;
 }
   where
+    claims : AreClaimed (skipped k n s)
+    claims = claims_more s (skipped k n s) (with_table-intercepts k (renumbered k n s) s) (with_table-serial k (renumbered k n s) s)
+        (keeps_services s k (renumbered k n s) (λ is. record { next = above; present = λ m e. e })) (AreClaimed-from_valid s v)
+
     more : (j : Kind) (q : Record j) → is_valid j s q ≡ true → is_valid j (skipped k n s) q ≡ true
     more = valid_still s (skipped k n s) (Grown-skipped k n s) v.kinds
 

@@ -13,24 +13,30 @@ use Rattle.row_codec.specs.RowKeys.{kinds, kind_number}
 use Rattle.state_building.specs.declared.flaws.Flaw.{Flaw}
 use Rattle.state_building.specs.declared.flaws.Flaw.TheVariants.{NoRecord, WrongCount}
 use Rattle.state_building.specs.RowForms.{by_row}
-use Rattle.state_building.specs.JoinedRecords.{skipped, joined, flaw_if, flaw_of}
+use Rattle.state_building.specs.JoinedRecords.{skipped, joined, claimed, flaw_if, flaw_of, flaw_of_intercept, flaw_of_serial}
 
--- The state with one more row: a record joins it, the setting is set. Next numbers wait for the end, and counts are computed.
+-- The state with one more row: a record or an intercept joins it, the setting or the serial is set. Next numbers wait for the end, and
+-- counts are computed.
 abbrev pub with_row : Row → State → State
 with_row x s = by_row (record {
   next = λ k n. s;
   setting = λ cost. record s { least_router_cost = cost };
   one = λ k n r. joined k n r s;
   count = λ r a b c. s;
+  intercept = λ n i. claimed n i s;
+  serial = λ n. record s { serial = n };
 }) x
 
--- Why a row cannot come next: a record that cannot join, a setting out of its range, or a count that is not what the policies give.
+-- Why a row cannot come next: a record or an intercept that cannot join, a setting or a serial out of its range, or a count that is not
+-- what the policies give.
 abbrev pub flaw_in : (Kind → ℕ) → Row → State → Option Flaw
 flaw_in nexts x s = by_row (record {
   next = λ k n. None;
   setting = λ cost. flaw_if (not (is_link_cost cost)) NoRecord None;
   one = λ k n r. flaw_of nexts k n r s;
   count = λ r a b c. flaw_if (not (count r s a b == c)) WrongCount None;
+  intercept = λ n i. flaw_of_intercept n i s;
+  serial = λ n. flaw_of_serial n;
 }) x
 
 -- The state with all rows of a list.
@@ -50,6 +56,8 @@ next_said k x = by_row (record {
   setting = λ cost. None;
   one = λ j n r. None;
   count = λ r a b c. None;
+  intercept = λ n i. None;
+  serial = λ n. None;
 }) x
 
 -- The next number that some rows have of a kind, 1 where they have none.
@@ -66,7 +74,7 @@ with_nexts_of (k ∷ ks) nexts s = with_nexts_of ks nexts (skipped k (nexts k) s
 abbrev pub with_nexts : (Kind → ℕ) → State → State
 with_nexts nexts s = with_nexts_of kinds nexts s
 
--- The state that rows give: all records and the setting, and then the next numbers.
+-- The state that rows give: all records and intercepts, the setting and the serial, and then the next numbers.
 abbrev pub state_in : List Row → State
 state_in rows = with_nexts (next_in rows) (built rows start)
 
@@ -77,6 +85,8 @@ count_said r a b x = by_row (record {
   setting = λ cost. None;
   one = λ k n q. None;
   count = λ q left right c. cond (same_relation r q) (cond (left == a) (cond (right == b) (Some c) None) None) None;
+  intercept = λ n i. None;
+  serial = λ n. None;
 }) x
 
 -- The count that some rows have of a pair, 0 where they have none.

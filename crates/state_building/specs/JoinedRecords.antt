@@ -1,9 +1,13 @@
--- A record that joins a state under its own number, and why one cannot (docs/RULES.md, "Valid states").
-use Rattle.std.specs.Prelude.{ℕ, Bool, true, not, cond, ◌&&◌, ◌||◌, nat_lt, nat_le, length, None, Some, is_some}
+-- A record, an intercept or a serial that joins a state, and why one cannot (docs/RULES.md, "Valid states").
+use Rattle.std.specs.Prelude.{ℕ, Bool, true, not, cond, ◌&&◌, ◌||◌, nat_lt, nat_le, List, length, None, Some, is_some}
 use Rattle.std.specs.declared.option.Option.{Option}
+use Rattle.std.specs.List.{list_all}
 use Rattle.ctrl_model.specs.declared.kinds.Kind.{Kind}
 use Rattle.ctrl_model.specs.declared.kinds.Kind.TheVariants as kind
-use Rattle.ctrl_model.specs.Limits.{limit}
+use Rattle.ctrl_model.specs.declared.intercepts.Intercept.{Intercept}
+use Rattle.ctrl_model.specs.InterceptForm.{is_intercept}
+use Rattle.ctrl_model.specs.Limits.{limit, last_serial}
+use Rattle.ctrl_model.specs.Numbered.{is_present, with_last}
 use Rattle.ctrl_model.specs.State.{State, Policy}
 use Rattle.ctrl_model.specs.Tables.{Record, table, with_table, has_names, record_name, named, left_kind, right_kind}
 use Rattle.ctrl_model.specs.Rules.{attributes_full}
@@ -82,3 +86,22 @@ flaw_of nexts k n r s =
     (flaw_if (is_name_taken k r s) NameTaken
     (flaw_if (not (is_supported k s (n, r))) (unsupported k)
     (flaw_if (is_one_too_many k n r s) TooMany None))))
+
+-- The state with one more intercept, under the number of its service.
+abbrev pub claimed : ℕ → Intercept → State → State
+claimed n i s = record s { intercepts = with_last s.intercepts n i }
+
+-- Whether a number is above those of some rows.
+abbrev pub is_above_all : {R : Type 0} → ℕ → List (ℕ × R) → Bool
+is_above_all n rows = list_all (λ x. nat_lt x.0 n) rows
+
+-- Why an intercept cannot join: its number is not above those of the others, it is no intercept, or its service is absent.
+abbrev pub flaw_of_intercept : ℕ → Intercept → State → Option Flaw
+flaw_of_intercept n i s =
+    flaw_if (not (is_above_all n s.intercepts)) OutOfOrder
+    (flaw_if (not (is_intercept i)) NoRecord
+    (flaw_if (not (is_present s.services.rows n)) Hanging None))
+
+-- Why a serial cannot be that of a state: it is above the last one.
+abbrev pub flaw_of_serial : ℕ → Option Flaw
+flaw_of_serial n = flaw_if (not (nat_le n last_serial)) NoRecord None

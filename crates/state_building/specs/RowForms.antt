@@ -1,22 +1,26 @@
--- What a row is: a next number, the setting, a record of a kind, or a count of a relation (docs/FORMATS.md, "Rows").
+-- What a row is: a next number, the setting, a record of a kind, a count of a relation, an intercept, or the serial (docs/FORMATS.md,
+-- "Rows").
 use Rattle.std.specs.Prelude.{ℕ}
 use Rattle.std.specs.Option.{option_map}
 use Rattle.ctrl_model.specs.declared.kinds.Kind.{Kind}
 use Rattle.ctrl_model.specs.declared.kinds.Kind.TheVariants as kind
 use Rattle.ctrl_model.specs.declared.kinds.Relation.{Relation}
 use Rattle.ctrl_model.specs.declared.kinds.Relation.TheVariants.{Dial, Bind, IdentityRouter, ServiceRouter}
+use Rattle.ctrl_model.specs.declared.intercepts.Intercept.{Intercept}
 use Rattle.ctrl_model.specs.Tables.{Record}
 use Rattle.row_codec.specs.declared.rows.Row.{Row}
 use Rattle.row_codec.specs.declared.rows.Row.TheVariants as row
 use Rattle.row_codec.specs.RowForm.{policy_of}
 
 -- Something for each thing that a row can be: for a next number, which a row has of a kind by the kind's number; for the setting; for a
--- record of a kind under its number; and for a count of a pair.
+-- record of a kind under its number; for a count of a pair; for an intercept under the number of its service; and for the serial.
 pub record Cases (A : Type 0) : Type 0 where
   pub next : ℕ → ℕ → A
   pub setting : ℕ → A
   pub one : (k : Kind) → ℕ → Record k → A
   pub count : Relation → ℕ → ℕ → ℕ → A
+  pub intercept : ℕ → Intercept → A
+  pub serial : ℕ → A
 
 -- What is said for a row.
 abbrev pub by_row : {A : Type 0} → Cases A → Row → A
@@ -55,3 +59,5 @@ by_row c (row.Dial identity service count) = c.count Dial identity.0 service.0 c
 by_row c (row.Bind identity service count) = c.count Bind identity.0 service.0 count
 by_row c (row.IdentityRouter identity router count) = c.count IdentityRouter identity.0 router.0 count
 by_row c (row.ServiceRouter service router count) = c.count ServiceRouter service.0 router.0 count
+by_row c (row.Intercept service intercept) = c.intercept service.0 intercept
+by_row c (row.Serial serial) = c.serial serial

@@ -7,6 +7,8 @@ ghost use Rattle.ctrl_model.specs.declared.commands.Command.TheVariants.{CreateI
 ghost use Rattle.ctrl_model.specs.State.{start};
 ghost use Rattle.ctrl_model.specs.Tables.{table};
 ghost use Rattle.ctrl_model.specs.WorkedStates.{after, everyone, only, carrying, line, two_policies, names_of_two_bytes};
+ghost use Rattle.ctrl_model.specs.declared.addresses.Address.TheVariants.{Under};
+ghost use Rattle.model_laws.specs.WorkedIntercepts.{over_tcp, ports};
 ghost use Rattle.row_codec.specs.declared.rows.Row.TheVariants as row;
 ghost use Rattle.state_building.specs.declared.flaws.Flaw.TheVariants.{NoRecord, OutOfOrder, NameTaken, Hanging, Unsettled, TooMany, WrongCount};
 ghost use Rattle.state_building.specs.JoinedRecords.{skipped};
@@ -22,6 +24,10 @@ pub fn worked_joins()
     ensures setting { with_row (row.Setting 20) line ≡ record line { least_router_cost = 20 } }
     ensures next_later { with_row (row.Next 1 7) line ≡ line }
     ensures count_computed { with_row (row.Dial (record { 0 = 1 }) (record { 0 = 1 }) 1) line ≡ line }
+    ensures intercept { (with_row (row.Intercept (record { 0 = 1 }) (over_tcp (Under (codes "example.org") ∷ []) (ports 443 443 ∷ []))) line).intercepts ≡ (1, over_tcp (Under (codes "example.org") ∷ []) (ports 443 443 ∷ [])) ∷ [] }
+    ensures intercept_behind { (with_row (row.Intercept (record { 0 = 2 }) (over_tcp (Under (codes "example.org") ∷ []) (ports 443 443 ∷ []))) (record line { intercepts = (1, over_tcp (Under (codes "example.org") ∷ []) (ports 80 80 ∷ [])) ∷ [] })).intercepts
+        ≡ (1, over_tcp (Under (codes "example.org") ∷ []) (ports 80 80 ∷ [])) ∷ (2, over_tcp (Under (codes "example.org") ∷ []) (ports 443 443 ∷ [])) ∷ [] }
+    ensures serial { with_row (row.Serial 15) line ≡ record line { serial = 15 } }
     ensures skips { (table kind.Circuit (skipped kind.Circuit 9 line)).next ≡ 9 }
     ensures circuit { table kind.Circuit (with_row (row.Circuit (record { 0 = 7 }) (record { 0 = 1 }) (record { 0 = 2 }) (record { 0 = 3 }) (record { 0 = 4 }) (5 ∷ 6 ∷ [])) line)
         ≡ record { rows = (7, record { identity = 1; service = 2; terminator = 3; ingress = 4; links = 5 ∷ 6 ∷ [] }) ∷ []; next = 8 } }
@@ -55,6 +61,14 @@ pub fn worked_flaws()
     ensures count_without_policy { flaw_in (λ k. 9) (row.Dial (record { 0 = 1 }) (record { 0 = 1 }) 1) start ≡ Some WrongCount }
     ensures count_of_one_policy { flaw_in (λ k. 9) (row.Dial (record { 0 = 1 }) (record { 0 = 1 }) 1) line ≡ None }
     ensures count_too_high { flaw_in (λ k. 9) (row.Dial (record { 0 = 1 }) (record { 0 = 1 }) 2) line ≡ Some WrongCount }
+    ensures absent_service { flaw_in (λ k. 9) (row.Intercept (record { 0 = 2 }) (over_tcp (Under (codes "example.org") ∷ []) (ports 443 443 ∷ []))) line ≡ Some Hanging }
+    ensures present_service { flaw_in (λ k. 9) (row.Intercept (record { 0 = 1 }) (over_tcp (Under (codes "example.org") ∷ []) (ports 443 443 ∷ []))) line ≡ None }
+    ensures no_port { flaw_in (λ k. 9) (row.Intercept (record { 0 = 1 }) (over_tcp (Under (codes "example.org") ∷ []) [])) line ≡ Some NoRecord }
+    ensures second_intercept { flaw_in (λ k. 9) (row.Intercept (record { 0 = 1 }) (over_tcp (Under (codes "example.org") ∷ []) (ports 443 443 ∷ [])))
+        (record line { intercepts = (1, over_tcp (Under (codes "example.org") ∷ []) (ports 80 80 ∷ [])) ∷ [] }) ≡ Some OutOfOrder }
+    ensures form_before_service { flaw_in (λ k. 9) (row.Intercept (record { 0 = 2 }) (over_tcp (Under (codes "example.org") ∷ []) [])) line ≡ Some NoRecord }
+    ensures last_serial { flaw_in (λ k. 9) (row.Serial 9223372036854775808) line ≡ None }
+    ensures past_last_serial { flaw_in (λ k. 9) (row.Serial 9223372036854775809) line ≡ Some NoRecord }
     ensures next_numbers_wait { flaw_in (λ k. 9) (row.Next 1 7) line ≡ None }
 {}
 

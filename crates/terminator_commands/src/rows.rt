@@ -1,5 +1,7 @@
 ghost use Rattle.std.specs.Prelude.{◌≡◌, ◌≤◌, ℕ, true, IfOk, IfSome};
 ghost use Rattle.std.specs.Option.{option_map};
+ghost use Rattle.ctrl_model.specs.declared.formats.Format.{Format};
+ghost use Rattle.ctrl_model.specs.declared.formats.Format.TheVariants.{Two};
 ghost use Rattle.ctrl_model.specs.declared.kinds.Kind.TheVariants as kind;
 ghost use Rattle.ctrl_model.specs.State.{State};
 ghost use Rattle.record_tables.specs.Climbing.{Climbs};
@@ -21,8 +23,8 @@ use terminators::{TermChange, TermView, Terminators, TerminatorsAfter};
 // The row of a terminator under a number, if there is one.
 fn row_of(no: TermNo, term: Option<TermView>) -> Result<Option<Row>, AllocError>
     requires { IfSome term (λ r. fits kind.Terminator r ≡ true) }
-    ensures form { IfOk result (λ row. IfSome row (λ r. is_row r ≡ true)) }
-    ensures value { IfOk result (λ row. option_map value_of row ≡ option_map (record_value kind.Terminator) term.entry) }
+    ensures form { IfOk result (λ row. IfSome row (λ r. is_row Two r ≡ true)) }
+    ensures value { IfOk result (λ row. option_map (value_of Two) row ≡ option_map (record_value kind.Terminator) term.entry) }
 {
     let Some(term) = term else {
         return Ok(None);
@@ -72,8 +74,8 @@ pub fn term_changes(
     requires climb { Climbs (λ n. n) gone.now }
     requires before { AreFit terminators.now }
     requires after { AreFit (terms_after (option_map (λ c. c.now) change) gone.now terminators.now) }
-    ensures { IfOk result (λ changes. (s t : State) → s.terminators ≡ terminators.now.terminators
-        → t.terminators ≡ (terms_after (option_map (λ c. c.now) change.entry) gone.now terminators.now).terminators → Covers 10 11 s t changes) }
+    ensures { IfOk result (λ changes. (f : Format) (s t : State) → s.terminators ≡ terminators.now.terminators
+        → t.terminators ≡ (terms_after (option_map (λ c. c.now) change.entry) gone.now terminators.now).terminators → Covers f 10 11 s t changes) }
 {
     let after = TerminatorsAfter::new(terminators, change, gone);
     let changed = changed_number(change, terminators.next());

@@ -1,4 +1,5 @@
 pub mod FolderLaws
 pub mod SaidLaws
 pub mod OpenedLaws
+pub mod WordLaws
 pub mod RunLaws

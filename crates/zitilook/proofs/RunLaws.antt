@@ -1,66 +1,69 @@
 -- A run by what it was asked for.
-use Rattle.std.proofs.Common.{◌≡◌, ◌⊎◌, inl, inr, ℕ, Bool, List, None, Some, refl, subst}
+use Rattle.std.proofs.Common.{◌≡◌, ◌⊎◌, inl, inr, ℕ, Bool, List, Option, None, Some, refl, sym, ap, ◌∙◌, subst}
 use Rattle.ziti_outside.specs.Untouched.{OnlyNotes}
 use Rattle.ziti_outside.specs.Views.{Seen, Stopped}
-use Rattle.ctrl_model.specs.declared.kinds.Kind.{Kind}
-use Rattle.record_lines.specs.RecordLines.{lines_of}
+use Rattle.ctrl_model.specs.State.{State}
 use Rattle.run_notes.specs.NotedLines.{FindsNoMore, NotesLines}
+use Rattle.zitilook.specs.declared.words.Asked.{Asked}
 use Rattle.zitilook.specs.declared.words.Asked.TheVariants as asked
 use Rattle.zitilook.specs.declared.words.Page.{Page}
 use Rattle.zitilook.specs.declared.status.Status.{Status}
 use Rattle.zitilook.specs.declared.status.Status.TheVariants.{Usage, Unknown, WriteFault, DiskFault, NoMemory}
-use Rattle.zitilook.specs.Headline.{KnowsNone, Runs}
+use Rattle.zitilook.specs.Headline.{Refuses, Runs, refusal_of, told_of}
 use Rattle.zitilook.specs.Looks.{IsClosed, FindsNone, Looks, Says, SaysText}
-use Rattle.zitilook.specs.Notes.{notes_of, unknown_note}
+use Rattle.zitilook.specs.Notes.{notes_of}
 use Rattle.zitilook.specs.Pages.{page_text}
 use Rattle.zitilook.specs.Steps.{EndsSo}
-use Rattle.zitilook.specs.Words.{second}
 use Rattle.zitilook.proofs.FolderLaws.{noted_ends}
-
-same_kind : (k j : Kind) → Some (asked.List k) ≡ Some (asked.List j) → k ≡ j
-same_kind k j is = cc
-
-same_page : (page other : Page) → Some (asked.Tell page) ≡ Some (asked.Tell other) → page ≡ other
-same_page page other is = cc
+use Rattle.zitilook.proofs.WordLaws.{same_some, none_some}
 
 -- what looks ends otherwise than with Usage
-list_used : (k : Kind) (tells : Bool) (a b : Seen) (status : Status) → FindsNone tells a b status ⊎ Looks (lines_of k) tells a b status → status ≡ Usage → ⊥
-list_used k tells a b status (inl none) is = subst (λ (s : Status). IsClosed tells a b s) is none.why
-list_used k tells a b status (inr looks) is = subst (λ (s : Status). Says s (lines_of k looks.state) a.said b.said) is looks.says.says
+look_used : (text : State → List ℕ) (tells : Bool) (a b : Seen) (status : Status) → FindsNone tells a b status ⊎ Looks text tells a b status → status ≡ Usage → ⊥
+look_used text tells a b status (inl none) is = subst (λ (s : Status). IsClosed tells a b s) is none.why
+look_used text tells a b status (inr looks) is = subst (λ (s : Status). Says s (text looks.state) a.said b.said) is looks.says.says
 
-pub list_runs : {D : Type 0} (tells : Bool) (seen : D → Seen) (stopped : D → Stopped) (words : List (List ℕ)) (k : Kind) (old new : D) (status : Status)
-    → FindsNone tells (seen old) (seen new) status ⊎ Looks (lines_of k) tells (seen old) (seen new) status → EndsSo seen stopped old new status
-    → Runs tells seen stopped words (Some (asked.List k)) old new status
-list_runs tells seen stopped words k old new status looks ends = record {
-  usage = ((λ e. absurd (list_used k tells (seen old) (seen new) status looks e)), (λ (e : Some (asked.List k) ≡ None). absurd cc));
-  usage_note = λ (e : Some (asked.List k) ≡ None). absurd cc;
-  lists = λ j e. subst (λ (i : Kind). FindsNone tells (seen old) (seen new) status ⊎ Looks (lines_of i) tells (seen old) (seen new) status) (same_kind k j e) looks;
-  unknown = λ (e : Some (asked.List k) ≡ Some asked.Unknown). absurd cc;
-  pages = λ page (e : Some (asked.List k) ≡ Some (asked.Tell page)). absurd cc;
-  pages_want_no_memory = λ page (e : Some (asked.List k) ≡ Some (asked.Tell page)). absurd cc;
+-- the state of the folder is asked about
+pub look_runs : {D : Type 0} (tells : Bool) (seen : D → Seen) (stopped : D → Stopped) (words : List (List ℕ)) (asks : Asked) (text : State → List ℕ) (old new : D) (status : Status)
+    → told_of words asks ≡ Some text → refusal_of words asks ≡ None
+    → FindsNone tells (seen old) (seen new) status ⊎ Looks text tells (seen old) (seen new) status → EndsSo seen stopped old new status
+    → Runs tells seen stopped words (Some asks) old new status
+look_runs tells seen stopped words asks text old new status told none looks ends = record {
+  usage = ((λ e. absurd (look_used text tells (seen old) (seen new) status looks e)), (λ (e : Some asks ≡ None). absurd cc));
+  usage_note = λ (e : Some asks ≡ None). absurd cc;
+  looks = λ other e t is. subst (λ (x : State → List ℕ). FindsNone tells (seen old) (seen new) status ⊎ Looks x tells (seen old) (seen new) status)
+      (same_some text t (sym told ∙ ap (told_of words) (same_some asks other e) ∙ is)) looks;
+  refuses = λ other e note is. absurd (none_some (refusal_of words asks) note none (ap (refusal_of words) (same_some asks other e) ∙ is));
+  pages = λ page e. absurd (none_some (told_of words asks) text (ap (told_of words) (same_some asks (asked.Tell page) e)) told);
+  pages_want_no_memory = λ page e. absurd (none_some (told_of words asks) text (ap (told_of words) (same_some asks (asked.Tell page) e)) told);
   causes = ends.causes;
   folder = ends.folder;
 }
 
-unknown_used : (word : List ℕ) (a b : Seen) (status : Status) → KnowsNone word a b status → status ≡ Usage → ⊥
-unknown_used word a b status told is = by told.why
+refused_used : (note : List ℕ) (a b : Seen) (status : Status) → Refuses note a b status → status ≡ Usage → ⊥
+refused_used note a b status told is = by told.why
   where
-    by : ((status ≡ Unknown) × NotesLines (unknown_note word) a b) ⊎ ((status ≡ NoMemory) × NotesLines (notes_of NoMemory) a b) → ⊥
+    by : ((status ≡ Unknown) × NotesLines note a b) ⊎ ((status ≡ NoMemory) × NotesLines (notes_of NoMemory) a b) → ⊥
     by (inl w) = let e : status ≡ Unknown = w.0 in absurd cc
     by (inr w) = let e : status ≡ NoMemory = w.0 in absurd cc
 
-pub unknown_runs : {D : Type 0} (tells : Bool) (seen : D → Seen) (stopped : D → Stopped) (words : List (List ℕ)) (old new : D) (status : Status)
-    → KnowsNone (second words) (seen old) (seen new) status → EndsSo seen stopped old new status → Runs tells seen stopped words (Some asked.Unknown) old new status
-unknown_runs tells seen stopped words old new status told ends = record {
-  usage = ((λ e. absurd (unknown_used (second words) (seen old) (seen new) status told e)), (λ (e : Some asked.Unknown ≡ None). absurd cc));
-  usage_note = λ (e : Some asked.Unknown ≡ None). absurd cc;
-  lists = λ j (e : Some asked.Unknown ≡ Some (asked.List j)). absurd cc;
-  unknown = λ _. told;
-  pages = λ page (e : Some asked.Unknown ≡ Some (asked.Tell page)). absurd cc;
-  pages_want_no_memory = λ page (e : Some asked.Unknown ≡ Some (asked.Tell page)). absurd cc;
+-- a word names nothing
+pub refused_runs : {D : Type 0} (tells : Bool) (seen : D → Seen) (stopped : D → Stopped) (words : List (List ℕ)) (asks : Asked) (note : List ℕ) (old new : D) (status : Status)
+    → refusal_of words asks ≡ Some note → told_of words asks ≡ None → Refuses note (seen old) (seen new) status → EndsSo seen stopped old new status
+    → Runs tells seen stopped words (Some asks) old new status
+refused_runs tells seen stopped words asks note old new status is none told ends = record {
+  usage = ((λ e. absurd (refused_used note (seen old) (seen new) status told e)), (λ (e : Some asks ≡ None). absurd cc));
+  usage_note = λ (e : Some asks ≡ None). absurd cc;
+  looks = λ other e t says. absurd (none_some (told_of words asks) t none (ap (told_of words) (same_some asks other e) ∙ says));
+  refuses = λ other e n says. subst (λ (x : List ℕ). Refuses x (seen old) (seen new) status)
+      (same_some note n (sym is ∙ ap (refusal_of words) (same_some asks other e) ∙ says)) told;
+  pages = λ page e. absurd (none_some (refusal_of words asks) note (ap (refusal_of words) (same_some asks (asked.Tell page) e)) is);
+  pages_want_no_memory = λ page e. absurd (none_some (refusal_of words asks) note (ap (refusal_of words) (same_some asks (asked.Tell page) e)) is);
   causes = ends.causes;
   folder = ends.folder;
 }
+
+same_page : (page other : Page) → Some (asked.Tell page) ≡ Some (asked.Tell other) → page ≡ other
+same_page page other is = cc
 
 pub page_runs : {D : Type 0} (tells : Bool) (seen : D → Seen) (stopped : D → Stopped) (words : List (List ℕ)) (page : Page) (old new : D) (status : Status)
     → SaysText (page_text page) (seen old) (seen new) status → (status ≡ NoMemory → ⊥) → EndsSo seen stopped old new status
@@ -68,8 +71,8 @@ pub page_runs : {D : Type 0} (tells : Bool) (seen : D → Seen) (stopped : D →
 page_runs tells seen stopped words page old new status says made ends = record {
   usage = ((λ e. absurd (subst (λ (s : Status). Says s (page_text page) (seen old).said (seen new).said) e says.says)), (λ (e : Some (asked.Tell page) ≡ None). absurd cc));
   usage_note = λ (e : Some (asked.Tell page) ≡ None). absurd cc;
-  lists = λ j (e : Some (asked.Tell page) ≡ Some (asked.List j)). absurd cc;
-  unknown = λ (e : Some (asked.Tell page) ≡ Some asked.Unknown). absurd cc;
+  looks = λ other e t is. absurd (none_some (told_of words (asked.Tell page)) t refl (ap (told_of words) (same_some (asked.Tell page) other e) ∙ is));
+  refuses = λ other e n is. absurd (none_some (refusal_of words (asked.Tell page)) n refl (ap (refusal_of words) (same_some (asked.Tell page) other e) ∙ is));
   pages = λ other e. subst (λ (p : Page). SaysText (page_text p) (seen old) (seen new) status) (same_page page other e) says;
   pages_want_no_memory = λ other e. made;
   causes = ends.causes;
@@ -84,8 +87,8 @@ usage_runs tells seen stopped words old new status is noted notes more =
     record {
       usage = ((λ _. refl), (λ _. is));
       usage_note = λ _. record { says_nothing = notes.replies; notes = noted };
-      lists = λ j (e : None ≡ Some (asked.List j)). absurd cc;
-      unknown = λ (e : None ≡ Some asked.Unknown). absurd cc;
+      looks = λ other (e : None ≡ Some other). absurd cc;
+      refuses = λ other (e : None ≡ Some other). absurd cc;
       pages = λ page (e : None ≡ Some (asked.Tell page)). absurd cc;
       pages_want_no_memory = λ page (e : None ≡ Some (asked.Tell page)). absurd cc;
       causes = ends.causes;

@@ -2,43 +2,62 @@
 use Rattle.std.specs.Prelude.{◌≡◌, ◌⊎◌, ◌↔◌, ℕ, Bool, List, None, Some}
 use Rattle.std.specs.declared.option.Option.{Option}
 use Rattle.ziti_outside.specs.Views.{Seen, Stopped}
-use Rattle.ctrl_model.specs.declared.kinds.Kind.{Kind}
+use Rattle.ctrl_model.specs.State.{State}
+use Rattle.access_reasons.specs.ReasonLines.{lines_of as reason_lines}
+use Rattle.access_reasons.specs.Reasons.{who, why}
 use Rattle.record_lines.specs.RecordLines.{lines_of}
 use Rattle.run_notes.specs.NotedLines.{NotesLines}
 use Rattle.zitilook.specs.declared.words.Page.{Page}
+use Rattle.zitilook.specs.declared.words.Place.TheVariants.{Second, Third}
 use Rattle.zitilook.specs.declared.words.Asked.{Asked}
 use Rattle.zitilook.specs.declared.words.Asked.TheVariants as asked
 use Rattle.zitilook.specs.declared.status.Status.{Status}
 use Rattle.zitilook.specs.declared.status.Status.TheVariants.{Usage, Unknown, NoMemory}
 use Rattle.zitilook.specs.Looks.{SaysText, FindsNone, Looks, HasCauses, IsLeftAlone}
-use Rattle.zitilook.specs.Notes.{notes_of, unknown_note}
+use Rattle.zitilook.specs.Notes.{misnamed_note, notes_of, unknown_note}
 use Rattle.zitilook.specs.Pages.{page_text}
-use Rattle.zitilook.specs.Words.{second}
+use Rattle.zitilook.specs.Words.{word_at}
 
 -- A run that said nothing, and noted some lines.
 pub record OnlyNotesLines (lines : List ℕ) (before now : Seen) : Type 0 where
   pub says_nothing : now.said ≡ before.said
   pub notes : NotesLines lines before now
 
--- A run that was asked for with a word that names no kind: the word is noted, unless memory was wanting.
-pub record KnowsNone (word : List ℕ) (before now : Seen) (status : Status) : Type 0 where
+-- A run that was asked for with a word that names nothing: that is noted, unless memory was wanting.
+pub record Refuses (note : List ℕ) (before now : Seen) (status : Status) : Type 0 where
   pub says_nothing : now.said ≡ before.said
-  pub why : ((status ≡ Unknown) × NotesLines (unknown_note word) before now) ⊎ ((status ≡ NoMemory) × NotesLines (notes_of NoMemory) before now)
+  pub why : ((status ≡ Unknown) × NotesLines note before now) ⊎ ((status ≡ NoMemory) × NotesLines (notes_of NoMemory) before now)
+
+-- What is said of a state to whoever asks so, if it is the folder's state that is asked about.
+abbrev pub told_of : (words : List (List ℕ)) → Asked → Option (State → List ℕ)
+told_of words (asked.List k) = Some (lines_of k)
+told_of words asked.Why = Some (λ s. reason_lines (why s (word_at Second words) (word_at Third words)))
+told_of words asked.Who = Some (λ s. reason_lines (who s (word_at Second words)))
+told_of words asked.Unknown = None
+told_of words (asked.Misnamed place) = None
+told_of words (asked.Tell page) = None
+
+-- What is noted where a word names nothing.
+abbrev pub refusal_of : (words : List (List ℕ)) → Asked → Option (List ℕ)
+refusal_of words asked.Unknown = Some (unknown_note (word_at Second words))
+refusal_of words (asked.Misnamed place) = Some (misnamed_note (word_at place words))
+refusal_of words _ = None
 
 -- A run on some words, by what they ask for, if they are a line of the table of words.
 --
 -- Usage comes exactly where they are no line. Then nothing is said, and the usage line is noted.
--- Under `list KIND` the folder is opened by reading alone. Where it opens to a state, the lines of the records of the kind in that state
--- are said; where it opens to none, nothing is said, and why is noted. Where KIND is none, no folder is opened, and the word is noted.
+-- What is asked of the folder's state is said of it: under `list KIND` the lines of its records of the kind, under `why IDENTITY SERVICE` the
+-- lines of the findings on the two, under `who SERVICE` those on all that may dial it. The folder is opened by reading alone. Where it opens to no
+-- state, nothing is said, and why is noted. Where KIND is none, or a word is no name, no folder is opened, and the word is noted.
 -- A page about the program is said without memory.
 -- A fault comes exactly where its count rose in this run. Whatever is asked for, the folder is left alone.
 pub record Runs {D : Type 0} (tells : Bool) (seen : D → Seen) (stopped : D → Stopped) (words : List (List ℕ)) (what : Option Asked) (desk desk_now : D) (status : Status) : Type 0 where
   pub usage : (status ≡ Usage) ↔ (what ≡ None)
   pub usage_note : what ≡ None → OnlyNotesLines (notes_of Usage) (seen desk) (seen desk_now)
-  pub lists : (k : Kind) → what ≡ Some (asked.List k)
+  pub looks : (asks : Asked) → what ≡ Some asks → (text : State → List ℕ) → told_of words asks ≡ Some text
       → FindsNone tells (seen desk) (seen desk_now) status
-      ⊎ Looks (lines_of k) tells (seen desk) (seen desk_now) status
-  pub unknown : what ≡ Some asked.Unknown → KnowsNone (second words) (seen desk) (seen desk_now) status
+      ⊎ Looks text tells (seen desk) (seen desk_now) status
+  pub refuses : (asks : Asked) → what ≡ Some asks → (note : List ℕ) → refusal_of words asks ≡ Some note → Refuses note (seen desk) (seen desk_now) status
   pub pages : (page : Page) → what ≡ Some (asked.Tell page) → SaysText (page_text page) (seen desk) (seen desk_now) status
   pub pages_want_no_memory : (page : Page) → what ≡ Some (asked.Tell page) → status ≡ NoMemory → ⊥
   pub causes : HasCauses (seen desk) (seen desk_now) status

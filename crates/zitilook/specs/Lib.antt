@@ -5,4 +5,5 @@ pub mod Pages
 pub mod OpenedRows
 pub mod Looks
 pub mod Headline
+pub mod LookedTexts
 pub mod Steps

@@ -1,35 +1,29 @@
--- Why a folder was not opened for reading (docs/FORMATS.md, "Damage").
-use Rattle.std.specs.Prelude.{⊤, Bool, IsTrue}
-use Rattle.ziti_outside.specs.Images.{Image}
-use Rattle.row_store.specs.declared.faults.StoreFault.{StoreFault}
-use Rattle.row_store.specs.declared.faults.StoreFault.TheVariants.{Disk, Full, Damaged, MarkFull, Spent, NoMemory}
-use Rattle.row_store.specs.OpenedStates.{IsOfNoState, IsStateless}
-use Rattle.row_store.specs.StoredRows.{Stored}
+-- The rows of a folder that was opened for reading, and why one was not (docs/FORMATS.md, "Damage").
+use Rattle.std.specs.Prelude.{◌≡◌, ⊤, true, List}
+use Rattle.ctrl_model.specs.State.{State, start}
+use Rattle.ctrl_model.specs.ValidState.{ValidState}
+use Rattle.row_codec.specs.declared.changes.Op.{Op}
+use Rattle.row_codec.specs.Batches.{batch_between}
+use Rattle.row_codec.specs.StateRows.{HasRows}
+use Rattle.ctrl_core.specs.KeptFormat.{kept_format}
+use Rattle.ctrl_core.specs.KeptState.{Cored}
+use Rattle.ctrl_keep.specs.declared.faults.KeepFault.{KeepFault}
+use Rattle.ctrl_keep.specs.declared.faults.KeepFault.TheVariants.{Disk, Damaged, Spent, NoMemory}
 
--- Why it was not opened: a call on the disk failed; it opens to no state, which is told with its place; or there is no memory. Nothing
--- else is told.
-abbrev pub StaysClosed : (tells : Bool) → Image → StoreFault → Type 0
-StaysClosed tells image Disk = ⊤
-StaysClosed tells image Full = ⊥
-StaysClosed tells image (Damaged part at) = IsTrue tells → IsStateless image part at
-StaysClosed tells image MarkFull = ⊥
-StaysClosed tells image Spent = ⊥
-StaysClosed tells image NoMemory = ⊤
+-- A batch puts all rows of a valid state, in the format that is kept.
+pub record AreThoseOf (s : State) (ops : List Op) : Type 0 where
+  pub valid : ValidState s
+  pub has : HasRows kept_format s
+  pub puts : ops ≡ batch_between kept_format start s
 
--- Why the rows of a store were not taken: they are those of no valid state, which is told at the store's end, or there is no memory.
-abbrev pub StaysUnread : Stored → StoreFault → Type 0
-StaysUnread stored Disk = ⊥
-StaysUnread stored Full = ⊥
-StaysUnread stored (Damaged part at) = IsOfNoState stored part at
-StaysUnread stored MarkFull = ⊥
-StaysUnread stored Spent = ⊥
-StaysUnread stored NoMemory = ⊤
+-- What a folder was opened to: a live core in a valid state, and the puts of all rows of this state.
+pub record IsOpened (core : Cored) (puts : List Op) : Type 0 where
+  pub live : core.live ≡ true
+  pub those : AreThoseOf core.state puts
 
 -- A fault for which a folder may stay closed.
-abbrev pub MayClose : StoreFault → Type 0
+abbrev pub MayClose : KeepFault → Type 0
 MayClose Disk = ⊤
-MayClose Full = ⊥
 MayClose (Damaged part at) = ⊤
-MayClose MarkFull = ⊥
 MayClose Spent = ⊥
 MayClose NoMemory = ⊤

@@ -1,8 +1,8 @@
 -- What the parts of a run do, up to the headline. Only private contracts cite these.
 use Rattle.std.specs.Prelude.{◌≡◌}
 use Rattle.ziti_outside.specs.Views.{Seen, Stopped}
-use Rattle.row_store.specs.declared.faults.StoreFault.{StoreFault}
-use Rattle.row_store.specs.declared.faults.StoreFault.TheVariants as store
+use Rattle.ctrl_keep.specs.declared.faults.KeepFault.{KeepFault}
+use Rattle.ctrl_keep.specs.declared.faults.KeepFault.TheVariants as keep
 use Rattle.run_notes.specs.NotedLines.{NotesLines}
 use Rattle.zitilook.specs.declared.status.Status.{Status}
 use Rattle.zitilook.specs.declared.status.Status.TheVariants.{DiskFault, Damaged, NoMemory}
@@ -15,8 +15,8 @@ pub record EndsSo {D : Type 0} (seen : D → Seen) (stopped : D → Stopped) (ol
   pub folder : IsLeftAlone seen stopped old new
 
 -- What was told of a folder that was not opened, by the fault of its opening.
-abbrev pub TellsClosed : StoreFault → (status : Status) → (before now : Seen) → Type 0
-TellsClosed store.Disk status before now = (status ≡ DiskFault) × NotesLines (notes_of DiskFault) before now
-TellsClosed (store.Damaged part at) status before now = (status ≡ Damaged) × NotesLines (damaged_note part at) before now
-TellsClosed store.NoMemory status before now = (status ≡ NoMemory) × NotesLines (notes_of NoMemory) before now
+abbrev pub TellsClosed : KeepFault → (status : Status) → (before now : Seen) → Type 0
+TellsClosed keep.Disk status before now = (status ≡ DiskFault) × NotesLines (notes_of DiskFault) before now
+TellsClosed (keep.Damaged part at) status before now = (status ≡ Damaged) × NotesLines (damaged_note part at) before now
+TellsClosed keep.NoMemory status before now = (status ≡ NoMemory) × NotesLines (notes_of NoMemory) before now
 TellsClosed _ status before now = ⊥

@@ -1,4 +1,5 @@
-//! The program zitilook: the records of a controller's folder as lines, by reading the folder alone.
+//! The program zitilook: the records of a controller's folder as lines, and why an identity can or cannot reach a service, by reading the
+//! folder alone.
 #![tactic(auto)]
 
 mod notes;
@@ -6,6 +7,7 @@ mod opening;
 mod pages;
 mod running;
 mod status;
+mod telling;
 mod words;
 mod worked;
 

@@ -1,7 +1,7 @@
 ghost use Rattle.std.specs.Prelude.{◌≡◌, IfOk, decimal, length};
 ghost use Rattle.std.specs.String.{string_bytes};
 ghost use Rattle.run_notes.specs.Notes.{file_number};
-ghost use Rattle.zitilook.specs.Notes.{damaged_note, notes_of, unknown_note};
+ghost use Rattle.zitilook.specs.Notes.{damaged_note, misnamed_note, notes_of, unknown_note};
 
 use crate::status::Status;
 use arrayvec::ArrayString;
@@ -14,7 +14,8 @@ pub fn status_note(status: Status) -> &'static [u8]
     ensures { result.now ≡ notes_of status }
 {
     match status {
-        Status::Usage => b"zitilook: usage: zitilook list KIND | help | version\n",
+        Status::Usage =>
+            b"zitilook: usage: zitilook list KIND | why IDENTITY SERVICE | who SERVICE | help | version\n",
         Status::WriteFault => b"zitilook: write fault\n",
         Status::DiskFault => b"zitilook: disk fault\n",
         Status::NoMemory => b"zitilook: no memory\n",
@@ -27,6 +28,13 @@ pub fn unknown_note(alloc: Global, word: &str) -> Result<String, AllocError>
     ensures { IfOk result (λ note. string_bytes note ≡ unknown_note word.now) }
 {
     format!(in alloc; "zitilook: unknown kind: {word}\n")
+}
+
+/// The note of a word that is to name a record and is no name.
+pub fn misnamed_note(alloc: Global, word: &str) -> Result<String, AllocError>
+    ensures { IfOk result (λ note. string_bytes note ≡ misnamed_note word.now) }
+{
+    format!(in alloc; "zitilook: no name: {word}\n")
 }
 
 // The number by which a note names a part of the folder, as text.

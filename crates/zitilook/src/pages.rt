@@ -9,9 +9,11 @@ pub fn page_text(page: Page) -> &'static [u8]
 {
     match page {
         Page::Help => b"usage: zitilook WORD, in the folder that is looked at\n\
-              list KIND  the records of a kind, a line each\n\
-              help       these lines\n\
-              version    the version of the lines\n\
+              list KIND             the records of a kind, a line each\n\
+              why IDENTITY SERVICE  each rule of a circuit of the two, and what meets or fails it\n\
+              who SERVICE           the identities that may dial a service, and the policies that grant it\n\
+              help                  these lines\n\
+              version               the version of the lines\n\
               KIND is identities, services, routers, links, service-policies, edge-router-policies, service-edge-router-policies, terminators or circuits\n",
         Page::Version => b"zitilook 1\n",
     }

@@ -1,25 +1,22 @@
-ghost use Rattle.std.specs.Prelude.{◌≡◌, ◌⊎◌, ◌≢◌, ℕ, List, IfOk, map};
+ghost use Rattle.std.specs.Prelude.{◌≡◌, ◌⊎◌, ◌≢◌, ℕ, List, IfOk, Some, map};
 ghost use Rattle.std.specs.String.{string_bytes};
 ghost use Rattle.ziti_outside.specs.Untouched.{OnlyNotes};
-ghost use Rattle.state_building.specs.BuiltStates.{state_in};
-ghost use Rattle.record_lines.specs.RecordLines.{lines_of};
 ghost use Rattle.run_notes.specs.NotedLines.{FindsNoMore, NotesLines};
-ghost use Rattle.zitilook.specs.Headline.{KnowsNone, Runs};
+ghost use Rattle.zitilook.specs.Headline.{Refuses, Runs};
+ghost use Rattle.zitilook.specs.LookedTexts.{HasNames, text_of};
 ghost use Rattle.zitilook.specs.Looks.{FindsNone, Looks, SaysText};
 ghost use Rattle.zitilook.specs.Notes.{damaged_note as note_of_damage, notes_of};
 ghost use Rattle.zitilook.specs.OpenedRows.{MayClose};
 ghost use Rattle.zitilook.specs.Steps.{EndsSo, TellsClosed};
 ghost use Rattle.zitilook.specs.Words.{asked_of};
 
-use crate::notes::{damaged_note, status_note, unknown_note};
-use crate::opening::open_rows;
+use crate::notes::{damaged_note, misnamed_note, status_note, unknown_note};
 use crate::pages::page_text;
 use crate::status::Status;
-use crate::words::{Asked, asked_of, second};
-use ctrl_model::{Bytes, Kind};
-use record_lines::list;
-use row_codec::Row;
-use row_store::StoreFault;
+use crate::telling::{Look, text_of};
+use crate::words::{Asked, Place, asked_of, word_at};
+use ctrl_keep::{KeepFault, peek_rows};
+use ctrl_model::Bytes;
 use run_notes::note_lines;
 use std::alloc::{AllocError, Global};
 use ziti_outside::{Desk, Failed, Part};
@@ -58,13 +55,6 @@ fn say_made<D: Desk>(made: Result<Bytes, AllocError>, desk: &mut D) -> Status
     }
 }
 
-// The lines of the records of a kind, of rows that are let go.
-fn lines_of_rows(alloc: Global, rows: Vec<Row>, kind: Kind) -> Result<Bytes, AllocError>
-    ensures { IfOk result (λ text. text ≡ lines_of kind (state_in rows.items)) }
-{
-    list(alloc, rows.as_slice(), kind)
-}
-
 // Notes that the folder opens to no state, and answers that status. It wants no memory.
 fn tell_damage<D: Desk>(part: Part, at: u64, desk: &mut D) -> Status
     ensures status { result ≡ Status.Damaged }
@@ -78,47 +68,75 @@ fn tell_damage<D: Desk>(part: Part, at: u64, desk: &mut D) -> Status
 }
 
 // Notes why the folder was not opened, and answers that status. It wants no memory.
-fn tell_closed<D: Desk>(fault: StoreFault, desk: &mut D) -> Status
+fn tell_closed<D: Desk>(fault: KeepFault, desk: &mut D) -> Status
     requires { MayClose fault }
     ensures told { TellsClosed fault result (D.seen desk.old) (D.seen desk.new) }
     ensures others { OnlyNotes D.seen D.stopped desk.old desk.new }
     ensures stops { FindsNoMore D.stopped desk.old desk.new }
 {
     match fault {
-        StoreFault::Disk => end_with(Status::DiskFault, desk),
-        StoreFault::Damaged { part, at } => tell_damage(part, at, desk),
-        StoreFault::NoMemory => end_with(Status::NoMemory, desk),
-        StoreFault::Full | StoreFault::MarkFull | StoreFault::Spent => unreachable!(),
+        KeepFault::Disk => end_with(Status::DiskFault, desk),
+        KeepFault::Damaged { part, at } => tell_damage(part, at, desk),
+        KeepFault::NoMemory => end_with(Status::NoMemory, desk),
+        KeepFault::Spent => unreachable!(),
     }
 }
 
-// Says the lines of the records of a kind of the state to which the folder opens, by reading it alone. Where it opens to none, that is
-// noted and nothing is said.
-fn run_list<D: Desk>(alloc: Global, kind: Kind, desk: &mut D) -> Status
+// Says the text that is asked for of the state to which the folder opens, by reading it alone. Where it opens to none, that is noted and
+// nothing is said.
+fn run_look<D: Desk>(alloc: Global, look: &Look, desk: &mut D) -> Status
+    requires { HasNames look.now }
     ensures looks { FindsNone D.tells (D.seen desk.old) (D.seen desk.new) result
-        ⊎ Looks (lines_of kind) D.tells (D.seen desk.old) (D.seen desk.new) result }
+        ⊎ Looks (text_of look.now) D.tells (D.seen desk.old) (D.seen desk.new) result }
     ensures ends { EndsSo D.seen D.stopped desk.old desk.new result }
 {
-    match open_rows(alloc, desk) {
-        Ok(rows) => {
-            let text = lines_of_rows(alloc, rows, kind);
+    match peek_rows(alloc, desk) {
+        Ok(read) => {
+            let (core, puts) = read;
+            let text = text_of(alloc, look, core, puts);
             say_made(text, desk)
         }
         Err(fault) => tell_closed(fault, desk),
     }
 }
 
-// Notes a word that names no kind.
-fn tell_unknown<D: Desk>(alloc: Global, word: &str, desk: &mut D) -> Status
-    ensures told { KnowsNone word.now (D.seen desk.old) (D.seen desk.new) result }
+// Notes a word that names nothing, unless there was no memory for the note.
+fn tell_refused<D: Desk>(note: Result<String, AllocError>, desk: &mut D) -> Status
+    ensures told { (wanted : List ℕ) → IfOk note (λ n. string_bytes n ≡ wanted) → Refuses wanted (D.seen desk.old) (D.seen desk.new) result }
     ensures ends { EndsSo D.seen D.stopped desk.old desk.new result }
 {
-    match unknown_note(alloc, word) {
+    match note {
         Ok(note) => {
             note_lines(note.as_bytes(), desk);
             Status::Unknown
         }
         Err(AllocError) => end_with(Status::NoMemory, desk),
+    }
+}
+
+// Looks, or notes which word names nothing, or says a page: what is asked for with some words.
+fn run_asked<D: Desk>(alloc: Global, asked: Asked, words: &[String], desk: &mut D) -> Status
+    requires { asked_of (map string_bytes words.now) ≡ Some asked }
+    ensures runs { Runs D.tells D.seen D.stopped (map string_bytes words.now) (Some asked) desk.old desk.new result }
+{
+    let second = word_at(Place::Second, words);
+    let third = word_at(Place::Third, words);
+    match asked {
+        Asked::List(kind) => run_look(alloc, &Look::Records(kind), desk),
+        Asked::Why => run_look(
+            alloc,
+            &Look::Why {
+                identity: second,
+                service: third,
+            },
+            desk,
+        ),
+        Asked::Who => run_look(alloc, &Look::Who { service: second }, desk),
+        Asked::Unknown => tell_refused(unknown_note(alloc, second), desk),
+        Asked::Misnamed(place) => {
+            tell_refused(misnamed_note(alloc, word_at(place, words)), desk)
+        }
+        Asked::Tell(page) => say_text(page_text(page), desk),
     }
 }
 
@@ -128,9 +146,7 @@ pub fn run<D: Desk>(alloc: Global, words: &[String], desk: &mut D) -> Status
     ensures runs { Runs D.tells D.seen D.stopped (map string_bytes words.now) (asked_of (map string_bytes words.now)) desk.old desk.new result }
 {
     match asked_of(words) {
-        Some(Asked::List(kind)) => run_list(alloc, kind, desk),
-        Some(Asked::Unknown) => tell_unknown(alloc, second(words), desk),
-        Some(Asked::Tell(page)) => say_text(page_text(page), desk),
+        Some(asked) => run_asked(alloc, asked, words, desk),
         None => end_with(Status::Usage, desk),
     }
 }

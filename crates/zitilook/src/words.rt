@@ -1,18 +1,31 @@
 ghost use Rattle.std.specs.Prelude.{◌≡◌, map};
 ghost use Rattle.std.specs.String.{string_bytes};
-ghost use Rattle.zitilook.specs.Words.{asked_of, kind_of, listing, second};
+ghost use Rattle.zitilook.specs.Words.{asked_of, asked_pair, asked_who, asked_why, kind_of, listing, word_at};
 
-use ctrl_model::Kind;
+use ctrl_model::{Kind, Name};
 
 /// What the program is asked for.
 #[derive(Clone, Copy, Debug, PartialEq, Eq)]
 pub enum Asked {
     /// The lines of the records of a kind.
     List(Kind),
+    /// Why an identity can or cannot reach a service, which the second and the third word name.
+    Why,
+    /// Who is granted Dial on a service, which the second word names.
+    Who,
     /// The lines of the records of a kind that there is not. The second word is the one that names no kind.
     Unknown,
+    /// The findings on a record that nothing can name: the word at this place is no name.
+    Misnamed(Place),
     /// A page about the program itself. No folder is read.
     Tell(Page),
+}
+
+/// The place of a word behind the program's name.
+#[derive(Clone, Copy, Debug, PartialEq, Eq)]
+pub enum Place {
+    Second,
+    Third,
 }
 
 /// A page about the program.
@@ -54,26 +67,64 @@ fn listing(kind: Option<Kind>) -> Asked
     }
 }
 
-/// What the words ask for, if they are a line of the table of words: `list KIND`, `help` or `version`.
+// What is asked for with the name of a service, if the word is a name.
+fn asked_who(service: &str) -> Asked
+    ensures { result ≡ asked_who service.now }
+{
+    if Name::is(service.as_bytes()) {
+        Asked::Who
+    } else {
+        Asked::Misnamed(Place::Second)
+    }
+}
+
+// What is asked for with the names of an identity and of a service, if the words are names.
+fn asked_why(identity: &str, service: &str) -> Asked
+    ensures { result ≡ asked_why identity.now service.now }
+{
+    if !Name::is(identity.as_bytes()) {
+        Asked::Misnamed(Place::Second)
+    } else if !Name::is(service.as_bytes()) {
+        Asked::Misnamed(Place::Third)
+    } else {
+        Asked::Why
+    }
+}
+
+// What two words ask for: `list KIND` or `who SERVICE`.
+fn asked_pair(word: &str, next: &str) -> Option<Asked>
+    ensures { result ≡ asked_pair word.now next.now }
+{
+    match word.as_bytes() {
+        name if name == b"list".as_slice() => Some(listing(kind_of(next.as_bytes()))),
+        name if name == b"who".as_slice() => Some(asked_who(next)),
+        _ => None,
+    }
+}
+
+/// What the words ask for, if they are a line of the table of words: `list KIND`, `why IDENTITY SERVICE`, `who SERVICE`, `help` or
+/// `version`.
 pub fn asked_of(words: &[String]) -> Option<Asked>
     ensures { result ≡ asked_of (map string_bytes words.now) }
 {
     match words {
         [word] if word.as_bytes() == b"help".as_slice() => Some(Asked::Tell(Page::Help)),
         [word] if word.as_bytes() == b"version".as_slice() => Some(Asked::Tell(Page::Version)),
-        [word, kind] if word.as_bytes() == b"list".as_slice() => {
-            Some(listing(kind_of(kind.as_bytes())))
+        [word, next] => asked_pair(word.as_str(), next.as_str()),
+        [word, next, third] if word.as_bytes() == b"why".as_slice() => {
+            Some(asked_why(next.as_str(), third.as_str()))
         }
         _ => None,
     }
 }
 
-/// The second of some words; none where there is none.
-pub fn second(words: &[String]) -> &str
-    ensures { result.now ≡ second (map string_bytes words.now) }
+/// The word at a place; none where there is none.
+pub fn word_at(place: Place, words: &[String]) -> &str
+    ensures { result.now ≡ word_at place (map string_bytes words.now) }
 {
-    match words {
-        [_, word, ..] => word.as_str(),
+    match (place, words) {
+        (Place::Second, [_, word, ..]) => word.as_str(),
+        (Place::Third, [_, _, word, ..]) => word.as_str(),
         _ => "",
     }
 }

@@ -1,10 +1,11 @@
 ghost use Rattle.std.specs.Prelude.{◌≡◌, [], ◌∷◌, codes, None, Some};
 ghost use Rattle.ctrl_model.specs.declared.kinds.Kind.TheVariants as kind;
 ghost use Rattle.ziti_outside.specs.declared.desk.Part.TheVariants.{Zero};
-ghost use Rattle.zitilook.specs.declared.words.Asked.TheVariants.{List as Listed, Unknown, Tell};
+ghost use Rattle.zitilook.specs.declared.words.Asked.TheVariants.{List as Listed, Why, Who, Unknown, Misnamed, Tell};
 ghost use Rattle.zitilook.specs.declared.words.Page.TheVariants.{Help, Version};
-ghost use Rattle.zitilook.specs.Notes.{damaged_note, unknown_note};
-ghost use Rattle.zitilook.specs.Words.{asked_of, second};
+ghost use Rattle.zitilook.specs.declared.words.Place.TheVariants.{Second, Third};
+ghost use Rattle.zitilook.specs.Notes.{damaged_note, misnamed_note, unknown_note};
+ghost use Rattle.zitilook.specs.Words.{asked_of, word_at};
 
 /// What words ask for.
 pub fn worked_words()
@@ -18,15 +19,25 @@ pub fn worked_words()
     ensures terminators { asked_of (codes "list" ∷ codes "terminators" ∷ []) ≡ Some (Listed kind.Terminator) }
     ensures circuits { asked_of (codes "list" ∷ codes "circuits" ∷ []) ≡ Some (Listed kind.Circuit) }
     ensures unknown { asked_of (codes "list" ∷ codes "identity" ∷ []) ≡ Some Unknown }
+    ensures why { asked_of (codes "why" ∷ codes "ann" ∷ codes "web" ∷ []) ≡ Some Why }
+    ensures who { asked_of (codes "who" ∷ codes "web" ∷ []) ≡ Some Who }
+    ensures no_identity { asked_of (codes "why" ∷ codes "a b" ∷ codes "w b" ∷ []) ≡ Some (Misnamed Second) }
+    ensures no_service { asked_of (codes "why" ∷ codes "ann" ∷ [] ∷ []) ≡ Some (Misnamed Third) }
+    ensures nobody { asked_of (codes "who" ∷ codes "w/b" ∷ []) ≡ Some (Misnamed Second) }
     ensures help { asked_of (codes "help" ∷ []) ≡ Some (Tell Help) }
     ensures version { asked_of (codes "version" ∷ []) ≡ Some (Tell Version) }
     ensures none { asked_of [] ≡ None }
     ensures alone { asked_of (codes "list" ∷ []) ≡ None }
+    ensures two { asked_of (codes "why" ∷ codes "ann" ∷ []) ≡ None }
+    ensures four { asked_of (codes "why" ∷ codes "ann" ∷ codes "web" ∷ codes "r1" ∷ []) ≡ None }
     ensures three { asked_of (codes "list" ∷ codes "links" ∷ codes "l1" ∷ []) ≡ None }
 {}
 
 /// What is noted.
 pub fn worked_notes()
-    ensures unknown { unknown_note (second (codes "list" ∷ codes "identity" ∷ [])) ≡ codes "zitilook: unknown kind: identity\n" }
+    ensures unknown { unknown_note (word_at Second (codes "list" ∷ codes "identity" ∷ [])) ≡ codes "zitilook: unknown kind: identity\n" }
+    ensures second { misnamed_note (word_at Second (codes "who" ∷ codes "w b" ∷ [])) ≡ codes "zitilook: no name: w b\n" }
+    ensures third { misnamed_note (word_at Third (codes "why" ∷ codes "ann" ∷ [] ∷ [])) ≡ codes "zitilook: no name: \n" }
+    ensures absent { word_at Third (codes "who" ∷ codes "web" ∷ []) ≡ [] }
     ensures damaged { damaged_note Zero 8 ≡ codes "zitilook: damaged: file 0 at 8\n" }
 {}

@@ -87,6 +87,6 @@ pub returns : goal.returns
 returns c =
     let s = state_of c.args.stores.now in
     subst (λ answered. Plans c.shown-2.result answered s)
-    (sym (alone_is c.args.command.now s c.reply_alone.result c.reply_alone.ensures
+    (sym (alone_is c.args.command.now s c.reply_alone.result c.reply_alone.ensures c.requires.other
     (no_plan _ _ c.in_ok-plan-2.field-0 c.in_default-2.is c.in_ok-plan-2.ensures.plan) (no_plan _ _ c.in_ok-plan-3.field-0 c.in_default-3.is c.in_ok-plan-3.ensures.plan) (no_plan _ _ c.in_ok-plan-4.field-0 c.in_default-4.is c.in_ok-plan-4.ensures.plan) (no_plan _ _ c.in_ok-plan-5.field-0 c.in_default-5.is c.in_ok-plan-5.ensures.plan) (no_plan _ _ c.in_ok-plan.field-0 c.in_default.is c.in_ok-plan.ensures) (no_plan _ _ c.in_ok-reply.field-0 c.in_default-6.is c.in_ok-reply.ensures)))
     (plans_reply c.shown-2.result c.reply_alone.result s c.shown-2.ensures)

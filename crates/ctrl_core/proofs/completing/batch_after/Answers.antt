@@ -7,6 +7,7 @@ use Rattle.core_stores.specs.declared.changes.Change.{Change}
 use Rattle.core_stores.specs.StoredState.{state_of}
 use Rattle.grant_steps.specs.LeadingSteps.{LeadAllCounts}
 use Rattle.ctrl_core.specs.Changes.{NamesSettled, after_change}
+use Rattle.ctrl_core.specs.KeptFormat.{kept_format}
 use Rattle.ctrl_core.specs.PlannedCommands.{CanPlan}
 use Rattle.ctrl_core.proofs.completing.batch_after.Goals as goal
 
@@ -32,4 +33,4 @@ batch_for-requires-clause-counts c =
 pub returns-in-None : goal.returns-in-None
 returns-in-None c =
     let s = state_of c.args.stores.now in
-    c.of.ensures ∙ c.new.ensures.items ∙ sym (ap (λ (o : Option Change). batch_between s (led_by after_change o s)) c.in-None.is ∙ batch_between-same s c.requires.can.kept.valid)
+    c.of.ensures ∙ c.new.ensures.items ∙ sym (ap (λ (o : Option Change). batch_between kept_format s (led_by after_change o s)) c.in-None.is ∙ batch_between-same kept_format s c.requires.can.kept.valid)

@@ -1,6 +1,7 @@
 use Rattle.std.proofs.Common.{refl}
 use Rattle.std.proofs.lemmas.Result.{IfOk-weaker}
 use Rattle.ctrl_core.specs.ChangedStores.{next_state}
+use Rattle.ctrl_core.specs.KeptFormat.{kept_format}
 use Rattle.core_stores.specs.StoredState.{state_of}
 use Rattle.ctrl_core.proofs.RowEnds.{links_climb, links_end, links_fit, links_fit_now}
 use Rattle.ctrl_core.proofs.row_changes.link_rows.Goals as goal
@@ -17,5 +18,5 @@ link_changes-requires-clause-after c = links_fit c.args.change.now c.args.stores
 pub returns : goal.returns
 returns c =
     IfOk-weaker c.link_changes.result _ _ (λ changes covers.
-    covers (state_of c.args.stores.now) (next_state c.args.stores.now c.args.change.now) refl
+    covers kept_format (state_of c.args.stores.now) (next_state c.args.stores.now c.args.change.now) refl
     (links_end c.args.change.now c.args.stores.now c.args.settled.now _ c.requires c.of_links.ensures)) c.link_changes.ensures

@@ -2,11 +2,13 @@ use Rattle.std.proofs.Common.{◌≡◌, inl, Bool, refl, sym, ap, ◌∙◌, su
 use Rattle.ziti_outside.specs.Images.{Image}
 use Rattle.ziti_outside.proofs.MomentLaws.{Leaves-weaker}
 use Rattle.row_codec.specs.Batches.{batch_between}
+use Rattle.ctrl_core.specs.KeptFormat.{kept_format}
+use Rattle.slot_reading.specs.BatchRows.{rows_after}
 use Rattle.ctrl_core.specs.Changes.{led}
 use Rattle.ctrl_core.specs.KeptState.{Cored}
 use Rattle.ctrl_keep.specs.KeptController.{machine_with}
 use Rattle.ctrl_keep.specs.Faults.{KeptOrFull}
-use Rattle.ctrl_keep.proofs.KeptStates.{batch_form, batch_changes, still_opens}
+use Rattle.ctrl_keep.proofs.KeptStates.{batch_form, batch_changes, kept_leads, still_opens}
 use Rattle.ctrl_keep.proofs.AdvancedPlans.{can_advance, step_still, step_next, advance_either, advance_next, keeps_next, fails_with_room, advance_fails, keeps_still, same_fault, behind_kept, quiet_stops, step_full}
 use Rattle.ctrl_keep.proofs.FollowedSteps.{follows_still, follows_kept, gate_moved}
 use Rattle.ctrl_keep.proofs.advancing.advance.Goals as goal
@@ -14,12 +16,15 @@ use Rattle.ctrl_keep.proofs.advancing.advance.Goals as goal
 pub keep-kept-requires-clause-batch : goal.keep-kept-requires-clause-batch
 keep-kept-requires-clause-batch g c =
     let can = can_advance c.args.planned c.args.core.now c.args.store.now c.as_slice.result.now c.is_empty.result c.requires.planned c.as_slice.ensures c.is_empty.ensures c.if-is_empty.false in
-    batch_form c.args.core.now.state (led c.args.planned c.args.core.now.state) c.args.planned.batch can.keeps.valid can.leads.valid can.batch
+    batch_form kept_format c.args.core.now.state (led c.args.planned c.args.core.now.state) c.args.planned.batch can.keeps.valid can.leads.valid can.batch
 
 pub keep-kept-requires-clause-changes : goal.keep-kept-requires-clause-changes
 keep-kept-requires-clause-changes g c =
     let can = can_advance c.args.planned c.args.core.now c.args.store.now c.as_slice.result.now c.is_empty.result c.requires.planned c.as_slice.ensures c.is_empty.ensures c.if-is_empty.false in
-    batch_changes c.args.core.now.state (led c.args.planned c.args.core.now.state) c.args.store.now.rows c.args.planned.batch can.keeps.valid can.leads.valid can.keeps.rows can.batch can.changes
+    batch_changes kept_format c.args.core.now.state (led c.args.planned c.args.core.now.state) c.args.store.now.rows c.args.planned.batch can.keeps.valid can.leads.valid can.keeps.has can.has can.keeps.rows can.batch can.changes
+
+pub keep-kept-requires-clause-leads : goal.keep-kept-requires-clause-leads
+keep-kept-requires-clause-leads g c = kept_leads c.args.store.now (rows_after c.args.store.now.rows c.args.planned.batch) c.requires.planned.keeps.format
 
 pub returns-in_err-reply-in-Ok-true-clause-behind : goal.returns-in_err-reply-in-Ok-true-clause-behind
 returns-in_err-reply-in-Ok-true-clause-behind g c = λ none spent told image m.
@@ -70,7 +75,7 @@ returns-in_ok-reply-in-Ok-true-clause-follows g c = λ told.
     let kept = subst (λ (b : Bool). KeptOrFull c.args.planned.batch c.args.store.now c.keep-kept.new.store c.args.desk.now c.keep-kept.new.desk b) c.in-Ok-true.field-0-test c.in-Ok-true.ensures.kept in
     let next : c.apply.new.self.state ≡ led c.args.planned c.args.core.now.state = ap (λ (n : Cored). n.state) c.in_ok-reply-in-Ok-true.ensures.next in
     follows_kept c.args.core.now.state c.apply.new.self.state c.args.planned.batch c.args.store.now c.keep-kept.new.store _ _
-    ((can_advance c.args.planned c.args.core.now c.args.store.now c.as_slice.result.now c.is_empty.result c.requires.planned c.as_slice.ensures c.is_empty.ensures c.if-is_empty.false).batch ∙ ap (batch_between c.args.core.now.state) (sym next)) kept.1 (c.in-Ok-true.ensures.added c.in-Ok-true.field-0-test told)
+    ((can_advance c.args.planned c.args.core.now c.args.store.now c.as_slice.result.now c.is_empty.result c.requires.planned c.as_slice.ensures c.is_empty.ensures c.if-is_empty.false).batch ∙ ap (batch_between kept_format c.args.core.now.state) (sym next)) kept.1 (c.in-Ok-true.ensures.added c.in-Ok-true.field-0-test told)
 
 pub returns-in_ok-reply-in-Ok-true-clause-keeps : goal.returns-in_ok-reply-in-Ok-true-clause-keeps
 returns-in_ok-reply-in-Ok-true-clause-keeps g c = λ fresh.

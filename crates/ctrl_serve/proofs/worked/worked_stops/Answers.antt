@@ -7,9 +7,9 @@ use Rattle.ziti_outside.specs.Told.{Took, IsFront}
 use Rattle.channel_frame.specs.WorkedFrames.{ann_frame, ann_bytes, reply_bytes}
 use Rattle.ctrl_model.specs.State.{State, start}
 use Rattle.row_store.specs.declared.bounds.StoreBounds.{StoreBounds}
-use Rattle.row_store.specs.OpenedStates.{OpensToState}
+use Rattle.ctrl_keep.specs.KeptFolders.{OpensToState}
 use Rattle.ctrl_keep.specs.WorkedMachines.{at_most, machine_at}
-use Rattle.row_store.proofs.OneStates.{one_state}
+use Rattle.ctrl_keep.proofs.OneKeptStates.{one_kept_state}
 use Rattle.session_mux.specs.declared.events.Event.{Event}
 use Rattle.session_mux.specs.declared.events.Event.TheVariants.{Arrived}
 use Rattle.session_mux.specs.declared.sessions.Form.TheVariants.{Plain}
@@ -41,7 +41,7 @@ start_has_none : (image : Image) → OpensToState image start → HoldsFirst Pla
 start_has_none image opens h =
     let one : h.count ≡ 1 = omega (arith, h.at_least, h.at_most, one_frame) in
     let there : OpensToState image only_ann = subst (OpensToState image) ann_is_there (subst (λ (k : ℕ). OpensToState image (behind_ann (at_most 42) k)) one h.opens) in
-    let same : start ≡ only_ann = one_state image start only_ann opens there in
+    let same : start ≡ only_ann = one_kept_state image start only_ann opens there in
     let next : 1 ≡ 2 = ap (λ (s : State). s.identities.next) same in
     omega (arith, next)
 
@@ -105,10 +105,10 @@ no_reply bytes same front =
 -- A folder with both holds no fewer frames, and of two the first reply was taken.
 two_are_too_many : (image : Image) (count : ℕ) → OpensToState image ann_and_bob → count ≤ 2 → IsFront (joined (take (count - 1) both_replies)) [] → OpensToState image (behind_both count) → ⊥
 two_are_too_many image zero opens few front holds =
-    let next : 3 ≡ 1 = ap (λ (s : State). s.identities.next) (one_state image ann_and_bob start opens holds) in
+    let next : 3 ≡ 1 = ap (λ (s : State). s.identities.next) (one_kept_state image ann_and_bob start opens holds) in
     omega (arith, next)
 two_are_too_many image (suc zero) opens few front holds =
-    let next : 3 ≡ 2 = ap (λ (s : State). s.identities.next) (one_state image ann_and_bob only_ann opens (subst (OpensToState image) first_is_there holds)) in
+    let next : 3 ≡ 2 = ap (λ (s : State). s.identities.next) (one_kept_state image ann_and_bob only_ann opens (subst (OpensToState image) first_is_there holds)) in
     omega (arith, next)
 two_are_too_many image (suc (suc zero)) opens few front holds = no_reply (joined (take 1 both_replies)) first_reply front
 two_are_too_many image (suc (suc (suc n))) opens few front holds = absurd (omega (arith, few))
@@ -165,7 +165,7 @@ ann_is_found : (image : Image) (events : List Event) (front : List ℕ) → even
 ann_is_found image events front same opens took (inl found) =
     let there : OpensToState image only_ann =
     subst (OpensToState image) event_adds_ann (subst (λ (es : List Event). OpensToState image (state_behind Plain (at_most 42) (machine_at start 8) es)) same found) in
-    let next : 1 ≡ 2 = ap (λ (s : State). s.identities.next) (one_state image start only_ann opens there) in
+    let next : 1 ≡ 2 = ap (λ (s : State). s.identities.next) (one_kept_state image start only_ann opens there) in
     omega (arith, next)
 ann_is_found image events front same opens took (inr found) = one_byte_is_some ([] ++ front) found.0 took
 

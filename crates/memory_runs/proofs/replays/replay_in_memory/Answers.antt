@@ -2,7 +2,7 @@ use Rattle.std.proofs.Common.{sym, ap, ◌∙◌, subst}
 use Rattle.std.proofs.lemmas.Result.{IfOk-weaker}
 use Rattle.ziti_outside.specs.Images.{Image}
 use Rattle.ziti_desk.specs.MemEvents.{image_of}
-use Rattle.row_store.specs.OpenedStates.{IsStateless}
+use Rattle.ctrl_keep.specs.KeptFolders.{IsStateless}
 use Rattle.run_notes.specs.Endings.{is_cut}
 use Rattle.ctrl_serve.specs.OpenedFolders.{OpensTo}
 use Rattle.memory_runs.specs.Replays.{seen_of}

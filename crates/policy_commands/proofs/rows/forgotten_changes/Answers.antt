@@ -27,12 +27,12 @@ push_forgotten-requires-2-clause-after c =
     (naming_fit c.args.kind c.args.name.now c.args.kept.now c.requires.kind c.requires.after).1
 
 pub returns : goal.returns
-returns c = λ s t es et.
+returns c = λ f s t es et.
     let p = c.args.kept.now in
     let name = c.args.name.now in
     let on = c.naming.result in
     let made : c.of.result ≡ forgotten_pair p name on =
     c.of.ensures ∙ c.in_ok-push_forgotten-2.ensures
     ∙ ap (λ (xs : List Change). xs ++ forgotten_rows on.1.0 on.1.1 name p) (c.in_ok-push_forgotten.ensures ∙ ap (λ (xs : List Change). xs ++ forgotten_rows on.0.0 on.0.1 name p) c.new-changes.ensures.items) in
-    subst (λ (cs : List Change). Covers 7 10 s t cs) (sym (made ∙ ap (forgotten_pair p name) c.naming.ensures))
-    (covers_forgotten c.args.kind name p s t c.requires.kind c.requires.before es et)
+    subst (λ (cs : List Change). Covers f 7 10 s t cs) (sym (made ∙ ap (forgotten_pair p name) c.naming.ensures))
+    (covers_forgotten f c.args.kind name p s t c.requires.kind c.requires.before es et)

@@ -25,12 +25,12 @@ change_at-requires-clause-after c =
     (c.in_ok-after.ensures ∙ (λ i. at (policies (sym c.touched-kind.ensures.kind i) (after_policy_change c.args.change.now c.args.kept.now)) (sym c.touched-kind.ensures.number i)))
 
 pub returns : goal.returns
-returns c = λ s t es et.
+returns c = λ f s t es et.
     let p = c.args.kept.now in
     let after = after_policy_change c.args.change.now p in
     let kinds = c.touched-kind.ensures.kind in
     let number = c.touched-kind.ensures.number in
-    subst (λ cs. Covers 7 10 s t cs)
+    subst (λ cs. Covers f 7 10 s t cs)
     (sym (c.of.ensures ∙ c.in_ok-push.ensures.items ∙ ap (λ xs. xs ++ c.in_ok-change_at.field-0 ∷ []) c.new-changes.ensures.items ∙ ap (λ x. x ∷ []) (c.in_ok-change_at.ensures
     ∙ (λ i. policy_change_of (kinds i) (number i) ((c.in_ok-before.ensures ∙ (λ j. at (policies (kinds j) p) (number j))) i) (c.in_ok-after.ensures i)))))
-    (covers_change c.args.change.now p s t c.requires.can c.requires.before es et)
+    (covers_change f c.args.change.now p s t c.requires.can c.requires.before es et)

@@ -18,3 +18,11 @@ returns-clause-shown c = refl
 pub returns-clause-counts : goal.returns-clause-counts
 unfolding serde_json_on_literals digits
 returns-clause-counts c = refl
+
+pub returns-clause-picked : goal.returns-clause-picked
+unfolding serde_json_on_literals digits
+returns-clause-picked c = refl
+
+pub returns-clause-clashes : goal.returns-clause-clashes
+unfolding serde_json_on_literals digits
+returns-clause-clashes c = refl

@@ -30,3 +30,7 @@ returns-clause-journal_full c = refl
 pub returns-clause-mark_full : goal.returns-clause-mark_full
 unfolding serde_json_on_literals digits
 returns-clause-mark_full c = refl
+
+pub returns-clause-no_intercept : goal.returns-clause-no_intercept
+unfolding serde_json_on_literals digits
+returns-clause-no_intercept c = refl

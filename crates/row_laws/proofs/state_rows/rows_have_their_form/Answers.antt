@@ -11,8 +11,8 @@ pub returns-clause-keys : goal.returns-clause-keys
 returns-clause-keys c = AreKeys-rows_of
 
 pub returns-clause-rows : goal.returns-clause-rows
-returns-clause-rows c s v =
-    All-more Written (λ (x : Key × List ℕ). (r : Row) × SpellsRow (key_bytes x.0) x.1 r) (λ x written. (written.form, written.spells)) (rows_of s) (written_rows s v)
+returns-clause-rows c f s v =
+    All-more (Written f) (λ (x : Key × List ℕ). (r : Row) × SpellsRow f (key_bytes x.0) x.1 r) (λ x written. (written.form, written.spells)) (rows_of f s) (written_rows f s v)
 
 pub returns-clause-lengths : goal.returns-clause-lengths
-returns-clause-lengths c s v = All-more Written (λ (x : Key × List ℕ). length x.1 < 2 ^ 32) (λ x written. written.short_value) (rows_of s) (written_rows s v)
+returns-clause-lengths c f s v = All-more (Written f) (λ (x : Key × List ℕ). length x.1 < 2 ^ 32) (λ x written. written.short_value) (rows_of f s) (written_rows f s v)

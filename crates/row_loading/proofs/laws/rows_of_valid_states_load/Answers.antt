@@ -3,7 +3,7 @@ use Rattle.row_loading.proofs.LoadedStates.{loads-listed, flawless-rows, counted
 use Rattle.row_loading.proofs.laws.rows_of_valid_states_load.Goals as goal
 
 pub returns-clause-loads : goal.returns-clause-loads
-returns-clause-loads c = λ ops s v e. (listed s, loads-listed ops s v e)
+returns-clause-loads c = λ f ops s v has e. (listed f s, loads-listed f ops s v e)
 
 pub returns-clause-flawless : goal.returns-clause-flawless
 returns-clause-flawless c = flawless-rows

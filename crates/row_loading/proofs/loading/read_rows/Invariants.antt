@@ -5,4 +5,4 @@ use Rattle.row_loading.proofs.loading.read_rows.Given as goal
 
 -- the changes so far put these rows
 abbrev pub invariant-ops : goal.invariant-ops
-invariant-ops l = AreRead (take l.op-index l.ops) (option_map (λ k. k.now) l.last) l.rows.items
+invariant-ops l = AreRead l.format (take l.op-index l.ops) (option_map (λ k. k.now) l.last) l.rows.items

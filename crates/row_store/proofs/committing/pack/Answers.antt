@@ -1,5 +1,5 @@
 use Rattle.std.proofs.Common.{◌≤◌, sym, subst, List, ℕ, length}
-use Rattle.row_store.proofs.BatchLaws.{bytes_some}
+use Rattle.slot_reading.proofs.BatchLaws.{bytes_some}
 use Rattle.row_store.proofs.committing.pack.Goals as goal
 
 pub of-requires-clause-some : goal.of-requires-clause-some

@@ -10,7 +10,7 @@ returns-in_err-put_down-clause-stops g c = λ told.
 pub stand_alone-requires-clause-ready : goal.stand_alone-requires-clause-ready
 stand_alone-requires-clause-ready g c = λ told.
     let other = c.other_of.ensures c.args.standing.mark c.requires.named.some c.requires.named.part in
-    written_ready c.args.standing c.other_of.result c.args.slot.now _ _ _ _ c.requires.named (c.requires.opened told) c.requires.whole other (c.in_ok-put_down.ensures.written told)
+    written_ready c.args.standing c.other_of.result c.args.format c.args.slot.now _ _ _ _ c.requires.named (c.requires.opened told) c.requires.whole other (c.in_ok-put_down.ensures.written told)
     c.put_down.ensures.elsewhere c.in_ok-put_down.ensures.stable c.put_down.ensures.stops.found
 
 pub returns-clause-moved : goal.returns-clause-moved

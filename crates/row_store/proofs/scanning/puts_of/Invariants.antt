@@ -1,5 +1,5 @@
 use Rattle.std.proofs.Common.{◌≡◌, ◌++◌}
-use Rattle.row_store.specs.BatchRows.{rows_in, puts_of}
+use Rattle.slot_reading.specs.BatchRows.{rows_in, puts_of}
 use Rattle.row_store.proofs.scanning.puts_of.Given as goal
 
 abbrev pub invariant-rows : goal.invariant-rows

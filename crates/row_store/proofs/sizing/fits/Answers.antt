@@ -1,5 +1,5 @@
 use Rattle.std.proofs.Common.{sym, true≢false}
-use Rattle.row_store.proofs.BatchLaws.{no_room}
+use Rattle.slot_reading.proofs.BatchLaws.{no_room}
 use Rattle.row_store.proofs.sizing.fits.Goals as goal
 
 pub returns-then-left-size : goal.returns-then-left-size

@@ -1,4 +1,4 @@
-use Rattle.row_store.proofs.WorkedLaws.{ann_added, added_beside, added_marked, added_behind, none_added, again_added}
+use Rattle.row_store.proofs.WorkedLaws.{ann_added, added_beside, added_marked, added_behind, none_added, again_added, migrated_beside}
 use Rattle.row_store.proofs.worked.worked_commits.Goals as goal
 
 pub returns-clause-added : goal.returns-clause-added
@@ -18,3 +18,6 @@ returns-clause-added_with_the_mark c = added_marked
 
 pub returns-clause-added_with_a_byte_behind : goal.returns-clause-added_with_a_byte_behind
 returns-clause-added_with_a_byte_behind c = added_behind
+
+pub returns-clause-added_in_the_other_format : goal.returns-clause-added_in_the_other_format
+returns-clause-added_in_the_other_format c = migrated_beside

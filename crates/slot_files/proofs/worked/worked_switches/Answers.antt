@@ -2,6 +2,8 @@ use Rattle.std.specs.Prelude.{⊤, length}
 use Rattle.std.proofs.Common.{◌≡◌, ◌⊎◌, inl, inr, ℕ, zero, suc, ◌≤◌, true, List, [], ◌∷◌, Some, refl, sym, ap, subst, arith}
 use Rattle.ziti_outside.specs.Images.{Image, After}
 use Rattle.ziti_outside.specs.Moments.{Now, Leaves}
+use Rattle.ctrl_model.specs.declared.formats.Format.{Format}
+use Rattle.ctrl_model.specs.declared.formats.Format.TheVariants.{Two}
 use Rattle.journal_core.specs.Room.{KeepsRoom}
 use Rattle.journal_core.specs.Slots.{Slot}
 use Rattle.journal_core.specs.WorkedSlots.{batch_of_ann, empty_slot, slot_of_ann}
@@ -13,11 +15,11 @@ use Rattle.slot_files.proofs.worked.worked_switches.Goals as goal
 
 -- The folder as it was stands for what it stood for.
 same_stands : StandsByEither 1 folder_of_ann folder_of_ann folder_of_ann
-same_stands = record { either = λ before after stood slot. inl stood }
+same_stands = record { either = λ f g before after stood slot. inl stood }
 
 -- Behind the longer mark the second slot stands.
 second_slot : StandsByEither 1 folder_of_ann folder_of_ann second_stands
-second_slot = record { either = λ before after stood slot. inr slot }
+second_slot = record { either = λ f g before after stood slot. inr slot }
 
 -- A call leaves these images, where one of them is that of its start, and another the one that a stop finds behind it.
 leaves : (reads found : Image) (images : Image → Type 0) → images folder_of_ann → images found → Leaves small_seen small_stopped (fresh folder_of_ann) (behind folder_of_ann reads found) images
@@ -55,15 +57,15 @@ switches reads found either read left = record {
     still (suc time) image taken early since = absurd (omega (arith, early))
 
 -- The slots of the examples.
-slot_with_ann : Slot slot_of_ann (batch_of_ann ∷ [])
+slot_with_ann : Slot Two (slot_of_ann Two) (batch_of_ann Two ∷ [])
 slot_with_ann = record { gate = 0; more = []; split = refl; closed = λ e. absurd (omega (arith, e)); short = (omega arith, tt) }
 
-slot_with_none : Slot empty_slot []
+slot_with_none : Slot Two (empty_slot Two) []
 slot_with_none = record { gate = 0; more = []; split = refl; closed = λ e. absurd (omega (arith, e)); short = tt }
 
 -- No bytes are a slot.
-no_slot : (batches : List (List ℕ)) → Slot [] batches → ⊥
-no_slot batches slot = let long = ap length slot.split in omega (arith, long)
+no_slot : (f : Format) (batches : List (List ℕ)) → Slot f [] batches → ⊥
+no_slot f batches slot = let long = ap length slot.split in omega (arith, long)
 
 pub returns-clause-switched : goal.returns-clause-switched
 returns-clause-switched c = switches second_stands second_stands second_slot (record { zero = omega arith; one = omega arith }) (record { zero = omega arith; one = omega arith })
@@ -77,8 +79,8 @@ returns-clause-failed c = switches folder_of_ann folder_of_ann same_stands (reco
 pub returns-clause-loses_the_second_slot : goal.returns-clause-loses_the_second_slot
 returns-clause-loses_the_second_slot c = λ call.
     let left = (call.stops refl).found second_is_cut refl in
-    elim (left.by.either (batch_of_ann ∷ []) [] (subst (λ (i : Image). Stands i (batch_of_ann ∷ [])) (sym left.was) slot_with_ann) slot_with_none) as (λ _. ⊥)
-    [ inl slot ↦ no_slot (batch_of_ann ∷ []) slot | inr slot ↦ no_slot [] slot ]
+    elim (left.by.either Two Two (batch_of_ann Two ∷ []) [] (subst (λ (i : Image). Stands Two i (batch_of_ann Two ∷ [])) (sym left.was) slot_with_ann) slot_with_none) as (λ _. ⊥)
+    [ inl slot ↦ no_slot Two (batch_of_ann Two ∷ []) slot | inr slot ↦ no_slot Two [] slot ]
 
 pub returns-clause-lets_a_slot_grow : goal.returns-clause-lets_a_slot_grow
 returns-clause-lets_a_slot_grow c = λ call. let one = (call.room.reads refl).one in omega (arith, one)

@@ -1,19 +1,13 @@
-use Rattle.std.proofs.Common.{IsErrOf, sym, ◌∙◌, subst}
+use Rattle.std.proofs.Common.{IsErrOf, subst}
 use Rattle.row_loading.specs.declared.faults.CoreFault.{CoreFault}
-use Rattle.row_loading.specs.LoadedRows.{AreOfNoState}
-use Rattle.row_store.proofs.StateRows.{rows_are}
-use Rattle.state_building.specs.BuiltStates.{state_in}
-use Rattle.zitilook.proofs.OpenedLaws.{no_rows}
+use Rattle.zitilook.proofs.OpenedLaws.{all_read, taken_state}
 use Rattle.zitilook.proofs.opening.rows_of.Goals as goal
 
-pub returns-in-Ok-clause-rows : goal.returns-in-Ok-clause-rows
-returns-in-Ok-clause-rows c = rows_are c.args.store.now.rows (state_in c.in-Ok.rows.items) (sym c.in_ok-puts.ensures.puts ∙ c.in-Ok.ensures.rows)
+pub returns-in-Ok : goal.returns-in-Ok
+returns-in-Ok c = λ s those. taken_state c.args.puts.now c.as_slice.result.now c.in-Ok.rows.items c.as_slice.ensures c.in-Ok.ensures.read s those
 
-pub returns-in-Err-NotAState-clause-fault : goal.returns-in-Err-NotAState-clause-fault
-returns-in-Err-NotAState-clause-fault c =
-    let told = subst (λ (x : CoreFault). IsErrOf c.judged.result x) c.in-Err-NotAState.field-0-is c.in-Err-NotAState.is in (
-      c.end-part.ensures.0,
-      c.end-part.ensures.1,
-      no_rows c.args.store.now.rows (subst AreOfNoState c.in_ok-puts.ensures.puts
-          (c.judged.ensures.none c.in-Err-NotAState.field-0-0 c.in-Err-NotAState.field-0-1 told)),
-    )
+pub unreachable-requires : goal.unreachable-requires
+unreachable-requires c =
+    let told = subst (λ (x : CoreFault). IsErrOf c.read_rows.result x) c.in-Err-NotAState.field-0-is c.in-Err-NotAState.is in
+    all_read c.args.puts.now c.as_slice.result.now c.in-Err-NotAState.field-0-0 c.in-Err-NotAState.field-0-1 c.as_slice.ensures
+    (c.read_rows.ensures.unread c.in-Err-NotAState.field-0-0 c.in-Err-NotAState.field-0-1 told) c.requires.0 c.requires.1

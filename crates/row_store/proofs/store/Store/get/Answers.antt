@@ -2,7 +2,7 @@ use Rattle.std.proofs.Common.{ap, ◌∙◌}
 use Rattle.row_codec.specs.RowDifference.{value_at}
 use Rattle.row_codec.specs.Batches.{bytes_cmp}
 use Rattle.row_store.specs.StoredRows.{Stored}
-use Rattle.row_store.proofs.MapRows.{looked_up, copied_is}
+use Rattle.slot_reading.proofs.MapRows.{looked_up, copied_is}
 use Rattle.row_store.proofs.store.Store.get.Goals as goal
 
 pub returns : goal.returns

@@ -1,0 +1,3 @@
+pub mod FindingLaws
+pub mod StoreLaws
+pub mod PathLaws

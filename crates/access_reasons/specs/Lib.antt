@@ -1,0 +1,5 @@
+pub mod Reasons
+pub mod ReasonLines
+pub mod StateStores
+pub mod Steps
+pub mod WorkedReasons

@@ -1,0 +1,4 @@
+pub mod FirstLaws
+pub mod ClaimLaws
+pub mod PickLaws
+pub mod ClashLaws

@@ -1,7 +1,0 @@
-use Rattle.std.proofs.Common.{take}
-use Rattle.row_store.specs.BatchRows.{rows_in}
-use Rattle.row_store.proofs.BatchLaws.{Changed}
-use Rattle.row_store.proofs.changing.change_all.Given as goal
-
-abbrev pub invariant-ops : goal.invariant-ops
-invariant-ops l = Changed (rows_in l.fn.rows.entries) (rows_in l.rows.entries) (take l.op-index l.ops)

@@ -1,0 +1,4 @@
+pub mod MapRows
+pub mod BatchLaws
+pub mod SlotReadings
+pub mod PuttableRows

@@ -1,0 +1,3 @@
+pub mod BatchRows
+pub mod Changes
+pub mod SlotReading

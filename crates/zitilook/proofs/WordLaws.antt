@@ -1,0 +1,147 @@
+-- Which words are names where something is asked of their records.
+use Rattle.std.proofs.Common.{◌≡◌, ◌⊎◌, inl, inr, ℕ, Bool, true, false, List, [], ◌∷◌, Option, None, Some, refl, if◌then◌else◌, not, codes}
+use Rattle.std.specs.Str.{bytes_eq}
+use Rattle.ctrl_model.specs.NameForm.{is_name}
+use Rattle.ctrl_model.specs.declared.kinds.Kind.{Kind}
+use Rattle.zitilook.specs.declared.words.Asked.{Asked}
+use Rattle.zitilook.specs.declared.words.Asked.TheVariants as asked
+use Rattle.zitilook.specs.declared.words.Page.TheVariants.{Help, Version}
+use Rattle.zitilook.specs.declared.words.Place.TheVariants.{Second, Third}
+use Rattle.zitilook.specs.Words.{asked_of, asked_pair, asked_who, asked_why, kind_of, listing, word_at}
+
+pub same_some : {A : Type 0} (x y : A) → Some x ≡ Some y → x ≡ y
+same_some x y is = cc
+
+pub none_some : {A : Type 0} (o : Option A) (x : A) → o ≡ None → o ≡ Some x → ⊥
+none_some o x none some = let both : (o ≡ None) × (o ≡ Some x) = (none, some) in absurd cc
+
+-- which branch was taken
+branch : {A : Type 0} (b : Bool) (x y z : A) → (if b then x else y) ≡ z → ((b ≡ true) × (x ≡ z)) ⊎ ((b ≡ false) × (y ≡ z))
+branch true x y z is = inl (refl, is)
+branch false x y z is = inr (refl, is)
+
+is_no : (b : Bool) → not b ≡ false → b ≡ true
+is_no true is = refl
+is_no false is = absurd cc
+
+-- ---- records of a kind, and pages, ask for no name
+
+listing_no_why : (o : Option Kind) → listing o ≡ asked.Why → ⊥
+listing_no_why None is = absurd cc
+listing_no_why (Some k) is = absurd cc
+
+listing_no_who : (o : Option Kind) → listing o ≡ asked.Who → ⊥
+listing_no_who None is = absurd cc
+listing_no_who (Some k) is = absurd cc
+
+who_no_why : (service : List ℕ) → asked_who service ≡ asked.Why → ⊥
+who_no_why service is = by (branch (is_name service) asked.Who (asked.Misnamed Second) asked.Why is)
+  where
+    by : ((is_name service ≡ true) × (asked.Who ≡ asked.Why)) ⊎ ((is_name service ≡ false) × (asked.Misnamed Second ≡ asked.Why)) → ⊥
+    by (inl w) = let e : asked.Who ≡ asked.Why = w.1 in absurd cc
+    by (inr w) = let e : asked.Misnamed Second ≡ asked.Why = w.1 in absurd cc
+
+-- ---- why
+
+why_words : (identity service : List ℕ) → asked_why identity service ≡ asked.Why → (is_name identity ≡ true) × (is_name service ≡ true)
+why_words identity service is =
+    first (branch (not (is_name identity)) (asked.Misnamed Second) (if not (is_name service) then asked.Misnamed Third else asked.Why) asked.Why is)
+  where
+    second : (is_name identity ≡ true) → ((not (is_name service) ≡ true) × (asked.Misnamed Third ≡ asked.Why)) ⊎ ((not (is_name service) ≡ false) × (asked.Why ≡ asked.Why))
+        → (is_name identity ≡ true) × (is_name service ≡ true)
+    second named (inl w) = let e : asked.Misnamed Third ≡ asked.Why = w.1 in absurd cc
+    second named (inr w) = (named, is_no (is_name service) w.0)
+
+    first : ((not (is_name identity) ≡ true) × (asked.Misnamed Second ≡ asked.Why))
+        ⊎ ((not (is_name identity) ≡ false) × ((if not (is_name service) then asked.Misnamed Third else asked.Why) ≡ asked.Why))
+        → (is_name identity ≡ true) × (is_name service ≡ true)
+    first (inl w) = let e : asked.Misnamed Second ≡ asked.Why = w.1 in absurd cc
+    first (inr w) = second (is_no (is_name identity) w.0) (branch (not (is_name service)) (asked.Misnamed Third) asked.Why asked.Why w.1)
+
+-- no two words ask why
+pair_no_why : (word next : List ℕ) → asked_pair word next ≡ Some asked.Why → ⊥
+pair_no_why word next is =
+    first (branch (bytes_eq word (codes "list")) (Some (listing (kind_of next))) (if bytes_eq word (codes "who") then Some (asked_who next) else None) (Some asked.Why) is)
+  where
+    second : ((bytes_eq word (codes "who") ≡ true) × (Some (asked_who next) ≡ Some asked.Why)) ⊎ ((bytes_eq word (codes "who") ≡ false) × (None ≡ Some asked.Why)) → ⊥
+    second (inl w) = who_no_why next (same_some (asked_who next) asked.Why w.1)
+    second (inr w) = none_some None asked.Why refl w.1
+
+    first : ((bytes_eq word (codes "list") ≡ true) × (Some (listing (kind_of next)) ≡ Some asked.Why))
+        ⊎ ((bytes_eq word (codes "list") ≡ false) × ((if bytes_eq word (codes "who") then Some (asked_who next) else None) ≡ Some asked.Why)) → ⊥
+    first (inl w) = listing_no_why (kind_of next) (same_some (listing (kind_of next)) asked.Why w.1)
+    first (inr w) = second (branch (bytes_eq word (codes "who")) (Some (asked_who next)) None (Some asked.Why) w.1)
+
+-- no one word asks for a page other than the two
+page_no : (asks : Asked) (word : List ℕ) → (asked.Tell Help ≡ asks → ⊥) → (asked.Tell Version ≡ asks → ⊥) → asked_of (word ∷ []) ≡ Some asks → ⊥
+page_no asks word no_help no_version is =
+    first (branch (bytes_eq word (codes "help")) (Some (asked.Tell Help)) (if bytes_eq word (codes "version") then Some (asked.Tell Version) else None) (Some asks) is)
+  where
+    second : ((bytes_eq word (codes "version") ≡ true) × (Some (asked.Tell Version) ≡ Some asks)) ⊎ ((bytes_eq word (codes "version") ≡ false) × (None ≡ Some asks)) → ⊥
+    second (inl w) = no_version (same_some (asked.Tell Version) asks w.1)
+    second (inr w) = none_some None asks refl w.1
+
+    first : ((bytes_eq word (codes "help") ≡ true) × (Some (asked.Tell Help) ≡ Some asks))
+        ⊎ ((bytes_eq word (codes "help") ≡ false) × ((if bytes_eq word (codes "version") then Some (asked.Tell Version) else None) ≡ Some asks)) → ⊥
+    first (inl w) = no_help (same_some (asked.Tell Help) asks w.1)
+    first (inr w) = second (branch (bytes_eq word (codes "version")) (Some (asked.Tell Version)) None (Some asks) w.1)
+
+pub why_names : (words : List (List ℕ)) → asked_of words ≡ Some asked.Why → (is_name (word_at Second words) ≡ true) × (is_name (word_at Third words) ≡ true)
+why_names [] is = absurd (none_some None asked.Why refl is)
+why_names (word ∷ []) is = absurd (page_no asked.Why word (λ (e : asked.Tell Help ≡ asked.Why). absurd cc) (λ (e : asked.Tell Version ≡ asked.Why). absurd cc) is)
+why_names (word ∷ next ∷ []) is = absurd (pair_no_why word next is)
+why_names (word ∷ next ∷ third ∷ []) is = by (branch (bytes_eq word (codes "why")) (Some (asked_why next third)) None (Some asked.Why) is)
+  where
+    by : ((bytes_eq word (codes "why") ≡ true) × (Some (asked_why next third) ≡ Some asked.Why)) ⊎ ((bytes_eq word (codes "why") ≡ false) × (None ≡ Some asked.Why))
+        → (is_name next ≡ true) × (is_name third ≡ true)
+    by (inl w) = why_words next third (same_some (asked_why next third) asked.Why w.1)
+    by (inr w) = absurd (none_some None asked.Why refl w.1)
+why_names (word ∷ next ∷ third ∷ fourth ∷ words) is = absurd (none_some None asked.Why refl is)
+
+-- ---- who
+
+who_word : (service : List ℕ) → asked_who service ≡ asked.Who → is_name service ≡ true
+who_word service is = by (branch (is_name service) asked.Who (asked.Misnamed Second) asked.Who is)
+  where
+    by : ((is_name service ≡ true) × (asked.Who ≡ asked.Who)) ⊎ ((is_name service ≡ false) × (asked.Misnamed Second ≡ asked.Who)) → is_name service ≡ true
+    by (inl w) = w.0
+    by (inr w) = let e : asked.Misnamed Second ≡ asked.Who = w.1 in absurd cc
+
+why_no_who : (identity service : List ℕ) → asked_why identity service ≡ asked.Who → ⊥
+why_no_who identity service is =
+    first (branch (not (is_name identity)) (asked.Misnamed Second) (if not (is_name service) then asked.Misnamed Third else asked.Why) asked.Who is)
+  where
+    second : ((not (is_name service) ≡ true) × (asked.Misnamed Third ≡ asked.Who)) ⊎ ((not (is_name service) ≡ false) × (asked.Why ≡ asked.Who)) → ⊥
+    second (inl w) = let e : asked.Misnamed Third ≡ asked.Who = w.1 in absurd cc
+    second (inr w) = let e : asked.Why ≡ asked.Who = w.1 in absurd cc
+
+    first : ((not (is_name identity) ≡ true) × (asked.Misnamed Second ≡ asked.Who))
+        ⊎ ((not (is_name identity) ≡ false) × ((if not (is_name service) then asked.Misnamed Third else asked.Why) ≡ asked.Who)) → ⊥
+    first (inl w) = let e : asked.Misnamed Second ≡ asked.Who = w.1 in absurd cc
+    first (inr w) = second (branch (not (is_name service)) (asked.Misnamed Third) asked.Why asked.Who w.1)
+
+pair_who : (word next : List ℕ) → asked_pair word next ≡ Some asked.Who → is_name next ≡ true
+pair_who word next is =
+    first (branch (bytes_eq word (codes "list")) (Some (listing (kind_of next))) (if bytes_eq word (codes "who") then Some (asked_who next) else None) (Some asked.Who) is)
+  where
+    second : ((bytes_eq word (codes "who") ≡ true) × (Some (asked_who next) ≡ Some asked.Who)) ⊎ ((bytes_eq word (codes "who") ≡ false) × (None ≡ Some asked.Who))
+        → is_name next ≡ true
+    second (inl w) = who_word next (same_some (asked_who next) asked.Who w.1)
+    second (inr w) = absurd (none_some None asked.Who refl w.1)
+
+    first : ((bytes_eq word (codes "list") ≡ true) × (Some (listing (kind_of next)) ≡ Some asked.Who))
+        ⊎ ((bytes_eq word (codes "list") ≡ false) × ((if bytes_eq word (codes "who") then Some (asked_who next) else None) ≡ Some asked.Who)) → is_name next ≡ true
+    first (inl w) = absurd (listing_no_who (kind_of next) (same_some (listing (kind_of next)) asked.Who w.1))
+    first (inr w) = second (branch (bytes_eq word (codes "who")) (Some (asked_who next)) None (Some asked.Who) w.1)
+
+pub who_name : (words : List (List ℕ)) → asked_of words ≡ Some asked.Who → is_name (word_at Second words) ≡ true
+who_name [] is = absurd (none_some None asked.Who refl is)
+who_name (word ∷ []) is = absurd (page_no asked.Who word (λ (e : asked.Tell Help ≡ asked.Who). absurd cc) (λ (e : asked.Tell Version ≡ asked.Who). absurd cc) is)
+who_name (word ∷ next ∷ []) is = pair_who word next is
+who_name (word ∷ next ∷ third ∷ []) is = by (branch (bytes_eq word (codes "why")) (Some (asked_why next third)) None (Some asked.Who) is)
+  where
+    by : ((bytes_eq word (codes "why") ≡ true) × (Some (asked_why next third) ≡ Some asked.Who)) ⊎ ((bytes_eq word (codes "why") ≡ false) × (None ≡ Some asked.Who))
+        → is_name next ≡ true
+    by (inl w) = absurd (why_no_who next third (same_some (asked_why next third) asked.Who w.1))
+    by (inr w) = absurd (none_some None asked.Who refl w.1)
+who_name (word ∷ next ∷ third ∷ fourth ∷ words) is = absurd (none_some None asked.Who refl is)

@@ -1,0 +1,133 @@
+ghost use Rattle.std.specs.Prelude.{◌≡◌, true, IfOk};
+ghost use Rattle.ctrl_model.specs.NameForm.{is_name};
+ghost use Rattle.ctrl_model.specs.ValidState.{ValidState};
+ghost use Rattle.access_reasons.specs.ReasonLines.{lines_of as reason_lines};
+ghost use Rattle.access_reasons.specs.Reasons.{who, why};
+ghost use Rattle.access_reasons.specs.StateStores.{AreStoresOf};
+ghost use Rattle.record_lines.specs.RecordLines.{lines_of};
+ghost use Rattle.zitilook.specs.LookedTexts.{HasNames, text_of};
+ghost use Rattle.zitilook.specs.OpenedRows.{IsOpened};
+
+use crate::opening::rows_of;
+use access_reasons::{Stores, lines, who, why};
+use ctrl_core::Core;
+use ctrl_model::{Bytes, Kind, Name, NameFault, Relation};
+use record_lines::list;
+use row_codec::Batch;
+use std::alloc::{AllocError, Global};
+
+/// What is asked of the state of a folder that is looked at.
+#[derive(Clone, Copy)]
+pub enum Look<'a> {
+    /// The lines of the records of a kind.
+    Records(Kind),
+    /// The lines on why an identity can or cannot reach a service, by their names.
+    Why { identity: &'a str, service: &'a str },
+    /// The lines on who is granted Dial on a service, by its name.
+    Who { service: &'a str },
+}
+
+// The name that a word is.
+fn name_of(alloc: Global, word: &str) -> Result<Name, AllocError>
+    requires { is_name word.now ≡ true }
+    ensures { IfOk result (λ name. name ≡ word.now) }
+{
+    match Name::of(alloc, word.as_bytes()) {
+        Ok(name) => Ok(name),
+        Err(NameFault::NoMemory) => Err(AllocError),
+        Err(NameFault::BadName) => unreachable!(),
+    }
+}
+
+// The stores of a core that say who reaches which service.
+fn stores_of<'a>(core: &'a Core) -> Stores<'a>
+    requires { core.now.live ≡ true }
+    ensures { AreStoresOf result core.now.state }
+{
+    Stores {
+        entities: core.entities(),
+        policies: core.policies(),
+        fabric: core.fabric(),
+        terminators: core.terminators(),
+        dial: core.counted(Relation::Dial),
+        bind: core.counted(Relation::Bind),
+        identity_router: core.counted(Relation::IdentityRouter),
+        service_router: core.counted(Relation::ServiceRouter),
+        circuits_full: core.circuits_full(),
+    }
+}
+
+// The lines on why an identity can or cannot reach a service, in the state of a core.
+fn why_in(alloc: Global, core: &Core, identity: &str, service: &str) -> Result<Bytes, AllocError>
+    requires live { core.now.live ≡ true }
+    requires valid { ValidState core.now.state }
+    requires identity { is_name identity.now ≡ true }
+    requires service { is_name service.now ≡ true }
+    ensures { IfOk result (λ text. text ≡ reason_lines (why core.now.state identity.now service.now)) }
+{
+    let identity = name_of(alloc, identity)?;
+    let service = name_of(alloc, service)?;
+    let stores = stores_of(core);
+    let findings = why(alloc, &stores, &identity, &service)?;
+    lines(alloc, &findings)
+}
+
+// The lines on who is granted Dial on a service, in the state of a core.
+fn who_in(alloc: Global, core: &Core, service: &str) -> Result<Bytes, AllocError>
+    requires live { core.now.live ≡ true }
+    requires service { is_name service.now ≡ true }
+    ensures { IfOk result (λ text. text ≡ reason_lines (who core.now.state service.now)) }
+{
+    let service = name_of(alloc, service)?;
+    let stores = stores_of(core);
+    let findings = who(alloc, &stores, &service)?;
+    lines(alloc, &findings)
+}
+
+// The lines of the records of a kind of what a folder opened to, which is let go.
+fn list_of(alloc: Global, core: Core, puts: Batch, kind: Kind) -> Result<Bytes, AllocError>
+    requires { IsOpened core puts }
+    ensures { IfOk result (λ text. text ≡ lines_of kind core.state) }
+{
+    // The core has judged the rows.
+    drop(core);
+    let rows = rows_of(alloc, &puts)?;
+    list(alloc, rows.as_slice(), kind)
+}
+
+// The lines on why an identity can or cannot reach a service in the state of a core, which is let go.
+fn why_of(alloc: Global, core: Core, identity: &str, service: &str) -> Result<Bytes, AllocError>
+    requires live { core.live ≡ true }
+    requires valid { ValidState core.state }
+    requires identity { is_name identity.now ≡ true }
+    requires service { is_name service.now ≡ true }
+    ensures { IfOk result (λ text. text ≡ reason_lines (why core.state identity.now service.now)) }
+{
+    let text = why_in(alloc, &core, identity, service);
+    drop(core);
+    text
+}
+
+// The lines on who is granted Dial on a service in the state of a core, which is let go.
+fn who_of(alloc: Global, core: Core, service: &str) -> Result<Bytes, AllocError>
+    requires live { core.live ≡ true }
+    requires service { is_name service.now ≡ true }
+    ensures { IfOk result (λ text. text ≡ reason_lines (who core.state service.now)) }
+{
+    let text = who_in(alloc, &core, service);
+    drop(core);
+    text
+}
+
+/// The text that is asked for of what a folder opened to, which is let go.
+pub fn text_of(alloc: Global, look: &Look, core: Core, puts: Batch) -> Result<Bytes, AllocError>
+    requires opened { IsOpened core puts }
+    requires names { HasNames look.now }
+    ensures { IfOk result (λ text. text ≡ text_of look.now core.state) }
+{
+    match look {
+        Look::Records(kind) => list_of(alloc, core, puts, *kind),
+        Look::Why { identity, service } => why_of(alloc, core, identity, service),
+        Look::Who { service } => who_of(alloc, core, service),
+    }
+}
