@@ -1,5 +1,5 @@
 -- What a folder opens to whose rows were taken, and what is told where they were not.
-use Rattle.std.proofs.Common.{◌≡◌, ℕ, Bool, IsTrue, List, inl, Err, sym, ◌∙◌, subst}
+use Rattle.std.proofs.Common.{◌≡◌, ℕ, Bool, List, inl, Err, sym, ◌∙◌, subst}
 use Rattle.ziti_outside.specs.Causes.{HasCause, Rose}
 use Rattle.ziti_outside.specs.Images.{Image}
 use Rattle.ziti_outside.specs.Untouched.{OnlyNotes, OnlyReads}
