@@ -197,10 +197,10 @@ def main(name, *flags):
             for line in ran.stdout:
                 print(line, end="", flush=True)
                 said.append(line)
-        # A function that a macro wrote has no place of its own: it keeps its proof.
+        # A function that a macro wrote has no place of its own, and one that calls itself has another: it keeps its proof.
         missing = {
             "/".join(it)
-            for it in re.findall(re.escape(STUBS) + r"/(\w+)/proofs/(\S+)/Proof\.antt: error: .*has no function", "".join(said))
+            for it in re.findall(re.escape(STUBS) + r"/(\w+)/proofs/(\S+)/Proof\.antt: error.*(?:has no function|generates the module)", "".join(said))
         }
     return ran.returncode
 
