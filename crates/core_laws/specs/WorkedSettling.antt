@@ -30,6 +30,8 @@ counting n = record {
   terminators = record { terminators = record { rows = (1, offer) ∷ []; next = 2 }; loads = (1, n) ∷ [] };
   circuits = two_circuits;
   grants = record { dial = []; bind = []; identity_router = []; service_router = [] };
+  intercepts = [];
+  serial = 0;
 }
 
 -- The line with a circuit over both its links, where the router in the middle is gone and nothing is settled yet.

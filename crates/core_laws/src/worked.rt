@@ -19,9 +19,9 @@ ghost use Rattle.entity_store.specs.declared.changes.EntityChange.TheVariants.{A
 ghost use Rattle.fabric_graph.specs.declared.changes.LinkChange.TheVariants.{SetLeast};
 ghost use Rattle.policy_store.specs.declared.changes.PolicyChange.TheVariants as policy;
 
-/// Stores without records stand for the state at the start. What is replied to the commands that touch no record.
+/// Stores without records, and with the serial 0, stand for the state at the start. What is replied to the commands that touch no record.
 pub fn worked_starts()
-    ensures state { state_of (record { entities = no_entities; policies = no_policies; fabric = no_links; terminators = no_terminators; circuits = no_circuits; grants = record { dial = []; bind = []; identity_router = []; service_router = [] } }) ≡ start }
+    ensures state { state_of (record { entities = no_entities; policies = no_policies; fabric = no_links; terminators = no_terminators; circuits = no_circuits; grants = record { dial = []; bind = []; identity_router = []; service_router = [] }; intercepts = []; serial = 0 }) ≡ start }
     ensures hello { reply_alone Hello ≡ Empty }
     ensures compact { reply_alone Compact ≡ Done }
 {}

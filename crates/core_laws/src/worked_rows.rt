@@ -1,10 +1,16 @@
-ghost use Rattle.std.specs.Prelude.{◌≡◌, [], ◌∷◌, codes, map};
+ghost use Rattle.std.specs.Prelude.{◌≡◌, [], ◌∷◌, codes, map, Some};
+ghost use Rattle.ctrl_model.specs.Controller.{counted};
 ghost use Rattle.ctrl_model.specs.WorkedStates.{after, line_without_terminator, offered};
 ghost use Rattle.ctrl_model.specs.declared.kinds.Precedence.TheVariants.{Failed, Normal, Required};
-ghost use Rattle.row_codec.specs.Batches.{batch_between, batch_bytes};
+ghost use Rattle.ctrl_model.specs.declared.kinds.Kind.TheVariants as kind;
+ghost use Rattle.entity_store.specs.declared.changes.EntityChange.TheVariants.{Remove};
+ghost use Rattle.row_codec.specs.declared.changes.Op.TheVariants.{Put, Delete};
+ghost use Rattle.row_codec.specs.Batches.{batch_between, batch_bytes, batch_of};
 ghost use Rattle.row_codec.specs.RowValues.{precedence_byte, terminator_value};
 ghost use Rattle.ctrl_core.specs.KeptFormat.{kept_format};
-ghost use Rattle.core_laws.specs.WorkedRows.{offer_of};
+ghost use Rattle.core_stores.specs.Claims.{claim_changes_of, claims_left, service_gone};
+ghost use Rattle.core_stores.specs.Serials.{with_serial};
+ghost use Rattle.core_laws.specs.WorkedRows.{any_claim, offer_of, two_claims};
 
 /// The byte of each precedence, alone and at the end of a terminator's row: service 2 on router 3, without a host and an instance, at
 /// cost 0.
@@ -15,11 +21,28 @@ pub fn precedences_in_rows()
     ensures failed { terminator_value (offer_of Failed) ≡ 2 ∷ 0 ∷ 0 ∷ 0 ∷ 3 ∷ 0 ∷ 0 ∷ 0 ∷ 0 ∷ 0 ∷ 0 ∷ 0 ∷ 0 ∷ 0 ∷ 0 ∷ 3 ∷ [] }
 {}
 
-/// The batch by which a folder keeps that a required terminator of web on r3 is made, the first one: the next number of terminators, and
-/// the row.
+/// The batch by which a folder keeps that a required terminator of web on r3 is made, the first one: the next number of terminators, the
+/// row, and the serial 1.
 pub fn precedence_in_a_folder()
-    ensures required { batch_bytes (batch_between kept_format line_without_terminator (after (offered (codes "web") (codes "r3") 0 Required ∷ []) line_without_terminator))
+    ensures required { batch_bytes (batch_between kept_format line_without_terminator (counted line_without_terminator (after (offered (codes "web") (codes "r3") 0 Required ∷ []) line_without_terminator)))
         ≡ 1 ∷ 2 ∷ 1 ∷ 8 ∷ 4 ∷ 0 ∷ 0 ∷ 0 ∷ 2 ∷ 0 ∷ 0 ∷ 0
         ∷ 1 ∷ 5 ∷ 10 ∷ 0 ∷ 0 ∷ 0 ∷ 1 ∷ 16 ∷ 0 ∷ 0 ∷ 0
-        ∷ 1 ∷ 0 ∷ 0 ∷ 0 ∷ 3 ∷ 0 ∷ 0 ∷ 0 ∷ 0 ∷ 0 ∷ 0 ∷ 0 ∷ 0 ∷ 0 ∷ 0 ∷ 1 ∷ [] }
+        ∷ 1 ∷ 0 ∷ 0 ∷ 0 ∷ 3 ∷ 0 ∷ 0 ∷ 0 ∷ 0 ∷ 0 ∷ 0 ∷ 0 ∷ 0 ∷ 0 ∷ 0 ∷ 1
+        ∷ 1 ∷ 1 ∷ 17 ∷ 8 ∷ 0 ∷ 0 ∷ 0 ∷ 1 ∷ 0 ∷ 0 ∷ 0 ∷ 0 ∷ 0 ∷ 0 ∷ 0 ∷ [] }
+{}
+
+/// The batch of a change puts the next serial behind what it changes. One that changes nothing stays.
+pub fn serials_in_batches()
+    ensures nothing { with_serial 7 [] ≡ [] }
+    ensures first { with_serial 0 (Delete (2 ∷ []) ∷ []) ≡ Delete (2 ∷ []) ∷ Put (17 ∷ []) (1 ∷ 0 ∷ 0 ∷ 0 ∷ 0 ∷ 0 ∷ 0 ∷ 0 ∷ []) ∷ [] }
+    ensures later { with_serial 255 (Delete (2 ∷ []) ∷ []) ≡ Delete (2 ∷ []) ∷ Put (17 ∷ []) (0 ∷ 1 ∷ 0 ∷ 0 ∷ 0 ∷ 0 ∷ 0 ∷ 0 ∷ []) ∷ [] }
+{}
+
+/// Of the intercepts of services 1 and 2 that of service 1 goes with the service, and so does its row. An identity, and a service that has
+/// none, take none along.
+pub fn claims_that_go()
+    ensures goes { claims_left (service_gone (Some (Remove kind.Service 1 (codes "web")))) two_claims ≡ (2, any_claim) ∷ [] }
+    ensures identity { claims_left (service_gone (Some (Remove kind.Identity 1 (codes "ann")))) two_claims ≡ two_claims }
+    ensures row { batch_of (claim_changes_of (Some 1) two_claims) ≡ Delete (16 ∷ 0 ∷ 0 ∷ 0 ∷ 1 ∷ []) ∷ [] }
+    ensures no_row { batch_of (claim_changes_of (Some 3) two_claims) ≡ [] }
 {}

@@ -2,3 +2,5 @@ pub mod TakenLaws
 pub mod LaterNumbers
 pub mod SettledLaws
 pub mod LoadLaws
+pub mod SerialLaws
+pub mod ClaimLaws

@@ -5,3 +5,5 @@ pub mod CarriedStates
 pub mod SettledNumbers
 pub mod OpenCircuits
 pub mod NextNumbers
+pub mod Claims
+pub mod Serials

@@ -1,5 +1,5 @@
 -- The state that the stores of a core stand for, and the counts that they keep (docs/PROMISES.md, "The core").
-use Rattle.std.specs.Prelude.{ℕ, List, []}
+use Rattle.std.specs.Prelude.{ℕ, List}
 use Rattle.ctrl_model.specs.declared.kinds.Relation.{Relation}
 use Rattle.ctrl_model.specs.declared.kinds.Relation.TheVariants.{Dial, Bind, IdentityRouter, ServiceRouter}
 use Rattle.ctrl_model.specs.State.{State}
@@ -7,7 +7,7 @@ use Rattle.entity_store.specs.HeldUses as held_uses
 use Rattle.core_stores.specs.declared.stores.Grants.{Grants}
 use Rattle.core_stores.specs.declared.stores.Stores.{Stores}
 
--- The state of some stores, which keep no intercepts and no serial.
+-- The state of some stores.
 abbrev pub state_of : Stores → State
 state_of st = record {
   identities = st.entities.identities;
@@ -20,8 +20,8 @@ state_of st = record {
   terminators = st.terminators.terminators;
   circuits = st.circuits.circuits;
   least_router_cost = st.fabric.least;
-  intercepts = [];
-  serial = 0;
+  intercepts = st.intercepts;
+  serial = st.serial;
 }
 
 -- The counts that are kept of a relation.

@@ -1,12 +1,14 @@
-//! The stores of a core, a change of one family, the next numbers and the setting after it, the loads of terminators, and the steps that
-//! counts take.
+//! The stores of a core, a change of one family, the next numbers, the setting and the intercepts after it, the serial that is kept with
+//! it, the loads of terminators, and the steps that counts take.
 #![tactic(auto)]
 
 mod adding;
 mod change_parts;
 mod changes;
+mod claims;
 mod loads;
 mod next_rows;
+mod serials;
 mod settled;
 mod skipping;
 mod stepping;
@@ -16,8 +18,10 @@ pub use adding::{KINDS, forgotten};
 pub use changes::{
     Change, Draft, circuit_change, entity_change, link_change, policy_change, term_change,
 };
+pub use claims::{claim_changes, forget_claim};
 pub use loads::{Loads, count_loads, loads_after};
 pub use next_rows::{least_change, next_changes};
+pub use serials::with_serial;
 pub use settled::{Settled, take_out};
 pub use skipping::skip;
 pub use stepping::apply_steps;

@@ -11,6 +11,7 @@ use ctrl_model::Relation;
 use entity_store::Entities;
 use fabric_graph::Fabric;
 use grant_denorm::Counted;
+use intercepts::Intercepts;
 use policy_store::Policies;
 use std::alloc::{AllocError, Global};
 use terminators::Terminators;
@@ -33,6 +34,8 @@ pub struct Stores {
     pub terminators: Terminators,
     pub circuits: Circuits,
     pub grants: Grants,
+    pub intercepts: Intercepts,
+    pub serial: u64,
 }
 
 impl Grants {
@@ -101,9 +104,9 @@ impl Numbered {
     }
 }
 
-// The stores of the entities and policies, of the network and of the grant counts.
-fn joined(named: Named, numbered: Numbered, grants: Grants) -> Stores
-    ensures { result ≡ record { entities = named.entities; policies = named.policies; fabric = numbered.fabric; terminators = numbered.terminators; circuits = numbered.circuits; grants = grants } }
+// The stores of the entities and policies, of the network, of the grant counts and of the intercepts, at the first serial.
+fn joined(named: Named, numbered: Numbered, grants: Grants, intercepts: Intercepts) -> Stores
+    ensures { result ≡ record { entities = named.entities; policies = named.policies; fabric = numbered.fabric; terminators = numbered.terminators; circuits = numbered.circuits; grants = grants; intercepts = intercepts; serial = 0 } }
 {
     Stores {
         entities: named.entities,
@@ -112,17 +115,19 @@ fn joined(named: Named, numbered: Numbered, grants: Grants) -> Stores
         terminators: numbered.terminators,
         circuits: numbered.circuits,
         grants,
+        intercepts,
+        serial: 0,
     }
 }
 
 impl Stores {
-    /// Stores without records.
+    /// Stores without records, and with the serial 0.
     pub fn new(alloc: Global) -> Result<Stores, AllocError>
-        ensures { IfOk result (λ st. st ≡ record { entities = no_entities; policies = no_policies; fabric = no_links; terminators = no_terminators; circuits = no_circuits; grants = record { dial = []; bind = []; identity_router = []; service_router = [] } }) }
+        ensures { IfOk result (λ st. st ≡ record { entities = no_entities; policies = no_policies; fabric = no_links; terminators = no_terminators; circuits = no_circuits; grants = record { dial = []; bind = []; identity_router = []; service_router = [] }; intercepts = []; serial = 0 }) }
     {
         let grants = Grants::new(alloc)?;
         let numbered = Numbered::new(alloc)?;
         let named = Named::new(alloc)?;
-        Ok(joined(named, numbered, grants))
+        Ok(joined(named, numbered, grants, Intercepts::new(alloc)))
     }
 }

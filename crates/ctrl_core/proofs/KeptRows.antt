@@ -1,133 +1,261 @@
--- The format that is kept has rows for the states of stores and for those that a change leads to: no change makes an intercept, or moves
--- the serial. So their two tables are covered by no changes.
-use Rattle.std.proofs.Common.{◌≡◌, ℕ, ◌==◌, ◌&&◌, cond, List, [], ◌++◌, Option, None, Some, option_map, refl, sym, ◌∙◌, ap, subst, arith}
+-- The rows that no family makes: the intercept of a service that goes, and the serial of a state that is counted.
+use Rattle.std.proofs.Common.{◌≡◌, inl, ℕ, ◌+◌, ◌<◌, ◌≤◌, ◌==◌, nat_lt, Bool, true, false, cond, find, List, [], ◌∷◌, ◌++◌, map, Option, None, Some, option_and_then, option_map, refl, sym, ◌∙◌, ap, subst, arith, eq-eqb, eqb-true, ltb-false}
+use Rattle.std.proofs.lemmas.Bool.{and_from, and_parts, cond-true, true≢false}
+use Rattle.std.proofs.lemmas.Grind.{flat_map-append}
 use Rattle.std.proofs.lemmas.List.{append-nil}
-use Rattle.ctrl_model.specs.declared.formats.Format.{Format}
-use Rattle.ctrl_model.specs.declared.formats.Format.TheVariants.{One, Two}
+use Rattle.std.proofs.lemmas.Option.{none-some, same_Some}
+use Rattle.std.specs.List.{AllByRecursion}
+use Rattle.ctrl_model.specs.declared.formats.Format.TheVariants.{Two}
+use Rattle.ctrl_model.specs.declared.intercepts.Intercept.{Intercept}
 use Rattle.ctrl_model.specs.declared.kinds.Kind.{Kind}
 use Rattle.ctrl_model.specs.declared.kinds.Kind.TheVariants as kind
-use Rattle.ctrl_model.specs.declared.intercepts.Intercept.{Intercept}
-use Rattle.ctrl_model.specs.Numbered.{at, without}
-use Rattle.ctrl_model.specs.Settling.{settle}
+use Rattle.ctrl_model.specs.declared.kinds.Relation.{Relation}
+use Rattle.ctrl_model.specs.declared.kinds.Relation.TheVariants.{Dial, Bind, IdentityRouter, ServiceRouter}
+use Rattle.ctrl_model.specs.Controller.{counted}
+use Rattle.ctrl_model.specs.Grants.{count}
+use Rattle.ctrl_model.specs.Hits.{are_intercepts}
+use Rattle.ctrl_model.specs.InterceptForm.{is_intercept}
+use Rattle.ctrl_model.specs.Limits.{last_serial}
+use Rattle.ctrl_model.specs.Membership.{Among}
+use Rattle.ctrl_model.specs.Numbered.{Table, at, is_present, Between}
+use Rattle.ctrl_model.specs.SameStates.{same_state}
 use Rattle.ctrl_model.specs.State.{State}
-use Rattle.model_laws.specs.Plans.{led_by}
+use Rattle.ctrl_model.specs.Tables.{Record, table}
+use Rattle.ctrl_model.specs.ValidState.{ValidState, is_valid_intercept}
+use Rattle.ctrl_model.proofs.Members.{find_passes, list_all-among, list_all-from_among}
+use Rattle.ctrl_model.proofs.NumberedLaws.{at-within, at-without, at-without-other, by_is_some}
+use Rattle.model_laws.specs.Plans.{CanLeadBy, led_by}
+use Rattle.model_laws.proofs.CountedLaws.{counted-same, counted-another}
+use Rattle.model_laws.proofs.SameStateLaws.{same_state-Decides}
 use Rattle.row_codec.specs.declared.changes.Change as row
-use Rattle.row_codec.specs.CoveredTables.{Covers}
-use Rattle.row_codec.specs.RowValues.{intercept_value}
-use Rattle.row_codec.specs.StateRows.{HasRows, row_at, serial_value}
-use Rattle.row_laws.proofs.Covers.{Covers-append, Covers-same}
-use Rattle.row_laws.proofs.TableRows.{lies_in_one}
-use Rattle.entity_commands.specs.EntityChanges.{entered, with_described, with_plain, without_named}
+use Rattle.row_codec.specs.declared.changes.Op.{Op}
+use Rattle.row_codec.specs.Batches.{batch_between, batch_of, ops_at, ops_of}
+use Rattle.row_codec.specs.CoveredTables.{Covers, LiesIn, change_at}
+use Rattle.row_codec.specs.RowDifference.{Entry, said_of, value_at}
+use Rattle.row_codec.specs.RowKeys.{RowTable, Key, kinds, kind_number, key_bytes, key_cmp, key_in, is_long, table_number, tables_of}
+use Rattle.row_codec.specs.RowKeys.RowTable.{Next, Setting, Records, Counts, Intercepts, Serial}
+use Rattle.row_codec.specs.RowValues.{intercept_value, record_value, wide}
+use Rattle.row_codec.specs.StateRows.{Rows, count_value, next_value, row_at, row_in, rows_of, serial_value}
+use Rattle.row_laws.proofs.Covers.{Covers-append, Covers-batch}
+use Rattle.row_laws.proofs.Differences.{said_of-same, same_from_difference}
+use Rattle.row_laws.proofs.KeyOrders.{key_exact, key_total, long_upto}
+use Rattle.row_laws.proofs.RisingStates.{Rises-rows_of}
+use Rattle.row_laws.proofs.RowsAtKeys.{value_at-rows_of}
+use Rattle.row_laws.proofs.SpelledValues.{same_wide}
+use Rattle.row_laws.proofs.StateBatches.{batch_between-same, same_from_batch}
+use Rattle.row_laws.proofs.TouchedKeys.{Covers-intercepts, Covers-serial}
+use Rattle.row_laws.proofs.WrittenRows.{IsNumbered-valid}
+use Rattle.row_writing.specs.RecordChanges.{serial_change_of}
 use Rattle.entity_store.specs.declared.changes.EntityChange.{EntityChange}
 use Rattle.entity_store.specs.declared.changes.EntityChange.TheVariants as entity
 use Rattle.core_stores.specs.declared.changes.Change.{Change}
 use Rattle.core_stores.specs.declared.changes.Change.TheVariants as change
 use Rattle.core_stores.specs.declared.stores.Stores.{Stores}
+use Rattle.core_stores.specs.ChangeParts.{entity_part}
+use Rattle.core_stores.specs.Claims.{claim_changes_of, claims_left, service_gone}
+use Rattle.core_stores.specs.Serials.{with_serial}
 use Rattle.core_stores.specs.StoredState.{state_of}
-use Rattle.ctrl_core.specs.Changes.{after_change}
+use Rattle.core_stores.proofs.SerialLaws.{with_some}
+use Rattle.ctrl_core.specs.ChangedStores.{CanSettle, next_state}
+use Rattle.ctrl_core.specs.Changes.{CanChange, CanLead, after_change, led}
+use Rattle.ctrl_core.specs.declared.plans.Planned.{Planned}
+use Rattle.ctrl_core.specs.KeptState.{Cored, Keeps}
+use Rattle.ctrl_core.proofs.CountedChanges.{named_is_there}
+use Rattle.ctrl_core.proofs.StateParts.{parts_after}
 
--- ---- where there are no intercepts and the serial is 0
+-- ---- the intercept of a service that goes
 
-pub has_none : (f : Format) (s : State) → s.intercepts ≡ [] → s.serial ≡ 0 → HasRows f s
-has_none One s none zero = (none, zero)
-has_none Two s none zero = tt
+-- what a valid state keeps of services are intercepts
+pub claims_are : (s : State) → ValidState s → are_intercepts s.intercepts ≡ true
+claims_are s v = list_all-from_among (λ x. is_intercept x.1) s.intercepts (λ x m.
+    (and_parts (is_present s.services.rows x.0) (is_intercept x.1) (list_all-among (is_valid_intercept s) s.intercepts x v.intercepts m)).1)
 
--- ---- a change makes no intercept
+-- where the intercept of a service goes that may have one, the change of its row covers the table
+covered_without : (o : Option ℕ) (s t : State) → ValidState s → t.intercepts ≡ claims_left o s.intercepts → ((n : ℕ) → o ≡ Some n → is_long n ≡ true)
+    → Covers Two 16 17 s t (claim_changes_of o s.intercepts)
+covered_without None s t v left long = Covers-intercepts s t [] tt refl (λ n out. ap (λ (xs : List (ℕ × Intercept)). at xs n) (sym left))
+covered_without (Some n) s t v left long =
+    subst (λ (after : Option (List ℕ)). Covers Two 16 17 s t (record { key = (change_at Two s t (16, n, 0)).key; before = option_map intercept_value (at s.intercepts n); after = after } ∷ [])) gone
+    (Covers-intercepts s t (n ∷ []) (tt, tt) (and_from (is_long n) true (long n refl) refl) same)
+  where
+    gone : option_map intercept_value (at t.intercepts n) ≡ None
+    gone =
+        ap (λ (xs : List (ℕ × Intercept)). option_map intercept_value (at xs n)) left
+        ∙ ap (option_map intercept_value) (at-without s.services.next s.intercepts 1 n n v.ordered ∙ cond-true (n == n) None (at s.intercepts n) (eq-eqb n n refl))
 
-plain_none : (k : Kind) (name : List ℕ) (attributes : List (List ℕ)) (s : State) → s.intercepts ≡ [] → (with_plain k name attributes s).intercepts ≡ []
-plain_none kind.Identity name attributes s none = none
-plain_none kind.Service name attributes s none = none
-plain_none k name attributes s none = none
+    same : (m : ℕ) → (Among m (n ∷ []) → ⊥) → at s.intercepts m ≡ at t.intercepts m
+    same m out = sym (ap (λ (xs : List (ℕ × Intercept)). at xs m) left ∙ at-without-other s.intercepts n m (λ e. out (inl (sym e))))
 
-described_none : (k : Kind) (n : ℕ) (attributes : List (List ℕ)) (s : State) → s.intercepts ≡ [] → (with_described k n attributes s).intercepts ≡ []
-described_none kind.Identity n attributes s none = none
-described_none kind.Service n attributes s none = none
-described_none k n attributes s none = none
+-- a service that goes is there, so that its number fits
+gone_fits : (c : Change) (st : Stores) → CanSettle st c → (n : ℕ) → service_gone (entity_part c) ≡ Some n → is_long n ≡ true
+gone_fits (change.Entity (entity.Remove kind.Service n name)) st can m e =
+    let numbers = (can.before.kinds kind.Service).numbers in
+    let last = numbers.last in
+    by_is_some (at st.entities.services.rows n) (named_is_there kind.Service n name st can.can.0 can.can.1) (λ r is.
+    let within = at-within st.entities.services.next st.entities.services.rows 1 n r numbers.ordered is in
+    subst (λ x. is_long x ≡ true) (same_Some n m e) (long_upto n (omega (arith, within, last))))
+gone_fits (change.Entity (entity.Remove k n name)) st can m e = absurd (none-some m e)
+gone_fits (change.Entity _) st can m e = absurd (none-some m e)
+gone_fits (change.Policy _) st can m e = absurd (none-some m e)
+gone_fits (change.Link _) st can m e = absurd (none-some m e)
+gone_fits (change.Terminator _) st can m e = absurd (none-some m e)
+gone_fits (change.Circuit _) st can m e = absurd (none-some m e)
 
-removed_none : (k : Kind) (n : ℕ) (name : List ℕ) (s : State) → s.intercepts ≡ [] → (without_named k n name s).intercepts ≡ []
-removed_none kind.Service n name s none = ap (λ (is : List (ℕ × Intercept)). without is n) none
-removed_none kind.Identity n name s none = none
-removed_none kind.Router n name s none = none
-removed_none k n name s none = none
+pub claims_covered : (c : Change) (st : Stores) (o : Option EntityChange) → CanSettle st c → o ≡ entity_part c
+    → Covers Two 16 17 (state_of st) (next_state st c) (claim_changes_of (service_gone o) st.intercepts)
+claims_covered c st o can is =
+    subst (λ p. Covers Two 16 17 (state_of st) (next_state st c) (claim_changes_of (service_gone p) st.intercepts)) (sym is)
+    (covered_without (service_gone (entity_part c)) (state_of st) (next_state st c) can.before (ap (λ (s : State). s.intercepts) (parts_after c st can)) (gone_fits c st can))
 
-entered_none : (c : EntityChange) (s : State) → s.intercepts ≡ [] → (entered c s).intercepts ≡ []
-entered_none (entity.Add k name attributes) s none = plain_none k name attributes s none
-entered_none (entity.AddRouter name attributes cost through) s none = none
-entered_none (entity.Describe k n attributes) s none = described_none k n attributes s none
-entered_none (entity.DescribeRouter n attributes cost through connected) s none = none
-entered_none (entity.Mark n cost through connected) s none = none
-entered_none (entity.Remove k n name) s none = removed_none k n name s none
+-- ---- the serial of a state that is counted
 
-after_none : (c : Change) (s : State) → s.intercepts ≡ [] → (after_change c s).intercepts ≡ []
-after_none (change.Entity c) s none = entered_none c s none
-after_none (change.Policy c) s none = none
-after_none (change.Link c) s none = none
-after_none (change.Terminator c) s none = none
-after_none (change.Circuit c) s none = none
+-- no change moves the serial by itself
+pub led_serial : (o : Option Change) (st : Stores) → Keeps st → CanLeadBy CanChange o (state_of st) → ValidState (led_by after_change o (state_of st))
+    → (led_by after_change o (state_of st)).serial ≡ st.serial
+led_serial None st keeps can valid = refl
+led_serial (Some c) st keeps can valid = ap (λ (s : State). s.serial) (parts_after c st (record { before = keeps.valid; held = keeps.held; can = can; valid = valid }))
 
--- ---- and moves no serial
+-- what holds of the state before, where the next one is the same, and of the next one with the next serial else, holds of it counted
+by_counted : (P : State → Type 0) (s t : State) → (s ≡ t → P s) → ((s ≡ t → ⊥) → P (record t { serial = s.serial + 1 })) → P (counted s t)
+by_counted P s t same other = by (same_state s t) refl
+  where
+    by : (b : Bool) → same_state s t ≡ b → P (counted s t)
+    by true e = let is = (same_state-Decides s t).0 e in subst P (sym (counted-same s) ∙ ap (counted s) is) (same is)
+    by false e =
+        let apart : s ≡ t → ⊥ = λ is. true≢false (sym ((same_state-Decides s t).1 is) ∙ e) in
+        subst P (sym (counted-another s t apart)) (other apart)
 
-plain_serial : (k : Kind) (name : List ℕ) (attributes : List (List ℕ)) (s : State) → (with_plain k name attributes s).serial ≡ s.serial
-plain_serial kind.Identity name attributes s = refl
-plain_serial kind.Service name attributes s = refl
-plain_serial k name attributes s = refl
+-- the serial stands in no other table
+table_stays : (n : ℕ) (s : State) (k : Kind) → table k (record s { serial = n }) ≡ table k s
+table_stays n s kind.Attribute = refl
+table_stays n s k = refl
 
-described_serial : (k : Kind) (n : ℕ) (attributes : List (List ℕ)) (s : State) → (with_described k n attributes s).serial ≡ s.serial
-described_serial kind.Identity n attributes s = refl
-described_serial kind.Service n attributes s = refl
-described_serial k n attributes s = refl
+count_stays : (n : ℕ) (s : State) (r : Relation) (a b : ℕ) → count r (record s { serial = n }) a b ≡ count r s a b
+count_stays n s Dial a b = refl
+count_stays n s Bind a b = refl
+count_stays n s IdentityRouter a b = refl
+count_stays n s ServiceRouter a b = refl
 
-removed_serial : (k : Kind) (n : ℕ) (name : List ℕ) (s : State) → (without_named k n name s).serial ≡ s.serial
-removed_serial kind.Attribute n name s = refl
-removed_serial k n name s = refl
+row_stays : (n : ℕ) (s : State) (t : RowTable) (a b : ℕ) → table_number t < 17 → row_in Two t (record s { serial = n }) a b ≡ row_in Two t s a b
+row_stays n s Next a b h = λ i. cond (b == 0) (option_and_then (λ k. next_value (table_stays n s k i).next) (find (λ k. kind_number k == a) kinds)) None
+row_stays n s Setting a b h = refl
+row_stays n s (Records k) a b h = λ i. cond (b == 0) (option_map (record_value k) (at (table_stays n s k i).rows a)) None
+row_stays n s (Counts r) a b h = ap (count_value Two) (count_stays n s r a b)
+row_stays n s Intercepts a b h = refl
+row_stays n s Serial a b h = absurd (omega (arith, h))
 
-entered_serial : (c : EntityChange) (s : State) → (entered c s).serial ≡ s.serial
-entered_serial (entity.Add k name attributes) s = plain_serial k name attributes s
-entered_serial (entity.AddRouter name attributes cost through) s = refl
-entered_serial (entity.Describe k n attributes) s = described_serial k n attributes s
-entered_serial (entity.DescribeRouter n attributes cost through connected) s = refl
-entered_serial (entity.Mark n cost through connected) s = refl
-entered_serial (entity.Remove k n name) s = removed_serial k n name s
+row_at-stays : (n : ℕ) (s : State) (q : Key) → q.0 < 17 → row_at Two s q ≡ row_at Two (record s { serial = n }) q
+row_at-stays n s q h = by (find (λ t. table_number t == q.0) (tables_of Two)) refl
+  where
+    by : (o : Option RowTable) → find (λ t. table_number t == q.0) (tables_of Two) ≡ o
+        → option_and_then (λ t. row_in Two t s q.1 q.2) o ≡ option_and_then (λ t. row_in Two t (record s { serial = n }) q.1 q.2) o
+    by None e = refl
+    by (Some t) e =
+        let is = eqb-true (table_number t) q.0 (find_passes (λ t. table_number t == q.0) (tables_of Two) t e) in
+        sym (row_stays n s t q.1 q.2 (subst (λ m. m < 17) (sym is) h))
 
-after_serial : (c : Change) (s : State) → (after_change c s).serial ≡ s.serial
-after_serial (change.Entity c) s = entered_serial c s
-after_serial (change.Policy c) s = refl
-after_serial (change.Link c) s = refl
-after_serial (change.Terminator c) s = refl
-after_serial (change.Circuit c) s = refl
+-- what covers tables in which the end of two has the same rows covers them
+covers_to : (low high : ℕ) (s t u : State) (changes : List row.Change) → ((q : Key) → LiesIn low high q → row_at Two t q ≡ row_at Two u q) → Covers Two low high s t changes
+    → Covers Two low high s u changes
+covers_to low high s t u changes same c = record {
+  keys = c.keys;
+  named = c.named ∙ by c.keys c.within;
+  rises = c.rises;
+  fits = c.fits;
+  within = c.within;
+  others = λ q l misses. c.others q l misses ∙ same q l;
+}
+  where
+    by : (keys : List Key) → AllByRecursion (LiesIn low high) keys → map (change_at Two s t) keys ≡ map (change_at Two s u) keys
+    by [] a = refl
+    by (k ∷ ks) a = λ i. record { key = key_bytes k; before = row_at Two s k; after = same k a.0 i } ∷ by ks a.1 i
 
--- ---- rows of the states of stores
+-- changes of all tables but that of the serial, with the change of the serial behind them
+covered_counted : (n : ℕ) (s t : State) (changes : List row.Change) → ValidState s → ValidState t → Covers Two 1 17 s t changes
+    → batch_of (changes ++ serial_change_of s.serial n ∷ []) ≡ batch_between Two s (record t { serial = n })
+covered_counted n s t changes v w covers =
+    let u = record t { serial = n } in
+    Covers-batch Two s u (changes ++ serial_change_of s.serial n ∷ []) (IsNumbered-valid s v) (λ k. subst (λ (x : Table (Record k)). Between 1 x.next x.rows) (sym (table_stays n t k)) (IsNumbered-valid t w k))
+    v.ordered w.ordered
+    (Covers-append Two 1 17 18 s u changes (serial_change_of s.serial n ∷ []) (omega arith) (omega arith)
+    (covers_to 1 17 s t u changes (λ q l. row_at-stays n t q l.1) covers) (Covers-serial s u))
 
-pub has_stored : (f : Format) (st : Stores) → HasRows f (state_of st)
-has_stored f st = has_none f (state_of st) refl refl
+-- the batch of these changes, with the put of the serial where it changes something, is that to the state counted
+pub counted_batch : (s t : State) (changes : List row.Change) → ValidState s → ValidState t → t.serial ≡ s.serial → Covers Two 1 17 s t changes
+    → with_serial s.serial (batch_of changes) ≡ batch_between Two s (counted s t)
+counted_batch s t changes v w serial covers = by_counted (λ u. with_serial s.serial (batch_of changes) ≡ batch_between Two s u) s t same other
+  where
+    -- the serial that stays has a change that changes nothing
+    stays : batch_of (serial_change_of s.serial s.serial ∷ []) ≡ []
+    stays = ap (λ o. ops_at (key_bytes (key_in Serial 0 0)) o ++ []) (said_of-same (serial_value s.serial))
 
-pub has_led : (f : Format) (o : Option Change) (st : Stores) → HasRows f (led_by after_change o (state_of st))
-has_led f None st = has_stored f st
-has_led f (Some c) st = has_none f (settle (after_change c (state_of st))) (after_none c (state_of st) refl) (after_serial c (state_of st))
+    all : batch_of changes ≡ batch_between Two s t
+    all =
+        sym (flat_map-append (λ (c : row.Change). ops_at c.key (said_of c.before c.after)) changes (serial_change_of s.serial s.serial ∷ []) ∙ ap (λ (ops : List Op). batch_of changes ++ ops) stays ∙ append-nil (batch_of changes))
+        ∙ covered_counted s.serial s t changes v w covers ∙ ap (λ n. batch_between Two s (record t { serial = n })) (sym serial)
 
--- ---- the tables of intercepts and of the serial stay
+    same : s ≡ t → with_serial s.serial (batch_of changes) ≡ batch_between Two s s
+    same e =
+        let none : batch_between Two s s ≡ [] = batch_between-same Two s v in
+        ap (with_serial s.serial) (all ∙ ap (batch_between Two s) (sym e) ∙ none) ∙ sym none
 
-claims_same : (f : Format) (s t : State) (a b : ℕ) → s.intercepts ≡ t.intercepts → row_at f s (16, a, b) ≡ row_at f t (16, a, b)
-claims_same One s t a b same = refl
-claims_same Two s t a b same = ap (λ (is : List (ℕ × Intercept)). cond (b == 0) (option_map intercept_value (at is a)) None) same
+    other : (s ≡ t → ⊥) → with_serial s.serial (batch_of changes) ≡ batch_between Two s (record t { serial = s.serial + 1 })
+    other apart =
+        with_some s.serial (batch_of changes) (λ none. apart (same_from_batch Two s t v w tt tt (sym all ∙ none)))
+        ∙ sym (flat_map-append (λ (c : row.Change). ops_at c.key (said_of c.before c.after)) changes (serial_change_of s.serial (s.serial + 1) ∷ []))
+        ∙ covered_counted (s.serial + 1) s t changes v w covers
 
-serial_same : (f : Format) (s t : State) (a b : ℕ) → s.serial ≡ t.serial → row_at f s (17, a, b) ≡ row_at f t (17, a, b)
-serial_same One s t a b same = refl
-serial_same Two s t a b same = ap (λ n. cond (a == 0 && b == 0) (serial_value n) None) same
+-- ---- a state counted, as its batch tells it
 
-untold : (f : Format) (s t : State) → s.intercepts ≡ t.intercepts → s.serial ≡ t.serial → Covers f 16 18 s t []
-untold f s t claims serial =
-    Covers-append f 16 17 18 s t [] [] (omega arith) (omega arith)
-    (Covers-same f 16 17 s t (λ q l.
-    subst (λ n. row_at f s (n, q.1, q.2) ≡ row_at f t (n, q.1, q.2)) (sym (lies_in_one 16 q.0 l.0 l.1)) (claims_same f s t q.1 q.2 claims)))
-    (Covers-same f 17 18 s t (λ q l.
-    subst (λ n. row_at f s (n, q.1, q.2) ≡ row_at f t (n, q.1, q.2)) (sym (lies_in_one 17 q.0 l.0 l.1)) (serial_same f s t q.1 q.2 serial)))
+-- a batch that raises the serial changes something
+raise_shows : (s t : State) → ValidState s → ValidState t → batch_between Two s (record t { serial = s.serial + 1 }) ≡ [] → ⊥
+raise_shows s t v w none =
+    let m = s.serial in
+    let upto = v.counted in
+    let same = ap (λ (rows : Rows). value_at key_cmp rows (17, 0, 0)) (same_from_difference key_total key_exact (rows_of Two s) (rows_of Two (record t { serial = m + 1 }))
+    (Rises-rows_of Two s (IsNumbered-valid s v) v.ordered)
+    (Rises-rows_of Two (record t { serial = m + 1 }) (λ k. subst (λ (x : Table (Record k)). Between 1 x.next x.rows) (sym (table_stays (m + 1) t k)) (IsNumbered-valid t w k)) w.ordered)
+    (no_ops _ none)) in
+    apart m upto (sym (value_at-rows_of Two s (17, 0, 0)) ∙ same ∙ value_at-rows_of Two (record t { serial = m + 1 }) (17, 0, 0))
+  where
+    no_ops : (entries : List (Entry Key)) → ops_of entries ≡ [] → entries ≡ []
+    no_ops [] e = refl
+    no_ops (x ∷ xs) e = absurd (cc)
 
--- changes that cover all tables but these two cover all
-pub all_covered : (f : Format) (c : Change) (st : Stores) (changes : List row.Change) → Covers f 1 16 (state_of st) (settle (after_change c (state_of st))) changes
-    → Covers f 1 18 (state_of st) (settle (after_change c (state_of st))) changes
-all_covered f c st changes covers =
-    let s = state_of st in
-    let t = settle (after_change c s) in
-    subst (λ cs. Covers f 1 18 s t cs) (append-nil changes)
-    (Covers-append f 1 16 18 s t changes [] (omega arith) (omega arith) covers (untold f s t (sym (after_none c s refl)) (sym (after_serial c s))))
+    apart : (m : ℕ) → m ≤ last_serial → serial_value m ≡ serial_value (m + 1) → ⊥
+    apart m upto e = by (nat_lt 0 m) (nat_lt 0 (m + 1)) refl refl e
+      where
+        by : (c d : Bool) → nat_lt 0 m ≡ c → nat_lt 0 (m + 1) ≡ d → cond c (Some (wide m)) None ≡ cond d (Some (wide (m + 1))) None → ⊥
+        by true true p q f =
+            let is = same_wide m (m + 1) (omega (arith, upto)) (omega (arith, upto)) (same_Some (wide m) (wide (m + 1)) f) in
+            absurd (omega (arith, is))
+        by c false p q f = let none = ltb-false 0 (m + 1) q in absurd (omega (arith, none))
+        by false true p q f = none-some (wide (m + 1)) f
+
+-- where the batch is empty the state counted is the next one, and where it is not, that with the next serial
+pub still_counted : (s t : State) → ValidState s → ValidState t → batch_between Two s (counted s t) ≡ [] → counted s t ≡ t
+still_counted s t v w =
+    by_counted (λ u. batch_between Two s u ≡ [] → u ≡ t) s t (λ e none. e) (λ apart none. absurd (raise_shows s t v w none))
+
+pub raised_counted : (s t : State) → ValidState s → t.serial ≡ s.serial → (batch_between Two s (counted s t) ≡ [] → ⊥) → counted s t ≡ record t { serial = t.serial + 1 }
+raised_counted s t v serial =
+    by_counted (λ u. (batch_between Two s u ≡ [] → ⊥) → u ≡ record t { serial = t.serial + 1 }) s t
+    (λ e some. absurd (some (batch_between-same Two s v))) (λ apart some i. record t { serial = sym serial i + 1 })
+
+-- so it is of the state to which a plan leads
+still_led : (p : Planned) (s : State) → ValidState s → CanLead p s → p.batch ≡ [] → counted s (led p s) ≡ led p s
+still_led p s v can none = still_counted s (led p s) v can.valid (sym can.batch ∙ none)
+
+raised_led : (p : Planned) (s : State) → ValidState s → (led p s).serial ≡ s.serial → CanLead p s → (p.batch ≡ [] → ⊥) → counted s (led p s) ≡ record (led p s) { serial = (led p s).serial + 1 }
+raised_led p s v serial can some = raised_counted s (led p s) v serial (λ none. some (can.batch ∙ none))
+
+-- and of the core that is led there
+pub still_next : (p : Planned) (s : State) (mid : Cored) → ValidState s → CanLead p s → p.batch ≡ [] → mid ≡ record { state = led p s; live = true }
+    → mid ≡ record { state = counted s (led p s); live = true }
+still_next p s mid v can none is = is ∙ (λ i. record { state = sym (still_led p s v can none) i; live = true })
+
+pub raised_next : (p : Planned) (s : State) (mid next : Cored) → ValidState s → (led p s).serial ≡ s.serial → CanLead p s → (p.batch ≡ [] → ⊥) → mid ≡ record { state = led p s; live = true }
+    → next ≡ record { state = record mid.state { serial = mid.state.serial + 1 }; live = true } → next ≡ record { state = counted s (led p s); live = true }
+raised_next p s mid next v serial can some is then =
+    then ∙ (λ i. record { state = record (is i).state { serial = (is i).state.serial + 1 }; live = true })
+    ∙ (λ i. record { state = sym (raised_led p s v serial can some) i; live = true })

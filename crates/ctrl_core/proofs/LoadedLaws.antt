@@ -194,6 +194,8 @@ no_stores = record {
   terminators = no_terminators;
   circuits = no_circuits;
   grants = record { dial = []; bind = []; identity_router = []; service_router = [] };
+  intercepts = [];
+  serial = 0;
 }
 
 -- they keep the state at the start

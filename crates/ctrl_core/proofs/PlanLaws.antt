@@ -10,7 +10,7 @@ use Rattle.ctrl_model.specs.declared.replies.Reply.{Reply}
 use Rattle.ctrl_model.specs.State.{State}
 use Rattle.ctrl_model.specs.Grants.{count}
 use Rattle.ctrl_model.specs.CommandForm.{is_spelled}
-use Rattle.ctrl_model.specs.Controller.{carry}
+use Rattle.ctrl_model.specs.Controller.{carry, counted}
 use Rattle.ctrl_model.specs.InterceptCommands.{is_intercept_command}
 use Rattle.ctrl_model.specs.ValidState.{ValidState}
 use Rattle.ctrl_model.specs.Settling.{settle}
@@ -31,7 +31,9 @@ use Rattle.policy_store.specs.declared.steps.GrantSteps.{GrantSteps}
 use Rattle.core_stores.specs.declared.changes.Draft.{Draft}
 use Rattle.ctrl_core.specs.Changes.{CanChange, IsStill, LeadsFrom, NamesSettled, after_change}
 use Rattle.ctrl_core.specs.CompletedPlans.{CanComplete, Completes}
+use Rattle.ctrl_core.specs.KeptFormat.{kept_format}
 use Rattle.ctrl_core.specs.KeptState.{Keeps}
+use Rattle.row_codec.specs.Batches.{batch_between}
 use Rattle.core_stores.specs.StoredState.{state_of}
 use Rattle.ctrl_core.specs.declared.plans.Planned.{Planned}
 use Rattle.core_stores.specs.declared.stores.Stores.{Stores}
@@ -80,7 +82,8 @@ can_be_made None s can = tt
 can_be_made (Some c) s can = can.0
 
 -- a plan that completes a draft of a command leads to the controller's next state
-pub leads_from : (st : Stores) (d : Draft) (p : Planned) (c : Command) → CanComplete st d → Plans d (carry c (state_of st)) (state_of st) → Completes st d p → LeadsFrom p (state_of st) (carry c (state_of st)).1
+pub leads_from : (st : Stores) (d : Draft) (p : Planned) (c : Command) → CanComplete st d → Plans d (carry c (state_of st)) (state_of st) → Completes st d p
+    → LeadsFrom p (state_of st) (counted (state_of st) (carry c (state_of st)).1)
 leads_from st d p c can plans made = record {
   can = record {
     can = subst (λ o. CanLeadBy CanChange o (state_of st)) (sym made.change_is) (can_be_made d.change (state_of st) can.can);
@@ -88,8 +91,9 @@ leads_from st d p c can plans made = record {
     settled = subst (λ o. NamesSettled o (state_of st) p.settled) (sym made.change_is) made.settled;
     counts = λ r. subst (λ o. LeadCounts (count r (state_of st)) (count r (led_by after_change o (state_of st))) (steps_of r p.steps)) (sym made.change_is)
         (subst (λ ds. LeadCounts (count r (state_of st)) (count r (led_by after_change d.change (state_of st))) (steps_of r ds)) (sym made.steps_are) (can.counts r));
+    batch = made.batch_is ∙ ap (λ o. batch_between kept_format (state_of st) (counted (state_of st) (led_by after_change o (state_of st)))) (sym made.change_is);
   };
-  next = ap (λ o. led_by after_change o (state_of st)) made.change_is ∙ plans.next;
+  next = ap (λ o. counted (state_of st) (led_by after_change o (state_of st))) made.change_is ∙ ap (counted (state_of st)) plans.next;
 }
 
 -- what stays still in a draft does so in its plan

@@ -1,6 +1,7 @@
 -- What settles after each change, by its numbers.
 use Rattle.std.proofs.Common.{◌≡◌, ℕ, Bool, true, false, not, cond, List, [], ◌∷◌, Option, None, Some, refl, ◌∙◌, subst}
 use Rattle.std.proofs.lemmas.Bool.{false≢true}
+use Rattle.ctrl_model.specs.declared.intercepts.Intercept.{Intercept}
 use Rattle.ctrl_model.specs.declared.kinds.Kind.{Kind}
 use Rattle.ctrl_model.specs.declared.kinds.Kind.TheVariants as kind
 use Rattle.ctrl_model.specs.EntityCommands.{new_router}
@@ -49,6 +50,10 @@ settled_from t links terminators circuits g f n = record {
   circuits_are = n.circuits_are ∙ f.circuits_are;
 }
 
+-- intercepts matter to nothing that falls
+claimed_falls : (claims : List (ℕ × Intercept)) (t : State) (links terminators circuits : List ℕ) → Falls t links terminators circuits → Falls (record t { intercepts = claims }) links terminators circuits
+claimed_falls claims t links terminators circuits f = record { links_are = f.links_are; terms_are = f.terms_are; circuits_are = f.circuits_are }
+
 plain_more : (k : Kind) (name : List ℕ) (attributes : List (List ℕ)) (s : State) → ValidState s → is_plain_kind k ≡ true → Falls (with_plain k name attributes s) [] [] []
 plain_more kind.Identity name attributes s v e = identity_more s v (record { name = name; attributes = attributes })
 plain_more kind.Service name attributes s v e = service_more s v (record { name = name; attributes = attributes })
@@ -70,7 +75,9 @@ module _ (st : Stores) (v : ValidState (state_of st)) where
 
   removed : (k : Kind) (n : ℕ) (name : List ℕ) → is_entity_kind k ≡ true → Falls (without_named k n name s) (links_of k n b) (ends_on k n b) (circuits_on (Some (k, n)) (links_of k n b) (ends_on k n b) b)
   removed kind.Identity n name e = let t = without_named kind.Identity n name s in identity_gone s v t.service_policies t.edge_router_policies t.service_edge_router_policies n
-  removed kind.Service n name e = let t = without_named kind.Service n name s in service_gone s v t.service_policies t.edge_router_policies t.service_edge_router_policies n
+  removed kind.Service n name e =
+      let t = without_named kind.Service n name s in
+      claimed_falls t.intercepts (record t { intercepts = st.intercepts }) _ _ _ (service_gone s v t.service_policies t.edge_router_policies t.service_edge_router_policies n)
   removed kind.Router n name e = let t = without_named kind.Router n name s in router_gone s v t.service_policies t.edge_router_policies t.service_edge_router_policies n
   removed _ n name e = absurd (false≢true e)
 

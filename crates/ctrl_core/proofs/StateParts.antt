@@ -1,5 +1,6 @@
 -- The state after a change, by its parts: what each store makes of the change, as it is looked at before it is made.
 use Rattle.std.proofs.Common.{◌≡◌, ℕ, ◌+◌, ◌≤◌, Bool, not, List, [], Option, None, Some, refl, sym, ◌∙◌, ap, subst}
+use Rattle.ctrl_model.specs.declared.intercepts.Intercept.{Intercept}
 use Rattle.ctrl_model.specs.declared.kinds.Kind.TheVariants as kind
 use Rattle.std.specs.List.{filter}
 use Rattle.ctrl_model.specs.Numbered.{Table, numbers, Between, with_kept}
@@ -31,6 +32,7 @@ use Rattle.core_stores.specs.declared.changes.Change.TheVariants as change
 use Rattle.core_stores.specs.declared.settled.Settled.{Settled}
 use Rattle.core_stores.specs.declared.stores.Stores.{Stores}
 use Rattle.policy_commands.specs.ForgottenEntities.{forgetting_by}
+use Rattle.core_stores.specs.Claims.{claims_left, service_gone}
 use Rattle.core_stores.specs.ChangeParts.{entity_part, link_part, term_part, circuit_part}
 use Rattle.ctrl_core.specs.ChangedStores.{CanSettle}
 use Rattle.ctrl_core.specs.Changes.{after_change}
@@ -40,8 +42,8 @@ use Rattle.ctrl_core.specs.SettledRecords.{AreSettled}
 use Rattle.ctrl_core.proofs.ApplyLaws.{carried_entity}
 
 -- the state of some tables
-abbrev pub assembled : Tables → PolicyTables → FabricSeen → TermTables → CircuitTables → State
-assembled t p f e k = record {
+abbrev pub assembled : Tables → PolicyTables → FabricSeen → TermTables → CircuitTables → List (ℕ × Intercept) → ℕ → State
+assembled t p f e k claims serial = record {
   identities = t.identities;
   services = t.services;
   routers = t.routers;
@@ -52,8 +54,8 @@ assembled t p f e k = record {
   terminators = e.terminators;
   circuits = k.circuits;
   least_router_cost = f.least;
-  intercepts = [];
-  serial = 0;
+  intercepts = claims;
+  serial = serial;
 }
 
 -- each table after a change
@@ -74,8 +76,11 @@ terms_then c st = changed_by after_term_change (term_part c) st.terminators
 abbrev pub circuits_then : Change → Stores → CircuitTables
 circuits_then c st = changed_by after_circuit_change (circuit_part c) st.circuits
 
+abbrev pub claims_then : Change → Stores → List (ℕ × Intercept)
+claims_then c st = claims_left (service_gone (entity_part c)) st.intercepts
+
 abbrev pub state_then : Change → Stores → State
-state_then c st = assembled (entities_then c st) (policies_then c st) (links_then c st) (terms_then c st) (circuits_then c st)
+state_then c st = assembled (entities_then c st) (policies_then c st) (links_then c st) (terms_then c st) (circuits_then c st) (claims_then c st) st.serial
 
 -- what is open at terminators is no part of a state
 same_terms : (c : TermChange) (e : TermTables) → (after_term_change c (record { terminators = e.terminators; loads = [] })).terminators ≡ (after_term_change c e).terminators

@@ -2,6 +2,7 @@
 -- (docs/PROMISES.md, "The core").
 use Rattle.std.specs.Prelude.{◌≡◌, None, Some}
 use Rattle.std.specs.declared.option.Option.{Option}
+use Rattle.ctrl_model.specs.Controller.{counted}
 use Rattle.ctrl_model.specs.State.{State}
 use Rattle.ctrl_model.specs.ValidState.{ValidState}
 use Rattle.model_laws.specs.Plans.{CanLeadBy, led_by}
@@ -19,6 +20,8 @@ use Rattle.ctrl_core.specs.declared.plans.Planned.{Planned}
 use Rattle.core_stores.specs.declared.settled.Settled.{Settled}
 use Rattle.core_stores.specs.SettledNumbers.{SettlesNothing}
 use Rattle.ctrl_core.specs.SettledRecords.{AreSettled}
+use Rattle.ctrl_core.specs.KeptFormat.{kept_format}
+use Rattle.row_codec.specs.Batches.{batch_between}
 
 -- The state after a change, not yet settled.
 abbrev pub after_change : Change → State → State
@@ -36,7 +39,7 @@ CanChange (change.Link c) s = CanLink c s
 CanChange (change.Terminator c) s = CanOffer c s
 CanChange (change.Circuit c) s = CanRoute c s
 
--- Where a plan leads: the state stays where the plan has no change, and is settled after a change.
+-- Where the change of a plan leads, not yet counted: the state stays where the plan has no change, and is settled after a change.
 abbrev pub led : Planned → State → State
 led p s = led_by after_change p.change s
 
@@ -51,15 +54,16 @@ abbrev pub NamesSettled : Option Change → State → Settled → Type 0
 NamesSettled None s g = SettlesNothing g
 NamesSettled (Some c) s g = AreSettled (after_change c s) g
 
--- A plan can lead from a state: what it keeps can be changed there, where it leads is a valid state, it names what settles, and its
--- steps lead the grant counts of the one state to those of the other.
+-- A plan can lead from a state: what it keeps can be changed there, where it leads is a valid state, it names what settles, its steps
+-- lead the grant counts of the one state to those of the other, and its batch is the difference between the rows of the two, counted.
 pub record CanLead (p : Planned) (s : State) : Type 0 where
   pub can : CanLeadBy CanChange p.change s
   pub valid : ValidState (led p s)
   pub settled : NamesSettled p.change s p.settled
   pub counts : LeadAllCounts s (led p s) p.steps
+  pub batch : p.batch ≡ batch_between kept_format s (counted s (led p s))
 
--- A plan leads from one state to another.
+-- A plan leads from one state to another, counted.
 pub record LeadsFrom (p : Planned) (s t : State) : Type 0 where
   pub can : CanLead p s
-  pub next : led p s ≡ t
+  pub next : counted s (led p s) ≡ t

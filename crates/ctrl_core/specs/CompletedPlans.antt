@@ -1,5 +1,6 @@
 -- What completing a draft makes of it. Only private functions and proofs of this crate cite this file.
 use Rattle.std.specs.Prelude.{◌≡◌, List}
+use Rattle.ctrl_model.specs.Controller.{counted}
 use Rattle.ctrl_model.specs.ValidState.{ValidState}
 use Rattle.model_laws.specs.Plans.{CanLeadBy, led_by}
 use Rattle.row_codec.specs.declared.changes.Op.{Op}
@@ -25,7 +26,7 @@ pub record CanComplete (st : Stores) (d : Draft) : Type 0 where
 -- What settles after the change of a draft, and the batch of the rows that differ.
 pub record SettlesAs (st : Stores) (d : Draft) (g : Settled) (batch : List Op) : Type 0 where
   pub settled : NamesSettled d.change (state_of st) g
-  pub batch_is : batch ≡ batch_between kept_format (state_of st) (led_by after_change d.change (state_of st))
+  pub batch_is : batch ≡ batch_between kept_format (state_of st) (counted (state_of st) (led_by after_change d.change (state_of st)))
 
 -- A plan is a draft with what settles and with the batch of the rows that differ.
 pub record Completes (st : Stores) (d : Draft) (p : Planned) : Type 0 where
@@ -33,4 +34,4 @@ pub record Completes (st : Stores) (d : Draft) (p : Planned) : Type 0 where
   pub change_is : p.change ≡ d.change
   pub steps_are : p.steps ≡ d.steps
   pub settled : NamesSettled d.change (state_of st) p.settled
-  pub batch_is : p.batch ≡ batch_between kept_format (state_of st) (led_by after_change d.change (state_of st))
+  pub batch_is : p.batch ≡ batch_between kept_format (state_of st) (counted (state_of st) (led_by after_change d.change (state_of st)))

@@ -1,7 +1,7 @@
--- The format of a core's rows: those that it is loaded of, and those of the batches of its plans (docs/FORMATS.md, "Rows").
+-- The format of the batches of a core's plans (docs/FORMATS.md, "Rows").
 use Rattle.ctrl_model.specs.declared.formats.Format.{Format}
-use Rattle.ctrl_model.specs.declared.formats.Format.TheVariants.{One}
+use Rattle.ctrl_model.specs.declared.formats.Format.TheVariants.{Two}
 
--- The first format, which has no rows of intercepts and of the serial.
+-- The second format, which has rows of intercepts and of the serial.
 abbrev pub kept_format : Format
-kept_format = One
+kept_format = Two

@@ -15,7 +15,9 @@ ghost use Rattle.policy_store.specs.PolicyChanges.{CanRule, ruled};
 ghost use Rattle.ctrl_core.specs.KeptState.{Keeps};
 
 use circuits::apply_circuit_change;
-use core_stores::{Change, Settled, Stores, apply_steps, count_loads, loads_after, take_out};
+use core_stores::{
+    Change, Settled, Stores, apply_steps, count_loads, forget_claim, loads_after, take_out,
+};
 use entity_commands::{EntityChange, apply_entity_change};
 use link_commands::apply_link_change;
 use policy_commands::{PolicyChange, apply_policy_change, forget_by};
@@ -32,6 +34,7 @@ fn apply_entity(stores: &mut Stores, change: &EntityChange) -> Result<(), AllocE
 {
     apply_entity_change(&mut stores.entities, change)?;
     forget_by(&mut stores.policies, change);
+    forget_claim(&mut stores.intercepts, change);
     Ok(())
 }
 

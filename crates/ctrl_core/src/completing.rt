@@ -1,4 +1,5 @@
 ghost use Rattle.std.specs.Prelude.{◌≡◌, IfOk};
+ghost use Rattle.ctrl_model.specs.Controller.{counted};
 ghost use Rattle.model_laws.specs.Plans.{led_by};
 ghost use Rattle.row_codec.specs.Batches.{batch_between};
 ghost use Rattle.ctrl_core.specs.KeptFormat.{kept_format};
@@ -31,7 +32,7 @@ pub fn settled_after(
     }
 }
 
-// The batch of the rows that differ after the change of a draft, of which this settles; without rows, where it has none.
+// The batch of the rows that differ after the change of a draft, counted, of which this settles; without rows, where it has none.
 fn batch_after(
     alloc: Global,
     stores: &Stores,
@@ -40,7 +41,7 @@ fn batch_after(
 ) -> Result<Batch, AllocError>
     requires can { CanComplete stores.now draft.now }
     requires settled { NamesSettled draft.now.change (state_of stores.now) settled.now }
-    ensures { IfOk result (λ batch. batch ≡ batch_between kept_format (state_of stores.now) (led_by after_change draft.now.change (state_of stores.now))) }
+    ensures { IfOk result (λ batch. batch ≡ batch_between kept_format (state_of stores.now) (counted (state_of stores.now) (led_by after_change draft.now.change (state_of stores.now)))) }
 {
     match &draft.change {
         Some(change) => batch_for(alloc, stores, change, settled, &draft.steps),

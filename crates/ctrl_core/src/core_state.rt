@@ -1,9 +1,10 @@
-ghost use Rattle.std.specs.Prelude.{◌≡◌, ℕ, true, false, IfOk, IsErrOf, OnOk, OnErr};
+ghost use Rattle.std.specs.Prelude.{◌≡◌, ◌⊎◌, ◌+◌, ◌<◌, ℕ, [], true, false, IfOk, IsErrOf, OnOk, OnErr};
 ghost use Rattle.ctrl_model.specs.State.{start};
 ghost use Rattle.ctrl_model.specs.CommandForm.{is_spelled};
-ghost use Rattle.ctrl_model.specs.Controller.{carry};
+ghost use Rattle.ctrl_model.specs.Controller.{carry, counted};
 ghost use Rattle.ctrl_model.specs.InterceptCommands.{is_intercept_command};
 ghost use Rattle.ctrl_model.specs.Grants.{count};
+ghost use Rattle.ctrl_model.specs.Limits.{last_serial};
 ghost use Rattle.ctrl_model.specs.Networks.{circuits_full, open_circuits};
 ghost use Rattle.ctrl_model.specs.ValidState.{ValidState};
 ghost use Rattle.model_laws.specs.Plans.{CanLeadBy, led_by, tells_change};
@@ -23,11 +24,10 @@ ghost use Rattle.ctrl_core.specs.KeptFormat.{kept_format};
 use crate::applying::move_stores;
 use crate::commands::plan_command;
 use crate::completing::{completed, settled_after};
-use crate::kept_format::KEPT_FORMAT;
 use crate::loading::load;
 use crate::plans::Planned;
 use core_stores::{Change, Settled, Stores};
-use ctrl_model::{Command, Relation, Reply};
+use ctrl_model::{Command, Format, Relation, Reply};
 use entity_store::Entities;
 use fabric_graph::Fabric;
 use grant_denorm::Counted;
@@ -75,20 +75,20 @@ impl Core {
         })
     }
 
-    /// The core of the state whose rows a batch puts, in the format that is kept, all of them, where no row was. Nothing is taken on trust: the counts are found
-    /// anew from the policies, and those of the rows have to be the same.
+    /// The core of the state whose rows a batch puts, in a format, all of them, where no row was. Nothing is taken on trust: the counts are
+    /// found anew from the policies, and those of the rows have to be the same.
     ///
     /// `NotAState` comes exactly where they are not all rows of a valid state. It tells the first place at which a row cannot be the
     /// next one, or where a count is missing, and why (docs/FORMATS.md, "Rows of a valid state").
-    pub fn from_rows(alloc: Global, rows: &Batch) -> Result<Core, CoreFault>
+    pub fn from_rows(alloc: Global, format: Format, rows: &Batch) -> Result<Core, CoreFault>
         ensures live { IfOk result (λ c. c.live ≡ true) }
-        ensures rows { IfOk result (λ c. rows.now ≡ batch_between kept_format start c.state) }
+        ensures rows { IfOk result (λ c. rows.now ≡ batch_between format start c.state) }
         ensures valid { IfOk result (λ c. ValidState c.state) }
-        ensures has_rows { IfOk result (λ c. HasRows kept_format c.state) }
-        ensures refused { (place : ℕ) (flaw : Flaw) → IsErrOf result (NotAState place flaw) → RefusesRows kept_format rows.now place flaw }
-        ensures none { (place : ℕ) (flaw : Flaw) → IsErrOf result (NotAState place flaw) → AreOfNoState kept_format rows.now }
+        ensures has_rows { IfOk result (λ c. HasRows format c.state) }
+        ensures refused { (place : ℕ) (flaw : Flaw) → IsErrOf result (NotAState place flaw) → RefusesRows format rows.now place flaw }
+        ensures none { (place : ℕ) (flaw : Flaw) → IsErrOf result (NotAState place flaw) → AreOfNoState format rows.now }
     {
-        let rows = read_rows(alloc, KEPT_FORMAT, rows.as_slice())?;
+        let rows = read_rows(alloc, format, rows.as_slice())?;
         let stores = load(alloc, rows.as_slice())?;
         // Rows of before circuits were revoked may have some that nothing grants.
         Ok(Core {
@@ -151,46 +151,57 @@ impl Core {
         self.stores.circuits.is_full()
     }
 
+    /// The serial of the core's state.
+    pub fn serial(&self) -> u64
+        ensures { result ≡ self.now.state.serial }
+    {
+        self.stores.serial
+    }
+
     /// Plans the answer to a command that some body spells, as the controller gives it to who may send it. A plan of a refusal, or of a
-    /// reply that shows something, has no change and moves no count. Its batch is exactly the difference between the rows of the state
-    /// and those of the next one, so it is empty where they are equal. The state stays, and it is valid. No command on intercepts is
-    /// planned, and the format has rows for the state and for the next one.
+    /// reply that shows something, has no change and moves no count. It leads to the next state counted: where that is another one, its
+    /// serial is one higher. Its batch is exactly the difference between the rows of the two, so it is empty where they are equal. The
+    /// state stays, and it is valid. No command on intercepts is planned.
     pub fn plan(&self, command: &Command) -> Result<Planned, AllocError>
         requires live { self.now.live ≡ true }
         requires spelled { is_spelled command.now ≡ true }
         requires other { is_intercept_command command.now ≡ false }
         ensures reply { IfOk result (λ p. p.reply ≡ (carry command.now self.now.state).0) }
-        ensures leads { IfOk result (λ p. LeadsFrom p self.now.state (carry command.now self.now.state).1) }
+        ensures leads { IfOk result (λ p. LeadsFrom p self.now.state (counted self.now.state (carry command.now self.now.state).1)) }
         ensures still { IfOk result (λ p. tells_change p.reply ≡ false → IsStill p.change p.steps) }
-        ensures batch { IfOk result (λ p. p.batch ≡ batch_between kept_format self.now.state (carry command.now self.now.state).1) }
+        ensures batch { IfOk result (λ p. p.batch ≡ batch_between kept_format self.now.state (counted self.now.state (carry command.now self.now.state).1)) }
         ensures valid { ValidState self.now.state }
-        ensures has_rows { HasRows kept_format self.now.state }
-        ensures next_has_rows { IfOk result (λ p. HasRows kept_format (led p self.now.state)) }
     {
         let draft = plan_command(self.alloc, &self.stores, command)?;
         completed(self.alloc, &self.stores, draft, self.granted)
     }
 
-    /// Moves the state to where a plan leads, and answers the plan's reply. After want of memory the core is given up.
+    /// Moves the state to where a plan leads, counted, and answers the plan's reply. A plan with a batch wants another serial. After want of
+    /// memory the core is given up.
     pub fn apply(&mut self, planned: Planned) -> Result<Reply, AllocError>
         requires live { self.old.live ≡ true }
         requires can { CanLead planned self.old.state }
+        requires room { planned.batch ≡ [] ⊎ self.old.state.serial < last_serial }
         ensures reply { IfOk result (λ r. r ≡ planned.reply) }
-        ensures next { IfOk result (λ r. self.new ≡ record { state = led planned self.old.state; live = true }) }
+        ensures next { IfOk result (λ r. self.new ≡ record { state = counted self.old.state (led planned self.old.state); live = true }) }
         ensures err { OnErr result (self.new.live ≡ false) }
     {
         let Planned {
             reply,
+            batch,
             change,
             settled,
             steps,
-            ..
         } = planned;
-        self.go_on(reply, change, settled, &steps)
+        let reply = self.go_on(reply, change, settled, &steps)?;
+        if !batch.is_empty() {
+            self.count_on();
+        }
+        Ok(reply)
     }
 
-    /// Answers a command that some body spells, and moves the state to the next one, as a plan of it that is applied at once. No batch is
-    /// made. Where memory is wanting the core stays, or it is given up. No command on intercepts is answered.
+    /// Answers a command that some body spells, and moves the state to the next one, which is not counted. No batch is made. Where memory is
+    /// wanting the core stays, or it is given up. No command on intercepts is answered.
     pub fn answer(&mut self, command: &Command) -> Result<Reply, AllocError>
         requires live { self.old.live ≡ true }
         requires spelled { is_spelled command.now ≡ true }
@@ -204,6 +215,15 @@ impl Core {
         let settled = settled_after(self.alloc, &self.stores, &draft, self.granted)?;
         let reply = self.go_on(draft.reply, draft.change, settled, &draft.steps)?;
         Ok(reply)
+    }
+
+    // Raises the serial by one.
+    fn count_on(&mut self)
+        requires live { self.old.live ≡ true }
+        requires room { self.old.state.serial < last_serial }
+        ensures { self.new ≡ record { state = record self.old.state { serial = self.old.state.serial + 1 }; live = true } }
+    {
+        self.stores.serial += 1;
     }
 
     // Makes a change that leads to a valid state, if there is one, and answers a reply. After want of memory the core is given up.
@@ -221,6 +241,8 @@ impl Core {
         requires counts { LeadAllCounts self.old.state (led_by after_change change self.old.state) steps.now }
         ensures reply { IfOk result (λ r. r ≡ reply) }
         ensures next { IfOk result (λ r. self.new ≡ record { state = led_by after_change change self.old.state; live = true }) }
+        ensures was_valid { OnOk result (ValidState self.old.state) }
+        ensures same_serial { OnOk result ((led_by after_change change self.old.state).serial ≡ self.old.state.serial) }
         ensures err { OnErr result (self.new.live ≡ false) }
     {
         self.live = false;

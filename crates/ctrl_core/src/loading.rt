@@ -1,23 +1,18 @@
-ghost use Rattle.std.specs.Prelude.{◌≡◌, ◌⊎◌, ◌≤◌, ◌<◌, ℕ, true, false, map, List, IfOk, OnOk, IsErrOf};
-ghost use Rattle.std.specs.List.{list_all};
+ghost use Rattle.std.specs.Prelude.{◌≡◌, ◌≤◌, ◌<◌, ℕ, true, false, IfOk, OnOk, IsErrOf};
 ghost use Rattle.ctrl_model.specs.declared.kinds.Kind.{Kind};
 ghost use Rattle.ctrl_model.specs.declared.kinds.Relation.{Relation};
 ghost use Rattle.ctrl_model.specs.Grants.{count};
 ghost use Rattle.ctrl_model.specs.State.{start};
 ghost use Rattle.ctrl_model.specs.Tables.{table};
-ghost use Rattle.row_codec.specs.RowForm.{is_row};
 ghost use Rattle.row_loading.specs.declared.faults.CoreFault.TheVariants.{NotAState};
-ghost use Rattle.row_loading.specs.LoadedRows.{Loads, put_of};
-ghost use Rattle.row_loading.specs.RefusedRows.{AreFlawed, LackCounts};
 ghost use Rattle.state_building.specs.declared.flaws.Flaw.{Flaw};
 ghost use Rattle.state_building.specs.BuiltStates.{AreFlawless, HaveCounts, built, count_in, next_in, state_in, with_nexts};
 ghost use Rattle.core_stores.specs.CarriedStates.{Carries};
 ghost use Rattle.ctrl_core.specs.JoinedRows.{KeepState};
 ghost use Rattle.core_stores.specs.StoredState.{HoldsPolicies};
-ghost use Rattle.ctrl_core.specs.KeptFormat.{kept_format};
 ghost use Rattle.ctrl_core.specs.KeptState.{Keeps};
 ghost use Rattle.core_stores.specs.StoredState.{state_of};
-ghost use Rattle.ctrl_core.specs.LoadedRows.{IsFirstFlaw};
+ghost use Rattle.ctrl_core.specs.LoadedRows.{AreLoaded, AreRefused, AreSomeRows, IsFirstFlaw};
 
 use crate::taking::take_row;
 use core_stores::{KINDS, Stores, skip};
@@ -30,7 +25,7 @@ use std::alloc::Global;
 // Takes rows, one after another, up to the first that has a flaw.
 fn take_rows(alloc: Global, stores: &mut Stores, rows: &[Row]) -> Result<(), CoreFault>
     requires kept { Keeps stores.old }
-    requires form { list_all (is_row kept_format) rows.now ≡ true }
+    requires form { AreSomeRows rows.now }
     ensures taken { OnOk result (KeepState stores.new (built rows.now (state_of stores.old))) }
     ensures flawless { OnOk result (AreFlawless (next_in rows.now) rows.now (state_of stores.old)) }
     ensures flawed { (place : ℕ) (flaw : Flaw) → IsErrOf result (NotAState place flaw) → IsFirstFlaw (next_in rows.now) rows.now (state_of stores.old) place flaw }
@@ -49,7 +44,7 @@ fn take_rows(alloc: Global, stores: &mut Stores, rows: &[Row]) -> Result<(), Cor
 // Whether some kept count of a relation has no row.
 fn lacks(stores: &Stores, rows: &[Row]) -> bool
     requires kept { Keeps stores.now }
-    requires loads { Loads kept_format (map (put_of kept_format) rows.now) rows.now }
+    requires loads { AreLoaded rows.now }
     requires told { (r : Relation) (a b : ℕ) → 0 < count_in rows.now r a b → count_in rows.now r a b ≡ count r (state_of stores.now) a b }
     ensures all { result ≡ false → HaveCounts rows.now (state_of stores.now) }
     ensures lacks { result ≡ true → (r : Relation) × (a : ℕ) × (b : ℕ) × (count_in rows.now r a b ≡ count r (state_of stores.now) a b → ⊥) }
@@ -80,11 +75,11 @@ fn raise_nexts(stores: &mut Stores, rows: &[Row])
 fn load_into(alloc: Global, stores: &mut Stores, rows: &[Row]) -> Result<(), CoreFault>
     requires kept { Keeps stores.old }
     requires empty { state_of stores.old ≡ start }
-    requires loads { Loads kept_format (map (put_of kept_format) rows.now) rows.now }
+    requires loads { AreLoaded rows.now }
     ensures kept { OnOk result (KeepState stores.new (state_in rows.now)) }
     ensures flawless { OnOk result (AreFlawless (next_in rows.now) rows.now start) }
     ensures counts { OnOk result (HaveCounts rows.now (built rows.now start)) }
-    ensures refused { (place : ℕ) (flaw : Flaw) → IsErrOf result (NotAState place flaw) → AreFlawed kept_format (map (put_of kept_format) rows.now) place flaw ⊎ LackCounts kept_format (map (put_of kept_format) rows.now) place flaw }
+    ensures refused { (place : ℕ) (flaw : Flaw) → IsErrOf result (NotAState place flaw) → AreRefused rows.now place flaw }
 {
     take_rows(alloc, stores, rows)?;
     if lacks(stores, rows) {
@@ -99,11 +94,11 @@ fn load_into(alloc: Global, stores: &mut Stores, rows: &[Row]) -> Result<(), Cor
 
 /// The stores of the state that rows build, from empty ones on.
 pub fn load(alloc: Global, rows: &[Row]) -> Result<Stores, CoreFault>
-    requires { Loads kept_format (map (put_of kept_format) rows.now) rows.now }
+    requires { AreLoaded rows.now }
     ensures kept { IfOk result (λ st. KeepState st (state_in rows.now)) }
     ensures flawless { OnOk result (AreFlawless (next_in rows.now) rows.now start) }
     ensures counts { OnOk result (HaveCounts rows.now (built rows.now start)) }
-    ensures refused { (place : ℕ) (flaw : Flaw) → IsErrOf result (NotAState place flaw) → AreFlawed kept_format (map (put_of kept_format) rows.now) place flaw ⊎ LackCounts kept_format (map (put_of kept_format) rows.now) place flaw }
+    ensures refused { (place : ℕ) (flaw : Flaw) → IsErrOf result (NotAState place flaw) → AreRefused rows.now place flaw }
 {
     let mut stores = Stores::new(alloc)?;
     load_into(alloc, &mut stores, rows)?;

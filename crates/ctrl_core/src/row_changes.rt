@@ -1,4 +1,5 @@
 ghost use Rattle.std.specs.Prelude.{◌≡◌, ◌++◌, IfOk, OnOk};
+ghost use Rattle.ctrl_model.specs.Controller.{counted};
 ghost use Rattle.row_codec.specs.Batches.{batch_between};
 ghost use Rattle.row_codec.specs.CoveredTables.{Covers};
 ghost use Rattle.ctrl_core.specs.ChangedStores.{CanSettle, KnowsSettled, next_state};
@@ -10,7 +11,9 @@ ghost use Rattle.core_stores.specs.StoredState.{state_of};
 use crate::kept_format::KEPT_FORMAT;
 use batch_codec::batch_of;
 use circuit_settling::circuit_changes;
-use core_stores::{Change, Settled, Stores, forgotten, least_change, next_changes};
+use core_stores::{
+    Change, Settled, Stores, claim_changes, forgotten, least_change, next_changes, with_serial,
+};
 use entity_commands::entity_changes;
 use grant_rows::{CountMoves, GrantMoves, all_count_changes};
 use link_commands::link_changes;
@@ -191,7 +194,35 @@ fn push_records(
     Ok(())
 }
 
-/// The batch that leads from the rows of the state of some stores to those of the state after a change, once it is settled.
+// The changes of the intercepts.
+fn intercept_rows(alloc: Global, stores: &Stores, change: &Change) -> Result<Changes, AllocError>
+    requires { CanSettle stores.now change.now }
+    ensures { IfOk result (Covers kept_format 16 17 (state_of stores.now) (next_state stores.now change.now)) }
+{
+    claim_changes(alloc, &stores.intercepts, change.of_entities())
+}
+
+// The changes of all tables but that of the serial.
+fn all_rows(
+    alloc: Global,
+    stores: &Stores,
+    change: &Change,
+    settled: &Settled,
+    steps: &GrantSteps,
+) -> Result<Changes, AllocError>
+    requires kept { Keeps stores.now }
+    requires known { KnowsSettled stores.now change.now settled.now }
+    requires counts { LeadAllCounts (state_of stores.now) (next_state stores.now change.now) steps.now }
+    ensures { IfOk result (Covers kept_format 1 17 (state_of stores.now) (next_state stores.now change.now)) }
+{
+    let mut changes = entity_tables(alloc, stores, change)?;
+    push_records(alloc, &mut changes, stores, change, settled)?;
+    append(&mut changes, count_rows(alloc, stores, change, steps)?)?;
+    append(&mut changes, intercept_rows(alloc, stores, change)?)?;
+    Ok(Changes::of(changes))
+}
+
+/// The batch that leads from the rows of the state of some stores to those of the state after a change, once it is settled and counted.
 /// It is made of the keys that the change can touch; nothing is evaluated again for the counts.
 pub fn batch_for(
     alloc: Global,
@@ -203,10 +234,9 @@ pub fn batch_for(
     requires kept { Keeps stores.now }
     requires known { KnowsSettled stores.now change.now settled.now }
     requires counts { LeadAllCounts (state_of stores.now) (next_state stores.now change.now) steps.now }
-    ensures { IfOk result (λ batch. batch ≡ batch_between kept_format (state_of stores.now) (next_state stores.now change.now)) }
+    ensures { IfOk result (λ batch. batch ≡ batch_between kept_format (state_of stores.now) (counted (state_of stores.now) (next_state stores.now change.now))) }
 {
-    let mut changes = entity_tables(alloc, stores, change)?;
-    push_records(alloc, &mut changes, stores, change, settled)?;
-    append(&mut changes, count_rows(alloc, stores, change, steps)?)?;
-    batch_of(alloc, &Changes::of(changes))
+    let changes = all_rows(alloc, stores, change, settled, steps)?;
+    let batch = batch_of(alloc, &changes)?;
+    with_serial(alloc, batch, stores.serial)
 }

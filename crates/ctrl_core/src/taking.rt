@@ -1,24 +1,27 @@
-ghost use Rattle.std.specs.Prelude.{◌≡◌, ◌==◌, not, true, None, IfOk, is_some};
+ghost use Rattle.std.specs.Prelude.{◌≡◌, ◌==◌, not, true, None, IfOk, is_some, option_map};
+ghost use Rattle.std.specs.List.{last_or};
 ghost use Rattle.ctrl_model.specs.CommandForm.{is_link_cost};
 ghost use Rattle.ctrl_model.specs.Grants.{count};
+ghost use Rattle.ctrl_model.specs.InterceptForm.{is_intercept};
+ghost use Rattle.ctrl_model.specs.Numbered.{numbers};
 ghost use Rattle.ctrl_model.specs.declared.kinds.Kind.TheVariants as kind;
 ghost use Rattle.record_flaws.specs.SoundRows.{is_sound_row};
-ghost use Rattle.row_codec.specs.RowForm.{is_row};
 ghost use Rattle.state_building.specs.declared.flaws.Flaw.TheVariants.{NoRecord, WrongCount};
-ghost use Rattle.state_building.specs.JoinedRecords.{flaw_if, flaw_of, is_sound, joined, skipped};
+ghost use Rattle.state_building.specs.JoinedRecords.{claimed, flaw_if, flaw_of, flaw_of_intercept, flaw_of_serial, is_sound, joined, skipped};
 ghost use Rattle.state_building.specs.BuiltStates.{flaw_in, next_in, with_row};
 ghost use Rattle.core_stores.specs.StoredState.{state_of};
 ghost use Rattle.ctrl_core.specs.Changes.{after_change};
-ghost use Rattle.ctrl_core.specs.KeptFormat.{kept_format};
 ghost use Rattle.ctrl_core.specs.KeptState.{Keeps};
 ghost use Rattle.ctrl_core.specs.NewRecords.{IsNew, is_sound_new, new_flaw_of, new_in};
+ghost use Rattle.ctrl_core.specs.LoadedRows.{IsSomeRow};
 ghost use Rattle.ctrl_core.specs.TakenRows.{Takes, count_flaw_of};
 
 use crate::new_records::{new_flaw, new_in};
 use crate::row_joining::{join_router, make_at};
 use core_stores::{Change, Stores};
-use ctrl_model::{Copies, Kind, MOST_COST, Name, Names, Relation};
-use record_flaws::{Coming, is_sound_row, router_flaw};
+use ctrl_model::{Copies, Intercept, Kind, MOST_COST, Name, Names, Relation, ServiceNo};
+use intercepts::Intercepts;
+use record_flaws::{Coming, claim_flaw, is_sound_row, router_flaw, serial_flaw};
 use row_codec::Row;
 use row_loading::{count_flaw, next_in};
 use state_building::Flaw;
@@ -26,7 +29,7 @@ use std::alloc::{AllocError, Global};
 
 // The record of a row, as it comes next among some rows.
 fn coming(rows: &[Row], row: &Row, kind: Kind, number: u32) -> Coming
-    requires form { is_row kept_format row.now ≡ true }
+    requires form { IsSomeRow row.now }
     ensures { result ≡ record { number = number; end = next_in rows.now kind; sound = is_sound_row row.now } }
 {
     Coming {
@@ -66,7 +69,7 @@ fn take_record(
     row: &Row,
 ) -> Result<Option<Flaw>, AllocError>
     requires kept { Keeps stores.old }
-    requires form { is_row kept_format row.now ≡ true }
+    requires form { IsSomeRow row.now }
     requires new { is_some (new_in row.now) ≡ true }
     ensures { IfOk result (λ told. Takes told (flaw_in (next_in rows.now) row.now (state_of stores.old)) stores.new (with_row row.now (state_of stores.old))) }
 {
@@ -125,6 +128,49 @@ fn take_setting(stores: &mut Stores, cost: u32) -> Option<Flaw>
     None
 }
 
+// The last service that has an intercept, if one has.
+fn last_claim(intercepts: &Intercepts) -> Option<ServiceNo>
+    ensures { option_map (λ n. n.0) result ≡ last_or None (numbers intercepts.now) }
+{
+    match intercepts.last() {
+        Some(number) => Some(ServiceNo(number)),
+        None => None,
+    }
+}
+
+// Takes the intercept of a service, behind the others.
+fn take_claim(
+    stores: &mut Stores,
+    service: ServiceNo,
+    intercept: &Intercept,
+) -> Result<Option<Flaw>, AllocError>
+    requires kept { Keeps stores.old }
+    requires form { is_intercept intercept.now ≡ true }
+    ensures { IfOk result (λ told. Takes told (flaw_of_intercept service.0 intercept.now (state_of stores.old)) stores.new (claimed service.0 intercept.now (state_of stores.old))) }
+{
+    let last = last_claim(&stores.intercepts);
+    let flaw = claim_flaw(&stores.entities, last, service);
+    if flaw.is_some() {
+        return Ok(flaw);
+    }
+    let intercept = intercept.copy()?;
+    stores.intercepts.set(service.0, intercept)?;
+    Ok(None)
+}
+
+// Takes the serial.
+fn take_serial(stores: &mut Stores, serial: u64) -> Option<Flaw>
+    requires kept { Keeps stores.old }
+    ensures { Takes result (flaw_of_serial serial) stores.new (record (state_of stores.old) { serial = serial }) }
+{
+    let flaw = serial_flaw(serial);
+    if flaw.is_some() {
+        return flaw;
+    }
+    stores.serial = serial;
+    None
+}
+
 // Compares a count with the one that is kept.
 fn judge_count(stores: &Stores, relation: Relation, a: u32, b: u32, told: u32) -> Option<Flaw>
     requires kept { Keeps stores.now }
@@ -169,8 +215,8 @@ fn judge_row(stores: &Stores, row: &Row) -> Option<Flaw>
     }
 }
 
-/// Takes the row that comes next among some: a record joins, the setting is set, and a count is compared. A row with a flaw changes
-/// nothing.
+/// Takes the row that comes next among some: a record or an intercept joins, the setting or the serial is set, and a count is compared. A
+/// row with a flaw changes nothing.
 pub fn take_row(
     alloc: Global,
     stores: &mut Stores,
@@ -178,7 +224,7 @@ pub fn take_row(
     row: &Row,
 ) -> Result<Option<Flaw>, AllocError>
     requires kept { Keeps stores.old }
-    requires form { is_row kept_format row.now ≡ true }
+    requires form { IsSomeRow row.now }
     ensures { IfOk result (λ told. Takes told (flaw_in (next_in rows.now) row.now (state_of stores.old)) stores.new (with_row row.now (state_of stores.old))) }
 {
     match row {
@@ -209,7 +255,7 @@ pub fn take_row(
         Row::Bind { .. } => Ok(judge_row(stores, row)),
         Row::IdentityRouter { .. } => Ok(judge_row(stores, row)),
         Row::ServiceRouter { .. } => Ok(judge_row(stores, row)),
-        // The format has no such rows.
-        Row::Intercept { .. } | Row::Serial { .. } => unreachable!(),
+        Row::Intercept { service, intercept } => take_claim(stores, *service, intercept),
+        Row::Serial { serial } => Ok(take_serial(stores, *serial)),
     }
 }

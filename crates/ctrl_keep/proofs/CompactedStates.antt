@@ -1,6 +1,6 @@
 -- Compact in a folder that keeps a state: what the machine makes of it, and what keeps the state after it.
-use Rattle.std.specs.Prelude.{⊤, OnOk, OnErr, IfOk, IfErr, IsErrOf, IsTrue}
-use Rattle.std.proofs.Common.{◌≡◌, ◌⊎◌, inl, ℕ, ◌≤◌, ◌<◌, Bool, true, false, Ok, Err, refl, true≢false, sym, ap, ◌∙◌, subst}
+use Rattle.std.specs.Prelude.{⊤, OnOk, OnErr, IfOk, IfErr, IsErrOf}
+use Rattle.std.proofs.Common.{◌≡◌, ◌⊎◌, inl, ℕ, Bool, true, false, Ok, Err, refl, true≢false, sym, ap, ◌∙◌, subst}
 use Rattle.std.specs.declared.result.Result.{Result}
 use Rattle.ziti_outside.specs.Images.{Image}
 use Rattle.ziti_outside.specs.Causes.{HasCause}
@@ -22,7 +22,7 @@ use Rattle.ctrl_core.specs.KeptState.{Cored}
 use Rattle.ctrl_keep.specs.declared.faults.KeepFault.{KeepFault}
 use Rattle.ctrl_keep.specs.declared.faults.KeepFault.TheVariants.{NoMemory}
 use Rattle.ctrl_core.specs.KeptFormat.{kept_format}
-use Rattle.ctrl_keep.specs.KeptFolders.{OpensToState}
+use Rattle.row_store.specs.OpenedStates.{OpensToState}
 use Rattle.ctrl_keep.specs.KeptMachine.{Machine, is_compact, compacted_at, step}
 use Rattle.ctrl_keep.specs.KeptController.{Controlled, place_of, machine_with, machine_of, Keeps}
 use Rattle.ctrl_keep.specs.CompactionReplies.{compaction_reply}
@@ -60,7 +60,7 @@ came_of keeps done fault = record { keeps = keeps; done = done; fault = fault }
 
 -- A store that was compacted keeps the state.
 keeps_compacted : (core : Cored) (old new : Stored) → Keeps core old → new ≡ compacted_of old → Keeps core new
-keeps_compacted core old new k e = subst (Keeps core) (sym e) (record { live = k.live; valid = k.valid; has = k.has; opened = k.opened; unspent = k.unspent; format = k.format; rows = k.rows })
+keeps_compacted core old new k e = subst (Keeps core) (sym e) (record { live = k.live; valid = k.valid; opened = k.opened; unspent = k.unspent; format = k.format; rows = k.rows })
 
 -- What the machine makes of it.
 pub came_step : {D : Type 0} (core : Cored) (old new : Stored) (desk later : D) (r : Result ⊤ StoreFault) → CameTo core old new desk later r
@@ -169,7 +169,7 @@ came_cause before now (Err store_fault.NoMemory) h = record { later = h.later; o
 
 -- What opens to the rows opens to the state.
 pub opens_kept : (core : Cored) (stored : Stored) → Keeps core stored → (image : Image) → OpensTo stored.format image stored.rows → OpensToState image core.state
-opens_kept core stored k image p = opens_kept_state stored.format image core.state stored.rows k.format k.valid k.has k.rows p
+opens_kept core stored k image p = opens_kept_state stored.format image core.state stored.rows k.format k.valid k.rows p
 
 -- ---- the whole controller
 

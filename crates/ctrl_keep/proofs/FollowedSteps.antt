@@ -1,6 +1,6 @@
 -- How a folder follows its machine through a step that changes nothing, that keeps a batch, and that compacts.
-use Rattle.std.specs.Prelude.{⊤, OnOk, IfErr}
-use Rattle.std.proofs.Common.{◌≡◌, ◌⊎◌, inl, inr, ℕ, ◌+◌, ◌==◌, if◌then◌else◌, Bool, true, false, List, [], ◌∷◌, ◌++◌, length, Some, Ok, Err, refl, sym, ap, ◌∙◌, subst, arith}
+use Rattle.std.specs.Prelude.{⊤, OnOk}
+use Rattle.std.proofs.Common.{◌≡◌, ◌⊎◌, inl, inr, ℕ, ◌+◌, ◌==◌, Bool, true, false, List, [], ◌∷◌, ◌++◌, length, Ok, Err, refl, sym, ap, ◌∙◌, subst, arith}
 use Rattle.std.specs.declared.result.Result.{Result}
 use Rattle.std.proofs.lemmas.Bool.Decides.{nat_tests}
 use Rattle.ziti_outside.specs.Images.{Image}
@@ -19,7 +19,7 @@ use Rattle.ctrl_core.specs.KeptState.{Cored}
 use Rattle.ctrl_keep.specs.declared.faults.KeepFault.{KeepFault}
 use Rattle.row_store.specs.OpenedStates.{byte_rows_of}
 use Rattle.ctrl_core.specs.KeptFormat.{kept_format}
-use Rattle.ctrl_keep.specs.KeptMachine.{Place, Machine}
+use Rattle.ctrl_keep.specs.KeptMachine.{Machine}
 use Rattle.ctrl_keep.specs.KeptBatches.{end_at, mark_at, batches_next, GoesOnBehind, Follows}
 use Rattle.ctrl_keep.specs.KeptController.{Controlled, machine_with, machine_of}
 use Rattle.ctrl_keep.specs.CompactionReplies.{compaction_reply}

@@ -1,7 +1,9 @@
+pub mod SerialRows
+pub mod NarrowRows
 pub mod KeptStates
 pub mod MachineSteps
 pub mod OpenedFolders
-pub mod OneKeptStates
+pub mod TurnedLaws
 pub mod AdvancedPlans
 pub mod SubmittedCommands
 mod CompactedStates

@@ -15,7 +15,7 @@ use Rattle.ctrl_model.specs.Permitted.{is_permitted}
 use Rattle.row_store.specs.StoredRows.{Stored, ReadsAs}
 use Rattle.ctrl_core.specs.KeptState.{Cored}
 use Rattle.ctrl_keep.specs.declared.faults.KeepFault.{KeepFault}
-use Rattle.ctrl_keep.specs.KeptFolders.{OpensToState}
+use Rattle.row_store.specs.OpenedStates.{OpensToState}
 use Rattle.ctrl_keep.specs.KeptMachine.{Machine, is_compact, step}
 use Rattle.ctrl_keep.specs.KeptController.{Controlled, machine_of, Keeps}
 use Rattle.ctrl_keep.proofs.KeptStates.{still_opens}

@@ -3,11 +3,10 @@ use Rattle.std.specs.Prelude.{Bool, true, false, ◌≡◌, Some}
 use Rattle.ctrl_model.specs.State.{State}
 use Rattle.ctrl_model.specs.ValidState.{ValidState}
 use Rattle.ctrl_model.specs.declared.replies.Reply.{Reply}
-use Rattle.row_codec.specs.StateRows.{HasRows}
-use Rattle.row_codec.specs.Batches.{batch_between}
 use Rattle.ctrl_core.specs.KeptFormat.{kept_format}
 use Rattle.ctrl_core.specs.declared.plans.Planned.{Planned}
 use Rattle.ctrl_core.specs.Changes.{CanLead, led}
+use Rattle.ctrl_model.specs.Controller.{counted}
 use Rattle.ctrl_core.specs.KeptState.{Cored}
 use Rattle.row_store.specs.StoredRows.{Stored}
 use Rattle.row_store.specs.OpenedStates.{byte_rows_of}
@@ -29,34 +28,29 @@ machine_with s stored = record { state = s; place = Some (place_of stored) }
 
 -- What the machine makes of a plan in a state that a store keeps.
 abbrev pub made_of : Planned → State → Stored → Reply × Machine
-made_of p s stored = kept stored.bounds.slot p.reply s p.batch (led p s) (place_of stored)
+made_of p s stored = kept stored.bounds.slot p.reply s p.batch (counted s (led p s)) (place_of stored)
 
 -- The machine that a kept controller is.
 abbrev pub machine_of : Controlled → Machine
 machine_of k = machine_with k.state k.stored
 
--- A store keeps the state of a core: the core is live, its state is valid and has rows in the kept format, the store may be changed, and in
--- that format it has the rows of the state.
+-- A store keeps the state of a core: the core is live, its state is valid, the store may be changed, and in the kept format it has the rows
+-- of the state.
 pub record Keeps (core : Cored) (stored : Stored) : Type 0 where
   pub live : core.live ≡ true
   pub valid : ValidState core.state
-  pub has : HasRows kept_format core.state
   pub opened : stored.opened ≡ true
   pub unspent : stored.spent ≡ false
   pub format : stored.format ≡ kept_format
   pub rows : stored.rows ≡ byte_rows_of kept_format core.state
 
--- A plan was made in a state that a store keeps: it can lead from there, to a state that has rows in the kept format, and its batch is the
--- difference between the rows of the two states.
+-- A plan was made in a state that a store keeps: it can lead from there.
 pub record IsPlanned (p : Planned) (core : Cored) (stored : Stored) : Type 0 where
   pub keeps : Keeps core stored
   pub leads : CanLead p core.state
-  pub has : HasRows kept_format (led p core.state)
-  pub batch : p.batch ≡ batch_between kept_format core.state (led p core.state)
 
--- The store has, in the kept format, exactly the rows of the state, counted grants among them; the state is valid and has rows in it.
+-- The store has, in the kept format, exactly the rows of the state, counted grants among them, and the state is valid.
 pub record HoldsRows (k : Controlled) : Type 0 where
   pub format : k.stored.format ≡ kept_format
-  pub has : HasRows kept_format k.state
   pub rows : k.stored.rows ≡ byte_rows_of kept_format k.state
   pub valid : ValidState k.state

@@ -1,6 +1,6 @@
 -- The controller with a folder: a command is answered as the controller does, unless its change has no room in the journal
 -- (docs/RULES.md, "The controller with a folder"). Without a folder it is the controller alone.
-use Rattle.std.specs.Prelude.{ℕ, ◌+◌, Bool, true, false, ◌&&◌, cond, nat_lt, List, [], ◌∷◌, length, None, Some}
+use Rattle.std.specs.Prelude.{ℕ, ◌+◌, ◌==◌, Bool, true, false, ◌&&◌, ◌||◌, cond, nat_lt, List, [], ◌∷◌, length, None, Some}
 use Rattle.std.specs.declared.option.Option.{Option}
 use Rattle.ctrl_model.specs.declared.commands.Command.{Command}
 use Rattle.ctrl_model.specs.declared.commands.Command.TheVariants.{Compact}
@@ -10,7 +10,8 @@ use Rattle.ctrl_model.specs.declared.replies.Reply.{Reply}
 use Rattle.ctrl_model.specs.declared.replies.Reply.TheVariants.{Done, Refused}
 use Rattle.ctrl_model.specs.State.{State}
 use Rattle.ctrl_model.specs.Permitted.{is_permitted}
-use Rattle.ctrl_model.specs.Controller.{answer}
+use Rattle.ctrl_model.specs.Controller.{answer, counted}
+use Rattle.ctrl_model.specs.Limits.{last_serial}
 use Rattle.journal_core.specs.Slots.{slot_end}
 use Rattle.row_codec.specs.declared.changes.Op.{Op}
 use Rattle.row_codec.specs.Batches.{batch_between, batch_bytes}
@@ -37,12 +38,16 @@ slot_with batch place = place.end + 6 + length (batch_bytes batch)
 abbrev pub behind : List Op → Place → Place
 behind batch place = record place { end = place.end + 5 + length (batch_bytes batch) }
 
+-- Whether a change has no room, whose batch this is: the state has the last serial, or the slot would have more bytes than it may have.
+abbrev pub has_no_room : ℕ → State → List Op → Place → Bool
+has_no_room most s batch place = s.serial == last_serial || nat_lt most (slot_with batch place)
+
 -- What becomes of an answer whose change is a batch, in a slot that may have so many bytes: an empty batch changes nothing; one
 -- without room is refused and changes nothing; else it is kept, and the state is the next one.
 abbrev pub kept : ℕ → Reply → State → List Op → State → Place → Reply × Machine
 kept most reply s [] next place = (reply, record { state = s; place = Some place })
 kept most reply s (op ∷ ops) next place =
-    cond (nat_lt most (slot_with (op ∷ ops) place)) (Refused JournalFull, record { state = s; place = Some place })
+    cond (has_no_room most s (op ∷ ops) place) (Refused JournalFull, record { state = s; place = Some place })
     (reply, record { state = next; place = Some (behind (op ∷ ops) place) })
 
 -- Whether a command is Compact.
@@ -63,10 +68,13 @@ compacted_at bounds s place =
     (cond (nat_lt place.mark bounds.mark) (Done, record { state = s; place = Some (compacted_place s place) })
     (Refused MarkFull, record { state = s; place = Some place }))
 
--- What becomes of an answer, with a folder or without. With a folder a Compact that was not refused compacts it.
+-- What becomes of an answer, with a folder or without. With a folder the change is counted, and a Compact that was not refused compacts the
+-- folder. Nothing keeps a serial without one.
 abbrev pub answered : StoreBounds → (compacts : Bool) → Reply × State → State → Option Place → Reply × Machine
 answered bounds compacts a s None = (a.0, record { state = a.1; place = None })
-answered bounds compacts a s (Some place) = cond compacts (compacted_at bounds s place) (kept bounds.slot a.0 s (batch_between kept_format s a.1) a.1 place)
+answered bounds compacts a s (Some place) =
+    cond compacts (compacted_at bounds s place)
+    (kept bounds.slot a.0 s (batch_between kept_format s (counted s a.1)) (counted s a.1) place)
 
 -- One step: who sends which command gets which reply, and how the machine goes on.
 abbrev pub step : StoreBounds → Who → Command → Machine → Reply × Machine

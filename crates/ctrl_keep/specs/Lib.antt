@@ -1,4 +1,5 @@
-pub mod KeptFolders
+pub mod MigratedFolders
+pub mod TurnedStores
 pub mod KeptMachine
 pub mod KeptBatches
 pub mod KeptController

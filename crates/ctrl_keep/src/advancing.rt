@@ -10,14 +10,14 @@ ghost use Rattle.row_store.specs.AddedBatches.{AddsBatch};
 ghost use Rattle.slot_reading.specs.BatchRows.{MayLead, rows_after};
 ghost use Rattle.row_store.specs.OpenedRows.{OpensTo};
 ghost use Rattle.row_store.specs.StoredRows.{ReadsAs};
-ghost use Rattle.ctrl_keep.specs.KeptFolders.{OpensToState};
+ghost use Rattle.row_store.specs.OpenedStates.{OpensToState};
 ghost use Rattle.ctrl_keep.specs.KeptBatches.{Follows};
 ghost use Rattle.ctrl_keep.specs.KeptController.{machine_with, made_of, Keeps, IsPlanned};
 ghost use Rattle.ctrl_keep.specs.Faults.{disk_failure, KeptOrFull, KeepFails, AdvanceFails};
 
 use crate::faults::KeepFault;
 use ctrl_core::{Core, Planned};
-use ctrl_model::{Refusal, Reply};
+use ctrl_model::{LAST_SERIAL, Refusal, Reply};
 use row_codec::Batch;
 use row_store::{Store, StoreFault};
 use ziti_outside::Desk;
@@ -56,8 +56,8 @@ fn keep<D: Desk>(store: &mut Store, desk: &mut D, batch: &Batch) -> Result<bool,
     }
 }
 
-// Keeps the batch of a plan, and then carries the plan out. A plan that changes no row is answered at once, and one without room for its
-// batch is refused.
+// Keeps the batch of a plan, and then carries the plan out. A plan that changes no row is answered at once. One that does is refused at the
+// last serial, or where its batch has no room.
 pub(crate) fn advance<D: Desk>(
     core: &mut Core,
     store: &mut Store,
@@ -89,6 +89,10 @@ pub(crate) fn advance<D: Desk>(
 {
     if planned.batch.as_slice().is_empty() {
         return Ok(planned.reply);
+    }
+    if core.serial() == LAST_SERIAL {
+        drop(planned);
+        return Ok(Reply::Refused(Refusal::JournalFull));
     }
     let kept = keep(store, desk, &planned.batch);
     *spent = store.is_spent();

@@ -6,7 +6,7 @@ ghost use Rattle.journal_core.specs.Room.{HoldsRoom};
 ghost use Rattle.row_store.specs.StoredRows.{ReadsAs};
 ghost use Rattle.row_store.specs.RewrittenStores.{IsRewritten};
 ghost use Rattle.ctrl_core.specs.KeptFormat.{kept_format};
-ghost use Rattle.ctrl_keep.specs.KeptFolders.{OpensToState};
+ghost use Rattle.row_store.specs.OpenedStates.{OpensToState};
 ghost use Rattle.ctrl_keep.specs.KeptMachine.{is_compact, compacted_at};
 ghost use Rattle.ctrl_keep.specs.KeptBatches.{Follows};
 ghost use Rattle.ctrl_keep.specs.KeptController.{place_of, machine_with, Keeps};

@@ -1,5 +1,5 @@
 //! The controller with its state in a folder: a command's change is kept there before its reply is given, so that a stop at any
-//! moment leaves the state before it or after it.
+//! moment leaves the state before it or after it. A folder of the first format is migrated when it is opened.
 #![tactic(auto)]
 
 mod advancing;
@@ -12,4 +12,4 @@ mod worked;
 pub use faults::KeepFault;
 pub use keeper::Kept;
 pub use loading::{peek, peek_rows};
-pub use worked::{worked_batches, worked_compactions, worked_machine};
+pub use worked::{worked_batches, worked_compactions, worked_machine, worked_migrations};

@@ -12,7 +12,7 @@ use Rattle.channel_frame.specs.FrameSpelling.{spelling}
 use Rattle.ctrl_model.specs.declared.kinds.Who.{Who}
 use Rattle.ctrl_model.specs.declared.replies.Reply.{Reply}
 use Rattle.row_store.specs.declared.bounds.StoreBounds.{StoreBounds}
-use Rattle.ctrl_keep.specs.KeptFolders.{OpensToState}
+use Rattle.row_store.specs.OpenedStates.{OpensToState}
 use Rattle.ctrl_keep.specs.KeptMachine.{Machine}
 use Rattle.reply_codec.specs.ReplyFrame.{reply_frame}
 use Rattle.session_mux.specs.declared.events.Event.{Event}

@@ -19,7 +19,7 @@ use Rattle.ctrl_model.specs.Permitted.{is_permitted}
 use Rattle.row_codec.specs.declared.changes.Op.{Op}
 use Rattle.row_codec.specs.Batches.{batch_between}
 use Rattle.row_store.specs.declared.bounds.StoreBounds.{StoreBounds}
-use Rattle.ctrl_keep.specs.KeptMachine.{Place, Machine, slot_with, behind, kept, is_compact, compacted_place, compacted_at, answered, step}
+use Rattle.ctrl_keep.specs.KeptMachine.{Place, Machine, has_no_room, behind, kept, is_compact, compacted_place, compacted_at, answered, step}
 use Rattle.row_store.specs.OpenedStates.{byte_rows_of}
 use Rattle.row_store.specs.RewrittenStores.{compacted_size}
 use Rattle.ctrl_model.specs.State.{State, Entity, as_entity, entity_named, link_named}
@@ -35,7 +35,7 @@ use Rattle.ctrl_model.specs.ShowCommands.{tally_of, router_entities, grants_of, 
 use Rattle.ctrl_model.specs.ValidState.{ValidState}
 use Rattle.ctrl_model.specs.CircuitCommands.{ask_of, shown_circuit, no_such_circuit}
 use Rattle.ctrl_model.specs.Numbered.{at}
-use Rattle.ctrl_model.specs.Controller.{policy, carry, answer}
+use Rattle.ctrl_model.specs.Controller.{policy, carry, answer, counted}
 use Rattle.ctrl_model.specs.InterceptCommands.{no_such_service, after_set_intercept, after_clear_intercept, picked_for, picked_reply, clashes_reply}
 use Rattle.ctrl_serve.proofs.InterceptFits.{pick_fits, clashes_fit}
 use Rattle.ctrl_serve.proofs.RouteFits.{create_fits, explain_fits, shown_fit}
@@ -155,7 +155,7 @@ carried_fits (command.ListClashes identity service) s valid =
 -- So does the answer that is kept in a journal, also where it has no room there.
 kept_fits : (most : ℕ) (reply : Reply) (s : State) (batch : List Op) (next : State) (place : Place) → keeps_limits reply ≡ true → keeps_limits (kept most reply s batch next place).0 ≡ true
 kept_fits most reply s [] next place fits = fits
-kept_fits most reply s (op ∷ ops) next place fits = by (nat_lt most (slot_with (op ∷ ops) place))
+kept_fits most reply s (op ∷ ops) next place fits = by (has_no_room most s (op ∷ ops) place)
   where
     by : (full : Bool) → keeps_limits (cond {A = Reply × Machine} full (Refused JournalFull, record { state = s; place = Some place }) (reply, record { state = next; place = Some (behind (op ∷ ops) place) })).0 ≡ true
     by true = refl
@@ -174,7 +174,7 @@ compacted_fits bounds s place = by (nat_lt bounds.slot (compacted_size (byte_row
 answered_fits : (bounds : StoreBounds) (compacts : Bool) (a : Reply × State) (s : State) (place : Option Place) → keeps_limits a.0 ≡ true → keeps_limits (answered bounds compacts a s place).0 ≡ true
 answered_fits bounds compacts a s None fits = fits
 answered_fits bounds true a s (Some place) fits = compacted_fits bounds s place
-answered_fits bounds false a s (Some place) fits = kept_fits bounds.slot a.0 s (batch_between kept_format s a.1) a.1 place fits
+answered_fits bounds false a s (Some place) fits = kept_fits bounds.slot a.0 s (batch_between kept_format s (counted s a.1)) (counted s a.1) place fits
 
 -- Nor does it matter who sends a command.
 sent_fits : (may : Bool) (a : Reply × State) (s : State) → keeps_limits a.0 ≡ true → keeps_limits (cond {A = Reply × State} may a (Refused NotPermitted, s)).0 ≡ true

@@ -1,6 +1,6 @@
 -- What the runs on a folder that opens to a state come to where no call failed but a note.
 use Rattle.std.specs.Prelude.{IsTrue}
-use Rattle.std.proofs.Common.{◌≡◌, ◌⊎◌, inl, inr, ℕ, List, [], ◌∷◌, codes, Bool, Some, refl, subst}
+use Rattle.std.proofs.Common.{◌≡◌, ◌⊎◌, inl, inr, ℕ, List, [], ◌∷◌, codes, Bool, None, Some, refl, subst}
 use Rattle.std.specs.declared.option.Option.{Option}
 use Rattle.ziti_outside.specs.Images.{Image}
 use Rattle.ziti_outside.specs.Views.{Outside, Seen, Stopped}
@@ -8,7 +8,7 @@ use Rattle.ctrl_model.specs.State.{State}
 use Rattle.policy_advisor.specs.Reports.{report_of}
 use Rattle.row_store.specs.declared.bounds.StoreBounds.{StoreBounds}
 use Rattle.ctrl_keep.specs.KeptMachine.{Machine}
-use Rattle.ctrl_keep.specs.KeptFolders.{OpensToState}
+use Rattle.row_store.specs.OpenedStates.{OpensToState}
 use Rattle.session_mux.specs.declared.sessions.Form.{Form}
 use Rattle.run_notes.specs.declared.status.Status.{Status}
 use Rattle.run_notes.specs.declared.status.Status.TheVariants.{Done, Usage, BadInput, Truncated, ReadFault, WriteFault, DiskFault, Damaged, NoMemory, InputTooLong, FolderFull}
@@ -18,50 +18,71 @@ use Rattle.ctrl_serve.specs.Loads.{counts_line, IsSaid}
 use Rattle.ctrl_serve.specs.FolderWords.{Compacts, EndsCompaction, Looks}
 use Rattle.ctrl_serve.specs.Headline.{folder_bounds, taking_of, Taking, StaysClosed, IsUnopened, IsComplete, Refuses, Replays, Runs}
 use Rattle.ctrl_serve.specs.OpenedFolders.{OpensTo}
-use Rattle.ctrl_serve.specs.CompleteRuns.{IsCalm, CompletesFrom, ComesOut, ComesOutFrom}
+use Rattle.ctrl_serve.specs.CompleteRuns.{IsCalm, IsFull, CompletesFrom, ComesOut, ComesOutFrom}
 use Rattle.ctrl_serve.proofs.OpenedMachines.{one_machine_state}
-use Rattle.ctrl_keep.proofs.OneKeptStates.{one_kept_state, opens_undamaged}
+use Rattle.row_store.proofs.OneStates.{one_state, stateless_opens}
+use Rattle.ctrl_serve.specs.MigratedRuns.{HasRoomToOpen}
 use Rattle.ctrl_serve.proofs.RunLaws.{serves_completely, line_said}
 
 -- ---- a folder that was not opened
 
--- Where it opens to a state and no call on the disk failed, memory was wanting.
-starved : (tells : Bool) (before now : Seen) (status : Status) (s : State) → StaysClosed tells before now status → IsTrue tells → OpensToState before.reads s
+-- Where it opens to a state and no call on the disk failed, memory was wanting, or it has no room to be migrated.
+starved : (bounds : StoreBounds) (tells : Bool) (before now : Seen) (status : Status) (s : State) → StaysClosed (Some bounds) tells before now status → IsTrue tells → OpensToState before.reads s
+    → (status ≡ DiskFault → ⊥) → (status ≡ NoMemory) ⊎ IsFull bounds before.reads status
+starved bounds tells before now Done s why told opens disk = absurd why
+starved bounds tells before now Usage s why told opens disk = absurd why
+starved bounds tells before now BadInput s why told opens disk = absurd why
+starved bounds tells before now Truncated s why told opens disk = absurd why
+starved bounds tells before now ReadFault s why told opens disk = absurd why
+starved bounds tells before now WriteFault s why told opens disk = absurd why
+starved bounds tells before now DiskFault s why told opens disk = absurd (disk refl)
+starved bounds tells before now Damaged s why told opens disk = absurd (stateless_opens before.reads why.0 why.1 s (why.2 told) opens)
+starved bounds tells before now NoMemory s why told opens disk = inl refl
+starved bounds tells before now InputTooLong s why told opens disk = absurd why
+starved bounds tells before now FolderFull s why told opens disk = inr (refl, why.0, why.1 told)
+
+-- Where it was read alone, memory was wanting.
+starved_looking : (tells : Bool) (before now : Seen) (status : Status) (s : State) → StaysClosed None tells before now status → IsTrue tells → OpensToState before.reads s
     → (status ≡ DiskFault → ⊥) → status ≡ NoMemory
-starved tells before now Done s why told opens disk = absurd why
-starved tells before now Usage s why told opens disk = absurd why
-starved tells before now BadInput s why told opens disk = absurd why
-starved tells before now Truncated s why told opens disk = absurd why
-starved tells before now ReadFault s why told opens disk = absurd why
-starved tells before now WriteFault s why told opens disk = absurd why
-starved tells before now DiskFault s why told opens disk = absurd (disk refl)
-starved tells before now Damaged s why told opens disk = absurd (opens_undamaged before.reads s why.0 why.1 opens (why.2 told))
-starved tells before now NoMemory s why told opens disk = refl
-starved tells before now InputTooLong s why told opens disk = absurd why
-starved tells before now FolderFull s why told opens disk = absurd why
+starved_looking tells before now Done s why told opens disk = absurd why
+starved_looking tells before now Usage s why told opens disk = absurd why
+starved_looking tells before now BadInput s why told opens disk = absurd why
+starved_looking tells before now Truncated s why told opens disk = absurd why
+starved_looking tells before now ReadFault s why told opens disk = absurd why
+starved_looking tells before now WriteFault s why told opens disk = absurd why
+starved_looking tells before now DiskFault s why told opens disk = absurd (disk refl)
+starved_looking tells before now Damaged s why told opens disk = absurd (stateless_opens before.reads why.0 why.1 s (why.2 told) opens)
+starved_looking tells before now NoMemory s why told opens disk = refl
+starved_looking tells before now InputTooLong s why told opens disk = absurd why
+starved_looking tells before now FolderFull s why told opens disk = absurd why.1
+
+-- What it came to otherwise is what may come of it.
+or_else : {A B C : Type 0} → A ⊎ B → A ⊎ B ⊎ C
+or_else (inl a) = inl a
+or_else (inr b) = inr (inl b)
 
 -- ---- replay
 
-from_machine : (s : State) (taking : Taking) (bounds : StoreBounds) (m : Machine) (a b : Option (List ℕ)) (c d : Seen) (status : Status) → OpensTo c.reads m → m.state ≡ s
-    → IsComplete taking bounds m a b c d status → (status ≡ NoMemory) ⊎ CompletesFrom s taking bounds a b c d status
-from_machine s taking bounds m a b c d status to same (inl wanting) = inl wanting
-from_machine s taking bounds m a b c d status to same (inr complete) = inr (m, to, same, complete)
+from_machine : (s : State) (taking : Taking) (bounds : StoreBounds) (m : Machine) (a b : Option (List ℕ)) (c d : Seen) (status : Status) → OpensTo c.reads m → m.state ≡ s → HasRoomToOpen bounds c.reads
+    → IsComplete taking bounds m a b c d status → (status ≡ NoMemory) ⊎ IsFull bounds c.reads status ⊎ CompletesFrom s taking bounds a b c d status
+from_machine s taking bounds m a b c d status to same roomy (inl wanting) = inl wanting
+from_machine s taking bounds m a b c d status to same roomy (inr complete) = inr (inr (m, to, same, roomy, complete))
 
 replayed : {S D : Type 0} (o : Outside S D) (bounds : StoreBounds) (most : ℕ) (form : Form) (source source_now : S) (desk desk_now : D) (status : Status) (s : State)
-    → Refuses o.tells o.seen o.stopped source source_now desk desk_now status ⊎ Replays (taking_of form most) bounds o source source_now desk desk_now status
+    → Refuses bounds o.tells o.seen o.stopped source source_now desk desk_now status ⊎ Replays (taking_of form most) bounds o source source_now desk desk_now status
     → IsTrue o.tells → OpensToState (o.seen desk).reads s → (status ≡ ReadFault → ⊥) → (status ≡ WriteFault → ⊥) → (status ≡ DiskFault → ⊥)
-    → (status ≡ NoMemory) ⊎ CompletesFrom s (taking_of form most) bounds (o.left source) (o.left source_now) (o.seen desk) (o.seen desk_now) status
+    → (status ≡ NoMemory) ⊎ IsFull bounds (o.seen desk).reads status ⊎ CompletesFrom s (taking_of form most) bounds (o.left source) (o.left source_now) (o.seen desk) (o.seen desk_now) status
 replayed o bounds most form source source_now desk desk_now status s (inl closed) told opens read write disk =
-    inl (starved o.tells (o.seen desk) (o.seen desk_now) status s closed.unopened.why told opens disk)
+    or_else (starved bounds o.tells (o.seen desk) (o.seen desk_now) status s closed.unopened.why told opens disk)
 replayed o bounds most form source source_now desk desk_now status s (inr on) told opens read write disk =
     from_machine s (taking_of form most) bounds on.machine (o.left source) (o.left source_now) (o.seen desk) (o.seen desk_now) status (on.opens told) (one_machine_state (o.seen desk).reads s on.machine opens (on.opens told))
-    (serves_completely status on.serves read write disk)
+    (on.migrates told) (serves_completely status on.serves read write disk)
 
 pub replay_is_complete : {S D : Type 0} (o : Outside S D) (bounds : Bounds) (words : List (List ℕ)) (form : Form) (source source_now : S) (desk desk_now : D) (status : Status) (s : State)
     → Runs o bounds words (Some (Replay form)) source source_now desk desk_now status
     → IsTrue o.tells → OpensToState (o.seen desk).reads s → IsCalm (o.faults source) (o.faults source_now) → IsCalm (o.seen desk).say_faults (o.seen desk_now).say_faults
     → IsCalm (o.seen desk).disk_faults (o.seen desk_now).disk_faults
-    → (status ≡ NoMemory) ⊎ CompletesFrom s (taking_of form bounds.input) (folder_bounds bounds) (o.left source) (o.left source_now) (o.seen desk) (o.seen desk_now) status
+    → (status ≡ NoMemory) ⊎ IsFull (folder_bounds bounds) (o.seen desk).reads status ⊎ CompletesFrom s (taking_of form bounds.input) (folder_bounds bounds) (o.left source) (o.left source_now) (o.seen desk) (o.seen desk_now) status
 replay_is_complete o bounds words form source source_now desk desk_now status s runs told opens takes says disk =
     replayed o (folder_bounds bounds) bounds.input form source source_now desk desk_now status s (runs.replay form refl) told opens
     (λ r. takes (runs.read_fault r)) (λ w. says (runs.write_fault w)) (λ d. disk (runs.disk_fault d))
@@ -69,12 +90,12 @@ replay_is_complete o bounds words form source source_now desk desk_now status s 
 -- ---- audit and advise
 
 looked : {D : Type 0} {seen : D → Seen} {stopped : D → Stopped}
-    (line : State → List ℕ) (tells : Bool) (desk desk_now : D) (status : Status) (s : State) → IsUnopened tells seen stopped desk desk_now status
+    (line : State → List ℕ) (tells : Bool) (desk desk_now : D) (status : Status) (s : State) → IsUnopened None tells seen stopped desk desk_now status
     ⊎ Looks line tells (seen desk) (seen desk_now) status
     → IsTrue tells → OpensToState (seen desk).reads s → (status ≡ WriteFault → ⊥) → (status ≡ DiskFault → ⊥) → IsSaid (line s) (seen desk).said (seen desk_now).said status
-looked {seen = seen} line tells desk desk_now status s (inl closed) told opens write disk = inl (starved tells (seen desk) (seen desk_now) status s closed.why told opens disk)
+looked {seen = seen} line tells desk desk_now status s (inl closed) told opens write disk = inl (starved_looking tells (seen desk) (seen desk_now) status s closed.why told opens disk)
 looked {seen = seen} line tells desk desk_now status s (inr on) told opens write disk =
-    subst (λ (t : State). IsSaid (line t) (seen desk).said (seen desk_now).said status) (one_kept_state (seen desk).reads on.state s (on.opens told) opens) (line_said status _ _ _ on.says write)
+    subst (λ (t : State). IsSaid (line t) (seen desk).said (seen desk_now).said status) (one_state (seen desk).reads on.state s (on.opens told) opens) (line_said status _ _ _ on.says write)
 
 pub audit_is_complete : {S D : Type 0} (o : Outside S D) (bounds : Bounds) (words : List (List ℕ)) (source source_now : S) (desk desk_now : D) (status : Status) (s : State)
     → Runs o bounds words (Some Audit) source source_now desk desk_now status
@@ -109,21 +130,22 @@ comes_out NoMemory bounds m tells before now ends disk = inl refl
 comes_out InputTooLong bounds m tells before now ends disk = absurd ends
 comes_out FolderFull bounds m tells before now ends disk = inr (inr (refl, ends.full, ends.refused))
 
-out_from : (s : State) (reads : Image) (bounds : StoreBounds) (m : Machine) (status : Status) → OpensTo reads m → m.state ≡ s → (status ≡ NoMemory) ⊎ ComesOut bounds m status
-    → (status ≡ NoMemory) ⊎ ComesOutFrom s reads bounds status
-out_from s reads bounds m status to same (inl wanting) = inl wanting
-out_from s reads bounds m status to same (inr out) = inr (m, to, same, out)
+out_from : (s : State) (reads : Image) (bounds : StoreBounds) (m : Machine) (status : Status) → OpensTo reads m → m.state ≡ s → HasRoomToOpen bounds reads → (status ≡ NoMemory) ⊎ ComesOut bounds m status
+    → (status ≡ NoMemory) ⊎ IsFull bounds reads status ⊎ ComesOutFrom s reads bounds status
+out_from s reads bounds m status to same roomy (inl wanting) = inl wanting
+out_from s reads bounds m status to same roomy (inr out) = inr (inr (m, to, same, roomy, out))
 
 compacts_from : {D : Type 0} {seen : D → Seen} {stopped : D → Stopped}
-    (tells : Bool) (bounds : StoreBounds) (desk desk_now : D) (status : Status) (s : State) → IsUnopened tells seen stopped desk desk_now status
+    (tells : Bool) (bounds : StoreBounds) (desk desk_now : D) (status : Status) (s : State) → IsUnopened (Some bounds) tells seen stopped desk desk_now status
     ⊎ Compacts bounds tells (seen desk) (seen desk_now) (stopped desk) (stopped desk_now) status
-    → IsTrue tells → OpensToState (seen desk).reads s → (status ≡ DiskFault → ⊥) → (status ≡ NoMemory) ⊎ ComesOutFrom s (seen desk).reads bounds status
-compacts_from {seen = seen} tells bounds desk desk_now status s (inl closed) told opens disk = inl (starved tells (seen desk) (seen desk_now) status s closed.why told opens disk)
+    → IsTrue tells → OpensToState (seen desk).reads s → (status ≡ DiskFault → ⊥)
+    → (status ≡ NoMemory) ⊎ IsFull bounds (seen desk).reads status ⊎ ComesOutFrom s (seen desk).reads bounds status
+compacts_from {seen = seen} tells bounds desk desk_now status s (inl closed) told opens disk = or_else (starved bounds tells (seen desk) (seen desk_now) status s closed.why told opens disk)
 compacts_from {seen = seen} tells bounds desk desk_now status s (inr on) told opens disk =
-    out_from s (seen desk).reads bounds on.machine status (on.opens told) (one_machine_state (seen desk).reads s on.machine opens (on.opens told)) (comes_out status bounds on.machine tells _ _ on.ends disk)
+    out_from s (seen desk).reads bounds on.machine status (on.opens told) (one_machine_state (seen desk).reads s on.machine opens (on.opens told)) (on.migrates told) (comes_out status bounds on.machine tells _ _ on.ends disk)
 
 pub compact_is_complete : {S D : Type 0} (o : Outside S D) (bounds : Bounds) (words : List (List ℕ)) (source source_now : S) (desk desk_now : D) (status : Status) (s : State)
     → Runs o bounds words (Some Compact) source source_now desk desk_now status
-    → IsTrue o.tells → OpensToState (o.seen desk).reads s → IsCalm (o.seen desk).disk_faults (o.seen desk_now).disk_faults → (status ≡ NoMemory) ⊎ ComesOutFrom s (o.seen desk).reads (folder_bounds bounds) status
+    → IsTrue o.tells → OpensToState (o.seen desk).reads s → IsCalm (o.seen desk).disk_faults (o.seen desk_now).disk_faults → (status ≡ NoMemory) ⊎ IsFull (folder_bounds bounds) (o.seen desk).reads status ⊎ ComesOutFrom s (o.seen desk).reads (folder_bounds bounds) status
 compact_is_complete o bounds words source source_now desk desk_now status s runs told opens disk =
     compacts_from {seen = o.seen} {stopped = o.stopped} o.tells (folder_bounds bounds) desk desk_now status s (runs.compact refl) told opens (λ d. disk (runs.disk_fault d))

@@ -10,7 +10,7 @@ use Rattle.ctrl_model.specs.declared.replies.Reply.{Reply}
 use Rattle.row_store.specs.StoredRows.{Stored, ReadsAs}
 use Rattle.ctrl_keep.specs.KeptController.{Controlled, machine_of}
 use Rattle.ctrl_keep.specs.KeptMachine.{Machine, step}
-use Rattle.ctrl_keep.specs.KeptFolders.{OpensToState}
+use Rattle.row_store.specs.OpenedStates.{OpensToState}
 use Rattle.reply_codec.specs.ReplyLimits.{keeps_limits}
 use Rattle.ctrl_serve.specs.declared.controller.Controller.{Controller}
 use Rattle.ctrl_serve.specs.declared.controller.Controller.TheVariants.{Kept}

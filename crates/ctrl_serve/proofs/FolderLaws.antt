@@ -13,8 +13,6 @@ use Rattle.ziti_outside.specs.declared.desk.Part.TheVariants.{Mark}
 use Rattle.ziti_outside.proofs.MomentLaws.{Elapses-then, Elapses-weaker, Leaves-weaker}
 use Rattle.ziti_outside.specs.Views.{Seen, Stopped}
 use Rattle.slot_files.specs.FolderImage.{Stands, StandsAsBefore, slot_of}
-use Rattle.slot_files.specs.OpenedSlots.{Opens}
-use Rattle.slot_files.proofs.StandLaws.{stands_same}
 use Rattle.ctrl_model.specs.declared.commands.Command.TheVariants.{Compact}
 use Rattle.ctrl_model.specs.declared.refusals.Refusal.TheVariants.{JournalFull, MarkFull}
 use Rattle.ctrl_model.specs.declared.replies.Reply.{Reply}
@@ -26,13 +24,14 @@ use Rattle.slot_reading.specs.BatchRows.{ByteRows}
 use Rattle.row_store.specs.RewrittenStores.{compacted, compacted_size, IsRewritten}
 use Rattle.row_store.specs.StoredRows.{ReadsAs}
 use Rattle.ctrl_keep.specs.declared.faults.KeepFault.{KeepFault}
-use Rattle.ctrl_keep.specs.declared.faults.KeepFault.TheVariants.{Disk, Damaged, Spent, NoMemory}
-use Rattle.row_store.specs.OpenedStates.{byte_rows_of}
-use Rattle.ctrl_keep.specs.KeptFolders.{OpensToState}
+use Rattle.ctrl_keep.specs.declared.faults.KeepFault.TheVariants as keep
+use Rattle.row_store.specs.OpenedStates.{byte_rows_of, OpensToState}
 use Rattle.ctrl_keep.specs.KeptMachine.{Machine, compacted_place, is_compact}
 use Rattle.ctrl_keep.specs.KeptBatches.{mark_at}
 use Rattle.ctrl_keep.specs.KeptController.{Controlled, HoldsRows, machine_of, place_of}
-use Rattle.ctrl_keep.specs.Faults.{disk_failure, OpenFails, SubmitFails}
+use Rattle.ctrl_keep.specs.MigratedFolders.{Migrates, MigratesBy}
+use Rattle.row_store.proofs.OneStates.{one_state, still_opens}
+use Rattle.ctrl_keep.specs.Faults.{disk_failure, PeekFails, SubmitFails}
 use Rattle.run_notes.specs.declared.ends.Full.{Full}
 use Rattle.run_notes.specs.declared.ends.Full.TheVariants as full
 use Rattle.run_notes.specs.declared.status.Status.{Status}
@@ -47,9 +46,9 @@ use Rattle.ctrl_serve.specs.OpenedFolders.{Keeps}
 use Rattle.ctrl_serve.specs.RunStops.{AllOpenTo}
 use Rattle.ctrl_serve.specs.Runs.{IsDiskCaused}
 use Rattle.ctrl_serve.proofs.IntakeLaws.{disk_calm, disk_fault}
-use Rattle.ctrl_serve.proofs.OpenedMachines.{kept_keeps, opens_by}
+use Rattle.ctrl_serve.proofs.OpenedMachines.{kept_keeps, opens_by, opens_first, roomy_by, Made}
 use Rattle.ctrl_serve.proofs.FollowedRuns.{kept_by, opened_by}
-use Rattle.ctrl_serve.proofs.ClosedFolders.{unopened}
+use Rattle.ctrl_serve.proofs.ClosedFolders.{peeks_none, unopened}
 use Rattle.ctrl_core.specs.KeptFormat.{kept_format}
 
 -- ---- notes behind the calls on a folder
@@ -65,24 +64,13 @@ notes_leave calls notes more = record {
 
 -- ---- a look at a folder
 
--- What was read alone stands for what it stood for.
-read_stands : {D : Type 0} {seen : D → Seen} {stopped : D → Stopped} {old new : D}
-    → Leaves seen stopped old new (stopped old).images → Leaves seen stopped old new (After (StandsAsBefore kept_format) (stopped old).images)
-read_stands {stopped = stopped} {old = old} call = Leaves-weaker (After (StandsAsBefore kept_format) (stopped old).images) call (λ i p. stands_same kept_format i p)
-
--- And no reply byte was taken.
-read_quietly : {D : Type 0} {seen : D → Seen} {stopped : D → Stopped} {old new : D}
-    → Leaves seen stopped old new (stopped old).images → Leaves seen stopped old new (λ image. ⊤)
-read_quietly call = Leaves-weaker (λ image. ⊤) call (λ i p. tt)
-
 -- A folder that was looked at and opens to no state was not opened.
 pub unaudited : {D : Type 0} {seen : D → Seen} {stopped : D → Stopped}
     (tells : Bool) (fault : KeepFault) (desk mid now : D) (status : Status) → OnlyReads seen stopped desk mid
-    → OnlyNotes seen stopped mid now → FindsNoMore stopped mid now → OpenFails tells (seen desk).reads fault
+    → OnlyNotes seen stopped mid now → FindsNoMore stopped mid now → PeekFails tells (seen desk).reads fault
     → TellsClosed fault status (seen mid) (seen now)
-    → IsUnopened tells seen stopped desk now status
-unaudited tells fault desk mid now status looks notes more fails told =
-    unopened tells fault desk mid now status looks.others notes more fails (λ yes some. looks.parts) (λ yes some. looks.stops) (read_quietly looks.stops) (λ yes. read_stands looks.stops) told
+    → IsUnopened None tells seen stopped desk now status
+unaudited tells fault desk mid now status looks notes more fails told = unopened None tells fault desk mid now status (peeks_none tells fault desk mid looks fails) notes more told
 
 -- It was left alone.
 pub looked_alone : {D : Type 0} {seen : D → Seen} {stopped : D → Stopped} {desk mid : D}
@@ -226,11 +214,13 @@ ends_submitted {seen = seen} tells k next desk mid (Ok reply) c d status s same 
       | inl done ↦ done_ends tells k next desk mid reply c d status s same told done
       | inr refused ↦ refused_ends tells k next desk mid reply c d status s same told refused
     ]
-ends_submitted tells k next desk mid (Err Disk) c d status s same told =
+ends_submitted tells k next desk mid (Err keep.Disk) c d status s same told =
     subst (λ (u : Status). EndsCompaction u k.stored.bounds (machine_of k) tells c d) (sym told.0) (s.fits s.fresh refl, told.1)
-ends_submitted tells k next desk mid (Err (Damaged part at)) c d status s same told = absurd s.fault
-ends_submitted tells k next desk mid (Err Spent) c d status s same told = absurd (true≢false (sym s.fault.0 ∙ s.fresh))
-ends_submitted tells k next desk mid (Err NoMemory) c d status s same told =
+ends_submitted tells k next desk mid (Err keep.Full) c d status s same told = absurd s.fault
+ends_submitted tells k next desk mid (Err keep.MarkFull) c d status s same told = absurd s.fault
+ends_submitted tells k next desk mid (Err (keep.Damaged part at)) c d status s same told = absurd s.fault
+ends_submitted tells k next desk mid (Err keep.Spent) c d status s same told = absurd (true≢false (sym s.fault.0 ∙ s.fresh))
+ends_submitted tells k next desk mid (Err keep.NoMemory) c d status s same told =
     subst (λ (u : Status). EndsCompaction u k.stored.bounds (machine_of k) tells c d) (sym told.0) (s.fits s.fresh refl, told.1)
 
 -- Where it has no room nothing was done.
@@ -245,10 +235,12 @@ full_still tells k next desk mid (Ok reply) c d status s still told is =
           absurd cc
       | inr refused ↦ still (ap (λ (a : Reply × Machine). a.1) s.step ∙ refused.same)
     ]
-full_still tells k next desk mid (Err Disk) c d status s still told is = let was = told.0 in absurd cc
-full_still tells k next desk mid (Err (Damaged part at)) c d status s still told is = absurd s.fault
-full_still tells k next desk mid (Err Spent) c d status s still told is = absurd (true≢false (sym s.fault.0 ∙ s.fresh))
-full_still tells k next desk mid (Err NoMemory) c d status s still told is = let was = told.0 in absurd cc
+full_still tells k next desk mid (Err keep.Disk) c d status s still told is = let was = told.0 in absurd cc
+full_still tells k next desk mid (Err keep.Full) c d status s still told is = absurd s.fault
+full_still tells k next desk mid (Err keep.MarkFull) c d status s still told is = absurd s.fault
+full_still tells k next desk mid (Err (keep.Damaged part at)) c d status s still told is = absurd s.fault
+full_still tells k next desk mid (Err keep.Spent) c d status s still told is = absurd (true≢false (sym s.fault.0 ∙ s.fresh))
+full_still tells k next desk mid (Err keep.NoMemory) c d status s still told is = let was = told.0 in absurd cc
 
 pub full_reads : {D : Type 0} {seen : D → Seen} {stopped : D → Stopped} (tells : Bool) (k next : Controlled) (desk mid : D) (now : Image) (r : Result Reply KeepFault) (c d : Seen) (status : Status)
     → Submitted tells seen stopped k next desk mid r → OnOk r (machine_of next ≡ machine_of k → mid ≡ desk) → now ≡ (seen mid).reads → TellsCompaction r status c d → status ≡ ending.FolderFull → now ≡ (seen desk).reads
@@ -271,11 +263,13 @@ room_calm (Some f) status c d told e = let is = told.0 in cc
 pub compaction_disk : (before mid now : ℕ) (r : Result Reply KeepFault) (status : Status) (c d : Seen) → HasCause before mid (disk_failure r) → now ≡ mid → TellsCompaction r status c d
     → IsDiskCaused before now status
 compaction_disk before mid now (Ok reply) status c d cause still told = disk_calm before now status (still ∙ cause.calm) (room_calm (full_in reply) status c d told)
-compaction_disk before mid now (Err Disk) status c d cause still told =
-    subst (λ (u : Status). IsDiskCaused before now u) (sym told.0) (disk_fault before mid now Disk (disk_failure {T = Reply} (Err Disk)) refl cause still)
-compaction_disk before mid now (Err (Damaged part at)) status c d cause still told = disk_calm before now status (still ∙ cause.calm) (λ e. let is = told.0 in cc)
-compaction_disk before mid now (Err Spent) status c d cause still told = disk_calm before now status (still ∙ cause.calm) (λ e. let is = told.0 in cc)
-compaction_disk before mid now (Err NoMemory) status c d cause still told = disk_calm before now status (still ∙ cause.calm) (λ e. let is = told.0 in cc)
+compaction_disk before mid now (Err keep.Disk) status c d cause still told =
+    subst (λ (u : Status). IsDiskCaused before now u) (sym told.0) (disk_fault before mid now keep.Disk (disk_failure {T = Reply} (Err keep.Disk)) refl cause still)
+compaction_disk before mid now (Err keep.Full) status c d cause still told = disk_calm before now status (still ∙ cause.calm) (λ e. let is = told.0 in cc)
+compaction_disk before mid now (Err keep.MarkFull) status c d cause still told = disk_calm before now status (still ∙ cause.calm) (λ e. let is = told.0 in cc)
+compaction_disk before mid now (Err (keep.Damaged part at)) status c d cause still told = disk_calm before now status (still ∙ cause.calm) (λ e. let is = told.0 in cc)
+compaction_disk before mid now (Err keep.Spent) status c d cause still told = disk_calm before now status (still ∙ cause.calm) (λ e. let is = told.0 in cc)
+compaction_disk before mid now (Err keep.NoMemory) status c d cause still told = disk_calm before now status (still ∙ cause.calm) (λ e. let is = told.0 in cc)
 
 -- Every image that a stop leaves opens to the state that stood.
 pub compaction_stops : {D : Type 0} {seen : D → Seen} {stopped : D → Stopped} {old new : D} (k : Controlled)
@@ -289,18 +283,22 @@ compaction_stops k calls = Leaves-weaker (λ image. OpensToState image k.state) 
 
 -- ---- the compaction of a folder
 
--- An image that stands for what one of these stood for opens to the state to which they all open.
-still_stands : (images : Image → Type 0) (s : State) → AllOpenTo images s → (image : Image) → After (StandsAsBefore kept_format) images image → OpensToState image s
-still_stands images s all image p =
-    let opens = all p.from p.was in
-    record { has = opens.has; valid = opens.valid; rows = record { batches = opens.rows.batches; stands = p.by.still opens.rows.batches opens.rows.stands; give = opens.rows.give } }
+-- An image that stands for what one of these stood for opens to the state to which they all open; and so does one that a migration of the
+-- folder left.
+still_stands : (bounds : StoreBounds) (A : Type 0) (reads : Image) (images : Image → Type 0) (s : State) → OpensToState reads s → AllOpenTo images s → (image : Image)
+    → After (StandsAsBefore kept_format) images image ⊎ ((u : State) × (A × Migrates bounds reads u) × OpensToState image u) → OpensToState image s
+still_stands bounds A reads images s opens all image (inl p) = still_opens kept_format p.from image s p.by (all p.from p.was)
+still_stands bounds A reads images s opens all image (inr (u, (may, migrates), found)) =
+    subst (OpensToState image) (one_state reads u s (opens_first reads u migrates.opens) opens) found
 
 -- A folder that was opened was compacted, or not.
 pub compacted_opened : {D : Type 0} {seen : D → Seen} {stopped : D → Stopped}
     (bounds : StoreBounds) (k : Controlled) (tells : Bool) (desk mid now : D) (status : Status)
     → (IsTrue tells → OpensToState (seen desk).reads k.state) → (IsTrue tells → ReadsAs k.stored (seen mid).reads (stopped mid).images) → HoldsRows k → k.stored.bounds ≡ bounds
-    → (IsTrue tells → Opens kept_format (length ((seen desk).reads Mark)) (seen desk).reads (seen mid).reads) → OnlyDisk seen desk mid
-    → Leaves seen stopped desk mid (λ image. ⊤) → (IsTrue tells → Leaves seen stopped desk mid (After (StandsAsBefore kept_format) (stopped desk).images))
+    → (IsTrue tells → Made bounds (seen desk).reads (seen mid).reads k.state) → OnlyDisk seen desk mid
+    → Leaves seen stopped desk mid (λ image. ⊤)
+    → (IsTrue tells → Leaves seen stopped desk mid (λ image. After (StandsAsBefore kept_format) (stopped desk).images image
+    ⊎ ((s : State) × MigratesBy {T = Controlled} (Ok k) bounds (seen desk).reads s × OpensToState image s)))
     → EndsCompaction status k.stored.bounds (machine_of k) tells (seen mid) (seen now)
     → (status ≡ ending.FolderFull → (seen now).reads ≡ (seen mid).reads) → Leaves seen stopped mid now (λ image. ⊤) → (IsTrue tells → Leaves seen stopped mid now (λ image. OpensToState image k.state))
     → Compacts bounds tells (seen desk) (seen now) (stopped desk) (stopped now) status
@@ -308,16 +306,14 @@ compacted_opened {D} {seen} {stopped} bounds k tells desk mid now status opens s
   machine = machine_of k;
   valid = holds.valid;
   placed = refl;
-  opens = λ yes. opens_by (length ((seen desk).reads Mark)) (seen desk).reads (seen mid).reads (stopped mid).images k refl (opens yes) holds (stands yes) (made yes);
+  opens = λ yes. opens_by bounds (length ((seen desk).reads Mark)) (seen desk).reads (seen mid).reads (stopped mid).images k refl (opens yes) holds (stands yes) (made yes);
+  migrates = λ yes. roomy_by bounds (seen desk).reads (seen mid).reads (stopped mid).images k (opens yes) holds (stands yes) (made yes);
   ends = subst (λ (n : StoreBounds). EndsCompaction status n (machine_of k) tells (seen desk) (seen now)) same
       (ends_from status k.stored.bounds (machine_of k) tells (seen desk) (seen mid) (seen now) calls.notes calls.failed_notes ends);
-  refused_stands = λ yes is. record {
-    still = λ batches s. subst (λ (i : Image). Stands kept_format i batches) (sym (full is)) (opened_by (length ((seen desk).reads Mark)) (seen desk).reads (seen mid).reads batches refl (made yes) s);
-    own = λ some f batches s. subst (λ (i : Image). Stands f i batches) (sym (full is ∙ kept_by (length ((seen desk).reads Mark)) (seen desk).reads (seen mid).reads some (made yes))) s;
-  };
-  refused_still = λ yes is some. full is ∙ kept_by (length ((seen desk).reads Mark)) (seen desk).reads (seen mid).reads some (made yes);
+  refused_stands = λ yes is batches s. subst (λ (i : Image). Stands kept_format i batches) (sym (full is)) (opened_by bounds (seen desk).reads (seen mid).reads (machine_of k) batches (kept_keeps k (seen mid).reads (stopped mid).images holds (stands yes)) (made yes) s);
+  refused_still = λ yes is keeps. full is ∙ kept_by bounds (seen desk).reads (seen mid).reads (machine_of k) keeps (kept_keeps k (seen mid).reads (stopped mid).images holds (stands yes)) (made yes);
   stops = λ yes all. Elapses-then (λ image taken. OpensToState image k.state) (left yes).time (later yes).time
-      (λ i w p. still_stands (stopped desk).images k.state all i p.found) (λ i w p. p.found);
+      (λ i w p. still_stands bounds ⊤ (seen desk).reads (stopped desk).images k.state (opens yes) all i p.found) (λ i w p. p.found);
   found = λ yes. (later yes).found;
   unsaid = Elapses-then (λ image taken. AreTaken (seen desk).said taken) quiet.time later_quiet.time
       (λ i w p. p.replies) (λ i w p. subst (λ (o : Option (List ℕ)). AreTaken o w) quiet.quiet p.replies);

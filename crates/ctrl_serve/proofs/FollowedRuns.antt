@@ -7,7 +7,12 @@ use Rattle.ziti_outside.specs.declared.desk.Part.TheVariants.{Zero, One, Mark}
 use Rattle.journal_core.specs.Slots.{Slot, slot_bytes}
 use Rattle.slot_files.specs.FolderImage.{slot_of, Stands, StandsBy}
 use Rattle.slot_files.specs.OpenedSlots.{IsCreated, Opens}
-use Rattle.slot_files.proofs.StandLaws.{created_slot, slot_no_mark}
+use Rattle.slot_files.proofs.StandLaws.{created_slot, one_stands, slot_no_mark}
+use Rattle.ctrl_model.specs.declared.formats.Format.TheVariants as formats
+use Rattle.ctrl_model.specs.State.{State}
+use Rattle.ctrl_keep.specs.MigratedFolders.{OpensInFirst}
+use Rattle.ctrl_serve.specs.OpenedFolders.{Keeps, IsMigratedTo, StandsOpened}
+use Rattle.ctrl_serve.proofs.OpenedMachines.{Made, Two≢One, never_first, migrated_to}
 use Rattle.row_store.specs.declared.bounds.StoreBounds.{StoreBounds}
 use Rattle.ctrl_keep.specs.KeptMachine.{Machine}
 use Rattle.ctrl_keep.specs.KeptBatches.{mark_at, end_at, batches_next, GoesOnBehind, Follows}
@@ -176,23 +181,50 @@ created_stands old new batches none made =
     let slot : Slot kept_format (new Zero) [] = created_slot kept_format (old Zero) (new Zero) (slot_bytes kept_format []) refl made.first in
     subst (λ (m : List ℕ). StandsBy (length m) kept_format new batches) (sym made.mark) (subst (λ (b : List (List ℕ)). Slot kept_format (new Zero) b) (sym none) slot)
 
-pub opened_by : (mark : ℕ) (old new : Image) (batches : List (List ℕ)) → length (old Mark) ≡ mark → Opens kept_format mark old new → Stands kept_format old batches → Stands kept_format new batches
-opened_by zero old new batches is made s = created_stands old new batches (subst (λ (n : ℕ). StandsBy n kept_format old batches) is s) made
-opened_by (suc turn) old new batches is made s = subst (λ (i : Image). Stands kept_format i batches) (sym made) s
+opened_stands : (mark : ℕ) (old new : Image) (batches : List (List ℕ)) → length (old Mark) ≡ mark → Opens kept_format mark old new → Stands kept_format old batches → Stands kept_format new batches
+opened_stands zero old new batches is made s = created_stands old new batches (subst (λ (n : ℕ). StandsBy n kept_format old batches) is s) made
+opened_stands (suc turn) old new batches is made s = subst (λ (i : Image). Stands kept_format i batches) (sym made) s
 
-pub kept_by : (mark : ℕ) (old new : Image) → 0 < mark → Opens kept_format mark old new → new ≡ old
-kept_by zero old new some made = absurd (omega (arith, some))
-kept_by (suc turn) old new some made = made
+opened_same : (mark : ℕ) (old new : Image) → 0 < mark → Opens kept_format mark old new → new ≡ old
+opened_same zero old new some made = absurd (omega (arith, some))
+opened_same (suc turn) old new some made = made
+
+-- A folder of the kept format and one of the first are two.
+two_formats : (image : Image) (s : State) (batches : List (List ℕ)) → OpensInFirst image s → Stands kept_format image batches → ⊥
+two_formats image s batches first stands = Two≢One ((one_stands kept_format formats.One image batches first.rows.batches stands first.rows.stands).0 first.some)
+
+-- One that was left, and keeps the machine, is none of the first.
+left_first : (old new : Image) (m : Machine) → Keeps new m → IsMigratedTo old m → Opens kept_format (length (old Mark)) old new → ⊥
+left_first old new m keeps migrated made =
+    never_first old m m.state (subst (λ (i : Image). Keeps i m) (opened_same (length (old Mark)) old new migrated.first.some made) keeps) migrated.first
+
+-- For whatever it stands once it was opened, it stands for behind the opening.
+pub opened_by : (bounds : StoreBounds) (old new : Image) (m : Machine) (batches : List (List ℕ)) → Keeps new m → Made bounds old new m.state → StandsOpened old m batches → Stands kept_format new batches
+opened_by bounds old new m batches keeps (inl made) (inl s) = opened_stands (length (old Mark)) old new batches refl made s
+opened_by bounds old new m batches keeps (inr (migrates, made)) (inl s) = absurd (two_formats old m.state batches migrates.opens s)
+opened_by bounds old new m batches keeps (inl made) (inr (migrated, same)) = absurd (left_first old new m keeps migrated made)
+opened_by bounds old new m batches keeps (inr (migrates, made)) (inr (migrated, same)) = subst (λ (b : List (List ℕ)). Stands kept_format new b) (sym same) made.stands
+
+-- Where it kept the machine, it reads as before.
+kept_at : (mark : ℕ) (old new : Image) (m : Machine) → length (old Mark) ≡ mark → Keeps old m → Keeps new m → Opens kept_format mark old new → new ≡ old
+kept_at zero old new m is before after made =
+    let marks : length (old Mark) ≡ length (new Mark) = ap mark_at (sym before.place ∙ after.place) in
+    absurd (omega (arith, is, marks, ap length made.mark))
+kept_at (suc turn) old new m is before after made = made
+
+pub kept_by : (bounds : StoreBounds) (old new : Image) (m : Machine) → Keeps old m → Keeps new m → Made bounds old new m.state → new ≡ old
+kept_by bounds old new m before after (inl made) = kept_at (length (old Mark)) old new m refl before after made
+kept_by bounds old new m before after (inr (migrates, made)) = absurd (never_first old m m.state before migrates.opens)
 
 -- For whatever it stood, it stands behind a run for the last batches of these.
-pub opened_stands_for : (form : Form) (bounds : StoreBounds) (m : Machine) (before mid now : Image) (used : List ℕ) (batches : List (List ℕ)) → Opens kept_format (length (before Mark)) before mid
-    → FollowsInput form bounds m mid now used → Stands kept_format before batches → Stands kept_format now (last_batches form bounds m used batches)
-opened_stands_for form bounds m before mid now used batches made follows s = follows.stands batches (opened_by (length (before Mark)) before mid batches refl made s)
+pub opened_stands_for : (form : Form) (bounds within : StoreBounds) (m : Machine) (before mid now : Image) (used : List ℕ) (batches : List (List ℕ)) → Keeps mid m → Made within before mid m.state
+    → FollowsInput form bounds m mid now used → StandsOpened before m batches → Stands kept_format now (last_batches form bounds m used batches)
+opened_stands_for form bounds within m before mid now used batches keeps made follows s = follows.stands batches (opened_by within before mid m batches keeps made s)
 
--- Where the machine is as it was at the opening, it reads as before.
-pub opened_still : (form : Form) (bounds : StoreBounds) (m : Machine) (before mid now : Image) (used : List ℕ) → Opens kept_format (length (before Mark)) before mid
-    → FollowsInput form bounds m mid now used → 0 < length (before Mark) → last_machine form bounds m used ≡ m → now ≡ before
-opened_still form bounds m before mid now used made follows some back = follows.still back ∙ kept_by (length (before Mark)) before mid some made
+-- Where the machine is as it was at the opening, and the folder kept it, it reads as before.
+pub opened_still : (form : Form) (bounds within : StoreBounds) (m : Machine) (before mid now : Image) (used : List ℕ) → Keeps mid m → Made within before mid m.state
+    → FollowsInput form bounds m mid now used → Keeps before m → last_machine form bounds m used ≡ m → now ≡ before
+opened_still form bounds within m before mid now used keeps made follows kept back = follows.still back ∙ kept_by within before mid m kept keeps made
 
 -- Where it was created, the second slot was left.
 second_left : (before mid now : Image) → mid One ≡ before One → Else Zero mid now → (part : Part) → (part ≡ Mark → ⊥) → (part ≡ Zero → ⊥) → now part ≡ before part
@@ -217,7 +249,11 @@ leaves_by : (mark : ℕ) (before mid now : Image) → length (before Mark) ≡ m
 leaves_by zero before mid now is made others = created_leaves before mid now (nil_from_length (before Mark) is) made others
 leaves_by (suc turn) before mid now is made others = found_leaves before mid now made others
 
--- Where the run behind it compacted nothing, it leaves the slot that does not stand, and the mark unless it was empty.
-pub opened_leaves : (form : Form) (bounds : StoreBounds) (m : Machine) (before mid now : Image) (used : List ℕ) → Opens kept_format (length (before Mark)) before mid
-    → FollowsInput form bounds m mid now used → CompactsNothing m (last_machine form bounds m used) → LeavesOtherSlot before now
-opened_leaves form bounds m before mid now used made follows same = leaves_by (length (before Mark)) before mid now refl made (follows.elsewhere same)
+-- Where it was not migrated and the run behind it compacted nothing, it leaves the slot that does not stand, and the mark unless it was empty.
+leaves_unless : (within : StoreBounds) (m : Machine) (before mid now : Image) → Keeps mid m → Made within before mid m.state → (IsMigratedTo before m → ⊥) → Else (slot_of (length (mid Mark))) mid now → LeavesOtherSlot before now
+leaves_unless within m before mid now keeps (inl made) unmigrated others = leaves_by (length (before Mark)) before mid now refl made others
+leaves_unless within m before mid now keeps (inr (migrates, made)) unmigrated others = absurd (unmigrated (migrated_to within before mid m keeps migrates made))
+
+pub opened_leaves : (form : Form) (bounds within : StoreBounds) (m : Machine) (before mid now : Image) (used : List ℕ) → Keeps mid m → Made within before mid m.state
+    → FollowsInput form bounds m mid now used → (IsMigratedTo before m → ⊥) → CompactsNothing m (last_machine form bounds m used) → LeavesOtherSlot before now
+opened_leaves form bounds within m before mid now used keeps made follows unmigrated same = leaves_unless within m before mid now keeps made unmigrated (follows.elsewhere same)

@@ -11,8 +11,7 @@ use Rattle.slot_files.specs.FolderImage.{slot_of, Stands}
 use Rattle.slot_files.specs.SwitchedSlots.{other_slot}
 use Rattle.row_store.specs.RewrittenStores.{compacted, compacted_size}
 use Rattle.row_store.specs.declared.bounds.StoreBounds.{StoreBounds}
-use Rattle.row_store.specs.OpenedStates.{byte_rows_of}
-use Rattle.ctrl_keep.specs.KeptFolders.{IsStateless, OpensToState}
+use Rattle.row_store.specs.OpenedStates.{byte_rows_of, IsStateless, OpensToState}
 use Rattle.ctrl_model.specs.declared.refusals.Refusal.TheVariants.{JournalFull, MarkFull}
 use Rattle.ctrl_model.specs.declared.replies.Reply.{Reply}
 use Rattle.ctrl_model.specs.declared.replies.Reply.TheVariants as reply
@@ -38,6 +37,8 @@ use Rattle.ctrl_serve.specs.FrameAnswer.{last_machine}
 use Rattle.ctrl_serve.specs.Headline.{folder_bounds, taking_of, IsLeftAlone, IsUnopened, Refuses, Replays, Runs, StaysClosed}
 use Rattle.ctrl_serve.specs.LeftFolders.{HoldsAlone, HoldsGranted, KeepsAllFrames}
 use Rattle.ctrl_serve.specs.OpenedFolders.{Keeps, OpensBy, OpensTo}
+use Rattle.ctrl_serve.specs.MigratedRuns.{MigratesWithin}
+use Rattle.ctrl_keep.specs.MigratedFolders.{OpensInFirst}
 use Rattle.ctrl_serve.specs.RunStops.{AllOpenTo}
 use Rattle.ctrl_serve.proofs.EndingLaws.{done_used}
 use Rattle.ctrl_serve.proofs.GrantedRuns.{behind-granted}
@@ -47,22 +48,22 @@ use Rattle.ctrl_core.specs.KeptFormat.{kept_format}
 -- ---- a replay
 
 -- A folder that was not opened kept nothing.
-closed_kept : (tells : Bool) (before now : Seen) (status : Status) → StaysClosed tells before now status → is_kept status ≡ true → ⊥
-closed_kept tells before now Done why kept = why
-closed_kept tells before now Usage why kept = why
-closed_kept tells before now BadInput why kept = why
-closed_kept tells before now Truncated why kept = why
-closed_kept tells before now ReadFault why kept = why
-closed_kept tells before now WriteFault why kept = why
-closed_kept tells before now DiskFault why kept = cc
-closed_kept tells before now Damaged why kept = cc
-closed_kept tells before now NoMemory why kept = cc
-closed_kept tells before now InputTooLong why kept = why
-closed_kept tells before now FolderFull why kept = why
+closed_kept : (within : Option StoreBounds) (tells : Bool) (before now : Seen) (status : Status) → StaysClosed within tells before now status → is_kept status ≡ true → ⊥
+closed_kept within tells before now Done why kept = why
+closed_kept within tells before now Usage why kept = why
+closed_kept within tells before now BadInput why kept = why
+closed_kept within tells before now Truncated why kept = why
+closed_kept within tells before now ReadFault why kept = why
+closed_kept within tells before now WriteFault why kept = why
+closed_kept within tells before now DiskFault why kept = cc
+closed_kept within tells before now Damaged why kept = cc
+closed_kept within tells before now NoMemory why kept = cc
+closed_kept within tells before now InputTooLong why kept = why
+closed_kept within tells before now FolderFull why kept = cc
 
 -- Where it is done, all that the source had was used.
 keeps_all : {S D : Type 0} (o : Outside S D) (form : Form) (bounds : StoreBounds) (most : ℕ) (source source_now : S) (desk desk_now : D) (bytes : List ℕ) (s : State)
-    → Refuses o.tells o.seen o.stopped source source_now desk desk_now Done ⊎ Replays (taking_of form most) bounds o source source_now desk desk_now Done
+    → Refuses bounds o.tells o.seen o.stopped source source_now desk desk_now Done ⊎ Replays (taking_of form most) bounds o source source_now desk desk_now Done
     → o.left source ≡ Some bytes → IsTrue o.tells → OpensToState (o.seen desk).reads s
     → KeepsAllFrames form bounds bytes s (o.seen desk).reads (o.seen desk_now).reads (o.stopped desk_now).images
 keeps_all o form bounds most source source_now desk desk_now bytes s (inl closed) left told opens = absurd closed.unopened.why
@@ -92,16 +93,16 @@ stands_there : (image : Image) (m : Machine) → OpensTo image m → HoldsGrante
 stands_there image m opens held = subst AreGranted (sym (one_machine_state image held.0 m held.1 opens)) held.2
 
 granted_on : {S D : Type 0} (o : Outside S D) (form : Form) (bounds : StoreBounds) (most : ℕ) (source source_now : S) (desk desk_now : D) (status : Status)
-    → Refuses o.tells o.seen o.stopped source source_now desk desk_now status ⊎ Replays (taking_of form most) bounds o source source_now desk desk_now status
+    → Refuses bounds o.tells o.seen o.stopped source source_now desk desk_now status ⊎ Replays (taking_of form most) bounds o source source_now desk desk_now status
     → IsTrue o.tells → HoldsGranted (o.seen desk).reads → is_kept status ≡ true → HoldsGranted (o.seen desk_now).reads
 granted_on o form bounds most source source_now desk desk_now status (inl closed) told held kept =
-    absurd (closed_kept o.tells (o.seen desk) (o.seen desk_now) status closed.unopened.why kept)
+    absurd (closed_kept (Some bounds) o.tells (o.seen desk) (o.seen desk_now) status closed.unopened.why kept)
 granted_on o form bounds most source source_now desk desk_now status (inr r) told held kept =
     let last : Machine = last_machine form bounds r.machine (take most r.serves.taken) in
     (last.state, opens_kept (o.seen desk_now).reads last (r.keeps kept told), r.granted (stands_there (o.seen desk).reads r.machine (r.opens told) held) most)
 
 granted_unsaid : {S D : Type 0} (o : Outside S D) (form : Form) (bounds : StoreBounds) (most : ℕ) (source source_now : S) (desk desk_now : D)
-    → Refuses o.tells o.seen o.stopped source source_now desk desk_now WriteFault ⊎ Replays (taking_of form most) bounds o source source_now desk desk_now WriteFault
+    → Refuses bounds o.tells o.seen o.stopped source source_now desk desk_now WriteFault ⊎ Replays (taking_of form most) bounds o source source_now desk desk_now WriteFault
     → IsTrue o.tells → HoldsGranted (o.seen desk).reads → HoldsGranted (o.seen desk_now).reads
 granted_unsaid o form bounds most source source_now desk desk_now (inl closed) told held = absurd closed.unopened.why
 granted_unsaid o form bounds most source source_now desk desk_now (inr r) told held =
@@ -169,18 +170,21 @@ moved bounds m place is done =
     ap (λ (p : Option Place). (compaction bounds (machine_at m.state p)).1) is
     ∙ moved_at bounds m.state place (sym (ap (λ (p : Option Place). (compaction bounds (machine_at m.state p)).0) is) ∙ done)
 
--- The mark of the machine to which a folder opens has a byte, and is the folder's where this has one.
-record IsMarked (mark : ℕ) (place : Place) : Type 0 where
+-- The mark of the machine to which a folder opens has a byte, and is the folder's where this has one and it is none of the first format.
+record IsMarked (first : Type 0) (mark : ℕ) (place : Place) : Type 0 where
   pub some : 1 ≤ place.mark
-  pub same : 0 < mark → place.mark ≡ mark
+  pub same : 0 < mark → (first → ⊥) → place.mark ≡ mark
 
-marked : (mark : ℕ) (image : Image) (m : Machine) (place : Place) → length (image Mark) ≡ mark → OpensBy mark image m → m.place ≡ Some place → IsMarked mark place
+marked : (mark : ℕ) (image : Image) (m : Machine) (place : Place) → length (image Mark) ≡ mark → OpensBy mark image m → m.place ≡ Some place → IsMarked (OpensInFirst image m.state) mark place
 marked zero image m place is opens at =
     let one : place.mark ≡ 1 = sym (ap mark_at at) ∙ ap (λ (x : Machine). mark_at x.place) opens in
-    record { some = omega (arith, one); same = λ some. absurd (omega (arith, some)) }
-marked (suc turn) image m place is keeps at =
+    record { some = omega (arith, one); same = λ some _. absurd (omega (arith, some)) }
+marked (suc turn) image m place is (inl keeps) at =
     let same : place.mark ≡ suc turn = sym (ap mark_at at) ∙ ap mark_at keeps.place ∙ is in
-    record { some = omega (arith, same); same = λ some. same }
+    record { some = omega (arith, same); same = λ some _. same }
+marked (suc turn) image m place is (inr migrated) at =
+    let more : place.mark ≡ length (image Mark) + 1 = sym (ap mark_at at) ∙ ap mark_at migrated.place in
+    record { some = omega (arith, more); same = λ some none. absurd (none migrated.first) }
 
 -- The slots stand by turns.
 slot_turns : (n : ℕ) → 1 ≤ n → slot_of (n + 1 + 1) ≡ slot_of n
@@ -207,11 +211,11 @@ holds_alone bounds tells before now stopped stopped_now s c told opens =
       found = subst (AllOpenTo stopped_now.images) from (c.found told);
       rows = subst (λ (t : State). Stands kept_format now.reads (compacted (byte_rows_of kept_format t))) from made.stands;
       cut = subst (λ (part : Part). now.reads part ≡ []) (sym (ap other_slot mark ∙ slot_turns at.0.mark was.some)) (made.cut at.0 at.1);
-      turned = λ some. ap slot_of (mark ∙ ap (λ (n : ℕ). n + 1) (was.same some));
+      turned = λ some none. ap slot_of (mark ∙ ap (λ (n : ℕ). n + 1) (was.same some (λ first. none (subst (OpensInFirst before.reads) from first))));
     }
 
 compacts_alone : {D : Type 0} {seen : D → Seen} {stopped : D → Stopped} (bounds : StoreBounds) (tells : Bool) (desk desk_now : D) (s : State)
-    → IsUnopened tells seen stopped desk desk_now Done ⊎ Compacts bounds tells (seen desk) (seen desk_now) (stopped desk) (stopped desk_now) Done
+    → IsUnopened (Some bounds) tells seen stopped desk desk_now Done ⊎ Compacts bounds tells (seen desk) (seen desk_now) (stopped desk) (stopped desk_now) Done
     → IsTrue tells → OpensToState (seen desk).reads s → HoldsAlone s (seen desk).reads (seen desk_now).reads (stopped desk_now).images
 compacts_alone bounds tells desk desk_now s (inl closed) told opens = absurd closed.why
 compacts_alone {seen = seen} {stopped = stopped} bounds tells desk desk_now s (inr c) told opens =
@@ -225,32 +229,39 @@ done_compacts o bounds words source source_now desk desk_now s runs told opens =
 -- ---- damage
 
 -- Whatever the words, nothing was taken, and the folder was not opened.
-abbrev StaysShut : {S D : Type 0} (o : Outside S D) (source source_now : S) (desk desk_now : D) → Type 0
-StaysShut o source source_now desk desk_now = (source_now ≡ source) × IsUnopened o.tells o.seen o.stopped desk desk_now Damaged
+pub record StaysShut {S D : Type 0} (o : Outside S D) (source source_now : S) (desk desk_now : D) : Type 0 where
+  pub takes_nothing : source_now ≡ source
+  pub within : Option StoreBounds
+  pub unopened : IsUnopened within o.tells o.seen o.stopped desk desk_now Damaged
 
 pub stays_shut : {S D : Type 0} (o : Outside S D) (bounds : Bounds) (words : List (List ℕ)) (form : Option command.Form) (source source_now : S) (desk desk_now : D)
     → form_of words ≡ form → Runs o bounds words form source source_now desk desk_now Damaged → StaysShut o source source_now desk desk_now
 stays_shut o bounds words None source source_now desk desk_now asked runs = let e : Damaged ≡ Usage = runs.usage.1 refl in absurd cc
 stays_shut o bounds words (Some Dry) source source_now desk desk_now asked runs = absurd (runs.dry refl).says
 stays_shut o bounds words (Some (Replay form)) source source_now desk desk_now asked runs =
-    elim (runs.replay form refl) as (λ _. StaysShut o source source_now desk desk_now) [ inl closed ↦ (closed.takes_nothing, closed.unopened) | inr on ↦ absurd on.serves.says ]
+    elim (runs.replay form refl) as (λ _. StaysShut o source source_now desk desk_now) [ inl closed ↦ record { takes_nothing = closed.takes_nothing; within = Some (folder_bounds bounds); unopened = closed.unopened } | inr on ↦ absurd on.serves.says ]
 stays_shut o bounds words (Some Audit) source source_now desk desk_now asked runs =
-    elim (runs.audit refl) as (λ _. StaysShut o source source_now desk desk_now) [ inl closed ↦ (runs.audit_takes_nothing refl, closed) | inr on ↦ absurd on.says.says ]
+    elim (runs.audit refl) as (λ _. StaysShut o source source_now desk desk_now) [ inl closed ↦ record { takes_nothing = runs.audit_takes_nothing refl; within = None; unopened = closed } | inr on ↦ absurd on.says.says ]
 stays_shut o bounds words (Some Compact) source source_now desk desk_now asked runs =
-    elim (runs.compact refl) as (λ _. StaysShut o source source_now desk desk_now) [ inl closed ↦ (runs.compact_takes_nothing refl, closed) | inr on ↦ absurd on.ends ]
+    elim (runs.compact refl) as (λ _. StaysShut o source source_now desk desk_now) [ inl closed ↦ record { takes_nothing = runs.compact_takes_nothing refl; within = Some (folder_bounds bounds); unopened = closed } | inr on ↦ absurd on.ends ]
 stays_shut o bounds words (Some (Load number)) source source_now desk desk_now asked runs = absurd (runs.load number refl).says
 stays_shut o bounds words (Some Advise) source source_now desk desk_now asked runs =
     let names = advise_words words asked in
     elim (runs.advise names.identity names.service names.are refl) as (λ _. StaysShut o source source_now desk desk_now) [
-      | inl closed ↦ (runs.advise_takes_nothing refl, closed)
+      | inl closed ↦ record { takes_nothing = runs.advise_takes_nothing refl; within = None; unopened = closed }
       | inr on ↦ absurd on.says.says
     ]
 
 -- A told folder has a mark then, so it was left alone.
-pub shut_alone : {D : Type 0} {seen : D → Seen} {stopped : D → Stopped} (tells : Bool) (desk desk_now : D) → IsUnopened tells seen stopped desk desk_now Damaged → IsTrue tells
-    → IsLeftAlone seen stopped desk desk_now
-shut_alone {seen = seen} tells desk desk_now closed told = closed.alone told (stateless_marked (seen desk).reads closed.why.0 closed.why.1 (closed.why.2 told))
+not_cut : (A : Type 0) (B : State → Type 0) → A ⊎ ((s : State) × ((Damaged ≡ DiskFault) × B s)) → A
+not_cut A B (inl a) = a
+not_cut A B (inr (s, (same, b))) = absurd cc
 
-pub shut_place : {D : Type 0} {seen : D → Seen} {stopped : D → Stopped} (tells : Bool) (desk desk_now : D) → IsUnopened tells seen stopped desk desk_now Damaged → IsTrue tells
+pub shut_alone : {D : Type 0} {seen : D → Seen} {stopped : D → Stopped} (within : Option StoreBounds) (tells : Bool) (desk desk_now : D) → IsUnopened within tells seen stopped desk desk_now Damaged → IsTrue tells
+    → IsLeftAlone seen stopped desk desk_now
+shut_alone {seen = seen} {stopped = stopped} within tells desk desk_now closed told =
+    not_cut (IsLeftAlone seen stopped desk desk_now) (MigratesWithin within (seen desk).reads) (closed.alone told (stateless_marked (seen desk).reads closed.why.0 closed.why.1 (closed.why.2 told)))
+
+pub shut_place : {D : Type 0} {seen : D → Seen} {stopped : D → Stopped} (within : Option StoreBounds) (tells : Bool) (desk desk_now : D) → IsUnopened within tells seen stopped desk desk_now Damaged → IsTrue tells
     → (part : Part) × (at : ℕ) × IsStateless (seen desk).reads part at × NotesLines (damaged_note part at) (seen desk) (seen desk_now)
-shut_place tells desk desk_now closed told = (closed.why.0, closed.why.1, closed.why.2 told, closed.why.4)
+shut_place within tells desk desk_now closed told = (closed.why.0, closed.why.1, closed.why.2 told, closed.why.4)

@@ -1,6 +1,6 @@
 -- How the opening of the folder, the serving of the frames and the notes make up a run on the folder, with the counts of their faults.
-use Rattle.std.specs.Prelude.{true, false, Bool, IsTrue, IsSome}
-use Rattle.std.proofs.Common.{◌≡◌, ℕ, List, [], length, take, refl, sym, ap, ◌∙◌, subst, arith}
+use Rattle.std.specs.Prelude.{⊤, true, false, Bool, IsTrue, IsSome, Ok}
+use Rattle.std.proofs.Common.{◌≡◌, ◌⊎◌, inl, inr, ℕ, List, [], length, take, refl, sym, ap, ◌∙◌, subst, arith}
 use Rattle.std.specs.declared.option.Option.{Option}
 use Rattle.ziti_outside.specs.Images.{Image, After}
 use Rattle.ziti_outside.specs.Moments.{Leaves}
@@ -9,11 +9,14 @@ use Rattle.ziti_outside.specs.declared.desk.Part.TheVariants.{Mark}
 use Rattle.ziti_outside.specs.Untouched.{OnlyDisk, OnlyNotes}
 use Rattle.ziti_outside.specs.Views.{Outside, Seen, Stopped}
 use Rattle.slot_files.specs.FolderImage.{StandsAsBefore}
-use Rattle.slot_files.specs.OpenedSlots.{Opens}
+use Rattle.ctrl_keep.specs.MigratedFolders.{Migrates, MigratesBy}
+use Rattle.row_store.proofs.OneStates.{one_state}
+use Rattle.ctrl_serve.specs.MigratedRuns.{HasRoomToOpen}
+use Rattle.ziti_outside.proofs.MomentLaws.{Leaves-weaker}
 use Rattle.row_store.specs.StoredRows.{ReadsAs}
-use Rattle.ctrl_model.specs.State.{start}
+use Rattle.ctrl_model.specs.State.{State, start}
 use Rattle.ctrl_core.specs.KeptState.{Cored}
-use Rattle.ctrl_keep.specs.KeptFolders.{OpensToState}
+use Rattle.row_store.specs.OpenedStates.{OpensToState}
 use Rattle.row_store.specs.declared.bounds.StoreBounds.{StoreBounds}
 use Rattle.ctrl_keep.specs.KeptMachine.{Machine}
 use Rattle.ctrl_keep.specs.KeptController.{Controlled, HoldsRows, machine_of}
@@ -51,8 +54,8 @@ use Rattle.ctrl_serve.proofs.FollowedRuns.{opened_leaves, opened_stands_for, ope
 use Rattle.ctrl_serve.proofs.ControllerLaws.{ready_behind}
 use Rattle.ctrl_serve.proofs.IntakeLaws.{all_no_fault, write_calm, disk_calm, input_serves, cut_serves, cut_counted}
 use Rattle.ctrl_serve.proofs.UsedLaws.{at_start}
-use Rattle.ctrl_serve.proofs.OpenedMachines.{ready_keeps, opens_by}
-use Rattle.ctrl_serve.proofs.RunStopLaws.{no_more_behind, opened_stops, later_stops, used_stops}
+use Rattle.ctrl_serve.proofs.OpenedMachines.{Made, kept_keeps, ready_keeps, opens_by, opens_first, roomy_by}
+use Rattle.ctrl_serve.proofs.RunStopLaws.{Opening, no_more_behind, opened_stops, later_stops, used_stops}
 use Rattle.ctrl_core.specs.KeptFormat.{kept_format}
 
 -- ---- what the folder keeps behind the frames
@@ -251,31 +254,55 @@ serves_from {mid = mid} {now = now} desk replies noted failed s = record {
   notes = notes_from _ desk mid now noted failed s.notes;
 }
 
+-- What a stop within the opening may leave.
+opening_of : (bounds : StoreBounds) (A : Type 0) (reads : Image) (images : Image → Type 0) (s : State) → OpensToState reads s → (image : Image)
+    → After (StandsAsBefore kept_format) images image ⊎ ((u : State) × (A × Migrates bounds reads u) × OpensToState image u) → Opening images s image
+opening_of bounds A reads images s opens image (inl p) = inl p
+opening_of bounds A reads images s opens image (inr (u, (may, migrates), found)) =
+    inr (subst (OpensToState image) (one_state reads u s (opens_first reads u migrates.opens) opens) found)
+
 -- From what was opened on. Opening the folder said and noted nothing.
 pub replays_on : {S D : Type 0} (o : Outside S D) (form : Form) (bounds : StoreBounds) (most : ℕ) (k : Controlled) (source source_now : S) (desk mid now : D) (status : Status)
     → (IsTrue o.tells → OpensToState (o.seen desk).reads k.state) → (IsTrue o.tells → ReadsAs k.stored (o.seen mid).reads (o.stopped mid).images) → HoldsRows k → k.stored.bounds ≡ bounds
-    → (IsTrue o.tells → Opens kept_format (length ((o.seen desk).reads Mark)) (o.seen desk).reads (o.seen mid).reads) → OnlyDisk o.seen desk mid
-    → (IsTrue o.tells → Leaves o.seen o.stopped desk mid (After (StandsAsBefore kept_format) (o.stopped desk).images))
+    → (IsTrue o.tells → Made bounds (o.seen desk).reads (o.seen mid).reads k.state) → OnlyDisk o.seen desk mid
+    → (IsTrue o.tells → Leaves o.seen o.stopped desk mid (λ image. After (StandsAsBefore kept_format) (o.stopped desk).images image
+    ⊎ ((s : State) × MigratesBy {T = Controlled} (Ok k) bounds (o.seen desk).reads s × OpensToState image s)))
     → RunsOn (taking_of form most) (serving_of (Kept k)) o source source_now mid now status
     → Replays (taking_of form most) bounds o source source_now desk now status
-replays_on o form bounds most k source source_now desk mid now status opens stands holds same made calls opening runs =
+replays_on o form bounds most k source source_now desk mid now status opens stands holds same made calls left runs =
     let before = (o.seen desk).reads in
     let middle = (o.seen mid).reads in
     let after = (o.seen now).reads in
     let used : List ℕ = take most runs.serves.taken in
-    subst (λ (n : StoreBounds). Replays (taking_of form most) n o source source_now desk now status) same (record {
+    let keeps : IsTrue o.tells → Keeps middle (machine_of k) = λ told. kept_keeps k middle (o.stopped mid).images holds (stands told) in
+    let opening : IsTrue o.tells → Leaves o.seen o.stopped desk mid (Opening (o.stopped desk).images k.state) =
+    λ told. Leaves-weaker _ (left told) (opening_of bounds ⊤ before (o.stopped desk).images k.state (opens told)) in
+    subst (λ (n : StoreBounds). (IsTrue o.tells → HasRoomToOpen n before) → Replays (taking_of form most) n o source source_now desk now status) same (λ roomy. record {
       machine = machine_of k;
       valid = holds.valid;
       placed = refl;
-      opens = λ told. opens_by (length (before Mark)) before middle (o.stopped mid).images k refl (opens told) holds (stands told) (made told);
+      opens = λ told. opens_by bounds (length (before Mark)) before middle (o.stopped mid).images k refl (opens told) holds (stands told) (made told);
+      migrates = roomy;
       serves = serves_from (o.seen desk) calls.replies calls.notes calls.failed_notes runs.serves;
       keeps = λ kept told. (runs.keeps refl kept told).0;
       found = λ kept told. (runs.keeps refl kept told).1;
-      stands = λ kept told batches. opened_stands_for form k.stored.bounds (machine_of k) before middle after used batches (made told) (runs.follows refl kept told);
-      still = λ kept told. opened_still form k.stored.bounds (machine_of k) before middle after used (made told) (runs.follows refl kept told);
-      elsewhere = λ kept told. opened_leaves form k.stored.bounds (machine_of k) before middle after used (made told) (runs.follows refl kept told);
+      stands = λ kept told batches. opened_stands_for form k.stored.bounds bounds (machine_of k) before middle after used batches (keeps told) (made told) (runs.follows refl kept told);
+      still = λ kept told. opened_still form k.stored.bounds bounds (machine_of k) before middle after used (keeps told) (made told) (runs.follows refl kept told);
+      elsewhere = λ kept told. opened_leaves form k.stored.bounds bounds (machine_of k) before middle after used (keeps told) (made told) (runs.follows refl kept told);
       ahead = λ is told. runs.ahead refl is told;
       granted = λ stand n. behind-granted k.stored.bounds (machine_of k) (completed form (take n runs.serves.taken)) holds.valid stand;
       stops = λ told all. opened_stops form k.stored.bounds (machine_of k) (events_in form used) (opening told) (runs.stops refl told) all;
       stops_later = λ told. later_stops form k.stored.bounds (machine_of k) (events_in form used) (opening told) (runs.stops refl told);
-    })
+    }) (λ told. roomy_by bounds before middle (o.stopped mid).images k (opens told) holds (stands told) (made told))
+
+-- The same, of bounds that are those of the run.
+pub replays_within : {S D : Type 0} (o : Outside S D) (form : Form) (bounds taken : StoreBounds) (most : ℕ) (k : Controlled) (source source_now : S) (desk mid now : D) (status : Status) → taken ≡ bounds
+    → (IsTrue o.tells → OpensToState (o.seen desk).reads k.state) → (IsTrue o.tells → ReadsAs k.stored (o.seen mid).reads (o.stopped mid).images) → HoldsRows k → k.stored.bounds ≡ taken
+    → (IsTrue o.tells → Made taken (o.seen desk).reads (o.seen mid).reads k.state) → OnlyDisk o.seen desk mid
+    → (IsTrue o.tells → Leaves o.seen o.stopped desk mid (λ image. After (StandsAsBefore kept_format) (o.stopped desk).images image
+    ⊎ ((s : State) × MigratesBy {T = Controlled} (Ok k) taken (o.seen desk).reads s × OpensToState image s)))
+    → RunsOn (taking_of form most) (serving_of (Kept k)) o source source_now mid now status
+    → Replays (taking_of form most) bounds o source source_now desk now status
+replays_within o form bounds taken most k source source_now desk mid now status same opens stands holds held made calls left runs =
+    subst (λ (n : StoreBounds). Replays (taking_of form most) n o source source_now desk now status) same
+    (replays_on o form taken most k source source_now desk mid now status opens stands holds held made calls left runs)

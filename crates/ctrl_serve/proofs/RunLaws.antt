@@ -154,23 +154,23 @@ dry_runs o bounds words form source source_now desk desk_now status is serves co
 }
 
 -- Where a folder was not opened the run ends with none of these.
-closed_status : (tells : Bool) (before now : Seen) (status : Status) → StaysClosed tells before now status
+closed_status : (within : Option StoreBounds) (tells : Bool) (before now : Seen) (status : Status) → StaysClosed within tells before now status
     → (status ≡ Usage → ⊥) × (status ≡ Done → ⊥) × (status ≡ ReadFault → ⊥) × (status ≡ WriteFault → ⊥)
-closed_status tells before now status why =
-    let not = ends_otherwise (λ (u : Status). StaysClosed tells before now u) status why in
+closed_status within tells before now status why =
+    let not = ends_otherwise (λ (u : Status). StaysClosed within tells before now u) status why in
     (not Usage (λ w. w), not Done (λ w. w), not ReadFault (λ w. w), not WriteFault (λ w. w))
 
 -- A run on the folder, which was not opened or from which the run went on.
 replays_status : {S D : Type 0} (o : Outside S D) {taking : Taking} {bounds : StoreBounds} (source source_now : S) (desk desk_now : D) (status : Status)
-    → Refuses o.tells o.seen o.stopped source source_now desk desk_now status ⊎ Replays taking bounds o source source_now desk desk_now status
+    → Refuses bounds o.tells o.seen o.stopped source source_now desk desk_now status ⊎ Replays taking bounds o source source_now desk desk_now status
     → (status ≡ Usage → ⊥) × (status ≡ Done → IsAtEnd (o.left source_now))
-replays_status o source source_now desk desk_now status (inl closed) =
-    let none = closed_status o.tells _ _ status closed.unopened.why in (none.0, λ done. absurd (none.1 done))
+replays_status o {bounds = bounds} source source_now desk desk_now status (inl closed) =
+    let none = closed_status (Some bounds) o.tells _ _ status closed.unopened.why in (none.0, λ done. absurd (none.1 done))
 replays_status o source source_now desk desk_now status (inr on) =
     (serves_no_usage on.serves, serves_to_end on.serves)
 
 pub replay_runs : {S D : Type 0} (o : Outside S D) (of : Form) (bounds : Bounds) (words : List (List ℕ)) (form : Option command.Form) (source source_now : S) (desk desk_now : D) (status : Status) → form ≡ Some (Replay of)
-    → Refuses o.tells o.seen o.stopped source source_now desk desk_now status
+    → Refuses (folder_bounds bounds) o.tells o.seen o.stopped source source_now desk desk_now status
     ⊎ Replays (taking_of of bounds.input) (folder_bounds bounds) o source source_now desk desk_now status
     → CountsFaults o.left o.faults o.seen source source_now desk desk_now status
     → HoldsRoom o.tells (folder_bounds bounds).slot o.seen o.stopped desk desk_now
@@ -198,7 +198,7 @@ replay_runs o of bounds words form source source_now desk desk_now status is rep
       dry_says_and_notes_alone = λ e. cc;
       complete = λ e. cc;
       read_to_the_end = λ asked e reads. at.1;
-      replay = λ other asked. subst (λ (f : Form). Refuses o.tells o.seen o.stopped source source_now desk desk_now status
+      replay = λ other asked. subst (λ (f : Form). Refuses (folder_bounds bounds) o.tells o.seen o.stopped source source_now desk desk_now status
           ⊎ Replays (taking_of f bounds.input) (folder_bounds bounds) o source source_now desk desk_now status)
           (same_form of other (sym is ∙ asked)) replays;
       load = λ number e. cc;
@@ -358,17 +358,17 @@ looks_not form word other looks not is e =
 
 -- A run of such a word ends with none of these.
 look_statuses : {D : Type 0} {seen : D → Seen} {stopped : D → Stopped}
-    (line : State → List ℕ) (tells : Bool) (desk desk_now : D) (status : Status) → IsUnopened tells seen stopped desk desk_now status
+    (line : State → List ℕ) (tells : Bool) (desk desk_now : D) (status : Status) → IsUnopened None tells seen stopped desk desk_now status
     ⊎ Looks line tells (seen desk) (seen desk_now) status
     → (status ≡ Usage → ⊥) × (status ≡ ReadFault → ⊥)
-look_statuses line tells desk desk_now status (inl closed) = let not = closed_status tells _ _ status closed.why in (not.0, not.2)
+look_statuses line tells desk desk_now status (inl closed) = let not = closed_status None tells _ _ status closed.why in (not.0, not.2)
 look_statuses line tells desk desk_now status (inr on) = let not = line_statuses status _ _ _ on.says in (not.0, not.1)
 
 look_runs : {S D : Type 0} (o : Outside S D) (bounds : Bounds) (words : List (List ℕ)) (form : Option command.Form) (word : command.Form) (source : S) (desk desk_now : D) (status : Status)
     → is_look word ≡ true → form ≡ Some word → (status ≡ Usage → ⊥) × (status ≡ ReadFault → ⊥)
-    → (form ≡ Some Audit → IsUnopened o.tells o.seen o.stopped desk desk_now status ⊎ Audits o.tells (o.seen desk) (o.seen desk_now) status)
+    → (form ≡ Some Audit → IsUnopened None o.tells o.seen o.stopped desk desk_now status ⊎ Audits o.tells (o.seen desk) (o.seen desk_now) status)
     → ((i s : List ℕ) → words ≡ codes "advise" ∷ i ∷ s ∷ [] → form ≡ Some Advise
-    → IsUnopened o.tells o.seen o.stopped desk desk_now status ⊎ Advises i s o.tells (o.seen desk) (o.seen desk_now) status)
+    → IsUnopened None o.tells o.seen o.stopped desk desk_now status ⊎ Advises i s o.tells (o.seen desk) (o.seen desk_now) status)
     → IsLeftAlone o.seen o.stopped desk desk_now → IsWriteCaused (o.seen desk).say_faults (o.seen desk_now).say_faults status → IsDiskCaused (o.seen desk).disk_faults (o.seen desk_now).disk_faults status
     → RisesOnce (o.seen desk).note_faults (o.seen desk_now).note_faults
     → Runs o bounds words form source source desk desk_now status
@@ -413,7 +413,7 @@ look_runs o bounds words form word source desk desk_now status looks is not audi
     }
 
 pub audit_runs : {S D : Type 0} (o : Outside S D) (bounds : Bounds) (words : List (List ℕ)) (form : Option command.Form) (source : S) (desk desk_now : D) (status : Status) → form ≡ Some Audit
-    → IsUnopened o.tells o.seen o.stopped desk desk_now status
+    → IsUnopened None o.tells o.seen o.stopped desk desk_now status
     ⊎ Audits o.tells (o.seen desk) (o.seen desk_now) status
     → IsLeftAlone o.seen o.stopped desk desk_now → IsWriteCaused (o.seen desk).say_faults (o.seen desk_now).say_faults status → IsDiskCaused (o.seen desk).disk_faults (o.seen desk_now).disk_faults status
     → RisesOnce (o.seen desk).note_faults (o.seen desk_now).note_faults
@@ -425,7 +425,7 @@ audit_runs o bounds words form source desk desk_now status is audits alone write
 pub advise_runs : {S D : Type 0} (o : Outside S D) (bounds : Bounds) (words : List (List ℕ)) (form : Option command.Form) (source : S) (desk desk_now : D) (status : Status) → form ≡ Some Advise
     → AreAdviseWords words
     → ((i s : List ℕ) → words ≡ codes "advise" ∷ i ∷ s ∷ []
-    → IsUnopened o.tells o.seen o.stopped desk desk_now status ⊎ Advises i s o.tells (o.seen desk) (o.seen desk_now) status)
+    → IsUnopened None o.tells o.seen o.stopped desk desk_now status ⊎ Advises i s o.tells (o.seen desk) (o.seen desk_now) status)
     → IsLeftAlone o.seen o.stopped desk desk_now → IsWriteCaused (o.seen desk).say_faults (o.seen desk_now).say_faults status → IsDiskCaused (o.seen desk).disk_faults (o.seen desk_now).disk_faults status
     → RisesOnce (o.seen desk).note_faults (o.seen desk_now).note_faults
     → Runs o bounds words form source source desk desk_now status
@@ -444,14 +444,14 @@ ends_statuses status bounds m tells before now ends =
     (not Usage (λ e. e), not ReadFault (λ e. e), not WriteFault (λ e. e))
 
 compact_statuses : {D : Type 0} {seen : D → Seen} {stopped : D → Stopped}
-    (tells : Bool) (bounds : StoreBounds) (desk desk_now : D) (status : Status) → IsUnopened tells seen stopped desk desk_now status
+    (tells : Bool) (bounds : StoreBounds) (desk desk_now : D) (status : Status) → IsUnopened (Some bounds) tells seen stopped desk desk_now status
     ⊎ Compacts bounds tells (seen desk) (seen desk_now) (stopped desk) (stopped desk_now) status
     → (status ≡ Usage → ⊥) × (status ≡ ReadFault → ⊥) × (status ≡ WriteFault → ⊥)
-compact_statuses tells bounds desk desk_now status (inl closed) = let not = closed_status tells _ _ status closed.why in (not.0, not.2, not.3)
+compact_statuses tells bounds desk desk_now status (inl closed) = let not = closed_status (Some bounds) tells _ _ status closed.why in (not.0, not.2, not.3)
 compact_statuses tells bounds desk desk_now status (inr on) = ends_statuses status bounds on.machine tells _ _ on.ends
 
 pub compact_runs : {S D : Type 0} (o : Outside S D) (bounds : Bounds) (words : List (List ℕ)) (form : Option command.Form) (source : S) (desk desk_now : D) (status : Status) → form ≡ Some Compact
-    → IsUnopened o.tells o.seen o.stopped desk desk_now status
+    → IsUnopened (Some (folder_bounds bounds)) o.tells o.seen o.stopped desk desk_now status
     ⊎ Compacts (folder_bounds bounds) o.tells (o.seen desk) (o.seen desk_now) (o.stopped desk) (o.stopped desk_now) status
     → (o.seen desk_now).said ≡ (o.seen desk).said → (o.seen desk_now).say_faults ≡ (o.seen desk).say_faults → IsDiskCaused (o.seen desk).disk_faults (o.seen desk_now).disk_faults status → RisesOnce (o.seen desk).note_faults (o.seen desk_now).note_faults
     → HoldsRoom o.tells (folder_bounds bounds).slot o.seen o.stopped desk desk_now

@@ -1,6 +1,7 @@
 -- What a stop within a run over an input finds: how the turns of the loop, the notes behind them and the opening of the folder make it up.
 use Rattle.std.proofs.Common.{◌≡◌, ◌⊎◌, inl, inr, ℕ, List, [], ◌∷◌, ◌++◌, Some, refl, sym, ap, ◌∙◌, subst}
 use Rattle.std.specs.declared.option.Option.{Option}
+use Rattle.ziti_outside.specs.Told.{AreTaken}
 use Rattle.ziti_outside.specs.Images.{Image, After}
 use Rattle.ziti_outside.specs.Moments.{Now, Elapses, Leaves}
 use Rattle.ziti_outside.proofs.Moves.{Took-taken, Took-then}
@@ -11,7 +12,8 @@ use Rattle.ctrl_model.specs.declared.kinds.Who.{Who}
 use Rattle.ctrl_model.specs.State.{State}
 use Rattle.slot_files.specs.FolderImage.{StandsAsBefore}
 use Rattle.row_store.specs.declared.bounds.StoreBounds.{StoreBounds}
-use Rattle.ctrl_keep.specs.KeptFolders.{OpensToState}
+use Rattle.row_store.specs.OpenedStates.{OpensToState}
+use Rattle.row_store.proofs.OneStates.{still_opens}
 use Rattle.ctrl_keep.specs.KeptMachine.{Machine}
 use Rattle.session_mux.specs.declared.events.Event.{Event}
 use Rattle.session_mux.specs.declared.events.Event.TheVariants as event
@@ -162,34 +164,39 @@ start_found form bounds m events said images image taken opens now = record {
   finds = inl (record { replies = Took-taken said taken now.replies; found = opens image now.found });
 }
 
--- An image that stands for what another one stood for opens to the state of that one.
-stands_open : (old new : Image) (s : State) → StandsAsBefore kept_format old new → OpensToState old s → OpensToState new s
-stands_open old new s same opens = record {
-  has = opens.has;
-  valid = opens.valid;
-  rows = record { batches = opens.rows.batches; stands = same.still opens.rows.batches opens.rows.stands; give = opens.rows.give };
-}
+-- What a stop within the opening may leave of a folder of this state: an image that stands for what one of the start stood for, or one that opens to
+-- the state.
+abbrev pub Opening : (Image → Type 0) → State → Image → Type 0
+Opening images s image = After (StandsAsBefore kept_format) images image ⊎ OpensToState image s
 
--- So all images that stand for what these stood for open to their state.
-all_stand : (images : Image → Type 0) (s : State) → AllOpenTo images s → AllOpenTo (After (StandsAsBefore kept_format) images) s
-all_stand images s opens image after = stands_open after.from image s after.by (opens after.from after.was)
+-- So all of them open to their state, where those of the start do.
+all_stand : (images : Image → Type 0) (s : State) → AllOpenTo images s → AllOpenTo (Opening images s) s
+all_stand images s opens image (inl after) = still_opens kept_format after.from image s after.by (opens after.from after.was)
+all_stand images s opens image (inr found) = found
 
 -- A stop within the opening or within the run behind it, where all that a stop might have left before opens to the state.
 pub opened_stops : {D : Type 0} {seen : D → Seen} {stopped : D → Stopped} {desk mid now : D}
-    (form : Form) (bounds : StoreBounds) (m : Machine) (events : List Event) → Leaves seen stopped desk mid (After (StandsAsBefore kept_format) (stopped desk).images)
+    (form : Form) (bounds : StoreBounds) (m : Machine) (events : List Event) → Leaves seen stopped desk mid (Opening (stopped desk).images m.state)
     → Elapses (stopped mid) (stopped now) (StopFinds form bounds m events (seen mid).said) → AllOpenTo (stopped desk).images m.state
     → Elapses (stopped desk) (stopped now) (StopFinds form bounds m events (seen desk).said)
 opened_stops {seen = seen} {stopped = stopped} {desk = desk} form bounds m events opening serving opens =
     Elapses-then (StopFinds form bounds m events (seen desk).said) opening.time serving
-    (λ image taken found. start_found form bounds m events (seen desk).said (After (StandsAsBefore kept_format) (stopped desk).images) image taken (all_stand (stopped desk).images m.state opens) found)
+    (λ image taken found. start_found form bounds m events (seen desk).said (Opening (stopped desk).images m.state) image taken (all_stand (stopped desk).images m.state opens) found)
     (λ image taken found. subst (λ (x : Option (List ℕ)). StopFinds form bounds m events x image taken) opening.quiet found)
+
+-- What a migration left is found with no frame answered.
+opening_found : (form : Form) (bounds : StoreBounds) (m : Machine) (events : List Event) (said : Option (List ℕ)) (images : Image → Type 0) (image : Image) (taken : List ℕ)
+    → AreTaken said taken → Opening images m.state image → StopFinds form bounds m events said image taken ⊎ Now (After (StandsAsBefore kept_format) images) said image taken
+opening_found form bounds m events said images image taken replies (inl after) = inr (record { found = after; replies = replies })
+opening_found form bounds m events said images image taken replies (inr opens) =
+    inl (start_found form bounds m events said (λ i. OpensToState i m.state) image taken (λ i p. p) (record { found = opens; replies = replies }))
 
 -- And whatever it might have left before.
 pub later_stops : {D : Type 0} {seen : D → Seen} {stopped : D → Stopped} {desk mid now : D}
-    (form : Form) (bounds : StoreBounds) (m : Machine) (events : List Event) → Leaves seen stopped desk mid (After (StandsAsBefore kept_format) (stopped desk).images)
+    (form : Form) (bounds : StoreBounds) (m : Machine) (events : List Event) → Leaves seen stopped desk mid (Opening (stopped desk).images m.state)
     → Elapses (stopped mid) (stopped now) (StopFinds form bounds m events (seen mid).said)
     → Elapses (stopped desk) (stopped now) (λ image taken. StopFinds form bounds m events (seen desk).said image taken ⊎ Now (After (StandsAsBefore kept_format) (stopped desk).images) (seen desk).said image taken)
 later_stops {seen = seen} {stopped = stopped} {desk = desk} form bounds m events opening serving =
     Elapses-then (λ image taken. StopFinds form bounds m events (seen desk).said image taken ⊎ Now (After (StandsAsBefore kept_format) (stopped desk).images) (seen desk).said image taken) opening.time serving
-    (λ image taken found. inr found)
+    (λ image taken found. opening_found form bounds m events (seen desk).said (stopped desk).images image taken found.replies found.found)
     (λ image taken found. inl (subst (λ (x : Option (List ℕ)). StopFinds form bounds m events x image taken) opening.quiet found))

@@ -11,7 +11,7 @@ use Rattle.ziti_outside.specs.Views.{Seen, Stopped}
 use Rattle.ctrl_model.specs.State.{State}
 use Rattle.row_store.proofs.CommitLaws.{reads_opens}
 use Rattle.ctrl_keep.proofs.KeptStates.{opens_kept_state}
-use Rattle.ctrl_keep.specs.KeptFolders.{OpensToState}
+use Rattle.row_store.specs.OpenedStates.{OpensToState}
 use Rattle.ctrl_serve.specs.declared.controller.Controller.{Controller}
 use Rattle.ctrl_serve.specs.declared.controller.Controller.TheVariants.{Alone, Kept}
 use Rattle.channel_frame.specs.declared.frames.Frame.{Frame}
@@ -33,7 +33,7 @@ pub ready_opens : (c : Controller) (tells : Bool) (reads : Image) (images : Imag
     → (image : Image) → images image → OpensToState image (serving_of c).machine.state
 ready_opens (Alone core) tells reads images some ready told image p = cc
 ready_opens (Kept k) tells reads images some ready told image p =
-    opens_kept_state k.stored.format image k.state k.stored.rows ready.0.format ready.0.valid ready.0.has ready.0.rows (reads_opens k.stored reads images (ready.1 told) image p)
+    opens_kept_state k.stored.format image k.state k.stored.rows ready.0.format ready.0.valid ready.0.rows (reads_opens k.stored reads images (ready.1 told) image p)
 
 -- A stop within the answering of a frame finds no byte of the reply taken.
 stop_answering : (before next : State) (reply : List ℕ) (said : Option (List ℕ)) (image : Image) (taken : List ℕ)

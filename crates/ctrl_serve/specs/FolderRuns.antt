@@ -7,7 +7,7 @@ use Rattle.ctrl_model.specs.declared.refusals.Refusal.TheVariants.{JournalFull, 
 use Rattle.ctrl_model.specs.declared.replies.Reply.{Reply}
 use Rattle.ctrl_model.specs.declared.replies.Reply.TheVariants.{Refused}
 use Rattle.ctrl_keep.specs.declared.faults.KeepFault.{KeepFault}
-use Rattle.ctrl_keep.specs.declared.faults.KeepFault.TheVariants.{Disk, Damaged, Spent, NoMemory}
+use Rattle.ctrl_keep.specs.declared.faults.KeepFault.TheVariants as keep
 use Rattle.run_notes.specs.declared.ends.Full.{Full}
 use Rattle.run_notes.specs.declared.ends.Full.TheVariants as full
 use Rattle.run_notes.specs.declared.status.Status.{Status}
@@ -21,10 +21,12 @@ TellsEnd is lines status before now = (status ≡ is) × NotesLines lines before
 
 -- What was told of a folder that was not opened, by the fault of its opening, which is never Spent.
 abbrev pub TellsClosed : KeepFault → (status : Status) → (before now : Seen) → Type 0
-TellsClosed Disk status before now = TellsEnd ending.DiskFault (status_lines [] ending.DiskFault) status before now
-TellsClosed (Damaged part at) status before now = TellsEnd ending.Damaged (damaged_note part at) status before now
-TellsClosed Spent status before now = ⊥
-TellsClosed NoMemory status before now = TellsEnd ending.NoMemory (status_lines [] ending.NoMemory) status before now
+TellsClosed keep.Disk status before now = TellsEnd ending.DiskFault (status_lines [] ending.DiskFault) status before now
+TellsClosed keep.Full status before now = TellsEnd ending.FolderFull (full_note full.Journal) status before now
+TellsClosed keep.MarkFull status before now = TellsEnd ending.FolderFull (full_note full.Mark) status before now
+TellsClosed (keep.Damaged part at) status before now = TellsEnd ending.Damaged (damaged_note part at) status before now
+TellsClosed keep.Spent status before now = ⊥
+TellsClosed keep.NoMemory status before now = TellsEnd ending.NoMemory (status_lines [] ending.NoMemory) status before now
 
 -- The part without room, if that is why a reply refuses.
 abbrev pub full_in : Reply → Option Full
@@ -40,5 +42,5 @@ TellsRoom (Some part) status before now = TellsEnd ending.FolderFull (full_note 
 -- What was told of a compaction, by its reply or its fault, which is of the disk or want of memory.
 abbrev pub TellsCompaction : Result Reply KeepFault → (status : Status) → (before now : Seen) → Type 0
 TellsCompaction (Ok reply) status before now = TellsRoom (full_in reply) status before now
-TellsCompaction (Err Disk) status before now = TellsEnd ending.DiskFault (status_lines [] ending.DiskFault) status before now
+TellsCompaction (Err keep.Disk) status before now = TellsEnd ending.DiskFault (status_lines [] ending.DiskFault) status before now
 TellsCompaction (Err fault) status before now = TellsEnd ending.NoMemory (status_lines [] ending.NoMemory) status before now

@@ -1,6 +1,5 @@
 -- What the words `audit`, `advise` and `compact` do with a folder (docs/PROMISES.md, "The headline").
-use Rattle.std.specs.Prelude.{◌≡◌, ℕ, ◌<◌, Bool, true, IsTrue, List, [], length, Some, is_some}
-use Rattle.ziti_outside.specs.declared.desk.Part.TheVariants.{Mark}
+use Rattle.std.specs.Prelude.{◌≡◌, ℕ, Bool, true, IsTrue, List, [], Some, is_some}
 use Rattle.ziti_outside.specs.Images.{Image}
 use Rattle.ziti_outside.specs.Moments.{Elapses}
 use Rattle.ziti_outside.specs.Told.{AreTaken}
@@ -13,12 +12,11 @@ use Rattle.ctrl_model.specs.declared.replies.Reply.{Reply}
 use Rattle.ctrl_model.specs.declared.replies.Reply.TheVariants.{Done, Refused}
 use Rattle.ctrl_model.specs.State.{State}
 use Rattle.ctrl_model.specs.ValidState.{ValidState}
-use Rattle.slot_files.specs.FolderImage.{slot_of, Stands, StandsAsBefore}
+use Rattle.slot_files.specs.FolderImage.{slot_of, Stands}
 use Rattle.policy_advisor.specs.Reports.{report_of}
 use Rattle.row_store.specs.declared.bounds.StoreBounds.{StoreBounds}
 use Rattle.row_store.specs.RewrittenStores.{compacted}
-use Rattle.row_store.specs.OpenedStates.{byte_rows_of}
-use Rattle.ctrl_keep.specs.KeptFolders.{OpensToState}
+use Rattle.row_store.specs.OpenedStates.{byte_rows_of, OpensToState}
 use Rattle.ctrl_keep.specs.KeptMachine.{Machine, Place, step}
 use Rattle.run_notes.specs.declared.ends.Full.{Full}
 use Rattle.run_notes.specs.declared.ends.Full.TheVariants as full
@@ -27,7 +25,8 @@ use Rattle.run_notes.specs.declared.status.Status.TheVariants as ending
 use Rattle.run_notes.specs.Notes.{full_note, status_lines}
 use Rattle.run_notes.specs.NotedLines.{NotesLines}
 use Rattle.ctrl_serve.specs.Loads.{counts_line, SaysOneLine}
-use Rattle.ctrl_serve.specs.OpenedFolders.{Keeps, OpensTo}
+use Rattle.ctrl_serve.specs.OpenedFolders.{Keeps, OpensTo, StandsOpened}
+use Rattle.ctrl_serve.specs.MigratedRuns.{HasRoomToOpen}
 use Rattle.ctrl_serve.specs.RunStops.{AllOpenTo}
 use Rattle.ctrl_core.specs.KeptFormat.{kept_format}
 
@@ -85,15 +84,17 @@ EndsCompaction _ bounds m tells before now = ⊥
 
 -- A run of `compact` on a folder that opens to a machine, in a valid state and with a place. However it ends, each image that a stop may
 -- leave, at any moment and at the end, opens to the state that stood, and no reply byte is taken. Where the compaction is refused for want of
--- room the folder stands for what it stood for, and where its mark is not empty every part reads as before.
+-- room the folder stands for what it stood for once it was opened, and where it kept the machine every part reads as before. A folder of the
+-- first format is opened only where there is room to migrate it.
 pub record Compacts (bounds : StoreBounds) (tells : Bool) (before now : Seen) (stopped stopped_now : Stopped) (status : Status) : Type 0 where
   pub machine : Machine
   pub valid : ValidState machine.state
   pub placed : is_some machine.place ≡ true
   pub opens : IsTrue tells → OpensTo before.reads machine
+  pub migrates : IsTrue tells → HasRoomToOpen bounds before.reads
   pub ends : EndsCompaction status bounds machine tells before now
-  pub refused_stands : IsTrue tells → status ≡ ending.FolderFull → StandsAsBefore kept_format before.reads now.reads
-  pub refused_still : IsTrue tells → status ≡ ending.FolderFull → 0 < length (before.reads Mark) → now.reads ≡ before.reads
+  pub refused_stands : IsTrue tells → status ≡ ending.FolderFull → (batches : List (List ℕ)) → StandsOpened before.reads machine batches → Stands kept_format now.reads batches
+  pub refused_still : IsTrue tells → status ≡ ending.FolderFull → Keeps before.reads machine → now.reads ≡ before.reads
   pub stops : IsTrue tells → AllOpenTo stopped.images machine.state → Elapses stopped stopped_now (λ image taken. OpensToState image machine.state)
   pub found : IsTrue tells → AllOpenTo stopped_now.images machine.state
   pub unsaid : Elapses stopped stopped_now (λ image taken. AreTaken before.said taken)

@@ -6,8 +6,8 @@ use Rattle.slot_files.specs.FolderImage.{slot_of, Stands}
 use Rattle.slot_files.specs.SwitchedSlots.{other_slot}
 use Rattle.row_store.specs.declared.bounds.StoreBounds.{StoreBounds}
 use Rattle.row_store.specs.RewrittenStores.{compacted}
-use Rattle.row_store.specs.OpenedStates.{byte_rows_of}
-use Rattle.ctrl_keep.specs.KeptFolders.{OpensToState}
+use Rattle.row_store.specs.OpenedStates.{byte_rows_of, OpensToState}
+use Rattle.ctrl_keep.specs.MigratedFolders.{OpensInFirst}
 use Rattle.ctrl_model.specs.State.{State}
 use Rattle.model_laws.specs.JudgedCircuits.{AreGranted}
 use Rattle.ctrl_keep.specs.KeptMachine.{Machine}
@@ -32,11 +32,11 @@ abbrev pub HoldsGranted : Image → Type 0
 HoldsGranted image = (s : State) × OpensToState image s × AreGranted s
 
 -- A folder was compacted. It opens to the state to which it opened, and holds nothing but the rows of that state: it stands for the one
--- batch that puts them all, or for none where there are no rows, and the other slot is empty. Unless the mark was empty, the slot that
--- stands is the one that did not stand before.
+-- batch that puts them all, or for none where there are no rows, and the other slot is empty. Unless the mark was empty, or the folder was one of
+-- the first format and was migrated first, the slot that stands is the one that did not stand before.
 pub record HoldsAlone (s : State) (before now : Image) (images : Image → Type 0) : Type 0 where
   pub opens : OpensToState now s
   pub found : AllOpenTo images s
   pub rows : Stands kept_format now (compacted (byte_rows_of kept_format s))
   pub cut : now (other_slot (length (now Mark))) ≡ []
-  pub turned : 0 < length (before Mark) → slot_of (length (now Mark)) ≡ other_slot (length (before Mark))
+  pub turned : 0 < length (before Mark) → (OpensInFirst before s → ⊥) → slot_of (length (now Mark)) ≡ other_slot (length (before Mark))

@@ -4,6 +4,7 @@ pub mod Reading
 pub mod FrameAnswer
 pub mod SaidReplies
 pub mod OpenedFolders
+pub mod MigratedRuns
 pub mod WorkedAnswers
 pub mod Loads
 pub mod RunStops

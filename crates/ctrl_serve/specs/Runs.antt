@@ -10,7 +10,7 @@ use Rattle.ctrl_serve.specs.Failures.{TakesUntilFailure}
 use Rattle.run_notes.specs.declared.status.Status.{Status}
 use Rattle.run_notes.specs.declared.status.Status.TheVariants.{ReadFault, WriteFault, DiskFault}
 use Rattle.session_mux.specs.declared.sessions.Form.{Form}
-use Rattle.ctrl_keep.specs.KeptFolders.{OpensToState}
+use Rattle.row_store.specs.OpenedStates.{OpensToState}
 use Rattle.ctrl_serve.specs.Controllers.{Serving}
 use Rattle.ctrl_serve.specs.OpenedFolders.{Keeps}
 use Rattle.ctrl_serve.specs.FollowedFolders.{FollowsInput}

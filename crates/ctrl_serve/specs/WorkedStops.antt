@@ -2,14 +2,15 @@
 use Rattle.std.specs.Prelude.{ℕ, List, [], ◌∷◌, codes}
 use Rattle.ctrl_model.specs.State.{State, start}
 
--- The state with one identity, ann, under the number 1.
+-- The state with one identity, ann, under the number 1, after one change.
 abbrev pub only_ann : State
-only_ann = record start { identities = record { rows = (1, record { name = codes "ann"; attributes = [] }) ∷ []; next = 2 } }
+only_ann = record start { identities = record { rows = (1, record { name = codes "ann"; attributes = [] }) ∷ []; next = 2 }; serial = 1 }
 
--- The state with two identities: ann under the number 1, and bob under the number 2.
+-- The state with two identities, ann under the number 1 and bob under the number 2, after two changes.
 abbrev pub ann_and_bob : State
 ann_and_bob = record start {
   identities = record { rows = (1, record { name = codes "ann"; attributes = [] }) ∷ (2, record { name = codes "bob"; attributes = [] }) ∷ []; next = 3 };
+  serial = 2;
 }
 
 -- The 34 bytes of a frame that asks for the identity bob: content type 1000, sequence number 8, and no headers.

@@ -1,10 +1,10 @@
-ghost use Rattle.std.specs.Prelude.{◌≡◌, ◌⊎◌, ◌≢◌, ◌≤◌, ◌^◌, ⊤, true, false, IsTrue};
+ghost use Rattle.std.specs.Prelude.{◌≡◌, ◌⊎◌, ◌≢◌, ◌≤◌, ◌^◌, ⊤, true, false, IsTrue, None, Some};
 ghost use Rattle.ziti_outside.specs.Moments.{Elapses, Leaves};
 ghost use Rattle.ziti_outside.specs.Untouched.{OnlyNotes};
 ghost use Rattle.journal_core.specs.Room.{empty_size, HoldsRoom};
 ghost use Rattle.row_store.specs.StoredRows.{ReadsAs};
 ghost use Rattle.ctrl_keep.specs.KeptController.{HoldsRows, machine_of};
-ghost use Rattle.ctrl_keep.specs.KeptFolders.{OpensToState};
+ghost use Rattle.row_store.specs.OpenedStates.{OpensToState};
 ghost use Rattle.run_notes.specs.NotedLines.{FindsNoMore, RisesOnce};
 ghost use Rattle.ctrl_serve.specs.FolderRuns.{TellsClosed, TellsCompaction, TellsRoom, full_in};
 ghost use Rattle.ctrl_serve.specs.FolderWords.{Compacts, EndsCompaction, Looks};
@@ -34,6 +34,8 @@ pub(crate) fn tell_closed<D: Desk>(fault: KeepFault, desk: &mut D) -> Status
 {
     match fault {
         KeepFault::Disk => tell_cut(Cut::Disk, desk),
+        KeepFault::Full => tell_full(Full::Journal, desk),
+        KeepFault::MarkFull => tell_full(Full::Mark, desk),
         KeepFault::Damaged { part, at } => tell_damage(part, at, desk),
         KeepFault::NoMemory => tell_cut(Cut::NoMemory, desk),
         KeepFault::Spent => unreachable!(),
@@ -59,7 +61,7 @@ fn say_looked<D: Desk>(alloc: Global, look: &Look, core: Core, desk: &mut D) -> 
 /// none, that is noted and nothing is said.
 pub(crate) fn run_look<D: Desk>(alloc: Global, look: &Look, desk: &mut D) -> Status
     requires { HasNames look.now }
-    ensures looks { IsUnopened D.tells D.seen D.stopped desk.old desk.new result
+    ensures looks { IsUnopened None D.tells D.seen D.stopped desk.old desk.new result
         ⊎ Looks (line_asked look.now) D.tells (D.seen desk.old) (D.seen desk.new) result }
     ensures alone { IsLeftAlone D.seen D.stopped desk.old desk.new }
     ensures write_cause { IsWriteCaused (D.seen desk.old).say_faults (D.seen desk.new).say_faults result }
@@ -130,11 +132,11 @@ fn compact_opened<D: Desk>(kept: Kept, desk: &mut D) -> Status
     tell_compaction(compacted, desk)
 }
 
-/// Compacts the folder within its bounds, or notes which part of it has no room. Where it opens to no state, that is noted. Nothing is
-/// said. No slot grows past the bound, where that has room for a slot without a record.
+/// Compacts the folder within its bounds, or notes which part of it has no room, also for the migration of one of the first format. Where it
+/// opens to no state, that is noted. Nothing is said. No slot grows past the bound, where that has room for a slot without a record.
 pub fn run_compact<D: Desk>(alloc: Global, bounds: StoreBounds, desk: &mut D) -> Status
     requires { bounds.slot ≤ 2 ^ 30 }
-    ensures compacts { IsUnopened D.tells D.seen D.stopped desk.old desk.new result
+    ensures compacts { IsUnopened (Some bounds) D.tells D.seen D.stopped desk.old desk.new result
         ⊎ Compacts bounds D.tells (D.seen desk.old) (D.seen desk.new) (D.stopped desk.old) (D.stopped desk.new) result }
     ensures says_nothing { (D.seen desk.new).said ≡ (D.seen desk.old).said }
     ensures failed_says { (D.seen desk.new).say_faults ≡ (D.seen desk.old).say_faults }

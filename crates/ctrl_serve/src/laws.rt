@@ -6,7 +6,8 @@ ghost use Rattle.ctrl_model.specs.declared.kinds.Who.TheVariants.{Admin};
 ghost use Rattle.ctrl_model.specs.State.{State};
 ghost use Rattle.ctrl_keep.specs.KeptMachine.{Machine};
 ghost use Rattle.policy_advisor.specs.Reports.{report_of};
-ghost use Rattle.ctrl_keep.specs.KeptFolders.{OpensToState, IsStateless};
+ghost use Rattle.row_store.specs.OpenedStates.{OpensToState, IsStateless};
+ghost use Rattle.ctrl_keep.specs.MigratedFolders.{OpensInFirst};
 ghost use Rattle.row_store.specs.declared.bounds.StoreBounds.{StoreBounds};
 ghost use Rattle.session_mux.specs.declared.events.Event.{Event};
 ghost use Rattle.session_mux.specs.declared.sessions.Form.{Form};
@@ -36,7 +37,7 @@ ghost use Rattle.ctrl_serve.specs.OpenedFolders.{OpensTo};
 ghost use Rattle.ctrl_serve.specs.CommandLine.{form_of, number_of_word};
 ghost use Rattle.ctrl_serve.specs.declared.command_line.Form as command;
 ghost use Rattle.ctrl_serve.specs.declared.command_line.Form.TheVariants.{Replay, Audit, Compact, Advise};
-ghost use Rattle.ctrl_serve.specs.CompleteRuns.{IsCalm, CompletesFrom, ComesOutFrom};
+ghost use Rattle.ctrl_serve.specs.CompleteRuns.{IsCalm, IsFull, CompletesFrom, ComesOutFrom};
 ghost use Rattle.ziti_outside.specs.Views.{Seen};
 ghost use Rattle.ctrl_serve.specs.declared.bounds.Bounds.{Bounds};
 
@@ -158,28 +159,29 @@ pub fn a_run_goes_on_from_a_stop()
 
 /// A replay whose frames ask for no Compact carries none out: its machine's mark stays as long. So where it kept all, on a desk that tells its
 /// folder, the slot that the mark does not name reads as before, and so does the mark, unless it was empty. Where it is done, that is said
-/// of the frames of all that its source had.
+/// of the frames of all that its source had. A folder of the first format is migrated when it is opened, which is excluded here.
 pub fn runs_without_compact_leave_the_other_slot<S: Source, D: Desk>()
     ensures machine { (form : Form) (bounds : StoreBounds) (machine : Machine) (used : List ℕ) → ask_for_compact (completed form used) ≡ false
         → CompactsNothing machine (last_machine form bounds machine used) }
     ensures folder { (taking : Taking) (bounds : StoreBounds) (source source_now : S) (desk desk_now : D) (status : Status)
         → (replays : Replays taking bounds (record { left = S.left; faults = S.faults; tells = D.tells; seen = D.seen; stopped = D.stopped }) source source_now desk desk_now status)
-        → is_kept status ≡ true → IsTrue D.tells → ask_for_compact (completed taking.form (take taking.most replays.serves.taken)) ≡ false
+        → is_kept status ≡ true → IsTrue D.tells → ((s : State) → OpensInFirst (D.seen desk).reads s → ⊥) → ask_for_compact (completed taking.form (take taking.most replays.serves.taken)) ≡ false
         → LeavesOtherSlot (D.seen desk).reads (D.seen desk_now).reads }
     ensures done { (bounds : Bounds) (words : List (List ℕ)) (form : Form) (source source_now : S) (desk desk_now : D) (bytes : List ℕ)
         → Runs (record { left = S.left; faults = S.faults; tells = D.tells; seen = D.seen; stopped = D.stopped }) bounds words (Some (Replay form)) source source_now desk desk_now Done
-        → S.left source ≡ Some bytes → IsTrue D.tells → ask_for_compact (completed form bytes) ≡ false → LeavesOtherSlot (D.seen desk).reads (D.seen desk_now).reads }
+        → S.left source ≡ Some bytes → IsTrue D.tells → ((s : State) → OpensInFirst (D.seen desk).reads s → ⊥) → ask_for_compact (completed form bytes) ≡ false → LeavesOtherSlot (D.seen desk).reads (D.seen desk_now).reads }
 {}
 
 /// What a run on a folder comes to where no call failed, those of notes aside, and the folder tells its bytes and opens to a state. Want of memory
-/// is the one thing that may still cut it short. Otherwise `replay` is complete from the machine of that state: it ended as the bytes
+/// is the one thing that may still cut it short. Otherwise `replay` and `compact` end with FolderFull exactly where the folder is one of the first
+/// format and has no room to be migrated. Where it has room, `replay` is complete from the machine of that state: it ended as the bytes
 /// decide, and all replies were said; `audit` is done, and said the counts line of that state, and `advise` the report of that state on its two names; and `compact` was done, or was refused for want of room where
 /// the machine's step refuses it.
 pub fn runs_are_complete<S: Source, D: Desk>()
     ensures replay { (bounds : Bounds) (words : List (List ℕ)) (form : Form) (source source_now : S) (desk desk_now : D) (status : Status) (s : State)
         → Runs (record { left = S.left; faults = S.faults; tells = D.tells; seen = D.seen; stopped = D.stopped }) bounds words (Some (Replay form)) source source_now desk desk_now status
         → IsTrue D.tells → OpensToState (D.seen desk).reads s → IsCalm (S.faults source) (S.faults source_now) → IsCalm (D.seen desk).say_faults (D.seen desk_now).say_faults → IsCalm (D.seen desk).disk_faults (D.seen desk_now).disk_faults
-        → (status ≡ NoMemory) ⊎ CompletesFrom s (taking_of form bounds.input) (folder_bounds bounds) (S.left source) (S.left source_now) (D.seen desk) (D.seen desk_now) status }
+        → (status ≡ NoMemory) ⊎ IsFull (folder_bounds bounds) (D.seen desk).reads status ⊎ CompletesFrom s (taking_of form bounds.input) (folder_bounds bounds) (S.left source) (S.left source_now) (D.seen desk) (D.seen desk_now) status }
     ensures audit { (bounds : Bounds) (words : List (List ℕ)) (source source_now : S) (desk desk_now : D) (status : Status) (s : State)
         → Runs (record { left = S.left; faults = S.faults; tells = D.tells; seen = D.seen; stopped = D.stopped }) bounds words (Some Audit) source source_now desk desk_now status
         → IsTrue D.tells → OpensToState (D.seen desk).reads s → IsCalm (D.seen desk).say_faults (D.seen desk_now).say_faults → IsCalm (D.seen desk).disk_faults (D.seen desk_now).disk_faults
@@ -191,7 +193,7 @@ pub fn runs_are_complete<S: Source, D: Desk>()
     ensures compact { (bounds : Bounds) (words : List (List ℕ)) (source source_now : S) (desk desk_now : D) (status : Status) (s : State)
         → Runs (record { left = S.left; faults = S.faults; tells = D.tells; seen = D.seen; stopped = D.stopped }) bounds words (Some Compact) source source_now desk desk_now status
         → IsTrue D.tells → OpensToState (D.seen desk).reads s → IsCalm (D.seen desk).disk_faults (D.seen desk_now).disk_faults
-        → (status ≡ NoMemory) ⊎ ComesOutFrom s (D.seen desk).reads (folder_bounds bounds) status }
+        → (status ≡ NoMemory) ⊎ IsFull (folder_bounds bounds) (D.seen desk).reads status ⊎ ComesOutFrom s (D.seen desk).reads (folder_bounds bounds) status }
 {}
 
 /// A call that failed in a run, as its count tells, is what the status tells: where a take failed it is ReadFault, where a say failed
@@ -240,8 +242,8 @@ pub fn slots_keep_their_bound<S: Source, D: Desk>()
         → ((image : Image) → (D.stopped desk).images image → IsWithin bounds.slot image) → (image : Image) → (D.stopped desk_now).images image → IsWithin bounds.slot image }
 {}
 
-/// What `Done` says of `compact` on a told folder that opened to a state: it opens to the very same state, holds exactly its rows in the slot that
-/// did not stand before, and nothing in the other one; and all that a stop may leave opens to that state.
+/// What `Done` says of `compact` on a told folder that opened to a state: it opens to the very same state, holds exactly its rows, in the slot that
+/// did not stand before unless it was migrated, and nothing in the other one; and all that a stop may leave opens to that state.
 pub fn done_compacts_all<S: Source, D: Desk>()
     ensures folder { (bounds : Bounds) (words : List (List ℕ)) (source source_now : S) (desk desk_now : D) (s : State)
         → Runs (record { left = S.left; faults = S.faults; tells = D.tells; seen = D.seen; stopped = D.stopped }) bounds words (Some Compact) source source_now desk desk_now Done

@@ -1,6 +1,6 @@
 ghost use Rattle.std.specs.Prelude.{◌≡◌, ◌⊎◌, ◌≢◌, true, IsTrue, IsSome, IfOk, IfErr, None, OnOk, OnErr};
 ghost use Rattle.channel_frame.specs.declared.frames.Frame.{Frame};
-ghost use Rattle.ctrl_keep.specs.KeptFolders.{OpensToState};
+ghost use Rattle.row_store.specs.OpenedStates.{OpensToState};
 ghost use Rattle.journal_core.specs.Room.{HoldsRoom};
 ghost use Rattle.reply_codec.specs.ReplyLimits.{keeps_limits};
 ghost use Rattle.session_mux.specs.declared.events.Event.TheVariants.{Arrived};

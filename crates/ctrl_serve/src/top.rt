@@ -93,7 +93,7 @@ fn run_replay<S: Source, D: Desk>(
     desk: &mut D,
 ) -> Status
     requires { AreBounds bounds }
-    ensures replays { Refuses D.tells D.seen D.stopped source.old source.new desk.old desk.new result
+    ensures replays { Refuses (folder_bounds bounds) D.tells D.seen D.stopped source.old source.new desk.old desk.new result
         ⊎ Replays (taking_of form bounds.input) (folder_bounds bounds)
         (record { left = S.left; faults = S.faults; tells = D.tells; seen = D.seen; stopped = D.stopped })
         source.old source.new desk.old desk.new result }
@@ -115,7 +115,7 @@ fn run_replay<S: Source, D: Desk>(
 fn run_advise<D: Desk>(alloc: Global, words: &[String], desk: &mut D) -> Status
     requires { form_of (texts words.now) ≡ Some Advise }
     ensures advises { (i s : List ℕ) → texts words.now ≡ codes "advise" ∷ i ∷ s ∷ []
-        → IsUnopened D.tells D.seen D.stopped desk.old desk.new result
+        → IsUnopened None D.tells D.seen D.stopped desk.old desk.new result
         ⊎ Advises i s D.tells (D.seen desk.old) (D.seen desk.new) result }
     ensures alone { IsLeftAlone D.seen D.stopped desk.old desk.new }
     ensures write_cause { IsWriteCaused (D.seen desk.old).say_faults (D.seen desk.new).say_faults result }

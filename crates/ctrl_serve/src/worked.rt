@@ -10,7 +10,7 @@ ghost use Rattle.ctrl_model.specs.declared.refusals.Reason.TheVariants as reason
 ghost use Rattle.ctrl_model.specs.declared.refusals.Refusal.TheVariants as refusal;
 ghost use Rattle.ctrl_model.specs.declared.replies.Reply.TheVariants as reply;
 ghost use Rattle.ctrl_model.specs.State.{start};
-ghost use Rattle.ctrl_keep.specs.KeptFolders.{OpensToState};
+ghost use Rattle.row_store.specs.OpenedStates.{OpensToState};
 ghost use Rattle.row_store.specs.WorkedStores.{three_parts};
 ghost use Rattle.ctrl_keep.specs.WorkedMachines.{at_most, machine_at, marked};
 ghost use Rattle.ctrl_serve.specs.CommandLine.{form_of, number_of_word};
@@ -140,31 +140,31 @@ pub fn worked_sessions()
     ensures before_a_bad_record { replies Trace no_bounds (alone start) kind_five ≡ [] }
 {}
 
-/// What stops leave, worked by hand: of an input of no frames, and of one frame that creates ann in a new folder, whose slot has 42 bytes with
+/// What stops leave, worked by hand: of an input of no frames, and of one frame that creates ann in a new folder, whose slot has 57 bytes with
 /// it. A stop may find ann before a byte of the reply was taken, or the start; once the reply of 49 bytes was taken the start does not hold her. Where the
-/// slot may have 41 bytes the frame is refused and changes nothing.
+/// slot may have 56 bytes the frame is refused and changes nothing.
 ///
 /// A second frame creates bob. Once the reply to the first was taken a stop may find both, one frame ahead; with no byte of it taken it does
 /// not. And of the parts of a turn: the start is found between two frames, and once one byte of the reply was taken, ann is found and the start is not.
 pub fn worked_stops()
-    ensures no_frame { (image : Image) → OpensToState image start → HoldsFirst Plain (at_most 42) (machine_at start 8) [] 0 image [] }
-    ensures before { (image : Image) → OpensToState image start → HoldsFirst Plain (at_most 42) (machine_at start 8) ann_bytes 0 image [] }
-    ensures ahead { (image : Image) → OpensToState image only_ann → HoldsFirst Plain (at_most 42) (machine_at start 8) ann_bytes 0 image [] }
-    ensures acknowledged { (image : Image) → OpensToState image only_ann → HoldsFirst Plain (at_most 42) (machine_at start 8) ann_bytes 1 image reply_bytes }
-    ensures lost { (image : Image) → OpensToState image start → HoldsFirst Plain (at_most 42) (machine_at start 8) ann_bytes 1 image reply_bytes → ⊥ }
-    ensures refused { (image : Image) → OpensToState image start → HoldsFirst Plain (at_most 41) (machine_at start 8) ann_bytes 1 image no_room_bytes }
-    ensures refusal { replies Plain (at_most 41) (machine_at start 8) ann_bytes ≡ no_room_bytes }
+    ensures no_frame { (image : Image) → OpensToState image start → HoldsFirst Plain (at_most 57) (machine_at start 8) [] 0 image [] }
+    ensures before { (image : Image) → OpensToState image start → HoldsFirst Plain (at_most 57) (machine_at start 8) ann_bytes 0 image [] }
+    ensures ahead { (image : Image) → OpensToState image only_ann → HoldsFirst Plain (at_most 57) (machine_at start 8) ann_bytes 0 image [] }
+    ensures acknowledged { (image : Image) → OpensToState image only_ann → HoldsFirst Plain (at_most 57) (machine_at start 8) ann_bytes 1 image reply_bytes }
+    ensures lost { (image : Image) → OpensToState image start → HoldsFirst Plain (at_most 57) (machine_at start 8) ann_bytes 1 image reply_bytes → ⊥ }
+    ensures refused { (image : Image) → OpensToState image start → HoldsFirst Plain (at_most 56) (machine_at start 8) ann_bytes 1 image no_room_bytes }
+    ensures refusal { replies Plain (at_most 56) (machine_at start 8) ann_bytes ≡ no_room_bytes }
     ensures replied { replies Plain (at_most 200) (machine_at start 8) (ann_bytes ++ bob_bytes) ≡ reply_bytes ++ bob_reply_bytes }
     ensures one_ahead { (image : Image) → OpensToState image ann_and_bob
         → HoldsFirst Plain (at_most 200) (machine_at start 8) (ann_bytes ++ bob_bytes) 1 image reply_bytes }
     ensures two_ahead { (image : Image) → OpensToState image ann_and_bob
         → HoldsFirst Plain (at_most 200) (machine_at start 8) (ann_bytes ++ bob_bytes) 0 image [] → ⊥ }
     ensures between { (image : Image) → OpensToState image start
-        → StopFinds Plain (at_most 42) (machine_at start 8) (events_in Plain ann_bytes) (Some []) image [] }
+        → StopFinds Plain (at_most 57) (machine_at start 8) (events_in Plain ann_bytes) (Some []) image [] }
     ensures torn_reply { (image : Image) → OpensToState image only_ann
-        → StopFinds Plain (at_most 42) (machine_at start 8) (events_in Plain ann_bytes) (Some []) image (take 1 reply_bytes) }
+        → StopFinds Plain (at_most 57) (machine_at start 8) (events_in Plain ann_bytes) (Some []) image (take 1 reply_bytes) }
     ensures torn_unkept { (image : Image) → OpensToState image start
-        → StopFinds Plain (at_most 42) (machine_at start 8) (events_in Plain ann_bytes) (Some []) image (take 1 reply_bytes) → ⊥ }
+        → StopFinds Plain (at_most 57) (machine_at start 8) (events_in Plain ann_bytes) (Some []) image (take 1 reply_bytes) → ⊥ }
 {}
 
 /// Frames that ask for Compact: one of its content type whose body it is, and not one with a key more, nor one that creates. Machines: the one
@@ -176,8 +176,8 @@ pub fn worked_uncompacted()
     ensures creates { spells_compact (meaning 1000 (codes "{\"name\":\"ann\"}")) ≡ false }
     ensures one_asks { ask_for_compact ((0, (Admin, frame_of 1000 (codes "{\"name\":\"ann\"}"))) ∷ (0, (Admin, frame_of 1510 (codes "{}"))) ∷ []) ≡ true }
     ensures none_asks { ask_for_compact [] ≡ false }
-    ensures went_on { CompactsNothing (machine_at start 8) (machine_at only_ann 41) }
-    ensures compacted { CompactsNothing (machine_at only_ann 41) (marked only_ann 41 2) → ⊥ }
+    ensures went_on { CompactsNothing (machine_at start 8) (machine_at only_ann 56) }
+    ensures compacted { CompactsNothing (machine_at only_ann 56) (marked only_ann 56 2) → ⊥ }
     ensures grew { LeavesOtherSlot (three_parts (1 ∷ []) (2 ∷ []) (0 ∷ [])) (three_parts (1 ∷ 5 ∷ []) (2 ∷ []) (0 ∷ [])) }
     ensures other_grew { LeavesOtherSlot (three_parts (1 ∷ []) (2 ∷ []) (0 ∷ [])) (three_parts (1 ∷ []) (2 ∷ 5 ∷ []) (0 ∷ [])) → ⊥ }
     ensures second_stands { LeavesOtherSlot (three_parts (1 ∷ []) (2 ∷ []) (0 ∷ 0 ∷ [])) (three_parts (1 ∷ 5 ∷ []) (2 ∷ []) (0 ∷ 0 ∷ [])) → ⊥ }

@@ -1,19 +1,21 @@
 -- What holds of a replay as its desk is seen holds of what is given back of it.
-use Rattle.std.proofs.Common.{◌≡◌, ◌⊎◌, ℕ, List, [], length, Result, Ok, Err, Some, refl, sym, ap, ◌∙◌, subst}
+use Rattle.std.proofs.Common.{◌≡◌, ℕ, List, [], length, Result, Ok, Err, Some, refl, sym, ap, ◌∙◌, subst}
 use Rattle.std.specs.Result.{IfOk}
 use Rattle.ziti_outside.specs.declared.desk.Part.{Part}
 use Rattle.ziti_outside.specs.declared.desk.Part.TheVariants.{Mark}
 use Rattle.ziti_outside.specs.Images.{Image}
 use Rattle.ziti_outside.specs.Views.{Seen}
 use Rattle.slot_files.specs.FolderImage.{Stands, StandsBy}
-use Rattle.ctrl_keep.specs.KeptFolders.{IsStateless, OpensToState}
+use Rattle.row_store.specs.OpenedStates.{OpensToState}
+use Rattle.run_notes.specs.declared.ends.Full.{Full}
+use Rattle.memory_runs.proofs.WholeRuns.{Decided}
 use Rattle.ctrl_keep.specs.KeptMachine.{Machine}
 use Rattle.session_mux.specs.declared.sessions.Form.{Form}
 use Rattle.run_notes.specs.declared.status.Status.{Status}
 use Rattle.ctrl_serve.specs.FrameAnswer.{last_batches, last_machine}
-use Rattle.ctrl_serve.specs.OpenedFolders.{Keeps, OpensTo}
+use Rattle.ctrl_serve.specs.OpenedFolders.{Keeps}
 use Rattle.ctrl_serve.specs.UncompactedFolders.{LeavesOtherSlot}
-use Rattle.memory_runs.specs.WholeReplays.{bounds, used, IsNoted, IsRefused, IsWhole}
+use Rattle.memory_runs.specs.WholeReplays.{bounds, used, IsFull, IsNoted, IsRefused, IsWhole}
 use Rattle.memory_runs.specs.Replays.{IsAsSeen}
 use Rattle.ctrl_core.specs.KeptFormat.{kept_format}
 
@@ -47,8 +49,8 @@ whole_so form m input folder before now other status same at whole seen is =
       keeps = subst (λ (i : Image). Keeps i (last_machine form bounds m (used input))) (sym seen.reads) whole.keeps;
       opens = subst (λ (i : Image). OpensToState i (last_machine form bounds m (used input)).state) (sym seen.reads) whole.opens;
       stands = λ batches stood. subst (λ (i : Image). Stands kept_format i (last_batches form bounds m (used input) batches)) (sym seen.reads) (whole.stands batches stood);
-      same = λ some still. seen.reads ∙ whole.same some still;
-      elsewhere = λ none. subst (λ (i : Image). LeavesOtherSlot before i) (sym seen.reads) (whole.elsewhere none);
+      same = λ kept still. seen.reads ∙ whole.same kept still;
+      elsewhere = λ unmigrated none. subst (λ (i : Image). LeavesOtherSlot before i) (sym seen.reads) (whole.elsewhere unmigrated none);
     }))
 
 pub refused_so : (part : Part) (at : ℕ) (folder before : Image) (now other : Seen) (status same : Status) → before ≡ folder → IsRefused part at before now status → IsAsSeen now other
@@ -56,10 +58,14 @@ pub refused_so : (part : Part) (at : ℕ) (folder before : Image) (now other : S
 refused_so part at folder before now other status same is refused seen equal =
     record { ends = equal ∙ refused.ends; said = seen.said ∙ refused.said; lines = noted_so _ now other refused.lines seen; same = seen.reads ∙ refused.same ∙ is }
 
+pub full_so : (part : Full) (folder before : Image) (now other : Seen) (status same : Status) → before ≡ folder → IsFull part before now status → IsAsSeen now other
+    → same ≡ status → IsFull part folder other same
+full_so part folder before now other status same is full seen equal =
+    record { ends = equal ∙ full.ends; said = seen.said ∙ full.said; lines = noted_so _ now other full.lines seen; same = seen.reads ∙ full.same ∙ is }
+
 -- What a folder opens to, and that it opens to none, is read of its bytes.
-pub decided_so : (folder before : Image) → before ≡ folder → ((m : Machine) × OpensTo before m) ⊎ ((part : Part) × (at : ℕ) × IsStateless before part at)
-    → ((m : Machine) × OpensTo folder m) ⊎ ((part : Part) × (at : ℕ) × IsStateless folder part at)
-decided_so folder before same is = subst (λ (i : Image). ((m : Machine) × OpensTo i m) ⊎ ((part : Part) × (at : ℕ) × IsStateless i part at)) same is
+pub decided_so : (folder before : Image) → before ≡ folder → Decided before → Decided folder
+decided_so folder before same is = subst Decided same is
 
 -- A folder whose mark is empty stands for no batches.
 pub new_stands : (image : Image) → image Mark ≡ [] → Stands kept_format image []

@@ -8,8 +8,10 @@ use Rattle.ziti_outside.specs.Images.{Image}
 use Rattle.ziti_outside.specs.Views.{Outside, Seen, Stopped}
 use Rattle.slot_files.specs.FolderImage.{Stands}
 use Rattle.row_store.specs.declared.bounds.StoreBounds.{StoreBounds}
-use Rattle.ctrl_keep.specs.KeptFolders.{IsStateless, OpensToState}
-use Rattle.ctrl_keep.proofs.OneKeptStates.{opens_undamaged, one_kept_place}
+use Rattle.row_store.specs.OpenedStates.{IsStateless, OpensToState}
+use Rattle.row_store.proofs.OneStates.{one_place, stateless_opens}
+use Rattle.run_notes.specs.declared.ends.Full.{Full}
+use Rattle.ctrl_serve.specs.MigratedRuns.{HasRoomToOpen, LacksRoom}
 use Rattle.ctrl_keep.specs.KeptBatches.{mark_at}
 use Rattle.ctrl_keep.specs.KeptMachine.{Machine}
 use Rattle.session_mux.specs.declared.events.Event.{Event}
@@ -19,15 +21,15 @@ use Rattle.run_notes.specs.declared.status.Status.TheVariants.{Done, Usage, BadI
 use Rattle.run_notes.specs.Endings.{is_cut, is_kept}
 use Rattle.run_notes.specs.Inputs.{events_in, frames_in}
 use Rattle.run_notes.specs.NotedLines.{NotesLines}
-use Rattle.run_notes.specs.Notes.{damaged_note, notes_of}
+use Rattle.run_notes.specs.Notes.{damaged_note, full_note, notes_of}
 use Rattle.ctrl_serve.specs.FrameAnswer.{batches_behind, last_batches, last_machine, machine_behind, replies, replies_to}
 use Rattle.ctrl_serve.specs.Headline.{program_bounds, taking_of, Refuses, Replays, Serves, StaysClosed}
 use Rattle.ctrl_serve.specs.OpenedFolders.{Keeps, OpensTo}
 use Rattle.ctrl_serve.specs.SaidReplies.{joined, Says, SaysAll}
 use Rattle.ctrl_serve.proofs.EndingLaws.{all_replies, told_took}
-use Rattle.memory_runs.specs.WholeReplays.{bounds, used, is_longer, IsNew, IsNoted, IsRefused, IsWhole, NotesInput}
+use Rattle.memory_runs.specs.WholeReplays.{bounds, used, is_longer, IsFull, IsNew, IsNoted, IsRefused, IsWhole, NotesInput}
 use Rattle.ctrl_serve.proofs.OpenedMachines.{opens_kept}
-use Rattle.memory_runs.proofs.OneMachines.{machine_opens, one_machine}
+use Rattle.memory_runs.proofs.OneMachines.{lacking_opens, machine_opens, no_room, one_machine, one_part}
 use Rattle.memory_runs.proofs.UsedInputs.{AreAlike, alike}
 use Rattle.ctrl_core.specs.KeptFormat.{kept_format}
 
@@ -123,8 +125,8 @@ replays_whole o form input source source_now desk desk_now status told new on r 
       opens = opens_kept (o.seen desk_now).reads (last_machine form bounds r.machine (used input)) keeps;
       stands = λ batches stood. subst (λ (bs : List (List ℕ)). Stands kept_format (o.seen desk_now).reads bs) (same_batches form r.machine (used s.taken) (used input) batches same.events)
           (r.stands has.kept new.told batches stood);
-      same = λ some still. r.still has.kept new.told some (last ∙ still);
-      elsewhere = λ none. r.elsewhere has.kept new.told (ap (λ (m : Machine). mark_at m.place) last ∙ none);
+      same = λ kept still. r.still has.kept new.told kept (last ∙ still);
+      elsewhere = λ unmigrated none. r.elsewhere has.kept new.told unmigrated (ap (λ (m : Machine). mark_at m.place) last ∙ none);
     }
 
 -- ---- a run on a folder that was not opened
@@ -137,63 +139,107 @@ pub record StaysDamaged (before now : Seen) (status : Status) : Type 0 where
   pub same : now.reads ≡ before.reads
   pub notes : NotesLines (damaged_note part at) before now
 
--- Where it was not cut short, the folder is damaged.
-stays_damaged : (tells : Bool) (before now : Seen) (status : Status) → IsTrue tells → is_cut status ≡ false → StaysClosed tells before now status → StaysDamaged before now status
-stays_damaged tells before now Done told on why = absurd why
-stays_damaged tells before now Usage told on why = absurd why
-stays_damaged tells before now BadInput told on why = absurd why
-stays_damaged tells before now Truncated told on why = absurd why
-stays_damaged tells before now ReadFault told on why = absurd why
-stays_damaged tells before now WriteFault told on why = absurd why
-stays_damaged tells before now DiskFault told on why = absurd (let e : true ≡ false = on in cc)
-stays_damaged tells before now Damaged told on why = record { ends = refl; part = why.0; at = why.1; none = why.2 told; same = why.3 told; notes = why.4 }
-stays_damaged tells before now NoMemory told on why = absurd (let e : true ≡ false = on in cc)
-stays_damaged tells before now InputTooLong told on why = absurd why
-stays_damaged tells before now FolderFull told on why = absurd why
+-- It is one of the first format without room to be migrated.
+pub record StaysFull (before now : Seen) (status : Status) : Type 0 where
+  pub ends : status ≡ FolderFull
+  pub part : Full
+  pub lacks : LacksRoom part bounds before.reads
+  pub same : now.reads ≡ before.reads
+  pub notes : NotesLines (full_note part) before now
+
+-- Where it was not cut short, the folder is damaged, or has no room.
+stays_shut : (tells : Bool) (before now : Seen) (status : Status) → IsTrue tells → is_cut status ≡ false → StaysClosed (Some bounds) tells before now status
+    → StaysDamaged before now status ⊎ StaysFull before now status
+stays_shut tells before now Done told on why = absurd why
+stays_shut tells before now Usage told on why = absurd why
+stays_shut tells before now BadInput told on why = absurd why
+stays_shut tells before now Truncated told on why = absurd why
+stays_shut tells before now ReadFault told on why = absurd why
+stays_shut tells before now WriteFault told on why = absurd why
+stays_shut tells before now DiskFault told on why = absurd (let e : true ≡ false = on in cc)
+stays_shut tells before now Damaged told on why = inl (record { ends = refl; part = why.0; at = why.1; none = why.2 told; same = why.3 told; notes = why.4 })
+stays_shut tells before now NoMemory told on why = absurd (let e : true ≡ false = on in cc)
+stays_shut tells before now InputTooLong told on why = absurd why
+stays_shut tells before now FolderFull told on why = inr (record { ends = refl; part = why.0; lacks = why.1 told; same = why.2 told; notes = why.3 })
 
 pub closed : {S D : Type 0} (o : Outside S D) (source source_now : S) (desk desk_now : D) (status : Status) → IsNew o.tells (o.seen desk) (o.stopped desk) → is_cut status ≡ false
-    → Refuses o.tells o.seen o.stopped source source_now desk desk_now status → StaysDamaged (o.seen desk) (o.seen desk_now) status
-closed o source source_now desk desk_now status new on r = stays_damaged o.tells (o.seen desk) (o.seen desk_now) status new.told on r.unopened.why
+    → Refuses bounds o.tells o.seen o.stopped source source_now desk desk_now status → StaysDamaged (o.seen desk) (o.seen desk_now) status ⊎ StaysFull (o.seen desk) (o.seen desk_now) status
+closed o source source_now desk desk_now status new on r = stays_shut o.tells (o.seen desk) (o.seen desk_now) status new.told on r.unopened.why
 
--- ---- both
+-- ---- all three
 
 abbrev pub Ran : {S D : Type 0} → Outside S D → Form → (source source_now : S) (desk desk_now : D) → Status → Type 0
 Ran o form source source_now desk desk_now status =
-    Refuses o.tells o.seen o.stopped source source_now desk desk_now status
+    Refuses bounds o.tells o.seen o.stopped source source_now desk desk_now status
     ⊎ Replays (taking_of form program_bounds.input) bounds o source source_now desk desk_now status
 
+-- What opens to a machine and has room was opened.
+never_shut : (before now : Seen) (status : Status) (m : Machine) → OpensTo before.reads m → HasRoomToOpen bounds before.reads → StaysDamaged before now status ⊎ StaysFull before now status → ⊥
+never_shut before now status m opens roomy (inl d) = stateless_opens before.reads d.part d.at m.state d.none (machine_opens before.reads m opens)
+never_shut before now status m opens roomy (inr f) = no_room f.part bounds before.reads f.lacks roomy
+
 pub whole : {S D : Type 0} (o : Outside S D) (form : Form) (input : List ℕ) (source source_now : S) (desk desk_now : D) (status : Status) (m : Machine)
-    → o.left source ≡ Some input → IsNew o.tells (o.seen desk) (o.stopped desk) → is_cut status ≡ false → OpensTo (o.seen desk).reads m
+    → o.left source ≡ Some input → IsNew o.tells (o.seen desk) (o.stopped desk) → is_cut status ≡ false → OpensTo (o.seen desk).reads m → HasRoomToOpen bounds (o.seen desk).reads
     → Ran o form source source_now desk desk_now status → IsWhole form m input (o.seen desk).reads (o.seen desk_now) status
-whole o form input source source_now desk desk_now status m told new on opens (inl refuses) =
-    let d = closed o source source_now desk desk_now status new on refuses in
-    absurd (opens_undamaged (o.seen desk).reads m.state d.part d.at (machine_opens (o.seen desk).reads m opens) d.none)
-whole o form input source source_now desk desk_now status m told new on opens (inr r) =
+whole o form input source source_now desk desk_now status m told new on opens roomy (inl refuses) =
+    absurd (never_shut (o.seen desk) (o.seen desk_now) status m opens roomy (closed o source source_now desk desk_now status new on refuses))
+whole o form input source source_now desk desk_now status m told new on opens roomy (inr r) =
     subst (λ (x : Machine). IsWhole form x input (o.seen desk).reads (o.seen desk_now) status)
     (one_machine (o.seen desk).reads r.machine m (r.opens new.told) opens)
     (replays_whole o form input source source_now desk desk_now status told new on r)
+
+refused_by : (tells : Bool) (before now : Seen) (stopped : Stopped) (status : Status) (part : Part) (at : ℕ) → IsNew tells before stopped → now.said ≡ before.said → IsStateless before.reads part at
+    → StaysDamaged before now status ⊎ StaysFull before now status → IsRefused part at before.reads now status
+refused_by tells before now stopped status part at new quiet none (inl d) =
+    let place = one_place before.reads d.part part d.at at d.none none in
+    record {
+      ends = d.ends;
+      said = quiet ∙ new.unsaid;
+      lines = subst (λ (n : ℕ). IsNoted (damaged_note part n) now) place.1
+          (subst (λ (p : Part). IsNoted (damaged_note p d.at) now) place.0 (noted (damaged_note d.part d.at) before now new.unnoted new.calm d.notes));
+      same = d.same;
+    }
+refused_by tells before now stopped status part at new quiet none (inr f) =
+    let opens = lacking_opens f.part bounds before.reads f.lacks in
+    absurd (stateless_opens before.reads part at opens.0 none opens.1)
 
 pub refused : {S D : Type 0} (o : Outside S D) (form : Form) (source source_now : S) (desk desk_now : D) (status : Status) (part : Part) (at : ℕ)
     → IsNew o.tells (o.seen desk) (o.stopped desk) → is_cut status ≡ false → IsStateless (o.seen desk).reads part at
     → Ran o form source source_now desk desk_now status → IsRefused part at (o.seen desk).reads (o.seen desk_now) status
 refused o form source source_now desk desk_now status part at new on none (inl refuses) =
-    let d = closed o source source_now desk desk_now status new on refuses in
-    let place = one_kept_place (o.seen desk).reads d.part part d.at at d.none none in
-    record {
-      ends = d.ends;
-      said = refuses.unopened.says_nothing ∙ new.unsaid;
-      lines = subst (λ (n : ℕ). IsNoted (damaged_note part n) (o.seen desk_now)) place.1
-          (subst (λ (p : Part). IsNoted (damaged_note p d.at) (o.seen desk_now)) place.0
-          (noted (damaged_note d.part d.at) (o.seen desk) (o.seen desk_now) new.unnoted new.calm d.notes));
-      same = d.same;
-    }
+    refused_by o.tells (o.seen desk) (o.seen desk_now) (o.stopped desk) status part at new refuses.unopened.says_nothing none (closed o source source_now desk desk_now status new on refuses)
 refused o form source source_now desk desk_now status part at new on none (inr r) =
-    absurd (opens_undamaged (o.seen desk).reads r.machine.state part at (machine_opens (o.seen desk).reads r.machine (r.opens new.told)) none)
+    absurd (stateless_opens (o.seen desk).reads part at r.machine.state none (machine_opens (o.seen desk).reads r.machine (r.opens new.told)))
+
+full_by : (tells : Bool) (before now : Seen) (stopped : Stopped) (status : Status) (part : Full) → IsNew tells before stopped → now.said ≡ before.said → LacksRoom part bounds before.reads
+    → StaysDamaged before now status ⊎ StaysFull before now status → IsFull part before.reads now status
+full_by tells before now stopped status part new quiet lacks (inl d) =
+    let opens = lacking_opens part bounds before.reads lacks in
+    absurd (stateless_opens before.reads d.part d.at opens.0 d.none opens.1)
+full_by tells before now stopped status part new quiet lacks (inr f) = record {
+  ends = f.ends;
+  said = quiet ∙ new.unsaid;
+  lines = subst (λ (p : Full). IsNoted (full_note p) now) (one_part f.part part bounds before.reads f.lacks lacks) (noted (full_note f.part) before now new.unnoted new.calm f.notes);
+  same = f.same;
+}
+
+pub is_full : {S D : Type 0} (o : Outside S D) (form : Form) (source source_now : S) (desk desk_now : D) (status : Status) (part : Full)
+    → IsNew o.tells (o.seen desk) (o.stopped desk) → is_cut status ≡ false → LacksRoom part bounds (o.seen desk).reads
+    → Ran o form source source_now desk desk_now status → IsFull part (o.seen desk).reads (o.seen desk_now) status
+is_full o form source source_now desk desk_now status part new on lacks (inl refuses) =
+    full_by o.tells (o.seen desk) (o.seen desk_now) (o.stopped desk) status part new refuses.unopened.says_nothing lacks (closed o source source_now desk desk_now status new on refuses)
+is_full o form source source_now desk desk_now status part new on lacks (inr r) = absurd (no_room part bounds (o.seen desk).reads lacks (r.migrates new.told))
+
+-- What it opens to.
+abbrev pub Decided : Image → Type 0
+Decided image = ((m : Machine) × OpensTo image m × HasRoomToOpen bounds image) ⊎ ((part : Full) × LacksRoom part bounds image) ⊎ ((part : Part) × (at : ℕ) × IsStateless image part at)
+
+decided_by : (before now : Seen) (status : Status) → StaysDamaged before now status ⊎ StaysFull before now status → Decided before.reads
+decided_by before now status (inl d) = inr (inr (d.part, d.at, d.none))
+decided_by before now status (inr f) = inr (inl (f.part, f.lacks))
 
 pub opens_or_not : {S D : Type 0} (o : Outside S D) (form : Form) (source source_now : S) (desk desk_now : D) (status : Status)
-    → IsNew o.tells (o.seen desk) (o.stopped desk) → is_cut status ≡ false → Ran o form source source_now desk desk_now status
-    → ((m : Machine) × OpensTo (o.seen desk).reads m) ⊎ ((part : Part) × (at : ℕ) × IsStateless (o.seen desk).reads part at)
+    → IsNew o.tells (o.seen desk) (o.stopped desk) → is_cut status ≡ false → Ran o form source source_now desk desk_now status → Decided (o.seen desk).reads
 opens_or_not o form source source_now desk desk_now status new on (inl refuses) =
-    let d = closed o source source_now desk desk_now status new on refuses in
-    inr (d.part, d.at, d.none)
-opens_or_not o form source source_now desk desk_now status new on (inr r) = inl (r.machine, r.opens new.told)
+    decided_by (o.seen desk) (o.seen desk_now) status (closed o source source_now desk desk_now status new on refuses)
+opens_or_not o form source source_now desk desk_now status new on (inr r) = inl (r.machine, r.opens new.told, r.migrates new.told)

@@ -1,27 +1,27 @@
 -- What a replay comes to over a folder that tells its bytes, where no call failed and memory sufficed: equalities alone, for every input and
 -- every folder (docs/PROMISES.md, "The headline without 'where told'").
-use Rattle.std.specs.Prelude.{◌≡◌, ℕ, ◌<◌, ◌≤◌, nat_lt, Bool, false, IsTrue, List, [], ◌++◌, length, take, Some}
+use Rattle.std.specs.Prelude.{◌≡◌, ℕ, ◌≤◌, nat_lt, Bool, false, IsTrue, List, [], ◌++◌, length, take, Some}
 use Rattle.ziti_outside.specs.Told.{IsFront}
 use Rattle.ziti_outside.specs.declared.desk.Part.{Part}
-use Rattle.ziti_outside.specs.declared.desk.Part.TheVariants.{Mark}
 use Rattle.ziti_outside.specs.Images.{Image}
 use Rattle.ziti_outside.specs.Views.{Seen, Stopped}
 use Rattle.ctrl_model.specs.State.{start}
 use Rattle.journal_core.specs.Slots.{slot_end}
 use Rattle.slot_files.specs.FolderImage.{Stands}
 use Rattle.row_store.specs.declared.bounds.StoreBounds.{StoreBounds}
-use Rattle.ctrl_keep.specs.KeptFolders.{IsStateless, OpensToState}
+use Rattle.row_store.specs.OpenedStates.{IsStateless, OpensToState}
 use Rattle.ctrl_keep.specs.KeptMachine.{Machine}
 use Rattle.session_mux.specs.declared.sessions.Form.{Form}
 use Rattle.session_mux.specs.Completion.{completed}
+use Rattle.run_notes.specs.declared.ends.Full.{Full}
 use Rattle.run_notes.specs.declared.status.Status.{Status}
-use Rattle.run_notes.specs.declared.status.Status.TheVariants.{Damaged}
+use Rattle.run_notes.specs.declared.status.Status.TheVariants.{Damaged, FolderFull}
 use Rattle.run_notes.specs.Endings.{ending}
 use Rattle.run_notes.specs.Inputs.{events_in}
-use Rattle.run_notes.specs.Notes.{damaged_note, notes_of}
+use Rattle.run_notes.specs.Notes.{damaged_note, full_note, notes_of}
 use Rattle.ctrl_serve.specs.FrameAnswer.{each_reply, last_batches, last_machine, replies}
 use Rattle.ctrl_serve.specs.Headline.{folder_bounds, program_bounds}
-use Rattle.ctrl_serve.specs.OpenedFolders.{Keeps}
+use Rattle.ctrl_serve.specs.OpenedFolders.{Keeps, IsMigratedTo, StandsOpened}
 use Rattle.ctrl_serve.specs.Reading.{is_decided}
 use Rattle.ctrl_serve.specs.RunStops.{HoldsFirst, StopFinds}
 use Rattle.ctrl_serve.specs.SaidReplies.{joined}
@@ -72,18 +72,18 @@ pub record NotesInput (form : Form) (input : List ℕ) (status : Status) (now : 
 
 -- A whole replay of an input, from the machine to which the folder opened. It ended as the used bytes decide. Exactly the replies to their
 -- frames were said, each whole and in order. The folder keeps the machine behind all of them, and so opens to its state; it stands for the
--- batches that the machine's steps make of those for which it stood; and where that machine is the one at the opening, every part reads as
--- before, unless its mark was empty. Where the machine's steps compact nothing, the slot that did not stand reads as before, and so does the
--- mark unless it was empty.
+-- batches that the machine's steps make of those for which it stood once it was opened; and where it kept the machine at the opening, and that is
+-- the one behind all frames, every part reads as before. Where it was not migrated and the machine's steps compact nothing, the slot that did not
+-- stand reads as before, and so does the mark unless it was empty.
 pub record IsWhole (form : Form) (machine : Machine) (input : List ℕ) (before : Image) (now : Seen) (status : Status) : Type 0 where
   pub ends : status ≡ ending form (used input) (is_longer input)
   pub said : now.said ≡ Some (replies form bounds machine (used input))
   pub notes : NotesInput form input status now
   pub keeps : Keeps now.reads (last_machine form bounds machine (used input))
   pub opens : OpensToState now.reads (last_machine form bounds machine (used input)).state
-  pub stands : (batches : List (List ℕ)) → Stands kept_format before batches → Stands kept_format now.reads (last_batches form bounds machine (used input) batches)
-  pub same : 0 < length (before Mark) → last_machine form bounds machine (used input) ≡ machine → now.reads ≡ before
-  pub elsewhere : CompactsNothing machine (last_machine form bounds machine (used input)) → LeavesOtherSlot before now.reads
+  pub stands : (batches : List (List ℕ)) → StandsOpened before machine batches → Stands kept_format now.reads (last_batches form bounds machine (used input) batches)
+  pub same : Keeps before machine → last_machine form bounds machine (used input) ≡ machine → now.reads ≡ before
+  pub elsewhere : (IsMigratedTo before machine → ⊥) → CompactsNothing machine (last_machine form bounds machine (used input)) → LeavesOtherSlot before now.reads
 
 -- What a stop at any moment of such a replay finds: the first frames of the input answered, and maybe one in its turn, with the folder open
 -- to the state behind them (`StopFinds`). If of the reply bytes that were taken by then the first so many replies are a front, the folder
@@ -98,4 +98,12 @@ pub record IsRefused (part : Part) (at : ℕ) (before : Image) (now : Seen) (sta
   pub ends : status ≡ Damaged
   pub said : now.said ≡ Some []
   pub lines : IsNoted (damaged_note part at) now
+  pub same : now.reads ≡ before
+
+-- A replay on a folder of the first format that has no room to be migrated, in this part: its status and its note tell that, nothing was said, and
+-- every part reads as before.
+pub record IsFull (part : Full) (before : Image) (now : Seen) (status : Status) : Type 0 where
+  pub ends : status ≡ FolderFull
+  pub said : now.said ≡ Some []
+  pub lines : IsNoted (full_note part) now
   pub same : now.reads ≡ before

@@ -3,7 +3,7 @@ ghost use Rattle.ziti_outside.specs.declared.desk.Part.TheVariants.{Zero, Mark};
 ghost use Rattle.ziti_outside.specs.Images.{Image};
 ghost use Rattle.ctrl_model.specs.State.{State, start};
 ghost use Rattle.ctrl_keep.specs.KeptMachine.{Machine};
-ghost use Rattle.ctrl_keep.specs.KeptFolders.{OpensToState};
+ghost use Rattle.row_store.specs.OpenedStates.{OpensToState};
 ghost use Rattle.session_mux.specs.declared.sessions.Form.TheVariants.{Plain};
 ghost use Rattle.run_notes.specs.declared.status.Status.TheVariants.{Done, Truncated, Damaged};
 ghost use Rattle.run_notes.specs.Notes.{damaged_note};

@@ -2,19 +2,21 @@ ghost use Rattle.std.specs.Prelude.{◌≡◌, ◌≢◌, ◌≤◌, ◌⊎◌, 
 ghost use Rattle.ziti_outside.specs.declared.desk.Part.{Part};
 ghost use Rattle.ziti_outside.specs.Told.{IsFront};
 ghost use Rattle.slot_files.specs.FolderImage.{Stands};
-ghost use Rattle.ctrl_keep.specs.KeptFolders.{IsStateless, OpensToState};
+ghost use Rattle.row_store.specs.OpenedStates.{IsStateless, OpensToState};
 ghost use Rattle.ctrl_keep.specs.KeptMachine.{Machine};
 ghost use Rattle.session_mux.specs.Completion.{completed};
+ghost use Rattle.run_notes.specs.declared.ends.Full.{Full};
 ghost use Rattle.run_notes.specs.Endings.{ending, is_cut};
 ghost use Rattle.run_notes.specs.Inputs.{events_in};
 ghost use Rattle.ctrl_serve.specs.declared.command_line.Form.TheVariants.{Replay};
 ghost use Rattle.ctrl_serve.specs.CommandLine.{form_of, texts};
 ghost use Rattle.ctrl_serve.specs.FrameAnswer.{each_reply, last_batches, last_machine, replies};
 ghost use Rattle.ctrl_serve.specs.OpenedFolders.{Keeps, OpensTo};
+ghost use Rattle.ctrl_serve.specs.MigratedRuns.{HasRoomToOpen, LacksRoom};
 ghost use Rattle.ctrl_serve.specs.RunStops.{HoldsFirst, StopFinds};
 ghost use Rattle.ctrl_serve.specs.SaidReplies.{joined};
 ghost use Rattle.ziti_desk.specs.MemEvents.{image_of};
-ghost use Rattle.memory_runs.specs.WholeReplays.{bounds, is_longer, new_machine, used, IsNew, IsWhole, IsSafe, IsRefused, NotesInput};
+ghost use Rattle.memory_runs.specs.WholeReplays.{bounds, is_longer, new_machine, used, IsFull, IsNew, IsWhole, IsSafe, IsRefused, NotesInput};
 ghost use Rattle.memory_runs.specs.Replays.{seen_of, IsAsSeen};
 ghost use Rattle.ctrl_core.specs.KeptFormat.{kept_format};
 
@@ -55,8 +57,9 @@ fn words_of(alloc: Global, form: Form) -> Result<Vec<String>, AllocError>
 /// Replays an input on a desk of which no call was made and that tells all: by the call that the program makes, on the words `replay` or
 /// `replay --sessions`.
 ///
-/// No take fails. Where no say failed, no call on the folder, and memory sufficed, the replay is whole from the machine to which the folder opens,
-/// and a stop at any moment of it is safe; or the folder opens to no state, and its first damage is told.
+/// No take fails. Where no say failed, no call on the folder, and memory sufficed, the replay is whole from the machine to which the folder opens;
+/// or the folder is one of the first format, and has no room to be migrated, which is told. A stop at any moment of either is safe. Or the folder
+/// opens to no state, and its first damage is told.
 pub fn replay_on<D: Desk>(
     alloc: Global,
     form: Form,
@@ -64,14 +67,17 @@ pub fn replay_on<D: Desk>(
     desk: &mut D,
 ) -> Result<Status, AllocError>
     requires { IsNew D.tells (D.seen desk.old) (D.stopped desk.old) }
-    ensures whole { (machine : Machine) → OpensTo (D.seen desk.old).reads machine
+    ensures whole { (machine : Machine) → OpensTo (D.seen desk.old).reads machine → HasRoomToOpen bounds (D.seen desk.old).reads
         → IfOk result (λ status. is_cut status ≡ false → IsWhole form machine input.now (D.seen desk.old).reads (D.seen desk.new) status) }
     ensures safe { (machine : Machine) → OpensTo (D.seen desk.old).reads machine
         → IfOk result (λ status. is_cut status ≡ false → IsSafe form machine input.now (D.stopped desk.new)) }
+    ensures full { (part : Full) → LacksRoom part bounds (D.seen desk.old).reads
+        → IfOk result (λ status. is_cut status ≡ false → IsFull part (D.seen desk.old).reads (D.seen desk.new) status) }
     ensures refused { (part : Part) (at : ℕ) → IsStateless (D.seen desk.old).reads part at
         → IfOk result (λ status. is_cut status ≡ false → IsRefused part at (D.seen desk.old).reads (D.seen desk.new) status) }
     ensures decided { IfOk result (λ status. is_cut status ≡ false
-        → ((machine : Machine) × OpensTo (D.seen desk.old).reads machine) ⊎ ((part : Part) × (at : ℕ) × IsStateless (D.seen desk.old).reads part at)) }
+        → ((machine : Machine) × OpensTo (D.seen desk.old).reads machine × HasRoomToOpen bounds (D.seen desk.old).reads)
+        ⊎ ((part : Full) × LacksRoom part bounds (D.seen desk.old).reads) ⊎ ((part : Part) × (at : ℕ) × IsStateless (D.seen desk.old).reads part at)) }
     ensures no_take_fails { IfOk result (λ status. status ≢ Status.ReadFault) }
 {
     let words = words_of(alloc, form)?;
@@ -124,8 +130,8 @@ fn taken_from(alloc: Global, status: Status, desk: &MemoryDesk) -> Result<Replay
 /// Replays an input over a folder in memory: by the call that the program makes, and on the program's desk, whose folder is in memory here.
 ///
 /// The one answer that hangs on more than the input and the folder is want of memory, or of the room that the folder and the log of its calls
-/// were given; then nothing is told. Otherwise the folder opens to a machine, and the replay from there is whole; or it opens to no state, and its
-/// first damage is told. The notes are all there.
+/// were given; then nothing is told. Otherwise the folder opens to a machine, and the replay from there is whole; or it is one of the first format
+/// and has no room to be migrated, which is told; or it opens to no state, and its first damage is told. The notes are all there.
 pub fn replay_in_memory(
     alloc: Global,
     form: Form,
@@ -133,11 +139,14 @@ pub fn replay_in_memory(
     folder: Images,
     room: Room,
 ) -> Result<Replayed, AllocError>
-    ensures whole { (machine : Machine) → OpensTo (image_of folder) machine
+    ensures whole { (machine : Machine) → OpensTo (image_of folder) machine → HasRoomToOpen bounds (image_of folder)
         → IfOk result (λ r. IsWhole form machine input.now (image_of folder) (seen_of r) r.status) }
+    ensures full { (part : Full) → LacksRoom part bounds (image_of folder)
+        → IfOk result (λ r. IsFull part (image_of folder) (seen_of r) r.status) }
     ensures refused { (part : Part) (at : ℕ) → IsStateless (image_of folder) part at
         → IfOk result (λ r. IsRefused part at (image_of folder) (seen_of r) r.status) }
-    ensures decided { IfOk result (λ r. ((machine : Machine) × OpensTo (image_of folder) machine) ⊎ ((part : Part) × (at : ℕ) × IsStateless (image_of folder) part at)) }
+    ensures decided { IfOk result (λ r. ((machine : Machine) × OpensTo (image_of folder) machine × HasRoomToOpen bounds (image_of folder))
+        ⊎ ((part : Full) × LacksRoom part bounds (image_of folder)) ⊎ ((part : Part) × (at : ℕ) × IsStateless (image_of folder) part at)) }
 {
     let mut desk = program_desk(alloc, folder, room)?;
     let status = uncut(replay_on(alloc, form, input, &mut desk)?)?;

@@ -26,9 +26,17 @@ const MADE: &[u8] =
 const EXISTS: &[u8] =
     b"\x03\x06\x09\x0c\x02\0\0\0\0\0\0\0\x15\0\0\0\x1b\0\0\0\x01\0\0\0\x04\0\0\0\x07\0\0\0\x02\0\0\0\x01\0\0\0\0{\"code\":20,\"name\":\"Exists\"}";
 
-/// The slot that keeps ann: its header, an open gate, the next number of identities and the identity, and a closed gate.
+/// The slot that keeps ann: its header, an open gate, the next number of identities, the identity and the serial 1, and a closed gate.
 const SLOT: &[u8] =
+    b"ZCTL\x02\0\0\0\x01\x2b\0\0\0\x01\x02\x01\x01\x04\0\0\0\x02\0\0\0\x01\x05\x03\0\0\0\x01\x05\0\0\0\x03ann\0\x01\x01\x11\x08\0\0\0\x01\0\0\0\0\0\0\0\0";
+
+/// The same in the first format, which has no serial.
+const OLD_SLOT: &[u8] =
     b"ZCTL\x01\0\0\0\x01\x1c\0\0\0\x01\x02\x01\x01\x04\0\0\0\x02\0\0\0\x01\x05\x03\0\0\0\x01\x05\0\0\0\x03ann\0\0";
+
+/// The second slot once that was migrated: the same bytes behind the header of the second format.
+const MIGRATED_SLOT: &[u8] =
+    b"ZCTL\x02\0\0\0\x01\x1c\0\0\0\x01\x02\x01\x01\x04\0\0\0\x02\0\0\0\x01\x05\x03\0\0\0\x01\x05\0\0\0\x03ann\0\0";
 
 fn folder_of(alloc: Global, zero: &[u8], mark: &[u8]) -> Result<Images, AllocError> {
     let mut folder = Images::empty(alloc);
@@ -70,6 +78,17 @@ fn goes_on_from_a_folder(rt: HostRuntime) -> Result<(), Fail> {
     let replayed = replay_in_memory(rt.alloc(), Form::Plain, ANN, folder, ROOM)?;
     told(&rt, &replayed, Status::Done, EXISTS, "");
     keeps_ann(&rt, &replayed.folder);
+    Ok(())
+}
+
+#[test]
+fn migrates_a_folder_of_the_first_format(rt: HostRuntime) -> Result<(), Fail> {
+    let folder = folder_of(rt.alloc(), OLD_SLOT, b"\0")?;
+    let replayed = replay_in_memory(rt.alloc(), Form::Plain, b"", folder, ROOM)?;
+    told(&rt, &replayed, Status::Done, b"", "");
+    are_bytes(&rt, replayed.folder.zero.as_slice(), b"");
+    are_bytes(&rt, replayed.folder.one.as_slice(), MIGRATED_SLOT);
+    are_bytes(&rt, replayed.folder.mark.as_slice(), b"\0\0");
     Ok(())
 }
 

@@ -2,7 +2,8 @@
 
 use ctrl_serve::{Bounds, Status, run_within};
 use sample_runs::{
-    ANN_ALONE, ANN_SLOT, BOTH, FIRST, How, NOTHING, Talk, desk_of, parts_of, source_of, words_of,
+    ANN_ALONE, ANN_SLOT, BOTH, FIRST, How, NOTHING, OLD_ANN, Talk, desk_of, parts_of, source_of,
+    words_of,
 };
 use std::alloc::{AllocError, Global};
 use std::process::Abort;
@@ -17,10 +18,12 @@ const ROOM: Room = Room {
     log_bytes: 524_288,
 };
 
-/// A folder without a byte, and the one that keeps ann alone.
+/// A folder without a byte, the one that keeps ann alone, and the same in the first format.
 pub(crate) const EMPTY: [&[u8]; 3] = [b"", b"", b""];
 
 pub(crate) const ANN_FOLDER: [&[u8]; 3] = [ANN_SLOT, b"", FIRST];
+
+pub(crate) const OLD_FOLDER: [&[u8]; 3] = [OLD_ANN, b"", FIRST];
 
 /// How a run ends: its status, what is said, and what is noted.
 pub(crate) type Ended<'b> = (Status, &'b [u8], &'b [u8]);

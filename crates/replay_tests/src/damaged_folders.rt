@@ -22,15 +22,16 @@ enum Change {
 ///
 /// A slot opens where an open gate closes, as it does by any other byte; where a next number rises; and where a letter of a name
 /// becomes another one, or a semantic that says nothing of `#all` the other one. Keys that do not rise, as behind a table whose bits
-/// are turned, are no batch, and the next number of services that is put twice is no change.
+/// are turned, are no batch, and the next number of services that is put twice is no change. Each record ends in the put of the serial, one
+/// more in each: where the first one's is another number, the second does not raise it.
 const CHANGES: [(Change, [&[u8]; 5]); 3] = [
     (
         Change::Rises,
         [
             b"00000000",
-            b".111111421111....114444411114...4",
-            b".222222442222....224444422224...4",
-            b".333333443333....334444433334.4.4444443344444444433334444",
+            b".111111421111....114444411114...4112111122222222",
+            b".222222442222....224444422224...4222222222222222",
+            b".333333443333....334444433334.4.44444433444444444333344333333333333333",
             b"4",
         ],
     ),
@@ -38,9 +39,9 @@ const CHANGES: [(Change, [&[u8]; 5]); 3] = [
         Change::Turns,
         [
             b"00000000",
-            b".111111141111....1144444111144444",
-            b".222222242222....2244444222244444",
-            b".333333343333....3334444333344444444443344444444433334444",
+            b".111111141111....1114444111144444112111122222222",
+            b".222222242222....2224444222244444222222222222222",
+            b".333333343333....33344443333444444444433344444444333344333333333333333",
             b".",
         ],
     ),
@@ -48,9 +49,9 @@ const CHANGES: [(Change, [&[u8]; 5]); 3] = [
         Change::LastTurns,
         [
             b"00000000",
-            b".111111441111....1144444111144..4",
-            b".222222442222....224444422224...4",
-            b".333333443333....334444433334.444444443344444444433334444",
+            b".111111441111....1144444111144..4112111122222222",
+            b".222222442222....224444422224...4222222222222222",
+            b".333333443333....334444433334.4444444433444444444333344333333333333333",
             b"4",
         ],
     ),
@@ -59,14 +60,14 @@ const CHANGES: [(Change, [&[u8]; 5]); 3] = [
 /// The place of a byte that goes up by one, and what then is answered: gates that close, next numbers, and names.
 const OPENED: &str = r#"
 8 1502 {} -> {"circuits":0,"grants":0,"identities":0,"links":0,"policies":0,"routers":0,"services":0,"terminators":0}
-41 1502 {} -> {"circuits":0,"grants":0,"identities":1,"links":0,"policies":0,"routers":0,"services":0,"terminators":0}
-74 1502 {} -> {"circuits":0,"grants":0,"identities":1,"links":0,"policies":0,"routers":0,"services":1,"terminators":0}
+56 1502 {} -> {"circuits":0,"grants":0,"identities":1,"links":0,"policies":0,"routers":0,"services":0,"terminators":0}
+104 1502 {} -> {"circuits":0,"grants":0,"identities":1,"links":0,"policies":0,"routers":0,"services":1,"terminators":0}
 21 1000 {"name":"bob"} -> {"no":3}
-57 1010 {"name":"app"} -> {"no":16777218}
+72 1010 {"name":"app"} -> {"no":16777218}
 37 1500 {"identity":"bnn"} -> {"bind":[],"dial":[["web",1]],"routers":[]}
-70 1501 {"identity":"ann"} -> {"services":["xeb"]}
-103 1102 {"name":"q"} -> {}
-105 1501 {"identity":"ann"} -> {"services":["web"]}
+85 1501 {"identity":"ann"} -> {"services":["xeb"]}
+133 1102 {"name":"q"} -> {}
+135 1501 {"identity":"ann"} -> {"services":["web"]}
 "#;
 
 // The slot of ann, web and the policy with its count.
@@ -101,9 +102,9 @@ fn note_of(letter: u8) -> &'static str {
     match letter {
         b'0' => "zitictl: damaged: file 0 at 0\n",
         b'1' => "zitictl: damaged: file 0 at 8\n",
-        b'2' => "zitictl: damaged: file 0 at 41\n",
-        b'3' => "zitictl: damaged: file 0 at 74\n",
-        b'4' => "zitictl: damaged: file 0 at 131\n",
+        b'2' => "zitictl: damaged: file 0 at 56\n",
+        b'3' => "zitictl: damaged: file 0 at 104\n",
+        b'4' => "zitictl: damaged: file 0 at 174\n",
         _ => "",
     }
 }
@@ -214,11 +215,11 @@ fn opens_to_what_other_bytes_say(rt: HostRuntime) -> Result<(), Fail> {
 /// cut, or at the closed gate, which is gone.
 const CUTS: [(usize, u8); 6] = [
     (8, b'0'),
-    (41, b'1'),
-    (74, b'2'),
-    (131, b'3'),
-    (132, b'4'),
-    (133, b'.'),
+    (56, b'1'),
+    (104, b'2'),
+    (174, b'3'),
+    (175, b'4'),
+    (176, b'.'),
 ];
 
 // What comes of the fronts of the slot from one length to before another.

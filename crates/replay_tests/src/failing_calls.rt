@@ -17,7 +17,7 @@ type Trial = (
     [usize; 2],
 );
 
-const TRIALS: [Trial; 6] = [
+const TRIALS: [Trial; 9] = [
     // Ann's frame on an empty folder, which is created by two writes and two syncs, and takes her record by as many.
     (&["replay"], ["- - -", "ANN", "MADE"], [0, 1], [8, 1]),
     // Bob's frame on ann's folder: two syncs where it is opened, two writes and two syncs.
@@ -50,6 +50,15 @@ const TRIALS: [Trial; 6] = [
     ),
     // Its compaction: two syncs where it is opened, two writes, two syncs and a cut.
     (&["compact"], ["ANN_SLOT - FIRST", "-", "-"], [1, 1], [7, 0]),
+    // The migration of her folder of the first format takes as many; and so it is with bob's frame behind it, and with a compaction.
+    (&["replay"], ["OLD_ANN - FIRST", "-", "-"], [1, 1], [7, 0]),
+    (
+        &["replay"],
+        ["OLD_ANN - FIRST", "BOB", "BOB_MADE"],
+        [1, 2],
+        [11, 1],
+    ),
+    (&["compact"], ["OLD_ANN - FIRST", "-", "-"], [1, 1], [12, 0]),
 ];
 
 /// The bytes of a trial: the folder, the input, and what the whole run says.

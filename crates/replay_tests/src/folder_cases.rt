@@ -9,7 +9,7 @@ use std::test::Fail;
 use ziti_desk::Images;
 
 /// The words, the folder before, how it is bounded, the input, the name of the status, what is said, the notes, and the folder behind the run, which `=` says
-/// is as before. `-` stands for nothing. Ann takes 42 bytes of a slot, both identities 58, web 28 more, and all three as one record 86.
+/// is as before. `-` stands for nothing. Ann takes 57 bytes of a slot, both identities 73 as one record, and all three 101.
 const CASES: &str = r#"
 audit | ANN_SLOT - FIRST | - | - | Done | ANN_ALONE | - | =
 audit | - - - | - | - | Done | NOTHING | - | =
@@ -27,18 +27,22 @@ advise ann web | FOREIGN_SLOT ANN_SLOT FIRST | - | - | Damaged | - | damaged: fi
 compact | ANN_SLOT - FIRST | slot=64 mark=2 | - | Done | - | - | - ANN_SLOT SECOND
 compact | any+\x20+bytes ANN_SLOT SECOND | slot=64 mark=3 | - | Done | - | - | ANN_SLOT - THIRD
 compact | ANN_SLOT - THIRD | slot=1024 mark=4 | - | Done | - | - | - ANN_SLOT \0\0\0\0
-compact | BOTH_SLOT - FIRST | slot=64 mark=2 | - | Done | - | - | - BOTH_SLOT SECOND
+compact | BOTH_SLOT - FIRST | slot=73 mark=2 | - | Done | - | - | - BOTH_SLOT SECOND
 compact | BARE_SLOT - FIRST | slot=64 mark=2 | - | Done | - | - | - BARE_SLOT SECOND
 compact | - - - | slot=64 mark=2 | - | Done | - | - | - BARE_SLOT SECOND
 compact | other+\x20+bytes - - | slot=64 mark=2 | - | Done | - | - | - BARE_SLOT SECOND
 compact | ANN_SLOT - FIRST | slot=1024 mark=1 | - | FolderFull | - | mark full | =
 compact | - ANN_SLOT SECOND | slot=1024 mark=2 | - | FolderFull | - | mark full | =
 compact | - - - | slot=64 mark=1 | - | FolderFull | - | mark full | BARE_SLOT - FIRST
-compact | HEADER+ANN_KEPT+BOB_KEPT+WEB_KEPT+\0 - FIRST | slot=64 mark=2 | - | FolderFull | - | journal full | =
-compact | HEADER+ANN_KEPT+BOB_KEPT+WEB_KEPT+\0 - FIRST | slot=85 mark=2 | - | FolderFull | - | journal full | =
-compact | HEADER+ANN_KEPT+BOB_KEPT+WEB_KEPT+\0 - FIRST | slot=85 mark=1 | - | FolderFull | - | journal full | =
-compact | HEADER+ANN_KEPT+BOB_KEPT+WEB_KEPT+\0 - FIRST | slot=86 mark=1 | - | FolderFull | - | mark full | =
-compact | HEADER+ANN_KEPT+BOB_KEPT+WEB_KEPT+\0 - FIRST | slot=86 mark=2 | - | Done | - | - | - ALL_SLOT SECOND
+compact | HEADER+ANN_KEPT+BOB_KEPT+WEB_THIRD+\0 - FIRST | slot=64 mark=2 | - | FolderFull | - | journal full | =
+compact | HEADER+ANN_KEPT+BOB_KEPT+WEB_THIRD+\0 - FIRST | slot=100 mark=2 | - | FolderFull | - | journal full | =
+compact | HEADER+ANN_KEPT+BOB_KEPT+WEB_THIRD+\0 - FIRST | slot=100 mark=1 | - | FolderFull | - | journal full | =
+compact | HEADER+ANN_KEPT+BOB_KEPT+WEB_THIRD+\0 - FIRST | slot=101 mark=1 | - | FolderFull | - | mark full | =
+compact | HEADER+ANN_KEPT+BOB_KEPT+WEB_THIRD+\0 - FIRST | slot=101 mark=2 | - | Done | - | - | - ALL_SLOT SECOND
+compact | OLD_ANN - FIRST | slot=64 mark=3 | - | Done | - | - | NEW_ANN - THIRD
+compact | OLD_ANN - FIRST | slot=64 mark=2 | - | FolderFull | - | mark full | - NEW_ANN SECOND
+compact | OLD_ANN - FIRST | slot=64 mark=1 | - | FolderFull | - | mark full | =
+compact | OLD_BOTH - FIRST | slot=64 mark=3 | - | Done | - | - | NEW_BOTH - THIRD
 compact | ZCTL ANN_SLOT FIRST | - | - | Damaged | - | damaged: file 0 at 0 | =
 replay | - - - | slot=64 mark=1 most=34 | ANN | Done | MADE | - | ANN_SLOT - FIRST
 replay | - - - | slot=64 mark=1 most=34 | ANN \x03 | InputTooLong | MADE | input too long | ANN_SLOT - FIRST
@@ -49,11 +53,27 @@ replay | - - - | piece=20 take=0 | ANN | ReadFault | - | read fault | BARE_SLOT 
 replay | - - - | piece=20 take=1 | ANN | ReadFault | - | read fault | BARE_SLOT - FIRST
 replay | - - - | piece=20 take=2 | ANN | ReadFault | MADE | read fault | ANN_SLOT - FIRST
 replay | ANN_SLOT - FIRST | slot=64 mark=1 | - | Done | - | - | =
-replay | HEADER+ANN_KEPT+WEB_KEPT+GRANT_TWICE+\0 HEADER+ANN_KEPT+WEB_KEPT+GRANT_KEPT+\0 FIRST | - | ANN | Damaged | - | damaged: file 0 at 131 | =
-replay | HEADER+ANN_KEPT+WEB_KEPT+GRANT_KEPT+\0 HEADER+ANN_KEPT+WEB_KEPT+GRANT_TWICE+\0 SECOND | - | ANN | Damaged | - | damaged: file 1 at 131 | =
-replay | HEADER+ANN_KEPT+WEB_KEPT+GRANT_TWICE+\0 HEADER+ANN_KEPT+WEB_KEPT+GRANT_KEPT+\0 \x01\x02\x03 | - | ANN | Damaged | - | damaged: file 0 at 131 | =
+replay | HEADER+ANN_KEPT+WEB_KEPT+GRANT_TWICE+\0 HEADER+ANN_KEPT+WEB_KEPT+GRANT_KEPT+\0 FIRST | - | ANN | Damaged | - | damaged: file 0 at 174 | =
+replay | HEADER+ANN_KEPT+WEB_KEPT+GRANT_KEPT+\0 HEADER+ANN_KEPT+WEB_KEPT+GRANT_TWICE+\0 SECOND | - | ANN | Damaged | - | damaged: file 1 at 174 | =
+replay | HEADER+ANN_KEPT+WEB_KEPT+GRANT_TWICE+\0 HEADER+ANN_KEPT+WEB_KEPT+GRANT_KEPT+\0 \x01\x02\x03 | - | ANN | Damaged | - | damaged: file 0 at 174 | =
+replay | OLD_ANN - FIRST | slot=64 mark=2 | - | Done | - | - | - NEW_ANN SECOND
+replay | - OLD_ANN SECOND | slot=64 mark=3 | - | Done | - | - | NEW_ANN - THIRD
+replay | OLD_ANN ANY FIRST | slot=64 mark=2 | - | Done | - | - | - NEW_ANN SECOND
+replay | OLD_BOTH - FIRST | slot=64 mark=2 | - | Done | - | - | - NEW_BOTH SECOND
+replay | OLD_BARE - FIRST | slot=64 mark=2 | - | Done | - | - | - BARE_SLOT SECOND
+replay | OLD_ANN - FIRST | slot=1024 mark=2 | BOB | Done | BOB_MADE | - | - HEADER+NEW_KEPT+BOB_FIRST+\0 SECOND
+replay | OLD_ANN - FIRST | slot=64 mark=1 | BOB | FolderFull | - | mark full | =
+replay | OLD_ALL - FIRST | slot=85 mark=2 | BOB | FolderFull | - | journal full | =
+replay | OLD_ALL - FIRST | slot=85 mark=1 | BOB | FolderFull | - | journal full | =
+replay | OLD_ALL - FIRST | slot=86 mark=1 | BOB | FolderFull | - | mark full | =
+replay | OLD_ALL - FIRST | slot=86 mark=2 | - | Done | - | - | - NEW_ALL SECOND
+compact | OLD_ALL - FIRST | slot=85 mark=2 | - | FolderFull | - | journal full | =
+audit | OLD_ANN - FIRST | slot=64 mark=1 | - | Done | ANN_ALONE | - | =
+advise ann web | OLD_ANN - FIRST | - | - | Done | NO_SERVICE | - | =
+replay | HEADER+ANN_KEPT+BOB_UNCOUNTED+\0 - FIRST | - | ANN | Damaged | - | damaged: file 0 at 56 | =
+replay | HEADER+ANN_KEPT+BOB_THIRD+\0 - FIRST | - | ANN | Damaged | - | damaged: file 0 at 56 | =
 replay | LONGEST_SLOT - FIRST | - | ANN | Damaged | - | damaged: file 0 at 8 | =
-replay | HEADER+ANN_KEPT+BOB_GOES+\0 - FIRST | - | ANN | Damaged | - | damaged: file 0 at 41 | =
+replay | HEADER+ANN_KEPT+BOB_GOES+\0 - FIRST | - | ANN | Damaged | - | damaged: file 0 at 56 | =
 "#;
 
 /// The fields of a case.

@@ -8,40 +8,40 @@ use std::test::Fail;
 use ziti_desk::Images;
 
 /// Runs, with the folder before, how it is bounded, and the folder behind the run. A slot has 9 bytes beside its records; the records of identities and of
-/// web have 33 bytes, that of the policy 57, and those of the router 35 and 23. Compacted, ann, bob and web take 14 bytes and a batch of 72.
+/// web have 48 bytes, that of the policy 70, and those of the router 50 and 38. Compacted, ann, bob and web take 14 bytes and a batch of 87.
 const RUNS: &str = r##"
-# no room for bob | ANN_SLOT - FIRST | slot=74 mark=1 | ANN_SLOT - FIRST
+# no room for bob | ANN_SLOT - FIRST | slot=104 mark=1 | ANN_SLOT - FIRST
 1000 {"name":"bob"} -> {"code":40,"name":"JournalFull"}
 1000 {"name":"ann"} -> {"code":20,"name":"Exists"}
 
-# room for bob | ANN_SLOT - FIRST | slot=75 mark=1 | HEADER+ANN_KEPT+BOB_KEPT+\0 - FIRST
+# room for bob | ANN_SLOT - FIRST | slot=105 mark=1 | HEADER+ANN_KEPT+BOB_KEPT+\0 - FIRST
 1000 {"name":"bob"} -> {"no":2}
 
-# a full slot | HEADER+ANN_KEPT+BOB_KEPT+\0 - FIRST | slot=75 mark=1 | HEADER+ANN_KEPT+BOB_KEPT+\0 - FIRST
+# a full slot | HEADER+ANN_KEPT+BOB_KEPT+\0 - FIRST | slot=105 mark=1 | HEADER+ANN_KEPT+BOB_KEPT+\0 - FIRST
 1000 {"name":"ann"} -> {"code":20,"name":"Exists"}
 
 # the least slot | - - - | slot=64 mark=1 | ANN_SLOT - FIRST
 1000 {"name":"ann"} -> {"no":1}
 1000 {"name":"bob"} -> {"code":40,"name":"JournalFull"}
 
-# room for a policy | - - - | slot=132 mark=1 | HEADER+ANN_KEPT+WEB_KEPT+GRANT_KEPT+\0 - FIRST
+# room for a policy | - - - | slot=175 mark=1 | HEADER+ANN_KEPT+WEB_KEPT+GRANT_KEPT+\0 - FIRST
 PAIR
 1100 {"name":"p","type":"Dial","semantic":"AnyOf","identity_roles":["#all"],"service_roles":["#all"]} -> {"no":1}
 
-# no room for it | - - - | slot=131 mark=1 | HEADER+ANN_KEPT+WEB_KEPT+\0 - FIRST
+# no room for it | - - - | slot=174 mark=1 | HEADER+ANN_KEPT+WEB_KEPT+\0 - FIRST
 PAIR
 1100 {"name":"p","type":"Dial","semantic":"AnyOf","identity_roles":["#all"],"service_roles":["#all"]} -> {"code":40,"name":"JournalFull"}
 
-# a command that changes nothing | - - - | slot=67 mark=1 | HEADER+ROUTER_KEPT+CONNECTED_KEPT+\0 - FIRST
+# a command that changes nothing | - - - | slot=97 mark=1 | HEADER+ROUTER_KEPT+CONNECTED_KEPT+\0 - FIRST
 1020 {"name":"r1"} -> {"no":1}
 1023 {"name":"r1"} -> {}
 1023 {"name":"r1"} -> {}
 1024 {"name":"r1"} -> {"code":40,"name":"JournalFull"}
 
-# no room to compact | HEADER+ANN_KEPT+BOB_KEPT+WEB_KEPT+\0 - FIRST | slot=85 mark=1 | HEADER+ANN_KEPT+BOB_KEPT+WEB_KEPT+\0 - FIRST
+# no room to compact | HEADER+ANN_KEPT+BOB_KEPT+WEB_THIRD+\0 - FIRST | slot=100 mark=1 | HEADER+ANN_KEPT+BOB_KEPT+WEB_THIRD+\0 - FIRST
 1510 {} -> {"code":40,"name":"JournalFull"}
 
-# a full mark | HEADER+ANN_KEPT+BOB_KEPT+WEB_KEPT+\0 - FIRST | slot=86 mark=1 | HEADER+ANN_KEPT+BOB_KEPT+WEB_KEPT+\0 - FIRST
+# a full mark | HEADER+ANN_KEPT+BOB_KEPT+WEB_THIRD+\0 - FIRST | slot=101 mark=1 | HEADER+ANN_KEPT+BOB_KEPT+WEB_THIRD+\0 - FIRST
 1510 {} -> {"code":41,"name":"MarkFull"}
 
 # goes on in the other slot | - - - | slot=1024 mark=2 | - HEADER+ANN_KEPT+BOB_KEPT+\0 SECOND
@@ -50,20 +50,20 @@ PAIR
 1000 {"name":"bob"} -> {"no":2}
 1510 {} -> {"code":41,"name":"MarkFull"}
 
-# has room again: behind ann, who is made and deleted, the slot has 54 bytes, and with bob 87 | - - - | slot=64 mark=2 | - HEADER+NEXT_KEPT+BOB_KEPT+\0 SECOND
+# has room again: behind ann, who is made and deleted, the slot has 84 bytes, and with bob 132; compacted, 41 and 89 | - - - | slot=89 mark=2 | - HEADER+NEXT_KEPT+BOB_THIRD+\0 SECOND
 1000 {"name":"ann"} -> {"no":1}
 1002 {"name":"ann"} -> {}
 1000 {"name":"bob"} -> {"code":40,"name":"JournalFull"}
 1510 {} -> {}
 1000 {"name":"bob"} -> {"no":2}
 
-# begins anew where the mark is empty | \xff*50 \xff*3 - | slot=75 mark=1 | ANN_SLOT+\xff*8 \xff*3 FIRST
+# begins anew where the mark is empty | \xff*65 \xff*3 - | slot=105 mark=1 | ANN_SLOT+\xff*8 \xff*3 FIRST
 1000 {"name":"ann"} -> {"no":1}
 
-# goes on in the slot that stands | ANN_SLOT ANN_SLOT SECOND | slot=75 mark=1 | ANN_SLOT HEADER+ANN_KEPT+BOB_KEPT+\0 SECOND
+# goes on in the slot that stands | ANN_SLOT ANN_SLOT SECOND | slot=105 mark=1 | ANN_SLOT HEADER+ANN_KEPT+BOB_KEPT+\0 SECOND
 1000 {"name":"bob"} -> {"no":2}
 
-# bob's record is written over web's, so a closed gate stands where the policy's was | HEADER+ANN_KEPT+WEB_CLOSED+GRANT_KEPT+\0 - FIRST | slot=75 mark=1 | HEADER+ANN_KEPT+BOB_KEPT+GRANT_CLOSED+\0 - FIRST
+# bob's record is written over web's, so a closed gate stands where the policy's was | HEADER+ANN_KEPT+WEB_CLOSED+GRANT_KEPT+\0 - FIRST | slot=105 mark=1 | HEADER+ANN_KEPT+BOB_KEPT+GRANT_CLOSED+\0 - FIRST
 1000 {"name":"bob"} -> {"no":2}
 "##;
 

@@ -1,15 +1,15 @@
 //! Runs that stop at each moment, by what the stop keeps of what is pending: what the folder then opens to, and how it goes on.
 
-use crate::checks::{ANN_FOLDER, EMPTY, answers, has_rows, holds, identities_in, ran};
+use crate::checks::{ANN_FOLDER, EMPTY, OLD_FOLDER, answers, has_rows, holds, identities_in, ran};
 use ctrl_serve::Status;
-use sample_runs::{BOTH_SLOT, How, Talk, parts_in, parts_of};
+use sample_runs::{BOTH_ONCE, BOTH_SLOT, How, Talk, parts_in, parts_of};
 use std::alloc::{AllocError, Global};
 use std::process::Abort;
 use std::test::Fail;
 use ziti_desk::MemDesk;
 
-/// A run of a word on a folder that keeps none of ann and bob, ann or both: its requests, how many of both the folder keeps before, how many the run makes, and
-/// the least number of its moments.
+/// A run of a word on a folder that keeps none of ann and bob, ann or both: its requests, how many of both the folder keeps before, how many the run makes, the
+/// least number of its moments, and the slot of both once the missing ones were made.
 #[derive(Clone, Copy)]
 struct Trial {
     word: &'static str,
@@ -18,6 +18,7 @@ struct Trial {
     kept: usize,
     made: usize,
     least: u64,
+    both: &'static [u8],
 }
 
 /// The choices of a stop: of what is pending it keeps nothing, all, or a part.
@@ -30,7 +31,7 @@ const MISSING: [&str; 3] = [BOTH, "1000 {\"name\":\"bob\"} -> {\"no\":2}", ""];
 
 const REPLY: usize = 49;
 
-const TRIALS: [Trial; 2] = [
+const TRIALS: [Trial; 5] = [
     // Both are made on an empty folder: each record takes two writes and two syncs, and each reply one say.
     Trial {
         word: "replay",
@@ -39,6 +40,7 @@ const TRIALS: [Trial; 2] = [
         kept: 0,
         made: 2,
         least: 10,
+        both: BOTH_SLOT,
     },
     // Ann's folder is compacted: the other slot is written and synced, the mark too, and the slot that stood is cut.
     Trial {
@@ -48,6 +50,37 @@ const TRIALS: [Trial; 2] = [
         kept: 1,
         made: 0,
         least: 5,
+        both: BOTH_SLOT,
+    },
+    // Ann's folder of the first format is migrated, by the same calls.
+    Trial {
+        word: "replay",
+        parts: OLD_FOLDER,
+        rows: "",
+        kept: 1,
+        made: 0,
+        least: 5,
+        both: BOTH_ONCE,
+    },
+    // Behind that bob is made.
+    Trial {
+        word: "replay",
+        parts: OLD_FOLDER,
+        rows: "1000 {\"name\":\"bob\"} -> {\"no\":2}",
+        kept: 1,
+        made: 1,
+        least: 10,
+        both: BOTH_ONCE,
+    },
+    // Or it is compacted again.
+    Trial {
+        word: "compact",
+        parts: OLD_FOLDER,
+        rows: "",
+        kept: 1,
+        made: 0,
+        least: 10,
+        both: BOTH_ONCE,
     },
 ];
 
@@ -67,7 +100,7 @@ fn goes_on(
     holds(rt, trial.word, kept == known || is_next);
     let rows = MISSING.get(kept).unwrap_or(&"");
     let desk = answers(rt, alloc, How::AMPLE, parts, rows)?;
-    has_rows(rt, alloc, parts_of(&desk), BOTH_SLOT)
+    has_rows(rt, alloc, parts_of(&desk), trial.both)
 }
 
 // What is said up to a stop is a front of what the whole run says.

@@ -20,8 +20,8 @@ pub use models::model;
 pub use parts::{bytes_of, folder_of, notes_of};
 pub use recording::{Asked, Calls, NONE_FAILS, Name, Recorded, RecordedFile, Spoken};
 pub use slots::{
-    ANN_ALONE, ANN_KEPT, ANN_SLOT, BOB_KEPT, BOTH, BOTH_SLOT, FIRST, GRANT_KEPT, NOTHING, SECOND,
-    WEB_KEPT, slot_of,
+    ANN_ALONE, ANN_KEPT, ANN_SLOT, BOB_KEPT, BOTH, BOTH_ONCE, BOTH_SLOT, FIRST, GRANT_KEPT,
+    NOTHING, OLD_ANN, SECOND, WEB_KEPT, slot_of,
 };
 pub use talks::Talk;
 pub use wide::wide_folder;

@@ -103,23 +103,39 @@ BOB_MADE \x03\x06\x09\x0c\x02\0\0\0\0\0\0\0\x15\0\0\0\x08\0\0\0\x01\0\0\0\x04\0\
 # The reports on absent names: an identity, and a service where ann is there.
 NO_ONE {"admissible":[],"bind":0,"common":[],"dial":0,"online":[],"policies":[],"rule":30,"terminators":[],"yes":false}\x0a
 NO_SERVICE {"admissible":[],"bind":0,"common":[],"dial":0,"online":[],"policies":[],"rule":31,"terminators":[],"yes":false}\x0a
-# A slot in which ann's record stands behind a gate that is still closed, one of another format, one with a length of 2^32 - 1, and bytes that are none.
-PENDING_SLOT ZCTL\x01\0\0\0\0\x1c\0\0\0\x01\x02\x01\x01\x04\0\0\0\x02\0\0\0\x01\x05\x03\0\0\0\x01\x05\0\0\0\x03ann\0\0
+# A slot in which ann's record stands behind a gate that is still closed, one of no format, one with a length of 2^32 - 1, and bytes that are none.
+PENDING_SLOT ZCTL\x02\0\0\0\0\x2b\0\0\0\x01\x02\x01\x01\x04\0\0\0\x02\0\0\0\x01\x05\x03\0\0\0\x01\x05\0\0\0\x03ann\0\x01\x01\x11\x08\0\0\0\x01\0\0\0\0\0\0\0\0
 FOREIGN_SLOT ZCTL\x03\0\0\0\0
-LONGEST_SLOT ZCTL\x01\0\0\0\x01\xff\xff\xff\xff
-ANY \xff\x01\0ZCTL\x01\0\0\0\x01\xff\xff\xff\xff
-# The slot that has the rows of ann, bob and web in one record.
-ALL_SLOT ZCTL\x01\0\0\0\x01\x48\0\0\0\x01\x02\x01\x01\x04\0\0\0\x03\0\0\0\x01\x02\x01\x02\x04\0\0\0\x02\0\0\0\x01\x05\x03\0\0\0\x01\x05\0\0\0\x03ann\0\x01\x05\x03\0\0\0\x02\x05\0\0\0\x03bob\0\x01\x05\x04\0\0\0\x01\x05\0\0\0\x03web\0\0
+LONGEST_SLOT ZCTL\x02\0\0\0\x01\xff\xff\xff\xff
+ANY \xff\x01\0ZCTL\x02\0\0\0\x01\xff\xff\xff\xff
+# The slot that has the rows of ann, bob and web, and the serial 3, in one record.
+ALL_SLOT ZCTL\x02\0\0\0\x01\x57\0\0\0\x01\x02\x01\x01\x04\0\0\0\x03\0\0\0\x01\x02\x01\x02\x04\0\0\0\x02\0\0\0\x01\x05\x03\0\0\0\x01\x05\0\0\0\x03ann\0\x01\x05\x03\0\0\0\x02\x05\0\0\0\x03bob\0\x01\x05\x04\0\0\0\x01\x05\0\0\0\x03web\0\x01\x01\x11\x08\0\0\0\x03\0\0\0\0\0\0\0\0
 # The records of web and of the policy behind closed gates.
-WEB_CLOSED \0\x1c\0\0\0\x01\x02\x01\x02\x04\0\0\0\x02\0\0\0\x01\x05\x04\0\0\0\x01\x05\0\0\0\x03web\0
-GRANT_CLOSED \0\x34\0\0\0\x01\x02\x01\x05\x04\0\0\0\x02\0\0\0\x01\x05\x07\0\0\0\x01\x0a\0\0\0\x01p\x01\x01\x01\0\0\x01\0\0\x01\x09\x0c\0\0\0\x01\0\0\0\x01\x04\0\0\0\x01\0\0\0
+WEB_CLOSED \0\x2b\0\0\0\x01\x02\x01\x02\x04\0\0\0\x02\0\0\0\x01\x05\x04\0\0\0\x01\x05\0\0\0\x03web\0\x01\x01\x11\x08\0\0\0\x02\0\0\0\0\0\0\0
+GRANT_CLOSED \0\x41\0\0\0\x01\x02\x01\x05\x04\0\0\0\x02\0\0\0\x01\x05\x07\0\0\0\x01\x0a\0\0\0\x01p\x01\x01\x01\0\0\x01\0\0\x01\x09\x0c\0\0\0\x01\0\0\0\x01\x02\0\0\0\x01\0\x01\x01\x11\x08\0\0\0\x03\0\0\0\0\0\0\0
 # The record of the policy with a count of two, and one that deletes a second identity.
-GRANT_TWICE \x01\x34\0\0\0\x01\x02\x01\x05\x04\0\0\0\x02\0\0\0\x01\x05\x07\0\0\0\x01\x0a\0\0\0\x01p\x01\x01\x01\0\0\x01\0\0\x01\x09\x0c\0\0\0\x01\0\0\0\x01\x04\0\0\0\x02\0\0\0
-BOB_GOES \x01\x07\0\0\0\x02\x05\x03\0\0\0\x02
+GRANT_TWICE \x01\x41\0\0\0\x01\x02\x01\x05\x04\0\0\0\x02\0\0\0\x01\x05\x07\0\0\0\x01\x0a\0\0\0\x01p\x01\x01\x01\0\0\x01\0\0\x01\x09\x0c\0\0\0\x01\0\0\0\x01\x02\0\0\0\x02\0\x01\x01\x11\x08\0\0\0\x03\0\0\0\0\0\0\0
+BOB_GOES \x01\x16\0\0\0\x02\x05\x03\0\0\0\x02\x01\x01\x11\x08\0\0\0\x02\0\0\0\0\0\0\0
 # The record of the router r1, the one behind which it is connected, and that of the next number of identities alone.
-ROUTER_KEPT \x01\x1e\0\0\0\x01\x02\x01\x03\x04\0\0\0\x02\0\0\0\x01\x05\x05\0\0\0\x01\x07\0\0\0\x02r1\0\0\0\0
-CONNECTED_KEPT \x01\x12\0\0\0\x01\x05\x05\0\0\0\x01\x07\0\0\0\x02r1\0\0\0\x02
-NEXT_KEPT \x01\x0c\0\0\0\x01\x02\x01\x01\x04\0\0\0\x02\0\0\0
+ROUTER_KEPT \x01\x2d\0\0\0\x01\x02\x01\x03\x04\0\0\0\x02\0\0\0\x01\x05\x05\0\0\0\x01\x07\0\0\0\x02r1\0\0\0\0\x01\x01\x11\x08\0\0\0\x01\0\0\0\0\0\0\0
+CONNECTED_KEPT \x01\x21\0\0\0\x01\x05\x05\0\0\0\x01\x07\0\0\0\x02r1\0\0\0\x02\x01\x01\x11\x08\0\0\0\x02\0\0\0\0\0\0\0
+NEXT_KEPT \x01\x1b\0\0\0\x01\x02\x01\x01\x04\0\0\0\x02\0\0\0\x01\x01\x11\x08\0\0\0\x02\0\0\0\0\0\0\0
+# The records of bob and of web with the serial 3, as behind two changes.
+BOB_THIRD \x01\x2b\0\0\0\x01\x02\x01\x01\x04\0\0\0\x03\0\0\0\x01\x05\x03\0\0\0\x02\x05\0\0\0\x03bob\0\x01\x01\x11\x08\0\0\0\x03\0\0\0\0\0\0\0
+WEB_THIRD \x01\x2b\0\0\0\x01\x02\x01\x02\x04\0\0\0\x02\0\0\0\x01\x05\x04\0\0\0\x01\x05\0\0\0\x03web\0\x01\x01\x11\x08\0\0\0\x03\0\0\0\0\0\0\0
+# Slots of the first format: of ann, of both identities in two records, without a record, and of both and web in three; those to which they are
+# migrated, which have no serial; and the record of the first of them.
+OLD_ANN ZCTL\x01\0\0\0\x01\x1c\0\0\0\x01\x02\x01\x01\x04\0\0\0\x02\0\0\0\x01\x05\x03\0\0\0\x01\x05\0\0\0\x03ann\0\0
+OLD_BOTH ZCTL\x01\0\0\0\x01\x1c\0\0\0\x01\x02\x01\x01\x04\0\0\0\x02\0\0\0\x01\x05\x03\0\0\0\x01\x05\0\0\0\x03ann\0\x01\x1c\0\0\0\x01\x02\x01\x01\x04\0\0\0\x03\0\0\0\x01\x05\x03\0\0\0\x02\x05\0\0\0\x03bob\0\0
+OLD_BARE ZCTL\x01\0\0\0\0
+OLD_ALL ZCTL\x01\0\0\0\x01\x1c\0\0\0\x01\x02\x01\x01\x04\0\0\0\x02\0\0\0\x01\x05\x03\0\0\0\x01\x05\0\0\0\x03ann\0\x01\x1c\0\0\0\x01\x02\x01\x01\x04\0\0\0\x03\0\0\0\x01\x05\x03\0\0\0\x02\x05\0\0\0\x03bob\0\x01\x1c\0\0\0\x01\x02\x01\x02\x04\0\0\0\x02\0\0\0\x01\x05\x04\0\0\0\x01\x05\0\0\0\x03web\0\0
+NEW_ANN ZCTL\x02\0\0\0\x01\x1c\0\0\0\x01\x02\x01\x01\x04\0\0\0\x02\0\0\0\x01\x05\x03\0\0\0\x01\x05\0\0\0\x03ann\0\0
+NEW_KEPT \x01\x1c\0\0\0\x01\x02\x01\x01\x04\0\0\0\x02\0\0\0\x01\x05\x03\0\0\0\x01\x05\0\0\0\x03ann\0
+NEW_BOTH ZCTL\x02\0\0\0\x01\x2c\0\0\0\x01\x02\x01\x01\x04\0\0\0\x03\0\0\0\x01\x05\x03\0\0\0\x01\x05\0\0\0\x03ann\0\x01\x05\x03\0\0\0\x02\x05\0\0\0\x03bob\0\0
+NEW_ALL ZCTL\x02\0\0\0\x01\x48\0\0\0\x01\x02\x01\x01\x04\0\0\0\x03\0\0\0\x01\x02\x01\x02\x04\0\0\0\x02\0\0\0\x01\x05\x03\0\0\0\x01\x05\0\0\0\x03ann\0\x01\x05\x03\0\0\0\x02\x05\0\0\0\x03bob\0\x01\x05\x04\0\0\0\x01\x05\0\0\0\x03web\0\0
+# The record of bob with the serial 1, as behind a migration; and one of him that does not raise the serial.
+BOB_FIRST \x01\x2b\0\0\0\x01\x02\x01\x01\x04\0\0\0\x03\0\0\0\x01\x05\x03\0\0\0\x02\x05\0\0\0\x03bob\0\x01\x01\x11\x08\0\0\0\x01\0\0\0\0\0\0\0
+BOB_UNCOUNTED \x01\x1c\0\0\0\x01\x02\x01\x01\x04\0\0\0\x03\0\0\0\x01\x05\x03\0\0\0\x02\x05\0\0\0\x03bob\0
 "##;
 
 // The bytes of a part that has a name elsewhere.

@@ -9,7 +9,7 @@ use Rattle.ziti_outside.specs.Moments.{Elapses}
 use Rattle.ziti_outside.specs.Views.{Seen, Stopped}
 use Rattle.ctrl_model.specs.State.{State}
 use Rattle.ctrl_model.specs.ValidState.{ValidState}
-use Rattle.ctrl_keep.specs.KeptFolders.{IsStateless, OpensToState}
+use Rattle.row_store.specs.OpenedStates.{IsStateless, OpensToState}
 use Rattle.run_notes.specs.NotedLines.{NotesLines}
 use Rattle.zitilook.specs.declared.status.Status.{Status}
 use Rattle.zitilook.specs.declared.status.Status.TheVariants.{Done, WriteFault, DiskFault, Damaged, NoMemory}

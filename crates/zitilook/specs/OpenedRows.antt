@@ -5,25 +5,27 @@ use Rattle.ctrl_model.specs.ValidState.{ValidState}
 use Rattle.row_codec.specs.declared.changes.Op.{Op}
 use Rattle.row_codec.specs.Batches.{batch_between}
 use Rattle.row_codec.specs.StateRows.{HasRows}
-use Rattle.ctrl_core.specs.KeptFormat.{kept_format}
+use Rattle.ctrl_model.specs.declared.formats.Format.{Format}
 use Rattle.ctrl_core.specs.KeptState.{Cored}
 use Rattle.ctrl_keep.specs.declared.faults.KeepFault.{KeepFault}
-use Rattle.ctrl_keep.specs.declared.faults.KeepFault.TheVariants.{Disk, Damaged, Spent, NoMemory}
+use Rattle.ctrl_keep.specs.declared.faults.KeepFault.TheVariants.{Disk, Full, MarkFull, Damaged, Spent, NoMemory}
 
--- A batch puts all rows of a valid state, in the format that is kept.
-pub record AreThoseOf (s : State) (ops : List Op) : Type 0 where
+-- A batch puts all rows of a valid state in a format.
+pub record AreThoseOf (format : Format) (s : State) (ops : List Op) : Type 0 where
   pub valid : ValidState s
-  pub has : HasRows kept_format s
-  pub puts : ops ≡ batch_between kept_format start s
+  pub has : HasRows format s
+  pub puts : ops ≡ batch_between format start s
 
--- What a folder was opened to: a live core in a valid state, and the puts of all rows of this state.
-pub record IsOpened (core : Cored) (puts : List Op) : Type 0 where
+-- What a folder was opened to: a live core in a valid state, and the puts of all rows of this state in a format.
+pub record IsOpened (core : Cored) (format : Format) (puts : List Op) : Type 0 where
   pub live : core.live ≡ true
-  pub those : AreThoseOf core.state puts
+  pub those : AreThoseOf format core.state puts
 
 -- A fault for which a folder may stay closed.
 abbrev pub MayClose : KeepFault → Type 0
 MayClose Disk = ⊤
+MayClose Full = ⊥
+MayClose MarkFull = ⊥
 MayClose (Damaged part at) = ⊤
 MayClose Spent = ⊥
 MayClose NoMemory = ⊤

@@ -78,7 +78,7 @@ fn tell_closed<D: Desk>(fault: KeepFault, desk: &mut D) -> Status
         KeepFault::Disk => end_with(Status::DiskFault, desk),
         KeepFault::Damaged { part, at } => tell_damage(part, at, desk),
         KeepFault::NoMemory => end_with(Status::NoMemory, desk),
-        KeepFault::Spent => unreachable!(),
+        KeepFault::Full | KeepFault::MarkFull | KeepFault::Spent => unreachable!(),
     }
 }
 
@@ -92,8 +92,8 @@ fn run_look<D: Desk>(alloc: Global, look: &Look, desk: &mut D) -> Status
 {
     match peek_rows(alloc, desk) {
         Ok(read) => {
-            let (core, puts) = read;
-            let text = text_of(alloc, look, core, puts);
+            let (core, format, puts) = read;
+            let text = text_of(alloc, look, core, format, puts);
             say_made(text, desk)
         }
         Err(fault) => tell_closed(fault, desk),

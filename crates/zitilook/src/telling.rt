@@ -11,7 +11,7 @@ ghost use Rattle.zitilook.specs.OpenedRows.{IsOpened};
 use crate::opening::rows_of;
 use access_reasons::{Stores, lines, who, why};
 use ctrl_core::Core;
-use ctrl_model::{Bytes, Kind, Name, NameFault, Relation};
+use ctrl_model::{Bytes, Format, Kind, Name, NameFault, Relation};
 use record_lines::list;
 use row_codec::Batch;
 use std::alloc::{AllocError, Global};
@@ -85,13 +85,19 @@ fn who_in(alloc: Global, core: &Core, service: &str) -> Result<Bytes, AllocError
 }
 
 // The lines of the records of a kind of what a folder opened to, which is let go.
-fn list_of(alloc: Global, core: Core, puts: Batch, kind: Kind) -> Result<Bytes, AllocError>
-    requires { IsOpened core puts }
+fn list_of(
+    alloc: Global,
+    core: Core,
+    format: Format,
+    puts: Batch,
+    kind: Kind,
+) -> Result<Bytes, AllocError>
+    requires { IsOpened core format puts }
     ensures { IfOk result (λ text. text ≡ lines_of kind core.state) }
 {
     // The core has judged the rows.
     drop(core);
-    let rows = rows_of(alloc, &puts)?;
+    let rows = rows_of(alloc, format, &puts)?;
     list(alloc, rows.as_slice(), kind)
 }
 
@@ -120,13 +126,19 @@ fn who_of(alloc: Global, core: Core, service: &str) -> Result<Bytes, AllocError>
 }
 
 /// The text that is asked for of what a folder opened to, which is let go.
-pub fn text_of(alloc: Global, look: &Look, core: Core, puts: Batch) -> Result<Bytes, AllocError>
-    requires opened { IsOpened core puts }
+pub fn text_of(
+    alloc: Global,
+    look: &Look,
+    core: Core,
+    format: Format,
+    puts: Batch,
+) -> Result<Bytes, AllocError>
+    requires opened { IsOpened core format puts }
     requires names { HasNames look.now }
     ensures { IfOk result (λ text. text ≡ text_of look.now core.state) }
 {
     match look {
-        Look::Records(kind) => list_of(alloc, core, puts, *kind),
+        Look::Records(kind) => list_of(alloc, core, format, puts, *kind),
         Look::Why { identity, service } => why_of(alloc, core, identity, service),
         Look::Who { service } => who_of(alloc, core, service),
     }

@@ -12,5 +12,5 @@ forget_by-requires c = forgets_entity c.args.change.now (state_of c.args.stores.
 
 pub returns-clause-carried : goal.returns-clause-carried
 returns-clause-carried c =
-    rw (c.in_ok-apply_entity_change.ensures, c.forget_by.ensures)
+    rw (c.in_ok-apply_entity_change.ensures, c.forget_by.ensures, c.forget_claim.ensures)
     (carried_entity c.args.change.now c.args.stores.now c.requires.can c.requires.valid c.requires.held)

@@ -1,6 +1,8 @@
 use Rattle.std.proofs.Common.{Option, sym, ◌∙◌, ap, subst}
+use Rattle.ctrl_model.specs.Controller.{counted}
 use Rattle.ctrl_model.specs.ValidState.{ValidState}
 use Rattle.model_laws.specs.Plans.{CanLeadBy, led_by}
+use Rattle.model_laws.proofs.CountedLaws.{counted-same}
 use Rattle.row_codec.specs.Batches.{batch_between}
 use Rattle.row_laws.proofs.StateBatches.{batch_between-same}
 use Rattle.core_stores.specs.declared.changes.Change.{Change}
@@ -33,4 +35,6 @@ batch_for-requires-clause-counts c =
 pub returns-in-None : goal.returns-in-None
 returns-in-None c =
     let s = state_of c.args.stores.now in
-    c.of.ensures ∙ c.new.ensures.items ∙ sym (ap (λ (o : Option Change). batch_between kept_format s (led_by after_change o s)) c.in-None.is ∙ batch_between-same kept_format s c.requires.can.kept.valid)
+    c.of.ensures ∙ c.new.ensures.items ∙ sym
+    (ap (λ (o : Option Change). batch_between kept_format s (counted s (led_by after_change o s))) c.in-None.is ∙ ap (batch_between kept_format s) (counted-same s)
+    ∙ batch_between-same kept_format s c.requires.can.kept.valid)

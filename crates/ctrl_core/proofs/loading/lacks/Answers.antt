@@ -1,7 +1,6 @@
 use Rattle.std.proofs.Common.{refl, sym, ◌∙◌}
 use Rattle.std.proofs.lemmas.Bool.{false≢true}
 use Rattle.ctrl_model.specs.declared.kinds.Relation.TheVariants.{Dial, Bind, IdentityRouter, ServiceRouter}
-use Rattle.ctrl_core.specs.KeptFormat.{kept_format}
 use Rattle.ctrl_core.proofs.LoadedLaws.{have_all, lacks_one}
 use Rattle.ctrl_core.proofs.loading.lacks.Goals as goal
 use Rattle.ctrl_core.proofs.loading.lacks.Goals.{then-lacks_counts, else-lacks_counts, then-lacks_counts-2, else-lacks_counts-2}
@@ -19,16 +18,16 @@ pub lacks_counts-requires-else-lacks_counts-3-clause-kept : goal.lacks_counts-re
 lacks_counts-requires-else-lacks_counts-3-clause-kept c = λ a b h. c.requires.told ServiceRouter a b h ∙ sym (c.requires.kept.counts ServiceRouter a b)
 
 pub lacks_counts-requires-clause-rows : goal.lacks_counts-requires-clause-rows
-lacks_counts-requires-clause-rows c = (kept_format, c.requires.loads.form, c.requires.loads.rises)
+lacks_counts-requires-clause-rows c = (c.requires.loads.0, c.requires.loads.1.form, c.requires.loads.1.rises)
 
 pub lacks_counts-requires-else-lacks_counts-clause-rows : goal.lacks_counts-requires-else-lacks_counts-clause-rows
-lacks_counts-requires-else-lacks_counts-clause-rows c = (kept_format, c.requires.loads.form, c.requires.loads.rises)
+lacks_counts-requires-else-lacks_counts-clause-rows c = (c.requires.loads.0, c.requires.loads.1.form, c.requires.loads.1.rises)
 
 pub lacks_counts-requires-else-lacks_counts-2-clause-rows : goal.lacks_counts-requires-else-lacks_counts-2-clause-rows
-lacks_counts-requires-else-lacks_counts-2-clause-rows c = (kept_format, c.requires.loads.form, c.requires.loads.rises)
+lacks_counts-requires-else-lacks_counts-2-clause-rows c = (c.requires.loads.0, c.requires.loads.1.form, c.requires.loads.1.rises)
 
 pub lacks_counts-requires-else-lacks_counts-3-clause-rows : goal.lacks_counts-requires-else-lacks_counts-3-clause-rows
-lacks_counts-requires-else-lacks_counts-3-clause-rows c = (kept_format, c.requires.loads.form, c.requires.loads.rises)
+lacks_counts-requires-else-lacks_counts-3-clause-rows c = (c.requires.loads.0, c.requires.loads.1.form, c.requires.loads.1.rises)
 
 pub returns-then-lacks_counts-3-clause-lacks : goal.returns-then-lacks_counts-3-clause-lacks
 returns-then-lacks_counts-3-clause-lacks c = λ e.

@@ -1,6 +1,5 @@
 use Rattle.std.proofs.Common.{Some, sym, ◌∙◌, ap}
 use Rattle.state_building.specs.BuiltStates.{next_in}
-use Rattle.ctrl_core.specs.KeptFormat.{kept_format}
 use Rattle.ctrl_core.proofs.LoadedLaws.{none_taken, takes_next, taken_all, first_flaw, row_at, same_fault}
 use Rattle.ctrl_core.proofs.loading.take_rows.Goals as goal
 
@@ -16,7 +15,7 @@ pub take_row-requires-clause-kept : goal.take_row-requires-clause-kept
 take_row-requires-clause-kept c = c.rows.invariant.kept
 
 pub take_row-requires-clause-form : goal.take_row-requires-clause-form
-take_row-requires-clause-form c = row_at kept_format c.args.rows.now c.rows.place c.index-rows-place.result c.requires.form c.rows-test.true c.index-rows-place.is
+take_row-requires-clause-form c = (c.requires.form.0, row_at c.requires.form.0 c.args.rows.now c.rows.place c.index-rows-place.result c.requires.form.1 c.rows-test.true c.index-rows-place.is)
 
 pub returns-in-Some-clause-flawed : goal.returns-in-Some-clause-flawed
 returns-in-Some-clause-flawed c = λ place flaw told.

@@ -1,4 +1,4 @@
-use Rattle.std.proofs.Common.{ℕ, inl, inr, subst, ◌∙◌}
+use Rattle.std.proofs.Common.{ℕ, inl, inr, None, subst, ◌∙◌}
 use Rattle.ctrl_core.specs.KeptState.{Cored}
 use Rattle.run_notes.specs.NotedLines.{RisesOnce}
 use Rattle.ctrl_serve.specs.LookedLines.{line_of}
@@ -53,4 +53,4 @@ returns-in-Err-clause-counted g c =
     subst (λ (n : ℕ). RisesOnce n (g.D.Desk.seen c.tell_closed.new.desk).note_faults) c.peek.ensures.reads.others.failed_notes c.tell_closed.ensures.counted
 
 pub tell_closed-requires : goal.tell_closed-requires
-tell_closed-requires g c = never_spent g.D.Desk.tells _ c.in-Err.fault c.in-Err.ensures.fault
+tell_closed-requires g c = never_spent None g.D.Desk.tells _ c.in-Err.fault c.in-Err.ensures.fault

@@ -5,16 +5,18 @@ use Rattle.ctrl_serve.proofs.laws.damage_changes_nothing.Goals as goal
 
 pub returns-clause-input : goal.returns-clause-input
 returns-clause-input g c bounds words source source_now desk desk_now runs =
-    (stays_shut (record { left = g.S.Source.left; faults = g.S.Source.faults; tells = g.D.Desk.tells; seen = g.D.Desk.seen; stopped = g.D.Desk.stopped }) bounds words (form_of words) source source_now desk desk_now refl runs).0
+    (stays_shut (record { left = g.S.Source.left; faults = g.S.Source.faults; tells = g.D.Desk.tells; seen = g.D.Desk.seen; stopped = g.D.Desk.stopped }) bounds words (form_of words) source source_now desk desk_now refl runs).takes_nothing
 
 pub returns-clause-replies : goal.returns-clause-replies
 returns-clause-replies g c bounds words source source_now desk desk_now runs =
-    (stays_shut (record { left = g.S.Source.left; faults = g.S.Source.faults; tells = g.D.Desk.tells; seen = g.D.Desk.seen; stopped = g.D.Desk.stopped }) bounds words (form_of words) source source_now desk desk_now refl runs).1.says_nothing
+    (stays_shut (record { left = g.S.Source.left; faults = g.S.Source.faults; tells = g.D.Desk.tells; seen = g.D.Desk.seen; stopped = g.D.Desk.stopped }) bounds words (form_of words) source source_now desk desk_now refl runs).unopened.says_nothing
 
 pub returns-clause-folder : goal.returns-clause-folder
 returns-clause-folder g c bounds words source source_now desk desk_now runs told =
-    shut_alone g.D.Desk.tells desk desk_now (stays_shut (record { left = g.S.Source.left; faults = g.S.Source.faults; tells = g.D.Desk.tells; seen = g.D.Desk.seen; stopped = g.D.Desk.stopped }) bounds words (form_of words) source source_now desk desk_now refl runs).1 told
+    let shut = stays_shut (record { left = g.S.Source.left; faults = g.S.Source.faults; tells = g.D.Desk.tells; seen = g.D.Desk.seen; stopped = g.D.Desk.stopped }) bounds words (form_of words) source source_now desk desk_now refl runs in
+    shut_alone shut.within g.D.Desk.tells desk desk_now shut.unopened told
 
 pub returns-clause-place : goal.returns-clause-place
 returns-clause-place g c bounds words source source_now desk desk_now runs told =
-    shut_place g.D.Desk.tells desk desk_now (stays_shut (record { left = g.S.Source.left; faults = g.S.Source.faults; tells = g.D.Desk.tells; seen = g.D.Desk.seen; stopped = g.D.Desk.stopped }) bounds words (form_of words) source source_now desk desk_now refl runs).1 told
+    let shut = stays_shut (record { left = g.S.Source.left; faults = g.S.Source.faults; tells = g.D.Desk.tells; seen = g.D.Desk.seen; stopped = g.D.Desk.stopped }) bounds words (form_of words) source source_now desk desk_now refl runs in
+    shut_place shut.within g.D.Desk.tells desk desk_now shut.unopened told

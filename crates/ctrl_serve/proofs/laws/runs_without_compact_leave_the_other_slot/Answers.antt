@@ -5,9 +5,9 @@ pub returns-clause-machine : goal.returns-clause-machine
 returns-clause-machine g c = last_mark
 
 pub returns-clause-folder : goal.returns-clause-folder
-returns-clause-folder g c taking bounds source source_now desk desk_now status replays kept told none =
-    replay_leaves (record { left = g.S.Source.left; faults = g.S.Source.faults; tells = g.D.Desk.tells; seen = g.D.Desk.seen; stopped = g.D.Desk.stopped }) taking bounds source source_now desk desk_now status replays kept told none
+returns-clause-folder g c taking bounds source source_now desk desk_now status replays kept told other none =
+    replay_leaves (record { left = g.S.Source.left; faults = g.S.Source.faults; tells = g.D.Desk.tells; seen = g.D.Desk.seen; stopped = g.D.Desk.stopped }) taking bounds source source_now desk desk_now status replays kept told other none
 
 pub returns-clause-done : goal.returns-clause-done
-returns-clause-done g c bounds words form source source_now desk desk_now bytes runs left told none =
-    done_leaves (record { left = g.S.Source.left; faults = g.S.Source.faults; tells = g.D.Desk.tells; seen = g.D.Desk.seen; stopped = g.D.Desk.stopped }) bounds words form source source_now desk desk_now bytes runs left told none
+returns-clause-done g c bounds words form source source_now desk desk_now bytes runs left told other none =
+    done_leaves (record { left = g.S.Source.left; faults = g.S.Source.faults; tells = g.D.Desk.tells; seen = g.D.Desk.seen; stopped = g.D.Desk.stopped }) bounds words form source source_now desk desk_now bytes runs left told other none

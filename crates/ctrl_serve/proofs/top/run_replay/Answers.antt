@@ -1,17 +1,19 @@
-use Rattle.std.proofs.Common.{arith, inl, inr, refl, ◌∙◌}
+use Rattle.std.proofs.Common.{arith, inl, inr, Some, refl, ◌∙◌, subst, max}
+use Rattle.journal_core.specs.Room.{empty_size, HoldsRoom}
+use Rattle.row_store.specs.declared.bounds.StoreBounds.{StoreBounds}
 use Rattle.ctrl_keep.specs.KeptController.{Controlled}
-use Rattle.ctrl_serve.specs.Headline.{folder_bounds}
-use Rattle.ctrl_serve.proofs.ClosedFolders.{closed_calm, closed_disk, never_spent, unopened}
-use Rattle.ctrl_serve.proofs.ReplayLaws.{closed_counts, opened_counts, replays_on}
+use Rattle.ctrl_serve.specs.Headline.{folder_bounds, IsUnopened}
+use Rattle.ctrl_serve.proofs.ClosedFolders.{closed_calm, closed_disk, never_spent, opens_none, unopened}
+use Rattle.ctrl_serve.proofs.ReplayLaws.{closed_counts, opened_counts, replays_within}
 use Rattle.ctrl_serve.proofs.RoomRuns.{closed_room, opened_room}
 use Rattle.ctrl_serve.proofs.top.run_replay.Goals as goal
 
 pub returns-in-Ok-clause-replays : goal.returns-in-Ok-clause-replays
 returns-in-Ok-clause-replays g c =
     let e = c.in-Ok.ensures in
-    inr (replays_on (record { left = g.S.Source.left; faults = g.S.Source.faults; tells = g.D.Desk.tells; seen = g.D.Desk.seen; stopped = g.D.Desk.stopped })
-    c.args.form (folder_bounds c.args.bounds) c.args.bounds.input c.in-Ok.kept c.args.source.now c.run_on-status.new.source c.args.desk.now c.open.new.desk c.run_on-status.new.desk c.run_on-status.result
-    e.opens e.stands e.holds (e.opened.0 ∙ c.store_bounds.ensures) e.created c.open.ensures.others c.open.ensures.stops c.run_on-status.ensures.runs)
+    inr (replays_within (record { left = g.S.Source.left; faults = g.S.Source.faults; tells = g.D.Desk.tells; seen = g.D.Desk.seen; stopped = g.D.Desk.stopped })
+    c.args.form (folder_bounds c.args.bounds) c.store_bounds.result c.args.bounds.input c.in-Ok.kept c.args.source.now c.run_on-status.new.source c.args.desk.now c.open.new.desk c.run_on-status.new.desk c.run_on-status.result
+    c.store_bounds.ensures e.opens e.stands e.holds e.opened.0 e.created c.open.ensures.others e.stops c.run_on-status.ensures.runs)
 
 pub returns-in-Ok-clause-counts : goal.returns-in-Ok-clause-counts
 returns-in-Ok-clause-counts g c =
@@ -23,7 +25,9 @@ returns-in-Err-clause-replays g c =
     let t = c.tell_closed.ensures in
     inl (record {
       takes_nothing = refl;
-      unopened = unopened g.D.Desk.tells c.in-Err.fault c.args.desk.now c.open.new.desk c.tell_closed.new.desk c.tell_closed.result o.others t.others t.stops c.in-Err.ensures.fault o.kept o.unwritten o.quiet o.stops t.told;
+      unopened = subst (λ (b : StoreBounds). IsUnopened (Some b) g.D.Desk.tells g.D.Desk.seen g.D.Desk.stopped c.args.desk.now c.tell_closed.new.desk c.tell_closed.result) c.store_bounds.ensures
+          (unopened (Some c.store_bounds.result) g.D.Desk.tells c.in-Err.fault c.args.desk.now c.open.new.desk c.tell_closed.new.desk c.tell_closed.result
+          (opens_none c.store_bounds.result g.D.Desk.tells c.in-Err.fault c.args.desk.now c.open.new.desk o.others c.in-Err.ensures.fault c.in-Err.ensures.kept o.quiet c.in-Err.ensures.stops) t.others t.stops t.told);
     })
 
 pub returns-in-Err-clause-counts : goal.returns-in-Err-clause-counts
@@ -34,11 +38,11 @@ returns-in-Err-clause-counts g c =
     (closed_disk Controlled _ _ _ c.in-Err.fault c.tell_closed.result _ _ c.in-Err.ensures.cause t.others.failed_calls t.told) not.0 not.1
 
 pub tell_closed-requires : goal.tell_closed-requires
-tell_closed-requires g c = never_spent g.D.Desk.tells _ c.in-Err.fault c.in-Err.ensures.fault
+tell_closed-requires g c = never_spent (Some c.store_bounds.result) g.D.Desk.tells _ c.in-Err.fault c.in-Err.ensures.fault
 
 pub returns-in-Ok-clause-room : goal.returns-in-Ok-clause-room
 returns-in-Ok-clause-room g c =
-    opened_room (folder_bounds c.args.bounds) c.in-Ok.kept.stored.bounds (omega (arith, c.requires.slot_low)) (c.in-Ok.ensures.opened.0 ∙ c.store_bounds.ensures) c.open.ensures.room c.run_on-status.ensures.room
+    opened_room (folder_bounds c.args.bounds) c.in-Ok.kept.stored.bounds (omega (arith, c.requires.slot_low)) (c.in-Ok.ensures.opened.0 ∙ c.store_bounds.ensures) (subst (λ (b : StoreBounds). HoldsRoom g.D.Desk.tells (max empty_size b.slot) g.D.Desk.seen g.D.Desk.stopped c.args.desk.now c.open.new.desk) c.store_bounds.ensures c.open.ensures.room) c.run_on-status.ensures.room
 
 pub returns-in-Err-clause-room : goal.returns-in-Err-clause-room
-returns-in-Err-clause-room g c = closed_room (folder_bounds c.args.bounds) (omega (arith, c.requires.slot_low)) c.open.ensures.room c.tell_closed.ensures.others.parts c.tell_closed.ensures.others.found
+returns-in-Err-clause-room g c = closed_room (folder_bounds c.args.bounds) (omega (arith, c.requires.slot_low)) (subst (λ (b : StoreBounds). HoldsRoom g.D.Desk.tells (max empty_size b.slot) g.D.Desk.seen g.D.Desk.stopped c.args.desk.now c.open.new.desk) c.store_bounds.ensures c.open.ensures.room) c.tell_closed.ensures.others.parts c.tell_closed.ensures.others.found

@@ -7,9 +7,9 @@ use Rattle.ziti_outside.specs.Told.{Took, IsFront}
 use Rattle.channel_frame.specs.WorkedFrames.{ann_frame, ann_bytes, reply_bytes}
 use Rattle.ctrl_model.specs.State.{State, start}
 use Rattle.row_store.specs.declared.bounds.StoreBounds.{StoreBounds}
-use Rattle.ctrl_keep.specs.KeptFolders.{OpensToState}
+use Rattle.row_store.specs.OpenedStates.{OpensToState}
 use Rattle.ctrl_keep.specs.WorkedMachines.{at_most, machine_at}
-use Rattle.ctrl_keep.proofs.OneKeptStates.{one_kept_state}
+use Rattle.row_store.proofs.OneStates.{one_state}
 use Rattle.session_mux.specs.declared.events.Event.{Event}
 use Rattle.session_mux.specs.declared.events.Event.TheVariants.{Arrived}
 use Rattle.session_mux.specs.declared.sessions.Form.TheVariants.{Plain}
@@ -25,11 +25,11 @@ use Rattle.ctrl_serve.proofs.worked.worked_stops.Goals as goal
 abbrev behind_ann : StoreBounds → ℕ → State
 behind_ann bounds count = (machine_behind bounds (machine_at start 8) (take count (completed Plain ann_bytes))).state
 
-ann_is_there : behind_ann (at_most 42) 1 ≡ only_ann
+ann_is_there : behind_ann (at_most 57) 1 ≡ only_ann
 unfolding serde_json_on_literals is_utf8 chars digits
 ann_is_there = refl
 
-ann_is_refused : behind_ann (at_most 41) 1 ≡ start
+ann_is_refused : behind_ann (at_most 56) 1 ≡ start
 unfolding serde_json_on_literals is_utf8 chars digits
 ann_is_refused = refl
 
@@ -37,11 +37,11 @@ one_frame : length (completed Plain ann_bytes) ≡ 1
 one_frame = refl
 
 -- A folder that holds the frame has ann, and so is not at the start.
-start_has_none : (image : Image) → OpensToState image start → HoldsFirst Plain (at_most 42) (machine_at start 8) ann_bytes 1 image reply_bytes → ⊥
+start_has_none : (image : Image) → OpensToState image start → HoldsFirst Plain (at_most 57) (machine_at start 8) ann_bytes 1 image reply_bytes → ⊥
 start_has_none image opens h =
     let one : h.count ≡ 1 = omega (arith, h.at_least, h.at_most, one_frame) in
-    let there : OpensToState image only_ann = subst (OpensToState image) ann_is_there (subst (λ (k : ℕ). OpensToState image (behind_ann (at_most 42) k)) one h.opens) in
-    let same : start ≡ only_ann = one_kept_state image start only_ann opens there in
+    let there : OpensToState image only_ann = subst (OpensToState image) ann_is_there (subst (λ (k : ℕ). OpensToState image (behind_ann (at_most 57) k)) one h.opens) in
+    let same : start ≡ only_ann = one_state image start only_ann opens there in
     let next : 1 ≡ 2 = ap (λ (s : State). s.identities.next) same in
     omega (arith, next)
 
@@ -105,10 +105,10 @@ no_reply bytes same front =
 -- A folder with both holds no fewer frames, and of two the first reply was taken.
 two_are_too_many : (image : Image) (count : ℕ) → OpensToState image ann_and_bob → count ≤ 2 → IsFront (joined (take (count - 1) both_replies)) [] → OpensToState image (behind_both count) → ⊥
 two_are_too_many image zero opens few front holds =
-    let next : 3 ≡ 1 = ap (λ (s : State). s.identities.next) (one_kept_state image ann_and_bob start opens holds) in
+    let next : 3 ≡ 1 = ap (λ (s : State). s.identities.next) (one_state image ann_and_bob start opens holds) in
     omega (arith, next)
 two_are_too_many image (suc zero) opens few front holds =
-    let next : 3 ≡ 2 = ap (λ (s : State). s.identities.next) (one_kept_state image ann_and_bob only_ann opens (subst (OpensToState image) first_is_there holds)) in
+    let next : 3 ≡ 2 = ap (λ (s : State). s.identities.next) (one_state image ann_and_bob only_ann opens (subst (OpensToState image) first_is_there holds)) in
     omega (arith, next)
 two_are_too_many image (suc (suc zero)) opens few front holds = no_reply (joined (take 1 both_replies)) first_reply front
 two_are_too_many image (suc (suc (suc n))) opens few front holds = absurd (omega (arith, few))
@@ -139,11 +139,11 @@ one_event : events_in Plain ann_bytes ≡ ann_comes ∷ []
 one_event = refl
 
 -- The state behind it, and the reply to it.
-event_adds_ann : state_behind Plain (at_most 42) (machine_at start 8) (ann_comes ∷ []) ≡ only_ann
+event_adds_ann : state_behind Plain (at_most 57) (machine_at start 8) (ann_comes ∷ []) ≡ only_ann
 unfolding serde_json_on_literals is_utf8 chars digits
 event_adds_ann = refl
 
-event_is_replied : replies_to Plain (at_most 42) (machine_at start 8) (ann_comes ∷ []) ≡ reply_bytes ∷ []
+event_is_replied : replies_to Plain (at_most 57) (machine_at start 8) (ann_comes ∷ []) ≡ reply_bytes ∷ []
 unfolding serde_json_on_literals is_utf8 chars digits
 event_is_replied = refl
 
@@ -161,24 +161,24 @@ one_byte_is_some bytes none took =
 
 -- Within the turn of ann's frame a stop finds her once a byte of the reply was taken.
 ann_is_found : (image : Image) (events : List Event) (front : List ℕ) → events ≡ ann_comes ∷ [] → OpensToState image start → Took (Some []) (Some (take 1 reply_bytes)) ([] ++ front)
-    → OpensToState image (state_behind Plain (at_most 42) (machine_at start 8) events) ⊎ ((front ≡ []) × OpensToState image start) → ⊥
+    → OpensToState image (state_behind Plain (at_most 57) (machine_at start 8) events) ⊎ ((front ≡ []) × OpensToState image start) → ⊥
 ann_is_found image events front same opens took (inl found) =
     let there : OpensToState image only_ann =
-    subst (OpensToState image) event_adds_ann (subst (λ (es : List Event). OpensToState image (state_behind Plain (at_most 42) (machine_at start 8) es)) same found) in
-    let next : 1 ≡ 2 = ap (λ (s : State). s.identities.next) (one_kept_state image start only_ann opens there) in
+    subst (OpensToState image) event_adds_ann (subst (λ (es : List Event). OpensToState image (state_behind Plain (at_most 57) (machine_at start 8) es)) same found) in
+    let next : 1 ≡ 2 = ap (λ (s : State). s.identities.next) (one_state image start only_ann opens there) in
     omega (arith, next)
 ann_is_found image events front same opens took (inr found) = one_byte_is_some ([] ++ front) found.0 took
 
 unkept : (image : Image) (answered unanswered : List Event) → answered ++ unanswered ≡ ann_comes ∷ [] → OpensToState image start
-    → IsBetween Plain (at_most 42) (machine_at start 8) (Some []) image (take 1 reply_bytes) answered
-    ⊎ IsWithin Plain (at_most 42) (machine_at start 8) (Some []) image (take 1 reply_bytes) answered unanswered → ⊥
+    → IsBetween Plain (at_most 57) (machine_at start 8) (Some []) image (take 1 reply_bytes) answered
+    ⊎ IsWithin Plain (at_most 57) (machine_at start 8) (Some []) image (take 1 reply_bytes) answered unanswered → ⊥
 unkept image [] unanswered split opens (inl between) = one_byte_is_some [] refl between.replies
 unkept image [] unanswered split opens (inr within) =
     ann_is_found image (Arrived within.session within.frame ∷ []) within.front (ap (take 1) (sym within.first ∙ split)) opens within.replies within.found
 unkept image (e ∷ []) unanswered split opens (inl between) =
     let first : e ∷ [] ≡ ann_comes ∷ [] = ap (take 1) split in
-    one_byte_is_less (joined (replies_to Plain (at_most 42) (machine_at start 8) (e ∷ [])))
-    (ap (λ (es : List Event). joined (replies_to Plain (at_most 42) (machine_at start 8) es)) first ∙ ap joined event_is_replied) between.replies
+    one_byte_is_less (joined (replies_to Plain (at_most 57) (machine_at start 8) (e ∷ [])))
+    (ap (λ (es : List Event). joined (replies_to Plain (at_most 57) (machine_at start 8) es)) first ∙ ap joined event_is_replied) between.replies
 unkept image (e ∷ []) unanswered split opens (inr within) =
     let one : length (e ∷ unanswered) ≡ 1 = ap length split in
     omega (arith, one, ap length within.first)

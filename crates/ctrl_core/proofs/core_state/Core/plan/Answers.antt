@@ -1,14 +1,12 @@
 use Rattle.std.proofs.Common.{◌≡◌, sym, ◌∙◌, ap, subst}
 use Rattle.std.proofs.lemmas.Result.{IfOk-weaker}
-use Rattle.ctrl_model.specs.Controller.{carry}
+use Rattle.ctrl_model.specs.Controller.{carry, counted}
 use Rattle.ctrl_model.specs.State.{State}
 use Rattle.model_laws.specs.Plans.{tells_change}
 use Rattle.row_codec.specs.Batches.{batch_between}
-use Rattle.row_codec.specs.StateRows.{HasRows}
-use Rattle.ctrl_core.specs.Changes.{LeadsFrom, led}
+use Rattle.ctrl_core.specs.Changes.{LeadsFrom}
 use Rattle.ctrl_core.specs.KeptFormat.{kept_format}
 use Rattle.core_stores.specs.StoredState.{state_of}
-use Rattle.ctrl_core.proofs.KeptRows.{has_led, has_stored}
 use Rattle.ctrl_core.proofs.PlanLaws.{can_complete, leads_from, still_is}
 use Rattle.ctrl_core.proofs.core_state.Core.plan.Goals as goal
 
@@ -28,7 +26,7 @@ returns-clause-leads c =
     let st = c.self.inside.stores in
     let keeps = (c.self.invariant (ap (λ v. v.live) c.self.view_is ∙ c.requires.live)).0 in
     IfOk-weaker c.completed.result _ _ (λ p made.
-    subst (λ s. LeadsFrom p s (carry c.args.command.now s).1) (ap (λ v. v.state) c.self.view_is)
+    subst (λ s. LeadsFrom p s (counted s (carry c.args.command.now s).1)) (ap (λ v. v.state) c.self.view_is)
     (leads_from st c.in_ok-draft.draft p c.args.command.now (can_complete st c.in_ok-draft.draft c.args.command.now keeps c.requires.spelled c.in_ok-draft.ensures) c.in_ok-draft.ensures made)) c.completed.ensures
 
 pub returns-clause-still : goal.returns-clause-still
@@ -39,16 +37,5 @@ returns-clause-still c =
 pub returns-clause-batch : goal.returns-clause-batch
 returns-clause-batch c =
     IfOk-weaker c.completed.result _ _ (λ p made.
-    subst (λ (s : State). p.batch ≡ batch_between kept_format s (carry c.args.command.now s).1) (ap (λ v. v.state) c.self.view_is)
-    (made.batch_is ∙ ap (batch_between kept_format (state_of c.self.inside.stores)) c.in_ok-draft.ensures.next)) c.completed.ensures
-
-pub returns-in_err-draft-clause-has_rows : goal.returns-in_err-draft-clause-has_rows
-returns-in_err-draft-clause-has_rows c = subst (HasRows kept_format) (ap (λ v. v.state) c.self.view_is) (has_stored kept_format c.self.inside.stores)
-
-pub returns-clause-has_rows : goal.returns-clause-has_rows
-returns-clause-has_rows c = subst (HasRows kept_format) (ap (λ v. v.state) c.self.view_is) (has_stored kept_format c.self.inside.stores)
-
-pub returns-clause-next_has_rows : goal.returns-clause-next_has_rows
-returns-clause-next_has_rows c =
-    IfOk-weaker c.completed.result _ _ (λ p made.
-    subst (λ s. HasRows kept_format (led p s)) (ap (λ v. v.state) c.self.view_is) (has_led kept_format p.change c.self.inside.stores)) c.completed.ensures
+    subst (λ (s : State). p.batch ≡ batch_between kept_format s (counted s (carry c.args.command.now s).1)) (ap (λ v. v.state) c.self.view_is)
+    (made.batch_is ∙ ap (λ t. batch_between kept_format (state_of c.self.inside.stores) (counted (state_of c.self.inside.stores) t)) c.in_ok-draft.ensures.next)) c.completed.ensures

@@ -4,9 +4,9 @@ use Rattle.std.specs.Prelude.{IsTrue}
 use Rattle.ziti_outside.specs.Images.{Image}
 use Rattle.ziti_outside.proofs.MomentLaws.{Leaves-weaker}
 use Rattle.ctrl_model.specs.declared.replies.Reply.{Reply}
-use Rattle.ctrl_model.specs.Controller.{carry}
+use Rattle.ctrl_model.specs.Controller.{carry, counted}
 use Rattle.row_store.specs.StoredRows.{ReadsAs}
-use Rattle.ctrl_keep.specs.KeptFolders.{OpensToState}
+use Rattle.row_store.specs.OpenedStates.{OpensToState}
 use Rattle.ctrl_keep.specs.KeptMachine.{Machine, step}
 use Rattle.ctrl_keep.specs.KeptController.{Controlled, machine_with, machine_of, made_of}
 use Rattle.ctrl_keep.proofs.AdvancedPlans.{is_planned, step_is, submit_fails, quiet_stops}
@@ -34,8 +34,8 @@ returns-in_err-planned-clause-stops g c = λ fresh told.
 
 pub advance-requires-clause-planned : goal.advance-requires-clause-planned
 advance-requires-clause-planned g c =
-    is_planned c.in_ok-planned.planned c.self.inside.core c.self.inside.store (carry c.args.command.now c.self.inside.core.state).1 (c.self.invariant c.if-self.false)
-    c.in_ok-planned.ensures.leads c.in_ok-planned.ensures.next_has_rows c.in_ok-planned.ensures.batch
+    is_planned c.in_ok-planned.planned c.self.inside.core c.self.inside.store (counted c.self.inside.core.state (carry c.args.command.now c.self.inside.core.state).1)
+    (c.self.invariant c.if-self.false) c.in_ok-planned.ensures.leads
 
 pub advance-requires-clause-stands : goal.advance-requires-clause-stands
 advance-requires-clause-stands g c = λ told.
