@@ -1,4 +1,4 @@
-ghost use Rattle.std.specs.Prelude.{◌≡◌, ◌⊎◌, ◌≤◌, ◌<◌, ◌^◌, ◌≢◌, ⊤, true, false, zero, [], map, length, IsTrue, OnOk, IfOk, IfErr, IsErrOf};
+ghost use Rattle.std.specs.Prelude.{◌≡◌, ◌⊎◌, ◌+◌, ◌-◌, ◌≤◌, ◌<◌, ◌^◌, ◌≢◌, min, ⊤, true, false, zero, [], map, length, IsTrue, OnOk, IfOk, IfErr, IfSome, IsErrOf};
 ghost use Rattle.std.specs.Option.{option_map};
 ghost use Rattle.ziti_outside.specs.declared.desk.Part.TheVariants.{One, Mark};
 ghost use Rattle.ziti_outside.specs.Causes.{HasCause};
@@ -199,6 +199,14 @@ impl Store {
         puts(self.alloc, &self.rows, Writing::Same)
     }
 
+    /// All rows as puts, in the order of their keys, as the second format has the rows of the first: of each count two bytes.
+    pub fn narrowed(&self) -> Result<Batch, AllocError>
+        ensures puts { IfOk result (λ batch. batch ≡ puts (map narrowed self.now.rows)) }
+        ensures batch { self.now.spent ≡ false → IfOk result IsBatch }
+    {
+        puts(self.alloc, &self.rows, Writing::Narrowed)
+    }
+
     /// The format in which the folder keeps the rows; over an empty mark that which was given.
     pub fn format(&self) -> Format
         ensures { result ≡ self.now.format }
@@ -286,6 +294,8 @@ impl Store {
     ) -> Result<Option<(Batch, u64)>, StoreFault>
         requires gate { IsTrue D.tells → IsGateOf self.now (D.seen desk.old).reads at }
         ensures found { IfOk result (λ found. IsTrue D.tells → GateHas self.now (D.seen desk.old).reads at found) }
+        ensures batch { IfOk result (λ found. IfSome found (λ x. IsBatch x.0)) }
+        ensures further { IfOk result (λ found. IfSome found (λ x. min (at + 1) (2 ^ 64 - 1) ≤ x.1)) }
         ensures fault { IfErr result (λ fault. GateFails D.tells fault) }
         ensures cause { HasCause (D.seen desk.old).disk_faults (D.seen desk.new).disk_faults (disk_failure result) }
         ensures reads { OnlyReads D.seen D.stopped desk.old desk.new }

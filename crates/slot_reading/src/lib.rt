@@ -8,3 +8,4 @@ mod serials;
 
 pub use changing::{Rows, change_all};
 pub use reading::{batch_behind, read_slot};
+pub use serials::serial_in;

@@ -160,6 +160,8 @@ pub fn batch_behind<D: Desk>(
     at: u64,
 ) -> Result<Option<(Batch, u64)>, JournalFault>
     ensures found { IfOk result (λ found. IsTrue D.tells → Behind ((D.seen desk.old).reads part) at found) }
+    ensures batch { IfOk result (λ found. IfSome found (λ x. IsBatch x.0)) }
+    ensures further { IfOk result (λ found. IfSome found (λ x. min (at + 1) (2 ^ 64 - 1) ≤ x.1)) }
     ensures fault { IfErr result (λ fault. BehindFails D.tells at ((D.seen desk.old).reads part) fault) }
     ensures cause { HasCause (D.seen desk.old).disk_faults (D.seen desk.new).disk_faults (disk_failure result) }
     ensures reads { OnlyReads D.seen D.stopped desk.old desk.new }

@@ -9,8 +9,8 @@ use journal_core::HEADER_LEN;
 /// The key of the serial.
 const SERIAL_KEY: [u8; 1] = [17];
 
-// The serial that a value of eight bytes tells.
-fn serial_in(value: Option<&Bytes>) -> Option<u64>
+/// The serial that a value of eight bytes tells, the least first, of a number above 0; where there is no value it is 0.
+pub fn serial_in(value: Option<&Bytes>) -> Option<u64>
     ensures { result ≡ serial_in (option_map (λ v. v.now) value.entry) }
 {
     let Some(value) = value else {

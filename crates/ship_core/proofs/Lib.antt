@@ -1,0 +1,9 @@
+mod SaidLaws
+mod PieceLaws
+mod OpsLaws
+mod WayLaws
+mod PieceSteps
+mod RecordSteps
+mod OldLaws
+mod JudgeLaws
+mod FolderSteps

@@ -1,0 +1,14 @@
+use Rattle.std.proofs.Common.{sym, ap, ◌∙◌}
+use Rattle.ship_core.specs.Pieces.{piece_at, piece_count}
+use Rattle.ship_core.proofs.PieceSteps.{three_headers, frame_is, frame_keeps}
+use Rattle.ship_core.proofs.pieces.piece_frame.Goals as goal
+
+pub returns-clause-frame : goal.returns-clause-frame
+returns-clause-frame c = λ place e.
+    frame_is place c.args.sequence c.args.shipment.now c.args.number c.piece_count.result c.in_ok-headers.headers c.in_ok-body.body c.as_slice-bytes.result.now e c.as_slice-bytes.ensures
+    c.piece_count.ensures (c.in_ok-body.ensures ∙ c.piece_at.ensures) c.in_ok-headers.ensures
+
+pub returns-clause-limits : goal.returns-clause-limits
+returns-clause-limits c =
+    frame_keeps c.args.shipment.now.content c.args.sequence c.args.shipment.now.serial c.args.number c.piece_count.result c.in_ok-headers.headers c.in_ok-body.body c.as_slice-bytes.result.now
+    (c.in_ok-body.ensures ∙ c.piece_at.ensures) c.in_ok-headers.ensures

@@ -1,0 +1,6 @@
+pub mod Pieces
+pub mod Shipping
+pub mod SaidFrames
+pub mod Faults
+pub mod Steps
+pub mod WorkedShipments

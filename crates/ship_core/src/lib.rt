@@ -1,0 +1,19 @@
+//! Ships a folder as frames: what it keeps from a serial on, record by record, for a copy that follows it (docs/FORMATS.md, "Ship frames").
+#![tactic(auto)]
+
+mod faults;
+mod judging;
+mod laws;
+mod pieces;
+mod records;
+mod saying;
+mod shipments;
+mod shipping;
+mod worked;
+
+pub use faults::ShipFault;
+pub use laws::pieces_make_the_batch;
+pub use pieces::{NEXT, WHOLE};
+pub use shipments::Shipment;
+pub use shipping::ship;
+pub use worked::{worked_old_shipments, worked_pieces, worked_shipments};
