@@ -1,5 +1,8 @@
 pub mod FieldLaws
 pub mod ItemLaws
 pub mod ClaimLaws
+pub mod OnceLaws
+pub mod InterceptLaws
+mod PlaceLaws
 mod BodyValues
 mod RuleLaws

@@ -4,4 +4,7 @@ pub mod ItemLists
 pub mod FieldValues
 pub mod FieldWords
 pub mod RouteClaims
+pub mod InterceptFields
+pub mod PlaceMarks
+pub mod SamePorts
 pub mod FieldRules

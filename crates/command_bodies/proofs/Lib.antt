@@ -4,5 +4,6 @@ pub mod PlainObjects
 pub mod WrittenKinds
 pub mod WrittenSides
 pub mod WrittenClaims
+pub mod WrittenIntercepts
 pub mod ReadShapes
 pub mod ReadBack

@@ -10,10 +10,10 @@ use Rattle.ctrl_model.specs.Words.{word_of}
 use Rattle.ctrl_model.specs.declared.claims.Reach.{Reach}
 use Rattle.ctrl_model.specs.declared.commands.Command.{Command}
 use Rattle.ctrl_model.specs.declared.refusals.Field.{Field}
-use Rattle.command_bodies.specs.WrittenFields.{natural, value_or_null, potential}
+use Rattle.command_bodies.specs.WrittenFields.{natural, value_or_null, potential, two_ports}
 use Rattle.command_bodies.specs.BodyTexts.{body_object}
 use Rattle.command_bodies.specs.CommandFields.{fields_of}
-use Rattle.command_bodies.specs.WrittenFields.{Given, a_text, a_number, a_flag, some_texts, some_numbers, some_reaches, data_of, with_field, with_fields}
+use Rattle.command_bodies.specs.WrittenFields.{Given, a_text, a_number, a_flag, some_texts, some_numbers, some_reaches, some_ranges, data_of, with_field, with_fields}
 
 -- ---- the values of fields
 
@@ -52,6 +52,7 @@ given_plain (a_flag b) = refl
 given_plain (some_texts texts) = items_plain (λ s. string s) (λ s. refl) texts
 given_plain (some_numbers ns) = items_plain natural (λ n. refl) ns
 given_plain (some_reaches es) = items_plain potential reach_plain es
+given_plain (some_ranges rs) = items_plain two_ports (λ r. refl) rs
 
 given_shallow : (g : Given) → depth (data_of g) ≤ 3
 given_shallow (a_text bytes) = lit≤ tt
@@ -60,6 +61,7 @@ given_shallow (a_flag b) = lit≤ tt
 given_shallow (some_texts texts) = omega (arith, items_shallow (λ s. string s) 0 (λ s. lit≤ tt) texts)
 given_shallow (some_numbers ns) = omega (arith, items_shallow natural 0 (λ n. lit≤ tt) ns)
 given_shallow (some_reaches es) = omega (arith, items_shallow potential 2 reach_shallow es)
+given_shallow (some_ranges rs) = omega (arith, items_shallow two_ports 1 (λ r. lit≤ tt) rs)
 
 -- ---- one more member
 

@@ -1,5 +1,5 @@
 -- The body that is written for a command is read as the command.
-use Rattle.std.proofs.Common.{◌≡◌, ℕ, ◌==◌, nat_le, Bool, true, false, ◌&&◌, List, [], ◌∷◌, length, Option, Some, None, Ok, refl, sym}
+use Rattle.std.proofs.Common.{◌≡◌, ℕ, ◌==◌, nat_le, Bool, true, false, ◌&&◌, ◌||◌, List, [], ◌∷◌, length, map, Option, Some, None, Ok, refl, sym}
 use Rattle.std.specs.List.{list_all}
 use Rattle.std.specs.Str.{IsUtf8}
 use Rattle.std.proofs.lemmas.Bool.{and_parts, false≢true}
@@ -8,11 +8,14 @@ use Rattle.serde_json.specs.Data.{Data, boolean, string, object, Members}
 use Rattle.serde_json.specs.Find.{as_bool}
 use Rattle.serde_json.specs.Read.{read}
 use Rattle.ctrl_model.specs.NameForm.{is_name, is_instance}
-use Rattle.ctrl_model.specs.InterceptCommands.{is_intercept_command}
-use Rattle.ctrl_model.specs.CommandForm.{are_attributes, is_side, is_service_relation, is_cost, is_link_cost, is_latency, is_number, is_name_or_none, is_reach, are_numbers, is_spelled}
+use Rattle.ctrl_model.specs.AddressForm.{address_text, is_address, same_address}
+use Rattle.ctrl_model.specs.InterceptForm.{is_claim, is_intercept, is_port_range, same_ports}
+use Rattle.ctrl_model.specs.CommandForm.{are_attributes, is_side, is_service_relation, is_cost, is_link_cost, is_latency, is_number, is_name_or_none, is_reach, are_numbers, is_destination, is_port, is_spelled}
+use Rattle.ctrl_model.specs.declared.addresses.Address.{Address}
 use Rattle.ctrl_model.specs.declared.claims.Reach.{Reach}
 use Rattle.ctrl_model.specs.declared.commands.Command.{Command}
 use Rattle.ctrl_model.specs.declared.commands.Command.TheVariants as command
+use Rattle.ctrl_model.specs.declared.intercepts.Intercept.{Intercept}
 use Rattle.ctrl_model.specs.declared.kinds.Precedence.{Precedence}
 use Rattle.ctrl_model.specs.declared.kinds.Precedence.TheVariants.{Normal}
 use Rattle.ctrl_model.specs.declared.kinds.Relation.{Relation}
@@ -21,7 +24,7 @@ use Rattle.ctrl_model.specs.declared.kinds.Side.{Side}
 use Rattle.ctrl_model.specs.declared.refusals.Field.{Field}
 use Rattle.ctrl_model.specs.declared.refusals.Field.TheVariants as field
 use Rattle.json_body.specs.FieldKinds.{as_name, member_of, has_only}
-use Rattle.command_bodies.specs.WrittenFields.{natural, list_of, potential}
+use Rattle.command_bodies.specs.WrittenFields.{natural, list_of, potential, two_ports}
 use Rattle.command_codec.specs.BodyMeaning.{meaning}
 use Rattle.command_codec.specs.BodyObjects.{object_of_body}
 use Rattle.command_codec.specs.ContentTypes.{content_of}
@@ -29,6 +32,7 @@ use Rattle.command_codec.specs.NameLists.{as_attributes}
 use Rattle.command_codec.specs.RoleLists.{as_side}
 use Rattle.body_fields.specs.FieldValues.{as_no, as_instance, as_some_name}
 use Rattle.body_fields.specs.FieldWords.{as_relation, as_semantic, as_precedence}
+use Rattle.body_fields.specs.InterceptFields.{as_addresses, as_destination, as_port, as_protocol, as_protocols, as_ranges}
 use Rattle.body_fields.specs.RouteClaims.{as_numbers, as_potentials}
 use Rattle.command_codec.specs.EntityBodies.{as_cost, named, made, updated, made_router, updated_router}
 use Rattle.command_codec.specs.PolicyBodies.{service_policy, router_policy}
@@ -36,15 +40,17 @@ use Rattle.command_codec.specs.LinkBodies.{as_link_cost, as_latency, made_link, 
 use Rattle.command_codec.specs.TerminatorBodies.{numbered, made_terminator, updated_terminator}
 use Rattle.command_codec.specs.CircuitBodies.{asked_circuit, as_total, claimed_route}
 use Rattle.command_codec.specs.ShowBodies.{plain}
+use Rattle.command_codec.specs.InterceptBodies.{set_intercept, pick, list_clashes}
 use Rattle.command_codec.specs.SpelledBodies.{Tells, MayTell}
 use Rattle.command_bodies.specs.BodyTexts.{body_object}
-use Rattle.command_bodies.specs.CommandFields.{name_field, no_field, entity_fields, router_fields, service_policy_fields, router_policy_fields, link_fields, terminator_fields, asked_fields}
+use Rattle.command_bodies.specs.CommandFields.{name_field, no_field, entity_fields, router_fields, service_policy_fields, router_policy_fields, link_fields, terminator_fields, asked_fields, intercept_fields}
 use Rattle.command_bodies.specs.RoleEntries.{role_texts}
 use Rattle.command_bodies.specs.WrittenFields.{object_with}
-use Rattle.command_bodies.specs.WrittenWords.{relation_word, semantic_word, precedence_word}
+use Rattle.command_bodies.specs.WrittenWords.{relation_word, semantic_word, precedence_word, protocol_word, protocol_words}
 use Rattle.command_bodies.proofs.WrittenKinds.{name_read, instance_read, some_name_read, number_read, from_zero, relation_read, semantic_read, precedence_read, attributes_read}
 use Rattle.command_bodies.proofs.WrittenSides.{side_read}
 use Rattle.command_bodies.proofs.WrittenClaims.{numbers_read, potentials_read}
+use Rattle.command_bodies.proofs.WrittenIntercepts.{protocol_read, protocols_read, addresses_read, destination_read, ranges_read}
 use Rattle.command_bodies.proofs.ReadShapes as shape
 use Rattle.command_bodies.proofs.ReadShapes.{tells, may_tell, left_out, by_reader}
 
@@ -293,6 +299,37 @@ claimed_back identity service ingress instance chosen links potentials routers t
         let o = body_object (command.VerifyRoute identity service (Some name) instance chosen links potentials routers terminator total) in
         says (Some name) o (may_tell as_some_name None field.Ingress o (string name) (Some name) refl (some_name_read name n)) refl refl refl refl refl refl refl refl refl refl a b d claim
 
+-- ---- intercepts
+
+intercept_back : (service : List ℕ) (i : Intercept) → is_spelled (command.SetIntercept service i) ≡ true → set_intercept (object_with (intercept_fields service i)) ≡ Ok (command.SetIntercept service i)
+intercept_back service i h =
+    let p = and_parts (is_name service) (is_intercept i) h in
+    let q = and_parts (i.tcp || i.udp) (is_claim is_address same_address i.addresses && is_claim is_port_range same_ports i.ports) p.1 in
+    let r = and_parts (is_claim is_address same_address i.addresses) (is_claim is_port_range same_ports i.ports) q.1 in
+    let o = object_with (intercept_fields service i) in
+    shape.set_intercept_says o service i (a_name field.Service o service refl p.0)
+    (tells as_protocols field.Protocols o (list_of (λ t. string t) (protocol_words i.tcp i.udp)) (record { tcp = i.tcp; udp = i.udp }) refl (protocols_read i.tcp i.udp q.0))
+    (tells as_addresses field.Addresses o (list_of (λ t. string t) (map address_text i.addresses)) i.addresses refl (addresses_read i.addresses r.0))
+    (tells as_ranges field.Ports o (list_of two_ports i.ports) i.ports refl (ranges_read i.ports r.1)) refl
+
+pick_back : (identity : List ℕ) (udp : Bool) (address : Address) (port : ℕ) → is_spelled (command.Pick identity udp address port) ≡ true
+    → pick (body_object (command.Pick identity udp address port)) ≡ Ok (command.Pick identity udp address port)
+pick_back identity udp address port h =
+    let p = and_parts (is_name identity) (is_destination address && is_port port) h in
+    let q = and_parts (is_destination address) (is_port port) p.1 in
+    let o = body_object (command.Pick identity udp address port) in
+    shape.pick_says o identity udp address port (a_name field.Identity o identity refl p.0)
+    (tells as_protocol field.Protocol o (string (protocol_word udp)) udp refl (protocol_read udp))
+    (tells as_destination field.Address o (string (address_text address)) address refl (destination_read address q.0))
+    (tells as_port field.Port o (natural port) port refl (number_read 1 65535 port q.1)) refl
+
+clashes_back : (identity service : List ℕ) → is_spelled (command.ListClashes identity service) ≡ true
+    → list_clashes (body_object (command.ListClashes identity service)) ≡ Ok (command.ListClashes identity service)
+clashes_back identity service h =
+    let p = and_parts (is_name identity) (is_name service) h in
+    let o = body_object (command.ListClashes identity service) in
+    shape.list_clashes_says o identity service (a_name field.Identity o identity refl p.0) (a_name field.Service o service refl p.1) refl
+
 -- ---- every command
 
 -- The content type of every command but Hello is another than 0.
@@ -300,49 +337,49 @@ pub other_than_hello : (c : Command) → (c ≡ command.Hello → ⊥) → (cont
 other_than_hello command.Hello other = absurd (other refl)
 other_than_hello c other = refl
 
--- A body that is the object of a command's fields means the command, which is none on intercepts.
-pub means_back : (c : Command) → is_spelled c ≡ true → is_intercept_command c ≡ false → (content_of c == 0) ≡ false → (text : List ℕ) → object_of_body text ≡ Some (body_object c)
+-- A body that is the object of a command's fields means the command.
+pub means_back : (c : Command) → is_spelled c ≡ true → (content_of c == 0) ≡ false → (text : List ℕ) → object_of_body text ≡ Some (body_object c)
     → meaning (content_of c) text ≡ Ok c
-means_back command.Hello h apart other text is = absurd (false≢true (sym other))
-means_back (command.CreateIdentity name attributes) h apart other text is = by_reader (made command.CreateIdentity) text _ (command.CreateIdentity name attributes) is (made_back command.CreateIdentity name attributes h)
-means_back (command.UpdateIdentity name attributes) h apart other text is = by_reader (updated command.UpdateIdentity) text _ (command.UpdateIdentity name attributes) is (updated_back command.UpdateIdentity name attributes h)
-means_back (command.DeleteIdentity name) h apart other text is = by_reader (named field.Name command.DeleteIdentity) text _ (command.DeleteIdentity name) is (name_back field.Name command.DeleteIdentity name refl refl h)
-means_back (command.CreateService name attributes) h apart other text is = by_reader (made command.CreateService) text _ (command.CreateService name attributes) is (made_back command.CreateService name attributes h)
-means_back (command.UpdateService name attributes) h apart other text is = by_reader (updated command.UpdateService) text _ (command.UpdateService name attributes) is (updated_back command.UpdateService name attributes h)
-means_back (command.DeleteService name) h apart other text is = by_reader (named field.Name command.DeleteService) text _ (command.DeleteService name) is (name_back field.Name command.DeleteService name refl refl h)
-means_back (command.CreateRouter name attributes cost no_traversal) h apart other text is = by_reader made_router text _ (command.CreateRouter name attributes cost no_traversal) is (made_router_back name attributes cost no_traversal h)
-means_back (command.UpdateRouter name attributes cost no_traversal) h apart other text is = by_reader updated_router text _ (command.UpdateRouter name attributes cost no_traversal) is (updated_router_back name attributes cost no_traversal h)
-means_back (command.DeleteRouter name) h apart other text is = by_reader (named field.Name command.DeleteRouter) text _ (command.DeleteRouter name) is (name_back field.Name command.DeleteRouter name refl refl h)
-means_back (command.ConnectRouter name) h apart other text is = by_reader (named field.Name command.ConnectRouter) text _ (command.ConnectRouter name) is (name_back field.Name command.ConnectRouter name refl refl h)
-means_back (command.DisconnectRouter name) h apart other text is = by_reader (named field.Name command.DisconnectRouter) text _ (command.DisconnectRouter name) is (name_back field.Name command.DisconnectRouter name refl refl h)
-means_back (command.CreateServicePolicy name relation semantic left right) h apart other text is = by_reader (service_policy command.CreateServicePolicy) text _ (command.CreateServicePolicy name relation semantic left right) is (service_policy_back command.CreateServicePolicy name relation semantic left right h)
-means_back (command.UpdateServicePolicy name relation semantic left right) h apart other text is = by_reader (service_policy command.UpdateServicePolicy) text _ (command.UpdateServicePolicy name relation semantic left right) is (service_policy_back command.UpdateServicePolicy name relation semantic left right h)
-means_back (command.DeleteServicePolicy name) h apart other text is = by_reader (named field.Name command.DeleteServicePolicy) text _ (command.DeleteServicePolicy name) is (name_back field.Name command.DeleteServicePolicy name refl refl h)
-means_back (command.CreateEdgeRouterPolicy name semantic left right) h apart other text is = by_reader (router_policy field.IdentityRoles command.CreateEdgeRouterPolicy) text _ (command.CreateEdgeRouterPolicy name semantic left right) is (router_policy_back field.IdentityRoles command.CreateEdgeRouterPolicy name semantic left right (object_with (router_policy_fields field.IdentityRoles name semantic left right)) refl refl refl refl refl h)
-means_back (command.UpdateEdgeRouterPolicy name semantic left right) h apart other text is = by_reader (router_policy field.IdentityRoles command.UpdateEdgeRouterPolicy) text _ (command.UpdateEdgeRouterPolicy name semantic left right) is (router_policy_back field.IdentityRoles command.UpdateEdgeRouterPolicy name semantic left right (object_with (router_policy_fields field.IdentityRoles name semantic left right)) refl refl refl refl refl h)
-means_back (command.DeleteEdgeRouterPolicy name) h apart other text is = by_reader (named field.Name command.DeleteEdgeRouterPolicy) text _ (command.DeleteEdgeRouterPolicy name) is (name_back field.Name command.DeleteEdgeRouterPolicy name refl refl h)
-means_back (command.CreateServiceEdgeRouterPolicy name semantic left right) h apart other text is = by_reader (router_policy field.ServiceRoles command.CreateServiceEdgeRouterPolicy) text _ (command.CreateServiceEdgeRouterPolicy name semantic left right) is (router_policy_back field.ServiceRoles command.CreateServiceEdgeRouterPolicy name semantic left right (object_with (router_policy_fields field.ServiceRoles name semantic left right)) refl refl refl refl refl h)
-means_back (command.UpdateServiceEdgeRouterPolicy name semantic left right) h apart other text is = by_reader (router_policy field.ServiceRoles command.UpdateServiceEdgeRouterPolicy) text _ (command.UpdateServiceEdgeRouterPolicy name semantic left right) is (router_policy_back field.ServiceRoles command.UpdateServiceEdgeRouterPolicy name semantic left right (object_with (router_policy_fields field.ServiceRoles name semantic left right)) refl refl refl refl refl h)
-means_back (command.DeleteServiceEdgeRouterPolicy name) h apart other text is = by_reader (named field.Name command.DeleteServiceEdgeRouterPolicy) text _ (command.DeleteServiceEdgeRouterPolicy name) is (name_back field.Name command.DeleteServiceEdgeRouterPolicy name refl refl h)
-means_back (command.CreateLink name a b cost latency_a latency_b) h apart other text is = by_reader made_link text _ (command.CreateLink name a b cost latency_a latency_b) is (link_back name a b cost latency_a latency_b h)
-means_back (command.SetLinkCost link cost) h apart other text is = by_reader link_cost text _ (command.SetLinkCost link cost) is (link_cost_back link cost h)
-means_back (command.ReportLatency link router latency) h apart other text is = by_reader reported_latency text _ (command.ReportLatency link router latency) is (latency_back link router latency h)
-means_back (command.ReportState link router up) h apart other text is = by_reader reported_state text _ (command.ReportState link router up) is (state_back link router up h)
-means_back (command.DeleteLink link) h apart other text is = by_reader (named field.Link command.DeleteLink) text _ (command.DeleteLink link) is (name_back field.Link command.DeleteLink link refl refl h)
-means_back (command.SetLeastRouterCost cost) h apart other text is = by_reader least_router_cost text _ (command.SetLeastRouterCost cost) is (least_back cost h)
-means_back (command.CreateTerminator service router instance host cost precedence) h apart other text is = by_reader made_terminator text _ (command.CreateTerminator service router instance host cost precedence) is (terminator_back service router instance host cost precedence h)
-means_back (command.UpdateTerminator n cost precedence) h apart other text is = by_reader updated_terminator text _ (command.UpdateTerminator n cost precedence) is (updated_terminator_back n cost precedence h)
-means_back (command.DeleteTerminator n) h apart other text is = by_reader (numbered command.DeleteTerminator) text _ (command.DeleteTerminator n) is (no_back command.DeleteTerminator n h)
-means_back (command.CreateCircuit identity service ingress instance) h apart other text is = by_reader (asked_circuit command.CreateCircuit) text _ (command.CreateCircuit identity service ingress instance) is (asked_back command.CreateCircuit identity service ingress instance h)
-means_back (command.DeleteCircuit n) h apart other text is = by_reader (numbered command.DeleteCircuit) text _ (command.DeleteCircuit n) is (no_back command.DeleteCircuit n h)
-means_back (command.Explain identity service ingress instance) h apart other text is = by_reader (asked_circuit command.Explain) text _ (command.Explain identity service ingress instance) is (asked_back command.Explain identity service ingress instance h)
-means_back (command.VerifyRoute identity service ingress instance chosen links potentials routers terminator total) h apart other text is = by_reader claimed_route text _ (command.VerifyRoute identity service ingress instance chosen links potentials routers terminator total) is (claimed_back identity service ingress instance chosen links potentials routers terminator total h)
-means_back (command.ShowGrants identity) h apart other text is = by_reader (named field.Identity command.ShowGrants) text _ (command.ShowGrants identity) is (name_back field.Identity command.ShowGrants identity refl refl h)
-means_back (command.ListServices identity) h apart other text is = by_reader (named field.Identity command.ListServices) text _ (command.ListServices identity) is (name_back field.Identity command.ListServices identity refl refl h)
-means_back command.ShowCounts h apart other text is = by_reader (plain command.ShowCounts) text _ command.ShowCounts is (shape.plain_says command.ShowCounts (body_object command.ShowCounts) refl)
-means_back (command.ShowCircuit n) h apart other text is = by_reader (numbered command.ShowCircuit) text _ (command.ShowCircuit n) is (no_back command.ShowCircuit n h)
-means_back command.Compact h apart other text is = by_reader (plain command.Compact) text _ command.Compact is (shape.plain_says command.Compact (body_object command.Compact) refl)
-means_back (command.SetIntercept service intercept) h apart other text is = absurd (false≢true (sym apart))
-means_back (command.ClearIntercept service) h apart other text is = absurd (false≢true (sym apart))
-means_back (command.Pick identity udp address port) h apart other text is = absurd (false≢true (sym apart))
-means_back (command.ListClashes identity service) h apart other text is = absurd (false≢true (sym apart))
+means_back command.Hello h other text is = absurd (false≢true (sym other))
+means_back (command.CreateIdentity name attributes) h other text is = by_reader (made command.CreateIdentity) text _ (command.CreateIdentity name attributes) is (made_back command.CreateIdentity name attributes h)
+means_back (command.UpdateIdentity name attributes) h other text is = by_reader (updated command.UpdateIdentity) text _ (command.UpdateIdentity name attributes) is (updated_back command.UpdateIdentity name attributes h)
+means_back (command.DeleteIdentity name) h other text is = by_reader (named field.Name command.DeleteIdentity) text _ (command.DeleteIdentity name) is (name_back field.Name command.DeleteIdentity name refl refl h)
+means_back (command.CreateService name attributes) h other text is = by_reader (made command.CreateService) text _ (command.CreateService name attributes) is (made_back command.CreateService name attributes h)
+means_back (command.UpdateService name attributes) h other text is = by_reader (updated command.UpdateService) text _ (command.UpdateService name attributes) is (updated_back command.UpdateService name attributes h)
+means_back (command.DeleteService name) h other text is = by_reader (named field.Name command.DeleteService) text _ (command.DeleteService name) is (name_back field.Name command.DeleteService name refl refl h)
+means_back (command.CreateRouter name attributes cost no_traversal) h other text is = by_reader made_router text _ (command.CreateRouter name attributes cost no_traversal) is (made_router_back name attributes cost no_traversal h)
+means_back (command.UpdateRouter name attributes cost no_traversal) h other text is = by_reader updated_router text _ (command.UpdateRouter name attributes cost no_traversal) is (updated_router_back name attributes cost no_traversal h)
+means_back (command.DeleteRouter name) h other text is = by_reader (named field.Name command.DeleteRouter) text _ (command.DeleteRouter name) is (name_back field.Name command.DeleteRouter name refl refl h)
+means_back (command.ConnectRouter name) h other text is = by_reader (named field.Name command.ConnectRouter) text _ (command.ConnectRouter name) is (name_back field.Name command.ConnectRouter name refl refl h)
+means_back (command.DisconnectRouter name) h other text is = by_reader (named field.Name command.DisconnectRouter) text _ (command.DisconnectRouter name) is (name_back field.Name command.DisconnectRouter name refl refl h)
+means_back (command.CreateServicePolicy name relation semantic left right) h other text is = by_reader (service_policy command.CreateServicePolicy) text _ (command.CreateServicePolicy name relation semantic left right) is (service_policy_back command.CreateServicePolicy name relation semantic left right h)
+means_back (command.UpdateServicePolicy name relation semantic left right) h other text is = by_reader (service_policy command.UpdateServicePolicy) text _ (command.UpdateServicePolicy name relation semantic left right) is (service_policy_back command.UpdateServicePolicy name relation semantic left right h)
+means_back (command.DeleteServicePolicy name) h other text is = by_reader (named field.Name command.DeleteServicePolicy) text _ (command.DeleteServicePolicy name) is (name_back field.Name command.DeleteServicePolicy name refl refl h)
+means_back (command.CreateEdgeRouterPolicy name semantic left right) h other text is = by_reader (router_policy field.IdentityRoles command.CreateEdgeRouterPolicy) text _ (command.CreateEdgeRouterPolicy name semantic left right) is (router_policy_back field.IdentityRoles command.CreateEdgeRouterPolicy name semantic left right (object_with (router_policy_fields field.IdentityRoles name semantic left right)) refl refl refl refl refl h)
+means_back (command.UpdateEdgeRouterPolicy name semantic left right) h other text is = by_reader (router_policy field.IdentityRoles command.UpdateEdgeRouterPolicy) text _ (command.UpdateEdgeRouterPolicy name semantic left right) is (router_policy_back field.IdentityRoles command.UpdateEdgeRouterPolicy name semantic left right (object_with (router_policy_fields field.IdentityRoles name semantic left right)) refl refl refl refl refl h)
+means_back (command.DeleteEdgeRouterPolicy name) h other text is = by_reader (named field.Name command.DeleteEdgeRouterPolicy) text _ (command.DeleteEdgeRouterPolicy name) is (name_back field.Name command.DeleteEdgeRouterPolicy name refl refl h)
+means_back (command.CreateServiceEdgeRouterPolicy name semantic left right) h other text is = by_reader (router_policy field.ServiceRoles command.CreateServiceEdgeRouterPolicy) text _ (command.CreateServiceEdgeRouterPolicy name semantic left right) is (router_policy_back field.ServiceRoles command.CreateServiceEdgeRouterPolicy name semantic left right (object_with (router_policy_fields field.ServiceRoles name semantic left right)) refl refl refl refl refl h)
+means_back (command.UpdateServiceEdgeRouterPolicy name semantic left right) h other text is = by_reader (router_policy field.ServiceRoles command.UpdateServiceEdgeRouterPolicy) text _ (command.UpdateServiceEdgeRouterPolicy name semantic left right) is (router_policy_back field.ServiceRoles command.UpdateServiceEdgeRouterPolicy name semantic left right (object_with (router_policy_fields field.ServiceRoles name semantic left right)) refl refl refl refl refl h)
+means_back (command.DeleteServiceEdgeRouterPolicy name) h other text is = by_reader (named field.Name command.DeleteServiceEdgeRouterPolicy) text _ (command.DeleteServiceEdgeRouterPolicy name) is (name_back field.Name command.DeleteServiceEdgeRouterPolicy name refl refl h)
+means_back (command.CreateLink name a b cost latency_a latency_b) h other text is = by_reader made_link text _ (command.CreateLink name a b cost latency_a latency_b) is (link_back name a b cost latency_a latency_b h)
+means_back (command.SetLinkCost link cost) h other text is = by_reader link_cost text _ (command.SetLinkCost link cost) is (link_cost_back link cost h)
+means_back (command.ReportLatency link router latency) h other text is = by_reader reported_latency text _ (command.ReportLatency link router latency) is (latency_back link router latency h)
+means_back (command.ReportState link router up) h other text is = by_reader reported_state text _ (command.ReportState link router up) is (state_back link router up h)
+means_back (command.DeleteLink link) h other text is = by_reader (named field.Link command.DeleteLink) text _ (command.DeleteLink link) is (name_back field.Link command.DeleteLink link refl refl h)
+means_back (command.SetLeastRouterCost cost) h other text is = by_reader least_router_cost text _ (command.SetLeastRouterCost cost) is (least_back cost h)
+means_back (command.CreateTerminator service router instance host cost precedence) h other text is = by_reader made_terminator text _ (command.CreateTerminator service router instance host cost precedence) is (terminator_back service router instance host cost precedence h)
+means_back (command.UpdateTerminator n cost precedence) h other text is = by_reader updated_terminator text _ (command.UpdateTerminator n cost precedence) is (updated_terminator_back n cost precedence h)
+means_back (command.DeleteTerminator n) h other text is = by_reader (numbered command.DeleteTerminator) text _ (command.DeleteTerminator n) is (no_back command.DeleteTerminator n h)
+means_back (command.CreateCircuit identity service ingress instance) h other text is = by_reader (asked_circuit command.CreateCircuit) text _ (command.CreateCircuit identity service ingress instance) is (asked_back command.CreateCircuit identity service ingress instance h)
+means_back (command.DeleteCircuit n) h other text is = by_reader (numbered command.DeleteCircuit) text _ (command.DeleteCircuit n) is (no_back command.DeleteCircuit n h)
+means_back (command.Explain identity service ingress instance) h other text is = by_reader (asked_circuit command.Explain) text _ (command.Explain identity service ingress instance) is (asked_back command.Explain identity service ingress instance h)
+means_back (command.VerifyRoute identity service ingress instance chosen links potentials routers terminator total) h other text is = by_reader claimed_route text _ (command.VerifyRoute identity service ingress instance chosen links potentials routers terminator total) is (claimed_back identity service ingress instance chosen links potentials routers terminator total h)
+means_back (command.ShowGrants identity) h other text is = by_reader (named field.Identity command.ShowGrants) text _ (command.ShowGrants identity) is (name_back field.Identity command.ShowGrants identity refl refl h)
+means_back (command.ListServices identity) h other text is = by_reader (named field.Identity command.ListServices) text _ (command.ListServices identity) is (name_back field.Identity command.ListServices identity refl refl h)
+means_back command.ShowCounts h other text is = by_reader (plain command.ShowCounts) text _ command.ShowCounts is (shape.plain_says command.ShowCounts (body_object command.ShowCounts) refl)
+means_back (command.ShowCircuit n) h other text is = by_reader (numbered command.ShowCircuit) text _ (command.ShowCircuit n) is (no_back command.ShowCircuit n h)
+means_back command.Compact h other text is = by_reader (plain command.Compact) text _ command.Compact is (shape.plain_says command.Compact (body_object command.Compact) refl)
+means_back (command.SetIntercept service intercept) h other text is = by_reader set_intercept text _ (command.SetIntercept service intercept) is (intercept_back service intercept h)
+means_back (command.ClearIntercept service) h other text is = by_reader (named field.Service command.ClearIntercept) text _ (command.ClearIntercept service) is (name_back field.Service command.ClearIntercept service refl refl h)
+means_back (command.Pick identity udp address port) h other text is = by_reader pick text _ (command.Pick identity udp address port) is (pick_back identity udp address port h)
+means_back (command.ListClashes identity service) h other text is = by_reader list_clashes text _ (command.ListClashes identity service) is (clashes_back identity service h)

@@ -3,9 +3,11 @@ use Rattle.std.proofs.Common.{◌≡◌, ℕ, Bool, true, false, List, [], ◌�
 use Rattle.std.specs.Option.{ok_or}
 use Rattle.serde_json.specs.Data.{Data}
 use Rattle.serde_json.specs.Find.{as_bool}
+use Rattle.ctrl_model.specs.declared.addresses.Address.{Address}
 use Rattle.ctrl_model.specs.declared.claims.Reach.{Reach}
 use Rattle.ctrl_model.specs.declared.commands.Command.{Command}
 use Rattle.ctrl_model.specs.declared.commands.Command.TheVariants as command
+use Rattle.ctrl_model.specs.declared.intercepts.Intercept.{Intercept}
 use Rattle.ctrl_model.specs.declared.kinds.Precedence.{Precedence}
 use Rattle.ctrl_model.specs.declared.kinds.Precedence.TheVariants.{Normal}
 use Rattle.ctrl_model.specs.declared.kinds.Relation.{Relation}
@@ -20,6 +22,7 @@ use Rattle.command_codec.specs.NameLists.{as_attributes}
 use Rattle.command_codec.specs.RoleLists.{as_side}
 use Rattle.body_fields.specs.FieldValues.{as_no, as_instance, as_some_name}
 use Rattle.body_fields.specs.FieldWords.{as_relation, as_semantic, as_precedence}
+use Rattle.body_fields.specs.InterceptFields.{as_addresses, as_destination, as_port, as_protocol, as_protocols, as_ranges}
 use Rattle.body_fields.specs.RouteClaims.{as_numbers, as_potentials}
 use Rattle.command_codec.specs.EntityBodies.{as_cost, named, entity_fields, made, updated, router_fields, made_router, updated_router}
 use Rattle.command_codec.specs.PolicyBodies.{service_policy_fields, service_policy, router_policy_fields, router_policy}
@@ -27,6 +30,7 @@ use Rattle.command_codec.specs.LinkBodies.{as_link_cost, as_latency, link_fields
 use Rattle.command_codec.specs.TerminatorBodies.{numbered, terminator_fields, made_terminator, updated_terminator}
 use Rattle.command_codec.specs.CircuitBodies.{circuit_fields, asked_circuit, route_fields, as_total, claimed_route}
 use Rattle.command_codec.specs.ShowBodies.{plain}
+use Rattle.command_codec.specs.InterceptBodies.{intercept_fields, set_intercept, pick_fields, pick, clash_fields, list_clashes}
 use Rattle.command_codec.specs.SpelledBodies.{Tells, MayTell}
 
 -- ---- one field
@@ -126,3 +130,15 @@ pub claimed_says : (o : Data) (identity service : List ℕ) (ingress : Option (L
     → Tells as_no field.Terminator terminator o → Tells as_total field.Total total o → has_only route_fields o ≡ true
     → claimed_route o ≡ Ok (command.VerifyRoute identity service ingress instance chosen links potentials routers terminator total)
 claimed_says o identity service ingress instance chosen links potentials routers terminator total i s n m c l p r t u only = rw (i, s, n, m, c, l, p, r, t, u, only) refl
+
+pub set_intercept_says : (o : Data) (service : List ℕ) (i : Intercept) → Tells as_name field.Service service o → Tells as_protocols field.Protocols (record { tcp = i.tcp; udp = i.udp }) o
+    → Tells as_addresses field.Addresses i.addresses o → Tells as_ranges field.Ports i.ports o → has_only intercept_fields o ≡ true → set_intercept o ≡ Ok (command.SetIntercept service i)
+set_intercept_says o service i s p a r only = rw (s, p, a, r, only) refl
+
+pub pick_says : (o : Data) (identity : List ℕ) (udp : Bool) (address : Address) (port : ℕ) → Tells as_name field.Identity identity o → Tells as_protocol field.Protocol udp o
+    → Tells as_destination field.Address address o → Tells as_port field.Port port o → has_only pick_fields o ≡ true → pick o ≡ Ok (command.Pick identity udp address port)
+pick_says o identity udp address port i u a p only = rw (i, u, a, p, only) refl
+
+pub list_clashes_says : (o : Data) (identity service : List ℕ) → Tells as_name field.Identity identity o → Tells as_name field.Service service o → has_only clash_fields o ≡ true
+    → list_clashes o ≡ Ok (command.ListClashes identity service)
+list_clashes_says o identity service i s only = rw (i, s, only) refl

@@ -1,10 +1,13 @@
 -- The fields that the body of a command gives, each with its value: every field of the command, but a host or an ingress that is
 -- none (docs/FORMATS.md, "Commands", "Bodies").
-use Rattle.std.specs.Prelude.{ℕ, nat_le, nat_lt, if◌then◌else◌, Bool, ◌&&◌, List, [], ◌∷◌, ◌++◌}
+use Rattle.std.specs.Prelude.{ℕ, nat_le, nat_lt, if◌then◌else◌, Bool, ◌&&◌, List, [], ◌∷◌, ◌++◌, map}
 use Rattle.std.specs.declared.option.Option.{Option}
+use Rattle.ctrl_model.specs.AddressForm.{address_text}
+use Rattle.ctrl_model.specs.declared.addresses.Address.{Address}
 use Rattle.ctrl_model.specs.declared.claims.Reach.{Reach}
 use Rattle.ctrl_model.specs.declared.commands.Command.{Command}
 use Rattle.ctrl_model.specs.declared.commands.Command.TheVariants as command
+use Rattle.ctrl_model.specs.declared.intercepts.Intercept.{Intercept}
 use Rattle.ctrl_model.specs.declared.kinds.Precedence.{Precedence}
 use Rattle.ctrl_model.specs.declared.kinds.Relation.{Relation}
 use Rattle.ctrl_model.specs.declared.kinds.Semantic.{Semantic}
@@ -13,8 +16,8 @@ use Rattle.ctrl_model.specs.declared.refusals.Field.{Field}
 use Rattle.ctrl_model.specs.declared.refusals.Field.TheVariants as field
 use Rattle.command_codec.specs.ContentTypes.{content_of}
 use Rattle.command_bodies.specs.RoleEntries.{role_texts}
-use Rattle.command_bodies.specs.WrittenFields.{Given, a_text, a_number, a_flag, some_texts, some_numbers, some_reaches, name_if_any}
-use Rattle.command_bodies.specs.WrittenWords.{relation_word, semantic_word, precedence_word}
+use Rattle.command_bodies.specs.WrittenFields.{Given, a_text, a_number, a_flag, some_texts, some_numbers, some_reaches, some_ranges, name_if_any}
+use Rattle.command_bodies.specs.WrittenWords.{relation_word, semantic_word, precedence_word, protocol_word, protocol_words}
 
 -- Some fields of a body.
 abbrev pub GivenFields : Type 0
@@ -72,7 +75,19 @@ claim_fields chosen links potentials routers terminator total =
     (field.Chosen, a_text chosen) ∷ (field.Links, some_numbers links) ∷ (field.Potentials, some_reaches potentials)
     ∷ (field.Routers, some_numbers routers) ∷ (field.Terminator, a_number terminator) ∷ (field.Total, a_number total) ∷ []
 
--- The fields that the body of a command gives. None is written for the commands on intercepts yet.
+-- An intercept that is set: each address in its one spelling.
+abbrev pub intercept_fields : List ℕ → Intercept → GivenFields
+intercept_fields service i =
+    (field.Service, a_text service) ∷ (field.Protocols, some_texts (protocol_words i.tcp i.udp))
+    ∷ (field.Addresses, some_texts (map address_text i.addresses)) ∷ (field.Ports, some_ranges i.ports) ∷ []
+
+-- A destination whose service is picked.
+abbrev pub pick_fields : List ℕ → Bool → Address → ℕ → GivenFields
+pick_fields identity udp address port =
+    (field.Identity, a_text identity) ∷ (field.Protocol, a_text (protocol_word udp)) ∷ (field.Address, a_text (address_text address))
+    ∷ (field.Port, a_number port) ∷ []
+
+-- The fields that the body of a command gives.
 abbrev pub fields_of : Command → GivenFields
 fields_of command.Hello = []
 fields_of (command.CreateIdentity name attributes) = entity_fields name attributes
@@ -114,10 +129,10 @@ fields_of (command.ListServices identity) = name_field field.Identity identity
 fields_of command.ShowCounts = []
 fields_of (command.ShowCircuit n) = no_field n
 fields_of command.Compact = []
-fields_of (command.SetIntercept service intercept) = []
-fields_of (command.ClearIntercept service) = []
-fields_of (command.Pick identity udp address port) = []
-fields_of (command.ListClashes identity service) = []
+fields_of (command.SetIntercept service intercept) = intercept_fields service intercept
+fields_of (command.ClearIntercept service) = name_field field.Service service
+fields_of (command.Pick identity udp address port) = pick_fields identity udp address port
+fields_of (command.ListClashes identity service) = (field.Identity, a_text identity) ∷ (field.Service, a_text service) ∷ []
 
 -- The fields that the body of a command of a family gives, and none of another command. The content types of a family begin at
 -- the first number and end before the second.

@@ -7,10 +7,11 @@ use Rattle.serde_json.specs.View.{items_of}
 use Rattle.ctrl_model.specs.Claims.{no_path}
 use Rattle.ctrl_model.specs.Words.{word_of}
 use Rattle.ctrl_model.specs.declared.claims.Reach.{Reach}
+use Rattle.ctrl_model.specs.declared.intercepts.PortRange.{PortRange}
 use Rattle.ctrl_model.specs.declared.refusals.Field.{Field}
 use Rattle.ctrl_model.specs.declared.refusals.Field.TheVariants as field
 
--- The value of a field: a text, a number, a truth value, or a list of texts, of numbers or of potentials.
+-- The value of a field: a text, a number, a truth value, or a list of texts, of numbers, of potentials or of ranges of ports.
 pub data Given : Type 0 where
   a_text : List ℕ → Given
   a_number : ℕ → Given
@@ -18,6 +19,7 @@ pub data Given : Type 0 where
   some_texts : List (List ℕ) → Given
   some_numbers : List ℕ → Given
   some_reaches : List Reach → Given
+  some_ranges : List PortRange → Given
 
 -- A number.
 abbrev pub natural : ℕ → Data
@@ -38,6 +40,10 @@ potential e = object (
     (member (codes "values") (list_of value_or_null e.values)
     no_members))
 
+-- A range of ports: the lowest and the highest.
+abbrev pub two_ports : PortRange → Data
+two_ports r = list_of natural (r.low ∷ r.high ∷ [])
+
 -- The JSON value that a field is given.
 abbrev pub data_of : Given → Data
 data_of (a_text bytes) = string bytes
@@ -46,6 +52,7 @@ data_of (a_flag b) = boolean b
 data_of (some_texts texts) = list_of (λ t. string t) texts
 data_of (some_numbers ns) = list_of natural ns
 data_of (some_reaches es) = list_of potential es
+data_of (some_ranges rs) = list_of two_ports rs
 
 -- A field under its word, beside other members.
 abbrev pub with_field : Field × Given → Members → Members

@@ -1,5 +1,5 @@
 -- The words that bodies have for a few kinds of thing (docs/FORMATS.md, "Commands").
-use Rattle.std.specs.Prelude.{ℕ, List, [], codes}
+use Rattle.std.specs.Prelude.{ℕ, if◌then◌else◌, Bool, List, [], ◌∷◌, ◌++◌, codes}
 use Rattle.ctrl_model.specs.declared.kinds.Precedence.{Precedence}
 use Rattle.ctrl_model.specs.declared.kinds.Precedence.TheVariants.{Required, Normal, Failed}
 use Rattle.ctrl_model.specs.declared.kinds.Relation.{Relation}
@@ -24,3 +24,11 @@ abbrev pub precedence_word : Precedence → List ℕ
 precedence_word Required = codes "required"
 precedence_word Normal = codes "default"
 precedence_word Failed = codes "failed"
+
+-- The word of udp, or else of tcp.
+abbrev pub protocol_word : Bool → List ℕ
+protocol_word udp = if udp then codes "udp" else codes "tcp"
+
+-- The words of the protocols of an intercept: of tcp, and then of udp.
+abbrev pub protocol_words : Bool → Bool → List (List ℕ)
+protocol_words tcp udp = (if tcp then codes "tcp" ∷ [] else []) ++ (if udp then codes "udp" ∷ [] else [])

@@ -1,11 +1,12 @@
-ghost use Rattle.std.specs.Prelude.{◌≡◌, OnOk};
+ghost use Rattle.std.specs.Prelude.{◌≡◌, true, OnOk};
 ghost use Rattle.serde_json.specs.View.{members_view};
+ghost use Rattle.ctrl_model.specs.CommandForm.{is_spelled};
 ghost use Rattle.command_bodies.specs.CommandFields.{fields_of, fields_between};
 ghost use Rattle.command_bodies.specs.WrittenFields.{with_fields};
 
 use crate::giving::{
-    put_asked, put_changed_terminator, put_claim, put_entity, put_link, put_link_end, put_router,
-    put_router_policy, put_service_policy, put_terminator,
+    put_asked, put_changed_terminator, put_claim, put_entity, put_intercept, put_link,
+    put_link_end, put_pick, put_router, put_router_policy, put_service_policy, put_terminator,
 };
 use crate::putting::{put_name, put_number, put_value};
 use ctrl_model::{Command, Field};
@@ -297,12 +298,41 @@ fn put_circuits(
     }
 }
 
-/// Puts the fields of a command: every field, but a host or an ingress that is none.
+// Puts the fields of a command on intercepts. Another command's are not put.
+fn put_intercepts(
+    alloc: Global,
+    members: &mut Map<String, Value>,
+    command: &Command,
+) -> Result<(), AllocError>
+    requires { is_spelled command.now ≡ true }
+    ensures { OnOk result (members_view members.new.entries ≡ with_fields (fields_between 1600 1700 command.now) (members_view members.old.entries)) }
+{
+    match command {
+        Command::SetIntercept { service, intercept } => {
+            put_intercept(alloc, members, service, intercept)
+        }
+        Command::ClearIntercept { service } => put_name(alloc, members, Field::Service, service),
+        Command::Pick {
+            identity,
+            udp,
+            address,
+            port,
+        } => put_pick(alloc, members, identity, *udp, address, *port),
+        Command::ListClashes { identity, service } => {
+            put_name(alloc, members, Field::Identity, identity)?;
+            put_name(alloc, members, Field::Service, service)
+        }
+        _ => Ok(()),
+    }
+}
+
+/// Puts the fields of a command that some body spells: every field, but a host or an ingress that is none.
 pub(crate) fn put_fields(
     alloc: Global,
     members: &mut Map<String, Value>,
     command: &Command,
 ) -> Result<(), AllocError>
+    requires { is_spelled command.now ≡ true }
     ensures { OnOk result (members_view members.new.entries ≡ with_fields (fields_of command.now) (members_view members.old.entries)) }
 {
     put_entities(alloc, members, command)?;
@@ -311,5 +341,6 @@ pub(crate) fn put_fields(
     put_service_edge_router_policies(alloc, members, command)?;
     put_links(alloc, members, command)?;
     put_terminators(alloc, members, command)?;
-    put_circuits(alloc, members, command)
+    put_circuits(alloc, members, command)?;
+    put_intercepts(alloc, members, command)
 }

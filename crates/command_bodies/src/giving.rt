@@ -1,16 +1,22 @@
-ghost use Rattle.std.specs.Prelude.{◌≡◌, ◌∷◌, [], OnOk};
+ghost use Rattle.std.specs.Prelude.{◌≡◌, ◌∷◌, [], true, OnOk};
 ghost use Rattle.serde_json.specs.View.{members_view};
-ghost use Rattle.command_bodies.specs.CommandFields.{entity_fields, router_fields, service_policy_fields, router_policy_fields, link_fields, terminator_fields, asked_fields, claim_fields};
+ghost use Rattle.ctrl_model.specs.AddressForm.{is_address};
+ghost use Rattle.ctrl_model.specs.InterceptForm.{is_intercept};
+ghost use Rattle.command_bodies.specs.CommandFields.{entity_fields, router_fields, service_policy_fields, router_policy_fields, link_fields, terminator_fields, asked_fields, claim_fields, intercept_fields, pick_fields};
 ghost use Rattle.command_bodies.specs.WrittenFields.{a_text, a_number, with_fields};
 ghost use Rattle.command_bodies.specs.WrittenWords.{precedence_word};
 
-use crate::listing::{names_value, numbers_value, reaches_value};
+use crate::listing::{
+    address_value, addresses_value, names_value, numbers_value, protocols_value, ranges_value,
+    reaches_value,
+};
 use crate::putting::{
     put_instance, put_name, put_name_if_any, put_number, put_side, put_text, put_value,
 };
-use crate::spelling::{precedence_word, relation_word, semantic_word};
+use crate::spelling::{precedence_word, protocol_word, relation_word, semantic_word};
 use ctrl_model::{
-    Field, Instance, Name, Names, Numbers, Precedence, Reaches, Relation, Semantic, Side,
+    Address, Field, Instance, Intercept, Name, Names, Numbers, Precedence, Reaches, Relation,
+    Semantic, Side,
 };
 use serde_json::{Map, Value};
 use std::alloc::{AllocError, Global};
@@ -205,4 +211,44 @@ pub(crate) fn put_claim(
     )?;
     put_number(alloc, members, Field::Terminator, terminator)?;
     put_number(alloc, members, Field::Total, total)
+}
+
+pub(crate) fn put_intercept(
+    alloc: Global,
+    members: &mut Map<String, Value>,
+    service: &Name,
+    intercept: &Intercept,
+) -> Result<(), AllocError>
+    requires { is_intercept intercept.now ≡ true }
+    ensures { OnOk result (members_view members.new.entries ≡ with_fields (intercept_fields service.now intercept.now) (members_view members.old.entries)) }
+{
+    put_name(alloc, members, Field::Service, service)?;
+    let protocols = protocols_value(alloc, intercept.tcp, intercept.udp)?;
+    put_value(alloc, members, Field::Protocols, protocols)?;
+    let addresses = addresses_value(alloc, &intercept.addresses)?;
+    put_value(alloc, members, Field::Addresses, addresses)?;
+    let ports = ranges_value(alloc, &intercept.ports)?;
+    put_value(alloc, members, Field::Ports, ports)
+}
+
+pub(crate) fn put_pick(
+    alloc: Global,
+    members: &mut Map<String, Value>,
+    identity: &Name,
+    udp: bool,
+    address: &Address,
+    port: u32,
+) -> Result<(), AllocError>
+    requires { is_address address.now ≡ true }
+    ensures { OnOk result (members_view members.new.entries ≡ with_fields (pick_fields identity.now udp address.now port) (members_view members.old.entries)) }
+{
+    put_name(alloc, members, Field::Identity, identity)?;
+    put_text(alloc, members, Field::Protocol, protocol_word(udp))?;
+    put_value(
+        alloc,
+        members,
+        Field::Address,
+        address_value(alloc, address)?,
+    )?;
+    put_number(alloc, members, Field::Port, port)
 }

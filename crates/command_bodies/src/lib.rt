@@ -12,7 +12,7 @@ mod writing;
 
 pub use content_types::content_of;
 pub use worked::{
-    worked_circuits, worked_claims, worked_entities, worked_links, worked_policies, worked_sides,
-    worked_terminators,
+    worked_circuits, worked_claims, worked_entities, worked_intercepts, worked_links,
+    worked_policies, worked_sides, worked_terminators,
 };
 pub use writing::write;

@@ -1,11 +1,17 @@
-ghost use Rattle.std.specs.Prelude.{◌≡◌, ◌∷◌, [], ◌++◌, codes, IfOk, OnOk, map};
+ghost use Rattle.std.specs.Prelude.{◌≡◌, ◌∷◌, [], ◌++◌, codes, true, if◌then◌else◌, IfOk, OnOk, map};
+ghost use Rattle.std.specs.List.{list_all};
 ghost use Rattle.serde_json.specs.Data.{array, string};
 ghost use Rattle.serde_json.specs.View.{view, items_of};
-ghost use Rattle.command_bodies.specs.WrittenFields.{natural, list_of, value_or_null, potential};
+ghost use Rattle.ctrl_model.specs.AddressForm.{address_text, is_address};
+ghost use Rattle.command_bodies.specs.WrittenFields.{natural, list_of, value_or_null, potential, two_ports};
+ghost use Rattle.command_bodies.specs.WrittenWords.{protocol_words};
 ghost use Rattle.command_bodies.specs.RoleEntries.{role_texts};
 
-use crate::spelling::name_text;
-use ctrl_model::{Name, Names, Numbers, Potentials, Reach, Reaches, Side};
+use crate::spelling::{address_text, name_text};
+use ctrl_model::{
+    Address, Addresses, Name, Names, Numbers, PortRange, PortRanges, Potentials, Reach, Reaches,
+    Side,
+};
 use serde_json::{Value, json};
 use std::alloc::{AllocError, Global};
 
@@ -130,6 +136,78 @@ pub(crate) fn reaches_value(alloc: Global, reaches: &Reaches) -> Result<Value, A
     let mut values = Vec::new(alloc);
     'reaches: for reach in reaches.as_slice() {
         values.push(reach_value(alloc, reach)?)?;
+    }
+    Ok(Value::Array(values))
+}
+
+// Puts a word at the end of some values, if it is said.
+fn push_word(
+    alloc: Global,
+    values: &mut Vec<Value>,
+    word: &str,
+    is_said: bool,
+) -> Result<(), AllocError>
+    ensures { OnOk result (map view values.new.items ≡ map view values.old.items ++ (if is_said then string word.now ∷ [] else [])) }
+{
+    if is_said {
+        values.push(Value::try_from_str(alloc, word)?)?;
+    }
+    Ok(())
+}
+
+fn protocol_values(alloc: Global, tcp: bool, udp: bool) -> Result<Vec<Value>, AllocError>
+    ensures { IfOk result (λ v. map view v.items ≡ map (λ t. string t) (protocol_words tcp udp)) }
+{
+    let mut values = Vec::new(alloc);
+    push_word(alloc, &mut values, "tcp", tcp)?;
+    push_word(alloc, &mut values, "udp", udp)?;
+    Ok(values)
+}
+
+// The list of the protocols of an intercept.
+pub(crate) fn protocols_value(alloc: Global, tcp: bool, udp: bool) -> Result<Value, AllocError>
+    ensures { IfOk result (λ v. view v ≡ list_of (λ t. string t) (protocol_words tcp udp)) }
+{
+    let values = protocol_values(alloc, tcp, udp)?;
+    Ok(Value::Array(values))
+}
+
+// An address in its one spelling.
+pub(crate) fn address_value(alloc: Global, address: &Address) -> Result<Value, AllocError>
+    requires { is_address address.now ≡ true }
+    ensures { IfOk result (λ v. view v ≡ string (address_text address.now)) }
+{
+    let spelling = address.text(alloc)?;
+    Value::try_from_str(alloc, address_text(&spelling))
+}
+
+// A list of addresses.
+pub(crate) fn addresses_value(alloc: Global, addresses: &Addresses) -> Result<Value, AllocError>
+    requires { list_all is_address addresses.now ≡ true }
+    ensures { IfOk result (λ v. view v ≡ list_of (λ t. string t) (map address_text addresses.now)) }
+{
+    let mut values = Vec::new(alloc);
+    'addresses: for address in addresses.as_slice() {
+        values.push(address_value(alloc, address)?)?;
+    }
+    Ok(Value::Array(values))
+}
+
+// A range of ports: the lowest and the highest.
+fn range_value(alloc: Global, range: PortRange) -> Result<Value, AllocError>
+    ensures { IfOk result (λ v. view v ≡ two_ports range) }
+{
+    let (low, high) = (u32::from(range.low), u32::from(range.high));
+    json!(in alloc; [low, high])
+}
+
+// A list of ranges of ports.
+pub(crate) fn ranges_value(alloc: Global, ranges: &PortRanges) -> Result<Value, AllocError>
+    ensures { IfOk result (λ v. view v ≡ list_of two_ports ranges.now) }
+{
+    let mut values = Vec::new(alloc);
+    'pairs: for range in ranges.as_slice() {
+        values.push(range_value(alloc, *range)?)?;
     }
     Ok(Value::Array(values))
 }

@@ -1,7 +1,8 @@
-ghost use Rattle.std.specs.Prelude.{◌≡◌};
-ghost use Rattle.command_bodies.specs.WrittenWords.{relation_word, semantic_word, precedence_word};
+ghost use Rattle.std.specs.Prelude.{◌≡◌, true};
+ghost use Rattle.ctrl_model.specs.AddressForm.{is_spelling};
+ghost use Rattle.command_bodies.specs.WrittenWords.{relation_word, semantic_word, precedence_word, protocol_word};
 
-use ctrl_model::{Instance, Name, Precedence, Relation, Semantic};
+use ctrl_model::{Bytes, Instance, Name, Precedence, Relation, Semantic};
 use std::str;
 
 // A name as a text.
@@ -16,6 +17,14 @@ pub(crate) fn instance_text(instance: &Instance) -> &str
     ensures { result.now ≡ instance.now }
 {
     str::from_utf8(instance.bytes()).unwrap()
+}
+
+// The spelling of an address as a text.
+pub(crate) fn address_text(spelling: &Bytes) -> &str
+    requires { is_spelling spelling.now ≡ true }
+    ensures { result.now ≡ spelling.now }
+{
+    str::from_utf8(spelling.as_slice()).unwrap()
 }
 
 // The word of what a service policy grants.
@@ -48,4 +57,11 @@ pub(crate) fn precedence_word(precedence: Precedence) -> &'static str
         Precedence::Normal => "default",
         Precedence::Failed => "failed",
     }
+}
+
+// The word of udp, or else of tcp.
+pub(crate) fn protocol_word(udp: bool) -> &'static str
+    ensures { result.now ≡ protocol_word udp }
+{
+    if udp { "udp" } else { "tcp" }
 }

@@ -1,4 +1,5 @@
 ghost use Rattle.std.specs.Prelude.{◌≡◌, [], ◌∷◌, codes, true, false, None, Some};
+ghost use Rattle.ctrl_model.specs.declared.addresses.Address.TheVariants.{Host, Under, Range};
 ghost use Rattle.ctrl_model.specs.declared.commands.Command.TheVariants as command;
 ghost use Rattle.ctrl_model.specs.declared.kinds.Precedence.TheVariants.{Required, Normal, Failed};
 ghost use Rattle.ctrl_model.specs.declared.kinds.Relation.TheVariants.{Dial, Bind};
@@ -69,4 +70,16 @@ pub fn worked_circuits()
 pub fn worked_claims()
     ensures claimed { body_text (command.VerifyRoute (codes "ann") (codes "web") None [] (codes "r1") (1 ∷ 2 ∷ []) (record { router = record { 0 = 3 }; values = 42 ∷ 18446744073709551615 ∷ 0 ∷ [] } ∷ []) (1 ∷ 2 ∷ 3 ∷ []) 1 42)
         ≡ codes "{\"chosen\":\"r1\",\"identity\":\"ann\",\"instance\":\"\",\"links\":[1,2],\"potentials\":[{\"router\":3,\"values\":[42,null,0]}],\"routers\":[1,2,3],\"service\":\"web\",\"terminator\":1,\"total\":42}" }
+{}
+
+/// Bodies of commands on intercepts: tcp comes before udp, and each address stands in its one spelling.
+pub fn worked_intercepts()
+    ensures set { body_text (command.SetIntercept (codes "web") (record { tcp = true; udp = true; addresses = Under (codes "example.org") ∷ Range 167837696 16 ∷ []; ports = record { low = 443; high = 443 } ∷ record { low = 1; high = 65535 } ∷ [] }))
+        ≡ codes "{\"addresses\":[\"*.example.org\",\"10.1.0.0/16\"],\"ports\":[[443,443],[1,65535]],\"protocols\":[\"tcp\",\"udp\"],\"service\":\"web\"}" }
+    ensures over_udp { body_text (command.SetIntercept (codes "web") (record { tcp = false; udp = true; addresses = Host (codes "a") ∷ []; ports = record { low = 1; high = 2 } ∷ [] }))
+        ≡ codes "{\"addresses\":[\"a\"],\"ports\":[[1,2]],\"protocols\":[\"udp\"],\"service\":\"web\"}" }
+    ensures cleared { body_text (command.ClearIntercept (codes "web")) ≡ codes "{\"service\":\"web\"}" }
+    ensures picked { body_text (command.Pick (codes "ann") false (Range 167838211 32) 22) ≡ codes "{\"address\":\"10.1.2.3\",\"identity\":\"ann\",\"port\":22,\"protocol\":\"tcp\"}" }
+    ensures picked_over_udp { body_text (command.Pick (codes "ann") true (Host (codes "api.example.org")) 65535) ≡ codes "{\"address\":\"api.example.org\",\"identity\":\"ann\",\"port\":65535,\"protocol\":\"udp\"}" }
+    ensures listed { body_text (command.ListClashes (codes "ann") (codes "web")) ≡ codes "{\"identity\":\"ann\",\"service\":\"web\"}" }
 {}

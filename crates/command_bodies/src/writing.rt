@@ -1,8 +1,7 @@
-ghost use Rattle.std.specs.Prelude.{◌≡◌, true, false, IfOk, Some, Ok};
+ghost use Rattle.std.specs.Prelude.{◌≡◌, true, IfOk, Some, Ok};
 ghost use Rattle.serde_json.specs.View.{view};
 ghost use Rattle.serde_json.specs.Written.{compact_text};
 ghost use Rattle.ctrl_model.specs.CommandForm.{is_spelled};
-ghost use Rattle.ctrl_model.specs.InterceptCommands.{is_intercept_command};
 ghost use Rattle.command_codec.specs.BodyMeaning.{meaning};
 ghost use Rattle.command_codec.specs.BodyObjects.{object_of_body};
 ghost use Rattle.command_codec.specs.ContentTypes.{content_of};
@@ -14,6 +13,7 @@ use serde_json::{Map, Value};
 use std::alloc::{AllocError, Global};
 
 fn object_value(alloc: Global, command: &Command) -> Result<Value, AllocError>
+    requires { is_spelled command.now ≡ true }
     ensures { IfOk result (λ v. view v ≡ body_object command.now) }
 {
     let mut members = Map::new(alloc);
@@ -23,6 +23,7 @@ fn object_value(alloc: Global, command: &Command) -> Result<Value, AllocError>
 
 // The object of a command's fields as compact JSON, which reads as the object.
 fn object_bytes(alloc: Global, command: &Command) -> Result<Bytes, AllocError>
+    requires { is_spelled command.now ≡ true }
     ensures text { IfOk result (λ b. b ≡ compact_text (body_object command.now)) }
     ensures reads { IfOk result (λ b. object_of_body b ≡ Some (body_object command.now)) }
 {
@@ -33,10 +34,9 @@ fn object_bytes(alloc: Global, command: &Command) -> Result<Bytes, AllocError>
 
 /// The body that is written for a command that some body spells: compact JSON with keys in ascending order and every field but a
 /// host or an ingress that is none; no bytes for Hello. It is the one body that is written, and it reads as the command
-/// (docs/FORMATS.md, "Bodies"). The commands on intercepts are not written yet.
+/// (docs/FORMATS.md, "Bodies").
 pub fn write(alloc: Global, command: &Command) -> Result<Bytes, AllocError>
-    requires spelled { is_spelled command.now ≡ true }
-    requires others { is_intercept_command command.now ≡ false }
+    requires { is_spelled command.now ≡ true }
     ensures body { IfOk result (λ b. b ≡ body_text command.now) }
     ensures reads_back { IfOk result (λ b. meaning (content_of command.now) b ≡ Ok command.now) }
 {

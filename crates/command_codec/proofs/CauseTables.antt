@@ -28,11 +28,13 @@ use Rattle.command_codec.specs.EntityBodies.{as_cost, named, made, updated, made
 use Rattle.command_codec.specs.PolicyBodies.{service_policy, service_policy_fields, router_policy, router_policy_fields, policy_table}
 use Rattle.command_codec.specs.LinkBodies.{as_link_cost, as_latency, made_link, link_cost, reported_latency, reported_state, least_router_cost, link_fields, link_table}
 use Rattle.command_codec.specs.TerminatorBodies.{numbered, made_terminator, updated_terminator, terminator_fields, terminator_table}
+use Rattle.body_fields.specs.InterceptFields.{as_addresses, as_destination, as_port, as_protocol, as_protocols, as_ranges}
 use Rattle.body_fields.specs.RouteClaims.{as_numbers, as_potentials}
 use Rattle.command_codec.specs.CircuitBodies.{Asked, asked, asked_circuit, claimed_route, circuit_fields, route_fields, as_total, circuit_table}
 use Rattle.command_codec.specs.ShowBodies.{plain, show_table}
+use Rattle.command_codec.specs.InterceptBodies.{set_intercept, pick, list_clashes, intercept_fields, pick_fields, clash_fields, intercept_table}
 use Rattle.body_fields.specs.FieldRules.{FieldRule, Breaks, IsFirstFault, needs, may_have}
-use Rattle.command_codec.specs.FirstCauses.{IsFaultCause, IsCauseOf, IsCauseUnder, IsFirstCause, name_rules, number_rules, made_rules, updated_rules, service_policy_rules, router_policy_rules, request_rules, entity_rules, policy_rules, network_rules, terminator_rules, route_rules, show_rules, all_rules}
+use Rattle.command_codec.specs.FirstCauses.{IsFaultCause, IsCauseOf, IsCauseUnder, IsFirstCause, name_rules, number_rules, made_rules, updated_rules, service_policy_rules, router_policy_rules, request_rules, entity_rules, policy_rules, network_rules, terminator_rules, route_rules, show_rules, intercept_rules, all_rules}
 use Rattle.command_codec.proofs.FirstCauseLaws.{TellsFirst, required_first, optional_first, none_first, required_gathered, optional_gathered}
 
 -- What a reader says of an object is a fault exactly where that is the first one by these rules.
@@ -131,6 +133,21 @@ claimed_route_follows o = asked_first route_fields _ o _ (λ a.
 plain_follows : (c : Command) → Follows (plain c) []
 plain_follows c o = none_first [] o c
 
+set_intercept_follows : Follows set_intercept (needs as_name field.Service ∷ needs as_protocols field.Protocols ∷ needs as_addresses field.Addresses ∷ needs as_ranges field.Ports ∷ [])
+set_intercept_follows o =
+    required_first as_name field.Service _ _ o _ (λ service. required_first as_protocols field.Protocols _ _ o _ (λ protocols. required_first as_addresses field.Addresses _ _ o _ (λ addresses.
+    required_first as_ranges field.Ports _ _ o _ (λ ports.
+    none_first intercept_fields o (command.SetIntercept service (record { tcp = protocols.tcp; udp = protocols.udp; addresses = addresses; ports = ports }))))))
+
+pick_follows : Follows pick (needs as_name field.Identity ∷ needs as_protocol field.Protocol ∷ needs as_destination field.Address ∷ needs as_port field.Port ∷ [])
+pick_follows o =
+    required_first as_name field.Identity _ _ o _ (λ identity. required_first as_protocol field.Protocol _ _ o _ (λ udp. required_first as_destination field.Address _ _ o _ (λ address.
+    required_first as_port field.Port _ _ o _ (λ port. none_first pick_fields o (command.Pick identity udp address port)))))
+
+list_clashes_follows : Follows list_clashes (needs as_name field.Identity ∷ needs as_name field.Service ∷ [])
+list_clashes_follows o =
+    required_first as_name field.Identity _ _ o _ (λ identity. required_first as_name field.Service _ _ o _ (λ service. none_first clash_fields o (command.ListClashes identity service)))
+
 -- ---- the tables
 
 -- A row of the one table has the content type of a row of the other, and its reader follows the rules.
@@ -186,25 +203,34 @@ circuits_agree =
 shows_agree : Agree show_table show_rules
 shows_agree = row (named_follows field.Identity command.ShowGrants) & row (named_follows field.Identity command.ListServices) & row (plain_follows command.ShowCounts) & row (plain_follows command.Compact) & tt
 
-last_agree : Agree (circuit_table ++ show_table) (route_rules ++ show_rules)
-last_agree = both_agree circuit_table show_table route_rules show_rules circuits_agree shows_agree
+intercepts_agree : Agree intercept_table intercept_rules
+intercepts_agree = row set_intercept_follows & row (named_follows field.Service command.ClearIntercept) & row pick_follows & row list_clashes_follows & tt
 
-later_agree : Agree (terminator_table ++ (circuit_table ++ show_table)) (terminator_rules ++ (route_rules ++ show_rules))
-later_agree = both_agree terminator_table (circuit_table ++ show_table) terminator_rules (route_rules ++ show_rules) terminators_agree last_agree
+last_agree : Agree (show_table ++ intercept_table) (show_rules ++ intercept_rules)
+last_agree = both_agree show_table intercept_table show_rules intercept_rules shows_agree intercepts_agree
 
-network_agree : Agree (link_table ++ (terminator_table ++ (circuit_table ++ show_table))) (network_rules ++ (terminator_rules ++ (route_rules ++ show_rules)))
+route_agree : Agree (circuit_table ++ (show_table ++ intercept_table)) (route_rules ++ (show_rules ++ intercept_rules))
+route_agree = both_agree circuit_table (show_table ++ intercept_table) route_rules (show_rules ++ intercept_rules) circuits_agree last_agree
+
+later_agree : Agree (terminator_table ++ (circuit_table ++ (show_table ++ intercept_table))) (terminator_rules ++ (route_rules ++ (show_rules ++ intercept_rules)))
+later_agree =
+    both_agree terminator_table (circuit_table ++ (show_table ++ intercept_table)) terminator_rules (route_rules ++ (show_rules ++ intercept_rules)) terminators_agree route_agree
+
+network_agree : Agree (link_table ++ (terminator_table ++ (circuit_table ++ (show_table ++ intercept_table)))) (network_rules ++ (terminator_rules ++ (route_rules ++ (show_rules ++ intercept_rules))))
 network_agree =
-    both_agree link_table (terminator_table ++ (circuit_table ++ show_table)) network_rules (terminator_rules ++ (route_rules ++ show_rules)) links_agree later_agree
+    both_agree link_table (terminator_table ++ (circuit_table ++ (show_table ++ intercept_table))) network_rules (terminator_rules ++ (route_rules ++ (show_rules ++ intercept_rules)))
+    links_agree later_agree
 
-named_agree : Agree (policy_table ++ (link_table ++ (terminator_table ++ (circuit_table ++ show_table)))) (policy_rules ++ (network_rules ++ (terminator_rules ++ (route_rules ++ show_rules))))
+named_agree : Agree (policy_table ++ (link_table ++ (terminator_table ++ (circuit_table ++ (show_table ++ intercept_table)))))
+    (policy_rules ++ (network_rules ++ (terminator_rules ++ (route_rules ++ (show_rules ++ intercept_rules)))))
 named_agree =
-    both_agree policy_table (link_table ++ (terminator_table ++ (circuit_table ++ show_table))) policy_rules (network_rules ++ (terminator_rules ++ (route_rules ++ show_rules)))
-    policies_agree network_agree
+    both_agree policy_table (link_table ++ (terminator_table ++ (circuit_table ++ (show_table ++ intercept_table)))) policy_rules
+    (network_rules ++ (terminator_rules ++ (route_rules ++ (show_rules ++ intercept_rules)))) policies_agree network_agree
 
 all_agree : Agree table all_rules
 all_agree =
-    both_agree entity_table (policy_table ++ (link_table ++ (terminator_table ++ (circuit_table ++ show_table)))) entity_rules
-    (policy_rules ++ (network_rules ++ (terminator_rules ++ (route_rules ++ show_rules)))) entities_agree named_agree
+    both_agree entity_table (policy_table ++ (link_table ++ (terminator_table ++ (circuit_table ++ (show_table ++ intercept_table))))) entity_rules
+    (policy_rules ++ (network_rules ++ (terminator_rules ++ (route_rules ++ (show_rules ++ intercept_rules))))) entities_agree named_agree
 
 -- An entry of the one table and rules of the other that stand at one content type, if they do: the entry follows the rules.
 abbrev pub Found : Option Reader → Option (List FieldRule) → Type 0

@@ -5,6 +5,7 @@ mod TableLaws
 mod EntityLaws
 mod PolicyLaws
 mod ShowLaws
+mod InterceptLaws
 mod LinkLaws
 mod TerminatorLaws
 mod CircuitLaws

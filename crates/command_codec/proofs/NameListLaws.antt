@@ -1,32 +1,39 @@
--- Lists of names in bodies: what one more name adds, and what form such a list has.
-use Rattle.std.proofs.Common.{◌≡◌, ℕ, ◌≤◌, ◌<◌, nat_le, true, List, [], ◌∷◌, ◌++◌, length, get_or, Some, None, sym, ap, ◌∙◌, subst, arith, le-leb}
+-- Lists of names in bodies: in which each name stands once, and what form such a list has.
+use Rattle.std.proofs.Common.{◌≡◌, ℕ, ◌≤◌, nat_le, Bool, true, false, not, List, [], ◌∷◌, length, bytes_eq, filter, Option, Some, None, refl, sym, ap, ◌∙◌, subst, arith, le-leb}
 use Rattle.std.specs.Prelude.{option_map}
 use Rattle.std.specs.List.{list_all}
-use Rattle.std.proofs.lemmas.Bool.{and_from}
+use Rattle.std.proofs.lemmas.Bool.{and_from, both_ways}
 use Rattle.std.proofs.lemmas.Option.{cond_some, option_and_then_some}
 use Rattle.serde_json.specs.Data.{Data}
 use Rattle.serde_json.specs.Find.{as_str}
-use Rattle.serde_json.specs.View.{view, items_view}
-use Rattle.serde_json.specs.declared.value.Value.{Value}
 use Rattle.ctrl_model.specs.NameForm.{is_name}
 use Rattle.ctrl_model.specs.CommandForm.{is_distinct, are_names, are_attributes}
 use Rattle.json_body.specs.FieldKinds.{as_name, name_of}
 use Rattle.role_expr.specs.NameRepeats.{without_repeats}
-use Rattle.role_expr.proofs.RepeatLaws.{with_name, without_repeats-distinct, without_repeats-end, without_repeats-length, without_repeats-names}
-use Rattle.body_fields.specs.ItemLists.{each_of, as_each_of}
+use Rattle.role_expr.proofs.RepeatLaws.{without_repeats-distinct, without_repeats-length, without_repeats-names}
+use Rattle.ctrl_model.proofs.DistinctLaws.{same_name, same_bytes}
+use Rattle.body_fields.specs.ItemLists.{as_each_of, each_once}
 use Rattle.command_codec.specs.NameLists.{as_attributes}
-use Rattle.body_fields.proofs.ItemLaws.{by_mapped, each_of-more, each_of-none, as_each_of-form}
+use Rattle.body_fields.proofs.ItemLaws.{by_mapped, as_each_of-form}
 
--- A name behind names.
-pub names-more : (vs : List Value) (v : Value) (kept : List (List ℕ)) (n : List ℕ) → option_map without_repeats (each_of as_name (items_view vs)) ≡ Some kept → Some n ≡ as_name (view v)
-    → option_map without_repeats (each_of as_name (items_view (vs ++ v ∷ []))) ≡ Some (with_name kept n)
-names-more vs v kept n so_far is =
-    by_mapped without_repeats (each_of as_name (items_view vs)) kept so_far (λ ns sent same.
-    ap (option_map without_repeats) (each_of-more as_name vs v ns n sent (sym is)) ∙ ap (λ l. Some l) (without_repeats-end ns n ∙ ap (λ l. with_name l n) same))
+-- A list in which each name stands once is one without repeats.
+turned : (n m : List ℕ) → bytes_eq n m ≡ bytes_eq m n
+turned n m = by (bytes_eq n m) (bytes_eq m n) refl refl
+  where
+    by : (b c : Bool) → bytes_eq n m ≡ b → bytes_eq m n ≡ c → b ≡ c
+    by true true p q = refl
+    by false false p q = refl
+    by true false p q = absurd (both_ways (bytes_eq m n) q (same_bytes m n (sym (same_name n m p))))
+    by false true p q = absurd (both_ways (bytes_eq n m) p (same_bytes n m (sym (same_name m n q))))
 
--- A value that is no name.
-pub names-none : (vs : List Value) (i : ℕ) (d : Value) → i < length vs → None ≡ as_name (view (get_or vs i d)) → option_map without_repeats (each_of as_name (items_view vs)) ≡ None
-names-none vs i d lt e = ap (option_map without_repeats) (each_of-none as_name vs i d lt (sym e))
+each_once-without_repeats : (ns : List (List ℕ)) → each_once bytes_eq ns ≡ without_repeats ns
+each_once-without_repeats [] = refl
+each_once-without_repeats (n ∷ ns) =
+    ap (λ l. n ∷ filter (λ m. not (bytes_eq n m)) l) (each_once-without_repeats ns) ∙ (λ i. n ∷ filter (λ m. not (turned n m i)) (without_repeats ns))
+
+pub names_once : (o : Option (List (List ℕ))) → option_map (each_once bytes_eq) o ≡ option_map without_repeats o
+names_once None = refl
+names_once (Some ns) = ap (λ l. Some l) (each_once-without_repeats ns)
 
 -- ---- the form of a list of attributes
 

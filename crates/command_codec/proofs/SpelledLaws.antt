@@ -4,7 +4,6 @@ use Rattle.std.specs.Prelude.{is_some}
 use Rattle.ctrl_model.specs.declared.commands.Command.{Command}
 use Rattle.ctrl_model.specs.declared.commands.Command.TheVariants as command
 use Rattle.ctrl_model.specs.CommandForm.{is_spelled}
-use Rattle.ctrl_model.specs.InterceptCommands.{is_intercept_command}
 use Rattle.command_codec.specs.BodyMeaning.{table, entry_at, meaning_in, meaning}
 use Rattle.command_codec.specs.ContentTypes.{content_of}
 use Rattle.command_codec.specs.SpelledBodies.{SaysFields, Spells}
@@ -15,31 +14,20 @@ use Rattle.command_codec.proofs.LinkLaws.{link_faithful}
 use Rattle.command_codec.proofs.TerminatorLaws.{terminator_faithful}
 use Rattle.command_codec.proofs.CircuitLaws.{circuit_faithful}
 use Rattle.command_codec.proofs.ShowLaws.{show_faithful}
+use Rattle.command_codec.proofs.InterceptLaws.{intercept_faithful}
 
 faithful : Faithful table
-faithful = entity_faithful ⊕ (policy_faithful ⊕ (link_faithful ⊕ (terminator_faithful ⊕ (circuit_faithful ⊕ show_faithful))))
+faithful = entity_faithful ⊕ (policy_faithful ⊕ (link_faithful ⊕ (terminator_faithful ⊕ (circuit_faithful ⊕ (show_faithful ⊕ intercept_faithful)))))
 
 -- What a body means, with its form.
 pub record Means (content : ℕ) (body : List ℕ) (c : Command) : Type 0 where
   pub spelled : Spells content body c
   pub form : is_spelled c ≡ true
 
--- The content type of every command but Hello whose fields some body gives is in the table.
-in_table : (body : List ℕ) (c : Command) → (content_of c == 0) ≡ false → SaysFields body c → is_some (entry_at (content_of c) table) ≡ true
-in_table body command.Hello other says = absurd (true≢false other)
-in_table body (command.SetIntercept service intercept) other says = absurd says
-in_table body (command.ClearIntercept service) other says = absurd says
-in_table body (command.Pick identity udp address port) other says = absurd says
-in_table body (command.ListClashes identity service) other says = absurd says
-in_table body c other says = refl
-
--- No body gives the fields of a command on intercepts.
-no_intercepts : (body : List ℕ) (c : Command) → SaysFields body c → is_intercept_command c ≡ false
-no_intercepts body (command.SetIntercept service intercept) says = absurd says
-no_intercepts body (command.ClearIntercept service) says = absurd says
-no_intercepts body (command.Pick identity udp address port) says = absurd says
-no_intercepts body (command.ListClashes identity service) says = absurd says
-no_intercepts body c says = refl
+-- The content type of every command but Hello is in the table.
+in_table : (c : Command) → (content_of c == 0) ≡ false → is_some (entry_at (content_of c) table) ≡ true
+in_table command.Hello other = absurd (true≢false other)
+in_table c other = refl
 
 pub means : (content : ℕ) (body : List ℕ) (c : Command) → meaning content body ≡ Ok c → Means content body c
 means content body c e = by (content == 0) refl e
@@ -53,10 +41,6 @@ means content body c e = by (content == 0) refl e
         let said = faithful.says content body c e in
         record { spelled = (said.0, said.1); form = said.2 }
 
--- What a body means is no command on intercepts.
-pub means_others : (content : ℕ) (body : List ℕ) (c : Command) → meaning content body ≡ Ok c → is_intercept_command c ≡ false
-means_others content body c e = no_intercepts body c (means content body c e).spelled.1
-
 -- What a body spells it means.
 pub meaning-Spells : (content : ℕ) (body : List ℕ) (c : Command) → Spells content body c → meaning content body ≡ Ok c
 meaning-Spells content body c (at, says) = ap (λ n. meaning n body) at ∙ by c says
@@ -64,7 +48,7 @@ meaning-Spells content body c (at, says) = ap (λ n. meaning n body) at ∙ by c
     other : (d : Command) → (content_of d == 0) ≡ false → SaysFields body d → meaning (content_of d) body ≡ Ok d
     other d is says =
         ap (λ b. cond b (Ok command.Hello) (meaning_in table (content_of d) body)) is
-        ∙ faithful.means body d (in_table body d is says) says
+        ∙ faithful.means body d (in_table d is) says
 
     by : (d : Command) → SaysFields body d → meaning (content_of d) body ≡ Ok d
     by command.Hello says = refl

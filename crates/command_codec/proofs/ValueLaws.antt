@@ -11,7 +11,6 @@ use Rattle.ctrl_model.specs.declared.refusals.Field.{Field}
 use Rattle.ctrl_model.specs.declared.refusals.Field.TheVariants as field
 use Rattle.ctrl_model.specs.declared.refusals.Reason.TheVariants as reason
 use Rattle.ctrl_model.specs.CommandForm.{is_spelled}
-use Rattle.ctrl_model.specs.InterceptCommands.{is_intercept_command}
 use Rattle.json_body.specs.declared.fields.FieldFault.{FieldFault}
 use Rattle.json_body.specs.declared.fields.FieldFault.TheVariants as fault
 use Rattle.json_body.specs.FieldKinds.{is_object}
@@ -22,7 +21,7 @@ use Rattle.command_codec.specs.declared.reading.CodecFault.TheVariants.{BadBody,
 use Rattle.command_codec.specs.BodyObjects.{Reader, as_body, object_of_body, cause_of, said_by, with_cause}
 use Rattle.command_codec.specs.BodyMeaning.{table, entry_at, meaning_under, meaning, said_under, value_under, value_meaning}
 use Rattle.command_codec.proofs.FormLaws.{IsForm, with_entry}
-use Rattle.command_codec.proofs.SpelledLaws.{means, means_others}
+use Rattle.command_codec.proofs.SpelledLaws.{means}
 use Rattle.command_codec.proofs.TableLaws.{supported}
 
 under_value : (e : Option Reader) (body : List ℕ) (d : Data) → value_of_body body ≡ Some d → meaning_under e body ≡ value_under e d
@@ -57,11 +56,6 @@ pub given_spelled : (content : ℕ) (body : List ℕ) (d : Data) (r : Result Com
     → IfOk r (λ c. is_spelled c ≡ true)
 given_spelled content body d (Ok c) is e = (means content body c (meaning_of_value content body d is ∙ e)).form
 given_spelled content body d (Err f) is e = tt
-
-pub given_others : (content : ℕ) (body : List ℕ) (d : Data) (r : Result Command CodecFault) → value_of_body body ≡ Some d → IfOk r (λ c. value_meaning content d ≡ Ok c)
-    → IfOk r (λ c. is_intercept_command c ≡ false)
-given_others content body d (Ok c) is e = means_others content body c (meaning_of_value content body d is ∙ e)
-given_others content body d (Err f) is e = tt
 
 -- ---- what is meant under a form, or where there is none
 

@@ -17,10 +17,11 @@ use Rattle.command_codec.specs.LinkBodies.{link_table}
 use Rattle.command_codec.specs.TerminatorBodies.{terminator_table}
 use Rattle.command_codec.specs.CircuitBodies.{circuit_table}
 use Rattle.command_codec.specs.ShowBodies.{show_table}
+use Rattle.command_codec.specs.InterceptBodies.{intercept_table}
 
 -- The content types whose body is an object, each with what such an object spells.
 abbrev pub table : List (ℕ × Reader)
-table = entity_table ++ (policy_table ++ (link_table ++ (terminator_table ++ (circuit_table ++ show_table))))
+table = entity_table ++ (policy_table ++ (link_table ++ (terminator_table ++ (circuit_table ++ (show_table ++ intercept_table)))))
 
 -- What a table has at a content type.
 abbrev pub entry_at : ℕ → List (ℕ × Reader) → Option Reader

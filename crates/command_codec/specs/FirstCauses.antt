@@ -20,6 +20,7 @@ use Rattle.body_fields.specs.FieldValues.{as_no, as_instance, as_some_name}
 use Rattle.body_fields.specs.FieldWords.{as_relation, as_semantic, as_precedence}
 use Rattle.command_codec.specs.EntityBodies.{as_cost}
 use Rattle.command_codec.specs.LinkBodies.{as_link_cost, as_latency}
+use Rattle.body_fields.specs.InterceptFields.{as_addresses, as_destination, as_port, as_protocol, as_protocols, as_ranges}
 use Rattle.body_fields.specs.RouteClaims.{as_numbers, as_potentials}
 use Rattle.command_codec.specs.CircuitBodies.{as_total}
 use Rattle.ctrl_model.specs.Limits.{limit, longest_path}
@@ -133,9 +134,18 @@ show_rules =
     ∷ (1510, [])
     ∷ []
 
+-- Those of intercepts.
+abbrev pub intercept_rules : List (ℕ × List FieldRule)
+intercept_rules =
+    (1600, needs as_name field.Service ∷ needs as_protocols field.Protocols ∷ needs as_addresses field.Addresses ∷ needs as_ranges field.Ports ∷ [])
+    ∷ (1601, name_rules field.Service)
+    ∷ (1610, needs as_name field.Identity ∷ needs as_protocol field.Protocol ∷ needs as_destination field.Address ∷ needs as_port field.Port ∷ [])
+    ∷ (1611, needs as_name field.Identity ∷ needs as_name field.Service ∷ [])
+    ∷ []
+
 -- The fields of each content type but that of Hello, which has none.
 abbrev pub all_rules : List (ℕ × List FieldRule)
-all_rules = entity_rules ++ (policy_rules ++ (network_rules ++ (terminator_rules ++ (route_rules ++ show_rules))))
+all_rules = entity_rules ++ (policy_rules ++ (network_rules ++ (terminator_rules ++ (route_rules ++ (show_rules ++ intercept_rules)))))
 
 -- The first fault of an object, told as a cause.
 pub record IsFaultCause (rules : List FieldRule) (o : Data) (cause : CodecFault) : Type 0 where

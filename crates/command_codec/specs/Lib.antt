@@ -6,6 +6,7 @@ pub mod BodyObjects
 pub mod EntityBodies
 pub mod PolicyBodies
 pub mod ShowBodies
+pub mod InterceptBodies
 pub mod LinkBodies
 pub mod TerminatorBodies
 pub mod CircuitBodies

@@ -6,7 +6,9 @@ use Rattle.serde_json.specs.Data.{Data}
 use Rattle.serde_json.specs.Find.{as_bool}
 use Rattle.ctrl_model.specs.declared.commands.Command.{Command}
 use Rattle.ctrl_model.specs.declared.commands.Command.TheVariants as command
+use Rattle.ctrl_model.specs.declared.addresses.Address.{Address}
 use Rattle.ctrl_model.specs.declared.claims.Reach.{Reach}
+use Rattle.ctrl_model.specs.declared.intercepts.Intercept.{Intercept}
 use Rattle.ctrl_model.specs.declared.kinds.Precedence.{Precedence}
 use Rattle.ctrl_model.specs.declared.kinds.Precedence.TheVariants.{Normal}
 use Rattle.ctrl_model.specs.declared.kinds.Relation.{Relation}
@@ -24,8 +26,10 @@ use Rattle.command_codec.specs.EntityBodies.{as_cost, entity_fields, router_fiel
 use Rattle.command_codec.specs.PolicyBodies.{service_policy_fields, router_policy_fields}
 use Rattle.command_codec.specs.LinkBodies.{as_link_cost, as_latency, link_fields}
 use Rattle.command_codec.specs.TerminatorBodies.{terminator_fields}
+use Rattle.body_fields.specs.InterceptFields.{as_addresses, as_destination, as_port, as_protocol, as_protocols, as_ranges}
 use Rattle.body_fields.specs.RouteClaims.{as_numbers, as_potentials}
 use Rattle.command_codec.specs.CircuitBodies.{circuit_fields, route_fields, as_total}
+use Rattle.command_codec.specs.InterceptBodies.{intercept_fields, pick_fields, clash_fields}
 use Rattle.command_codec.specs.ContentTypes.{content_of}
 use Rattle.ctrl_model.specs.Limits.{limit, longest_path}
 use Rattle.ctrl_model.specs.declared.kinds.Kind.TheVariants as kind
@@ -134,7 +138,22 @@ SaysClaimedRoute body identity service ingress instance chosen links potentials 
     × Tells as_potentials field.Potentials potentials o × Tells (as_numbers (limit kind.Router)) field.Routers routers o × Tells as_no field.Terminator terminator o
     × Tells as_total field.Total total o)
 
--- A body gives the fields of a command. Any body gives those of Hello, and until they are read none those of the commands on intercepts.
+-- A body of SetIntercept: its protocols, addresses and ranges are those of the intercept.
+abbrev pub SaysSetIntercept : List ℕ → List ℕ → Intercept → Type 0
+SaysSetIntercept body service intercept = Says body intercept_fields (λ o.
+    Tells as_name field.Service service o × Tells as_protocols field.Protocols (record { tcp = intercept.tcp; udp = intercept.udp }) o
+    × Tells as_addresses field.Addresses intercept.addresses o × Tells as_ranges field.Ports intercept.ports o)
+
+-- A body of Pick.
+abbrev pub SaysPick : List ℕ → List ℕ → Bool → Address → ℕ → Type 0
+SaysPick body identity udp address port = Says body pick_fields (λ o.
+    Tells as_name field.Identity identity o × Tells as_protocol field.Protocol udp o × Tells as_destination field.Address address o × Tells as_port field.Port port o)
+
+-- A body of ListClashes.
+abbrev pub SaysListClashes : List ℕ → List ℕ → List ℕ → Type 0
+SaysListClashes body identity service = Says body clash_fields (λ o. Tells as_name field.Identity identity o × Tells as_name field.Service service o)
+
+-- A body gives the fields of a command. Any body gives those of Hello.
 abbrev pub SaysFields : List ℕ → Command → Type 0
 SaysFields body command.Hello = ⊤
 SaysFields body (command.CreateIdentity name attributes) = SaysMade body name attributes
@@ -176,10 +195,10 @@ SaysFields body (command.ListServices identity) = SaysName body field.Identity i
 SaysFields body command.ShowCounts = Says body [] (λ o. ⊤)
 SaysFields body (command.ShowCircuit n) = SaysNo body n
 SaysFields body command.Compact = Says body [] (λ o. ⊤)
-SaysFields body (command.SetIntercept service intercept) = ⊥
-SaysFields body (command.ClearIntercept service) = ⊥
-SaysFields body (command.Pick identity udp address port) = ⊥
-SaysFields body (command.ListClashes identity service) = ⊥
+SaysFields body (command.SetIntercept service intercept) = SaysSetIntercept body service intercept
+SaysFields body (command.ClearIntercept service) = SaysName body field.Service service
+SaysFields body (command.Pick identity udp address port) = SaysPick body identity udp address port
+SaysFields body (command.ListClashes identity service) = SaysListClashes body identity service
 
 -- A body spells a command under a content type: the type is the command's, and the body gives the command's fields.
 abbrev pub Spells : ℕ → List ℕ → Command → Type 0

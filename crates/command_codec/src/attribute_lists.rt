@@ -6,10 +6,9 @@ ghost use Rattle.body_fields.specs.ItemLists.{each_of};
 ghost use Rattle.body_fields.specs.ReadResults.{Gives};
 ghost use Rattle.command_codec.specs.NameLists.{as_attributes};
 
-use body_fields::{ItemName, are_said};
+use body_fields::{ItemName, each_once_in};
 use ctrl_model::{Field, MOST_ENTRIES, Name, Names};
-use json_body::{FieldFault, Fields, as_name};
-use role_expr::keep_name;
+use json_body::{FieldFault, Fields};
 use serde_json::Value;
 use std::alloc::{AllocError, Global};
 
@@ -18,17 +17,10 @@ fn names_in(alloc: Global, values: &[Value]) -> Result<Option<Names>, AllocError
     ensures names { IfOk result (λ ns. ns ≡ option_map without_repeats (each_of as_name (items_view values.now))) }
     ensures memory { OnErr result (IsSome (each_of as_name (items_view values.now))) }
 {
-    if !are_said::<Name, ItemName>(values) {
-        return Ok(None);
+    match each_once_in::<Name, ItemName>(alloc, values)? {
+        Some(names) => Ok(Some(Names::of(names))),
+        None => Ok(None),
     }
-    let mut kept = Vec::new(alloc);
-    'values: for value in values {
-        let Some(name) = as_name(alloc, value)? else {
-            return Ok(None);
-        };
-        keep_name(&mut kept, name)?;
-    }
-    Ok(Some(Names::of(kept)))
 }
 
 // The attributes that an object gives.

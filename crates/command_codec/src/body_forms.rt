@@ -1,20 +1,22 @@
 ghost use Rattle.std.specs.Prelude.{◌≡◌, ◌==◌, option_map};
 ghost use Rattle.std.specs.Map.{lookup};
 ghost use Rattle.command_codec.specs.BodyForms.{form_rules, with_fields};
-ghost use Rattle.command_codec.specs.FirstCauses.{all_rules, entity_rules, network_rules, policy_rules, route_rules, show_rules, terminator_rules};
+ghost use Rattle.command_codec.specs.FirstCauses.{all_rules, entity_rules, intercept_rules, network_rules, policy_rules, route_rules, show_rules, terminator_rules};
 
 use crate::body_kinds::BodyKind;
 use crate::content_types::{
-    COMPACT, CONNECT_ROUTER, CREATE_CIRCUIT, CREATE_EDGE_ROUTER_POLICY, CREATE_IDENTITY,
-    CREATE_LINK, CREATE_ROUTER, CREATE_SERVICE, CREATE_SERVICE_EDGE_ROUTER_POLICY,
+    CLEAR_INTERCEPT, COMPACT, CONNECT_ROUTER, CREATE_CIRCUIT, CREATE_EDGE_ROUTER_POLICY,
+    CREATE_IDENTITY, CREATE_LINK, CREATE_ROUTER, CREATE_SERVICE, CREATE_SERVICE_EDGE_ROUTER_POLICY,
     CREATE_SERVICE_POLICY, CREATE_TERMINATOR, DELETE_CIRCUIT, DELETE_EDGE_ROUTER_POLICY,
     DELETE_IDENTITY, DELETE_LINK, DELETE_ROUTER, DELETE_SERVICE, DELETE_SERVICE_EDGE_ROUTER_POLICY,
-    DELETE_SERVICE_POLICY, DELETE_TERMINATOR, DISCONNECT_ROUTER, EXPLAIN, LIST_SERVICES,
-    REPORT_LATENCY, REPORT_STATE, SET_LEAST_ROUTER_COST, SET_LINK_COST, SHOW_CIRCUIT, SHOW_COUNTS,
-    SHOW_GRANTS, UPDATE_EDGE_ROUTER_POLICY, UPDATE_IDENTITY, UPDATE_ROUTER, UPDATE_SERVICE,
-    UPDATE_SERVICE_EDGE_ROUTER_POLICY, UPDATE_SERVICE_POLICY, UPDATE_TERMINATOR, VERIFY_ROUTE,
+    DELETE_SERVICE_POLICY, DELETE_TERMINATOR, DISCONNECT_ROUTER, EXPLAIN, LIST_CLASHES,
+    LIST_SERVICES, PICK, REPORT_LATENCY, REPORT_STATE, SET_INTERCEPT, SET_LEAST_ROUTER_COST,
+    SET_LINK_COST, SHOW_CIRCUIT, SHOW_COUNTS, SHOW_GRANTS, UPDATE_EDGE_ROUTER_POLICY,
+    UPDATE_IDENTITY, UPDATE_ROUTER, UPDATE_SERVICE, UPDATE_SERVICE_EDGE_ROUTER_POLICY,
+    UPDATE_SERVICE_POLICY, UPDATE_TERMINATOR, VERIFY_ROUTE,
 };
 use body_fields::AskedField::{self, Needed, Optional};
+use body_fields::MOST_PORT;
 use ctrl_model::{Field, LONGEST_PATH, MOST_COST, MOST_LATENCY, MOST_ROUTERS};
 
 // What a command asks of the object that is its body: the rules of its fields, and which fields there may be.
@@ -27,7 +29,7 @@ pub(crate) struct BodyForm {
 // The number of a record.
 const NUMBER_OF_RECORD: BodyKind = BodyKind::Number(1, u32::MAX);
 
-// A cost of a router or a terminator, of a link, and of a route; and a latency.
+// A cost of a router or a terminator, of a link, and of a route; a latency; and a port.
 const COST: BodyKind = BodyKind::Number(0, MOST_COST);
 
 const LINK_COST: BodyKind = BodyKind::Number(1, MOST_COST);
@@ -35,6 +37,8 @@ const LINK_COST: BodyKind = BodyKind::Number(1, MOST_COST);
 const TOTAL: BodyKind = BodyKind::Number(0, u32::MAX);
 
 const LATENCY: BodyKind = BodyKind::Number(0, MOST_LATENCY);
+
+const PORT: BodyKind = BodyKind::Number(1, MOST_PORT);
 
 pub(crate) const ENTITY_FIELDS: [Field; 2] = [Field::Name, Field::Attributes];
 
@@ -113,6 +117,22 @@ pub(crate) const ROUTE_FIELDS: [Field; 10] = [
     Field::Total,
 ];
 
+pub(crate) const INTERCEPT_FIELDS: [Field; 4] = [
+    Field::Service,
+    Field::Protocols,
+    Field::Addresses,
+    Field::Ports,
+];
+
+pub(crate) const PICK_FIELDS: [Field; 4] = [
+    Field::Identity,
+    Field::Protocol,
+    Field::Address,
+    Field::Port,
+];
+
+pub(crate) const CLASH_FIELDS: [Field; 2] = [Field::Identity, Field::Service];
+
 // One name.
 const NAME: BodyForm = BodyForm {
     rules: &[Needed(Field::Name, BodyKind::Name)],
@@ -129,6 +149,12 @@ const LINK_NAME: BodyForm = BodyForm {
 const IDENTITY_NAME: BodyForm = BodyForm {
     rules: &[Needed(Field::Identity, BodyKind::Name)],
     allowed: &[Field::Identity],
+};
+
+// The name of a service.
+const SERVICE_NAME: BodyForm = BodyForm {
+    rules: &[Needed(Field::Service, BodyKind::Name)],
+    allowed: &[Field::Service],
 };
 
 // The number of a record.
@@ -307,6 +333,35 @@ const CLAIMED_ROUTE: BodyForm = BodyForm {
     allowed: &ROUTE_FIELDS,
 };
 
+// An intercept that is set, a destination whose service is picked, and a service whose clashes are listed.
+const CLAIM: BodyForm = BodyForm {
+    rules: &[
+        Needed(Field::Service, BodyKind::Name),
+        Needed(Field::Protocols, BodyKind::Protocols),
+        Needed(Field::Addresses, BodyKind::Addresses),
+        Needed(Field::Ports, BodyKind::Ranges),
+    ],
+    allowed: &INTERCEPT_FIELDS,
+};
+
+const DESTINATION: BodyForm = BodyForm {
+    rules: &[
+        Needed(Field::Identity, BodyKind::Name),
+        Needed(Field::Protocol, BodyKind::Protocol),
+        Needed(Field::Address, BodyKind::Destination),
+        Needed(Field::Port, PORT),
+    ],
+    allowed: &PICK_FIELDS,
+};
+
+const CLASHES: BodyForm = BodyForm {
+    rules: &[
+        Needed(Field::Identity, BodyKind::Name),
+        Needed(Field::Service, BodyKind::Name),
+    ],
+    allowed: &CLASH_FIELDS,
+};
+
 // The forms of the content types of identities, services and routers.
 fn entity_form(content: u32) -> Option<BodyForm>
     ensures { option_map form_rules result ≡ option_map with_fields (lookup (λ n. n == content) entity_rules) }
@@ -388,6 +443,19 @@ fn show_form(content: u32) -> Option<BodyForm>
     }
 }
 
+// Those of intercepts.
+fn intercept_form(content: u32) -> Option<BodyForm>
+    ensures { option_map form_rules result ≡ option_map with_fields (lookup (λ n. n == content) intercept_rules) }
+{
+    match content {
+        SET_INTERCEPT => Some(CLAIM),
+        CLEAR_INTERCEPT => Some(SERVICE_NAME),
+        PICK => Some(DESTINATION),
+        LIST_CLASHES => Some(CLASHES),
+        _ => None,
+    }
+}
+
 // What the command asks whose content type it is, if it is one but that of Hello.
 pub(crate) fn form_of(content: u32) -> Option<BodyForm>
     ensures { option_map form_rules result ≡ option_map with_fields (lookup (λ n. n == content) all_rules) }
@@ -399,6 +467,7 @@ pub(crate) fn form_of(content: u32) -> Option<BodyForm>
         CREATE_TERMINATOR..=DELETE_TERMINATOR => terminator_form(content),
         CREATE_CIRCUIT..=VERIFY_ROUTE | SHOW_CIRCUIT => circuit_form(content),
         SHOW_GRANTS..=SHOW_COUNTS | COMPACT => show_form(content),
+        SET_INTERCEPT..=LIST_CLASHES => intercept_form(content),
         _ => None,
     }
 }

@@ -4,8 +4,8 @@ ghost use Rattle.command_codec.specs.NameLists.{as_attributes};
 
 use crate::role_lists::is_side;
 use body_fields::{
-    FieldKind, ItemName, Potential, RecordNumber, is_instance, is_list_of, precedence_in,
-    relation_in, semantic_in,
+    FieldKind, ItemName, Potential, RecordNumber, are_addresses, are_ranges, is_destination,
+    is_instance, is_list_of, precedence_in, protocol_in, protocols_in, relation_in, semantic_in,
 };
 use ctrl_model::{MOST_ENTRIES, MOST_ROUTERS, Name, Reach};
 use json_body::{as_number_in, is_name};
@@ -28,6 +28,13 @@ pub(crate) enum BodyKind {
     // The numbers of records, at most so many.
     Numbers(usize),
     Potentials,
+    Protocol,
+    Protocols,
+    // An address that is one place.
+    Destination,
+    Addresses,
+    // Ranges of ports.
+    Ranges,
 }
 
 fn are_attributes(value: &Value) -> bool
@@ -54,6 +61,11 @@ impl FieldKind for BodyKind {
             BodyKind::Instance => is_instance(value),
             BodyKind::Numbers(most) => is_list_of::<u32, RecordNumber>(value, *most),
             BodyKind::Potentials => is_list_of::<Reach, Potential>(value, MOST_ROUTERS),
+            BodyKind::Protocol => protocol_in(value).is_some(),
+            BodyKind::Protocols => protocols_in(value).is_some(),
+            BodyKind::Destination => is_destination(value),
+            BodyKind::Addresses => are_addresses(value),
+            BodyKind::Ranges => are_ranges(value),
         }
     }
 }

@@ -77,3 +77,11 @@ pub(crate) const SHOW_COUNTS: u32 = 1502;
 pub(crate) const SHOW_CIRCUIT: u32 = 1503;
 
 pub(crate) const COMPACT: u32 = 1510;
+
+pub(crate) const SET_INTERCEPT: u32 = 1600;
+
+pub(crate) const CLEAR_INTERCEPT: u32 = 1601;
+
+pub(crate) const PICK: u32 = 1610;
+
+pub(crate) const LIST_CLASHES: u32 = 1611;

@@ -1,7 +1,6 @@
-ghost use Rattle.std.specs.Prelude.{◌≡◌, ◌↔◌, ℕ, List, Ok, Err, true, false};
+ghost use Rattle.std.specs.Prelude.{◌≡◌, ◌↔◌, ℕ, List, Ok, Err, true};
 ghost use Rattle.ctrl_model.specs.declared.commands.Command.{Command};
 ghost use Rattle.ctrl_model.specs.CommandForm.{is_spelled};
-ghost use Rattle.ctrl_model.specs.InterceptCommands.{is_intercept_command};
 ghost use Rattle.command_codec.specs.declared.reading.CodecFault.{CodecFault};
 ghost use Rattle.command_codec.specs.declared.reading.CodecFault.TheVariants.{NoMemory};
 ghost use Rattle.command_codec.specs.BodyMeaning.{meaning};
@@ -9,11 +8,10 @@ ghost use Rattle.command_codec.specs.FirstCauses.{IsFirstCause};
 ghost use Rattle.command_codec.specs.SpelledBodies.{Spells};
 
 /// A body means a command exactly where it spells it: the order in which fields are read decides the cause of a fault alone.
-/// What a body means keeps the kinds, the ranges and the lengths of its fields. No body means a command on intercepts yet.
+/// What a body means keeps the kinds, the ranges and the lengths of its fields.
 pub fn what_a_body_spells()
     ensures spells { (content : ℕ) (body : List ℕ) (c : Command) → ((meaning content body ≡ Ok c) ↔ Spells content body c) }
     ensures spelled { (content : ℕ) (body : List ℕ) (c : Command) → meaning content body ≡ Ok c → is_spelled c ≡ true }
-    ensures others { (content : ℕ) (body : List ℕ) (c : Command) → meaning content body ≡ Ok c → is_intercept_command c ≡ false }
 {}
 
 /// Why a body means no command is the first cause: its content type is none of the table; or the body is no object; or its object

@@ -7,6 +7,7 @@ mod body_kinds;
 mod circuit_bodies;
 mod content_types;
 mod entity_bodies;
+mod intercept_bodies;
 mod laws;
 mod link_bodies;
 mod policy_bodies;
@@ -20,6 +21,6 @@ pub use laws::{the_first_cause, what_a_body_spells};
 pub use reading::{CodecFault, read};
 pub use worked::{
     worked_bodies, worked_causes, worked_circuits, worked_claims, worked_first_causes,
-    worked_links, worked_lists, worked_policies, worked_policy_causes, worked_shows, worked_sides,
-    worked_terminators,
+    worked_intercept_causes, worked_intercepts, worked_links, worked_lists, worked_policies,
+    worked_policy_causes, worked_shows, worked_sides, worked_terminators,
 };

@@ -2,7 +2,6 @@ ghost use Rattle.std.specs.Prelude.{◌≡◌, ◌≢◌, ◌↔◌, ◌<◌, �
 ghost use Rattle.std.specs.Map.{lookup};
 ghost use Rattle.serde_json.specs.View.{view};
 ghost use Rattle.ctrl_model.specs.CommandForm.{is_spelled};
-ghost use Rattle.ctrl_model.specs.InterceptCommands.{is_intercept_command};
 ghost use Rattle.json_body.specs.FieldKinds.{object_of};
 ghost use Rattle.body_fields.specs.ReadResults.{Gives};
 ghost use Rattle.command_codec.specs.BodyForms.{form_rules, with_fields};
@@ -14,10 +13,11 @@ use crate::circuit_bodies::circuit_command;
 use crate::content_types::{
     COMPACT, CREATE_CIRCUIT, CREATE_IDENTITY, CREATE_LINK, CREATE_ROUTER, CREATE_SERVICE_POLICY,
     CREATE_TERMINATOR, DELETE_SERVICE, DELETE_SERVICE_EDGE_ROUTER_POLICY, DELETE_TERMINATOR,
-    DISCONNECT_ROUTER, HELLO, SET_LEAST_ROUTER_COST, SHOW_CIRCUIT, SHOW_COUNTS, SHOW_GRANTS,
-    VERIFY_ROUTE,
+    DISCONNECT_ROUTER, HELLO, LIST_CLASHES, SET_INTERCEPT, SET_LEAST_ROUTER_COST, SHOW_CIRCUIT,
+    SHOW_COUNTS, SHOW_GRANTS, VERIFY_ROUTE,
 };
 use crate::entity_bodies::{entity_command, router_command};
+use crate::intercept_bodies::intercept_command;
 use crate::link_bodies::link_command;
 use crate::policy_bodies::policy_command;
 use crate::show_bodies::show_command;
@@ -86,6 +86,7 @@ fn command_in(alloc: Global, content: u32, fields: &Fields) -> Result<Command, F
         CREATE_TERMINATOR..=DELETE_TERMINATOR => terminator_command(alloc, content, fields),
         CREATE_CIRCUIT..=VERIFY_ROUTE | SHOW_CIRCUIT => circuit_command(alloc, content, fields),
         SHOW_GRANTS..=SHOW_COUNTS | COMPACT => show_command(alloc, content, fields),
+        SET_INTERCEPT..=LIST_CLASHES => intercept_command(alloc, content, fields),
         _ => Err(FieldFault::Unknown),
     }
 }
@@ -138,8 +139,6 @@ pub fn read(alloc: Global, content: u32, body: &[u8]) -> Result<Command, CodecFa
     ensures memory { IsErrOf result CodecFault.NoMemory → 0 < length body.now }
     // What is read keeps the kinds, the ranges and the lengths of its fields.
     ensures spelled { IfOk result (λ c. is_spelled c ≡ true) }
-    // The commands on intercepts are not read yet.
-    ensures others { IfOk result (λ c. is_intercept_command c ≡ false) }
 {
     if content == HELLO {
         return Ok(Command::Hello);

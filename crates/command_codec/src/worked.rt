@@ -11,6 +11,8 @@ ghost use Rattle.ctrl_model.specs.declared.kinds.Semantic.TheVariants.{AnyOf, Al
 ghost use Rattle.role_expr.specs.NameRepeats.{without_repeats};
 ghost use Rattle.command_codec.specs.NameLists.{as_attributes};
 ghost use Rattle.command_codec.specs.RoleLists.{as_side};
+ghost use Rattle.ctrl_model.specs.declared.addresses.Address.TheVariants.{Host, Under, Range};
+ghost use Rattle.body_fields.specs.InterceptFields.{as_addresses, as_ranges};
 ghost use Rattle.body_fields.specs.RouteClaims.{as_numbers, as_reach};
 ghost use Rattle.command_codec.specs.BodyMeaning.{meaning};
 ghost use Rattle.command_codec.specs.FirstCauses.{IsFirstCause};
@@ -128,12 +130,49 @@ pub fn worked_claims()
     ensures more_values { as_reach (object (member (codes "router") (number (unsigned 1)) (member (codes "values") (array (items_of (replicate 257 null))) no_members))) ≡ None }
 {}
 
+/// Bodies of the commands on intercepts: capital letters are read as small ones, a range without the bits past it, and what stands
+/// twice, or is read as the same, counts once.
+pub fn worked_intercepts()
+    ensures set { meaning 1600 (codes "{\"service\":\"web\",\"protocols\":[\"tcp\"],\"addresses\":[\"*.Example.org\"],\"ports\":[[443,443]]}")
+        ≡ Ok (command.SetIntercept (codes "web") (record { tcp = true; udp = false; addresses = Under (codes "example.org") ∷ []; ports = record { low = 443; high = 443 } ∷ [] })) }
+    ensures both { meaning 1600 (codes "{\"service\":\"web\",\"protocols\":[\"udp\",\"tcp\"],\"addresses\":[\"10.1.2.9/16\",\"a\",\"10.1.0.0/16\"],\"ports\":[[1,65535],[22,22],[1,65535]]}")
+        ≡ Ok (command.SetIntercept (codes "web") (record { tcp = true; udp = true; addresses = Range 167837696 16 ∷ Host (codes "a") ∷ []; ports = record { low = 1; high = 65535 } ∷ record { low = 22; high = 22 } ∷ [] })) }
+    ensures twice { meaning 1600 (codes "{\"service\":\"web\",\"protocols\":[\"tcp\",\"tcp\"],\"addresses\":[\"a\"],\"ports\":[[1,1]]}")
+        ≡ Ok (command.SetIntercept (codes "web") (record { tcp = true; udp = false; addresses = Host (codes "a") ∷ []; ports = record { low = 1; high = 1 } ∷ [] })) }
+    ensures cleared { meaning 1601 (codes "{\"service\":\"web\"}") ≡ Ok (command.ClearIntercept (codes "web")) }
+    ensures picked { meaning 1610 (codes "{\"identity\":\"ann\",\"protocol\":\"tcp\",\"address\":\"API.example.org\",\"port\":443}") ≡ Ok (command.Pick (codes "ann") false (Host (codes "api.example.org")) 443) }
+    ensures picked_by_number { meaning 1610 (codes "{\"identity\":\"ann\",\"protocol\":\"udp\",\"address\":\"10.1.2.3/32\",\"port\":65535}") ≡ Ok (command.Pick (codes "ann") true (Range 167838211 32) 65535) }
+    ensures listed { meaning 1611 (codes "{\"identity\":\"ann\",\"service\":\"web\"}") ≡ Ok (command.ListClashes (codes "ann") (codes "web")) }
+    ensures most { as_addresses (array (items_of (replicate 32 (string (codes "a"))))) ≡ Some (Host (codes "a") ∷ []) }
+    ensures more { as_addresses (array (items_of (replicate 33 (string (codes "a"))))) ≡ None }
+    ensures more_ranges { as_ranges (array (items_of (replicate 33 (array (items_of (replicate 2 (number (unsigned 1)))))))) ≡ None }
+{}
+
+/// Bodies of the commands on intercepts that spell none, each with its first cause.
+pub fn worked_intercept_causes()
+    ensures no_protocol { meaning 1600 (codes "{\"service\":\"web\",\"protocols\":[],\"addresses\":[\"1.2.3\"],\"ports\":[[1,1]]}") ≡ Err (BadBody field.Protocols reason.WrongKind) }
+    ensures another_protocol { meaning 1600 (codes "{\"service\":\"web\",\"protocols\":[\"TCP\"],\"addresses\":[\"a\"],\"ports\":[[1,1]]}") ≡ Err (BadBody field.Protocols reason.WrongKind) }
+    ensures three_protocols { meaning 1600 (codes "{\"service\":\"web\",\"protocols\":[\"tcp\",\"udp\",\"tcp\"],\"addresses\":[\"a\"],\"ports\":[[1,1]]}") ≡ Err (BadBody field.Protocols reason.WrongKind) }
+    ensures no_address { meaning 1600 (codes "{\"service\":\"web\",\"protocols\":[\"tcp\"],\"addresses\":[\"a\",\"1.2.3\"],\"ports\":[[0,1]]}") ≡ Err (BadBody field.Addresses reason.WrongKind) }
+    ensures no_addresses { meaning 1600 (codes "{\"service\":\"web\",\"protocols\":[\"tcp\"],\"addresses\":[],\"ports\":[[1,1]]}") ≡ Err (BadBody field.Addresses reason.WrongKind) }
+    ensures port_0 { meaning 1600 (codes "{\"service\":\"web\",\"protocols\":[\"tcp\"],\"addresses\":[\"a\"],\"ports\":[[0,1]]}") ≡ Err (BadBody field.Ports reason.WrongKind) }
+    ensures turned { meaning 1600 (codes "{\"service\":\"web\",\"protocols\":[\"tcp\"],\"addresses\":[\"a\"],\"ports\":[[2,1]]}") ≡ Err (BadBody field.Ports reason.WrongKind) }
+    ensures one_number { meaning 1600 (codes "{\"service\":\"web\",\"protocols\":[\"tcp\"],\"addresses\":[\"a\"],\"ports\":[[1]]}") ≡ Err (BadBody field.Ports reason.WrongKind) }
+    ensures past { meaning 1600 (codes "{\"service\":\"web\",\"protocols\":[\"tcp\"],\"addresses\":[\"a\"],\"ports\":[[1,65536]]}") ≡ Err (BadBody field.Ports reason.WrongKind) }
+    ensures no_ports { meaning 1600 (codes "{\"service\":\"web\",\"protocols\":[\"tcp\"],\"addresses\":[\"a\"]}") ≡ Err (BadBody field.Ports reason.Missing) }
+    ensures network { meaning 1610 (codes "{\"identity\":\"ann\",\"protocol\":\"tcp\",\"address\":\"10.0.0.0/8\",\"port\":0}") ≡ Err (BadBody field.Address reason.WrongKind) }
+    ensures under { meaning 1610 (codes "{\"identity\":\"ann\",\"protocol\":\"tcp\",\"address\":\"*.a\",\"port\":1}") ≡ Err (BadBody field.Address reason.WrongKind) }
+    ensures no_port { meaning 1610 (codes "{\"identity\":\"ann\",\"protocol\":\"tcp\",\"address\":\"a\",\"port\":0}") ≡ Err (BadBody field.Port reason.WrongKind) }
+    ensures two_protocols { meaning 1610 (codes "{\"identity\":\"ann\",\"protocol\":[\"tcp\"],\"address\":\"a\",\"port\":1}") ≡ Err (BadBody field.Protocol reason.WrongKind) }
+    ensures another_key { meaning 1601 (codes "{\"service\":\"web\",\"identity\":\"ann\"}") ≡ Err (BadBody field.Nothing reason.Unknown) }
+    ensures no_service { meaning 1611 (codes "{\"identity\":\"ann\",\"service\":7}") ≡ Err (BadBody field.Service reason.WrongKind) }
+{}
+
 /// Bodies that spell no command, each with its first cause: of fields that say nothing of their kind the first counts, and
 /// another key only behind them.
 pub fn worked_causes()
     ensures unsupported { meaning 999 (codes "{\"name\":\"ann\"}") ≡ Err UnsupportedType }
     ensures no_command { meaning 1511 (codes "{}") ≡ Err UnsupportedType }
-    ensures no_intercepts { meaning 1601 (codes "{\"service\":\"web\"}") ≡ Err UnsupportedType }
     ensures reply { meaning 2 (codes "{\"name\":\"ann\"}") ≡ Err UnsupportedType }
     ensures no_text { meaning 1000 (codes "abc") ≡ Err (BadBody field.Nothing reason.NotObject) }
     ensures no_bytes { meaning 1000 [] ≡ Err (BadBody field.Nothing reason.NotObject) }

@@ -19,7 +19,8 @@ type_names =
     ∷ (1300, codes "CreateTerminator") ∷ (1301, codes "UpdateTerminator") ∷ (1302, codes "DeleteTerminator")
     ∷ (1400, codes "CreateCircuit") ∷ (1401, codes "DeleteCircuit") ∷ (1402, codes "Explain") ∷ (1403, codes "VerifyRoute")
     ∷ (1500, codes "ShowGrants") ∷ (1501, codes "ListServices") ∷ (1502, codes "ShowCounts") ∷ (1503, codes "ShowCircuit")
-    ∷ (1510, codes "Compact") ∷ []
+    ∷ (1510, codes "Compact")
+    ∷ (1600, codes "SetIntercept") ∷ (1601, codes "ClearIntercept") ∷ (1610, codes "Pick") ∷ (1611, codes "ListClashes") ∷ []
 
 -- The number that a name has in some rows.
 abbrev pub number_among : List (ℕ × List ℕ) → List ℕ → Option ℕ

@@ -3,7 +3,7 @@ ghost use Rattle.std.specs.Option.{option_map};
 ghost use Rattle.frame_lines.specs.TypeNames.{type_names, number_among, name_among, number_named, name_numbered};
 
 /// Every content type that has a name, in the order of the numbers.
-static TYPES: [(u32, &str); 39] = [
+static TYPES: [(u32, &str); 43] = [
     (0, "Hello"),
     (1000, "CreateIdentity"),
     (1001, "UpdateIdentity"),
@@ -43,6 +43,10 @@ static TYPES: [(u32, &str); 39] = [
     (1502, "ShowCounts"),
     (1503, "ShowCircuit"),
     (1510, "Compact"),
+    (1600, "SetIntercept"),
+    (1601, "ClearIntercept"),
+    (1610, "Pick"),
+    (1611, "ListClashes"),
 ];
 
 /// All rows: each content type that has a name, and the name.

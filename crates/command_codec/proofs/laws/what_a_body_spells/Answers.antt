@@ -1,4 +1,4 @@
-use Rattle.command_codec.proofs.SpelledLaws.{means, means_others, meaning-Spells}
+use Rattle.command_codec.proofs.SpelledLaws.{means, meaning-Spells}
 use Rattle.command_codec.proofs.laws.what_a_body_spells.Goals as goal
 
 pub returns-clause-spells : goal.returns-clause-spells
@@ -6,6 +6,3 @@ returns-clause-spells c = λ content body d. (λ e. (means content body d e).spe
 
 pub returns-clause-spelled : goal.returns-clause-spelled
 returns-clause-spelled c = λ content body d e. (means content body d e).form
-
-pub returns-clause-others : goal.returns-clause-others
-returns-clause-others c = means_others

@@ -4,7 +4,7 @@ use Rattle.std.proofs.lemmas.Result.{err_from_is_err_and}
 use Rattle.serde_json.specs.View.{view}
 use Rattle.command_codec.specs.BodyObjects.{cause_of}
 use Rattle.command_codec.proofs.FormLaws.{with_form, without_form}
-use Rattle.command_codec.proofs.ValueLaws.{cause_memory, cause_supported, given_command, given_fault, given_others, given_spelled, given_supported, is_unsupported, not_empty, not_supported, said_in_vain}
+use Rattle.command_codec.proofs.ValueLaws.{cause_memory, cause_supported, given_command, given_fault, given_spelled, given_supported, is_unsupported, not_empty, not_supported, said_in_vain}
 use Rattle.command_codec.proofs.reading.read.Goals as goal
 
 pub returns-then-is_none-clause-fault : goal.returns-then-is_none-clause-fault
@@ -52,10 +52,6 @@ returns-clause-fault c =
 pub returns-clause-spelled : goal.returns-clause-spelled
 returns-clause-spelled c =
     given_spelled c.args.content c.args.body.now (view c.in_ok-value.value) c.read_value-command.result c.in_ok-value.ensures.value c.read_value-command.ensures.command
-
-pub returns-clause-others : goal.returns-clause-others
-returns-clause-others c =
-    given_others c.args.content c.args.body.now (view c.in_ok-value.value) c.read_value-command.result c.in_ok-value.ensures.value c.read_value-command.ensures.command
 
 pub returns-clause-unsupported : goal.returns-clause-unsupported
 returns-clause-unsupported c =

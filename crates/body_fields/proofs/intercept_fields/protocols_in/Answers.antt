@@ -1,0 +1,13 @@
+use Rattle.std.proofs.Common.{◌≡◌, Some, sym, ap, ◌∙◌, rules}
+use Rattle.std.specs.Prelude.{option_and_then}
+use Rattle.serde_json.specs.View.{view, items_view}
+use Rattle.json_body.specs.FieldKinds.{as_list_of}
+use Rattle.body_fields.specs.ItemLists.{each_of}
+use Rattle.body_fields.specs.InterceptFields.{protocols_of, as_protocol}
+use Rattle.body_fields.proofs.InterceptLaws.{no_two_words}
+use Rattle.body_fields.proofs.intercept_fields.protocols_in.Goals as goal
+
+pub returns-in_default-2 : goal.returns-in_default-2
+returns-in_default-2 c =
+    let listed : Some (items_view c.in_ok-as_list_of.field-0.now) ≡ as_list_of 2 (view c.args.value.now) = search rules in
+    sym (no_two_words c.in_ok-as_list_of.field-0.now c.in_default.len_at_least) ∙ ap (λ o. option_and_then protocols_of (option_and_then (each_of as_protocol) o)) listed

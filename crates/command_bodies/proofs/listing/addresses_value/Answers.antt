@@ -1,0 +1,19 @@
+use Rattle.std.proofs.Common.{◌≡◌, sym, ap, ◌∙◌, rules}
+use Rattle.std.proofs.lemmas.Simd.{map-map}
+use Rattle.ctrl_model.specs.AddressForm.{address_text}
+use Rattle.serde_json.specs.Data.{array, string}
+use Rattle.serde_json.specs.View.{items_of, view}
+use Rattle.serde_json.specs.declared.value.Value.TheVariants as value
+use Rattle.command_bodies.specs.WrittenFields.{list_of}
+use Rattle.command_bodies.proofs.ListedValues.{pushed}
+use Rattle.command_bodies.proofs.listing.addresses_value.Goals as goal
+
+pub addresses-preserved : goal.addresses-preserved
+addresses-preserved c =
+    pushed view (λ a. string (address_text a)) c.addresses.values.items _ _ c.args.addresses.now c.as_slice-address-items.result.now c.addresses.address-index c.address-item.result c.as_slice-address-items.ensures c.addresses-test.true
+    c.in_ok-push.ensures.items (c.in_ok-address_value.ensures ∙ ap (λ a. string (address_text a)) c.address-item.is) c.addresses.invariant
+
+pub returns : goal.returns
+returns c =
+    let done : view (value.Array c.addresses.values) ≡ list_of (λ a. string (address_text a)) c.args.addresses.now = search rules in
+    done ∙ sym (ap (λ ds. array (items_of ds)) (map-map (λ t. string t) address_text c.args.addresses.now))

@@ -1,0 +1,2 @@
+mod PlanLaws
+mod RowLaws

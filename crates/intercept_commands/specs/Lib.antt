@@ -1,0 +1,4 @@
+pub mod InterceptChanges
+pub mod InterceptRows
+pub mod InterceptPlans
+pub mod PlannedIntercepts
