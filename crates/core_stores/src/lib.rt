@@ -16,9 +16,10 @@ mod stores;
 
 pub use adding::{KINDS, forgotten};
 pub use changes::{
-    Change, Draft, circuit_change, entity_change, link_change, policy_change, term_change,
+    Change, Draft, circuit_change, entity_change, intercept_change, link_change, policy_change,
+    term_change,
 };
-pub use claims::{claim_changes, forget_claim};
+pub use claims::{claim_gone, forget_claim};
 pub use loads::{Loads, count_loads, loads_after};
 pub use next_rows::{least_change, next_changes};
 pub use serials::with_serial;

@@ -8,10 +8,10 @@ ghost use Rattle.ctrl_model.specs.declared.refusals.Refusal.TheVariants as refus
 ghost use Rattle.ctrl_model.specs.declared.replies.Reply.TheVariants as reply;
 ghost use Rattle.model_laws.specs.Plans.{led_by};
 ghost use Rattle.model_laws.specs.WorkedIntercepts.{ports, over_tcp, web_and_api, both_under, with_hosts};
-ghost use Rattle.intercept_commands.specs.InterceptChanges.{intercepts_after, claimed_by};
+ghost use Rattle.intercepts.specs.InterceptChanges.{intercepts_after, claimed_by};
 ghost use Rattle.intercept_commands.specs.InterceptPlans.{is_unknown};
 ghost use Rattle.intercept_commands.specs.InterceptRows.{claim_change};
-ghost use Rattle.intercept_commands.specs.declared.changes.InterceptChange.TheVariants as change;
+ghost use Rattle.intercepts.specs.declared.changes.InterceptChange.TheVariants as change;
 
 /// What changes make of the intercepts, where they lead a state, and which row they touch.
 pub fn changed_intercepts()

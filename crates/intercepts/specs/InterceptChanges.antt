@@ -1,13 +1,12 @@
--- What a command on intercepts changes, in the intercepts themselves and in a state (docs/PROMISES.md, "Commands on intercepts").
+-- What a change makes of the intercepts, and of a state (docs/PROMISES.md, "Commands on intercepts").
 use Rattle.std.specs.Prelude.{◌≡◌, ℕ, true, ⊤, List, None, Some}
 use Rattle.std.specs.declared.option.Option.{Option}
 use Rattle.ctrl_model.specs.declared.intercepts.Intercept.{Intercept}
 use Rattle.ctrl_model.specs.InterceptForm.{is_intercept}
 use Rattle.ctrl_model.specs.Numbered.{with_at, without}
 use Rattle.ctrl_model.specs.State.{State}
-use Rattle.entity_store.specs.EntityTables.{Tables}
-use Rattle.intercept_commands.specs.declared.changes.InterceptChange.{InterceptChange}
-use Rattle.intercept_commands.specs.declared.changes.InterceptChange.TheVariants as change
+use Rattle.intercepts.specs.declared.changes.InterceptChange.{InterceptChange}
+use Rattle.intercepts.specs.declared.changes.InterceptChange.TheVariants as change
 
 -- The intercepts after a change.
 abbrev pub after_intercept_change : InterceptChange → List (ℕ × Intercept) → List (ℕ × Intercept)
@@ -22,11 +21,6 @@ intercepts_after (Some c) xs = after_intercept_change c xs
 -- A state with these intercepts in place of its own.
 abbrev pub with_intercepts : List (ℕ × Intercept) → State → State
 with_intercepts xs s = record s { intercepts = xs }
-
--- A state with the entities of these tables and with these intercepts in place of its own. Commands on intercepts are judged by these
--- and by the counts of Dial alone, so what is said of all such states is said of the one whose parts they are.
-abbrev pub over : Tables → List (ℕ × Intercept) → State → State
-over t xs s = with_intercepts xs (record s { identities = t.identities; services = t.services; routers = t.routers })
 
 -- What a service gets by a change is an intercept.
 abbrev pub Claims : InterceptChange → Type 0
