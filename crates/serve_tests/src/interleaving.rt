@@ -41,22 +41,14 @@ const TRACES: &str = r#"
 1 replies 1 {"code":12,"name":"NotPermitted"}
 
 # Ann asks for herself alone, and sets nothing.
-0 whole 1600 {"service":"web","protocols":["tcp"],"addresses":["*.example.org"],"ports":[[443,443]]}
-1 whole 1600 {"service":"web","protocols":["tcp"],"addresses":["*.example.org"],"ports":[[1,1]]}
 1 whole 1601 {"service":"web"}
-1 whole 1610 {"identity":"ann","protocol":"tcp","address":"a.example.org","port":443}
-1 whole 1610 {"identity":"bob","protocol":"tcp","address":"a.example.org","port":443}
+1 whole 1610 {"identity":"bob","protocol":"tcp","address":"example.org","port":443}
+1 whole 1610 {"identity":"ann","protocol":"tcp","address":"example.org","port":443}
 1 whole 1611 {"identity":"ann","service":"web"}
-1 whole 1611 {"identity":"bob","service":"web"}
-0 whole 1610 {"identity":"bob","protocol":"tcp","address":"a.example.org","port":443}
-0 replies 0 {}
 1 replies 0 {"code":12,"name":"NotPermitted"}
 1 replies 1 {"code":12,"name":"NotPermitted"}
-1 replies 2 {"address":"*.example.org","high":443,"low":443,"service":"web"}
-1 replies 3 {"code":12,"name":"NotPermitted"}
-1 replies 4 {"clashes":[]}
-1 replies 5 {"code":12,"name":"NotPermitted"}
-0 replies 1 {"code":21,"field":"identity","name":"Unknown"}
+1 replies 2 {"code":50,"name":"NoIntercept"}
+1 replies 3 {"clashes":[]}
 "#;
 
 /// Session 0 is opened by an administrator, and session 1 by the identity ann.
