@@ -1,4 +1,4 @@
-//! Tests of whole runs on a folder: what is kept from run to run and where it is damaged, the words that look at a folder, advise by it and compact it,
+//! Tests of whole runs on a folder: what is kept from run to run and where it is damaged, the words that look at a folder, advise by it, ship it and compact it,
 //! circuits that go over another path, the files of the working folder, and runs that stop or fail at each call.
 #![tactic(auto)]
 
@@ -18,6 +18,8 @@ mod replays;
 mod reports;
 #[cfg(test)]
 mod rerouting;
+#[cfg(test)]
+mod ships;
 #[cfg(test)]
 mod stops;
 #[cfg(test)]

@@ -1,12 +1,15 @@
-ghost use Rattle.std.specs.Prelude.{◌≡◌, ◌<◌, ℕ, List, [], map, false, length, IsTrue, IfErr, IsErrOf};
+ghost use Rattle.std.specs.Prelude.{◌≡◌, ◌⊎◌, ◌<◌, ℕ, List, [], map, false, length, IsTrue, IfErr, IsErrOf};
 ghost use Rattle.ziti_outside.specs.declared.desk.Part.{Part};
 ghost use Rattle.ziti_outside.specs.Causes.{HasCause};
+ghost use Rattle.ziti_outside.specs.Untouched.{OnlyReads};
+ghost use Rattle.ctrl_model.specs.State.{State};
 ghost use Rattle.ctrl_model.specs.declared.formats.Format.{Format};
 ghost use Rattle.ctrl_model.specs.declared.formats.Format.TheVariants as formats;
 ghost use Rattle.channel_frame.specs.declared.frames.Frame.{Frame};
 ghost use Rattle.slot_files.specs.FolderImage.{Stands};
 ghost use Rattle.row_codec.specs.NarrowedRows.{narrowed};
 ghost use Rattle.row_store.specs.RewrittenStores.{compacted};
+ghost use Rattle.row_store.specs.OpenedStates.{OpensToState};
 ghost use Rattle.row_store.specs.StoredRows.{IsStoreOf};
 ghost use Rattle.ship_core.specs.Faults.{fault_of, disk_failure, write_failure, Judges};
 ghost use Rattle.ship_core.specs.Pieces.{frames_of_all};
@@ -103,13 +106,14 @@ fn ship_store<D: Desk>(
 /// no further. The folder is read, in either format, and left alone.
 ///
 /// Where nothing fails exactly these frames are said, and else the first of them, each whole; where a say failed a front of the first
-/// ones. `Damaged` comes exactly where the folder opens to no state, with the first place at which it is damaged, and nothing is said then.
-/// Where the folder is not told it may come behind some frames too.
+/// ones. `Damaged` comes exactly where the folder opens to no state, with the first place at which it is damaged. Nothing is said of a folder
+/// that opens to no state, whatever failed. Where the folder is not told `Damaged` may come behind some frames too.
 pub fn ship<D: Desk>(alloc: Global, desk: &mut D, from: u64) -> Result<(), ShipFault>
     ensures says { IsTrue D.tells → (format : Format) (batches : List (List ℕ)) → Stands format (D.seen desk.old).reads batches
         → SaysFrames D.seen D.stopped desk.old desk.new (fault_of result) (shipped from format batches) }
     ensures frames { (frames : List Frame) × SaysFrames D.seen D.stopped desk.old desk.new (fault_of result) frames }
     ensures judges { IsTrue D.tells → Judges (D.seen desk.old).reads (fault_of result) }
+    ensures opens { OnlyReads D.seen D.stopped desk.old desk.new ⊎ (IsTrue D.tells → (s : State) × OpensToState (D.seen desk.old).reads s) }
     ensures silent { IsTrue D.tells → (part : Part) (at : ℕ) → IsErrOf result (ShipFault.Damaged part at) → (D.seen desk.new).said ≡ (D.seen desk.old).said }
     ensures alone { OnlyShips D.seen D.stopped desk.old desk.new }
     ensures write_cause { HasCause (D.seen desk.old).say_faults (D.seen desk.new).say_faults (write_failure (fault_of result)) }

@@ -1,4 +1,4 @@
-use Rattle.std.proofs.Common.{◌≡◌, ℕ, List, [], Option, Some, None, Ok, Err, refl, sym, ap, ◌∙◌, subst}
+use Rattle.std.proofs.Common.{◌≡◌, ℕ, List, [], Option, Some, None, Ok, Err, inl, inr, refl, sym, ap, ◌∙◌, subst}
 use Rattle.std.proofs.lemmas.Result.{err_from_is_err_and}
 use Rattle.ziti_outside.specs.Images.{Image}
 use Rattle.row_store.specs.StoredRows.{IsStoreOf}
@@ -23,6 +23,9 @@ pub returns-in_err-open-clause-judges : goal.returns-in_err-open-clause-judges
 returns-in_err-open-clause-judges g c = λ told.
     let p = err_from_is_err_and c.from_residual.result c.from_residual.ensures.1 in
     rw p.1 (rw p.2 (failed_judges g.D.Desk.tells (g.D.Desk.seen c.args.desk.now).reads _ told c.in_err-open.ensures.fault))
+
+pub returns-in_err-open-clause-opens : goal.returns-in_err-open-clause-opens
+returns-in_err-open-clause-opens g c = inl c.open.ensures.reads
 
 pub returns-in_err-open-clause-silent : goal.returns-in_err-open-clause-silent
 returns-in_err-open-clause-silent g c = λ told part at e. c.open.ensures.reads.others.replies
@@ -52,6 +55,9 @@ returns-in-None-clause-frames g c = ([], (reads_ships None (λ e. cc) c.open.ens
 pub returns-in-None-clause-judges : goal.returns-in-None-clause-judges
 returns-in-None-clause-judges g c = λ told.
     empty_opens (g.D.Desk.seen c.args.desk.now).reads (subst (IsOpenedBy (g.D.Desk.seen c.args.desk.now).reads) c.in-None.is (c.in_ok-open.ensures.opens told))
+
+pub returns-in-None-clause-opens : goal.returns-in-None-clause-opens
+returns-in-None-clause-opens g c = inl c.open.ensures.reads
 
 pub returns-in-None-clause-alone : goal.returns-in-None-clause-alone
 returns-in-None-clause-alone g c = (reads_ships None (λ e. cc) c.open.ensures.reads c.in_ok-open.ensures.cause).alone
@@ -83,6 +89,11 @@ returns-in-Some-clause-judges g c = λ told.
     let opened = subst (IsOpenedBy (g.D.Desk.seen c.args.desk.now).reads) c.in-Some.is (c.in_ok-open.ensures.opens told) in
     opened_judges (g.D.Desk.seen c.args.desk.now).reads (fault_of c.ship_store.result) (store_opens (g.D.Desk.seen c.args.desk.now).reads c.in-Some.store opened.1 opened.2)
     (sound_fault g.D.Desk.tells c.ship_store.result told c.ship_store.ensures.fault)
+
+pub returns-in-Some-clause-opens : goal.returns-in-Some-clause-opens
+returns-in-Some-clause-opens g c = inr (λ told.
+    let opened = subst (IsOpenedBy (g.D.Desk.seen c.args.desk.now).reads) c.in-Some.is (c.in_ok-open.ensures.opens told) in
+    store_opens (g.D.Desk.seen c.args.desk.now).reads c.in-Some.store opened.1 opened.2)
 
 pub returns-in-Some-clause-silent : goal.returns-in-Some-clause-silent
 returns-in-Some-clause-silent g c = λ told part at e. absurd (never_damaged g.D.Desk.tells c.ship_store.result part at told c.ship_store.ensures.fault e)
