@@ -2,7 +2,7 @@ use Rattle.std.proofs.Common.{refl}
 use Rattle.std.specs.Fmt.{digits}
 use Rattle.std.specs.Str.{is_utf8, chars}
 use Rattle.serde_json.proofs.OnLiterals.{serde_json_on_literals}
-use Rattle.command_codec.proofs.worked.worked_intercept_causes.Goals as goal
+use Rattle.codec_laws.proofs.worked.worked_intercept_causes.Goals as goal
 
 pub returns : goal.returns
 unfolding serde_json_on_literals is_utf8 chars digits

@@ -8,7 +8,7 @@ use Rattle.ctrl_model.specs.declared.refusals.Reason.TheVariants as reason
 use Rattle.command_codec.specs.declared.reading.CodecFault.{CodecFault}
 use Rattle.command_codec.specs.declared.reading.CodecFault.TheVariants.{UnsupportedType, BadBody}
 use Rattle.command_codec.proofs.CauseTables.{first_cause}
-use Rattle.command_codec.proofs.worked.worked_first_causes.Goals as goal
+use Rattle.codec_laws.proofs.worked.worked_first_causes.Goals as goal
 
 apart : (d : Command) (cause : CodecFault) → ◌≡◌ {A = Result Command CodecFault} (Ok d) (Err cause) → ⊥
 apart d cause e = cc
