@@ -17,6 +17,8 @@ ghost use Rattle.body_fields.specs.RouteClaims.{as_numbers, as_reach};
 ghost use Rattle.command_codec.specs.BodyMeaning.{meaning};
 ghost use Rattle.command_codec.specs.FirstCauses.{IsFirstCause};
 
+use command_codec::the_first_cause;
+
 /// Bodies that spell a command of each kind.
 pub fn worked_bodies()
     ensures hello { meaning 0 (codes "abc") ≡ Ok command.Hello }
@@ -232,4 +234,6 @@ pub fn worked_first_causes()
     ensures no_type { IsFirstCause 1511 (codes "{}") UnsupportedType }
     ensures none { IsFirstCause 1000 (codes "{\"name\":\"ann\"}") (BadBody field.Attributes reason.Missing) → ⊥ }
     ensures of_hello { IsFirstCause 0 (codes "abc") (BadBody field.Nothing reason.NotObject) → ⊥ }
-{}
+{
+    the_first_cause();
+}

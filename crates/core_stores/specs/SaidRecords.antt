@@ -1,8 +1,7 @@
 -- The record that a row says of one table (docs/FORMATS.md, "Rows").
-use Rattle.std.specs.Prelude.{ℕ, None, Some, option_map}
+use Rattle.std.specs.Prelude.{None, Some, option_map}
 use Rattle.std.specs.declared.option.Option.{Option}
 use Rattle.ctrl_model.specs.declared.kinds.Relation.TheVariants.{IdentityRouter, ServiceRouter}
-use Rattle.ctrl_model.specs.declared.intercepts.Intercept.{Intercept}
 use Rattle.ctrl_model.specs.State.{Link, Policy, Terminator, Circuit}
 use Rattle.row_codec.specs.declared.rows.Row.{Row}
 use Rattle.row_codec.specs.declared.rows.Row.TheVariants as row
@@ -34,13 +33,3 @@ abbrev pub circuit_in : Row → Option Circuit
 circuit_in (row.Circuit n identity service terminator ingress links) =
     Some (record { identity = identity.0; service = service.0; terminator = terminator.0; ingress = ingress.0; links = links })
 circuit_in _ = None
-
--- The intercept that a row says, and the number of its service.
-abbrev pub claim_in : Row → Option (ℕ × Intercept)
-claim_in (row.Intercept n i) = Some (n.0, i)
-claim_in _ = None
-
--- The serial that a row says.
-abbrev pub serial_in : Row → Option ℕ
-serial_in (row.Serial n) = Some n
-serial_in _ = None

@@ -1,9 +1,8 @@
 ghost use Rattle.std.specs.Prelude.{◌≡◌, IfOk};
-ghost use Rattle.std.specs.Option.{option_map};
-ghost use Rattle.record_flaws.specs.SaidRecords.{circuit_in, claim_in, link_in, policy_in, serial_in, term_in};
+ghost use Rattle.core_stores.specs.SaidRecords.{circuit_in, link_in, policy_in, term_in};
 
 use circuits::Circuit;
-use ctrl_model::{Copies, Intercept, Relation, ServiceNo};
+use ctrl_model::{Copies, Relation};
 use fabric_graph::LinkRow;
 use policy_store::{Policy, policy_of};
 use row_codec::Row;
@@ -11,7 +10,7 @@ use std::alloc::AllocError;
 use terminators::Term;
 
 /// The link that a row says. None is a row of another table.
-pub fn link_in(row: &Row) -> Result<Option<LinkRow>, AllocError>
+pub(crate) fn link_in(row: &Row) -> Result<Option<LinkRow>, AllocError>
     ensures { IfOk result (λ o. o ≡ link_in row.now) }
 {
     match row {
@@ -38,7 +37,7 @@ pub fn link_in(row: &Row) -> Result<Option<LinkRow>, AllocError>
 }
 
 /// The policy that a row says, of any of the three kinds. None is a row of another table.
-pub fn policy_in(row: &Row) -> Result<Option<Policy>, AllocError>
+pub(crate) fn policy_in(row: &Row) -> Result<Option<Policy>, AllocError>
     ensures { IfOk result (λ o. o ≡ policy_in row.now) }
 {
     match row {
@@ -75,7 +74,7 @@ pub fn policy_in(row: &Row) -> Result<Option<Policy>, AllocError>
 }
 
 /// The terminator that a row says. None is a row of another table.
-pub fn term_in(row: &Row) -> Result<Option<Term>, AllocError>
+pub(crate) fn term_in(row: &Row) -> Result<Option<Term>, AllocError>
     ensures { IfOk result (λ o. o ≡ term_in row.now) }
 {
     match row {
@@ -100,7 +99,7 @@ pub fn term_in(row: &Row) -> Result<Option<Term>, AllocError>
 }
 
 /// The circuit that a row says. None is a row of another table.
-pub fn circuit_in(row: &Row) -> Result<Option<Circuit>, AllocError>
+pub(crate) fn circuit_in(row: &Row) -> Result<Option<Circuit>, AllocError>
     ensures { IfOk result (λ o. o ≡ circuit_in row.now) }
 {
     match row {
@@ -119,25 +118,5 @@ pub fn circuit_in(row: &Row) -> Result<Option<Circuit>, AllocError>
             links: links.copy()?,
         })),
         _ => Ok(None),
-    }
-}
-
-/// The intercept that a row says, and the service whose it is. None is a row of another table.
-pub fn claim_in(row: &Row) -> Result<Option<(ServiceNo, Intercept)>, AllocError>
-    ensures { IfOk result (λ o. option_map (λ claim. (claim.0.0, claim.1)) o ≡ claim_in row.now) }
-{
-    match row {
-        Row::Intercept { service, intercept } => Ok(Some((*service, intercept.copy()?))),
-        _ => Ok(None),
-    }
-}
-
-/// The serial that a row says. None is a row of another table.
-pub fn serial_in(row: &Row) -> Option<u64>
-    ensures { result ≡ serial_in row.now }
-{
-    match row {
-        Row::Serial { serial } => Some(*serial),
-        _ => None,
     }
 }
