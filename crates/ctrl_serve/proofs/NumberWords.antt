@@ -1,5 +1,5 @@
 -- The words that have a number below a bound are the decimal texts of the numbers below it.
-use Rattle.std.proofs.Common.{◌≡◌, ℕ, zero, suc, ◌<◌, ◌^◌, ◌⊎◌, inl, inr, true, false, List, [], ◌∷◌, length, decimal, Option, None, Some, Result, Ok, Err, refl, sym, ap, ◌∙◌, subst, arith}
+use Rattle.std.proofs.Common.{◌≡◌, ℕ, zero, suc, ◌<◌, ◌≤◌, ◌^◌, ◌⊎◌, inl, inr, true, false, List, [], ◌∷◌, length, decimal, Option, None, Some, Result, Ok, Err, refl, sym, ap, ◌∙◌, subst, arith}
 use Rattle.std.proofs.Math.ListN.{get_or}
 use Rattle.std.proofs.lemmas.Bool.{and_from, and_parts, both_ways, eqb-false, lt-ltb, ltb-true, ne_eqb, or_from, or_parts, cond-true}
 use Rattle.std.proofs.lemmas.Fmt.{decimal_is_IsNumeral, decimal-digits_value, first_decimal}
@@ -80,36 +80,3 @@ parsed_number {E} word r e parses = by r (parse_plain own 64 word r parses (not_
         let p = text_of_number (2 ^ 64) word number is in
         let n = decimal_is_IsNumeral number (omega (arith, p.1)) in
         absurd (h (rw p.0 (n.0.1, n.0.0, rw n.1 p.1)))
-
--- ---- numbers below a lower bound
-
--- A word without a number below a bound has none below a lower one.
-pub none_lower : (few most : ℕ) (word : List ℕ) → few ≤ most → most ≤ 2 ^ 64 → number_below most word ≡ None → None ≡ number_below few word
-none_lower few most word less limit none = sym (by (number_below few word) refl) where
-  by : (found : Option ℕ) → number_below few word ≡ found → number_below few word ≡ None
-  by None e = e
-  by (Some number) e =
-      let p = text_of_number few word number e in
-      let low = p.1 in
-      let found : number_below most word ≡ Some number = ap (number_below most) p.0 ∙ number_of_text most number limit (omega (arith, low, less)) in
-      absurd (let both : ◌≡◌ {A = Option ℕ} None (Some number) = sym none ∙ found in cc)
-
--- One with a number below a bound has it below a lower one too, where it is below that.
-pub some_lower : (few most : ℕ) (word : List ℕ) (number : ℕ) → few ≤ 2 ^ 64 → number_below most word ≡ Some number → number < few → number_below few word ≡ Some number
-some_lower few most word number limit e low =
-    ap (number_below few) (text_of_number most word number e).0 ∙ number_of_text few number limit low
-
--- And else it has none there.
-pub some_past : (few most : ℕ) (word : List ℕ) (number : ℕ) → most ≤ 2 ^ 64 → number_below most word ≡ Some number → few ≤ number → None ≡ number_below few word
-some_past few most word number limit e past = sym (by (number_below few word) refl) where
-  by : (found : Option ℕ) → number_below few word ≡ found → number_below few word ≡ None
-  by None is = is
-  by (Some other) is =
-      let p = text_of_number few word other is in
-      let q = text_of_number most word number e in
-      let here = p.1 in
-      let there = q.1 in
-      let a = (decimal_is_IsNumeral other (omega (arith, here, past, there, limit))).1 in
-      let b = (decimal_is_IsNumeral number (omega (arith, there, limit))).1 in
-      let same : other ≡ number = sym a ∙ ap (digits_value 10) (sym p.0 ∙ q.0) ∙ b in
-      absurd (omega (arith, same, here, past))
