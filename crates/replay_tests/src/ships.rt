@@ -1,8 +1,6 @@
 //! What is shipped of folders of either format, and runs that ship in which each call fails in turn.
 
-use crate::checks::{
-    Ended, desk_on, has_parts, has_told, holds, is_status, ran, run_words,
-};
+use crate::checks::{Ended, desk_on, has_parts, has_told, holds, is_status, ran, run_words};
 use ctrl_serve::Status;
 use sample_runs::{How, folder_of, notes_of, parts_in};
 use std::alloc::{AllocError, Global};
@@ -49,7 +47,8 @@ const NEXT_1: &[u8] =
 const WHOLE_GRANTED: &[u8] =
     b"\x03\x06\x09\x0c\x6c\x07\0\0\0\0\0\0\x28\0\0\0\x6a\0\0\0\xe8\x03\0\0\x08\0\0\0\0\0\0\0\0\0\0\0\xe9\x03\0\0\x04\0\0\0\0\0\0\0\xea\x03\0\0\x04\0\0\0\x01\0\0\0\x01\x02\x01\x01\x04\0\0\0\x02\0\0\0\x01\x02\x01\x02\x04\0\0\0\x02\0\0\0\x01\x02\x01\x05\x04\0\0\0\x02\0\0\0\x01\x05\x03\0\0\0\x01\x05\0\0\0\x03ann\0\x01\x05\x04\0\0\0\x01\x05\0\0\0\x03web\0\x01\x05\x07\0\0\0\x01\x0a\0\0\0\x01p\x01\x01\x01\0\0\x01\0\0\x01\x09\x0c\0\0\0\x01\0\0\0\x01\x02\0\0\0\x01\0";
 
-const OLD_GRANTED: &str = r"ZCTL\x01\0\0\0\x01\x1c\0\0\0\x01\x02\x01\x01\x04\0\0\0\x02\0\0\0\x01\x05\x03\0\0\0\x01\x05\0\0\0\x03ann\0\x01\x1c\0\0\0\x01\x02\x01\x02\x04\0\0\0\x02\0\0\0\x01\x05\x04\0\0\0\x01\x05\0\0\0\x03web\0\x01\x34\0\0\0\x01\x02\x01\x05\x04\0\0\0\x02\0\0\0\x01\x05\x07\0\0\0\x01\x0a\0\0\0\x01p\x01\x01\x01\0\0\x01\0\0\x01\x09\x0c\0\0\0\x01\0\0\0\x01\x04\0\0\0\x01\0\0\0\0 - FIRST";
+const OLD_GRANTED: &str =
+    r"ZCTL\x01\0\0\0\x01\x1c\0\0\0\x01\x02\x01\x01\x04\0\0\0\x02\0\0\0\x01\x05\x03\0\0\0\x01\x05\0\0\0\x03ann\0\x01\x1c\0\0\0\x01\x02\x01\x02\x04\0\0\0\x02\0\0\0\x01\x05\x04\0\0\0\x01\x05\0\0\0\x03web\0\x01\x34\0\0\0\x01\x02\x01\x05\x04\0\0\0\x02\0\0\0\x01\x05\x07\0\0\0\x01\x0a\0\0\0\x01p\x01\x01\x01\0\0\x01\0\0\x01\x09\x0c\0\0\0\x01\0\0\0\x01\x04\0\0\0\x01\0\0\0\0 - FIRST";
 
 /// The last serial that can be asked for.
 const LAST: &str = "18446744073709551615";
@@ -164,7 +163,13 @@ fn ships_all(rt: &impl Abort, alloc: Global, case: &Shipped) -> Result<(), Alloc
     let (folder, from, frames) = *case;
     let folder = folder_of(alloc, folder)?;
     let said = joined(alloc, frames)?;
-    ships(rt, alloc, &folder, from, (Status::Done, said.as_slice(), b""))
+    ships(
+        rt,
+        alloc,
+        &folder,
+        from,
+        (Status::Done, said.as_slice(), b""),
+    )
 }
 
 // Ships nothing of a folder, and notes why.
