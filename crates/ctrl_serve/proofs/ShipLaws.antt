@@ -117,9 +117,12 @@ unshipped {seen = seen} {stopped = stopped} from tells (ship.Damaged part at) ol
     elim by.opens as (λ _. IsUnopened None tells seen stopped old new status ⊎ Ships from tells (seen old) (seen new) status) [
       | inl reads ↦ inl (unopened None tells (keep.Damaged part at) old mid new status (peeks_none tells (keep.Damaged part at) old mid reads by.judges) notes more told)
       | inr opens ↦ inr (ships_by from tells (Some (ship.Damaged part at)) status by told.0 notes.replies opens
-          (noted_status tells (seen old) (seen new) Damaged status told.0
-          (part, at, λ yes. stateless_opens (seen old).reads part at (opens yes).0 (by.judges yes) (opens yes).1,
-          notes_from _ (seen old) (seen mid) (seen new) by.alone.notes by.alone.failed_notes told.1)))
+          (noted_status tells (seen old) (seen new) Damaged status told.0 (
+            part,
+            at,
+            λ yes. stateless_opens (seen old).reads part at (opens yes).0 (by.judges yes) (opens yes).1,
+            notes_from _ (seen old) (seen mid) (seen new) by.alone.notes by.alone.failed_notes told.1,
+          )))
     ]
 unshipped {seen = seen} {stopped = stopped} from tells ship.NoMemory old mid new status by notes more told =
     elim by.opens as (λ _. IsUnopened None tells seen stopped old new status ⊎ Ships from tells (seen old) (seen new) status) [
