@@ -64,10 +64,10 @@ says_shipped (Some (ship.Damaged part at)) all s = (s.frames, s.first.0, s.first
 says_shipped (Some ship.NoMemory) all s = (s.frames, s.first.0, s.first.1, s.said)
 
 -- Notes behind it say nothing more.
-said_behind : {D : Type 0} {seen : D → Seen} {stopped : D → Stopped} {old mid new : D} (fault : Option ShipFault) (all : List Frame) (status : Status) → status ≡ status_of fault
-    → (seen new).said ≡ (seen mid).said → SaysFrames seen stopped old mid fault all → SaysShipped status (seen old).said (seen new).said all
-said_behind {seen = seen} {old = old} {mid = mid} {new = new} fault all status is quiet s =
-    subst (λ (u : Status). SaysShipped u (seen old).said (seen new).said all) (sym is)
+said_behind : {D : Type 0} {seen : D → Seen} {stopped : D → Stopped} {old mid : D} (fault : Option ShipFault) (all : List Frame) (status : Status) (now : Option (List ℕ)) → status ≡ status_of fault
+    → now ≡ (seen mid).said → SaysFrames seen stopped old mid fault all → SaysShipped status (seen old).said now all
+said_behind {seen = seen} {old = old} fault all status now is quiet s =
+    subst (λ (u : Status). SaysShipped u (seen old).said now all) (sym is)
     (subst (λ (n : Option (List ℕ)). SaysShipped (status_of fault) (seen old).said n all) (sym quiet) (says_shipped fault all s))
 
 -- ---- what it comes to
@@ -83,10 +83,10 @@ pub record IsShippedBy {D : Type 0} (from : ℕ) (tells : Bool) (seen : D → Se
 ships_by : {D : Type 0} {seen : D → Seen} {stopped : D → Stopped} {old mid new : D} (from : ℕ) (tells : Bool) (fault : Option ShipFault) (status : Status) → IsShippedBy from tells seen stopped fault old mid
     → status ≡ status_of fault → (seen new).said ≡ (seen mid).said → (IsTrue tells → (s : State) × OpensToState (seen old).reads s) → NotesShipped status tells (seen old) (seen new)
     → Ships from tells (seen old) (seen new) status
-ships_by from tells fault status by is quiet opens notes = record {
+ships_by {seen = seen} {new = new} from tells fault status by is quiet opens notes = record {
   opens = opens;
-  ships = λ told format batches stands. said_behind fault (shipped from format batches) status is quiet (by.says told format batches stands);
-  frames = (by.frames.0, said_behind fault by.frames.0 status is quiet by.frames.1);
+  ships = λ told format batches stands. said_behind fault (shipped from format batches) status (seen new).said is quiet (by.says told format batches stands);
+  frames = (by.frames.0, said_behind fault by.frames.0 status (seen new).said is quiet by.frames.1);
   notes = notes;
 }
 
