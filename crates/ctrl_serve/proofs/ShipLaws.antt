@@ -1,6 +1,6 @@
 -- What the shipping of a folder comes to.
-use Rattle.std.specs.Prelude.{⊤, IsTrue, Bool}
-use Rattle.std.proofs.Common.{◌≡◌, ◌⊎◌, inl, inr, ℕ, List, [], ◌++◌, None, Some, Ok, Err, refl, sym, ap, ◌∙◌, subst, append_assoc, arith}
+use Rattle.std.specs.Prelude.{IsTrue, Bool}
+use Rattle.std.proofs.Common.{◌≡◌, ◌⊎◌, inl, inr, ℕ, List, [], ◌++◌, None, Some, refl, sym, ap, ◌∙◌, subst, append_assoc, arith}
 use Rattle.std.proofs.lemmas.Grind.{flat_map-append}
 use Rattle.std.specs.declared.option.Option.{Option}
 use Rattle.ziti_outside.specs.Causes.{HasCause}
@@ -24,8 +24,7 @@ use Rattle.ship_core.specs.Shipping.{shipped}
 use Rattle.ctrl_keep.specs.declared.faults.KeepFault.TheVariants as keep
 use Rattle.run_notes.specs.declared.status.Status.{Status}
 use Rattle.run_notes.specs.declared.status.Status.TheVariants.{Done, WriteFault, DiskFault, Damaged, NoMemory}
-use Rattle.run_notes.specs.NotedLines.{FindsNoMore, NotesLines, RisesOnce}
-use Rattle.run_notes.specs.Notes.{damaged_note, status_lines}
+use Rattle.run_notes.specs.NotedLines.{FindsNoMore, RisesOnce}
 use Rattle.run_notes.proofs.NoteLaws.{notes_from, notes_none}
 use Rattle.ctrl_serve.specs.FolderRuns.{TellsUnshipped}
 use Rattle.ctrl_serve.specs.Headline.{IsLeftAlone, IsUnopened}
