@@ -100,21 +100,23 @@ store_unwritten store.Spent e = cc
 store_unwritten store.NoMemory e = cc
 
 -- The folder of a store whose rows are those of a state opens to it.
+pub opens_so : (image : Image) (stored : Stored) → IsStoreOf image stored → (of : IsOfState stored) → OpensToState image of.0
+opens_so image stored kept of = record {
+  format = stored.format;
+  has = of.2;
+  valid = of.1;
+  rows = record { batches = kept.batches; stands = kept.stands; give = subst (λ (r : ByteRows). Give stored.format kept.batches r) of.3 kept.give };
+}
+
 pub store_opens : (image : Image) (stored : Stored) → IsStoreOf image stored → IsOfState stored → (s : State) × OpensToState image s
-store_opens image stored kept of = (
-  of.0,
-  record {
-    format = stored.format;
-    has = of.2;
-    valid = of.1;
-    rows = record { batches = kept.batches; stands = kept.stands; give = subst (λ (r : ByteRows). Give stored.format kept.batches r) of.3 kept.give };
-  },
-)
+store_opens image stored kept of = (of.0, opens_so image stored kept of)
 
 -- Over an empty mark a folder opens to the start.
+pub start_opens : (image : Image) → length (image Mark) ≡ 0 → OpensToState image start
+start_opens image e = record { format = Two; has = tt; valid = start_valid; rows = subst (OpensTo Two image) (sym (start_rows Two)) (opens_none Two image e) }
+
 pub empty_opens : (image : Image) → length (image Mark) ≡ 0 → (s : State) × OpensToState image s
-empty_opens image e =
-    (start, record { format = Two; has = tt; valid = start_valid; rows = subst (OpensTo Two image) (sym (start_rows Two)) (opens_none Two image e) })
+empty_opens image e = (start, start_opens image e)
 
 -- A folder that opens is judged so by every fault but damage.
 pub opened_judges : (image : Image) (fault : Option ShipFault) → ((s : State) × OpensToState image s) → ((f : ShipFault) → fault ≡ Some f → IsUndamaged f) → Judges image fault

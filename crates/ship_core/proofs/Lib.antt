@@ -2,6 +2,7 @@ mod SaidLaws
 mod PieceLaws
 mod OpsLaws
 mod WayLaws
+mod ReadLaws
 mod PieceSteps
 mod RecordSteps
 mod OldLaws

@@ -17,7 +17,7 @@ use Rattle.row_store.specs.RewrittenStores.{compacted}
 use Rattle.row_store.specs.StoredRows.{Stored, IsStoreOf}
 use Rattle.ship_core.specs.declared.shipments.Shipment.{Shipment}
 use Rattle.ship_core.specs.Pieces.{frames_of, frames_of_all}
-use Rattle.ship_core.specs.Shipping.{rows_behind_all, old_whole, is_from, chosen, shipped}
+use Rattle.ship_core.specs.Shipping.{rows_behind_all, old_whole, old_shipments, is_from, chosen, shipped}
 use Rattle.ship_core.proofs.WayLaws.{given_behind}
 
 -- What a test denies does not hold.
@@ -26,7 +26,7 @@ unlike told no_one yes_if p = let both : false ≡ true = sym no_one ∙ yes_if 
 
 -- What is shipped of rows of the first format.
 abbrev pub old_frames : (from : ℕ) → ByteRows → List Frame
-old_frames from rows = frames_of_all 0 (chosen from (map old_whole (compacted (map narrowed rows))))
+old_frames from rows = frames_of_all 0 (chosen from (old_shipments rows))
 
 -- Nothing is shipped from a later serial on.
 pub old_none : (from : ℕ) (rows : ByteRows) → 0 < from → old_frames from rows ≡ []

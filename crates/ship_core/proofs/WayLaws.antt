@@ -36,7 +36,7 @@ shipped_as content serial bytes = record { content = content; serial = serial; b
 -- ---- rows behind batches
 
 -- The rows behind one batch more.
-behind_push : (rows : ByteRows) (before : List (List ℕ)) (bytes : List ℕ) → rows_behind_all rows (before ++ bytes ∷ []) ≡ rows_behind (rows_behind_all rows before) bytes
+pub behind_push : (rows : ByteRows) (before : List (List ℕ)) (bytes : List ℕ) → rows_behind_all rows (before ++ bytes ∷ []) ≡ rows_behind (rows_behind_all rows before) bytes
 behind_push rows [] bytes = refl
 behind_push rows (first ∷ before) bytes = behind_push (rows_behind rows first) before bytes
 
@@ -160,11 +160,12 @@ gate_within before after =
     ap length (records-append before after) ∙ length-append (records_of before) (records_of after) in
     omega (arith, whole)
 
-type_behind : (at next n : ℕ) → next ≡ at + 5 + n → 8 ≤ at → type_at next ≡ next_type
-type_behind at next n e low = by (next == 8) refl
+-- Past the first gate there are Nexts.
+pub type_past : (next : ℕ) → 8 < next → type_at next ≡ next_type
+type_past next past = by (next == 8) refl
   where
     by : (b : Bool) → (next == 8) ≡ b → cond b whole_type next_type ≡ next_type
-    by true is = let same = eqb-true next 8 is in absurd (omega (arith, same, e, low))
+    by true is = let same = eqb-true next 8 is in absurd (omega (arith, same, past))
     by false is = refl
 
 -- A shipping that has come past one record more.
@@ -203,7 +204,7 @@ one_further reads stored from way next frames ops some kept found serial on =
         let at : next.at ≡ slot_end (on.before ++ bytes ∷ []) =
         (let long = ap length same in let gate = end-push bytes on.before in let place = on.place in let behind = found.behind in omega (arith, long, gate, place, behind)) in
         let sort : type_at next.at ≡ next_type =
-        (let place = on.place in type_behind way.at next.at (length found.payload) found.behind (omega (arith, place))) in
+        (let place = on.place in let behind = found.behind in type_past next.at (omega (arith, place, behind))) in
         let later : List Shipment = shipments_from next_type (rows_behind rows bytes) more in
         let fresh : List Frame = frames_if from (length frames) (shipment_of way ops) in
         let parts : frames_of_all (length frames) (filter (is_from from) (shipment_of way ops ∷ later)) ≡ fresh ++ frames_of_all (length frames + length fresh) (filter (is_from from) later) =
