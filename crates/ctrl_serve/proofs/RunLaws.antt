@@ -476,7 +476,7 @@ one_serial form m n is e = cc
 shipped_statuses : (tells : Bool) (from : ℕ) (before now : Seen) (status : Status) → Ships from tells before now status → (status ≡ Usage → ⊥) × (status ≡ ReadFault → ⊥)
 shipped_statuses tells from before now status ships =
     let not = ends_otherwise (λ (u : Status). Ships from tells before now u) status ships in
-    (not Usage (λ t. t.frames.1), not ReadFault (λ t. t.frames.1))
+    (not Usage (λ t. t.frames.said), not ReadFault (λ t. t.frames.said))
 
 ship_statuses : {D : Type 0} {seen : D → Seen} {stopped : D → Stopped}
     (tells : Bool) (from : ℕ) (desk desk_now : D) (status : Status) → IsUnopened None tells seen stopped desk desk_now status ⊎ Ships from tells (seen desk) (seen desk_now) status
