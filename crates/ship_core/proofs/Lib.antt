@@ -3,6 +3,8 @@ mod PieceLaws
 mod OpsLaws
 mod WayLaws
 mod ReadLaws
+mod FollowLaws
+mod FrameLimits
 mod PieceSteps
 mod RecordSteps
 mod OldLaws

@@ -6,6 +6,7 @@ use Rattle.ctrl_model.specs.declared.formats.Format.TheVariants.{Two}
 use Rattle.channel_frame.specs.declared.frames.Frame.{Frame}
 use Rattle.row_codec.specs.declared.changes.Op.{Op}
 use Rattle.row_codec.specs.Batches.{batch_bytes, IsBatch, Spells}
+use Rattle.row_laws.proofs.RisingRows.{All-append}
 use Rattle.slot_reading.specs.BatchRows.{ByteRows, rows_after}
 use Rattle.ship_core.specs.declared.faults.ShipFault.{ShipFault}
 use Rattle.ship_core.specs.declared.records.Way.{Way}
@@ -30,15 +31,15 @@ type_push : (first : ℕ) (batches : List (List ℕ)) (bytes : List ℕ) → typ
 type_push first [] bytes = refl
 type_push first (x ∷ more) bytes = refl
 
--- One batch more as it is shipped.
-shipments_push : (first : ℕ) (rows : ByteRows) (batches : List (List ℕ)) (bytes : List ℕ) → shipments_from first rows (batches ++ bytes ∷ [])
-    ≡ shipments_from first rows batches ++ shipped_as (type_behind first batches) (serial_or_none (rows_behind (rows_behind_all rows batches) bytes)) bytes ∷ []
-shipments_push first rows [] bytes = refl
-shipments_push first rows (x ∷ more) bytes =
+-- Batches in two parts, as they are shipped.
+pub shipments_append : (first : ℕ) (rows : ByteRows) (these those : List (List ℕ)) → shipments_from first rows (these ++ those)
+    ≡ shipments_from first rows these ++ shipments_from (type_behind first these) (rows_behind_all rows these) those
+shipments_append first rows [] those = refl
+shipments_append first rows (x ∷ more) those =
     let here = rows_behind rows x in
     ap (λ (l : List Shipment). shipped_as first (serial_or_none here) x ∷ l)
-    (shipments_push next_type here more bytes
-    ∙ ap (λ (t : ℕ). shipments_from next_type here more ++ shipped_as t (serial_or_none (rows_behind (rows_behind_all here more) bytes)) bytes ∷ []) (next_behind more))
+    (shipments_append next_type here more those
+    ∙ ap (λ (t : ℕ). shipments_from next_type here more ++ shipments_from t (rows_behind_all here more) those) (next_behind more))
 
 -- The frames of some batches, and of those behind them.
 frames_append : (place : ℕ) (these those : List Shipment) → frames_of_all place (these ++ those) ≡ frames_of_all place these ++ frames_of_all (place + length (frames_of_all place these)) those
@@ -59,8 +60,7 @@ frames_append place (s ∷ these) those =
 
 -- Each of one batch more is spelled.
 pub spelled_push : (batches : List (List ℕ)) (bytes : List ℕ) (ops : List Op) → Spells bytes ops → AreSpelled batches → AreSpelled (batches ++ bytes ∷ [])
-spelled_push [] bytes ops s all = ((ops, s), tt)
-spelled_push (x ∷ more) bytes ops s all = (all.0, spelled_push more bytes ops s all.1)
+spelled_push batches bytes ops s all = All-append (λ (b : List ℕ). (o : List Op) × Spells b o) batches (bytes ∷ []) all ((ops, s), tt)
 
 -- ---- what was read
 
@@ -85,7 +85,7 @@ read_more from way frames ops batch read =
     ∙ ap (λ (n : ℕ). frames ++ frames_of_all n (filter (is_from from) (last ∷ []))) zero
     ∙ ap (λ (l : List Frame). l ++ frames_of_all (0 + length l) (filter (is_from from) (last ∷ []))) read.said
     ∙ sym (frames_append 0 (filter (is_from from) these) (filter (is_from from) (last ∷ [])))
-    ∙ ap (frames_of_all 0) (sym (filter-append (is_from from) these (last ∷ [])) ∙ ap (filter (is_from from)) (sym (shipments_push whole_type [] read.batches bytes)))
+    ∙ ap (frames_of_all 0) (sym (filter-append (is_from from) these (last ∷ [])) ∙ ap (filter (is_from from)) (sym (shipments_append whole_type [] read.batches (bytes ∷ []))))
   where
     bytes : List ℕ
     bytes = batch_bytes ops

@@ -41,10 +41,10 @@ behind_push rows [] bytes = refl
 behind_push rows (first ∷ before) bytes = behind_push (rows_behind rows first) before bytes
 
 -- What a batch leads to are the rows behind it.
-led_behind : (rows next : ByteRows) (bytes : List ℕ) → Leads rows bytes next → rows_behind rows bytes ≡ next
+pub led_behind : (rows next : ByteRows) (bytes : List ℕ) → Leads rows bytes next → rows_behind rows bytes ≡ next
 led_behind rows next bytes l = ap (rows_after rows) (ops_spelled bytes l.ops l.spelled) ∙ sym l.after
 
-led_behind_all : (f : Format) (rows : ByteRows) (batches : List (List ℕ)) (last : ByteRows) → LeadFrom f rows batches last → rows_behind_all rows batches ≡ last
+pub led_behind_all : (f : Format) (rows : ByteRows) (batches : List (List ℕ)) (last : ByteRows) → LeadFrom f rows batches last → rows_behind_all rows batches ≡ last
 led_behind_all f rows [] last l = sym l
 led_behind_all f rows (bytes ∷ more) last l =
     ap (λ (r : ByteRows). rows_behind_all r more) (led_behind rows l.0 bytes l.1) ∙ led_behind_all f l.0 more last l.3
@@ -58,20 +58,20 @@ given_behind f (bytes ∷ more) rows g =
 -- ---- serials rise
 
 -- All of some shipments have at least a serial.
-abbrev AreFrom : ℕ → List Shipment → Type 0
+abbrev pub AreFrom : ℕ → List Shipment → Type 0
 AreFrom n list = AllByRecursion (λ (s : Shipment). n ≤ s.serial) list
 
-from_less : (n m : ℕ) (list : List Shipment) → n ≤ m → AreFrom m list → AreFrom n list
+pub from_less : (n m : ℕ) (list : List Shipment) → n ≤ m → AreFrom m list → AreFrom n list
 from_less n m [] le all = tt
 from_less n m (s ∷ list) le all = ((let first = all.0 in omega (arith, le, first)), from_less n m list le all.1)
 
-raised : (rows next : ByteRows) → Raises rows next → serial_or_none rows + 1 ≡ serial_or_none next
+pub raised : (rows next : ByteRows) → Raises rows next → serial_or_none rows + 1 ≡ serial_or_none next
 raised rows next r =
     let old : serial_or_none rows ≡ r.0 = ap (λ (o : Option ℕ). unwrap_or o 0) r.1 in
     let new : serial_or_none next ≡ r.0 + 1 = ap (λ (o : Option ℕ). unwrap_or o 0) r.2 in
     omega (arith, old, new)
 
-rising : (content : ℕ) (rows last : ByteRows) (batches : List (List ℕ)) → LeadFrom Two rows batches last → AreFrom (serial_or_none rows) (shipments_from content rows batches)
+pub rising : (content : ℕ) (rows last : ByteRows) (batches : List (List ℕ)) → LeadFrom Two rows batches last → AreFrom (serial_or_none rows) (shipments_from content rows batches)
 rising content rows last [] l = tt
 rising content rows last (bytes ∷ more) l =
     let same : rows_behind rows bytes ≡ l.0 = led_behind rows l.0 bytes l.1 in
@@ -84,7 +84,7 @@ rising content rows last (bytes ∷ more) l =
     )
 
 -- What is from a serial on is all of what has at least a later one.
-all_pass : (from n : ℕ) (list : List Shipment) → nat_le from n ≡ true → AreFrom n list → filter (is_from from) list ≡ list
+pub all_pass : (from n : ℕ) (list : List Shipment) → nat_le from n ≡ true → AreFrom n list → filter (is_from from) list ≡ list
 all_pass from n [] le all = refl
 all_pass from n (s ∷ list) le all = by (is_from from s) refl (all_pass from n list le all.1)
   where
@@ -99,7 +99,7 @@ all_pass from n (s ∷ list) le all = by (is_from from s) refl (all_pass from n 
     by false e rest = let both : false ≡ true = sym e ∙ passes in absurd cc
 
 -- What is chosen of the records of a slot that gives rows are those from the serial on.
-chosen_from : (from : ℕ) (batches : List (List ℕ)) (rows : ByteRows) → Give Two batches rows
+pub chosen_from : (from : ℕ) (batches : List (List ℕ)) (rows : ByteRows) → Give Two batches rows
     → chosen from (shipments_from whole_type [] batches) ≡ filter (is_from from) (shipments_from whole_type [] batches)
 chosen_from from [] rows g = refl
 chosen_from from (bytes ∷ more) rows g = by (is_from from first) refl

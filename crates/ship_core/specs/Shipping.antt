@@ -1,5 +1,5 @@
 -- What is shipped of a folder: the records of its slot from a serial on, as frames (docs/FORMATS.md, "Ship frames").
-use Rattle.std.specs.Prelude.{◌≡◌, ℕ, Bool, nat_le, cond, List, [], ◌∷◌, map, filter}
+use Rattle.std.specs.Prelude.{◌≡◌, ⊤, ℕ, ◌+◌, ◌==◌, Bool, nat_le, cond, List, [], ◌∷◌, map, filter}
 use Rattle.std.specs.List.{AllByRecursion}
 use Rattle.std.specs.Option.{unwrap_or, option_map_or}
 use Rattle.ctrl_model.specs.declared.formats.Format.{Format}
@@ -88,3 +88,21 @@ AreSpelled batches = AllByRecursion (λ (bytes : List ℕ). (ops : List Op) × S
 abbrev pub AreShippedOf : (from : ℕ) → Format → ByteRows → List Frame → Type 0
 AreShippedOf from One rows frames = frames ≡ frames_of_all 0 (chosen from (old_shipments rows))
 AreShippedOf from Two rows frames = (batches : List (List ℕ)) × AreSpelled batches × (frames ≡ frames_of_all 0 (filter (is_from from) (shipments Two batches)))
+
+-- ---- what becomes of it
+
+-- The serials of batches count on from one: each is one more than the one before it.
+abbrev pub CountOn : (serial : ℕ) → List Shipment → Type 0
+CountOn serial [] = ⊤
+CountOn serial (s ∷ more) = (s.serial ≡ serial + 1) × CountOn s.serial more
+
+-- The serials of batches follow each other, from that of the first one on.
+abbrev pub Follow : List Shipment → Type 0
+Follow [] = ⊤
+Follow (first ∷ more) = CountOn first.serial more
+
+-- The rows of a copy that had some rows, once batches were applied to it, one behind another: a Whole to no rows, and each other one to those that
+-- it has.
+abbrev pub applied : ByteRows → List Shipment → ByteRows
+applied rows [] = rows
+applied rows (s ∷ more) = applied (rows_behind (cond (s.content == whole_type) [] rows) s.bytes) more
