@@ -1,5 +1,5 @@
 -- A folder, shipped whole.
-use Rattle.std.proofs.Common.{◌≡◌, ℕ, ◌<◌, Bool, IsTrue, IfErr, IsErrOf, List, [], ◌++◌, length, filter, Option, None, Some, Ok, Err, refl, sym, ap, ◌∙◌, subst}
+use Rattle.std.proofs.Common.{◌≡◌, ℕ, ◌<◌, Bool, IsTrue, IfErr, IsErrOf, List, [], length, filter, Option, None, Some, Ok, Err, refl, sym, ap, ◌∙◌, subst}
 use Rattle.std.specs.Prelude.{⊤}
 use Rattle.std.specs.declared.result.Result.{Result}
 use Rattle.ziti_outside.specs.declared.desk.Part.{Part}
@@ -10,22 +10,21 @@ use Rattle.ziti_outside.specs.Untouched.{OnlyReads}
 use Rattle.ziti_outside.specs.Views.{Seen, Stopped}
 use Rattle.ctrl_model.specs.declared.formats.Format.{Format}
 use Rattle.ctrl_model.specs.declared.formats.Format.TheVariants.{One, Two}
-use Rattle.ctrl_model.specs.State.{State, start}
+use Rattle.ctrl_model.specs.State.{start}
 use Rattle.channel_frame.specs.declared.frames.Frame.{Frame}
 use Rattle.slot_files.specs.FolderImage.{Stands}
 use Rattle.slot_files.proofs.StandLaws.{one_stands}
-use Rattle.row_store.specs.OpenedStates.{OpensToState}
 use Rattle.row_store.specs.StoredRows.{Stored, IsStoreOf}
 use Rattle.row_store.proofs.StateRows.{start_valid}
 use Rattle.slot_reading.specs.BatchRows.{ByteRows}
 use Rattle.ship_core.specs.declared.faults.ShipFault.{ShipFault}
 use Rattle.ship_core.specs.declared.faults.ShipFault.TheVariants.{Write, Damaged}
-use Rattle.ship_core.specs.Faults.{fault_of, disk_failure, Judges, IsOfState, FindFails}
+use Rattle.ship_core.specs.Faults.{fault_of, disk_failure, IsOfState, FindFails}
 use Rattle.ship_core.specs.Pieces.{frames_of_all}
 use Rattle.ship_core.specs.SaidFrames.{ShipsJudged}
 use Rattle.ship_core.specs.Shipping.{is_from, shipments, shipped, AreSpelled, AreShippedOf}
 use Rattle.ship_core.specs.Steps.{ShipsFrames, IsUndamaged}
-use Rattle.ship_core.proofs.JudgeLaws.{start_opens, opened_judges, opens_so}
+use Rattle.ship_core.proofs.JudgeLaws.{start_opens, opens_so}
 use Rattle.ship_core.proofs.OldLaws.{old_frames, old_shipped, none_stand, nothing_shipped}
 use Rattle.ship_core.proofs.SaidLaws.{reads_ships, ShipsFrames-then, ShipsFrames-wider}
 

@@ -1,6 +1,5 @@
 -- What is shipped of a folder of the second format leads from the rows of a serial to the rows of the folder.
 use Rattle.std.proofs.Common.{◌≡◌, ℕ, ◌+◌, ◌<◌, ◌≤◌, Bool, true, false, cond, List, [], ◌∷◌, ◌++◌, filter, refl, sym, ap, ◌∙◌, subst, arith}
-use Rattle.std.specs.Prelude.{nat_le}
 use Rattle.std.specs.List.{AllByRecursion}
 use Rattle.std.proofs.lemmas.Bool.{leb-true, le-leb}
 use Rattle.std.proofs.lemmas.List.Elements.{filter-append}
@@ -9,7 +8,6 @@ use Rattle.slot_reading.specs.BatchRows.{ByteRows, LeadFrom, Give}
 use Rattle.ship_core.specs.declared.shipments.Shipment.{Shipment}
 use Rattle.ship_core.specs.Pieces.{whole_type, next_type}
 use Rattle.ship_core.specs.Shipping.{rows_behind, rows_behind_all, serial_or_none, shipments_from, shipments, is_from, chosen, CountOn, Follow, applied}
-use Rattle.ship_core.specs.Steps.{type_behind}
 use Rattle.ship_core.proofs.ReadLaws.{shipments_append}
 use Rattle.ship_core.proofs.WayLaws.{all_pass, chosen_from, from_less, given_behind, led_behind, led_behind_all, raised, rising, AreFrom}
 

@@ -1,5 +1,5 @@
 -- What is shipped can be spelled, and is read again.
-use Rattle.std.proofs.Common.{◌≡◌, ℕ, zero, suc, ◌+◌, ◌%◌, ◌^◌, ◌<◌, Bool, true, false, cond, List, [], ◌∷◌, ◌++◌, map, filter, refl, sym, subst, append-nil, arith}
+use Rattle.std.proofs.Common.{◌≡◌, ℕ, zero, suc, ◌+◌, ◌%◌, ◌^◌, ◌<◌, Bool, true, false, cond, List, [], ◌∷◌, map, filter, refl, sym, subst, append-nil, arith}
 use Rattle.std.specs.List.{AllByRecursion}
 use Rattle.ctrl_model.specs.declared.formats.Format.{Format}
 use Rattle.ctrl_model.specs.declared.formats.Format.TheVariants.{One, Two}

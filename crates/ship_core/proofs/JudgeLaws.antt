@@ -1,8 +1,7 @@
 -- How a folder is judged before it is shipped.
-use Rattle.std.proofs.Common.{◌≡◌, ℕ, zero, suc, ◌<◌, Bool, IsTrue, IfOk, IfErr, List, [], length, Option, None, Some, Ok, Err, inl, inr, refl, sym, ap, ◌∙◌, subst, arith}
+use Rattle.std.proofs.Common.{◌≡◌, ℕ, zero, suc, ◌<◌, Bool, IsTrue, List, length, Option, None, Some, Ok, Err, inl, inr, refl, sym, ap, ◌∙◌, subst, arith}
 use Rattle.std.specs.Prelude.{⊤}
 use Rattle.std.specs.declared.result.Result.{Result}
-use Rattle.ziti_outside.specs.declared.desk.Part.{Part}
 use Rattle.ziti_outside.specs.declared.desk.Part.TheVariants.{Mark}
 use Rattle.ziti_outside.specs.Images.{Image}
 use Rattle.ziti_outside.specs.Causes.{HasCause}
@@ -24,7 +23,7 @@ use Rattle.row_store.specs.declared.faults.StoreFault.TheVariants as store
 use Rattle.row_store.specs.Faults.{disk_failure as store_failure, OpenFails}
 use Rattle.row_store.specs.GateBatches.{GateFails}
 use Rattle.row_store.specs.OpenedRows.{OpensTo}
-use Rattle.row_store.specs.OpenedStates.{byte_rows_of, OpensToState, IsStateless}
+use Rattle.row_store.specs.OpenedStates.{byte_rows_of, OpensToState}
 use Rattle.row_store.specs.StoredRows.{Stored, IsStoreOf}
 use Rattle.row_store.proofs.OpeningLaws.{opens_none}
 use Rattle.row_store.proofs.StateRows.{puts_of_state, rows_are, store_without_state, start_valid, start_rows}

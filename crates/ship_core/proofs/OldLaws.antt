@@ -1,5 +1,5 @@
 -- What is shipped of a folder of the first format, and of one without records.
-use Rattle.std.proofs.Common.{◌≡◌, ℕ, zero, suc, ◌<◌, ◌==◌, Bool, true, false, cond, List, [], ◌∷◌, ◌++◌, length, map, filter, refl, sym, ap, ◌∙◌, subst, append-nil, arith}
+use Rattle.std.proofs.Common.{◌≡◌, ℕ, zero, suc, ◌<◌, Bool, true, false, cond, List, [], ◌∷◌, length, map, refl, sym, ap, ◌∙◌, subst, append-nil, arith}
 use Rattle.std.specs.Prelude.{nat_le}
 use Rattle.std.proofs.lemmas.Bool.{leb-true}
 use Rattle.ziti_outside.specs.declared.desk.Part.TheVariants.{Mark}
@@ -12,8 +12,7 @@ use Rattle.channel_frame.specs.declared.frames.Frame.{Frame}
 use Rattle.slot_files.specs.FolderImage.{StandsBy, Stands}
 use Rattle.row_codec.specs.declared.changes.Op.{Op}
 use Rattle.row_codec.specs.NarrowedRows.{narrowed}
-use Rattle.row_codec.specs.Batches.{bytes_cmp, entries_of, batch_bytes, batch_between, IsBatch}
-use Rattle.row_codec.specs.RowDifference.{with_batch}
+use Rattle.row_codec.specs.Batches.{batch_bytes, IsBatch}
 use Rattle.row_codec.specs.StateRows.{HasRows}
 use Rattle.row_laws.proofs.BatchForms.{IsBatch-between}
 use Rattle.row_laws.proofs.NarrowedLaws.{rows_narrowed}
@@ -24,9 +23,8 @@ use Rattle.row_store.specs.RewrittenStores.{compacted}
 use Rattle.row_store.specs.OpenedStates.{byte_rows_of, OpensToState}
 use Rattle.row_store.specs.StoredRows.{Stored, IsStoreOf}
 use Rattle.row_store.proofs.StateRows.{puts_of_state, start_rows, start_valid}
-use Rattle.ship_core.specs.declared.shipments.Shipment.{Shipment}
 use Rattle.ship_core.specs.Pieces.{frames_of, frames_of_all}
-use Rattle.ship_core.specs.Shipping.{rows_behind_all, old_whole, old_shipments, shipments, is_from, chosen, shipped, applied}
+use Rattle.ship_core.specs.Shipping.{rows_behind_all, old_whole, old_shipments, shipments, chosen, shipped, applied}
 use Rattle.ship_core.proofs.OpsLaws.{ops_spelled}
 use Rattle.ship_core.proofs.WayLaws.{given_behind}
 

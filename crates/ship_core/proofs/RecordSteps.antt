@@ -1,5 +1,5 @@
 -- The records of a folder, shipped one by one.
-use Rattle.std.proofs.Common.{◌≡◌, ℕ, ◌+◌, ◌%◌, ◌^◌, ◌<◌, ◌≤◌, Bool, true, false, cond, IsTrue, IsErrOf, IfOk, List, [], ◌∷◌, ◌++◌, length, Option, None, Some, Ok, Err, refl, sym, ap, ◌∙◌, subst, append_assoc, length-append, arith, filter}
+use Rattle.std.proofs.Common.{◌≡◌, ℕ, ◌+◌, ◌%◌, ◌^◌, ◌<◌, ◌≤◌, Bool, true, false, cond, IsTrue, IsErrOf, IfOk, List, [], ◌++◌, length, Option, None, Some, Ok, Err, refl, sym, ap, ◌∙◌, subst, append_assoc, arith, filter}
 use Rattle.std.specs.Prelude.{nat_le}
 use Rattle.std.specs.declared.result.Result.{Result}
 use Rattle.std.proofs.lemmas.Bool.{leb-true, le-leb}
@@ -23,7 +23,6 @@ use Rattle.ship_core.specs.declared.shipments.Shipment.{Shipment}
 use Rattle.ship_core.specs.Faults.{fault_of, disk_failure}
 use Rattle.ship_core.specs.Pieces.{piece_count, frames_of, frames_of_all}
 use Rattle.ship_core.specs.Shipping.{is_from, shipments_from, rows_behind_all, shipped}
-use Rattle.ship_core.specs.SaidFrames.{AreFirst}
 use Rattle.ship_core.specs.Steps.{ShipsFrames, IsOnItsWay, Passes, serial_after, type_at, shipment_of, frames_if}
 use Rattle.ship_core.proofs.PieceLaws.{frames_count}
 use Rattle.ship_core.proofs.SaidLaws.{nothing_done, reads_ships, ShipsFrames-then, ShipsFrames-wider}

@@ -1,5 +1,5 @@
 -- How far a shipping has come, from record to record.
-use Rattle.std.proofs.Common.{◌≡◌, ℕ, zero, suc, ◌+◌, ◌==◌, ◌<◌, ◌≤◌, Bool, true, false, cond, List, [], ◌∷◌, ◌++◌, length, filter, Option, None, Some, refl, sym, ap, ◌∙◌, subst, append_assoc, append-nil, length-append, arith}
+use Rattle.std.proofs.Common.{◌≡◌, ℕ, ◌+◌, ◌==◌, ◌<◌, ◌≤◌, Bool, true, false, cond, List, [], ◌∷◌, ◌++◌, length, filter, Option, refl, sym, ap, ◌∙◌, subst, append_assoc, append-nil, length-append, arith}
 use Rattle.std.specs.Prelude.{nat_le}
 use Rattle.std.proofs.lemmas.Bool.{leb-true, le-leb, eqb-true}
 use Rattle.std.specs.List.{AllByRecursion}
@@ -8,7 +8,7 @@ use Rattle.ziti_outside.specs.declared.desk.Part.{Part}
 use Rattle.ziti_outside.specs.declared.desk.Part.TheVariants.{Mark}
 use Rattle.ziti_outside.specs.Images.{Image}
 use Rattle.ctrl_model.specs.declared.formats.Format.{Format}
-use Rattle.ctrl_model.specs.declared.formats.Format.TheVariants.{One, Two}
+use Rattle.ctrl_model.specs.declared.formats.Format.TheVariants.{Two}
 use Rattle.channel_frame.specs.declared.frames.Frame.{Frame}
 use Rattle.journal_core.specs.Slots.{Slot, IsClosed, IsRecord, records_of, slot_end}
 use Rattle.journal_core.proofs.SlotLaws.{one_at, closed_or_open, slot_closed, end-push}
@@ -16,7 +16,7 @@ use Rattle.slot_files.specs.FolderImage.{slot_of, Stands}
 use Rattle.slot_files.proofs.StandLaws.{one_stands}
 use Rattle.row_codec.specs.declared.changes.Op.{Op}
 use Rattle.row_codec.specs.Batches.{batch_bytes, Spells}
-use Rattle.slot_reading.specs.BatchRows.{ByteRows, Leads, Raises, LeadFrom, Give, rows_after, serial_of}
+use Rattle.slot_reading.specs.BatchRows.{ByteRows, Leads, Raises, LeadFrom, Give, rows_after}
 use Rattle.slot_reading.proofs.SlotReadings.{records-append, next_stands, slot_front}
 use Rattle.row_store.specs.GateBatches.{IsGateOf, IsBatchAt}
 use Rattle.row_store.specs.StoredRows.{Stored, IsStoreOf}
@@ -24,7 +24,7 @@ use Rattle.row_store.proofs.OpeningLaws.{of_slot}
 use Rattle.ship_core.specs.declared.records.Way.{Way}
 use Rattle.ship_core.specs.declared.shipments.Shipment.{Shipment}
 use Rattle.ship_core.specs.Pieces.{whole_type, next_type, frames_of_all}
-use Rattle.ship_core.specs.Shipping.{ops_in, rows_behind, rows_behind_all, serial_or_none, shipments_from, shipments, is_from, chosen, shipped}
+use Rattle.ship_core.specs.Shipping.{ops_in, rows_behind, rows_behind_all, serial_or_none, shipments_from, is_from, chosen, shipped}
 use Rattle.ship_core.specs.Steps.{serial_after, type_at, shipment_of, frames_if, IsOnItsWay}
 use Rattle.ship_core.proofs.OpsLaws.{ops_spelled, serial_leads}
 use Rattle.ship_core.proofs.PieceLaws.{frames_go_on}

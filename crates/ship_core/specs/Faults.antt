@@ -1,5 +1,5 @@
 -- When shipping fails (docs/PROMISES.md, "Shipping").
-use Rattle.std.specs.Prelude.{◌≡◌, ℕ, ◌<◌, Bool, IsTrue, length, ⊤, None, Some, Ok, Err}
+use Rattle.std.specs.Prelude.{◌≡◌, ◌<◌, Bool, IsTrue, length, ⊤, None, Some, Ok, Err}
 use Rattle.std.specs.declared.option.Option.{Option}
 use Rattle.std.specs.declared.result.Result.{Result}
 use Rattle.ziti_outside.specs.declared.desk.Part.TheVariants.{Mark}

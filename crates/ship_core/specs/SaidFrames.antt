@@ -12,7 +12,7 @@ use Rattle.ctrl_model.specs.ValidState.{ValidState}
 use Rattle.row_codec.specs.StateRows.{HasRows}
 use Rattle.row_store.specs.OpenedStates.{byte_rows_of, OpensToState}
 use Rattle.ship_core.specs.declared.faults.ShipFault.{ShipFault}
-use Rattle.ship_core.specs.declared.faults.ShipFault.TheVariants.{Disk, Write, Damaged, NoMemory}
+use Rattle.ship_core.specs.declared.faults.ShipFault.TheVariants.{Write}
 use Rattle.ship_core.specs.Pieces.{written}
 use Rattle.ship_core.specs.Shipping.{AreShippedOf}
 

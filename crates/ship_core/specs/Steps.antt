@@ -1,5 +1,5 @@
 -- The steps of shipping a folder, record by record (docs/PROMISES.md, "Shipping").
-use Rattle.std.specs.Prelude.{◌≡◌, ℕ, ◌+◌, ◌%◌, ◌^◌, ◌<◌, ◌≤◌, ◌==◌, Bool, cond, IsTrue, ⊤, List, [], ◌∷◌, ◌++◌, length, filter, IfOk, None, Some}
+use Rattle.std.specs.Prelude.{◌≡◌, ℕ, ◌+◌, ◌%◌, ◌^◌, ◌≤◌, ◌==◌, Bool, cond, IsTrue, ⊤, List, [], ◌∷◌, ◌++◌, length, filter, IfOk, None, Some}
 use Rattle.std.specs.declared.option.Option.{Option}
 use Rattle.std.specs.declared.result.Result.{Result}
 use Rattle.std.specs.Option.{unwrap_or}
@@ -15,12 +15,12 @@ use Rattle.row_codec.specs.declared.changes.Op.{Op}
 use Rattle.row_codec.specs.Batches.{bytes_cmp, entry_of, batch_bytes, IsBatch}
 use Rattle.slot_reading.specs.BatchRows.{serial_key, serial_in}
 use Rattle.ship_core.specs.declared.faults.ShipFault.{ShipFault}
-use Rattle.ship_core.specs.declared.faults.ShipFault.TheVariants.{Disk, Write, Damaged, NoMemory}
+use Rattle.ship_core.specs.declared.faults.ShipFault.TheVariants.{Damaged}
 use Rattle.ship_core.specs.declared.shipments.Shipment.{Shipment}
 use Rattle.ship_core.specs.declared.records.Way.{Way}
 use Rattle.ship_core.specs.Faults.{fault_of, disk_failure, write_failure}
 use Rattle.ship_core.specs.Pieces.{whole_type, next_type, frames_of, frames_of_all}
-use Rattle.ship_core.specs.SaidFrames.{AreFirst, SaysFrames, OnlyShips}
+use Rattle.ship_core.specs.SaidFrames.{SaysFrames, OnlyShips}
 use Rattle.ship_core.specs.Shipping.{is_from, serial_or_none, rows_behind_all, shipments_from, shipments, shipped, AreSpelled}
 
 -- A step of shipping: what it said, that it did nothing else, and which fault it counted.

@@ -1,7 +1,5 @@
-use Rattle.std.specs.Prelude.{OnOk}
-use Rattle.std.proofs.Common.{◌≡◌, ℕ, ◌<◌, IsErrOf, IfOk, IfErr, List, length, Option, Some, None, Ok, Err, refl, sym, ap, ◌∙◌, subst, arith}
+use Rattle.std.proofs.Common.{length, arith}
 use Rattle.std.proofs.lemmas.Result.{err_from_is_err_and, IfOk-weaker}
-use Rattle.ship_core.specs.declared.faults.ShipFault.TheVariants.{Write}
 use Rattle.ship_core.proofs.RecordSteps.{not_read, read_said, err_unwritten}
 use Rattle.ship_core.proofs.WayLaws.{next_gate}
 use Rattle.ship_core.proofs.records.pass_record.Goals as goal

@@ -1,5 +1,5 @@
 use Rattle.std.specs.Prelude.{IfSome}
-use Rattle.std.proofs.Common.{◌≡◌, ℕ, List, [], Option, Some, None, Ok, Err, inl, inr, refl, sym, ap, ◌∙◌, subst}
+use Rattle.std.proofs.Common.{[], Option, None, inl, inr, sym, subst}
 use Rattle.std.proofs.lemmas.Result.{err_from_is_err_and}
 use Rattle.ziti_outside.specs.Images.{Image}
 use Rattle.row_store.specs.StoredRows.{Stored, IsStoreOf}

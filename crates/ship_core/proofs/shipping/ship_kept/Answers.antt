@@ -1,8 +1,7 @@
-use Rattle.std.proofs.Common.{◌≡◌, ◌%◌, ◌^◌, ◌≤◌, ℕ, List, [], ◌++◌, length, Option, Some, None, refl, sym, ap, ◌∙◌, subst, length-append, arith}
+use Rattle.std.proofs.Common.{◌%◌, ◌^◌, ℕ, [], ◌++◌, None, refl, sym, ap, ◌∙◌, subst, length-append, arith}
 use Rattle.std.proofs.lemmas.Result.{err_from_is_err_and}
 use Rattle.ziti_outside.specs.Images.{Image}
 use Rattle.row_store.specs.StoredRows.{IsStoreOf}
-use Rattle.ship_core.specs.Steps.{IsOnItsWay}
 use Rattle.ship_core.proofs.ReadLaws.{read_none, read_passed, read_fails}
 use Rattle.ship_core.proofs.RecordSteps.{on_later, way_fails, way_ends}
 use Rattle.ship_core.proofs.SaidLaws.{nothing_done, ships_same, ShipsFrames-then}

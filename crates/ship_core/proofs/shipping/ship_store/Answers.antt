@@ -1,4 +1,4 @@
-use Rattle.std.proofs.Common.{◌≡◌, List, Option, sym, ◌∙◌}
+use Rattle.std.proofs.Common.{sym, ◌∙◌}
 use Rattle.ship_core.specs.Faults.{fault_of}
 use Rattle.ship_core.proofs.FolderSteps.{old_said, old_kind, kept_said, kept_kind, read_frames, sound_told}
 use Rattle.ship_core.proofs.OldLaws.{old_frames}
