@@ -6,7 +6,7 @@ use Rattle.live_lines.proofs.watching.tell_live.Given as goal
 -- what came was told and said, each take found it so, and nothing else changed
 abbrev pub invariant-takes : goal.invariant-takes
 invariant-takes g l = record {
-  watches : Watches l.kind g.S.Source.left g.D.Desk.seen l.fn.exchange.source l.exchange.source l.fn.exchange.desk l.exchange.desk
+  watches : Watches l.fn.kind g.S.Source.left g.D.Desk.seen l.fn.exchange.source l.exchange.source l.fn.exchange.desk l.exchange.desk
       l.fn.exchange.takes.items l.exchange.takes.items l.telling;
   calm : g.S.Source.faults l.exchange.source ≡ g.S.Source.faults l.fn.exchange.source;
   calm_say : (g.D.Desk.seen l.exchange.desk).say_faults ≡ (g.D.Desk.seen l.fn.exchange.desk).say_faults;

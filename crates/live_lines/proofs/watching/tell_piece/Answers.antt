@@ -1,6 +1,6 @@
 use Rattle.std.proofs.Common.{List, ℕ, refl, subst}
 use Rattle.std.proofs.lemmas.Result.{err_from_is_err_and}
-use Rattle.ziti_outside.specs.Told.{Took, TookFront}
+use Rattle.ziti_outside.specs.Told.{Took}
 use Rattle.ziti_outside.proofs.MomentLaws.{OnlySays-none}
 use Rattle.live_lines.proofs.watching.tell_piece.Goals as goal
 
@@ -14,12 +14,6 @@ returns-in-Ok-clause-told g c = λ kind came follows.
       complete = c.in_ok-lines.ensures.lines kind came follows;
       took = subst (λ (bytes : List ℕ). Took before now bytes) c.as_slice.ensures c.in-Ok.ensures.taken;
     }
-
-pub returns-in-Err-clause-cut : goal.returns-in-Err-clause-cut
-returns-in-Err-clause-cut g c = λ kind came follows.
-    let before = (g.D.Desk.seen c.args.desk.now).said in
-    let now = (g.D.Desk.seen c.say.new.self).said in
-    (c.in_ok-lines.lines, c.in_ok-lines.ensures.lines kind came follows, subst (λ (bytes : List ℕ). TookFront before now bytes) c.as_slice.ensures c.in-Err.ensures.taken)
 
 pub returns-in_err-lines-clause-cut : goal.returns-in_err-lines-clause-cut
 returns-in_err-lines-clause-cut g c =
