@@ -1,6 +1,5 @@
 use Rattle.std.proofs.Common.{None, subst, ◌∙◌}
 use Rattle.zitiline.specs.Notes.{notes_of, NotesLines}
-use Rattle.zitiline.specs.Steps.{told_status}
 use Rattle.zitiline.proofs.TurnLaws.{live_answers, cut_answers, ended_read, ended_write, told_read, told_write, said_folder}
 use Rattle.zitiline.proofs.running.run_live.Goals as goal
 

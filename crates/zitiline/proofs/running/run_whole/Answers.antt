@@ -2,7 +2,7 @@ use Rattle.std.proofs.Common.{List, ℕ, None, sym, ap, subst, ◌∙◌}
 use Rattle.zitiline.specs.declared.words.Form.TheVariants as form
 use Rattle.zitiline.specs.Headline.{Answers}
 use Rattle.zitiline.specs.Notes.{notes_of, NotesLines}
-use Rattle.zitiline.specs.Steps.{IsWriteCaused, LeavesFolder, taken_status}
+use Rattle.zitiline.specs.Steps.{IsWriteCaused, LeavesFolder}
 use Rattle.zitiline.specs.Takings.{TookAll}
 use Rattle.zitiline.proofs.TurnLaws.{whole_answers, taken_answers, answered_read, taken_read, taken_write, noted_folder}
 use Rattle.zitiline.proofs.running.run_whole.Goals as goal
