@@ -3,11 +3,13 @@
 
 mod circuit_putting;
 mod intercept_putting;
+mod laws;
 mod listing;
 mod naming;
 mod record_putting;
 mod word_putting;
 mod worked;
 
+pub use laws::fields_are_the_body;
 pub use listing::{Listed, list};
 pub use worked::{worked_intercepts, worked_lists};
