@@ -13,6 +13,7 @@ CREATE_LINK, REPORT_LATENCY, REPORT_STATE, DELETE_LINK = 1200, 1202, 1203, 1204
 CREATE_TERMINATOR = 1300
 CREATE_CIRCUIT, EXPLAIN, VERIFY_ROUTE = 1400, 1402, 1403
 SHOW_COUNTS = 1502
+SET_INTERCEPT, PICK, LIST_CLASHES = 1600, 1610, 1611
 
 ROUTERS, LINKS = 256, 4096
 
@@ -172,3 +173,42 @@ def claimed(explanation, count):
     told = dict(explanation)
     told["chosen"] = told.pop("ingress")
     return explained() + [(VERIFY_ROUTE, {"identity": "ann", "service": "web", **told})] * count
+
+
+PLACE, PORT = "10.170.85.51", 30_000
+LONGEST_HOST = ".".join("a" * 127)
+
+
+def claimed_services(address_lists, port_lists):
+    """An identity that may dial 512 services, and an intercept of each over both protocols, of the addresses and the ranges of ports for its place."""
+    everyone = {"type": "Dial", "semantic": "AnyOf", "identity_roles": ["#all"], "service_roles": ["#all"]}
+    made = [named(CREATE_IDENTITY, "ann")] + [named(CREATE_SERVICE, f"s{i}") for i in range(512)] + [named(CREATE_SERVICE_POLICY, "d", **everyone)]
+    for i in range(512):
+        lists = {"addresses": address_lists(i), "ports": port_lists(i)}
+        made.append((SET_INTERCEPT, {"service": f"s{i}", "protocols": ["tcp", "udp"], **lists}))
+    return made
+
+
+def around(_):
+    """32 ranges of addresses, from the widest on, that all have one place."""
+    return [f"{PLACE}/{bits}" for bits in range(1, 33)]
+
+
+def above(_):
+    """What is under 32 hosts, from the furthest on, that all have the longest host of 127 labels."""
+    return ["*." + ".".join("a" * labels) for labels in range(95, 127)]
+
+
+def alike_to_the_end(i):
+    """32 hosts of 253 bytes, of no other service, that differ in their last bytes alone."""
+    return [LONGEST_HOST[:248] + f"{i * 32 + k:05x}"[-4:] + "z" for k in range(32)]
+
+
+def wide(_):
+    """32 ranges of ports, from the widest on, that all have one port."""
+    return [[PORT - k, PORT + k] for k in reversed(range(32))]
+
+
+def apart(i):
+    """32 ranges of ports, of no other service, without a port in common."""
+    return [[1 + i * 32 + k, 1 + i * 32 + k] for k in range(32)]

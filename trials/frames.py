@@ -20,13 +20,17 @@ CREATE_TERMINATOR = 1300
 CREATE_CIRCUIT = 1400
 SHOW_COUNTS = 1502
 COMPACT = 1510
+SET_INTERCEPT, CLEAR_INTERCEPT = 1600, 1601
+PICK, LIST_CLASHES = 1610, 1611
 
 STATUSES = {
     "dry": {0, 2, 3, 4, 5, 8, 9},
-    "replay": {0, 2, 3, 4, 5, 6, 7, 8, 9},
-    "replay --sessions": {0, 2, 3, 4, 5, 6, 7, 8, 9},
+    "replay": {0, 2, 3, 4, 5, 6, 7, 8, 9, 10},
+    "replay --sessions": {0, 2, 3, 4, 5, 6, 7, 8, 9, 10},
     "audit": {0, 5, 6, 7, 8},
     "advise ann web": {0, 5, 6, 7, 8},
+    "ship 0": {0, 5, 6, 7, 8},
+    "ship 5": {0, 5, 6, 7, 8},
     "compact": {0, 6, 7, 8, 10},
 }
 
@@ -36,6 +40,22 @@ def frame(content, body, sequence=0):
     if not isinstance(body, bytes):
         body = json.dumps(body, separators=(",", ":"), sort_keys=True).encode()
     return MARKER + struct.pack("<IIII", content, sequence, 0, len(body)) + body
+
+
+def shipped(said):
+    """The batches that `ship` said: the serial of each, and its pieces joined. Each frame has to be whole, and each piece the next one."""
+    batches, at = [], 0
+    while at < len(said):
+        front, content, place, headers, body = struct.unpack_from("<IIIII", said, at)
+        assert (front, headers) == (int.from_bytes(MARKER, "little"), 40) and content in (1900, 1901) and 0 < body <= 2**20, (at, content, headers, body)
+        serial, = struct.unpack_from("<8xQ", said, at + 20)
+        piece, pieces = struct.unpack_from("<8xI8xI", said, at + 36)
+        data = said[at + 60:at + 60 + body]
+        assert len(data) == body, at
+        batches = batches + [(serial, data)] if piece == 0 else batches[:-1] + [(serial, batches[-1][1] + data)]
+        assert piece < pieces and batches[-1][0] == serial
+        at += 60 + body
+    return batches
 
 
 def whole_frames(data):

@@ -14,8 +14,10 @@ import sys
 import tempfile
 
 import frames
+import old_folders
 
-FILES = ("ziti.0", "ziti.1", "ziti.mark")
+FILES = old_folders.FILES
+LOOKS = ("audit", "advise ann web", "ship 0", "ship 5")
 MEMORY = 512 * 2**20
 SECONDS = 20
 
@@ -33,7 +35,13 @@ def good_inputs():
         (frames.CREATE_TERMINATOR, {"service": "web", "router": "r"}),
         (frames.CREATE_CIRCUIT, {"identity": "ann", "service": "web"}),
         (frames.SHOW_COUNTS, {}),
+        (frames.SET_INTERCEPT, {"service": "web", "protocols": ["tcp"], "addresses": ["10.1.2.9/16", "*.a.b", "a.b"], "ports": [[22, 22], [80, 90]]}),
         (frames.COMPACT, {}),
+        (frames.CREATE_SERVICE, {"name": "api"}),
+        (frames.SET_INTERCEPT, {"service": "api", "protocols": ["udp", "tcp"], "addresses": ["10.1.0.0/16"], "ports": [[22, 22]]}),
+        (frames.PICK, {"identity": "ann", "protocol": "tcp", "address": "10.1.2.3", "port": 22}),
+        (frames.LIST_CLASHES, {"identity": "ann", "service": "web"}),
+        (frames.CLEAR_INTERCEPT, {"service": "api"}),
         (frames.DELETE_SERVICE, {"name": "web"}),
         (frames.DELETE_IDENTITY, {"name": "ann"}),
     ]
@@ -89,8 +97,9 @@ def write_folder(folder, files):
 
 
 def good_folders(program, plain):
-    """A folder in its first slot, and one in its second."""
-    found = []
+    """A folder in its first slot, and one in its second; and both in the first format."""
+    old = old_folders.slot_of(old_folders.small())
+    found = [{"ziti.0": old, "ziti.mark": b"\0"}, {"ziti.0": b"", "ziti.1": old, "ziti.mark": b"\0\0"}]
     for words in ([], ["compact"]):
         with tempfile.TemporaryDirectory() as folder:
             assert frames.run(program, "replay", plain, folder)[0] == 0
@@ -98,6 +107,25 @@ def good_folders(program, plain):
                 assert frames.run(program, word, b"", folder)[0] == 0
             found.append(read_folder(folder))
     return found
+
+
+def is_of_the_second_format(files):
+    """Whether the slot that stands begins with the header of the second format."""
+    return files[FILES[(len(files["ziti.mark"]) - 1) % 2]].startswith(b"ZCTL\2")
+
+
+def judge(words, ended, before, after):
+    """What has to hold of a run: its status, what a look leaves and says, and the format that a folder has once it was opened."""
+    status, said, noted = ended
+    assert status in frames.STATUSES[words], (status, noted)
+    assert status != 8, "memory"
+    if words in LOOKS:
+        assert after == before
+        assert status == 0 or not said
+    if words.startswith("ship") and status == 0:
+        frames.shipped(said)
+    if words.split(" ")[0] in ("replay", "compact") and status != 7:
+        assert is_of_the_second_format(after)
 
 
 def main():
@@ -116,12 +144,12 @@ def main():
                     files[name] = spoiled(rand, files[name])
             write_folder(folder, files)
             stdin = spoiled(rand, trace if words == "replay --sessions" else plain) if rand.random() < 0.8 else b""
-            status, said, noted = frames.run(program, words, stdin, folder, SECONDS, bounded)
-            assert status in frames.STATUSES[words], (number, words, status, noted)
-            assert status != 8, (number, words, "memory")
-            if words in ("audit", "advise ann web"):
-                assert read_folder(folder) == files, number
-            tally[words, status] += 1
+            ended = frames.run(program, words, stdin, folder, SECONDS, bounded)
+            try:
+                judge(words, ended, files, read_folder(folder))
+            except AssertionError as fault:
+                raise AssertionError(number, words, files, stdin, ended) from fault
+            tally[words, ended[0]] += 1
     for (words, status), count in sorted(tally.items()):
         print(f"{words}: status {status}: {count}")
     print(f"{runs} runs, each within {MEMORY >> 20} MiB and {SECONDS} s")

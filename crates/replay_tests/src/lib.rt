@@ -1,5 +1,5 @@
-//! Tests of whole runs on a folder: what is kept from run to run, circuits that go over another path, the files of the working folder, and runs that stop
-//! or fail at each call.
+//! Tests of whole runs on a folder: what is kept from run to run, circuits that go over another path, folders of an earlier version, the files of the working
+//! folder, and runs that stop or fail at each call.
 #![tactic(auto)]
 
 #[cfg(test)]
@@ -8,6 +8,8 @@ mod checks;
 mod failing_calls;
 #[cfg(test)]
 mod files;
+#[cfg(test)]
+mod old_folders;
 #[cfg(test)]
 mod replays;
 #[cfg(test)]
