@@ -332,6 +332,10 @@ def compare_folders(program, most, seed):
         for words in ("replay", "compact", "replay --sessions"):
             run = compare_folder(program, word, random.Random(f"{seed} {word}"), files, words)
             tally["at the limits", words, run.status, run.fault] += 1
+    for word, made in (("intercepts", damage.claimed_folders()), ("serials", damage.counted_folders()), ("records", damage.changed_folders(seed))):
+        for number, files in enumerate(made):
+            run = compare_folder(program, f"{word}, folder {number}", random.Random(f"{seed} {number}"), files)
+            tally["all " + word, "", run.status, run.fault] += 1
     number = 0
     while number < most:
         rand = random.Random(f"folders {seed} {number}")

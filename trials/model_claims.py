@@ -33,15 +33,26 @@ class Draws:
             if command == "SetIntercept":
                 fields.update(self.intercept())
             return fields
-        fields = {"identity": scene.some("identity")}
+        identity, service, claim = self.asked()
+        fields = {"identity": identity}
         if command == "ListClashes":
-            return dict(fields, service=scene.some("service"))
-        claim = self.present()
+            return dict(fields, service=service)
         fields["protocol"] = rand.choice(claim["protocols"] if claim and rand.random() < 0.85 else ["tcp", "udp"])
         fields["address"] = self.wanted(rand.choice(claim["addresses"])) if claim and rand.random() < 0.9 else self.spelled(rand.choice(HOSTS))
         low, high = rand.choice(claim["ports"]) if claim and rand.random() < 0.85 else rand.choice(PORTS)
         fields["port"] = min(65_535, max(1, rand.choice([low, high, low, high, low - 1, high + 1, (low + high) // 2])))
         return fields
+
+    def asked(self):
+        """Who asks, a service that claims, and what it claims: most often one that he may dial."""
+        scene, rand, claims = self.scene, self.rand, self.scene.state.intercepts
+        identity = scene.some("identity")
+        number = scene.state.find("identity", identity)
+        found = [service for service in rules.dialled(scene.state, number) if service in claims]
+        if not found or rand.random() < 0.15:
+            return identity, scene.some("service"), self.present()
+        service = rand.choice(found)
+        return identity, scene.state.tables["service"][service]["name"], claims[service]
 
     def present(self):
         """An intercept that is there, if any is."""
@@ -57,8 +68,9 @@ class Draws:
             "protocols": rand.choice([["tcp"], ["tcp"], ["udp"], ["tcp", "udp"], ["udp", "tcp"], ["tcp", "tcp"]]),
             "addresses": [self.address() for _ in range(self.size())], "ports": [self.ports() for _ in range(self.size())],
         }
+        share = rand.choice([0.2, 0.8])
         for part in ("addresses", "ports"):
-            if other and rand.random() < 0.4:
+            if other and rand.random() < share:
                 fields[part].insert(rand.randrange(len(fields[part]) + 1), rand.choice(other[part]))
         return fields
 

@@ -8,6 +8,7 @@ import model_bodies as bodies
 import model_folder as folders
 import model_inputs as scenes
 import model_rows as rows
+import model_rules as rules
 import model_spellings as spellings
 
 LAST = rows.LAST_SERIAL
@@ -116,9 +117,9 @@ def with_serial(listed, number):
 
 def spoil_serial(rand, batches):
     """Another serial in one batch, and by times in all behind it."""
-    at, way = rand.randrange(len(batches)), rand.randrange(9)
-    key, step = bytes([rows.SERIAL]), rand.choice([-1, 1, 2, 255, 2**32, -2**40])
-    for place in range(at, len(batches) if rand.random() < 0.4 else at + 1):
+    at, way = rand.choice([0, rand.randrange(len(batches))]), rand.randrange(9)
+    key, step = bytes([rows.SERIAL]), rand.choice([-1, -1, -1, 1, 2, 255, 2**32, -2**40])
+    for place in range(at, len(batches) if rand.random() < 0.6 else at + 1):
         listed = batches[place]
         old = rows.Fields(dict(listed).get(key) or bytes(8)).number(8)
         news = [old + step, None, 0, LAST, LAST + 1, 2**64 - 1, struct.pack("<Q", old)[:7], struct.pack("<Q", old) + b"\0", old + step]
@@ -182,22 +183,105 @@ def text_list(texts):
     return bytes([len(texts)]) + b"".join(bytes([len(it)]) + it for it in texts)
 
 
+GOOD_ADDRESSES = [b"a", b"*.b.org", b"b.org", b"10.0.0.0/8", b"10.1.2.3", b"0.0.0.0/0", b"*." + b"a." * 126 + b"b", b"1.b", b"255.255.255.255", b"10.1.2.2/31", b"n" * 63]
+BAD_ADDRESSES = [b"", b"A", b"Web", b"*.B", b"10.1.2.3/8", b"10.1.2.3/32", b"10.1.2.3/31", b"1.2.3", b"a..b", b"*", b"*.", b"*.*.a", b"\xe9", b"a." * 127 + b"b", b"1", b"a ", b"n" * 64]
+PORTS = [[(1, 65_535)], [(22, 22)], [(50, 60), (65_535, 65_535)], [], [(0, 1)], [(0, 0)], [(2, 1)], [(5, 5), (5, 5)], [(2, 2), (1, 1)]]
+PORTS += [[(it, it) for it in range(1, most + 1)] for most in (32, 33)]
+ADDRESSES = [[it] for it in GOOD_ADDRESSES + BAD_ADDRESSES] + [[], [b"a", b"a"], [b"b", b"a"]] + [[b"a%d" % it for it in range(most)] for most in (32, 33)]
+
+
+def claim_text(protocols, addresses, ports):
+    """The value of the row of an intercept, right or not."""
+    return bytes([protocols]) + text_list(addresses) + bytes([len(ports)]) + b"".join(struct.pack("<HH", *it) for it in ports)
+
+
 def claim_row(rand, present):
     """A row of an intercept, right or nearly so, of a service that is there or not."""
     services = [key[1:] for key in present if key[:1] == b"\4"] + [rows.number(rand.randint(0, 9))[::-1]]
-    good = [b"a", b"*.b.org", b"b.org", b"10.0.0.0/8", b"10.1.2.3", b"0.0.0.0/0", b"*." + b"a." * 126 + b"b", b"1.b"]
-    bad = [b"", b"A", b"*.B", b"10.1.2.3/8", b"10.1.2.3/32", b"1.2.3", b"a..b", b"*", b"*.*.a", b"\xe9", b"a." * 127 + b"b", b"1"]
-    addresses = rand.sample(good, rand.randint(1, 3)) if rand.random() < 0.8 else rand.choice([[], [rand.choice(bad)], [b"a", b"a"], [b"a%d" % i for i in range(rand.choice([32, 33]))]])
-    ends = [(1, 65_535), (22, 22), (50, 60), (65_535, 65_535)]
-    ports = rand.sample(ends, rand.randint(1, 3)) if rand.random() < 0.8 else rand.choice([[], [(0, 1)], [(2, 1)], [(5, 5), (5, 5)], [(i, i) for i in range(1, rand.choice([33, 34]))]])
-    row = bytes([rand.choice([1, 2, 3, 1, 2, 3, 0, 4, 5, 7])]) + text_list(addresses) + bytes([len(ports)]) + b"".join(struct.pack("<HH", *it) for it in ports)
+    addresses = rand.sample(GOOD_ADDRESSES, rand.randint(1, 3)) if rand.random() < 0.7 else rand.choice(ADDRESSES)
+    row = claim_text(rand.choice([1, 2, 3, 1, 2, 3, 1, 0, 4, 7]), addresses, rand.choice(PORTS[:3] if rand.random() < 0.7 else PORTS))
     return bytes([rows.INTERCEPTS]) + rand.choice(services), row if rand.random() < 0.9 else spoiled_bytes(rand, row)
+
+
+def claimed_folders():
+    """Folders of two services and one intercept in all its spellings, right and wrong."""
+    good = [b"*.b.org"], [(22, 443)]
+    values = [claim_text(mark, *good) for mark in range(6)] + [claim_text(1, it, good[1]) for it in ADDRESSES] + [claim_text(3, good[0], it) for it in PORTS]
+    keys = [bytes([rows.INTERCEPTS]) + key for key in (b"\0\0\0\1", b"\0\0\0\2", b"\0\0\0\0", b"\0\0\0\3", b"\0\0\1", b"\0\0\0\0\1", b"")]
+    base = {b"\1\2": rows.number(3), **{struct.pack(">BI", 4, it): rows.value("service", {"name": f"s{it}", "attributes": []}) for it in (1, 2)}}
+    value = claim_text(3, *good)
+    found = [{keys[1]: it} for it in values + [value[:-1], value + b"\0", b"", value[:1]]] + [{key: value} for key in keys] + [{keys[0]: value, keys[1]: value}]
+    for form in (1, 2):
+        for more in found:
+            yield {"ziti.0": slot_of(form, [folders.batch_between({}, {**base, **more})]), "ziti.mark": b"\0"}
+
+
+def counted_folders():
+    """Folders of two changes with the serials of each, right and wrong."""
+    news = [None, b"", *(struct.pack("<Q", it) for it in (0, 1, 2, 3, LAST - 1, LAST, LAST + 1, 2**64 - 1)), b"\1" + bytes(6), b"\2" + bytes(8), b"\2" + bytes(3)]
+    for form in (1, 2):
+        for one in news:
+            for other in news:
+                batches = [with_serial([(b"\1\1", rows.number(2))], one), with_serial([(b"\2", rows.number(20))], other)]
+                yield {"ziti.1": slot_of(form, map(batch_text, batches)), "ziti.mark": b"\0\0"}
+
+
+def changed_list(rand, listed, others):
+    """A list with a repeat, one thing less, one of others, or very long."""
+    some = [rand.choice(listed)] if listed else []
+    return rand.choice([listed + some, listed[1:], listed + [rand.choice(others)], listed + [f"n{i}" for i in range(rand.choice([61, 63, 64, 65]) - len(listed))]])
+
+
+def changed_record(rand, kind, record, present):
+    """A record with one field of another value, of which some are none of a valid state's."""
+    names = [rows.Fields(row).text() for key, row in present.items() if 3 <= key[0] <= 9]
+    field = rand.choice([field for field in record if field not in ("connected", "no_traversal") or kind == "router"])
+    old = record[field]
+    if field in rules.SIDES.get(kind, ()):
+        part = rand.choice(["names", "attributes", "all"])
+        return dict(record, **{field: dict(old, **{part: not old["all"] if part == "all" else changed_list(rand, old[part], names)})})
+    if field == "links":
+        return dict(record, links=rand.choice([old + [rand.randint(1, 9)], old[:-1], old[::-1], old + old[-1:]]))
+    news = {
+        "name": names + ["new", "n" * 64], "attributes": [changed_list(rand, record.get("attributes", []), names)], "type": rows.TYPES, "semantic": rows.SEMANTICS,
+        "precedence": list(bodies.PRECEDENCES), "instance": ["", "x", "y"], "up": [not old], "connected": [not old], "no_traversal": [not old],
+        "latency_a": [0, 60_000, 60_001], "latency_b": [0, 60_000, 60_001], "cost": [0, 1, 65_535], "a": [record.get("b")], "b": [record.get("a")],
+    }
+    return dict(record, **{field: rand.choice(news.get(field, [0, 1, 2, 3, 9]) + ([rand.randint(1, 9)] if field in "ab" else []))})
+
+
+def another_record(rand, present):
+    """A row of a record with a field of another value."""
+    found = [key for key in present if 3 <= key[0] <= 11]
+    if not found:
+        return b"\2", rows.number(33)
+    key = rand.choice(found)
+    kind = rows.KINDS[key[0] - 3]
+    try:
+        return key, rows.value(kind, changed_record(rand, kind, rows.record_of(kind, present[key]), present))
+    except (rows.NoState, ValueError, IndexError):
+        return key, spoiled_bytes(rand, present[key])
+
+
+def changed_folders(seed, most=400):
+    """Folders of one small network with all kinds of records, in each of which one record has another value in one field."""
+    rand = random.Random(f"records {seed}")
+    state = None
+    while state is None or not all(state.tables.values()):
+        kept = folders.Kept({})
+        scenes.old_scene(rand, 80, kept)
+        state = kept.state
+    for at in range(most):
+        form = 1 + at % 2
+        found = rows.rows(state, form)
+        key, row = another_record(rand, found)
+        yield {"ziti.0": slot_of(form, [folders.batch_between({}, {**found, key: row})]), "ziti.mark": b"\0"}
 
 
 def spoiled_row(rand, present):
     """An operation that changes some rows: most often to ones of no valid state."""
     key = rand.choice(list(present))
-    way, row = rand.randrange(10), present[key]
+    way, row = rand.randrange(14), present[key]
     if way <= 2:
         return key, spoiled_bytes(rand, row)
     if way == 3:
@@ -211,7 +295,7 @@ def spoiled_row(rand, present):
         return bytes([1, rand.randint(0, 11)]), rows.number(rand.choice([0, 1, 2, 3, 4, 6, 9, 2**32 - 1]))
     if way == 7:
         return bytes([rows.SETTING]), rand.choice([rows.number(it) for it in (0, 1, 9, 10, 20, 65_535, 65_536)] + [b"\x14\0"])
-    return claim_row(rand, present)
+    return claim_row(rand, present) if way <= 9 else another_record(rand, present)
 
 
 def spoil_rows(rand, batches, form):
@@ -262,7 +346,7 @@ def spoil_bytes(rand, data):
 def damaged(rand, files):
     """A folder that was whole, spoiled in its mark, its bytes, its form, its records, their operations or their rows."""
     files, (slot, form, payloads) = dict(files), standing(files)
-    name, way = folders.SLOTS[slot], rand.randrange(10)
+    name, way = folders.SLOTS[slot], rand.randrange(14)
     if way == 0:
         files[folders.MARK] = spellings.some_bytes(rand, rand.choice([0, 1, 2, 3]))
         return files
@@ -281,7 +365,7 @@ def damaged(rand, files):
         spoil_records(rand, batches)
     elif way == 5:
         spoil_operations(rand, batches)
-    elif way == 6 and form == 2:
+    elif way in (6, 7, 8) and form == 2:
         spoil_serial(rand, batches)
     else:
         spoil_rows(rand, batches, form)

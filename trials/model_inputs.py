@@ -52,7 +52,7 @@ class Scene:
         self.answer = functools.partial(commands.answer, self.state)
         self.requests, self.replies, self.tally, self.moved, self.seen, self.how = [], [], {}, {}, collections.Counter(), ""
         kind = kind or rand.choices(["settling", "revoking", "claiming", "changing", "spoiled"], [7, 7, 4, 3, 1])[0]
-        self.revokes, self.settles = kind == "revoking", kind in ("settling", "revoking")
+        self.revokes, self.settles, self.claims_much = kind == "revoking", kind in ("settling", "revoking"), kind == "claiming"
         self.spoils, self.absent = 0.5 if kind == "spoiled" else 0.04, 0.06 if self.settles else 0.15
         routers = rand.randint(4, 6) if self.revokes else rand.randint(3, 8) if self.settles else rand.randint(2, 8)
         self.pools = {
@@ -439,7 +439,7 @@ def build_up(scene):
         scene.say("CreateIdentity", name=identity, attributes=scene.listed())
     for service in pools["service"][:2]:
         scene.say("CreateService", name=service, attributes=scene.listed())
-    broad = scene.settles or rand.random() < 0.5
+    broad = scene.settles or rand.random() < (0.85 if scene.claims_much else 0.5)
     for kind, noun in ((kind, noun) for noun, kind in commands.POLICIES.items()):
         for policy in pools[kind][:2]:
             if broad and policy == "p1" or kind == "service_policy" and rand.random() < 0.6:
@@ -628,7 +628,7 @@ def behind(rand, pools, kept, size):
         command = rand.choice(["ShowCounts", "ShowCircuit", "ShowCircuit", "Explain", "VerifyRoute", "ShowGrants", "Hello", "Compact", "CreateCircuit", "DeleteLink"])
         fields = {"link": "zz"} if command == "DeleteLink" else {"identity": "zz", "service": "zz"} if command == "CreateCircuit" else drawn_fields(scene, command)
         scene.say(command, **fields)
-    start = rand.randrange(6)
+    start = rand.randrange(8)
     if start == 0:
         scene.say("CreateCircuit", **scene.request())
     elif start == 1:
@@ -637,6 +637,9 @@ def behind(rand, pools, kept, size):
         scene.say("SetLeastRouterCost", cost=state.least_router_cost)
     elif start == 3:
         scene.say("ConnectRouter", name=scene.some("router"))
+    elif start <= 5:
+        command = rand.choice(["SetIntercept", "ClearIntercept"])
+        scene.say(command, **scene.claimed.fields(command))
     for number in list(scene.state.revoked)[:3]:
         scene.say("ShowCircuit", no=number)
     scene.say("ShowCounts")
