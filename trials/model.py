@@ -22,11 +22,9 @@ with both files of FOLDER/folder as `--data`.
 """
 
 import collections
-import contextlib
 import os
 import random
 import sys
-import tempfile
 import time
 
 import frames
@@ -38,6 +36,7 @@ import model_inputs as scenes
 import model_limits as limits
 import model_load as load
 import model_rules as rules
+import model_runs as runs
 import model_sessions as sessions
 import model_spellings as spellings
 
@@ -86,28 +85,6 @@ def differs(program, requests):
     return first_difference(program, requests, b"", model_replies(b"".join(requests))) is not None
 
 
-def shortened(differs_by, requests):
-    """The requests without those that a difference does not need."""
-    size = len(requests) // 2
-    while size >= 1:
-        at = 0
-        while at < len(requests):
-            fewer = requests[:at] + requests[at + size:]
-            if differs_by(fewer):
-                requests = fewer
-            else:
-                at += size
-        size //= 2
-    return requests
-
-
-def line(request):
-    """A request as a line of `zitiline`, as far as one tells it."""
-    (sequence, content, body), = bodies.read_session(request)[0]
-    name = bodies.COMMANDS[content][0] if content in bodies.COMMANDS else content
-    return f"{sequence} {name} {body.decode(errors='backslashreplace')}"
-
-
 def compare(program, word, requests, tail=b"", expected=None):
     """Compares one input, and ends the trial where the program does not say what the model says."""
     expected = expected or model_replies(b"".join(requests) + tail)
@@ -115,131 +92,13 @@ def compare(program, word, requests, tail=b"", expected=None):
     if found is None:
         return
     at, model, said = found
-    print(f"{word}: another reply at place {at}:", line(requests[at]) if at < len(requests) else tail, f"\nmodel:   {model}\nprogram: {said}")
+    print(f"{word}: another reply at place {at}:", runs.line(requests[at]) if at < len(requests) else tail, f"\nmodel:   {model}\nprogram: {said}")
     front = requests[:at + 1]
     if differs(program, front):
-        front = shortened(lambda fewer: differs(program, fewer), front)
+        front = runs.shortened(lambda fewer: differs(program, fewer), front)
         at, model, said = first_difference(program, front, b"", model_replies(b"".join(front)))
-        print("shortened:", *map(line, front), f"model:   {model}", f"program: {said}", sep="\n")
+        print("shortened:", *map(runs.line, front), f"model:   {model}", f"program: {said}", sep="\n")
     sys.exit(1)
-
-
-# Runs on folders.
-
-
-def run_on(program, words, files, stdin):
-    """Runs the program on a folder of some files: the status, what is said and noted, and the files behind it."""
-    with tempfile.TemporaryDirectory() as folder:
-        for name, data in files.items():
-            with open(os.path.join(folder, name), "wb") as file:
-                file.write(data)
-        status, said, noted = frames.run(program, words, stdin, folder)
-        behind = {}
-        for name in sorted(os.listdir(folder)):
-            with open(os.path.join(folder, name), "rb") as file:
-                behind[name] = file.read()
-        return status, said, noted.decode(), behind
-
-
-def told(run):
-    return run.status, run.said, run.notes, run.files
-
-
-def differs_on(program, words, files, stdin):
-    return run_on(program, words, files, stdin) != told(folders.Run(words, files, stdin))
-
-
-def first_place(one, other):
-    return next((at for at, pair in enumerate(zip(one, other)) if pair[0] != pair[1]), min(len(one), len(other)))
-
-
-def tell_difference(expected, found):
-    """Prints where a run on a folder is another one than the model's."""
-    for what, one, other in zip(("status", "said", "notes"), expected, found):
-        if one != other:
-            at = first_place(one, other) if what == "said" else 0
-            print(f"{what} from {at} on", "model:   " + str(one if what != "said" else one[max(0, at - 60):at + 200]), sep="\n")
-            print("program: " + str(other if what != "said" else other[max(0, at - 60):at + 200]))
-    for name in sorted(set(expected[3]) | set(found[3])):
-        one, other = expected[3].get(name), found[3].get(name)
-        if one != other and None in (one, other):
-            print(f"{name}: the {'program' if one is None else 'model'} alone has it")
-        elif one != other:
-            at = first_place(one, other)
-            print(f"{name}, {len(one)} and {len(other)} bytes, from {at} on\nmodel:   {one[max(0, at - 60):at + 80].hex()}\nprogram: {other[max(0, at - 60):at + 80].hex()}")
-
-
-def compare_run(program, word, words, files, stdin=b"", requests=None):
-    """Compares a run on a folder, and ends the trial where it is not the model's. Gives the model's."""
-    run = folders.Run(words, files, stdin)
-    found = run_on(program, words, files, stdin)
-    if found == told(run):
-        return run
-    print(f"{word}: another run of `{words}`")
-    tell_difference(told(run), found)
-    if requests is not None and differs_on(program, words, files, b"".join(requests)):
-        fewer = shortened(lambda some: differs_on(program, words, files, b"".join(some)), requests)
-        print("shortened:", *map(line, fewer), sep="\n")
-        stdin = b"".join(fewer)
-        tell_difference(told(folders.Run(words, files, stdin)), run_on(program, words, files, stdin))
-    kept = tempfile.mkdtemp(prefix="difference")
-    for name, data in dict(files, stdin=stdin).items():
-        with open(os.path.join(kept, name), "wb") as file:
-            file.write(data)
-    print(f"the folder before it, and the input: {kept}")
-    sys.exit(1)
-
-
-def compare_kept(program, word, requests, cut, compacts):
-    """Compares an input in two runs on a folder, by times with a compaction between them: the second one goes on from the state that the first one left."""
-    files = {}
-    for part in (requests[:cut], requests[cut:]):
-        files = compare_run(program, f"{word}, kept in two runs of {cut} and {len(requests) - cut} commands", "replay", files, b"".join(part), part).files
-        if compacts:
-            files = compare_run(program, f"{word}, compacted", "compact", files).files
-    compare_run(program, word, "audit", files)
-
-
-def compare_old(program, word, rand, each):
-    """Compares looks at a folder that another run left, of the first format or the second, a run on it, and a look behind that."""
-    form = rand.choice([1, 1, 2])
-    old, files = damage.history(rand, each, form)
-    files = damage.placed(rand, files)
-    compare_looks(program, f"{word}, a folder of format {form}", rand, files)
-    scene = scenes.behind(rand, old.pools, folders.Kept(files), each)
-    behind = compare_run(program, f"{word}, on a folder of format {form}", "replay", files, b"".join(scene.requests), scene.requests).files
-    compare_looks(program, f"{word}, behind a folder of format {form}", rand, behind)
-    return scene
-
-
-def compare_looks(program, word, rand, files):
-    """Compares what the words that look at a folder say of it."""
-    serials = [0, 0, 1, 2, rand.randrange(40), 2**63, 2**64 - 1]
-    with contextlib.suppress(folders.Damaged):
-        last = folders.Look(files).state.serial
-        serials += [last, last, last + 1, max(0, last - 1), rand.randint(0, last)]
-    for words in ("audit", f"advise {rand.choice(['i1', 'i2', 'i3', 'zz'])} {rand.choice(['s1', 's2', 's3', 'zz'])}", f"ship {rand.choice(serials)}"):
-        if words.split()[0] in folders.LOOKS:
-            compare_run(program, word, words, files)
-
-
-def compare_words(program):
-    """Compares lines of words that are no line of the table."""
-    lines = ["", "help", "--help", "dry x", "replay x", "replay --session", "replay --sessions x", "audit x", "compact x", "load", "load 01", "load -1", "load 4294967296", "load 1 2"]
-    lines += ["advise", "advise ann", "advise ann web x", "advise ann! web", "advise ann " + "w" * 65, "ship", "ship x", "ship 00", "ship +1", "ship 1 2", "ship 18446744073709551616"]
-    for words in lines:
-        found = run_on(program, words, {}, b"")
-        assert found == (1, b"", folders.USAGE, {}), (words, found)
-    print(f"words: {len(lines)} lines that are none")
-
-
-def compare_sessions(program, word, data):
-    """Compares a trace of many sessions on a new folder."""
-    return compare_run(program, f"{word}, as a trace of {len(data)} bytes", "replay --sessions", {}, data).said.count(b'"NotPermitted"')
-
-
-def counts_line(state):
-    return folders.counts_line(state)
 
 
 def numbered(named):
@@ -286,7 +145,7 @@ def compare_loads(program):
     for number in LOADS:
         state = loaded(number)
         found = frames.run(program, f"load {number}", b"", "/")
-        assert found == (0, counts_line(state), b""), (number, counts_line(state), found)
+        assert found == (0, folders.counts_line(state), b""), (number, folders.counts_line(state), found)
     print("loads:", *LOADS)
 
 
@@ -295,63 +154,6 @@ def compare_limits(program):
         requests = numbered(named)
         compare(program, f"limit of {word}", requests)
         print(f"limit of {word}: {len(requests)} commands")
-
-
-# Many folders.
-
-
-def compare_folder(program, word, rand, files, words=None, pools=None):
-    """Compares looks at a folder and a run on it, and gives the status of that one and the format that the folder was read in."""
-    compare_looks(program, word, rand, files)
-    words = words or rand.choice(["replay", "replay", "replay --sessions", "compact"])
-    requests = damage.probes(rand)
-    if words != "replay --sessions":
-        run = compare_run(program, word, words, files, b"".join(requests) if words == "replay" else b"", requests if words == "replay" else None)
-    else:
-        run = compare_run(program, word, words, files, sessions.random_trace(rand, requests))
-    if run.files != files and rand.random() < 0.3:
-        compare_looks(program, word + ", behind it", rand, run.files)
-    return run
-
-
-def kept_calls(rand, files):
-    """The calls of a run on a folder, or of its compaction: those that changed files."""
-    kept = folders.Kept(files)
-    if rand.random() < 0.4:
-        kept.rewrite()
-    for request in damage.probes(rand):
-        (_, content, body), = bodies.read_session(request)[0]
-        kept.answer(content, body)
-    return kept.calls
-
-
-def compare_folders(program, most, seed):
-    """Compares runs on folders: whole, stopped and damaged ones, so many of them, and those at the limits. Gives how they ended."""
-    tally = collections.Counter()
-    for word, files in damage.edges(seed):
-        for words in ("replay", "compact", "replay --sessions"):
-            run = compare_folder(program, word, random.Random(f"{seed} {word}"), files, words)
-            tally["at the limits", words, run.status, run.fault] += 1
-    for word, made in (("intercepts", damage.claimed_folders()), ("serials", damage.counted_folders()), ("records", damage.changed_folders(seed))):
-        for number, files in enumerate(made):
-            run = compare_folder(program, f"{word}, folder {number}", random.Random(f"{seed} {number}"), files)
-            tally["all " + word, "", run.status, run.fault] += 1
-    number = 0
-    while number < most:
-        rand = random.Random(f"folders {seed} {number}")
-        form = rand.choice([1, 2])
-        _, whole = damage.history(rand, rand.choice([10, 40, 120]), form)
-        for _ in range(12):
-            files, how = damage.placed(rand, whole), rand.choice(["whole", "stopped", "damaged", "damaged"])
-            if how == "stopped":
-                calls = kept_calls(rand, files)
-                files = damage.stopped(rand, files, calls) if calls else files
-            elif how == "damaged":
-                files = damage.damaged(rand, files)
-            run = compare_folder(program, f"seed {seed}, folder {number}, {how}, of format {form}", rand, files)
-            tally[f"{how}, format {form}", "", run.status, run.fault] += 1
-            number += 1
-    return tally
 
 
 class Tally:
@@ -382,9 +184,9 @@ def compare_scenes(program, size, seed, each):
         compare(program, word, requests, tail, (replies, status, note))
         tally.add(scene)
         if at % KEPT == 0:
-            compare_kept(program, word, requests, rand.randrange(len(requests)), rand.random() < 0.3)
-            tally.done["sessions", "NotPermitted"] += compare_sessions(program, word, sessions.random_trace(rand, requests))
-            scene = compare_old(program, word, random.Random(f"old {seed} {at}"), each)
+            runs.compare_kept(program, word, requests, rand.randrange(len(requests)), rand.random() < 0.3)
+            tally.done["sessions", "NotPermitted"] += runs.compare_sessions(program, word, sessions.random_trace(rand, requests))
+            scene = runs.compare_old(program, word, random.Random(f"old {seed} {at}"), each)
             tally.add(scene)
             tally.old += len(scene.requests)
     return tally
@@ -452,7 +254,7 @@ def write_cases(folder, size, seed, each):
         print(f"example {name}: {sum(reply_line(reply) != told for reply, told in zip(replies, lines))} of {len(lines)} lines of the file are other ones")
         write_case(dry, "example" + name, "dry", b"".join(requests), b"".join(replies))
     for number in LOADS:
-        write_case(dry, f"load{number}", f"load {number}", b"", counts_line(loaded(number)))
+        write_case(dry, f"load{number}", f"load {number}", b"", folders.counts_line(loaded(number)))
     for word, named in limits.inputs():
         requests = numbered(named)
         replies = model_replies(b"".join(requests))[0]
@@ -482,7 +284,7 @@ def write_cases(folder, size, seed, each):
     for name, data in files.items():
         with open(os.path.join(kept, name), "wb") as file:
             file.write(data)
-    write_case(old, "audit", "audit", b"", counts_line(state))
+    write_case(old, "audit", "audit", b"", folders.counts_line(state))
     while tally.old < size // 4:
         scene = scenes.behind(rand, before.pools, folders.Kept(files), each)
         write_case(old, f"old{tally.inputs}", "replay", b"".join(scene.requests), b"".join(scene.replies))
@@ -491,21 +293,11 @@ def write_cases(folder, size, seed, each):
     return tally
 
 
-def main_journal(program):
-    """Compares runs on slots that are nearly full, full, or longer than they may be."""
-    requests = damage.full_requests()
-    for form in (1, 2):
-        for room in (26, 25, -100):
-            files = damage.full_journal(form, room)
-            for words in ("audit", "compact", "replay"):
-                word = f"a slot of format {form} and {len(files['ziti.0'])} bytes"
-                run = compare_run(os.path.abspath(program), word, words, files, b"".join(requests) if words == "replay" else b"")
-                print(f"{word}: {words}: status {run.status}, {run.said.count(b'JournalFull')} JournalFull", flush=True)
-
-
 def main_folders(program, most=2000, seed=1):
     begun = time.monotonic()
-    tally = compare_folders(os.path.abspath(program), int(most), int(seed))
+    if "ship" in folders.LOOKS:
+        runs.compare_pieces(os.path.abspath(program))
+    tally = runs.compare_folders(os.path.abspath(program), int(most), int(seed))
     for (how, words, status, fault), count in sorted(tally.items()):
         print(f"{how}{', ' * bool(words)}{words}: status {status}{', ' * bool(fault)}{fault}: {count}")
     print(f"{sum(tally.values())} folders, {time.monotonic() - begun:.0f} s, no difference")
@@ -516,7 +308,7 @@ def main():
         main_folders(*sys.argv[2:])
         return
     if sys.argv[1] == "journal":
-        main_journal(sys.argv[2])
+        runs.compare_journal(os.path.abspath(sys.argv[2]))
         return
     begun = time.monotonic()
     words = [word for word in sys.argv[1:] if word != "cases"]
@@ -527,7 +319,7 @@ def main():
         program = os.path.abspath(words[0])
         compare_examples(program)
         compare_loads(program)
-        compare_words(program)
+        runs.compare_words(program)
         compare_limits(program)
         tally = compare_scenes(program, size, seed, each)
     tell(tally)

@@ -427,8 +427,28 @@ def full_journal(form, room):
         at = len(slot.payloads) - large
         slot.add([slot.identity(1 + at % most, lists[2 + at // most % 2])])
     left = end - slot.end - 5 - len(slot.payload([slot.identity(most, [])]))
+    slot.add([slot.identity(most, names_of(left))])
+    return {"ziti.0": slot_of(form, slot.payloads), "ziti.mark": b"\0"}
+
+
+def names_of(left):
+    """Names that take so many bytes in a list."""
     size = left // 60 + 1
-    slot.add([slot.identity(most, [f"{at:02}".ljust(left // size + (at < left % size) - 1, "n") for at in range(size)])])
+    return [f"{at:02}".ljust(left // size + (at < left % size) - 1, "n") for at in range(size)]
+
+
+def sized_folder(form, size):
+    """A folder of one batch of so many bytes, and in the second format of a short one behind it."""
+    slot, names = LongSlot(form), [f"a{i:063}" for i in range(60)]
+    changed = [(b"\1\1", rows.number(2049))]
+    left = size - len(slot.payload(changed))
+    while left > 4_500:
+        changed.append(slot.identity(len(changed), names))
+        left -= len(put_text(changed[-1]))
+    left -= len(put_text(slot.identity(len(changed), [])))
+    slot.add(changed + [slot.identity(len(changed), names_of(left))])
+    if form == 2:
+        slot.add([(b"\2", rows.number(20))])
     return {"ziti.0": slot_of(form, slot.payloads), "ziti.mark": b"\0"}
 
 
