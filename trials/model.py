@@ -45,6 +45,8 @@ EXAMPLE_NAMES = ("ann", "network", "story", "claims", "realistic", "import/netwo
 LOADS = [0, 1, 2, 3, 7, 126, 2**32 - 1]
 # One of so many random inputs is answered on a folder too.
 KEPT = 10
+# The commands of a limit that are answered on a folder too.
+MOST_KEPT = 1000
 
 
 def model_replies(data, state=None):
@@ -153,6 +155,8 @@ def compare_limits(program):
     for word, named in limits.inputs():
         requests = numbered(named)
         compare(program, f"limit of {word}", requests)
+        if len(requests) < MOST_KEPT:
+            runs.compare_run(program, f"limit of {word}, kept", "replay", {}, b"".join(requests), requests)
         print(f"limit of {word}: {len(requests)} commands")
 
 

@@ -292,7 +292,7 @@ def spoiled_row(rand, present):
     if way == 5:
         return rand.choice([bytes([rand.choice([0, 18, 255])]) + key[1:], key + b"\0", key[:-1], b"", bytes([rand.randint(12, 15)]) + key[1:] * 2]), row
     if way == 6:
-        return bytes([1, rand.randint(0, 11)]), rows.number(rand.choice([0, 1, 2, 3, 4, 6, 9, 2**32 - 1]))
+        return bytes([1, rand.randint(0, 11)]), rows.number(rand.choice([0, 1, 2, 3, 4, 6, 9, 2**32 - 2, 2**32 - 1]))
     if way == 7:
         return bytes([rows.SETTING]), rand.choice([rows.number(it) for it in (0, 1, 9, 10, 20, 65_535, 65_536)] + [b"\x14\0"])
     return claim_row(rand, present) if way <= 9 else another_record(rand, present)
@@ -460,6 +460,42 @@ def full_requests():
         ("CreateService", {"name": "s"}), ("ShowCounts", {}), ("Compact", {}),
     ]
     return [frames.frame(bodies.CONTENTS[command], body, i) for i, (command, body) in enumerate(named)]
+
+
+def crowded(kind, count):
+    """A state with so many records of a kind, and one of each that they stand on."""
+    state, all_of = rules.State(), {"all": True, "names": [], "attributes": []}
+    for other in ("identity", "service", "router"):
+        state.add(other, {"name": "n0", "attributes": [], "cost": 0, "no_traversal": False, "connected": True})
+    if kind == "link":
+        state.add("router", {"name": "n1", "attributes": [], "cost": 0, "no_traversal": False, "connected": True})
+    if kind == "circuit":
+        state.add("terminator", {"service": 1, "router": 1, "host": None, "instance": "", "cost": 0, "precedence": "default"})
+    forms = {
+        "link": {"a": 1, "b": 2, "cost": 1, "latency_a": 0, "latency_b": 0, "up": True}, "circuit": {"identity": 1, "service": 1, "terminator": 1, "ingress": 1, "links": []},
+        "terminator": {"service": 1, "router": 1, "host": 1, "instance": "", "cost": 0, "precedence": "failed"},
+    }
+    relations = {other: relation for relation, other in rules.RELATIONS.items()}
+    for at in range(len(state.tables[kind]), count):
+        record = forms.get(kind) or {"attributes": [], "cost": 0, "no_traversal": False, "connected": False}
+        if kind in rules.SIDES:
+            record = dict({side: all_of for side in rules.SIDES[kind]}, semantic="AnyOf", type=relations[kind])
+        state.add(kind, dict(record, name=f"n{at}") if kind in rows.NAMED else dict(record))
+    return state
+
+
+def crowded_folders():
+    """Folders with as many records of a kind as there may be, and with one more."""
+    for at, kind in enumerate(rows.KINDS):
+        for more in (0, 1):
+            state, form = crowded(kind, rules.LIMITS[kind] + more), 1 + (at + more) % 2
+            yield {"ziti.0": slot_of(form, [folders.batch_between({}, rows.rows(state, form))]), "ziti.mark": b"\0"}
+    for more in (0, 1):
+        state, most = rules.State(), rules.MOST_ATTRIBUTES
+        for at in range(0, most, 64):
+            state.add("identity", {"name": f"n{at}", "attributes": [f"a{it}" for it in range(at, at + 64)]})
+        state.add("service", {"name": "n", "attributes": [f"a{most - 1 + more}"]})
+        yield {"ziti.0": slot_of(2, [folders.batch_between({}, rows.rows(state, 2))]), "ziti.mark": b"\0"}
 
 
 def probes(rand):

@@ -13,6 +13,7 @@ import model_damage as damage
 import model_folder as folders
 import model_inputs as scenes
 import model_sessions as sessions
+import model_spellings as spellings
 
 
 def shortened(differs_by, requests):
@@ -158,11 +159,11 @@ def compare_folder(program, word, rand, files, words=None):
     """Compares looks at a folder and a run on it, and gives the model's run."""
     compare_looks(program, word, rand, files)
     words = words or rand.choice(["replay", "replay", "replay --sessions", "compact"])
-    requests = damage.probes(rand)
-    if words != "replay --sessions":
-        run = compare_run(program, word, words, files, b"".join(requests) if words == "replay" else b"", requests if words == "replay" else None)
+    requests, tail = damage.probes(rand) if rand.random() < 0.95 else [], spellings.tail(rand)
+    if words == "replay":
+        run = compare_run(program, word, words, files, b"".join(requests) + tail, requests)
     else:
-        run = compare_run(program, word, words, files, sessions.random_trace(rand, requests))
+        run = compare_run(program, word, words, files, sessions.random_trace(rand, requests) if words == "replay --sessions" else b"")
     if run.files != files and rand.random() < 0.3:
         compare_looks(program, word + ", behind it", rand, run.files)
     return run
@@ -186,7 +187,7 @@ def compare_folders(program, most, seed):
         for words in ("replay", "compact", "replay --sessions"):
             run = compare_folder(program, word, random.Random(f"{seed} {word}"), files, words)
             tally["at the limits", words, run.status, run.fault] += 1
-    for word, made in (("intercepts", damage.claimed_folders()), ("serials", damage.counted_folders()), ("records", damage.changed_folders(seed))):
+    for word, made in (("intercepts", damage.claimed_folders()), ("serials", damage.counted_folders()), ("records", damage.changed_folders(seed)), ("limits", damage.crowded_folders())):
         for number, files in enumerate(made):
             run = compare_folder(program, f"{word}, folder {number}", random.Random(f"{seed} {number}"), files)
             tally["all " + word, "", run.status, run.fault] += 1
